@@ -1,0 +1,9 @@
+pub mod SlotNumberLemmas
+pub mod SwapOutLemmas
+pub mod ClassLemmas
+pub mod WalkLemmas
+pub mod PositionLemmas
+pub mod GrowthLemmas
+pub mod DistinctLemmas
+pub mod LoadLemmas
+pub mod TableLemmas

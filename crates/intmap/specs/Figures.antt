@@ -1,0 +1,27 @@
+-- What a map says of its table.
+use Rattle.std.specs.Prelude.{ℕ, ◌*◌, ◌/◌, ◌==◌, nat_lt, not, List, [], ◌∷◌, length, map, filter, count_by}
+use Rattle.std.specs.List.{range_with_len}
+use Rattle.intmap.specs.Classes.{residue}
+use Rattle.intmap.specs.Walk.{slot_of}
+
+-- each number once, at its first place
+abbrev pub each_once : List ℕ → List ℕ
+each_once [] = []
+each_once (n ∷ ns) = n ∷ filter (λ m. not (m == n)) (each_once ns)
+
+module _ {K V : Type 0} (number : K → ℕ) where
+  -- how many residues the keys leave modulo C
+  abbrev pub load_of : List (K × V) → ℕ → ℕ
+  load_of L C = length (each_once (map (λ p. residue number p.0 C) L))
+
+  -- the pairs to a slot, in thousandths
+  abbrev pub rate_of : List (K × V) → ℕ → ℕ
+  rate_of L C = length L * 1000 / C
+
+  -- the sizes above 1 of slots 0, 1, .., C - 1
+  abbrev pub crowds_of : List (K × V) → ℕ → List ℕ
+  crowds_of L C = filter (nat_lt 1) (map (λ i. length (slot_of number L C i)) (range_with_len 0 C))
+
+  -- each size above 1 by its first appearance, with the number of slots that have it
+  abbrev pub sizes_of : List (K × V) → ℕ → List (ℕ × ℕ)
+  sizes_of L C = map (λ m. (m, count_by (λ n. n == m) (crowds_of L C))) (each_once (crowds_of L C))

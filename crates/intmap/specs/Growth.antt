@@ -1,0 +1,47 @@
+-- When a map grows, and how far.
+use Rattle.std.specs.Prelude.{◌≡◌, ℕ, ◌+◌, ◌-◌, ◌*◌, ◌/◌, ◌%◌, ◌^◌, ◌<◌, ◌≤◌, Bool, cond, ◌==◌, nat_le, List, map, find, unwrap_or, MatchBool}
+use Rattle.std.specs.List.{range_with_len}
+
+-- whether growth is tested at n pairs: the whole part of n / 4 is odd
+abbrev pub is_due : ℕ → Bool
+is_due n = n / 4 % 2 == 1
+
+-- the greatest number up to n at which growth is tested, for n of at least 4
+abbrev pub last_due : ℕ → ℕ
+last_due n = cond (is_due n) n (n - (n % 4 + 1))
+
+-- n pairs in C slots meet the load F, in thousandths
+abbrev pub MeetsLoad : ℕ → ℕ → ℕ → Type 0
+MeetsLoad C n F = n * 1000 / C ≤ F
+
+-- D is the least of C, 2C, 4C, .. in which n pairs meet the load F
+pub record IsWanted (C n F D : ℕ) : Type 0 where
+  pub doubled : (j : ℕ) × (D ≡ C * 2 ^ j)
+  pub meets : MeetsLoad D n F
+  pub least : (i : ℕ) → C * 2 ^ i < D → F < n * 1000 / (C * 2 ^ i)
+
+-- D is the capacity that is left once a new key made the length n
+abbrev pub IsNext : ℕ → ℕ → ℕ → ℕ → Type 0
+IsNext C n F D = MatchBool (is_due n) (IsWanted C n F D) (D ≡ C)
+
+-- C, 2C, 4C, .., as many as any length below 2^64 may ask for
+abbrev pub doublings : ℕ → List ℕ
+doublings C = map (λ j. C * 2 ^ j) (range_with_len 0 76)
+
+-- the least of C, 2C, 4C, .. in which n pairs meet the load F
+abbrev pub wanted_capacity : ℕ → ℕ → ℕ → ℕ
+wanted_capacity C n F = unwrap_or (find (λ D. nat_le (n * 1000 / D) F) (doublings C)) 0
+
+-- the capacity that is left once a new key made the length n
+abbrev pub next_capacity : ℕ → ℕ → ℕ → ℕ
+next_capacity C n F = cond (is_due n) (wanted_capacity C n F) C
+
+-- p is the least power of two that is at least n
+pub record IsLeastPower (n p : ℕ) : Type 0 where
+  pub power : (e : ℕ) × (p ≡ 2 ^ e)
+  pub enough : n ≤ p
+  pub least : (e : ℕ) → n ≤ 2 ^ e → p ≤ 2 ^ e
+
+-- the least power of two that is at least n, for n up to 2^64
+abbrev pub least_power : ℕ → ℕ
+least_power n = unwrap_or (find (nat_le n) (map (λ e. 2 ^ e) (range_with_len 0 65))) 0

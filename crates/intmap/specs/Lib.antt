@@ -1,0 +1,10 @@
+pub mod Classes
+pub mod Bindings
+pub mod Walk
+pub mod Reach
+pub mod Growth
+pub mod Figures
+pub mod Examples
+pub mod Slots
+pub mod Map
+pub mod States

@@ -1,0 +1,37 @@
+-- How a table lays its pairs out. No public clause cites this module.
+use Rattle.std.specs.Prelude.{◌≡◌, ℕ, ◌<◌, List, [], ◌++◌, length, map, slice_index_or, Option, Some, None}
+use Rattle.std.specs.Option.{option_to_list}
+use Rattle.std.specs.List.{All, flat_map}
+use Rattle.intmap.specs.Classes.{IsCapacity, slot_number}
+
+-- what a slot holds, and how many pairs it has room for
+pub record Held (K X : Type 0) : Type 0 where
+  pub pairs : List (K × X)
+  pub room : ℕ
+
+-- the pairs of each slot
+abbrev pub rows : {K X : Type 0} → List (Held K X) → List (List (K × X))
+rows slots = map (λ h. h.pairs) slots
+
+-- the first pair, where there is one, and the rest
+abbrev pub all_pairs : {P : Type 0} → Option P → List P → List P
+all_pairs first rest = option_to_list first ++ rest
+
+-- nothing stands behind an empty first place
+abbrev pub IsFilledInOrder : {P : Type 0} → Option P → List P → Type 0
+IsFilledInOrder None rest = rest ≡ []
+IsFilledInOrder (Some first) rest = Unit {0}
+
+-- a table: its walk, and how many slots it has
+pub record Grid (K X : Type 0) : Type 0 where
+  pub walk : List (K × X)
+  pub capacity : ℕ
+
+-- the rows, one after another
+abbrev pub joined : {P : Type 0} → List (List P) → List P
+joined S = flat_map (λ s. s) S
+
+-- the row of each slot has pairs of that slot alone, and there are as many slots as a table may have
+pub record IsTable {K X : Type 0} (number : K → ℕ) (slots : List (Held K X)) : Type 0 where
+  pub capacity : IsCapacity (length slots)
+  pub in_place : (i : ℕ) → i < length slots → All (λ p. slot_number number p.0 (length slots) ≡ i) (slice_index_or (rows slots) i [])

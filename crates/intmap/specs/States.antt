@@ -1,0 +1,49 @@
+-- A plain list of pairs with a capacity and a load factor, and what insertions make of it.
+use Rattle.std.specs.Prelude.{◌≡◌, ◌≢◌, ◌↔◌, ℕ, ◌<◌, List, [], ◌∷◌, ◌++◌, length, take, Option, Some, None, IsNone}
+use Rattle.intmap.specs.Bindings.{value_of, put_pair}
+use Rattle.intmap.specs.Reach.{class_size}
+use Rattle.intmap.specs.Map.{MapState, IsOutOfRange}
+use Rattle.intmap.specs.Walk.{StandsFor}
+use Rattle.intmap.specs.declared.refusal.Cause.{Cause}
+use Rattle.intmap.specs.declared.refusal.Cause.TheVariants.{Memory, TooLarge}
+
+-- a plain list of pairs, which growth never touches, with a capacity and a load factor in thousandths
+pub record State (K V : Type 0) : Type 0 where
+  pub pairs : List (K × V)
+  pub capacity : ℕ
+  pub factor : ℕ
+
+-- no pairs in C slots, at the load factor of a map that was just made
+abbrev pub empty_state : {K V : Type 0} → ℕ → State K V
+empty_state C = record { pairs = []; capacity = C; factor = 909 }
+
+module _ {K V : Type 0} (number : K → ℕ) where
+  -- the list stands for the map
+  pub record Stands (s : State K V) (m : MapState K V) : Type 0 where
+    pub walk : StandsFor number s.pairs m.walk s.capacity
+    pub capacity : s.capacity ≡ m.capacity
+    pub factor : s.factor ≡ m.factor
+
+  -- an accepted insertion, of a key that is in range
+  pub record Inserts (s : State K V) (k : K) (v : V) (t : State K V) : Type 0 where
+    pub in_range : IsOutOfRange number s.pairs k → ⊥
+    pub after : t ≡ record s { pairs = put_pair number s.pairs s.capacity k v }
+
+  -- an insertion may be refused for this cause: of a new key alone, as too large exactly where it is out of range,
+  -- and for want of memory only where a key that is bound already shares its slot
+  pub record MayRefuse (s : State K V) (k : K) (cause : Cause) : Type 0 where
+    pub new_key : IsNone (value_of number s.pairs k)
+    pub too_large : (cause ≡ TooLarge) ↔ IsOutOfRange number s.pairs k
+    pub memory : cause ≡ Memory → 0 < class_size number s.pairs s.capacity k
+
+  -- the pairs are inserted in turn, all accepted
+  abbrev pub InsertsAll : State K V → List (K × V) → State K V → Type 0
+  InsertsAll s [] t = t ≡ s
+  InsertsAll s (p ∷ ps) t = (m : State K V) × Inserts s p.0 p.1 m × InsertsAll m ps t
+
+  -- the pairs are inserted in turn up to the first that is refused: so many were, and that one with its cause, or none
+  abbrev pub Applies : State K V → List (K × V) → ℕ → Option ((K × V) × Cause) → State K V → Type 0
+  Applies s ps n None t = (n ≡ length ps) × InsertsAll s ps t
+  Applies s ps n (Some refused) t =
+      (qs : List (K × V)) × (rest : List (K × V))
+      × (ps ≡ qs ++ refused.0 ∷ rest) × (n ≡ length qs) × InsertsAll s qs t × MayRefuse t refused.0.0 refused.1

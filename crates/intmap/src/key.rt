@@ -1,0 +1,40 @@
+//! The kinds of key that a map takes: those of which each has a number of its own.
+ghost use Rattle.std.specs.Prelude.{◌≡◌, ℕ, ◌^◌, ◌<◌, ◌==◌, refl};
+
+/// A kind of key. Each key has a number below `2 ^ 64` that no other key has.
+pub trait IntKey: Copy + Eq {
+    /// What holds of each value of the type, as that it is in the type's range.
+    ghost is_key: { Self → Type 0 };
+
+    /// The number of a key.
+    ghost number_of: { Self → ℕ };
+
+    /// The number of this key.
+    fn number(&self) -> u64
+        ensures value { result ≡ number_of self.now }
+        ensures key { is_key self.now }
+        ensures fits { number_of self.now < 2 ^ 64 };
+
+    /// Two keys with equal numbers are one and the same key.
+    ghost exact: { (x y : Self) → is_key x → is_key y → number_of x ≡ number_of y → x ≡ y };
+
+    /// `==` answers whether two keys have equal numbers.
+    ghost eq_is: { (x y : Self) → is_key x → is_key y
+        → Self.eq x y ≡ (number_of x == number_of y) };
+}
+
+/// A `u64` is its own number.
+impl IntKey for u64 {
+    ghost is_key = { λ key. key < 2 ^ 64 };
+
+    ghost number_of = { λ key. key };
+
+    ghost exact = { λ x y x_is_key y_is_key equal. equal };
+
+    ghost eq_is = { λ x y x_is_key y_is_key. refl };
+
+    #[inline(always)]
+    fn number(&self) -> u64 {
+        *self
+    }
+}

@@ -1,0 +1,19 @@
+//! Why a call was refused, and what it hands back.
+
+/// Why a call was refused.
+#[derive(Clone, Copy, PartialEq, Eq, Debug)]
+pub enum Cause {
+    /// A request for memory was refused.
+    Memory,
+    /// The wanted length is above 2^64 - 1, or the wanted capacity above 2^63 slots.
+    TooLarge,
+}
+
+/// A value that could not be put into a map, with the cause.
+#[derive(Debug, Drop)]
+pub struct Refused<V> {
+    /// The value, handed back.
+    pub value: V,
+    /// Why it was refused.
+    pub cause: Cause,
+}

@@ -1,0 +1,176 @@
+//! One slot of a table: the first pair in its place, the rest behind it.
+ghost use Rattle.std.specs.Prelude.{◌≡◌, ◌+◌, ◌<◌, ◌≤◌, List, [], ◌∷◌, ◌++◌, length, position, swap_remove, slice_index_or, nat_lt, Bool, OnOk, OnErr, IfErr, IsOk};
+ghost use Rattle.intmap.specs.Classes.{same_key};
+ghost use Rattle.intmap.specs.Reach.{through_first};
+
+use crate::key::IntKey;
+use crate::steps::Steps;
+use crate::stored::Stored;
+use std::alloc::{AllocError, Allocator};
+use std::marker::Model;
+use std::mem;
+
+/// The place of the key's pair. The pairs are compared from the front, each by one step.
+fn find_in<K: IntKey, X>(pairs: &[(Stored<K>, X)], key: &K, steps: &mut Steps) -> Option<usize>
+    ensures place { result ≡ position (λ p. same_key K.number_of key.now p.0) pairs.now }
+    ensures counted { steps.new ≡ steps.old
+        + length (through_first (λ p. same_key K.number_of key.now p.0) pairs.now) }
+{
+    for (i, pair) in pairs.iter().enumerate() {
+        if pair.0.matches(key, steps) {
+            return Some(i);
+        }
+    }
+    None
+}
+
+/// Pairs in order, with the room that there is for them. Where there is no first pair there is no
+/// other, and one pair takes no memory of its own.
+#[derive(Drop)]
+pub(crate) struct Slot<K: IntKey, X, A: Allocator> {
+    first: Option<(Stored<K>, X)>,
+    rest: Vec<(Stored<K>, X), A>,
+}
+
+impl<K: IntKey, X, A: Allocator> Model for Slot<K, X, A> {
+    ghost use Rattle.std.specs.Prelude.{◌+◌, vec_capacity};
+    ghost use Rattle.intmap.specs.Slots.{Held, all_pairs, IsFilledInOrder};
+
+    ghost Value = { Held K X };
+
+    ghost view = { λ s. record {
+        pairs = all_pairs s.first s.rest.items;
+        room = 1 + vec_capacity s.rest
+    } };
+
+    ghost invariant = { λ s. IsFilledInOrder s.first s.rest.items };
+}
+
+impl<K: IntKey, X, A: Allocator> Slot<K, X, A> {
+    /// A slot with no pair. It takes no memory.
+    pub(crate) fn new(alloc: A) -> Slot<K, X, A>
+        ensures pairs { result.pairs ≡ [] }
+    {
+        Slot {
+            first: None,
+            rest: Vec::new(alloc),
+        }
+    }
+
+    /// Whether the slot holds a pair.
+    pub(crate) fn is_filled(&self) -> bool
+        ensures { result ≡ nat_lt 0 (length self.now.pairs) }
+    {
+        self.first.is_some()
+    }
+
+    /// The place of the key's pair. The keys are compared from the front up to it, each by one
+    /// step.
+    pub(crate) fn find(&self, key: &K, steps: &mut Steps) -> Option<usize>
+        ensures place { result ≡ position (λ p. same_key K.number_of key.now p.0) self.now.pairs }
+        ensures counted { steps.new ≡ steps.old
+            + length (through_first (λ p. same_key K.number_of key.now p.0) self.now.pairs) }
+    {
+        let Some(first) = &self.first else {
+            return None;
+        };
+        if first.0.matches(key, steps) {
+            return Some(0);
+        }
+        match find_in(&self.rest, key, steps) {
+            Some(place) => Some(place + 1),
+            None => None,
+        }
+    }
+
+    /// The pair at a place.
+    pub(crate) fn pair_at(&self, place: usize) -> &(Stored<K>, X)
+        requires { place < length self.now.pairs }
+        ensures { result.now ≡ slice_index_or self.now.pairs place result.now }
+    {
+        if place > 0 {
+            return &self.rest[place - 1];
+        }
+        match &self.first {
+            Some(pair) => pair,
+            None => unreachable!(),
+        }
+    }
+
+    /// Takes the pair at a place out. The last pair is moved into its place.
+    pub(crate) fn take_at(&mut self, place: usize) -> (Stored<K>, X)
+        requires { place < length self.old.pairs }
+        ensures value { result ≡ slice_index_or self.old.pairs place result }
+        ensures pairs { self.new.pairs ≡ swap_remove self.old.pairs place result }
+        ensures room { length self.new.pairs < self.new.room }
+    {
+        if place > 0 {
+            return self.rest.swap_remove(place - 1);
+        }
+        let last = self.rest.pop();
+        match mem::replace(&mut self.first, last) {
+            Some(pair) => pair,
+            None => unreachable!(),
+        }
+    }
+
+    /// Makes room for one more pair. None is needed for the first, and the second takes no more
+    /// than its own.
+    fn make_room(&mut self) -> Result<(), AllocError>
+        ensures pairs { self.new.pairs ≡ self.old.pairs }
+        ensures room { OnOk result (length self.new.pairs < self.new.room) }
+        ensures empty { self.old.pairs ≡ [] → IsOk result }
+    {
+        if self.first.is_none() {
+            return Ok(());
+        }
+        if self.rest.is_empty() {
+            return self.rest.reserve_exact(1);
+        }
+        self.rest.reserve(1)
+    }
+
+}
+
+impl<K: IntKey, X: Drop, A: Allocator> Slot<K, X, A> {
+    /// Adds a pair at the end, where there is room for it.
+    pub(crate) fn push_reserved(&mut self, pair: (Stored<K>, X))
+        requires { length self.old.pairs < self.old.room }
+        ensures pairs { self.new.pairs ≡ self.old.pairs ++ pair ∷ [] }
+        ensures room { self.new.room ≡ self.old.room }
+    {
+        if self.first.is_none() {
+            self.first = Some(pair);
+            return;
+        }
+        self.rest.push_reserved(pair);
+    }
+
+    /// Adds a pair at the end. It is refused where memory is, never in an empty slot, and comes
+    /// back.
+    pub(crate) fn push(&mut self, key: K, value: X) -> Result<(), X>
+        ensures ok { OnOk result (self.new.pairs ≡ self.old.pairs ++ (key, value) ∷ []) }
+        ensures err { OnErr result (self.new.pairs ≡ self.old.pairs) }
+        ensures value_returned { IfErr result (λ returned. returned ≡ value) }
+        ensures empty { self.old.pairs ≡ [] → IsOk result }
+    {
+        if self.make_room().is_err() {
+            return Err(value);
+        }
+        self.push_reserved((Stored::new(key), value));
+        Ok(())
+    }
+
+    /// Takes the pair at a place out as `take_at` does, and adds a new one at the end. It takes no
+    /// memory.
+    pub(crate) fn replace_at(&mut self, place: usize, key: K, value: X) -> (Stored<K>, X)
+        requires { place < length self.old.pairs }
+        ensures value { result ≡ slice_index_or self.old.pairs place result }
+        ensures pairs { self.new.pairs
+            ≡ swap_remove self.old.pairs place result ++ (key, value) ∷ [] }
+    {
+        let old = self.take_at(place);
+        self.push_reserved((Stored::new(key), value));
+        old
+    }
+}

@@ -1,0 +1,66 @@
+//! Counters of steps. A counter takes no bytes, and its number is there for contracts alone.
+ghost use Rattle.std.specs.Prelude.{◌≡◌, ◌+◌, ℕ};
+ghost use Rattle.std.specs.Borrow.{ftrue};
+
+use std::marker::Model;
+
+/// The number behind a counter. It exists in proofs alone.
+#[derive(Drop)]
+struct Tally {
+    ghost count: { ℕ },
+}
+
+impl Model for Tally {
+    ghost also_owns = { λ _. ftrue };
+}
+
+impl Tally {
+    /// A tally of nothing.
+    #[inline(always)]
+    fn new() -> Tally
+        ensures { result.count ≡ 0 }
+    {
+        Tally {}
+    }
+
+    /// The tally that is one greater.
+    #[inline(always)]
+    fn and_one(&self) -> Tally
+        ensures { result.count ≡ self.now.count + 1 }
+    {
+        Tally {}
+    }
+}
+
+/// A counter of steps. Contracts see it as the number of steps that were counted so far, and the
+/// program that runs has nothing of it: it has no bytes, and no method reads the number.
+#[derive(Drop)]
+pub struct Steps {
+    tally: Tally,
+}
+
+impl Model for Steps {
+    ghost Value = { ℕ };
+
+    ghost view = { λ s. s.tally.count };
+}
+
+impl Steps {
+    /// A counter that stands at zero.
+    #[inline(always)]
+    pub fn new() -> Steps
+        ensures { result ≡ 0 }
+    {
+        Steps {
+            tally: Tally::new(),
+        }
+    }
+
+    /// Counts one step. Only this crate can, so no caller of it can add to a count.
+    #[inline(always)]
+    pub(crate) fn tick(&mut self)
+        ensures { self.new ≡ self.old + 1 }
+    {
+        self.tally = self.tally.and_one();
+    }
+}
