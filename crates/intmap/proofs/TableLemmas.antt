@@ -1,10 +1,11 @@
 -- What calls of a table do to its slots, read as its walk.
 use Rattle.std.proofs.Common.{◌≡◌, ◌≢◌, inl, inr, ℕ, zero, suc, ◌+◌, ◌-◌, ◌<◌, ◌≤◌, Bool, true, false, cond, List, [], ◌∷◌, ◌++◌, map, length, get_or, set, Option, Some, None, refl, sym, ap, ◌∙◌, subst, arith, zero-add, length-set, replicate, get_or-set_same, get_or-set_other}
-use Rattle.std.specs.Prelude.{◌==◌, All, position, swap_remove, count_by}
+use Rattle.std.specs.Prelude.{◌==◌, All, position, swap_remove, count_by, nat_lt}
 use Rattle.std.specs.List.{flat_map, range_with_len}
-use Rattle.std.proofs.lemmas.List.{get_or_default, get_or-map, map-set, length-map, length-replicate, get_or-replicate}
+use Rattle.std.proofs.lemmas.List.{set-get_or, get_or_default, get_or-map, map-set, length-map, length-replicate, get_or-replicate}
 use Rattle.std.proofs.lemmas.List.Elements.{All-take, All-set, All-get_or, All-push, All-nil}
-use Rattle.std.proofs.lemmas.Bool.{cases_eq}
+use Rattle.std.proofs.lemmas.Bool.{cases_eq, lt-ltb}
+use Rattle.std.proofs.lemmas.List.Sums.{sum_by-cons}
 use Rattle.intmap.specs.Classes.{IsCapacity, slot_number, same_key}
 use Rattle.intmap.specs.Bindings.{swap_out, first_value, value_of, take_key, put_pair}
 use Rattle.intmap.specs.Walk.{slot_of, walk_of}
@@ -24,6 +25,25 @@ module _ {K X : Type 0} where
 
   pub get_or-rows : (S : List (Held K X)) (i : ℕ) (d : Held K X) → i < length S → get_or (rows S) i [] ≡ (get_or S i d).pairs
   get_or-rows S i d below = get_or-map (λ h. h.pairs) S i d [] below
+
+  nat_lt-length : (ps : List (K × X)) → nat_lt 0 (length ps) ≡ is_filled ps
+  nat_lt-length [] = refl
+  nat_lt-length (p ∷ ps) = lt-ltb 0 (suc (length ps)) (omega arith)
+
+  -- the slots that hold a pair are the rows that do
+  pub count_by-rows : (S : List (Held K X)) → count_by (λ s. nat_lt 0 (length s.pairs)) S ≡ count_by is_filled (rows S)
+  count_by-rows [] = refl
+  count_by-rows (s ∷ S) =
+      let first = sum_by-cons (λ (s : Held K X). cond (nat_lt 0 (length s.pairs)) 1 0) s S in
+      let last = sum_by-cons (λ (ps : List (K × X)). cond (is_filled ps) 1 0) s.pairs (rows S) in
+      let one : ◌≡◌ {A = ℕ} (cond (nat_lt 0 (length s.pairs)) 1 0) (cond (is_filled s.pairs) 1 0) = ap (λ b. cond b 1 0) (nat_lt-length s.pairs) in
+      let rest = count_by-rows S in
+      omega (arith, first, last, one, rest)
+
+-- rows without pairs, joined
+pub joined-empty : {P : Type 0} (n : ℕ) → joined {P = P} (replicate n []) ≡ []
+joined-empty zero = refl
+joined-empty {P} (suc n) = joined-empty {P = P} n
 
 module _ {K X : Type 0} (number : K → ℕ) where
   -- a list whose slots are these rows has them, joined, as its walk
@@ -89,6 +109,11 @@ module _ {K X : Type 0} (number : K → ℕ) (S : List (Held K X)) (h : Held K X
   -- the row of the slot
   pub row : h.pairs ≡ get_or (rows S) i []
   row = ap (λ (s : Held K X). s.pairs) at.here ∙ sym (get_or-rows S i h within)
+
+  -- a slot that keeps its pairs keeps the rows
+  pub rows-set : (s : Held K X) → s.pairs ≡ h.pairs → rows (set S i s) ≡ rows S
+  rows-set s same =
+      map-set (λ (t : Held K X). t.pairs) S i s ∙ ap (λ ps. set (rows S) i ps) (same ∙ row) ∙ set-get_or (rows S) i []
 
   slot_of-here : slot_of number (joined (rows S)) (length S) i ≡ h.pairs
   slot_of-here = slot_of-joined number S at.table i ∙ sym row

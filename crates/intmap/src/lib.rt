@@ -6,6 +6,7 @@ mod refusal;
 pub mod steps;
 mod slot;
 mod stored;
+mod table;
 
 pub use key::IntKey;
 pub use refusal::{Cause, Refused};

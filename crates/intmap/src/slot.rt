@@ -119,7 +119,7 @@ impl<K: IntKey, X, A: Allocator> Slot<K, X, A> {
     fn make_room(&mut self) -> Result<(), AllocError>
         ensures pairs { self.new.pairs ≡ self.old.pairs }
         ensures room { OnOk result (length self.new.pairs < self.new.room) }
-        ensures empty { self.old.pairs ≡ [] → IsOk result }
+        ensures memory { OnErr result (0 < length self.old.pairs) }
     {
         if self.first.is_none() {
             return Ok(());
@@ -152,7 +152,7 @@ impl<K: IntKey, X: Drop, A: Allocator> Slot<K, X, A> {
         ensures ok { OnOk result (self.new.pairs ≡ self.old.pairs ++ (key, value) ∷ []) }
         ensures err { OnErr result (self.new.pairs ≡ self.old.pairs) }
         ensures value_returned { IfErr result (λ returned. returned ≡ value) }
-        ensures empty { self.old.pairs ≡ [] → IsOk result }
+        ensures memory { OnErr result (0 < length self.old.pairs) }
     {
         if self.make_room().is_err() {
             return Err(value);

@@ -1,0 +1,53 @@
+use Rattle.std.proofs.Common.{◌≡◌, ◌+◌, ◌∙◌, sym, ap}
+use Rattle.intmap.specs.Classes.{slot_number}
+use Rattle.intmap.specs.Reach.{reach}
+use Rattle.intmap.specs.Slots.{Grid}
+use Rattle.intmap.proofs.TableLemmas.{IsSlot, reach-here, value_of-missing, value_of-found, place-within, walk-taken_none, walk-taken_at, Belong-swap_remove, IsTable-set}
+use Rattle.intmap.proofs.table.Table.take.Goals as goal
+use Rattle.intmap.proofs.table.Table.take.Goals.{After-find}
+
+here : (g : _) (c : After-find g) → IsSlot g.K.IntKey.number_of c.self.inside.slots.items c.index_mut-slot.result.now c.index_of-index.result c.args.key.now
+here g c = record {
+  table = c.self.invariant;
+  slot = c.index_of-index.ensures.slot ∙ ap (λ (t : Grid _ _). slot_number g.K.IntKey.number_of c.args.key.now t.capacity) (sym c.self.view_is);
+  here = c.index_mut-slot.ensures.value;
+}
+
+counted : (g : _) (c : After-find g) → c.find.new.steps ≡ c.args.steps.now + reach g.K.IntKey.number_of c.args.self.now.walk c.args.self.now.capacity c.args.key.now
+counted g c =
+    c.find.ensures.counted ∙ ap (λ n. c.args.steps.now + n)
+    (sym (reach-here _ _ _ _ _ (here g c)) ∙ ap (λ (t : Grid _ _). reach g.K.IntKey.number_of t.walk t.capacity c.args.key.now) c.self.view_is)
+
+pub returns-in_default-clause-value : goal.returns-in_default-clause-value
+returns-in_default-clause-value g c =
+    let at = here g (goal.at.returns-in_default-clause-value g c).After-find in
+    rw (← c.self.view_is) (sym (value_of-missing _ _ _ _ _ at (sym c.in_default.ensures.place)))
+
+pub returns-in_default-clause-walk : goal.returns-in_default-clause-walk
+returns-in_default-clause-walk g c =
+    let at = here g (goal.at.returns-in_default-clause-walk g c).After-find in
+    rw (← c.self.view_is) (walk-taken_none _ _ _ _ _ at (sym c.in_default.ensures.place))
+
+pub returns-in_default-clause-counted : goal.returns-in_default-clause-counted
+returns-in_default-clause-counted g c = counted g (goal.at.returns-in_default-clause-counted g c).After-find
+
+pub invariant_of-self-2 : goal.invariant_of-self-2
+invariant_of-self-2 g c =
+    let at = here g (goal.at.invariant_of-self-2 g c).After-find in
+    let taken = c.take_at-value in
+    let below = place-within _ _ _ _ _ at c.in-Some.place (sym c.in-Some.ensures.place) in
+    IsTable-set _ _ _ _ _ at taken.new.self (rw taken.ensures.pairs (Belong-swap_remove _ _ _ _ _ at c.in-Some.place taken.result below taken.ensures.value))
+
+pub returns-clause-value : goal.returns-clause-value
+returns-clause-value g c =
+    let at = here g (goal.at.returns-clause-value g c).After-find in
+    rw (← c.self.view_is) (sym (value_of-found _ _ _ _ _ at c.in-Some.place c.take_at-value.result (sym c.in-Some.ensures.place) c.take_at-value.ensures.value))
+
+pub returns-clause-walk : goal.returns-clause-walk
+returns-clause-walk g c =
+    let at = here g (goal.at.returns-clause-walk g c).After-find in
+    let taken = c.take_at-value in
+    rw (← c.self.view_is) (walk-taken_at _ _ _ _ _ at taken.new.self c.in-Some.place taken.result (sym c.in-Some.ensures.place) taken.ensures.value taken.ensures.pairs)
+
+pub returns-clause-counted : goal.returns-clause-counted
+returns-clause-counted g c = counted g (goal.at.returns-clause-counted g c).After-find

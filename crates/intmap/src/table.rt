@@ -1,0 +1,169 @@
+//! Slots, of which each key has one.
+ghost use Rattle.std.specs.Prelude.{◌≡◌, ◌+◌, ◌<◌, ◌≤◌, List, [], OnOk, OnErr, IfOk, IfErr, IfSome, IsOk, IsSome, IsNone, Some, None, option_copied, length, nat_lt, count_by};
+ghost use Rattle.intmap.specs.Classes.{IsCapacity, slot_number};
+ghost use Rattle.intmap.specs.Bindings.{value_of, take_key, put_pair};
+ghost use Rattle.intmap.specs.Walk.{walk_of};
+ghost use Rattle.intmap.specs.Reach.{class_size, reach};
+ghost use Rattle.intmap.specs.Figures.{load_of};
+
+use crate::key::IntKey;
+use crate::slot::Slot;
+use crate::steps::Steps;
+use std::alloc::{AllocError, Allocator};
+use std::marker::Model;
+
+/// The odd number that spreads keys over slots.
+const MULTIPLIER: u64 = 11400714819323198549;
+
+/// How many slots hold a pair.
+fn filled_slots<K: IntKey, X, A: Allocator>(slots: &[Slot<K, X, A>]) -> usize
+    ensures { result ≡ count_by (λ slot. nat_lt 0 (length slot.pairs)) slots.now }
+{
+    let mut filled = 0;
+    for slot in slots {
+        if slot.is_filled() {
+            filled += 1;
+        }
+    }
+    filled
+}
+
+/// Slots, as many as a power of two. Each pair lies in the slot of its key.
+#[derive(Drop)]
+pub(crate) struct Table<K: IntKey, X, A: Allocator> {
+    slots: Vec<Slot<K, X, A>, A>,
+}
+
+impl<K: IntKey, X, A: Allocator> Model for Table<K, X, A> {
+    ghost use Rattle.std.specs.Prelude.{length};
+    ghost use Rattle.intmap.specs.Slots.{Grid, rows, joined, IsTable};
+
+    ghost Value = { Grid K X };
+
+    ghost view = { λ t. record {
+        walk = joined (rows t.slots.items);
+        capacity = length t.slots.items
+    } };
+
+    ghost invariant = { λ t. IsTable K.number_of t.slots.items };
+}
+
+impl<K: IntKey, X, A: Allocator> Table<K, X, A> {
+    /// The number of slots.
+    pub(crate) fn capacity(&self) -> usize
+        ensures value { result ≡ self.now.capacity }
+        ensures range { IsCapacity result }
+        ensures own { walk_of K.number_of self.now.walk self.now.capacity ≡ self.now.walk }
+    {
+        self.slots.len()
+    }
+
+    /// The number of slots that hold a pair.
+    pub(crate) fn load(&self) -> usize
+        ensures { result ≡ load_of K.number_of self.now.walk self.now.capacity }
+    {
+        filled_slots(&self.slots)
+    }
+
+    /// The slot of a key.
+    fn index_of(&self, key: &K) -> usize
+        ensures slot { result ≡ slot_number K.number_of key.now self.now.capacity }
+        ensures within { result < self.now.capacity }
+        ensures key { K.is_key key.now }
+    {
+        (key.number().wrapping_mul(MULTIPLIER) & (self.slots.len() as u64 - 1)) as usize
+    }
+
+    /// What the key is bound to. The keys of its slot are compared from the front up to it, each
+    /// by one step.
+    pub(crate) fn get(&self, key: &K, steps: &mut Steps) -> Option<&X>
+        ensures value { option_copied result ≡ value_of K.number_of self.now.walk key.now }
+        ensures counted { steps.new
+            ≡ steps.old + reach K.number_of self.now.walk self.now.capacity key.now }
+    {
+        let index = self.index_of(key);
+        let slot = &self.slots[index];
+        match slot.find(key, steps) {
+            Some(place) => Some(&slot.pair_at(place).1),
+            None => None,
+        }
+    }
+
+    /// Takes the pair of a key out. The last pair of its slot is moved into its place.
+    pub(crate) fn take(&mut self, key: &K, steps: &mut Steps) -> Option<X>
+        ensures value { result ≡ value_of K.number_of self.old.walk key.now }
+        ensures walk { self.new.walk ≡ walk_of K.number_of
+            (take_key K.number_of self.old.walk self.old.capacity key.now) self.old.capacity }
+        ensures capacity { self.new.capacity ≡ self.old.capacity }
+        ensures counted { steps.new
+            ≡ steps.old + reach K.number_of self.old.walk self.old.capacity key.now }
+    {
+        let index = self.index_of(key);
+        let slot = &mut self.slots[index];
+        let Some(place) = slot.find(key, steps) else {
+            return None;
+        };
+        let (_, value) = slot.take_at(place);
+        Some(value)
+    }
+}
+
+impl<K: IntKey, X: Drop, A: Allocator> Table<K, X, A> {
+    /// Where the key is bound, takes its pair out and puts the new one last in its slot, which
+    /// takes no memory. Where it isn't, the new value comes back and nothing changes.
+    pub(crate) fn replace(&mut self, key: K, value: X, steps: &mut Steps) -> Result<X, X>
+        ensures old { IfOk result (λ old. value_of K.number_of self.old.walk key ≡ Some old) }
+        ensures walk { OnOk result (self.new.walk ≡ walk_of K.number_of
+            (put_pair K.number_of self.old.walk self.old.capacity key value) self.old.capacity) }
+        ensures missing { OnErr result (value_of K.number_of self.old.walk key ≡ None) }
+        ensures err { OnErr result (self.new.walk ≡ self.old.walk) }
+        ensures value_returned { IfErr result (λ returned. returned ≡ value) }
+        ensures capacity { self.new.capacity ≡ self.old.capacity }
+        ensures counted { steps.new
+            ≡ steps.old + reach K.number_of self.old.walk self.old.capacity key }
+        ensures key { K.is_key key }
+    {
+        let index = self.index_of(&key);
+        let slot = &mut self.slots[index];
+        let Some(place) = slot.find(&key, steps) else {
+            return Err(value);
+        };
+        let (_, old) = slot.replace_at(place, key, value);
+        Ok(old)
+    }
+
+    /// Puts the pair of a key that isn't bound last in its slot. Where memory is refused, which is
+    /// never for a slot without a pair, the value comes back and nothing changes.
+    pub(crate) fn add(&mut self, key: K, value: X) -> Result<(), X>
+        requires { value_of K.number_of self.old.walk key ≡ None }
+        ensures walk { OnOk result (self.new.walk ≡ walk_of K.number_of
+            (put_pair K.number_of self.old.walk self.old.capacity key value) self.old.capacity) }
+        ensures err { OnErr result (self.new.walk ≡ self.old.walk) }
+        ensures value_returned { IfErr result (λ returned. returned ≡ value) }
+        ensures capacity { self.new.capacity ≡ self.old.capacity }
+        ensures memory { OnErr result
+            (0 < class_size K.number_of self.old.walk self.old.capacity key) }
+    {
+        let index = self.index_of(&key);
+        let slot = &mut self.slots[index];
+        if let Err(value) = slot.push(key, value) {
+            return Err(value);
+        }
+        Ok(())
+    }
+}
+
+impl<K: IntKey, X: Drop, A: Allocator + Copy> Table<K, X, A> {
+    /// Empty slots, as many as asked for. It takes memory for them alone.
+    pub(crate) fn new(alloc: A, capacity: usize) -> Result<Table<K, X, A>, AllocError>
+        requires { IsCapacity capacity }
+        ensures walk { IfOk result (λ table. table.walk ≡ []) }
+        ensures capacity { IfOk result (λ table. table.capacity ≡ capacity) }
+    {
+        let mut slots = Vec::with_capacity(alloc, capacity)?;
+        for _ in 0..capacity {
+            slots.push_reserved(Slot::new(alloc));
+        }
+        Ok(Table { slots })
+    }
+}
