@@ -1,5 +1,5 @@
 -- Lists by class, where f tells the class of an element: one row for each class, joined in order.
-use Rattle.std.proofs.Common.{◌≡◌, ◌≢◌, ℕ, zero, suc, ◌+◌, ◌<◌, ◌≤◌, Bool, true, false, List, [], ◌∷◌, ◌++◌, length, map, get_or, refl, sym, ap, ◌∙◌, subst, arith, add-suc, add-one, add-zero, zero-add, append-nil}
+use Rattle.std.proofs.Common.{◌≡◌, ◌≢◌, ℕ, zero, suc, ◌+◌, ◌<◌, true, false, List, [], ◌∷◌, ◌++◌, length, map, get_or, refl, sym, ap, ◌∙◌, subst, arith, add-zero, zero-add, append-nil}
 use Rattle.std.specs.Prelude.{filter, ◌==◌, All}
 use Rattle.std.specs.List.{flat_map, range_with_len}
 use Rattle.std.proofs.lemmas.List.Elements.{All-head, All-tail, All-weaker, filter-append, filter_passes}
@@ -13,7 +13,7 @@ module _ {A : Type 0} where
   flat_map-same g h a (suc n) same =
       let first : g a ≡ h a = let k = same 0 (omega arith) in rw add-zero at k in
       let rest : flat_map g (range_with_len (a + 1) n) ≡ flat_map h (range_with_len (a + 1) n) =
-          flat_map-same g h (a + 1) n (λ i below. let q : a + 1 + i ≡ a + suc i = omega arith in rw q (same (suc i) (omega arith))) in
+      flat_map-same g h (a + 1) n (λ i below. let q : a + 1 + i ≡ a + suc i = omega arith in rw q (same (suc i) (omega arith))) in
       simp (first, rest)
 
   -- rows joined in order are the lists at their indices joined in order
@@ -22,7 +22,7 @@ module _ {A : Type 0} where
   flat_map-rows g a (s ∷ S) same =
       let first : g a ≡ s = rw add-zero at (same 0 (omega arith)) in
       let rest : flat_map g (range_with_len (a + 1) (length S)) ≡ flat_map (λ s. s) S =
-          flat_map-rows g (a + 1) S (λ i below. let q : a + 1 + i ≡ a + suc i = omega arith in rw q (same (suc i) (omega arith))) in
+      flat_map-rows g (a + 1) S (λ i below. let q : a + 1 + i ≡ a + suc i = omega arith in rw q (same (suc i) (omega arith))) in
       simp (first, rest)
 
 flat_map-map : {X A : Type 0} (g : X → List A) (xs : List X) → flat_map g xs ≡ flat_map (λ s. s) (map g xs)
@@ -71,7 +71,7 @@ module _ {X : Type 0} (f : X → ℕ) where
   class-joined a zero (s ∷ S) all =
       let up : a < a + 1 = omega arith in
       rw add-zero (filter-append (λ x. f x == a) s (flat_map (λ s. s) S)
-        ∙ simp (class-whole a s (AreClasses-first a s S all), class-joined-before (a + 1) a S (AreClasses-rest a s S all) up, append-nil))
+      ∙ simp (class-whole a s (AreClasses-first a s S all), class-joined-before (a + 1) a S (AreClasses-rest a s S all) up, append-nil))
   class-joined a (suc i) (s ∷ S) all =
       let apart : a + suc i ≢ a = omega arith in let q : a + suc i ≡ a + 1 + i = omega arith in
       filter-append (λ x. f x == a + suc i) s (flat_map (λ s. s) S)
@@ -82,7 +82,7 @@ module _ {X : Type 0} (f : X → ℕ) where
       let below_n : i < n = omega (arith, below, length-map-range_with_len (λ i. class i xs) 0 n) in
       let row : get_or (map (λ i. class i xs) (range_with_len 0 n)) i [] ≡ class i xs = get_or-map-range_with_len (λ i. class i xs) 0 n i i [] below_n (zero-add i) in
       let all : All (λ x. f x ≡ i) (class i xs) =
-          All-weaker (λ x. (f x == i) ≡ true) (λ x. f x ≡ i) (λ x h. eqb-true (f x) i h) (class i xs) (filter_passes (λ x. f x == i) xs) in
+      All-weaker (λ x. (f x == i) ≡ true) (λ x. f x ≡ i) (λ x h. eqb-true (f x) i h) (class i xs) (filter_passes (λ x. f x == i) xs) in
       let P : List X → Type 0 = λ r. All (λ x. f x ≡ 0 + i) r in
       subst P (sym row) (rw zero-add all)
 

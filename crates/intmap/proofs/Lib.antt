@@ -7,3 +7,5 @@ pub mod GrowthLemmas
 pub mod DistinctLemmas
 pub mod LoadLemmas
 pub mod TableLemmas
+pub mod MappedLemmas
+pub mod MapLemmas

@@ -1,5 +1,5 @@
 -- Which slot a key has: keys share one exactly where they agree modulo the number of slots.
-use Rattle.std.proofs.Common.{◌≡◌, ℕ, ◌+◌, ◌-◌, ◌*◌, ◌/◌, ◌%◌, ◌^◌, ◌<◌, ◌≤◌, Bool, true, sym, ap, ◌∙◌, subst, arith}
+use Rattle.std.proofs.Common.{◌≡◌, ℕ, ◌+◌, ◌-◌, ◌*◌, ◌/◌, ◌%◌, ◌^◌, ◌<◌, sym, ap, ◌∙◌, subst, arith}
 use Rattle.std.specs.Prelude.{◌==◌, bit_and, ◌↔◌}
 use Rattle.std.proofs.Math.Nat.{add-mul-mod_self_right, mul_assoc}
 use Rattle.std.proofs.Math.Pow.{pow_pos}
@@ -20,7 +20,7 @@ undone a e small =
     let whole : 2 ^ rest * 2 ^ e ≡ 2 ^ 64 = sym (pow-add 2 rest e) ∙ ap (λ n. 2 ^ n) sum in
     let product : a * 11400714819323198549 * inverse ≡ a + a * 3854363081550326191 * 2 ^ 64 = omega arith in
     let turns : a * 3854363081550326191 * 2 ^ 64 ≡ a * 3854363081550326191 * 2 ^ rest * 2 ^ e =
-        ap (λ n. a * 3854363081550326191 * n) (sym whole) ∙ sym (mul_assoc (a * 3854363081550326191) (2 ^ rest) (2 ^ e)) in
+    ap (λ n. a * 3854363081550326191 * n) (sym whole) ∙ sym (mul_assoc (a * 3854363081550326191) (2 ^ rest) (2 ^ e)) in
     ap (λ n. n % 2 ^ e) (product ∙ ap (λ n. a + n) turns) ∙ add-mul-mod_self_right a (a * 3854363081550326191 * 2 ^ rest) (2 ^ e)
 
 -- numbers with one remainder go to one slot

@@ -1,13 +1,13 @@
 -- What calls of a table do to its slots, read as its walk.
-use Rattle.std.proofs.Common.{◌≡◌, ◌≢◌, inl, inr, ℕ, zero, suc, ◌+◌, ◌-◌, ◌<◌, ◌≤◌, Bool, true, false, cond, List, [], ◌∷◌, ◌++◌, map, length, get_or, set, Option, Some, None, refl, sym, ap, ◌∙◌, subst, arith, zero-add, length-set, replicate, get_or-set_same, get_or-set_other}
-use Rattle.std.specs.Prelude.{◌==◌, All, position, swap_remove, count_by, nat_lt}
+use Rattle.std.proofs.Common.{◌≡◌, ◌≢◌, inl, inr, ℕ, zero, suc, ◌-◌, ◌<◌, cond, List, [], ◌∷◌, ◌++◌, length, get_or, set, Some, None, refl, sym, ap, ◌∙◌, subst, arith, zero-add, length-set, replicate, get_or-set_same, get_or-set_other}
+use Rattle.std.specs.Prelude.{All, position, swap_remove, count_by, nat_lt}
 use Rattle.std.specs.List.{flat_map, range_with_len}
-use Rattle.std.proofs.lemmas.List.{set-get_or, get_or_default, get_or-map, map-set, length-map, length-replicate, get_or-replicate}
+use Rattle.std.proofs.lemmas.List.{set-get_or, get_or-map, map-set, length-map}
 use Rattle.std.proofs.lemmas.List.Elements.{All-take, All-set, All-get_or, All-push, All-nil}
 use Rattle.std.proofs.lemmas.Bool.{cases_eq, lt-ltb}
 use Rattle.std.proofs.lemmas.List.Sums.{sum_by-cons}
 use Rattle.intmap.specs.Classes.{IsCapacity, slot_number, same_key}
-use Rattle.intmap.specs.Bindings.{swap_out, first_value, value_of, take_key, put_pair}
+use Rattle.intmap.specs.Bindings.{swap_out, value_of, take_key, put_pair}
 use Rattle.intmap.specs.Walk.{slot_of, walk_of}
 use Rattle.intmap.specs.Reach.{through_first, class_size, reach}
 use Rattle.intmap.specs.Figures.{load_of}
@@ -67,7 +67,7 @@ module _ {K X : Type 0} (number : K → ℕ) (S : List (Held K X)) (table : IsTa
   pub slot_of-joined : (i : ℕ) → slot_of number (joined (rows S)) (length S) i ≡ get_or (rows S) i []
   slot_of-joined i =
       rw zero-add at (class-joined (λ p. slot_number number p.0 (length S)) 0 i (rows S)
-        (λ j below. let w : j < length S = omega (arith, below, length-rows S) in rw zero-add (table.in_place j w)))
+      (λ j below. let w : j < length S = omega (arith, below, length-rows S) in rw zero-add (table.in_place j w)))
 
   -- the walk of a table is its own walk
   pub walk_of-joined : walk_of number (joined (rows S)) (length S) ≡ joined (rows S)
@@ -86,12 +86,12 @@ module _ {K X : Type 0} (number : K → ℕ) (S : List (Held K X)) (table : IsTa
   joined-set i h L below here there =
       let within : i < length (rows S) = omega (arith, below, length-rows S) in
       let row : (j : ℕ) → slot_of number L (length S) j ≡ get_or (set (rows S) i h.pairs) j [] = λ j.
-          elim (cases_eq i j) as (λ _. slot_of number L (length S) j ≡ get_or (set (rows S) i h.pairs) j []) [
-            inl q ↦ rw (← q) (here ∙ sym (get_or-set_same (rows S) i h.pairs [] within))
-          | inr apart ↦ there j apart ∙ slot_of-joined j ∙ sym (get_or-set_other (rows S) i j h.pairs [] (λ q. apart (sym q)))
-          ] in
+      elim (cases_eq i j) as (λ _. slot_of number L (length S) j ≡ get_or (set (rows S) i h.pairs) j []) [
+        | inl q ↦ rw (← q) (here ∙ sym (get_or-set_same (rows S) i h.pairs [] within))
+        | inr apart ↦ there j apart ∙ slot_of-joined j ∙ sym (get_or-set_other (rows S) i j h.pairs [] (λ q. apart (sym q)))
+      ] in
       sym (walk_of-rows number L (length S) (set S i h) (sym (length-set S i h)) (λ j _.
-        row j ∙ ap (λ R. get_or R j []) (sym (map-set (λ (s : Held K X). s.pairs) S i h))))
+      row j ∙ ap (λ R. get_or R j []) (sym (map-set (λ (s : Held K X). s.pairs) S i h))))
 
 -- h is slot i of the table, and k belongs there
 pub record IsSlot {K X : Type 0} (number : K → ℕ) (S : List (Held K X)) (h : Held K X) (i : ℕ) (k : K) : Type 0 where
@@ -204,11 +204,11 @@ module _ {K X : Type 0} (number : K → ℕ) (S : List (Held K X)) (h : Held K X
         in_place = λ j w.
             let P : List (K × X) → Type 0 = λ ps. All (λ p. slot_number number p.0 (length S) ≡ j) ps in
             let here : P (get_or (set (rows S) i s.pairs) j []) =
-                elim (cases_eq i j) [
-                  inl q ↦ (let Q : ℕ → Type 0 = λ n. All (λ p. slot_number number p.0 (length S) ≡ n) (get_or (set (rows S) i s.pairs) n []) in
-                    subst Q q (subst Belong (sym (get_or-set_same (rows S) i s.pairs [] below)) all))
-                | inr apart ↦ subst P (sym (get_or-set_other (rows S) i j s.pairs [] (λ q. apart (sym q)))) (at.table.in_place j (omega (arith, w, len)))
-                ] in
+            elim (cases_eq i j) [
+              | inl q ↦ (let Q : ℕ → Type 0 = λ n. All (λ p. slot_number number p.0 (length S) ≡ n) (get_or (set (rows S) i s.pairs) n []) in
+                  subst Q q (subst Belong (sym (get_or-set_same (rows S) i s.pairs [] below)) all))
+              | inr apart ↦ subst P (sym (get_or-set_other (rows S) i j s.pairs [] (λ q. apart (sym q)))) (at.table.in_place j (omega (arith, w, len)))
+            ] in
             let R : ℕ → List (List (K × X)) → Type 0 = λ n T. All (λ p. slot_number number p.0 n ≡ j) (get_or T j []) in
             subst (λ n. R n (rows (set S i s))) (sym len) (subst (R (length S)) (sym (map-set (λ (t : Held K X). t.pairs) S i s)) here);
       }

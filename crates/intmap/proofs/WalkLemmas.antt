@@ -1,7 +1,6 @@
 -- Lists that have one walk: they agree slot by slot, and calls keep it so.
-use Rattle.std.proofs.Common.{◌≡◌, ◌≢◌, inl, inr, ℕ, ◌*◌, ◌%◌, ◌<◌, ◌≤◌, Bool, true, false, cond, List, [], ◌∷◌, ◌++◌, length, get_or, Option, Some, None, refl, sym, ap, ◌∙◌, arith, zero-add, append-nil}
-use Rattle.std.specs.Prelude.{filter, ◌==◌, All, count_by}
-use Rattle.std.specs.List.{flat_map, range_with_len}
+use Rattle.std.proofs.Common.{◌≡◌, ◌≢◌, inl, inr, ℕ, ◌*◌, ◌%◌, ◌<◌, Bool, true, false, List, [], ◌∷◌, ◌++◌, length, refl, sym, ap, ◌∙◌, arith, zero-add, append-nil}
+use Rattle.std.specs.Prelude.{filter, ◌==◌, count_by}
 use Rattle.std.proofs.lemmas.List.Elements.{filter-append}
 use Rattle.std.proofs.lemmas.List.Sums.{length-filter}
 use Rattle.std.proofs.lemmas.Bool.{eq-eqb, eqb-true, ne_eqb, cases_eq}
@@ -87,8 +86,8 @@ module _ {K V : Type 0} (number : K → ℕ) (C : ℕ) where
         let slots = SameSlots-from_walk_of L M same in
         walk_of-same (take_key number L C k) (take_key number M C k) (λ i below.
         elim (cases_eq (slot_number number k C) i) [
-          inl at ↦ slot_of-take_key L k i at ∙ ap (swap_out (λ p. same_key number k p.0) any) (slots i below) ∙ sym (slot_of-take_key M k i at)
-        | inr apart ↦ slot_of-take_key-other L k i apart ∙ slots i below ∙ sym (slot_of-take_key-other M k i apart)
+          | inl at ↦ slot_of-take_key L k i at ∙ ap (swap_out (λ p. same_key number k p.0) any) (slots i below) ∙ sym (slot_of-take_key M k i at)
+          | inr apart ↦ slot_of-take_key-other L k i apart ∙ slots i below ∙ sym (slot_of-take_key-other M k i apart)
         ])
 
     -- lists with one walk have one after a pair was put in
@@ -97,8 +96,8 @@ module _ {K V : Type 0} (number : K → ℕ) (C : ℕ) where
         let slots = SameSlots-from_walk_of L M same in
         walk_of-same (put_pair number L C k v) (put_pair number M C k v) (λ i below.
         elim (cases_eq (slot_number number k C) i) [
-          inl at ↦ slot_of-put_pair L k v i at ∙ ap (λ xs. swap_out (λ p. same_key number k p.0) any xs ++ (k, v) ∷ []) (slots i below) ∙ sym (slot_of-put_pair M k v i at)
-        | inr apart ↦ slot_of-put_pair-other L k v i apart ∙ slots i below ∙ sym (slot_of-put_pair-other M k v i apart)
+          | inl at ↦ slot_of-put_pair L k v i at ∙ ap (λ xs. swap_out (λ p. same_key number k p.0) any xs ++ (k, v) ∷ []) (slots i below) ∙ sym (slot_of-put_pair M k v i at)
+          | inr apart ↦ slot_of-put_pair-other L k v i apart ∙ slots i below ∙ sym (slot_of-put_pair-other M k v i apart)
         ])
 
     -- lists with one walk bind a key to one value

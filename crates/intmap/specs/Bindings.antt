@@ -1,5 +1,5 @@
 -- Lists of pairs, and what calls make of them.
-use Rattle.std.specs.Prelude.{◌≡◌, ℕ, ◌≤◌, Bool, cond, not, List, [], ◌∷◌, ◌++◌, map, filter, Option, Some, None, IsSome, IsTrue, count_by}
+use Rattle.std.specs.Prelude.{ℕ, ◌≤◌, Bool, cond, not, List, [], ◌∷◌, ◌++◌, map, filter, Option, Some, None, IsSome, IsTrue, count_by}
 use Rattle.std.specs.List.{list_any}
 use Rattle.std.specs.Option.{option_eq}
 use Rattle.intmap.specs.Classes.{same_key, agrees}

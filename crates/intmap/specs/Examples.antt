@@ -1,7 +1,6 @@
 -- The definitions at small lists, computed.
-use Rattle.std.specs.Prelude.{◌≡◌, ℕ, ◌+◌, ◌^◌, List, [], ◌∷◌, map, Some, None, refl}
+use Rattle.std.specs.Prelude.{◌≡◌, ℕ, ◌+◌, ◌^◌, List, [], ◌∷◌, map, Some, refl}
 use Rattle.std.specs.List.{range_with_len}
-use Rattle.intmap.specs.Classes.{slot_number}
 use Rattle.intmap.specs.Bindings.{value_of, take_key, put_pair, write_value, strike_keys}
 use Rattle.intmap.specs.Walk.{walk_of, first_of_walk}
 use Rattle.intmap.specs.Reach.{class_size, reach}

@@ -8,3 +8,4 @@ pub mod Examples
 pub mod Slots
 pub mod Map
 pub mod States
+pub mod Kept

@@ -1,5 +1,5 @@
 -- A plain list of pairs with a capacity and a load factor, and what insertions make of it.
-use Rattle.std.specs.Prelude.{◌≡◌, ◌≢◌, ◌↔◌, ℕ, ◌<◌, List, [], ◌∷◌, ◌++◌, length, take, Option, Some, None, IsNone}
+use Rattle.std.specs.Prelude.{◌≡◌, ◌↔◌, ℕ, ◌<◌, List, [], ◌∷◌, ◌++◌, length, Option, Some, None, IsNone}
 use Rattle.intmap.specs.Bindings.{value_of, put_pair}
 use Rattle.intmap.specs.Reach.{class_size}
 use Rattle.intmap.specs.Map.{MapState, IsOutOfRange}

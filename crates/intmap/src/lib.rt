@@ -1,12 +1,16 @@
 //! A hash map from integer keys, whose order and capacity follow from its calls alone.
 #![tactic(auto)]
 
+pub mod iter;
+mod kept;
 mod key;
+mod map;
 mod refusal;
-pub mod steps;
 mod slot;
+pub mod steps;
 mod stored;
 mod table;
 
 pub use key::IntKey;
+pub use map::IntMap;
 pub use refusal::{Cause, Refused};

@@ -1,7 +1,8 @@
 //! One slot of a table: the first pair in its place, the rest behind it.
-ghost use Rattle.std.specs.Prelude.{◌≡◌, ◌+◌, ◌<◌, ◌≤◌, List, [], ◌∷◌, ◌++◌, length, position, swap_remove, slice_index_or, nat_lt, Bool, OnOk, OnErr, IfErr, IsOk};
+ghost use Rattle.std.specs.Prelude.{◌≡◌, ◌+◌, ◌<◌, ◌≤◌, List, [], ◌∷◌, ◌++◌, length, position, swap_remove, slice_index_or, nat_lt, Bool, OnOk, OnErr, IfErr, option_copied};
 ghost use Rattle.intmap.specs.Classes.{same_key};
 ghost use Rattle.intmap.specs.Reach.{through_first};
+ghost use Rattle.intmap.specs.Slots.{all_pairs};
 
 use crate::key::IntKey;
 use crate::steps::Steps;
@@ -39,8 +40,8 @@ impl<K: IntKey, X, A: Allocator> Model for Slot<K, X, A> {
     ghost Value = { Held K X };
 
     ghost view = { λ s. record {
-        pairs = all_pairs s.first s.rest.items;
-        room = 1 + vec_capacity s.rest
+      pairs = all_pairs s.first s.rest.items;
+      room = 1 + vec_capacity s.rest;
     } };
 
     ghost invariant = { λ s. IsFilledInOrder s.first s.rest.items };
@@ -97,6 +98,13 @@ impl<K: IntKey, X, A: Allocator> Slot<K, X, A> {
         }
     }
 
+    /// The first pair, if there is one, and the rest.
+    pub(crate) fn parts(&self) -> (Option<&(Stored<K>, X)>, &[(Stored<K>, X)])
+        ensures { self.now.pairs ≡ all_pairs (option_copied result.0) result.1.now }
+    {
+        (self.first.as_ref(), self.rest.as_slice())
+    }
+
     /// Takes the pair at a place out. The last pair is moved into its place.
     pub(crate) fn take_at(&mut self, place: usize) -> (Stored<K>, X)
         requires { place < length self.old.pairs }
@@ -129,7 +137,6 @@ impl<K: IntKey, X, A: Allocator> Slot<K, X, A> {
         }
         self.rest.reserve(1)
     }
-
 }
 
 impl<K: IntKey, X: Drop, A: Allocator> Slot<K, X, A> {

@@ -1,4 +1,7 @@
 //! Slots, of which each key has one.
+
+pub(crate) mod walk;
+
 ghost use Rattle.std.specs.Prelude.{◌≡◌, ◌+◌, ◌<◌, ◌≤◌, List, [], OnOk, OnErr, IfOk, IfErr, IfSome, IsOk, IsSome, IsNone, Some, None, option_copied, length, nat_lt, count_by};
 ghost use Rattle.intmap.specs.Classes.{IsCapacity, slot_number};
 ghost use Rattle.intmap.specs.Bindings.{value_of, take_key, put_pair};
@@ -11,6 +14,7 @@ use crate::slot::Slot;
 use crate::steps::Steps;
 use std::alloc::{AllocError, Allocator};
 use std::marker::Model;
+use walk::Pairs;
 
 /// The odd number that spreads keys over slots.
 const MULTIPLIER: u64 = 11400714819323198549;
@@ -41,8 +45,8 @@ impl<K: IntKey, X, A: Allocator> Model for Table<K, X, A> {
     ghost Value = { Grid K X };
 
     ghost view = { λ t. record {
-        walk = joined (rows t.slots.items);
-        capacity = length t.slots.items
+      walk = joined (rows t.slots.items);
+      capacity = length t.slots.items;
     } };
 
     ghost invariant = { λ t. IsTable K.number_of t.slots.items };
@@ -63,6 +67,17 @@ impl<K: IntKey, X, A: Allocator> Table<K, X, A> {
         ensures { result ≡ load_of K.number_of self.now.walk self.now.capacity }
     {
         filled_slots(&self.slots)
+    }
+
+    /// The pairs, slot after slot.
+    pub(crate) fn pairs(&self) -> Pairs<'_, K, X, A>
+        ensures { result ≡ self.now.walk }
+    {
+        Pairs {
+            first: None,
+            rest: &[],
+            slots: &self.slots,
+        }
     }
 
     /// The slot of a key.

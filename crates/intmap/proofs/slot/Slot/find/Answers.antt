@@ -1,4 +1,4 @@
-use Rattle.std.proofs.Common.{◌≡◌, ◌+◌, ◌∷◌, List, length, false, ap, sym, ◌∙◌, arith}
+use Rattle.std.proofs.Common.{◌≡◌, ◌+◌, ◌∷◌, length, false, ap, sym, ◌∙◌, arith}
 use Rattle.intmap.specs.Classes.{same_key}
 use Rattle.intmap.specs.Reach.{through_first}
 use Rattle.intmap.specs.Slots.{all_pairs}
@@ -28,7 +28,7 @@ pub returns-in-None-clause-place : goal.returns-in-None-clause-place
 returns-in-None-clause-place g c =
     let here = (goal.at.returns-in-None-clause-place g c).After-find_in in
     rw (pairs g here) (sym (position-cons_none _ c.in-Some.first c.self.inside.rest.items (fails g here)
-      (rw c.deref.ensures.value at (sym c.in-None.ensures.place))))
+    (rw c.deref.ensures.value at (sym c.in-None.ensures.place))))
 
 pub returns-in-None-clause-counted : goal.returns-in-None-clause-counted
 returns-in-None-clause-counted g c = counted g (goal.at.returns-in-None-clause-counted g c).After-find_in

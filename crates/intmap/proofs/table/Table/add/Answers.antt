@@ -1,8 +1,7 @@
-use Rattle.std.proofs.Common.{◌≡◌, ◌+◌, ◌∙◌, sym, ap}
+use Rattle.std.proofs.Common.{◌∙◌, sym, ap}
 use Rattle.intmap.specs.Classes.{slot_number}
-use Rattle.intmap.specs.Reach.{reach}
 use Rattle.intmap.specs.Slots.{Grid, joined}
-use Rattle.intmap.proofs.TableLemmas.{IsSlot, rows-set, position-missing, walk-added, walk-taken_none, class_size-here, Belong-here, Belong-push, IsTable-set}
+use Rattle.intmap.proofs.TableLemmas.{IsSlot, rows-set, position-missing, walk-added, class_size-here, Belong-here, Belong-push, IsTable-set}
 use Rattle.intmap.proofs.table.Table.add.Goals as goal
 use Rattle.intmap.proofs.table.Table.add.Goals.{After-index_mut-slot}
 

@@ -1,4 +1,4 @@
-use Rattle.std.proofs.Common.{◌≡◌, ◌∙◌, ap}
+use Rattle.std.proofs.Common.{◌∙◌, ap}
 use Rattle.intmap.specs.Slots.{joined}
 use Rattle.intmap.proofs.TableLemmas.{joined-empty}
 use Rattle.intmap.proofs.table.Table.new.Goals as goal

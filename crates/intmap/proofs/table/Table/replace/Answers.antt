@@ -32,7 +32,7 @@ invariant_of-self-2 g c =
     let old = c.replace_at-old in
     let below = place-within _ _ _ _ _ at c.in-Some.place (sym c.in-Some.ensures.place) in
     IsTable-set _ _ _ _ _ at old.new.self (rw old.ensures.pairs (Belong-push _ _ _ _ _ at _ c.args.value
-      (Belong-swap_remove _ _ _ _ _ at c.in-Some.place old.result below old.ensures.value)))
+    (Belong-swap_remove _ _ _ _ _ at c.in-Some.place old.result below old.ensures.value)))
 
 pub returns-clause-old : goal.returns-clause-old
 returns-clause-old g c =

@@ -1,0 +1,73 @@
+use Rattle.std.proofs.Common.{◌≡◌, ◌+◌, None, Some, length, sym, ap, ◌∙◌, refl}
+use Rattle.std.specs.Option.{option_map}
+use Rattle.intmap.specs.Bindings.{value_of}
+use Rattle.intmap.specs.Map.{MapState, after_search, after_insert, with_pair}
+use Rattle.intmap.specs.Kept.{unkept}
+use Rattle.intmap.specs.declared.kept.Kept.{Kept}
+use Rattle.intmap.proofs.MapLemmas.{MapState-same, unkept-put, IsCounted-replaced}
+use Rattle.intmap.proofs.MappedLemmas.{value_of-with_values, reach-with_values}
+use Rattle.intmap.proofs.map.IntMap.insert.Goals as goal
+use Rattle.intmap.proofs.map.IntMap.insert.Goals.{After-add}
+
+-- the key isn't bound
+missing : (g : _) (c : After-add g) → value_of g.K.IntKey.number_of c.args.self.now.walk c.args.key ≡ None
+missing g c =
+    rw (← c.self.view_is) (value_of-with_values g.K.IntKey.number_of (λ kept. kept.value) c.self.inside.table.walk c.args.key ∙ ap (option_map (λ kept. kept.value)) c.in-Err.ensures.missing)
+
+-- what the search leaves
+searched : (g : _) (c : After-add g) → ◌≡◌ {A = MapState g.row.K.Denot g.row.V.Denot}
+    (record { walk = unkept c.replace.new.self.walk; capacity = c.replace.new.self.capacity; factor = c.self.inside.factor; placed = c.self.inside.placed; compared = c.replace.new.steps })
+    (after_search g.K.IntKey.number_of c.args.self.now c.args.key)
+searched g c =
+    rw (← c.self.view_is) (MapState-same _ _ _ _ _ _ _ _ (ap unkept c.in-Err.ensures.err) c.in-Err.ensures.capacity
+    (c.in-Err.ensures.counted ∙ ap (λ n. c.self.inside.compared + n) (sym (reach-with_values g.K.IntKey.number_of (λ kept. kept.value) c.self.inside.table.walk c.self.inside.table.capacity c.args.key))))
+
+pub invariant_of-self : goal.invariant_of-self
+invariant_of-self g c =
+    IsCounted-replaced _ _ _ _ _ _ _ c.self.invariant c.in-Ok.ensures.capacity c.args.key (record { value = c.args.value }) c.in-Ok.old c.in-Ok.ensures.key c.in-Ok.ensures.old c.in-Ok.ensures.walk
+
+pub returns-in-Ok-clause-old : goal.returns-in-Ok-clause-old
+returns-in-Ok-clause-old g c =
+    rw (← c.self.view_is) (sym (value_of-with_values g.K.IntKey.number_of (λ kept. kept.value) c.self.inside.table.walk c.args.key ∙ ap (option_map (λ kept. kept.value)) c.in-Ok.ensures.old))
+
+pub returns-in-Ok-clause-state : goal.returns-in-Ok-clause-state
+returns-in-Ok-clause-state g c =
+    rw (← c.self.view_is) (MapState-same _ _ _ _ _ _ _ _
+    (unkept-put g.K.IntKey.number_of c.self.inside.table.walk c.replace.new.self.walk c.self.inside.table.capacity c.args.key (record { value = c.args.value }) c.in-Ok.ensures.walk)
+    c.in-Ok.ensures.capacity
+    (c.in-Ok.ensures.counted ∙ ap (λ n. c.self.inside.compared + n) (sym (reach-with_values g.K.IntKey.number_of (λ kept. kept.value) c.self.inside.table.walk c.self.inside.table.capacity c.args.key))))
+
+pub returns-in-Ok-clause-too_large : goal.returns-in-Ok-clause-too_large
+returns-in-Ok-clause-too_large g c =
+    let bound : value_of g.K.IntKey.number_of c.args.self.now.walk c.args.key ≡ Some c.in-Ok.old.value =
+    rw (← c.self.view_is) (value_of-with_values g.K.IntKey.number_of (λ kept. kept.value) c.self.inside.table.walk c.args.key ∙ ap (option_map (λ kept. kept.value)) c.in-Ok.ensures.old) in
+    (absurd, λ out. let none = rw bound at out.0 in cc)
+
+pub add-requires-clause-missing : goal.add-requires-clause-missing
+add-requires-clause-missing g c =
+    rw c.in-Err.ensures.err (value_of-with_values g.K.IntKey.number_of (λ kept. kept.value) c.self.inside.table.walk c.args.key ∙ ap (option_map (λ kept. kept.value)) c.in-Err.ensures.missing)
+
+pub returns-in-Err-add-clause-err : goal.returns-in-Err-add-clause-err
+returns-in-Err-add-clause-err g c =
+    c.in-Err-add.ensures.err ∙ searched g (goal.at.returns-in-Err-add-clause-err g c).After-add
+
+pub returns-in-Err-add-clause-new_key : goal.returns-in-Err-add-clause-new_key
+returns-in-Err-add-clause-new_key g c = rw (missing g (goal.at.returns-in-Err-add-clause-new_key g c).After-add) refl
+
+pub returns-in-Err-add-clause-too_large : goal.returns-in-Err-add-clause-too_large
+returns-in-Err-add-clause-too_large g c =
+    let here = (goal.at.returns-in-Err-add-clause-too_large g c).After-add in
+    let len : length (unkept c.replace.new.self.walk) ≡ length c.args.self.now.walk = ap (λ (m : MapState _ _). length m.walk) (searched g here) in
+    let large = c.in-Err-add.ensures.too_large in
+    (λ e. (rw (missing g here) refl, rw len at (large.0 e)), λ out. large.1 (rw len out.1))
+
+pub returns-clause-old : goal.returns-clause-old
+returns-clause-old g c = sym (missing g (goal.at.returns-clause-old g c).After-add)
+
+pub returns-clause-state : goal.returns-clause-state
+returns-clause-state g c =
+    let here = (goal.at.returns-clause-state g c).After-add in
+    let same : c.in-Err.kept.value ≡ c.args.value = ap (λ (kept : Kept _). kept.value) c.in-Err.ensures.value_returned in
+    c.in_default.ensures.state
+    ∙ ap (λ (m : MapState g.row.K.Denot g.row.V.Denot). with_pair g.K.IntKey.number_of m c.args.key c.in-Err.kept.value) (searched g here)
+    ∙ ap (λ v. after_insert g.K.IntKey.number_of c.args.self.now c.args.key v) same

@@ -1,0 +1,17 @@
+use Rattle.std.proofs.Common.{max, arith}
+use Rattle.std.proofs.lemmas.Result.{IfOk-weaker}
+use Rattle.intmap.specs.Growth.{IsLeastPower}
+use Rattle.intmap.proofs.GrowthLemmas.{IsCapacity-from_next, IsLeastPower-from_next}
+use Rattle.intmap.proofs.map.IntMap.with_capacity.Goals as goal
+
+pub with_slots-requires : goal.with_slots-requires
+with_slots-requires g c =
+    let p = c.next_power_of_two.ensures in
+    IsCapacity-from_next c.args.capacity c.next_power_of_two.result (omega arith) p.power (omega (arith, p.lower_bound)) (omega (arith, p.upper_bound))
+
+pub returns-clause-capacity : goal.returns-clause-capacity
+returns-clause-capacity g c =
+    let p = c.next_power_of_two.ensures in
+    let least : IsLeastPower (max c.args.capacity 2) c.next_power_of_two.result =
+    IsLeastPower-from_next (max c.args.capacity 2) c.next_power_of_two.result (omega arith) p.power (omega (arith, p.lower_bound)) (omega (arith, p.upper_bound)) in
+    IfOk-weaker c.with_slots.result _ _ (λ made e. rw e least) c.with_slots.ensures.state

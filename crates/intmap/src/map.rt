@@ -1,0 +1,90 @@
+//! The map: a table of slots, the number of its pairs and its load factor.
+ghost use Rattle.std.specs.Prelude.{◌≡◌, length};
+ghost use Rattle.intmap.specs.Figures.{load_of};
+ghost use Rattle.intmap.specs.Map.{IsMap};
+
+mod build;
+mod get;
+mod insert;
+mod remove;
+
+use crate::iter::Iter;
+use crate::kept::Kept;
+use crate::key::IntKey;
+use crate::steps::Steps;
+use crate::table::Table;
+use std::alloc::{Allocator, Global};
+use std::marker::Model;
+
+/// A hash map from integer keys to values.
+///
+/// Its pairs lie in slots, as many as a power of two; a key's slot is its number times an odd
+/// constant, modulo the number of slots. The order of the pairs, the walk, goes through the slots
+/// in turn and each from the front to the back, and follows from the calls alone. No call makes
+/// the number of slots smaller.
+///
+/// Contracts see a map as a [`MapState`](../specs/Map.antt): its walk, its number of slots, its
+/// load factor in thousandths, and two counts that take no bytes: of the pairs that insertions put
+/// into larger tables, and of the keys that calls compared.
+#[derive(Drop)]
+pub struct IntMap<K: IntKey, V, A: Allocator + Copy = Global> {
+    table: Table<K, Kept<V>, A>,
+    len: usize,
+    factor: usize,
+    placed: Steps,
+    compared: Steps,
+}
+
+impl<K: IntKey, V, A: Allocator + Copy> Model for IntMap<K, V, A> {
+    ghost use Rattle.intmap.specs.Map.{MapState};
+    ghost use Rattle.intmap.specs.Kept.{unkept, IsCounted};
+
+    ghost Value = { MapState K V };
+
+    ghost view = { λ m. record {
+      walk = unkept m.table.walk;
+      capacity = m.table.capacity;
+      factor = m.factor;
+      placed = m.placed;
+      compared = m.compared;
+    } };
+
+    ghost invariant = { λ m. IsCounted K.number_of K.is_key m.table.walk m.table.capacity m.len };
+}
+
+impl<K: IntKey, V, A: Allocator + Copy> IntMap<K, V, A> {
+    /// The number of pairs. It is never refused.
+    pub fn len(&self) -> usize
+        ensures value { result ≡ length self.now.walk }
+        ensures map { IsMap K.number_of K.is_key self.now }
+    {
+        self.len
+    }
+
+    /// The number of slots, a power of two from 2 to 2^63. It is never refused.
+    pub fn capacity(&self) -> usize
+        ensures value { result ≡ self.now.capacity }
+        ensures map { IsMap K.number_of K.is_key self.now }
+    {
+        self.table.capacity()
+    }
+
+    /// The number of slots that hold a pair, which is the number of residues that the keys leave
+    /// modulo the capacity. It goes through all slots, and is never refused.
+    pub fn load(&self) -> u64
+        ensures value { result ≡ load_of K.number_of self.now.walk self.now.capacity }
+        ensures map { IsMap K.number_of K.is_key self.now }
+    {
+        self.table.load() as u64
+    }
+
+    /// The pairs by reference, in the order of the walk. It is never refused.
+    pub fn iter(&self) -> Iter<'_, K, V, A>
+        ensures walk { result ≡ self.now.walk }
+        ensures map { IsMap K.number_of K.is_key self.now }
+    {
+        Iter {
+            pairs: self.table.pairs(),
+        }
+    }
+}

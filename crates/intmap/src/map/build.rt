@@ -1,0 +1,71 @@
+//! New maps.
+ghost use Rattle.std.specs.Prelude.{◌≡◌, ◌↔◌, ◌^◌, ◌<◌, max, IfOk, IfErr, Err};
+ghost use Rattle.intmap.specs.Classes.{IsCapacity};
+ghost use Rattle.intmap.specs.Growth.{IsLeastPower};
+ghost use Rattle.intmap.specs.Map.{IsMap, empty_map};
+
+use crate::key::IntKey;
+use crate::map::IntMap;
+use crate::refusal::Cause;
+use crate::steps::Steps;
+use crate::table::Table;
+use std::alloc::Allocator;
+
+/// The number of slots of a map that `new` makes.
+const FIRST_CAPACITY: usize = 4;
+
+/// The load factor of a map that was just made, in thousandths.
+const FIRST_FACTOR: usize = 909;
+
+/// The greatest number of slots.
+const GREATEST_CAPACITY: usize = 9223372036854775808;
+
+impl<K: IntKey, V: Drop, A: Allocator + Copy> IntMap<K, V, A> {
+    /// An empty map of 4 slots, with a load factor of 909 thousandths. It is refused where memory
+    /// for the slots is.
+    pub fn new(alloc: A) -> Result<IntMap<K, V, A>, Cause>
+        ensures state { IfOk result (λ made. made ≡ empty_map 4) }
+        ensures memory { IfErr result (λ cause. cause ≡ Cause.Memory) }
+        ensures map { IfOk result (IsMap K.number_of K.is_key) }
+    {
+        IntMap::with_slots(alloc, FIRST_CAPACITY)
+    }
+
+    /// An empty map with a load factor of 909 thousandths, whose number of slots is the least
+    /// power of two that is at least `capacity`, and at least 2. It is refused as too large exactly
+    /// where `capacity` is above 2^63, and else where memory for the slots is refused.
+    ///
+    /// ```text
+    /// IntMap::with_capacity(alloc, 20)    has 32 slots
+    /// ```
+    pub fn with_capacity(alloc: A, capacity: usize) -> Result<IntMap<K, V, A>, Cause>
+        ensures state { IfOk result (λ made. made ≡ empty_map made.capacity) }
+        ensures capacity { IfOk result (λ made. IsLeastPower (max capacity 2) made.capacity) }
+        ensures too_large { (result ≡ Err Cause.TooLarge) ↔ (2 ^ 63 < capacity) }
+        ensures map { IfOk result (IsMap K.number_of K.is_key) }
+    {
+        if capacity > GREATEST_CAPACITY {
+            return Err(Cause::TooLarge);
+        }
+        IntMap::with_slots(alloc, capacity.max(2).next_power_of_two())
+    }
+
+    /// An empty map of so many slots.
+    fn with_slots(alloc: A, slots: usize) -> Result<IntMap<K, V, A>, Cause>
+        requires { IsCapacity slots }
+        ensures state { IfOk result (λ made. made ≡ empty_map slots) }
+        ensures memory { IfErr result (λ cause. cause ≡ Cause.Memory) }
+        ensures map { IfOk result (IsMap K.number_of K.is_key) }
+    {
+        match Table::new(alloc, slots) {
+            Ok(table) => Ok(IntMap {
+                table,
+                len: 0,
+                factor: FIRST_FACTOR,
+                placed: Steps::new(),
+                compared: Steps::new(),
+            }),
+            Err(_) => Err(Cause::Memory),
+        }
+    }
+}

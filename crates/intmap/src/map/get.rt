@@ -1,0 +1,36 @@
+//! Look-ups.
+ghost use Rattle.std.specs.Prelude.{◌≡◌, ◌+◌, option_copied};
+ghost use Rattle.intmap.specs.Bindings.{value_of};
+ghost use Rattle.intmap.specs.Reach.{reach};
+ghost use Rattle.intmap.specs.Map.{IsMap};
+
+use crate::key::IntKey;
+use crate::map::IntMap;
+use crate::steps::Steps;
+use std::alloc::Allocator;
+
+impl<K: IntKey, V, A: Allocator + Copy> IntMap<K, V, A> {
+    /// The value that the key is bound to, or `None`. It is never refused.
+    pub fn get(&self, key: K) -> Option<&V>
+        ensures value { option_copied result ≡ value_of K.number_of self.now.walk key }
+        ensures map { IsMap K.number_of K.is_key self.now }
+    {
+        let mut steps = Steps::new();
+        self.get_counted(key, &mut steps)
+    }
+
+    /// As [`get`](IntMap::get), with each comparison of a stored key with the sought one counted
+    /// in `steps`: the keys that agree with it modulo the capacity are compared in the order of
+    /// the walk, up to the key itself.
+    pub fn get_counted(&self, key: K, steps: &mut Steps) -> Option<&V>
+        ensures value { option_copied result ≡ value_of K.number_of self.now.walk key }
+        ensures counted { steps.new
+            ≡ steps.old + reach K.number_of self.now.walk self.now.capacity key }
+        ensures map { IsMap K.number_of K.is_key self.now }
+    {
+        match self.table.get(&key, steps) {
+            Some(kept) => Some(&kept.value),
+            None => None,
+        }
+    }
+}
