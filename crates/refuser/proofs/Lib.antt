@@ -1,0 +1,2 @@
+mod Handle
+mod Steps

@@ -1,0 +1,75 @@
+-- By hand, since what is handed on is a block of memory, and the borrow checker reads no clause that owns one.
+use Rattle.refuser.proofs.Steps.{Bool, ◌≡◌, ℕ, List, [], ◌∷◌, true, false, Ok, Err, refl, ap, w64, leaves, proved, after, Al, Answer, answer_val, Answer-typed, Answer-Ok, Answer-err, Takes, at_takes, Takes-goes, Takes-gives, Answered, answers, token, seen, ftrue, flft, froom, id⊢, ◌⊑◌, ⊑_trans, fact, tables, inst_fn, Fn, Val, vptr, align, capped, size, ‵, raw, ◌⊛◌, some, later, prop, at_ret, Sq, ◌$◌, ◌∵◌, !, qed, done, move, drop, frame, use0, use1, use2, split, split3, join, fjoin, feq_i, feq_l, pick, await, suffices, agg, addr, and_then, branches, enter, exec, first, fld, lit, no_more, returns, returns_within, skips, stop, alloc_all, env, free_all, get, lands_as, look_at, pass_all, sets, through, bool, usize, yes, uint_Tells, uint_vals, owns, block_ptr, shr_vals, plain, heard, nothing, only, calls_at, Ended, lasts, on_entry, triple_of, framed, Goes-dropped, Stays, stay_dropped, walk_of}
+use Rattle.refuser.proofs.Handle.{passed, self, inner_at, left_at, shared_count, opened}
+use Rattle.refuser.specs.contracts.RefuserAllocator.allocate as f
+use Rattle.refuser.specs.contracts.RefuserAllocator.allocate.Key.{name}
+use Rattle.refuser.proofs.RefuserAllocator.allocate.Statement.{statement}
+use Rattle.refuser.proofs.RefuserAllocator.allocate.Code as code
+use Rattle.refuser.specs.contracts.count_request as counted
+use Rattle.refuser.proofs.count_request.Met as counted_proof
+
+module _ (Z : Al) where
+  abbrev ended : Ended
+  ended = f.ended Z.row Z.g Z.d Z.drops
+
+  abbrev stayed : Stays ended.signature.params ended.kept
+  stayed = (stay_dropped (self Z) yes, (stay_dropped (plain (λ _. usize)) yes, (stay_dropped (plain (λ _. usize)) yes, tt)))
+
+  abbrev here : Fn
+  here = inst_fn (passed Z) code.function
+
+pub allocate_spec : {M : Type 1} → statement M
+allocate_spec 𝓤 𝓛 𝓜 𝓡 wired B laws ghosts methods drops met _ =
+    let Z : Al = record { row = B; laws = laws; g = ghosts; d = methods; drops = drops } in
+    let c = f.clauses B ghosts methods drops 𝓛 𝓜.mem 𝓡.returns in
+    let W = walk_of 𝓛 (ended Z) (stayed Z) c in
+    let 𝓣 = tables 𝓤 𝓛.H 𝓜 𝓡 𝓡.env in
+    let number = Goes-dropped 𝓛 2 (plain (λ _. usize)) yes (λ κs x w. refl) in
+    proved 𝓛 (ended Z) (stayed Z) c 𝓜 𝓡 (Goes-dropped 𝓛 2 (self Z) yes (λ κs x w. refl), (number, (number, tt)))
+    (name (passed Z)) (here Z) (code.unfolded 𝓤 𝓛.H 𝓜 𝓡 wired (B, tt) methods drops)
+    (λ κs. (shr_vals, (uint_vals w64, (uint_vals w64, tt)))) (λ κs. ((λ r vs is. is.0), (uint_Tells w64, (uint_Tells w64, tt)))) (λ κs qs bounds a τ are.
+    let κ = κs.0 in let q = qs.0 in let r = a.0 in let h = r.now.inner in let bytes = a.1.0 in let boundary = a.1.1.0 in
+    let y : W.Ghost = ((κs, qs, bounds, a, (shr_vals r, (uint_vals w64 bytes, (uint_vals w64 boundary, tt)))), τ) in
+    let HasLayout : Type 0 = (capped (size τ) ≡ bytes) × (capped (align τ) ≡ boundary) in
+    let tokens = ‵ (flft κ q) ∷ (‵ (flft κs.1.0 qs.1.0) ⊛ ‵ ftrue) ∷ [] in
+    -- how each outcome ends, from the tokens that are left
+    let refuses : Sq 𝓛 tokens (prop (W.post y (answer_val false 0 0))) =
+    suffices ! _ (leaves 𝓛 (ended Z) (stayed Z) c y (answer_val false 0 0) (Err (record {})) (tt, (tt, (tt, tt))) (tt, (tt, (tt, tt)))) $
+    join ! $ frame ! $ nothing ! $ nothing ! $ fjoin ! $ nothing ! $ fjoin ! $ nothing ! $ fjoin ! $ frame ! $
+    use0 𝓛 (‵ (Answer.own_val (Err (record {})) (answer_val false 0 0 ∷ []))) (Answer-err 𝓛) $ frame ! $ nothing ! $ done ! in
+    let grants : (b o : ℕ) → Sq 𝓛 (‵ (froom τ b o) ∷ ‵ (token Z h τ (block_ptr b o)) ∷ tokens) (prop (W.post y (answer_val true b o))) = λ b o.
+    suffices ! _ (leaves 𝓛 (ended Z) (stayed Z) c y (answer_val true b o) (Ok (block_ptr b o)) (tt, (tt, (tt, tt))) (tt, (tt, (tt, tt)))) $
+    move ! (2 ∷ 3 ∷ []) $ join ! $ frame ! $ nothing ! $ nothing ! $ fjoin ! $ nothing ! $ fjoin ! $ nothing ! $ fjoin ! $ frame ! $
+    use0 𝓛 (‵ (Answer.own_val (Ok (block_ptr b o)) (answer_val true b o ∷ []))) (Answer-Ok 𝓛 b o) $ frame ! $ fjoin ! $ done ! in
+    qed 𝓛 (raw (on_entry 𝓛 (ended Z).signature κs qs a y.0.4) ∷ (raw (fact 𝓤 (κs.1.0 ⊑ B.lives)) ⊛ raw (fact 𝓤 HasLayout)) ∷ []) ∵
+    use1 𝓛 (‵ (shared_count Z r κ) ⊛ ‵ (flft κ q) ⊛ ‵ (seen Z κ (inner_at Z r) h) ⊛ ‵ (flft κs.1.0 qs.1.0) ⊛ ‵ ftrue)
+    (opened Z 𝓛 κ κs.1.0 q qs.1.0 r (shr_vals r) (owns (usize ∷ usize ∷ []) a.1 y.0.4.1)) $
+    split3 ! $ move ! (2 ∷ []) $ split ! $ move ! (4 ∷ 2 ∷ 3 ∷ 0 ∷ 1 ∷ []) $ split ! $ heard ! _ (λ lives. heard ! HasLayout (λ layout.
+    -- [the count; the token; the inner allocator; the other tokens]
+    enter ! _ _ _ _ _ $ alloc_all ! (λ l. pass_all ! refl ((tt, tt), ((tt, record { fits = are.1.0.1 }), ((tt, record { fits = are.1.1.0.1 }), tt))) $
+    sets ! (addr ! (through ! refl (fld ! refl (stop !)))) refl (tt, tt) $
+    let Count = triple_of 𝓛 counted.signature (counted.spec 𝓛 𝓜.mem 𝓡.returns) in
+    let p = left_at Z r in let pointer = vptr p.0 p.1 ∷ [] in
+    let z : Count.Ghost = (((κ, tt), (q, tt), tt, (record { ref_ptr = p; now = record { value = tt } }, tt), (pointer, tt)), tt) in
+    feq_i ! (List Val) pointer pointer refl $ fjoin ! $ nothing ! $ move ! (1 ∷ 0 ∷ []) $ fjoin ! $
+    nothing ! $ move ! (2 ∷ 0 ∷ []) $ join ! $ join ! $ nothing ! $ move ! (1 ∷ 0 ∷ []) $ use2 𝓛 (raw (Count.pre z)) (id⊢ 𝓤 _) $
+    calls_at ! (framed 𝓤 𝓛.H 𝓜 𝓣) Count (counted_proof.met 𝓤 𝓛 𝓜 𝓡 (code.calls-refuser::count_request 𝓡.env wired)) z (and_then ! (get ! refl) (no_more !)) (λ v.
+    use1 𝓛 (later (some (λ (refused : Bool). ((‵ (flft κ q) ⊛ ‵ ftrue) ⊛ ‵ (bool.own_val refused (v ∷ []))) ⊛
+    some (λ (ws : Unit {0} × Unit {0}). ‵ (lasts counted.ended (κ, tt) z.0.3 ws) ⊛ ‵ ftrue)))) (id⊢ 𝓤 _) $
+    await ! tt $ pick ! (λ refused. split ! $ split ! $ split ! $ move ! (2 ∷ []) $ feq_l ! (λ answer. move ! (2 ∷ []) $ drop ! $ move ! (1 ∷ []) $ drop ! $
+    lands_as ! (ap only answer) refl (tt, tt) $ move ! (1 ∷ []) $
+    -- [the inner allocator; the token; the other tokens]
+    first ! $ branches ! (get ! refl)
+    (λ _. sets ! (agg ! (no_more !)) refl (tt, tt) $
+    sets ! (agg ! (and_then ! (lit ! tt) (and_then ! (get ! refl) (no_more !)))) refl (Answer-typed false 0 0) $
+    returns_within ! (W.post y) refl (look_at ! 0 refl) $ free_all ! refl $ drop ! $ refuses)
+    (λ _. skips ! $ exec ! 𝓣.C 𝓣.Λ (env (here Z).locals l) (after 3 (here Z).body) (at_ret _ (W.post y)) $
+    sets ! (addr ! (through ! refl (fld ! refl (stop !)))) refl (tt, tt) $
+    let x = at_takes Z 𝓛 𝓜.mem 𝓡.returns κ q (inner_at Z r) h bytes boundary τ in
+    use2 𝓛 (raw ((Takes Z 𝓛 𝓜.mem 𝓡.returns).pre x))
+    (Takes-goes Z 𝓛 𝓜.mem 𝓡.returns κ q (inner_at Z r) h (⊑_trans κ κs.1.0 B.lives bounds.0 lives) bytes boundary τ layout.0 layout.1 are.1.0.1 are.1.1.0.1) $
+    calls_at ! (framed 𝓤 𝓛.H 𝓜 𝓣) (Takes Z 𝓛 𝓜.mem 𝓡.returns) (met.allocate drops) x (and_then ! (get ! refl) (and_then ! (get ! refl) (and_then ! (get ! refl) (no_more !)))) (λ u.
+    use1 𝓛 (later (raw (Answered Z 𝓛 𝓜.mem 𝓡.returns h τ u) ⊛ ‵ (flft κ q))) (Takes-gives Z 𝓛 𝓜.mem 𝓡.returns κ q (inner_at Z r) h bytes boundary τ u) $ await ! tt $ split ! $
+    answers Z ! 𝓜.mem 𝓡.returns h τ u
+    (λ b o is. lands_as ! is refl (Answer-typed true b o) $ returns ! (look_at ! 0 refl) $ free_all ! refl $ grants b o)
+    (λ is. lands_as ! is refl (Answer-typed false 0 0) $ returns ! (look_at ! 0 refl) $ free_all ! refl $ refuses))))))))))
