@@ -1,0 +1,4 @@
+pub mod StandLemmas
+pub mod StepLemmas
+pub mod RunLemmas
+pub mod ZipLemmas

@@ -1,0 +1,44 @@
+-- Lists that stand for one map: what they tell of it is the same, and they go on standing for one map.
+use Rattle.std.proofs.Common.{◌≡◌, ℕ, ◌<◌, List, length, sym, ap, ◌∙◌}
+use Rattle.intmap.specs.Classes.{slot_number}
+use Rattle.intmap.specs.Bindings.{value_of, take_key, put_pair}
+use Rattle.intmap.specs.Reach.{class_size, reach}
+use Rattle.intmap.specs.Figures.{load_of}
+use Rattle.intmap.proofs.SlotNumberLemmas.{agrees-slot_number, slot_number-below}
+use Rattle.intmap.proofs.WalkLemmas.{SameSlots-from_walk_of, walk_of-take_key-same, walk_of-put_pair-same, value_of-same, class_size-same, reach-same}
+use Rattle.intmap.proofs.DistinctLemmas.{length-walk_of}
+use Rattle.intmap.proofs.LoadLemmas.{load_of-same}
+use Rattle.intmap_run.specs.Laws.{StandForOne}
+
+module _ {K V : Type 0} {number : K → ℕ} {C : ℕ} {L M : List (K × V)} (one : StandForOne number C L M) where
+  -- each slot is below the capacity
+  slot_number-one : (k : K) → slot_number number k C < C
+  slot_number-one k = slot_number-below number k C one.capacity
+
+  -- a key is bound to one value, or in neither
+  pub value_of-one : (k : K) → value_of number L k ≡ value_of number M k
+  value_of-one k = value_of-same number C one.capacity L M k one.walk
+
+  -- there are as many pairs
+  pub length-one : length L ≡ length M
+  length-one = sym (length-walk_of number L C slot_number-one) ∙ ap length one.walk ∙ length-walk_of number M C slot_number-one
+
+  -- as many slots hold a pair
+  pub load_of-one : load_of number L C ≡ load_of number M C
+  load_of-one = load_of-same number C (agrees-slot_number number C one.capacity) slot_number-one L M (SameSlots-from_walk_of number C L M one.walk)
+
+  -- as many keys agree with a key
+  pub class_size-one : (k : K) → class_size number L C k ≡ class_size number M C k
+  class_size-one k = class_size-same number C one.capacity L M k one.walk
+
+  -- a look-up compares as many keys
+  pub reach-one : (k : K) → reach number L C k ≡ reach number M C k
+  reach-one k = reach-same number C one.capacity L M k one.walk
+
+  -- once a key was taken out
+  pub StandForOne-take_key : (k : K) → StandForOne number C (take_key number L C k) (take_key number M C k)
+  StandForOne-take_key k = record { capacity = one.capacity; walk = walk_of-take_key-same number C one.capacity L M k one.walk }
+
+  -- once a pair was put in
+  pub StandForOne-put_pair : (k : K) (v : V) → StandForOne number C (put_pair number L C k v) (put_pair number M C k v)
+  StandForOne-put_pair k v = record { capacity = one.capacity; walk = walk_of-put_pair-same number C one.capacity L M k v one.walk }

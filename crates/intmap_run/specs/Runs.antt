@@ -1,0 +1,77 @@
+-- What one command answers and leaves of a plain list, and what lists of commands do.
+use Rattle.std.specs.Prelude.{◌≡◌, ℕ, ◌+◌, Bool, List, [], ◌∷◌, length, Option, Some, None, ◌⊎◌}
+use Rattle.std.specs.List.{AllZip}
+use Rattle.std.specs.declared.vec.Vec.{Vec}
+use Rattle.intmap.specs.Bindings.{value_of, take_key}
+use Rattle.intmap.specs.Walk.{walk_of}
+use Rattle.intmap.specs.Reach.{reach}
+use Rattle.intmap.specs.Figures.{load_of}
+use Rattle.intmap.specs.Map.{MapState}
+use Rattle.intmap.specs.States.{State, Stands, Inserts, MayRefuse}
+use Rattle.intmap.specs.declared.refusal.Cause.{Cause}
+use Rattle.intmap.specs.declared.refusal.Cause.TheVariants.{Memory}
+use Rattle.intmap_run.specs.declared.command.Command.{Command}
+use Rattle.intmap_run.specs.declared.command.Command.TheVariants as command
+use Rattle.intmap_run.specs.declared.answer.Answer.{Answer}
+use Rattle.intmap_run.specs.declared.answer.Answer.TheVariants as answer
+
+-- what a judge sees of a value, where there is one
+abbrev pub SeesOption : {V S : Type 0} → (V → S → Type 0) → Option V → Option S → Type 0
+SeesOption sees None None = Unit {0}
+SeesOption sees (Some v) (Some s) = sees v s
+SeesOption sees None (Some s) = ⊥
+SeesOption sees (Some v) None = ⊥
+
+-- what a judge sees of a pair: the key, and what it sees of the value
+abbrev pub SeesPair : {K V S : Type 0} → (V → S → Type 0) → K × V → K × S → Type 0
+SeesPair sees p q = (q.0 ≡ p.0) × sees p.1 q.1
+
+-- the keys that a command compares at a list of pairs
+abbrev pub comparisons_of : {K V : Type 0} → (K → ℕ) → State K V → Command K V → ℕ
+comparisons_of number s (command.Insert k v) = reach number s.pairs s.capacity k
+comparisons_of number s (command.Remove k) = reach number s.pairs s.capacity k
+comparisons_of number s other = 0
+
+module _ {K V S A : Type 0} (number : K → ℕ) (sees : V → S → Type 0) (keeps : K → V → Bool) where
+  -- an insertion answers the old value, or is refused, hands its own value back and changes nothing
+  abbrev pub AnswersInsert : State K V → K → V → Answer K V S A → State K V → Type 0
+  AnswersInsert s k v a t =
+      ((a ≡ answer.Old (value_of number s.pairs k)) × Inserts number s k v t)
+      ⊎ ((cause : Cause) × (a ≡ answer.Refused cause (Some v)) × MayRefuse number s k cause × (t ≡ s))
+
+  -- a walk is answered, or refused for want of room
+  abbrev pub AnswersWalk : State K V → Answer K V S A → Type 0
+  AnswersWalk s a =
+      ((seen : Vec (K × S) A) × (a ≡ answer.Walk seen) × AllZip (SeesPair sees) (walk_of number s.pairs s.capacity) seen.items)
+      ⊎ (a ≡ answer.Refused Memory None)
+
+  -- from the list s a command may answer a and leave the list t
+  abbrev pub Answers : State K V → Command K V → Answer K V S A → State K V → Type 0
+  Answers s (command.Insert k v) a t = AnswersInsert s k v a t
+  Answers s (command.Get k) a t =
+      ((seen : Option S) × (a ≡ answer.Seen seen) × SeesOption sees (value_of number s.pairs k) seen) × (t ≡ s)
+  Answers s (command.Remove k) a t =
+      (a ≡ answer.Old (value_of number s.pairs k)) × (t ≡ record s { pairs = take_key number s.pairs s.capacity k })
+  Answers s command.Len a t = (a ≡ answer.Number (length s.pairs)) × (t ≡ s)
+  Answers s command.Capacity a t = (a ≡ answer.Number s.capacity) × (t ≡ s)
+  Answers s command.Load a t = (a ≡ answer.Number (load_of number s.pairs s.capacity)) × (t ≡ s)
+  Answers s command.Walk a t = AnswersWalk s a × (t ≡ s)
+
+  -- the commands in order, each from the list that the one before left, with one answer a command
+  abbrev pub Runs : State K V → List (Command K V) → List (Answer K V S A) → State K V → Type 0
+  Runs s [] [] t = t ≡ s
+  Runs s [] (a ∷ as') t = ⊥
+  Runs s (c ∷ cs) [] t = ⊥
+  Runs s (c ∷ cs) (a ∷ as') t = (m : State K V) × Answers s c a m × Runs m cs as' t
+
+  -- the keys that a run compares
+  abbrev pub run_comparisons : (s : State K V) (cs : List (Command K V)) (as' : List (Answer K V S A)) (t : State K V) → Runs s cs as' t → ℕ
+  run_comparisons s [] as' t run = 0
+  run_comparisons s (c ∷ cs) [] t run = 0
+  run_comparisons s (c ∷ cs) (a ∷ as') t run = comparisons_of number s c + run_comparisons run.0 cs as' t run.2
+
+  -- from every list that stands for the map before, a run leads to a list that stands for the map after; the map compared what the run compares
+  abbrev pub RunsFrom : MapState K V → List (Command K V) → List (Answer K V S A) → MapState K V → Type 0
+  RunsFrom m cs as' n =
+      (s : State K V) → Stands number s m → (t : State K V) × (run : Runs s cs as' t)
+      × Stands number t n × (n.compared ≡ m.compared + run_comparisons s cs as' t run)

@@ -1,0 +1,24 @@
+//! What a command answers.
+
+use intmap::Cause;
+use std::alloc::{Allocator, Global};
+
+/// The answer of one command, where `S` is what the judge sees of a value.
+#[derive(Drop)]
+pub enum Answer<K, V, S, A: Allocator = Global> {
+    /// The value that the key was bound to before the command; `None` where it wasn't bound.
+    Old(Option<V>),
+    /// What the judge sees of the value that the key is bound to; `None` where it isn't bound.
+    Seen(Option<S>),
+    /// A number of pairs or slots.
+    Number(u128),
+    /// Each key of the walk, in its order, with what the judge sees of its value.
+    Walk(Vec<(K, S), A>),
+    /// The command was refused and left walk, capacity and load factor as they were.
+    Refused {
+        /// Why it was refused.
+        cause: Cause,
+        /// The command's own value, handed back; `None` where the command has none.
+        value: Option<V>,
+    },
+}

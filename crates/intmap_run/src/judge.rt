@@ -1,0 +1,25 @@
+//! What a run is told of values.
+ghost use Rattle.std.specs.Prelude.{◌≡◌, Bool};
+
+/// Looks at values, and says which pairs stay.
+///
+/// A run hands values out only as they leave the map. Of those that stay it shows what a judge sees: a copy, a
+/// number, a text, or nothing at all.
+pub trait Judge<K, V> {
+    /// What is seen of a value.
+    type Seen: Drop;
+
+    /// What `look` may answer for a value: any answer within this relation.
+    ghost sees: { Self → V → Self.Seen → Type 0 };
+
+    /// What `keep` answers for a key and its value.
+    ghost keeps: { Self → K → V → Bool };
+
+    /// What is seen of the value; `Get` calls it where the key is bound, and `Walk` for each pair in turn.
+    fn look(&self, value: &V) -> Self::Seen
+        ensures { sees self.now value.now result };
+
+    /// Whether the pair stays, where a command asks it of each pair.
+    fn keep(&self, key: K, value: &V) -> bool
+        ensures { result ≡ keeps self.now key value.now };
+}

@@ -1,0 +1,58 @@
+//! Laws of the definitions that a run is told by, each as the contract of a function that does nothing.
+ghost use Rattle.std.specs.Prelude.{◌≡◌, ◌↔◌, ℕ, List, length};
+ghost use Rattle.intmap.specs.Classes.{IsCapacity, residue, slot_number};
+ghost use Rattle.intmap.specs.Bindings.{value_of, take_key, put_pair};
+ghost use Rattle.intmap.specs.Reach.{class_size, reach};
+ghost use Rattle.intmap.specs.Figures.{load_of};
+ghost use Rattle.intmap_run.specs.Laws.{StandForOne};
+
+use intmap::IntKey;
+
+/// Two keys have one slot exactly where they agree modulo the number of slots.
+pub fn keys_share_slots_by_residue<K: IntKey>()
+    ensures { (C : ℕ) (a b : K) → IsCapacity C
+        → (slot_number K.number_of a C ≡ slot_number K.number_of b C)
+        ↔ (residue K.number_of a C ≡ residue K.number_of b C) }
+{}
+
+/// Lists that stand for one map do so once a key was taken out of both.
+pub fn removal_keeps_standing<K: IntKey, V>()
+    ensures { (C : ℕ) (L M : List (K × V)) (k : K) → StandForOne K.number_of C L M
+        → StandForOne K.number_of C (take_key K.number_of L C k) (take_key K.number_of M C k) }
+{}
+
+/// Lists that stand for one map do so once a pair was put into both.
+pub fn insertion_keeps_standing<K: IntKey, V>()
+    ensures { (C : ℕ) (L M : List (K × V)) (k : K) (v : V) → StandForOne K.number_of C L M
+        → StandForOne K.number_of C (put_pair K.number_of L C k v)
+        (put_pair K.number_of M C k v) }
+{}
+
+/// Lists that stand for one map bind each key to one value, or none of them binds it.
+pub fn values_are_the_same<K: IntKey, V>()
+    ensures { (C : ℕ) (L M : List (K × V)) (k : K) → StandForOne K.number_of C L M
+        → value_of K.number_of L k ≡ value_of K.number_of M k }
+{}
+
+/// Lists that stand for one map fill as many slots.
+pub fn loads_are_the_same<K: IntKey, V>()
+    ensures { (C : ℕ) (L M : List (K × V)) → StandForOne K.number_of C L M
+        → load_of K.number_of L C ≡ load_of K.number_of M C }
+{}
+
+/// Lists that stand for one map have as many pairs.
+pub fn lengths_are_the_same<K: IntKey, V>()
+    ensures { (C : ℕ) (L M : List (K × V)) → StandForOne K.number_of C L M → length L ≡ length M }
+{}
+
+/// Lists that stand for one map have as many keys that share a slot with a key.
+pub fn class_sizes_are_the_same<K: IntKey, V>()
+    ensures { (C : ℕ) (L M : List (K × V)) (k : K) → StandForOne K.number_of C L M
+        → class_size K.number_of L C k ≡ class_size K.number_of M C k }
+{}
+
+/// Lists that stand for one map are looked through for a key by as many comparisons.
+pub fn reaches_are_the_same<K: IntKey, V>()
+    ensures { (C : ℕ) (L M : List (K × V)) (k : K) → StandForOne K.number_of C L M
+        → reach K.number_of L C k ≡ reach K.number_of M C k }
+{}

@@ -1,0 +1,110 @@
+//! Runs lists of commands over a map.
+ghost use Rattle.std.specs.Prelude.{◌≡◌, IfOk, IfErr, OnErr};
+ghost use Rattle.std.specs.List.{AllZip};
+ghost use Rattle.intmap_run.specs.Runs.{SeesPair, RunsFrom};
+ghost use Rattle.intmap_run.specs.Steps.{StepsFrom};
+
+use crate::answer::Answer;
+use crate::command::Command;
+use crate::judge::Judge;
+use intmap::{Cause, IntKey, IntMap};
+use std::alloc::{AllocError, Allocator};
+
+/// Runs the commands in order, and answers one answer a command, in the same order.
+///
+/// From every plain list of pairs that stands for the map, the commands and answers lead to one that stands for the
+/// map at the end. A refused command says so in its answer, leaves walk, capacity and load factor, and doesn't end
+/// the run. The map's `compared` rises by the keys that `Insert` and `Remove` compare, refused ones too; the other
+/// commands leave it.
+///
+/// Err: there was no room for the answers; the commands come back, and the map is as it was.
+///
+/// `Insert(21, a)`, `Insert(21, b)`, `Remove(21)`, `Len` on an empty map with ample memory answer `Old(None)`,
+/// `Old(Some(a))`, `Old(Some(b))`, `Number(0)`.
+pub fn run<K: IntKey, V: Drop, J: Judge<K, V>, A: Allocator + Copy>(
+    alloc: A,
+    map: &mut IntMap<K, V, A>,
+    commands: Vec<Command<K, V>, A>,
+    judge: &J,
+) -> Result<Vec<Answer<K, V, J::Seen, A>, A>, Vec<Command<K, V>, A>>
+    ensures ok { IfOk result (λ answers. RunsFrom K.number_of (J.sees judge.now) (J.keeps judge.now)
+        map.old commands.items answers.items map.new) }
+    ensures commands_returned { IfErr result (λ returned. returned ≡ commands) }
+    ensures err { OnErr result (map.new ≡ map.old) }
+{
+    let Ok(mut answers) = Vec::with_capacity(alloc, commands.len()) else {
+        return Err(commands);
+    };
+    for command in commands {
+        let answer = apply(alloc, map, command, judge);
+        let Ok(()) = answers.push(answer) else {
+            unreachable!();
+        };
+    }
+    Ok(answers)
+}
+
+// One call on the map, and its answer.
+fn apply<K: IntKey, V: Drop, J: Judge<K, V>, A: Allocator + Copy>(
+    alloc: A,
+    map: &mut IntMap<K, V, A>,
+    command: Command<K, V>,
+    judge: &J,
+) -> Answer<K, V, J::Seen, A>
+    ensures { StepsFrom K.number_of (J.sees judge.now) (J.keeps judge.now)
+        map.old command result map.new }
+{
+    match command {
+        Command::Insert(key, value) => match map.insert(key, value) {
+            Ok(old) => Answer::Old(old),
+            Err(refused) => Answer::Refused {
+                cause: refused.cause,
+                value: Some(refused.value),
+            },
+        },
+        Command::Get(key) => match map.get(key) {
+            Some(value) => Answer::Seen(Some(judge.look(value))),
+            None => Answer::Seen(None),
+        },
+        Command::Remove(key) => Answer::Old(map.remove(key)),
+        Command::Len => Answer::Number(map.len() as u128),
+        Command::Capacity => Answer::Number(map.capacity() as u128),
+        Command::Load => Answer::Number(map.load() as u128),
+        Command::Walk => walk(alloc, map, judge),
+    }
+}
+
+// The answer of a walk.
+fn walk<K: IntKey, V: Drop, J: Judge<K, V>, A: Allocator + Copy>(
+    alloc: A,
+    map: &IntMap<K, V, A>,
+    judge: &J,
+) -> Answer<K, V, J::Seen, A>
+    ensures { StepsFrom K.number_of (J.sees judge.now) (J.keeps judge.now)
+        map.now Command.Walk result map.now }
+{
+    match look_all(alloc, map, judge) {
+        Ok(pairs) => Answer::Walk(pairs),
+        Err(_) => Answer::Refused {
+            cause: Cause::Memory,
+            value: None,
+        },
+    }
+}
+
+// Each key of the walk with what the judge sees of its value. Err: there was no room for them.
+fn look_all<K: IntKey, V: Drop, J: Judge<K, V>, A: Allocator + Copy>(
+    alloc: A,
+    map: &IntMap<K, V, A>,
+    judge: &J,
+) -> Result<Vec<(K, J::Seen), A>, AllocError>
+    ensures { IfOk result (λ seen. AllZip (SeesPair (J.sees judge.now)) map.now.walk seen.items) }
+{
+    let mut seen = Vec::with_capacity(alloc, map.len())?;
+    for (key, value) in map.iter() {
+        let Ok(()) = seen.push((*key, judge.look(value))) else {
+            unreachable!();
+        };
+    }
+    Ok(seen)
+}
