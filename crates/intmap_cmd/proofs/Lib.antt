@@ -1,0 +1,5 @@
+pub mod SplitLemmas
+pub mod NumberLemmas
+pub mod CommandLemmas
+pub mod LineLemmas
+pub mod SessionLemmas

@@ -1,0 +1,7 @@
+use Rattle.std.proofs.Common.{◌≡◌, ◌++◌, take, codes, string_bytes}
+use Rattle.std.specs.List.{flat_map}
+use Rattle.intmap_cmd.specs.Printing.{pair_text}
+use Rattle.intmap_cmd.proofs.print.print_pairs.Given as goal
+
+abbrev pub invariant-loop-key : goal.invariant-loop-key
+invariant-loop-key g l = string_bytes l.out ≡ string_bytes l.initial.out ++ flat_map (λ p. codes ", " ++ pair_text p) (take l.key-index l.rest)

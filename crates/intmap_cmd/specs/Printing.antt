@@ -1,0 +1,36 @@
+-- The lines of answers.
+use Rattle.std.specs.Prelude.{ℕ, List, [], ◌∷◌, ◌++◌, Some, None, codes}
+use Rattle.std.specs.List.{flat_map, join_by}
+use Rattle.std.specs.Fmt.{decimal}
+use Rattle.intmap.specs.declared.refusal.Cause.{Cause}
+use Rattle.intmap.specs.declared.refusal.Cause.TheVariants as cause
+use Rattle.intmap_run.specs.declared.answer.Answer.{Answer}
+use Rattle.intmap_run.specs.declared.answer.Answer.TheVariants as answer
+
+-- the words for why a command was refused
+abbrev pub cause_text : Cause → List ℕ
+cause_text cause.Memory = codes "memory"
+cause_text cause.TooLarge = codes "too large"
+
+-- a key and its value
+abbrev pub pair_text : ℕ × ℕ → List ℕ
+pair_text p = decimal p.0 ++ codes ": " ++ decimal p.1
+
+-- pairs in braces, in their order, with a comma and a space between them
+abbrev pub pairs_text : List (ℕ × ℕ) → List ℕ
+pairs_text pairs = codes "{" ++ join_by pair_text (codes ", ") pairs ++ codes "}"
+
+-- an answer, without the end of its line
+abbrev pub answer_text : {A : Type 0} → Answer ℕ ℕ ℕ A → List ℕ
+answer_text (answer.Old None) = codes "none"
+answer_text (answer.Old (Some v)) = codes "some " ++ decimal v
+answer_text (answer.Seen None) = codes "none"
+answer_text (answer.Seen (Some v)) = codes "some " ++ decimal v
+answer_text (answer.Number n) = decimal n
+answer_text (answer.Walk pairs) = pairs_text pairs.items
+answer_text (answer.Refused cause None) = codes "refused: " ++ cause_text cause
+answer_text (answer.Refused cause (Some v)) = codes "refused " ++ decimal v ++ codes ": " ++ cause_text cause
+
+-- one line an answer, each ended by a byte 10
+abbrev pub lines_of : {A : Type 0} → List (Answer ℕ ℕ ℕ A) → List ℕ
+lines_of answers = flat_map (λ a. answer_text a ++ 10 ∷ []) answers

@@ -1,0 +1,24 @@
+-- The words of a command: its name, and the numbers behind it.
+use Rattle.std.specs.Prelude.{ℕ, List, [], ◌∷◌, codes}
+use Rattle.intmap_run.specs.declared.command.Command.{Command}
+use Rattle.intmap_run.specs.declared.command.Command.TheVariants as command
+
+-- the word that a command begins with
+abbrev pub name_of : Command ℕ ℕ → List ℕ
+name_of (command.Insert k v) = codes "insert"
+name_of (command.Get k) = codes "get"
+name_of (command.Remove k) = codes "remove"
+name_of command.Len = codes "len"
+name_of command.Capacity = codes "capacity"
+name_of command.Load = codes "load"
+name_of command.Walk = codes "walk"
+
+-- the numbers that follow it
+abbrev pub numbers_of : Command ℕ ℕ → List ℕ
+numbers_of (command.Insert k v) = k ∷ v ∷ []
+numbers_of (command.Get k) = k ∷ []
+numbers_of (command.Remove k) = k ∷ []
+numbers_of command.Len = []
+numbers_of command.Capacity = []
+numbers_of command.Load = []
+numbers_of command.Walk = []

@@ -1,0 +1,62 @@
+//! Commands from the lines of a text.
+ghost use Rattle.std.specs.Prelude.{IfOk, IfErr};
+ghost use Rattle.intmap_cmd.specs.Lines.{words_of};
+ghost use Rattle.intmap_cmd.specs.Commands.{Spells};
+ghost use Rattle.intmap_cmd.specs.Faults.{FitsText};
+ghost use Rattle.intmap_cmd.specs.Reading.{Reads};
+
+use crate::command::command;
+use crate::fault::Fault;
+use crate::split::{Lines, Words};
+use intmap_run::Command;
+use std::alloc::Allocator;
+
+/// What one line is.
+#[derive(Drop)]
+pub enum Line {
+    /// It has no word.
+    Blank,
+    /// It says this command.
+    Command(Command<u64, u64>),
+    /// It has words, and they say no command.
+    Unknown,
+}
+
+/// What the bytes of one line are, without the byte 10 that ends it.
+pub fn read_line(line: &[u8]) -> Line
+    ensures { Reads (words_of line.now) result }
+{
+    let mut words = Words::new(line);
+    let Some(name) = words.next() else {
+        return Line::Blank;
+    };
+    match command(name, words) {
+        Some(command) => Line::Command(command),
+        None => Line::Unknown,
+    }
+}
+
+/// The commands that a text spells, or the number of its first line that is none.
+/// Blank lines say nothing, and are counted.
+pub fn read_commands<A: Allocator>(
+    alloc: A,
+    text: &[u8],
+) -> Result<Vec<Command<u64, u64>, A>, Fault>
+    ensures some { IfOk result (λ found. Spells text.now found.items) }
+    ensures err { IfErr result (FitsText text.now) }
+{
+    let mut found = Vec::new(alloc);
+    let mut number = 0u64;
+    for line in Lines::new(text) {
+        number = number.saturating_add(1);
+        match read_line(line) {
+            Line::Blank => {}
+            Line::Command(command) => found.push(command)?,
+            Line::Unknown => return Err(Fault::NotACommand(number)),
+        }
+    }
+    Ok(found)
+}
+
+#[cfg(test)]
+mod tests;

@@ -1,0 +1,72 @@
+//! The lines of answers.
+ghost use Rattle.std.specs.Prelude.{◌≡◌, ◌++◌, IfOk, OnOk, string_bytes};
+ghost use Rattle.intmap_cmd.specs.Printing.{cause_text, pairs_text, answer_text, lines_of};
+
+use intmap::Cause;
+use intmap_run::Answer;
+use std::alloc::{AllocError, Allocator};
+
+/// One line an answer, each ended by a byte 10.
+pub fn print_answers<A: Allocator>(
+    alloc: A,
+    answers: &[Answer<u64, u64, u64, A>],
+) -> Result<String<A>, AllocError>
+    ensures { IfOk result (λ text. string_bytes text ≡ lines_of answers.now) }
+{
+    let mut out = String::new(alloc);
+    for answer in answers {
+        print_answer(&mut out, answer)?;
+        out.push_str("\n")?;
+    }
+    Ok(out)
+}
+
+/// Writes an answer behind what stands in `out`.
+fn print_answer<A: Allocator>(
+    out: &mut String<A>,
+    answer: &Answer<u64, u64, u64, A>,
+) -> Result<(), AllocError>
+    ensures { OnOk result (string_bytes out.new ≡ string_bytes out.old ++ answer_text answer.now) }
+{
+    match answer {
+        Answer::Old(None) | Answer::Seen(None) => out.push_str("none"),
+        Answer::Old(Some(value)) | Answer::Seen(Some(value)) => write!(out, "some {value}"),
+        Answer::Number(number) => write!(out, "{number}"),
+        Answer::Walk(pairs) => print_pairs(out, pairs.as_slice()),
+        Answer::Refused { cause, value: None } => {
+            let cause = cause_name(*cause);
+            write!(out, "refused: {cause}")
+        }
+        Answer::Refused {
+            cause,
+            value: Some(value),
+        } => {
+            let cause = cause_name(*cause);
+            write!(out, "refused {value}: {cause}")
+        }
+    }
+}
+
+/// Writes pairs in braces, in their order.
+fn print_pairs<A: Allocator>(out: &mut String<A>, pairs: &[(u64, u64)]) -> Result<(), AllocError>
+    ensures { OnOk result (string_bytes out.new ≡ string_bytes out.old ++ pairs_text pairs.now) }
+{
+    let [(key, value), rest @ ..] = pairs else {
+        return out.push_str("{}");
+    };
+    write!(out, "{{{key}: {value}")?;
+    for (key, value) in rest {
+        write!(out, ", {key}: {value}")?;
+    }
+    out.push_str("}")
+}
+
+/// The words for why a command was refused.
+fn cause_name(cause: Cause) -> &'static str
+    ensures { result.now ≡ cause_text cause }
+{
+    match cause {
+        Cause::Memory => "memory",
+        Cause::TooLarge => "too large",
+    }
+}

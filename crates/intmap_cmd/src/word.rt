@@ -1,0 +1,57 @@
+//! The table of the words that commands begin with, by how many numbers follow.
+ghost use Rattle.std.specs.Prelude.{◌≡◌, ◌≢◌, ◌↔◌, ℕ, List, [], ◌∷◌, IfSome, IfNone, IsTrue};
+ghost use Rattle.intmap_run.specs.declared.command.Command.{Command};
+ghost use Rattle.intmap_cmd.specs.Words.{name_of, numbers_of};
+
+use intmap_run::Command;
+
+/// The command of this name without a number.
+pub fn bare(name: &[u8]) -> Option<Command<u64, u64>>
+    ensures some { IfSome result (λ c. (name.now ≡ name_of c) × (numbers_of c ≡ [])) }
+    ensures none { IfNone result ((c : Command ℕ ℕ) → name.now ≡ name_of c → numbers_of c ≢ []) }
+{
+    if is(name, b"len") {
+        Some(Command::Len)
+    } else if is(name, b"capacity") {
+        Some(Command::Capacity)
+    } else if is(name, b"load") {
+        Some(Command::Load)
+    } else if is(name, b"walk") {
+        Some(Command::Walk)
+    } else {
+        None
+    }
+}
+
+/// The command of this name with one number.
+pub fn with_number(name: &[u8], number: u64) -> Option<Command<u64, u64>>
+    ensures some { IfSome result (λ c. (name.now ≡ name_of c) × (numbers_of c ≡ number ∷ [])) }
+    ensures none { IfNone result ((c : Command ℕ ℕ) → name.now ≡ name_of c → numbers_of c ≢ number ∷ []) }
+{
+    if is(name, b"get") {
+        Some(Command::Get(number))
+    } else if is(name, b"remove") {
+        Some(Command::Remove(number))
+    } else {
+        None
+    }
+}
+
+/// The command of this name with a key and a value.
+pub fn with_pair(name: &[u8], key: u64, value: u64) -> Option<Command<u64, u64>>
+    ensures some { IfSome result (λ c. (name.now ≡ name_of c) × (numbers_of c ≡ key ∷ value ∷ [])) }
+    ensures none { IfNone result ((c : Command ℕ ℕ) → name.now ≡ name_of c → numbers_of c ≢ key ∷ value ∷ []) }
+{
+    if is(name, b"insert") {
+        Some(Command::Insert(key, value))
+    } else {
+        None
+    }
+}
+
+/// Whether the name is this word.
+fn is(name: &[u8], word: &[u8]) -> bool
+    ensures { IsTrue result ↔ (name.now ≡ word.now) }
+{
+    name == word
+}

@@ -1,0 +1,15 @@
+//! Tests of the map through its public calls: what no contract says, and that calls succeed.
+#![tactic(auto)]
+
+#[cfg(test)]
+mod calls;
+#[cfg(test)]
+mod refusals;
+#[cfg(test)]
+mod runs;
+#[cfg(test)]
+mod shown;
+#[cfg(test)]
+mod values;
+#[cfg(test)]
+mod walks;

@@ -1,0 +1,86 @@
+//! Values that own memory or count their drops.
+
+use intmap::IntMap;
+use std::alloc::AllocError;
+use std::cell::Cell;
+use std::test::Fail;
+
+#[test]
+fn texts_are_bound_and_handed_back(rt: HostRuntime) -> Result<(), Fail> {
+    let mut map = IntMap::new(rt.alloc())?;
+    for key in [0u64, 4, 8] {
+        map.insert(key, format!(in rt.alloc(); "text {key}")?)?;
+    }
+    let again = String::from_str(rt.alloc(), "again")?;
+    let old = map.insert(4, again)?;
+    assert_eq!(rt;
+        old.as_ref().map(|text| text.as_str()),
+        Some("text 4"),
+        "4 inserted again"
+    );
+    let taken = map.remove(0);
+    assert_eq!(rt;
+        taken.as_ref().map(|text| text.as_str()),
+        Some("text 0"),
+        "0 taken out"
+    );
+    for (key, text) in [(0, None), (4, Some("again")), (8, Some("text 8"))] {
+        assert_eq!(rt; map.get(key).map(|found| found.as_str()), text, "{key}");
+    }
+    Ok(())
+}
+
+/// Adds sixteen to the power of its number to `drops` when it is dropped, so that each digit of
+/// the sum says how often the value of that number was.
+struct Counted<'a> {
+    number: u32,
+    drops: &'a Cell<u64>,
+}
+
+impl Drop for Counted<'_> {
+    fn drop(self) {
+        let Counted { number, drops } = self;
+        drops.set(
+            drops
+                .get()
+                .wrapping_add(1u64.wrapping_shl(number.wrapping_mul(4))),
+        );
+    }
+}
+
+#[test]
+fn each_value_is_dropped_once(rt: HostRuntime) -> Result<(), Fail> {
+    let drops = Cell::new(0);
+    let mut map = IntMap::new(rt.alloc())?;
+    for (key, number) in [(0u64, 0), (4, 1), (8, 2), (1, 3)] {
+        let value = Counted {
+            number,
+            drops: &drops,
+        };
+        if map.insert(key, value).is_err() {
+            return Err(Fail::from(AllocError));
+        }
+    }
+    assert_eq!(rt; drops.get(), 0x0000, "four values are in the map");
+
+    let old = map.insert(
+        4,
+        Counted {
+            number: 4,
+            drops: &drops,
+        },
+    );
+    assert_eq!(rt; drops.get(), 0x00000, "value 1 was handed back");
+    drop(old);
+    assert_eq!(rt; drops.get(), 0x00010, "value 1 was let go");
+
+    let taken = map.remove(0);
+    assert_eq!(rt; drops.get(), 0x00010, "value 0 was handed back");
+    drop(taken);
+    assert_eq!(rt; drops.get(), 0x00011, "value 0 was let go");
+
+    assert_eq!(rt; map.len(), 3, "three values are left");
+    drop(map);
+    assert_eq!(rt; drops.get(), 0x11111, "the map was let go");
+    Ok(())
+}

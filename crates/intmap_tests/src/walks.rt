@@ -1,0 +1,107 @@
+//! The order of the pairs, the load and the capacity.
+
+use crate::shown::keys;
+use intmap::IntMap;
+use std::alloc::Global;
+use std::test::Fail;
+
+// inserts keys in turn, each bound to ten more
+fn insert_all(map: &mut IntMap<u64, u64>, keys: &[u64]) -> Result<(), Fail> {
+    for key in keys {
+        map.insert(*key, key.wrapping_add(10))?;
+    }
+    Ok(())
+}
+
+// a new map that binds 0, 4 and 8, which share a slot of four
+fn crowd(alloc: Global) -> Result<IntMap<u64, u64>, Fail> {
+    let mut map = IntMap::new(alloc)?;
+    insert_all(&mut map, &[0, 4, 8])?;
+    Ok(map)
+}
+
+#[test]
+fn keys_stand_in_the_order_of_their_slots(rt: HostRuntime) -> Result<(), Fail> {
+    let alloc = rt.alloc();
+    let rows = [
+        (
+            IntMap::new(alloc)?,
+            [0, 4, 8].as_slice(),
+            [0, 4, 8].as_slice(),
+            1,
+            4,
+        ),
+        (
+            IntMap::new(alloc)?,
+            [3, 7, 18446744073709551615].as_slice(),
+            [3, 7, 18446744073709551615].as_slice(),
+            1,
+            4,
+        ),
+        (
+            IntMap::with_capacity(alloc, 32)?,
+            [0, 1, 2, 3].as_slice(),
+            [0, 2, 1, 3].as_slice(),
+            4,
+            32,
+        ),
+        (
+            IntMap::with_capacity(alloc, 8)?,
+            [0, 1, 2, 3, 4, 5, 6, 7].as_slice(),
+            [0, 5, 2, 7, 4, 1, 6, 3].as_slice(),
+            8,
+            8,
+        ),
+    ];
+    for (mut map, inserted, walk, load, slots) in rows {
+        insert_all(&mut map, inserted)?;
+        assert_eq!(rt;
+            keys(alloc, &map)?.as_slice(),
+            walk,
+            "after {inserted:?} in {slots}"
+        );
+        assert_eq!(rt; map.load(), load, "the load after {inserted:?} in {slots}");
+        assert_eq!(rt; map.capacity(), slots, "the slots after {inserted:?}");
+    }
+    Ok(())
+}
+
+#[test]
+fn a_removed_key_leaves_its_place_to_the_last(rt: HostRuntime) -> Result<(), Fail> {
+    let mut map = crowd(rt.alloc())?;
+    assert_eq!(rt; map.remove(0), Some(10), "0 is bound to 10");
+    assert_eq!(rt;
+        keys(rt.alloc(), &map)?.as_slice(),
+        [8, 4].as_slice(),
+        "without 0"
+    );
+    Ok(())
+}
+
+#[test]
+fn a_key_inserted_again_stands_last(rt: HostRuntime) -> Result<(), Fail> {
+    let mut map = crowd(rt.alloc())?;
+    assert_eq!(rt; map.insert(4, 99)?, Some(14), "4 is bound to 14");
+    assert_eq!(rt;
+        keys(rt.alloc(), &map)?.as_slice(),
+        [0, 8, 4].as_slice(),
+        "with 4 again"
+    );
+    assert_eq!(rt; map.get(4).copied(), Some(99), "4 is bound to 99");
+    Ok(())
+}
+
+#[test]
+fn twenty_thousand_keys_fill_a_slot_each(rt: HostRuntime) -> Result<(), Fail> {
+    let mut map = IntMap::with_capacity(rt.alloc(), 32768)?;
+    for key in 0..20000u64 {
+        map.insert(key, key + 10)?;
+    }
+    assert_eq!(rt; map.load(), 20000, "the load");
+    assert_eq!(rt; map.capacity(), 32768, "the slots");
+    assert_eq!(rt; map.len(), 20000, "the length");
+    for key in 0..20000u64 {
+        assert_eq!(rt; map.get(key).copied(), Some(key + 10), "{key}");
+    }
+    Ok(())
+}
