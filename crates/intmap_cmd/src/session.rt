@@ -57,7 +57,8 @@ fn exchange<A: Allocator + Copy, R: Read, W: Write>(
 ) -> Result<(), Fault>
     ensures done { OnOk result (IfSome (R.remaining input.old)
         (λ text. Serves A text (W.contents output.old) (W.contents output.new))) }
-    ensures err { IfErr result (λ fault. IfSome (R.remaining input.old) (λ text. FitsText text fault)) }
+    ensures err { IfErr result (λ fault. IfSome (R.remaining input.old)
+        (λ text. FitsText text fault)) }
     ensures silent { IfErr result (λ fault. fault ≢ Fault.Output
         → Keeps (W.contents output.old) (W.contents output.new)) }
 {

@@ -8,7 +8,8 @@ use intmap_run::Command;
 /// The command of this name without a number.
 pub fn bare(name: &[u8]) -> Option<Command<u64, u64>>
     ensures some { IfSome result (λ c. (name.now ≡ name_of c) × (numbers_of c ≡ [])) }
-    ensures none { IfNone result ((c : Command ℕ ℕ) → name.now ≡ name_of c → numbers_of c ≢ []) }
+    ensures none { IfNone result
+        ((c : Command ℕ ℕ) → name.now ≡ name_of c → numbers_of c ≢ []) }
 {
     if is(name, b"len") {
         Some(Command::Len)
@@ -26,7 +27,8 @@ pub fn bare(name: &[u8]) -> Option<Command<u64, u64>>
 /// The command of this name with one number.
 pub fn with_number(name: &[u8], number: u64) -> Option<Command<u64, u64>>
     ensures some { IfSome result (λ c. (name.now ≡ name_of c) × (numbers_of c ≡ number ∷ [])) }
-    ensures none { IfNone result ((c : Command ℕ ℕ) → name.now ≡ name_of c → numbers_of c ≢ number ∷ []) }
+    ensures none { IfNone result
+        ((c : Command ℕ ℕ) → name.now ≡ name_of c → numbers_of c ≢ number ∷ []) }
 {
     if is(name, b"get") {
         Some(Command::Get(number))
@@ -40,7 +42,8 @@ pub fn with_number(name: &[u8], number: u64) -> Option<Command<u64, u64>>
 /// The command of this name with a key and a value.
 pub fn with_pair(name: &[u8], key: u64, value: u64) -> Option<Command<u64, u64>>
     ensures some { IfSome result (λ c. (name.now ≡ name_of c) × (numbers_of c ≡ key ∷ value ∷ [])) }
-    ensures none { IfNone result ((c : Command ℕ ℕ) → name.now ≡ name_of c → numbers_of c ≢ key ∷ value ∷ []) }
+    ensures none { IfNone result
+        ((c : Command ℕ ℕ) → name.now ≡ name_of c → numbers_of c ≢ key ∷ value ∷ []) }
 {
     if is(name, b"insert") {
         Some(Command::Insert(key, value))
