@@ -124,3 +124,36 @@ IsLeastPower-least_power n small =
         | inr ge ↦ pow_mono ge
       ]);
     }
+
+-- what `next_power_of_two` answers, at 0 too
+pub IsLeastPower-up : (n p : ℕ) → IsPowerOfTwo p → n ≤ p → p / 2 < max 1 n → IsLeastPower n p
+IsLeastPower-up n p power enough below = elim (cases_lt 0 n) [
+  | inl some ↦ IsLeastPower-from_next n p some power enough below
+  | inr none ↦ record {
+    power = power;
+    enough = enough;
+    least = λ e _. let one : 0 < 2 ^ e = pow_pos e in omega (arith, one, below, none);
+  }
+]
+
+-- a power of two below 2^64 and a capacity: the greater is a capacity
+pub IsCapacity-max : (p C : ℕ) → IsPowerOfTwo p → p < 2 ^ 64 → IsCapacity C → IsCapacity (max p C)
+IsCapacity-max p C power below cap = elim (cases_lt C p) [
+  | inr le ↦ (let e : max p C ≡ C = omega arith in rw e cap)
+  | inl more ↦
+      (let e : max p C ≡ p = omega arith in
+      let k : ℕ = power.0 in
+      let is : p ≡ 2 ^ k = power.1 in
+      let two : 2 ≤ C = (let m : 2 ^ 1 ≤ 2 ^ cap.0 = pow_mono cap.1 in let q = cap.3 in omega (arith, m, q)) in
+      let some : 1 ≤ k = elim (cases_lt 0 k) [
+        | inl h ↦ h
+        | inr z ↦ (let o : k ≡ 0 = omega arith in let q : p ≡ 1 = is ∙ ap (λ n. 2 ^ n) o in absurd (omega (arith, q, more, two)))
+      ] in
+      let top : k < 64 = elim (cases_lt k 64) [ inl h ↦ h | inr ge ↦ (let m : 2 ^ 64 ≤ 2 ^ k = pow_mono ge in absurd (omega (arith, m, below, is))) ] in
+      rw e (k, some, top, is))
+]
+
+-- where so many fit, their least power of two fits
+pub IsLeastPower-fits : (n p C : ℕ) → IsLeastPower n p → IsCapacity C → n ≤ C → p ≤ C
+IsLeastPower-fits n p C least cap fits =
+    let q = cap.3 in let m = least.least cap.0 (subst (λ c. n ≤ c) q fits) in omega (arith, m, q)

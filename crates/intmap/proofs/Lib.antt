@@ -8,4 +8,7 @@ pub mod DistinctLemmas
 pub mod LoadLemmas
 pub mod TableLemmas
 pub mod MappedLemmas
+pub mod MoveLemmas
+pub mod RegroupLemmas
 pub mod MapLemmas
+pub mod LoadFactorLemmas

@@ -43,7 +43,7 @@ module _ {X Y : Type 0} (h : X → Y) where
   flat_map-map g g' same [] = refl
   flat_map-map g g' same (n ∷ ns) = simp (same n, flat_map-map g g' same ns, map-append)
 
-  count_by-map : (test : Y → Bool) (xs : List X) → count_by test (map h xs) ≡ count_by (λ x. test (h x)) xs
+  pub count_by-map : (test : Y → Bool) (xs : List X) → count_by test (map h xs) ≡ count_by (λ x. test (h x)) xs
   count_by-map test xs =
       sym (length-filter test (map h xs)) ∙ ap length (filter-map test xs)
       ∙ length-map (filter (λ x. test (h x)) xs) h ∙ length-filter (λ x. test (h x)) xs

@@ -128,17 +128,17 @@ module _ {X : Type 0} (test : X → Bool) where
       let p = position-within xs i e in
       ap (λ n. swap_remove xs n x) (sym p.0) ∙ swap_remove-position_or_len x xs (subst (λ n. n < length xs) (sym p.0) p.1) (is ∙ ap (λ n. get_or xs n x) (sym p.0))
 
-  swap_out-none-step : (ys : List X) (y : X) (t : Bool) → test y ≡ t → (position_or_len test ys ≡ length ys → swap_out test any ys ≡ ys) → position_or_len test (y ∷ ys) ≡ length (y ∷ ys) → swap_out test any (y ∷ ys) ≡ y ∷ ys
-  swap_out-none-step ys y true t h e = let w : 0 ≡ suc (length ys) = rw t at e in absurd (omega arith)
-  swap_out-none-step ys y false t h e = let w : 1 + position_or_len test ys ≡ suc (length ys) = rw t at e in simp (t, h (omega arith))
+  swap_out-none-step : (in_class : X → Bool) (ys : List X) (y : X) (t : Bool) → test y ≡ t → (position_or_len test ys ≡ length ys → swap_out test in_class ys ≡ ys) → position_or_len test (y ∷ ys) ≡ length (y ∷ ys) → swap_out test in_class (y ∷ ys) ≡ y ∷ ys
+  swap_out-none-step in_class ys y true t h e = let w : 0 ≡ suc (length ys) = rw t at e in absurd (omega arith)
+  swap_out-none-step in_class ys y false t h e = let w : 1 + position_or_len test ys ≡ suc (length ys) = rw t at e in simp (t, h (omega arith))
 
-  swap_out-position_or_len : (xs : List X) → position_or_len test xs ≡ length xs → swap_out test any xs ≡ xs
-  swap_out-position_or_len [] e = refl
-  swap_out-position_or_len (y ∷ ys) e = swap_out-none-step ys y (test y) refl (swap_out-position_or_len ys) e
+  swap_out-position_or_len : (in_class : X → Bool) (xs : List X) → position_or_len test xs ≡ length xs → swap_out test in_class xs ≡ xs
+  swap_out-position_or_len in_class [] e = refl
+  swap_out-position_or_len in_class (y ∷ ys) e = swap_out-none-step in_class ys y (test y) refl (swap_out-position_or_len in_class ys) e
 
   -- where none passes, none is taken
-  pub swap_out-none : (xs : List X) → position test xs ≡ None → swap_out test any xs ≡ xs
-  swap_out-none xs e = swap_out-position_or_len xs (position_or_len-none test xs e)
+  pub swap_out-none : (in_class : X → Bool) (xs : List X) → position test xs ≡ None → swap_out test in_class xs ≡ xs
+  swap_out-none in_class xs e = swap_out-position_or_len in_class xs (position_or_len-none test xs e)
 
 module _ {K V : Type 0} (test : K → Bool) where
   first_value-step : (p : K × V) (L : List (K × V)) (d : K × V) (t : Bool) → test p.0 ≡ t

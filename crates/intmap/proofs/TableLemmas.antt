@@ -167,7 +167,7 @@ module _ {K X : Type 0} (number : K → ℕ) (S : List (Held K X)) (h : Held K X
   walk-taken_at s place pair found is left = walk-taken s (left ∙ swap_remove-position (λ (p : K × X). same_key number k p.0) h.pairs place pair found is)
 
   pub walk-taken_none : position (λ p. same_key number k p.0) h.pairs ≡ None → joined (rows (set S i h)) ≡ walk_of number (take_key number (joined (rows S)) (length S) k) (length S)
-  walk-taken_none none = walk-taken h (sym (swap_out-none (λ (p : K × X). same_key number k p.0) h.pairs none))
+  walk-taken_none none = walk-taken h (sym (swap_out-none (λ (p : K × X). same_key number k p.0) any h.pairs none))
 
   pub walk-replaced : (s : Held K X) (place : ℕ) (pair : K × X) (v : X) → position (λ p. same_key number k p.0) h.pairs ≡ Some place → pair ≡ get_or h.pairs place pair
       → s.pairs ≡ swap_remove h.pairs place pair ++ (k, v) ∷ [] → joined (rows (set S i s)) ≡ walk_of number (put_pair number (joined (rows S)) (length S) k v) (length S)
@@ -176,7 +176,7 @@ module _ {K X : Type 0} (number : K → ℕ) (S : List (Held K X)) (h : Held K X
 
   pub walk-added : (s : Held K X) (v : X) → position (λ p. same_key number k p.0) h.pairs ≡ None → s.pairs ≡ h.pairs ++ (k, v) ∷ [] → joined (rows (set S i s)) ≡ walk_of number (put_pair number (joined (rows S)) (length S) k v) (length S)
   walk-added s v none left =
-      walk-put s v (left ∙ ap (λ ps. ps ++ (k, v) ∷ []) (sym (swap_out-none (λ (p : K × X). same_key number k p.0) h.pairs none)))
+      walk-put s v (left ∙ ap (λ ps. ps ++ (k, v) ∷ []) (sym (swap_out-none (λ (p : K × X). same_key number k p.0) any h.pairs none)))
 
   -- each pair belongs to the slot
   abbrev pub Belong : List (K × X) → Type 0

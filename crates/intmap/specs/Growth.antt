@@ -20,9 +20,21 @@ pub record IsWanted (C n F D : ℕ) : Type 0 where
   pub meets : MeetsLoad D n F
   pub least : (i : ℕ) → C * 2 ^ i < D → F < n * 1000 / (C * 2 ^ i)
 
+-- n pairs want more than 2^63 slots
+abbrev pub WantsTooMuch : ℕ → ℕ → ℕ → Type 0
+WantsTooMuch C n F = (D : ℕ) × IsWanted C n F D × (2 ^ 63 < D)
+
+-- numbers of pairs up to the limit meet the load F in C slots, and no greater one does
+abbrev pub IsLimit : ℕ → ℕ → ℕ → Type 0
+IsLimit C F limit = (n : ℕ) → n < 2 ^ 64 → (n ≤ limit → MeetsLoad C n F) × (limit < n → F < n * 1000 / C)
+
 -- D is the capacity that is left once a new key made the length n
 abbrev pub IsNext : ℕ → ℕ → ℕ → ℕ → Type 0
 IsNext C n F D = MatchBool (is_due n) (IsWanted C n F D) (D ≡ C)
+
+-- a new key that makes the length n asks for more than 2^63 slots
+abbrev pub GrowsTooMuch : ℕ → ℕ → ℕ → Type 0
+GrowsTooMuch C n F = (D : ℕ) × IsNext C n F D × (2 ^ 63 < D)
 
 -- C, 2C, 4C, .., as many as any length below 2^64 may ask for
 abbrev pub doublings : ℕ → List ℕ

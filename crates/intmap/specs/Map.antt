@@ -1,9 +1,10 @@
 -- A map as contracts see it, and what calls leave of it.
-use Rattle.std.specs.Prelude.{◌≡◌, ℕ, ◌+◌, ◌^◌, ◌<◌, ◌≤◌, List, [], length, All, IsNone}
+use Rattle.std.specs.Prelude.{◌≡◌, ◌⊎◌, ℕ, ◌+◌, ◌^◌, ◌<◌, ◌≤◌, ◌==◌, cond, List, [], length, All, IsNone, MatchOption}
 use Rattle.intmap.specs.Classes.{IsCapacity}
 use Rattle.intmap.specs.Bindings.{HasDistinctKeys, value_of, take_key, put_pair}
 use Rattle.intmap.specs.Walk.{walk_of}
 use Rattle.intmap.specs.Reach.{reach}
+use Rattle.intmap.specs.Growth.{MeetsLoad, IsNext, GrowsTooMuch, last_due}
 
 -- the walk, the capacity and the load factor in thousandths; how many pairs insertions put into larger tables, and how many keys were compared
 pub record MapState (K V : Type 0) : Type 0 where
@@ -17,34 +18,53 @@ pub record MapState (K V : Type 0) : Type 0 where
 abbrev pub empty_map : {K V : Type 0} → ℕ → MapState K V
 empty_map C = record { walk = []; capacity = C; factor = 909; placed = 0; compared = 0 }
 
+module _ {K V : Type 0} where
+  -- no new key is in range: one more pair would be more than 2^64 - 1, or ask for more than 2^63 slots
+  abbrev pub IsFull : List (K × V) → ℕ → ℕ → Type 0
+  IsFull L C F = (2 ^ 64 ≤ length L + 1) ⊎ GrowsTooMuch C (length L + 1) F
+
 module _ {K V : Type 0} (number : K → ℕ) where
-  -- W may be the walk of a map of C slots: it is its own walk, no key is bound twice, and each key is a value of its type
-  pub record IsMapWalk (is_key : K → Type 0) (W : List (K × V)) (C : ℕ) : Type 0 where
+  -- W may be the walk of a map of C slots at the load factor F: it is its own walk, no key is bound twice, each key is a
+  -- value of its type, and the last length at which growth was tested meets the load
+  pub record IsMapWalk (is_key : K → Type 0) (W : List (K × V)) (C F : ℕ) : Type 0 where
     pub capacity : IsCapacity C
     pub own : walk_of number W C ≡ W
     pub distinct : HasDistinctKeys number W
     pub keys : All (λ p. is_key p.0) W
     pub count : length W < 2 ^ 64
+    pub load : 4 ≤ length W → MeetsLoad C (last_due (length W)) F
 
   -- what every map is
   abbrev pub IsMap : (K → Type 0) → MapState K V → Type 0
-  IsMap is_key m = IsMapWalk is_key m.walk m.capacity
+  IsMap is_key m = IsMapWalk is_key m.walk m.capacity m.factor
 
-  -- a new key would make the length exceed 2^64 - 1
-  abbrev pub IsOutOfRange : List (K × V) → K → Type 0
-  IsOutOfRange L k = IsNone (value_of number L k) × (2 ^ 64 ≤ length L + 1)
+  -- k is a new key, and none is in range
+  abbrev pub IsOutOfRange : List (K × V) → ℕ → ℕ → K → Type 0
+  IsOutOfRange L C F k = IsNone (value_of number L k) × IsFull L C F
+
+  -- D is the capacity that is left once k was bound
+  abbrev pub IsCapacityAfter : List (K × V) → ℕ → ℕ → K → ℕ → Type 0
+  IsCapacityAfter L C F k D = MatchOption (value_of number L k) (IsNext C (length L + 1) F D) (λ _. D ≡ C)
 
   -- the map once k was looked for
   abbrev pub after_search : MapState K V → K → MapState K V
   after_search m k = record m { compared = m.compared + reach number m.walk m.capacity k }
 
-  -- the map with k bound to v by a pair at the end of its slot
-  abbrev pub with_pair : MapState K V → K → V → MapState K V
-  with_pair m k v = record m { walk = walk_of number (put_pair number m.walk m.capacity k v) m.capacity }
+  -- the map with k bound to v by a pair at the end of its slot, in D slots; pairs are put into a larger table where these are more
+  abbrev pub with_pair : MapState K V → K → V → ℕ → MapState K V
+  with_pair m k v D = record m {
+    walk = walk_of number (put_pair number m.walk m.capacity k v) D;
+    capacity = D;
+    placed = m.placed + cond (D == m.capacity) 0 (length m.walk + 1);
+  }
 
-  -- the map once k was looked for and bound to v
-  abbrev pub after_insert : MapState K V → K → V → MapState K V
-  after_insert m k v = with_pair (after_search m k) k v
+  -- the map once k was looked for and bound to v, in D slots
+  abbrev pub after_insert : MapState K V → K → V → ℕ → MapState K V
+  after_insert m k v D = with_pair (after_search m k) k v D
+
+  -- the map in D slots
+  abbrev pub in_slots : MapState K V → ℕ → MapState K V
+  in_slots m D = record m { walk = walk_of number m.walk D; capacity = D }
 
   -- the map once k was looked for and taken out
   abbrev pub after_remove : MapState K V → K → MapState K V

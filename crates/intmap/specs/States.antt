@@ -1,8 +1,9 @@
 -- A plain list of pairs with a capacity and a load factor, and what insertions make of it.
-use Rattle.std.specs.Prelude.{◌≡◌, ◌↔◌, ℕ, ◌<◌, List, [], ◌∷◌, ◌++◌, length, Option, Some, None, IsNone}
+use Rattle.std.specs.Prelude.{◌≡◌, ◌↔◌, ℕ, ◌+◌, ◌<◌, List, [], ◌∷◌, ◌++◌, length, Option, Some, None, IsNone}
 use Rattle.intmap.specs.Bindings.{value_of, put_pair}
 use Rattle.intmap.specs.Reach.{class_size}
-use Rattle.intmap.specs.Map.{MapState, IsOutOfRange}
+use Rattle.intmap.specs.Growth.{IsNext}
+use Rattle.intmap.specs.Map.{MapState, IsOutOfRange, IsCapacityAfter}
 use Rattle.intmap.specs.Walk.{StandsFor}
 use Rattle.intmap.specs.declared.refusal.Cause.{Cause}
 use Rattle.intmap.specs.declared.refusal.Cause.TheVariants.{Memory, TooLarge}
@@ -24,17 +25,18 @@ module _ {K V : Type 0} (number : K → ℕ) where
     pub capacity : s.capacity ≡ m.capacity
     pub factor : s.factor ≡ m.factor
 
-  -- an accepted insertion, of a key that is in range
+  -- an accepted insertion: the key is in range, the pair stands last, and growth changes the capacity alone
   pub record Inserts (s : State K V) (k : K) (v : V) (t : State K V) : Type 0 where
-    pub in_range : IsOutOfRange number s.pairs k → ⊥
-    pub after : t ≡ record s { pairs = put_pair number s.pairs s.capacity k v }
+    pub in_range : IsOutOfRange number s.pairs s.capacity s.factor k → ⊥
+    pub capacity : IsCapacityAfter number s.pairs s.capacity s.factor k t.capacity
+    pub after : t ≡ record s { pairs = put_pair number s.pairs s.capacity k v; capacity = t.capacity }
 
-  -- an insertion may be refused for this cause: of a new key alone, as too large exactly where it is out of range,
-  -- and for want of memory only where a key that is bound already shares its slot
+  -- an insertion may be refused for this cause: of a new key alone, as too large exactly where it is out of range, and
+  -- for want of memory never where the capacity stays and no bound key shares its slot
   pub record MayRefuse (s : State K V) (k : K) (cause : Cause) : Type 0 where
     pub new_key : IsNone (value_of number s.pairs k)
-    pub too_large : (cause ≡ TooLarge) ↔ IsOutOfRange number s.pairs k
-    pub memory : cause ≡ Memory → 0 < class_size number s.pairs s.capacity k
+    pub too_large : (cause ≡ TooLarge) ↔ IsOutOfRange number s.pairs s.capacity s.factor k
+    pub memory : cause ≡ Memory → IsNext s.capacity (length s.pairs + 1) s.factor s.capacity → 0 < class_size number s.pairs s.capacity k
 
   -- the pairs are inserted in turn, all accepted
   abbrev pub InsertsAll : State K V → List (K × V) → State K V → Type 0

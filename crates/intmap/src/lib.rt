@@ -4,6 +4,7 @@
 pub mod iter;
 mod kept;
 mod key;
+mod load;
 mod map;
 mod refusal;
 mod slot;

@@ -5,6 +5,7 @@ ghost use Rattle.intmap.specs.Map.{IsMap};
 
 mod build;
 mod get;
+mod grow;
 mod insert;
 mod remove;
 
@@ -30,6 +31,7 @@ use std::marker::Model;
 pub struct IntMap<K: IntKey, V, A: Allocator + Copy = Global> {
     table: Table<K, Kept<V>, A>,
     len: usize,
+    limit: usize,
     factor: usize,
     placed: Steps,
     compared: Steps,
@@ -49,7 +51,8 @@ impl<K: IntKey, V, A: Allocator + Copy> Model for IntMap<K, V, A> {
       compared = m.compared;
     } };
 
-    ghost invariant = { λ m. IsCounted K.number_of K.is_key m.table.walk m.table.capacity m.len };
+    ghost invariant = { λ m. IsCounted K.number_of K.is_key m.table.walk m.table.capacity
+        m.factor m.len m.limit };
 }
 
 impl<K: IntKey, V, A: Allocator + Copy> IntMap<K, V, A> {

@@ -1,8 +1,8 @@
 //! One slot of a table: the first pair in its place, the rest behind it.
-ghost use Rattle.std.specs.Prelude.{◌≡◌, ◌+◌, ◌<◌, ◌≤◌, List, [], ◌∷◌, ◌++◌, length, position, swap_remove, slice_index_or, nat_lt, Bool, OnOk, OnErr, IfErr, option_copied};
+ghost use Rattle.std.specs.Prelude.{◌≡◌, ◌+◌, ◌<◌, ◌≤◌, List, [], ◌∷◌, ◌++◌, length, position, swap_remove, slice_index_or, nat_lt, Bool, OnOk, OnErr, IfOk, IfErr, option_copied};
 ghost use Rattle.intmap.specs.Classes.{same_key};
 ghost use Rattle.intmap.specs.Reach.{through_first};
-ghost use Rattle.intmap.specs.Slots.{all_pairs};
+ghost use Rattle.intmap.specs.Slots.{all_pairs, IsFilledInOrder};
 
 use crate::key::IntKey;
 use crate::steps::Steps;
@@ -105,6 +105,14 @@ impl<K: IntKey, X, A: Allocator> Slot<K, X, A> {
         (self.first.as_ref(), self.rest.as_slice())
     }
 
+    /// The first pair, if there is one, and the rest.
+    pub(crate) fn into_parts(self) -> (Option<(Stored<K>, X)>, Vec<(Stored<K>, X), A>)
+        ensures pairs { self.pairs ≡ all_pairs result.0 result.1.items }
+        ensures filled { IsFilledInOrder result.0 result.1.items }
+    {
+        (self.first, self.rest)
+    }
+
     /// Takes the pair at a place out. The last pair is moved into its place.
     pub(crate) fn take_at(&mut self, place: usize) -> (Stored<K>, X)
         requires { place < length self.old.pairs }
@@ -140,6 +148,19 @@ impl<K: IntKey, X, A: Allocator> Slot<K, X, A> {
 }
 
 impl<K: IntKey, X: Drop, A: Allocator> Slot<K, X, A> {
+    /// A slot with no pair and with room for so many. It takes memory for all but the first, and
+    /// is refused where that is.
+    pub(crate) fn with_room(alloc: A, count: usize) -> Result<Slot<K, X, A>, AllocError>
+        ensures pairs { IfOk result (λ slot. slot.pairs ≡ []) }
+        ensures room { IfOk result (λ slot. count ≤ slot.room) }
+    {
+        let mut rest = Vec::new(alloc);
+        if count > 1 {
+            rest.reserve_exact(count - 1)?;
+        }
+        Ok(Slot { first: None, rest })
+    }
+
     /// Adds a pair at the end, where there is room for it.
     pub(crate) fn push_reserved(&mut self, pair: (Stored<K>, X))
         requires { length self.old.pairs < self.old.room }

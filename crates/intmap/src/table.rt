@@ -1,8 +1,10 @@
 //! Slots, of which each key has one.
 
+mod grow;
+mod place;
 pub(crate) mod walk;
 
-ghost use Rattle.std.specs.Prelude.{◌≡◌, ◌+◌, ◌<◌, ◌≤◌, List, [], OnOk, OnErr, IfOk, IfErr, IfSome, IsOk, IsSome, IsNone, Some, None, option_copied, length, nat_lt, count_by};
+ghost use Rattle.std.specs.Prelude.{◌≡◌, ◌+◌, ◌<◌, ◌≤◌, List, [], OnOk, OnErr, IfOk, IfErr, IfSome, IsOk, IsSome, IsNone, Some, None, option_copied, length, nat_lt, count_by, ◌^◌};
 ghost use Rattle.intmap.specs.Classes.{IsCapacity, slot_number};
 ghost use Rattle.intmap.specs.Bindings.{value_of, take_key, put_pair};
 ghost use Rattle.intmap.specs.Walk.{walk_of};
@@ -12,12 +14,10 @@ ghost use Rattle.intmap.specs.Figures.{load_of};
 use crate::key::IntKey;
 use crate::slot::Slot;
 use crate::steps::Steps;
+use place::index_of;
 use std::alloc::{AllocError, Allocator};
 use std::marker::Model;
 use walk::Pairs;
-
-/// The odd number that spreads keys over slots.
-const MULTIPLIER: u64 = 11400714819323198549;
 
 /// How many slots hold a pair.
 fn filled_slots<K: IntKey, X, A: Allocator>(slots: &[Slot<K, X, A>]) -> usize
@@ -86,7 +86,7 @@ impl<K: IntKey, X, A: Allocator> Table<K, X, A> {
         ensures within { result < self.now.capacity }
         ensures key { K.is_key key.now }
     {
-        (key.number().wrapping_mul(MULTIPLIER) & (self.slots.len() as u64 - 1)) as usize
+        index_of(key, self.slots.len())
     }
 
     /// What the key is bound to. The keys of its slot are compared from the front up to it, each

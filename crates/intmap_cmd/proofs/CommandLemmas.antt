@@ -1,14 +1,15 @@
 -- Words that say no command.
-use Rattle.std.proofs.Common.{◌≡◌, ◌≢◌, ℕ, List, [], ◌∷◌, Option, Some, None, IfNone}
+use Rattle.std.proofs.Common.{◌≡◌, ℕ, List, [], ◌∷◌, Option, Some, None, IfNone}
 use Rattle.std.specs.List.{AllZip}
 use Rattle.std.specs.Fmt.{decimal}
 use Rattle.std.proofs.lemmas.Fmt.{decimal_injective}
 use Rattle.intmap_run.specs.declared.command.Command.{Command}
-use Rattle.intmap_cmd.specs.Words.{name_of, numbers_of}
+use Rattle.intmap_cmd.specs.Words.{numbers_of, IsSpelled}
 use Rattle.intmap_cmd.specs.Commands.{Writes, Says}
 
 -- words write one list of numbers alone
-same_numbers : (words : List (List ℕ)) (ms ns : List ℕ) → AllZip Writes words ms → AllZip Writes words ns → ms ≡ ns
+same_numbers : (words : List (List ℕ)) (ms ns : List ℕ) → AllZip Writes words ms
+    → AllZip Writes words ns → ms ≡ ns
 same_numbers [] [] [] f g = cc
 same_numbers [] [] (n ∷ ns) f g = absurd g
 same_numbers [] (m ∷ ms) ns f g = absurd f
@@ -20,9 +21,10 @@ same_numbers (w ∷ ws) (m ∷ ms) (n ∷ ns) f g =
     let rest = same_numbers ws ms ns f.1 g.1 in
     cc
 
--- words that write the numbers of no command of this name
+-- where no command has this name and the numbers that the words write, they say none
 pub says_none : (name : List ℕ) (words : List (List ℕ)) (ns : List ℕ) → AllZip Writes words ns
-    → (found : Option (Command ℕ ℕ)) → IfNone found ((c : Command ℕ ℕ) → name ≡ name_of c → numbers_of c ≢ ns)
+    → (found : Option (Command ℕ ℕ)) → IfNone found ((c : Command ℕ ℕ) → ¬ IsSpelled name ns c)
     → IfNone found ((c : Command ℕ ℕ) → ¬ Says (name ∷ words) c)
 says_none name words ns written (Some c) none = tt
-says_none name words ns written None none = λ c said. none c said.0 (same_numbers words (numbers_of c) ns said.1 written)
+says_none name words ns written None none = λ c said.
+    none c (said.0, same_numbers words (numbers_of c) ns said.1 written)

@@ -2,4 +2,4 @@ pub mod SplitLemmas
 pub mod NumberLemmas
 pub mod CommandLemmas
 pub mod LineLemmas
-pub mod SessionLemmas
+pub mod ServingLemmas

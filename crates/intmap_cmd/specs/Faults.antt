@@ -1,5 +1,6 @@
 -- Why a session ends early.
-use Rattle.std.specs.Prelude.{ℕ, List, ⊤}
+use Rattle.std.specs.Prelude.{ℕ, List, [], ◌∷◌, ◌++◌, ⊤, codes}
+use Rattle.std.specs.Fmt.{decimal}
 use Rattle.intmap_cmd.specs.declared.fault.Fault.{Fault}
 use Rattle.intmap_cmd.specs.declared.fault.Fault.TheVariants as fault
 use Rattle.intmap_cmd.specs.Commands.{SpellsNone}
@@ -11,7 +12,16 @@ status_of fault.Memory = 3
 status_of fault.Input = 4
 status_of fault.Output = 4
 
--- the fault may be told of this text: a line is no command only where the text spells no list of commands
-abbrev pub FitsText : List ℕ → Fault → Type 0
-FitsText text (fault.NotACommand n) = SpellsNone text
-FitsText text other = ⊤
+-- the line that tells of it, with the byte 10 at its end
+abbrev pub report_of : Fault → List ℕ
+report_of (fault.NotACommand n) = codes "line " ++ decimal n ++ codes ": not a command" ++ 10 ∷ []
+report_of fault.Memory = codes "no memory" ++ 10 ∷ []
+report_of fault.Input = codes "input failed" ++ 10 ∷ []
+report_of fault.Output = codes "output failed" ++ 10 ∷ []
+
+-- a text may be refused so: as no list of commands, or for want of memory
+abbrev pub IsRefused : List ℕ → Fault → Type 0
+IsRefused text (fault.NotACommand n) = SpellsNone text
+IsRefused text fault.Memory = ⊤
+IsRefused text fault.Input = ⊥
+IsRefused text fault.Output = ⊥

@@ -26,10 +26,12 @@ answer_text (answer.Old None) = codes "none"
 answer_text (answer.Old (Some v)) = codes "some " ++ decimal v
 answer_text (answer.Seen None) = codes "none"
 answer_text (answer.Seen (Some v)) = codes "some " ++ decimal v
+answer_text answer.Done = codes "done"
 answer_text (answer.Number n) = decimal n
 answer_text (answer.Walk pairs) = pairs_text pairs.items
 answer_text (answer.Refused cause None) = codes "refused: " ++ cause_text cause
-answer_text (answer.Refused cause (Some v)) = codes "refused " ++ decimal v ++ codes ": " ++ cause_text cause
+answer_text (answer.Refused cause (Some v)) =
+    codes "refused " ++ decimal v ++ codes ": " ++ cause_text cause
 
 -- one line an answer, each ended by a byte 10
 abbrev pub lines_of : {A : Type 0} → List (Answer ℕ ℕ ℕ A) → List ℕ

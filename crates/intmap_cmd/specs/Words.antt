@@ -1,5 +1,5 @@
 -- The words of a command: its name, and the numbers behind it.
-use Rattle.std.specs.Prelude.{ℕ, List, [], ◌∷◌, codes}
+use Rattle.std.specs.Prelude.{◌≡◌, ℕ, List, [], ◌∷◌, codes}
 use Rattle.intmap_run.specs.declared.command.Command.{Command}
 use Rattle.intmap_run.specs.declared.command.Command.TheVariants as command
 
@@ -8,6 +8,9 @@ abbrev pub name_of : Command ℕ ℕ → List ℕ
 name_of (command.Insert k v) = codes "insert"
 name_of (command.Get k) = codes "get"
 name_of (command.Remove k) = codes "remove"
+name_of (command.Reserve additional) = codes "reserve"
+name_of (command.SetLoadFactor thousandths) = codes "set_load_factor"
+name_of command.GetLoadFactor = codes "get_load_factor"
 name_of command.Len = codes "len"
 name_of command.Capacity = codes "capacity"
 name_of command.Load = codes "load"
@@ -18,7 +21,14 @@ abbrev pub numbers_of : Command ℕ ℕ → List ℕ
 numbers_of (command.Insert k v) = k ∷ v ∷ []
 numbers_of (command.Get k) = k ∷ []
 numbers_of (command.Remove k) = k ∷ []
+numbers_of (command.Reserve additional) = additional ∷ []
+numbers_of (command.SetLoadFactor thousandths) = thousandths ∷ []
+numbers_of command.GetLoadFactor = []
 numbers_of command.Len = []
 numbers_of command.Capacity = []
 numbers_of command.Load = []
 numbers_of command.Walk = []
+
+-- this name and these numbers are the words of the command
+abbrev pub IsSpelled : List ℕ → List ℕ → Command ℕ ℕ → Type 0
+IsSpelled name numbers c = (name ≡ name_of c) × (numbers_of c ≡ numbers)

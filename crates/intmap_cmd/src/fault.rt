@@ -1,7 +1,8 @@
 //! Why a session ends before its answers are out.
-ghost use Rattle.std.specs.Prelude.{◌≡◌};
+ghost use Rattle.std.specs.Prelude.{◌≡◌, OnOk};
+ghost use Rattle.std.specs.Io.KnownBytes.{Appends};
 ghost use Rattle.intmap_cmd.specs.declared.fault.Fault.TheVariants.{Memory};
-ghost use Rattle.intmap_cmd.specs.Faults.{status_of};
+ghost use Rattle.intmap_cmd.specs.Faults.{status_of, report_of};
 
 use intmap::Cause;
 use std::alloc::{AllocError, AllocFailed};
@@ -32,15 +33,26 @@ impl Fault {
         }
     }
 
-    /// Writes a line that says what happened.
-    pub fn report<E: Write>(self, faults: &mut E) -> io::Result<()> {
-        match self {
-            Fault::NotACommand(number) => writeln!(faults, "line {number}: not a command")?,
-            Fault::Memory => faults.write_all(b"no memory\n")?,
-            Fault::Input => faults.write_all(b"input failed\n")?,
-            Fault::Output => faults.write_all(b"output failed\n")?,
-        }
+    /// Writes a line that says what happened, and flushes.
+    pub fn report<E: Write>(self, faults: &mut E) -> io::Result<()>
+        ensures { OnOk result
+            (Appends (E.contents faults.old) (E.contents faults.new) (report_of self)) }
+    {
+        self.write_to(faults)?;
         faults.flush()
+    }
+
+    /// Writes the line.
+    fn write_to<E: Write>(self, faults: &mut E) -> io::Result<()>
+        ensures { OnOk result
+            (Appends (E.contents faults.old) (E.contents faults.new) (report_of self)) }
+    {
+        match self {
+            Fault::NotACommand(number) => writeln!(faults, "line {number}: not a command"),
+            Fault::Memory => faults.write_all(b"no memory\n"),
+            Fault::Input => faults.write_all(b"input failed\n"),
+            Fault::Output => faults.write_all(b"output failed\n"),
+        }
     }
 }
 

@@ -2,7 +2,7 @@
 ghost use Rattle.std.specs.Prelude.{IfOk, IfErr};
 ghost use Rattle.intmap_cmd.specs.Lines.{words_of};
 ghost use Rattle.intmap_cmd.specs.Commands.{Spells};
-ghost use Rattle.intmap_cmd.specs.Faults.{FitsText};
+ghost use Rattle.intmap_cmd.specs.Faults.{IsRefused};
 ghost use Rattle.intmap_cmd.specs.Reading.{Reads};
 
 use crate::command::command;
@@ -43,7 +43,7 @@ pub fn read_commands<A: Allocator>(
     text: &[u8],
 ) -> Result<Vec<Command<u64, u64>, A>, Fault>
     ensures some { IfOk result (λ found. Spells text.now found.items) }
-    ensures err { IfErr result (FitsText text.now) }
+    ensures err { IfErr result (IsRefused text.now) }
 {
     let mut found = Vec::new(alloc);
     let mut number = 0u64;

@@ -2,7 +2,8 @@
 ghost use Rattle.std.specs.Prelude.{◌≡◌, ◌≢◌, ◌↔◌, ℕ, IfSome, IfNone, IsTrue, length, slice_index};
 ghost use Rattle.intmap_cmd.specs.Commands.{Writes};
 
-/// The number that a word writes: decimal digits without a sign or a leading zero, at most 2^64 - 1.
+/// The number that a word writes: decimal digits with no sign and no leading zero, at most
+/// 2^64 - 1.
 pub fn number(word: &[u8]) -> Option<u64>
     ensures some { IfSome result (Writes word.now) }
     ensures none { IfNone result ((n : ℕ) → ¬ Writes word.now n) }

@@ -31,6 +31,7 @@ fn print_answer<A: Allocator>(
     match answer {
         Answer::Old(None) | Answer::Seen(None) => out.push_str("none"),
         Answer::Old(Some(value)) | Answer::Seen(Some(value)) => write!(out, "some {value}"),
+        Answer::Done => out.push_str("done"),
         Answer::Number(number) => write!(out, "{number}"),
         Answer::Walk(pairs) => print_pairs(out, pairs.as_slice()),
         Answer::Refused { cause, value: None } => {

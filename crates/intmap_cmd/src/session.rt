@@ -2,7 +2,7 @@
 ghost use Rattle.std.specs.Prelude.{◌≡◌, ◌≢◌, ◌⊎◌, IfOk, IfErr, IfSome, OnOk, string_bytes};
 ghost use Rattle.std.specs.Io.KnownBytes.{Appends, Keeps};
 ghost use Rattle.intmap_cmd.specs.Commands.{SpellsNone};
-ghost use Rattle.intmap_cmd.specs.Faults.{FitsText};
+ghost use Rattle.intmap_cmd.specs.Faults.{IsRefused};
 ghost use Rattle.intmap_cmd.specs.Serving.{IsAnswered, Serves};
 
 use crate::fault::Fault;
@@ -17,16 +17,16 @@ use std::io::{self, ErrorKind, Read, Write};
 /// The status of a session whose answers are all out.
 const DONE: u8 = 0;
 
-/// Reads commands to the end of the input, runs them on an empty map, writes one line an answer, and answers the
-/// exit status:
+/// Reads the input to its end, runs the commands that its lines say on an empty map, and writes
+/// one line an answer. All that it makes is made over `alloc`. It answers the exit status:
 ///
 /// - 0: every line was a command or blank, and the answers are out;
-/// - 2: some line is not a command, so none was run;
-/// - 3: a request for memory was refused outside a command;
-/// - 4: the input or the output failed.
+/// - 2: some line is not a command; no command was run, and nothing was written;
+/// - 3: a request for memory was refused outside a command; nothing was written;
+/// - 4: the input or the output failed; where it was the output, a part of the answers may be out.
 ///
-/// A line on `faults` says what happened; whether it could be written changes nothing. All that the session makes
-/// is made over `alloc`.
+/// But for status 0 a line on `faults` says what happened; whether it could be written changes
+/// nothing.
 pub fn serve<A: Allocator + Copy, R: Read, W: Write, E: Write>(
     alloc: A,
     input: &mut R,
@@ -57,8 +57,8 @@ fn exchange<A: Allocator + Copy, R: Read, W: Write>(
 ) -> Result<(), Fault>
     ensures done { OnOk result (IfSome (R.remaining input.old)
         (λ text. Serves A text (W.contents output.old) (W.contents output.new))) }
-    ensures err { IfErr result (λ fault. IfSome (R.remaining input.old)
-        (λ text. FitsText text fault)) }
+    ensures err { IfErr result (λ fault. (fault ≡ Fault.Input) ⊎ (fault ≡ Fault.Output)
+        ⊎ IfSome (R.remaining input.old) (λ text. IsRefused text fault)) }
     ensures silent { IfErr result (λ fault. fault ≢ Fault.Output
         → Keeps (W.contents output.old) (W.contents output.new)) }
 {
@@ -83,7 +83,7 @@ fn read_text<A: Allocator, R: Read>(alloc: A, input: &mut R) -> Result<Vec<u8, A
 /// The lines that answer a text. No command is run before every line is known to be one.
 fn answer<A: Allocator + Copy>(alloc: A, text: &[u8]) -> Result<String<A>, Fault>
     ensures ok { IfOk result (λ lines. IsAnswered A text.now (string_bytes lines)) }
-    ensures err { IfErr result (FitsText text.now) }
+    ensures err { IfErr result (IsRefused text.now) }
 {
     let commands = read_commands(alloc, text)?;
     let mut map = IntMap::new(alloc)?;

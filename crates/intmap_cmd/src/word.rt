@@ -1,17 +1,18 @@
 //! The table of the words that commands begin with, by how many numbers follow.
-ghost use Rattle.std.specs.Prelude.{◌≡◌, ◌≢◌, ◌↔◌, ℕ, List, [], ◌∷◌, IfSome, IfNone, IsTrue};
+ghost use Rattle.std.specs.Prelude.{◌≡◌, ◌↔◌, ℕ, [], ◌∷◌, IfSome, IfNone, IsTrue};
 ghost use Rattle.intmap_run.specs.declared.command.Command.{Command};
-ghost use Rattle.intmap_cmd.specs.Words.{name_of, numbers_of};
+ghost use Rattle.intmap_cmd.specs.Words.{IsSpelled};
 
 use intmap_run::Command;
 
 /// The command of this name without a number.
 pub fn bare(name: &[u8]) -> Option<Command<u64, u64>>
-    ensures some { IfSome result (λ c. (name.now ≡ name_of c) × (numbers_of c ≡ [])) }
-    ensures none { IfNone result
-        ((c : Command ℕ ℕ) → name.now ≡ name_of c → numbers_of c ≢ []) }
+    ensures some { IfSome result (IsSpelled name.now []) }
+    ensures none { IfNone result ((c : Command ℕ ℕ) → ¬ IsSpelled name.now [] c) }
 {
-    if is(name, b"len") {
+    if is(name, b"get_load_factor") {
+        Some(Command::GetLoadFactor)
+    } else if is(name, b"len") {
         Some(Command::Len)
     } else if is(name, b"capacity") {
         Some(Command::Capacity)
@@ -26,14 +27,17 @@ pub fn bare(name: &[u8]) -> Option<Command<u64, u64>>
 
 /// The command of this name with one number.
 pub fn with_number(name: &[u8], number: u64) -> Option<Command<u64, u64>>
-    ensures some { IfSome result (λ c. (name.now ≡ name_of c) × (numbers_of c ≡ number ∷ [])) }
-    ensures none { IfNone result
-        ((c : Command ℕ ℕ) → name.now ≡ name_of c → numbers_of c ≢ number ∷ []) }
+    ensures some { IfSome result (IsSpelled name.now (number ∷ [])) }
+    ensures none { IfNone result ((c : Command ℕ ℕ) → ¬ IsSpelled name.now (number ∷ []) c) }
 {
     if is(name, b"get") {
         Some(Command::Get(number))
     } else if is(name, b"remove") {
         Some(Command::Remove(number))
+    } else if is(name, b"reserve") {
+        Some(Command::Reserve(number as usize))
+    } else if is(name, b"set_load_factor") {
+        Some(Command::SetLoadFactor(number as usize))
     } else {
         None
     }
@@ -41,9 +45,8 @@ pub fn with_number(name: &[u8], number: u64) -> Option<Command<u64, u64>>
 
 /// The command of this name with a key and a value.
 pub fn with_pair(name: &[u8], key: u64, value: u64) -> Option<Command<u64, u64>>
-    ensures some { IfSome result (λ c. (name.now ≡ name_of c) × (numbers_of c ≡ key ∷ value ∷ [])) }
-    ensures none { IfNone result
-        ((c : Command ℕ ℕ) → name.now ≡ name_of c → numbers_of c ≢ key ∷ value ∷ []) }
+    ensures some { IfSome result (IsSpelled name.now (key ∷ value ∷ [])) }
+    ensures none { IfNone result ((c : Command ℕ ℕ) → ¬ IsSpelled name.now (key ∷ value ∷ []) c) }
 {
     if is(name, b"insert") {
         Some(Command::Insert(key, value))

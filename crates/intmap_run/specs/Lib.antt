@@ -1,3 +1,4 @@
+pub mod Growing
 pub mod Runs
 pub mod Steps
 pub mod Laws

@@ -1,5 +1,5 @@
 -- What one command answers and leaves of a plain list, and what lists of commands do.
-use Rattle.std.specs.Prelude.{◌≡◌, ℕ, ◌+◌, Bool, List, [], ◌∷◌, length, Option, Some, None, ◌⊎◌}
+use Rattle.std.specs.Prelude.{◌≡◌, ℕ, ◌+◌, ◌*◌, ◌≤◌, ◌==◌, max, cond, Bool, List, [], ◌∷◌, length, Option, Some, None, ◌⊎◌}
 use Rattle.std.specs.List.{AllZip}
 use Rattle.std.specs.declared.vec.Vec.{Vec}
 use Rattle.intmap.specs.Bindings.{value_of, take_key}
@@ -14,6 +14,7 @@ use Rattle.intmap_run.specs.declared.command.Command.{Command}
 use Rattle.intmap_run.specs.declared.command.Command.TheVariants as command
 use Rattle.intmap_run.specs.declared.answer.Answer.{Answer}
 use Rattle.intmap_run.specs.declared.answer.Answer.TheVariants as answer
+use Rattle.intmap_run.specs.Growing.{Reserves, MayRefuseReserve, SetsFactor, MayRefuseFactor}
 
 -- what a judge sees of a value, where there is one
 abbrev pub SeesOption : {V S : Type 0} → (V → S → Type 0) → Option V → Option S → Type 0
@@ -32,12 +33,48 @@ comparisons_of number s (command.Insert k v) = reach number s.pairs s.capacity k
 comparisons_of number s (command.Remove k) = reach number s.pairs s.capacity k
 comparisons_of number s other = 0
 
+-- the pairs that a command places in a larger table as it leads from the list s to the list t: all that there are then, where it
+-- is an insertion that changed the capacity, and else none
+abbrev pub placements_of : {K V : Type 0} → State K V → Command K V → State K V → ℕ
+placements_of s (command.Insert k v) t = cond (t.capacity == s.capacity) 0 (length t.pairs)
+placements_of s other t = 0
+
+module _ {K V S A : Type 0} where
+  -- how many load factors a command set that was answered so, one or none
+  abbrev pub factors_set_by : Command K V → Answer K V S A → ℕ
+  factors_set_by (command.SetLoadFactor f) answer.Done = 1
+  factors_set_by other a = 0
+
+  -- how many load factors the commands set that were answered so
+  abbrev pub factors_set : List (Command K V) → List (Answer K V S A) → ℕ
+  factors_set [] as' = 0
+  factors_set (c ∷ cs) [] = 0
+  factors_set (c ∷ cs) (a ∷ as') = factors_set_by c a + factors_set cs as'
+
+  -- the command, answered so, set the capacity: it is an accepted reservation or load factor
+  abbrev pub SetsCapacity : Command K V → Answer K V S A → Type 0
+  SetsCapacity (command.Reserve n) answer.Done = Unit {0}
+  SetsCapacity (command.SetLoadFactor f) answer.Done = Unit {0}
+  SetsCapacity other a = ⊥
+
 module _ {K V S A : Type 0} (number : K → ℕ) (sees : V → S → Type 0) (keeps : K → V → Bool) where
   -- an insertion answers the old value, or is refused, hands its own value back and changes nothing
   abbrev pub AnswersInsert : State K V → K → V → Answer K V S A → State K V → Type 0
   AnswersInsert s k v a t =
       ((a ≡ answer.Old (value_of number s.pairs k)) × Inserts number s k v t)
       ⊎ ((cause : Cause) × (a ≡ answer.Refused cause (Some v)) × MayRefuse number s k cause × (t ≡ s))
+
+  -- a reservation is done, or refused and changes nothing
+  abbrev pub AnswersReserve : State K V → ℕ → Answer K V S A → State K V → Type 0
+  AnswersReserve s additional a t =
+      ((a ≡ answer.Done) × Reserves s additional t)
+      ⊎ ((cause : Cause) × (a ≡ answer.Refused cause None) × MayRefuseReserve s additional cause × (t ≡ s))
+
+  -- a load factor is set, or refused and changes nothing
+  abbrev pub AnswersSetLoadFactor : State K V → ℕ → Answer K V S A → State K V → Type 0
+  AnswersSetLoadFactor s factor a t =
+      ((a ≡ answer.Done) × SetsFactor s factor t)
+      ⊎ ((cause : Cause) × (a ≡ answer.Refused cause None) × MayRefuseFactor s factor cause × (t ≡ s))
 
   -- a walk is answered, or refused for want of room
   abbrev pub AnswersWalk : State K V → Answer K V S A → Type 0
@@ -52,6 +89,9 @@ module _ {K V S A : Type 0} (number : K → ℕ) (sees : V → S → Type 0) (ke
       ((seen : Option S) × (a ≡ answer.Seen seen) × SeesOption sees (value_of number s.pairs k) seen) × (t ≡ s)
   Answers s (command.Remove k) a t =
       (a ≡ answer.Old (value_of number s.pairs k)) × (t ≡ record s { pairs = take_key number s.pairs s.capacity k })
+  Answers s (command.Reserve additional) a t = AnswersReserve s additional a t
+  Answers s (command.SetLoadFactor factor) a t = AnswersSetLoadFactor s factor a t
+  Answers s command.GetLoadFactor a t = (a ≡ answer.Number s.factor) × (t ≡ s)
   Answers s command.Len a t = (a ≡ answer.Number (length s.pairs)) × (t ≡ s)
   Answers s command.Capacity a t = (a ≡ answer.Number s.capacity) × (t ≡ s)
   Answers s command.Load a t = (a ≡ answer.Number (load_of number s.pairs s.capacity)) × (t ≡ s)
@@ -70,8 +110,37 @@ module _ {K V S A : Type 0} (number : K → ℕ) (sees : V → S → Type 0) (ke
   run_comparisons s (c ∷ cs) [] t run = 0
   run_comparisons s (c ∷ cs) (a ∷ as') t run = comparisons_of number s c + run_comparisons run.0 cs as' t run.2
 
-  -- from every list that stands for the map before, a run leads to a list that stands for the map after; the map compared what the run compares
+  -- the pairs that a run places in larger tables
+  abbrev pub run_placements : (s : State K V) (cs : List (Command K V)) (as' : List (Answer K V S A)) (t : State K V) → Runs s cs as' t → ℕ
+  run_placements s [] as' t run = 0
+  run_placements s (c ∷ cs) [] t run = 0
+  run_placements s (c ∷ cs) (a ∷ as') t run = placements_of s c run.0 + run_placements run.0 cs as' t run.2
+
+  -- the greatest number of pairs that there are at the start of a run or after one of its commands
+  abbrev pub greatest_length : (s : State K V) (cs : List (Command K V)) (as' : List (Answer K V S A)) (t : State K V) → Runs s cs as' t → ℕ
+  greatest_length s [] as' t run = length s.pairs
+  greatest_length s (c ∷ cs) [] t run = length s.pairs
+  greatest_length s (c ∷ cs) (a ∷ as') t run = max (length s.pairs) (greatest_length run.0 cs as' t run.2)
+
+  -- an accepted reservation or load factor of the run left this capacity
+  abbrev pub WasSet : ℕ → (s : State K V) (cs : List (Command K V)) (as' : List (Answer K V S A)) (t : State K V) → Runs s cs as' t → Type 0
+  WasSet C s [] as' t run = ⊥
+  WasSet C s (c ∷ cs) [] t run = ⊥
+  WasSet C s (c ∷ cs) (a ∷ as') t run = (SetsCapacity c a × (run.0.capacity ≡ C)) ⊎ WasSet C run.0 cs as' t run.2
+
+  -- what a run from the list s, which stands for the map m, to the list t leaves of the map: t stands for it, it compared and
+  -- placed what the run does, few placements for the lengths that the run went through and the load factors that it set, and
+  -- its capacity is the start's, or one that a caller set, or small for these lengths
+  pub record Leaves (m : MapState K V) (s : State K V) (cs : List (Command K V)) (as' : List (Answer K V S A)) (t : State K V) (run : Runs s cs as' t) (n : MapState K V) : Type 0 where
+    pub stands : Stands number t n
+    pub compared : n.compared ≡ m.compared + run_comparisons s cs as' t run
+    pub placed : n.placed ≡ m.placed + run_placements s cs as' t run
+    pub few_placements : run_placements s cs as' t run ≤ 3 * (factors_set cs as' + 1) * greatest_length s cs as' t run
+    pub last_capacity :
+        (t.capacity ≡ s.capacity) ⊎ WasSet t.capacity s cs as' t run
+        ⊎ ((t.factor + 1) * t.capacity ≤ 2000 * greatest_length s cs as' t run)
+
+  -- from every list that stands for the map before, a run leads to a list that stands for the map after
   abbrev pub RunsFrom : MapState K V → List (Command K V) → List (Answer K V S A) → MapState K V → Type 0
   RunsFrom m cs as' n =
-      (s : State K V) → Stands number s m → (t : State K V) × (run : Runs s cs as' t)
-      × Stands number t n × (n.compared ≡ m.compared + run_comparisons s cs as' t run)
+      (s : State K V) → Stands number s m → (t : State K V) × (run : Runs s cs as' t) × Leaves m s cs as' t run n

@@ -10,7 +10,9 @@ pub enum Answer<K, V, S, A: Allocator = Global> {
     Old(Option<V>),
     /// What the judge sees of the value that the key is bound to; `None` where it isn't bound.
     Seen(Option<S>),
-    /// A number of pairs or slots.
+    /// It was done, and there is nothing to hand back.
+    Done,
+    /// A number of pairs or slots, or a load factor in thousandths.
     Number(u128),
     /// Each key of the walk, in its order, with what the judge sees of its value.
     Walk(Vec<(K, S), A>),

@@ -1,7 +1,8 @@
 //! Laws of the definitions that a run is told by, each as the contract of a function that does nothing.
-ghost use Rattle.std.specs.Prelude.{◌≡◌, ◌↔◌, ℕ, List, length};
+ghost use Rattle.std.specs.Prelude.{◌≡◌, ◌↔◌, ◌≤◌, ℕ, List, length};
 ghost use Rattle.intmap.specs.Classes.{IsCapacity, residue, slot_number};
 ghost use Rattle.intmap.specs.Bindings.{value_of, take_key, put_pair};
+ghost use Rattle.intmap.specs.Walk.{walk_of};
 ghost use Rattle.intmap.specs.Reach.{class_size, reach};
 ghost use Rattle.intmap.specs.Figures.{load_of};
 ghost use Rattle.intmap_run.specs.Laws.{StandForOne};
@@ -26,6 +27,18 @@ pub fn insertion_keeps_standing<K: IntKey, V>()
     ensures { (C : ℕ) (L M : List (K × V)) (k : K) (v : V) → StandForOne K.number_of C L M
         → StandForOne K.number_of C (put_pair K.number_of L C k v)
         (put_pair K.number_of M C k v) }
+{}
+
+/// Lists that stand for one map do so after any growth.
+pub fn growth_keeps_standing<K: IntKey, V>()
+    ensures { (C D : ℕ) (L M : List (K × V)) → StandForOne K.number_of C L M
+        → IsCapacity D → C ≤ D → StandForOne K.number_of D L M }
+{}
+
+/// The walk of a walk, in at least as many slots, is the walk of the list.
+pub fn walks_grow_as_lists<K: IntKey, V>()
+    ensures { (C D : ℕ) (L : List (K × V)) → IsCapacity C → IsCapacity D → C ≤ D
+        → walk_of K.number_of (walk_of K.number_of L C) D ≡ walk_of K.number_of L D }
 {}
 
 /// Lists that stand for one map bind each key to one value, or none of them binds it.

@@ -1,5 +1,5 @@
 //! Runs lists of commands over a map.
-ghost use Rattle.std.specs.Prelude.{◌≡◌, IfOk, IfErr, OnErr};
+ghost use Rattle.std.specs.Prelude.{◌≡◌, IfOk, IfErr, OnErr, MatchResult};
 ghost use Rattle.std.specs.List.{AllZip};
 ghost use Rattle.intmap_run.specs.Runs.{SeesPair, RunsFrom};
 ghost use Rattle.intmap_run.specs.Steps.{StepsFrom};
@@ -14,8 +14,13 @@ use std::alloc::{AllocError, Allocator};
 ///
 /// From every plain list of pairs that stands for the map, the commands and answers lead to one that stands for the
 /// map at the end. A refused command says so in its answer, leaves walk, capacity and load factor, and doesn't end
-/// the run. The map's `compared` rises by the keys that `Insert` and `Remove` compare, refused ones too; the other
-/// commands leave it.
+/// the run.
+///
+/// The map's `compared` rises by the keys that `Insert` and `Remove` compare, refused ones too; the other commands
+/// leave it. Its `placed` rises by the length after each `Insert` that changed the capacity, and by nothing else: in
+/// all by at most three times the greatest length of the run where no load factor was set, and by as much again for
+/// each that was. At the end the capacity is that of the start, or one that an accepted `Reserve` or `SetLoadFactor`
+/// left, or, times the load factor and one, at most 2000 times the greatest length.
 ///
 /// Err: there was no room for the answers; the commands come back, and the map is as it was.
 ///
@@ -67,10 +72,24 @@ fn apply<K: IntKey, V: Drop, J: Judge<K, V>, A: Allocator + Copy>(
             None => Answer::Seen(None),
         },
         Command::Remove(key) => Answer::Old(map.remove(key)),
+        Command::Reserve(additional) => done(map.reserve(additional)),
+        Command::SetLoadFactor(thousandths) => done(map.set_load_factor(thousandths)),
+        Command::GetLoadFactor => Answer::Number(map.get_load_factor() as u128),
         Command::Len => Answer::Number(map.len() as u128),
         Command::Capacity => Answer::Number(map.capacity() as u128),
         Command::Load => Answer::Number(map.load() as u128),
         Command::Walk => walk(alloc, map, judge),
+    }
+}
+
+// The answer of a call that hands nothing back.
+fn done<K, V, S, A: Allocator>(called: Result<(), Cause>) -> Answer<K, V, S, A>
+    ensures { MatchResult called (λ _. result ≡ Answer.Done)
+        (λ cause. result ≡ Answer.Refused cause None) }
+{
+    match called {
+        Ok(()) => Answer::Done,
+        Err(cause) => Answer::Refused { cause, value: None },
     }
 }
 

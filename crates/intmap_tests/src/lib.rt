@@ -4,9 +4,9 @@
 #[cfg(test)]
 mod calls;
 #[cfg(test)]
-mod refusals;
+mod growth;
 #[cfg(test)]
-mod runs;
+mod refusals;
 #[cfg(test)]
 mod shown;
 #[cfg(test)]

@@ -62,6 +62,21 @@ fn each_value_is_dropped_once(rt: HostRuntime) -> Result<(), Fail> {
         }
     }
     assert_eq!(rt; drops.get(), 0x0000, "four values are in the map");
+    assert_eq!(rt; map.capacity(), 8, "the fourth grew the table");
+
+    map.reserve(100)?;
+    assert_eq!(rt; drops.get(), 0x0000, "104 slots are wanted");
+    map.set_load_factor(1)?;
+    assert_eq!(rt;
+        drops.get(),
+        0x0000,
+        "as many slots as the load factor wants"
+    );
+    assert_eq!(rt;
+        map.capacity(),
+        2048,
+        "as many slots as the load factor wants"
+    );
 
     let old = map.insert(
         4,

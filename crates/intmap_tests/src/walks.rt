@@ -92,16 +92,37 @@ fn a_key_inserted_again_stands_last(rt: HostRuntime) -> Result<(), Fail> {
 }
 
 #[test]
-fn twenty_thousand_keys_fill_a_slot_each(rt: HostRuntime) -> Result<(), Fail> {
-    let mut map = IntMap::with_capacity(rt.alloc(), 32768)?;
-    for key in 0..20000u64 {
-        map.insert(key, key + 10)?;
+fn many_keys_in_a_row_fill_a_slot_each(rt: HostRuntime) -> Result<(), Fail> {
+    for (count, slots) in [(20000u64, 32768), (100000, 131072)] {
+        let mut map = IntMap::new(rt.alloc())?;
+        for key in 0..count {
+            map.insert(key, key.wrapping_add(10))?;
+        }
+        assert_eq!(rt; map.load() as u64, count, "the load");
+        assert_eq!(rt; map.capacity(), slots, "the slots of {count} keys");
+        assert_eq!(rt; map.len() as u64, count, "the length");
+        for key in 0..count {
+            let value = key.wrapping_add(10);
+            assert_eq!(rt; map.get(key).copied(), Some(value), "{key} of {count}");
+        }
+        assert!(rt; map.get(count).is_none(), "{count} isn't bound");
     }
-    assert_eq!(rt; map.load(), 20000, "the load");
+    Ok(())
+}
+
+#[test]
+fn many_keys_that_share_slots_are_found(rt: HostRuntime) -> Result<(), Fail> {
+    let mut map = IntMap::new(rt.alloc())?;
+    for number in 0..20000u64 {
+        map.insert(number.wrapping_mul(1024), number)?;
+    }
+    assert_eq!(rt; map.load(), 32, "the load");
     assert_eq!(rt; map.capacity(), 32768, "the slots");
     assert_eq!(rt; map.len(), 20000, "the length");
-    for key in 0..20000u64 {
-        assert_eq!(rt; map.get(key).copied(), Some(key + 10), "{key}");
+    for number in 0..20000u64 {
+        let key = number.wrapping_mul(1024);
+        assert_eq!(rt; map.get(key).copied(), Some(number), "{key}");
+        assert!(rt; map.get(key.wrapping_add(1)).is_none(), "beside {key}");
     }
     Ok(())
 }

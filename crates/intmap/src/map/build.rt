@@ -5,6 +5,7 @@ ghost use Rattle.intmap.specs.Growth.{IsLeastPower};
 ghost use Rattle.intmap.specs.Map.{IsMap, empty_map};
 
 use crate::key::IntKey;
+use crate::load::{GREATEST_CAPACITY, limit_of};
 use crate::map::IntMap;
 use crate::refusal::Cause;
 use crate::steps::Steps;
@@ -16,9 +17,6 @@ const FIRST_CAPACITY: usize = 4;
 
 /// The load factor of a map that was just made, in thousandths.
 const FIRST_FACTOR: usize = 909;
-
-/// The greatest number of slots.
-const GREATEST_CAPACITY: usize = 9223372036854775808;
 
 impl<K: IntKey, V: Drop, A: Allocator + Copy> IntMap<K, V, A> {
     /// An empty map of 4 slots, with a load factor of 909 thousandths. It is refused where memory
@@ -61,6 +59,7 @@ impl<K: IntKey, V: Drop, A: Allocator + Copy> IntMap<K, V, A> {
             Ok(table) => Ok(IntMap {
                 table,
                 len: 0,
+                limit: limit_of(slots, FIRST_FACTOR),
                 factor: FIRST_FACTOR,
                 placed: Steps::new(),
                 compared: Steps::new(),

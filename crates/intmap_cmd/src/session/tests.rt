@@ -6,7 +6,8 @@ use std::alloc::Global;
 use std::io::{self, ErrorKind, Read, Write};
 use std::test::Fail;
 
-/// Gives its bytes a few at a time. Each read is first interrupted, and in place of the end it may fail.
+/// Gives its bytes a few at a time. Each read is first interrupted, and in place of the end it may
+/// fail.
 #[derive(Drop)]
 struct Slow<'a> {
     rest: &'a [u8],
@@ -92,7 +93,7 @@ const INPUT: &[u8] = b"insert 0 10\nlen\n\nwalk\n";
 const OUTPUT: &[u8] = b"none\n1\n{0: 10}\n";
 
 /// Texts, each with its status, its output and what is told of it.
-const SESSIONS: [(&[u8], u8, &[u8], &[u8]); 14] = [
+const SESSIONS: [(&[u8], u8, &[u8], &[u8]); 15] = [
     (b"", 0, b"", b""),
     (b"\n \r\n", 0, b"", b""),
     (INPUT, 0, OUTPUT, b""),
@@ -117,7 +118,13 @@ const SESSIONS: [(&[u8], u8, &[u8], &[u8]); 14] = [
     (
         b"insert 0 0\ninsert 1 1\ninsert 2 2\ncapacity\ninsert 3 3\ncapacity\nload\nwalk\n",
         0,
-        b"none\nnone\nnone\n4\nnone\n4\n4\n{0: 0, 1: 1, 2: 2, 3: 3}\n",
+        b"none\nnone\nnone\n4\nnone\n8\n4\n{0: 0, 2: 2, 1: 1, 3: 3}\n",
+        b"",
+    ),
+    (
+        b"get_load_factor\nreserve 5\ncapacity\nset_load_factor 100\nget_load_factor\nreserve 9223372036854775809\n",
+        0,
+        b"909\ndone\n8\ndone\n100\nrefused: too large\n",
         b"",
     ),
     (

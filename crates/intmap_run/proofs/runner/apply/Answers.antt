@@ -1,12 +1,13 @@
 use Rattle.std.proofs.Common.{Some, None}
 use Rattle.intmap_run.proofs.StepLemmas.{StepsFrom-insert, StepsFrom-refused, StepsFrom-get, StepsFrom-remove, StepsFrom-len, StepsFrom-load}
+use Rattle.intmap_run.proofs.GrowthStepLemmas.{StepsFrom-reserve, StepsFrom-set_load_factor}
 use Rattle.intmap_run.proofs.runner.apply.Goals as goal
 
 pub returns-in-Ok : goal.returns-in-Ok
 returns-in-Ok g c =
-    rw (c.in-Insert.is, c.in-Ok.ensures.old, c.in-Ok.ensures.state)
+    rw (c.in-Insert.is, c.in-Ok.ensures.old)
     (StepsFrom-insert g.K.IntKey.number_of g.K.IntKey.is_key c.args.map.now c.insert.ensures.map (g.J.Judge.sees c.args.judge.now) (g.J.Judge.keeps c.args.judge.now)
-    c.in-Insert.key c.in-Insert.value c.in-Ok.ensures.too_large.1)
+    c.in-Insert.key c.in-Insert.value c.insert.new.self c.in-Ok.ensures.capacity c.in-Ok.ensures.too_large.1 c.in-Ok.ensures.state)
 
 pub returns-in-Err : goal.returns-in-Err
 returns-in-Err g c =
@@ -30,6 +31,20 @@ pub returns-in-Remove : goal.returns-in-Remove
 returns-in-Remove g c =
     rw (c.in-Remove.is, c.remove.ensures.value, c.remove.ensures.state)
     (StepsFrom-remove g.K.IntKey.number_of g.K.IntKey.is_key c.args.map.now c.remove.ensures.map (g.J.Judge.sees c.args.judge.now) (g.J.Judge.keeps c.args.judge.now) c.in-Remove.key)
+
+pub returns-in-Reserve : goal.returns-in-Reserve
+returns-in-Reserve g c =
+    let e = c.reserve.ensures in
+    rw c.in-Reserve.is
+    (StepsFrom-reserve g.K.IntKey.number_of g.K.IntKey.is_key c.args.map.now e.map (g.J.Judge.sees c.args.judge.now) (g.J.Judge.keeps c.args.judge.now)
+    c.in-Reserve.additional c.reserve.result c.done.result c.reserve.new.self e.capacity e.state e.err e.too_large e.memory c.done.ensures)
+
+pub returns-in-SetLoadFactor : goal.returns-in-SetLoadFactor
+returns-in-SetLoadFactor g c =
+    let e = c.set_load_factor.ensures in
+    rw c.in-SetLoadFactor.is
+    (StepsFrom-set_load_factor g.K.IntKey.number_of g.K.IntKey.is_key c.args.map.now e.map (g.J.Judge.sees c.args.judge.now) (g.J.Judge.keeps c.args.judge.now)
+    c.in-SetLoadFactor.thousandths c.set_load_factor.result c.done-in-SetLoadFactor.result c.set_load_factor.new.self e.capacity e.state e.err e.too_large e.memory c.done-in-SetLoadFactor.ensures)
 
 pub returns-in-Len : goal.returns-in-Len
 returns-in-Len g c =

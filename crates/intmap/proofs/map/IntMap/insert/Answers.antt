@@ -1,3 +1,9 @@
+use Rattle.std.proofs.Common.{◌<◌, cond, true, add-zero, subst}
+use Rattle.std.specs.Prelude.{◌==◌}
+use Rattle.std.proofs.lemmas.Bool.{eq-eqb}
+use Rattle.intmap.specs.Growth.{IsNext}
+use Rattle.intmap.specs.Reach.{class_size}
+use Rattle.intmap.specs.Map.{IsFull}
 use Rattle.std.proofs.Common.{◌≡◌, ◌+◌, None, Some, length, sym, ap, ◌∙◌, refl}
 use Rattle.std.specs.Option.{option_map}
 use Rattle.intmap.specs.Bindings.{value_of}
@@ -19,22 +25,29 @@ searched : (g : _) (c : After-add g) → ◌≡◌ {A = MapState g.row.K.Denot g
     (record { walk = unkept c.replace.new.self.walk; capacity = c.replace.new.self.capacity; factor = c.self.inside.factor; placed = c.self.inside.placed; compared = c.replace.new.steps })
     (after_search g.K.IntKey.number_of c.args.self.now c.args.key)
 searched g c =
-    rw (← c.self.view_is) (MapState-same _ _ _ _ _ _ _ _ (ap unkept c.in-Err.ensures.err) c.in-Err.ensures.capacity
+    rw (← c.self.view_is) (MapState-same _ _ _ _ _ _ _ _ _ (ap unkept c.in-Err.ensures.err) c.in-Err.ensures.capacity refl
     (c.in-Err.ensures.counted ∙ ap (λ n. c.self.inside.compared + n) (sym (reach-with_values g.K.IntKey.number_of (λ kept. kept.value) c.self.inside.table.walk c.self.inside.table.capacity c.args.key))))
 
 pub invariant_of-self : goal.invariant_of-self
 invariant_of-self g c =
-    IsCounted-replaced _ _ _ _ _ _ _ c.self.invariant c.in-Ok.ensures.capacity c.args.key (record { value = c.args.value }) c.in-Ok.old c.in-Ok.ensures.key c.in-Ok.ensures.old c.in-Ok.ensures.walk
+    IsCounted-replaced _ _ _ _ _ _ _ _ c.self.invariant c.replace.new.self.capacity c.args.key (record { value = c.args.value }) c.in-Ok.old c.in-Ok.ensures.capacity c.in-Ok.ensures.key c.in-Ok.ensures.old c.in-Ok.ensures.walk
 
 pub returns-in-Ok-clause-old : goal.returns-in-Ok-clause-old
 returns-in-Ok-clause-old g c =
     rw (← c.self.view_is) (sym (value_of-with_values g.K.IntKey.number_of (λ kept. kept.value) c.self.inside.table.walk c.args.key ∙ ap (option_map (λ kept. kept.value)) c.in-Ok.ensures.old))
 
+pub returns-in-Ok-clause-capacity : goal.returns-in-Ok-clause-capacity
+returns-in-Ok-clause-capacity g c =
+    let bound : value_of g.K.IntKey.number_of (unkept c.self.inside.table.walk) c.args.key ≡ Some c.in-Ok.old.value =
+    value_of-with_values g.K.IntKey.number_of (λ kept. kept.value) c.self.inside.table.walk c.args.key ∙ ap (option_map (λ kept. kept.value)) c.in-Ok.ensures.old in
+    rw (← c.self.view_is) (rw bound c.in-Ok.ensures.capacity)
+
 pub returns-in-Ok-clause-state : goal.returns-in-Ok-clause-state
 returns-in-Ok-clause-state g c =
-    rw (← c.self.view_is) (MapState-same _ _ _ _ _ _ _ _
-    (unkept-put g.K.IntKey.number_of c.self.inside.table.walk c.replace.new.self.walk c.self.inside.table.capacity c.args.key (record { value = c.args.value }) c.in-Ok.ensures.walk)
-    c.in-Ok.ensures.capacity
+    let same : (c.self.inside.table.capacity == c.self.inside.table.capacity) ≡ true = eq-eqb c.self.inside.table.capacity c.self.inside.table.capacity refl in
+    rw (c.in-Ok.ensures.capacity, ← c.self.view_is) (MapState-same _ _ _ _ _ _ _ _ _
+    (unkept-put g.K.IntKey.number_of c.self.inside.table.walk c.replace.new.self.walk c.self.inside.table.capacity c.self.inside.table.capacity c.args.key (record { value = c.args.value }) c.in-Ok.ensures.walk)
+    refl (sym (ap (λ b. c.self.inside.placed + cond b 0 (length (unkept c.self.inside.table.walk) + 1)) same ∙ add-zero c.self.inside.placed))
     (c.in-Ok.ensures.counted ∙ ap (λ n. c.self.inside.compared + n) (sym (reach-with_values g.K.IntKey.number_of (λ kept. kept.value) c.self.inside.table.walk c.self.inside.table.capacity c.args.key))))
 
 pub returns-in-Ok-clause-too_large : goal.returns-in-Ok-clause-too_large
@@ -57,17 +70,35 @@ returns-in-Err-add-clause-new_key g c = rw (missing g (goal.at.returns-in-Err-ad
 pub returns-in-Err-add-clause-too_large : goal.returns-in-Err-add-clause-too_large
 returns-in-Err-add-clause-too_large g c =
     let here = (goal.at.returns-in-Err-add-clause-too_large g c).After-add in
-    let len : length (unkept c.replace.new.self.walk) ≡ length c.args.self.now.walk = ap (λ (m : MapState _ _). length m.walk) (searched g here) in
+    let Full : MapState g.row.K.Denot g.row.V.Denot → Type 0 = λ m. IsFull m.walk m.capacity m.factor in
     let large = c.in-Err-add.ensures.too_large in
-    (λ e. (rw (missing g here) refl, rw len at (large.0 e)), λ out. large.1 (rw len out.1))
+    (λ e. (rw (missing g here) refl, subst Full (searched g here) (large.0 e)), λ out. large.1 (subst Full (sym (searched g here)) out.1))
+
+pub returns-in-Err-add-clause-memory : goal.returns-in-Err-add-clause-memory
+returns-in-Err-add-clause-memory g c =
+    let here = (goal.at.returns-in-Err-add-clause-memory g c).After-add in
+    let Free : MapState g.row.K.Denot g.row.V.Denot → Type 0 = λ m. IsNext m.capacity (length m.walk + 1) m.factor m.capacity → 0 < class_size g.K.IntKey.number_of m.walk m.capacity c.args.key in
+    λ e. subst Free (searched g here) (c.in-Err-add.ensures.memory e)
 
 pub returns-clause-old : goal.returns-clause-old
 returns-clause-old g c = sym (missing g (goal.at.returns-clause-old g c).After-add)
+
+pub returns-clause-capacity : goal.returns-clause-capacity
+returns-clause-capacity g c =
+    let here = (goal.at.returns-clause-capacity g c).After-add in
+    let Next : MapState g.row.K.Denot g.row.V.Denot → Type 0 = λ m. IsNext m.capacity (length m.walk + 1) m.factor c.add.new.self.capacity in
+    rw (missing g here) (subst Next (searched g here) c.in_default.ensures.capacity)
 
 pub returns-clause-state : goal.returns-clause-state
 returns-clause-state g c =
     let here = (goal.at.returns-clause-state g c).After-add in
     let same : c.in-Err.kept.value ≡ c.args.value = ap (λ (kept : Kept _). kept.value) c.in-Err.ensures.value_returned in
     c.in_default.ensures.state
-    ∙ ap (λ (m : MapState g.row.K.Denot g.row.V.Denot). with_pair g.K.IntKey.number_of m c.args.key c.in-Err.kept.value) (searched g here)
-    ∙ ap (λ v. after_insert g.K.IntKey.number_of c.args.self.now c.args.key v) same
+    ∙ ap (λ (m : MapState g.row.K.Denot g.row.V.Denot). with_pair g.K.IntKey.number_of m c.args.key c.in-Err.kept.value c.add.new.self.capacity) (searched g here)
+    ∙ ap (λ v. after_insert g.K.IntKey.number_of c.args.self.now c.args.key v c.add.new.self.capacity) same
+
+pub returns-clause-too_large : goal.returns-clause-too_large
+returns-clause-too_large g c =
+    let here = (goal.at.returns-clause-too_large g c).After-add in
+    let Full : MapState g.row.K.Denot g.row.V.Denot → Type 0 = λ m. IsFull m.walk m.capacity m.factor in
+    (absurd, λ out. c.in_default.ensures.in_range (subst Full (sym (searched g here)) out.1))

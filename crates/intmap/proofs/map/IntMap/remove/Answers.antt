@@ -1,3 +1,4 @@
+use Rattle.std.proofs.Common.{refl}
 use Rattle.std.proofs.Common.{◌+◌, ◌-◌, sym, ap, ◌∙◌, arith}
 use Rattle.std.specs.Option.{option_map}
 use Rattle.intmap.specs.Bindings.{value_of}
@@ -8,7 +9,7 @@ use Rattle.intmap.proofs.map.IntMap.remove.Goals as goal
 pub invariant_of-self : goal.invariant_of-self
 invariant_of-self g c =
     let none = none_less (value_of g.K.IntKey.number_of c.self.inside.table.walk c.args.key) (sym c.in_default.ensures.value) in
-    IsCounted-taken _ _ _ _ _ _ _ c.self.invariant c.in_default.ensures.capacity c.args.key c.self.inside.len c.in_default.ensures.walk (omega (arith, none))
+    IsCounted-taken _ _ _ _ _ _ _ _ c.self.invariant c.take.new.self.capacity c.args.key c.self.inside.len c.in_default.ensures.capacity c.in_default.ensures.walk (omega (arith, none))
 
 pub returns-in_default-clause-value : goal.returns-in_default-clause-value
 returns-in_default-clause-value g c =
@@ -17,7 +18,7 @@ returns-in_default-clause-value g c =
 
 pub returns-in_default-clause-state : goal.returns-in_default-clause-state
 returns-in_default-clause-state g c =
-    rw (← c.self.view_is) (MapState-same _ _ _ _ _ _ _ _ (unkept-take g.K.IntKey.number_of c.self.inside.table.walk c.take.new.self.walk c.self.inside.table.capacity c.args.key c.in_default.ensures.walk) c.in_default.ensures.capacity
+    rw (← c.self.view_is) (MapState-same _ _ _ _ _ _ _ _ _ (unkept-take g.K.IntKey.number_of c.self.inside.table.walk c.take.new.self.walk c.self.inside.table.capacity c.args.key c.in_default.ensures.walk) c.in_default.ensures.capacity refl
     (c.in_default.ensures.counted ∙ ap (λ n. c.self.inside.compared + n) (sym (reach-with_values g.K.IntKey.number_of (λ kept. kept.value) c.self.inside.table.walk c.self.inside.table.capacity c.args.key))))
 
 pub returns-in_default-clause-map : goal.returns-in_default-clause-map
@@ -26,7 +27,7 @@ returns-in_default-clause-map g c = rw (← c.self.view_is) c.self.invariant.map
 pub invariant_of-self-2 : goal.invariant_of-self-2
 invariant_of-self-2 g c =
     let one = one_less (value_of g.K.IntKey.number_of c.self.inside.table.walk c.args.key) c.in-Some.kept (sym c.in-Some.ensures.value) in
-    IsCounted-taken _ _ _ _ _ _ _ c.self.invariant c.in-Some.ensures.capacity c.args.key (c.self.inside.len - 1) c.in-Some.ensures.walk (omega (arith, one))
+    IsCounted-taken _ _ _ _ _ _ _ _ c.self.invariant c.take.new.self.capacity c.args.key (c.self.inside.len - 1) c.in-Some.ensures.capacity c.in-Some.ensures.walk (omega (arith, one))
 
 pub returns-clause-value : goal.returns-clause-value
 returns-clause-value g c =
@@ -35,7 +36,7 @@ returns-clause-value g c =
 
 pub returns-clause-state : goal.returns-clause-state
 returns-clause-state g c =
-    rw (← c.self.view_is) (MapState-same _ _ _ _ _ _ _ _ (unkept-take g.K.IntKey.number_of c.self.inside.table.walk c.take.new.self.walk c.self.inside.table.capacity c.args.key c.in-Some.ensures.walk) c.in-Some.ensures.capacity
+    rw (← c.self.view_is) (MapState-same _ _ _ _ _ _ _ _ _ (unkept-take g.K.IntKey.number_of c.self.inside.table.walk c.take.new.self.walk c.self.inside.table.capacity c.args.key c.in-Some.ensures.walk) c.in-Some.ensures.capacity refl
     (c.in-Some.ensures.counted ∙ ap (λ n. c.self.inside.compared + n) (sym (reach-with_values g.K.IntKey.number_of (λ kept. kept.value) c.self.inside.table.walk c.self.inside.table.capacity c.args.key))))
 
 pub returns-clause-map : goal.returns-clause-map

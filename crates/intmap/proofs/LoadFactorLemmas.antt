@@ -1,0 +1,265 @@
+-- Which numbers of pairs meet a load factor, by products alone.
+use Rattle.std.proofs.Common.{◌≡◌, ◌≢◌, inl, inr, ℕ, ◌+◌, ◌-◌, ◌*◌, ◌/◌, ◌%◌, ◌^◌, ◌<◌, ◌≤◌, true, false, refl, sym, ap, ◌∙◌, subst, arith, bit_and}
+use Rattle.std.specs.Prelude.{nat_lt, ◌==◌, ◌&&◌}
+use Rattle.std.proofs.Math.Pow.{pow_pos, pow_mono}
+use Rattle.std.proofs.Math.Nat.{mul-le-mul_left, div-mul-le_self}
+use Rattle.std.proofs.lemmas.Nat.{le-div, div_below, pow-add}
+use Rattle.std.proofs.lemmas.Nat.Bits.{and_pow}
+use Rattle.std.proofs.lemmas.Bool.{cases_lt, cases_eq, cases_order, cases_Bool, ltb-false, eq-eqb, ne_eqb, eqb-true, eqb-false}
+use Rattle.intmap.specs.Classes.{IsCapacity}
+use Rattle.intmap.specs.Growth.{IsWanted, IsNext, IsLimit, MeetsLoad, WantsTooMuch, GrowsTooMuch, is_due, last_due, wanted_capacity}
+use Rattle.intmap.proofs.GrowthLemmas.{IsWanted-unique, IsWanted-wanted_capacity}
+
+pub capacity-positive : (C : ℕ) → IsCapacity C → 0 < C
+capacity-positive C cap = rw cap.3 (pow_pos cap.0)
+
+pub capacity-greatest : (C : ℕ) → IsCapacity C → C ≤ 2 ^ 63
+capacity-greatest C cap =
+    let most : cap.0 ≤ 63 = (let below = cap.2 in omega (arith, below)) in
+    let p : 2 ^ cap.0 ≤ 2 ^ 63 = pow_mono most in let q = cap.3 in omega (arith, p, q)
+
+-- a product below the factor's meets the load
+pub MeetsLoad-from : (n C F : ℕ) → 0 < C → n * 1000 < (F + 1) * C → MeetsLoad C n F
+MeetsLoad-from n C F some below = let q = div_below (n * 1000) C (F + 1) some below in omega (arith, q)
+
+-- a product of at least the factor's exceeds the load
+pub exceeds-from : (n C F : ℕ) → 0 < C → (F + 1) * C ≤ n * 1000 → F < n * 1000 / C
+exceeds-from n C F some over = let q = le-div (F + 1) (n * 1000) C some over in omega (arith, q)
+
+-- fewer pairs meet the load too
+pub MeetsLoad-fewer : (C n m F : ℕ) → 0 < C → MeetsLoad C n F → m ≤ n → MeetsLoad C m F
+MeetsLoad-fewer C n m F some meets fewer =
+    let low : m * 1000 / C * C ≤ m * 1000 = div-mul-le_self (m * 1000) C in
+    let less : m * 1000 / C ≤ n * 1000 / C = le-div (m * 1000 / C) (n * 1000) C some (omega (arith, low, fewer)) in omega (arith, meets, less)
+
+-- c is a doubling of C, and no smaller one meets the load
+pub record IsNear (C n F c : ℕ) : Type 0 where
+  pub doubled : (j : ℕ) × (c ≡ C * 2 ^ j)
+  pub capacity : IsCapacity c
+  pub least : (i : ℕ) → C * 2 ^ i < c → F < n * 1000 / (C * 2 ^ i)
+
+double : (j : ℕ) → 2 ^ (j + 1) ≡ 2 ^ j * 2
+double j = pow-add 2 j 1
+
+-- of the doublings of C none lies between c and 2 c
+same_doubling : (C c i j : ℕ) → 0 < C → c ≡ C * 2 ^ j → c ≤ C * 2 ^ i → C * 2 ^ i < c * 2 → C * 2 ^ i ≡ c
+same_doubling C c i j some is low high = elim (cases_order i j) [
+  | inl q ↦ ap (λ x. C * 2 ^ x) q ∙ sym is
+  | inr o ↦ elim o [
+    | inl w ↦
+        (let d : 2 ^ (i + 1) ≤ 2 ^ j = pow_mono (let z : i + 1 ≤ j = omega (arith, w) in z) in
+        let m : C * 2 ^ (i + 1) ≤ C * 2 ^ j = mul-le-mul_left C d in
+        let p : 2 ^ (i + 1) ≡ 2 ^ i * 2 = double i in
+        let u : 0 < 2 ^ i = pow_pos i in
+        let v : C * 1 ≤ C * 2 ^ i = mul-le-mul_left C u in
+        absurd (omega (arith, m, is, low, some, v, ap (λ x. C * x) p)))
+    | inr w ↦
+        (let d : 2 ^ (j + 1) ≤ 2 ^ i = pow_mono (let z : j + 1 ≤ i = omega (arith, w) in z) in
+        let m : C * 2 ^ (j + 1) ≤ C * 2 ^ i = mul-le-mul_left C d in
+        let p : 2 ^ (j + 1) ≡ 2 ^ j * 2 = double j in
+        absurd (omega (arith, m, is, high, ap (λ x. C * x) p)))
+  ]
+]
+
+pub IsNear-first : (C n F : ℕ) → IsCapacity C → IsNear C n F C
+IsNear-first C n F cap = record {
+  doubled = (0, omega arith);
+  capacity = cap;
+  least = λ i below.
+      let p : 0 < 2 ^ i = pow_pos i in
+      let m : C * 1 ≤ C * 2 ^ i = mul-le-mul_left C p in absurd (omega (arith, below, m));
+}
+
+pub IsNear-more : (C n F c : ℕ) → IsCapacity C → IsNear C n F c → (F + 1) * c ≤ n * 1000 → c ≢ 2 ^ 63 → IsNear C n F (c * 2)
+IsNear-more C n F c cap near over apart =
+    let j : ℕ = near.doubled.0 in
+    let e : ℕ = near.capacity.0 in
+    let below : e < 63 = elim (cases_order e 63) [
+      | inl q ↦ absurd (apart (near.capacity.3 ∙ ap (λ x. 2 ^ x) q))
+      | inr o ↦ elim o [ inl less ↦ less | inr more ↦ (let w = near.capacity.2 in absurd (omega (arith, w, more))) ]
+    ] in
+    let one = near.capacity.1 in
+    record {
+      doubled = (j + 1, rw double (ap (λ x. x * 2) near.doubled.1 ∙ omega arith));
+      capacity = (e + 1, omega (arith, one), omega (arith, below), rw double (ap (λ x. x * 2) near.capacity.3));
+      least = λ i less. elim (cases_lt (C * 2 ^ i) c) [
+        | inl w ↦ near.least i w
+        | inr ge ↦
+            (let s : C * 2 ^ i ≡ c = same_doubling C c i j (capacity-positive C cap) near.doubled.1 ge less in
+            rw s (exceeds-from n c F (capacity-positive c near.capacity) over))
+      ];
+    }
+
+pub IsNear-done : (C n F c : ℕ) → IsNear C n F c → n * 1000 < (F + 1) * c → IsWanted C n F c
+IsNear-done C n F c near under = record {
+  doubled = near.doubled;
+  meets = MeetsLoad-from n c F (capacity-positive c near.capacity) under;
+  least = near.least;
+}
+
+-- where 2^63 isn't enough, more is wanted
+pub IsNear-none : (C n F c : ℕ) → IsCapacity C → n < 2 ^ 64 → IsNear C n F c → (F + 1) * c ≤ n * 1000 → c ≡ 2 ^ 63 → WantsTooMuch C n F
+IsNear-none C n F c cap fits near over top =
+    let D : ℕ = wanted_capacity C n F in
+    let w : IsWanted C n F D = IsWanted-wanted_capacity C n F cap fits in (
+      D,
+      w,
+      elim (cases_lt (2 ^ 63) D) [
+        | inl more ↦ more
+        | inr le ↦
+            (let i : ℕ = w.doubled.0 in
+            let is : D ≡ C * 2 ^ i = w.doubled.1 in
+            let meets : n * 1000 / (C * 2 ^ i) ≤ F = subst (λ x. n * 1000 / x ≤ F) is w.meets in
+            elim (cases_lt (C * 2 ^ i) c) [
+              | inl less ↦ (let over_i = near.least i less in absurd (omega (arith, over_i, meets)))
+              | inr ge ↦
+                  (let s : C * 2 ^ i ≡ c = omega (arith, ge, le, top, is) in
+                  let over_c : F < n * 1000 / (C * 2 ^ i) = rw s (exceeds-from n c F (capacity-positive c near.capacity) over) in
+                  absurd (omega (arith, over_c, meets)))
+            ])
+      ],
+    )
+
+-- a wanted capacity up to 2^63 leaves none above it to be wanted
+pub not_too_much : (C n F D : ℕ) → IsWanted C n F D → D ≤ 2 ^ 63 → WantsTooMuch C n F → ⊥
+not_too_much C n F D wanted le much =
+    let same : D ≡ much.0 = IsWanted-unique C n F D much.0 wanted much.1 in
+    let above = much.2 in omega (arith, same, le, above)
+
+-- the bit of value four tells whether growth is tested
+pub bit_and-four : (n : ℕ) → (bit_and n 4 == 4) ≡ is_due n
+bit_and-four n =
+    let a : bit_and n 4 ≡ n / 4 % 2 * 4 = and_pow n 2 in
+    elim (cases_eq (n / 4 % 2) 1) [
+      | inl e ↦ eq-eqb (bit_and n 4) 4 (omega (arith, a, e)) ∙ sym (eq-eqb (n / 4 % 2) 1 e)
+      | inr apart ↦ ne_eqb (bit_and n 4) 4 (λ q. apart (omega (arith, a, q))) ∙ sym (ne_eqb (n / 4 % 2) 1 apart)
+    ]
+
+-- where C meets the load, it is what is wanted
+pub IsWanted-same : (C n F : ℕ) → IsCapacity C → MeetsLoad C n F → IsWanted C n F C
+IsWanted-same C n F cap meets = record {
+  doubled = (0, omega arith);
+  meets = meets;
+  least = λ i below.
+      let p : 0 < 2 ^ i = pow_pos i in
+      let m : C * 1 ≤ C * 2 ^ i = mul-le-mul_left C p in absurd (omega (arith, below, m));
+}
+
+-- nothing smaller is wanted
+pub IsWanted-more : (C n F D : ℕ) → IsWanted C n F D → C ≤ D
+IsWanted-more C n F D wanted =
+    let p : 0 < 2 ^ wanted.doubled.0 = pow_pos wanted.doubled.0 in
+    let m : C * 1 ≤ C * 2 ^ wanted.doubled.0 = mul-le-mul_left C p in omega (arith, m, wanted.doubled.1)
+
+-- a capacity is what follows one way only
+pub IsNext-unique : (C n F D E : ℕ) → IsNext C n F D → IsNext C n F E → D ≡ E
+IsNext-unique C n F D E a b = elim (cases_Bool (is_due n)) [
+  | inl due ↦ IsWanted-unique C n F D E (rw due at a) (rw due at b)
+  | inr not ↦ (let x = rw not at a in let y = rw not at b in x ∙ sym y)
+]
+
+-- what doesn't exceed the limit, or isn't tested, leaves the capacity
+pub IsNext-same : (C F n limit : ℕ) → IsCapacity C → n < 2 ^ 64 → IsLimit C F limit → (is_due n && nat_lt limit n) ≡ false → IsNext C n F C
+IsNext-same C F n limit cap fits lim test = elim (cases_Bool (is_due n)) [
+  | inl due ↦
+      (let under : nat_lt limit n ≡ false = rw due at test in
+      let le = ltb-false limit n under in rw due (IsWanted-same C n F cap ((lim n fits).0 le)))
+  | inr not ↦ rw not refl
+]
+
+-- where growth is tested, what is wanted follows
+pub IsNext-wanted : (C F n D : ℕ) → is_due n ≡ true → IsWanted C n F D → IsNext C n F D
+IsNext-wanted C F n D due wanted = rw due wanted
+
+-- a number at which growth is tested is at most the last such number
+pub last_due-most : (m n : ℕ) → m ≤ n → is_due m ≡ true → m ≤ last_due n
+last_due-most m n le due = elim (cases_Bool (is_due n)) [
+  | inl t ↦ rw t le
+  | inr f ↦
+      (let a : m / 4 % 2 ≡ 1 = eqb-true (m / 4 % 2) 1 due in
+      let b = eqb-false (n / 4 % 2) 1 f in
+      rw f (omega (arith, le, a, b)))
+]
+
+-- and growth is tested there
+pub last_due-is_due : (n : ℕ) → 4 ≤ n → is_due (last_due n) ≡ true
+last_due-is_due n some = elim (cases_Bool (is_due n)) [
+  | inl t ↦ rw t t
+  | inr f ↦
+      (let b = eqb-false (n / 4 % 2) 1 f in
+      rw f (eq-eqb ((n - (n % 4 + 1)) / 4 % 2) 1 (omega (arith, some, b))))
+]
+
+pub last_due-le : (n : ℕ) → last_due n ≤ n
+last_due-le n = elim (cases_Bool (is_due n)) [ inl t ↦ rw t (omega arith) | inr f ↦ rw f (omega arith) ]
+
+below_next : (x C : ℕ) → 0 < C → x < (x / C + 1) * C
+below_next x C some = elim (cases_lt x ((x / C + 1) * C)) [
+  | inl lt ↦ lt
+  | inr ge ↦ (let q = le-div (x / C + 1) x C some ge in absurd (omega (arith, q)))
+]
+
+-- the load of the type: the last length up to n at which growth was tested meets it
+abbrev pub IsLoaded : ℕ → ℕ → ℕ → Type 0
+IsLoaded C n F = 4 ≤ n → MeetsLoad C (last_due n) F
+
+-- all lengths up to n meet the load where n does
+pub IsLoaded-from : (C n F : ℕ) → 0 < C → MeetsLoad C n F → IsLoaded C n F
+IsLoaded-from C n F some meets four = MeetsLoad-fewer C n (last_due n) F some meets (last_due-le n)
+
+-- fewer pairs
+pub IsLoaded-fewer : (C n m F : ℕ) → 0 < C → IsLoaded C n F → m ≤ n → IsLoaded C m F
+IsLoaded-fewer C n m F some loaded le four =
+    let many : 4 ≤ n = omega (arith, le, four) in
+    let less : last_due m ≤ last_due n =
+    last_due-most (last_due m) n (let a = last_due-le m in omega (arith, a, le)) (last_due-is_due m four) in
+    MeetsLoad-fewer C (last_due n) (last_due m) F some (loaded many) less
+
+-- one pair more, where growth isn't tested or the limit isn't exceeded
+pub IsLoaded-more : (C n F most : ℕ) → 0 < C → n + 1 < 2 ^ 64 → IsLimit C F most → IsLoaded C n F → (is_due (n + 1) && nat_lt most (n + 1)) ≡ false → IsLoaded C (n + 1) F
+IsLoaded-more C n F most some fits lim loaded test four = elim (cases_Bool (is_due (n + 1))) [
+  | inl due ↦
+      (let under : nat_lt most (n + 1) ≡ false = rw due at test in
+      let le = ltb-false most (n + 1) under in
+      MeetsLoad-fewer C (n + 1) (last_due (n + 1)) F some ((lim (n + 1) fits).0 le) (last_due-le (n + 1)))
+  | inr not ↦
+      (let f = eqb-false ((n + 1) / 4 % 2) 1 not in
+      let many : 4 ≤ n = omega (arith, four, f) in
+      let below : last_due (n + 1) ≤ n = rw not (omega arith) in
+      MeetsLoad-fewer C (last_due n) (last_due (n + 1)) F some (loaded many) (last_due-most (last_due (n + 1)) n below (last_due-is_due (n + 1) four)))
+]
+
+-- more slots
+pub IsLoaded-larger : (C D n F : ℕ) → 0 < C → C ≤ D → IsLoaded C n F → IsLoaded D n F
+IsLoaded-larger C D n F some le loaded four =
+    let m : ℕ = last_due n in
+    let meets = loaded four in
+    let up : m * 1000 < (m * 1000 / C + 1) * C = below_next (m * 1000) C some in
+    let wide : (m * 1000 / C + 1) * C ≤ (m * 1000 / C + 1) * D = mul-le-mul_left (m * 1000 / C + 1) le in
+    let q : m * 1000 / D < m * 1000 / C + 1 = div_below (m * 1000) D (m * 1000 / C + 1) (omega (arith, some, le)) (omega (arith, up, wide)) in
+    omega (arith, q, meets)
+
+-- a present key never grows a table that is loaded
+pub IsNext-present : (C n F : ℕ) → IsCapacity C → IsLoaded C n F → IsNext C n F C
+IsNext-present C n F cap loaded = elim (cases_Bool (is_due n)) [
+  | inl due ↦
+      (let e : n / 4 % 2 ≡ 1 = eqb-true (n / 4 % 2) 1 due in
+      let four : 4 ≤ n = omega (arith, e) in
+      let here : last_due n ≡ n = rw due refl in
+      rw due (IsWanted-same C n F cap (subst (λ m. MeetsLoad C m F) here (loaded four))))
+  | inr not ↦ rw not refl
+]
+
+-- what exceeds the load changes the capacity
+pub IsNext-changes : (C n F D : ℕ) → F < n * 1000 / C → MeetsLoad D n F → D ≢ C
+IsNext-changes C n F D over meets same = let m : MeetsLoad C n F = subst (λ c. MeetsLoad c n F) same meets in omega (arith, over, m)
+
+-- within the limit no more than 2^63 slots are asked for
+pub GrowsTooMuch-none : (C n F D : ℕ) → IsCapacity D → IsNext C n F D → GrowsTooMuch C n F → ⊥
+GrowsTooMuch-none C n F D cap next much =
+    let same : D ≡ much.0 = IsNext-unique C n F D much.0 next much.1 in
+    let top = capacity-greatest D cap in let above = much.2 in omega (arith, same, top, above)
+
+-- where growth is tested, to want too much is to grow too much
+pub GrowsTooMuch-wants : (C n F : ℕ) → is_due n ≡ true → WantsTooMuch C n F → GrowsTooMuch C n F
+GrowsTooMuch-wants C n F due much = (much.0, IsNext-wanted C F n much.0 due much.1, much.2)

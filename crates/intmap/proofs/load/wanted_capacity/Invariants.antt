@@ -1,0 +1,9 @@
+use Rattle.std.proofs.Common.{◌-◌, ◌^◌}
+use Rattle.intmap.proofs.LoadFactorLemmas.{IsNear}
+use Rattle.intmap.proofs.load.wanted_capacity.Given as goal
+
+abbrev pub invariant-loop-slots : goal.invariant-loop-slots
+invariant-loop-slots l = IsNear l.fn.capacity l.fn.len l.fn.factor l.slots
+
+abbrev pub decreases-loop-slots : goal.decreases-loop-slots
+decreases-loop-slots l = 2 ^ 64 - l.slots

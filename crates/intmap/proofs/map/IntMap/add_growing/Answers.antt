@@ -1,0 +1,55 @@
+use Rattle.std.proofs.Common.{◌≡◌, ◌≢◌, ◌+◌, ◌*◌, ◌/◌, ◌<◌, ℕ, None, length, cond, false, sym, ap, ◌∙◌, subst, arith, refl}
+use Rattle.std.specs.Prelude.{◌==◌}
+use Rattle.std.proofs.lemmas.Bool.{ne_eqb}
+use Rattle.intmap.specs.Bindings.{value_of}
+use Rattle.intmap.specs.Growth.{MeetsLoad}
+use Rattle.intmap.specs.Kept.{unkept, IsCounted}
+use Rattle.intmap.proofs.LoadFactorLemmas.{IsNext-changes}
+use Rattle.intmap.proofs.MapLemmas.{MapState-same, unkept-put, length-unkept, IsCounted-grown_with}
+use Rattle.intmap.proofs.MappedLemmas.{value_of-missing_values}
+use Rattle.intmap.proofs.map.IntMap.add_growing.Goals as goal
+use Rattle.intmap.proofs.map.IntMap.add_growing.Goals.{After-capacity}
+
+seen : (g : _) (c : After-capacity g) → c.args.len ≡ length (unkept c.self.inside.table.walk) + 1
+seen g c = rw (← c.self.view_is) at c.requires.count
+
+long : (g : _) (c : After-capacity g) → c.args.len ≡ length c.self.inside.table.walk + 1
+long g c = seen g c ∙ ap (λ n. n + 1) (length-unkept g.K.IntKey.number_of c.self.inside.table.walk)
+
+missing : (g : _) (c : After-capacity g) → value_of g.K.IntKey.number_of c.self.inside.table.walk c.args.key ≡ None
+missing g c = value_of-missing_values g.K.IntKey.number_of (λ kept. kept.value) c.self.inside.table.walk c.args.key (rw (← c.self.view_is) at c.requires.missing)
+
+pub grow_with-requires-clause-missing : goal.grow_with-requires-clause-missing
+grow_with-requires-clause-missing g c = missing g (goal.at.grow_with-requires-clause-missing g c).After-capacity
+
+pub grow_with-requires-clause-count : goal.grow_with-requires-clause-count
+grow_with-requires-clause-count g c =
+    let e = long g (goal.at.grow_with-requires-clause-count g c).After-capacity in
+    let fits = c.ranges.len.fits in omega (arith, e, fits)
+
+pub invariant_of-self-2 : goal.invariant_of-self-2
+invariant_of-self-2 g c =
+    let here = (goal.at.invariant_of-self-2 g c).After-capacity in
+    let e : c.args.len ≡ c.self.inside.len + 1 = long g here ∙ ap (λ n. n + 1) (sym c.self.invariant.count) in
+    let fits = c.ranges.len.fits in
+    let Counted : ℕ → Type 0 = λ n. IsCounted g.K.IntKey.number_of g.K.IntKey.is_key c.grow_with.new.self.walk c.grow_with.new.self.capacity c.self.inside.factor n c.limit_of-limit.result in
+    let meets : MeetsLoad c.in-Some.capacity (c.self.inside.len + 1) c.self.inside.factor = subst (λ n. MeetsLoad c.in-Some.capacity n c.self.inside.factor) e c.in-Some.ensures.wanted.meets in
+    subst Counted (sym e)
+    (IsCounted-grown_with _ _ _ _ _ _ _ _ c.self.invariant c.in-Some.capacity c.grow_with.new.self.capacity c.limit_of-limit.result c.args.key (record { value = c.args.value })
+    c.in_default-grow_with.ensures.capacity c.in-Some.ensures.capacity c.requires.key (missing g here) (omega (arith, e, fits)) meets c.limit_of-limit.ensures c.in_default-grow_with.ensures.walk)
+
+pub returns-clause-state : goal.returns-clause-state
+returns-clause-state g c =
+    let here = (goal.at.returns-clause-state g c).After-capacity in
+    let C = c.self.inside.table.capacity in
+    let n : ℕ = length (unkept c.self.inside.table.walk) + 1 in
+    let e : c.args.len ≡ n = seen g here in
+    let over : c.self.inside.factor < n * 1000 / c.self.inside.table.capacity = rw (← c.self.view_is) at (subst (λ m. c.args.self.now.factor < m * 1000 / c.args.self.now.capacity) e c.requires.exceeds) in
+    let apart : c.in-Some.capacity ≢ c.self.inside.table.capacity =
+    IsNext-changes c.self.inside.table.capacity n c.self.inside.factor c.in-Some.capacity over (subst (λ m. MeetsLoad c.in-Some.capacity m c.self.inside.factor) e c.in-Some.ensures.wanted.meets) in
+    let other : (c.in-Some.capacity == c.self.inside.table.capacity) ≡ false = ne_eqb c.in-Some.capacity c.self.inside.table.capacity apart in
+    rw (c.in_default-grow_with.ensures.capacity, ← c.self.view_is) (MapState-same _ _ _ _ _ _ _ _ _
+    (unkept-put g.K.IntKey.number_of c.self.inside.table.walk c.grow_with.new.self.walk c.self.inside.table.capacity c.in-Some.capacity c.args.key (record { value = c.args.value }) c.in_default-grow_with.ensures.walk)
+    refl
+    (c.in_default-grow_with.ensures.placed ∙ ap (λ m. c.self.inside.placed + m) (ap (λ m. m + 1) (sym (length-unkept g.K.IntKey.number_of c.self.inside.table.walk)) ∙ ap (λ b. cond b 0 n) (sym other)))
+    refl)

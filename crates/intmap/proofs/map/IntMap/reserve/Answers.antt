@@ -1,0 +1,80 @@
+use Rattle.std.proofs.Common.{◌≡◌, ◌+◌, ◌≤◌, max, inl, inr, length, sym, ap, ◌∙◌, subst, arith, refl}
+use Rattle.std.proofs.lemmas.Bool.{cases_lt}
+use Rattle.intmap.specs.Classes.{IsCapacity}
+use Rattle.intmap.specs.Growth.{IsLeastPower}
+use Rattle.intmap.specs.Map.{MapState}
+use Rattle.intmap.proofs.GrowthLemmas.{IsLeastPower-up, IsLeastPower-fits, IsCapacity-max}
+use Rattle.intmap.proofs.LoadFactorLemmas.{IsLoaded, IsLoaded-larger, capacity-positive}
+use Rattle.intmap.proofs.MapLemmas.{MapState-same, unkept-grown, length-unkept, IsCounted-grown, OnOk-at, IsOk-at_err}
+use Rattle.intmap.proofs.map.IntMap.reserve.Goals as goal
+use Rattle.intmap.proofs.map.IntMap.reserve.Goals.{After-max-capacity}
+
+module _ (g : _) (c : After-max-capacity g) where
+  seen : c.self.inside.len ≡ length c.args.self.now.walk
+  seen = c.self.invariant.count ∙ sym (length-unkept g.K.IntKey.number_of c.self.inside.table.walk) ∙ ap (λ (m : MapState g.row.K.Denot g.row.V.Denot). length m.walk) c.self.view_is
+
+  least : IsLeastPower (length c.args.self.now.walk + c.args.additional) c.next_power_of_two-slots.result
+  least =
+      let p = c.next_power_of_two-slots.ensures in
+      subst (λ n. IsLeastPower (n + c.args.additional) c.next_power_of_two-slots.result) seen
+      (IsLeastPower-up (c.self.inside.len + c.args.additional) c.next_power_of_two-slots.result p.power (omega (arith, p.lower_bound)) (omega (arith, p.upper_bound)))
+
+  here : c.capacity.result ≡ c.self.inside.table.capacity
+  here = c.capacity.ensures.value
+
+  most : c.max-capacity.result ≡ max c.next_power_of_two-slots.result c.self.inside.table.capacity
+  most = c.max-capacity.ensures ∙ ap (λ n. max c.next_power_of_two-slots.result n) here
+
+  cap : IsCapacity c.max-capacity.result
+  cap =
+      let p = c.next_power_of_two-slots.ensures in
+      let small = c.if-additional-self.false in
+      rw most (IsCapacity-max c.next_power_of_two-slots.result c.self.inside.table.capacity p.power (omega (arith, p.upper_bound, small)) c.self.invariant.map.capacity)
+
+pub grow_to-requires-clause-capacity : goal.grow_to-requires-clause-capacity
+grow_to-requires-clause-capacity g c = cap g (goal.at.grow_to-requires-clause-capacity g c).After-max-capacity
+
+pub returns-then-is_err-clause-memory : goal.returns-then-is_err-clause-memory
+returns-then-is_err-clause-memory g c = λ _.
+    let at = (goal.at.returns-then-is_err-clause-memory g c).After-max-capacity in
+    let refused = sym c.is_err.ensures.value ∙ c.if-is_err.true in
+    let same : c.args.self.now.capacity ≡ c.self.inside.table.capacity = ap (λ (m : MapState g.row.K.Denot g.row.V.Denot). m.capacity) (sym c.self.view_is) in
+    elim (cases_lt c.args.self.now.capacity (length c.args.self.now.walk + c.args.additional)) [
+      | inl more ↦ more
+      | inr fits ↦
+          (let low : c.next_power_of_two-slots.result ≤ c.self.inside.table.capacity =
+          IsLeastPower-fits _ _ c.self.inside.table.capacity (least g at) c.self.invariant.map.capacity (omega (arith, fits, same)) in
+          let equal : c.self.inside.table.capacity ≡ c.max-capacity.result = omega (arith, low, most g at) in
+          absurd (IsOk-at_err c.grow_to.result refused (c.grow_to.ensures.free equal)))
+    ]
+
+pub limit_of-self-inside-requires : goal.limit_of-self-inside-requires
+limit_of-self-inside-requires g c = cap g (goal.at.limit_of-self-inside-requires g c).After-max-capacity
+
+pub invariant_of-self-2 : goal.invariant_of-self-2
+invariant_of-self-2 g c =
+    let at = (goal.at.invariant_of-self-2 g c).After-max-capacity in
+    let accepted = sym c.is_err.ensures.value ∙ c.if-is_err.false in
+    let walk = OnOk-at c.grow_to.result _ accepted c.grow_to.ensures.walk in
+    let capacity = OnOk-at c.grow_to.result _ accepted c.grow_to.ensures.capacity in
+    let C = c.self.inside.table.capacity in
+    let loaded : IsLoaded c.self.inside.table.capacity c.self.inside.len c.self.inside.factor =
+    subst (λ n. IsLoaded c.self.inside.table.capacity n c.self.inside.factor) (length-unkept g.K.IntKey.number_of c.self.inside.table.walk ∙ sym c.self.invariant.count) c.self.invariant.map.load in
+    IsCounted-grown _ _ _ _ _ _ _ _ c.self.invariant c.max-capacity.result c.grow_to.new.self.capacity c.self.inside.factor _ capacity (cap g at)
+    (IsLoaded-larger c.self.inside.table.capacity c.max-capacity.result c.self.inside.len c.self.inside.factor (capacity-positive c.self.inside.table.capacity c.self.invariant.map.capacity) (omega (arith, most g at)) loaded)
+    c.limit_of-self-inside.ensures walk
+
+pub returns-clause-capacity : goal.returns-clause-capacity
+returns-clause-capacity g c =
+    let at = (goal.at.returns-clause-capacity g c).After-max-capacity in
+    let accepted = sym c.is_err.ensures.value ∙ c.if-is_err.false in
+    let capacity = OnOk-at c.grow_to.result _ accepted c.grow_to.ensures.capacity in
+    let same : c.args.self.now.capacity ≡ c.self.inside.table.capacity = ap (λ (m : MapState g.row.K.Denot g.row.V.Denot). m.capacity) (sym c.self.view_is) in
+    (c.next_power_of_two-slots.result, least g at, omega (arith, capacity, most g at, same))
+
+pub returns-clause-state : goal.returns-clause-state
+returns-clause-state g c =
+    let accepted = sym c.is_err.ensures.value ∙ c.if-is_err.false in
+    let walk = OnOk-at c.grow_to.result _ accepted c.grow_to.ensures.walk in
+    let capacity = OnOk-at c.grow_to.result _ accepted c.grow_to.ensures.capacity in
+    rw (capacity, ← c.self.view_is) (MapState-same _ _ _ _ _ _ _ _ _ (unkept-grown g.K.IntKey.number_of c.self.inside.table.walk c.grow_to.new.self.walk c.max-capacity.result walk) refl refl refl)

@@ -1,0 +1,43 @@
+use Rattle.std.proofs.Common.{◌≡◌, length, sym, ap, ◌∙◌, subst, refl}
+use Rattle.intmap.specs.Growth.{IsWanted, WantsTooMuch}
+use Rattle.intmap.specs.Map.{MapState}
+use Rattle.intmap.proofs.LoadFactorLemmas.{not_too_much, capacity-greatest, capacity-positive, IsLoaded-from}
+use Rattle.intmap.proofs.MapLemmas.{MapState-same, unkept-grown, length-unkept, IsCounted-grown, OnOk-at}
+use Rattle.intmap.proofs.map.IntMap.set_load_factor.Goals as goal
+use Rattle.intmap.proofs.map.IntMap.set_load_factor.Goals.{After-is_err}
+
+module _ (g : _) (c : After-is_err g) where
+  seen : c.self.inside.len ≡ length c.args.self.now.walk
+  seen = c.self.invariant.count ∙ sym (length-unkept g.K.IntKey.number_of c.self.inside.table.walk) ∙ ap (λ (m : MapState g.row.K.Denot g.row.V.Denot). length m.walk) c.self.view_is
+
+  wanted : IsWanted c.args.self.now.capacity (length c.args.self.now.walk) c.args.thousandths c.in-Some.capacity
+  wanted =
+      subst (λ n. IsWanted c.args.self.now.capacity n c.args.thousandths c.in-Some.capacity) seen
+      (rw (c.capacity.ensures.value, ap (λ (m : MapState g.row.K.Denot g.row.V.Denot). m.capacity) c.self.view_is) at c.in-Some.ensures.wanted)
+
+  within : WantsTooMuch c.args.self.now.capacity (length c.args.self.now.walk) c.args.thousandths → ⊥
+  within = not_too_much _ _ _ c.in-Some.capacity wanted (capacity-greatest c.in-Some.capacity c.in-Some.ensures.capacity)
+
+pub returns-then-is_err-clause-too_large : goal.returns-then-is_err-clause-too_large
+returns-then-is_err-clause-too_large g c =
+    ((λ e. cc), λ much. absurd (within g (goal.at.returns-then-is_err-clause-too_large g c).After-is_err much))
+
+pub invariant_of-self-2 : goal.invariant_of-self-2
+invariant_of-self-2 g c =
+    let accepted = sym c.is_err.ensures.value ∙ c.if-is_err.false in
+    let walk = OnOk-at c.grow_to.result _ accepted c.grow_to.ensures.walk in
+    let capacity = OnOk-at c.grow_to.result _ accepted c.grow_to.ensures.capacity in
+    IsCounted-grown _ _ _ _ _ _ _ _ c.self.invariant c.in-Some.capacity c.grow_to.new.self.capacity c.args.thousandths _ capacity c.in-Some.ensures.capacity
+    (IsLoaded-from c.in-Some.capacity c.self.inside.len c.args.thousandths (capacity-positive c.in-Some.capacity c.in-Some.ensures.capacity) c.in-Some.ensures.wanted.meets)
+    c.limit_of-self-inside.ensures walk
+
+pub returns-clause-state : goal.returns-clause-state
+returns-clause-state g c =
+    let accepted = sym c.is_err.ensures.value ∙ c.if-is_err.false in
+    let walk = OnOk-at c.grow_to.result _ accepted c.grow_to.ensures.walk in
+    let capacity = OnOk-at c.grow_to.result _ accepted c.grow_to.ensures.capacity in
+    rw (capacity, ← c.self.view_is) (MapState-same _ _ _ _ _ _ _ _ _ (unkept-grown g.K.IntKey.number_of c.self.inside.table.walk c.grow_to.new.self.walk c.in-Some.capacity walk) refl refl refl)
+
+pub returns-clause-too_large : goal.returns-clause-too_large
+returns-clause-too_large g c =
+    ((λ e. cc), λ much. absurd (within g (goal.at.returns-clause-too_large g c).After-is_err much))

@@ -1,0 +1,48 @@
+use Rattle.std.proofs.Common.{List, ◌≡◌, ◌++◌, [], ◌∙◌, length, sym, ap}
+use Rattle.std.specs.Vec.{with_items}
+use Rattle.std.proofs.lemmas.List.{with_items_is}
+use Rattle.intmap.specs.Slots.{Held, Grid, rows, joined}
+use Rattle.intmap.specs.Moves.{keys_of, IsPlaced, IsReady}
+use Rattle.intmap.proofs.TableLemmas.{walk_of-joined}
+use Rattle.intmap.proofs.MoveLemmas.{HasRoom-ready, HasRoom-first, IsMoved, IsMoved-placed, joined-moved, IsTable-moved}
+use Rattle.intmap.proofs.table.Table.grow_to.Goals as goal
+use Rattle.intmap.proofs.table.Table.grow_to.Goals.{After-deref_mut, After-place_all}
+
+pub returns-then-capacity-len-clause-walk : goal.returns-then-capacity-len-clause-walk
+returns-then-capacity-len-clause-walk g c =
+    let slots = c.self.inside.slots in
+    let own : c.args.capacity ≡ length slots.items = c.if-capacity-len.true ∙ c.len.ensures ∙ slots.ok.0 in
+    rw (← c.self.view_is, own) (sym (walk_of-joined g.K.IntKey.number_of slots.items c.self.invariant))
+
+module _ (g : _) (c : After-deref_mut g) where
+  -- the old slots hold the walk
+  walk : joined (rows c.replace-old.result.items) ≡ c.args.self.now.walk
+  walk = ap (λ old. joined (rows old.items)) c.replace-old.ensures.value ∙ ap (λ (t : Grid _ _). t.walk) c.self.view_is
+
+  -- the new slots are ready for the walk
+  ready : IsReady g.K.IntKey.number_of (keys_of c.args.self.now.walk ++ []) c.args.capacity c.deref_mut.result.now
+  ready = rw (c.deref_mut.ensures.value, c.replace-old.ensures.after) c.in_ok-larger.ensures
+
+  -- once all are placed, the new slots have them
+  moved : (T : List (Held _ _)) → IsPlaced g.K.IntKey.number_of c.deref_mut.result.now (joined (rows c.replace-old.result.items)) T
+      → IsMoved g.K.IntKey.number_of c.args.self.now.walk c.args.capacity T
+  moved T placed = IsMoved-placed _ _ _ _ _ _ c.requires.capacity ready (rw walk at placed)
+
+pub place_all-requires-clause-room : goal.place_all-requires-clause-room
+place_all-requires-clause-room g c =
+    let at = (goal.at.place_all-requires-clause-room g c).After-deref_mut in
+    rw (walk g at) (HasRoom-first _ _ _ [] (HasRoom-ready _ _ _ [] _ (ready g at)))
+
+-- the table's slots are those that were placed into
+written : (g : _) (c : After-place_all g) → (with_items c.replace-old.new.dest c.place_all.new.slots).items ≡ c.place_all.new.slots
+written g c = with_items_is c.replace-old.new.dest c.place_all.new.slots (c.place_all.ensures.pairs.len ∙ c.deref_mut.ensures.len)
+
+pub invariant_of-self : goal.invariant_of-self
+invariant_of-self g c =
+    let at = goal.at.invariant_of-self g c in
+    rw (written g at.After-place_all) (IsTable-moved _ _ _ _ (moved g at.After-deref_mut _ c.place_all.ensures.pairs))
+
+pub returns-clause-walk : goal.returns-clause-walk
+returns-clause-walk g c =
+    let at = goal.at.returns-clause-walk g c in
+    rw (written g at.After-place_all) (joined-moved _ _ _ _ (moved g at.After-deref_mut _ c.place_all.ensures.pairs))

@@ -1,0 +1,37 @@
+use Rattle.std.proofs.Common.{◌≡◌, ◌++◌, ◌∙◌, append-nil}
+use Rattle.std.specs.Option.{option_to_list}
+use Rattle.std.proofs.lemmas.Result.{IfOk-weaker}
+use Rattle.intmap.specs.Moves.{keys_of, CanCount, IsCounted}
+use Rattle.intmap.proofs.MoveLemmas.{zeros, CanCount-start, CanCount-first, CanCount-more, IsCounted-more, IsReady-counted}
+use Rattle.intmap.proofs.table.Table.slots_for.Goals as goal
+use Rattle.intmap.proofs.table.Table.slots_for.Goals.{After-as_mut_slice-counts, After-drop-zeros, in-Some, in_default}
+
+module _ (g : _) (c : After-as_mut_slice-counts g) where
+  -- the counts start at zero
+  start : c.as_mut_slice-counts.result.now ≡ zeros c.args.capacity
+  start = c.as_mut_slice-counts.ensures.value ∙ c.in_ok-zeros.ensures.items_if_clones_equal (λ y same. same)
+
+  -- all keys can be counted
+  can : CanCount g.K.IntKey.number_of c.as_mut_slice-counts.result.now (keys_of c.args.self.now.walk ++ option_to_list c.args.new)
+  can = rw start (CanCount-start _ c.args.capacity c.args.self.now.walk (option_to_list c.args.new) c.requires.count)
+
+pub count_pairs-requires-clause-fits : goal.count_pairs-requires-clause-fits
+count_pairs-requires-clause-fits g c =
+    CanCount-first _ _ _ _ (can g (goal.at.count_pairs-requires-clause-fits g c).After-as_mut_slice-counts)
+
+pub count_key-requires-clause-fits : goal.count_key-requires-clause-fits
+count_key-requires-clause-fits g c =
+    let all = can g (goal.at.count_key-requires-clause-fits g c).After-as_mut_slice-counts in
+    CanCount-more _ _ _ _ _ (rw c.in-Some.is at all) c.count_pairs.ensures
+
+-- the counts with that of the new key, if there is one
+counted : (g : _) (c : After-drop-zeros g) → IsCounted g.K.IntKey.number_of c.as_mut_slice-counts.result.now (keys_of c.args.self.now.walk ++ option_to_list c.args.new) c.match-new.counts
+counted g c = elim c.match-new.branch [
+  | in-Some w ↦ rw (w.counts-is, w.in-Some.is) (IsCounted-more _ _ _ _ _ _ c.count_pairs.ensures w.count_key.ensures)
+  | in_default w ↦ rw (w.counts-is, w.in_default.is) (rw append-nil c.count_pairs.ensures)
+]
+
+pub returns : goal.returns
+returns g c =
+    let zero = start g (goal.at.returns g c).After-as_mut_slice-counts in
+    IfOk-weaker c.with_room.result _ _ (λ slots roomy. IsReady-counted _ _ _ _ c.args.capacity (rw zero at (counted g c)) roomy) c.with_room.ensures

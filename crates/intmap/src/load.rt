@@ -1,0 +1,48 @@
+//! When a table has too few slots for its pairs, and how many slots they want.
+ghost use Rattle.std.specs.Prelude.{◌≡◌, ◌^◌, ◌<◌, ◌&&◌, nat_lt, IfSome, IfNone};
+ghost use Rattle.intmap.specs.Classes.{IsCapacity};
+ghost use Rattle.intmap.specs.Growth.{IsWanted, IsLimit, WantsTooMuch, is_due};
+
+/// The greatest number of slots.
+pub(crate) const GREATEST_CAPACITY: usize = 9223372036854775808;
+
+/// The least of `capacity` and its doublings in which so many pairs meet the load factor, which is
+/// in thousandths. `None` where none up to 2^63 is enough.
+pub(crate) fn wanted_capacity(len: usize, capacity: usize, factor: usize) -> Option<usize>
+    requires { IsCapacity capacity }
+    ensures wanted { IfSome result (IsWanted capacity len factor) }
+    ensures capacity { IfSome result (λ slots. IsCapacity slots) }
+    ensures none { IfNone result (WantsTooMuch capacity len factor) }
+{
+    let need = len as u128 * 1000;
+    let each = factor as u128 + 1;
+    let mut slots = capacity;
+    while need >= each * slots as u128 {
+        if slots == GREATEST_CAPACITY {
+            return None;
+        }
+        slots *= 2;
+    }
+    Some(slots)
+}
+
+/// The greatest number of pairs, up to the greatest `usize`, that meets the load factor in so many
+/// slots.
+pub(crate) fn limit_of(capacity: usize, factor: usize) -> usize
+    requires { IsCapacity capacity }
+    ensures { IsLimit capacity factor result }
+{
+    let most = ((factor as u128 + 1) * capacity as u128 - 1) / 1000;
+    if most > usize::MAX as u128 {
+        usize::MAX
+    } else {
+        most as usize
+    }
+}
+
+/// Whether growth is tested at so many pairs, and they are more than the limit.
+pub(crate) fn has_outgrown(len: usize, limit: usize) -> bool
+    ensures { result ≡ is_due len && nat_lt limit len }
+{
+    len & 4 == 4 && len > limit
+}

@@ -1,0 +1,81 @@
+//! The number of slots and the load factor, as callers set them.
+ghost use Rattle.std.specs.Prelude.{◌≡◌, ◌↔◌, ℕ, ◌+◌, ◌^◌, ◌<◌, max, length, Err, OnOk, OnErr};
+ghost use Rattle.intmap.specs.Growth.{IsWanted, IsLeastPower, WantsTooMuch};
+ghost use Rattle.intmap.specs.Map.{IsMap, in_slots};
+
+use crate::key::IntKey;
+use crate::load::{GREATEST_CAPACITY, limit_of, wanted_capacity};
+use crate::map::IntMap;
+use crate::refusal::Cause;
+use std::alloc::Allocator;
+
+impl<K: IntKey, V: Drop, A: Allocator + Copy> IntMap<K, V, A> {
+    /// Makes the capacity at least the least power of two that is at least the length and
+    /// `additional` slots more. It doesn't look at the load factor, so later insertions may still
+    /// grow the table.
+    ///
+    /// It is refused as too large exactly where the length and `additional` are above 2^63, and
+    /// else where memory is refused, which it never is where the capacity is enough. A refusal
+    /// leaves the map.
+    pub fn reserve(&mut self, additional: usize) -> Result<(), Cause>
+        ensures capacity { OnOk result ((p : ℕ) × IsLeastPower (length self.old.walk + additional) p
+            × (self.new.capacity ≡ max self.old.capacity p)) }
+        ensures state { OnOk result
+            (self.new ≡ in_slots K.number_of self.old self.new.capacity) }
+        ensures err { OnErr result (self.new ≡ self.old) }
+        ensures too_large { (result ≡ Err Cause.TooLarge)
+            ↔ (2 ^ 63 < length self.old.walk + additional) }
+        ensures memory { result ≡ Err Cause.Memory
+            → self.old.capacity < length self.old.walk + additional }
+        ensures map { IsMap K.number_of K.is_key self.old }
+    {
+        if self.len > GREATEST_CAPACITY || additional > GREATEST_CAPACITY - self.len {
+            return Err(Cause::TooLarge);
+        }
+        let slots = (self.len + additional).next_power_of_two();
+        let capacity = slots.max(self.table.capacity());
+        if self.table.grow_to(capacity).is_err() {
+            return Err(Cause::Memory);
+        }
+        self.limit = limit_of(capacity, self.factor);
+        Ok(())
+    }
+
+    /// Sets the load factor, in thousandths: how many pairs there may be to a slot at the lengths
+    /// at which growth is tested. The capacity becomes, at once and for every length, the least
+    /// of itself and its doublings that meets it.
+    ///
+    /// It is refused as too large exactly where no capacity up to 2^63 meets it, and else where
+    /// memory is refused, which it never is where the capacity meets it. A refusal leaves the map,
+    /// its load factor too.
+    pub fn set_load_factor(&mut self, thousandths: usize) -> Result<(), Cause>
+        ensures capacity { OnOk result (IsWanted self.old.capacity (length self.old.walk)
+            thousandths self.new.capacity) }
+        ensures state { OnOk result (self.new
+            ≡ in_slots K.number_of (record self.old { factor = thousandths }) self.new.capacity) }
+        ensures err { OnErr result (self.new ≡ self.old) }
+        ensures too_large { (result ≡ Err Cause.TooLarge)
+            ↔ WantsTooMuch self.old.capacity (length self.old.walk) thousandths }
+        ensures memory { result ≡ Err Cause.Memory
+            → IsWanted self.old.capacity (length self.old.walk) thousandths self.old.capacity → ⊥ }
+        ensures map { IsMap K.number_of K.is_key self.old }
+    {
+        let Some(capacity) = wanted_capacity(self.len, self.table.capacity(), thousandths) else {
+            return Err(Cause::TooLarge);
+        };
+        if self.table.grow_to(capacity).is_err() {
+            return Err(Cause::Memory);
+        }
+        self.factor = thousandths;
+        self.limit = limit_of(capacity, thousandths);
+        Ok(())
+    }
+
+    /// The load factor, in thousandths. It is never refused.
+    pub fn get_load_factor(&self) -> usize
+        ensures value { result ≡ self.now.factor }
+        ensures map { IsMap K.number_of K.is_key self.now }
+    {
+        self.factor
+    }
+}

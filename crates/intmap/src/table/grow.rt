@@ -1,0 +1,127 @@
+//! Growth in one jump. All memory is taken before the first pair moves.
+ghost use Rattle.std.specs.Prelude.{◌≡◌, ◌+◌, ◌^◌, ◌<◌, [], ◌∷◌, ◌++◌, length, OnOk, OnErr, IfOk, IfErr, IsOk, None};
+ghost use Rattle.std.specs.Option.{option_to_list};
+ghost use Rattle.intmap.specs.Classes.{IsCapacity};
+ghost use Rattle.intmap.specs.Bindings.{value_of, put_pair};
+ghost use Rattle.intmap.specs.Walk.{walk_of};
+ghost use Rattle.intmap.specs.Moves.{keys_of, CanCount, IsCounted, IsRoomy, IsReady};
+
+use crate::key::IntKey;
+use crate::slot::Slot;
+use crate::steps::Steps;
+use crate::stored::Stored;
+use crate::table::Table;
+use crate::table::place::{index_of, place, place_all};
+use std::alloc::{AllocError, Allocator};
+use std::mem;
+
+/// Adds one to the count of the key's slot.
+fn count_key<K: IntKey>(counts: &mut [usize], key: &K)
+    requires capacity { IsCapacity (length counts.old) }
+    requires fits { CanCount K.number_of counts.old (key.now ∷ []) }
+    ensures { IsCounted K.number_of counts.old (key.now ∷ []) counts.new }
+{
+    let index = index_of(key, counts.len());
+    counts[index] += 1;
+}
+
+/// Empty slots, each with room for as many pairs as its count. All their memory is taken here.
+fn with_room<K: IntKey, X: Drop, A: Allocator + Copy>(
+    alloc: A,
+    counts: &[usize],
+) -> Result<Vec<Slot<K, X, A>, A>, AllocError>
+    ensures { IfOk result (λ slots. IsRoomy counts.now slots.items) }
+{
+    let mut slots = Vec::with_capacity(alloc, counts.len())?;
+    for count in counts {
+        slots.push_reserved(Slot::with_room(alloc, *count)?);
+    }
+    Ok(slots)
+}
+
+impl<K: IntKey, X: Drop, A: Allocator + Copy> Table<K, X, A> {
+    /// Adds the number of the pairs that have each slot, of as many as there are counts, to its
+    /// count.
+    fn count_pairs(&self, counts: &mut [usize])
+        requires capacity { IsCapacity (length counts.old) }
+        requires fits { CanCount K.number_of counts.old (keys_of self.now.walk) }
+        ensures { IsCounted K.number_of counts.old (keys_of self.now.walk) counts.new }
+    {
+        for (key, _) in self.pairs() {
+            count_key(counts, key);
+        }
+    }
+
+    /// Empty slots, so many, each with exact room for the pairs that belong in it, that of a new
+    /// key among them.
+    fn slots_for(
+        &self,
+        capacity: usize,
+        new: Option<K>,
+    ) -> Result<Vec<Slot<K, X, A>, A>, AllocError>
+        requires capacity { IsCapacity capacity }
+        requires count { length self.now.walk + length (option_to_list new) < 2 ^ 64 }
+        ensures { IfOk result (λ slots. IsReady K.number_of
+            (keys_of self.now.walk ++ option_to_list new) capacity slots.items) }
+    {
+        let alloc = *self.slots.allocator();
+        let mut zeros = vec![in alloc; 0usize; capacity]?;
+        let counts = zeros.as_mut_slice();
+        self.count_pairs(counts);
+        if let Some(key) = new {
+            count_key(counts, &key);
+        }
+        with_room(alloc, counts)
+    }
+
+    /// Moves all pairs, in the order of the walk, into a table of so many slots, and puts the pair
+    /// of a key that isn't bound behind them. Where memory is refused, the value comes back and
+    /// nothing changes.
+    pub(crate) fn grow_with(
+        &mut self,
+        capacity: usize,
+        key: K,
+        value: X,
+        placed: &mut Steps,
+    ) -> Result<(), X>
+        requires capacity { IsCapacity capacity }
+        requires missing { value_of K.number_of self.old.walk key ≡ None }
+        requires count { length self.old.walk + 1 < 2 ^ 64 }
+        ensures walk { OnOk result (self.new.walk ≡ walk_of K.number_of
+            (put_pair K.number_of self.old.walk self.old.capacity key value) capacity) }
+        ensures capacity { OnOk result (self.new.capacity ≡ capacity) }
+        ensures placed { OnOk result (placed.new ≡ placed.old + (length self.old.walk + 1)) }
+        ensures err { OnErr result (self.new ≡ self.old) }
+        ensures none_placed { OnErr result (placed.new ≡ placed.old) }
+        ensures value_returned { IfErr result (λ returned. returned ≡ value) }
+    {
+        let Ok(larger) = self.slots_for(capacity, Some(key)) else {
+            return Err(value);
+        };
+        let old = mem::replace(&mut self.slots, larger);
+        let slots = self.slots.as_mut_slice();
+        place_all(slots, old, placed);
+        place(slots, (Stored::new(key), value), placed);
+        Ok(())
+    }
+
+    /// Moves all pairs, in the order of the walk, into a table of so many slots. It does nothing
+    /// where there are so many already. Where memory is refused, nothing changes.
+    pub(crate) fn grow_to(&mut self, capacity: usize) -> Result<(), AllocError>
+        requires capacity { IsCapacity capacity }
+        requires count { length self.old.walk < 2 ^ 64 }
+        ensures walk { OnOk result
+            (self.new.walk ≡ walk_of K.number_of self.old.walk capacity) }
+        ensures capacity { OnOk result (self.new.capacity ≡ capacity) }
+        ensures err { OnErr result (self.new ≡ self.old) }
+        ensures free { self.old.capacity ≡ capacity → IsOk result }
+    {
+        if capacity == self.slots.len() {
+            return Ok(());
+        }
+        let larger = self.slots_for(capacity, None)?;
+        let old = mem::replace(&mut self.slots, larger);
+        place_all(&mut self.slots, old, &mut Steps::new());
+        Ok(())
+    }
+}

@@ -1,0 +1,244 @@
+-- What a run places in larger tables is little for the lengths that it goes through, and so is the capacity that growth leaves.
+use Rattle.std.proofs.Common.{◌≡◌, ◌≢◌, inl, inr, ℕ, ◌+◌, ◌-◌, ◌*◌, ◌/◌, ◌^◌, ◌<◌, ◌≤◌, max, Bool, cond, List, [], ◌∷◌, length, Option, Some, None, is_some, refl, sym, ap, ◌∙◌, arith}
+use Rattle.std.specs.Prelude.{◌⊎◌, MatchOption}
+use Rattle.std.proofs.Math.Nat.{mul-le-mul_left, mul-le-mul_right, div-mul-le_self, lt-div-mul-add, le-max_right}
+use Rattle.std.proofs.Math.Pow.{pow_pos}
+use Rattle.std.proofs.lemmas.Nat.{pow-add}
+use Rattle.std.proofs.lemmas.Bool.{cases_eq, cases_lt, cases_Bool, eq-eqb, ne_eqb}
+use Rattle.intmap.specs.Bindings.{value_of}
+use Rattle.intmap.specs.Growth.{IsWanted, IsNext, is_due}
+use Rattle.intmap.specs.States.{State, Inserts}
+use Rattle.intmap.proofs.DistinctLemmas.{length-put_pair}
+use Rattle.intmap_run.specs.declared.command.Command.{Command}
+use Rattle.intmap_run.specs.declared.command.Command.TheVariants as command
+use Rattle.intmap_run.specs.declared.answer.Answer.{Answer}
+use Rattle.intmap_run.specs.Runs.{Answers, Runs, placements_of, factors_set_by, factors_set, SetsCapacity, run_placements, greatest_length, WasSet}
+use Rattle.intmap_run.proofs.CapacityLemmas.{IsCapacityAfter-changed}
+
+-- a growth from C to D slots at n pairs, by products with f, which is the load factor and one: half of D was too small, and D isn't
+record IsGrowth (C n f D : ℕ) : Type 0 where
+  half : ℕ
+  doubled : D ≡ half * 2
+  more : C ≤ half
+  before : f * half ≤ n * 1000
+  after : n * 1000 < f * D
+
+-- another capacity that is wanted is a growth
+IsGrowth-from_wanted : (C n F D : ℕ) → IsWanted C n F D → D ≢ C → IsGrowth C n (F + 1) D
+IsGrowth-from_wanted C n F D wanted apart =
+    let j : ℕ = wanted.doubled.0 in
+    let is : D ≡ C * 2 ^ j = wanted.doubled.1 in
+    let some : 0 < C = elim (cases_lt 0 C) [
+      | inl lt ↦ lt
+      | inr none ↦ (let z : C ≡ 0 = omega (arith, none) in absurd (apart (is ∙ ap (λ c. c * 2 ^ j) z ∙ (let q : 0 * 2 ^ j ≡ 0 = omega arith in q) ∙ sym z)))
+    ] in
+    let one : 0 < j = elim (cases_lt 0 j) [
+      | inl lt ↦ lt
+      | inr none ↦ (let z : j ≡ 0 = omega (arith, none) in absurd (apart (is ∙ ap (λ e. C * 2 ^ e) z ∙ (let q : C * 2 ^ 0 ≡ C = omega arith in q))))
+    ] in
+    let half : ℕ = C * 2 ^ (j - 1) in
+    let twice : 2 ^ j ≡ 2 ^ (j - 1) * 2 = ap (λ e. 2 ^ e) (let e : j ≡ j - 1 + 1 = omega (arith, one) in e) ∙ pow-add 2 (j - 1) 1 in
+    let doubled : D ≡ half * 2 = is ∙ ap (λ p. C * p) twice ∙ (let q : C * (2 ^ (j - 1) * 2) ≡ C * 2 ^ (j - 1) * 2 = omega arith in q) in
+    let power : 0 < 2 ^ (j - 1) = pow_pos (j - 1) in
+    let more : C * 1 ≤ half = mul-le-mul_left C power in
+    let less : half < D = omega (arith, doubled, more, some) in
+    let over : F + 1 ≤ n * 1000 / half = (let h = wanted.least (j - 1) less in omega (arith, h)) in
+    let low : (F + 1) * half ≤ n * 1000 / half * half = mul-le-mul_right half over in
+    let whole : n * 1000 / half * half ≤ n * 1000 = div-mul-le_self (n * 1000) half in
+    let positive : 0 < D = omega (arith, less) in
+    let up : n * 1000 < n * 1000 / D * D + D = lt-div-mul-add positive in
+    let met : n * 1000 / D ≤ F = wanted.meets in
+    let high : n * 1000 / D * D ≤ F * D = mul-le-mul_right D met in
+    record {
+      half = half;
+      doubled = doubled;
+      more = omega (arith, more);
+      before = omega (arith, low, whole);
+      after = omega (arith, up, high);
+    }
+
+-- another capacity that follows is a growth
+IsGrowth-from_next : (C n F D : ℕ) → IsNext C n F D → D ≢ C → IsGrowth C n (F + 1) D
+IsGrowth-from_next C n F D next apart = elim (cases_Bool (is_due n)) [
+  | inl due ↦ IsGrowth-from_wanted C n F D (rw due at next) apart
+  | inr not ↦ absurd (apart (rw not at next))
+]
+
+-- where P pairs were placed before a growth, it keeps P and the pairs few for the capacity, and at most three times the pairs
+growth_few : (C n f D P : ℕ) → IsGrowth C n f D → 1000 * P ≤ 2 * (f * C) → (1000 * (P + n) ≤ 2 * (f * D)) × (P + n ≤ 3 * n)
+growth_few C n f D P growth few =
+    let half : ℕ = growth.half in
+    let wide : f * C ≤ f * half = mul-le-mul_left f growth.more in
+    let before : f * half ≤ n * 1000 = growth.before in
+    let after : n * 1000 < f * D = growth.after in
+    let whole : f * D ≡ f * half * 2 = ap (λ d. f * d) growth.doubled ∙ (let q : f * (half * 2) ≡ f * half * 2 = omega arith in q) in
+    (omega (arith, few, wide, after, whole), omega (arith, few, wide, before))
+
+module _ {K V : Type 0} where
+  -- a step at which the table grew under an insertion
+  record Grows (s : State K V) (c : Command K V) (t : State K V) : Type 0 where
+    placed : placements_of s c t ≡ length t.pairs
+    factor : t.factor ≡ s.factor
+    growth : IsGrowth s.capacity (length t.pairs) (s.factor + 1) t.capacity
+
+  -- an insertion that kept the capacity places nothing
+  placements_of-kept : (s : State K V) (k : K) (v : V) (t : State K V) → t.capacity ≡ s.capacity → placements_of s (command.Insert k v) t ≡ 0
+  placements_of-kept s k v t same = ap (λ b. cond b 0 (length t.pairs)) (eq-eqb t.capacity s.capacity same)
+
+  -- an insertion that changed it places all pairs
+  placements_of-changed : (s : State K V) (k : K) (v : V) (t : State K V) → t.capacity ≢ s.capacity → placements_of s (command.Insert k v) t ≡ length t.pairs
+  placements_of-changed s k v t apart = ap (λ b. cond b 0 (length t.pairs)) (ne_eqb t.capacity s.capacity apart)
+
+module _ {K V S A : Type 0} where
+  -- a step at which a load factor was set
+  record Resets (s : State K V) (c : Command K V) (a : Answer K V S A) (t : State K V) : Type 0 where
+    placed : placements_of s c t ≡ 0
+    counted : factors_set_by c a ≡ 1
+    set : SetsCapacity c a
+
+  -- any other step
+  record Keeps (s : State K V) (c : Command K V) (a : Answer K V S A) (t : State K V) : Type 0 where
+    placed : placements_of s c t ≡ 0
+    factor : t.factor ≡ s.factor
+    more : s.capacity ≤ t.capacity
+    capacity : (t.capacity ≡ s.capacity) ⊎ SetsCapacity c a
+
+  -- a step that changed neither capacity nor load factor
+  Keeps-same : (s : State K V) (c : Command K V) (a : Answer K V S A) (t : State K V) → placements_of s c t ≡ 0 → t.capacity ≡ s.capacity → t.factor ≡ s.factor → Keeps s c a t
+  Keeps-same s c a t placed capacity factor = record { placed = placed; factor = factor; more = omega (arith, capacity); capacity = inl capacity }
+
+module _ {K V S A : Type 0} (number : K → ℕ) (sees : V → S → Type 0) (keeps : K → V → Bool) where
+  -- an accepted insertion
+  Grows-or_keeps : (s : State K V) (k : K) (v : V) (a : Answer K V S A) (t : State K V) → Inserts number s k v t → Grows s (command.Insert k v) t ⊎ Keeps s (command.Insert k v) a t
+  Grows-or_keeps s k v a t inserts =
+      let factor : t.factor ≡ s.factor = ap (λ x. x.factor) inserts.after in
+      elim (cases_eq t.capacity s.capacity) [
+        | inl same ↦ inr (Keeps-same s (command.Insert k v) a t (placements_of-kept s k v t same) same factor)
+        | inr apart ↦
+            (let next = IsCapacityAfter-changed (value_of number s.pairs k) s.capacity (length s.pairs + 1) s.factor t.capacity inserts.capacity apart in
+            let longer : length t.pairs ≡ length s.pairs + 1 =
+            ap (λ x. length x.pairs) inserts.after ∙ length-put_pair number s.pairs s.capacity k v ∙ ap (λ o. length s.pairs + cond (is_some o) 0 1) next.0 in
+            inl (record {
+              placed = placements_of-changed s k v t apart;
+              factor = factor;
+              growth = rw longer (IsGrowth-from_next s.capacity (length s.pairs + 1) s.factor t.capacity next.1 apart);
+            }))
+      ]
+
+  -- each step is of one of the three kinds
+  kind : (s : State K V) (c : Command K V) (a : Answer K V S A) (t : State K V) → Answers number sees keeps s c a t → Grows s c t ⊎ (Resets s c a t ⊎ Keeps s c a t)
+  kind s (command.Insert k v) a t (inl accepted) = elim (Grows-or_keeps s k v a t accepted.1) [ inl grows ↦ inl grows | inr kept ↦ inr (inr kept) ]
+  kind s (command.Insert k v) a t (inr refused) =
+      let capacity : t.capacity ≡ s.capacity = ap (λ x. x.capacity) refused.3 in
+      inr (inr (Keeps-same s (command.Insert k v) a t (placements_of-kept s k v t capacity) capacity (ap (λ x. x.factor) refused.3)))
+  kind s (command.Get k) a t h = inr (inr (Keeps-same s (command.Get k) a t refl (ap (λ x. x.capacity) h.1) (ap (λ x. x.factor) h.1)))
+  kind s (command.Remove k) a t h = inr (inr (Keeps-same s (command.Remove k) a t refl (ap (λ x. x.capacity) h.1) (ap (λ x. x.factor) h.1)))
+  kind s (command.Reserve n) a t (inl accepted) = inr (inr (record {
+    placed = refl;
+    factor = ap (λ x. x.factor) accepted.1.after;
+    more = let m = accepted.1.capacity.2 in omega (arith, m);
+    capacity = inr (rw accepted.0 tt);
+  }))
+  kind s (command.Reserve n) a t (inr refused) =
+      inr (inr (Keeps-same s (command.Reserve n) a t refl (ap (λ x. x.capacity) refused.3) (ap (λ x. x.factor) refused.3)))
+  kind s (command.SetLoadFactor f) a t (inl accepted) = inr (inl (record { placed = refl; counted = rw accepted.0 refl; set = rw accepted.0 tt }))
+  kind s (command.SetLoadFactor f) a t (inr refused) =
+      inr (inr (Keeps-same s (command.SetLoadFactor f) a t refl (ap (λ x. x.capacity) refused.3) (ap (λ x. x.factor) refused.3)))
+  kind s command.GetLoadFactor a t h = inr (inr (Keeps-same s command.GetLoadFactor a t refl (ap (λ x. x.capacity) h.1) (ap (λ x. x.factor) h.1)))
+  kind s command.Len a t h = inr (inr (Keeps-same s command.Len a t refl (ap (λ x. x.capacity) h.1) (ap (λ x. x.factor) h.1)))
+  kind s command.Capacity a t h = inr (inr (Keeps-same s command.Capacity a t refl (ap (λ x. x.capacity) h.1) (ap (λ x. x.factor) h.1)))
+  kind s command.Load a t h = inr (inr (Keeps-same s command.Load a t refl (ap (λ x. x.capacity) h.1) (ap (λ x. x.factor) h.1)))
+  kind s command.Walk a t h = inr (inr (Keeps-same s command.Walk a t refl (ap (λ x. x.capacity) h.1) (ap (λ x. x.factor) h.1)))
+
+  -- a run is at least as long as its start
+  greatest_length-start : (s : State K V) (cs : List (Command K V)) (as' : List (Answer K V S A)) (t : State K V) (run : Runs number sees keeps s cs as' t)
+      → length s.pairs ≤ greatest_length number sees keeps s cs as' t run
+  greatest_length-start s [] as' t run = omega arith
+  greatest_length-start s (c ∷ cs) [] t run = omega arith
+  greatest_length-start s (c ∷ cs) (a ∷ as') t run = omega arith
+
+  -- where P pairs were placed since the load factor was set, few for the capacity, the run keeps them few, H for each load factor
+  few-from : (H P : ℕ) (s : State K V) (cs : List (Command K V)) (as' : List (Answer K V S A)) (t : State K V) (run : Runs number sees keeps s cs as' t)
+      → 1000 * P ≤ 2 * ((s.factor + 1) * s.capacity) → P ≤ H → 3 * greatest_length number sees keeps s cs as' t run ≤ H
+      → P + run_placements number sees keeps s cs as' t run ≤ (factors_set cs as' + 1) * H
+  few-from H P s [] [] t run few low high = omega (arith, low)
+  few-from H P s [] (a ∷ as') t run few low high = absurd run
+  few-from H P s (c ∷ cs) [] t run few low high = absurd run
+  few-from H P s (c ∷ cs) (a ∷ as') t run few low high =
+      let m : State K V = run.0 in
+      let placed : ℕ = run_placements number sees keeps m cs as' t run.2 in
+      let greatest : ℕ = greatest_length number sees keeps m cs as' t run.2 in
+      let start : length m.pairs ≤ greatest = greatest_length-start m cs as' t run.2 in
+      let rest : 3 * greatest ≤ H = (let most : greatest ≤ max (length s.pairs) greatest = le-max_right (length s.pairs) greatest in omega (arith, high, most)) in
+      elim (kind s c a m run.1) as (λ _. P + (placements_of s c m + placed) ≤ (factors_set_by c a + factors_set cs as' + 1) * H) [
+        | inl grows ↦
+            (let f : m.factor ≡ s.factor = grows.factor in
+            let after = growth_few s.capacity (length m.pairs) (s.factor + 1) m.capacity P grows.growth few in
+            let few' : 1000 * (P + length m.pairs) ≤ 2 * ((m.factor + 1) * m.capacity) = rw f after.0 in
+            let three = after.1 in
+            let h = few-from H (P + length m.pairs) m cs as' t run.2 few' (omega (arith, three, start, rest)) rest in
+            let wide : (factors_set cs as' + 1) * H ≤ (factors_set_by c a + factors_set cs as' + 1) * H =
+            mul-le-mul_right H (let le : factors_set cs as' + 1 ≤ factors_set_by c a + factors_set cs as' + 1 = omega arith in le) in
+            omega (arith, h, wide, grows.placed))
+        | inr other ↦ elim other [
+          | inl resets ↦
+              (let h = few-from H 0 m cs as' t run.2 (omega arith) (omega arith) rest in
+              let more : (factors_set_by c a + factors_set cs as' + 1) * H ≡ H + (factors_set cs as' + 1) * H = rw resets.counted (omega arith) in
+              omega (arith, h, more, low, resets.placed))
+          | inr kept ↦
+              (let f : m.factor ≡ s.factor = kept.factor in
+              let wide : (s.factor + 1) * s.capacity ≤ (s.factor + 1) * m.capacity = mul-le-mul_left (s.factor + 1) kept.more in
+              let few' : 1000 * P ≤ 2 * ((m.factor + 1) * m.capacity) = rw f (omega (arith, few, wide)) in
+              let h = few-from H P m cs as' t run.2 few' low rest in
+              let wide' : (factors_set cs as' + 1) * H ≤ (factors_set_by c a + factors_set cs as' + 1) * H =
+              mul-le-mul_right H (let le : factors_set cs as' + 1 ≤ factors_set_by c a + factors_set cs as' + 1 = omega arith in le) in
+              omega (arith, h, wide', kept.placed))
+        ]
+      ]
+
+  -- a run places at most three times its greatest length for each load factor that it had
+  pub run_placements-few : (s : State K V) (cs : List (Command K V)) (as' : List (Answer K V S A)) (t : State K V) (run : Runs number sees keeps s cs as' t)
+      → run_placements number sees keeps s cs as' t run ≤ 3 * (factors_set cs as' + 1) * greatest_length number sees keeps s cs as' t run
+  run_placements-few s cs as' t run =
+      let greatest : ℕ = greatest_length number sees keeps s cs as' t run in
+      let h = few-from (3 * greatest) 0 s cs as' t run (omega arith) (omega arith) (omega arith) in
+      omega (arith, h)
+
+  -- the capacity and the load factor stayed, or the caller set the capacity, or it is small for the lengths of the run
+  capacity-from : (s : State K V) (cs : List (Command K V)) (as' : List (Answer K V S A)) (t : State K V) (run : Runs number sees keeps s cs as' t)
+      → ((t.capacity ≡ s.capacity) × (t.factor ≡ s.factor))
+      ⊎ (WasSet number sees keeps t.capacity s cs as' t run ⊎ ((t.factor + 1) * t.capacity ≤ 2000 * greatest_length number sees keeps s cs as' t run))
+  capacity-from s [] [] t run = inl (ap (λ x. x.capacity) run, ap (λ x. x.factor) run)
+  capacity-from s [] (a ∷ as') t run = absurd run
+  capacity-from s (c ∷ cs) [] t run = absurd run
+  capacity-from s (c ∷ cs) (a ∷ as') t run =
+      let m : State K V = run.0 in
+      let greatest : ℕ = greatest_length number sees keeps m cs as' t run.2 in
+      let start : length m.pairs ≤ greatest = greatest_length-start m cs as' t run.2 in
+      let most : greatest ≤ max (length s.pairs) greatest = le-max_right (length s.pairs) greatest in
+      elim (capacity-from m cs as' t run.2) [
+        | inr later ↦ elim later [
+          | inl set ↦ inr (inl (inr set))
+          | inr small ↦ inr (inr (omega (arith, small, most)))
+        ]
+        | inl stayed ↦ elim (kind s c a m run.1) [
+          | inl grows ↦
+              (let f : t.factor ≡ s.factor = stayed.1 ∙ grows.factor in
+              let whole : t.capacity ≡ grows.growth.half * 2 = stayed.0 ∙ grows.growth.doubled in
+              let product : (t.factor + 1) * t.capacity ≡ (s.factor + 1) * grows.growth.half * 2 = rw (f, whole) (omega arith) in
+              let before = grows.growth.before in
+              inr (inr (omega (arith, product, before, start, most))))
+          | inr other ↦ elim other [
+            | inl resets ↦ inr (inl (inl (resets.set, sym stayed.0)))
+            | inr kept ↦ elim kept.capacity [
+              | inl same ↦ inl (stayed.0 ∙ same, stayed.1 ∙ kept.factor)
+              | inr set ↦ inr (inl (inl (set, sym stayed.0)))
+            ]
+          ]
+        ]
+      ]
+
+  -- the capacity at the end of a run is the start's, or one that the caller set, or small for the lengths of the run
+  pub last_capacity-from : (s : State K V) (cs : List (Command K V)) (as' : List (Answer K V S A)) (t : State K V) (run : Runs number sees keeps s cs as' t)
+      → (t.capacity ≡ s.capacity) ⊎ WasSet number sees keeps t.capacity s cs as' t run ⊎ ((t.factor + 1) * t.capacity ≤ 2000 * greatest_length number sees keeps s cs as' t run)
+  last_capacity-from s cs as' t run = elim (capacity-from s cs as' t run) [ inl stayed ↦ inl stayed.0 | inr later ↦ inr later ]

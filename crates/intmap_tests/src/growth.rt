@@ -1,0 +1,374 @@
+//! How many slots there are, and how the pairs then lie in them.
+
+use crate::shown::{keys, shown};
+use intmap::{Cause, IntMap};
+use std::alloc::Global;
+use std::test::Fail;
+
+/// The greatest load factor, which no test has pairs enough to exceed.
+const GREATEST_FACTOR: usize = 18446744073709551615;
+
+// a map of at least so many slots with a load factor, which binds keys to ten more
+fn map_of(
+    alloc: Global,
+    slots: usize,
+    factor: usize,
+    keys: &[u64],
+) -> Result<IntMap<u64, u64>, Fail> {
+    let mut map = IntMap::with_capacity(alloc, slots)?;
+    map.set_load_factor(factor)?;
+    for key in keys {
+        map.insert(*key, key.wrapping_add(10))?;
+    }
+    Ok(map)
+}
+
+// a map as `new` makes it, which then binds keys to ten more
+fn new_of(alloc: Global, keys: &[u64]) -> Result<IntMap<u64, u64>, Fail> {
+    let mut map = IntMap::new(alloc)?;
+    for key in keys {
+        map.insert(*key, key.wrapping_add(10))?;
+    }
+    Ok(map)
+}
+
+// the number of slots at a length, where each row says a length and the slots from there on
+fn slots_at(rows: &[(usize, usize)], first: usize, len: usize) -> usize {
+    let mut slots = first;
+    for (from, more) in rows {
+        if *from <= len {
+            slots = *more;
+        }
+    }
+    slots
+}
+
+#[test]
+fn a_new_map_grows_at_these_lengths(rt: HostRuntime) -> Result<(), Fail> {
+    let rows = [
+        (4, 8),
+        (12, 16),
+        (15, 32),
+        (30, 64),
+        (60, 128),
+        (117, 256),
+        (236, 512),
+        (468, 1024),
+        (932, 2048),
+        (1868, 4096),
+        (3732, 8192),
+        (7455, 16384),
+        (14910, 32768),
+    ];
+    let mut map = IntMap::new(rt.alloc())?;
+    for key in 0..20000u64 {
+        map.insert(key, key)?;
+        let slots = slots_at(rows.as_slice(), 4, map.len());
+        assert_eq!(rt; map.capacity(), slots, "once {key} is inserted");
+    }
+    assert_eq!(rt; map.len(), 20000, "the length");
+    assert_eq!(rt; map.load(), 20000, "the load");
+    Ok(())
+}
+
+#[test]
+fn a_map_grows_by_its_load_factor(rt: HostRuntime) -> Result<(), Fail> {
+    let rows = [
+        (0, 909, 2, [(4, 8), (12, 16)].as_slice(), 14),
+        (16, 909, 16, [(15, 32), (30, 64)].as_slice(), 40),
+        (4, 100, 4, [(4, 64), (7, 128)].as_slice(), 12),
+        (4, 2000, 4, [(12, 8), (20, 16), (36, 32)].as_slice(), 40),
+        (4, 999, 4, [(4, 8), (12, 16), (20, 32)].as_slice(), 35),
+        (4, 1000, 4, [(5, 8), (12, 16), (20, 32)].as_slice(), 35),
+        (0, 0, 2, [(4, 4096), (5, 8192), (12, 16384)].as_slice(), 12),
+        (0, GREATEST_FACTOR, 2, [].as_slice(), 100),
+    ];
+    for (wanted, factor, first, changes, count) in rows {
+        let mut map = map_of(rt.alloc(), wanted, factor, [].as_slice())?;
+        assert_eq!(rt; map.capacity(), first, "at first, at {factor}");
+        for key in 0..count {
+            map.insert(key, key)?;
+            let slots = slots_at(changes, first, map.len());
+            assert_eq!(rt;
+                map.capacity(),
+                slots,
+                "once {key} is inserted, at {factor}"
+            );
+        }
+        assert_eq!(rt; map.get_load_factor(), factor, "after {count} keys");
+    }
+    Ok(())
+}
+
+#[test]
+fn pairs_lie_in_the_slots_of_the_grown_table(rt: HostRuntime) -> Result<(), Fail> {
+    let rows = [
+        ([0, 1, 2, 3].as_slice(), [0, 2, 1, 3].as_slice(), 4, 8),
+        (
+            [0, 1, 2, 3, 4, 5, 6, 7].as_slice(),
+            [0, 5, 2, 7, 4, 1, 6, 3].as_slice(),
+            8,
+            8,
+        ),
+        ([0, 4, 8, 12].as_slice(), [0, 8, 4, 12].as_slice(), 2, 8),
+        ([12, 8, 4, 0].as_slice(), [8, 0, 12, 4].as_slice(), 2, 8),
+        (
+            [0, 1, 2, 3, 4, 5, 6, 7, 8, 9, 10].as_slice(),
+            [0, 8, 5, 2, 10, 7, 4, 1, 9, 6, 3].as_slice(),
+            8,
+            8,
+        ),
+        (
+            [0, 1, 2, 3, 4, 5, 6, 7, 8, 9, 10, 11].as_slice(),
+            [0, 10, 7, 4, 1, 11, 8, 5, 2, 9, 6, 3].as_slice(),
+            12,
+            16,
+        ),
+    ];
+    for (inserted, walk, load, slots) in rows {
+        let map = new_of(rt.alloc(), inserted)?;
+        assert_eq!(rt;
+            keys(rt.alloc(), &map)?.as_slice(),
+            walk,
+            "after {inserted:?}"
+        );
+        assert_eq!(rt; map.load(), load, "the load after {inserted:?}");
+        assert_eq!(rt; map.capacity(), slots, "the slots after {inserted:?}");
+        for key in inserted {
+            let value = key.wrapping_add(10);
+            assert_eq!(rt;
+                map.get(*key).copied(),
+                Some(value),
+                "{key} of {inserted:?}"
+            );
+        }
+    }
+    Ok(())
+}
+
+#[test]
+fn a_key_inserted_again_and_again_grows_once(rt: HostRuntime) -> Result<(), Fail> {
+    let mut map = new_of(rt.alloc(), &[0, 1, 2])?;
+    for turn in 0..1000u64 {
+        assert_eq!(rt; map.insert(3, turn)?, None, "in turn {turn}");
+        assert_eq!(rt; map.capacity(), 8, "with 3, in turn {turn}");
+        assert_eq!(rt; map.insert(3, turn)?, Some(turn), "again in turn {turn}");
+        assert_eq!(rt; map.capacity(), 8, "with 3 again, in turn {turn}");
+        assert_eq!(rt; map.remove(3), Some(turn), "taken out in turn {turn}");
+        assert_eq!(rt; map.capacity(), 8, "without 3, in turn {turn}");
+    }
+    Ok(())
+}
+
+#[test]
+fn a_bound_key_never_grows_the_table(rt: HostRuntime) -> Result<(), Fail> {
+    let mut map = map_of(rt.alloc(), 0, 1000, &[0, 1, 2, 3, 4, 5, 6, 7, 8, 9, 10])?;
+    assert_eq!(rt; map.capacity(), 8, "with eleven keys");
+    for key in 0..11u64 {
+        assert!(rt; map.insert(key, 1)?.is_some(), "{key} is bound");
+        assert_eq!(rt; map.capacity(), 8, "{key} inserted again");
+    }
+    map.insert(11, 1)?;
+    assert_eq!(rt; map.capacity(), 16, "with twelve keys");
+    Ok(())
+}
+
+#[test]
+fn room_is_reserved_in_powers_of_two(rt: HostRuntime) -> Result<(), Fail> {
+    for (additional, slots) in [
+        (0, 4),
+        (3, 4),
+        (4, 4),
+        (5, 8),
+        (9, 16),
+        (15, 16),
+        (16, 16),
+        (17, 32),
+        (9001, 16384),
+    ] {
+        let mut map = new_of(rt.alloc(), [].as_slice())?;
+        map.reserve(additional)?;
+        assert_eq!(rt;
+            map.capacity(),
+            slots,
+            "of none, with {additional} reserved"
+        );
+    }
+    for (additional, slots, walk) in [
+        (0, 4, [0, 1, 2].as_slice()),
+        (1, 4, [0, 1, 2].as_slice()),
+        (2, 8, [0, 2, 1].as_slice()),
+        (5, 8, [0, 2, 1].as_slice()),
+        (6, 16, [0, 1, 2].as_slice()),
+        (29, 32, [0, 2, 1].as_slice()),
+    ] {
+        let mut map = new_of(rt.alloc(), &[0, 1, 2])?;
+        map.reserve(additional)?;
+        assert_eq!(rt;
+            map.capacity(),
+            slots,
+            "of three, with {additional} reserved"
+        );
+        assert_eq!(rt;
+            keys(rt.alloc(), &map)?.as_slice(),
+            walk,
+            "with {additional} reserved"
+        );
+        assert_eq!(rt; map.len(), 3, "with {additional} reserved");
+    }
+    Ok(())
+}
+
+#[test]
+fn reserved_room_may_still_be_outgrown(rt: HostRuntime) -> Result<(), Fail> {
+    let mut map = new_of(rt.alloc(), [].as_slice())?;
+    map.reserve(15)?;
+    for key in 0..15u64 {
+        assert_eq!(rt; map.capacity(), 16, "before {key} is inserted");
+        map.insert(key, key)?;
+    }
+    assert_eq!(rt; map.capacity(), 32, "with fifteen keys");
+    map.reserve(0)?;
+    assert_eq!(rt; map.capacity(), 32, "with nothing more reserved");
+    Ok(())
+}
+
+#[test]
+fn reserved_room_has_nothing_to_do_with_the_load_factor(rt: HostRuntime) -> Result<(), Fail> {
+    let mut map = map_of(rt.alloc(), 0, 0, &[0, 1, 2])?;
+    map.reserve(5)?;
+    assert_eq!(rt; map.capacity(), 8, "at 0, with 5 reserved");
+    map.insert(3, 13)?;
+    assert_eq!(rt; map.capacity(), 4096, "at 0, with four keys");
+
+    let mut crowd = map_of(rt.alloc(), 0, GREATEST_FACTOR, &[8, 0, 16, 32])?;
+    for (additional, slots, walk) in [
+        (0, 4, [8, 0, 16, 32]),
+        (1, 8, [8, 0, 16, 32]),
+        (5, 16, [0, 16, 32, 8]),
+    ] {
+        crowd.reserve(additional)?;
+        assert_eq!(rt; crowd.capacity(), slots, "with {additional} reserved");
+        assert_eq!(rt;
+            keys(rt.alloc(), &crowd)?.as_slice(),
+            walk.as_slice(),
+            "with {additional} reserved"
+        );
+    }
+    Ok(())
+}
+
+#[test]
+fn room_reserved_at_once_is_filled_as_in_steps(rt: HostRuntime) -> Result<(), Fail> {
+    let mut map = map_of(rt.alloc(), 0, GREATEST_FACTOR, &[8, 0, 16, 32])?;
+    assert_eq!(rt; map.capacity(), 2, "at first");
+    map.reserve(5)?;
+    assert_eq!(rt; map.capacity(), 16, "with 5 reserved");
+    assert_eq!(rt;
+        keys(rt.alloc(), &map)?.as_slice(),
+        [0, 16, 32, 8].as_slice(),
+        "with 5 reserved"
+    );
+    Ok(())
+}
+
+#[test]
+fn too_much_is_reserved_above_two_to_the_63rd(rt: HostRuntime) -> Result<(), Fail> {
+    for (bound, additional, cause) in [
+        ([].as_slice(), 9223372036854775808, Cause::Memory),
+        ([].as_slice(), 9223372036854775809, Cause::TooLarge),
+        ([].as_slice(), 18446744073709551615, Cause::TooLarge),
+        ([0, 1, 2].as_slice(), 9223372036854775805, Cause::Memory),
+        ([0, 1, 2].as_slice(), 9223372036854775806, Cause::TooLarge),
+        ([0, 1, 2].as_slice(), 18446744073709551612, Cause::TooLarge),
+        ([0, 1, 2].as_slice(), 18446744073709551613, Cause::TooLarge),
+        ([0, 1, 2].as_slice(), 18446744073709551615, Cause::TooLarge),
+    ] {
+        let mut map = new_of(rt.alloc(), bound)?;
+        let before = shown(rt.alloc(), &map)?;
+        assert_eq!(rt;
+            map.reserve(additional),
+            Err(cause),
+            "{additional} reserved beside {bound:?}"
+        );
+        assert_eq!(rt;
+            shown(rt.alloc(), &map)?.as_str(),
+            before.as_str(),
+            "{additional} was refused"
+        );
+    }
+    Ok(())
+}
+
+#[test]
+fn a_load_factor_is_909_until_it_is_set(rt: HostRuntime) -> Result<(), Fail> {
+    let mut map = IntMap::new(rt.alloc())?;
+    assert_eq!(rt; map.get_load_factor(), 909, "of a new map");
+    for factor in [0, 1, 100, 909, 2000, GREATEST_FACTOR] {
+        map.set_load_factor(factor)?;
+        assert_eq!(rt; map.get_load_factor(), factor, "once it is set");
+        assert_eq!(rt; map.capacity(), 4, "with no pair, at {factor}");
+    }
+    map.insert(0u64, 0u64)?;
+    map.reserve(100)?;
+    assert_eq!(rt; map.get_load_factor(), GREATEST_FACTOR, "with 100 reserved");
+
+    let other = IntMap::<u64, u64>::with_capacity(rt.alloc(), 20)?;
+    assert_eq!(rt; other.get_load_factor(), 909, "of a map with so many slots");
+    Ok(())
+}
+
+#[test]
+fn a_load_factor_is_met_at_once(rt: HostRuntime) -> Result<(), Fail> {
+    for (bound, factor, slots, walk) in [
+        ([0, 1, 2].as_slice(), 100, 32, [0, 2, 1].as_slice()),
+        ([0, 1, 2].as_slice(), 749, 8, [0, 2, 1].as_slice()),
+        ([0, 1, 2].as_slice(), 750, 4, [0, 1, 2].as_slice()),
+        ([0, 4, 8].as_slice(), 187, 16, [0, 4, 8].as_slice()),
+        ([0, 4, 8].as_slice(), 186, 32, [0, 8, 4].as_slice()),
+        (
+            [0, 1, 2, 3, 4, 5, 6, 7, 8].as_slice(),
+            0,
+            16384,
+            [0, 8, 7, 6, 5, 4, 3, 2, 1].as_slice(),
+        ),
+    ] {
+        let mut map = new_of(rt.alloc(), bound)?;
+        map.set_load_factor(factor)?;
+        assert_eq!(rt; map.capacity(), slots, "of {bound:?} at {factor}");
+        assert_eq!(rt;
+            keys(rt.alloc(), &map)?.as_slice(),
+            walk,
+            "of {bound:?} at {factor}"
+        );
+        assert_eq!(rt; map.len(), bound.len(), "of {bound:?} at {factor}");
+        map.set_load_factor(GREATEST_FACTOR)?;
+        assert_eq!(rt; map.capacity(), slots, "of {bound:?}, at {factor} before");
+    }
+    Ok(())
+}
+
+#[test]
+fn later_growth_goes_by_the_load_factor_that_was_set(rt: HostRuntime) -> Result<(), Fail> {
+    for (factor, first, changes) in [
+        (100, 64, [(7, 128), (13, 256)].as_slice()),
+        (500, 8, [(5, 16), (12, 32), (20, 64)].as_slice()),
+        (2000, 8, [(20, 16)].as_slice()),
+        (GREATEST_FACTOR, 8, [].as_slice()),
+    ] {
+        let mut map = new_of(rt.alloc(), &[0, 1, 2, 3])?;
+        assert_eq!(rt; map.capacity(), 8, "at 909");
+        map.set_load_factor(factor)?;
+        assert_eq!(rt; map.capacity(), first, "at {factor}");
+        for key in 4..23u64 {
+            map.insert(key, key)?;
+            let slots = slots_at(changes, first, map.len());
+            assert_eq!(rt;
+                map.capacity(),
+                slots,
+                "once {key} is inserted, at {factor}"
+            );
+        }
+    }
+    Ok(())
+}
