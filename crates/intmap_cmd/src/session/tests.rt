@@ -6,6 +6,8 @@ use std::alloc::Global;
 use std::io::{self, ErrorKind, Read, Write};
 use std::test::Fail;
 
+mod refusals;
+
 /// Gives its bytes a few at a time. Each read is first interrupted, and in place of the end it may
 /// fail.
 #[derive(Drop)]

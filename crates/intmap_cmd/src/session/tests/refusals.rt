@@ -1,0 +1,243 @@
+//! Sessions of which each request for memory is refused in turn, and their commands on a plain list.
+
+use crate::session::serve;
+use intmap_run::Command;
+use refuser::Refuser;
+use std::alloc::{AllocError, Global};
+use std::process::Abort;
+use std::test::Fail;
+
+/// A line and the command that it says.
+type Said = (&'static str, Command<u64, u64>);
+
+/// Insertions that leave the slots as many as they were.
+const WITHOUT_GROWTH: [Said; 6] = [
+    ("insert 0 10", Command::Insert(0, 10)),
+    ("insert 4 14", Command::Insert(4, 14)),
+    ("insert 8 18", Command::Insert(8, 18)),
+    ("walk", Command::Walk),
+    ("remove 0", Command::Remove(0)),
+    ("walk", Command::Walk),
+];
+
+/// Commands that ask for more slots, and the others among them.
+const WITH_GROWTH: [Said; 23] = [
+    ("walk", Command::Walk),
+    ("insert 0 10", Command::Insert(0, 10)),
+    ("insert 4096 11", Command::Insert(4096, 11)),
+    ("insert 8192 12", Command::Insert(8192, 12)),
+    ("insert 12288 13", Command::Insert(12288, 13)),
+    ("len", Command::Len),
+    ("insert 4096 21", Command::Insert(4096, 21)),
+    ("walk", Command::Walk),
+    ("set_load_factor 100", Command::SetLoadFactor(100)),
+    ("get_load_factor", Command::GetLoadFactor),
+    ("insert 16384 14", Command::Insert(16384, 14)),
+    ("get 16384", Command::Get(16384)),
+    ("reserve 200", Command::Reserve(200)),
+    (
+        "reserve 18446744073709551615",
+        Command::Reserve(18446744073709551615),
+    ),
+    ("remove 0", Command::Remove(0)),
+    ("remove 0", Command::Remove(0)),
+    ("insert 20480 15", Command::Insert(20480, 15)),
+    ("load", Command::Load),
+    ("set_load_factor 4", Command::SetLoadFactor(4)),
+    ("get_load_factor", Command::GetLoadFactor),
+    ("walk", Command::Walk),
+    ("get 0", Command::Get(0)),
+    ("len", Command::Len),
+];
+
+/// A plain list of pairs, in the place of a map of which all keys share a slot, and a load factor.
+#[derive(Drop)]
+struct List {
+    pairs: Vec<(u64, u64)>,
+    factor: usize,
+}
+
+impl List {
+    // the value of a key
+    fn get(&self, key: u64) -> Option<u64> {
+        let place = self.pairs.iter().position(|pair| pair.0 == key)?;
+        self.pairs.get(place).map(|pair| pair.1)
+    }
+
+    // takes the pair of a key out, whose place goes to the last pair
+    fn remove(&mut self, key: u64) -> Option<u64> {
+        let place = self.pairs.iter().position(|pair| pair.0 == key)?;
+        Some(self.pairs.swap_remove(place).1)
+    }
+
+    // the pairs as a walk is printed
+    fn walk(&self, alloc: Global) -> Result<String, AllocError> {
+        let mut text = String::from_str(alloc, "{")?;
+        for (key, value) in self.pairs.iter() {
+            if text.len() > 1 {
+                text.push_str(", ")?;
+            }
+            write!(text, "{key}: {value}")?;
+        }
+        text.push('}')?;
+        Ok(text)
+    }
+
+    // does what a command asks, unless memory was refused to it, and answers its line
+    fn apply(
+        &mut self,
+        alloc: Global,
+        command: &Command<u64, u64>,
+        is_refused: bool,
+    ) -> Result<String, AllocError> {
+        match *command {
+            Command::Insert(_, value) if is_refused => {
+                format!(in alloc; "refused {value}: memory")
+            }
+            Command::Reserve(_) | Command::SetLoadFactor(_) | Command::Walk if is_refused => {
+                String::from_str(alloc, "refused: memory")
+            }
+            Command::Insert(key, value) => {
+                let old = self.remove(key);
+                self.pairs.push((key, value))?;
+                line_of(alloc, old)
+            }
+            Command::Remove(key) => line_of(alloc, self.remove(key)),
+            Command::Get(key) => line_of(alloc, self.get(key)),
+            Command::Reserve(18446744073709551615) => {
+                String::from_str(alloc, "refused: too large")
+            }
+            Command::Reserve(_) => String::from_str(alloc, "done"),
+            Command::SetLoadFactor(thousandths) => {
+                self.factor = thousandths;
+                String::from_str(alloc, "done")
+            }
+            Command::GetLoadFactor => format!(in alloc; "{}", self.factor),
+            Command::Len => format!(in alloc; "{}", self.pairs.len()),
+            Command::Load => format!(in alloc; "{}", self.pairs.len().min(1)),
+            Command::Capacity => String::from_str(alloc, "not asked"),
+            Command::Walk => self.walk(alloc),
+        }
+    }
+}
+
+// the line that says a value, or that there is none
+fn line_of(alloc: Global, value: Option<u64>) -> Result<String, AllocError> {
+    match value {
+        Some(value) => format!(in alloc; "some {value}"),
+        None => String::from_str(alloc, "none"),
+    }
+}
+
+// the lines of a plain list under the same commands, where memory is refused to those that the
+// session refused it to
+fn replayed(alloc: Global, session: &[Said], written: &[u8]) -> Result<String, AllocError> {
+    let mut text = String::new(alloc);
+    let mut list = List {
+        pairs: Vec::new(alloc),
+        factor: 909,
+    };
+    for ((_, command), line) in session.iter().zip(written.split(|byte| *byte == b'\n')) {
+        let is_refused = line.ends_with(b": memory");
+        text.push_str(list.apply(alloc, command, is_refused)?.as_str())?;
+        text.push('\n')?;
+    }
+    Ok(text)
+}
+
+// the lines of a session as one text
+fn text_of(alloc: Global, session: &[Said]) -> Result<String, AllocError> {
+    let mut text = String::new(alloc);
+    for (line, _) in session {
+        text.push_str(line)?;
+        text.push('\n')?;
+    }
+    Ok(text)
+}
+
+/// How a session ended of which a request was to be refused.
+#[derive(Clone, Copy, PartialEq, Eq, Debug)]
+enum Outcome {
+    /// No request has so great a number.
+    Unrefused,
+    /// The session ended for want of memory.
+    Ended,
+    /// Commands were refused, and the others ran.
+    Answered,
+}
+
+// runs a session with the request of this number refused
+fn serve_refused_at(
+    rt: &impl Abort,
+    alloc: Global,
+    session: &[Said],
+    number: u64,
+) -> Result<Outcome, Fail> {
+    let text = text_of(alloc, session)?;
+    let memory = Refuser::new(alloc, number);
+    let mut written = Vec::new(alloc);
+    let mut told = Vec::new(alloc);
+    let status = serve(&memory, &mut text.as_bytes(), &mut written, &mut told);
+    if status == 3 {
+        assert!(rt; written.is_empty(), "request {number}: nothing is written");
+        assert_eq!(rt;
+            told.as_slice(),
+            b"no memory\n".as_slice(),
+            "request {number}"
+        );
+        assert_eq!(rt; memory.left(), 0, "request {number} was refused");
+        return Ok(Outcome::Ended);
+    }
+    assert_eq!(rt; status, 0, "request {number}");
+    assert!(rt; told.is_empty(), "request {number}: nothing is told");
+    assert_eq!(rt;
+        written.as_slice(),
+        replayed(alloc, session, written.as_slice())?.as_bytes(),
+        "the answers, with request {number} refused"
+    );
+    if memory.left() > 0 {
+        Ok(Outcome::Unrefused)
+    } else {
+        Ok(Outcome::Answered)
+    }
+}
+
+// runs a session with each request refused in turn; answers how many of them ended it, and how many
+// it went on after
+fn refusals_of(rt: &impl Abort, alloc: Global, session: &[Said]) -> Result<(u64, u64), Fail> {
+    let mut ended = 0u64;
+    let mut answered = 0u64;
+    for number in 1..200 {
+        match serve_refused_at(rt, alloc, session, number)? {
+            Outcome::Unrefused => return Ok((ended, answered)),
+            Outcome::Ended => ended = ended.saturating_add(1),
+            Outcome::Answered => answered = answered.saturating_add(1),
+        }
+    }
+    Err(Fail::from(AllocError))
+}
+
+#[test]
+fn each_refused_request_ends_a_session_or_is_answered(rt: HostRuntime) -> Result<(), Fail> {
+    let (ended, answered) = refusals_of(&rt, rt.alloc(), &WITHOUT_GROWTH)?;
+    assert!(rt;
+        ended >= 5,
+        "input, commands, map, answers and text take memory"
+    );
+    assert!(rt; answered >= 3, "a crowded pair and each walk take memory");
+    Ok(())
+}
+
+#[test]
+fn each_refused_request_of_a_growth_is_answered(rt: HostRuntime) -> Result<(), Fail> {
+    let (ended, answered) = refusals_of(&rt, rt.alloc(), &WITH_GROWTH)?;
+    assert!(rt;
+        ended >= 5,
+        "input, commands, map, answers and text take memory"
+    );
+    assert!(rt;
+        answered >= 10,
+        "crowded pairs, walks and growth take memory"
+    );
+    Ok(())
+}
