@@ -8,7 +8,7 @@ use Rattle.intmap.specs.Bindings.{HasDistinctKeys, value_of, take_key, put_pair}
 use Rattle.intmap.specs.Walk.{walk_of}
 use Rattle.intmap.specs.Growth.{IsLimit, MeetsLoad, is_due}
 use Rattle.intmap.specs.Map.{MapState, IsMapWalk}
-use Rattle.intmap.specs.Kept.{unkept, IsCounted}
+use Rattle.intmap.specs.Kept.{unkept, IsConsistent}
 use Rattle.intmap.specs.declared.kept.Kept.{Kept}
 use Rattle.intmap.proofs.SlotNumberLemmas.{slot_number-below}
 use Rattle.intmap.proofs.LoadFactorLemmas.{IsLoaded, IsLoaded-from, IsLoaded-fewer, IsLoaded-more, capacity-positive}
@@ -103,9 +103,9 @@ module _ {K V : Type 0} (number : K → ℕ) where
   pub length-unkept : (W : List (K × Kept V)) → length (unkept W) ≡ length W
   length-unkept W = length-with_values number (λ (x : Kept V). x.value) W
 
-  module _ (is_key : K → Type 0) (W W' : List (K × Kept V)) (C F n most : ℕ) (old : IsCounted number is_key W C F n most) where
+  module _ (is_key : K → Type 0) (W W' : List (K × Kept V)) (C F n most : ℕ) (old : IsConsistent number is_key W C F n most) where
     -- a pair was put in, in D slots
-    put : (D D' n' most' : ℕ) (k : K) (x : Kept V) → D' ≡ D → IsCapacity D → is_key k → W' ≡ walk_of number (put_pair number W C k x) D → length (put_pair number W C k x) ≡ n' → n' < 2 ^ 64 → IsLoaded D n' F → IsLimit D F most' → IsCounted number is_key W' D' F n' most'
+    put : (D D' n' most' : ℕ) (k : K) (x : Kept V) → D' ≡ D → IsCapacity D → is_key k → W' ≡ walk_of number (put_pair number W C k x) D → length (put_pair number W C k x) ≡ n' → n' < 2 ^ 64 → IsLoaded D n' F → IsLimit D F most' → IsConsistent number is_key W' D' F n' most'
     put D D' n' most' k x same cap key is len fits loaded limit =
         let here : length (walk_of number (put_pair number W C k x) D) ≡ n' = length-walk_of number (put_pair number W C k x) D (λ k. slot_number-below number k D cap) ∙ len in
         let seen : length (put_pair number (unkept W) C k x.value) ≡ n' =
@@ -123,8 +123,8 @@ module _ {K V : Type 0} (number : K → ℕ) where
     fits-old = let fits = old.map.count in omega (arith, fits, length-unkept W, old.count)
 
     -- the pair of a bound key was replaced
-    pub IsCounted-replaced : (C' : ℕ) (k : K) (x y : Kept V) → C' ≡ C → is_key k → value_of number W k ≡ Some y → W' ≡ walk_of number (put_pair number W C k x) C → IsCounted number is_key W' C' F n most
-    IsCounted-replaced C' k x y same key bound is =
+    pub IsConsistent-replaced : (C' : ℕ) (k : K) (x y : Kept V) → C' ≡ C → is_key k → value_of number W k ≡ Some y → W' ≡ walk_of number (put_pair number W C k x) C → IsConsistent number is_key W' C' F n most
+    IsConsistent-replaced C' k x y same key bound is =
         let len = length-put_pair number W C k x in
         let more = none_more (value_of number W k) y bound in
         put C C' n most k x same old.map.capacity key is (omega (arith, len, more, old.count)) fits-old loaded-old old.limit
@@ -135,19 +135,19 @@ module _ {K V : Type 0} (number : K → ℕ) where
         let more = one_more (value_of number W k) missing in omega (arith, len, more, old.count)
 
     -- the pair of a key that wasn't bound was added, where the table needn't grow
-    pub IsCounted-added : (C' : ℕ) (k : K) (x : Kept V) → C' ≡ C → is_key k → value_of number W k ≡ None → n + 1 < 2 ^ 64 → (is_due (n + 1) && nat_lt most (n + 1)) ≡ false → W' ≡ walk_of number (put_pair number W C k x) C → IsCounted number is_key W' C' F (n + 1) most
-    IsCounted-added C' k x same key missing fits test is =
+    pub IsConsistent-added : (C' : ℕ) (k : K) (x : Kept V) → C' ≡ C → is_key k → value_of number W k ≡ None → n + 1 < 2 ^ 64 → (is_due (n + 1) && nat_lt most (n + 1)) ≡ false → W' ≡ walk_of number (put_pair number W C k x) C → IsConsistent number is_key W' C' F (n + 1) most
+    IsConsistent-added C' k x same key missing fits test is =
         put C C' (n + 1) most k x same old.map.capacity key is (longer k x missing) fits
         (IsLoaded-more C n F most (capacity-positive C old.map.capacity) fits old.limit loaded-old test) old.limit
 
     -- and where it grew to D slots
-    pub IsCounted-grown_with : (D D' most' : ℕ) (k : K) (x : Kept V) → D' ≡ D → IsCapacity D → is_key k → value_of number W k ≡ None → n + 1 < 2 ^ 64 → MeetsLoad D (n + 1) F → IsLimit D F most' → W' ≡ walk_of number (put_pair number W C k x) D → IsCounted number is_key W' D' F (n + 1) most'
-    IsCounted-grown_with D D' most' k x same cap key missing fits meets limit is =
+    pub IsConsistent-grown_with : (D D' most' : ℕ) (k : K) (x : Kept V) → D' ≡ D → IsCapacity D → is_key k → value_of number W k ≡ None → n + 1 < 2 ^ 64 → MeetsLoad D (n + 1) F → IsLimit D F most' → W' ≡ walk_of number (put_pair number W C k x) D → IsConsistent number is_key W' D' F (n + 1) most'
+    IsConsistent-grown_with D D' most' k x same cap key missing fits meets limit is =
         put D D' (n + 1) most' k x same cap key is (longer k x missing) fits (IsLoaded-from D (n + 1) F (capacity-positive D cap) meets) limit
 
     -- a key was taken out
-    pub IsCounted-taken : (C' : ℕ) (k : K) (n' : ℕ) → C' ≡ C → W' ≡ walk_of number (take_key number W C k) C → n' ≡ n - cond (is_some (value_of number W k)) 1 0 → IsCounted number is_key W' C' F n' most
-    IsCounted-taken C' k n' same is len =
+    pub IsConsistent-taken : (C' : ℕ) (k : K) (n' : ℕ) → C' ≡ C → W' ≡ walk_of number (take_key number W C k) C → n' ≡ n - cond (is_some (value_of number W k)) 1 0 → IsConsistent number is_key W' C' F n' most
+    IsConsistent-taken C' k n' same is len =
         let here : length (walk_of number (take_key number W C k) C) ≡ length (take_key number W C k) = length-walk_of number (take_key number W C k) C (λ k. slot_number-below number k C old.map.capacity) in
         let left = length-take_key number W C k in
         let same_len : length W' ≡ length (take_key number W C k) = ap length is ∙ here in
@@ -158,8 +158,8 @@ module _ {K V : Type 0} (number : K → ℕ) where
         }
 
     -- the pairs went into D slots, at the load factor G
-    pub IsCounted-grown : (D D' G most' : ℕ) → D' ≡ D → IsCapacity D → IsLoaded D n G → IsLimit D G most' → W' ≡ walk_of number W D → IsCounted number is_key W' D' G n most'
-    IsCounted-grown D D' G most' same cap loaded limit is =
+    pub IsConsistent-grown : (D D' G most' : ℕ) → D' ≡ D → IsCapacity D → IsLoaded D n G → IsLimit D G most' → W' ≡ walk_of number W D → IsConsistent number is_key W' D' G n most'
+    IsConsistent-grown D D' G most' same cap loaded limit is =
         let here : length (walk_of number W D) ≡ length W = length-walk_of number W D (λ k. slot_number-below number k D cap) in
         let seen : n ≡ length (unkept W) = old.count ∙ sym (length-unkept W) in
         let all : length W' ≡ length W = ap length is ∙ here in

@@ -6,6 +6,7 @@ use Rattle.intmap.specs.Walk.{walk_of, first_of_walk}
 use Rattle.intmap.specs.Reach.{class_size, reach}
 use Rattle.intmap.specs.Growth.{last_due, wanted_capacity, next_capacity, least_power}
 use Rattle.intmap.specs.Figures.{load_of, rate_of, sizes_of}
+use Rattle.intmap.specs.Moves.{keys_of}
 
 -- a key that is its own number
 abbrev itself : ℕ → ℕ
@@ -14,9 +15,6 @@ itself k = k
 -- pairs that bind each key to ten more than itself
 abbrev pairs_of : List ℕ → List (ℕ × ℕ)
 pairs_of ks = map (λ k. (k, k + 10)) ks
-
-abbrev keys : List (ℕ × ℕ) → List ℕ
-keys L = map (λ p. p.0) L
 
 -- three keys that share a slot of four
 abbrev crowd : List (ℕ × ℕ)
@@ -27,15 +25,15 @@ put_twice : value_of {V = ℕ} itself (put_pair itself (put_pair itself [] 4 21 
 put_twice = refl
 
 -- the keys 0 to 7 in eight slots
-walk_of-eight : keys (walk_of itself (pairs_of (range_with_len 0 8)) 8) ≡ 0 ∷ 5 ∷ 2 ∷ 7 ∷ 4 ∷ 1 ∷ 6 ∷ 3 ∷ []
+walk_of-eight : keys_of (walk_of itself (pairs_of (range_with_len 0 8)) 8) ≡ 0 ∷ 5 ∷ 2 ∷ 7 ∷ 4 ∷ 1 ∷ 6 ∷ 3 ∷ []
 walk_of-eight = refl
 
 -- the last of the class takes the place of a removed key
-take_key-first : keys (walk_of itself (take_key itself crowd 4 0) 4) ≡ 8 ∷ 4 ∷ []
+take_key-first : keys_of (walk_of itself (take_key itself crowd 4 0) 4) ≡ 8 ∷ 4 ∷ []
 take_key-first = refl
 
 -- a key that is put again stands last
-put_pair-again : keys (walk_of itself (put_pair itself crowd 4 4 99) 4) ≡ 0 ∷ 8 ∷ 4 ∷ []
+put_pair-again : keys_of (walk_of itself (put_pair itself crowd 4 4 99) 4) ≡ 0 ∷ 8 ∷ 4 ∷ []
 put_pair-again = refl
 
 -- a written value stays in its place
@@ -43,7 +41,7 @@ write_value-here : walk_of itself (write_value itself crowd 4 99) 4 ≡ (0, 10) 
 write_value-here = refl
 
 -- the fourth key of a class, in four slots and then in eight
-grown_crowd : keys (walk_of itself (walk_of itself (put_pair itself crowd 4 12 22) 4) 8) ≡ 0 ∷ 8 ∷ 4 ∷ 12 ∷ []
+grown_crowd : keys_of (walk_of itself (walk_of itself (put_pair itself crowd 4 12 22) 4) 8) ≡ 0 ∷ 8 ∷ 4 ∷ 12 ∷ []
 grown_crowd = refl
 
 -- a load factor of a tenth: capacities at the fourth, the seventh and the twelfth key
@@ -55,7 +53,7 @@ next_capacity-none : (next_capacity 2 4 0 ≡ 4096) × (next_capacity 4096 5 0 �
 next_capacity-none = (refl, refl, refl)
 
 -- the greatest key belongs to the last of four slots
-walk_of-greatest : keys (walk_of itself (pairs_of (3 ∷ 7 ∷ 18446744073709551615 ∷ [])) 4) ≡ 3 ∷ 7 ∷ 18446744073709551615 ∷ []
+walk_of-greatest : keys_of (walk_of itself (pairs_of (3 ∷ 7 ∷ 18446744073709551615 ∷ [])) 4) ≡ 3 ∷ 7 ∷ 18446744073709551615 ∷ []
 walk_of-greatest = refl
 
 load_of-greatest : load_of itself (pairs_of (3 ∷ 7 ∷ 18446744073709551615 ∷ [])) 4 ≡ 1
@@ -72,7 +70,7 @@ rate_of-eleven = refl
 wanted_capacity-three : wanted_capacity 4 3 100 ≡ 32
 wanted_capacity-three = refl
 
-walk_of-three : keys (walk_of itself (walk_of itself (pairs_of (0 ∷ 1 ∷ 2 ∷ [])) 4) 32) ≡ 0 ∷ 2 ∷ 1 ∷ []
+walk_of-three : keys_of (walk_of itself (walk_of itself (pairs_of (0 ∷ 1 ∷ 2 ∷ [])) 4) 32) ≡ 0 ∷ 2 ∷ 1 ∷ []
 walk_of-three = refl
 
 -- no capacity up to 2^63 is enough
@@ -83,14 +81,14 @@ wanted_capacity-greatest = refl
 sizes_of-two : sizes_of itself (pairs_of (0 ∷ 2 ∷ 4 ∷ 1 ∷ 3 ∷ [])) 2 ≡ (3, 1) ∷ (2, 1) ∷ []
 sizes_of-two = refl
 
-walk_of-sizes : keys (walk_of itself (sizes_of itself (pairs_of (0 ∷ 2 ∷ 4 ∷ 1 ∷ 3 ∷ [])) 2) 4) ≡ 2 ∷ 3 ∷ []
+walk_of-sizes : keys_of (walk_of itself (sizes_of itself (pairs_of (0 ∷ 2 ∷ 4 ∷ 1 ∷ 3 ∷ [])) 2) 4) ≡ 2 ∷ 3 ∷ []
 walk_of-sizes = refl
 
 -- the even keys struck
-strike_keys-even : keys (strike_keys itself (walk_of itself (pairs_of (range_with_len 0 8)) 8) (0 ∷ 2 ∷ 4 ∷ 6 ∷ [])) ≡ 5 ∷ 7 ∷ 1 ∷ 3 ∷ []
+strike_keys-even : keys_of (strike_keys itself (walk_of itself (pairs_of (range_with_len 0 8)) 8) (0 ∷ 2 ∷ 4 ∷ 6 ∷ [])) ≡ 5 ∷ 7 ∷ 1 ∷ 3 ∷ []
 strike_keys-even = refl
 
-first_of_walk-three : keys (first_of_walk itself 3 (pairs_of (range_with_len 0 8)) 8) ≡ 0 ∷ 5 ∷ 2 ∷ []
+first_of_walk-three : keys_of (first_of_walk itself 3 (pairs_of (range_with_len 0 8)) 8) ≡ 0 ∷ 5 ∷ 2 ∷ []
 first_of_walk-three = refl
 
 -- a missing key is compared with its whole class, a bound one with those before it and itself

@@ -9,8 +9,8 @@ module _ {K V : Type 0} where
   abbrev pub unkept : List (K × Kept V) → List (K × V)
   unkept L = map (λ p. (p.0, p.1.value)) L
 
-  -- what a map keeps of its table's walk, of C slots and the load factor F, of its number n of pairs and of the greatest that meets the load
-  pub record IsCounted (number : K → ℕ) (is_key : K → Type 0) (W : List (K × Kept V)) (C F n most : ℕ) : Type 0 where
+  -- what a map keeps agrees: its table's walk, the C slots, the load factor F, the number n of pairs and the greatest number that meets the load
+  pub record IsConsistent (number : K → ℕ) (is_key : K → Type 0) (W : List (K × Kept V)) (C F n most : ℕ) : Type 0 where
     pub map : IsMapWalk number is_key (unkept W) C F
     pub count : n ≡ length W
     pub limit : IsLimit C F most

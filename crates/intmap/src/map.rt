@@ -39,7 +39,7 @@ pub struct IntMap<K: IntKey, V, A: Allocator + Copy = Global> {
 
 impl<K: IntKey, V, A: Allocator + Copy> Model for IntMap<K, V, A> {
     ghost use Rattle.intmap.specs.Map.{MapState};
-    ghost use Rattle.intmap.specs.Kept.{unkept, IsCounted};
+    ghost use Rattle.intmap.specs.Kept.{unkept, IsConsistent};
 
     ghost Value = { MapState K V };
 
@@ -51,7 +51,7 @@ impl<K: IntKey, V, A: Allocator + Copy> Model for IntMap<K, V, A> {
       compared = m.compared;
     } };
 
-    ghost invariant = { λ m. IsCounted K.number_of K.is_key m.table.walk m.table.capacity
+    ghost invariant = { λ m. IsConsistent K.number_of K.is_key m.table.walk m.table.capacity
         m.factor m.len m.limit };
 }
 

@@ -5,7 +5,7 @@ use Rattle.intmap.specs.Growth.{IsNext, is_due}
 use Rattle.intmap.specs.Map.{IsFull}
 use Rattle.intmap.specs.Kept.{unkept}
 use Rattle.intmap.proofs.LoadFactorLemmas.{IsNext-same, GrowsTooMuch-none}
-use Rattle.intmap.proofs.MapLemmas.{MapState-same, unkept-put, length-unkept, IsCounted-added}
+use Rattle.intmap.proofs.MapLemmas.{MapState-same, unkept-put, length-unkept, IsConsistent-added}
 use Rattle.intmap.proofs.MappedLemmas.{value_of-missing_values, class_size-with_values}
 use Rattle.intmap.proofs.map.IntMap.add.Goals as goal
 use Rattle.intmap.proofs.map.IntMap.add.Goals.{After-add}
@@ -48,7 +48,7 @@ pub invariant_of-self-2 : goal.invariant_of-self-2
 invariant_of-self-2 g c =
     let here = (goal.at.invariant_of-self-2 g c).After-add in
     let missing = value_of-missing_values g.K.IntKey.number_of (λ kept. kept.value) c.self.inside.table.walk c.args.key (rw (← c.self.view_is) at c.requires.missing) in
-    IsCounted-added _ _ _ _ _ _ _ _ c.self.invariant c.add.new.self.capacity c.args.key (record { value = c.args.value }) c.in_default.ensures.capacity c.requires.key missing (fits g here) (test g here) c.in_default.ensures.walk
+    IsConsistent-added _ _ _ _ _ _ _ _ c.self.invariant c.add.new.self.capacity c.args.key (record { value = c.args.value }) c.in_default.ensures.capacity c.requires.key missing (fits g here) (test g here) c.in_default.ensures.walk
 
 pub returns-clause-capacity : goal.returns-clause-capacity
 returns-clause-capacity g c =

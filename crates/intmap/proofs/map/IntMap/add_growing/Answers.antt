@@ -3,9 +3,9 @@ use Rattle.std.specs.Prelude.{◌==◌}
 use Rattle.std.proofs.lemmas.Bool.{ne_eqb}
 use Rattle.intmap.specs.Bindings.{value_of}
 use Rattle.intmap.specs.Growth.{MeetsLoad}
-use Rattle.intmap.specs.Kept.{unkept, IsCounted}
+use Rattle.intmap.specs.Kept.{unkept, IsConsistent}
 use Rattle.intmap.proofs.LoadFactorLemmas.{IsNext-changes}
-use Rattle.intmap.proofs.MapLemmas.{MapState-same, unkept-put, length-unkept, IsCounted-grown_with}
+use Rattle.intmap.proofs.MapLemmas.{MapState-same, unkept-put, length-unkept, IsConsistent-grown_with}
 use Rattle.intmap.proofs.MappedLemmas.{value_of-missing_values}
 use Rattle.intmap.proofs.map.IntMap.add_growing.Goals as goal
 use Rattle.intmap.proofs.map.IntMap.add_growing.Goals.{After-capacity}
@@ -32,10 +32,10 @@ invariant_of-self-2 g c =
     let here = (goal.at.invariant_of-self-2 g c).After-capacity in
     let e : c.args.len ≡ c.self.inside.len + 1 = long g here ∙ ap (λ n. n + 1) (sym c.self.invariant.count) in
     let fits = c.ranges.len.fits in
-    let Counted : ℕ → Type 0 = λ n. IsCounted g.K.IntKey.number_of g.K.IntKey.is_key c.grow_with.new.self.walk c.grow_with.new.self.capacity c.self.inside.factor n c.limit_of-limit.result in
+    let Counted : ℕ → Type 0 = λ n. IsConsistent g.K.IntKey.number_of g.K.IntKey.is_key c.grow_with.new.self.walk c.grow_with.new.self.capacity c.self.inside.factor n c.limit_of-limit.result in
     let meets : MeetsLoad c.in-Some.capacity (c.self.inside.len + 1) c.self.inside.factor = subst (λ n. MeetsLoad c.in-Some.capacity n c.self.inside.factor) e c.in-Some.ensures.wanted.meets in
     subst Counted (sym e)
-    (IsCounted-grown_with _ _ _ _ _ _ _ _ c.self.invariant c.in-Some.capacity c.grow_with.new.self.capacity c.limit_of-limit.result c.args.key (record { value = c.args.value })
+    (IsConsistent-grown_with _ _ _ _ _ _ _ _ c.self.invariant c.in-Some.capacity c.grow_with.new.self.capacity c.limit_of-limit.result c.args.key (record { value = c.args.value })
     c.in_default-grow_with.ensures.capacity c.in-Some.ensures.capacity c.requires.key (missing g here) (omega (arith, e, fits)) meets c.limit_of-limit.ensures c.in_default-grow_with.ensures.walk)
 
 pub returns-clause-state : goal.returns-clause-state

@@ -10,7 +10,7 @@ use Rattle.intmap.specs.Bindings.{value_of}
 use Rattle.intmap.specs.Map.{MapState, after_search, after_insert, with_pair}
 use Rattle.intmap.specs.Kept.{unkept}
 use Rattle.intmap.specs.declared.kept.Kept.{Kept}
-use Rattle.intmap.proofs.MapLemmas.{MapState-same, unkept-put, IsCounted-replaced}
+use Rattle.intmap.proofs.MapLemmas.{MapState-same, unkept-put, IsConsistent-replaced}
 use Rattle.intmap.proofs.MappedLemmas.{value_of-with_values, reach-with_values}
 use Rattle.intmap.proofs.map.IntMap.insert.Goals as goal
 use Rattle.intmap.proofs.map.IntMap.insert.Goals.{After-add}
@@ -30,7 +30,7 @@ searched g c =
 
 pub invariant_of-self : goal.invariant_of-self
 invariant_of-self g c =
-    IsCounted-replaced _ _ _ _ _ _ _ _ c.self.invariant c.replace.new.self.capacity c.args.key (record { value = c.args.value }) c.in-Ok.old c.in-Ok.ensures.capacity c.in-Ok.ensures.key c.in-Ok.ensures.old c.in-Ok.ensures.walk
+    IsConsistent-replaced _ _ _ _ _ _ _ _ c.self.invariant c.replace.new.self.capacity c.args.key (record { value = c.args.value }) c.in-Ok.old c.in-Ok.ensures.capacity c.in-Ok.ensures.key c.in-Ok.ensures.old c.in-Ok.ensures.walk
 
 pub returns-in-Ok-clause-old : goal.returns-in-Ok-clause-old
 returns-in-Ok-clause-old g c =

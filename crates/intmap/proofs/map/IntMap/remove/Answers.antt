@@ -2,14 +2,14 @@ use Rattle.std.proofs.Common.{refl}
 use Rattle.std.proofs.Common.{◌+◌, ◌-◌, sym, ap, ◌∙◌, arith}
 use Rattle.std.specs.Option.{option_map}
 use Rattle.intmap.specs.Bindings.{value_of}
-use Rattle.intmap.proofs.MapLemmas.{MapState-same, unkept-take, IsCounted-taken, none_less, one_less}
+use Rattle.intmap.proofs.MapLemmas.{MapState-same, unkept-take, IsConsistent-taken, none_less, one_less}
 use Rattle.intmap.proofs.MappedLemmas.{value_of-with_values, reach-with_values}
 use Rattle.intmap.proofs.map.IntMap.remove.Goals as goal
 
 pub invariant_of-self : goal.invariant_of-self
 invariant_of-self g c =
     let none = none_less (value_of g.K.IntKey.number_of c.self.inside.table.walk c.args.key) (sym c.in_default.ensures.value) in
-    IsCounted-taken _ _ _ _ _ _ _ _ c.self.invariant c.take.new.self.capacity c.args.key c.self.inside.len c.in_default.ensures.capacity c.in_default.ensures.walk (omega (arith, none))
+    IsConsistent-taken _ _ _ _ _ _ _ _ c.self.invariant c.take.new.self.capacity c.args.key c.self.inside.len c.in_default.ensures.capacity c.in_default.ensures.walk (omega (arith, none))
 
 pub returns-in_default-clause-value : goal.returns-in_default-clause-value
 returns-in_default-clause-value g c =
@@ -27,7 +27,7 @@ returns-in_default-clause-map g c = rw (← c.self.view_is) c.self.invariant.map
 pub invariant_of-self-2 : goal.invariant_of-self-2
 invariant_of-self-2 g c =
     let one = one_less (value_of g.K.IntKey.number_of c.self.inside.table.walk c.args.key) c.in-Some.kept (sym c.in-Some.ensures.value) in
-    IsCounted-taken _ _ _ _ _ _ _ _ c.self.invariant c.take.new.self.capacity c.args.key (c.self.inside.len - 1) c.in-Some.ensures.capacity c.in-Some.ensures.walk (omega (arith, one))
+    IsConsistent-taken _ _ _ _ _ _ _ _ c.self.invariant c.take.new.self.capacity c.args.key (c.self.inside.len - 1) c.in-Some.ensures.capacity c.in-Some.ensures.walk (omega (arith, one))
 
 pub returns-clause-value : goal.returns-clause-value
 returns-clause-value g c =

@@ -5,7 +5,7 @@ use Rattle.intmap.specs.Growth.{IsLeastPower}
 use Rattle.intmap.specs.Map.{MapState}
 use Rattle.intmap.proofs.GrowthLemmas.{IsLeastPower-up, IsLeastPower-fits, IsCapacity-max}
 use Rattle.intmap.proofs.LoadFactorLemmas.{IsLoaded, IsLoaded-larger, capacity-positive}
-use Rattle.intmap.proofs.MapLemmas.{MapState-same, unkept-grown, length-unkept, IsCounted-grown, OnOk-at, IsOk-at_err}
+use Rattle.intmap.proofs.MapLemmas.{MapState-same, unkept-grown, length-unkept, IsConsistent-grown, OnOk-at, IsOk-at_err}
 use Rattle.intmap.proofs.map.IntMap.reserve.Goals as goal
 use Rattle.intmap.proofs.map.IntMap.reserve.Goals.{After-max-capacity}
 
@@ -60,7 +60,7 @@ invariant_of-self-2 g c =
     let C = c.self.inside.table.capacity in
     let loaded : IsLoaded c.self.inside.table.capacity c.self.inside.len c.self.inside.factor =
     subst (λ n. IsLoaded c.self.inside.table.capacity n c.self.inside.factor) (length-unkept g.K.IntKey.number_of c.self.inside.table.walk ∙ sym c.self.invariant.count) c.self.invariant.map.load in
-    IsCounted-grown _ _ _ _ _ _ _ _ c.self.invariant c.max-capacity.result c.grow_to.new.self.capacity c.self.inside.factor _ capacity (cap g at)
+    IsConsistent-grown _ _ _ _ _ _ _ _ c.self.invariant c.max-capacity.result c.grow_to.new.self.capacity c.self.inside.factor _ capacity (cap g at)
     (IsLoaded-larger c.self.inside.table.capacity c.max-capacity.result c.self.inside.len c.self.inside.factor (capacity-positive c.self.inside.table.capacity c.self.invariant.map.capacity) (omega (arith, most g at)) loaded)
     c.limit_of-self-inside.ensures walk
 

@@ -2,7 +2,7 @@ use Rattle.std.proofs.Common.{◌≡◌, length, sym, ap, ◌∙◌, subst, refl
 use Rattle.intmap.specs.Growth.{IsWanted, WantsTooMuch}
 use Rattle.intmap.specs.Map.{MapState}
 use Rattle.intmap.proofs.LoadFactorLemmas.{not_too_much, capacity-greatest, capacity-positive, IsLoaded-from}
-use Rattle.intmap.proofs.MapLemmas.{MapState-same, unkept-grown, length-unkept, IsCounted-grown, OnOk-at}
+use Rattle.intmap.proofs.MapLemmas.{MapState-same, unkept-grown, length-unkept, IsConsistent-grown, OnOk-at}
 use Rattle.intmap.proofs.map.IntMap.set_load_factor.Goals as goal
 use Rattle.intmap.proofs.map.IntMap.set_load_factor.Goals.{After-is_err}
 
@@ -27,7 +27,7 @@ invariant_of-self-2 g c =
     let accepted = sym c.is_err.ensures.value ∙ c.if-is_err.false in
     let walk = OnOk-at c.grow_to.result _ accepted c.grow_to.ensures.walk in
     let capacity = OnOk-at c.grow_to.result _ accepted c.grow_to.ensures.capacity in
-    IsCounted-grown _ _ _ _ _ _ _ _ c.self.invariant c.in-Some.capacity c.grow_to.new.self.capacity c.args.thousandths _ capacity c.in-Some.ensures.capacity
+    IsConsistent-grown _ _ _ _ _ _ _ _ c.self.invariant c.in-Some.capacity c.grow_to.new.self.capacity c.args.thousandths _ capacity c.in-Some.ensures.capacity
     (IsLoaded-from c.in-Some.capacity c.self.inside.len c.args.thousandths (capacity-positive c.in-Some.capacity c.in-Some.ensures.capacity) c.in-Some.ensures.wanted.meets)
     c.limit_of-self-inside.ensures walk
 
