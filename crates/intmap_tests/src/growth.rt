@@ -259,6 +259,34 @@ fn reserved_room_has_nothing_to_do_with_the_load_factor(rt: HostRuntime) -> Resu
 }
 
 #[test]
+fn room_may_be_reserved_between_growths(rt: HostRuntime) -> Result<(), Fail> {
+    let mut map = map_of(rt.alloc(), 0, 0, &[0, 1, 2, 3])?;
+    assert_eq!(rt; map.capacity(), 4096, "at 0, with four keys");
+    map.reserve(5000)?;
+    assert_eq!(rt; map.capacity(), 8192, "with 5000 reserved");
+    for key in 4..12u64 {
+        assert_eq!(rt; map.capacity(), 8192, "before {key} is inserted");
+        map.insert(key, key)?;
+    }
+    assert_eq!(rt; map.capacity(), 16384, "with twelve keys");
+    Ok(())
+}
+
+#[test]
+fn a_hundred_keys_may_share_two_slots(rt: HostRuntime) -> Result<(), Fail> {
+    let mut map = map_of(rt.alloc(), 0, GREATEST_FACTOR, [].as_slice())?;
+    for key in 0..100u64 {
+        map.insert(key, key)?;
+    }
+    assert_eq!(rt; map.capacity(), 2, "the slots");
+    assert_eq!(rt; map.load(), 2, "the load");
+    for key in 0..100u64 {
+        assert_eq!(rt; map.get(key).copied(), Some(key), "the value of {key}");
+    }
+    Ok(())
+}
+
+#[test]
 fn room_reserved_at_once_is_filled_as_in_steps(rt: HostRuntime) -> Result<(), Fail> {
     let mut map = map_of(rt.alloc(), 0, GREATEST_FACTOR, &[8, 0, 16, 32])?;
     assert_eq!(rt; map.capacity(), 2, "at first");
