@@ -1,11 +1,13 @@
 -- Lines and the commands that they say.
-use Rattle.std.proofs.Common.{◌≡◌, ◌≢◌, ℕ, cond, List, [], ◌∷◌, ◌++◌, map, filter, refl, ap, sym, ◌∙◌, subst, Bor}
-use Rattle.std.specs.List.{AllZip}
-use Rattle.std.proofs.lemmas.List.{map-append}
-use Rattle.std.proofs.lemmas.List.Elements.{filter-append}
+use Rattle.std.proofs.Common.{arith, ◌≡◌, ◌≢◌, ℕ, ◌+◌, ◌≤◌, ◌==◌, Bool, cond, List, [], ◌∷◌, ◌++◌, map, filter, length, refl, ap, sym, ◌∙◌, subst, Bor}
+use Rattle.std.specs.List.{AllZip, All}
+use Rattle.std.proofs.lemmas.List.{map-append, append-nil, length-append, length-map}
+use Rattle.std.proofs.lemmas.List.Elements.{filter-append, All-append, All-cons, All-nil}
+use Rattle.std.proofs.lemmas.List.Sums.{count_by-le-length}
+use Rattle.std.proofs.lemmas.List.Splits.{length-slice_split}
 use Rattle.intmap_run.specs.declared.command.Command.{Command}
-use Rattle.intmap_cmd.specs.Lines.{is_filled, words_of, rows_of}
-use Rattle.intmap_cmd.specs.Commands.{Says}
+use Rattle.intmap_cmd.specs.Lines.{is_filled, lines_in, words_of, rows_of}
+use Rattle.intmap_cmd.specs.Commands.{Says, SpellsNone, IsUnknown, IsKnown, IsFirstUnknown}
 
 -- the lines say these commands, one a line that has a word
 abbrev pub LinesSay : List (List ℕ) → List (Command ℕ ℕ) → Type 0
@@ -60,7 +62,7 @@ none_later (w ∷ ws) rows [] none h = h
 none_later (w ∷ ws) rows (c ∷ cs) none h = none cs h.1
 
 -- lines of which one has words that say no command
-pub none_said : (before : List (List ℕ)) (line : List ℕ) (after : List (List ℕ))
+none_said : (before : List (List ℕ)) (line : List ℕ) (after : List (List ℕ))
     → words_of line ≢ [] → ((c : Command ℕ ℕ) → ¬ Says (words_of line) c)
     → (cs : List (Command ℕ ℕ)) → ¬ LinesSay (before ++ line ∷ after) cs
 none_said [] line after filled none cs h =
@@ -68,3 +70,61 @@ none_said [] line after filled none cs h =
 none_said (x ∷ xs) line after filled none cs h =
     let rows = rows_of (xs ++ line ∷ after) in
     none_later (words_of x) rows cs (none_said xs line after filled none) h
+
+-- one line more, which is blank
+pub blank_more : (lines : List (Bor (List ℕ))) (line : Bor (List ℕ)) (cs : List (Command ℕ ℕ))
+    → LinesSay (map (λ l. l.now) lines) cs → words_of line.now ≡ []
+    → LinesSay (map (λ l. l.now) (lines ++ line ∷ [])) cs
+blank_more lines line cs h blank =
+    let before = map (λ l. l.now) lines in
+    let row : rows_of (line.now ∷ []) ≡ [] = rw blank refl in
+    let all = ap rows_of (map-append (λ l. l.now) lines (line ∷ [])) ∙ rows_of-append before (line.now ∷ []) in
+    let rows = all ∙ ap (λ r. rows_of before ++ r) row ∙ append-nil (rows_of before) in
+    subst (λ r. AllZip Says r cs) (sym rows) h
+
+-- each line is blank or says a command
+abbrev pub AreKnown : List (List ℕ) → Type 0
+AreKnown lines = All (λ l. IsKnown (words_of l)) lines
+
+-- one line more, which is blank or says a command
+pub known_more : (lines : List (Bor (List ℕ))) (line : Bor (List ℕ))
+    → AreKnown (map (λ l. l.now) lines) → IsKnown (words_of line.now)
+    → AreKnown (map (λ l. l.now) (lines ++ line ∷ []))
+known_more lines line known here =
+    let P : List ℕ → Type 0 = λ l. IsKnown (words_of l) in
+    let before = map (λ l. l.now) lines in
+    let last = All-cons P line.now [] here (All-nil P) in
+    subst AreKnown (sym (map-append (λ l. l.now) lines (line ∷ [])))
+    (All-append P before (line.now ∷ []) known last)
+
+-- one more than a list's length is the length with one more
+pub one_more : {X : Type 0} (xs : List X) (x : X) (n : ℕ) → n ≡ length xs → n + 1 ≡ length (xs ++ x ∷ [])
+one_more xs x n counted = rw (length-append xs (x ∷ [])) (ap (λ m. m + 1) counted)
+
+-- a text has at most one line more than bytes
+pub few_lines : (text : List ℕ) (before : List (Bor (List ℕ))) (after : List (List ℕ))
+    → lines_in text ≡ map (λ l. l.now) before ++ after → length before ≤ length text + 1
+few_lines text before after all =
+    let lines = map (λ l. l.now) before in
+    let ends : ℕ → Bool = λ b. b == 10 in
+    let bytes = count_by-le-length ends text in
+    omega (arith, ap length all, length-append lines after, length-map before (λ l. l.now), length-slice_split ends text, bytes)
+
+-- behind lines that are blank or commands, one with words that say none is the first such, and the text spells no commands
+pub first_unknown : (text : List ℕ) (before : List (Bor (List ℕ))) (line : List ℕ) (after : List (List ℕ)) (n : ℕ)
+    → lines_in text ≡ map (λ l. l.now) before ++ line ∷ after → n ≡ length before
+    → AreKnown (map (λ l. l.now) before) → IsUnknown (words_of line)
+    → SpellsNone text × IsFirstUnknown text (n + 1)
+first_unknown text before line after n all counted known unknown =
+    let lines = map (λ l. l.now) before in (
+      λ cs spelled. none_said lines line after unknown.0 unknown.1 cs (subst (λ ls. LinesSay ls cs) all spelled),
+      record {
+        before = lines;
+        line = line;
+        after = after;
+        lines = all;
+        number = rw (length-map before (λ l. l.now)) (ap (λ m. m + 1) counted);
+        known = known;
+        unknown = unknown;
+      },
+    )

@@ -1,9 +1,9 @@
 -- Which commands a text spells.
-use Rattle.std.specs.Prelude.{◌≡◌, ℕ, ◌^◌, ◌<◌, List, [], ◌∷◌}
+use Rattle.std.specs.Prelude.{◌≡◌, ◌≢◌, ◌⊎◌, ℕ, ◌+◌, ◌^◌, ◌<◌, List, [], ◌∷◌, ◌++◌, length, All}
 use Rattle.std.specs.List.{AllZip}
 use Rattle.std.specs.Fmt.{decimal}
 use Rattle.intmap_run.specs.declared.command.Command.{Command}
-use Rattle.intmap_cmd.specs.Lines.{lines_in, rows_of}
+use Rattle.intmap_cmd.specs.Lines.{lines_in, words_of, rows_of}
 use Rattle.intmap_cmd.specs.Words.{name_of, numbers_of}
 
 -- the word is the decimal text of a number below 2^64
@@ -18,6 +18,24 @@ Says (name ∷ words) c = (name ≡ name_of c) × AllZip Writes words (numbers_o
 -- the lines of the text that have a word say these commands, one a line
 abbrev pub Spells : List ℕ → List (Command ℕ ℕ) → Type 0
 Spells text commands = AllZip Says (rows_of (lines_in text)) commands
+
+-- there are words, and they say no command
+abbrev pub IsUnknown : List (List ℕ) → Type 0
+IsUnknown words = (words ≢ []) × ((c : Command ℕ ℕ) → ¬ Says words c)
+
+-- there is no word, or the words say a command
+abbrev pub IsKnown : List (List ℕ) → Type 0
+IsKnown words = (words ≡ []) ⊎ ((c : Command ℕ ℕ) × Says words c)
+
+-- line n of the text, counted from 1, is the first that has words which say no command
+pub record IsFirstUnknown (text : List ℕ) (n : ℕ) : Type 0 where
+  pub before : List (List ℕ)
+  pub line : List ℕ
+  pub after : List (List ℕ)
+  pub lines : lines_in text ≡ before ++ line ∷ after
+  pub number : n ≡ length before + 1
+  pub known : All (λ l. IsKnown (words_of l)) before
+  pub unknown : IsUnknown (words_of line)
 
 -- the text spells no list of commands
 abbrev pub SpellsNone : List ℕ → Type 0

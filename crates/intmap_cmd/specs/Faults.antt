@@ -3,7 +3,7 @@ use Rattle.std.specs.Prelude.{ℕ, List, [], ◌∷◌, ◌++◌, ⊤, codes}
 use Rattle.std.specs.Fmt.{decimal}
 use Rattle.intmap_cmd.specs.declared.fault.Fault.{Fault}
 use Rattle.intmap_cmd.specs.declared.fault.Fault.TheVariants as fault
-use Rattle.intmap_cmd.specs.Commands.{SpellsNone}
+use Rattle.intmap_cmd.specs.Commands.{SpellsNone, IsFirstUnknown}
 
 -- the exit status
 abbrev pub status_of : Fault → ℕ
@@ -19,9 +19,9 @@ report_of fault.Memory = codes "no memory" ++ 10 ∷ []
 report_of fault.Input = codes "input failed" ++ 10 ∷ []
 report_of fault.Output = codes "output failed" ++ 10 ∷ []
 
--- a text may be refused so: as no list of commands, or for want of memory
+-- a text may be refused so: as no list of commands, by the number of its first line that is none, or for want of memory
 abbrev pub IsRefused : List ℕ → Fault → Type 0
-IsRefused text (fault.NotACommand n) = SpellsNone text
+IsRefused text (fault.NotACommand n) = SpellsNone text × IsFirstUnknown text n
 IsRefused text fault.Memory = ⊤
 IsRefused text fault.Input = ⊥
 IsRefused text fault.Output = ⊥

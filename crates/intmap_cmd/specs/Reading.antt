@@ -1,11 +1,10 @@
 -- What words and lines are read as.
-use Rattle.std.specs.Prelude.{◌≡◌, ◌≢◌, ℕ, List, [], ◌∷◌}
-use Rattle.intmap_run.specs.declared.command.Command.{Command}
+use Rattle.std.specs.Prelude.{◌≡◌, ℕ, List, [], ◌∷◌}
 use Rattle.intmap_cmd.specs.declared.command.Numbers.{Numbers}
 use Rattle.intmap_cmd.specs.declared.command.Numbers.TheVariants as numbers
 use Rattle.intmap_cmd.specs.declared.line.Line.{Line}
 use Rattle.intmap_cmd.specs.declared.line.Line.TheVariants as line
-use Rattle.intmap_cmd.specs.Commands.{Says}
+use Rattle.intmap_cmd.specs.Commands.{Says, IsUnknown}
 
 -- the numbers behind a name, in order
 abbrev pub list_of : Numbers → List ℕ
@@ -17,4 +16,4 @@ list_of (numbers.Two first second) = first ∷ second ∷ []
 abbrev pub Reads : List (List ℕ) → Line → Type 0
 Reads words line.Blank = words ≡ []
 Reads words (line.Command c) = Says words c
-Reads words line.Unknown = (words ≢ []) × ((c : Command ℕ ℕ) → ¬ Says words c)
+Reads words line.Unknown = IsUnknown words

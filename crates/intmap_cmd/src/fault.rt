@@ -12,7 +12,7 @@ use std::io::{self, Write};
 #[derive(Clone, Copy)]
 pub enum Fault {
     /// The line of this number, counted from 1, is not a command.
-    NotACommand(u64),
+    NotACommand(u128),
     /// A request for memory was refused.
     Memory,
     /// The input could not be read to its end.

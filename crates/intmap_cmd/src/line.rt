@@ -46,9 +46,9 @@ pub fn read_commands<A: Allocator>(
     ensures err { IfErr result (IsRefused text.now) }
 {
     let mut found = Vec::new(alloc);
-    let mut number = 0u64;
+    let mut number = 0u128;
     for line in Lines::new(text) {
-        number = number.saturating_add(1);
+        number += 1;
         match read_line(line) {
             Line::Blank => {}
             Line::Command(command) => found.push(command)?,

@@ -137,7 +137,7 @@ fn numbers_of_thousands_of_digits_are_none(rt: HostRuntime) -> Result<(), Fail> 
 }
 
 /// How many commands a text holds, or the number of its first line that is none.
-fn counted(alloc: Global, text: &[u8]) -> Result<usize, Option<u64>> {
+fn counted(alloc: Global, text: &[u8]) -> Result<usize, Option<u128>> {
     match read_commands(alloc, text) {
         Ok(found) => Ok(found.len()),
         Err(Fault::NotACommand(number)) => Err(Some(number)),
@@ -145,7 +145,7 @@ fn counted(alloc: Global, text: &[u8]) -> Result<usize, Option<u64>> {
     }
 }
 
-const TEXTS: [(&[u8], Result<usize, Option<u64>>); 20] = [
+const TEXTS: [(&[u8], Result<usize, Option<u128>>); 20] = [
     (b"", Ok(0)),
     (b"\n", Ok(0)),
     (b"\n\n \n", Ok(0)),

@@ -1,24 +1,46 @@
-use Rattle.std.proofs.Common.{map, append_assoc}
+use Rattle.std.proofs.Common.{append_assoc, arith, refl, inl, inr}
 use Rattle.std.proofs.lemmas.List.{map-append}
-use Rattle.intmap_cmd.proofs.LineLemmas.{command_more, none_said}
+use Rattle.intmap_cmd.proofs.LineLemmas.{command_more, blank_more, known_more, one_more, few_lines, first_unknown}
 use Rattle.intmap_cmd.proofs.line.read_commands.Goals as goal
 
+pub overflow_add-number : goal.overflow_add-number
+overflow_add-number g c =
+    let loop = c.loop-line in
+    let few = few_lines c.args.text.now loop.yielded loop.line-iterator loop.invariant.left in
+    omega (arith, few, loop.invariant.counted)
+
+pub loop-line-preserved-in-Blank : goal.loop-line-preserved-in-Blank
+loop-line-preserved-in-Blank g c =
+    let loop = c.loop-line in
+    let line = c.in-Some.line in
+    let blank = c.in-Blank.ensures in
+    record {
+      said = blank_more loop.yielded line loop.found.items loop.invariant.said blank;
+      left =
+          rw c.loop-line.invariant.left (rw c.in-Some.ensures.steps (simp (map-append, append_assoc)));
+      counted = one_more loop.yielded line loop.number loop.invariant.counted;
+      known = known_more loop.yielded line loop.invariant.known (inl blank);
+    }
+
 pub loop-line-preserved : goal.loop-line-preserved
-loop-line-preserved g c = record {
-  said =
-      let loop = c.loop-line in
-      let command = c.in-Command.command in
-      rw c.in_ok-push-in-Command.ensures.items
-      (command_more loop.yielded c.in-Some.line loop.found.items command loop.invariant.said
-      c.in-Command.ensures);
-  left =
-      rw c.loop-line.invariant.left (rw c.in-Some.ensures.steps (simp (map-append, append_assoc)));
-}
+loop-line-preserved g c =
+    let loop = c.loop-line in
+    let line = c.in-Some.line in
+    let command = c.in-Command.command in
+    let says = c.in-Command.ensures in
+    record {
+      said =
+          rw c.in_ok-push-in-Command.ensures.items
+          (command_more loop.yielded line loop.found.items command loop.invariant.said says);
+      left =
+          rw c.loop-line.invariant.left (rw c.in-Some.ensures.steps (simp (map-append, append_assoc)));
+      counted = one_more loop.yielded line loop.number loop.invariant.counted;
+      known = known_more loop.yielded line loop.invariant.known (inr (command, says));
+    }
 
 pub returns-in-Unknown-clause-err : goal.returns-in-Unknown-clause-err
 returns-in-Unknown-clause-err g c =
-    let bad = c.in-Unknown.ensures in
-    let before = map (λ l. l.now) c.loop-line.yielded in
-    rw c.loop-line.invariant.left
-    (rw c.in-Some.ensures.steps
-    (none_said before c.in-Some.line.now c.next.new.self bad.0 bad.1))
+    let loop = c.loop-line in
+    first_unknown c.args.text.now loop.yielded c.in-Some.line.now c.next.new.self loop.number
+    (rw c.loop-line.invariant.left (rw c.in-Some.ensures.steps refl))
+    loop.invariant.counted loop.invariant.known c.in-Unknown.ensures
