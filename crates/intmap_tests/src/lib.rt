@@ -6,7 +6,13 @@ mod calls;
 #[cfg(test)]
 mod growth;
 #[cfg(test)]
+mod load_factor;
+#[cfg(test)]
+mod made;
+#[cfg(test)]
 mod refusals;
+#[cfg(test)]
+mod reserve;
 #[cfg(test)]
 mod shown;
 #[cfg(test)]

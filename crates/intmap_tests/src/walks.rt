@@ -1,24 +1,12 @@
 //! The order of the pairs, the load and the capacity.
 
+use crate::made::{insert_all, new_of};
 use crate::shown::keys;
 use intmap::IntMap;
-use std::alloc::Global;
 use std::test::Fail;
 
-// inserts keys in turn, each bound to ten more
-fn insert_all(map: &mut IntMap<u64, u64>, keys: &[u64]) -> Result<(), Fail> {
-    for key in keys {
-        map.insert(*key, key.wrapping_add(10))?;
-    }
-    Ok(())
-}
-
-// a new map that binds 0, 4 and 8, which share a slot of four
-fn crowd(alloc: Global) -> Result<IntMap<u64, u64>, Fail> {
-    let mut map = IntMap::new(alloc)?;
-    insert_all(&mut map, &[0, 4, 8])?;
-    Ok(map)
-}
+/// Keys that share a slot of four.
+const CROWD: [u64; 3] = [0, 4, 8];
 
 #[test]
 fn keys_stand_in_the_order_of_their_slots(rt: HostRuntime) -> Result<(), Fail> {
@@ -68,7 +56,7 @@ fn keys_stand_in_the_order_of_their_slots(rt: HostRuntime) -> Result<(), Fail> {
 
 #[test]
 fn a_removed_key_leaves_its_place_to_the_last(rt: HostRuntime) -> Result<(), Fail> {
-    let mut map = crowd(rt.alloc())?;
+    let mut map = new_of(rt.alloc(), &CROWD)?;
     assert_eq!(rt; map.remove(0), Some(10), "0 is bound to 10");
     assert_eq!(rt;
         keys(rt.alloc(), &map)?.as_slice(),
@@ -80,7 +68,7 @@ fn a_removed_key_leaves_its_place_to_the_last(rt: HostRuntime) -> Result<(), Fai
 
 #[test]
 fn a_key_inserted_again_stands_last(rt: HostRuntime) -> Result<(), Fail> {
-    let mut map = crowd(rt.alloc())?;
+    let mut map = new_of(rt.alloc(), &CROWD)?;
     assert_eq!(rt; map.insert(4, 99)?, Some(14), "4 is bound to 14");
     assert_eq!(rt;
         keys(rt.alloc(), &map)?.as_slice(),
