@@ -5,25 +5,25 @@
 pub enum Command<K, V> {
     /// `insert`: binds the key to the value, and answers `Old` of the value before.
     ///
-    /// Refused for a new key alone, with the value back: as `TooLarge` exactly where the map has 2^64 - 1 pairs or
-    /// growth wants more than 2^63 slots, and as `Memory` never where the capacity stays and no bound key has the
-    /// same slot.
+    /// Refused for a new key alone, with the value back: as `TooLarge` exactly where the map has
+    /// 2^64 - 1 pairs or growth wants more than 2^63 slots, and as `Memory` never where the
+    /// capacity stays and no bound key has the same slot.
     Insert(K, V),
     /// `get`: answers `Seen` of the value that the key is bound to.
     Get(K),
     /// `remove`: takes the pair of the key out, and answers `Old` of its value.
     Remove(K),
-    /// `reserve`: makes the capacity at least the least power of two that is at least the length and so many slots
-    /// more, and answers `Done`.
+    /// `reserve`: makes the capacity at least the least power of two that is at least the length
+    /// and so many slots more, and answers `Done`.
     ///
-    /// Refused as `TooLarge` exactly where the length and so many are above 2^63, and as `Memory` only where they are
-    /// above the capacity.
+    /// Refused as `TooLarge` exactly where the length and so many are above 2^63, and as `Memory`
+    /// only where they are above the capacity.
     Reserve(usize),
-    /// `set_load_factor`: sets the load factor, in thousandths, makes the capacity at once the least of itself and
-    /// its doublings that meets it, and answers `Done`.
+    /// `set_load_factor`: sets the load factor, in thousandths, makes the capacity at once the
+    /// least of itself and its doublings that meets it, and answers `Done`.
     ///
-    /// Refused as `TooLarge` exactly where no capacity up to 2^63 meets it, and as `Memory` only where the capacity
-    /// itself doesn't.
+    /// Refused as `TooLarge` exactly where no capacity up to 2^63 meets it, and as `Memory` only
+    /// where the capacity itself doesn't.
     SetLoadFactor(usize),
     /// `get_load_factor`: answers the `Number` of thousandths that the load factor is.
     GetLoadFactor,

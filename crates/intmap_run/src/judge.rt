@@ -3,8 +3,8 @@ ghost use Rattle.std.specs.Prelude.{◌≡◌, Bool};
 
 /// Looks at values, and says which pairs stay.
 ///
-/// A run hands values out only as they leave the map. Of those that stay it shows what a judge sees: a copy, a
-/// number, a text, or nothing at all.
+/// A run hands values out only as they leave the map. Of those that stay it shows what a judge
+/// sees: a copy, a number, a text, or nothing at all.
 pub trait Judge<K, V> {
     /// What is seen of a value.
     type Seen: Drop;
@@ -15,7 +15,8 @@ pub trait Judge<K, V> {
     /// What `keep` answers for a key and its value.
     ghost keeps: { Self → K → V → Bool };
 
-    /// What is seen of the value; `Get` calls it where the key is bound, and `Walk` for each pair in turn.
+    /// What is seen of the value; `Get` calls it where the key is bound, and `Walk` for each pair
+    /// in turn.
     fn look(&self, value: &V) -> Self::Seen
         ensures { sees self.now value.now result };
 

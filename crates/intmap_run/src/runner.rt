@@ -12,20 +12,21 @@ use std::alloc::{AllocError, Allocator};
 
 /// Runs the commands in order, and answers one answer a command, in the same order.
 ///
-/// From every plain list of pairs that stands for the map, the commands and answers lead to one that stands for the
-/// map at the end. A refused command says so in its answer, leaves walk, capacity and load factor, and doesn't end
-/// the run.
+/// From every plain list of pairs that stands for the map, the commands and answers lead to one
+/// that stands for the map at the end. A refused command says so in its answer, leaves walk,
+/// capacity and load factor, and doesn't end the run.
 ///
-/// The map's `compared` rises by the keys that `Insert` and `Remove` compare, refused ones too; the other commands
-/// leave it. Its `placed` rises by the length after each `Insert` that changed the capacity, and by nothing else: in
-/// all by at most three times the greatest length of the run where no load factor was set, and by as much again for
-/// each that was. At the end the capacity is that of the start, or one that an accepted `Reserve` or `SetLoadFactor`
-/// left, or, times the load factor and one, at most 2000 times the greatest length.
+/// The map's `compared` rises by the keys that `Insert` and `Remove` compare, refused ones too; the
+/// other commands leave it. Its `placed` rises by the length after each `Insert` that changed the
+/// capacity, and by nothing else: in all by at most three times the greatest length of the run
+/// where no load factor was set, and by as much again for each that was. At the end the capacity is
+/// that of the start, or one that an accepted `Reserve` or `SetLoadFactor` left, or, times the load
+/// factor and one, at most 2000 times the greatest length.
 ///
 /// Err: there was no room for the answers; the commands come back, and the map is as it was.
 ///
-/// `Insert(21, a)`, `Insert(21, b)`, `Remove(21)`, `Len` on an empty map with ample memory answer `Old(None)`,
-/// `Old(Some(a))`, `Old(Some(b))`, `Number(0)`.
+/// `Insert(21, a)`, `Insert(21, b)`, `Remove(21)`, `Len` on an empty map with ample memory answer
+/// `Old(None)`, `Old(Some(a))`, `Old(Some(b))`, `Number(0)`.
 pub fn run<K: IntKey, V: Drop, J: Judge<K, V>, A: Allocator + Copy>(
     alloc: A,
     map: &mut IntMap<K, V, A>,
@@ -49,7 +50,7 @@ pub fn run<K: IntKey, V: Drop, J: Judge<K, V>, A: Allocator + Copy>(
     Ok(answers)
 }
 
-// One call on the map, and its answer.
+/// One call on the map, and its answer.
 fn apply<K: IntKey, V: Drop, J: Judge<K, V>, A: Allocator + Copy>(
     alloc: A,
     map: &mut IntMap<K, V, A>,
@@ -82,7 +83,7 @@ fn apply<K: IntKey, V: Drop, J: Judge<K, V>, A: Allocator + Copy>(
     }
 }
 
-// The answer of a call that hands nothing back.
+/// The answer of a call that hands nothing back.
 fn done<K, V, S, A: Allocator>(called: Result<(), Cause>) -> Answer<K, V, S, A>
     ensures { MatchResult called (λ _. result ≡ Answer.Done)
         (λ cause. result ≡ Answer.Refused cause None) }
@@ -93,7 +94,7 @@ fn done<K, V, S, A: Allocator>(called: Result<(), Cause>) -> Answer<K, V, S, A>
     }
 }
 
-// The answer of a walk.
+/// The answer of a walk.
 fn walk<K: IntKey, V: Drop, J: Judge<K, V>, A: Allocator + Copy>(
     alloc: A,
     map: &IntMap<K, V, A>,
@@ -111,7 +112,7 @@ fn walk<K: IntKey, V: Drop, J: Judge<K, V>, A: Allocator + Copy>(
     }
 }
 
-// Each key of the walk with what the judge sees of its value. Err: there was no room for them.
+/// Each key of the walk with what the judge sees of its value. Err: there was no room for them.
 fn look_all<K: IntKey, V: Drop, J: Judge<K, V>, A: Allocator + Copy>(
     alloc: A,
     map: &IntMap<K, V, A>,

@@ -1,13 +1,14 @@
-//! An allocator for tests: it refuses one request for memory, and counts the requests up to that one.
+//! An allocator for tests: it refuses one request for memory, and counts the requests up to that
+//! one.
 //!
 //! Lend it to a collection as `&Refuser<B>`, which is an allocator that is `Copy`. `arm` then says
 //! which request is refused, also while the collection holds memory, and `left` says how far away
 //! that request is. So a test can have each request of a call refused in turn, and look at what the
 //! call leaves behind.
 //!
-//! Proved: a block that it grants is one of `inner`'s, with the room that was asked for. Only tested:
-//! which request is refused, since no contract says what a cell holds. Neither: that a block which is
-//! handed back is freed, since an allocator may keep it.
+//! Proved: a block that it grants is one of `inner`'s, with the room that was asked for. Only
+//! tested: which request is refused, since no contract says what a cell holds. Neither: that a
+//! block which is handed back is freed, since an allocator may keep it.
 #![tactic(auto)]
 
 use std::alloc::{AllocError, Allocator};
@@ -25,8 +26,8 @@ pub struct Refuser<B: Allocator> {
 }
 
 impl<B: Allocator> Refuser<B> {
-    /// Answers an allocator over `inner` that refuses request number `refused`, counted from 1. At 0
-    /// it refuses none.
+    /// Answers an allocator over `inner` that refuses request number `refused`, counted from 1. At
+    /// 0 it refuses none.
     pub fn new(inner: B, refused: u64) -> Refuser<B> {
         Refuser {
             inner,
@@ -34,8 +35,8 @@ impl<B: Allocator> Refuser<B> {
         }
     }
 
-    /// Starts the count again: from here on, request number `refused` is refused, counted from 1. At
-    /// 0 none is.
+    /// Starts the count again: from here on, request number `refused` is refused, counted from 1.
+    /// At 0 none is.
     pub fn arm(&self, refused: u64) {
         self.left.set(refused);
     }
@@ -53,7 +54,7 @@ impl<B: Allocator> Drop for Refuser<B> {
     }
 }
 
-// Counts one request, and answers whether it is the one to refuse.
+/// Counts one request, and answers whether it is the one to refuse.
 fn count_request(left: &Cell<u64>) -> bool {
     let before = left.get();
     left.set(before.saturating_sub(1));

@@ -1,4 +1,5 @@
-//! Sessions of which each request for memory is refused in turn, and their commands on a plain list.
+//! Sessions of which each request for memory is refused in turn, and their commands on a plain
+//! list.
 
 use crate::session::serve;
 use intmap_run::Command;
