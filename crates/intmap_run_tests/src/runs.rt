@@ -245,6 +245,17 @@ impl List {
     }
 }
 
+// whether an answer refuses its command for want of memory
+fn lacks_memory<A: Allocator>(answer: &Answer<u64, u64, u64, A>) -> bool {
+    matches!(
+        answer,
+        Answer::Refused {
+            cause: Cause::Memory,
+            ..
+        }
+    )
+}
+
 // what a plain list answers to the commands, where those are refused that the run refused, and the
 // list that is left
 fn replayed<A: Allocator>(
@@ -258,13 +269,7 @@ fn replayed<A: Allocator>(
         factor: 909,
     };
     for (command, answer) in commands(alloc)?.iter().zip(answers) {
-        let is_refused = matches!(
-            answer,
-            Answer::Refused {
-                cause: Cause::Memory,
-                ..
-            }
-        );
+        let is_refused = lacks_memory(answer);
         text.push_str(list.apply(alloc, command, is_refused)?.as_str())?;
         text.push('\n')?;
     }
@@ -303,10 +308,16 @@ fn run_refused_at(rt: &impl Abort, alloc: Global, number: u64) -> Result<bool, F
         }
     };
     let (text, list) = replayed(alloc, &answers)?;
+    let refused = answers.iter().filter(|answer| lacks_memory(answer));
     assert_eq!(rt;
         answers.len(),
         COUNT,
         "request {number}: one answer a command"
+    );
+    assert_eq!(rt;
+        refused.count(),
+        usize::from(memory.left() == 0),
+        "request {number}: a command is refused where a request was, and no other"
     );
     assert_eq!(rt;
         all_said(alloc, &answers)?.as_str(),

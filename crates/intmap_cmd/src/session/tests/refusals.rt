@@ -156,6 +156,14 @@ fn text_of(alloc: Global, session: &[Said]) -> Result<String, AllocError> {
     Ok(text)
 }
 
+// how many commands a session refused for want of memory
+fn refused_lines(written: &[u8]) -> usize {
+    written
+        .split(|byte| *byte == b'\n')
+        .filter(|line| line.ends_with(b": memory"))
+        .count()
+}
+
 /// How a session ended of which a request was to be refused.
 #[derive(Clone, Copy, PartialEq, Eq, Debug)]
 enum Outcome {
@@ -163,7 +171,7 @@ enum Outcome {
     Unrefused,
     /// The session ended for want of memory.
     Ended,
-    /// Commands were refused, and the others ran.
+    /// One command was refused, and the others ran.
     Answered,
 }
 
@@ -195,6 +203,11 @@ fn serve_refused_at(
         written.as_slice(),
         replayed(alloc, session, written.as_slice())?.as_bytes(),
         "the answers, with request {number} refused"
+    );
+    assert_eq!(rt;
+        refused_lines(written.as_slice()),
+        usize::from(memory.left() == 0),
+        "request {number}: a command is refused where a request was, and no other"
     );
     if memory.left() > 0 {
         Ok(Outcome::Unrefused)
