@@ -1,0 +1,136 @@
+//! One call, from its words to its answer.
+
+use crate::many::{Keys, get_many, insert_many, remove_many};
+use crate::maps::{Map, Maps};
+use crate::text::{done_text, number_text, option_text, refusal_text, state_text, walk_text};
+use crate::word::words_of;
+use intmap::IntMap;
+use intmap::steps::Steps;
+use std::alloc::{AllocError, Global};
+
+/// The answer to a call, as text. Words that are no call answer so.
+pub fn answer_to(alloc: Global, maps: &mut Maps<'_>, call: &str) -> Result<String, AllocError> {
+    let Some(words) = words_of(alloc, call)? else {
+        return no_call(alloc);
+    };
+    match words.numbers.as_slice() {
+        [] => bare(alloc, maps, words.name),
+        [number] => with_number(alloc, maps, words.name, *number),
+        [key, value] => with_pair(alloc, &mut maps.map, words.name, *key, *value),
+        [first, count, step] => {
+            let keys = Keys {
+                first: *first,
+                count: *count,
+                step: *step,
+            };
+            with_keys(alloc, &mut maps.map, words.name, keys)
+        }
+        _ => no_call(alloc),
+    }
+}
+
+// what is answered to words that are no call
+fn no_call(alloc: Global) -> Result<String, AllocError> {
+    String::from_str(alloc, "not a call")
+}
+
+// the answer to a call without a number
+fn bare(alloc: Global, maps: &mut Maps<'_>, name: &str) -> Result<String, AllocError> {
+    match name {
+        "new" => {
+            let made = IntMap::new(maps.memory);
+            done_text(alloc, maps.put(made))
+        }
+        "other" => {
+            maps.swap();
+            done_text(alloc, Ok(()))
+        }
+        "left" => number_text(alloc, maps.memory.left() as u128),
+        _ => seen(alloc, &maps.map, name),
+    }
+}
+
+// the answer to a call that looks at a map
+fn seen(alloc: Global, map: &Map<'_>, name: &str) -> Result<String, AllocError> {
+    match name {
+        "len" => number_text(alloc, map.len() as u128),
+        "capacity" => number_text(alloc, map.capacity() as u128),
+        "load" => number_text(alloc, map.load() as u128),
+        "get_load_factor" => number_text(alloc, map.get_load_factor() as u128),
+        "walk" => walk_text(alloc, map),
+        "state" => state_text(alloc, map),
+        _ => no_call(alloc),
+    }
+}
+
+// the answer to a call with a number
+fn with_number(
+    alloc: Global,
+    maps: &mut Maps<'_>,
+    name: &str,
+    number: u64,
+) -> Result<String, AllocError> {
+    match name {
+        "with_capacity" => {
+            let made = IntMap::with_capacity(maps.memory, number as usize);
+            done_text(alloc, maps.put(made))
+        }
+        "arm" => {
+            maps.memory.arm(number);
+            done_text(alloc, Ok(()))
+        }
+        _ => with_key(alloc, &mut maps.map, name, number),
+    }
+}
+
+// the answer to a call on a map with a number
+fn with_key(
+    alloc: Global,
+    map: &mut Map<'_>,
+    name: &str,
+    number: u64,
+) -> Result<String, AllocError> {
+    match name {
+        "get" => option_text(alloc, map.get(number).copied()),
+        "get_counted" => {
+            let found = map.get_counted(number, &mut Steps::new()).copied();
+            option_text(alloc, found)
+        }
+        "remove" => option_text(alloc, map.remove(number)),
+        "reserve" => done_text(alloc, map.reserve(number as usize)),
+        "set_load_factor" => done_text(alloc, map.set_load_factor(number as usize)),
+        _ => no_call(alloc),
+    }
+}
+
+// the answer to a call with a key and a value
+fn with_pair(
+    alloc: Global,
+    map: &mut Map<'_>,
+    name: &str,
+    key: u64,
+    value: u64,
+) -> Result<String, AllocError> {
+    match name {
+        "insert" => match map.insert(key, value) {
+            Ok(old) => option_text(alloc, old),
+            Err(refused) => refusal_text(alloc, refused.cause, Some(refused.value)),
+        },
+        _ => no_call(alloc),
+    }
+}
+
+// the answer to a call with many keys
+fn with_keys(
+    alloc: Global,
+    map: &mut Map<'_>,
+    name: &str,
+    keys: Keys,
+) -> Result<String, AllocError> {
+    match name {
+        "insert_many" => insert_many(alloc, map, keys),
+        "get_many" => number_text(alloc, get_many(map, keys) as u128),
+        "remove_many" => number_text(alloc, remove_many(map, keys) as u128),
+        _ => no_call(alloc),
+    }
+}

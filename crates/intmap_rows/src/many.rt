@@ -1,0 +1,73 @@
+//! Calls with many keys: a first one, and others at equal distances behind it.
+
+use crate::maps::Map;
+use crate::text::refusal_text;
+use std::alloc::{AllocError, Global};
+
+/// So many keys from a first one on, each so far behind the one before it, wrapped to 64 bits.
+#[derive(Clone, Copy)]
+pub struct Keys {
+    /// The first key.
+    pub first: u64,
+    /// How many there are.
+    pub count: u64,
+    /// How far each is behind the one before it.
+    pub step: u64,
+}
+
+impl Keys {
+    // the key at this place
+    fn at(self, place: u64) -> u64 {
+        self.first.wrapping_add(place.wrapping_mul(self.step))
+    }
+}
+
+// the value that these calls bind a key to
+fn value_of(key: u64) -> u64 {
+    key.wrapping_add(10)
+}
+
+/// Binds each key to ten more. Says how many were new, and behind each length at which the number
+/// of slots changed how many there were from then on; a refusal ends it.
+pub fn insert_many(alloc: Global, map: &mut Map<'_>, keys: Keys) -> Result<String, AllocError> {
+    let mut new = 0u64;
+    let mut slots = map.capacity();
+    let mut changes = String::new(alloc);
+    for place in 0..keys.count {
+        let key = keys.at(place);
+        match map.insert(key, value_of(key)) {
+            Ok(old) => new = new.wrapping_add(u64::from(old.is_none())),
+            Err(refused) => return refusal_text(alloc, refused.cause, Some(refused.value)),
+        }
+        if map.capacity() != slots {
+            slots = map.capacity();
+            let length = map.len();
+            write!(changes, ", {length}: {slots}")?;
+        }
+    }
+    format!(in alloc; "{new} new{changes}")
+}
+
+/// How many of the keys are bound to ten more.
+pub fn get_many(map: &Map<'_>, keys: Keys) -> u64 {
+    let mut found = 0u64;
+    for place in 0..keys.count {
+        let key = keys.at(place);
+        if map.get(key).copied() == Some(value_of(key)) {
+            found = found.wrapping_add(1);
+        }
+    }
+    found
+}
+
+/// Takes the keys out. Answers how many were bound to ten more.
+pub fn remove_many(map: &mut Map<'_>, keys: Keys) -> u64 {
+    let mut taken = 0u64;
+    for place in 0..keys.count {
+        let key = keys.at(place);
+        if map.remove(key) == Some(value_of(key)) {
+            taken = taken.wrapping_add(1);
+        }
+    }
+    taken
+}

@@ -1,0 +1,45 @@
+//! The two maps that the rows of a group speak of.
+
+use intmap::{Cause, IntMap};
+use refuser::Refuser;
+use std::alloc::{AllocError, Global};
+use std::mem;
+
+/// A map whose requests for memory can be refused.
+pub type Map<'a> = IntMap<u64, u64, &'a Refuser<Global>>;
+
+/// The map that calls are made on, another one, and the memory of both.
+#[derive(Drop)]
+pub struct Maps<'a> {
+    /// The map that calls are made on.
+    pub map: Map<'a>,
+    /// The one that takes its place at the call `other`.
+    other: Map<'a>,
+    /// What both ask for memory.
+    pub memory: &'a Refuser<Global>,
+}
+
+impl<'a> Maps<'a> {
+    /// Two maps as `new` makes them, and no request that will be refused.
+    pub fn new(memory: &'a Refuser<Global>) -> Result<Maps<'a>, AllocError> {
+        memory.arm(0);
+        let Ok(map) = IntMap::new(memory) else {
+            return Err(AllocError);
+        };
+        let Ok(other) = IntMap::new(memory) else {
+            return Err(AllocError);
+        };
+        Ok(Maps { map, other, memory })
+    }
+
+    /// Has the two maps take each other's place.
+    pub fn swap(&mut self) {
+        mem::swap(&mut self.map, &mut self.other);
+    }
+
+    /// Puts a map in the place of the one that calls are made on, where it could be made.
+    pub fn put(&mut self, made: Result<Map<'a>, Cause>) -> Result<(), Cause> {
+        self.map = made?;
+        Ok(())
+    }
+}

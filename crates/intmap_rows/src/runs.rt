@@ -1,0 +1,123 @@
+//! Lists of commands, run by one call.
+ghost use Rattle.std.specs.Prelude.{◌≡◌, ◌%◌, ◌==◌};
+
+use crate::maps::Map;
+use crate::text::{done_text, number_text, option_text, pairs_text, refusal_text};
+use crate::word::words_of;
+use intmap_run::{Answer, Command, Judge, run};
+use refuser::Refuser;
+use std::alloc::{AllocError, Global};
+
+/// Sees a value as itself, and keeps odd values.
+struct OddJudge;
+
+impl Judge<u64, u64> for OddJudge {
+    type Seen = u64;
+
+    ghost sees = { λ _ value seen. seen ≡ value };
+
+    ghost keeps = { λ _ key value. (value % 2) == 1 };
+
+    fn look(&self, value: &u64) -> u64 {
+        *value
+    }
+
+    fn keep(&self, _key: u64, value: &u64) -> bool {
+        *value % 2 == 1
+    }
+}
+
+/// Commands whose list can be refused.
+pub type Commands<'a> = Vec<Command<u64, u64>, &'a Refuser<Global>>;
+
+/// The command that a text spells.
+pub fn command_of(alloc: Global, text: &str) -> Result<Option<Command<u64, u64>>, AllocError> {
+    let Some(words) = words_of(alloc, text)? else {
+        return Ok(None);
+    };
+    Ok(match words.numbers.as_slice() {
+        [] => bare(words.name),
+        [number] => with_number(words.name, *number),
+        [key, value] => with_pair(words.name, *key, *value),
+        _ => None,
+    })
+}
+
+// the command of this name without a number
+fn bare(name: &str) -> Option<Command<u64, u64>> {
+    match name {
+        "get_load_factor" => Some(Command::GetLoadFactor),
+        "len" => Some(Command::Len),
+        "capacity" => Some(Command::Capacity),
+        "load" => Some(Command::Load),
+        "walk" => Some(Command::Walk),
+        _ => None,
+    }
+}
+
+// the command of this name with a number
+fn with_number(name: &str, number: u64) -> Option<Command<u64, u64>> {
+    match name {
+        "get" => Some(Command::Get(number)),
+        "remove" => Some(Command::Remove(number)),
+        "reserve" => Some(Command::Reserve(number as usize)),
+        "set_load_factor" => Some(Command::SetLoadFactor(number as usize)),
+        _ => None,
+    }
+}
+
+// the command of this name with a key and a value
+fn with_pair(name: &str, key: u64, value: u64) -> Option<Command<u64, u64>> {
+    match name {
+        "insert" => Some(Command::Insert(key, value)),
+        _ => None,
+    }
+}
+
+/// What became of a list of commands.
+#[derive(Drop)]
+pub enum Ran {
+    /// Each was answered, with these texts.
+    Answered(Vec<String>),
+    /// So many came back, since there was no room for their answers.
+    Returned(usize),
+}
+
+/// Runs commands on a map.
+pub fn run_all<'a>(
+    alloc: Global,
+    memory: &'a Refuser<Global>,
+    map: &mut Map<'a>,
+    commands: Commands<'a>,
+) -> Result<Ran, AllocError> {
+    match run(memory, map, commands, &OddJudge) {
+        Ok(answers) => Ok(Ran::Answered(texts_of(alloc, answers.as_slice())?)),
+        Err(commands) => Ok(Ran::Returned(commands.len())),
+    }
+}
+
+// the texts of answers, in their order
+fn texts_of(
+    alloc: Global,
+    answers: &[Answer<u64, u64, u64, &Refuser<Global>>],
+) -> Result<Vec<String>, AllocError> {
+    let mut texts = Vec::new(alloc);
+    for answer in answers {
+        texts.push(text_of(alloc, answer)?)?;
+    }
+    Ok(texts)
+}
+
+// the text of an answer
+fn text_of(
+    alloc: Global,
+    answer: &Answer<u64, u64, u64, &Refuser<Global>>,
+) -> Result<String, AllocError> {
+    match answer {
+        Answer::Old(value) | Answer::Seen(value) => option_text(alloc, *value),
+        Answer::Done => done_text(alloc, Ok(())),
+        Answer::Number(number) => number_text(alloc, *number),
+        Answer::Walk(pairs) => pairs_text(alloc, pairs.as_slice()),
+        Answer::Refused { cause, value } => refusal_text(alloc, *cause, *value),
+    }
+}

@@ -1,0 +1,77 @@
+//! A file of rows, from its first line to its last.
+
+use crate::block::Block;
+use crate::maps::Maps;
+use crate::report::Report;
+use crate::row::compare_row;
+use refuser::Refuser;
+use std::alloc::{AllocError, Global};
+
+/// Goes through the lines of a file of rows, and tells what is to be told of them.
+pub fn report(alloc: Global, memory: &Refuser<Global>, rows: &str) -> Result<String, AllocError> {
+    let mut session = Session {
+        alloc,
+        maps: Maps::new(memory)?,
+        block: None,
+        report: Report::new(alloc),
+    };
+    for line in rows.lines() {
+        session.line(line.trim())?;
+    }
+    session.end()
+}
+
+/// What lasts from line to line.
+#[derive(Drop)]
+struct Session<'a, 't> {
+    alloc: Global,
+    maps: Maps<'a>,
+    block: Option<Block<'t>>,
+    report: Report,
+}
+
+impl<'a, 't> Session<'a, 't> {
+    // does what a line asks
+    fn line(&mut self, line: &'t str) -> Result<(), AllocError> {
+        if line.is_empty() || line.starts_with('#') {
+            return Ok(());
+        }
+        if let Some(name) = line.strip_prefix("= ") {
+            self.maps = Maps::new(self.maps.memory)?;
+            return self.report.begin(name);
+        }
+        if let Some(count) = line.strip_prefix("rows ") {
+            return self.report.count_is(count.parse::<u64>().ok());
+        }
+        self.row_or_block(line)
+    }
+
+    // takes a line that is a row, or the head, a part or the end of a block
+    fn row_or_block(&mut self, line: &'t str) -> Result<(), AllocError> {
+        match self.block.take() {
+            Some(block) if line == "end" => {
+                return block.close(self.alloc, &mut self.maps, &mut self.report);
+            }
+            Some(mut block) => {
+                block.push(line)?;
+                self.block = Some(block);
+            }
+            None => {
+                self.block = Block::of(self.alloc, line)?;
+                if self.block.is_none() {
+                    compare_row(self.alloc, &mut self.maps, &mut self.report, line)?;
+                }
+            }
+        }
+        self.report.count();
+        Ok(())
+    }
+
+    // all that is to be told
+    fn end(mut self) -> Result<String, AllocError> {
+        if self.block.is_some() {
+            self.report.tell("UNENDED: a block has no end")?;
+        }
+        self.report.end()
+    }
+}

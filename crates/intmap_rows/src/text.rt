@@ -1,0 +1,72 @@
+//! Answers as text, in the words of the program's lines.
+
+use crate::maps::Map;
+use intmap::Cause;
+use std::alloc::{AllocError, Allocator, Global};
+
+/// `none`, or `some` and the value.
+pub fn option_text(alloc: Global, value: Option<u64>) -> Result<String, AllocError> {
+    match value {
+        Some(value) => format!(in alloc; "some {value}"),
+        None => String::from_str(alloc, "none"),
+    }
+}
+
+/// A number alone.
+pub fn number_text(alloc: Global, number: u128) -> Result<String, AllocError> {
+    format!(in alloc; "{number}")
+}
+
+/// `done`, or that the call was refused.
+pub fn done_text(alloc: Global, called: Result<(), Cause>) -> Result<String, AllocError> {
+    match called {
+        Ok(()) => String::from_str(alloc, "done"),
+        Err(cause) => refusal_text(alloc, cause, None),
+    }
+}
+
+/// That a call was refused, with the value that came back.
+pub fn refusal_text(alloc: Global, cause: Cause, value: Option<u64>) -> Result<String, AllocError> {
+    let cause = cause_name(cause);
+    match value {
+        Some(value) => format!(in alloc; "refused {value}: {cause}"),
+        None => format!(in alloc; "refused: {cause}"),
+    }
+}
+
+/// Why a call was refused.
+fn cause_name(cause: Cause) -> &'static str {
+    match cause {
+        Cause::Memory => "memory",
+        Cause::TooLarge => "too large",
+    }
+}
+
+/// Pairs in braces, in their order.
+pub fn pairs_text(alloc: Global, pairs: &[(u64, u64)]) -> Result<String, AllocError> {
+    let mut text = String::from_str(alloc, "{")?;
+    for (index, (key, value)) in pairs.iter().enumerate() {
+        let before = if index == 0 { "" } else { ", " };
+        write!(text, "{before}{key}: {value}")?;
+    }
+    text.push('}')?;
+    Ok(text)
+}
+
+/// The pairs of a map in braces, in the order of its walk.
+pub fn walk_text(alloc: Global, map: &Map<'_>) -> Result<String, AllocError> {
+    let mut pairs = Vec::new(alloc);
+    for (key, value) in map.iter() {
+        pairs.push((*key, *value))?;
+    }
+    pairs_text(alloc, pairs.as_slice())
+}
+
+/// All that a map shows of itself.
+pub fn state_text(alloc: Global, map: &Map<'_>) -> Result<String, AllocError> {
+    let walk = walk_text(alloc, map)?;
+    let pairs = map.len();
+    let slots = map.capacity();
+    let factor = map.get_load_factor();
+    format!(in alloc; "{walk}, {pairs} pairs, {slots} slots, factor {factor}")
+}
