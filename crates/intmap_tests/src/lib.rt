@@ -1,21 +1,10 @@
-//! Tests of the map through its public calls: what no contract says, and that calls succeed.
+//! Tests of the map of what rows of text can't say: values that own memory or count their drops,
+//! and keys of a type of one's own.
 #![tactic(auto)]
 
 #[cfg(test)]
-mod calls;
+mod drops;
 #[cfg(test)]
-mod growth;
+mod keys;
 #[cfg(test)]
-mod load_factor;
-#[cfg(test)]
-mod made;
-#[cfg(test)]
-mod refusals;
-#[cfg(test)]
-mod reserve;
-#[cfg(test)]
-mod shown;
-#[cfg(test)]
-mod values;
-#[cfg(test)]
-mod walks;
+mod texts;

@@ -1,34 +1,9 @@
-//! Values that own memory or count their drops.
+//! Values that count how often they are dropped.
 
 use intmap::IntMap;
 use std::alloc::AllocError;
 use std::cell::Cell;
 use std::test::Fail;
-
-#[test]
-fn texts_are_bound_and_handed_back(rt: HostRuntime) -> Result<(), Fail> {
-    let mut map = IntMap::new(rt.alloc())?;
-    for key in [0u64, 4, 8] {
-        map.insert(key, format!(in rt.alloc(); "text {key}")?)?;
-    }
-    let again = String::from_str(rt.alloc(), "again")?;
-    let old = map.insert(4, again)?;
-    assert_eq!(rt;
-        old.as_ref().map(|text| text.as_str()),
-        Some("text 4"),
-        "4 inserted again"
-    );
-    let taken = map.remove(0);
-    assert_eq!(rt;
-        taken.as_ref().map(|text| text.as_str()),
-        Some("text 0"),
-        "0 taken out"
-    );
-    for (key, text) in [(0, None), (4, Some("again")), (8, Some("text 8"))] {
-        assert_eq!(rt; map.get(key).map(|found| found.as_str()), text, "{key}");
-    }
-    Ok(())
-}
 
 /// Adds sixteen to the power of its number to `drops` when it is dropped, so that each digit of
 /// the sum says how often the value of that number was.
