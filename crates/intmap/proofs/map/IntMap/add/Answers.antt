@@ -1,4 +1,5 @@
-use Rattle.std.proofs.Common.{◌≡◌, ◌+◌, ◌<◌, ◌^◌, inl, inr, length, cond, true, false, sym, ap, ◌∙◌, subst, arith, refl, add-zero}
+use Rattle.std.proofs.Common.{◌≡◌, ◌+◌, ◌<◌, ◌^◌, inl, inr, length, cond, true, false, sym, ap, ◌∙◌, subst, arith, refl, add-zero, rules, tests}
+use Rattle.std.proofs.lemmas.Grind.{common_steps}
 use Rattle.std.specs.Prelude.{◌&&◌, ◌==◌, nat_lt}
 use Rattle.std.proofs.lemmas.Bool.{eq-eqb}
 use Rattle.intmap.specs.Growth.{IsNext, is_due}
@@ -63,3 +64,30 @@ returns-clause-state g c =
 
 pub returns-clause-in_range : goal.returns-clause-in_range
 returns-clause-in_range g c = rw (← c.self.view_is) (in_range g (goal.at.returns-clause-in_range g c).After-add)
+
+pub returns-then-self-clause-too_large : goal.returns-then-self-clause-too_large
+returns-then-self-clause-too_large g c = grind (arith, common_steps)
+
+pub add_growing-requires-clause-count : goal.add_growing-requires-clause-count
+add_growing-requires-clause-count g c = grind (arith, common_steps)
+
+pub returns-then-has_outgrown-clause-memory : goal.returns-then-has_outgrown-clause-memory
+returns-then-has_outgrown-clause-memory g c = grind (arith, common_steps)
+
+pub invariant_of-self : goal.invariant_of-self
+invariant_of-self g c = rw (c.in-Err.ensures.err, c.in-Err.ensures.capacity) c.self.invariant
+
+pub returns-in-Err-clause-err : goal.returns-in-Err-clause-err
+returns-in-Err-clause-err g c = search (tests, rules)
+
+pub add_growing-requires-clause-key : goal.add_growing-requires-clause-key
+add_growing-requires-clause-key g c = c.requires.key
+
+pub add_growing-requires-clause-missing : goal.add_growing-requires-clause-missing
+add_growing-requires-clause-missing g c = c.requires.missing
+
+pub add_growing-requires-clause-due : goal.add_growing-requires-clause-due
+add_growing-requires-clause-due g c = let h = c.if-has_outgrown.ensures in search (tests, rules)
+
+pub add_growing-requires-clause-exceeds : goal.add_growing-requires-clause-exceeds
+add_growing-requires-clause-exceeds g c = let h = c.if-has_outgrown.ensures in search (tests, rules)

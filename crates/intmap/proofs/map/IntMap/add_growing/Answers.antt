@@ -1,14 +1,15 @@
-use Rattle.std.proofs.Common.{◌≡◌, ◌≢◌, ◌+◌, ◌*◌, ◌/◌, ◌<◌, ℕ, None, length, cond, false, sym, ap, ◌∙◌, subst, arith, refl}
+use Rattle.std.proofs.Common.{◌≡◌, ◌≢◌, ◌+◌, ◌*◌, ◌/◌, ◌<◌, ℕ, None, inl, inr, length, cond, true, false, sym, ap, ◌∙◌, subst, arith, refl, rules}
 use Rattle.std.specs.Prelude.{◌==◌}
 use Rattle.std.proofs.lemmas.Bool.{ne_eqb}
 use Rattle.intmap.specs.Bindings.{value_of}
-use Rattle.intmap.specs.Growth.{MeetsLoad}
+use Rattle.intmap.specs.Growth.{IsWanted, IsNext, WantsTooMuch, MeetsLoad, is_due}
+use Rattle.intmap.specs.Map.{IsFull}
 use Rattle.intmap.specs.Kept.{unkept, IsConsistent}
-use Rattle.intmap.proofs.LoadFactorLemmas.{IsNext-changes}
+use Rattle.intmap.proofs.LoadFactorLemmas.{IsNext-changes, IsNext-wanted, GrowsTooMuch-none, GrowsTooMuch-wants}
 use Rattle.intmap.proofs.MapLemmas.{MapState-same, unkept-put, length-unkept, IsConsistent-grown_with}
 use Rattle.intmap.proofs.MappedLemmas.{value_of-missing_values}
 use Rattle.intmap.proofs.map.IntMap.add_growing.Goals as goal
-use Rattle.intmap.proofs.map.IntMap.add_growing.Goals.{After-capacity}
+use Rattle.intmap.proofs.map.IntMap.add_growing.Goals.{After-capacity, After-grow_with}
 
 seen : (g : _) (c : After-capacity g) → c.args.len ≡ length (unkept c.self.inside.table.walk) + 1
 seen g c = rw (← c.self.view_is) at c.requires.count
@@ -53,3 +54,45 @@ returns-clause-state g c =
     refl
     (c.in_default-grow_with.ensures.placed ∙ ap (λ m. c.self.inside.placed + m) (ap (λ m. m + 1) (sym (length-unkept g.K.IntKey.number_of c.self.inside.table.walk)) ∙ ap (λ b. cond b 0 n) (sym other)))
     refl)
+
+module _ (g : _) (c : After-grow_with g) where
+  here : c.args.len ≡ length (unkept c.self.inside.table.walk) + 1
+  here = rw (← c.self.view_is) at c.requires.count
+
+  -- the capacity that is wanted is the next
+  next : IsNext c.self.inside.table.capacity (length (unkept c.self.inside.table.walk) + 1) c.self.inside.factor c.in-Some.capacity
+  next =
+      IsNext-wanted c.self.inside.table.capacity c.self.inside.factor (length (unkept c.self.inside.table.walk) + 1) c.in-Some.capacity
+      (subst (λ n. is_due n ≡ true) here c.requires.due)
+      (subst (λ n. IsWanted c.self.inside.table.capacity n c.self.inside.factor c.in-Some.capacity) here (rw c.capacity.ensures.value at c.in-Some.ensures.wanted))
+
+  in_range : IsFull (unkept c.self.inside.table.walk) c.self.inside.table.capacity c.self.inside.factor → ⊥
+  in_range full = elim full [
+    | inl long ↦ (let fits = c.ranges.len.fits in let e = here in omega (arith, long, fits, e))
+    | inr much ↦ GrowsTooMuch-none c.self.inside.table.capacity (length (unkept c.self.inside.table.walk) + 1) c.self.inside.factor c.in-Some.capacity c.in-Some.ensures.capacity next much
+  ]
+
+pub returns-in_default-clause-too_large : goal.returns-in_default-clause-too_large
+returns-in_default-clause-too_large g c =
+    let e = seen g (goal.at.returns-in_default-clause-too_large g c).After-capacity in
+    let due = subst (λ n. is_due n ≡ true) e c.requires.due in
+    let much = subst (λ n. WantsTooMuch c.self.inside.table.capacity n c.self.inside.factor) e (rw c.capacity.ensures.value at c.in_default.ensures.none) in
+    rw (← c.self.view_is) ((λ _. inr (GrowsTooMuch-wants c.self.inside.table.capacity (length (unkept c.self.inside.table.walk) + 1) c.self.inside.factor due much)), (λ _. refl))
+
+pub returns-in-Err-clause-too_large : goal.returns-in-Err-clause-too_large
+returns-in-Err-clause-too_large g c =
+    let at = (goal.at.returns-in-Err-clause-too_large g c).After-grow_with in
+    rw (← c.self.view_is) ((λ e. cc), (λ full. absurd (in_range g at full)))
+
+pub returns-clause-capacity : goal.returns-clause-capacity
+returns-clause-capacity g c =
+    rw (c.in_default-grow_with.ensures.capacity, ← c.self.view_is) (next g (goal.at.returns-clause-capacity g c).After-grow_with)
+
+pub returns-clause-in_range : goal.returns-clause-in_range
+returns-clause-in_range g c = rw (← c.self.view_is) (in_range g (goal.at.returns-clause-in_range g c).After-grow_with)
+
+pub invariant_of-self : goal.invariant_of-self
+invariant_of-self g c = rw c.in-Err.ensures.err c.self.invariant
+
+pub returns-in-Err-clause-err : goal.returns-in-Err-clause-err
+returns-in-Err-clause-err g c = search rules

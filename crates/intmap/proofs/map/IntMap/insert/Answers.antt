@@ -1,4 +1,4 @@
-use Rattle.std.proofs.Common.{◌<◌, cond, true, add-zero, subst}
+use Rattle.std.proofs.Common.{◌<◌, cond, true, add-zero, subst, rules}
 use Rattle.std.specs.Prelude.{◌==◌}
 use Rattle.std.proofs.lemmas.Bool.{eq-eqb}
 use Rattle.intmap.specs.Growth.{IsNext}
@@ -102,3 +102,21 @@ returns-clause-too_large g c =
     let here = (goal.at.returns-clause-too_large g c).After-add in
     let Full : MapState g.row.K.Denot g.row.V.Denot → Type 0 = λ m. IsFull m.walk m.capacity m.factor in
     (absurd, λ out. c.in_default.ensures.in_range (subst Full (sym (searched g here)) out.1))
+
+pub returns-in-Ok-clause-err : goal.returns-in-Ok-clause-err
+returns-in-Ok-clause-err g c = tt
+
+pub returns-in-Ok-clause-value_returned : goal.returns-in-Ok-clause-value_returned
+returns-in-Ok-clause-value_returned g c = tt
+
+pub returns-in-Ok-clause-new_key : goal.returns-in-Ok-clause-new_key
+returns-in-Ok-clause-new_key g c = tt
+
+pub returns-in-Ok-clause-memory : goal.returns-in-Ok-clause-memory
+returns-in-Ok-clause-memory g c = tt
+
+pub invariant_of-self-2 : goal.invariant_of-self-2
+invariant_of-self-2 g c = search rules
+
+pub add-requires-clause-key : goal.add-requires-clause-key
+add-requires-clause-key g c = search rules

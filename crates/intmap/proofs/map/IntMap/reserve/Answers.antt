@@ -1,4 +1,5 @@
-use Rattle.std.proofs.Common.{◌≡◌, ◌+◌, ◌≤◌, max, inl, inr, length, sym, ap, ◌∙◌, subst, arith, refl}
+use Rattle.std.proofs.Common.{◌≡◌, ◌+◌, ◌≤◌, max, inl, inr, length, sym, ap, ◌∙◌, subst, arith, refl, rules, tests}
+use Rattle.std.proofs.lemmas.Grind.{common_steps}
 use Rattle.std.proofs.lemmas.Bool.{cases_lt}
 use Rattle.intmap.specs.Classes.{IsCapacity}
 use Rattle.intmap.specs.Growth.{IsLeastPower}
@@ -78,3 +79,30 @@ returns-clause-state g c =
     let walk = OnOk-at c.grow_to.result _ accepted c.grow_to.ensures.walk in
     let capacity = OnOk-at c.grow_to.result _ accepted c.grow_to.ensures.capacity in
     rw (capacity, ← c.self.view_is) (MapState-same _ _ _ _ _ _ _ _ _ (unkept-grown g.K.IntKey.number_of c.self.inside.table.walk c.grow_to.new.self.walk c.max-capacity.result walk) refl refl refl)
+
+pub returns-then-self-gt-GREATEST_CAPACITY-clause-too_large : goal.returns-then-self-gt-GREATEST_CAPACITY-clause-too_large
+returns-then-self-gt-GREATEST_CAPACITY-clause-too_large g c = grind (arith, common_steps)
+
+pub returns-then-is_err-clause-too_large : goal.returns-then-is_err-clause-too_large
+returns-then-is_err-clause-too_large g c = grind (arith, common_steps)
+
+pub returns-clause-too_large : goal.returns-clause-too_large
+returns-clause-too_large g c = grind (arith, common_steps)
+
+pub overflow_sub-self-inside : goal.overflow_sub-self-inside
+overflow_sub-self-inside g c = search rules
+
+pub overflow_add-self-inside : goal.overflow_add-self-inside
+overflow_add-self-inside g c = search (tests, rules)
+
+pub next_power_of_two-slots-requires : goal.next_power_of_two-slots-requires
+next_power_of_two-slots-requires g c = search (tests, rules)
+
+pub grow_to-requires-clause-count : goal.grow_to-requires-clause-count
+grow_to-requires-clause-count g c = search (tests, rules)
+
+pub invariant_of-self : goal.invariant_of-self
+invariant_of-self g c = search (tests, rules)
+
+pub returns-then-is_err-clause-err : goal.returns-then-is_err-clause-err
+returns-then-is_err-clause-err g c = search (tests, rules)

@@ -1,8 +1,9 @@
-use Rattle.std.proofs.Common.{◌≡◌, length, sym, ap, ◌∙◌, subst, refl}
+use Rattle.std.proofs.Common.{◌≡◌, length, sym, ap, ◌∙◌, subst, refl, rules, tests}
 use Rattle.intmap.specs.Growth.{IsWanted, WantsTooMuch}
 use Rattle.intmap.specs.Map.{MapState}
+use Rattle.intmap.proofs.GrowthLemmas.{IsWanted-unique}
 use Rattle.intmap.proofs.LoadFactorLemmas.{not_too_much, capacity-greatest, capacity-positive, IsLoaded-from}
-use Rattle.intmap.proofs.MapLemmas.{MapState-same, unkept-grown, length-unkept, IsConsistent-grown, OnOk-at}
+use Rattle.intmap.proofs.MapLemmas.{MapState-same, unkept-grown, length-unkept, IsConsistent-grown, OnOk-at, IsOk-at_err}
 use Rattle.intmap.proofs.map.IntMap.set_load_factor.Goals as goal
 use Rattle.intmap.proofs.map.IntMap.set_load_factor.Goals.{After-is_err}
 
@@ -41,3 +42,42 @@ returns-clause-state g c =
 pub returns-clause-too_large : goal.returns-clause-too_large
 returns-clause-too_large g c =
     ((λ e. cc), λ much. absurd (within g (goal.at.returns-clause-too_large g c).After-is_err much))
+
+pub returns-in_default-clause-too_large : goal.returns-in_default-clause-too_large
+returns-in_default-clause-too_large g c =
+    let seen = c.self.invariant.count ∙ sym (length-unkept g.K.IntKey.number_of c.self.inside.table.walk) in
+    let much = subst (λ n. WantsTooMuch c.self.inside.table.capacity n c.args.thousandths) seen (rw c.capacity.ensures.value at c.in_default.ensures.none) in
+    rw (← c.self.view_is) ((λ _. much), (λ _. refl))
+
+pub returns-then-is_err-clause-memory : goal.returns-then-is_err-clause-memory
+returns-then-is_err-clause-memory g c = λ _ enough.
+    let at = (goal.at.returns-then-is_err-clause-memory g c).After-is_err in
+    let refused = sym c.is_err.ensures.value ∙ c.if-is_err.true in
+    let stays = IsWanted-unique _ _ _ _ _ enough (wanted g at) in
+    IsOk-at_err c.grow_to.result refused (c.grow_to.ensures.free (ap (λ (m : MapState g.row.K.Denot g.row.V.Denot). m.capacity) c.self.view_is ∙ stays))
+
+pub returns-clause-capacity : goal.returns-clause-capacity
+returns-clause-capacity g c =
+    let accepted = sym c.is_err.ensures.value ∙ c.if-is_err.false in
+    rw (OnOk-at c.grow_to.result _ accepted c.grow_to.ensures.capacity) (wanted g (goal.at.returns-clause-capacity g c).After-is_err)
+
+pub wanted_capacity-requires : goal.wanted_capacity-requires
+wanted_capacity-requires g c = search rules
+
+pub grow_to-requires-clause-capacity : goal.grow_to-requires-clause-capacity
+grow_to-requires-clause-capacity g c = search rules
+
+pub grow_to-requires-clause-count : goal.grow_to-requires-clause-count
+grow_to-requires-clause-count g c = search rules
+
+pub invariant_of-self : goal.invariant_of-self
+invariant_of-self g c = search (tests, rules)
+
+pub limit_of-self-inside-requires : goal.limit_of-self-inside-requires
+limit_of-self-inside-requires g c = search (tests, rules)
+
+pub returns-in_default-clause-err : goal.returns-in_default-clause-err
+returns-in_default-clause-err g c = search rules
+
+pub returns-then-is_err-clause-err : goal.returns-then-is_err-clause-err
+returns-then-is_err-clause-err g c = search (tests, rules)

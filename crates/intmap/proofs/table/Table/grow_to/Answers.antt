@@ -1,4 +1,4 @@
-use Rattle.std.proofs.Common.{List, ◌≡◌, ◌++◌, [], ◌∙◌, length, sym, ap}
+use Rattle.std.proofs.Common.{List, ◌≡◌, ◌++◌, [], ◌∙◌, length, sym, ap, rules}
 use Rattle.std.specs.Vec.{with_items}
 use Rattle.std.proofs.lemmas.List.{with_items_is}
 use Rattle.intmap.specs.Slots.{Held, Grid, rows, joined}
@@ -46,3 +46,18 @@ pub returns-clause-walk : goal.returns-clause-walk
 returns-clause-walk g c =
     let at = goal.at.returns-clause-walk g c in
     rw (written g at.After-place_all) (joined-moved _ _ _ _ (moved g at.After-deref_mut _ c.place_all.ensures.pairs))
+
+pub returns-clause-capacity : goal.returns-clause-capacity
+returns-clause-capacity g c =
+    let at = goal.at.returns-clause-capacity g c in
+    rw (written g at.After-place_all) (moved g at.After-deref_mut _ c.place_all.ensures.pairs).len
+
+pub place_all-requires-clause-capacity : goal.place_all-requires-clause-capacity
+place_all-requires-clause-capacity g c =
+    rw (ready g (goal.at.place_all-requires-clause-capacity g c).After-deref_mut).len c.requires.capacity
+
+pub slots_for-requires-clause-capacity : goal.slots_for-requires-clause-capacity
+slots_for-requires-clause-capacity g c = c.requires.capacity
+
+pub slots_for-requires-clause-count : goal.slots_for-requires-clause-count
+slots_for-requires-clause-count g c = search rules

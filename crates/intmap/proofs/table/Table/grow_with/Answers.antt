@@ -1,4 +1,4 @@
-use Rattle.std.proofs.Common.{List, ◌≡◌, ◌++◌, ◌∷◌, [], ◌∙◌, length, ap, arith}
+use Rattle.std.proofs.Common.{List, ◌≡◌, ◌++◌, ◌∷◌, [], ◌∙◌, length, ap, arith, rules}
 use Rattle.std.specs.Vec.{with_items}
 use Rattle.std.proofs.lemmas.List.{with_items_is}
 use Rattle.intmap.specs.Slots.{Held, Grid, rows, joined}
@@ -58,3 +58,22 @@ pub returns-clause-placed : goal.returns-clause-placed
 returns-clause-placed g c =
     let long = ap length (walk g (goal.at.returns-clause-placed g c).After-as_mut_slice-slots) in
     omega (arith, long, c.place_all.ensures.placed, c.place.ensures.placed)
+
+pub returns-clause-capacity : goal.returns-clause-capacity
+returns-clause-capacity g c =
+    let at = goal.at.returns-clause-capacity g c in
+    rw (written g at.After-place) (moved g at.After-as_mut_slice-slots _ (placed g at.After-place)).len
+
+pub place_all-requires-clause-capacity : goal.place_all-requires-clause-capacity
+place_all-requires-clause-capacity g c =
+    rw (ready g (goal.at.place_all-requires-clause-capacity g c).After-as_mut_slice-slots).len c.requires.capacity
+
+pub place-requires-clause-capacity : goal.place-requires-clause-capacity
+place-requires-clause-capacity g c =
+    rw (c.place_all.ensures.pairs.len, (ready g (goal.at.place-requires-clause-capacity g c).After-as_mut_slice-slots).len) c.requires.capacity
+
+pub slots_for-requires-clause-capacity : goal.slots_for-requires-clause-capacity
+slots_for-requires-clause-capacity g c = c.requires.capacity
+
+pub slots_for-requires-clause-count : goal.slots_for-requires-clause-count
+slots_for-requires-clause-count g c = search rules

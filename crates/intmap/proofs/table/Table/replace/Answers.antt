@@ -1,4 +1,5 @@
-use Rattle.std.proofs.Common.{◌≡◌, ◌+◌, ◌∙◌, sym, ap}
+use Rattle.std.proofs.Common.{◌≡◌, ◌+◌, ◌∙◌, sym, ap, arith}
+use Rattle.std.proofs.lemmas.Grind.{common_steps}
 use Rattle.intmap.specs.Classes.{slot_number}
 use Rattle.intmap.specs.Reach.{reach}
 use Rattle.intmap.specs.Slots.{Grid}
@@ -47,3 +48,9 @@ returns-clause-walk g c =
 
 pub returns-clause-counted : goal.returns-clause-counted
 returns-clause-counted g c = counted g (goal.at.returns-clause-counted g c).After-find
+
+pub invariant_of-self : goal.invariant_of-self
+invariant_of-self g c = grind (arith, common_steps)
+
+pub returns-in_default-clause-err : goal.returns-in_default-clause-err
+returns-in_default-clause-err g c = grind (arith, common_steps)

@@ -1,4 +1,5 @@
 use Rattle.std.proofs.Common.{◌∙◌, arith}
+use Rattle.std.proofs.lemmas.Grind.{common_steps}
 use Rattle.std.proofs.lemmas.List.{take_more}
 use Rattle.intmap.proofs.MoveLemmas.{IsRoomy-none, IsRoomy-push}
 use Rattle.intmap.proofs.table.grow.with_room.Goals as goal
@@ -19,3 +20,6 @@ loop-count-preserved g c =
       roomy = rw (take_more c.args.counts.now loop.count-index 0 c.loop-count-test.true, c.push_reserved.ensures.items)
           (IsRoomy-push _ _ _ slot.field-0 loop.invariant.roomy slot.ensures.pairs slot.ensures.room);
     }
+
+pub returns : goal.returns
+returns g c = grind (arith, common_steps)

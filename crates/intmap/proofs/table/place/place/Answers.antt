@@ -1,4 +1,4 @@
-use Rattle.std.proofs.Common.{◌∙◌, ap, length}
+use Rattle.std.proofs.Common.{◌∙◌, ap, length, rules}
 use Rattle.intmap.specs.Classes.{slot_number}
 use Rattle.intmap.proofs.MoveLemmas.{IsSlotOf, room-here, IsPlaced-one}
 use Rattle.intmap.proofs.table.place.place.Goals as goal
@@ -18,3 +18,9 @@ pub returns-clause-pairs : goal.returns-clause-pairs
 returns-clause-pairs g c =
     let here = at g (goal.at.returns-clause-pairs g c).After-index-slots-index in
     IsPlaced-one _ _ _ _ here c.index-slots-index.result c.push_reserved.new.self c.push_reserved.ensures.pairs c.push_reserved.ensures.room
+
+pub returns-clause-placed : goal.returns-clause-placed
+returns-clause-placed g c = c.tick.ensures
+
+pub index_of-index-requires : goal.index_of-index-requires
+index_of-index-requires g c = search rules

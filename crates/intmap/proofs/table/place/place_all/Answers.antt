@@ -41,3 +41,6 @@ returns-clause-pairs g c = rw (through g c) at c.loop-slot.invariant.pairs
 
 pub returns-clause-placed : goal.returns-clause-placed
 returns-clause-placed g c = rw (through g c) at c.loop-slot.invariant.placed
+
+pub place_slot-requires-clause-capacity : goal.place_slot-requires-clause-capacity
+place_slot-requires-clause-capacity g c = rw c.loop-slot.invariant.pairs.len c.requires.capacity
