@@ -17,7 +17,7 @@ module _ {X : Type 0} (weight : X → ℕ) (is_it in_class : X → Bool) where
   taken (x ∷ xs) = cond (is_it x) (weight x) (taken xs)
 
   -- where none passes, the given element is the answer
-  last_passing-none : (d : X) (xs : List X) → list_any in_class xs ≡ false → last_passing in_class d xs ≡ d
+  pub last_passing-none : (d : X) (xs : List X) → list_any in_class xs ≡ false → last_passing in_class d xs ≡ d
   last_passing-none d [] h = refl
   last_passing-none d (x ∷ xs) h = let k = last_passing-none d xs in let l = last_passing-none x xs in grind (arith, h, k, l)
 

@@ -12,3 +12,8 @@ pub mod MoveLemmas
 pub mod RegroupLemmas
 pub mod MapLemmas
 pub mod LoadFactorLemmas
+pub mod BindingLemmas
+pub mod StrikeLemmas
+pub mod AfterLemmas
+pub mod CostLemmas
+pub mod Callers

@@ -23,8 +23,8 @@ MapState-same W W' C C' F p p' c c' walk capacity placed compared = rw (walk, ca
 
 module _ {K V : Type 0} (number : K → ℕ) (is_key : K → Type 0) where
   -- the walk of any list of distinct keys, in enough slots for the load
-  pub IsMapWalk-walk_of : (L : List (K × V)) (C F : ℕ) → IsCapacity C → HasDistinctKeys number L → All (λ p. is_key p.0) L → length L < 2 ^ 64 → IsLoaded C (length L) F → IsMapWalk number is_key (walk_of number L C) C F
-  IsMapWalk-walk_of L C F cap distinct keys fits loaded =
+  pub IsMapWalk-walk_of : (L : List (K × V)) (C F : ℕ) → IsCapacity C → HasDistinctKeys number L → All (λ p. is_key p.0) L → length L < 2 ^ 64 → F < 2 ^ 64 → IsLoaded C (length L) F → IsMapWalk number is_key (walk_of number L C) C F
+  IsMapWalk-walk_of L C F cap distinct keys fits factor loaded =
       let below = λ (k : K). slot_number-below number k C cap in
       let len = length-walk_of number L C below in
       record {
@@ -33,6 +33,7 @@ module _ {K V : Type 0} (number : K → ℕ) (is_key : K → Type 0) where
         distinct = HasDistinctKeys-walk_of number L C below distinct;
         keys = All-walk_of number (λ p. is_key p.0) L C keys;
         count = omega (arith, len, fits);
+        factor = factor;
         load = subst (λ n. IsLoaded C n F) (sym len) loaded;
       }
 
@@ -41,8 +42,8 @@ module _ {K V : Type 0} (number : K → ℕ) (is_key : K → Type 0) where
   nil_from (p ∷ ps) e = absurd (omega (arith, e))
 
   -- a map without pairs
-  pub IsMapWalk-empty : (W : List (K × V)) (C F : ℕ) → W ≡ [] → IsCapacity C → IsMapWalk number is_key W C F
-  IsMapWalk-empty W C F none cap =
+  pub IsMapWalk-empty : (W : List (K × V)) (C F : ℕ) → W ≡ [] → IsCapacity C → F < 2 ^ 64 → IsMapWalk number is_key W C F
+  IsMapWalk-empty W C F none cap factor =
       let len : length (walk_of number W C) ≡ 0 = length-walk_of number W C (λ k. slot_number-below number k C cap) ∙ ap length none in
       let zero_long : length W ≡ 0 = ap length none in
       record {
@@ -51,24 +52,25 @@ module _ {K V : Type 0} (number : K → ℕ) (is_key : K → Type 0) where
         distinct = HasDistinctKeys-nil number W none;
         keys = let P : List (K × V) → Type 0 = λ ps. All (λ p. is_key p.0) ps in subst P (sym none) (All-nil (λ (p : K × V). is_key p.0));
         count = omega (arith, zero_long);
+        factor = factor;
         load = λ four. absurd (omega (arith, four, zero_long));
       }
 
   -- a map into which a pair was put, in D slots
   pub IsMapWalk-put : (W : List (K × V)) (C F D : ℕ) (k : K) (v : V) → IsMapWalk number is_key W C F → IsCapacity D → is_key k → length (put_pair number W C k v) < 2 ^ 64 → IsLoaded D (length (put_pair number W C k v)) F → IsMapWalk number is_key (walk_of number (put_pair number W C k v) D) D F
   IsMapWalk-put W C F D k v m cap key fits loaded =
-      IsMapWalk-walk_of (put_pair number W C k v) D F cap (HasDistinctKeys-put_pair number W C k v m.distinct) (All-put_pair number (λ p. is_key p.0) W C k v m.keys key) fits loaded
+      IsMapWalk-walk_of (put_pair number W C k v) D F cap (HasDistinctKeys-put_pair number W C k v m.distinct) (All-put_pair number (λ p. is_key p.0) W C k v m.keys key) fits m.factor loaded
 
   -- a map out of which a key was taken
   pub IsMapWalk-take : (W : List (K × V)) (C F : ℕ) (k : K) → IsMapWalk number is_key W C F → IsMapWalk number is_key (walk_of number (take_key number W C k) C) C F
   IsMapWalk-take W C F k m =
       let fewer = length-take_key number W C k in let old = m.count in
-      IsMapWalk-walk_of (take_key number W C k) C F m.capacity (HasDistinctKeys-take_key number W C k m.distinct) (All-take_key number (λ p. is_key p.0) W C k m.keys) (omega (arith, fewer, old))
+      IsMapWalk-walk_of (take_key number W C k) C F m.capacity (HasDistinctKeys-take_key number W C k m.distinct) (All-take_key number (λ p. is_key p.0) W C k m.keys) (omega (arith, fewer, old)) m.factor
       (IsLoaded-fewer C (length W) (length (take_key number W C k)) F (capacity-positive C m.capacity) m.load (omega (arith, fewer)))
 
   -- a map whose pairs went into D slots
-  pub IsMapWalk-grown : (W : List (K × V)) (C F D G : ℕ) → IsMapWalk number is_key W C F → IsCapacity D → IsLoaded D (length W) G → IsMapWalk number is_key (walk_of number W D) D G
-  IsMapWalk-grown W C F D G m cap loaded = IsMapWalk-walk_of W D G cap m.distinct m.keys m.count loaded
+  pub IsMapWalk-grown : (W : List (K × V)) (C F D G : ℕ) → IsMapWalk number is_key W C F → IsCapacity D → G < 2 ^ 64 → IsLoaded D (length W) G → IsMapWalk number is_key (walk_of number W D) D G
+  IsMapWalk-grown W C F D G m cap factor loaded = IsMapWalk-walk_of W D G cap m.distinct m.keys m.count factor loaded
 
 -- a value that is there, or isn't, adds so much
 pub one_less : {V : Type 0} (o : Option V) (x : V) → o ≡ Some x → ◌≡◌ {A = ℕ} (cond (is_some o) 1 0) 1
@@ -158,13 +160,13 @@ module _ {K V : Type 0} (number : K → ℕ) where
         }
 
     -- the pairs went into D slots, at the load factor G
-    pub IsConsistent-grown : (D D' G most' : ℕ) → D' ≡ D → IsCapacity D → IsLoaded D n G → IsLimit D G most' → W' ≡ walk_of number W D → IsConsistent number is_key W' D' G n most'
-    IsConsistent-grown D D' G most' same cap loaded limit is =
+    pub IsConsistent-grown : (D D' G most' : ℕ) → D' ≡ D → IsCapacity D → G < 2 ^ 64 → IsLoaded D n G → IsLimit D G most' → W' ≡ walk_of number W D → IsConsistent number is_key W' D' G n most'
+    IsConsistent-grown D D' G most' same cap factor loaded limit is =
         let here : length (walk_of number W D) ≡ length W = length-walk_of number W D (λ k. slot_number-below number k D cap) in
         let seen : n ≡ length (unkept W) = old.count ∙ sym (length-unkept W) in
         let all : length W' ≡ length W = ap length is ∙ here in
         record {
-          map = rw (same, unkept-grown W W' D is) (IsMapWalk-grown number is_key (unkept W) C F D G old.map cap (subst (λ m. IsLoaded D m G) seen loaded));
+          map = rw (same, unkept-grown W W' D is) (IsMapWalk-grown number is_key (unkept W) C F D G old.map cap factor (subst (λ m. IsLoaded D m G) seen loaded));
           count = omega (arith, all, old.count);
           limit = rw same limit;
         }

@@ -10,7 +10,8 @@ use Rattle.intmap.specs.Classes.{IsCapacity, slot_number, same_key, agrees}
 use Rattle.intmap.specs.Bindings.{value_of, put_pair}
 use Rattle.intmap.specs.Walk.{slot_of, walk_of}
 use Rattle.intmap.specs.Slots.{Held, rows, joined, IsTable}
-use Rattle.intmap.specs.Moves.{keys_of, rooms, share, CanCount, IsCounted, IsRoomy, HasRoom, IsPlaced, IsReady}
+use Rattle.std.specs.Map.{keys_of}
+use Rattle.intmap.specs.Moves.{rooms, share, CanCount, IsCounted, IsRoomy, HasRoom, IsPlaced, IsReady}
 use Rattle.intmap.proofs.MappedLemmas.{count_by-map}
 use Rattle.intmap.proofs.SlotNumberLemmas.{slot_number-below}
 use Rattle.intmap.proofs.PositionLemmas.{swap_out-none, position-from_none}

@@ -1,5 +1,5 @@
 -- Lists of pairs, and what calls make of them.
-use Rattle.std.specs.Prelude.{ℕ, ◌≤◌, Bool, cond, not, List, [], ◌∷◌, ◌++◌, map, filter, Option, Some, None, IsSome, IsTrue, count_by}
+use Rattle.std.specs.Prelude.{◌≡◌, false, ℕ, ◌≤◌, Bool, cond, not, List, [], ◌∷◌, ◌++◌, map, filter, Option, Some, None, IsSome, IsTrue, count_by}
 use Rattle.std.specs.List.{list_any}
 use Rattle.std.specs.Option.{option_eq}
 use Rattle.intmap.specs.Classes.{same_key, agrees}
@@ -28,6 +28,11 @@ module _ {K V : Type 0} where
   abbrev pub first_value : (K → Bool) → List (K × V) → Option V
   first_value test [] = None
   first_value test (p ∷ L) = cond (test p.0) (Some p.1) (first_value test L)
+
+module _ {K V : Type 0} where
+  -- the pairs that a test keeps, in their order
+  abbrev pub keep_pairs : (K → V → Bool) → List (K × V) → List (K × V)
+  keep_pairs keeps L = filter (λ p. keeps p.0 p.1) L
 
 module _ {K V : Type 0} (number : K → ℕ) where
   -- the value that a key is bound to
@@ -61,3 +66,10 @@ module _ {K V : Type 0} (number : K → ℕ) where
   -- without the pairs of these keys, the rest in its order
   abbrev pub strike_keys : List (K × V) → List K → List (K × V)
   strike_keys L ks = filter (λ p. not (list_any (same_key number p.0) ks)) L
+
+  -- M binds k to w and each other key to what L does: so it is at every key, at k itself, and at any other
+  abbrev pub Updates : List (K × V) → List (K × V) → K → Option V → Type 0
+  Updates L M k w =
+      ((q : K) → value_of M q ≡ cond (same_key number k q) w (value_of L q))
+      × (value_of M k ≡ w)
+      × ((q : K) → same_key number k q ≡ false → value_of M q ≡ value_of L q)

@@ -1,12 +1,12 @@
 -- The definitions at small lists, computed.
-use Rattle.std.specs.Prelude.{◌≡◌, ℕ, ◌+◌, ◌^◌, List, [], ◌∷◌, map, Some, refl}
+use Rattle.std.specs.Prelude.{◌≡◌, ℕ, ◌+◌, ◌%◌, ◌^◌, ◌==◌, List, [], ◌∷◌, map, Some, refl}
 use Rattle.std.specs.List.{range_with_len}
-use Rattle.intmap.specs.Bindings.{value_of, take_key, put_pair, write_value, strike_keys}
+use Rattle.intmap.specs.Bindings.{value_of, take_key, put_pair, write_value, keep_pairs, strike_keys}
 use Rattle.intmap.specs.Walk.{walk_of, first_of_walk}
 use Rattle.intmap.specs.Reach.{class_size, reach}
 use Rattle.intmap.specs.Growth.{last_due, wanted_capacity, next_capacity, least_power}
 use Rattle.intmap.specs.Figures.{load_of, rate_of, sizes_of}
-use Rattle.intmap.specs.Moves.{keys_of}
+use Rattle.std.specs.Map.{keys_of}
 
 -- a key that is its own number
 abbrev itself : ℕ → ℕ
@@ -63,7 +63,7 @@ load_of-greatest = refl
 next_capacity-usual : (next_capacity 4 4 909 ≡ 8) × (next_capacity 8 11 909 ≡ 8) × (next_capacity 8 12 909 ≡ 16)
 next_capacity-usual = (refl, refl, refl)
 
-rate_of-eleven : rate_of itself (pairs_of (range_with_len 0 11)) 8 ≡ 1375
+rate_of-eleven : rate_of (pairs_of (range_with_len 0 11)) 8 ≡ 1375
 rate_of-eleven = refl
 
 -- three keys at a load factor of a tenth
@@ -87,6 +87,10 @@ walk_of-sizes = refl
 -- the even keys struck
 strike_keys-even : keys_of (strike_keys itself (walk_of itself (pairs_of (range_with_len 0 8)) 8) (0 ∷ 2 ∷ 4 ∷ 6 ∷ [])) ≡ 5 ∷ 7 ∷ 1 ∷ 3 ∷ []
 strike_keys-even = refl
+
+-- and the pairs of odd keys kept
+keep_pairs-odd : keep_pairs (λ k v. k % 2 == 1) (walk_of itself (pairs_of (range_with_len 0 8)) 8) ≡ pairs_of (5 ∷ 7 ∷ 1 ∷ 3 ∷ [])
+keep_pairs-odd = refl
 
 first_of_walk-three : keys_of (first_of_walk itself 3 (pairs_of (range_with_len 0 8)) 8) ≡ 0 ∷ 5 ∷ 2 ∷ []
 first_of_walk-three = refl

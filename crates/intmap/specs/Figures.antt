@@ -9,14 +9,15 @@ abbrev pub each_once : List ℕ → List ℕ
 each_once [] = []
 each_once (n ∷ ns) = n ∷ filter (λ m. not (m == n)) (each_once ns)
 
+module _ {K V : Type 0} where
+  -- the pairs to a slot of C, in thousandths
+  abbrev pub rate_of : List (K × V) → ℕ → ℕ
+  rate_of L C = length L * 1000 / C
+
 module _ {K V : Type 0} (number : K → ℕ) where
   -- how many residues the keys leave modulo C
   abbrev pub load_of : List (K × V) → ℕ → ℕ
   load_of L C = length (each_once (map (λ p. residue number p.0 C) L))
-
-  -- the pairs to a slot, in thousandths
-  abbrev pub rate_of : List (K × V) → ℕ → ℕ
-  rate_of L C = length L * 1000 / C
 
   -- the sizes above 1 of slots 0, 1, .., C - 1
   abbrev pub crowds_of : List (K × V) → ℕ → List ℕ

@@ -4,10 +4,6 @@ use Rattle.intmap.specs.Classes.{slot_number}
 use Rattle.intmap.specs.Walk.{slot_of}
 use Rattle.intmap.specs.Slots.{Held, rows}
 
--- the keys of the pairs
-abbrev pub keys_of : {K X : Type 0} → List (K × X) → List K
-keys_of L = map (λ p. p.0) L
-
 -- how many pairs each slot has room for
 abbrev pub rooms : {K X : Type 0} → List (Held K X) → List ℕ
 rooms slots = map (λ h. h.room) slots

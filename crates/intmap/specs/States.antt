@@ -44,8 +44,8 @@ module _ {K V : Type 0} (number : K → ℕ) where
   InsertsAll s (p ∷ ps) t = (m : State K V) × Inserts s p.0 p.1 m × InsertsAll m ps t
 
   -- the pairs are inserted in turn up to the first that is refused: so many were, and that one with its cause, or none
-  abbrev pub Applies : State K V → List (K × V) → ℕ → Option ((K × V) × Cause) → State K V → Type 0
-  Applies s ps n None t = (n ≡ length ps) × InsertsAll s ps t
-  Applies s ps n (Some refused) t =
+  abbrev pub InsertsUpTo : State K V → List (K × V) → ℕ → Option ((K × V) × Cause) → State K V → Type 0
+  InsertsUpTo s ps n None t = (n ≡ length ps) × InsertsAll s ps t
+  InsertsUpTo s ps n (Some refused) t =
       (qs : List (K × V)) × (rest : List (K × V))
       × (ps ≡ qs ++ refused.0 ∷ rest) × (n ≡ length qs) × InsertsAll s qs t × MayRefuse t refused.0.0 refused.1

@@ -4,12 +4,12 @@
 pub mod iter;
 mod kept;
 mod key;
+pub mod laws;
 mod load;
 mod map;
 mod refusal;
 mod slot;
 pub mod steps;
-mod stored;
 mod table;
 
 pub use key::IntKey;

@@ -1,4 +1,5 @@
 //! Why a call was refused, and what it hands back.
+ghost use Rattle.std.specs.Prelude.{◌≡◌};
 
 /// Why a call was refused.
 #[derive(Clone, Copy, PartialEq, Eq, Debug)]
@@ -16,4 +17,13 @@ pub struct Refused<V> {
     pub value: V,
     /// Why it was refused.
     pub cause: Cause,
+}
+
+/// The cause alone: by `?` a caller that answers a `Cause` lets the value go.
+impl<V: Drop> From<Refused<V>> for Cause {
+    ghost from_gives = { λ refused cause. cause ≡ refused.cause };
+
+    fn from(refused: Refused<V>) -> Cause {
+        refused.cause
+    }
 }

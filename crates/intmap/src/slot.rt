@@ -6,7 +6,7 @@ ghost use Rattle.intmap.specs.Slots.{all_pairs, IsFilledInOrder};
 
 use crate::key::IntKey;
 use crate::steps::Steps;
-use crate::stored::Stored;
+use crate::table::stored::Stored;
 use std::alloc::{AllocError, Allocator};
 use std::marker::Model;
 use std::mem;

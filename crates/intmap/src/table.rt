@@ -2,6 +2,7 @@
 
 mod grow;
 mod place;
+pub(crate) mod stored;
 pub(crate) mod walk;
 
 ghost use Rattle.std.specs.Prelude.{◌≡◌, ◌+◌, ◌<◌, ◌≤◌, List, [], OnOk, OnErr, IfOk, IfErr, IfSome, IsOk, IsSome, IsNone, Some, None, option_copied, length, nat_lt, count_by, ◌^◌};

@@ -1,5 +1,6 @@
 //! The number of slots and the load factor, as callers set them.
 ghost use Rattle.std.specs.Prelude.{◌≡◌, ◌↔◌, ℕ, ◌+◌, ◌^◌, ◌<◌, max, length, Err, OnOk, OnErr};
+ghost use Rattle.intmap.specs.Bindings.{value_of};
 ghost use Rattle.intmap.specs.Growth.{IsWanted, IsLeastPower, WantsTooMuch};
 ghost use Rattle.intmap.specs.Map.{IsMap, in_slots};
 
@@ -14,9 +15,9 @@ impl<K: IntKey, V: Drop, A: Allocator + Copy> IntMap<K, V, A> {
     /// `additional` slots more. It doesn't look at the load factor, so later insertions may still
     /// grow the table.
     ///
-    /// It is refused as too large exactly where the length and `additional` are above 2^63, and
-    /// else where memory is refused, which it never is where the capacity is enough. A refusal
-    /// leaves the map.
+    /// It is refused as too large exactly where the sum of the length and `additional` is above
+    /// 2^63, and else where memory is refused, which it never is where the capacity is enough. A
+    /// refusal leaves the map.
     pub fn reserve(&mut self, additional: usize) -> Result<(), Cause>
         ensures capacity { OnOk result ((p : ℕ) × IsLeastPower (length self.old.walk + additional) p
             × (self.new.capacity ≡ max self.old.capacity p)) }
@@ -27,7 +28,11 @@ impl<K: IntKey, V: Drop, A: Allocator + Copy> IntMap<K, V, A> {
             ↔ (2 ^ 63 < length self.old.walk + additional) }
         ensures memory { result ≡ Err Cause.Memory
             → self.old.capacity < length self.old.walk + additional }
+        ensures updates { (q : K)
+            → value_of K.number_of self.new.walk q ≡ value_of K.number_of self.old.walk q }
+        ensures len { length self.new.walk ≡ length self.old.walk }
         ensures map { IsMap K.number_of K.is_key self.old }
+        ensures map_after { IsMap K.number_of K.is_key self.new }
     {
         if self.len > GREATEST_CAPACITY || additional > GREATEST_CAPACITY - self.len {
             return Err(Cause::TooLarge);
@@ -58,7 +63,11 @@ impl<K: IntKey, V: Drop, A: Allocator + Copy> IntMap<K, V, A> {
             ↔ WantsTooMuch self.old.capacity (length self.old.walk) thousandths }
         ensures memory { result ≡ Err Cause.Memory
             → IsWanted self.old.capacity (length self.old.walk) thousandths self.old.capacity → ⊥ }
+        ensures updates { (q : K)
+            → value_of K.number_of self.new.walk q ≡ value_of K.number_of self.old.walk q }
+        ensures len { length self.new.walk ≡ length self.old.walk }
         ensures map { IsMap K.number_of K.is_key self.old }
+        ensures map_after { IsMap K.number_of K.is_key self.new }
     {
         let Some(capacity) = wanted_capacity(self.len, self.table.capacity(), thousandths) else {
             return Err(Cause::TooLarge);

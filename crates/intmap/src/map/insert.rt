@@ -1,6 +1,6 @@
 //! Insertions.
-ghost use Rattle.std.specs.Prelude.{◌≡◌, ◌↔◌, ◌+◌, ◌*◌, ◌/◌, ◌^◌, ◌<◌, ◌≤◌, length, IfOk, IfErr, OnOk, OnErr, IsErrAnd, IsNone, None, true};
-ghost use Rattle.intmap.specs.Bindings.{value_of};
+ghost use Rattle.std.specs.Prelude.{◌≡◌, ◌↔◌, ◌+◌, ◌*◌, ◌/◌, ◌^◌, ◌<◌, ◌≤◌, length, IfOk, IfErr, OnOk, OnErr, IsErrAnd, IsNone, None, Some, true, cond, is_some};
+ghost use Rattle.intmap.specs.Bindings.{value_of, Updates};
 ghost use Rattle.intmap.specs.Reach.{class_size};
 ghost use Rattle.intmap.specs.Growth.{IsNext, is_due};
 ghost use Rattle.intmap.specs.Map.{IsMap, IsFull, IsOutOfRange, IsCapacityAfter, after_search, after_insert, with_pair};
@@ -32,6 +32,10 @@ impl<K: IntKey, V: Drop, A: Allocator + Copy> IntMap<K, V, A> {
             self.old.factor key self.new.capacity) }
         ensures state { OnOk result
             (self.new ≡ after_insert K.number_of self.old key value self.new.capacity) }
+        ensures updates { OnOk result
+            (Updates K.number_of self.old.walk self.new.walk key (Some value)) }
+        ensures len { IfOk result (λ old. length self.new.walk
+            ≡ length self.old.walk + cond (is_some old) 0 1) }
 
         // what a refusal hands back and leaves
         ensures err { OnErr result (self.new ≡ after_search K.number_of self.old key) }
@@ -46,6 +50,7 @@ impl<K: IntKey, V: Drop, A: Allocator + Copy> IntMap<K, V, A> {
             → 0 < class_size K.number_of self.old.walk self.old.capacity key) }
 
         ensures map { IsMap K.number_of K.is_key self.old }
+        ensures map_after { IsMap K.number_of K.is_key self.new }
     {
         let value = match self.table.replace(key, Kept { value }, &mut self.compared) {
             Ok(old) => return Ok(Some(old.value)),
@@ -74,6 +79,7 @@ impl<K: IntKey, V: Drop, A: Allocator + Copy> IntMap<K, V, A> {
         ensures memory { IfErr result (λ refused. refused.cause ≡ Cause.Memory
             → IsNext self.old.capacity (length self.old.walk + 1) self.old.factor self.old.capacity
             → 0 < class_size K.number_of self.old.walk self.old.capacity key) }
+        ensures map_after { IsMap K.number_of K.is_key self.new }
     {
         if self.len == usize::MAX {
             return Err(Refused {
@@ -113,6 +119,7 @@ impl<K: IntKey, V: Drop, A: Allocator + Copy> IntMap<K, V, A> {
             (IsFull self.old.walk self.old.capacity self.old.factor → ⊥) }
         ensures too_large { IfErr result (λ refused. (refused.cause ≡ Cause.TooLarge)
             ↔ IsFull self.old.walk self.old.capacity self.old.factor) }
+        ensures map_after { IsMap K.number_of K.is_key self.new }
     {
         let Some(capacity) = wanted_capacity(len, self.table.capacity(), self.factor) else {
             return Err(Refused {

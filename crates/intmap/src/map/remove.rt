@@ -1,6 +1,6 @@
 //! Removals.
-ghost use Rattle.std.specs.Prelude.{◌≡◌};
-ghost use Rattle.intmap.specs.Bindings.{value_of};
+ghost use Rattle.std.specs.Prelude.{◌≡◌, ◌+◌, None, cond, is_some, length};
+ghost use Rattle.intmap.specs.Bindings.{value_of, Updates};
 ghost use Rattle.intmap.specs.Map.{IsMap, after_remove};
 
 use crate::key::IntKey;
@@ -13,7 +13,10 @@ impl<K: IntKey, V, A: Allocator + Copy> IntMap<K, V, A> {
     pub fn remove(&mut self, key: K) -> Option<V>
         ensures value { result ≡ value_of K.number_of self.old.walk key }
         ensures state { self.new ≡ after_remove K.number_of self.old key }
+        ensures updates { Updates K.number_of self.old.walk self.new.walk key None }
+        ensures len { length self.new.walk + cond (is_some result) 1 0 ≡ length self.old.walk }
         ensures map { IsMap K.number_of K.is_key self.old }
+        ensures map_after { IsMap K.number_of K.is_key self.new }
     {
         let Some(kept) = self.table.take(&key, &mut self.compared) else {
             return None;

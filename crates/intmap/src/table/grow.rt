@@ -4,12 +4,13 @@ ghost use Rattle.std.specs.Option.{option_to_list};
 ghost use Rattle.intmap.specs.Classes.{IsCapacity};
 ghost use Rattle.intmap.specs.Bindings.{value_of, put_pair};
 ghost use Rattle.intmap.specs.Walk.{walk_of};
-ghost use Rattle.intmap.specs.Moves.{keys_of, CanCount, IsCounted, IsRoomy, IsReady};
+ghost use Rattle.std.specs.Map.{keys_of};
+ghost use Rattle.intmap.specs.Moves.{CanCount, IsCounted, IsRoomy, IsReady};
 
 use crate::key::IntKey;
 use crate::slot::Slot;
 use crate::steps::Steps;
-use crate::stored::Stored;
+use crate::table::stored::Stored;
 use crate::table::Table;
 use crate::table::place::{index_of, place, place_all};
 use std::alloc::{AllocError, Allocator};

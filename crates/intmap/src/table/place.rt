@@ -7,7 +7,7 @@ ghost use Rattle.intmap.specs.Moves.{HasRoom, IsPlaced};
 use crate::key::IntKey;
 use crate::slot::Slot;
 use crate::steps::Steps;
-use crate::stored::Stored;
+use crate::table::stored::Stored;
 use std::alloc::Allocator;
 
 /// The odd number that spreads keys over slots.

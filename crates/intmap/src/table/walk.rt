@@ -4,7 +4,7 @@ ghost use Rattle.std.specs.Iterator.{YieldsFirstBy, item_count};
 
 use crate::key::IntKey;
 use crate::slot::Slot;
-use crate::stored::Stored;
+use crate::table::stored::Stored;
 use std::alloc::Allocator;
 use std::marker::Model;
 

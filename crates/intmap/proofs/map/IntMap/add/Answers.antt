@@ -91,3 +91,6 @@ add_growing-requires-clause-due g c = let h = c.if-has_outgrown.ensures in searc
 
 pub add_growing-requires-clause-exceeds : goal.add_growing-requires-clause-exceeds
 add_growing-requires-clause-exceeds g c = let h = c.if-has_outgrown.ensures in search (tests, rules)
+
+pub returns-clause-map_after : goal.returns-clause-map_after
+returns-clause-map_after g c = (invariant_of-self-2 g c).map

@@ -96,3 +96,6 @@ invariant_of-self g c = rw c.in-Err.ensures.err c.self.invariant
 
 pub returns-in-Err-clause-err : goal.returns-in-Err-clause-err
 returns-in-Err-clause-err g c = search rules
+
+pub returns-clause-map_after : goal.returns-clause-map_after
+returns-clause-map_after g c = (invariant_of-self-2 g c).map

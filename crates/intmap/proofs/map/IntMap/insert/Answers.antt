@@ -11,6 +11,7 @@ use Rattle.intmap.specs.Map.{MapState, after_search, after_insert, with_pair}
 use Rattle.intmap.specs.Kept.{unkept}
 use Rattle.intmap.specs.declared.kept.Kept.{Kept}
 use Rattle.intmap.proofs.MapLemmas.{MapState-same, unkept-put, IsConsistent-replaced}
+use Rattle.intmap.proofs.AfterLemmas.{Updates-insert, length-insert}
 use Rattle.intmap.proofs.MappedLemmas.{value_of-with_values, reach-with_values}
 use Rattle.intmap.proofs.map.IntMap.insert.Goals as goal
 use Rattle.intmap.proofs.map.IntMap.insert.Goals.{After-add}
@@ -120,3 +121,22 @@ invariant_of-self-2 g c = search rules
 
 pub add-requires-clause-key : goal.add-requires-clause-key
 add-requires-clause-key g c = search rules
+
+pub returns-in-Ok-clause-map_after : goal.returns-in-Ok-clause-map_after
+returns-in-Ok-clause-map_after g c = (invariant_of-self g c).map
+
+pub returns-in-Ok-clause-updates : goal.returns-in-Ok-clause-updates
+returns-in-Ok-clause-updates g c =
+    Updates-insert g.K.IntKey.number_of g.K.IntKey.is_key c.args.self.now _ c.args.key c.args.value (rw (← c.self.view_is) c.self.invariant.map) (invariant_of-self g c).map.capacity (returns-in-Ok-clause-state g c)
+
+pub returns-in-Ok-clause-len : goal.returns-in-Ok-clause-len
+returns-in-Ok-clause-len g c =
+    rw (← returns-in-Ok-clause-old g c) at (length-insert g.K.IntKey.number_of g.K.IntKey.is_key c.args.self.now _ c.args.key c.args.value (invariant_of-self g c).map.capacity (returns-in-Ok-clause-state g c))
+
+pub returns-clause-updates : goal.returns-clause-updates
+returns-clause-updates g c =
+    Updates-insert g.K.IntKey.number_of g.K.IntKey.is_key c.args.self.now _ c.args.key c.args.value (rw (← c.self.view_is) c.self.invariant.map) c.add.ensures.map_after.capacity (returns-clause-state g c)
+
+pub returns-clause-len : goal.returns-clause-len
+returns-clause-len g c =
+    rw (missing g (goal.at.returns-clause-len g c).After-add) at (length-insert g.K.IntKey.number_of g.K.IntKey.is_key c.args.self.now _ c.args.key c.args.value c.add.ensures.map_after.capacity (returns-clause-state g c))

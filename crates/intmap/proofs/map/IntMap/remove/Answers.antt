@@ -3,6 +3,7 @@ use Rattle.std.proofs.Common.{◌+◌, ◌-◌, sym, ap, ◌∙◌, arith}
 use Rattle.std.specs.Option.{option_map}
 use Rattle.intmap.specs.Bindings.{value_of}
 use Rattle.intmap.proofs.MapLemmas.{MapState-same, unkept-take, IsConsistent-taken, none_less, one_less}
+use Rattle.intmap.proofs.AfterLemmas.{Updates-remove, length-remove}
 use Rattle.intmap.proofs.MappedLemmas.{value_of-with_values, reach-with_values}
 use Rattle.intmap.proofs.map.IntMap.remove.Goals as goal
 
@@ -41,3 +42,24 @@ returns-clause-state g c =
 
 pub returns-clause-map : goal.returns-clause-map
 returns-clause-map g c = rw (← c.self.view_is) c.self.invariant.map
+
+pub returns-in_default-clause-map_after : goal.returns-in_default-clause-map_after
+returns-in_default-clause-map_after g c = (invariant_of-self g c).map
+
+pub returns-in_default-clause-updates : goal.returns-in_default-clause-updates
+returns-in_default-clause-updates g c =
+    Updates-remove g.K.IntKey.number_of g.K.IntKey.is_key c.args.self.now _ c.args.key (returns-in_default-clause-map g c) (returns-in_default-clause-state g c)
+
+pub returns-in_default-clause-len : goal.returns-in_default-clause-len
+returns-in_default-clause-len g c =
+    rw (← returns-in_default-clause-value g c) at (length-remove g.K.IntKey.number_of g.K.IntKey.is_key c.args.self.now _ c.args.key (returns-in_default-clause-map g c) (returns-in_default-clause-state g c))
+
+pub returns-clause-map_after : goal.returns-clause-map_after
+returns-clause-map_after g c = (invariant_of-self-2 g c).map
+
+pub returns-clause-updates : goal.returns-clause-updates
+returns-clause-updates g c = Updates-remove g.K.IntKey.number_of g.K.IntKey.is_key c.args.self.now _ c.args.key (returns-clause-map g c) (returns-clause-state g c)
+
+pub returns-clause-len : goal.returns-clause-len
+returns-clause-len g c =
+    rw (← returns-clause-value g c) at (length-remove g.K.IntKey.number_of g.K.IntKey.is_key c.args.self.now _ c.args.key (returns-clause-map g c) (returns-clause-state g c))

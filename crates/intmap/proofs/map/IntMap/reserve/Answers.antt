@@ -6,6 +6,7 @@ use Rattle.intmap.specs.Growth.{IsLeastPower}
 use Rattle.intmap.specs.Map.{MapState}
 use Rattle.intmap.proofs.GrowthLemmas.{IsLeastPower-up, IsLeastPower-fits, IsCapacity-max}
 use Rattle.intmap.proofs.LoadFactorLemmas.{IsLoaded, IsLoaded-larger, capacity-positive}
+use Rattle.intmap.proofs.AfterLemmas.{value_of-in_slots, length-in_slots}
 use Rattle.intmap.proofs.MapLemmas.{MapState-same, unkept-grown, length-unkept, IsConsistent-grown, OnOk-at, IsOk-at_err}
 use Rattle.intmap.proofs.map.IntMap.reserve.Goals as goal
 use Rattle.intmap.proofs.map.IntMap.reserve.Goals.{After-max-capacity}
@@ -61,7 +62,7 @@ invariant_of-self-2 g c =
     let C = c.self.inside.table.capacity in
     let loaded : IsLoaded c.self.inside.table.capacity c.self.inside.len c.self.inside.factor =
     subst (λ n. IsLoaded c.self.inside.table.capacity n c.self.inside.factor) (length-unkept g.K.IntKey.number_of c.self.inside.table.walk ∙ sym c.self.invariant.count) c.self.invariant.map.load in
-    IsConsistent-grown _ _ _ _ _ _ _ _ c.self.invariant c.max-capacity.result c.grow_to.new.self.capacity c.self.inside.factor _ capacity (cap g at)
+    IsConsistent-grown _ _ _ _ _ _ _ _ c.self.invariant c.max-capacity.result c.grow_to.new.self.capacity c.self.inside.factor _ capacity (cap g at) c.self.invariant.map.factor
     (IsLoaded-larger c.self.inside.table.capacity c.max-capacity.result c.self.inside.len c.self.inside.factor (capacity-positive c.self.inside.table.capacity c.self.invariant.map.capacity) (omega (arith, most g at)) loaded)
     c.limit_of-self-inside.ensures walk
 
@@ -79,6 +80,17 @@ returns-clause-state g c =
     let walk = OnOk-at c.grow_to.result _ accepted c.grow_to.ensures.walk in
     let capacity = OnOk-at c.grow_to.result _ accepted c.grow_to.ensures.capacity in
     rw (capacity, ← c.self.view_is) (MapState-same _ _ _ _ _ _ _ _ _ (unkept-grown g.K.IntKey.number_of c.self.inside.table.walk c.grow_to.new.self.walk c.max-capacity.result walk) refl refl refl)
+
+pub returns-clause-map_after : goal.returns-clause-map_after
+returns-clause-map_after g c = (invariant_of-self-2 g c).map
+
+pub returns-clause-updates : goal.returns-clause-updates
+returns-clause-updates g c q =
+    value_of-in_slots g.K.IntKey.number_of g.K.IntKey.is_key c.args.self.now.walk _ _ q (invariant_of-self-2 g c).map.capacity (ap (λ s. s.walk) (returns-clause-state g c))
+
+pub returns-clause-len : goal.returns-clause-len
+returns-clause-len g c =
+    length-in_slots g.K.IntKey.number_of g.K.IntKey.is_key c.args.self.now.walk _ _ (invariant_of-self-2 g c).map.capacity (ap (λ s. s.walk) (returns-clause-state g c))
 
 pub returns-then-self-gt-GREATEST_CAPACITY-clause-too_large : goal.returns-then-self-gt-GREATEST_CAPACITY-clause-too_large
 returns-then-self-gt-GREATEST_CAPACITY-clause-too_large g c = grind (arith, common_steps)

@@ -1,8 +1,9 @@
-use Rattle.std.proofs.Common.{◌≡◌, length, sym, ap, ◌∙◌, subst, refl, rules, tests}
+use Rattle.std.proofs.Common.{◌≡◌, length, sym, ap, ◌∙◌, subst, arith, refl, rules, tests}
 use Rattle.intmap.specs.Growth.{IsWanted, WantsTooMuch}
 use Rattle.intmap.specs.Map.{MapState}
 use Rattle.intmap.proofs.GrowthLemmas.{IsWanted-unique}
 use Rattle.intmap.proofs.LoadFactorLemmas.{not_too_much, capacity-greatest, capacity-positive, IsLoaded-from}
+use Rattle.intmap.proofs.AfterLemmas.{value_of-in_slots, length-in_slots}
 use Rattle.intmap.proofs.MapLemmas.{MapState-same, unkept-grown, length-unkept, IsConsistent-grown, OnOk-at, IsOk-at_err}
 use Rattle.intmap.proofs.map.IntMap.set_load_factor.Goals as goal
 use Rattle.intmap.proofs.map.IntMap.set_load_factor.Goals.{After-is_err}
@@ -28,7 +29,7 @@ invariant_of-self-2 g c =
     let accepted = sym c.is_err.ensures.value ∙ c.if-is_err.false in
     let walk = OnOk-at c.grow_to.result _ accepted c.grow_to.ensures.walk in
     let capacity = OnOk-at c.grow_to.result _ accepted c.grow_to.ensures.capacity in
-    IsConsistent-grown _ _ _ _ _ _ _ _ c.self.invariant c.in-Some.capacity c.grow_to.new.self.capacity c.args.thousandths _ capacity c.in-Some.ensures.capacity
+    IsConsistent-grown _ _ _ _ _ _ _ _ c.self.invariant c.in-Some.capacity c.grow_to.new.self.capacity c.args.thousandths _ capacity c.in-Some.ensures.capacity (omega arith)
     (IsLoaded-from c.in-Some.capacity c.self.inside.len c.args.thousandths (capacity-positive c.in-Some.capacity c.in-Some.ensures.capacity) c.in-Some.ensures.wanted.meets)
     c.limit_of-self-inside.ensures walk
 
@@ -42,6 +43,17 @@ returns-clause-state g c =
 pub returns-clause-too_large : goal.returns-clause-too_large
 returns-clause-too_large g c =
     ((λ e. cc), λ much. absurd (within g (goal.at.returns-clause-too_large g c).After-is_err much))
+
+pub returns-clause-map_after : goal.returns-clause-map_after
+returns-clause-map_after g c = (invariant_of-self-2 g c).map
+
+pub returns-clause-updates : goal.returns-clause-updates
+returns-clause-updates g c q =
+    value_of-in_slots g.K.IntKey.number_of g.K.IntKey.is_key c.args.self.now.walk _ _ q (invariant_of-self-2 g c).map.capacity (ap (λ s. s.walk) (returns-clause-state g c))
+
+pub returns-clause-len : goal.returns-clause-len
+returns-clause-len g c =
+    length-in_slots g.K.IntKey.number_of g.K.IntKey.is_key c.args.self.now.walk _ _ (invariant_of-self-2 g c).map.capacity (ap (λ s. s.walk) (returns-clause-state g c))
 
 pub returns-in_default-clause-too_large : goal.returns-in_default-clause-too_large
 returns-in_default-clause-too_large g c =

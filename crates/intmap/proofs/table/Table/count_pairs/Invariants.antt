@@ -1,4 +1,5 @@
-use Rattle.intmap.specs.Moves.{keys_of, CanCount, IsCounted}
+use Rattle.std.specs.Map.{keys_of}
+use Rattle.intmap.specs.Moves.{CanCount, IsCounted}
 use Rattle.intmap.proofs.table.Table.count_pairs.Given as goal
 
 abbrev pub invariant-loop-key : goal.invariant-loop-key

@@ -2,7 +2,8 @@ use Rattle.std.proofs.Common.{List, ◌≡◌, ◌++◌, [], ◌∙◌, length, 
 use Rattle.std.specs.Vec.{with_items}
 use Rattle.std.proofs.lemmas.List.{with_items_is}
 use Rattle.intmap.specs.Slots.{Held, Grid, rows, joined}
-use Rattle.intmap.specs.Moves.{keys_of, IsPlaced, IsReady}
+use Rattle.std.specs.Map.{keys_of}
+use Rattle.intmap.specs.Moves.{IsPlaced, IsReady}
 use Rattle.intmap.proofs.TableLemmas.{walk_of-joined}
 use Rattle.intmap.proofs.MoveLemmas.{HasRoom-ready, HasRoom-first, IsMoved, IsMoved-placed, joined-moved, IsTable-moved}
 use Rattle.intmap.proofs.table.Table.grow_to.Goals as goal

@@ -2,7 +2,8 @@ use Rattle.std.proofs.Common.{List, ◌≡◌, ◌++◌, ◌∷◌, [], ◌∙�
 use Rattle.std.specs.Vec.{with_items}
 use Rattle.std.proofs.lemmas.List.{with_items_is}
 use Rattle.intmap.specs.Slots.{Held, Grid, rows, joined}
-use Rattle.intmap.specs.Moves.{keys_of, HasRoom, IsPlaced, IsReady}
+use Rattle.std.specs.Map.{keys_of}
+use Rattle.intmap.specs.Moves.{HasRoom, IsPlaced, IsReady}
 use Rattle.intmap.proofs.MoveLemmas.{HasRoom-ready, HasRoom-first, HasRoom-more, IsPlaced-more, IsMoved, IsMoved-placed, joined-moved, IsTable-moved, put_pair-missing}
 use Rattle.intmap.proofs.table.Table.grow_with.Goals as goal
 use Rattle.intmap.proofs.table.Table.grow_with.Goals.{After-as_mut_slice-slots, After-place}

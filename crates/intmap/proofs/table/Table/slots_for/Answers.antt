@@ -1,7 +1,8 @@
 use Rattle.std.proofs.Common.{◌≡◌, ◌++◌, ◌∙◌, append-nil}
 use Rattle.std.specs.Option.{option_to_list}
 use Rattle.std.proofs.lemmas.Result.{IfOk-weaker}
-use Rattle.intmap.specs.Moves.{keys_of, CanCount, IsCounted}
+use Rattle.std.specs.Map.{keys_of}
+use Rattle.intmap.specs.Moves.{CanCount, IsCounted}
 use Rattle.intmap.proofs.MoveLemmas.{zeros, CanCount-start, CanCount-first, CanCount-more, IsCounted-more, IsReady-counted}
 use Rattle.intmap.proofs.table.Table.slots_for.Goals as goal
 use Rattle.intmap.proofs.table.Table.slots_for.Goals.{After-as_mut_slice-counts, After-drop-zeros, in-Some, in_default}

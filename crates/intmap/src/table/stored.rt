@@ -6,8 +6,9 @@ use crate::steps::Steps;
 use std::marker::Model;
 
 /// A key that is stored. It has no `==`, and its field is private: [`Stored::matches`] tells
-/// whether it is the key that is looked for, and counts a step for it. [`Stored::key`] is for
-/// handing the key out, not for comparing it.
+/// whether it is the key that is looked for, and counts a step for it. [`Stored::key`] is for a
+/// table alone, whose walks hand keys out and which asks for the slots that they have; where slots
+/// are searched it can't be named.
 #[derive(Drop)]
 pub struct Stored<K: IntKey> {
     key: K,
@@ -41,9 +42,9 @@ impl<K: IntKey> Stored<K> {
         self.key.number() == key.number()
     }
 
-    /// The key, to be handed out.
+    /// The key, to be handed out or put into its slot.
     #[inline(always)]
-    pub(crate) fn key(&self) -> &K
+    pub(in crate::table) fn key(&self) -> &K
         ensures value { result.now ≡ self.now }
         ensures known { K.is_key self.now }
     {

@@ -1,0 +1,51 @@
+-- What calls leave of the bindings and the length of a map.
+use Rattle.std.proofs.Common.{◌≡◌, inl, inr, ℕ, ◌+◌, ◌<◌, ◌≤◌, List, cond, length, Option, Some, None, is_some, sym, ap, ◌∙◌, subst, arith}
+use Rattle.std.specs.Prelude.{All, MatchOption}
+use Rattle.std.proofs.lemmas.Bool.{cases_Bool}
+use Rattle.intmap.specs.Classes.{slot_number, same_key, IsCapacity}
+use Rattle.intmap.specs.Bindings.{value_of, take_key, put_pair, HasDistinctKeys, Updates}
+use Rattle.intmap.specs.Walk.{walk_of}
+use Rattle.intmap.specs.Growth.{IsNext, is_due}
+use Rattle.intmap.specs.Map.{MapState, IsMap, IsCapacityAfter, after_insert, after_remove, in_slots}
+use Rattle.intmap.proofs.SlotNumberLemmas.{slot_number-below}
+use Rattle.intmap.proofs.DistinctLemmas.{length-walk_of, length-take_key, length-put_pair}
+use Rattle.intmap.proofs.BindingLemmas.{value_of-walk_of, value_of-take_key, value_of-put_pair, Updates-from}
+
+module _ {K V : Type 0} (number : K → ℕ) (is_key : K → Type 0) where
+  -- after an insertion its key has the value, and each other key its own
+  pub Updates-insert : (m n : MapState K V) (k : K) (v : V) → IsMap number is_key m → IsCapacity n.capacity → n ≡ after_insert number m k v n.capacity → Updates number m.walk n.walk k (Some v)
+  Updates-insert m n k v is_map cap state =
+      Updates-from number m.walk n.walk k (Some v) (λ q.
+      ap (λ s. value_of number s.walk q) state
+      ∙ value_of-walk_of number (put_pair number m.walk m.capacity k v) n.capacity q (slot_number-below number q n.capacity cap)
+      ∙ value_of-put_pair number m.walk m.capacity k q v is_map.distinct)
+
+  -- and there is one pair more where the key was new
+  pub length-insert : (m n : MapState K V) (k : K) (v : V) → IsCapacity n.capacity → n ≡ after_insert number m k v n.capacity → length n.walk ≡ length m.walk + cond (is_some (value_of number m.walk k)) 0 1
+  length-insert m n k v cap state =
+      ap (λ s. length s.walk) state
+      ∙ length-walk_of number (put_pair number m.walk m.capacity k v) n.capacity (λ q. slot_number-below number q n.capacity cap)
+      ∙ length-put_pair number m.walk m.capacity k v
+
+  -- after a removal its key has no value, and each other key its own
+  pub Updates-remove : (m n : MapState K V) (k : K) → IsMap number is_key m → n ≡ after_remove number m k → Updates number m.walk n.walk k None
+  Updates-remove m n k is_map state =
+      Updates-from number m.walk n.walk k None (λ q.
+      ap (λ s. value_of number s.walk q) state
+      ∙ value_of-walk_of number (take_key number m.walk m.capacity k) m.capacity q (slot_number-below number q m.capacity is_map.capacity)
+      ∙ value_of-take_key number m.walk m.capacity k q is_map.distinct)
+
+  -- and there is one pair less where the key was bound
+  pub length-remove : (m n : MapState K V) (k : K) → IsMap number is_key m → n ≡ after_remove number m k → length n.walk + cond (is_some (value_of number m.walk k)) 1 0 ≡ length m.walk
+  length-remove m n k is_map state =
+      let walked : length n.walk ≡ length (take_key number m.walk m.capacity k) = ap (λ s. length s.walk) state ∙ length-walk_of number (take_key number m.walk m.capacity k) m.capacity (λ q. slot_number-below number q m.capacity is_map.capacity) in
+      let taken = length-take_key number m.walk m.capacity k in
+      omega (arith, walked, taken)
+
+  -- in other slots each key has its value
+  pub value_of-in_slots : (W M : List (K × V)) (D : ℕ) (q : K) → IsCapacity D → M ≡ walk_of number W D → value_of number M q ≡ value_of number W q
+  value_of-in_slots W M D q cap is = ap (λ L. value_of number L q) is ∙ value_of-walk_of number W D q (slot_number-below number q D cap)
+
+  -- and there are as many pairs
+  pub length-in_slots : (W M : List (K × V)) (D : ℕ) → IsCapacity D → M ≡ walk_of number W D → length M ≡ length W
+  length-in_slots W M D cap is = ap length is ∙ length-walk_of number W D (λ q. slot_number-below number q D cap)

@@ -1,0 +1,5 @@
+use Rattle.intmap.proofs.DistinctLemmas.{length-take_key}
+use Rattle.intmap.proofs.laws.taking_shortens.Goals as goal
+
+pub returns : goal.returns
+returns g c = λ L C k. length-take_key g.K.IntKey.number_of L C k

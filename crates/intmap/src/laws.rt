@@ -1,0 +1,85 @@
+//! Laws for callers, each as the contract of a function that does nothing: what follows of a map
+//! from what its calls say of it.
+ghost use Rattle.std.specs.Prelude.{◌≡◌, ◌+◌, ◌<◌, ◌≤◌, ℕ, List, All, cond, is_some, length, Some, None};
+ghost use Rattle.intmap.specs.Classes.{IsCapacity};
+ghost use Rattle.intmap.specs.Bindings.{value_of, take_key, put_pair, HasDistinctKeys, Updates};
+ghost use Rattle.intmap.specs.Walk.{walk_of};
+ghost use Rattle.intmap.specs.Reach.{reach, class_size};
+ghost use Rattle.intmap.specs.Figures.{load_of};
+ghost use Rattle.intmap.specs.Growth.{IsWanted};
+ghost use Rattle.intmap.specs.Map.{IsCapacityAfter};
+
+use crate::key::IntKey;
+
+/// The walk of a list binds each key to what the list does.
+pub fn walks_bind_as_lists<K: IntKey, V>()
+    ensures { (L : List (K × V)) (C : ℕ) (q : K) → IsCapacity C
+        → value_of K.number_of (walk_of K.number_of L C) q ≡ value_of K.number_of L q }
+{}
+
+/// The walk of a list has as many pairs.
+pub fn walks_are_as_long_as_lists<K: IntKey, V>()
+    ensures { (L : List (K × V)) (C : ℕ) → IsCapacity C
+        → length (walk_of K.number_of L C) ≡ length L }
+{}
+
+/// Once a key was taken out of a list it isn't bound, and each other key is as before.
+pub fn taking_unbinds<K: IntKey, V>()
+    ensures { (L : List (K × V)) (C : ℕ) (k : K) → HasDistinctKeys K.number_of L
+        → Updates K.number_of L (take_key K.number_of L C k) k None }
+{}
+
+/// Once a pair was put into a list its key is bound to its value, and each other key is as before.
+pub fn putting_binds<K: IntKey, V>()
+    ensures { (L : List (K × V)) (C : ℕ) (k : K) (v : V) → HasDistinctKeys K.number_of L
+        → Updates K.number_of L (put_pair K.number_of L C k v) k (Some v) }
+{}
+
+/// A list has one pair less once a bound key was taken out.
+pub fn taking_shortens<K: IntKey, V>()
+    ensures { (L : List (K × V)) (C : ℕ) (k : K)
+        → length (take_key K.number_of L C k) + cond (is_some (value_of K.number_of L k)) 1 0
+        ≡ length L }
+{}
+
+/// A list has one pair more once the pair of a new key was put in.
+pub fn putting_lengthens<K: IntKey, V>()
+    ensures { (L : List (K × V)) (C : ℕ) (k : K) (v : V)
+        → length (put_pair K.number_of L C k v)
+        ≡ length L + cond (is_some (value_of K.number_of L k)) 0 1 }
+{}
+
+/// No insertion leaves fewer slots.
+pub fn insertions_keep_capacity<K: IntKey, V>()
+    ensures { (L : List (K × V)) (C F : ℕ) (k : K) (D : ℕ)
+        → IsCapacityAfter K.number_of L C F k D → C ≤ D }
+{}
+
+/// No load factor leaves fewer slots.
+pub fn load_factors_keep_capacity()
+    ensures { (C n F D : ℕ) → IsWanted C n F D → C ≤ D }
+{}
+
+/// A look-up compares at most the keys that agree with the one that is sought.
+pub fn reach_is_within_class<K: IntKey, V>()
+    ensures { (L : List (K × V)) (C : ℕ) (k : K)
+        → reach K.number_of L C k ≤ class_size K.number_of L C k }
+{}
+
+/// Where all keys are below the capacity, at most one agrees with any key.
+pub fn small_keys_stand_alone<K: IntKey, V>()
+    ensures { (L : List (K × V)) (C : ℕ) (k : K) → HasDistinctKeys K.number_of L
+        → All (λ p. K.number_of p.0 < C) L → class_size K.number_of L C k ≤ 1 }
+{}
+
+/// Where all keys are below the capacity, a look-up compares at most one.
+pub fn small_keys_are_found_at_once<K: IntKey, V>()
+    ensures { (L : List (K × V)) (C : ℕ) (k : K) → HasDistinctKeys K.number_of L
+        → All (λ p. K.number_of p.0 < C) L → reach K.number_of L C k ≤ 1 }
+{}
+
+/// Where all keys are below the capacity, each has a slot of its own.
+pub fn small_keys_fill_slots<K: IntKey, V>()
+    ensures { (L : List (K × V)) (C : ℕ) → HasDistinctKeys K.number_of L
+        → All (λ p. K.number_of p.0 < C) L → load_of K.number_of L C ≡ length L }
+{}
