@@ -6,3 +6,4 @@ pub mod StepLemmas
 pub mod GrowthStepLemmas
 pub mod RunLemmas
 pub mod ZipLemmas
+pub mod JoinLemmas

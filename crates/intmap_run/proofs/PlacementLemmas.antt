@@ -1,6 +1,6 @@
 -- What a run places in larger tables is little for the lengths that it goes through, and so is the capacity that growth leaves.
 use Rattle.std.proofs.Common.{◌≡◌, ◌≢◌, inl, inr, ℕ, ◌+◌, ◌-◌, ◌*◌, ◌/◌, ◌^◌, ◌<◌, ◌≤◌, max, Bool, cond, List, [], ◌∷◌, length, Option, Some, None, is_some, refl, sym, ap, ◌∙◌, arith}
-use Rattle.std.specs.Prelude.{◌⊎◌, MatchOption}
+use Rattle.std.specs.Prelude.{◌==◌, ◌⊎◌, MatchOption}
 use Rattle.std.proofs.Math.Nat.{mul-le-mul_left, mul-le-mul_right, div-mul-le_self, lt-div-mul-add, le-max_right}
 use Rattle.std.proofs.Math.Pow.{pow_pos}
 use Rattle.std.proofs.lemmas.Nat.{pow-add}
@@ -76,63 +76,65 @@ growth_few C n f D P growth few =
 
 module _ {K V : Type 0} where
   -- a step at which the table grew under an insertion
-  record Grows (s : State K V) (c : Command K V) (t : State K V) : Type 0 where
-    placed : placements_of s c t ≡ length t.pairs
+  record Grows (s t : State K V) (placements : ℕ) : Type 0 where
+    placed : placements ≡ length t.pairs
     factor : t.factor ≡ s.factor
     growth : IsGrowth s.capacity (length t.pairs) (s.factor + 1) t.capacity
 
   -- an insertion that kept the capacity places nothing
-  placements_of-kept : (s : State K V) (k : K) (v : V) (t : State K V) → t.capacity ≡ s.capacity → placements_of s (command.Insert k v) t ≡ 0
-  placements_of-kept s k v t same = ap (λ b. cond b 0 (length t.pairs)) (eq-eqb t.capacity s.capacity same)
+  placements-kept : (s t : State K V) → t.capacity ≡ s.capacity → cond (t.capacity == s.capacity) 0 (length t.pairs) ≡ 0
+  placements-kept s t same = ap (λ b. cond b 0 (length t.pairs)) (eq-eqb t.capacity s.capacity same)
 
   -- an insertion that changed it places all pairs
-  placements_of-changed : (s : State K V) (k : K) (v : V) (t : State K V) → t.capacity ≢ s.capacity → placements_of s (command.Insert k v) t ≡ length t.pairs
-  placements_of-changed s k v t apart = ap (λ b. cond b 0 (length t.pairs)) (ne_eqb t.capacity s.capacity apart)
+  placements-changed : (s t : State K V) → t.capacity ≢ s.capacity → cond (t.capacity == s.capacity) 0 (length t.pairs) ≡ length t.pairs
+  placements-changed s t apart = ap (λ b. cond b 0 (length t.pairs)) (ne_eqb t.capacity s.capacity apart)
 
 module _ {K V S A : Type 0} where
   -- a step at which a load factor was set
-  record Resets (s : State K V) (c : Command K V) (a : Answer K V S A) (t : State K V) : Type 0 where
-    placed : placements_of s c t ≡ 0
+  record Resets (c : Command K V) (a : Answer K V S A) (placements : ℕ) : Type 0 where
+    placed : placements ≡ 0
     counted : factors_set_by c a ≡ 1
     set : SetsCapacity c a
 
   -- any other step
-  record Keeps (s : State K V) (c : Command K V) (a : Answer K V S A) (t : State K V) : Type 0 where
-    placed : placements_of s c t ≡ 0
+  record Keeps (s : State K V) (c : Command K V) (a : Answer K V S A) (t : State K V) (placements : ℕ) : Type 0 where
+    placed : placements ≡ 0
     factor : t.factor ≡ s.factor
     more : s.capacity ≤ t.capacity
     capacity : (t.capacity ≡ s.capacity) ⊎ SetsCapacity c a
 
   -- a step that changed neither capacity nor load factor
-  Keeps-same : (s : State K V) (c : Command K V) (a : Answer K V S A) (t : State K V) → placements_of s c t ≡ 0 → t.capacity ≡ s.capacity → t.factor ≡ s.factor → Keeps s c a t
-  Keeps-same s c a t placed capacity factor = record { placed = placed; factor = factor; more = omega (arith, capacity); capacity = inl capacity }
+  Keeps-same : (s : State K V) (c : Command K V) (a : Answer K V S A) (t : State K V) (placements : ℕ) → placements ≡ 0 → t.capacity ≡ s.capacity → t.factor ≡ s.factor → Keeps s c a t placements
+  Keeps-same s c a t placements placed capacity factor = record { placed = placed; factor = factor; more = omega (arith, capacity); capacity = inl capacity }
 
 module _ {K V S A : Type 0} (number : K → ℕ) (sees : V → S → Type 0) (keeps : K → V → Bool) where
   -- an accepted insertion
-  Grows-or_keeps : (s : State K V) (k : K) (v : V) (a : Answer K V S A) (t : State K V) → Inserts number s k v t → Grows s (command.Insert k v) t ⊎ Keeps s (command.Insert k v) a t
+  Grows-or_keeps : (s : State K V) (k : K) (v : V) (a : Answer K V S A) (t : State K V) → Inserts number s k v t
+      → Grows s t (cond (t.capacity == s.capacity) 0 (length t.pairs)) ⊎ Keeps s (command.Insert k v) a t (cond (t.capacity == s.capacity) 0 (length t.pairs))
   Grows-or_keeps s k v a t inserts =
       let factor : t.factor ≡ s.factor = ap (λ x. x.factor) inserts.after in
       elim (cases_eq t.capacity s.capacity) [
-        | inl same ↦ inr (Keeps-same s (command.Insert k v) a t (placements_of-kept s k v t same) same factor)
+        | inl same ↦ inr (Keeps-same s (command.Insert k v) a t _ (placements-kept s t same) same factor)
         | inr apart ↦
             (let next = IsCapacityAfter-changed (value_of number s.pairs k) s.capacity (length s.pairs + 1) s.factor t.capacity inserts.capacity apart in
             let longer : length t.pairs ≡ length s.pairs + 1 =
             ap (λ x. length x.pairs) inserts.after ∙ length-put_pair number s.pairs s.capacity k v ∙ ap (λ o. length s.pairs + cond (is_some o) 0 1) next.0 in
             inl (record {
-              placed = placements_of-changed s k v t apart;
+              placed = placements-changed s t apart;
               factor = factor;
               growth = rw longer (IsGrowth-from_next s.capacity (length s.pairs + 1) s.factor t.capacity next.1 apart);
             }))
       ]
 
   -- each step is of one of the three kinds
-  kind : (s : State K V) (c : Command K V) (a : Answer K V S A) (t : State K V) → Answers number sees keeps s c a t → Grows s c t ⊎ (Resets s c a t ⊎ Keeps s c a t)
+  kind : (s : State K V) (c : Command K V) (a : Answer K V S A) (t : State K V) → (h : Answers number sees keeps s c a t)
+      → Grows s t (placements_of number sees keeps s c a t h) ⊎ (Resets c a (placements_of number sees keeps s c a t h) ⊎ Keeps s c a t (placements_of number sees keeps s c a t h))
   kind s (command.Insert k v) a t (inl accepted) = elim (Grows-or_keeps s k v a t accepted.1) [ inl grows ↦ inl grows | inr kept ↦ inr (inr kept) ]
   kind s (command.Insert k v) a t (inr refused) =
       let capacity : t.capacity ≡ s.capacity = ap (λ x. x.capacity) refused.3 in
-      inr (inr (Keeps-same s (command.Insert k v) a t (placements_of-kept s k v t capacity) capacity (ap (λ x. x.factor) refused.3)))
-  kind s (command.Get k) a t h = inr (inr (Keeps-same s (command.Get k) a t refl (ap (λ x. x.capacity) h.1) (ap (λ x. x.factor) h.1)))
-  kind s (command.Remove k) a t h = inr (inr (Keeps-same s (command.Remove k) a t refl (ap (λ x. x.capacity) h.1) (ap (λ x. x.factor) h.1)))
+      inr (inr (Keeps-same s (command.Insert k v) a t _ (placements-kept s t capacity) capacity (ap (λ x. x.factor) refused.3)))
+  kind s (command.Get k) a t h = inr (inr (Keeps-same s (command.Get k) a t _ refl (ap (λ x. x.capacity) h.1) (ap (λ x. x.factor) h.1)))
+  kind s (command.Remove k) a t h = inr (inr (Keeps-same s (command.Remove k) a t _ refl (ap (λ x. x.capacity) h.1) (ap (λ x. x.factor) h.1)))
   kind s (command.Reserve n) a t (inl accepted) = inr (inr (record {
     placed = refl;
     factor = ap (λ x. x.factor) accepted.1.after;
@@ -140,15 +142,15 @@ module _ {K V S A : Type 0} (number : K → ℕ) (sees : V → S → Type 0) (ke
     capacity = inr (rw accepted.0 tt);
   }))
   kind s (command.Reserve n) a t (inr refused) =
-      inr (inr (Keeps-same s (command.Reserve n) a t refl (ap (λ x. x.capacity) refused.3) (ap (λ x. x.factor) refused.3)))
+      inr (inr (Keeps-same s (command.Reserve n) a t _ refl (ap (λ x. x.capacity) refused.3) (ap (λ x. x.factor) refused.3)))
   kind s (command.SetLoadFactor f) a t (inl accepted) = inr (inl (record { placed = refl; counted = rw accepted.0 refl; set = rw accepted.0 tt }))
   kind s (command.SetLoadFactor f) a t (inr refused) =
-      inr (inr (Keeps-same s (command.SetLoadFactor f) a t refl (ap (λ x. x.capacity) refused.3) (ap (λ x. x.factor) refused.3)))
-  kind s command.GetLoadFactor a t h = inr (inr (Keeps-same s command.GetLoadFactor a t refl (ap (λ x. x.capacity) h.1) (ap (λ x. x.factor) h.1)))
-  kind s command.Len a t h = inr (inr (Keeps-same s command.Len a t refl (ap (λ x. x.capacity) h.1) (ap (λ x. x.factor) h.1)))
-  kind s command.Capacity a t h = inr (inr (Keeps-same s command.Capacity a t refl (ap (λ x. x.capacity) h.1) (ap (λ x. x.factor) h.1)))
-  kind s command.Load a t h = inr (inr (Keeps-same s command.Load a t refl (ap (λ x. x.capacity) h.1) (ap (λ x. x.factor) h.1)))
-  kind s command.Walk a t h = inr (inr (Keeps-same s command.Walk a t refl (ap (λ x. x.capacity) h.1) (ap (λ x. x.factor) h.1)))
+      inr (inr (Keeps-same s (command.SetLoadFactor f) a t _ refl (ap (λ x. x.capacity) refused.3) (ap (λ x. x.factor) refused.3)))
+  kind s command.GetLoadFactor a t h = inr (inr (Keeps-same s command.GetLoadFactor a t _ refl (ap (λ x. x.capacity) h.1) (ap (λ x. x.factor) h.1)))
+  kind s command.Len a t h = inr (inr (Keeps-same s command.Len a t _ refl (ap (λ x. x.capacity) h.1) (ap (λ x. x.factor) h.1)))
+  kind s command.Capacity a t h = inr (inr (Keeps-same s command.Capacity a t _ refl (ap (λ x. x.capacity) h.1) (ap (λ x. x.factor) h.1)))
+  kind s command.Load a t h = inr (inr (Keeps-same s command.Load a t _ refl (ap (λ x. x.capacity) h.1) (ap (λ x. x.factor) h.1)))
+  kind s command.Walk a t h = inr (inr (Keeps-same s command.Walk a t _ refl (ap (λ x. x.capacity) h.1) (ap (λ x. x.factor) h.1)))
 
   -- a run is at least as long as its start
   greatest_length-start : (s : State K V) (cs : List (Command K V)) (as' : List (Answer K V S A)) (t : State K V) (run : Runs number sees keeps s cs as' t)
@@ -170,7 +172,7 @@ module _ {K V S A : Type 0} (number : K → ℕ) (sees : V → S → Type 0) (ke
       let greatest : ℕ = greatest_length number sees keeps m cs as' t run.2 in
       let start : length m.pairs ≤ greatest = greatest_length-start m cs as' t run.2 in
       let rest : 3 * greatest ≤ H = (let most : greatest ≤ max (length s.pairs) greatest = le-max_right (length s.pairs) greatest in omega (arith, high, most)) in
-      elim (kind s c a m run.1) as (λ _. P + (placements_of s c m + placed) ≤ (factors_set_by c a + factors_set cs as' + 1) * H) [
+      elim (kind s c a m run.1) as (λ _. P + (placements_of number sees keeps s c a m run.1 + placed) ≤ (factors_set_by c a + factors_set cs as' + 1) * H) [
         | inl grows ↦
             (let f : m.factor ≡ s.factor = grows.factor in
             let after = growth_few s.capacity (length m.pairs) (s.factor + 1) m.capacity P grows.growth few in

@@ -21,8 +21,8 @@ module _ {K V S A : Type 0} (number : K → ℕ) (sees : V → S → Type 0) (ke
         whole,
         record {
           stands = rest.2.stands;
-          compared = rest.2.compared ∙ ap (λ k. k + compared) first.1.compared ∙ add_assoc m.compared (comparisons_of number s c) compared;
-          placed = rest.2.placed ∙ ap (λ k. k + placed) first.1.placed ∙ add_assoc m.placed (placements_of s c first.0) placed;
+          compared = rest.2.compared ∙ ap (λ k. k + compared) first.1.compared ∙ add_assoc m.compared (comparisons_of number sees keeps s c a first.0 first.1.answers) compared;
+          placed = rest.2.placed ∙ ap (λ k. k + placed) first.1.placed ∙ add_assoc m.placed (placements_of number sees keeps s c a first.0 first.1.answers) placed;
           few_placements = run_placements-few number sees keeps s (c ∷ cs) (a ∷ as') rest.0 whole;
           last_capacity = last_capacity-from number sees keeps s (c ∷ cs) (a ∷ as') rest.0 whole;
         },

@@ -23,7 +23,7 @@ use Rattle.intmap_run.proofs.MapStandLemmas.{value_of-stands, length-stands, loa
 
 -- a command that leaves map and list
 pub Step-same : {K V S A : Type 0} (number : K → ℕ) (sees : V → S → Type 0) (keeps : K → V → Bool) (m : MapState K V) (s : State K V) (c : Command K V) (a : Answer K V S A)
-    → Answers number sees keeps s c a s → Stands number s m → comparisons_of number s c ≡ 0 → placements_of s c s ≡ 0
+    → (answers : Answers number sees keeps s c a s) → Stands number s m → comparisons_of number sees keeps s c a s answers ≡ 0 → placements_of number sees keeps s c a s answers ≡ 0
     → (t : State K V) × Step number sees keeps m s c a t m
 Step-same number sees keeps m s c a answers stands compares places = (
   s,

@@ -27,18 +27,6 @@ SeesOption sees (Some v) None = ⊥
 abbrev pub SeesPair : {K V S : Type 0} → (V → S → Type 0) → K × V → K × S → Type 0
 SeesPair sees p q = (q.0 ≡ p.0) × sees p.1 q.1
 
--- the keys that a command compares at a list of pairs
-abbrev pub comparisons_of : {K V : Type 0} → (K → ℕ) → State K V → Command K V → ℕ
-comparisons_of number s (command.Insert k v) = reach number s.pairs s.capacity k
-comparisons_of number s (command.Remove k) = reach number s.pairs s.capacity k
-comparisons_of number s other = 0
-
--- the pairs that a command places in a larger table as it leads from the list s to the list t: all that there are then, where it
--- is an insertion that changed the capacity, and else none
-abbrev pub placements_of : {K V : Type 0} → State K V → Command K V → State K V → ℕ
-placements_of s (command.Insert k v) t = cond (t.capacity == s.capacity) 0 (length t.pairs)
-placements_of s other t = 0
-
 module _ {K V S A : Type 0} where
   -- how many load factors a command set that was answered so, one or none
   abbrev pub factors_set_by : Command K V → Answer K V S A → ℕ
@@ -97,6 +85,18 @@ module _ {K V S A : Type 0} (number : K → ℕ) (sees : V → S → Type 0) (ke
   Answers s command.Load a t = (a ≡ answer.Number (load_of number s.pairs s.capacity)) × (t ≡ s)
   Answers s command.Walk a t = AnswersWalk s a × (t ≡ s)
 
+  -- the keys that a command compares in a step from the list s
+  abbrev pub comparisons_of : (s : State K V) (c : Command K V) (a : Answer K V S A) (t : State K V) → Answers s c a t → ℕ
+  comparisons_of s (command.Insert k v) a t step = reach number s.pairs s.capacity k
+  comparisons_of s (command.Remove k) a t step = reach number s.pairs s.capacity k
+  comparisons_of s other a t step = 0
+
+  -- the pairs that a command places in a larger table in a step from the list s to the list t: all that there are then, where it
+  -- is an insertion that changed the capacity, and else none
+  abbrev pub placements_of : (s : State K V) (c : Command K V) (a : Answer K V S A) (t : State K V) → Answers s c a t → ℕ
+  placements_of s (command.Insert k v) a t step = cond (t.capacity == s.capacity) 0 (length t.pairs)
+  placements_of s other a t step = 0
+
   -- the commands in order, each from the list that the one before left, with one answer a command
   abbrev pub Runs : State K V → List (Command K V) → List (Answer K V S A) → State K V → Type 0
   Runs s [] [] t = t ≡ s
@@ -108,13 +108,13 @@ module _ {K V S A : Type 0} (number : K → ℕ) (sees : V → S → Type 0) (ke
   abbrev pub run_comparisons : (s : State K V) (cs : List (Command K V)) (as' : List (Answer K V S A)) (t : State K V) → Runs s cs as' t → ℕ
   run_comparisons s [] as' t run = 0
   run_comparisons s (c ∷ cs) [] t run = 0
-  run_comparisons s (c ∷ cs) (a ∷ as') t run = comparisons_of number s c + run_comparisons run.0 cs as' t run.2
+  run_comparisons s (c ∷ cs) (a ∷ as') t run = comparisons_of s c a run.0 run.1 + run_comparisons run.0 cs as' t run.2
 
   -- the pairs that a run places in larger tables
   abbrev pub run_placements : (s : State K V) (cs : List (Command K V)) (as' : List (Answer K V S A)) (t : State K V) → Runs s cs as' t → ℕ
   run_placements s [] as' t run = 0
   run_placements s (c ∷ cs) [] t run = 0
-  run_placements s (c ∷ cs) (a ∷ as') t run = placements_of s c run.0 + run_placements run.0 cs as' t run.2
+  run_placements s (c ∷ cs) (a ∷ as') t run = placements_of s c a run.0 run.1 + run_placements run.0 cs as' t run.2
 
   -- the greatest number of pairs that there are at the start of a run or after one of its commands
   abbrev pub greatest_length : (s : State K V) (cs : List (Command K V)) (as' : List (Answer K V S A)) (t : State K V) → Runs s cs as' t → ℕ

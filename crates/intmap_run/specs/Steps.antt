@@ -12,8 +12,8 @@ module _ {K V S A : Type 0} (number : K → ℕ) (sees : V → S → Type 0) (ke
   pub record Step (m : MapState K V) (s : State K V) (c : Command K V) (a : Answer K V S A) (t : State K V) (n : MapState K V) : Type 0 where
     pub answers : Answers number sees keeps s c a t
     pub stands : Stands number t n
-    pub compared : n.compared ≡ m.compared + comparisons_of number s c
-    pub placed : n.placed ≡ m.placed + placements_of s c t
+    pub compared : n.compared ≡ m.compared + comparisons_of number sees keeps s c a t answers
+    pub placed : n.placed ≡ m.placed + placements_of number sees keeps s c a t answers
 
   -- from every list that stands for the map before, a command leads to a list that stands for the map after
   abbrev pub StepsFrom : MapState K V → Command K V → Answer K V S A → MapState K V → Type 0

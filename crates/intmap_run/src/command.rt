@@ -16,8 +16,8 @@ pub enum Command<K, V> {
     /// `reserve`: makes the capacity at least the least power of two that is at least the length
     /// and so many slots more, and answers `Done`.
     ///
-    /// Refused as `TooLarge` exactly where the length and so many are above 2^63, and as `Memory`
-    /// only where they are above the capacity.
+    /// Refused as `TooLarge` exactly where the sum of the length and so many is above 2^63, and as
+    /// `Memory` only where it is above the capacity.
     Reserve(usize),
     /// `set_load_factor`: sets the load factor, in thousandths, makes the capacity at once the
     /// least of itself and its doublings that meets it, and answers `Done`.

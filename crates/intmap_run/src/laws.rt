@@ -1,14 +1,36 @@
 //! Laws of the definitions that a run is told by, each as the contract of a function that does
 //! nothing.
-ghost use Rattle.std.specs.Prelude.{◌≡◌, ◌↔◌, ◌≤◌, ℕ, List, length};
+ghost use Rattle.std.specs.Prelude.{◌≡◌, ◌↔◌, ◌≤◌, ◌++◌, ℕ, List, length};
 ghost use Rattle.intmap.specs.Classes.{IsCapacity, residue, slot_number};
 ghost use Rattle.intmap.specs.Bindings.{value_of, take_key, put_pair};
 ghost use Rattle.intmap.specs.Walk.{walk_of};
 ghost use Rattle.intmap.specs.Reach.{class_size, reach};
 ghost use Rattle.intmap.specs.Figures.{load_of};
+ghost use Rattle.intmap.specs.Map.{MapState, empty_map};
+ghost use Rattle.intmap.specs.States.{Stands, empty_state};
 ghost use Rattle.intmap_run.specs.Laws.{StandForOne};
+ghost use Rattle.intmap_run.specs.Runs.{RunsFrom};
+ghost use Rattle.intmap_run.specs.declared.command.Command.{Command};
+ghost use Rattle.intmap_run.specs.declared.answer.Answer.{Answer};
 
+use crate::judge::Judge;
 use intmap::IntKey;
+use std::alloc::Allocator;
+
+/// No pairs stand for a map that was just made.
+pub fn no_pairs_stand_for_a_new_map<K: IntKey, V>()
+    ensures { (C : ℕ) → IsCapacity C
+        → Stands {V = V} K.number_of (empty_state C) (empty_map C) }
+{}
+
+/// A run of a map, and another from where it led, are one run over the commands of both.
+pub fn runs_join<K: IntKey, V, J: Judge<K, V>, A: Allocator>()
+    ensures { (judge : J) (m n o : MapState K V) (cs ds : List (Command K V))
+        (as' bs : List (Answer K V J.Seen A))
+        → RunsFrom K.number_of (J.sees judge) (J.keeps judge) m cs as' n
+        → RunsFrom K.number_of (J.sees judge) (J.keeps judge) n ds bs o
+        → RunsFrom K.number_of (J.sees judge) (J.keeps judge) m (cs ++ ds) (as' ++ bs) o }
+{}
 
 /// Two keys have one slot exactly where they agree modulo the number of slots.
 pub fn keys_share_slots_by_residue<K: IntKey>()

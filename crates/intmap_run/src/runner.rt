@@ -1,6 +1,7 @@
 //! Runs lists of commands over a map.
 ghost use Rattle.std.specs.Prelude.{◌≡◌, IfOk, IfErr, OnErr, MatchResult};
 ghost use Rattle.std.specs.List.{AllZip};
+ghost use Rattle.intmap.specs.Map.{IsMap};
 ghost use Rattle.intmap_run.specs.Runs.{SeesPair, RunsFrom};
 ghost use Rattle.intmap_run.specs.Steps.{StepsFrom};
 
@@ -20,8 +21,9 @@ use std::alloc::{AllocError, Allocator};
 /// other commands leave it. Its `placed` rises by the length after each `Insert` that changed the
 /// capacity, and by nothing else: in all by at most three times the greatest length of the run
 /// where no load factor was set, and by as much again for each that was. At the end the capacity is
-/// that of the start, or one that an accepted `Reserve` or `SetLoadFactor` left, or, times the load
-/// factor and one, at most 2000 times the greatest length.
+/// that of the start, or one that an accepted `Reserve` or `SetLoadFactor` left, or a capacity C
+/// with `(F + 1) * C <= 2000 * length`, where F is the load factor then, in thousandths, and length
+/// the greatest length.
 ///
 /// Err: there was no room for the answers; the commands come back, and the map is as it was.
 ///
@@ -37,7 +39,11 @@ pub fn run<K: IntKey, V: Drop, J: Judge<K, V>, A: Allocator + Copy>(
         map.old commands.items answers.items map.new) }
     ensures commands_returned { IfErr result (λ returned. returned ≡ commands) }
     ensures err { OnErr result (map.new ≡ map.old) }
+    ensures map { IsMap K.number_of K.is_key map.old }
+    ensures map_after { IsMap K.number_of K.is_key map.new }
 {
+    // any call on the map tells what every map is, also where there is no command
+    let _len = map.len();
     let Ok(mut answers) = Vec::with_capacity(alloc, commands.len()) else {
         return Err(commands);
     };
@@ -57,8 +63,9 @@ fn apply<K: IntKey, V: Drop, J: Judge<K, V>, A: Allocator + Copy>(
     command: Command<K, V>,
     judge: &J,
 ) -> Answer<K, V, J::Seen, A>
-    ensures { StepsFrom K.number_of (J.sees judge.now) (J.keeps judge.now)
+    ensures step { StepsFrom K.number_of (J.sees judge.now) (J.keeps judge.now)
         map.old command result map.new }
+    ensures map_after { IsMap K.number_of K.is_key map.new }
 {
     match command {
         Command::Insert(key, value) => match map.insert(key, value) {
@@ -100,8 +107,9 @@ fn walk<K: IntKey, V: Drop, J: Judge<K, V>, A: Allocator + Copy>(
     map: &IntMap<K, V, A>,
     judge: &J,
 ) -> Answer<K, V, J::Seen, A>
-    ensures { StepsFrom K.number_of (J.sees judge.now) (J.keeps judge.now)
+    ensures step { StepsFrom K.number_of (J.sees judge.now) (J.keeps judge.now)
         map.now Command.Walk result map.now }
+    ensures map { IsMap K.number_of K.is_key map.now }
 {
     match look_all(alloc, map, judge) {
         Ok(pairs) => Answer::Walk(pairs),
@@ -118,7 +126,9 @@ fn look_all<K: IntKey, V: Drop, J: Judge<K, V>, A: Allocator + Copy>(
     map: &IntMap<K, V, A>,
     judge: &J,
 ) -> Result<Vec<(K, J::Seen), A>, AllocError>
-    ensures { IfOk result (λ seen. AllZip (SeesPair (J.sees judge.now)) map.now.walk seen.items) }
+    ensures ok { IfOk result
+        (λ seen. AllZip (SeesPair (J.sees judge.now)) map.now.walk seen.items) }
+    ensures map { IsMap K.number_of K.is_key map.now }
 {
     let mut seen = Vec::with_capacity(alloc, map.len())?;
     for (key, value) in map.iter() {

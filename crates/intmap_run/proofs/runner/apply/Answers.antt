@@ -3,55 +3,55 @@ use Rattle.intmap_run.proofs.StepLemmas.{StepsFrom-insert, StepsFrom-refused, St
 use Rattle.intmap_run.proofs.GrowthStepLemmas.{StepsFrom-reserve, StepsFrom-set_load_factor}
 use Rattle.intmap_run.proofs.runner.apply.Goals as goal
 
-pub returns-in-Ok : goal.returns-in-Ok
-returns-in-Ok g c =
+pub returns-in-Ok-clause-step : goal.returns-in-Ok-clause-step
+returns-in-Ok-clause-step g c =
     rw (c.in-Insert.is, c.in-Ok.ensures.old)
     (StepsFrom-insert g.K.IntKey.number_of g.K.IntKey.is_key c.args.map.now c.insert.ensures.map (g.J.Judge.sees c.args.judge.now) (g.J.Judge.keeps c.args.judge.now)
     c.in-Insert.key c.in-Insert.value c.insert.new.self c.in-Ok.ensures.capacity c.in-Ok.ensures.too_large.1 c.in-Ok.ensures.state)
 
-pub returns-in-Err : goal.returns-in-Err
-returns-in-Err g c =
+pub returns-in-Err-clause-step : goal.returns-in-Err-clause-step
+returns-in-Err-clause-step g c =
     rw (c.in-Insert.is, c.in-Err.ensures.value_returned, c.in-Err.ensures.err)
     (StepsFrom-refused g.K.IntKey.number_of g.K.IntKey.is_key c.args.map.now c.insert.ensures.map (g.J.Judge.sees c.args.judge.now) (g.J.Judge.keeps c.args.judge.now)
     c.in-Insert.key c.in-Insert.value c.in-Err.refused.cause c.in-Err.ensures.new_key c.in-Err.ensures.too_large c.in-Err.ensures.memory)
 
-pub returns-in-Some : goal.returns-in-Some
-returns-in-Some g c =
+pub returns-in-Some-clause-step : goal.returns-in-Some-clause-step
+returns-in-Some-clause-step g c =
     rw c.in-Get.is
     (StepsFrom-get g.K.IntKey.number_of g.K.IntKey.is_key c.args.map.now c.get.ensures.map (g.J.Judge.sees c.args.judge.now) (g.J.Judge.keeps c.args.judge.now)
     c.in-Get.key (Some c.look.result) (rw (← c.in-Some.ensures.value) c.look.ensures))
 
-pub returns-in-None : goal.returns-in-None
-returns-in-None g c =
+pub returns-in-None-clause-step : goal.returns-in-None-clause-step
+returns-in-None-clause-step g c =
     rw c.in-Get.is
     (StepsFrom-get g.K.IntKey.number_of g.K.IntKey.is_key c.args.map.now c.get.ensures.map (g.J.Judge.sees c.args.judge.now) (g.J.Judge.keeps c.args.judge.now)
     c.in-Get.key None (rw (← c.in-None.ensures.value) tt))
 
-pub returns-in-Remove : goal.returns-in-Remove
-returns-in-Remove g c =
+pub returns-in-Remove-clause-step : goal.returns-in-Remove-clause-step
+returns-in-Remove-clause-step g c =
     rw (c.in-Remove.is, c.remove.ensures.value, c.remove.ensures.state)
     (StepsFrom-remove g.K.IntKey.number_of g.K.IntKey.is_key c.args.map.now c.remove.ensures.map (g.J.Judge.sees c.args.judge.now) (g.J.Judge.keeps c.args.judge.now) c.in-Remove.key)
 
-pub returns-in-Reserve : goal.returns-in-Reserve
-returns-in-Reserve g c =
+pub returns-in-Reserve-clause-step : goal.returns-in-Reserve-clause-step
+returns-in-Reserve-clause-step g c =
     let e = c.reserve.ensures in
     rw c.in-Reserve.is
     (StepsFrom-reserve g.K.IntKey.number_of g.K.IntKey.is_key c.args.map.now e.map (g.J.Judge.sees c.args.judge.now) (g.J.Judge.keeps c.args.judge.now)
     c.in-Reserve.additional c.reserve.result c.done.result c.reserve.new.self e.capacity e.state e.err e.too_large e.memory c.done.ensures)
 
-pub returns-in-SetLoadFactor : goal.returns-in-SetLoadFactor
-returns-in-SetLoadFactor g c =
+pub returns-in-SetLoadFactor-clause-step : goal.returns-in-SetLoadFactor-clause-step
+returns-in-SetLoadFactor-clause-step g c =
     let e = c.set_load_factor.ensures in
     rw c.in-SetLoadFactor.is
     (StepsFrom-set_load_factor g.K.IntKey.number_of g.K.IntKey.is_key c.args.map.now e.map (g.J.Judge.sees c.args.judge.now) (g.J.Judge.keeps c.args.judge.now)
     c.in-SetLoadFactor.thousandths c.set_load_factor.result c.done-in-SetLoadFactor.result c.set_load_factor.new.self e.capacity e.state e.err e.too_large e.memory c.done-in-SetLoadFactor.ensures)
 
-pub returns-in-Len : goal.returns-in-Len
-returns-in-Len g c =
+pub returns-in-Len-clause-step : goal.returns-in-Len-clause-step
+returns-in-Len-clause-step g c =
     rw (c.in-Len.is, c.len.ensures.value)
     (StepsFrom-len g.K.IntKey.number_of g.K.IntKey.is_key c.args.map.now c.len.ensures.map (g.J.Judge.sees c.args.judge.now) (g.J.Judge.keeps c.args.judge.now))
 
-pub returns-in-Load : goal.returns-in-Load
-returns-in-Load g c =
+pub returns-in-Load-clause-step : goal.returns-in-Load-clause-step
+returns-in-Load-clause-step g c =
     rw (c.in-Load.is, c.load.ensures.value)
     (StepsFrom-load g.K.IntKey.number_of g.K.IntKey.is_key c.args.map.now c.load.ensures.map (g.J.Judge.sees c.args.judge.now) (g.J.Judge.keeps c.args.judge.now))

@@ -19,5 +19,5 @@ loop-key-preserved g c = record {
   room = omega (arith, c.in-Ok.ensures.len, c.in-Ok.ensures.capacity, c.loop-key.invariant.room, ap length c.in-Some.ensures.steps);
 }
 
-pub returns : goal.returns
-returns g c = Completes-end (SeesPair (g.J.Judge.sees c.args.judge.now)) _ _ _ c.in-None.ensures.steps.0 c.loop-key.invariant.completes
+pub returns-clause-ok : goal.returns-clause-ok
+returns-clause-ok g c = Completes-end (SeesPair (g.J.Judge.sees c.args.judge.now)) _ _ _ c.in-None.ensures.steps.0 c.loop-key.invariant.completes

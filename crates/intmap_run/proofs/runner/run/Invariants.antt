@@ -1,5 +1,6 @@
 use Rattle.std.proofs.Common.{◌+◌, ◌≤◌, length, vec_len, vec_capacity}
 use Rattle.std.specs.Vec.Iter.{into_iter_items}
+use Rattle.intmap.specs.Map.{IsMap}
 use Rattle.intmap_run.proofs.RunLemmas.{Leads}
 use Rattle.intmap_run.proofs.runner.run.Given as goal
 
@@ -8,5 +9,6 @@ invariant-loop-command g l = record {
   leads :
       Leads g.K.IntKey.number_of (g.J.Judge.sees l.judge) (g.J.Judge.keeps l.judge)
       l.fn.map l.fn.commands.items l.answers.items l.map (into_iter_items l.command-iterator);
+  map : IsMap g.K.IntKey.number_of g.K.IntKey.is_key l.map;
   room : vec_len l.answers + length (into_iter_items l.command-iterator) ≤ vec_capacity l.answers;
 }

@@ -1,6 +1,6 @@
 use Rattle.intmap_run.proofs.StepLemmas.{StepsFrom-walk}
 use Rattle.intmap_run.proofs.runner.walk.Goals as goal
 
-pub returns-in-Ok : goal.returns-in-Ok
-returns-in-Ok g c =
-    StepsFrom-walk g.K.IntKey.number_of (g.J.Judge.sees c.args.judge.now) (g.J.Judge.keeps c.args.judge.now) c.args.map.now c.in-Ok.pairs c.in-Ok.ensures
+pub returns-in-Ok-clause-step : goal.returns-in-Ok-clause-step
+returns-in-Ok-clause-step g c =
+    StepsFrom-walk g.K.IntKey.number_of (g.J.Judge.sees c.args.judge.now) (g.J.Judge.keeps c.args.judge.now) c.args.map.now c.in-Ok.pairs c.in-Ok.ensures.ok
