@@ -2,6 +2,7 @@
 
 use crate::many::{Keys, get_many, insert_many, remove_many};
 use crate::maps::{Map, Maps};
+use crate::runs::run_many;
 use crate::text::{done_text, number_text, option_text, refusal_text, state_text, walk_text};
 use crate::word::words_of;
 use intmap::IntMap;
@@ -23,7 +24,7 @@ pub fn answer_to(alloc: Global, maps: &mut Maps<'_>, call: &str) -> Result<Strin
                 count: *count,
                 step: *step,
             };
-            with_keys(alloc, &mut maps.map, words.name, keys)
+            with_keys(alloc, maps, words.name, keys)
         }
         _ => no_call(alloc),
     }
@@ -123,14 +124,15 @@ fn with_pair(
 // the answer to a call with many keys
 fn with_keys(
     alloc: Global,
-    map: &mut Map<'_>,
+    maps: &mut Maps<'_>,
     name: &str,
     keys: Keys,
 ) -> Result<String, AllocError> {
     match name {
-        "insert_many" => insert_many(alloc, map, keys),
-        "get_many" => number_text(alloc, get_many(map, keys) as u128),
-        "remove_many" => number_text(alloc, remove_many(map, keys) as u128),
+        "insert_many" => insert_many(alloc, &mut maps.map, keys),
+        "get_many" => number_text(alloc, get_many(&maps.map, keys) as u128),
+        "remove_many" => number_text(alloc, remove_many(&mut maps.map, keys) as u128),
+        "run_many" => run_many(alloc, maps.memory, &mut maps.map, keys),
         _ => no_call(alloc),
     }
 }

@@ -16,14 +16,14 @@ pub struct Keys {
 }
 
 impl Keys {
-    // the key at this place
-    fn at(self, place: u64) -> u64 {
+    /// The key at this place.
+    pub fn at(self, place: u64) -> u64 {
         self.first.wrapping_add(place.wrapping_mul(self.step))
     }
 }
 
-// the value that these calls bind a key to
-fn value_of(key: u64) -> u64 {
+/// The value that these calls bind a key to.
+pub fn value_of(key: u64) -> u64 {
     key.wrapping_add(10)
 }
 

@@ -1,6 +1,7 @@
 //! Lists of commands, run by one call.
 ghost use Rattle.std.specs.Prelude.{◌≡◌, ◌%◌, ◌==◌};
 
+use crate::many::{Keys, value_of};
 use crate::maps::Map;
 use crate::text::{done_text, number_text, option_text, pairs_text, refusal_text};
 use crate::word::words_of;
@@ -94,6 +95,43 @@ pub fn run_all<'a>(
         Ok(answers) => Ok(Ran::Answered(texts_of(alloc, answers.as_slice())?)),
         Err(commands) => Ok(Ran::Returned(commands.len())),
     }
+}
+
+/// Binds each key to ten more by a run of one command for each, and a walk behind them. Says how many
+/// keys were new and how many pairs the walk has, or that the commands came back.
+pub fn run_many<'a>(
+    alloc: Global,
+    memory: &'a Refuser<Global>,
+    map: &mut Map<'a>,
+    keys: Keys,
+) -> Result<String, AllocError> {
+    let mut commands = Vec::new(memory);
+    for place in 0..keys.count {
+        let key = keys.at(place);
+        commands.push(Command::Insert(key, value_of(key)))?;
+    }
+    commands.push(Command::Walk)?;
+    match run(memory, map, commands, &OddJudge) {
+        Ok(answers) => counts_of(alloc, answers.as_slice()),
+        Err(commands) => format!(in alloc; "{} commands back", commands.len()),
+    }
+}
+
+// how many answers tell of a new key, and how many pairs stand in walks
+fn counts_of(
+    alloc: Global,
+    answers: &[Answer<u64, u64, u64, &Refuser<Global>>],
+) -> Result<String, AllocError> {
+    let mut new = 0u64;
+    let mut walked = 0usize;
+    for answer in answers {
+        match answer {
+            Answer::Old(None) => new = new.wrapping_add(1),
+            Answer::Walk(pairs) => walked = walked.wrapping_add(pairs.len()),
+            _ => {}
+        }
+    }
+    format!(in alloc; "{new} new, {walked} walked")
 }
 
 // the texts of answers, in their order
