@@ -1,0 +1,10 @@
+//! Callers of a map from integer keys, each of which says in its own words what it does.
+#![tactic(auto)]
+
+pub mod counter;
+pub mod dense;
+pub mod id_table;
+pub mod keys;
+pub mod prices;
+pub mod refusals;
+pub mod session;

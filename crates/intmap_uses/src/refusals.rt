@@ -1,0 +1,86 @@
+//! Pairs on their way into a map: what is refused waits, with its cause, and is tried again.
+ghost use Rattle.std.specs.Prelude.{◌≡◌, ◌+◌, ◌<◌, ◌≤◌, ◌++◌, [], OnOk, OnErr, length, vec_len, vec_capacity};
+ghost use Rattle.intmap_uses.specs.Waiting.{Moves, Binds, pairs_of};
+
+use intmap::{Cause, IntMap};
+use std::alloc::{AllocError, Allocator};
+
+/// A pair that was refused, with the cause.
+#[derive(Drop)]
+pub struct Waiting<V> {
+    /// The key.
+    pub key: u64,
+    /// The value.
+    pub value: V,
+    /// Why it was refused the last time.
+    pub cause: Cause,
+}
+
+/// Moves the pairs into the map, the last first. What is refused waits with its cause, behind what
+/// waits already: each pair is bound, at least until a later one takes its key, or waits, and none
+/// is lost or doubled.
+///
+/// Err: there was no room to let so many wait, and nothing was moved.
+pub fn move_into<V: Drop, A: Allocator + Copy>(
+    map: &mut IntMap<u64, V, A>,
+    pairs: &mut Vec<(u64, V), A>,
+    waiting: &mut Vec<Waiting<V>, A>,
+) -> Result<(), AllocError>
+    ensures moved { OnOk result (Moves (pairs_of waiting.old.items ++ pairs.old.items) map.old.walk
+        (pairs_of waiting.new.items) map.new.walk) }
+    ensures emptied { OnOk result (pairs.new.items ≡ []) }
+    ensures pairs_stay { OnErr result (pairs.new.items ≡ pairs.old.items) }
+    ensures waiting_stays { OnErr result (waiting.new.items ≡ waiting.old.items) }
+    ensures map_stays { OnErr result (map.new ≡ map.old) }
+{
+    waiting.reserve(pairs.len())?;
+    while let Some((key, value)) = pairs.pop() {
+        bind(map, key, value, waiting);
+    }
+    Ok(())
+}
+
+/// Tries each waiting pair once more, the last first. What is refused again waits with its new
+/// cause.
+///
+/// Err: there was no room for the new list, and nothing was moved.
+pub fn try_again<V: Drop, A: Allocator + Copy>(
+    alloc: A,
+    map: &mut IntMap<u64, V, A>,
+    waiting: &mut Vec<Waiting<V>, A>,
+) -> Result<(), AllocError>
+    ensures moved { OnOk result (Moves (pairs_of waiting.old.items) map.old.walk
+        (pairs_of waiting.new.items) map.new.walk) }
+    ensures fewer { length waiting.new.items ≤ length waiting.old.items }
+    ensures waiting_stays { OnErr result (waiting.new.items ≡ waiting.old.items) }
+    ensures map_stays { OnErr result (map.new ≡ map.old) }
+{
+    let mut still = Vec::with_capacity(alloc, waiting.len())?;
+    while let Some(pair) = waiting.pop() {
+        bind(map, pair.key, pair.value, &mut still);
+    }
+    *waiting = still;
+    Ok(())
+}
+
+/// Binds the key to the value, or lets the pair wait where that is refused; for that there is room.
+fn bind<V: Drop, A: Allocator + Copy>(
+    map: &mut IntMap<u64, V, A>,
+    key: u64,
+    value: V,
+    waiting: &mut Vec<Waiting<V>, A>,
+)
+    requires room { length waiting.old.items < vec_capacity waiting.old }
+    ensures moved { Binds key value (pairs_of waiting.old.items) map.old.walk
+        (pairs_of waiting.new.items) map.new.walk }
+    ensures at_most_one_more { length waiting.new.items ≤ length waiting.old.items + 1 }
+    ensures capacity { vec_capacity waiting.new ≡ vec_capacity waiting.old }
+{
+    if let Err(refused) = map.insert(key, value) {
+        waiting.push_reserved(Waiting {
+            key,
+            value: refused.value,
+            cause: refused.cause,
+        });
+    }
+}
