@@ -10,9 +10,9 @@ ghost use Rattle.intmap.specs.Moves.{CanCount, IsCounted, IsRoomy, IsReady};
 use crate::key::IntKey;
 use crate::slot::Slot;
 use crate::steps::Steps;
-use crate::table::stored::Stored;
 use crate::table::Table;
 use crate::table::place::{index_of, place, place_all};
+use crate::table::stored::Stored;
 use std::alloc::{AllocError, Allocator};
 use std::mem;
 
