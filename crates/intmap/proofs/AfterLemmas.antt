@@ -1,12 +1,9 @@
 -- What calls leave of the bindings and the length of a map.
-use Rattle.std.proofs.Common.{◌≡◌, inl, inr, ℕ, ◌+◌, ◌<◌, ◌≤◌, List, cond, length, Option, Some, None, is_some, sym, ap, ◌∙◌, subst, arith}
-use Rattle.std.specs.Prelude.{All, MatchOption}
-use Rattle.std.proofs.lemmas.Bool.{cases_Bool}
-use Rattle.intmap.specs.Classes.{slot_number, same_key, IsCapacity}
-use Rattle.intmap.specs.Bindings.{value_of, take_key, put_pair, HasDistinctKeys, Updates}
+use Rattle.std.proofs.Common.{◌≡◌, ℕ, ◌+◌, List, cond, length, Some, None, is_some, ap, ◌∙◌, arith}
+use Rattle.intmap.specs.Classes.{IsCapacity}
+use Rattle.intmap.specs.Bindings.{value_of, take_key, put_pair, Updates}
 use Rattle.intmap.specs.Walk.{walk_of}
-use Rattle.intmap.specs.Growth.{IsNext, is_due}
-use Rattle.intmap.specs.Map.{MapState, IsMap, IsCapacityAfter, after_insert, after_remove, in_slots}
+use Rattle.intmap.specs.Map.{MapState, IsMap, after_insert, after_remove}
 use Rattle.intmap.proofs.SlotNumberLemmas.{slot_number-below}
 use Rattle.intmap.proofs.DistinctLemmas.{length-walk_of, length-take_key, length-put_pair}
 use Rattle.intmap.proofs.BindingLemmas.{value_of-walk_of, value_of-take_key, value_of-put_pair, Updates-from}

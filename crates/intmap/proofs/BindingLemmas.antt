@@ -1,12 +1,15 @@
 -- What each key is bound to after a walk, a take and a put.
-use Rattle.std.proofs.Common.{◌≡◌, ◌≢◌, inl, inr, ℕ, ◌*◌, ◌<◌, ◌≤◌, Bool, true, false, cond, List, [], ◌∷◌, ◌++◌, Option, Some, None, refl, sym, ap, ◌∙◌, arith}
-use Rattle.std.specs.Prelude.{◌==◌, count_by}
+use Rattle.std.proofs.Common.{◌≡◌, inl, inr, ℕ, ◌<◌, ◌≤◌, Bool, true, false, cond, List, [], ◌∷◌, ◌++◌, Option, Some, None, refl, sym, ap, ◌∙◌, arith}
+use Rattle.std.specs.Prelude.{◌==◌, count_by, All}
 use Rattle.std.specs.List.{list_any}
 use Rattle.std.proofs.lemmas.Bool.{cases_Bool, eqb-true, eq-eqb, ne_eqb, cond-true, cond-false}
+use Rattle.std.proofs.lemmas.Bool.Decides.{nat_tests}
+use Rattle.std.proofs.lemmas.Grind.{common_steps}
+use Rattle.std.proofs.lemmas.List.Elements.{All-nil, All-cons}
 use Rattle.std.proofs.lemmas.List.Sums.{sum_by-cons}
-use Rattle.intmap.specs.Classes.{multiplier, slot_number, same_key, agrees}
+use Rattle.intmap.specs.Classes.{slot_number, same_key, agrees}
 use Rattle.intmap.specs.Bindings.{first_value, last_passing, without_last, swap_out, value_of, HasDistinctKeys, take_key, put_pair, Updates}
-use Rattle.intmap.specs.Walk.{slot_of, walk_of}
+use Rattle.intmap.specs.Walk.{walk_of}
 use Rattle.intmap.proofs.DistinctLemmas.{last_passing-none}
 use Rattle.intmap.proofs.WalkLemmas.{slot_of-walk_of, value_of-slot_of}
 
@@ -60,6 +63,14 @@ module _ {K V : Type 0} (test : K → Bool) where
   first_value-other_behind (q ∷ L) p other = let rest = first_value-other_behind L p in grind (arith, rest, other)
 
 module _ {K V : Type 0} (number : K → ℕ) where
+  -- where no key from n on is bound, the keys of all pairs are below n
+  pub All-unbound : (L : List (K × V)) (n : ℕ) → ((q : K) → n ≤ number q → value_of number L q ≡ None) → All (λ p. number p.0 < n) L
+  All-unbound [] n none = All-nil (λ p. number p.0 < n)
+  All-unbound (p ∷ L) n none =
+      let here = none p.0 in
+      let below : number p.0 < n = grind (arith, common_steps, nat_tests, here) in
+      All-cons (λ p. number p.0 < n) p L below (All-unbound L n (λ q above. let h = none q above in grind (arith, common_steps, nat_tests, h)))
+
   -- a walk binds what its list binds
   pub value_of-walk_of : (L : List (K × V)) (C : ℕ) (q : K) → slot_number number q C < C → value_of number (walk_of number L C) q ≡ value_of number L q
   value_of-walk_of L C q below =

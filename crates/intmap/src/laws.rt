@@ -1,13 +1,15 @@
 //! Laws for callers, each as the contract of a function that does nothing: what follows of a map
 //! from what its calls say of it.
-ghost use Rattle.std.specs.Prelude.{◌≡◌, ◌+◌, ◌<◌, ◌≤◌, ℕ, List, All, cond, is_some, length, Some, None};
+ghost use Rattle.std.specs.Prelude.{◌≡◌, ◌+◌, ◌^◌, ◌<◌, ◌≤◌, ℕ, List, All, cond, is_some, length, Some, None, false};
 ghost use Rattle.intmap.specs.Classes.{IsCapacity};
 ghost use Rattle.intmap.specs.Bindings.{value_of, take_key, put_pair, HasDistinctKeys, Updates};
 ghost use Rattle.intmap.specs.Walk.{walk_of};
 ghost use Rattle.intmap.specs.Reach.{reach, class_size};
 ghost use Rattle.intmap.specs.Figures.{load_of};
-ghost use Rattle.intmap.specs.Growth.{IsWanted};
+ghost use Rattle.intmap.specs.Growth.{IsWanted, is_due};
 ghost use Rattle.intmap.specs.Map.{IsCapacityAfter};
+ghost use Rattle.intmap.specs.States.{State, MayRefuse};
+ghost use Rattle.intmap.specs.declared.refusal.Cause.{Cause};
 
 use crate::key::IntKey;
 
@@ -64,6 +66,22 @@ pub fn load_factors_keep_capacity()
 pub fn reach_is_within_class<K: IntKey, V>()
     ensures { (L : List (K × V)) (C : ℕ) (k : K)
         → reach K.number_of L C k ≤ class_size K.number_of L C k }
+{}
+
+/// A pair that will stand alone in its slot, at a length at which growth isn't tested, is never
+/// refused.
+pub fn lone_pairs_are_never_refused<K: IntKey, V>()
+    ensures { (s : State K V) (k : K) (cause : Cause) → IsCapacity s.capacity
+        → length s.pairs + 1 < 2 ^ 64 → is_due (length s.pairs + 1) ≡ false
+        → class_size K.number_of s.pairs s.capacity k ≡ 0
+        → MayRefuse K.number_of s k cause → ⊥ }
+{}
+
+/// Where no key from a number on is bound, the keys of all pairs are below it.
+pub fn bound_keys_are_below<K: IntKey, V>()
+    ensures { (L : List (K × V)) (n : ℕ)
+        → ((q : K) → n ≤ K.number_of q → value_of K.number_of L q ≡ None)
+        → All (λ p. K.number_of p.0 < n) L }
 {}
 
 /// Where all keys are below the capacity, at most one agrees with any key.

@@ -1,7 +1,7 @@
 -- Pairs that wait to be put into a map.
-use Rattle.std.specs.Prelude.{◌≡◌, ◌⊎◌, ℕ, ◌+◌, Bool, List, [], ◌∷◌, ◌++◌, map, count_by}
+use Rattle.std.specs.Prelude.{◌≡◌, ℕ, ◌+◌, Bool, List, ◌++◌, map, count_by}
 use Rattle.intmap_uses.specs.declared.refusals.Waiting.{Waiting}
-use Rattle.intmap_uses.specs.Numbered.{value_at, AllStay}
+use Rattle.intmap_uses.specs.Numbered.{value_at}
 
 module _ {V : Type 0} where
   -- the pairs that wait
@@ -14,9 +14,3 @@ module _ {V : Type 0} where
     pub moved : List (ℕ × V)
     pub none_lost : (test : ℕ × V → Bool) → count_by test came ≡ count_by test moved + count_by test waits
     pub bound : (q : ℕ) → value_at after q ≡ value_at (moved ++ before) q
-
-  -- the pair is bound over what was before, or it waits behind the others and all is bound as before
-  abbrev pub Binds : ℕ → V → List (ℕ × V) → List (ℕ × V) → List (ℕ × V) → List (ℕ × V) → Type 0
-  Binds key value waited before waits after =
-      ((waits ≡ waited) × ((q : ℕ) → value_at after q ≡ value_at ((key, value) ∷ before) q))
-      ⊎ ((waits ≡ waited ++ (key, value) ∷ []) × AllStay before after)

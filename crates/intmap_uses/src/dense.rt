@@ -67,6 +67,7 @@ impl<V: Drop, A: Allocator + Copy> Dense<V, A> {
         ensures given { IsSome result ↔ (number < length self.now) }
         ensures counted { steps.new ≤ steps.old + 1 }
     {
+        laws::bound_keys_are_below::<u64, V>();
         laws::small_keys_are_found_at_once::<u64, V>();
         self.values.get_counted(number, steps)
     }

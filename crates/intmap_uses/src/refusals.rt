@@ -1,6 +1,6 @@
 //! Pairs on their way into a map: what is refused waits, with its cause, and is tried again.
-ghost use Rattle.std.specs.Prelude.{◌≡◌, ◌+◌, ◌<◌, ◌≤◌, ◌++◌, [], OnOk, OnErr, length, vec_len, vec_capacity};
-ghost use Rattle.intmap_uses.specs.Waiting.{Moves, Binds, pairs_of};
+ghost use Rattle.std.specs.Prelude.{◌≡◌, ℕ, ◌+◌, ◌<◌, ◌≤◌, List, ◌∷◌, ◌++◌, [], OnOk, OnErr, length, vec_len, vec_capacity};
+ghost use Rattle.intmap_uses.specs.Waiting.{Moves, pairs_of};
 
 use intmap::{Cause, IntMap};
 use std::alloc::{AllocError, Allocator};
@@ -64,6 +64,7 @@ pub fn try_again<V: Drop, A: Allocator + Copy>(
 }
 
 /// Binds the key to the value, or lets the pair wait where that is refused; for that there is room.
+/// Where the pair was the last of those that were still to be moved, one fewer is.
 fn bind<V: Drop, A: Allocator + Copy>(
     map: &mut IntMap<u64, V, A>,
     key: u64,
@@ -71,8 +72,9 @@ fn bind<V: Drop, A: Allocator + Copy>(
     waiting: &mut Vec<Waiting<V>, A>,
 )
     requires room { length waiting.old.items < vec_capacity waiting.old }
-    ensures moved { Binds key value (pairs_of waiting.old.items) map.old.walk
-        (pairs_of waiting.new.items) map.new.walk }
+    ensures moved { (came before rest : List (ℕ × V))
+        → Moves came before (pairs_of waiting.old.items ++ (rest ++ (key, value) ∷ [])) map.old.walk
+        → Moves came before (pairs_of waiting.new.items ++ rest) map.new.walk }
     ensures at_most_one_more { length waiting.new.items ≤ length waiting.old.items + 1 }
     ensures capacity { vec_capacity waiting.new ≡ vec_capacity waiting.old }
 {

@@ -2,7 +2,7 @@
 ghost use Rattle.std.specs.Prelude.{◌≡◌, ◌∷◌, [], IfOk, IfErr, Some, None};
 ghost use Rattle.intmap_uses.specs.Sessions.{RunsTwice, Stops};
 
-use intmap::{Cause, IntKey, IntMap};
+use intmap::{Cause, IntKey, IntMap, laws};
 use intmap_run::{Answer, Command, Judge, run};
 use std::alloc::{Allocator, Global};
 
@@ -81,6 +81,7 @@ pub fn five_answers(alloc: Global) -> Result<Vec<Answer<u64, u64, u64>>, Cause>
         ∷ Answer.Seen (Some 2) ∷ Answer.Old (Some 2) ∷ Answer.Number 0 ∷ []) }
     ensures err { IfErr result (λ cause. cause ≡ Cause.Memory) }
 {
+    laws::lone_pairs_are_never_refused::<u64, u64>();
     let mut map: IntMap<u64, u64> = IntMap::new(alloc)?;
     let Ok(commands) = vec![in alloc;
         Command::Insert(7, 1),

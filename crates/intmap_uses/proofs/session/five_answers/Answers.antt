@@ -1,32 +1,30 @@
-use Rattle.std.proofs.Common.{◌≡◌, inl, inr, ℕ, ◌<◌, ◌^◌, true, false, List, [], ◌∷◌, length, Option, Some, None, refl, ap, ◌∙◌, arith}
+use Rattle.std.proofs.Common.{◌≡◌, inl, inr, ℕ, true, false, List, [], ◌∷◌, length, Option, Some, None, refl, ap, ◌∙◌, arith}
 use Rattle.intmap.specs.Bindings.{value_of, take_key, put_pair}
 use Rattle.intmap.specs.States.{State, empty_state, Inserts, MayRefuse}
 use Rattle.intmap.specs.declared.refusal.Cause.{Cause}
-use Rattle.intmap.specs.declared.refusal.Cause.TheVariants.{Memory, TooLarge}
 use Rattle.intmap_run.specs.declared.command.Command.TheVariants as command
 use Rattle.intmap_run.specs.declared.answer.Answer.{Answer}
 use Rattle.intmap_run.specs.declared.answer.Answer.TheVariants as answer
 use Rattle.intmap_run.specs.Runs.{AnswersInsert, SeesOption, Runs}
 use Rattle.intmap_uses.proofs.session.five_answers.Goals as goal
 
--- an empty table refuses no pair
-never_refused : (key : ℕ) (cause : Cause) → MayRefuse {K = ℕ} {V = ℕ} (λ k. k) (empty_state 4) key cause → ⊥
-never_refused key Memory may = let none = may.memory refl refl in omega (arith, none)
-never_refused key TooLarge may = elim (may.too_large.0 refl).1 [
-  | inl many ↦ omega (arith, many)
-  | inr grows ↦ (let stays : grows.0 ≡ 4 = grows.1 in let grown : 2 ^ 63 < grows.0 = grows.2 in omega arith)
-]
+-- each answer follows from the list that the commands before it left, and an insertion may be refused: a proof by cases,
+-- one a command
 
 -- a 2 that is seen as itself
 seen_two : (o : Option ℕ) → SeesOption (λ v s. s ≡ v) (Some 2) o → o ≡ Some 2
 seen_two None sees = absurd sees
 seen_two (Some s) sees = ap (λ x. Some x) sees
 
-module _ {A : Type 0} where
+-- an empty table refuses no pair
+abbrev NeverRefused : Type 0
+NeverRefused = (cause : Cause) → MayRefuse {K = ℕ} {V = ℕ} (λ k. k) (empty_state 4) 7 cause → ⊥
+
+module _ {A : Type 0} (never_refused : NeverRefused) where
   -- so the first insertion answers that nothing was there
   first : (a : Answer ℕ ℕ ℕ A) (t : State ℕ ℕ) → AnswersInsert (λ k. k) (λ v s. s ≡ v) (λ k v. true) (empty_state 4) 7 1 a t → (a ≡ answer.Old None) × Inserts (λ k. k) (empty_state 4) 7 1 t
   first a t (inl done) = done
-  first a t (inr refused) = absurd (never_refused 7 refused.0 refused.2)
+  first a t (inr refused) = absurd (never_refused refused.0 refused.2)
 
   -- an insertion over 1 answers 1
   second : (s : State ℕ ℕ) (a : Answer ℕ ℕ ℕ A) (t : State ℕ ℕ) → value_of (λ k. k) s.pairs 7 ≡ Some 1 → AnswersInsert (λ k. k) (λ v s. s ≡ v) (λ k v. true) s 7 2 a t → (a ≡ answer.Old (Some 1)) × Inserts (λ k. k) s 7 2 t
@@ -58,4 +56,5 @@ module _ {A : Type 0} where
 pub returns-in-Ok-run-clause-ok : goal.returns-in-Ok-run-clause-ok
 returns-in-Ok-run-clause-ok c =
     let run = c.in-Ok-run.ensures.ok (empty_state 4) (rw c.in_ok-map.ensures.state (record { walk = refl; capacity = refl; factor = refl })) in
-    five _ run.0 (rw c.in-Ok.ensures.items at run.1)
+    let never_refused : NeverRefused = λ cause. c.lone_pairs_are_never_refused.ensures (empty_state 4) 7 cause (2, (omega arith), (omega arith), refl) (omega arith) refl refl in
+    five never_refused _ run.0 (rw c.in-Ok.ensures.items at run.1)

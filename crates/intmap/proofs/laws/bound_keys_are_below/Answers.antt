@@ -1,0 +1,5 @@
+use Rattle.intmap.proofs.BindingLemmas.{All-unbound}
+use Rattle.intmap.proofs.laws.bound_keys_are_below.Goals as goal
+
+pub returns : goal.returns
+returns g c = All-unbound g.K.IntKey.number_of
