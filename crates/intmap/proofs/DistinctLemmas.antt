@@ -141,7 +141,7 @@ module _ {X : Type 0} (P : X → Type 0) where
       (λ _. cond_both (test x) xs (x ∷ xs) (All P) (λ _. t) (λ _. a))
 
   -- what holds of all holds after one is swapped out
-  All-swap_out : (is_it in_class : X → Bool) (xs : List X) → All P xs → All P (swap_out is_it in_class xs)
+  pub All-swap_out : (is_it in_class : X → Bool) (xs : List X) → All P xs → All P (swap_out is_it in_class xs)
   All-swap_out is_it in_class [] a = a
   All-swap_out is_it in_class (x ∷ xs) a =
       let t : All P xs = All-tail P x xs a in

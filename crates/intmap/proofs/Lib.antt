@@ -1,3 +1,4 @@
+pub mod SlotLemmas
 pub mod SlotNumberLemmas
 pub mod SwapOutLemmas
 pub mod ClassLemmas
@@ -7,6 +8,9 @@ pub mod GrowthLemmas
 pub mod DistinctLemmas
 pub mod LoadLemmas
 pub mod TableLemmas
+pub mod MarkedLemmas
+pub mod FilledLemmas
+pub mod BitsLemmas
 pub mod MappedLemmas
 pub mod MoveLemmas
 pub mod RegroupLemmas

@@ -89,7 +89,7 @@ count_by-range_none a (suc n) = let h = count_by-range_none (a + 1) n in let m =
 
 module _ {X : Type 0} where
   -- numbers that stand for the elements of a list count as these
-  count_by-range_list : (test : X → Bool) (g : ℕ → Bool) (d : X) (a : ℕ) (xs : List X) → ((i : ℕ) → i < length xs → g (a + i) ≡ test (get_or xs i d)) → count_by g (range_with_len a (length xs)) ≡ count_by test xs
+  pub count_by-range_list : (test : X → Bool) (g : ℕ → Bool) (d : X) (a : ℕ) (xs : List X) → ((i : ℕ) → i < length xs → g (a + i) ≡ test (get_or xs i d)) → count_by g (range_with_len a (length xs)) ≡ count_by test xs
   count_by-range_list test g d a [] e = refl
   count_by-range_list test g d a (x ∷ xs) e =
       let first : g a ≡ test x = let k = e 0 (omega arith) in rw add-zero at k in

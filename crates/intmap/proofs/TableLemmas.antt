@@ -1,9 +1,9 @@
 -- What calls of a table do to its slots, read as its walk.
-use Rattle.std.proofs.Common.{◌≡◌, ◌≢◌, inl, inr, ℕ, zero, suc, ◌-◌, ◌<◌, cond, List, [], ◌∷◌, ◌++◌, length, get_or, set, Some, None, refl, sym, ap, ◌∙◌, subst, arith, zero-add, length-set, replicate, get_or-set_same, get_or-set_other}
-use Rattle.std.specs.Prelude.{All, position, swap_remove, count_by, nat_lt}
+use Rattle.std.proofs.Common.{◌≡◌, ◌≢◌, inl, inr, ℕ, zero, suc, ◌<◌, cond, List, [], ◌∷◌, ◌++◌, length, get_or, set, None, refl, sym, ap, ◌∙◌, subst, arith, zero-add, length-set, replicate, get_or-set_same, get_or-set_other}
+use Rattle.std.specs.Prelude.{All, count_by, nat_lt}
 use Rattle.std.specs.List.{flat_map, range_with_len}
 use Rattle.std.proofs.lemmas.List.{set-get_or, get_or-map, map-set, length-map}
-use Rattle.std.proofs.lemmas.List.Elements.{All-take, All-set, All-get_or, All-push, All-nil}
+use Rattle.std.proofs.lemmas.List.Elements.{All-push, All-nil}
 use Rattle.std.proofs.lemmas.Bool.{cases_eq, lt-ltb}
 use Rattle.std.proofs.lemmas.List.Sums.{sum_by-cons}
 use Rattle.intmap.specs.Classes.{IsCapacity, slot_number, same_key}
@@ -15,12 +15,13 @@ use Rattle.intmap.specs.Slots.{Held, rows, joined, IsTable}
 use Rattle.intmap.proofs.SlotNumberLemmas.{agrees-slot_number, slot_number-below}
 use Rattle.intmap.proofs.SwapOutLemmas.{any}
 use Rattle.intmap.proofs.ClassLemmas.{class-joined, flat_map-rows}
-use Rattle.intmap.proofs.PositionLemmas.{position-within, swap_remove-position, swap_out-none, first_value-position, first_value-none, position-from_none}
+use Rattle.intmap.proofs.DistinctLemmas.{All-swap_out}
+use Rattle.intmap.proofs.PositionLemmas.{swap_out-none, position-from_none}
 use Rattle.intmap.proofs.WalkLemmas.{slot_of-take_key, slot_of-take_key-other, slot_of-put_pair, slot_of-put_pair-other, value_of-slot_of, class_size-slot_of, reach-slot_of}
 use Rattle.intmap.proofs.LoadLemmas.{is_filled, load_of-rows}
 
 module _ {K X : Type 0} where
-  length-rows : (S : List (Held K X)) → length (rows S) ≡ length S
+  pub length-rows : (S : List (Held K X)) → length (rows S) ≡ length S
   length-rows S = length-map S (λ h. h.pairs)
 
   pub get_or-rows : (S : List (Held K X)) (i : ℕ) (d : Held K X) → i < length S → get_or (rows S) i [] ≡ (get_or S i d).pairs
@@ -30,14 +31,14 @@ module _ {K X : Type 0} where
   nat_lt-length [] = refl
   nat_lt-length (p ∷ ps) = lt-ltb 0 (suc (length ps)) (omega arith)
 
-  -- the slots that hold a pair are the rows that do
-  pub count_by-rows : (S : List (Held K X)) → count_by (λ s. nat_lt 0 (length s.pairs)) S ≡ count_by is_filled (rows S)
-  count_by-rows [] = refl
-  count_by-rows (s ∷ S) =
-      let first = sum_by-cons (λ (s : Held K X). cond (nat_lt 0 (length s.pairs)) 1 0) s S in
-      let last = sum_by-cons (λ (ps : List (K × X)). cond (is_filled ps) 1 0) s.pairs (rows S) in
-      let one : ◌≡◌ {A = ℕ} (cond (nat_lt 0 (length s.pairs)) 1 0) (cond (is_filled s.pairs) 1 0) = ap (λ b. cond b 1 0) (nat_lt-length s.pairs) in
-      let rest = count_by-rows S in
+  -- the rows that hold a pair
+  pub count_by-filled : (R : List (List (K × X))) → count_by (λ row. nat_lt 0 (length row)) R ≡ count_by is_filled R
+  count_by-filled [] = refl
+  count_by-filled (ps ∷ R) =
+      let first = sum_by-cons (λ (ps : List (K × X)). cond (nat_lt 0 (length ps)) 1 0) ps R in
+      let last = sum_by-cons (λ (ps : List (K × X)). cond (is_filled ps) 1 0) ps R in
+      let one : ◌≡◌ {A = ℕ} (cond (nat_lt 0 (length ps)) 1 0) (cond (is_filled ps) 1 0) = ap (λ b. cond b 1 0) (nat_lt-length ps) in
+      let rest = count_by-filled R in
       omega (arith, first, last, one, rest)
 
 -- rows without pairs, joined
@@ -107,16 +108,16 @@ module _ {K X : Type 0} (number : K → ℕ) (S : List (Held K X)) (h : Held K X
   within = let b = slot_number-below number k (length S) cap in omega (arith, b, at.slot)
 
   -- the row of the slot
-  pub row : h.pairs ≡ get_or (rows S) i []
-  row = ap (λ (s : Held K X). s.pairs) at.here ∙ sym (get_or-rows S i h within)
+  pub row-here : h.pairs ≡ get_or (rows S) i []
+  row-here = ap (λ (s : Held K X). s.pairs) at.here ∙ sym (get_or-rows S i h within)
 
   -- a slot that keeps its pairs keeps the rows
   pub rows-set : (s : Held K X) → s.pairs ≡ h.pairs → rows (set S i s) ≡ rows S
   rows-set s same =
-      map-set (λ (t : Held K X). t.pairs) S i s ∙ ap (λ ps. set (rows S) i ps) (same ∙ row) ∙ set-get_or (rows S) i []
+      map-set (λ (t : Held K X). t.pairs) S i s ∙ ap (λ ps. set (rows S) i ps) (same ∙ row-here) ∙ set-get_or (rows S) i []
 
   slot_of-here : slot_of number (joined (rows S)) (length S) i ≡ h.pairs
-  slot_of-here = slot_of-joined number S at.table i ∙ sym row
+  slot_of-here = slot_of-joined number S at.table i ∙ sym row-here
 
   pub reach-here : reach number (joined (rows S)) (length S) k ≡ length (through_first (λ p. same_key number k p.0) h.pairs)
   reach-here =
@@ -126,70 +127,47 @@ module _ {K X : Type 0} (number : K → ℕ) (S : List (Held K X)) (h : Held K X
   pub class_size-here : class_size number (joined (rows S)) (length S) k ≡ length h.pairs
   class_size-here = class_size-slot_of number (length S) cap (joined (rows S)) k i (sym at.slot) ∙ ap length slot_of-here
 
-  value_of-here : value_of number (joined (rows S)) k ≡ value_of number h.pairs k
+  pub value_of-here : value_of number (joined (rows S)) k ≡ value_of number h.pairs k
   value_of-here =
       sym (value_of-slot_of number (length S) (joined (rows S)) k)
       ∙ ap (λ n. value_of number (slot_of number (joined (rows S)) (length S) n) k) (sym at.slot)
       ∙ ap (λ ps. value_of number ps k) slot_of-here
-
-  pub value_of-missing : position (λ p. same_key number k p.0) h.pairs ≡ None → value_of number (joined (rows S)) k ≡ None
-  value_of-missing none = value_of-here ∙ first_value-none (same_key number k) h.pairs none
-
-  pub position-missing : value_of number (joined (rows S)) k ≡ None → position (λ p. same_key number k p.0) h.pairs ≡ None
-  position-missing none = position-from_none (same_key number k) h.pairs (sym value_of-here ∙ none)
-
-  pub value_of-found : (place : ℕ) (pair : K × X) → position (λ p. same_key number k p.0) h.pairs ≡ Some place → pair ≡ get_or h.pairs place pair → value_of number (joined (rows S)) k ≡ Some pair.1
-  value_of-found place pair found is =
-      value_of-here ∙ first_value-position (same_key number k) h.pairs place pair found ∙ ap (λ (p : K × X). Some p.1) (sym is)
-
-  pub place-within : (place : ℕ) → position (λ p. same_key number k p.0) h.pairs ≡ Some place → place < length h.pairs
-  place-within place found = (position-within (λ (p : K × X). same_key number k p.0) h.pairs place found).1
 
   slot_of-taken : slot_of number (take_key number (joined (rows S)) (length S) k) (length S) i ≡ swap_out (λ p. same_key number k p.0) any h.pairs
   slot_of-taken =
       slot_of-take_key number (length S) cap (joined (rows S)) k i (sym at.slot) ∙ ap (swap_out (λ p. same_key number k p.0) any) slot_of-here
 
   -- with the slot changed as a taken key changes it, the walk is that without the key
-  walk-taken : (s : Held K X) → s.pairs ≡ swap_out (λ p. same_key number k p.0) any h.pairs → joined (rows (set S i s)) ≡ walk_of number (take_key number (joined (rows S)) (length S) k) (length S)
+  pub walk-taken : (s : Held K X) → s.pairs ≡ swap_out (λ p. same_key number k p.0) any h.pairs → joined (rows (set S i s)) ≡ walk_of number (take_key number (joined (rows S)) (length S) k) (length S)
   walk-taken s is =
       joined-set number S at.table i s (take_key number (joined (rows S)) (length S) k) within (slot_of-taken ∙ sym is)
       (λ j apart. slot_of-take_key-other number (length S) cap (joined (rows S)) k j (λ q. apart (at.slot ∙ q)))
 
   -- with the slot changed as a put pair changes it, the walk is that with the pair
-  walk-put : (s : Held K X) (v : X) → s.pairs ≡ swap_out (λ p. same_key number k p.0) any h.pairs ++ (k, v) ∷ [] → joined (rows (set S i s)) ≡ walk_of number (put_pair number (joined (rows S)) (length S) k v) (length S)
+  pub walk-put : (s : Held K X) (v : X) → s.pairs ≡ swap_out (λ p. same_key number k p.0) any h.pairs ++ (k, v) ∷ [] → joined (rows (set S i s)) ≡ walk_of number (put_pair number (joined (rows S)) (length S) k v) (length S)
   walk-put s v is =
       joined-set number S at.table i s (put_pair number (joined (rows S)) (length S) k v) within
       (slot_of-put_pair number (length S) cap (joined (rows S)) k v i (sym at.slot) ∙ ap (λ ps. swap_out (λ p. same_key number k p.0) any ps ++ (k, v) ∷ []) slot_of-here ∙ sym is)
       (λ j apart. slot_of-put_pair-other number (length S) cap (joined (rows S)) k v j (λ q. apart (at.slot ∙ q)))
 
-  pub walk-taken_at : (s : Held K X) (place : ℕ) (pair : K × X) → position (λ p. same_key number k p.0) h.pairs ≡ Some place → pair ≡ get_or h.pairs place pair
-      → s.pairs ≡ swap_remove h.pairs place pair → joined (rows (set S i s)) ≡ walk_of number (take_key number (joined (rows S)) (length S) k) (length S)
-  walk-taken_at s place pair found is left = walk-taken s (left ∙ swap_remove-position (λ (p : K × X). same_key number k p.0) h.pairs place pair found is)
+  -- where the key isn't bound, no pair of the slot is taken
+  pub swap_out-missing : value_of number h.pairs k ≡ None → swap_out (λ p. same_key number k p.0) any h.pairs ≡ h.pairs
+  swap_out-missing none = swap_out-none (λ (p : K × X). same_key number k p.0) any h.pairs (position-from_none (same_key number k) h.pairs none)
 
-  pub walk-taken_none : position (λ p. same_key number k p.0) h.pairs ≡ None → joined (rows (set S i h)) ≡ walk_of number (take_key number (joined (rows S)) (length S) k) (length S)
-  walk-taken_none none = walk-taken h (sym (swap_out-none (λ (p : K × X). same_key number k p.0) any h.pairs none))
-
-  pub walk-replaced : (s : Held K X) (place : ℕ) (pair : K × X) (v : X) → position (λ p. same_key number k p.0) h.pairs ≡ Some place → pair ≡ get_or h.pairs place pair
-      → s.pairs ≡ swap_remove h.pairs place pair ++ (k, v) ∷ [] → joined (rows (set S i s)) ≡ walk_of number (put_pair number (joined (rows S)) (length S) k v) (length S)
-  walk-replaced s place pair v found is left =
-      walk-put s v (left ∙ ap (λ ps. ps ++ (k, v) ∷ []) (swap_remove-position (λ (p : K × X). same_key number k p.0) h.pairs place pair found is))
-
-  pub walk-added : (s : Held K X) (v : X) → position (λ p. same_key number k p.0) h.pairs ≡ None → s.pairs ≡ h.pairs ++ (k, v) ∷ [] → joined (rows (set S i s)) ≡ walk_of number (put_pair number (joined (rows S)) (length S) k v) (length S)
+  -- with the pair of a new key at its end, the walk is that with the pair
+  pub walk-added : (s : Held K X) (v : X) → value_of number (joined (rows S)) k ≡ None → s.pairs ≡ h.pairs ++ (k, v) ∷ [] → joined (rows (set S i s)) ≡ walk_of number (put_pair number (joined (rows S)) (length S) k v) (length S)
   walk-added s v none left =
-      walk-put s v (left ∙ ap (λ ps. ps ++ (k, v) ∷ []) (sym (swap_out-none (λ (p : K × X). same_key number k p.0) any h.pairs none)))
+      walk-put s v (left ∙ ap (λ ps. ps ++ (k, v) ∷ []) (sym (swap_out-missing (sym value_of-here ∙ none))))
 
   -- each pair belongs to the slot
   abbrev pub Belong : List (K × X) → Type 0
   Belong ps = All (λ p. slot_number number p.0 (length S) ≡ i) ps
 
   pub Belong-here : Belong h.pairs
-  Belong-here = subst Belong (sym row) (at.table.in_place i within)
+  Belong-here = subst Belong (sym row-here) (at.table.in_place i within)
 
-  pub Belong-swap_remove : (place : ℕ) (pair : K × X) → place < length h.pairs → pair ≡ get_or h.pairs place pair → Belong (swap_remove h.pairs place pair)
-  Belong-swap_remove place pair below is =
-      let P = λ (p : K × X). slot_number number p.0 (length S) ≡ i in
-      let last : length h.pairs - 1 < length h.pairs = omega arith in
-      All-take P (length h.pairs - 1) (set h.pairs place (get_or h.pairs (length h.pairs - 1) pair)) (All-set P h.pairs place (get_or h.pairs (length h.pairs - 1) pair) (All-get_or P h.pairs (length h.pairs - 1) pair last Belong-here) Belong-here)
+  pub Belong-taken : Belong (swap_out (λ p. same_key number k p.0) any h.pairs)
+  Belong-taken = All-swap_out (λ p. slot_number number p.0 (length S) ≡ i) (λ p. same_key number k p.0) any h.pairs Belong-here
 
   pub Belong-push : (ps : List (K × X)) (v : X) → Belong ps → Belong (ps ++ (k, v) ∷ [])
   Belong-push ps v all = All-push (λ p. slot_number number p.0 (length S) ≡ i) ps (k, v) all (sym at.slot)

@@ -6,6 +6,7 @@ pub mod Growth
 pub mod Figures
 pub mod Examples
 pub mod Slots
+pub mod Bits
 pub mod Moves
 pub mod Map
 pub mod States

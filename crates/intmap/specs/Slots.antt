@@ -1,7 +1,8 @@
 -- How a table lays its pairs out. No public clause cites this module.
-use Rattle.std.specs.Prelude.{◌≡◌, ℕ, ◌<◌, List, [], ◌++◌, length, map, slice_index_or, Option, Some, None}
+use Rattle.std.specs.Prelude.{◌≡◌, ℕ, ◌+◌, ◌*◌, ◌/◌, ◌<◌, Bool, nat_lt, List, [], ◌++◌, length, map, slice_index_or, Option, Some, None}
 use Rattle.std.specs.Option.{option_to_list}
 use Rattle.std.specs.List.{All, flat_map}
+use Rattle.intmap.specs.Bits.{marked}
 use Rattle.intmap.specs.Classes.{IsCapacity, slot_number}
 
 -- what a slot holds, and how many pairs it has room for
@@ -31,7 +32,21 @@ pub record Grid (K X : Type 0) : Type 0 where
 abbrev pub joined : {P : Type 0} → List (List P) → List P
 joined S = flat_map (λ s. s) S
 
+-- the rows at these places, one after another
+abbrev pub pairs_at : {P : Type 0} → List (List P) → List ℕ → List P
+pairs_at S places = flat_map (λ i. slice_index_or S i []) places
+
+-- marks in whole words of 64, with the place of a row marked exactly where the row has a pair, and no place behind the last row
+pub record AreMarked {P : Type 0} (S : List (List P)) (marks : List Bool) : Type 0 where
+  pub words : length marks ≡ 64 * ((length S + 63) / 64)
+  pub own : (i : ℕ) → marked marks i ≡ nat_lt 0 (length (slice_index_or S i []))
+
 -- the row of each slot has pairs of that slot alone, and there are as many slots as a table may have
 pub record IsTable {K X : Type 0} (number : K → ℕ) (slots : List (Held K X)) : Type 0 where
   pub capacity : IsCapacity (length slots)
   pub in_place : (i : ℕ) → i < length slots → All (λ p. slot_number number p.0 (length slots) ≡ i) (slice_index_or (rows slots) i [])
+
+-- a table of slots, and the marks of those that hold a pair
+pub record IsMarkedTable {K X : Type 0} (number : K → ℕ) (slots : List (Held K X)) (bits : List Bool) : Type 0 where
+  pub table : IsTable number slots
+  pub marks : AreMarked (rows slots) bits

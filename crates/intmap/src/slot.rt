@@ -1,6 +1,7 @@
 //! One slot of a table: the first pair in its place, the rest behind it.
-ghost use Rattle.std.specs.Prelude.{◌≡◌, ◌+◌, ◌<◌, ◌≤◌, List, [], ◌∷◌, ◌++◌, length, position, swap_remove, slice_index_or, nat_lt, Bool, OnOk, OnErr, IfOk, IfErr, option_copied};
+ghost use Rattle.std.specs.Prelude.{◌≡◌, ◌+◌, ◌<◌, ◌≤◌, List, [], ◌∷◌, ◌++◌, length, position, swap_remove, slice_index_or, nat_lt, Bool, true, None, Some, OnOk, OnErr, IfOk, IfErr, option_copied};
 ghost use Rattle.intmap.specs.Classes.{same_key};
+ghost use Rattle.intmap.specs.Bindings.{swap_out, value_of};
 ghost use Rattle.intmap.specs.Reach.{through_first};
 ghost use Rattle.intmap.specs.Slots.{all_pairs, IsFilledInOrder};
 
@@ -20,6 +21,25 @@ fn find_in<K: IntKey, X>(pairs: &[(Stored<K>, X)], key: &K, steps: &mut Steps) -
     for (i, pair) in pairs.iter().enumerate() {
         if pair.0.matches(key, steps) {
             return Some(i);
+        }
+    }
+    None
+}
+
+/// What the key is bound to. The pairs are compared from the front up to the key's, each by one
+/// step.
+fn value_in<'a, K: IntKey, X>(
+    pairs: &'a [(Stored<K>, X)],
+    key: &K,
+    steps: &mut Steps,
+) -> Option<&'a X>
+    ensures value { option_copied result ≡ value_of K.number_of pairs.now key.now }
+    ensures counted { steps.new ≡ steps.old
+        + length (through_first (λ p. same_key K.number_of key.now p.0) pairs.now) }
+{
+    for pair in pairs {
+        if pair.0.matches(key, steps) {
+            return Some(&pair.1);
         }
     }
     None
@@ -65,10 +85,9 @@ impl<K: IntKey, X, A: Allocator> Slot<K, X, A> {
         self.first.is_some()
     }
 
-    /// The place of the key's pair. The keys are compared from the front up to it, each by one
-    /// step.
-    pub(crate) fn find(&self, key: &K, steps: &mut Steps) -> Option<usize>
-        ensures place { result ≡ position (λ p. same_key K.number_of key.now p.0) self.now.pairs }
+    /// What the key is bound to. The keys are compared from the front up to it, each by one step.
+    pub(crate) fn get(&self, key: &K, steps: &mut Steps) -> Option<&X>
+        ensures value { option_copied result ≡ value_of K.number_of self.now.pairs key.now }
         ensures counted { steps.new ≡ steps.old
             + length (through_first (λ p. same_key K.number_of key.now p.0) self.now.pairs) }
     {
@@ -76,26 +95,9 @@ impl<K: IntKey, X, A: Allocator> Slot<K, X, A> {
             return None;
         };
         if first.0.matches(key, steps) {
-            return Some(0);
+            return Some(&first.1);
         }
-        match find_in(&self.rest, key, steps) {
-            Some(place) => Some(place + 1),
-            None => None,
-        }
-    }
-
-    /// The pair at a place.
-    pub(crate) fn pair_at(&self, place: usize) -> &(Stored<K>, X)
-        requires { place < length self.now.pairs }
-        ensures { result.now ≡ slice_index_or self.now.pairs place result.now }
-    {
-        if place > 0 {
-            return &self.rest[place - 1];
-        }
-        match &self.first {
-            Some(pair) => pair,
-            None => unreachable!(),
-        }
+        value_in(&self.rest, key, steps)
     }
 
     /// The first pair, if there is one, and the rest.
@@ -113,21 +115,60 @@ impl<K: IntKey, X, A: Allocator> Slot<K, X, A> {
         (self.first, self.rest)
     }
 
-    /// Takes the pair at a place out. The last pair is moved into its place.
-    pub(crate) fn take_at(&mut self, place: usize) -> (Stored<K>, X)
-        requires { place < length self.old.pairs }
-        ensures value { result ≡ slice_index_or self.old.pairs place result }
-        ensures pairs { self.new.pairs ≡ swap_remove self.old.pairs place result }
-        ensures room { length self.new.pairs < self.new.room }
+    /// Takes the first pair out. The last pair, if there is another, takes its place.
+    fn take_first(&mut self) -> (Stored<K>, X)
+        requires { 0 < length self.old.pairs }
+        ensures value { result ≡ slice_index_or self.old.pairs 0 result }
+        ensures pairs { self.new.pairs ≡ swap_remove self.old.pairs 0 result }
     {
-        if place > 0 {
-            return self.rest.swap_remove(place - 1);
-        }
         let last = self.rest.pop();
         match mem::replace(&mut self.first, last) {
             Some(pair) => pair,
             None => unreachable!(),
         }
+    }
+
+    /// Takes the first pair out as `take_first` does, and adds a new one at the end, which takes no
+    /// memory.
+    fn replace_first(&mut self, pair: (Stored<K>, X)) -> (Stored<K>, X)
+        requires { 0 < length self.old.pairs }
+        ensures value { result ≡ slice_index_or self.old.pairs 0 result }
+        ensures pairs { self.new.pairs ≡ swap_remove self.old.pairs 0 result ++ pair ∷ [] }
+    {
+        let first = match self.rest.pop() {
+            Some(last) => {
+                self.rest.push_reserved(pair);
+                last
+            }
+            None => pair,
+        };
+        match mem::replace(&mut self.first, Some(first)) {
+            Some(old) => old,
+            None => unreachable!(),
+        }
+    }
+
+    /// Takes the pair of the key out, and the last pair takes its place. The keys are compared as
+    /// by [`get`](Slot::get).
+    pub(crate) fn take(&mut self, key: &K, steps: &mut Steps) -> Option<X>
+        ensures value { result ≡ value_of K.number_of self.old.pairs key.now }
+        ensures pairs { self.new.pairs
+            ≡ swap_out (λ p. same_key K.number_of key.now p.0) (λ p. true) self.old.pairs }
+        ensures counted { steps.new ≡ steps.old
+            + length (through_first (λ p. same_key K.number_of key.now p.0) self.old.pairs) }
+    {
+        let Some(first) = &self.first else {
+            return None;
+        };
+        if first.0.matches(key, steps) {
+            let (_, value) = self.take_first();
+            return Some(value);
+        }
+        let Some(place) = find_in(&self.rest, key, steps) else {
+            return None;
+        };
+        let (_, value) = self.rest.swap_remove(place);
+        Some(value)
     }
 
     /// Makes room for one more pair. None is needed for the first, and the second takes no more
@@ -189,16 +230,31 @@ impl<K: IntKey, X: Drop, A: Allocator> Slot<K, X, A> {
         Ok(())
     }
 
-    /// Takes the pair at a place out as `take_at` does, and adds a new one at the end. It takes no
-    /// memory.
-    pub(crate) fn replace_at(&mut self, place: usize, key: K, value: X) -> (Stored<K>, X)
-        requires { place < length self.old.pairs }
-        ensures value { result ≡ slice_index_or self.old.pairs place result }
-        ensures pairs { self.new.pairs
-            ≡ swap_remove self.old.pairs place result ++ (key, value) ∷ [] }
+    /// Where the key is bound, takes its pair out as [`take`](Slot::take) does, and adds the new one
+    /// at the end, which takes no memory. Where it isn't, the new value comes back.
+    pub(crate) fn replace(&mut self, key: K, value: X, steps: &mut Steps) -> Result<X, X>
+        ensures old { IfOk result (λ old. value_of K.number_of self.old.pairs key ≡ Some old) }
+        ensures ok { OnOk result (self.new.pairs
+            ≡ swap_out (λ p. same_key K.number_of key p.0) (λ p. true) self.old.pairs
+            ++ (key, value) ∷ []) }
+        ensures missing { OnErr result (value_of K.number_of self.old.pairs key ≡ None) }
+        ensures err { OnErr result (self.new.pairs ≡ self.old.pairs) }
+        ensures value_returned { IfErr result (λ returned. returned ≡ value) }
+        ensures counted { steps.new ≡ steps.old
+            + length (through_first (λ p. same_key K.number_of key p.0) self.old.pairs) }
     {
-        let old = self.take_at(place);
-        self.push_reserved((Stored::new(key), value));
-        old
+        let Some(first) = &self.first else {
+            return Err(value);
+        };
+        if first.0.matches(&key, steps) {
+            let (_, old) = self.replace_first((Stored::new(key), value));
+            return Ok(old);
+        }
+        let Some(place) = find_in(&self.rest, &key, steps) else {
+            return Err(value);
+        };
+        let (_, old) = self.rest.swap_remove(place);
+        self.rest.push_reserved((Stored::new(key), value));
+        Ok(old)
     }
 }

@@ -1,5 +1,6 @@
 //! Slots, of which each key has one.
 
+mod bits;
 mod grow;
 mod place;
 pub(crate) mod stored;
@@ -15,33 +16,23 @@ ghost use Rattle.intmap.specs.Figures.{load_of};
 use crate::key::IntKey;
 use crate::slot::Slot;
 use crate::steps::Steps;
+use bits::Bits;
 use place::index_of;
 use std::alloc::{AllocError, Allocator};
 use std::marker::Model;
 use walk::Pairs;
 
-/// How many slots hold a pair.
-fn filled_slots<K: IntKey, X, A: Allocator>(slots: &[Slot<K, X, A>]) -> usize
-    ensures { result ≡ count_by (λ slot. nat_lt 0 (length slot.pairs)) slots.now }
-{
-    let mut filled = 0;
-    for slot in slots {
-        if slot.is_filled() {
-            filled += 1;
-        }
-    }
-    filled
-}
-
-/// Slots, as many as a power of two. Each pair lies in the slot of its key.
+/// Slots, as many as a power of two. Each pair lies in the slot of its key, and a bit for each slot
+/// tells whether it holds a pair.
 #[derive(Drop)]
 pub(crate) struct Table<K: IntKey, X, A: Allocator> {
+    bits: Bits<A>,
     slots: Vec<Slot<K, X, A>, A>,
 }
 
 impl<K: IntKey, X, A: Allocator> Model for Table<K, X, A> {
     ghost use Rattle.std.specs.Prelude.{length};
-    ghost use Rattle.intmap.specs.Slots.{Grid, rows, joined, IsTable};
+    ghost use Rattle.intmap.specs.Slots.{Grid, rows, joined, IsMarkedTable};
 
     ghost Value = { Grid K X };
 
@@ -50,7 +41,7 @@ impl<K: IntKey, X, A: Allocator> Model for Table<K, X, A> {
       capacity = length t.slots.items;
     } };
 
-    ghost invariant = { λ t. IsTable K.number_of t.slots.items };
+    ghost invariant = { λ t. IsMarkedTable K.number_of t.slots.items t.bits };
 }
 
 impl<K: IntKey, X, A: Allocator> Table<K, X, A> {
@@ -67,7 +58,7 @@ impl<K: IntKey, X, A: Allocator> Table<K, X, A> {
     pub(crate) fn load(&self) -> usize
         ensures { result ≡ load_of K.number_of self.now.walk self.now.capacity }
     {
-        filled_slots(&self.slots)
+        self.bits.count()
     }
 
     /// The pairs, slot after slot.
@@ -77,6 +68,7 @@ impl<K: IntKey, X, A: Allocator> Table<K, X, A> {
         Pairs {
             first: None,
             rest: &[],
+            places: self.bits.iter(),
             slots: &self.slots,
         }
     }
@@ -99,10 +91,7 @@ impl<K: IntKey, X, A: Allocator> Table<K, X, A> {
     {
         let index = self.index_of(key);
         let slot = &self.slots[index];
-        match slot.find(key, steps) {
-            Some(place) => Some(&slot.pair_at(place).1),
-            None => None,
-        }
+        slot.get(key, steps)
     }
 
     /// Takes the pair of a key out. The last pair of its slot is moved into its place.
@@ -116,10 +105,12 @@ impl<K: IntKey, X, A: Allocator> Table<K, X, A> {
     {
         let index = self.index_of(key);
         let slot = &mut self.slots[index];
-        let Some(place) = slot.find(key, steps) else {
+        let Some(value) = slot.take(key, steps) else {
             return None;
         };
-        let (_, value) = slot.take_at(place);
+        if !slot.is_filled() {
+            self.bits.clear(index);
+        }
         Some(value)
     }
 }
@@ -141,11 +132,7 @@ impl<K: IntKey, X: Drop, A: Allocator> Table<K, X, A> {
     {
         let index = self.index_of(&key);
         let slot = &mut self.slots[index];
-        let Some(place) = slot.find(&key, steps) else {
-            return Err(value);
-        };
-        let (_, old) = slot.replace_at(place, key, value);
-        Ok(old)
+        slot.replace(key, value, steps)
     }
 
     /// Puts the pair of a key that isn't bound last in its slot. Where memory is refused, which is
@@ -162,6 +149,9 @@ impl<K: IntKey, X: Drop, A: Allocator> Table<K, X, A> {
     {
         let index = self.index_of(&key);
         let slot = &mut self.slots[index];
+        if !slot.is_filled() {
+            self.bits.set(index);
+        }
         if let Err(value) = slot.push(key, value) {
             return Err(value);
         }
@@ -170,16 +160,17 @@ impl<K: IntKey, X: Drop, A: Allocator> Table<K, X, A> {
 }
 
 impl<K: IntKey, X: Drop, A: Allocator + Copy> Table<K, X, A> {
-    /// Empty slots, as many as asked for. It takes memory for them alone.
+    /// Empty slots, as many as asked for. It takes memory for them and for their bits.
     pub(crate) fn new(alloc: A, capacity: usize) -> Result<Table<K, X, A>, AllocError>
         requires { IsCapacity capacity }
         ensures walk { IfOk result (λ table. table.walk ≡ []) }
         ensures capacity { IfOk result (λ table. table.capacity ≡ capacity) }
     {
+        let bits = Bits::new(alloc, capacity)?;
         let mut slots = Vec::with_capacity(alloc, capacity)?;
         for _ in 0..capacity {
             slots.push_reserved(Slot::new(alloc));
         }
-        Ok(Table { slots })
+        Ok(Table { bits, slots })
     }
 }

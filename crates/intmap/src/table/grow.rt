@@ -3,6 +3,7 @@ ghost use Rattle.std.specs.Prelude.{◌≡◌, ◌+◌, ◌^◌, ◌<◌, [], �
 ghost use Rattle.std.specs.Option.{option_to_list};
 ghost use Rattle.intmap.specs.Classes.{IsCapacity};
 ghost use Rattle.intmap.specs.Bindings.{value_of, put_pair};
+ghost use Rattle.intmap.specs.Slots.{rows, AreMarked};
 ghost use Rattle.intmap.specs.Walk.{walk_of};
 ghost use Rattle.std.specs.Map.{keys_of};
 ghost use Rattle.intmap.specs.Moves.{CanCount, IsCounted, IsRoomy, IsReady};
@@ -11,6 +12,7 @@ use crate::key::IntKey;
 use crate::slot::Slot;
 use crate::steps::Steps;
 use crate::table::Table;
+use crate::table::bits::Bits;
 use crate::table::place::{index_of, place, place_all};
 use crate::table::stored::Stored;
 use std::alloc::{AllocError, Allocator};
@@ -54,16 +56,17 @@ impl<K: IntKey, X: Drop, A: Allocator + Copy> Table<K, X, A> {
     }
 
     /// Empty slots, so many, each with exact room for the pairs that belong in it, that of a new
-    /// key among them.
+    /// key among them, and their bits.
     fn slots_for(
         &self,
         capacity: usize,
         new: Option<K>,
-    ) -> Result<Vec<Slot<K, X, A>, A>, AllocError>
+    ) -> Result<(Bits<A>, Vec<Slot<K, X, A>, A>), AllocError>
         requires capacity { IsCapacity capacity }
         requires count { length self.now.walk + length (option_to_list new) < 2 ^ 64 }
-        ensures { IfOk result (λ slots. IsReady K.number_of
-            (keys_of self.now.walk ++ option_to_list new) capacity slots.items) }
+        ensures slots { IfOk result (λ made. IsReady K.number_of
+            (keys_of self.now.walk ++ option_to_list new) capacity made.1.items) }
+        ensures marks { IfOk result (λ made. AreMarked (rows made.1.items) made.0) }
     {
         let alloc = *self.slots.allocator();
         let mut zeros = vec![in alloc; 0usize; capacity]?;
@@ -72,7 +75,9 @@ impl<K: IntKey, X: Drop, A: Allocator + Copy> Table<K, X, A> {
         if let Some(key) = new {
             count_key(counts, &key);
         }
-        with_room(alloc, counts)
+        let bits = Bits::new(alloc, capacity)?;
+        let slots = with_room(alloc, counts)?;
+        Ok((bits, slots))
     }
 
     /// Moves all pairs, in the order of the walk, into a table of so many slots, and puts the pair
@@ -96,13 +101,14 @@ impl<K: IntKey, X: Drop, A: Allocator + Copy> Table<K, X, A> {
         ensures none_placed { OnErr result (placed.new ≡ placed.old) }
         ensures value_returned { IfErr result (λ returned. returned ≡ value) }
     {
-        let Ok(larger) = self.slots_for(capacity, Some(key)) else {
+        let Ok((bits, slots)) = self.slots_for(capacity, Some(key)) else {
             return Err(value);
         };
-        let old = mem::replace(&mut self.slots, larger);
+        let old_bits = mem::replace(&mut self.bits, bits);
+        let old = mem::replace(&mut self.slots, slots);
         let slots = self.slots.as_mut_slice();
-        place_all(slots, old, placed);
-        place(slots, (Stored::new(key), value), placed);
+        place_all(&mut self.bits, slots, &old_bits, old, placed);
+        place(&mut self.bits, slots, (Stored::new(key), value), placed);
         Ok(())
     }
 
@@ -120,9 +126,16 @@ impl<K: IntKey, X: Drop, A: Allocator + Copy> Table<K, X, A> {
         if capacity == self.slots.len() {
             return Ok(());
         }
-        let larger = self.slots_for(capacity, None)?;
-        let old = mem::replace(&mut self.slots, larger);
-        place_all(&mut self.slots, old, &mut Steps::new());
+        let (bits, slots) = self.slots_for(capacity, None)?;
+        let old_bits = mem::replace(&mut self.bits, bits);
+        let old = mem::replace(&mut self.slots, slots);
+        place_all(
+            &mut self.bits,
+            &mut self.slots,
+            &old_bits,
+            old,
+            &mut Steps::new(),
+        );
         Ok(())
     }
 }

@@ -1,14 +1,16 @@
 //! Where a key belongs, and how pairs get there.
 ghost use Rattle.std.specs.Prelude.{◌≡◌, ◌+◌, ◌<◌, [], ◌∷◌, length};
 ghost use Rattle.intmap.specs.Classes.{IsCapacity, slot_number};
-ghost use Rattle.intmap.specs.Slots.{rows, joined};
+ghost use Rattle.intmap.specs.Slots.{rows, joined, AreMarked};
 ghost use Rattle.intmap.specs.Moves.{HasRoom, IsPlaced};
 
 use crate::key::IntKey;
 use crate::slot::Slot;
 use crate::steps::Steps;
+use crate::table::bits::Bits;
 use crate::table::stored::Stored;
 use std::alloc::Allocator;
+use std::mem;
 
 /// The odd number that spreads keys over slots.
 const MULTIPLIER: u64 = 11400714819323198549;
@@ -23,70 +25,91 @@ pub(super) fn index_of<K: IntKey>(key: &K, slots: usize) -> usize
     (key.number().wrapping_mul(MULTIPLIER) & (slots as u64 - 1)) as usize
 }
 
-/// Puts a pair at the end of its slot, where there is room for it, and counts it.
+/// Puts a pair at the end of its slot, where there is room for it, and counts it. The slot's bit is
+/// set.
 pub(super) fn place<K: IntKey, X: Drop, A: Allocator>(
+    bits: &mut Bits<A>,
     slots: &mut [Slot<K, X, A>],
     pair: (Stored<K>, X),
     placed: &mut Steps,
 )
+    requires marks { AreMarked (rows slots.old) bits.old }
     requires capacity { IsCapacity (length slots.old) }
     requires room { HasRoom K.number_of slots.old (pair ∷ []) }
     ensures pairs { IsPlaced K.number_of slots.old (pair ∷ []) slots.new }
     ensures placed { placed.new ≡ placed.old + 1 }
+    ensures marks { AreMarked (rows slots.new) bits.new }
 {
     let index = index_of(pair.0.key(), slots.len());
-    slots[index].push_reserved(pair);
+    let slot = &mut slots[index];
+    if !slot.is_filled() {
+        bits.set(index);
+    }
+    slot.push_reserved(pair);
     placed.tick();
 }
 
 /// Puts pairs, in order, at the ends of their slots, where there is room for them.
 fn place_each<K: IntKey, X: Drop, A: Allocator>(
+    bits: &mut Bits<A>,
     slots: &mut [Slot<K, X, A>],
     pairs: Vec<(Stored<K>, X), A>,
     placed: &mut Steps,
 )
+    requires marks { AreMarked (rows slots.old) bits.old }
     requires capacity { IsCapacity (length slots.old) }
     requires room { HasRoom K.number_of slots.old pairs.items }
     ensures pairs { IsPlaced K.number_of slots.old pairs.items slots.new }
     ensures placed { placed.new ≡ placed.old + length pairs.items }
+    ensures marks { AreMarked (rows slots.new) bits.new }
 {
     for pair in pairs {
-        place(slots, pair, placed);
+        place(bits, slots, pair, placed);
     }
 }
 
 /// Puts the pairs of a slot, in order, at the ends of their slots, where there is room for them.
 fn place_slot<K: IntKey, X: Drop, A: Allocator>(
+    bits: &mut Bits<A>,
     slots: &mut [Slot<K, X, A>],
     slot: Slot<K, X, A>,
     placed: &mut Steps,
 )
+    requires marks { AreMarked (rows slots.old) bits.old }
     requires capacity { IsCapacity (length slots.old) }
     requires room { HasRoom K.number_of slots.old slot.pairs }
     ensures pairs { IsPlaced K.number_of slots.old slot.pairs slots.new }
     ensures placed { placed.new ≡ placed.old + length slot.pairs }
+    ensures marks { AreMarked (rows slots.new) bits.new }
 {
     let (first, rest) = slot.into_parts();
     let Some(pair) = first else {
         return;
     };
-    place(slots, pair, placed);
-    place_each(slots, rest, placed);
+    place(bits, slots, pair, placed);
+    place_each(bits, slots, rest, placed);
 }
 
 /// Puts the pairs of all old slots, slot after slot, at the ends of their slots, where there is
-/// room for them.
-pub(super) fn place_all<K: IntKey, X: Drop, A: Allocator>(
+/// room for them. The bits of the old slots tell which of them to look at.
+pub(super) fn place_all<K: IntKey, X: Drop, A: Allocator + Copy>(
+    bits: &mut Bits<A>,
     slots: &mut [Slot<K, X, A>],
-    old: Vec<Slot<K, X, A>, A>,
+    old_bits: &Bits<A>,
+    mut old: Vec<Slot<K, X, A>, A>,
     placed: &mut Steps,
 )
+    requires old_marks { AreMarked (rows old.items) old_bits.now }
+    requires marks { AreMarked (rows slots.old) bits.old }
     requires capacity { IsCapacity (length slots.old) }
     requires room { HasRoom K.number_of slots.old (joined (rows old.items)) }
     ensures pairs { IsPlaced K.number_of slots.old (joined (rows old.items)) slots.new }
     ensures placed { placed.new ≡ placed.old + length (joined (rows old.items)) }
+    ensures marks { AreMarked (rows slots.new) bits.new }
 {
-    for slot in old {
-        place_slot(slots, slot, placed);
+    let alloc = *old.allocator();
+    for index in old_bits.iter() {
+        let slot = mem::replace(&mut old[index], Slot::new(alloc));
+        place_slot(bits, slots, slot, placed);
     }
 }

@@ -1,30 +1,44 @@
 //! The pairs of a table by reference, slot after slot.
-ghost use Rattle.std.specs.Prelude.{◌≡◌};
+ghost use Rattle.std.specs.Prelude.{◌≡◌, ◌<◌, length, slice_index_or};
 ghost use Rattle.std.specs.Iterator.{YieldsFirstBy, item_count};
 
 use crate::key::IntKey;
 use crate::slot::Slot;
+use crate::table::bits::Places;
 use crate::table::stored::Stored;
 use std::alloc::Allocator;
 use std::marker::Model;
 
-/// The pairs that are left: those of the slot in hand, and the slots behind it.
+/// The slot at a place.
+#[inline(always)]
+fn slot_at<K: IntKey, X, A: Allocator>(slots: &[Slot<K, X, A>], place: usize) -> &Slot<K, X, A>
+    requires { place < length slots.now }
+    ensures { result.now ≡ slice_index_or slots.now place result.now }
+{
+    &slots[place]
+}
+
+/// The pairs that are left: those of the slot in hand, and those of the slots at the places behind
+/// it, of which each holds a pair.
 #[derive(Drop)]
 pub(crate) struct Pairs<'a, K: IntKey, X, A: Allocator> {
     pub(super) first: Option<&'a (Stored<K>, X)>,
     pub(super) rest: &'a [(Stored<K>, X)],
+    pub(super) places: Places<'a>,
     pub(super) slots: &'a [Slot<K, X, A>],
 }
 
 impl<'a, K: IntKey, X, A: Allocator> Model for Pairs<'a, K, X, A> {
-    ghost use Rattle.std.specs.Prelude.{List, ◌++◌};
+    ghost use Rattle.std.specs.Prelude.{List, All, ◌<◌, ◌++◌, length};
     ghost use Rattle.std.specs.Option.{option_copied};
-    ghost use Rattle.intmap.specs.Slots.{all_pairs, rows, joined};
+    ghost use Rattle.intmap.specs.Slots.{all_pairs, rows, pairs_at};
 
     ghost Value = { List (K × X) };
 
     ghost view = { λ it.
-        all_pairs (option_copied it.first) it.rest.now ++ joined (rows it.slots.now) };
+        all_pairs (option_copied it.first) it.rest.now ++ pairs_at (rows it.slots.now) it.places };
+
+    ghost invariant = { λ it. All (λ place. place < length it.slots.now) it.places };
 }
 
 impl<'a, K: IntKey, X, A: Allocator> Iterator for Pairs<'a, K, X, A> {
@@ -43,11 +57,10 @@ impl<'a, K: IntKey, X, A: Allocator> Iterator for Pairs<'a, K, X, A> {
                 self.rest = rest;
                 return Some((pair.0.key(), &pair.1));
             }
-            let Some((slot, slots)) = self.slots.split_first() else {
+            let Some(place) = self.places.next() else {
                 return None;
             };
-            self.slots = slots;
-            (self.first, self.rest) = slot.parts();
+            (self.first, self.rest) = slot_at(self.slots, place).parts();
         }
     }
 }

@@ -15,7 +15,7 @@ module _ (g : _) (c : After-as_mut_slice-slots g) where
 
   -- the new slots are ready for the walk and the new pair
   ready : IsReady g.K.IntKey.number_of (keys_of c.args.self.now.walk ++ keys_of ((c.args.key, c.args.value) ∷ [])) c.args.capacity c.as_mut_slice-slots.result.now
-  ready = rw (c.as_mut_slice-slots.ensures.value, c.replace-old.ensures.after) c.in-Ok.ensures
+  ready = rw (c.as_mut_slice-slots.ensures.value, c.replace-old.ensures.after) c.in-Ok.ensures.slots
 
   -- so they have room for both
   room : HasRoom g.K.IntKey.number_of c.as_mut_slice-slots.result.now (joined (rows c.replace-old.result.items) ++ (c.args.key, c.args.value) ∷ [])
@@ -47,7 +47,10 @@ module _ (g : _) (c : After-place g) where
 pub invariant_of-self : goal.invariant_of-self
 invariant_of-self g c =
     let at = goal.at.invariant_of-self g c in
-    rw (written g at.After-place) (IsTable-moved _ _ _ _ (moved g at.After-as_mut_slice-slots _ (placed g at.After-place)))
+    rw (written g at.After-place) (record {
+      table = IsTable-moved _ _ _ _ (moved g at.After-as_mut_slice-slots _ (placed g at.After-place));
+      marks = c.place.ensures.marks;
+    })
 
 pub returns-clause-walk : goal.returns-clause-walk
 returns-clause-walk g c =
@@ -78,3 +81,9 @@ slots_for-requires-clause-capacity g c = c.requires.capacity
 
 pub slots_for-requires-clause-count : goal.slots_for-requires-clause-count
 slots_for-requires-clause-count g c = search rules
+
+pub place_all-requires-clause-old_marks : goal.place_all-requires-clause-old_marks
+place_all-requires-clause-old_marks g c = rw (c.replace-old.ensures.value, c.replace-old_bits.ensures.value) c.self.invariant.marks
+
+pub place_all-requires-clause-marks : goal.place_all-requires-clause-marks
+place_all-requires-clause-marks g c = rw (c.as_mut_slice-slots.ensures.value, c.replace-old.ensures.after, c.replace-old_bits.ensures.after) c.in-Ok.ensures.marks

@@ -1,6 +1,7 @@
-use Rattle.std.proofs.Common.{◌∙◌, ap, arith}
+use Rattle.std.proofs.Common.{◌≡◌, ◌∙◌, ap, replicate, [], arith}
 use Rattle.std.proofs.lemmas.Grind.{common_steps}
 use Rattle.intmap.specs.Slots.{joined}
+use Rattle.intmap.proofs.FilledLemmas.{IsMarkedTable-empty}
 use Rattle.intmap.proofs.TableLemmas.{joined-empty}
 use Rattle.intmap.proofs.table.Table.new.Goals as goal
 
@@ -11,4 +12,6 @@ pub loop-preserved : goal.loop-preserved
 loop-preserved g c = grind (arith, common_steps)
 
 pub invariant_of-result : goal.invariant_of-result
-invariant_of-result g c = grind (arith, common_steps)
+invariant_of-result g c =
+    let all : c.loop.counter ≡ c.args.capacity = omega (arith, c.loop.auto.counter-end, c.loop-test.false) in
+    rw c.in_ok-bits.ensures (IsMarkedTable-empty g.K.IntKey.number_of c.loop.slots.items c.args.capacity c.requires (c.loop.invariant.empty ∙ ap (λ n. replicate n []) all))

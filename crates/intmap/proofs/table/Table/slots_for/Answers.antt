@@ -1,11 +1,11 @@
 use Rattle.std.proofs.Common.{◌≡◌, ◌++◌, ◌∙◌, append-nil}
 use Rattle.std.specs.Option.{option_to_list}
-use Rattle.std.proofs.lemmas.Result.{IfOk-weaker}
 use Rattle.std.specs.Map.{keys_of}
-use Rattle.intmap.specs.Moves.{CanCount, IsCounted}
+use Rattle.intmap.specs.Moves.{CanCount, IsCounted, IsReady}
+use Rattle.intmap.proofs.FilledLemmas.{AreMarked-ready}
 use Rattle.intmap.proofs.MoveLemmas.{zeros, CanCount-start, CanCount-first, CanCount-more, IsCounted-more, IsReady-counted}
 use Rattle.intmap.proofs.table.Table.slots_for.Goals as goal
-use Rattle.intmap.proofs.table.Table.slots_for.Goals.{After-as_mut_slice-counts, After-drop-zeros, in-Some, in_default}
+use Rattle.intmap.proofs.table.Table.slots_for.Goals.{After-as_mut_slice-counts, After-drop-zeros-2, in-Some, in_default}
 
 module _ (g : _) (c : After-as_mut_slice-counts g) where
   -- the counts start at zero
@@ -26,13 +26,20 @@ count_key-requires-clause-fits g c =
     CanCount-more _ _ _ _ _ (rw c.in-Some.is at all) c.count_pairs.ensures
 
 -- the counts with that of the new key, if there is one
-counted : (g : _) (c : After-drop-zeros g) → IsCounted g.K.IntKey.number_of c.as_mut_slice-counts.result.now (keys_of c.args.self.now.walk ++ option_to_list c.args.new) c.match-new.counts
+counted : (g : _) (c : After-drop-zeros-2 g) → IsCounted g.K.IntKey.number_of c.as_mut_slice-counts.result.now (keys_of c.args.self.now.walk ++ option_to_list c.args.new) c.match-new.counts
 counted g c = elim c.match-new.branch [
   | in-Some w ↦ rw (w.counts-is, w.in-Some.is) (IsCounted-more _ _ _ _ _ _ c.count_pairs.ensures w.count_key.ensures)
   | in_default w ↦ rw (w.counts-is, w.in_default.is) (rw append-nil c.count_pairs.ensures)
 ]
 
-pub returns : goal.returns
-returns g c =
-    let zero = start g (goal.at.returns g c).After-as_mut_slice-counts in
-    IfOk-weaker c.with_room.result _ _ (λ slots roomy. IsReady-counted _ _ _ _ c.args.capacity (rw zero at (counted g c)) roomy) c.with_room.ensures
+-- the new slots are ready for the keys
+ready : (g : _) (c : After-drop-zeros-2 g) → c.as_mut_slice-counts.result.now ≡ zeros c.args.capacity → IsReady g.K.IntKey.number_of (keys_of c.args.self.now.walk ++ option_to_list c.args.new) c.args.capacity c.in_ok-slots.slots.items
+ready g c start = IsReady-counted _ _ _ _ c.args.capacity (rw start at (counted g c)) c.in_ok-slots.ensures
+
+pub returns-clause-slots : goal.returns-clause-slots
+returns-clause-slots g c = let at = goal.at.returns-clause-slots g c in ready g at.After-drop-zeros-2 (start g at.After-as_mut_slice-counts)
+
+pub returns-clause-marks : goal.returns-clause-marks
+returns-clause-marks g c =
+    let at = goal.at.returns-clause-marks g c in
+    rw c.in_ok-bits.ensures (AreMarked-ready _ _ c.args.capacity _ (ready g at.After-drop-zeros-2 (start g at.After-as_mut_slice-counts)))

@@ -1,53 +1,84 @@
-use Rattle.std.proofs.Common.{◌≡◌, ◌+◌, ◌∙◌, sym, ap}
+use Rattle.std.proofs.Common.{◌≡◌, ◌+◌, ◌∙◌, length, set, true, false, sym, ap, arith}
+use Rattle.std.specs.Prelude.{nat_lt}
 use Rattle.intmap.specs.Classes.{slot_number}
 use Rattle.intmap.specs.Reach.{reach}
-use Rattle.intmap.specs.Slots.{Grid}
-use Rattle.intmap.proofs.TableLemmas.{IsSlot, reach-here, value_of-missing, value_of-found, place-within, walk-taken_none, walk-taken_at, Belong-swap_remove, IsTable-set}
+use Rattle.intmap.specs.Slots.{Grid, IsTable}
+use Rattle.intmap.proofs.FilledLemmas.{filled-bound, marks-set, marks-kept}
+use Rattle.intmap.proofs.TableLemmas.{IsSlot, reach-here, value_of-here, swap_out-missing, walk-taken, Belong-taken, IsTable-set}
 use Rattle.intmap.proofs.table.Table.take.Goals as goal
-use Rattle.intmap.proofs.table.Table.take.Goals.{After-find}
+use Rattle.intmap.proofs.table.Table.take.Goals.{After-take, then-not-is_filled, else-not-is_filled}
 
-here : (g : _) (c : After-find g) → IsSlot g.K.IntKey.number_of c.self.inside.slots.items c.index_mut-slot.result.now c.index_of-index.result c.args.key.now
-here g c = record {
-  table = c.self.invariant;
-  slot = c.index_of-index.ensures.slot ∙ ap (λ (t : Grid _ _). slot_number g.K.IntKey.number_of c.args.key.now t.capacity) (sym c.self.view_is);
-  here = c.index_mut-slot.ensures.value;
-}
+module _ (g : _) (c : After-take g) where
+  here : IsSlot g.K.IntKey.number_of c.self.inside.slots.items c.index_mut-slot.result.now c.index_of-index.result c.args.key.now
+  here = record {
+    table = c.self.invariant.table;
+    slot = c.index_of-index.ensures.slot ∙ ap (λ (t : Grid _ _). slot_number g.K.IntKey.number_of c.args.key.now t.capacity) (sym c.self.view_is);
+    here = c.index_mut-slot.ensures.value;
+  }
 
-counted : (g : _) (c : After-find g) → c.find.new.steps ≡ c.args.steps.now + reach g.K.IntKey.number_of c.args.self.now.walk c.args.self.now.capacity c.args.key.now
-counted g c =
-    c.find.ensures.counted ∙ ap (λ n. c.args.steps.now + n)
-    (sym (reach-here _ _ _ _ _ (here g c)) ∙ ap (λ (t : Grid _ _). reach g.K.IntKey.number_of t.walk t.capacity c.args.key.now) c.self.view_is)
+  counted : c.take.new.steps ≡ c.args.steps.now + reach g.K.IntKey.number_of c.args.self.now.walk c.args.self.now.capacity c.args.key.now
+  counted =
+      c.take.ensures.counted ∙ ap (λ n. c.args.steps.now + n)
+      (sym (reach-here _ _ _ _ _ here) ∙ ap (λ (t : Grid _ _). reach g.K.IntKey.number_of t.walk t.capacity c.args.key.now) c.self.view_is)
+
+  table : IsTable g.K.IntKey.number_of (set c.self.inside.slots.items c.index_of-index.result c.take.new.self)
+  table = IsTable-set _ _ _ _ _ here c.take.new.self (rw c.take.ensures.pairs (Belong-taken _ _ _ _ _ here))
+
+pub invariant_of-self : goal.invariant_of-self
+invariant_of-self g c =
+    let after = (goal.at.invariant_of-self g c).After-take in
+    let none = sym c.take.ensures.value ∙ c.in_default.is in
+    let same = sym (c.take.ensures.pairs ∙ swap_out-missing _ _ _ _ _ (here g after) none) in
+    record {
+      table = table g after;
+      marks = marks-kept _ _ _ _ _ (here g after) c.self.inside.bits c.self.invariant.marks c.take.new.self (ap (λ ps. nat_lt 0 (length ps)) same);
+    }
 
 pub returns-in_default-clause-value : goal.returns-in_default-clause-value
 returns-in_default-clause-value g c =
-    let at = here g (goal.at.returns-in_default-clause-value g c).After-find in
-    rw (← c.self.view_is) (sym (value_of-missing _ _ _ _ _ at (sym c.in_default.ensures.place)))
+    let at = here g (goal.at.returns-in_default-clause-value g c).After-take in
+    sym c.in_default.is ∙ c.take.ensures.value ∙ rw (← c.self.view_is) (sym (value_of-here _ _ _ _ _ at))
 
 pub returns-in_default-clause-walk : goal.returns-in_default-clause-walk
 returns-in_default-clause-walk g c =
-    let at = here g (goal.at.returns-in_default-clause-walk g c).After-find in
-    rw (← c.self.view_is) (walk-taken_none _ _ _ _ _ at (sym c.in_default.ensures.place))
+    let at = here g (goal.at.returns-in_default-clause-walk g c).After-take in
+    rw (← c.self.view_is) (walk-taken _ _ _ _ _ at c.take.new.self c.take.ensures.pairs)
 
 pub returns-in_default-clause-counted : goal.returns-in_default-clause-counted
-returns-in_default-clause-counted g c = counted g (goal.at.returns-in_default-clause-counted g c).After-find
+returns-in_default-clause-counted g c = counted g (goal.at.returns-in_default-clause-counted g c).After-take
 
-pub invariant_of-self-2 : goal.invariant_of-self-2
-invariant_of-self-2 g c =
-    let at = here g (goal.at.invariant_of-self-2 g c).After-find in
-    let taken = c.take_at-value in
-    let below = place-within _ _ _ _ _ at c.in-Some.place (sym c.in-Some.ensures.place) in
-    IsTable-set _ _ _ _ _ at taken.new.self (rw taken.ensures.pairs (Belong-swap_remove _ _ _ _ _ at c.in-Some.place taken.result below taken.ensures.value))
+pub invariant_of-self-then-not-is_filled : goal.invariant_of-self-then-not-is_filled
+invariant_of-self-then-not-is_filled g c =
+    let after = (goal.at.invariant_of-self-then-not-is_filled g c).After-take in
+    let empty : false ≡ nat_lt 0 (length c.take.new.self.pairs) = let told = c.is_filled.ensures in let no = c.if-not-is_filled.true in grind (arith, told, no) in
+    record {
+      table = table g after;
+      marks = rw c.clear.ensures (marks-set _ _ _ _ _ (here g after) c.self.inside.bits c.self.invariant.marks c.take.new.self false empty);
+    }
+
+pub invariant_of-self-else-not-is_filled : goal.invariant_of-self-else-not-is_filled
+invariant_of-self-else-not-is_filled g c =
+    let after = (goal.at.invariant_of-self-else-not-is_filled g c).After-take in
+    let filled : true ≡ nat_lt 0 (length c.take.new.self.pairs) = let told = c.is_filled.ensures in let yes = c.if-not-is_filled.false in grind (arith, told, yes) in
+    let before = filled-bound g.K.IntKey.number_of c.index_mut-slot.result.now.pairs c.args.key.now c.in-Some.value (sym c.take.ensures.value ∙ c.in-Some.is) in
+    record {
+      table = table g after;
+      marks = marks-kept _ _ _ _ _ (here g after) c.self.inside.bits c.self.invariant.marks c.take.new.self (before ∙ filled);
+    }
 
 pub returns-clause-value : goal.returns-clause-value
 returns-clause-value g c =
-    let at = here g (goal.at.returns-clause-value g c).After-find in
-    rw (← c.self.view_is) (sym (value_of-found _ _ _ _ _ at c.in-Some.place c.take_at-value.result (sym c.in-Some.ensures.place) c.take_at-value.ensures.value))
+    let at = here g (goal.at.returns-clause-value g c).After-take in
+    sym c.in-Some.is ∙ c.take.ensures.value ∙ rw (← c.self.view_is) (sym (value_of-here _ _ _ _ _ at))
 
 pub returns-clause-walk : goal.returns-clause-walk
 returns-clause-walk g c =
-    let at = here g (goal.at.returns-clause-walk g c).After-find in
-    let taken = c.take_at-value in
-    rw (← c.self.view_is) (walk-taken_at _ _ _ _ _ at taken.new.self c.in-Some.place taken.result (sym c.in-Some.ensures.place) taken.ensures.value taken.ensures.pairs)
+    let at = here g (goal.at.returns-clause-walk g c).After-take in
+    let walk = walk-taken _ _ _ _ _ at c.take.new.self c.take.ensures.pairs in
+    elim c.if-not-is_filled.branch [
+      | then-not-is_filled w ↦ rw (w.self-is, ← c.self.view_is) walk
+      | else-not-is_filled w ↦ rw (w.self-is, ← c.self.view_is) walk
+    ]
 
 pub returns-clause-counted : goal.returns-clause-counted
-returns-clause-counted g c = counted g (goal.at.returns-clause-counted g c).After-find
+returns-clause-counted g c = counted g (goal.at.returns-clause-counted g c).After-take

@@ -1,46 +1,70 @@
-use Rattle.std.proofs.Common.{◌≡◌, ◌∙◌, sym, arith, length-append}
-use Rattle.std.proofs.lemmas.List.{map-id}
-use Rattle.std.proofs.lemmas.Iterator.Adapters.{YieldsList-from_vec}
-use Rattle.std.proofs.lemmas.Iterator.Consumers.{YieldsList-end}
-use Rattle.intmap.specs.Slots.{rows, joined}
-use Rattle.intmap.proofs.MoveLemmas.{HasRoom-first, HasRoom-more, IsPlaced-none, IsPlaced-more, joined-push}
+use Rattle.std.proofs.Common.{◌≡◌, ◌+◌, ◌<◌, ◌++◌, ◌∙◌, suc, refl, length, set, sym, ap, arith, length-append, length-set}
+use Rattle.std.specs.Prelude.{All}
+use Rattle.std.proofs.lemmas.List.{map-set}
+use Rattle.std.proofs.lemmas.List.Elements.{All-head, All-tail}
+use Rattle.intmap.specs.Slots.{rows, pairs_at}
+use Rattle.intmap.proofs.FilledLemmas.{pairs_at-marked, pairs_at-set, places-within}
+use Rattle.intmap.proofs.MarkedLemmas.{AllPairs-marked_places}
+use Rattle.intmap.proofs.MoveLemmas.{HasRoom-first, HasRoom-more, IsPlaced-none, IsPlaced-more}
+use Rattle.intmap.proofs.TableLemmas.{get_or-rows}
 use Rattle.intmap.proofs.table.place.place_all.Goals as goal
-use Rattle.intmap.proofs.table.place.place_all.Goals.{After-drop-slot-iterator}
+use Rattle.intmap.proofs.table.place.place_all.Goals.{In-Some, After-replace-slot}
 
-pub loop-slot-init : goal.loop-slot-init
-loop-slot-init g c = record {
-  room = rw c.into_iter-slot-iterator.ensures.into_iter_gives.0 c.requires.room;
-  pairs = IsPlaced-none _ c.args.slots.now;
-  placed = omega arith;
-}
+pub loop-index-init : goal.loop-index-init
+loop-index-init g c =
+    let all = pairs_at-marked (rows c.args.old.items) c.args.old_bits.now c.requires.old_marks in
+    rw (c.into_iter-index-iterator.ensures.into_iter_gives ∙ c.iter-index-items.ensures) (record {
+      within = places-within c.args.old.items c.args.old_bits.now c.requires.old_marks;
+      ascending = AllPairs-marked_places c.args.old_bits.now;
+      room = rw all c.requires.room;
+      pairs = λ T placed. rw all at placed;
+      placed = ap (λ ps. c.args.placed.now + length ps) all;
+      capacity = refl;
+      marks = c.requires.marks;
+    })
+
+-- the place at hand is that of an old slot
+here : (g : _) (c : In-Some g) → c.in-Some.index < length c.loop-index.old.items
+here g c = All-head (λ place. place < length c.loop-index.old.items) c.in-Some.index c.next.new.self (rw c.in-Some.ensures.steps at c.loop-index.invariant.within)
+
+pub index_mut-requires : goal.index_mut-requires
+index_mut-requires g c =
+    let below = here g (goal.at.index_mut-requires g c).In-Some in let len = c.loop-index.old.ok.0 in omega (arith, below, len)
+
+-- the pairs that are left are those of the slot at hand and those behind it
+left : (g : _) (c : After-replace-slot g) → c.in-Some.index < length c.loop-index.old.items → pairs_at (rows c.loop-index.old.items) c.loop-index.index-iterator ≡ c.replace-slot.result.pairs ++ pairs_at (rows c.loop-index.old.items) c.next.new.self
+left g c below =
+    let old = c.loop-index.old.items in let rest = pairs_at (rows old) c.next.new.self in
+    let row = get_or-rows old c.in-Some.index c.index_mut.result.now below ∙ ap (λ h. h.pairs) (sym (c.replace-slot.ensures.value ∙ c.index_mut.ensures.value)) in
+    rw c.in-Some.ensures.steps (ap (λ ps. ps ++ rest) row)
 
 pub place_slot-requires-clause-room : goal.place_slot-requires-clause-room
 place_slot-requires-clause-room g c =
-    HasRoom-first _ _ c.in-Some.slot.pairs _ (rw c.in-Some.ensures.steps.0 at c.loop-slot.invariant.room)
-
-pub loop-slot-preserved : goal.loop-slot-preserved
-loop-slot-preserved g c =
-    let done = joined (rows c.loop-slot.yielded) in
-    let pushed = joined-push c.loop-slot.yielded c.in-Some.slot in
-    record {
-      room = HasRoom-more _ _ _ c.in-Some.slot.pairs _ (rw c.in-Some.ensures.steps.0 at c.loop-slot.invariant.room) c.place_slot.ensures.pairs;
-      pairs = rw pushed (IsPlaced-more _ _ _ _ done c.in-Some.slot.pairs c.loop-slot.invariant.pairs c.place_slot.ensures.pairs);
-      placed = rw pushed (omega (arith, c.loop-slot.invariant.placed, c.place_slot.ensures.placed, length-append done c.in-Some.slot.pairs));
-    }
-
--- the loop went through all old slots
-through : (g : _) (c : After-drop-slot-iterator g) → c.loop-slot.yielded ≡ c.args.old.items
-through g c =
-    let gives = c.into_iter-slot-iterator.ensures.into_iter_gives in
-    let road = YieldsList-from_vec {s = c.into_iter-slot-iterator.result} c.args.old.items gives.0 (gives.1 ∙ c.args.old.ok.0) in
-    let end = YieldsList-end road c.loop-slot.yielded _ c.loop-slot.yielded_by _ c.next.new.self c.in-None.is c.next.ensures.steps in
-    sym (map-id c.loop-slot.yielded) ∙ end.0
-
-pub returns-clause-pairs : goal.returns-clause-pairs
-returns-clause-pairs g c = rw (through g c) at c.loop-slot.invariant.pairs
-
-pub returns-clause-placed : goal.returns-clause-placed
-returns-clause-placed g c = rw (through g c) at c.loop-slot.invariant.placed
+    let at = goal.at.place_slot-requires-clause-room g c in
+    HasRoom-first _ _ c.replace-slot.result.pairs _ (rw (left g at.After-replace-slot (here g at.In-Some)) at c.loop-index.invariant.room)
 
 pub place_slot-requires-clause-capacity : goal.place_slot-requires-clause-capacity
-place_slot-requires-clause-capacity g c = rw c.loop-slot.invariant.pairs.len c.requires.capacity
+place_slot-requires-clause-capacity g c = rw c.loop-index.invariant.capacity c.requires.capacity
+
+pub loop-index-preserved : goal.loop-index-preserved
+loop-index-preserved g c =
+    let loop = c.loop-index.invariant in let old = c.loop-index.old.items in let i = c.in-Some.index in
+    let at = goal.at.loop-index-preserved g c in let all = left g at.After-replace-slot (here g at.In-Some) in
+    let ascending = rw c.in-Some.ensures.steps at loop.ascending in
+    let behind : All (λ j. i < j) c.next.new.self = λ k d below. ascending 0 (suc k) d (omega arith) (omega (arith, below)) in
+    let pairs = c.replace-slot.result.pairs in let rest = pairs_at (rows old) c.next.new.self in
+    let same : pairs_at (rows (set old i c.replace-slot.new.dest)) c.next.new.self ≡ rest =
+    ap (λ R. pairs_at R c.next.new.self) (map-set (λ h. h.pairs) old i c.replace-slot.new.dest) ∙ pairs_at-set (rows old) i c.replace-slot.new.dest.pairs c.next.new.self behind in
+    rw same (record {
+      within = rw (length-set old i c.replace-slot.new.dest) (All-tail (λ place. place < length old) i c.next.new.self (rw c.in-Some.ensures.steps at loop.within));
+      ascending = λ j k d less below. ascending (suc j) (suc k) d (omega (arith, less)) (omega (arith, below));
+      room = HasRoom-more _ _ _ pairs _ (rw all at loop.room) c.place_slot.ensures.pairs;
+      pairs = λ T placed. loop.pairs T (rw all (IsPlaced-more _ _ _ _ pairs rest c.place_slot.ensures.pairs placed));
+      placed =
+          let before = rw all at loop.placed in let sum = length-append pairs rest in omega (arith, before, sum, c.place_slot.ensures.placed);
+      capacity = c.place_slot.ensures.pairs.len ∙ loop.capacity;
+      marks = c.place_slot.ensures.marks;
+    })
+
+pub returns-clause-pairs : goal.returns-clause-pairs
+returns-clause-pairs g c = c.loop-index.invariant.pairs c.loop-index.slots (rw c.in-None.ensures.steps.0 (IsPlaced-none _ c.loop-index.slots))

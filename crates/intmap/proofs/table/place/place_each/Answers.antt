@@ -10,6 +10,7 @@ pub loop-pair-init : goal.loop-pair-init
 loop-pair-init g c = record {
   room = rw c.into_iter-pair-iterator.ensures.into_iter_gives.0 c.requires.room;
   pairs = IsPlaced-none _ c.args.slots.now;
+  marks = c.requires.marks;
   placed = omega arith;
 }
 
@@ -21,6 +22,7 @@ pub loop-pair-preserved : goal.loop-pair-preserved
 loop-pair-preserved g c = record {
   room = HasRoom-more _ _ _ (c.in-Some.pair ∷ []) _ (rw c.in-Some.ensures.steps.0 at c.loop-pair.invariant.room) c.place.ensures.pairs;
   pairs = IsPlaced-more _ _ _ _ _ _ c.loop-pair.invariant.pairs c.place.ensures.pairs;
+  marks = c.place.ensures.marks;
   placed = omega (arith, c.loop-pair.invariant.placed, c.place.ensures.placed, length-append c.loop-pair.yielded (c.in-Some.pair ∷ []));
 }
 

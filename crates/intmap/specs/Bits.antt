@@ -1,0 +1,24 @@
+-- Places that are marked or not, as bits of words. No public clause cites this module.
+use Rattle.std.specs.Prelude.{ℕ, Bool, false, ◌*◌, ◌/◌, ◌%◌, ◌+◌, ◌==◌, List, length, map, filter, slice_index, slice_index_or}
+use Rattle.std.specs.Int.{bit_at}
+use Rattle.std.specs.List.{range_with_len}
+
+-- whether place i is marked: none past the last one is
+abbrev pub marked : List Bool → ℕ → Bool
+marked marks i = slice_index_or marks i false
+
+-- the places that are marked, in order
+abbrev pub marked_places : List Bool → List ℕ
+marked_places marks = filter (marked marks) (range_with_len 0 (length marks))
+
+-- whether bit i of the word is set
+abbrev pub has_bit : ℕ → ℕ → Bool
+has_bit word i = bit_at word i == 1
+
+-- whether each place of these words is marked: a word has 64, from its lowest bit up
+unfoldable pub marks_of : List ℕ → List Bool
+marks_of words = map (λ i. has_bit (slice_index words (i / 64)) (i % 64)) (range_with_len 0 (64 * length words))
+
+-- the marked places of these words, of which the first begins at the base
+abbrev pub places_from : ℕ → List ℕ → List ℕ
+places_from base words = map (λ i. base + i) (marked_places (marks_of words))

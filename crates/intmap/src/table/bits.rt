@@ -1,0 +1,143 @@
+//! One bit for each place.
+ghost use Rattle.std.specs.Prelude.{◌≡◌, ◌+◌, ◌*◌, ◌/◌, ◌^◌, ◌<◌, ◌≤◌, true, false, length, replicate, slice_set, IfOk};
+ghost use Rattle.std.specs.Iterator.{YieldsFirstBy, item_count};
+ghost use Rattle.intmap.specs.Bits.{marked, marked_places};
+
+use std::alloc::{AllocError, Allocator};
+use std::marker::Model;
+
+/// The number of bits of a word.
+const BITS: usize = 64;
+
+/// One bit for each place: whether it is marked.
+#[derive(Drop)]
+pub(crate) struct Bits<A: Allocator> {
+    words: Vec<u64, A>,
+}
+
+impl<A: Allocator> Model for Bits<A> {
+    ghost use Rattle.std.specs.Prelude.{List, Bool, ◌*◌, ◌^◌, ◌≤◌, length};
+    ghost use Rattle.intmap.specs.Bits.{marks_of};
+
+    ghost Value = { List Bool };
+
+    ghost view = { λ bits. marks_of bits.words.items };
+
+    ghost invariant = { λ bits. 64 * length bits.words.items ≤ 2 ^ 63 };
+}
+
+impl<A: Allocator> Bits<A> {
+    /// Marks a place. No other place changes.
+    #[inline(always)]
+    pub(crate) fn set(&mut self, place: usize)
+        requires { place < length self.old }
+        ensures { self.new ≡ slice_set self.old place true }
+    {
+        self.words[place / BITS] |= 1 << (place % BITS);
+    }
+
+    /// Takes the mark of a place away. No other place changes.
+    #[inline(always)]
+    pub(crate) fn clear(&mut self, place: usize)
+        requires { place < length self.old }
+        ensures { self.new ≡ slice_set self.old place false }
+    {
+        self.words[place / BITS] &= !(1 << (place % BITS));
+    }
+
+    /// Whether a place is marked.
+    #[inline(always)]
+    pub(crate) fn is_set(&self, place: usize) -> bool
+        requires { place < length self.now }
+        ensures { result ≡ marked self.now place }
+    {
+        (self.words[place / BITS] >> (place % BITS)) & 1 == 1
+    }
+
+    /// The number of marked places.
+    pub(crate) fn count(&self) -> usize
+        ensures { result ≡ length (marked_places self.now) }
+    {
+        let mut marked = 0;
+        for word in &self.words {
+            marked += word.count_ones() as usize;
+        }
+        marked
+    }
+
+    /// The marked places, in ascending order.
+    #[inline(always)]
+    pub(crate) fn iter(&self) -> Places<'_>
+        ensures { result ≡ marked_places self.now }
+    {
+        match self.words.split_first() {
+            Some((word, words)) => Places {
+                word: *word,
+                base: 0,
+                words,
+            },
+            None => Places {
+                word: 0,
+                base: 0,
+                words: &[],
+            },
+        }
+    }
+}
+
+impl<A: Allocator + Copy> Bits<A> {
+    /// So many places, rounded up to whole words, none of them marked. It takes memory for these
+    /// words alone.
+    pub(crate) fn new(alloc: A, places: usize) -> Result<Bits<A>, AllocError>
+        requires { places ≤ 2 ^ 63 }
+        ensures { IfOk result (λ bits. bits ≡ replicate (64 * ((places + 63) / 64)) false) }
+    {
+        let words = vec![in alloc; 0u64; places.div_ceil(BITS)]?;
+        Ok(Bits { words })
+    }
+}
+
+/// The marked places that are left: those of the word in hand, which begins at the base, and those
+/// of the words behind it.
+#[derive(Drop)]
+pub(crate) struct Places<'a> {
+    word: u64,
+    base: usize,
+    words: &'a [u64],
+}
+
+impl<'a> Model for Places<'a> {
+    ghost use Rattle.std.specs.Prelude.{List, ℕ, ◌∷◌, ◌+◌, ◌*◌, ◌^◌, ◌≤◌, length};
+    ghost use Rattle.intmap.specs.Bits.{places_from};
+
+    ghost Value = { List ℕ };
+
+    ghost view = { λ it. places_from it.base (it.word ∷ it.words.now) };
+
+    ghost invariant = { λ it. it.base + 64 * length it.words.now ≤ 2 ^ 63 };
+}
+
+impl<'a> Iterator for Places<'a> {
+    type Item = usize;
+
+    ghost next_gives = { YieldsFirstBy (λ place. place) (λ rest. rest) };
+
+    ghost remaining = { item_count (λ rest. rest) };
+
+    #[inline(always)]
+    fn next(&mut self) -> Option<usize> {
+        loop {
+            if self.word != 0 {
+                let place = self.base + self.word.trailing_zeros() as usize;
+                self.word &= self.word - 1;
+                return Some(place);
+            }
+            let Some((word, words)) = self.words.split_first() else {
+                return None;
+            };
+            self.word = *word;
+            self.words = words;
+            self.base += BITS;
+        }
+    }
+}
