@@ -2,6 +2,24 @@
 ghost use Rattle.std.specs.Prelude.{◌≡◌, ℕ, ◌^◌, ◌<◌, ◌==◌, refl};
 
 /// A kind of key. Each key has a number below `2 ^ 64` that no other key has.
+///
+/// ```text
+/// // Article has one field, number: u32, and derives Clone, Copy, PartialEq and Eq
+/// impl IntKey for Article {
+///     ghost is_key = { λ article. article.number < 2 ^ 32 };
+///
+///     ghost number_of = { λ article. article.number };
+///
+///     ghost exact = { λ x y x_is_key y_is_key equal.
+///         ap (λ number. record x { number = number }) equal };
+///
+///     ghost eq_is = { λ x y x_is_key y_is_key. refl };
+///
+///     fn number(&self) -> u64 {
+///         self.number as u64
+///     }
+/// }
+/// ```
 pub trait IntKey: Copy + Eq {
     /// What holds of each value of the type, as that it is in the type's range.
     ghost is_key: { Self → Type 0 };

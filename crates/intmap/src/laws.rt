@@ -1,5 +1,8 @@
 //! Laws for callers, each as the contract of a function that does nothing: what follows of a map
 //! from what its calls say of it.
+//!
+//! A call such as `laws::small_keys_are_found_at_once::<u64, V>();` brings its law into the proof
+//! of the function that makes it.
 ghost use Rattle.std.specs.Prelude.{◌≡◌, ◌+◌, ◌^◌, ◌<◌, ◌≤◌, ℕ, List, All, cond, is_some, length, Some, None, false};
 ghost use Rattle.intmap.specs.Classes.{IsCapacity};
 ghost use Rattle.intmap.specs.Bindings.{value_of, take_key, put_pair, HasDistinctKeys, Updates};

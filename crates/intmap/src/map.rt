@@ -74,6 +74,10 @@ impl<K: IntKey, V, A: Allocator + Copy> IntMap<K, V, A> {
 
     /// The number of slots that hold a pair, which is the number of residues that the keys leave
     /// modulo the capacity. It goes through all slots, and is never refused.
+    ///
+    /// ```text
+    /// with the keys 0, 4 and 1 in 4 slots it is 2, since 0 and 4 share a slot
+    /// ```
     pub fn load(&self) -> u64
         ensures value { result ≡ load_of K.number_of self.now.walk self.now.capacity }
         ensures map { IsMap K.number_of K.is_key self.now }
@@ -81,7 +85,13 @@ impl<K: IntKey, V, A: Allocator + Copy> IntMap<K, V, A> {
         self.table.load() as u64
     }
 
-    /// The pairs by reference, in the order of the walk. It is never refused.
+    /// The pairs by reference, in the order of the walk. It is never refused, and nor is a step of
+    /// the iterator.
+    ///
+    /// ```text
+    /// after insert(0, 10), insert(1, 11) and insert(4, 14) into 4 slots:
+    /// for (key, value) in map.iter()    0 and 10, then 4 and 14, then 1 and 11
+    /// ```
     pub fn iter(&self) -> Iter<'_, K, V, A>
         ensures walk { result ≡ self.now.walk }
         ensures map { IsMap K.number_of K.is_key self.now }

@@ -11,6 +11,13 @@ pub enum Cause {
 }
 
 /// A value that could not be put into a map, with the cause.
+///
+/// ```text
+/// match map.insert(21, value) {
+///     Ok(old) => ..,
+///     Err(Refused { value, cause }) => ..,
+/// }
+/// ```
 #[derive(Debug, Drop)]
 pub struct Refused<V> {
     /// The value, handed back.

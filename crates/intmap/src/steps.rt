@@ -34,6 +34,13 @@ impl Tally {
 
 /// A counter of steps. Contracts see it as the number of steps that were counted so far, and the
 /// program that runs has nothing of it: it has no bytes, and no method reads the number.
+///
+/// A caller makes one or is lent one, lends it to
+/// [`IntMap::get_counted`](crate::IntMap::get_counted), and speaks of it in a contract of its own:
+///
+/// ```text
+/// ensures counted { steps.new ≤ steps.old + 1 }
+/// ```
 #[derive(Drop)]
 pub struct Steps {
     tally: Tally,

@@ -5,6 +5,25 @@ ghost use Rattle.std.specs.Prelude.{◌≡◌, Bool};
 ///
 /// A run hands values out only as they leave the map. Of those that stay it shows what a judge
 /// sees: a copy, a number, a text, or nothing at all.
+///
+/// ```text
+/// // sees each number as itself, and keeps all
+/// impl Judge<u64, u64> for Plain {
+///     type Seen = u64;
+///
+///     ghost sees = { λ _ value seen. seen ≡ value };
+///
+///     ghost keeps = { λ _ key value. true };
+///
+///     fn look(&self, value: &u64) -> u64 {
+///         *value
+///     }
+///
+///     fn keep(&self, _key: u64, _value: &u64) -> bool {
+///         true
+///     }
+/// }
+/// ```
 pub trait Judge<K, V> {
     /// What is seen of a value.
     type Seen: Drop;
@@ -20,7 +39,8 @@ pub trait Judge<K, V> {
     fn look(&self, value: &V) -> Self::Seen
         ensures { sees self.now value.now result };
 
-    /// Whether the pair stays, where a command asks it of each pair.
+    /// Whether the pair stays, where a command asks it of each pair. None of the commands that there
+    /// are does.
     fn keep(&self, key: K, value: &V) -> bool
         ensures { result ≡ keeps self.now key value.now };
 }

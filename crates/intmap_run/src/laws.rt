@@ -1,5 +1,5 @@
 //! Laws of the definitions that a run is told by, each as the contract of a function that does
-//! nothing.
+//! nothing. A call of one brings its law into the proof of the function that makes it.
 ghost use Rattle.std.specs.Prelude.{◌≡◌, ◌↔◌, ◌≤◌, ◌++◌, ℕ, List, length};
 ghost use Rattle.intmap.specs.Classes.{IsCapacity, residue, slot_number};
 ghost use Rattle.intmap.specs.Bindings.{value_of, take_key, put_pair};

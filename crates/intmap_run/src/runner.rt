@@ -27,8 +27,13 @@ use std::alloc::{AllocError, Allocator};
 ///
 /// Err: there was no room for the answers; the commands come back, and the map is as it was.
 ///
-/// `Insert(21, a)`, `Insert(21, b)`, `Remove(21)`, `Len` on an empty map with ample memory answer
-/// `Old(None)`, `Old(Some(a))`, `Old(Some(b))`, `Number(0)`.
+/// ```text
+/// on an empty map, with ample memory:
+/// Insert(21, a)    Old(None)
+/// Insert(21, b)    Old(Some(a))
+/// Remove(21)       Old(Some(b))
+/// Len              Number(0)
+/// ```
 pub fn run<K: IntKey, V: Drop, J: Judge<K, V>, A: Allocator + Copy>(
     alloc: A,
     map: &mut IntMap<K, V, A>,

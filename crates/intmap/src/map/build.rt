@@ -19,8 +19,8 @@ const FIRST_CAPACITY: usize = 4;
 const FIRST_FACTOR: usize = 909;
 
 impl<K: IntKey, V: Drop, A: Allocator + Copy> IntMap<K, V, A> {
-    /// An empty map of 4 slots, with a load factor of 909 thousandths. It is refused where memory
-    /// for the slots is.
+    /// An empty map of 4 slots, with a load factor of 909 thousandths. It is refused as
+    /// [`Cause::Memory`] where memory for the slots is, and never else.
     pub fn new(alloc: A) -> Result<IntMap<K, V, A>, Cause>
         ensures state { IfOk result (λ made. made ≡ empty_map 4) }
         ensures memory { IfErr result (λ cause. cause ≡ Cause.Memory) }
@@ -34,7 +34,9 @@ impl<K: IntKey, V: Drop, A: Allocator + Copy> IntMap<K, V, A> {
     /// where `capacity` is above 2^63, and else where memory for the slots is refused.
     ///
     /// ```text
-    /// IntMap::with_capacity(alloc, 20)    has 32 slots
+    /// IntMap::with_capacity(alloc, 20)                     has 32 slots
+    /// IntMap::with_capacity(alloc, 0)                      has 2 slots
+    /// IntMap::with_capacity(alloc, 9223372036854775809)    Err(Cause::TooLarge)
     /// ```
     pub fn with_capacity(alloc: A, capacity: usize) -> Result<IntMap<K, V, A>, Cause>
         ensures state { IfOk result (λ made. made ≡ empty_map made.capacity) }

@@ -21,7 +21,14 @@ impl<K: IntKey, V, A: Allocator + Copy> IntMap<K, V, A> {
 
     /// As [`get`](IntMap::get), with each comparison of a stored key with the sought one counted
     /// in `steps`: the keys that agree with it modulo the capacity are compared in the order of
-    /// the walk, up to the key itself.
+    /// the walk, up to the key itself. It is never refused.
+    ///
+    /// ```text
+    /// with the keys 0, 4 and 8, in this order, in 4 slots:
+    /// get_counted(4, &mut steps)     the value of 4, and 2 steps: 0 and 4 are compared
+    /// get_counted(12, &mut steps)    None, and 3 steps: it would share their slot
+    /// get_counted(1, &mut steps)     None, and no step
+    /// ```
     pub fn get_counted(&self, key: K, steps: &mut Steps) -> Option<&V>
         ensures value { option_copied result ≡ value_of K.number_of self.now.walk key }
         ensures counted { steps.new

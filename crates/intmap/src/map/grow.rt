@@ -18,6 +18,13 @@ impl<K: IntKey, V: Drop, A: Allocator + Copy> IntMap<K, V, A> {
     /// It is refused as too large exactly where the sum of the length and `additional` is above
     /// 2^63, and else where memory is refused, which it never is where the capacity is enough. A
     /// refusal leaves the map.
+    ///
+    /// ```text
+    /// with 1 pair in 4 slots:
+    /// reserve(3)                      Ok(()), and still 4 slots
+    /// reserve(4)                      Ok(()), and 8 slots
+    /// reserve(9223372036854775808)    Err(Cause::TooLarge)
+    /// ```
     pub fn reserve(&mut self, additional: usize) -> Result<(), Cause>
         ensures capacity { OnOk result ((p : ℕ) × IsLeastPower (length self.old.walk + additional) p
             × (self.new.capacity ≡ max self.old.capacity p)) }
@@ -53,6 +60,12 @@ impl<K: IntKey, V: Drop, A: Allocator + Copy> IntMap<K, V, A> {
     /// It is refused as too large exactly where no capacity up to 2^63 meets it, and else where
     /// memory is refused, which it never is where the capacity meets it. A refusal leaves the map,
     /// its load factor too.
+    ///
+    /// ```text
+    /// with 3 pairs in 4 slots:
+    /// set_load_factor(100)    Ok(()), and 32 slots: 3 pairs in 16 are 187 thousandths
+    /// set_load_factor(909)    Ok(()), and still 32 slots
+    /// ```
     pub fn set_load_factor(&mut self, thousandths: usize) -> Result<(), Cause>
         ensures capacity { OnOk result (IsWanted self.old.capacity (length self.old.walk)
             thousandths self.new.capacity) }

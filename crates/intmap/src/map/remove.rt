@@ -10,6 +10,12 @@ use std::alloc::Allocator;
 impl<K: IntKey, V, A: Allocator + Copy> IntMap<K, V, A> {
     /// Takes the pair of the key out and answers its value, or `None` where the key isn't bound.
     /// The last pair of the slot takes its place. It is never refused.
+    ///
+    /// ```text
+    /// with 0: 10, 4: 14 and 8: 18, in this order, in 4 slots, where they share one:
+    /// remove(0)    Some(10), and the walk is 8: 18, 4: 14
+    /// remove(0)    None, and the same walk
+    /// ```
     pub fn remove(&mut self, key: K) -> Option<V>
         ensures value { result ≡ value_of K.number_of self.old.walk key }
         ensures state { self.new ≡ after_remove K.number_of self.old key }
