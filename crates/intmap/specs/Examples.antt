@@ -1,6 +1,8 @@
 -- The definitions at small lists, computed.
-use Rattle.std.specs.Prelude.{◌≡◌, ℕ, ◌+◌, ◌%◌, ◌^◌, ◌==◌, List, [], ◌∷◌, map, Some, refl}
+use Rattle.std.specs.Prelude.{◌≡◌, ℕ, ◌+◌, ◌%◌, ◌^◌, ◌==◌, pos, negsuc, List, [], ◌∷◌, map, Some, refl}
 use Rattle.std.specs.List.{range_with_len}
+use Rattle.intmap.specs.Keys.{number_of_signed}
+use Rattle.intmap.specs.Classes.{slot_number}
 use Rattle.intmap.specs.Bindings.{value_of, take_key, put_pair, write_value, keep_pairs, strike_keys}
 use Rattle.intmap.specs.Walk.{walk_of, first_of_walk}
 use Rattle.intmap.specs.Reach.{class_size, reach}
@@ -19,6 +21,14 @@ pairs_of ks = map (λ k. (k, k + 10)) ks
 -- three keys that share a slot of four
 abbrev crowd : List (ℕ × ℕ)
 crowd = pairs_of (0 ∷ 4 ∷ 8 ∷ [])
+
+-- 1, -1 and the least integer of 64 bits
+number_of_signed-ends : (number_of_signed (pos 1) ≡ 1) × (number_of_signed (negsuc 0) ≡ 18446744073709551615) × (number_of_signed (negsuc 9223372036854775807) ≡ 9223372036854775808)
+number_of_signed-ends = (refl, refl, refl)
+
+-- -1 has the last slot of four, as the greatest number below 2^64 has
+slot_number-below : (slot_number number_of_signed (negsuc 0) 4 ≡ 3) × (slot_number itself 18446744073709551615 4 ≡ 3)
+slot_number-below = (refl, refl)
 
 -- a key that is put twice is bound to the later value
 put_twice : value_of {V = ℕ} itself (put_pair itself (put_pair itself [] 4 21 1) 4 21 2) 21 ≡ Some 2

@@ -1,3 +1,4 @@
+pub mod Keys
 pub mod Classes
 pub mod Bindings
 pub mod Walk

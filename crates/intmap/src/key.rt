@@ -1,7 +1,14 @@
 //! The kinds of key that a map takes: those of which each has a number of its own.
-ghost use Rattle.std.specs.Prelude.{◌≡◌, ℕ, ◌^◌, ◌<◌, ◌==◌, refl};
+ghost use Rattle.std.specs.Prelude.{◌≡◌, ℕ, ◌^◌, ◌<◌, ◌==◌};
+
+mod narrow;
+mod wide;
 
 /// A kind of key. Each key has a number below `2 ^ 64` that no other key has.
+///
+/// A `u8`, `u16`, `u32`, `u64` or `usize` is its own number. So is an `i32` or `i64` that isn't
+/// negative; a negative one has the number that is `2 ^ 64` more. A type of one's own is a kind of
+/// key once it implements this trait.
 ///
 /// ```text
 /// // Article has one field, number: u32, and derives Clone, Copy, PartialEq and Eq
@@ -39,20 +46,4 @@ pub trait IntKey: Copy + Eq {
     /// `==` answers whether two keys have equal numbers.
     ghost eq_is: { (x y : Self) → is_key x → is_key y
         → Self.eq x y ≡ (number_of x == number_of y) };
-}
-
-/// A `u64` is its own number.
-impl IntKey for u64 {
-    ghost is_key = { λ key. key < 2 ^ 64 };
-
-    ghost number_of = { λ key. key };
-
-    ghost exact = { λ x y x_is_key y_is_key equal. equal };
-
-    ghost eq_is = { λ x y x_is_key y_is_key. refl };
-
-    #[inline(always)]
-    fn number(&self) -> u64 {
-        *self
-    }
 }

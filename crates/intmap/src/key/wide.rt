@@ -1,0 +1,60 @@
+//! Integers of 64 bits as keys.
+ghost use Rattle.std.specs.Prelude.{◌^◌, ◌<◌, refl};
+
+use super::IntKey;
+
+/// A `u64` is its own number.
+impl IntKey for u64 {
+    ghost is_key = { λ key. key < 2 ^ 64 };
+
+    ghost number_of = { λ key. key };
+
+    ghost exact = { λ x y x_is_key y_is_key equal. equal };
+
+    ghost eq_is = { λ x y x_is_key y_is_key. refl };
+
+    #[inline(always)]
+    fn number(&self) -> u64 {
+        *self
+    }
+}
+
+/// A `usize` is its own number.
+impl IntKey for usize {
+    ghost is_key = { λ key. key < 2 ^ 64 };
+
+    ghost number_of = { λ key. key };
+
+    ghost exact = { λ x y x_is_key y_is_key equal. equal };
+
+    ghost eq_is = { λ x y x_is_key y_is_key. refl };
+
+    #[inline(always)]
+    fn number(&self) -> u64 {
+        *self as u64
+    }
+}
+
+/// An `i64` is its own number, and `2 ^ 64` more where it is negative: `-1` has the number
+/// 18446744073709551615, as `-1i64 as u64` is in Rust.
+impl IntKey for i64 {
+    ghost use Rattle.std.specs.Prelude.{FitsSigned};
+    ghost use Rattle.std.specs.Int.{w64};
+    ghost use Rattle.std.proofs.Common.{arith};
+    ghost use Rattle.std.proofs.lemmas.Int.{ints};
+    ghost use Rattle.std.proofs.lemmas.Bool.Decides.{nat_tests};
+    ghost use Rattle.intmap.specs.Keys.{number_of_signed};
+
+    ghost is_key = { FitsSigned w64 };
+
+    ghost number_of = { number_of_signed };
+
+    ghost exact = { λ x y x_is_key y_is_key equal. Prim.grind (arith, ints) };
+
+    ghost eq_is = { λ x y x_is_key y_is_key. Prim.grind (arith, ints, nat_tests) };
+
+    #[inline(always)]
+    fn number(&self) -> u64 {
+        self.cast_unsigned()
+    }
+}
