@@ -1,13 +1,14 @@
 //! One call, from its words to its answer.
 
 use crate::many::{Keys, get_many, insert_many, remove_many};
-use crate::maps::{Map, Maps};
+use crate::maps::{MapOf, Maps};
 use crate::runs::run_many;
 use crate::text::{done_text, number_text, option_text, refusal_text, state_text, walk_text};
 use crate::word::words_of;
-use intmap::IntMap;
 use intmap::steps::Steps;
+use intmap::{IntKey, IntMap};
 use std::alloc::{AllocError, Global};
+use std::fmt::Display;
 
 /// The answer to a call, as text. Words that are no call answer so.
 pub fn answer_to(alloc: Global, maps: &mut Maps<'_>, call: &str) -> Result<String, AllocError> {
@@ -30,8 +31,8 @@ pub fn answer_to(alloc: Global, maps: &mut Maps<'_>, call: &str) -> Result<Strin
     }
 }
 
-// what is answered to words that are no call
-fn no_call(alloc: Global) -> Result<String, AllocError> {
+/// What is answered to words that are no call.
+pub fn no_call(alloc: Global) -> Result<String, AllocError> {
     String::from_str(alloc, "not a call")
 }
 
@@ -51,8 +52,12 @@ fn bare(alloc: Global, maps: &mut Maps<'_>, name: &str) -> Result<String, AllocE
     }
 }
 
-// the answer to a call that looks at a map
-fn seen(alloc: Global, map: &Map<'_>, name: &str) -> Result<String, AllocError> {
+/// The answer to a call that looks at a map.
+pub fn seen<K: IntKey + Display>(
+    alloc: Global,
+    map: &MapOf<'_, K>,
+    name: &str,
+) -> Result<String, AllocError> {
     match name {
         "len" => number_text(alloc, map.len() as u128),
         "capacity" => number_text(alloc, map.capacity() as u128),
@@ -80,36 +85,36 @@ fn with_number(
             maps.memory.arm(number);
             done_text(alloc, Ok(()))
         }
+        "reserve" => done_text(alloc, maps.map.reserve(number as usize)),
+        "set_load_factor" => done_text(alloc, maps.map.set_load_factor(number as usize)),
         _ => with_key(alloc, &mut maps.map, name, number),
     }
 }
 
-// the answer to a call on a map with a number
-fn with_key(
+/// The answer to a call with a key.
+pub fn with_key<K: IntKey>(
     alloc: Global,
-    map: &mut Map<'_>,
+    map: &mut MapOf<'_, K>,
     name: &str,
-    number: u64,
+    key: K,
 ) -> Result<String, AllocError> {
     match name {
-        "get" => option_text(alloc, map.get(number).copied()),
+        "get" => option_text(alloc, map.get(key).copied()),
         "get_counted" => {
-            let found = map.get_counted(number, &mut Steps::new()).copied();
+            let found = map.get_counted(key, &mut Steps::new()).copied();
             option_text(alloc, found)
         }
-        "remove" => option_text(alloc, map.remove(number)),
-        "reserve" => done_text(alloc, map.reserve(number as usize)),
-        "set_load_factor" => done_text(alloc, map.set_load_factor(number as usize)),
+        "remove" => option_text(alloc, map.remove(key)),
         _ => no_call(alloc),
     }
 }
 
-// the answer to a call with a key and a value
-fn with_pair(
+/// The answer to a call with a key and a value.
+pub fn with_pair<K: IntKey>(
     alloc: Global,
-    map: &mut Map<'_>,
+    map: &mut MapOf<'_, K>,
     name: &str,
-    key: u64,
+    key: K,
     value: u64,
 ) -> Result<String, AllocError> {
     match name {

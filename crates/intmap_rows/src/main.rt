@@ -6,6 +6,8 @@
 
 mod block;
 mod call;
+mod cell;
+mod kinds;
 mod many;
 mod maps;
 mod refused;

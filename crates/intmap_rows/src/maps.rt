@@ -6,7 +6,10 @@ use std::alloc::{AllocError, Global};
 use std::mem;
 
 /// A map whose requests for memory can be refused.
-pub type Map<'a> = IntMap<u64, u64, &'a Refuser<Global>>;
+pub type MapOf<'a, K> = IntMap<K, u64, &'a Refuser<Global>>;
+
+/// Such a map with `u64` keys.
+pub type Map<'a> = MapOf<'a, u64>;
 
 /// The map that calls are made on, another one, and the memory of both.
 #[derive(Drop)]

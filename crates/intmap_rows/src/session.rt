@@ -1,9 +1,10 @@
 //! A file of rows, from its first line to its last.
 
 use crate::block::Block;
+use crate::kinds::Kinds;
 use crate::maps::Maps;
 use crate::report::Report;
-use crate::row::compare_row;
+use crate::row::{compare_row, parts_of};
 use refuser::Refuser;
 use std::alloc::{AllocError, Global};
 
@@ -12,6 +13,7 @@ pub fn report(alloc: Global, memory: &Refuser<Global>, rows: &str) -> Result<Str
     let mut session = Session {
         alloc,
         maps: Maps::new(memory)?,
+        kinds: Kinds::new(memory)?,
         block: None,
         report: Report::new(alloc),
     };
@@ -26,6 +28,7 @@ pub fn report(alloc: Global, memory: &Refuser<Global>, rows: &str) -> Result<Str
 struct Session<'a, 't> {
     alloc: Global,
     maps: Maps<'a>,
+    kinds: Kinds<'a>,
     block: Option<Block<'t>>,
     report: Report,
 }
@@ -38,6 +41,7 @@ impl<'a, 't> Session<'a, 't> {
         }
         if let Some(name) = line.strip_prefix("= ") {
             self.maps = Maps::new(self.maps.memory)?;
+            self.kinds = Kinds::new(self.maps.memory)?;
             return self.report.begin(name);
         }
         if let Some(count) = line.strip_prefix("rows ") {
@@ -59,12 +63,21 @@ impl<'a, 't> Session<'a, 't> {
             None => {
                 self.block = Block::of(self.alloc, line)?;
                 if self.block.is_none() {
-                    compare_row(self.alloc, &mut self.maps, &mut self.report, line)?;
+                    self.row(line)?;
                 }
             }
         }
         self.report.count();
         Ok(())
+    }
+
+    // makes the call of a row, on the map of a kind of key where it names one
+    fn row(&mut self, line: &str) -> Result<(), AllocError> {
+        let (call, wanted) = parts_of(line);
+        match self.kinds.answer_to(self.alloc, call)? {
+            Some(answer) => self.report.compare(line, wanted, answer.as_str()),
+            None => compare_row(self.alloc, &mut self.maps, &mut self.report, line),
+        }
     }
 
     // all that is to be told

@@ -1,8 +1,9 @@
 //! Answers as text, in the words of the program's lines.
 
-use crate::maps::Map;
-use intmap::Cause;
+use crate::maps::MapOf;
+use intmap::{Cause, IntKey};
 use std::alloc::{AllocError, Allocator, Global};
+use std::fmt::Display;
 
 /// `none`, or `some` and the value.
 pub fn option_text(alloc: Global, value: Option<u64>) -> Result<String, AllocError> {
@@ -43,7 +44,7 @@ fn cause_name(cause: Cause) -> &'static str {
 }
 
 /// Pairs in braces, in their order.
-pub fn pairs_text(alloc: Global, pairs: &[(u64, u64)]) -> Result<String, AllocError> {
+pub fn pairs_text<K: Display>(alloc: Global, pairs: &[(K, u64)]) -> Result<String, AllocError> {
     let mut text = String::from_str(alloc, "{")?;
     for (index, (key, value)) in pairs.iter().enumerate() {
         let before = if index == 0 { "" } else { ", " };
@@ -54,7 +55,10 @@ pub fn pairs_text(alloc: Global, pairs: &[(u64, u64)]) -> Result<String, AllocEr
 }
 
 /// The pairs of a map in braces, in the order of its walk.
-pub fn walk_text(alloc: Global, map: &Map<'_>) -> Result<String, AllocError> {
+pub fn walk_text<K: IntKey + Display>(
+    alloc: Global,
+    map: &MapOf<'_, K>,
+) -> Result<String, AllocError> {
     let mut pairs = Vec::new(alloc);
     for (key, value) in map.iter() {
         pairs.push((*key, *value))?;
@@ -63,7 +67,10 @@ pub fn walk_text(alloc: Global, map: &Map<'_>) -> Result<String, AllocError> {
 }
 
 /// All that a map shows of itself.
-pub fn state_text(alloc: Global, map: &Map<'_>) -> Result<String, AllocError> {
+pub fn state_text<K: IntKey + Display>(
+    alloc: Global,
+    map: &MapOf<'_, K>,
+) -> Result<String, AllocError> {
     let walk = walk_text(alloc, map)?;
     let pairs = map.len();
     let slots = map.capacity();
