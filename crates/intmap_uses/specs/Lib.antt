@@ -5,3 +5,4 @@ pub mod Sessions
 pub mod Waiting
 pub mod Dense
 pub mod Table
+pub mod Floors

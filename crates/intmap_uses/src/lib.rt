@@ -3,6 +3,7 @@
 
 pub mod counter;
 pub mod dense;
+pub mod floors;
 pub mod id_table;
 pub mod keys;
 pub mod prices;
