@@ -32,6 +32,7 @@ impl<K: IntKey, V: Drop, A: Allocator + Copy> IntMap<K, V, A> {
     /// insert(4, 99)     Ok(Some(14)), and the walk is 0: 10, 8: 18, 4: 99
     /// insert(12, 22)    Ok(None), and 8 slots: four pairs in four slots exceed 909 thousandths
     /// ```
+    #[inline(always)]
     pub fn insert(&mut self, key: K, value: V) -> Result<Option<V>, Refused<V>>
         // what is answered and left
         ensures old { IfOk result (λ old. old ≡ value_of K.number_of self.old.walk key) }
@@ -70,6 +71,7 @@ impl<K: IntKey, V: Drop, A: Allocator + Copy> IntMap<K, V, A> {
     }
 
     /// Adds the pair of a key that isn't bound. It compares no key.
+    #[inline(always)]
     fn add(&mut self, key: K, value: V) -> Result<(), Refused<V>>
         requires key { K.is_key key }
         requires missing { value_of K.number_of self.old.walk key ≡ None }
@@ -110,6 +112,7 @@ impl<K: IntKey, V: Drop, A: Allocator + Copy> IntMap<K, V, A> {
 
     /// Adds the pair of a key that isn't bound where so many pairs exceed the load factor: all
     /// memory is taken before a pair moves.
+    #[inline(never)]
     fn add_growing(&mut self, len: usize, key: K, value: V) -> Result<(), Refused<V>>
         requires key { K.is_key key }
         requires missing { value_of K.number_of self.old.walk key ≡ None }
