@@ -97,7 +97,7 @@ flat_map-none row a (suc n) none =
     let rest = flat_map-none row (a + 1) n (λ i lt. let q : a + 1 + i ≡ a + suc i = omega arith in rw q (none (suc i) (omega arith))) in
     simp (first, rest) refl
 
-row-none : {P : Type 0} (row : List P) → nat_lt 0 (length row) ≡ false → row ≡ []
+pub row-none : {P : Type 0} (row : List P) → nat_lt 0 (length row) ≡ false → row ≡ []
 row-none [] none = refl
 row-none (p ∷ ps) none = absurd (false≢true (sym none ∙ lt-ltb 0 (length (p ∷ ps)) (omega arith)))
 

@@ -1,5 +1,5 @@
 //! One slot of a table: the first pair in its place, the rest behind it.
-ghost use Rattle.std.specs.Prelude.{◌≡◌, ◌+◌, ◌<◌, ◌≤◌, List, [], ◌∷◌, ◌++◌, length, position, swap_remove, slice_index_or, nat_lt, Bool, true, None, Some, OnOk, OnErr, IfOk, IfErr, option_copied};
+ghost use Rattle.std.specs.Prelude.{◌≡◌, ◌+◌, ◌<◌, ◌≤◌, List, [], ◌∷◌, ◌++◌, length, position, swap_remove, slice_index_or, nat_lt, vec_capacity, Bool, true, None, Some, OnOk, OnErr, IfOk, IfErr, option_copied};
 ghost use Rattle.intmap.specs.Classes.{same_key};
 ghost use Rattle.intmap.specs.Bindings.{swap_out, value_of};
 ghost use Rattle.intmap.specs.Reach.{through_first};
@@ -43,6 +43,28 @@ fn value_in<'a, K: IntKey, X>(
         }
     }
     None
+}
+
+/// Takes the pair of the key out, and the last pair takes its place. The pairs are compared from
+/// the front up to it, each by one step.
+#[inline(never)]
+fn take_in<K: IntKey, X, A: Allocator>(
+    pairs: &mut Vec<(Stored<K>, X), A>,
+    key: &K,
+    steps: &mut Steps,
+) -> Option<X>
+    ensures value { result ≡ value_of K.number_of pairs.old.items key.now }
+    ensures pairs { pairs.new.items
+        ≡ swap_out (λ p. same_key K.number_of key.now p.0) (λ p. true) pairs.old.items }
+    ensures capacity { vec_capacity pairs.new ≡ vec_capacity pairs.old }
+    ensures counted { steps.new ≡ steps.old
+        + length (through_first (λ p. same_key K.number_of key.now p.0) pairs.old.items) }
+{
+    let Some(place) = find_in(pairs, key, steps) else {
+        return None;
+    };
+    let (_, value) = pairs.swap_remove(place);
+    Some(value)
 }
 
 /// Pairs in order, with the room that there is for them. Where there is no first pair there is no
@@ -116,13 +138,17 @@ impl<K: IntKey, X, A: Allocator> Slot<K, X, A> {
     }
 
     /// Takes the first pair out. The last pair, if there is another, takes its place.
+    #[inline(always)]
     fn take_first(&mut self) -> (Stored<K>, X)
         requires { 0 < length self.old.pairs }
         ensures value { result ≡ slice_index_or self.old.pairs 0 result }
         ensures pairs { self.new.pairs ≡ swap_remove self.old.pairs 0 result }
     {
-        let last = self.rest.pop();
-        match mem::replace(&mut self.first, last) {
+        let first = match self.rest.pop() {
+            Some(last) => mem::replace(&mut self.first, Some(last)),
+            None => self.first.take(),
+        };
+        match first {
             Some(pair) => pair,
             None => unreachable!(),
         }
@@ -130,6 +156,7 @@ impl<K: IntKey, X, A: Allocator> Slot<K, X, A> {
 
     /// Takes the first pair out as `take_first` does, and adds a new one at the end, which takes no
     /// memory.
+    #[inline(always)]
     fn replace_first(&mut self, pair: (Stored<K>, X)) -> (Stored<K>, X)
         requires { 0 < length self.old.pairs }
         ensures value { result ≡ slice_index_or self.old.pairs 0 result }
@@ -150,6 +177,7 @@ impl<K: IntKey, X, A: Allocator> Slot<K, X, A> {
 
     /// Takes the pair of the key out, and the last pair takes its place. The keys are compared as
     /// by [`get`](Slot::get).
+    #[inline(always)]
     pub(crate) fn take(&mut self, key: &K, steps: &mut Steps) -> Option<X>
         ensures value { result ≡ value_of K.number_of self.old.pairs key.now }
         ensures pairs { self.new.pairs
@@ -164,27 +192,7 @@ impl<K: IntKey, X, A: Allocator> Slot<K, X, A> {
             let (_, value) = self.take_first();
             return Some(value);
         }
-        let Some(place) = find_in(&self.rest, key, steps) else {
-            return None;
-        };
-        let (_, value) = self.rest.swap_remove(place);
-        Some(value)
-    }
-
-    /// Makes room for one more pair. None is needed for the first, and the second takes no more
-    /// than its own.
-    fn make_room(&mut self) -> Result<(), AllocError>
-        ensures pairs { self.new.pairs ≡ self.old.pairs }
-        ensures room { OnOk result (length self.new.pairs < self.new.room) }
-        ensures memory { OnErr result (0 < length self.old.pairs) }
-    {
-        if self.first.is_none() {
-            return Ok(());
-        }
-        if self.rest.is_empty() {
-            return self.rest.reserve_exact(1);
-        }
-        self.rest.reserve(1)
+        take_in(&mut self.rest, key, steps)
     }
 }
 
@@ -202,31 +210,44 @@ impl<K: IntKey, X: Drop, A: Allocator> Slot<K, X, A> {
         Ok(Slot { first: None, rest })
     }
 
-    /// Adds a pair at the end, where there is room for it.
+    /// Puts the first pair into a slot without one. It takes no memory.
+    #[inline(always)]
+    pub(crate) fn put_first(&mut self, pair: (Stored<K>, X))
+        requires { self.old.pairs ≡ [] }
+        ensures pairs { self.new.pairs ≡ pair ∷ [] }
+        ensures room { self.new.room ≡ self.old.room }
+    {
+        self.first = Some(pair);
+    }
+
+    /// Adds a pair behind others, where there is room for it.
+    #[inline(always)]
     pub(crate) fn push_reserved(&mut self, pair: (Stored<K>, X))
-        requires { length self.old.pairs < self.old.room }
+        requires filled { 0 < length self.old.pairs }
+        requires room { length self.old.pairs < self.old.room }
         ensures pairs { self.new.pairs ≡ self.old.pairs ++ pair ∷ [] }
         ensures room { self.new.room ≡ self.old.room }
     {
-        if self.first.is_none() {
-            self.first = Some(pair);
-            return;
-        }
         self.rest.push_reserved(pair);
     }
 
-    /// Adds a pair at the end. It is refused where memory is, never in an empty slot, and comes
-    /// back.
+    /// Adds a pair behind others. The second pair takes memory for itself alone. Where memory is
+    /// refused, the value comes back.
+    #[inline(never)]
     pub(crate) fn push(&mut self, key: K, value: X) -> Result<(), X>
+        requires { 0 < length self.old.pairs }
         ensures ok { OnOk result (self.new.pairs ≡ self.old.pairs ++ (key, value) ∷ []) }
         ensures err { OnErr result (self.new.pairs ≡ self.old.pairs) }
         ensures value_returned { IfErr result (λ returned. returned ≡ value) }
-        ensures memory { OnErr result (0 < length self.old.pairs) }
     {
-        if self.make_room().is_err() {
+        let room = match self.rest.is_empty() {
+            true => self.rest.reserve_exact(1),
+            false => self.rest.reserve(1),
+        };
+        if room.is_err() {
             return Err(value);
         }
-        self.push_reserved((Stored::new(key), value));
+        self.rest.push_reserved((Stored::new(key), value));
         Ok(())
     }
 

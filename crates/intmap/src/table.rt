@@ -20,6 +20,7 @@ use bits::Bits;
 use place::index_of;
 use std::alloc::{AllocError, Allocator};
 use std::marker::Model;
+use stored::Stored;
 use walk::Pairs;
 
 /// Slots, as many as a power of two. Each pair lies in the slot of its key, and a bit for each slot
@@ -95,6 +96,7 @@ impl<K: IntKey, X, A: Allocator> Table<K, X, A> {
     }
 
     /// Takes the pair of a key out. The last pair of its slot is moved into its place.
+    #[inline(always)]
     pub(crate) fn take(&mut self, key: &K, steps: &mut Steps) -> Option<X>
         ensures value { result ≡ value_of K.number_of self.old.walk key.now }
         ensures walk { self.new.walk ≡ walk_of K.number_of
@@ -137,6 +139,7 @@ impl<K: IntKey, X: Drop, A: Allocator> Table<K, X, A> {
 
     /// Puts the pair of a key that isn't bound last in its slot. Where memory is refused, which is
     /// never for a slot without a pair, the value comes back and nothing changes.
+    #[inline(always)]
     pub(crate) fn add(&mut self, key: K, value: X) -> Result<(), X>
         requires { value_of K.number_of self.old.walk key ≡ None }
         ensures walk { OnOk result (self.new.walk ≡ walk_of K.number_of
@@ -149,12 +152,11 @@ impl<K: IntKey, X: Drop, A: Allocator> Table<K, X, A> {
     {
         let index = self.index_of(&key);
         let slot = &mut self.slots[index];
-        if !slot.is_filled() {
-            self.bits.set(index);
+        if slot.is_filled() {
+            return slot.push(key, value);
         }
-        if let Err(value) = slot.push(key, value) {
-            return Err(value);
-        }
+        slot.put_first((Stored::new(key), value));
+        self.bits.set(index);
         Ok(())
     }
 }

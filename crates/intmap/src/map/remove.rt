@@ -16,6 +16,7 @@ impl<K: IntKey, V, A: Allocator + Copy> IntMap<K, V, A> {
     /// remove(0)    Some(10), and the walk is 8: 18, 4: 14
     /// remove(0)    None, and the same walk
     /// ```
+    #[inline(always)]
     pub fn remove(&mut self, key: K) -> Option<V>
         ensures value { result ≡ value_of K.number_of self.old.walk key }
         ensures state { self.new ≡ after_remove K.number_of self.old key }

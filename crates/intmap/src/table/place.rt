@@ -42,10 +42,12 @@ pub(super) fn place<K: IntKey, X: Drop, A: Allocator>(
 {
     let index = index_of(pair.0.key(), slots.len());
     let slot = &mut slots[index];
-    if !slot.is_filled() {
+    if slot.is_filled() {
+        slot.push_reserved(pair);
+    } else {
+        slot.put_first(pair);
         bits.set(index);
     }
-    slot.push_reserved(pair);
     placed.tick();
 }
 

@@ -1,12 +1,14 @@
-use Rattle.std.proofs.Common.{◌≡◌, ◌∙◌, ℕ, ◌<◌, List, [], ◌∷◌, ◌++◌, length, set, true, sym, ap, arith}
+use Rattle.std.proofs.Common.{◌≡◌, ◌∙◌, ℕ, ◌<◌, List, [], ◌∷◌, ◌++◌, length, set, true, false, sym, ap}
 use Rattle.std.specs.Prelude.{Result, Ok, Err, OnOk, OnErr, nat_lt}
-use Rattle.std.proofs.lemmas.Bool.{lt-ltb}
+use Rattle.std.proofs.lemmas.Bool.{ltb-true}
+use Rattle.std.proofs.lemmas.Result.{on_ok_weaker, on_err_weaker}
 use Rattle.intmap.specs.Classes.{slot_number}
 use Rattle.intmap.specs.Slots.{Held, Grid, joined, IsTable}
 use Rattle.intmap.proofs.FilledLemmas.{filled-pushed, marks-set, marks-kept}
+use Rattle.intmap.proofs.MarkedLemmas.{row-none}
 use Rattle.intmap.proofs.TableLemmas.{IsSlot, rows-set, walk-added, class_size-here, Belong-here, Belong-push, IsTable-set}
 use Rattle.intmap.proofs.table.Table.add.Goals as goal
-use Rattle.intmap.proofs.table.Table.add.Goals.{After-index_mut-slot, then-not-is_filled, else-not-is_filled}
+use Rattle.intmap.proofs.table.Table.add.Goals.{After-index_mut-slot, After-put_first}
 
 here : (g : _) (c : After-index_mut-slot g) → IsSlot g.K.IntKey.number_of c.self.inside.slots.items c.index_mut-slot.result.now c.index_of-index.result c.args.key
 here g c = record {
@@ -15,43 +17,57 @@ here g c = record {
   here = c.index_mut-slot.ensures.value;
 }
 
-module _ {K X : Type 0} (number : K → ℕ) (S : List (Held K X)) (h s : Held K X) (i : ℕ) (k : K) (v : X) (at : IsSlot number S h i k) where
-  abbrev Left : Result (Unit {0}) X → Type 0
-  Left r = OnOk r (s.pairs ≡ h.pairs ++ (k, v) ∷ []) × OnErr r (s.pairs ≡ h.pairs) × OnErr r (0 < length h.pairs)
+module _ {K X : Type 0} (number : K → ℕ) (S : List (Held K X)) (h s : Held K X) (i : ℕ) (k : K) (v : X) (at : IsSlot number S h i k) (full : nat_lt 0 (length h.pairs) ≡ true) where
+  -- a slot that held a pair does so, with another behind it or without
+  filled : (r : Result (Unit {0}) X) → OnOk r (s.pairs ≡ h.pairs ++ (k, v) ∷ []) → OnErr r (s.pairs ≡ h.pairs) → true ≡ nat_lt 0 (length s.pairs)
+  filled (Ok done) ok err = sym (ap (λ (ps : List (K × X)). nat_lt 0 (length ps)) ok ∙ filled-pushed h.pairs (k, v))
+  filled (Err value) ok err = sym (ap (λ (ps : List (K × X)). nat_lt 0 (length ps)) err ∙ full)
 
-  -- the slot holds a pair then, also where it is as it was
-  filled : (r : Result (Unit {0}) X) → Left r → true ≡ nat_lt 0 (length s.pairs)
-  filled (Ok done) left = sym (ap (λ (ps : List (K × X)). nat_lt 0 (length ps)) left.0 ∙ filled-pushed h.pairs (k, v))
-  filled (Err value) left = sym (ap (λ (ps : List (K × X)). nat_lt 0 (length ps)) left.1 ∙ lt-ltb 0 (length h.pairs) left.2)
-
-  table : (r : Result (Unit {0}) X) → Left r → IsTable number (set S i s)
-  table (Ok done) left = IsTable-set _ _ _ _ _ at s (rw left.0 (Belong-push _ _ _ _ _ at h.pairs v (Belong-here _ _ _ _ _ at)))
-  table (Err value) left = IsTable-set _ _ _ _ _ at s (rw left.1 (Belong-here _ _ _ _ _ at))
+  table : (r : Result (Unit {0}) X) → OnOk r (s.pairs ≡ h.pairs ++ (k, v) ∷ []) → OnErr r (s.pairs ≡ h.pairs) → IsTable number (set S i s)
+  table (Ok done) ok err = IsTable-set _ _ _ _ _ at s (rw ok (Belong-push _ _ _ _ _ at h.pairs v (Belong-here _ _ _ _ _ at)))
+  table (Err value) ok err = IsTable-set _ _ _ _ _ at s (rw err (Belong-here _ _ _ _ _ at))
 
 pub invariant_of-self : goal.invariant_of-self
 invariant_of-self g c =
     let at = here g (goal.at.invariant_of-self g c).After-index_mut-slot in
-    let full = filled _ _ _ c.push.new.self _ _ c.args.value at c.push.result (c.push.ensures.ok, c.push.ensures.err, c.push.ensures.memory) in
+    let full = sym c.is_filled.ensures ∙ c.if-is_filled.true in
     record {
-      table = table _ _ _ c.push.new.self _ _ c.args.value at c.push.result (c.push.ensures.ok, c.push.ensures.err, c.push.ensures.memory);
-      marks = elim c.if-not-is_filled.branch [
-        | then-not-is_filled w ↦ rw (w.self-inside-is, w.set.ensures) (marks-set _ _ _ _ _ at c.self.inside.bits c.self.invariant.marks c.push.new.self true full)
-        | else-not-is_filled w ↦ rw w.self-inside-is (marks-kept _ _ _ _ _ at c.self.inside.bits c.self.invariant.marks c.push.new.self
-            (let told = c.is_filled.ensures in let yes = w.if-not-is_filled.false in grind (arith, told, yes, full)))
-      ];
+      table = table _ _ _ c.push.new.self _ _ c.args.value at full c.push.result c.push.ensures.ok c.push.ensures.err;
+      marks = marks-kept _ _ _ _ _ at c.self.inside.bits c.self.invariant.marks c.push.new.self (full ∙ filled _ _ _ c.push.new.self _ _ c.args.value at full c.push.result c.push.ensures.ok c.push.ensures.err);
     }
 
-pub returns-in-Err-clause-err : goal.returns-in-Err-clause-err
-returns-in-Err-clause-err g c =
-    let at = here g (goal.at.returns-in-Err-clause-err g c).After-index_mut-slot in
-    rw (← c.self.view_is) (ap joined (rows-set _ _ _ _ _ at c.push.new.self c.in-Err.ensures.err))
+pub returns-then-is_filled-clause-walk : goal.returns-then-is_filled-clause-walk
+returns-then-is_filled-clause-walk g c =
+    let at = here g (goal.at.returns-then-is_filled-clause-walk g c).After-index_mut-slot in
+    on_ok_weaker c.push.result (λ left. rw (← c.self.view_is) (walk-added _ _ _ _ _ at c.push.new.self c.args.value (rw (← c.self.view_is) at c.requires) left)) c.push.ensures.ok
 
-pub returns-in-Err-clause-memory : goal.returns-in-Err-clause-memory
-returns-in-Err-clause-memory g c =
-    let at = here g (goal.at.returns-in-Err-clause-memory g c).After-index_mut-slot in
-    rw (← c.self.view_is) (rw (class_size-here _ _ _ _ _ at) c.in-Err.ensures.memory)
+pub returns-then-is_filled-clause-err : goal.returns-then-is_filled-clause-err
+returns-then-is_filled-clause-err g c =
+    let at = here g (goal.at.returns-then-is_filled-clause-err g c).After-index_mut-slot in
+    on_err_weaker c.push.result (λ same. rw (← c.self.view_is) (ap joined (rows-set _ _ _ _ _ at c.push.new.self same))) c.push.ensures.err
+
+pub returns-then-is_filled-clause-memory : goal.returns-then-is_filled-clause-memory
+returns-then-is_filled-clause-memory g c =
+    let at = here g (goal.at.returns-then-is_filled-clause-memory g c).After-index_mut-slot in
+    let some : 0 < length c.index_mut-slot.result.now.pairs = ltb-true 0 _ (sym c.is_filled.ensures ∙ c.if-is_filled.true) in
+    on_err_weaker c.push.result (λ _. rw (← c.self.view_is) (rw (class_size-here _ _ _ _ _ at) some)) c.push.ensures.err
+
+-- the first pair of its slot stands behind none
+alone : (g : _) (c : After-put_first g) → c.put_first.new.self.pairs ≡ c.index_mut-slot.result.now.pairs ++ (c.args.key, c.args.value) ∷ []
+alone g c =
+    let none = row-none c.index_mut-slot.result.now.pairs (sym c.is_filled.ensures ∙ c.if-is_filled.false) in
+    c.put_first.ensures.pairs ∙ rw (none, c.new.ensures.value)
+
+pub invariant_of-self-2 : goal.invariant_of-self-2
+invariant_of-self-2 g c =
+    let after = goal.at.invariant_of-self-2 g c in let at = here g after.After-index_mut-slot in
+    let left = alone g after.After-put_first in
+    record {
+      table = IsTable-set _ _ _ _ _ at c.put_first.new.self (rw left (Belong-push _ _ _ _ _ at _ c.args.value (Belong-here _ _ _ _ _ at)));
+      marks = rw c.set.ensures (marks-set _ _ _ _ _ at c.self.inside.bits c.self.invariant.marks c.put_first.new.self true (sym (ap (λ ps. nat_lt 0 (length ps)) left ∙ filled-pushed _ (c.args.key, c.args.value))));
+    }
 
 pub returns-clause-walk : goal.returns-clause-walk
 returns-clause-walk g c =
-    let at = here g (goal.at.returns-clause-walk g c).After-index_mut-slot in
-    rw (← c.self.view_is) (walk-added _ _ _ _ _ at c.push.new.self c.args.value (rw (← c.self.view_is) at c.requires) c.in_default.ensures.ok)
+    let after = goal.at.returns-clause-walk g c in let at = here g after.After-index_mut-slot in
+    rw (← c.self.view_is) (walk-added _ _ _ _ _ at c.put_first.new.self c.args.value (rw (← c.self.view_is) at c.requires) (alone g after.After-put_first))
