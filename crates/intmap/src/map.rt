@@ -73,7 +73,7 @@ impl<K: IntKey, V, A: Allocator + Copy> IntMap<K, V, A> {
     }
 
     /// The number of slots that hold a pair, which is the number of residues that the keys leave
-    /// modulo the capacity. It goes through all slots, and is never refused.
+    /// modulo the capacity. It counts one bit a slot, a word of 64 at a time, and is never refused.
     ///
     /// ```text
     /// with the keys 0, 4 and 1 in 4 slots it is 2, since 0 and 4 share a slot
