@@ -1,5 +1,5 @@
 //! The map: a table of slots, the number of its pairs and its load factor.
-ghost use Rattle.std.specs.Prelude.{◌≡◌, length};
+ghost use Rattle.std.specs.Prelude.{◌≡◌, ◌==◌, length};
 ghost use Rattle.intmap.specs.Figures.{load_of};
 ghost use Rattle.intmap.specs.Map.{IsMap};
 
@@ -62,6 +62,14 @@ impl<K: IntKey, V, A: Allocator + Copy> IntMap<K, V, A> {
         ensures map { IsMap K.number_of K.is_key self.now }
     {
         self.len
+    }
+
+    /// Whether there is no pair. It is never refused.
+    pub fn is_empty(&self) -> bool
+        ensures value { result ≡ (length self.now.walk == 0) }
+        ensures map { IsMap K.number_of K.is_key self.now }
+    {
+        self.len == 0
     }
 
     /// The number of slots, a power of two from 2 to 2^63. It is never refused.

@@ -89,6 +89,7 @@ impl<K: IntKey, X, A: Allocator> Table<K, X, A> {
         ensures value { option_copied result ≡ value_of K.number_of self.now.walk key.now }
         ensures counted { steps.new
             ≡ steps.old + reach K.number_of self.now.walk self.now.capacity key.now }
+        ensures key { K.is_key key.now }
     {
         let index = self.index_of(key);
         let slot = &self.slots[index];

@@ -1,5 +1,5 @@
 //! Look-ups.
-ghost use Rattle.std.specs.Prelude.{◌≡◌, ◌+◌, option_copied};
+ghost use Rattle.std.specs.Prelude.{◌≡◌, ◌+◌, is_some, option_copied};
 ghost use Rattle.intmap.specs.Bindings.{value_of};
 ghost use Rattle.intmap.specs.Reach.{reach};
 ghost use Rattle.intmap.specs.Map.{IsMap};
@@ -39,5 +39,18 @@ impl<K: IntKey, V, A: Allocator + Copy> IntMap<K, V, A> {
             Some(kept) => Some(&kept.value),
             None => None,
         }
+    }
+
+    /// Whether the key is bound. It is never refused.
+    ///
+    /// ```text
+    /// map.contains_key(21)    true after map.insert(21, 'a')?
+    /// ```
+    pub fn contains_key(&self, key: K) -> bool
+        ensures value { result ≡ is_some (value_of K.number_of self.now.walk key) }
+        ensures map { IsMap K.number_of K.is_key self.now }
+    {
+        let mut steps = Steps::new();
+        self.get_counted(key, &mut steps).is_some()
     }
 }

@@ -1,5 +1,5 @@
 //! Insertions.
-ghost use Rattle.std.specs.Prelude.{◌≡◌, ◌↔◌, ◌+◌, ◌*◌, ◌/◌, ◌^◌, ◌<◌, ◌≤◌, length, IfOk, IfErr, OnOk, OnErr, IsErrAnd, IsNone, None, Some, true, cond, is_some};
+ghost use Rattle.std.specs.Prelude.{◌≡◌, ◌↔◌, ◌+◌, ◌*◌, ◌/◌, ◌^◌, ◌<◌, ◌≤◌, length, IfOk, IfErr, OnOk, OnErr, IsErrAnd, IsNone, None, Some, true, cond, is_some, is_none, unwrap_or, MatchBool};
 ghost use Rattle.intmap.specs.Bindings.{value_of, Updates};
 ghost use Rattle.intmap.specs.Reach.{class_size};
 ghost use Rattle.intmap.specs.Growth.{IsNext, is_due};
@@ -68,6 +68,62 @@ impl<K: IntKey, V: Drop, A: Allocator + Copy> IntMap<K, V, A> {
             return Err(refused);
         }
         Ok(None)
+    }
+
+    /// Binds the key to the value where it isn't bound, and answers whether it did so. Where the key
+    /// is bound the map stays, but for the count of compared keys, and the value is let go.
+    ///
+    /// For a new key it does what [`insert`](IntMap::insert) does, and is refused as that is.
+    ///
+    /// ```text
+    /// map.insert_checked(21, 'a')?    true
+    /// map.insert_checked(21, 'b')?    false, and 21 has 'a'
+    /// ```
+    pub fn insert_checked(&mut self, key: K, value: V) -> Result<bool, Refused<V>>
+        // what is answered and left
+        ensures new { IfOk result (λ new. new ≡ is_none (value_of K.number_of self.old.walk key)) }
+        ensures capacity { OnOk result (IsCapacityAfter K.number_of self.old.walk self.old.capacity
+            self.old.factor key self.new.capacity) }
+        ensures state { IfOk result (λ new. MatchBool new
+            (self.new ≡ after_insert K.number_of self.old key value self.new.capacity)
+            (self.new ≡ after_search K.number_of self.old key)) }
+        ensures updates { OnOk result (Updates K.number_of self.old.walk self.new.walk key
+            (Some (unwrap_or (value_of K.number_of self.old.walk key) value))) }
+        ensures len { IfOk result (λ new. length self.new.walk
+            ≡ length self.old.walk + cond new 1 0) }
+
+        // what a refusal hands back and leaves
+        ensures err { OnErr result (self.new ≡ after_search K.number_of self.old key) }
+        ensures value_returned { IfErr result (λ refused. refused.value ≡ value) }
+
+        // when it is refused
+        ensures new_key { OnErr result (IsNone (value_of K.number_of self.old.walk key)) }
+        ensures too_large { IsErrAnd result (λ refused. refused.cause ≡ Cause.TooLarge)
+            ↔ IsOutOfRange K.number_of self.old.walk self.old.capacity self.old.factor key }
+        ensures memory { IfErr result (λ refused. refused.cause ≡ Cause.Memory
+            → IsNext self.old.capacity (length self.old.walk + 1) self.old.factor self.old.capacity
+            → 0 < class_size K.number_of self.old.walk self.old.capacity key) }
+
+        ensures map { IsMap K.number_of K.is_key self.old }
+        ensures map_after { IsMap K.number_of K.is_key self.new }
+    {
+        if self.search(key) {
+            return Ok(false);
+        }
+        if let Err(refused) = self.add(key, value) {
+            return Err(refused);
+        }
+        Ok(true)
+    }
+
+    /// Whether the key is bound. Its comparisons are counted in the map.
+    fn search(&mut self, key: K) -> bool
+        ensures value { result ≡ is_some (value_of K.number_of self.old.walk key) }
+        ensures state { self.new ≡ after_search K.number_of self.old key }
+        ensures key { K.is_key key }
+        ensures map { IsMap K.number_of K.is_key self.old }
+    {
+        self.table.get(&key, &mut self.compared).is_some()
     }
 
     /// Adds the pair of a key that isn't bound. It compares no key.
