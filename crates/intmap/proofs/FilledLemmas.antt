@@ -1,7 +1,8 @@
 -- The marks of a table tell which of its slots hold a pair.
 use Rattle.std.proofs.Common.{◌≡◌, inl, inr, ℕ, zero, suc, ◌+◌, ◌*◌, ◌/◌, ◌<◌, ◌≤◌, Bool, true, false, Option, Some, None, List, [], ◌∷◌, ◌++◌, length, get_or, set, replicate, refl, sym, ap, ◌∙◌, arith, length-set, get_or-set_same, get_or-set_other}
-use Rattle.std.specs.Prelude.{All, count_by, nat_lt}
-use Rattle.std.proofs.lemmas.Bool.{cases_eq, cases_lt, lt-ltb, ltb-true}
+use Rattle.std.specs.Prelude.{◌==◌, filter, All, count_by, nat_lt}
+use Rattle.std.specs.List.{list_any, range_with_len}
+use Rattle.std.proofs.lemmas.Bool.{cases_Bool, cases_eq, cases_lt, eq-eqb, ne_eqb, lt-ltb, ltb-true}
 use Rattle.std.proofs.lemmas.List.{length-replicate, length_push, map-set, get_or_past}
 use Rattle.std.proofs.lemmas.List.Elements.{All-head, All-tail}
 use Rattle.intmap.specs.Bits.{marked, marked_places}
@@ -10,7 +11,7 @@ use Rattle.intmap.specs.Bindings.{value_of}
 use Rattle.intmap.specs.Classes.{IsCapacity}
 use Rattle.intmap.specs.Moves.{IsReady}
 use Rattle.intmap.proofs.TableLemmas.{IsSlot, within, length-rows, get_or-rows, IsTable-empty}
-use Rattle.intmap.proofs.MarkedLemmas.{marked-replicate, All-marked_places, flat_map-marked_places, length-marked_places}
+use Rattle.intmap.proofs.MarkedLemmas.{row-none, marked-replicate, All-marked_places, flat_map-marked_places, length-marked_places}
 
 module _ {P : Type 0} (R : List (List P)) (marks : List Bool) (are : AreMarked R marks) where
   -- each row has a mark
@@ -120,6 +121,29 @@ places-within S bits marks = λ k d lt.
       | inr past ↦ (let none = get_or_past (rows S) place [] (omega (arith, past, length-rows S)) in let e = ap length none in omega (arith, row, e))
     ]
 
+-- a number that a run keeps is found among those that it keeps
+kept-found : (test : ℕ → Bool) (i a n : ℕ) → list_any (λ j. j == i) (filter test (range_with_len a n)) ≡ false → a ≤ i → i < a + n → test i ≡ false
+kept-found test i a zero missed from below = absurd (omega (arith, from, below))
+kept-found test i a (suc n) missed from below = elim (cases_eq a i) as (λ _. test i ≡ false) [
+  | inl q ↦ rw (← q) (elim (cases_Bool (test a)) as (λ _. test a ≡ false) [
+    | inl is ↦ (let hit : (a == i) ≡ true = eq-eqb a i q in let no : true ≡ false = simp (is, hit) at missed in cc)
+    | inr is ↦ is
+  ])
+  | inr apart ↦ (let other : (a == i) ≡ false = ne_eqb a i apart in
+      let rest : list_any (λ j. j == i) (filter test (range_with_len (a + 1) n)) ≡ false = elim (cases_Bool (test a)) as (λ _. list_any (λ j. j == i) (filter test (range_with_len (a + 1) n)) ≡ false) [
+        | inl is ↦ simp (is, other) at missed
+        | inr is ↦ simp is at missed
+      ] in
+      kept-found test i (a + 1) n rest (let ne = apart in grind (arith, from, ne)) (omega (arith, below)))
+]
+
+-- a row whose place isn't among the marked ones holds no pair
+pub row-unplaced : {P : Type 0} (R : List (List P)) (marks : List Bool) → AreMarked R marks → (i : ℕ) → list_any (λ j. j == i) (marked_places marks) ≡ false → get_or R i [] ≡ []
+row-unplaced R marks are i missed = row-none (get_or R i []) (elim (cases_lt i (length marks)) as (λ _. nat_lt 0 (length (get_or R i [])) ≡ false) [
+  | inl below ↦ sym (are.own i) ∙ kept-found (marked marks) i 0 (length marks) missed (omega arith) (omega (arith, below))
+  | inr past ↦ sym (are.own i) ∙ get_or_past marks i false past
+])
+
 -- empty slots, and as many places without a mark
 pub IsMarkedTable-empty : {K X : Type 0} (number : K → ℕ) (S : List (Held K X)) (C : ℕ) → IsCapacity C → rows S ≡ replicate C [] → IsMarkedTable number S (replicate (64 * ((C + 63) / 64)) false)
 IsMarkedTable-empty number S C capacity empty =
@@ -139,3 +163,19 @@ AreMarked-ready number ks C S ready =
       | inl below ↦ ready.empty i below
       | inr past ↦ get_or_past (rows S) i [] (omega (arith, past, long))
     ])
+
+-- rows without pairs, joined
+pub joined-emptied : {P : Type 0} (R : List (List P)) → ((i : ℕ) → get_or R i [] ≡ []) → joined R ≡ []
+joined-emptied [] empty = refl
+joined-emptied (row ∷ R) empty = rw (empty 0) (joined-emptied R (λ i. empty (suc i)))
+
+-- a table whose slots were emptied, and whose marks were taken away
+pub IsMarkedTable-emptied : {K X : Type 0} (number : K → ℕ) (S T : List (Held K X)) (bits : List Bool) → IsMarkedTable number S bits → length T ≡ length S → ((i : ℕ) → get_or (rows T) i [] ≡ [])
+    → IsMarkedTable number T (replicate (length bits) false)
+IsMarkedTable-emptied number S T bits old len empty = record {
+  table = IsTable-empty number T (rw len old.table.capacity) (λ i _. empty i);
+  marks = record {
+    words = length-replicate (length bits) false ∙ old.marks.words ∙ ap (λ n. 64 * ((n + 63) / 64)) (length-rows S ∙ sym len ∙ sym (length-rows T));
+    own = λ i. marked-replicate (length bits) i ∙ rw (empty i) refl;
+  };
+}

@@ -23,6 +23,11 @@ module _ {K V : Type 0} where
   abbrev pub IsFull : List (K × V) → ℕ → ℕ → Type 0
   IsFull L C F = (2 ^ 64 ≤ length L + 1) ⊎ GrowsTooMuch C (length L + 1) F
 
+module _ {K V : Type 0} where
+  -- the map without its pairs
+  abbrev pub emptied : MapState K V → MapState K V
+  emptied m = record m { walk = [] }
+
 module _ {K V : Type 0} (number : K → ℕ) where
   -- W may be the walk of a map of C slots at the load factor F: it is its own walk, no key is bound twice, each key is a
   -- value of its type, length and load factor are below 2^64, and the last length at which growth was tested meets the load

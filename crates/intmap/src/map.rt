@@ -4,6 +4,7 @@ ghost use Rattle.intmap.specs.Figures.{load_of};
 ghost use Rattle.intmap.specs.Map.{IsMap};
 
 mod build;
+mod clear;
 mod get;
 mod grow;
 mod insert;

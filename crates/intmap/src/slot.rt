@@ -197,6 +197,14 @@ impl<K: IntKey, X, A: Allocator> Slot<K, X, A> {
 }
 
 impl<K: IntKey, X: Drop, A: Allocator> Slot<K, X, A> {
+    /// Lets all pairs go, and keeps the room that there is.
+    pub(crate) fn clear(&mut self)
+        ensures { self.new.pairs ≡ [] }
+    {
+        self.first = None;
+        self.rest.clear();
+    }
+
     /// A slot with no pair and with room for so many. It takes memory for all but the first, and
     /// is refused where that is.
     pub(crate) fn with_room(alloc: A, count: usize) -> Result<Slot<K, X, A>, AllocError>

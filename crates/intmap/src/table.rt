@@ -6,9 +6,10 @@ mod place;
 pub(crate) mod stored;
 pub(crate) mod walk;
 
-ghost use Rattle.std.specs.Prelude.{◌≡◌, ◌+◌, ◌<◌, ◌≤◌, List, [], OnOk, OnErr, IfOk, IfErr, IfSome, IsOk, IsSome, IsNone, Some, None, option_copied, length, nat_lt, count_by, ◌^◌};
+ghost use Rattle.std.specs.Prelude.{◌≡◌, ℕ, ◌+◌, ◌<◌, ◌≤◌, slice_index_or, List, [], OnOk, OnErr, IfOk, IfErr, IfSome, IsOk, IsSome, IsNone, Some, None, option_copied, length, nat_lt, count_by, ◌^◌};
 ghost use Rattle.intmap.specs.Classes.{IsCapacity, slot_number};
 ghost use Rattle.intmap.specs.Bindings.{value_of, take_key, put_pair};
+ghost use Rattle.intmap.specs.Slots.{rows, AreMarked};
 ghost use Rattle.intmap.specs.Walk.{walk_of};
 ghost use Rattle.intmap.specs.Reach.{class_size, reach};
 ghost use Rattle.intmap.specs.Figures.{load_of};
@@ -22,6 +23,17 @@ use std::alloc::{AllocError, Allocator};
 use std::marker::Model;
 use stored::Stored;
 use walk::Pairs;
+
+/// Lets the pairs of all slots go. The bits tell which of them to look at.
+fn clear_slots<K: IntKey, X: Drop, A: Allocator>(bits: &Bits<A>, slots: &mut Vec<Slot<K, X, A>, A>)
+    requires { AreMarked (rows slots.old.items) bits.now }
+    ensures len { length slots.new.items ≡ length slots.old.items }
+    ensures empty { (i : ℕ) → slice_index_or (rows slots.new.items) i [] ≡ [] }
+{
+    for place in bits.iter() {
+        slots[place].clear();
+    }
+}
 
 /// Slots, as many as a power of two. Each pair lies in the slot of its key, and a bit for each slot
 /// tells whether it holds a pair.
@@ -136,6 +148,15 @@ impl<K: IntKey, X: Drop, A: Allocator> Table<K, X, A> {
         let index = self.index_of(&key);
         let slot = &mut self.slots[index];
         slot.replace(key, value, steps)
+    }
+
+    /// Lets all pairs go, slot after slot, and keeps the slots and the room that they have.
+    pub(crate) fn clear(&mut self)
+        ensures walk { self.new.walk ≡ [] }
+        ensures capacity { self.new.capacity ≡ self.old.capacity }
+    {
+        clear_slots(&self.bits, &mut self.slots);
+        self.bits.clear_all();
     }
 
     /// Puts the pair of a key that isn't bound last in its slot. Where memory is refused, which is

@@ -54,6 +54,13 @@ impl<A: Allocator> Bits<A> {
         (self.words[place / BITS] >> (place % BITS)) & 1 == 1
     }
 
+    /// Takes all marks away.
+    pub(crate) fn clear_all(&mut self)
+        ensures { self.new ≡ replicate (length self.old) false }
+    {
+        self.words.as_mut_slice().fill(0);
+    }
+
     /// The number of marked places.
     pub(crate) fn count(&self) -> usize
         ensures { result ≡ length (marked_places self.now) }

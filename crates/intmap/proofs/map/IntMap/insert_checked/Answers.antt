@@ -2,7 +2,7 @@ use Rattle.std.proofs.Common.{◌≡◌, ◌+◌, ◌<◌, ◌∙◌, true, fals
 use Rattle.std.specs.Prelude.{is_some}
 use Rattle.intmap.specs.Bindings.{value_of}
 use Rattle.intmap.specs.Growth.{IsNext}
-use Rattle.intmap.specs.Map.{MapState, IsFull, after_insert, with_pair}
+use Rattle.intmap.specs.Map.{MapState, IsFull, with_pair}
 use Rattle.intmap.specs.Reach.{class_size}
 use Rattle.intmap.proofs.AfterLemmas.{Updates-insert, length-insert}
 use Rattle.intmap.proofs.map.IntMap.insert_checked.Goals as goal

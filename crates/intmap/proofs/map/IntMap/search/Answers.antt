@@ -1,6 +1,6 @@
-use Rattle.std.proofs.Common.{◌≡◌, ◌+◌, ◌∙◌, Bool, Option, Some, None, refl, sym, ap}
+use Rattle.std.proofs.Common.{◌≡◌, ◌+◌, ◌∙◌, Option, Some, None, refl, sym, ap}
 use Rattle.std.specs.Prelude.{is_some}
-use Rattle.std.specs.Option.{option_map, option_copied}
+use Rattle.std.specs.Option.{option_map}
 use Rattle.intmap.proofs.MapLemmas.{MapState-same}
 use Rattle.intmap.proofs.MappedLemmas.{value_of-with_values, reach-with_values}
 use Rattle.intmap.proofs.map.IntMap.search.Goals as goal

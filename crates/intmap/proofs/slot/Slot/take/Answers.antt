@@ -1,4 +1,4 @@
-use Rattle.std.proofs.Common.{◌≡◌, ◌∷◌, false, ap, sym, ◌∙◌, arith}
+use Rattle.std.proofs.Common.{◌≡◌, ◌∷◌, ap, sym, ◌∙◌, arith}
 use Rattle.intmap.specs.Classes.{same_key}
 use Rattle.intmap.specs.Slots.{all_pairs}
 use Rattle.intmap.proofs.SlotLemmas.{swap_remove-first, IsBehind, behind}
