@@ -1,6 +1,6 @@
 //! One call, from its words to its answer.
 
-use crate::many::{Keys, get_many, insert_many, remove_many};
+use crate::many::{Keys, get_many, insert_many, remove_many, walk_sum};
 use crate::maps::{MapOf, Maps};
 use crate::runs::run_many;
 use crate::text::{done_text, number_text, option_text, refusal_text, state_text, walk_text};
@@ -48,6 +48,7 @@ fn bare(alloc: Global, maps: &mut Maps<'_>, name: &str) -> Result<String, AllocE
             done_text(alloc, Ok(()))
         }
         "left" => number_text(alloc, maps.memory.left() as u128),
+        "walk_sum" => walk_sum(alloc, &maps.map),
         _ => seen(alloc, &maps.map, name),
     }
 }

@@ -71,3 +71,16 @@ pub fn remove_many(map: &mut Map<'_>, keys: Keys) -> u64 {
     }
     taken
 }
+
+/// How many pairs a walk has, and a sum that tells their order: it begins at 0, and each key, and
+/// then its value, is added to 31 times what there is, wrapped to 64 bits.
+pub fn walk_sum(alloc: Global, map: &Map<'_>) -> Result<String, AllocError> {
+    let mut pairs = 0u64;
+    let mut sum = 0u64;
+    for (key, value) in map.iter() {
+        pairs = pairs.wrapping_add(1);
+        sum = sum.wrapping_mul(31).wrapping_add(*key);
+        sum = sum.wrapping_mul(31).wrapping_add(*value);
+    }
+    format!(in alloc; "{pairs} pairs, sum {sum}")
+}

@@ -116,29 +116,29 @@ const TOLD: &str = "\
 then None; text 0, text 4, 4 slots, factor 909
 1 times text 8: Memory; text 0, text 4, 4 slots, factor 909
 then None; text 0, text 4, text 8, 4 slots, factor 909
-2 times text 3: Memory; text 0, text 1, text 2, 4 slots, factor 909
+3 times text 3: Memory; text 0, text 1, text 2, 4 slots, factor 909
 then None; text 0, text 2, text 1, text 3, 8 slots, factor 909
-4 times text 12: Memory; text 0, text 4, text 8, 4 slots, factor 909
+5 times text 12: Memory; text 0, text 4, text 8, 4 slots, factor 909
 then None; text 0, text 8, text 4, text 12, 8 slots, factor 909
-3 times text 24: Memory; text 0, text 8, text 16, 4 slots, factor 909
+4 times text 24: Memory; text 0, text 8, text 16, 4 slots, factor 909
 then None; text 0, text 8, text 16, text 24, 8 slots, factor 909
-2 times Err(Memory); 4 slots, factor 909
+3 times Err(Memory); 4 slots, factor 909
 then Ok(()); 16 slots, factor 909
-2 times Err(Memory); text 0, text 1, text 2, 4 slots, factor 909
+3 times Err(Memory); text 0, text 1, text 2, 4 slots, factor 909
 then Ok(()); text 0, text 2, text 1, 32 slots, factor 909
-3 times Err(Memory); text 0, text 16, text 32, 4 slots, factor 909
+4 times Err(Memory); text 0, text 16, text 32, 4 slots, factor 909
 then Ok(()); text 0, text 32, text 16, 32 slots, factor 909
-2 times Err(Memory); text 0, text 1, text 2, 4 slots, factor 909
+3 times Err(Memory); text 0, text 1, text 2, 4 slots, factor 909
 then Ok(()); text 0, text 2, text 1, 32 slots, factor 100
-3 times Err(Memory); text 0, text 32, text 4, 4 slots, factor 909
+4 times Err(Memory); text 0, text 32, text 4, 4 slots, factor 909
 then Ok(()); text 0, text 32, text 4, 32 slots, factor 100
-2 times text 3: Memory; text 0, text 2, text 1, 2 slots, factor 0
+3 times text 3: Memory; text 0, text 2, text 1, 2 slots, factor 0
 then None; text 0, text 3, text 2, text 1, 4096 slots, factor 0
-3 times text 12288: Memory; text 0, text 4096, text 8192, 2 slots, factor 0
+4 times text 12288: Memory; text 0, text 4096, text 8192, 2 slots, factor 0
 then None; text 0, text 4096, text 8192, text 12288, 4096 slots, factor 0
-2 times Err(Memory); text 0, text 2, text 1, 2 slots, factor 0
+3 times Err(Memory); text 0, text 2, text 1, 2 slots, factor 0
 then Ok(()); text 0, text 2, text 1, 4096 slots, factor 0
-2 times Err(Memory); text 0, text 2, text 1, text 3, 2 slots, factor 18446744073709551615
+3 times Err(Memory); text 0, text 2, text 1, text 3, 2 slots, factor 18446744073709551615
 then Ok(()); text 0, text 3, text 2, text 1, 4096 slots, factor 0
 ";
 
