@@ -45,15 +45,6 @@ impl<A: Allocator> Bits<A> {
         self.words[place / BITS] &= !(1 << (place % BITS));
     }
 
-    /// Whether a place is marked.
-    #[inline(always)]
-    pub(crate) fn is_set(&self, place: usize) -> bool
-        requires { place < length self.now }
-        ensures { result ≡ marked self.now place }
-    {
-        (self.words[place / BITS] >> (place % BITS)) & 1 == 1
-    }
-
     /// Takes all marks away.
     pub(crate) fn clear_all(&mut self)
         ensures { self.new ≡ replicate (length self.old) false }
