@@ -1,5 +1,5 @@
 -- The lines of answers.
-use Rattle.std.specs.Prelude.{ℕ, List, [], ◌∷◌, ◌++◌, Some, None, codes}
+use Rattle.std.specs.Prelude.{ℕ, true, false, List, [], ◌∷◌, ◌++◌, Some, None, codes}
 use Rattle.std.specs.List.{flat_map, join_by}
 use Rattle.std.specs.Fmt.{decimal}
 use Rattle.intmap.specs.declared.refusal.Cause.{Cause}
@@ -27,6 +27,8 @@ answer_text (answer.Old (Some v)) = codes "some " ++ decimal v
 answer_text (answer.Seen None) = codes "none"
 answer_text (answer.Seen (Some v)) = codes "some " ++ decimal v
 answer_text answer.Done = codes "done"
+answer_text (answer.Flag true) = codes "true"
+answer_text (answer.Flag false) = codes "false"
 answer_text (answer.Number n) = decimal n
 answer_text (answer.Walk pairs) = pairs_text pairs.items
 answer_text (answer.Refused cause None) = codes "refused: " ++ cause_text cause

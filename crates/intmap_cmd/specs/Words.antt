@@ -6,12 +6,16 @@ use Rattle.intmap_run.specs.declared.command.Command.TheVariants as command
 -- the word that a command begins with
 abbrev pub name_of : Command ℕ ℕ → List ℕ
 name_of (command.Insert k v) = codes "insert"
+name_of (command.InsertChecked k v) = codes "insert_checked"
 name_of (command.Get k) = codes "get"
+name_of (command.ContainsKey k) = codes "contains_key"
 name_of (command.Remove k) = codes "remove"
+name_of command.Clear = codes "clear"
 name_of (command.Reserve additional) = codes "reserve"
 name_of (command.SetLoadFactor thousandths) = codes "set_load_factor"
 name_of command.GetLoadFactor = codes "get_load_factor"
 name_of command.Len = codes "len"
+name_of command.IsEmpty = codes "is_empty"
 name_of command.Capacity = codes "capacity"
 name_of command.Load = codes "load"
 name_of command.Walk = codes "walk"
@@ -19,12 +23,16 @@ name_of command.Walk = codes "walk"
 -- the numbers that follow it
 abbrev pub numbers_of : Command ℕ ℕ → List ℕ
 numbers_of (command.Insert k v) = k ∷ v ∷ []
+numbers_of (command.InsertChecked k v) = k ∷ v ∷ []
 numbers_of (command.Get k) = k ∷ []
+numbers_of (command.ContainsKey k) = k ∷ []
 numbers_of (command.Remove k) = k ∷ []
+numbers_of command.Clear = []
 numbers_of (command.Reserve additional) = additional ∷ []
 numbers_of (command.SetLoadFactor thousandths) = thousandths ∷ []
 numbers_of command.GetLoadFactor = []
 numbers_of command.Len = []
+numbers_of command.IsEmpty = []
 numbers_of command.Capacity = []
 numbers_of command.Load = []
 numbers_of command.Walk = []

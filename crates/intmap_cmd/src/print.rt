@@ -32,6 +32,8 @@ fn print_answer<A: Allocator>(
         Answer::Old(None) | Answer::Seen(None) => out.push_str("none"),
         Answer::Old(Some(value)) | Answer::Seen(Some(value)) => write!(out, "some {value}"),
         Answer::Done => out.push_str("done"),
+        Answer::Flag(true) => out.push_str("true"),
+        Answer::Flag(false) => out.push_str("false"),
         Answer::Number(number) => write!(out, "{number}"),
         Answer::Walk(pairs) => print_pairs(out, pairs.as_slice()),
         Answer::Refused { cause, value: None } => {

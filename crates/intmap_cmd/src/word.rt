@@ -14,6 +14,10 @@ pub fn bare(name: &[u8]) -> Option<Command<u64, u64>>
         Some(Command::GetLoadFactor)
     } else if is(name, b"len") {
         Some(Command::Len)
+    } else if is(name, b"is_empty") {
+        Some(Command::IsEmpty)
+    } else if is(name, b"clear") {
+        Some(Command::Clear)
     } else if is(name, b"capacity") {
         Some(Command::Capacity)
     } else if is(name, b"load") {
@@ -32,6 +36,8 @@ pub fn with_number(name: &[u8], number: u64) -> Option<Command<u64, u64>>
 {
     if is(name, b"get") {
         Some(Command::Get(number))
+    } else if is(name, b"contains_key") {
+        Some(Command::ContainsKey(number))
     } else if is(name, b"remove") {
         Some(Command::Remove(number))
     } else if is(name, b"reserve") {
@@ -50,6 +56,8 @@ pub fn with_pair(name: &[u8], key: u64, value: u64) -> Option<Command<u64, u64>>
 {
     if is(name, b"insert") {
         Some(Command::Insert(key, value))
+    } else if is(name, b"insert_checked") {
+        Some(Command::InsertChecked(key, value))
     } else {
         None
     }

@@ -1,6 +1,6 @@
 -- What a run places in larger tables is little for the lengths that it goes through, and so is the capacity that growth leaves.
-use Rattle.std.proofs.Common.{◌≡◌, ◌≢◌, inl, inr, ℕ, ◌+◌, ◌-◌, ◌*◌, ◌/◌, ◌^◌, ◌<◌, ◌≤◌, max, Bool, cond, List, [], ◌∷◌, length, Option, Some, None, is_some, refl, sym, ap, ◌∙◌, arith}
-use Rattle.std.specs.Prelude.{◌==◌, ◌⊎◌, MatchOption}
+use Rattle.std.proofs.Common.{◌≡◌, ◌≢◌, inl, inr, ℕ, ◌+◌, ◌-◌, ◌*◌, ◌/◌, ◌^◌, ◌<◌, ◌≤◌, max, Bool, cond, List, [], ◌∷◌, length, is_some, refl, sym, ap, ◌∙◌, arith}
+use Rattle.std.specs.Prelude.{◌==◌, ◌⊎◌}
 use Rattle.std.proofs.Math.Nat.{mul-le-mul_left, mul-le-mul_right, div-mul-le_self, lt-div-mul-add, le-max_right}
 use Rattle.std.proofs.Math.Pow.{pow_pos}
 use Rattle.std.proofs.lemmas.Nat.{pow-add}
@@ -109,12 +109,12 @@ module _ {K V S A : Type 0} where
 
 module _ {K V S A : Type 0} (number : K → ℕ) (sees : V → S → Type 0) (keeps : K → V → Bool) where
   -- an accepted insertion
-  Grows-or_keeps : (s : State K V) (k : K) (v : V) (a : Answer K V S A) (t : State K V) → Inserts number s k v t
-      → Grows s t (cond (t.capacity == s.capacity) 0 (length t.pairs)) ⊎ Keeps s (command.Insert k v) a t (cond (t.capacity == s.capacity) 0 (length t.pairs))
-  Grows-or_keeps s k v a t inserts =
+  Grows-or_keeps : (s : State K V) (c : Command K V) (k : K) (v : V) (a : Answer K V S A) (t : State K V) → Inserts number s k v t
+      → Grows s t (cond (t.capacity == s.capacity) 0 (length t.pairs)) ⊎ Keeps s c a t (cond (t.capacity == s.capacity) 0 (length t.pairs))
+  Grows-or_keeps s c k v a t inserts =
       let factor : t.factor ≡ s.factor = ap (λ x. x.factor) inserts.after in
       elim (cases_eq t.capacity s.capacity) [
-        | inl same ↦ inr (Keeps-same s (command.Insert k v) a t _ (placements-kept s t same) same factor)
+        | inl same ↦ inr (Keeps-same s c a t _ (placements-kept s t same) same factor)
         | inr apart ↦
             (let next = IsCapacityAfter-changed (value_of number s.pairs k) s.capacity (length s.pairs + 1) s.factor t.capacity inserts.capacity apart in
             let longer : length t.pairs ≡ length s.pairs + 1 =
@@ -129,12 +129,21 @@ module _ {K V S A : Type 0} (number : K → ℕ) (sees : V → S → Type 0) (ke
   -- each step is of one of the three kinds
   kind : (s : State K V) (c : Command K V) (a : Answer K V S A) (t : State K V) → (h : Answers number sees keeps s c a t)
       → Grows s t (placements_of number sees keeps s c a t h) ⊎ (Resets c a (placements_of number sees keeps s c a t h) ⊎ Keeps s c a t (placements_of number sees keeps s c a t h))
-  kind s (command.Insert k v) a t (inl accepted) = elim (Grows-or_keeps s k v a t accepted.1) [ inl grows ↦ inl grows | inr kept ↦ inr (inr kept) ]
+  kind s (command.Insert k v) a t (inl accepted) = elim (Grows-or_keeps s (command.Insert k v) k v a t accepted.1) [ inl grows ↦ inl grows | inr kept ↦ inr (inr kept) ]
   kind s (command.Insert k v) a t (inr refused) =
       let capacity : t.capacity ≡ s.capacity = ap (λ x. x.capacity) refused.3 in
       inr (inr (Keeps-same s (command.Insert k v) a t _ (placements-kept s t capacity) capacity (ap (λ x. x.factor) refused.3)))
+  kind s (command.InsertChecked k v) a t (inl bound) =
+      let capacity : t.capacity ≡ s.capacity = ap (λ x. x.capacity) bound.2 in
+      inr (inr (Keeps-same s (command.InsertChecked k v) a t _ (placements-kept s t capacity) capacity (ap (λ x. x.factor) bound.2)))
+  kind s (command.InsertChecked k v) a t (inr (inl accepted)) = elim (Grows-or_keeps s (command.InsertChecked k v) k v a t accepted.2) [ inl grows ↦ inl grows | inr kept ↦ inr (inr kept) ]
+  kind s (command.InsertChecked k v) a t (inr (inr refused)) =
+      let capacity : t.capacity ≡ s.capacity = ap (λ x. x.capacity) refused.3 in
+      inr (inr (Keeps-same s (command.InsertChecked k v) a t _ (placements-kept s t capacity) capacity (ap (λ x. x.factor) refused.3)))
   kind s (command.Get k) a t h = inr (inr (Keeps-same s (command.Get k) a t _ refl (ap (λ x. x.capacity) h.1) (ap (λ x. x.factor) h.1)))
+  kind s (command.ContainsKey k) a t h = inr (inr (Keeps-same s (command.ContainsKey k) a t _ refl (ap (λ x. x.capacity) h.1) (ap (λ x. x.factor) h.1)))
   kind s (command.Remove k) a t h = inr (inr (Keeps-same s (command.Remove k) a t _ refl (ap (λ x. x.capacity) h.1) (ap (λ x. x.factor) h.1)))
+  kind s command.Clear a t h = inr (inr (Keeps-same s command.Clear a t _ refl (ap (λ x. x.capacity) h.1) (ap (λ x. x.factor) h.1)))
   kind s (command.Reserve n) a t (inl accepted) = inr (inr (record {
     placed = refl;
     factor = ap (λ x. x.factor) accepted.1.after;
@@ -148,6 +157,7 @@ module _ {K V S A : Type 0} (number : K → ℕ) (sees : V → S → Type 0) (ke
       inr (inr (Keeps-same s (command.SetLoadFactor f) a t _ refl (ap (λ x. x.capacity) refused.3) (ap (λ x. x.factor) refused.3)))
   kind s command.GetLoadFactor a t h = inr (inr (Keeps-same s command.GetLoadFactor a t _ refl (ap (λ x. x.capacity) h.1) (ap (λ x. x.factor) h.1)))
   kind s command.Len a t h = inr (inr (Keeps-same s command.Len a t _ refl (ap (λ x. x.capacity) h.1) (ap (λ x. x.factor) h.1)))
+  kind s command.IsEmpty a t h = inr (inr (Keeps-same s command.IsEmpty a t _ refl (ap (λ x. x.capacity) h.1) (ap (λ x. x.factor) h.1)))
   kind s command.Capacity a t h = inr (inr (Keeps-same s command.Capacity a t _ refl (ap (λ x. x.capacity) h.1) (ap (λ x. x.factor) h.1)))
   kind s command.Load a t h = inr (inr (Keeps-same s command.Load a t _ refl (ap (λ x. x.capacity) h.1) (ap (λ x. x.factor) h.1)))
   kind s command.Walk a t h = inr (inr (Keeps-same s command.Walk a t _ refl (ap (λ x. x.capacity) h.1) (ap (λ x. x.factor) h.1)))

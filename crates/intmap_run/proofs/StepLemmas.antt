@@ -1,15 +1,16 @@
 -- One call on a map is one step of every list that stands for the map.
-use Rattle.std.proofs.Common.{◌≡◌, inl, inr, ℕ, ◌+◌, ◌<◌, cond, Bool, length, Option, Some, refl, sym, ap, ◌∙◌, add-zero}
-use Rattle.std.specs.Prelude.{◌↔◌, IsNone}
+use Rattle.std.proofs.Common.{◌≡◌, inl, inr, ℕ, ◌+◌, ◌<◌, cond, Bool, true, false, [], length, is_some, Option, Some, None, refl, sym, ap, subst, ◌∙◌, add-zero, lit<}
+use Rattle.std.specs.Prelude.{◌↔◌, ◌==◌, IsNone, IsSome, is_none, MatchBool}
 use Rattle.std.specs.List.{AllZip}
 use Rattle.std.specs.declared.vec.Vec.{Vec}
 use Rattle.std.proofs.lemmas.Bool.{eq-eqb}
 use Rattle.intmap.specs.Bindings.{value_of, take_key, put_pair}
-use Rattle.intmap.specs.Reach.{class_size}
+use Rattle.intmap.specs.Classes.{IsCapacity}
+use Rattle.intmap.specs.Reach.{class_size, reach}
 use Rattle.intmap.specs.Growth.{IsNext}
 use Rattle.intmap.specs.Figures.{load_of}
-use Rattle.intmap.specs.Map.{MapState, IsMap, IsOutOfRange, IsCapacityAfter, after_search, after_insert, after_remove}
-use Rattle.intmap.specs.States.{State, Stands, MayRefuse}
+use Rattle.intmap.specs.Map.{MapState, IsMap, IsOutOfRange, IsCapacityAfter, after_search, after_insert, after_remove, emptied}
+use Rattle.intmap.specs.States.{State, Stands, Inserts, MayRefuse}
 use Rattle.intmap.specs.declared.refusal.Cause.{Cause}
 use Rattle.intmap.specs.declared.refusal.Cause.TheVariants.{Memory, TooLarge}
 use Rattle.intmap_run.specs.declared.command.Command.{Command}
@@ -18,8 +19,17 @@ use Rattle.intmap_run.specs.declared.answer.Answer.{Answer}
 use Rattle.intmap_run.specs.declared.answer.Answer.TheVariants as answer
 use Rattle.intmap_run.specs.Runs.{SeesOption, SeesPair, Answers, comparisons_of, placements_of}
 use Rattle.intmap_run.specs.Steps.{Step, StepsFrom}
+use Rattle.intmap.proofs.MapLemmas.{IsMapWalk-empty}
 use Rattle.intmap_run.proofs.CapacityLemmas.{IsLarger-after}
 use Rattle.intmap_run.proofs.MapStandLemmas.{value_of-stands, length-stands, load_of-stands, class_size-stands, reach-stands, IsOutOfRange-stands, placements-stands, walk_of-put_pair-stands, walk_of-take_key-stands}
+
+none_of : {V : Type 0} (o : Option V) → true ≡ is_none o → IsNone o
+none_of None is = refl
+none_of (Some v) is = let no : true ≡ false = is in cc
+
+some_of : {V : Type 0} (o : Option V) → false ≡ is_none o → IsSome o
+some_of None is = let no : false ≡ true = is in cc
+some_of (Some v) is = refl
 
 -- a command that leaves map and list
 pub Step-same : {K V S A : Type 0} (number : K → ℕ) (sees : V → S → Type 0) (keeps : K → V → Bool) (m : MapState K V) (s : State K V) (c : Command K V) (a : Answer K V S A)
@@ -35,32 +45,90 @@ Step-same number sees keeps m s c a answers stands compares places = (
   },
 )
 
+module _ {K V : Type 0} (number : K → ℕ) (is_key : K → Type 0) (m : MapState K V) (is_map : IsMap number is_key m) where
+  -- what an accepted insertion leaves of list and map
+  record Accepted (k : K) (v : V) (n : MapState K V) (s t : State K V) : Type 0 where
+    inserts : Inserts number s k v t
+    stands : Stands number t n
+    compared : n.compared ≡ m.compared + reach number s.pairs s.capacity k
+    placed : n.placed ≡ m.placed + cond (t.capacity == s.capacity) 0 (length t.pairs)
+
+  accepted : (k : K) (v : V) (n : MapState K V) → IsCapacityAfter number m.walk m.capacity m.factor k n.capacity
+      → (IsOutOfRange number m.walk m.capacity m.factor k → ⊥) → n ≡ after_insert number m k v n.capacity
+      → (s : State K V) → Stands number s m → Accepted k v n s (record s { pairs = put_pair number s.pairs s.capacity k v; capacity = n.capacity })
+  accepted k v n capacity in_range is s stands =
+      let larger = IsLarger-after (value_of number m.walk k) m.capacity (length m.walk + 1) m.factor n.capacity is_map.capacity capacity in_range in
+      record {
+        inserts = record {
+          in_range = λ out. in_range ((IsOutOfRange-stands is_map stands k).0 out);
+          capacity = rw (value_of-stands is_map stands k, length-stands is_map stands, stands.capacity, stands.factor) capacity;
+          after = refl;
+        };
+        stands = record {
+          walk = walk_of-put_pair-stands is_map stands k v n.capacity larger ∙ sym (ap (λ x. x.walk) is);
+          capacity = refl;
+          factor = stands.factor ∙ sym (ap (λ x. x.factor) is);
+        };
+        compared = ap (λ x. x.compared) is ∙ ap (λ n. m.compared + n) (sym (reach-stands is_map stands k));
+        placed = ap (λ x. x.placed) is ∙ ap (λ n. m.placed + n) (placements-stands is_map stands k v n.capacity capacity);
+      }
+
+  -- an insertion may be refused of each list for the cause that the map tells
+  may : (k : K) (cause : Cause) → IsNone (value_of number m.walk k) → (cause ≡ TooLarge) ↔ IsOutOfRange number m.walk m.capacity m.factor k
+      → (cause ≡ Memory → IsNext m.capacity (length m.walk + 1) m.factor m.capacity → 0 < class_size number m.walk m.capacity k)
+      → (s : State K V) → Stands number s m → MayRefuse number s k cause
+  may k cause new_key too_large memory s stands =
+      let same = IsOutOfRange-stands is_map stands k in
+      record {
+        new_key = rw (value_of-stands is_map stands k) new_key;
+        too_large = ((λ h. same.1 (too_large.0 h)), (λ h. too_large.1 (same.0 h)));
+        memory = λ h kept. rw (class_size-stands is_map stands k) (memory h (rw (length-stands is_map stands, stands.capacity, stands.factor) at kept));
+      }
+
 module _ {K V S A : Type 0} (number : K → ℕ) (is_key : K → Type 0) (m : MapState K V) (is_map : IsMap number is_key m) (sees : V → S → Type 0) (keeps : K → V → Bool) where
   -- an insertion that is accepted
   pub StepsFrom-insert : (k : K) (v : V) (n : MapState K V) → IsCapacityAfter number m.walk m.capacity m.factor k n.capacity
       → (IsOutOfRange number m.walk m.capacity m.factor k → ⊥) → n ≡ after_insert number m k v n.capacity
       → StepsFrom {A = A} number sees keeps m (command.Insert k v) (answer.Old (value_of number m.walk k)) n
   StepsFrom-insert k v n capacity in_range is s stands =
-      let larger = IsLarger-after (value_of number m.walk k) m.capacity (length m.walk + 1) m.factor n.capacity is_map.capacity capacity in_range in (
+      let left = accepted number is_key m is_map k v n capacity in_range is s stands in (
         record s { pairs = put_pair number s.pairs s.capacity k v; capacity = n.capacity },
         record {
-          answers = inl (
-            ap (λ o. answer.Old o) (sym (value_of-stands is_map stands k)),
-            record {
-              in_range = λ out. in_range ((IsOutOfRange-stands is_map stands k).0 out);
-              capacity = rw (value_of-stands is_map stands k, length-stands is_map stands, stands.capacity, stands.factor) capacity;
-              after = refl;
-            },
-          );
-          stands = record {
-            walk = walk_of-put_pair-stands is_map stands k v n.capacity larger ∙ sym (ap (λ x. x.walk) is);
-            capacity = refl;
-            factor = stands.factor ∙ sym (ap (λ x. x.factor) is);
-          };
-          compared = ap (λ x. x.compared) is ∙ ap (λ n. m.compared + n) (sym (reach-stands is_map stands k));
-          placed = ap (λ x. x.placed) is ∙ ap (λ n. m.placed + n) (placements-stands is_map stands k v n.capacity capacity);
+          answers = inl (ap (λ o. answer.Old o) (sym (value_of-stands is_map stands k)), left.inserts);
+          stands = left.stands;
+          compared = left.compared;
+          placed = left.placed;
         },
       )
+
+  -- a checked insertion of a new key that is accepted
+  StepsFrom-insert_new : (k : K) (v : V) (n : MapState K V) → IsNone (value_of number m.walk k) → IsCapacityAfter number m.walk m.capacity m.factor k n.capacity
+      → (IsOutOfRange number m.walk m.capacity m.factor k → ⊥) → n ≡ after_insert number m k v n.capacity
+      → StepsFrom {A = A} number sees keeps m (command.InsertChecked k v) (answer.Flag true) n
+  StepsFrom-insert_new k v n new_key capacity in_range is s stands =
+      let left = accepted number is_key m is_map k v n capacity in_range is s stands in (
+        record s { pairs = put_pair number s.pairs s.capacity k v; capacity = n.capacity },
+        record {
+          answers = inr (inl (refl, rw (value_of-stands is_map stands k) new_key, left.inserts));
+          stands = left.stands;
+          compared = left.compared;
+          placed = left.placed;
+        },
+      )
+
+  -- a search that leaves the list
+  StepsFrom-searched : (k : K) (c : Command K V) (a : Answer K V S A) (s : State K V) → Stands number s m → (answers : Answers number sees keeps s c a s)
+      → comparisons_of number sees keeps s c a s answers ≡ reach number s.pairs s.capacity k → placements_of number sees keeps s c a s answers ≡ cond (s.capacity == s.capacity) 0 (length s.pairs)
+      → (t : State K V) × Step number sees keeps m s c a t (after_search number m k)
+  StepsFrom-searched k c a s stands answers compares places = (
+    s,
+    record {
+      answers = answers;
+      stands = record { walk = stands.walk; capacity = stands.capacity; factor = stands.factor };
+      compared = ap (λ n. m.compared + n) (sym (reach-stands is_map stands k) ∙ sym compares);
+      placed = sym (add-zero m.placed) ∙ ap (λ n. m.placed + n) (ap (λ b. cond b 0 (length s.pairs)) (sym (eq-eqb s.capacity s.capacity refl)) ∙ sym places);
+    },
+  )
 
   -- an insertion that is refused
   pub StepsFrom-refused : (k : K) (v : V) (cause : Cause)
@@ -68,20 +136,54 @@ module _ {K V S A : Type 0} (number : K → ℕ) (is_key : K → Type 0) (m : Ma
       → (cause ≡ Memory → IsNext m.capacity (length m.walk + 1) m.factor m.capacity → 0 < class_size number m.walk m.capacity k)
       → StepsFrom {A = A} number sees keeps m (command.Insert k v) (answer.Refused cause (Some v)) (after_search number m k)
   StepsFrom-refused k v cause new_key too_large memory s stands =
-      let same = IsOutOfRange-stands is_map stands k in
-      let may : MayRefuse number s k cause = record {
-        new_key = rw (value_of-stands is_map stands k) new_key;
-        too_large = ((λ h. same.1 (too_large.0 h)), (λ h. too_large.1 (same.0 h)));
-        memory = λ h kept. rw (class_size-stands is_map stands k) (memory h (rw (length-stands is_map stands, stands.capacity, stands.factor) at kept));
-      } in (
-        s,
-        record {
-          answers = inr (cause, refl, may, refl);
-          stands = record { walk = stands.walk; capacity = stands.capacity; factor = stands.factor };
-          compared = ap (λ n. m.compared + n) (sym (reach-stands is_map stands k));
-          placed = sym (add-zero m.placed) ∙ ap (λ b. m.placed + cond b 0 (length s.pairs)) (sym (eq-eqb s.capacity s.capacity refl));
-        },
-      )
+      StepsFrom-searched k (command.Insert k v) (answer.Refused cause (Some v)) s stands (inr (cause, refl, may number is_key m is_map k cause new_key too_large memory s stands, refl)) refl refl
+
+  -- a checked insertion that is refused
+  pub StepsFrom-refused_checked : (k : K) (v : V) (cause : Cause)
+      → IsNone (value_of number m.walk k) → (cause ≡ TooLarge) ↔ IsOutOfRange number m.walk m.capacity m.factor k
+      → (cause ≡ Memory → IsNext m.capacity (length m.walk + 1) m.factor m.capacity → 0 < class_size number m.walk m.capacity k)
+      → StepsFrom {A = A} number sees keeps m (command.InsertChecked k v) (answer.Refused cause (Some v)) (after_search number m k)
+  StepsFrom-refused_checked k v cause new_key too_large memory s stands =
+      StepsFrom-searched k (command.InsertChecked k v) (answer.Refused cause (Some v)) s stands (inr (inr (cause, refl, may number is_key m is_map k cause new_key too_large memory s stands, refl))) refl refl
+
+  -- a checked insertion over a bound key
+  StepsFrom-bound : (k : K) (v : V) → IsSome (value_of number m.walk k)
+      → StepsFrom {A = A} number sees keeps m (command.InsertChecked k v) (answer.Flag false) (after_search number m k)
+  StepsFrom-bound k v bound s stands =
+      StepsFrom-searched k (command.InsertChecked k v) (answer.Flag false) s stands (inl (refl, rw (value_of-stands is_map stands k) bound, refl)) refl refl
+
+  -- a checked insertion that is accepted, over a bound key or not
+  pub StepsFrom-insert_checked : (k : K) (v : V) (n : MapState K V) (new : Bool) → new ≡ is_none (value_of number m.walk k) → IsCapacityAfter number m.walk m.capacity m.factor k n.capacity
+      → (IsOutOfRange number m.walk m.capacity m.factor k → ⊥) → MatchBool new (n ≡ after_insert number m k v n.capacity) (n ≡ after_search number m k)
+      → StepsFrom {A = A} number sees keeps m (command.InsertChecked k v) (answer.Flag new) n
+  StepsFrom-insert_checked k v n true new capacity in_range is = StepsFrom-insert_new k v n (none_of (value_of number m.walk k) new) capacity in_range is
+  StepsFrom-insert_checked k v n false new capacity in_range is = rw is (StepsFrom-bound k v (some_of (value_of number m.walk k) new))
+
+  -- whether a key is bound
+  pub StepsFrom-contains_key : (k : K) → StepsFrom {A = A} number sees keeps m (command.ContainsKey k) (answer.Flag (is_some (value_of number m.walk k))) m
+  StepsFrom-contains_key k s stands =
+      Step-same number sees keeps m s (command.ContainsKey k) (answer.Flag (is_some (value_of number m.walk k))) (ap (λ o. answer.Flag (is_some o)) (sym (value_of-stands is_map stands k)), refl) stands refl refl
+
+  -- whether there is no pair
+  pub StepsFrom-is_empty : StepsFrom {A = A} number sees keeps m command.IsEmpty (answer.Flag (length m.walk == 0)) m
+  StepsFrom-is_empty s stands =
+      Step-same number sees keeps m s command.IsEmpty (answer.Flag (length m.walk == 0)) (ap (λ n. answer.Flag (n == 0)) (sym (length-stands is_map stands)), refl) stands refl refl
+
+  -- an emptied map
+  pub StepsFrom-clear : StepsFrom {A = A} number sees keeps m command.Clear answer.Done (emptied m)
+  StepsFrom-clear s stands = (
+    record s { pairs = [] },
+    record {
+      answers = (refl, refl);
+      stands = record {
+        walk = (IsMapWalk-empty number is_key [] s.capacity 909 refl (subst IsCapacity (sym stands.capacity) is_map.capacity) (lit< tt)).own;
+        capacity = stands.capacity;
+        factor = stands.factor;
+      };
+      compared = sym (add-zero m.compared);
+      placed = sym (add-zero m.placed);
+    },
+  )
 
   -- a look at the value of a key
   pub StepsFrom-get : (k : K) (seen : Option S) → SeesOption sees (value_of number m.walk k) seen

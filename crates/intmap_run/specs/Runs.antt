@@ -1,5 +1,5 @@
 -- What one command answers and leaves of a plain list, and what lists of commands do.
-use Rattle.std.specs.Prelude.{◌≡◌, ℕ, ◌+◌, ◌*◌, ◌≤◌, ◌==◌, max, cond, Bool, List, [], ◌∷◌, length, Option, Some, None, ◌⊎◌}
+use Rattle.std.specs.Prelude.{◌≡◌, ℕ, ◌+◌, ◌*◌, ◌≤◌, ◌==◌, max, cond, Bool, true, false, is_some, IsSome, IsNone, List, [], ◌∷◌, length, Option, Some, None, ◌⊎◌}
 use Rattle.std.specs.List.{AllZip}
 use Rattle.std.specs.declared.vec.Vec.{Vec}
 use Rattle.intmap.specs.Bindings.{value_of, take_key}
@@ -52,6 +52,14 @@ module _ {K V S A : Type 0} (number : K → ℕ) (sees : V → S → Type 0) (ke
       ((a ≡ answer.Old (value_of number s.pairs k)) × Inserts number s k v t)
       ⊎ ((cause : Cause) × (a ≡ answer.Refused cause (Some v)) × MayRefuse number s k cause × (t ≡ s))
 
+  -- a checked insertion answers false over a bound key and changes nothing; that of a new key answers true and inserts, or is
+  -- refused as an insertion is
+  abbrev pub AnswersInsertChecked : State K V → K → V → Answer K V S A → State K V → Type 0
+  AnswersInsertChecked s k v a t =
+      ((a ≡ answer.Flag false) × IsSome (value_of number s.pairs k) × (t ≡ s))
+      ⊎ ((a ≡ answer.Flag true) × IsNone (value_of number s.pairs k) × Inserts number s k v t)
+      ⊎ ((cause : Cause) × (a ≡ answer.Refused cause (Some v)) × MayRefuse number s k cause × (t ≡ s))
+
   -- a reservation is done, or refused and changes nothing
   abbrev pub AnswersReserve : State K V → ℕ → Answer K V S A → State K V → Type 0
   AnswersReserve s additional a t =
@@ -73,14 +81,18 @@ module _ {K V S A : Type 0} (number : K → ℕ) (sees : V → S → Type 0) (ke
   -- from the list s a command may answer a and leave the list t
   abbrev pub Answers : State K V → Command K V → Answer K V S A → State K V → Type 0
   Answers s (command.Insert k v) a t = AnswersInsert s k v a t
+  Answers s (command.InsertChecked k v) a t = AnswersInsertChecked s k v a t
   Answers s (command.Get k) a t =
       ((seen : Option S) × (a ≡ answer.Seen seen) × SeesOption sees (value_of number s.pairs k) seen) × (t ≡ s)
+  Answers s (command.ContainsKey k) a t = (a ≡ answer.Flag (is_some (value_of number s.pairs k))) × (t ≡ s)
   Answers s (command.Remove k) a t =
       (a ≡ answer.Old (value_of number s.pairs k)) × (t ≡ record s { pairs = take_key number s.pairs s.capacity k })
+  Answers s command.Clear a t = (a ≡ answer.Done) × (t ≡ record s { pairs = [] })
   Answers s (command.Reserve additional) a t = AnswersReserve s additional a t
   Answers s (command.SetLoadFactor factor) a t = AnswersSetLoadFactor s factor a t
   Answers s command.GetLoadFactor a t = (a ≡ answer.Number s.factor) × (t ≡ s)
   Answers s command.Len a t = (a ≡ answer.Number (length s.pairs)) × (t ≡ s)
+  Answers s command.IsEmpty a t = (a ≡ answer.Flag (length s.pairs == 0)) × (t ≡ s)
   Answers s command.Capacity a t = (a ≡ answer.Number s.capacity) × (t ≡ s)
   Answers s command.Load a t = (a ≡ answer.Number (load_of number s.pairs s.capacity)) × (t ≡ s)
   Answers s command.Walk a t = AnswersWalk s a × (t ≡ s)
@@ -88,6 +100,7 @@ module _ {K V S A : Type 0} (number : K → ℕ) (sees : V → S → Type 0) (ke
   -- the keys that a command compares in a step from the list s
   abbrev pub comparisons_of : (s : State K V) (c : Command K V) (a : Answer K V S A) (t : State K V) → Answers s c a t → ℕ
   comparisons_of s (command.Insert k v) a t step = reach number s.pairs s.capacity k
+  comparisons_of s (command.InsertChecked k v) a t step = reach number s.pairs s.capacity k
   comparisons_of s (command.Remove k) a t step = reach number s.pairs s.capacity k
   comparisons_of s other a t step = 0
 
@@ -95,6 +108,7 @@ module _ {K V S A : Type 0} (number : K → ℕ) (sees : V → S → Type 0) (ke
   -- is an insertion that changed the capacity, and else none
   abbrev pub placements_of : (s : State K V) (c : Command K V) (a : Answer K V S A) (t : State K V) → Answers s c a t → ℕ
   placements_of s (command.Insert k v) a t step = cond (t.capacity == s.capacity) 0 (length t.pairs)
+  placements_of s (command.InsertChecked k v) a t step = cond (t.capacity == s.capacity) 0 (length t.pairs)
   placements_of s other a t step = 0
 
   -- the commands in order, each from the list that the one before left, with one answer a command

@@ -12,6 +12,8 @@ pub enum Answer<K, V, S, A: Allocator = Global> {
     Seen(Option<S>),
     /// It was done, and there is nothing to hand back.
     Done,
+    /// Whether it is so: that the key is bound, that it was new, or that there is no pair.
+    Flag(bool),
     /// A number of pairs or slots, or a load factor in thousandths.
     Number(u128),
     /// Each key of the walk, in its order, with what the judge sees of its value.

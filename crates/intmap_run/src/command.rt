@@ -9,10 +9,19 @@ pub enum Command<K, V> {
     /// 2^64 - 1 pairs or growth wants more than 2^63 slots, and as `Memory` never where the
     /// capacity stays and no bound key has the same slot.
     Insert(K, V),
+    /// `insert_checked`: binds the key to the value where it isn't bound, and answers `Flag` of
+    /// whether it did so. Where the key is bound the value is let go.
+    ///
+    /// Refused as `Insert` is, with the value back.
+    InsertChecked(K, V),
     /// `get`: answers `Seen` of the value that the key is bound to.
     Get(K),
+    /// `contains_key`: answers `Flag` of whether the key is bound.
+    ContainsKey(K),
     /// `remove`: takes the pair of the key out, and answers `Old` of its value.
     Remove(K),
+    /// `clear`: lets all pairs go, and answers `Done`. Capacity and load factor stay.
+    Clear,
     /// `reserve`: makes the capacity at least the least power of two that is at least the length
     /// and so many slots more, and answers `Done`.
     ///
@@ -29,6 +38,8 @@ pub enum Command<K, V> {
     GetLoadFactor,
     /// `len`: answers the `Number` of pairs.
     Len,
+    /// `is_empty`: answers `Flag` of whether there is no pair.
+    IsEmpty,
     /// `capacity`: answers the `Number` of slots.
     Capacity,
     /// `load`: answers the `Number` of slots that hold a pair.

@@ -17,9 +17,9 @@ use std::alloc::{AllocError, Allocator};
 /// that stands for the map at the end. A refused command says so in its answer, leaves walk,
 /// capacity and load factor, and doesn't end the run.
 ///
-/// The map's `compared` rises by the keys that `Insert` and `Remove` compare, refused ones too; the
-/// other commands leave it. Its `placed` rises by the length after each `Insert` that changed the
-/// capacity, and by nothing else: in all by at most three times the greatest length of the run
+/// The map's `compared` rises by the keys that `Insert`, `InsertChecked` and `Remove` compare,
+/// refused ones too; the other commands leave it. Its `placed` rises by the length after each
+/// `Insert` or `InsertChecked` that changed the capacity, and by nothing else: in all by at most three times the greatest length of the run
 /// where no load factor was set, and by as much again for each that was. At the end the capacity is
 /// that of the start, or one that an accepted `Reserve` or `SetLoadFactor` left, or a capacity C
 /// with `(F + 1) * C <= 2000 * length`, where F is the load factor then, in thousandths, and length
@@ -80,15 +80,28 @@ fn apply<K: IntKey, V: Drop, J: Judge<K, V>, A: Allocator + Copy>(
                 value: Some(refused.value),
             },
         },
+        Command::InsertChecked(key, value) => match map.insert_checked(key, value) {
+            Ok(new) => Answer::Flag(new),
+            Err(refused) => Answer::Refused {
+                cause: refused.cause,
+                value: Some(refused.value),
+            },
+        },
         Command::Get(key) => match map.get(key) {
             Some(value) => Answer::Seen(Some(judge.look(value))),
             None => Answer::Seen(None),
         },
+        Command::ContainsKey(key) => Answer::Flag(map.contains_key(key)),
         Command::Remove(key) => Answer::Old(map.remove(key)),
+        Command::Clear => {
+            map.clear();
+            Answer::Done
+        }
         Command::Reserve(additional) => done(map.reserve(additional)),
         Command::SetLoadFactor(thousandths) => done(map.set_load_factor(thousandths)),
         Command::GetLoadFactor => Answer::Number(map.get_load_factor() as u128),
         Command::Len => Answer::Number(map.len() as u128),
+        Command::IsEmpty => Answer::Flag(map.is_empty()),
         Command::Capacity => Answer::Number(map.capacity() as u128),
         Command::Load => Answer::Number(map.load() as u128),
         Command::Walk => walk(alloc, map, judge),

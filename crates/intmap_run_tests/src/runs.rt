@@ -55,7 +55,7 @@ fn said(
         Answer::Seen(seen) => format!(in alloc; "seen {seen:?}"),
         Answer::Walk(pairs) => format!(in alloc; "walk {:?}", pairs.as_slice()),
         Answer::Refused { cause, value } => format!(in alloc; "refused {cause:?} {value:?}"),
-        Answer::Done | Answer::Number(_) => String::from_str(alloc, "not asked"),
+        Answer::Done | Answer::Flag(_) | Answer::Number(_) => String::from_str(alloc, "not asked"),
     }
 }
 

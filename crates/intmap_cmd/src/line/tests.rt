@@ -22,28 +22,41 @@ fn show(line: &[u8]) -> Shown {
         Line::Blank => Shown::Blank,
         Line::Unknown => Shown::Unknown,
         Line::Command(Command::Insert(key, value)) => Shown::Pair("insert", key, value),
+        Line::Command(Command::InsertChecked(key, value)) => {
+            Shown::Pair("insert_checked", key, value)
+        }
         Line::Command(Command::Get(key)) => Shown::Key("get", key),
+        Line::Command(Command::ContainsKey(key)) => Shown::Key("contains_key", key),
         Line::Command(Command::Remove(key)) => Shown::Key("remove", key),
+        Line::Command(Command::Clear) => Shown::Bare("clear"),
         Line::Command(Command::Reserve(additional)) => Shown::Key("reserve", additional as u64),
         Line::Command(Command::SetLoadFactor(thousandths)) => {
             Shown::Key("set_load_factor", thousandths as u64)
         }
         Line::Command(Command::GetLoadFactor) => Shown::Bare("get_load_factor"),
         Line::Command(Command::Len) => Shown::Bare("len"),
+        Line::Command(Command::IsEmpty) => Shown::Bare("is_empty"),
         Line::Command(Command::Capacity) => Shown::Bare("capacity"),
         Line::Command(Command::Load) => Shown::Bare("load"),
         Line::Command(Command::Walk) => Shown::Bare("walk"),
     }
 }
 
-const COMMANDS: [(&[u8], Shown); 21] = [
+const COMMANDS: [(&[u8], Shown); 25] = [
     (b"insert 21 42", Shown::Pair("insert", 21, 42)),
+    (
+        b"insert_checked 21 42",
+        Shown::Pair("insert_checked", 21, 42),
+    ),
     (b"get 21", Shown::Key("get", 21)),
+    (b"contains_key 21", Shown::Key("contains_key", 21)),
     (b"remove 21", Shown::Key("remove", 21)),
+    (b"clear", Shown::Bare("clear")),
     (b"reserve 9", Shown::Key("reserve", 9)),
     (b"set_load_factor 0", Shown::Key("set_load_factor", 0)),
     (b"get_load_factor", Shown::Bare("get_load_factor")),
     (b"len", Shown::Bare("len")),
+    (b"is_empty", Shown::Bare("is_empty")),
     (b"capacity", Shown::Bare("capacity")),
     (b"load", Shown::Bare("load")),
     (b"walk", Shown::Bare("walk")),
@@ -86,6 +99,7 @@ const BLANK: &[u8] = b"\n \n          \n\r\n   \r";
 const WORDS: &[u8] = b"Get 1\nGET 1\nlEn\nWalk\nle\nlens\nlen.\nget1\n1\n1 get\nhelp\n-\n,\n\
     insert\ninsert 1\ninsert 1 2 3\nget\nget 1 2\nget 1 len\nremove\nremove 1 2\n\
     reserve\nreserve 1 2\nset_load_factor\nset_load_factor 1 2\nget_load_factor 1\n\
+    insert_checked 1\ncontains_key\nclear 1\nis_empty 0\nempty\n\
     len 0\nlen len\ncapacity 4\nload 1 2\nwalk x\nwalk 1 2 3\nget len";
 
 /// Numbers that are not canonical, or too great.

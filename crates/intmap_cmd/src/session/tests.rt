@@ -95,7 +95,7 @@ const INPUT: &[u8] = b"insert 0 10\nlen\n\nwalk\n";
 const OUTPUT: &[u8] = b"none\n1\n{0: 10}\n";
 
 /// Texts, each with its status, its output and what is told of it.
-const SESSIONS: [(&[u8], u8, &[u8], &[u8]); 15] = [
+const SESSIONS: [(&[u8], u8, &[u8], &[u8]); 16] = [
     (b"", 0, b"", b""),
     (b"\n \r\n", 0, b"", b""),
     (INPUT, 0, OUTPUT, b""),
@@ -127,6 +127,12 @@ const SESSIONS: [(&[u8], u8, &[u8], &[u8]); 15] = [
         b"get_load_factor\nreserve 5\ncapacity\nset_load_factor 100\nget_load_factor\nreserve 9223372036854775809\n",
         0,
         b"909\ndone\n8\ndone\n100\nrefused: too large\n",
+        b"",
+    ),
+    (
+        b"is_empty\ninsert_checked 1 2\ninsert_checked 1 3\ncontains_key 1\nget 1\nclear\nis_empty\ncontains_key 1\nwalk",
+        0,
+        b"true\ntrue\nfalse\ntrue\nsome 2\ndone\ntrue\nfalse\n{}\n",
         b"",
     ),
     (

@@ -22,7 +22,7 @@ const WITHOUT_GROWTH: [Said; 6] = [
 ];
 
 /// Commands that ask for more slots, and the others among them.
-const WITH_GROWTH: [Said; 23] = [
+const WITH_GROWTH: [Said; 30] = [
     ("walk", Command::Walk),
     ("insert 0 10", Command::Insert(0, 10)),
     ("insert 4096 11", Command::Insert(4096, 11)),
@@ -49,6 +49,13 @@ const WITH_GROWTH: [Said; 23] = [
     ("walk", Command::Walk),
     ("get 0", Command::Get(0)),
     ("len", Command::Len),
+    ("insert_checked 8192 99", Command::InsertChecked(8192, 99)),
+    ("insert_checked 24576 16", Command::InsertChecked(24576, 16)),
+    ("contains_key 24576", Command::ContainsKey(24576)),
+    ("walk", Command::Walk),
+    ("clear", Command::Clear),
+    ("is_empty", Command::IsEmpty),
+    ("insert_checked 0 17", Command::InsertChecked(0, 17)),
 ];
 
 /// A plain list of pairs, in the place of a map of which all keys share a slot, and a load factor.
@@ -92,7 +99,7 @@ impl List {
         is_refused: bool,
     ) -> Result<String, AllocError> {
         match *command {
-            Command::Insert(_, value) if is_refused => {
+            Command::Insert(_, value) | Command::InsertChecked(_, value) if is_refused => {
                 format!(in alloc; "refused {value}: memory")
             }
             Command::Reserve(_) | Command::SetLoadFactor(_) | Command::Walk if is_refused => {
@@ -102,6 +109,18 @@ impl List {
                 let old = self.remove(key);
                 self.pairs.push((key, value))?;
                 line_of(alloc, old)
+            }
+            Command::InsertChecked(key, value) => {
+                let is_new = self.get(key).is_none();
+                if is_new {
+                    self.pairs.push((key, value))?;
+                }
+                format!(in alloc; "{is_new}")
+            }
+            Command::ContainsKey(key) => format!(in alloc; "{}", self.get(key).is_some()),
+            Command::Clear => {
+                self.pairs.clear();
+                String::from_str(alloc, "done")
             }
             Command::Remove(key) => line_of(alloc, self.remove(key)),
             Command::Get(key) => line_of(alloc, self.get(key)),
@@ -114,6 +133,7 @@ impl List {
                 String::from_str(alloc, "done")
             }
             Command::GetLoadFactor => format!(in alloc; "{}", self.factor),
+            Command::IsEmpty => format!(in alloc; "{}", self.pairs.is_empty()),
             Command::Len => format!(in alloc; "{}", self.pairs.len()),
             Command::Load => format!(in alloc; "{}", self.pairs.len().min(1)),
             Command::Capacity => String::from_str(alloc, "not asked"),

@@ -1,5 +1,5 @@
 use Rattle.std.proofs.Common.{Some, None}
-use Rattle.intmap_run.proofs.StepLemmas.{StepsFrom-insert, StepsFrom-refused, StepsFrom-get, StepsFrom-remove, StepsFrom-len, StepsFrom-load}
+use Rattle.intmap_run.proofs.StepLemmas.{StepsFrom-insert, StepsFrom-refused, StepsFrom-insert_checked, StepsFrom-refused_checked, StepsFrom-contains_key, StepsFrom-is_empty, StepsFrom-clear, StepsFrom-get, StepsFrom-remove, StepsFrom-len, StepsFrom-load}
 use Rattle.intmap_run.proofs.GrowthStepLemmas.{StepsFrom-reserve, StepsFrom-set_load_factor}
 use Rattle.intmap_run.proofs.runner.apply.Goals as goal
 
@@ -14,6 +14,34 @@ returns-in-Err-clause-step g c =
     rw (c.in-Insert.is, c.in-Err.ensures.value_returned, c.in-Err.ensures.err)
     (StepsFrom-refused g.K.IntKey.number_of g.K.IntKey.is_key c.args.map.now c.insert.ensures.map (g.J.Judge.sees c.args.judge.now) (g.J.Judge.keeps c.args.judge.now)
     c.in-Insert.key c.in-Insert.value c.in-Err.refused.cause c.in-Err.ensures.new_key c.in-Err.ensures.too_large c.in-Err.ensures.memory)
+
+pub returns-in-Ok-insert_checked-clause-step : goal.returns-in-Ok-insert_checked-clause-step
+returns-in-Ok-insert_checked-clause-step g c =
+    let e = c.in-Ok-insert_checked.ensures in
+    rw c.in-InsertChecked.is
+    (StepsFrom-insert_checked g.K.IntKey.number_of g.K.IntKey.is_key c.args.map.now c.insert_checked.ensures.map (g.J.Judge.sees c.args.judge.now) (g.J.Judge.keeps c.args.judge.now)
+    c.in-InsertChecked.key c.in-InsertChecked.value c.insert_checked.new.self c.in-Ok-insert_checked.new e.new e.capacity e.too_large.1 e.state)
+
+pub returns-in-Err-insert_checked-clause-step : goal.returns-in-Err-insert_checked-clause-step
+returns-in-Err-insert_checked-clause-step g c =
+    rw (c.in-InsertChecked.is, c.in-Err-insert_checked.ensures.value_returned, c.in-Err-insert_checked.ensures.err)
+    (StepsFrom-refused_checked g.K.IntKey.number_of g.K.IntKey.is_key c.args.map.now c.insert_checked.ensures.map (g.J.Judge.sees c.args.judge.now) (g.J.Judge.keeps c.args.judge.now)
+    c.in-InsertChecked.key c.in-InsertChecked.value c.in-Err-insert_checked.refused.cause c.in-Err-insert_checked.ensures.new_key c.in-Err-insert_checked.ensures.too_large c.in-Err-insert_checked.ensures.memory)
+
+pub returns-in-ContainsKey-clause-step : goal.returns-in-ContainsKey-clause-step
+returns-in-ContainsKey-clause-step g c =
+    rw (c.in-ContainsKey.is, c.contains_key.ensures.value)
+    (StepsFrom-contains_key g.K.IntKey.number_of g.K.IntKey.is_key c.args.map.now c.contains_key.ensures.map (g.J.Judge.sees c.args.judge.now) (g.J.Judge.keeps c.args.judge.now) c.in-ContainsKey.key)
+
+pub returns-in-Clear-clause-step : goal.returns-in-Clear-clause-step
+returns-in-Clear-clause-step g c =
+    rw (c.in-Clear.is, c.clear.ensures.state)
+    (StepsFrom-clear g.K.IntKey.number_of g.K.IntKey.is_key c.args.map.now c.clear.ensures.map (g.J.Judge.sees c.args.judge.now) (g.J.Judge.keeps c.args.judge.now))
+
+pub returns-in-IsEmpty-clause-step : goal.returns-in-IsEmpty-clause-step
+returns-in-IsEmpty-clause-step g c =
+    rw (c.in-IsEmpty.is, c.is_empty.ensures.value)
+    (StepsFrom-is_empty g.K.IntKey.number_of g.K.IntKey.is_key c.args.map.now c.is_empty.ensures.map (g.J.Judge.sees c.args.judge.now) (g.J.Judge.keeps c.args.judge.now))
 
 pub returns-in-Some-clause-step : goal.returns-in-Some-clause-step
 returns-in-Some-clause-step g c =
