@@ -1,5 +1,5 @@
 //! Runs lists of commands over a map.
-ghost use Rattle.std.specs.Prelude.{◌≡◌, IfOk, IfErr, OnErr, MatchResult};
+ghost use Rattle.std.specs.Prelude.{◌≡◌, Some, IfOk, IfErr, OnErr, MatchResult};
 ghost use Rattle.std.specs.List.{AllZip};
 ghost use Rattle.intmap.specs.Map.{IsMap};
 ghost use Rattle.intmap_run.specs.Runs.{SeesPair, RunsFrom};
@@ -8,7 +8,7 @@ ghost use Rattle.intmap_run.specs.Steps.{StepsFrom};
 use crate::answer::Answer;
 use crate::command::Command;
 use crate::judge::Judge;
-use intmap::{Cause, IntKey, IntMap};
+use intmap::{Cause, IntKey, IntMap, Refused};
 use std::alloc::{AllocError, Allocator};
 
 /// Runs the commands in order, and answers one answer a command, in the same order.
@@ -75,17 +75,11 @@ fn apply<K: IntKey, V: Drop, J: Judge<K, V>, A: Allocator + Copy>(
     match command {
         Command::Insert(key, value) => match map.insert(key, value) {
             Ok(old) => Answer::Old(old),
-            Err(refused) => Answer::Refused {
-                cause: refused.cause,
-                value: Some(refused.value),
-            },
+            Err(refused) => handed_back(refused),
         },
         Command::InsertChecked(key, value) => match map.insert_checked(key, value) {
             Ok(new) => Answer::Flag(new),
-            Err(refused) => Answer::Refused {
-                cause: refused.cause,
-                value: Some(refused.value),
-            },
+            Err(refused) => handed_back(refused),
         },
         Command::Get(key) => match map.get(key) {
             Some(value) => Answer::Seen(Some(judge.look(value))),
@@ -105,6 +99,16 @@ fn apply<K: IntKey, V: Drop, J: Judge<K, V>, A: Allocator + Copy>(
         Command::Capacity => Answer::Number(map.capacity() as u128),
         Command::Load => Answer::Number(map.load() as u128),
         Command::Walk => walk(alloc, map, judge),
+    }
+}
+
+/// The answer of an insertion that was refused, which hands the value back.
+fn handed_back<K, V, S, A: Allocator>(refused: Refused<V>) -> Answer<K, V, S, A>
+    ensures { result ≡ Answer.Refused refused.cause (Some refused.value) }
+{
+    Answer::Refused {
+        cause: refused.cause,
+        value: Some(refused.value),
     }
 }
 

@@ -11,7 +11,7 @@ returns-in-Ok-clause-step g c =
 
 pub returns-in-Err-clause-step : goal.returns-in-Err-clause-step
 returns-in-Err-clause-step g c =
-    rw (c.in-Insert.is, c.in-Err.ensures.value_returned, c.in-Err.ensures.err)
+    rw (c.in-Insert.is, c.handed_back.ensures, c.in-Err.ensures.value_returned, c.in-Err.ensures.err)
     (StepsFrom-refused g.K.IntKey.number_of g.K.IntKey.is_key c.args.map.now c.insert.ensures.map (g.J.Judge.sees c.args.judge.now) (g.J.Judge.keeps c.args.judge.now)
     c.in-Insert.key c.in-Insert.value c.in-Err.refused.cause c.in-Err.ensures.new_key c.in-Err.ensures.too_large c.in-Err.ensures.memory)
 
@@ -24,7 +24,7 @@ returns-in-Ok-insert_checked-clause-step g c =
 
 pub returns-in-Err-insert_checked-clause-step : goal.returns-in-Err-insert_checked-clause-step
 returns-in-Err-insert_checked-clause-step g c =
-    rw (c.in-InsertChecked.is, c.in-Err-insert_checked.ensures.value_returned, c.in-Err-insert_checked.ensures.err)
+    rw (c.in-InsertChecked.is, c.handed_back-in-Err-insert_checked.ensures, c.in-Err-insert_checked.ensures.value_returned, c.in-Err-insert_checked.ensures.err)
     (StepsFrom-refused_checked g.K.IntKey.number_of g.K.IntKey.is_key c.args.map.now c.insert_checked.ensures.map (g.J.Judge.sees c.args.judge.now) (g.J.Judge.keeps c.args.judge.now)
     c.in-InsertChecked.key c.in-InsertChecked.value c.in-Err-insert_checked.refused.cause c.in-Err-insert_checked.ensures.new_key c.in-Err-insert_checked.ensures.too_large c.in-Err-insert_checked.ensures.memory)
 
