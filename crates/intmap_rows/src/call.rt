@@ -1,9 +1,11 @@
 //! One call, from its words to its answer.
 
-use crate::many::{Keys, get_many, insert_many, remove_many, walk_sum};
+use crate::many::{Insertion, Keys, get_many, insert_many, remove_many, walk_sum};
 use crate::maps::{MapOf, Maps};
 use crate::runs::run_many;
-use crate::text::{done_text, number_text, option_text, refusal_text, state_text, walk_text};
+use crate::text::{
+    bool_text, done_text, number_text, option_text, refusal_text, state_text, walk_text,
+};
 use crate::word::words_of;
 use intmap::steps::Steps;
 use intmap::{IntKey, IntMap};
@@ -49,18 +51,34 @@ fn bare(alloc: Global, maps: &mut Maps<'_>, name: &str) -> Result<String, AllocE
         }
         "left" => number_text(alloc, maps.memory.left() as u128),
         "walk_sum" => walk_sum(alloc, &maps.map),
-        _ => seen(alloc, &maps.map, name),
+        _ => without_key(alloc, &mut maps.map, name),
     }
 }
 
-/// The answer to a call that looks at a map.
-pub fn seen<K: IntKey + Display>(
+/// The answer to a call without a key.
+pub fn without_key<K: IntKey + Display>(
+    alloc: Global,
+    map: &mut MapOf<'_, K>,
+    name: &str,
+) -> Result<String, AllocError> {
+    match name {
+        "clear" => {
+            map.clear();
+            done_text(alloc, Ok(()))
+        }
+        _ => seen(alloc, map, name),
+    }
+}
+
+// the answer to a call that looks at a map
+fn seen<K: IntKey + Display>(
     alloc: Global,
     map: &MapOf<'_, K>,
     name: &str,
 ) -> Result<String, AllocError> {
     match name {
         "len" => number_text(alloc, map.len() as u128),
+        "is_empty" => bool_text(alloc, map.is_empty()),
         "capacity" => number_text(alloc, map.capacity() as u128),
         "load" => number_text(alloc, map.load() as u128),
         "get_load_factor" => number_text(alloc, map.get_load_factor() as u128),
@@ -105,6 +123,7 @@ pub fn with_key<K: IntKey>(
             let found = map.get_counted(key, &mut Steps::new()).copied();
             option_text(alloc, found)
         }
+        "contains_key" => bool_text(alloc, map.contains_key(key)),
         "remove" => option_text(alloc, map.remove(key)),
         _ => no_call(alloc),
     }
@@ -123,6 +142,10 @@ pub fn with_pair<K: IntKey>(
             Ok(old) => option_text(alloc, old),
             Err(refused) => refusal_text(alloc, refused.cause, Some(refused.value)),
         },
+        "insert_checked" => match map.insert_checked(key, value) {
+            Ok(new) => bool_text(alloc, new),
+            Err(refused) => refusal_text(alloc, refused.cause, Some(refused.value)),
+        },
         _ => no_call(alloc),
     }
 }
@@ -135,7 +158,8 @@ fn with_keys(
     keys: Keys,
 ) -> Result<String, AllocError> {
     match name {
-        "insert_many" => insert_many(alloc, &mut maps.map, keys),
+        "insert_many" => insert_many(alloc, &mut maps.map, Insertion::Over, keys),
+        "insert_checked_many" => insert_many(alloc, &mut maps.map, Insertion::Checked, keys),
         "get_many" => number_text(alloc, get_many(&maps.map, keys) as u128),
         "remove_many" => number_text(alloc, remove_many(&mut maps.map, keys) as u128),
         "run_many" => run_many(alloc, maps.memory, &mut maps.map, keys),

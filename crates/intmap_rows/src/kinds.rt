@@ -1,6 +1,6 @@
 //! Maps with keys of other kinds than `u64`: one of each kind.
 
-use crate::call::{no_call, seen, with_key, with_pair};
+use crate::call::{no_call, with_key, with_pair, without_key};
 use crate::cell::Cell;
 use crate::many::value_of;
 use crate::maps::MapOf;
@@ -71,7 +71,7 @@ where
         words.push(word)?;
     }
     match words.as_slice() {
-        [name] => seen(alloc, map, name),
+        [name] => without_key(alloc, map, name),
         [name, key] => match key.parse::<K>() {
             Ok(key) => with_key(alloc, map, name, key),
             Err(_) => no_call(alloc),

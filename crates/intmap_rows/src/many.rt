@@ -2,6 +2,7 @@
 
 use crate::maps::Map;
 use crate::text::refusal_text;
+use intmap::Refused;
 use std::alloc::{AllocError, Global};
 
 /// So many keys from a first one on, each so far behind the one before it, wrapped to 64 bits.
@@ -27,16 +28,40 @@ pub fn value_of(key: u64) -> u64 {
     key.wrapping_add(10)
 }
 
-/// Binds each key to ten more. Says how many were new, and behind each length at which the number
-/// of slots changed how many there were from then on; a refusal ends it.
-pub fn insert_many(alloc: Global, map: &mut Map<'_>, keys: Keys) -> Result<String, AllocError> {
+/// Which of the two insertions is made.
+#[derive(Clone, Copy)]
+pub enum Insertion {
+    /// That which also binds a key that is bound.
+    Over,
+    /// That which leaves a bound key.
+    Checked,
+}
+
+impl Insertion {
+    // inserts the key with ten more; answers whether it was new
+    fn insert(self, map: &mut Map<'_>, key: u64) -> Result<bool, Refused<u64>> {
+        match self {
+            Insertion::Over => Ok(map.insert(key, value_of(key))?.is_none()),
+            Insertion::Checked => map.insert_checked(key, value_of(key)),
+        }
+    }
+}
+
+/// Inserts each key with ten more. Says how many were new, and behind each length at which the
+/// number of slots changed how many there were from then on; a refusal ends it.
+pub fn insert_many(
+    alloc: Global,
+    map: &mut Map<'_>,
+    insertion: Insertion,
+    keys: Keys,
+) -> Result<String, AllocError> {
     let mut new = 0u64;
     let mut slots = map.capacity();
     let mut changes = String::new(alloc);
     for place in 0..keys.count {
         let key = keys.at(place);
-        match map.insert(key, value_of(key)) {
-            Ok(old) => new = new.wrapping_add(u64::from(old.is_none())),
+        match insertion.insert(map, key) {
+            Ok(is_new) => new = new.wrapping_add(u64::from(is_new)),
             Err(refused) => return refusal_text(alloc, refused.cause, Some(refused.value)),
         }
         if map.capacity() != slots {

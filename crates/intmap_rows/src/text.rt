@@ -13,6 +13,11 @@ pub fn option_text(alloc: Global, value: Option<u64>) -> Result<String, AllocErr
     }
 }
 
+/// `true` or `false`.
+pub fn bool_text(alloc: Global, value: bool) -> Result<String, AllocError> {
+    format!(in alloc; "{value}")
+}
+
 /// A number alone.
 pub fn number_text(alloc: Global, number: u128) -> Result<String, AllocError> {
     format!(in alloc; "{number}")
