@@ -3,7 +3,7 @@ ghost use Rattle.std.specs.Prelude.{◌≡◌, ◌%◌, ◌==◌};
 
 use crate::many::{Keys, value_of};
 use crate::maps::Map;
-use crate::text::{done_text, number_text, option_text, pairs_text, refusal_text};
+use crate::text::{bool_text, done_text, number_text, option_text, pairs_text, refusal_text};
 use crate::word::words_of;
 use intmap_run::{Answer, Command, Judge, run};
 use refuser::Refuser;
@@ -49,6 +49,8 @@ fn bare(name: &str) -> Option<Command<u64, u64>> {
     match name {
         "get_load_factor" => Some(Command::GetLoadFactor),
         "len" => Some(Command::Len),
+        "is_empty" => Some(Command::IsEmpty),
+        "clear" => Some(Command::Clear),
         "capacity" => Some(Command::Capacity),
         "load" => Some(Command::Load),
         "walk" => Some(Command::Walk),
@@ -60,6 +62,7 @@ fn bare(name: &str) -> Option<Command<u64, u64>> {
 fn with_number(name: &str, number: u64) -> Option<Command<u64, u64>> {
     match name {
         "get" => Some(Command::Get(number)),
+        "contains_key" => Some(Command::ContainsKey(number)),
         "remove" => Some(Command::Remove(number)),
         "reserve" => Some(Command::Reserve(number as usize)),
         "set_load_factor" => Some(Command::SetLoadFactor(number as usize)),
@@ -71,6 +74,7 @@ fn with_number(name: &str, number: u64) -> Option<Command<u64, u64>> {
 fn with_pair(name: &str, key: u64, value: u64) -> Option<Command<u64, u64>> {
     match name {
         "insert" => Some(Command::Insert(key, value)),
+        "insert_checked" => Some(Command::InsertChecked(key, value)),
         _ => None,
     }
 }
@@ -154,6 +158,7 @@ fn text_of(
     match answer {
         Answer::Old(value) | Answer::Seen(value) => option_text(alloc, *value),
         Answer::Done => done_text(alloc, Ok(())),
+        Answer::Flag(is_so) => bool_text(alloc, *is_so),
         Answer::Number(number) => number_text(alloc, *number),
         Answer::Walk(pairs) => pairs_text(alloc, pairs.as_slice()),
         Answer::Refused { cause, value } => refusal_text(alloc, *cause, *value),
