@@ -1,5 +1,5 @@
 //! One slot of a table: the first pair in its place, the rest behind it.
-ghost use Rattle.std.specs.Prelude.{◌≡◌, ◌+◌, ◌<◌, ◌≤◌, List, [], ◌∷◌, ◌++◌, length, position, swap_remove, slice_index_or, nat_lt, vec_capacity, Bool, true, None, Some, OnOk, OnErr, IfOk, IfErr, option_copied};
+ghost use Rattle.std.specs.Prelude.{◌≡◌, ◌+◌, ◌<◌, ◌≤◌, [], ◌∷◌, ◌++◌, length, position, swap_remove, slice_index_or, nat_lt, vec_capacity, true, None, Some, OnOk, OnErr, IfOk, IfErr, option_copied};
 ghost use Rattle.intmap.specs.Classes.{same_key};
 ghost use Rattle.intmap.specs.Bindings.{swap_out, value_of};
 ghost use Rattle.intmap.specs.Reach.{through_first};
@@ -248,9 +248,10 @@ impl<K: IntKey, X: Drop, A: Allocator> Slot<K, X, A> {
         ensures err { OnErr result (self.new.pairs ≡ self.old.pairs) }
         ensures value_returned { IfErr result (λ returned. returned ≡ value) }
     {
-        let room = match self.rest.is_empty() {
-            true => self.rest.reserve_exact(1),
-            false => self.rest.reserve(1),
+        let room = if self.rest.is_empty() {
+            self.rest.reserve_exact(1)
+        } else {
+            self.rest.reserve(1)
         };
         if room.is_err() {
             return Err(value);

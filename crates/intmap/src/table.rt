@@ -6,7 +6,7 @@ mod place;
 pub(crate) mod stored;
 pub(crate) mod walk;
 
-ghost use Rattle.std.specs.Prelude.{◌≡◌, ℕ, ◌+◌, ◌<◌, ◌≤◌, slice_index_or, List, [], OnOk, OnErr, IfOk, IfErr, IfSome, IsOk, IsSome, IsNone, Some, None, option_copied, length, nat_lt, count_by, ◌^◌};
+ghost use Rattle.std.specs.Prelude.{◌≡◌, ℕ, ◌+◌, ◌<◌, slice_index_or, [], OnOk, OnErr, IfOk, IfErr, Some, None, option_copied, length};
 ghost use Rattle.intmap.specs.Classes.{IsCapacity, slot_number};
 ghost use Rattle.intmap.specs.Bindings.{value_of, take_key, put_pair};
 ghost use Rattle.intmap.specs.Slots.{rows, AreMarked};

@@ -1,5 +1,5 @@
 //! Pairs on their way into a map: what is refused waits, with its cause, and is tried again.
-ghost use Rattle.std.specs.Prelude.{◌≡◌, ℕ, ◌+◌, ◌<◌, ◌≤◌, List, ◌∷◌, ◌++◌, [], OnOk, OnErr, length, vec_len, vec_capacity};
+ghost use Rattle.std.specs.Prelude.{◌≡◌, ℕ, ◌+◌, ◌<◌, ◌≤◌, List, ◌∷◌, ◌++◌, [], OnOk, OnErr, length, vec_capacity};
 ghost use Rattle.intmap_uses.specs.Waiting.{Moves, pairs_of};
 
 use intmap::{Cause, IntMap};

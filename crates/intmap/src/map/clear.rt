@@ -1,5 +1,5 @@
 //! Emptying.
-ghost use Rattle.std.specs.Prelude.{◌≡◌, [], length, None};
+ghost use Rattle.std.specs.Prelude.{◌≡◌, length, None};
 ghost use Rattle.intmap.specs.Bindings.{value_of};
 ghost use Rattle.intmap.specs.Map.{IsMap, emptied};
 

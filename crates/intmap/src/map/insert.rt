@@ -1,5 +1,5 @@
 //! Insertions.
-ghost use Rattle.std.specs.Prelude.{◌≡◌, ◌↔◌, ◌+◌, ◌*◌, ◌/◌, ◌^◌, ◌<◌, ◌≤◌, length, IfOk, IfErr, OnOk, OnErr, IsErrAnd, IsNone, None, Some, true, cond, is_some, is_none, unwrap_or, MatchBool};
+ghost use Rattle.std.specs.Prelude.{◌≡◌, ◌↔◌, ◌+◌, ◌*◌, ◌/◌, ◌^◌, ◌<◌, length, IfOk, IfErr, OnOk, OnErr, IsErrAnd, IsNone, None, Some, true, cond, is_some, is_none, unwrap_or, MatchBool};
 ghost use Rattle.intmap.specs.Bindings.{value_of, Updates};
 ghost use Rattle.intmap.specs.Reach.{class_size};
 ghost use Rattle.intmap.specs.Growth.{IsNext, is_due};
