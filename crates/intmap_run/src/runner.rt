@@ -103,7 +103,7 @@ fn apply<K: IntKey, V: Drop, J: Judge<K, V>, A: Allocator + Copy>(
 }
 
 /// The answer of an insertion that was refused, which hands the value back.
-fn handed_back<K, V, S, A: Allocator>(refused: Refused<V>) -> Answer<K, V, S, A>
+fn handed_back<K, V: Drop, S, A: Allocator>(refused: Refused<V>) -> Answer<K, V, S, A>
     ensures { result ≡ Answer.Refused refused.cause (Some refused.value) }
 {
     Answer::Refused {
