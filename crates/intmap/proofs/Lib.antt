@@ -3,6 +3,7 @@ pub mod SlotNumberLemmas
 pub mod SwapOutLemmas
 pub mod ClassLemmas
 pub mod WalkLemmas
+pub mod RewrittenLemmas
 pub mod PositionLemmas
 pub mod GrowthLemmas
 pub mod DistinctLemmas

@@ -1,12 +1,13 @@
 -- Lists that stand for one map: what they tell of it is the same, and they go on standing for one map.
 use Rattle.std.proofs.Common.{◌≡◌, ℕ, ◌<◌, ◌≤◌, List, length, sym, ap, ◌∙◌}
 use Rattle.intmap.specs.Classes.{IsCapacity, slot_number}
-use Rattle.intmap.specs.Bindings.{value_of, take_key, put_pair}
+use Rattle.intmap.specs.Bindings.{value_of, take_key, put_pair, write_value, strike_keys}
 use Rattle.intmap.specs.Walk.{walk_of}
 use Rattle.intmap.specs.Reach.{class_size, reach}
 use Rattle.intmap.specs.Figures.{load_of}
 use Rattle.intmap.proofs.SlotNumberLemmas.{agrees-slot_number, slot_number-below}
 use Rattle.intmap.proofs.WalkLemmas.{SameSlots-from_walk_of, walk_of-take_key-same, walk_of-put_pair-same, value_of-same, class_size-same, reach-same}
+use Rattle.intmap.proofs.RewrittenLemmas.{walk_of-write_value-same, walk_of-strike_keys-same}
 use Rattle.intmap.proofs.DistinctLemmas.{length-walk_of}
 use Rattle.intmap.proofs.LoadLemmas.{load_of-same}
 use Rattle.intmap.proofs.RegroupLemmas.{walk_of-larger}
@@ -44,6 +45,14 @@ module _ {K V : Type 0} {number : K → ℕ} {C : ℕ} {L M : List (K × V)} (on
   -- once a pair was put in
   pub StandForOne-put_pair : (k : K) (v : V) → StandForOne number C (put_pair number L C k v) (put_pair number M C k v)
   StandForOne-put_pair k v = record { capacity = one.capacity; walk = walk_of-put_pair-same number C one.capacity L M k v one.walk }
+
+  -- once a value was written
+  pub StandForOne-write_value : (k : K) (v : V) → StandForOne number C (write_value number L k v) (write_value number M k v)
+  StandForOne-write_value k v = record { capacity = one.capacity; walk = walk_of-write_value-same number C L M k v one.walk }
+
+  -- once keys were struck
+  pub StandForOne-strike_keys : (ks : List K) → StandForOne number C (strike_keys number L ks) (strike_keys number M ks)
+  StandForOne-strike_keys ks = record { capacity = one.capacity; walk = walk_of-strike_keys-same number C L M ks one.walk }
 
   -- in at least as many slots
   pub StandForOne-larger : (D : ℕ) → IsCapacity D → C ≤ D → StandForOne number D L M

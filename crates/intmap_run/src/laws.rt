@@ -2,7 +2,7 @@
 //! nothing. A call of one brings its law into the proof of the function that makes it.
 ghost use Rattle.std.specs.Prelude.{◌≡◌, ◌↔◌, ◌≤◌, ◌++◌, ℕ, List, length};
 ghost use Rattle.intmap.specs.Classes.{IsCapacity, residue, slot_number};
-ghost use Rattle.intmap.specs.Bindings.{value_of, take_key, put_pair};
+ghost use Rattle.intmap.specs.Bindings.{value_of, take_key, put_pair, write_value, strike_keys};
 ghost use Rattle.intmap.specs.Walk.{walk_of};
 ghost use Rattle.intmap.specs.Reach.{class_size, reach};
 ghost use Rattle.intmap.specs.Figures.{load_of};
@@ -50,6 +50,20 @@ pub fn insertion_keeps_standing<K: IntKey, V>()
     ensures { (C : ℕ) (L M : List (K × V)) (k : K) (v : V) → StandForOne K.number_of C L M
         → StandForOne K.number_of C (put_pair K.number_of L C k v)
         (put_pair K.number_of M C k v) }
+{}
+
+/// Lists that stand for one map do so once a value was written in both.
+pub fn writing_keeps_standing<K: IntKey, V>()
+    ensures { (C : ℕ) (L M : List (K × V)) (k : K) (v : V) → StandForOne K.number_of C L M
+        → StandForOne K.number_of C (write_value K.number_of L k v)
+        (write_value K.number_of M k v) }
+{}
+
+/// Lists that stand for one map do so once keys were struck from both.
+pub fn striking_keeps_standing<K: IntKey, V>()
+    ensures { (C : ℕ) (L M : List (K × V)) (ks : List K) → StandForOne K.number_of C L M
+        → StandForOne K.number_of C (strike_keys K.number_of L ks)
+        (strike_keys K.number_of M ks) }
 {}
 
 /// Lists that stand for one map do so after any growth.
