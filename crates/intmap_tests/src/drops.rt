@@ -70,7 +70,33 @@ fn each_value_is_dropped_once(rt: HostRuntime) -> Result<(), Fail> {
     assert_eq!(rt; drops.get(), 0x00011, "value 0 was let go");
 
     assert_eq!(rt; map.len(), 3, "three values are left");
+    for (key, number) in [(4, 5), (0, 6)] {
+        let value = Counted {
+            number,
+            drops: &drops,
+        };
+        if map.insert_checked(key, value).is_err() {
+            return Err(Fail::from(AllocError));
+        }
+    }
+    assert_eq!(rt;
+        drops.get(),
+        0x100011,
+        "key 4 was bound, so value 5 was let go"
+    );
+
+    map.clear();
+    assert_eq!(rt; drops.get(), 0x1111111, "the map was emptied");
+    assert_eq!(rt; map.capacity(), 2048, "the map was emptied");
+    let value = Counted {
+        number: 7,
+        drops: &drops,
+    };
+    if map.insert(4, value).is_err() {
+        return Err(Fail::from(AllocError));
+    }
+    assert_eq!(rt; drops.get(), 0x1111111, "value 7 is in the map");
     drop(map);
-    assert_eq!(rt; drops.get(), 0x11111, "the map was let go");
+    assert_eq!(rt; drops.get(), 0x11111111, "the map was let go");
     Ok(())
 }
