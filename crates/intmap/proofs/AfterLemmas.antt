@@ -9,35 +9,49 @@ use Rattle.intmap.proofs.DistinctLemmas.{length-walk_of, length-take_key, length
 use Rattle.intmap.proofs.BindingLemmas.{value_of-walk_of, value_of-take_key, value_of-put_pair, Updates-from}
 
 module _ {K V : Type 0} (number : K → ℕ) (is_key : K → Type 0) where
-  -- after an insertion its key has the value, and each other key its own
-  pub Updates-insert : (m n : MapState K V) (k : K) (v : V) → IsMap number is_key m → IsCapacity n.capacity → n ≡ after_insert number m k v n.capacity → Updates number m.walk n.walk k (Some v)
-  Updates-insert m n k v is_map cap state =
-      Updates-from number m.walk n.walk k (Some v) (λ q.
-      ap (λ s. value_of number s.walk q) state
-      ∙ value_of-walk_of number (put_pair number m.walk m.capacity k v) n.capacity q (slot_number-below number q n.capacity cap)
+  -- with a pair put in its key has the value, and each other key its own
+  pub Updates-put : (m : MapState K V) (W : List (K × V)) (D : ℕ) (k : K) (v : V) → IsMap number is_key m → IsCapacity D → W ≡ walk_of number (put_pair number m.walk m.capacity k v) D → Updates number m.walk W k (Some v)
+  Updates-put m W D k v is_map cap is =
+      Updates-from number m.walk W k (Some v) (λ q.
+      ap (λ L. value_of number L q) is
+      ∙ value_of-walk_of number (put_pair number m.walk m.capacity k v) D q (slot_number-below number q D cap)
       ∙ value_of-put_pair number m.walk m.capacity k q v is_map.distinct)
 
   -- and there is one pair more where the key was new
-  pub length-insert : (m n : MapState K V) (k : K) (v : V) → IsCapacity n.capacity → n ≡ after_insert number m k v n.capacity → length n.walk ≡ length m.walk + cond (is_some (value_of number m.walk k)) 0 1
-  length-insert m n k v cap state =
-      ap (λ s. length s.walk) state
-      ∙ length-walk_of number (put_pair number m.walk m.capacity k v) n.capacity (λ q. slot_number-below number q n.capacity cap)
+  pub length-put : (m : MapState K V) (W : List (K × V)) (D : ℕ) (k : K) (v : V) → IsCapacity D → W ≡ walk_of number (put_pair number m.walk m.capacity k v) D → length W ≡ length m.walk + cond (is_some (value_of number m.walk k)) 0 1
+  length-put m W D k v cap is =
+      ap length is
+      ∙ length-walk_of number (put_pair number m.walk m.capacity k v) D (λ q. slot_number-below number q D cap)
       ∙ length-put_pair number m.walk m.capacity k v
 
-  -- after a removal its key has no value, and each other key its own
-  pub Updates-remove : (m n : MapState K V) (k : K) → IsMap number is_key m → n ≡ after_remove number m k → Updates number m.walk n.walk k None
-  Updates-remove m n k is_map state =
-      Updates-from number m.walk n.walk k None (λ q.
-      ap (λ s. value_of number s.walk q) state
+  -- the same after an insertion
+  pub Updates-insert : (m n : MapState K V) (k : K) (v : V) → IsMap number is_key m → IsCapacity n.capacity → n ≡ after_insert number m k v n.capacity → Updates number m.walk n.walk k (Some v)
+  Updates-insert m n k v is_map cap state = Updates-put m n.walk n.capacity k v is_map cap (ap (λ s. s.walk) state)
+
+  pub length-insert : (m n : MapState K V) (k : K) (v : V) → IsCapacity n.capacity → n ≡ after_insert number m k v n.capacity → length n.walk ≡ length m.walk + cond (is_some (value_of number m.walk k)) 0 1
+  length-insert m n k v cap state = length-put m n.walk n.capacity k v cap (ap (λ s. s.walk) state)
+
+  -- with a key taken out it has no value, and each other key its own
+  pub Updates-taken : (m : MapState K V) (W : List (K × V)) (k : K) → IsMap number is_key m → W ≡ walk_of number (take_key number m.walk m.capacity k) m.capacity → Updates number m.walk W k None
+  Updates-taken m W k is_map is =
+      Updates-from number m.walk W k None (λ q.
+      ap (λ L. value_of number L q) is
       ∙ value_of-walk_of number (take_key number m.walk m.capacity k) m.capacity q (slot_number-below number q m.capacity is_map.capacity)
       ∙ value_of-take_key number m.walk m.capacity k q is_map.distinct)
 
   -- and there is one pair less where the key was bound
-  pub length-remove : (m n : MapState K V) (k : K) → IsMap number is_key m → n ≡ after_remove number m k → length n.walk + cond (is_some (value_of number m.walk k)) 1 0 ≡ length m.walk
-  length-remove m n k is_map state =
-      let walked : length n.walk ≡ length (take_key number m.walk m.capacity k) = ap (λ s. length s.walk) state ∙ length-walk_of number (take_key number m.walk m.capacity k) m.capacity (λ q. slot_number-below number q m.capacity is_map.capacity) in
+  pub length-taken : (m : MapState K V) (W : List (K × V)) (k : K) → IsMap number is_key m → W ≡ walk_of number (take_key number m.walk m.capacity k) m.capacity → length W + cond (is_some (value_of number m.walk k)) 1 0 ≡ length m.walk
+  length-taken m W k is_map is =
+      let walked : length W ≡ length (take_key number m.walk m.capacity k) = ap length is ∙ length-walk_of number (take_key number m.walk m.capacity k) m.capacity (λ q. slot_number-below number q m.capacity is_map.capacity) in
       let taken = length-take_key number m.walk m.capacity k in
       omega (arith, walked, taken)
+
+  -- the same after a removal
+  pub Updates-remove : (m n : MapState K V) (k : K) → IsMap number is_key m → n ≡ after_remove number m k → Updates number m.walk n.walk k None
+  Updates-remove m n k is_map state = Updates-taken m n.walk k is_map (ap (λ s. s.walk) state)
+
+  pub length-remove : (m n : MapState K V) (k : K) → IsMap number is_key m → n ≡ after_remove number m k → length n.walk + cond (is_some (value_of number m.walk k)) 1 0 ≡ length m.walk
+  length-remove m n k is_map state = length-taken m n.walk k is_map (ap (λ s. s.walk) state)
 
   -- in other slots each key has its value
   pub value_of-in_slots : (W M : List (K × V)) (D : ℕ) (q : K) → IsCapacity D → M ≡ walk_of number W D → value_of number M q ≡ value_of number W q

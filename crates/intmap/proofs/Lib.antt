@@ -4,6 +4,7 @@ pub mod SwapOutLemmas
 pub mod ClassLemmas
 pub mod WalkLemmas
 pub mod RewrittenLemmas
+pub mod LocationLemmas
 pub mod PositionLemmas
 pub mod GrowthLemmas
 pub mod DistinctLemmas
@@ -16,6 +17,8 @@ pub mod MappedLemmas
 pub mod MoveLemmas
 pub mod RegroupLemmas
 pub mod MapLemmas
+pub mod WriteLemmas
+pub mod EntryLemmas
 pub mod LoadFactorLemmas
 pub mod BindingLemmas
 pub mod StrikeLemmas

@@ -39,7 +39,7 @@ module _ {X Y : Type 0} (h : X → Y) where
   through_first-map test [] = refl
   through_first-map test (x ∷ xs) = let e = through_first-map test xs in grind (arith, e)
 
-  flat_map-map : (g : ℕ → List X) (g' : ℕ → List Y) → ((i : ℕ) → g' i ≡ map h (g i)) → (ns : List ℕ) → flat_map g' ns ≡ map h (flat_map g ns)
+  pub flat_map-map : (g : ℕ → List X) (g' : ℕ → List Y) → ((i : ℕ) → g' i ≡ map h (g i)) → (ns : List ℕ) → flat_map g' ns ≡ map h (flat_map g ns)
   flat_map-map g g' same [] = refl
   flat_map-map g g' same (n ∷ ns) = simp (same n, flat_map-map g g' same ns, map-append)
 
@@ -69,7 +69,7 @@ module _ {K X V : Type 0} (number : K → ℕ) (f : X → V) where
   pub value_of-missing_values : (L : List (K × X)) (k : K) → value_of number (with_values L) k ≡ None → value_of number L k ≡ None
   value_of-missing_values L k missing = none_from (value_of number L k) (sym (value_of-with_values L k) ∙ missing)
 
-  slot_of-with_values : (L : List (K × X)) (C i : ℕ) → slot_of number (with_values L) C i ≡ with_values (slot_of number L C i)
+  pub slot_of-with_values : (L : List (K × X)) (C i : ℕ) → slot_of number (with_values L) C i ≡ with_values (slot_of number L C i)
   slot_of-with_values L C i = filter-map (λ p. (p.0, f p.1)) (λ p. slot_number number p.0 C == i) L
 
   pub walk_of-with_values : (L : List (K × X)) (C : ℕ) → walk_of number (with_values L) C ≡ with_values (walk_of number L C)

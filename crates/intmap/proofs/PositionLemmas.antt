@@ -61,7 +61,7 @@ module _ {X : Type 0} (test : X → Bool) where
   position_or_len-le (x ∷ xs) = let h = position_or_len-le xs in grind (arith, h)
 
   -- where none is found, the whole list is passed
-  position_or_len-none : (xs : List X) → position test xs ≡ None → position_or_len test xs ≡ length xs
+  pub position_or_len-none : (xs : List X) → position test xs ≡ None → position_or_len test xs ≡ length xs
   position_or_len-none xs none = let l = position_or_len-le xs in grind (arith, nat_tests, none, l)
 
   -- behind an element that fails
@@ -121,6 +121,13 @@ module _ {X : Type 0} (test : X → Bool) where
       let c = cond_some (nat_lt (position_or_len test xs) (length xs)) (position_or_len test xs) i e in
       let l : position_or_len test xs < length xs = ltb-true (position_or_len test xs) (length xs) c.0 in
       (c.1, subst (λ n. n < length xs) c.1 l)
+
+  -- behind an element that fails, the place is one greater
+  pub position-cons_some : (x : X) (xs : List X) (i : ℕ) → test x ≡ false → position test xs ≡ Some i → position test (x ∷ xs) ≡ Some (i + 1)
+  position-cons_some x xs i fails found =
+      let p = position-within xs i found in
+      let e : position_or_len test (x ∷ xs) ≡ i + 1 = rw fails (let at = p.0 in omega (arith, at)) in
+      simp (e, lt-ltb (i + 1) (length (x ∷ xs)) (let below = p.1 in omega (arith, below)))
 
   -- the last element fills the place that was found
   pub swap_remove-position : (xs : List X) (i : ℕ) (x : X) → position test xs ≡ Some i → x ≡ get_or xs i x → swap_remove xs i x ≡ swap_out test any xs

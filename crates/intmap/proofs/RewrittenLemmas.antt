@@ -5,6 +5,7 @@ use Rattle.std.specs.List.{list_any}
 use Rattle.intmap.specs.Classes.{slot_number, same_key}
 use Rattle.intmap.specs.Bindings.{write_value, strike_keys}
 use Rattle.intmap.specs.Walk.{slot_of, walk_of}
+use Rattle.intmap.specs.Written.{slot_of-write_value}
 use Rattle.intmap.proofs.WalkLemmas.{SameSlots-from_walk_of, walk_of-same}
 
 module _ {X : Type 0} (keep test : X → Bool) where
@@ -20,25 +21,12 @@ module _ {X : Type 0} (keep test : X → Bool) where
   filter-filter (x ∷ xs) = filter-filter_step x xs (keep x) (test x) refl refl (filter-filter xs)
 
 module _ {K V : Type 0} (number : K → ℕ) (C : ℕ) where
-  slot_of-write_step : (p : K × V) (L : List (K × V)) (k : K) (v : V) (i : ℕ) (s t : Bool) → same_key number k p.0 ≡ s → (slot_number number p.0 C == i) ≡ t
-      → slot_of number (write_value number L k v) C i ≡ write_value number (slot_of number L C i) k v
-      → slot_of number (write_value number (p ∷ L) k v) C i ≡ write_value number (slot_of number (p ∷ L) C i) k v
-  slot_of-write_step p L k v i true true e f rest = simp (e, f, rest)
-  slot_of-write_step p L k v i true false e f rest = simp (e, f, rest)
-  slot_of-write_step p L k v i false true e f rest = simp (e, f, rest)
-  slot_of-write_step p L k v i false false e f rest = simp (e, f, rest)
-
-  -- a slot of a list with a value written is the slot with it written
-  slot_of-write_value : (L : List (K × V)) (k : K) (v : V) (i : ℕ) → slot_of number (write_value number L k v) C i ≡ write_value number (slot_of number L C i) k v
-  slot_of-write_value [] k v i = refl
-  slot_of-write_value (p ∷ L) k v i = slot_of-write_step p L k v i (same_key number k p.0) (slot_number number p.0 C == i) refl refl (slot_of-write_value L k v i)
-
   -- lists with one walk have one after a value was written
   pub walk_of-write_value-same : (L M : List (K × V)) (k : K) (v : V) → walk_of number L C ≡ walk_of number M C → walk_of number (write_value number L k v) C ≡ walk_of number (write_value number M k v) C
   walk_of-write_value-same L M k v same =
       let slots = SameSlots-from_walk_of number C L M same in
       walk_of-same number C (write_value number L k v) (write_value number M k v) (λ i below.
-      slot_of-write_value L k v i ∙ ap (λ xs. write_value number xs k v) (slots i below) ∙ sym (slot_of-write_value M k v i))
+      slot_of-write_value number L C k v i ∙ ap (λ xs. write_value number xs k v) (slots i below) ∙ sym (slot_of-write_value number M C k v i))
 
   -- lists with one walk have one after keys were struck
   pub walk_of-strike_keys-same : (L M : List (K × V)) (ks : List K) → walk_of number L C ≡ walk_of number M C → walk_of number (strike_keys number L ks) C ≡ walk_of number (strike_keys number M ks) C

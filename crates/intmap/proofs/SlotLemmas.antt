@@ -1,8 +1,10 @@
--- What a search finds in a slot, of which the first pair is looked at apart from the rest.
-use Rattle.std.proofs.Common.{◌≡◌, ◌+◌, Bool, true, false, List, ◌∷◌, length, get_or, arith}
+-- What a search finds in a slot, of which the first pair is looked at apart from the rest, and what stands at a place of it.
+use Rattle.std.proofs.Common.{◌≡◌, ℕ, zero, suc, ◌+◌, ◌-◌, ◌<◌, Bool, true, false, List, [], ◌∷◌, length, get_or, set, Option, Some, None, refl, sym, ap, ◌∙◌, arith}
 use Rattle.std.specs.Prelude.{swap_remove}
+use Rattle.std.proofs.lemmas.List.{get_or_default}
 use Rattle.intmap.specs.Bindings.{swap_out, first_value}
 use Rattle.intmap.specs.Reach.{through_first}
+use Rattle.intmap.specs.Slots.{all_pairs, write_at, IsFilledInOrder}
 use Rattle.intmap.proofs.SwapOutLemmas.{any}
 use Rattle.intmap.proofs.PositionLemmas.{IsPassed-none, IsFound-here, length-through_first-cons, swap_remove-position}
 
@@ -25,3 +27,26 @@ module _ {K X : Type 0} (test : K → Bool) (pairs : List (K × X)) (first : K �
     taken = rw is (simp fails);
     reached = rw is (length-through_first-cons (λ p. test p.0) first rest fails);
   }
+
+module _ {K X : Type 0} where
+  -- a pair with another value in its place
+  pub set-write_at : (ps : List (K × X)) (i : ℕ) (p : K × X) (v : X) → p ≡ get_or ps i p → set ps i (p.0, v) ≡ write_at ps i v
+  set-write_at [] i p v is = refl
+  set-write_at (q ∷ ps) zero p v is = ap (λ (r : K × X). (r.0, v) ∷ ps) is
+  set-write_at (q ∷ ps) (suc i) p v is = ap (λ qs. q ∷ qs) (set-write_at ps i p v is)
+
+  -- a place behind the first is one of the rest
+  pub write_at-behind : (first : Option (K × X)) (rest : List (K × X)) (i : ℕ) (p : K × X) (v : X) → 0 < i → i < length (all_pairs first rest) → IsFilledInOrder first rest → p ≡ get_or rest (i - 1) p
+      → all_pairs first (set rest (i - 1) (p.0, v)) ≡ write_at (all_pairs first rest) i v
+  write_at-behind None rest i p v some below filled is = let none : length rest ≡ 0 = ap length filled in absurd (omega (arith, below, none, some))
+  write_at-behind (Some f) rest i p v some below filled is =
+      let step : i ≡ suc (i - 1) = omega (arith, some) in
+      ap (λ ps. f ∷ ps) (set-write_at rest (i - 1) p v is) ∙ ap (λ n. write_at (f ∷ rest) n v) (sym step)
+
+  pub value_at-behind : (first : Option (K × X)) (rest : List (K × X)) (i : ℕ) (p d : K × X) → 0 < i → i < length (all_pairs first rest) → IsFilledInOrder first rest → p ≡ get_or rest (i - 1) p
+      → p.1 ≡ (get_or (all_pairs first rest) i d).1
+  value_at-behind None rest i p d some below filled is = let none : length rest ≡ 0 = ap length filled in absurd (omega (arith, below, none, some))
+  value_at-behind (Some f) rest i p d some below filled is =
+      let step : i ≡ suc (i - 1) = omega (arith, some) in
+      let within : i - 1 < length rest = omega (arith, below, some) in
+      ap (λ (q : K × X). q.1) (is ∙ get_or_default rest (i - 1) p d within ∙ ap (λ n. get_or (f ∷ rest) n d) (sym step))

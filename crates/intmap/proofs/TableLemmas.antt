@@ -116,7 +116,7 @@ module _ {K X : Type 0} (number : K → ℕ) (S : List (Held K X)) (h : Held K X
   rows-set s same =
       map-set (λ (t : Held K X). t.pairs) S i s ∙ ap (λ ps. set (rows S) i ps) (same ∙ row-here) ∙ set-get_or (rows S) i []
 
-  slot_of-here : slot_of number (joined (rows S)) (length S) i ≡ h.pairs
+  pub slot_of-here : slot_of number (joined (rows S)) (length S) i ≡ h.pairs
   slot_of-here = slot_of-joined number S at.table i ∙ sym row-here
 
   pub reach-here : reach number (joined (rows S)) (length S) k ≡ length (through_first (λ p. same_key number k p.0) h.pairs)

@@ -45,7 +45,7 @@ module _ {K V : Type 0} (number : K → ℕ) (C : ℕ) where
   walk_of-walk_of L = walk_of-same (walk_of number L C) L (slot_of-walk_of L)
 
   -- a pair of the key k is in the slot of k
-  same_key-slot : (k : K) (p : K × V) → same_key number k p.0 ≡ true → slot_number number p.0 C ≡ slot_number number k C
+  pub same_key-slot : (k : K) (p : K × V) → same_key number k p.0 ≡ true → slot_number number p.0 C ≡ slot_number number k C
   same_key-slot k p same = ap (λ n. (n * 11400714819323198549) % C) (eqb-true (number p.0) (number k) same)
 
   -- a key is bound in its slot, if at all

@@ -12,3 +12,7 @@ pub mod Moves
 pub mod Map
 pub mod States
 pub mod Kept
+pub mod Locations
+pub mod Written
+pub mod Lending
+pub mod Entries

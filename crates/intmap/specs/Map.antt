@@ -1,7 +1,7 @@
 -- A map as contracts see it, and what calls leave of it.
 use Rattle.std.specs.Prelude.{◌≡◌, ◌⊎◌, ℕ, ◌+◌, ◌^◌, ◌<◌, ◌≤◌, ◌==◌, cond, List, [], length, All, IsNone, MatchOption}
 use Rattle.intmap.specs.Classes.{IsCapacity}
-use Rattle.intmap.specs.Bindings.{HasDistinctKeys, value_of, take_key, put_pair}
+use Rattle.intmap.specs.Bindings.{HasDistinctKeys, value_of, take_key, put_pair, write_value}
 use Rattle.intmap.specs.Walk.{walk_of}
 use Rattle.intmap.specs.Reach.{reach}
 use Rattle.intmap.specs.Growth.{MeetsLoad, IsNext, GrowsTooMuch, last_due}
@@ -72,7 +72,14 @@ module _ {K V : Type 0} (number : K → ℕ) where
   abbrev pub in_slots : MapState K V → ℕ → MapState K V
   in_slots m D = record m { walk = walk_of number m.walk D; capacity = D }
 
+  -- the map with k taken out
+  abbrev pub without_key : MapState K V → K → MapState K V
+  without_key m k = record m { walk = walk_of number (take_key number m.walk m.capacity k) m.capacity }
+
   -- the map once k was looked for and taken out
   abbrev pub after_remove : MapState K V → K → MapState K V
-  after_remove m k =
-      record (after_search m k) { walk = walk_of number (take_key number m.walk m.capacity k) m.capacity }
+  after_remove m k = without_key (after_search m k) k
+
+  -- the map with v as the value of k, in its place
+  abbrev pub written : MapState K V → K → V → MapState K V
+  written m k v = record m { walk = write_value number m.walk k v }

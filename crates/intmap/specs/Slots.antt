@@ -1,5 +1,5 @@
 -- How a table lays its pairs out. No public clause cites this module.
-use Rattle.std.specs.Prelude.{◌≡◌, ℕ, ◌+◌, ◌*◌, ◌/◌, ◌<◌, Bool, nat_lt, List, [], ◌++◌, length, map, slice_index_or, Option, Some, None}
+use Rattle.std.specs.Prelude.{◌≡◌, ℕ, zero, suc, ◌+◌, ◌*◌, ◌/◌, ◌<◌, Bool, nat_lt, List, [], ◌∷◌, ◌++◌, length, map, slice_index_or, Option, Some, None}
 use Rattle.std.specs.Option.{option_to_list}
 use Rattle.std.specs.List.{All, flat_map}
 use Rattle.intmap.specs.Bits.{marked}
@@ -22,6 +22,12 @@ all_pairs first rest = option_to_list first ++ rest
 abbrev pub IsFilledInOrder : {P : Type 0} → Option P → List P → Type 0
 IsFilledInOrder None rest = rest ≡ []
 IsFilledInOrder (Some first) rest = Unit {0}
+
+-- the pairs with v as the value of the one at place i
+abbrev pub write_at : {K X : Type 0} → List (K × X) → ℕ → X → List (K × X)
+write_at [] i v = []
+write_at (p ∷ ps) zero v = (p.0, v) ∷ ps
+write_at (p ∷ ps) (suc i) v = p ∷ write_at ps i v
 
 -- a table: its walk, and how many slots it has
 pub record Grid (K X : Type 0) : Type 0 where

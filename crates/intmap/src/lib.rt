@@ -1,6 +1,7 @@
 //! A hash map from integer keys, whose order and capacity follow from its calls alone.
 #![tactic(auto)]
 
+pub mod entry;
 pub mod iter;
 mod kept;
 mod key;

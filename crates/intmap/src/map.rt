@@ -8,6 +8,7 @@ mod clear;
 mod get;
 mod grow;
 mod insert;
+mod locate;
 mod remove;
 
 use crate::iter::Iter;

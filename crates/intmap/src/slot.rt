@@ -26,25 +26,6 @@ fn find_in<K: IntKey, X>(pairs: &[(Stored<K>, X)], key: &K, steps: &mut Steps) -
     None
 }
 
-/// What the key is bound to. The pairs are compared from the front up to the key's, each by one
-/// step.
-fn value_in<'a, K: IntKey, X>(
-    pairs: &'a [(Stored<K>, X)],
-    key: &K,
-    steps: &mut Steps,
-) -> Option<&'a X>
-    ensures value { option_copied result ≡ value_of K.number_of pairs.now key.now }
-    ensures counted { steps.new ≡ steps.old
-        + length (through_first (λ p. same_key K.number_of key.now p.0) pairs.now) }
-{
-    for pair in pairs {
-        if pair.0.matches(key, steps) {
-            return Some(&pair.1);
-        }
-    }
-    None
-}
-
 /// Takes the pair of the key out, and the last pair takes its place. The pairs are compared from
 /// the front up to it, each by one step.
 #[inline(never)]
@@ -90,6 +71,9 @@ impl<K: IntKey, X, A: Allocator> Model for Slot<K, X, A> {
 }
 
 impl<K: IntKey, X, A: Allocator> Slot<K, X, A> {
+    ghost use Rattle.std.specs.Borrow.{sem};
+    ghost use Rattle.intmap.specs.Lending.{slot_lends};
+
     /// A slot with no pair. It takes no memory.
     pub(crate) fn new(alloc: A) -> Slot<K, X, A>
         ensures pairs { result.pairs ≡ [] }
@@ -119,7 +103,66 @@ impl<K: IntKey, X, A: Allocator> Slot<K, X, A> {
         if first.0.matches(key, steps) {
             return Some(&first.1);
         }
-        value_in(&self.rest, key, steps)
+        let Some(place) = find_in(&self.rest, key, steps) else {
+            return None;
+        };
+        Some(&self.rest[place].1)
+    }
+
+    /// The place of the key's pair. The keys are compared as by [`get`](Slot::get).
+    pub(crate) fn find(&self, key: &K, steps: &mut Steps) -> Option<usize>
+        ensures place { result ≡ position (λ p. same_key K.number_of key.now p.0) self.now.pairs }
+        ensures counted { steps.new ≡ steps.old
+            + length (through_first (λ p. same_key K.number_of key.now p.0) self.now.pairs) }
+    {
+        let Some(first) = &self.first else {
+            return None;
+        };
+        if first.0.matches(key, steps) {
+            return Some(0);
+        }
+        let Some(place) = find_in(&self.rest, key, steps) else {
+            return None;
+        };
+        Some(place + 1)
+    }
+
+    /// The place of the last pair.
+    pub(crate) fn last_place(&self) -> usize
+        requires { 0 < length self.now.pairs }
+        ensures { result + 1 ≡ length self.now.pairs }
+    {
+        self.rest.len()
+    }
+
+    /// The value of the pair at a place.
+    pub(crate) fn value_at(&self, place: usize) -> &X
+        requires { place < length self.now.pairs }
+        ensures { (p : K × X) → result.now ≡ (slice_index_or self.now.pairs place p).1 }
+    {
+        if place > 0 {
+            return &self.rest[place - 1].1;
+        }
+        match &self.first {
+            Some(pair) => &pair.1,
+            None => unreachable!(),
+        }
+    }
+
+    /// The value of the pair at a place, to be written.
+    pub(crate) fn value_mut_at(&mut self, place: usize) -> &mut X
+        requires { place < length self.old.pairs }
+        ensures* writes_back { sem 𝓛 (slot_lends K.row X.row A.row K.IntKey.own K.PartialEq
+            A.Allocator self.entry place result) }
+        ensures value { (p : K × X) → result.now ≡ (slice_index_or self.old.pairs place p).1 }
+    {
+        if place > 0 {
+            return &mut self.rest[place - 1].1;
+        }
+        match &mut self.first {
+            Some(pair) => &mut pair.1,
+            None => unreachable!(),
+        }
     }
 
     /// The first pair, if there is one, and the rest.
@@ -152,6 +195,18 @@ impl<K: IntKey, X, A: Allocator> Slot<K, X, A> {
             Some(pair) => pair,
             None => unreachable!(),
         }
+    }
+
+    /// Takes the pair at a place out. The last pair takes its place.
+    pub(crate) fn take_at(&mut self, place: usize) -> (Stored<K>, X)
+        requires { place < length self.old.pairs }
+        ensures value { result ≡ slice_index_or self.old.pairs place result }
+        ensures pairs { self.new.pairs ≡ swap_remove self.old.pairs place result }
+    {
+        if place > 0 {
+            return self.rest.swap_remove(place - 1);
+        }
+        self.take_first()
     }
 
     /// Takes the first pair out as `take_first` does, and adds a new one at the end, which takes no

@@ -2,6 +2,7 @@
 
 mod bits;
 mod grow;
+pub(crate) mod locate;
 mod place;
 pub(crate) mod stored;
 pub(crate) mod walk;

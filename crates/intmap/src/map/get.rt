@@ -1,8 +1,8 @@
 //! Look-ups.
-ghost use Rattle.std.specs.Prelude.{◌≡◌, ◌+◌, is_some, option_copied};
-ghost use Rattle.intmap.specs.Bindings.{value_of};
+ghost use Rattle.std.specs.Prelude.{◌≡◌, ◌+◌, Some, is_some, length, option_copied};
+ghost use Rattle.intmap.specs.Bindings.{value_of, write_value, IsBound, Updates};
 ghost use Rattle.intmap.specs.Reach.{reach};
-ghost use Rattle.intmap.specs.Map.{IsMap};
+ghost use Rattle.intmap.specs.Map.{IsMap, after_search, written};
 
 use crate::key::IntKey;
 use crate::map::IntMap;
@@ -10,6 +10,10 @@ use crate::steps::Steps;
 use std::alloc::Allocator;
 
 impl<K: IntKey, V, A: Allocator + Copy> IntMap<K, V, A> {
+    ghost use Rattle.std.specs.Borrow.{sem};
+    ghost use Rattle.std.specs.Option.{option_copied_mut};
+    ghost use Rattle.intmap.specs.Lending.{map_lends_bound};
+
     /// The value that the key is bound to, or `None`. It is never refused.
     pub fn get(&self, key: K) -> Option<&V>
         ensures value { option_copied result ≡ value_of K.number_of self.now.walk key }
@@ -37,6 +41,31 @@ impl<K: IntKey, V, A: Allocator + Copy> IntMap<K, V, A> {
     {
         match self.table.get(&key, steps) {
             Some(kept) => Some(&kept.value),
+            None => None,
+        }
+    }
+
+    /// The value that the key is bound to, to be written in its place, or `None`. All else stays, but
+    /// for the count of compared keys. It is never refused.
+    ///
+    /// ```text
+    /// if let Some(value) = map.get_mut(21) { *value += 1; }
+    /// ```
+    pub fn get_mut(&mut self, key: K) -> Option<&mut V>
+        ensures* writes_back { sem 𝓛 (map_lends_bound K.row V.row A.row K.IntKey.own K.PartialEq
+            A.Allocator self.entry key result) }
+        ensures value { option_copied_mut result ≡ value_of K.number_of self.old.walk key }
+        ensures updates { IsBound K.number_of self.old.walk key → (v : V)
+            → Updates K.number_of self.old.walk (write_value K.number_of self.old.walk key v) key
+            (Some v) }
+        ensures len { (v : V)
+            → length (write_value K.number_of self.old.walk key v) ≡ length self.old.walk }
+        ensures map { IsMap K.number_of K.is_key self.old }
+        ensures map_after { (v : V) → IsMap K.number_of K.is_key
+            (written K.number_of (after_search K.number_of self.old key) key v) }
+    {
+        match self.locate(key) {
+            Some(at) => Some(self.value_mut_at(at)),
             None => None,
         }
     }

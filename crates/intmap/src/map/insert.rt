@@ -128,7 +128,7 @@ impl<K: IntKey, V: Drop, A: Allocator + Copy> IntMap<K, V, A> {
 
     /// Adds the pair of a key that isn't bound. It compares no key.
     #[inline(always)]
-    fn add(&mut self, key: K, value: V) -> Result<(), Refused<V>>
+    pub(crate) fn add(&mut self, key: K, value: V) -> Result<(), Refused<V>>
         requires key { K.is_key key }
         requires missing { value_of K.number_of self.old.walk key ≡ None }
         ensures capacity { OnOk result (IsNext self.old.capacity (length self.old.walk + 1)
@@ -144,6 +144,7 @@ impl<K: IntKey, V: Drop, A: Allocator + Copy> IntMap<K, V, A> {
         ensures memory { IfErr result (λ refused. refused.cause ≡ Cause.Memory
             → IsNext self.old.capacity (length self.old.walk + 1) self.old.factor self.old.capacity
             → 0 < class_size K.number_of self.old.walk self.old.capacity key) }
+        ensures map { IsMap K.number_of K.is_key self.old }
         ensures map_after { IsMap K.number_of K.is_key self.new }
     {
         if self.len == usize::MAX {

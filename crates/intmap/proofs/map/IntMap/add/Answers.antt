@@ -94,3 +94,15 @@ add_growing-requires-clause-exceeds g c = let h = c.if-has_outgrown.ensures in s
 
 pub returns-clause-map_after : goal.returns-clause-map_after
 returns-clause-map_after g c = (invariant_of-self-2 g c).map
+
+pub returns-then-self-clause-map : goal.returns-then-self-clause-map
+returns-then-self-clause-map g c = rw (← c.self.view_is) c.self.invariant.map
+
+pub returns-then-has_outgrown-clause-map : goal.returns-then-has_outgrown-clause-map
+returns-then-has_outgrown-clause-map g c = rw (← c.self.view_is) c.self.invariant.map
+
+pub returns-in-Err-clause-map : goal.returns-in-Err-clause-map
+returns-in-Err-clause-map g c = rw (← c.self.view_is) c.self.invariant.map
+
+pub returns-clause-map : goal.returns-clause-map
+returns-clause-map g c = rw (← c.self.view_is) c.self.invariant.map

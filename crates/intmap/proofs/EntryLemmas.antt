@@ -1,0 +1,83 @@
+-- Entries once a value was written, and maps into which the pair of a new key was put.
+use Rattle.std.proofs.Common.{◌≡◌, inl, inr, ℕ, ◌+◌, ◌^◌, ◌<◌, Bool, true, false, cond, List, [], ◌∷◌, ◌++◌, length, Option, Some, None, IsSome, refl, sym, ap, ◌∙◌, subst, arith}
+use Rattle.std.specs.Prelude.{◌==◌, position, Result, Ok, Err, OnOk}
+use Rattle.std.proofs.lemmas.Bool.{cases_Bool, cases_lt, eq-eqb}
+use Rattle.std.proofs.lemmas.List.{map-append}
+use Rattle.std.proofs.Props.{props}
+use Rattle.std.specs.declared.cmp.PartialEq as eq
+use Rattle.intmap.specs.declared.key.IntKey as key
+use Rattle.intmap.specs.declared.entry.OccupiedEntry.{OccupiedEntry}
+use Rattle.intmap.specs.Bindings.{value_of, IsBound, take_key, put_pair, write_value}
+use Rattle.intmap.specs.Classes.{IsCapacity, slot_number, same_key}
+use Rattle.intmap.specs.Entries.{occupied_with_value}
+use Rattle.intmap.specs.Growth.{IsNext, is_due, next_capacity}
+use Rattle.intmap.specs.Locations.{IsAt}
+use Rattle.intmap.specs.Map.{MapState, IsFull, with_pair, written}
+use Rattle.intmap.specs.Walk.{slot_of, walk_of}
+use Rattle.intmap.proofs.GrowthLemmas.{IsWanted-wanted_capacity}
+use Rattle.intmap.proofs.LocationLemmas.{walk_of-write_value}
+use Rattle.intmap.proofs.MapLemmas.{MapState-same}
+use Rattle.intmap.proofs.PositionLemmas.{swap_out-none, position-from_none}
+use Rattle.intmap.proofs.WalkLemmas.{value_of-slot_of}
+use Rattle.intmap.specs.Written.{IsAt-write_value}
+use Rattle.intmap.specs.declared.table.locate.Location.{Location}
+
+-- what an accepted call says, where that follows
+pub OnOk-so : {T E : Type 0} (P Q : Type 0) → (P → Q) → (r : Result T E) → OnOk r P → OnOk r Q
+OnOk-so P Q so (Ok x) h = so h
+OnOk-so P Q so (Err x) h = h
+
+-- the capacity that one more pair leaves is there
+pub IsNext-next_capacity : (C n F : ℕ) → IsCapacity C → n < 2 ^ 64 → IsNext C n F (next_capacity C n F)
+IsNext-next_capacity C n F cap fits = elim (cases_Bool (is_due n)) as (λ _. IsNext C n F (next_capacity C n F)) [
+  | inl due ↦ rw due (IsWanted-wanted_capacity C n F cap fits)
+  | inr not ↦ rw not refl
+]
+
+-- a map that isn't full has room for one more length
+pub length-not_full : {K V : Type 0} (W : List (K × V)) (C F : ℕ) → (IsFull W C F → ⊥) → length W + 1 < 2 ^ 64
+length-not_full W C F room = elim (cases_lt (length W + 1) (2 ^ 64)) [ inl fits ↦ fits | inr many ↦ absurd (room (inl many)) ]
+
+module _ {K V : Type 0} (number : K → ℕ) where
+  write_value-unbound_step : (p : K × V) (L : List (K × V)) (k : K) (v : V) (t : Bool) → same_key number k p.0 ≡ t → (value_of number L k ≡ None → write_value number L k v ≡ L)
+      → value_of number (p ∷ L) k ≡ None → write_value number (p ∷ L) k v ≡ p ∷ L
+  write_value-unbound_step p L k v true e rest none = let no : ◌≡◌ {A = Option V} (Some p.1) None = rw e at none in cc
+  write_value-unbound_step p L k v false e rest none = let n : value_of number L k ≡ None = rw e at none in simp e (ap (λ M. p ∷ M) (rest n))
+
+  -- a key that isn't bound is written for nothing
+  write_value-unbound : (L : List (K × V)) (k : K) (v : V) → value_of number L k ≡ None → write_value number L k v ≡ L
+  write_value-unbound [] k v none = refl
+  write_value-unbound (p ∷ L) k v none = write_value-unbound_step p L k v (same_key number k p.0) refl (write_value-unbound L k v) none
+
+  -- a new pair that is written over is the pair with the later value
+  pub written-with_pair : (m : MapState K V) (k : K) (x v : V) (D : ℕ) → value_of number m.walk k ≡ None → written number (with_pair number m k x D) k v ≡ with_pair number m k v D
+  written-with_pair m k x v D none =
+      let kept : take_key number m.walk m.capacity k ≡ m.walk = swap_out-none (λ p. same_key number k p.0) _ m.walk (position-from_none (same_key number k) m.walk none) in
+      let own : same_key number k k ≡ true = eq-eqb (number k) (number k) refl in
+      let gone : value_of number (take_key number m.walk m.capacity k) k ≡ None = ap (λ L. value_of number L k) kept ∙ none in
+      let pair : write_value number (put_pair number m.walk m.capacity k x) k v ≡ put_pair number m.walk m.capacity k v =
+      map-append (λ p. cond (same_key number k p.0) (p.0, v) p) (take_key number m.walk m.capacity k) ((k, x) ∷ [])
+      ∙ ap (λ L. L ++ cond (same_key number k k) (k, v) (k, x) ∷ []) (write_value-unbound (take_key number m.walk m.capacity k) k v gone)
+      ∙ ap (λ b. take_key number m.walk m.capacity k ++ cond b (k, v) (k, x) ∷ []) own in
+      MapState-same _ _ _ _ _ _ _ _ _ (sym (walk_of-write_value number (put_pair number m.walk m.capacity k x) D k v) ∙ ap (λ L. walk_of number L D) pair) refl refl refl
+
+  bound_from : (W : List (K × V)) (C : ℕ) (k : K) (i place : ℕ) (o : Option V) → value_of number (slot_of number W C i) k ≡ o → position (λ p. same_key number k p.0) (slot_of number W C i) ≡ Some place → IsSome o
+  bound_from W C k i place None none is = let missed = position-from_none (same_key number k) (slot_of number W C i) none in cc
+  bound_from W C k i place (Some v) some is = refl
+
+  -- the key of a located pair is bound
+  pub IsBound-at : (W : List (K × V)) (C : ℕ) (at : Location K) → IsAt number W C at → IsBound number W at.key
+  IsBound-at W C at is =
+      bound_from W C at.key at.slot at.place (value_of number W at.key) (ap (λ i. value_of number (slot_of number W C i) at.key) is.slot ∙ value_of-slot_of number C W at.key) is.place
+
+-- that a pair was located holds in one way
+IsAt-prop : {K V : Type 0} (number : K → ℕ) (W : List (K × V)) (C : ℕ) (at : Location K) → IsProp (IsAt number W C at)
+IsAt-prop number W C at = Prim.hlevel props
+
+module _ {K V A : Type 0} {g : key.Ghosts K} {e : eq.Ghosts K} where
+  -- an entry whose map was written is the entry with the value, however it is known where the key stands
+  pub occupied-rewritten : (o : OccupiedEntry K V A g e) (w : V) (bound : IsAt g.number_of (written g.number_of o.map.now o.at.key w).walk (written g.number_of o.map.now o.at.key w).capacity o.at)
+      → ◌≡◌ {A = OccupiedEntry K V A g e} (record { map = record o.map { now = written g.number_of o.map.now o.at.key w }; at = o.at; bound = bound }) (occupied_with_value o w)
+  occupied-rewritten o w bound =
+      ap (λ z. let o : OccupiedEntry K V A g e = record { map = record o.map { now = written g.number_of o.map.now o.at.key w }; at = o.at; bound = z } in o)
+      (IsAt-prop g.number_of _ _ o.at bound (IsAt-write_value g.number_of o.map.now.walk o.map.now.capacity o.at o.at.key w o.bound))

@@ -1,0 +1,25 @@
+use Rattle.std.proofs.Common.{◌≡◌, ◌+◌, Some, None, length, refl, sym, ap, ◌∙◌, subst, arith}
+use Rattle.intmap.specs.Bindings.{value_of}
+use Rattle.intmap.specs.Map.{IsFull, IsOutOfRange}
+use Rattle.intmap.proofs.EntryLemmas.{OnOk-so}
+use Rattle.intmap.proofs.MapLemmas.{one_more}
+use Rattle.intmap.proofs.entry.Entry.or_insert.Goals as goal
+
+pub returns-in-Vacant : goal.returns-in-Vacant
+returns-in-Vacant g c =
+    let e = c.in-Vacant.entry in
+    let told = c.insert.ensures in
+    let one = one_more (value_of g.K.IntKey.number_of e.map.now.walk e.key) e.missing in
+    rw c.in-Vacant.is (
+      refl,
+      record {
+        writes_back = tt;
+        value = rw e.missing told.value;
+        updates = told.updates;
+        len = OnOk-so _ _ (λ len v. let n = len v in omega (arith, n, one)) c.insert.result told.len;
+        map_after = told.map_after;
+        value_returned = told.value_returned;
+        in_range = OnOk-so _ _ (λ fits out. fits out.1) c.insert.result told.in_range;
+        refused = told.refused;
+      },
+    )

@@ -1,0 +1,17 @@
+use Rattle.std.proofs.Common.{refl}
+use Rattle.intmap.proofs.WriteLemmas.{Updates-written, length-write_value, IsMapWalk-written}
+use Rattle.intmap.proofs.entry.OccupiedEntry.into_mut.Goals as goal
+
+pub returns : goal.returns
+returns g c =
+    let number = g.K.IntKey.number_of in
+    let o = c.args.self in (
+      (refl, λ w. refl),
+      record {
+        writes_back = tt;
+        value = c.value_mut_at.ensures.value;
+        updates = λ v. Updates-written number o.map.now.walk o.at.key v c.value_mut_at.result.now c.value_mut_at.ensures.value;
+        len = λ v. length-write_value number o.map.now.walk o.at.key v;
+        map_after = λ v. IsMapWalk-written number g.K.IntKey.is_key o.map.now.walk _ _ o.at.key v c.value_mut_at.ensures.map;
+      },
+    )

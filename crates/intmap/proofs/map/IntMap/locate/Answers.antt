@@ -1,0 +1,30 @@
+use Rattle.std.proofs.Common.{◌≡◌, ◌+◌, None, refl, sym, ap, ◌∙◌}
+use Rattle.std.specs.Option.{option_map}
+use Rattle.std.specs.Prelude.{Option, Some, IfSome, IfNone}
+use Rattle.intmap.specs.Bindings.{value_of}
+use Rattle.intmap.proofs.LocationLemmas.{IsAt-with_values}
+use Rattle.intmap.proofs.MapLemmas.{MapState-same}
+use Rattle.intmap.proofs.MappedLemmas.{value_of-with_values, reach-with_values}
+use Rattle.intmap.proofs.map.IntMap.locate.Goals as goal
+
+-- what holds of what was found, where that follows from what is known of it
+found : {X : Type 0} (P Q : X → Type 0) → ((x : X) → P x → Q x) → (o : Option X) → IfSome o P → IfSome o Q
+found P Q each None all = all
+found P Q each (Some x) all = each x all
+
+missed : {X : Type 0} (P Q : Type 0) → (P → Q) → (o : Option X) → IfNone o P → IfNone o Q
+missed P Q so None all = so all
+missed P Q so (Some x) all = all
+
+pub returns-clause-found : goal.returns-clause-found
+returns-clause-found g c =
+    found _ _ (λ at is. (is.0, IsAt-with_values g.K.IntKey.number_of (λ kept. kept.value) c.self.inside.table.walk c.self.inside.table.capacity at is.1)) c.locate.result c.locate.ensures.found
+
+pub returns-clause-missing : goal.returns-clause-missing
+returns-clause-missing g c =
+    missed _ _ (λ none. rw (← c.self.view_is) (value_of-with_values g.K.IntKey.number_of (λ kept. kept.value) c.self.inside.table.walk c.args.key ∙ ap (option_map (λ kept. kept.value)) none)) c.locate.result c.locate.ensures.missing
+
+pub returns-clause-state : goal.returns-clause-state
+returns-clause-state g c =
+    rw (← c.self.view_is) (MapState-same _ _ _ _ _ _ _ _ _ refl refl refl
+    (c.locate.ensures.counted ∙ ap (λ n. c.self.inside.compared + n) (sym (reach-with_values g.K.IntKey.number_of (λ kept. kept.value) c.self.inside.table.walk c.self.inside.table.capacity c.args.key))))

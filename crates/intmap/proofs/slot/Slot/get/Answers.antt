@@ -1,0 +1,39 @@
+use Rattle.std.proofs.Common.{◌≡◌, ◌+◌, ◌∷◌, length, Some, ap, sym, ◌∙◌, arith}
+use Rattle.intmap.specs.Classes.{same_key}
+use Rattle.intmap.specs.Reach.{through_first}
+use Rattle.intmap.specs.Slots.{all_pairs}
+use Rattle.intmap.proofs.PositionLemmas.{first_value-position, first_value-none}
+use Rattle.intmap.proofs.SlotLemmas.{IsBehind, behind}
+use Rattle.intmap.proofs.slot.Slot.get.Goals as goal
+use Rattle.intmap.proofs.slot.Slot.get.Goals.{After-find_in}
+
+-- the first pair stands before the rest
+pairs : (g : _) (c : After-find_in g) → c.args.self.now.pairs ≡ c.in-Some.first ∷ c.self.inside.rest.items
+pairs g c = sym (ap (λ h. h.pairs) c.self.view_is) ∙ ap (λ first. all_pairs first c.self.inside.rest.items) c.in-Some.is
+
+-- it isn't the key's, so the rest was searched
+rest : (g : _) (c : After-find_in g) → IsBehind (same_key g.K.IntKey.number_of c.args.key.now) c.args.self.now.pairs c.in-Some.first c.self.inside.rest.items (pairs g c)
+rest g c = behind _ _ _ _ (pairs g c) (sym c.matches.ensures.same ∙ c.if-matches.false)
+
+counted : (g : _) (c : After-find_in g) → c.find_in.new.steps ≡ c.args.steps.now + length (through_first (λ p. same_key g.K.IntKey.number_of c.args.key.now p.0) c.args.self.now.pairs)
+counted g c =
+    let in_rest = ap (λ ps. length (through_first (λ p. same_key g.K.IntKey.number_of c.args.key.now p.0) ps)) c.deref.ensures.value in
+    omega (arith, (rest g c).reached, in_rest, c.find_in.ensures.counted, c.matches.ensures.counted)
+
+pub returns-in_default-find_in-clause-value : goal.returns-in_default-find_in-clause-value
+returns-in_default-find_in-clause-value g c =
+    let at = (goal.at.returns-in_default-find_in-clause-value g c).After-find_in in
+    sym ((rest g at).value ∙ first_value-none _ c.self.inside.rest.items (rw c.deref.ensures.value at (sym c.in_default-find_in.ensures.place)))
+
+pub returns-in_default-find_in-clause-counted : goal.returns-in_default-find_in-clause-counted
+returns-in_default-find_in-clause-counted g c = counted g (goal.at.returns-in_default-find_in-clause-counted g c).After-find_in
+
+pub returns-clause-value : goal.returns-clause-value
+returns-clause-value g c =
+    let at = (goal.at.returns-clause-value g c).After-find_in in
+    let place = rw c.deref.ensures.value at (sym c.in-Some-find_in.ensures.place) in
+    sym ((rest g at).value ∙ first_value-position _ c.self.inside.rest.items c.in-Some-find_in.place c.index.result.now place
+    ∙ ap (λ (p : g.row.K.Denot × g.row.X.Denot). Some p.1) (sym c.index.ensures))
+
+pub returns-clause-counted : goal.returns-clause-counted
+returns-clause-counted g c = counted g (goal.at.returns-clause-counted g c).After-find_in

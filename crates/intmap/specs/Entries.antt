@@ -1,0 +1,81 @@
+-- What a contract sees of an entry: the map behind it and its key.
+pub use Rattle.intmap.specs.declared.entry.Entry.TheVariants.{Occupied, Vacant}
+use Rattle.std.specs.Prelude.{◌≡◌, ℕ, ◌+◌, [], length, Option, Result}
+use Rattle.std.specs.Borrow.{Fml, RattleType, MutBor, follows, follows_if, name_if_ok}
+use Rattle.std.specs.declared.alloc.Allocator as allocator
+use Rattle.std.specs.declared.cmp.PartialEq as eq
+use mir.Syntax.{named}
+use Rattle.intmap.specs.declared.key.IntKey as key
+use Rattle.intmap.specs.declared.entry.Entry.{Entry}
+use Rattle.intmap.specs.declared.entry.OccupiedEntry.{OccupiedEntry}
+use Rattle.intmap.specs.contracts.map.IntMap.{the_row as map_row}
+use Rattle.intmap.specs.contracts.entry.OccupiedEntry as occupied
+use Rattle.intmap.specs.Bindings.{value_of}
+use Rattle.intmap.specs.Growth.{next_capacity}
+use Rattle.intmap.specs.Map.{MapState, with_pair, written}
+use Rattle.intmap.specs.States.{State}
+use Rattle.intmap.specs.Written.{IsAt-write_value}
+
+module _ {K V A : Type 0} {g : key.Ghosts K} {e : eq.Ghosts K} where
+  -- the reference to the map
+  abbrev pub entry_reference : Entry K V A g e → MutBor (MapState K V)
+  entry_reference (Occupied o) = o.map
+  entry_reference (Vacant v) = v.map
+
+  -- the map
+  abbrev pub entry_map : Entry K V A g e → MapState K V
+  entry_map x = (entry_reference x).now
+
+  -- the key that was looked for
+  abbrev pub entry_key : Entry K V A g e → K
+  entry_key (Occupied o) = o.at.key
+  entry_key (Vacant v) = v.key
+
+  -- the value that it is bound to
+  abbrev pub entry_value : Entry K V A g e → Option V
+  entry_value x = value_of g.number_of (entry_map x).walk (entry_key x)
+
+  -- the pairs of the map with its capacity and load factor
+  abbrev pub entry_state : Entry K V A g e → State K V
+  entry_state x = let m = entry_map x in record { pairs = m.walk; capacity = m.capacity; factor = m.factor }
+
+  -- the capacity that one more pair leaves
+  abbrev pub next_entry_capacity : Entry K V A g e → ℕ
+  next_entry_capacity x = let m = entry_map x in next_capacity m.capacity (length m.walk + 1) m.factor
+
+  -- P where the key is bound, and Q where it isn't
+  abbrev pub MatchEntry : Entry K V A g e → Type 0 → Type 0 → Type 0
+  MatchEntry (Occupied o) P Q = P
+  MatchEntry (Vacant v) P Q = Q
+
+  -- the map once w is the value of the key: in its place where it is bound, and else by a new pair at the end of its slot
+  abbrev pub map_with_value : Entry K V A g e → V → MapState K V
+  map_with_value (Occupied o) w = written g.number_of o.map.now o.at.key w
+  map_with_value (Vacant v) w = with_pair g.number_of v.map.now v.key w (next_entry_capacity (Vacant v))
+
+  -- y is the entry x, once w is the value of the key
+  pub record IsWritten (x : Entry K V A g e) (w : V) (y : Entry K V A g e) : Type 0 where
+    pub same_reference : (entry_reference y).ghost_name ≡ (entry_reference x).ghost_name
+    pub map : entry_map y ≡ map_with_value x w
+    pub key : entry_key y ≡ entry_key x
+
+  -- the entry o, once w is the value of the key
+  abbrev pub occupied_with_value : OccupiedEntry K V A g e → V → OccupiedEntry K V A g e
+  occupied_with_value o w = record {
+    map = record o.map { now = map_with_value (Occupied o) w };
+    at = o.at;
+    bound = IsAt-write_value g.number_of o.map.now.walk o.map.now.capacity o.at o.at.key w o.bound;
+  }
+
+module _ (K V A : RattleType) {g : key.Ghosts K.Denot} {e : eq.Ghosts K.Denot} (a : allocator.Ghosts A.Denot) where
+  -- once the loan named r ends, the map behind the entry has the last value written through it as that of the key
+  abbrev pub entry_lends : Entry K.Denot V.Denot A.Denot g e → MutBor V.Denot → Fml
+  entry_lends x r = follows (map_row K V A g e a) V (entry_reference x).ghost_name r.ghost_name (map_with_value x)
+
+  -- the same of a call that may be refused, and then the map stays
+  abbrev pub entry_lends_ok : {E : Type 0} → Entry K.Denot V.Denot A.Denot g e → Result (MutBor V.Denot) E → Fml
+  entry_lends_ok x r = follows_if (map_row K V A g e a) V (entry_reference x).ghost_name (name_if_ok (λ r. r.ghost_name) r) (map_with_value x) (entry_map x)
+
+  -- the same of a loan of the entry behind o, after which the entry stands
+  abbrev pub occupied_lends : MutBor (OccupiedEntry K.Denot V.Denot A.Denot g e) → MutBor V.Denot → Fml
+  occupied_lends o r = follows (occupied.the_row (record { mir = named 1; lft = [] }) K V A g e a) V o.ghost_name r.ghost_name (occupied_with_value o.now)

@@ -1,0 +1,38 @@
+//! Entries: a map with a key that was looked for once, to read, write, take out or add its pair.
+ghost use Rattle.std.specs.Prelude.{◌≡◌, None};
+ghost use Rattle.intmap.specs.Bindings.{value_of};
+ghost use Rattle.intmap.specs.Locations.{IsAt};
+
+mod either;
+mod occupied;
+mod vacant;
+
+use crate::key::IntKey;
+use crate::map::IntMap;
+use crate::table::locate::Location;
+use std::alloc::{Allocator, Global};
+
+/// A map with a key that was looked for in it, made by [`IntMap::entry`].
+#[derive(Drop)]
+pub enum Entry<'a, K: IntKey, V, A: Allocator + Copy = Global> {
+    /// The key is bound.
+    Occupied(OccupiedEntry<'a, K, V, A>),
+    /// The key isn't bound.
+    Vacant(VacantEntry<'a, K, V, A>),
+}
+
+/// A map with a key that is bound in it.
+#[derive(Drop)]
+pub struct OccupiedEntry<'a, K: IntKey, V, A: Allocator + Copy = Global> {
+    map: &'a mut IntMap<K, V, A>,
+    at: Location<K>,
+    ghost bound: { IsAt K.number_of map.now.walk map.now.capacity at },
+}
+
+/// A map with a key that isn't bound in it.
+#[derive(Drop)]
+pub struct VacantEntry<'a, K: IntKey, V, A: Allocator + Copy = Global> {
+    map: &'a mut IntMap<K, V, A>,
+    key: K,
+    ghost missing: { value_of K.number_of map.now.walk key ≡ None },
+}

@@ -1,0 +1,115 @@
+//! Entries of keys that are bound or not.
+ghost use Rattle.std.specs.Prelude.{◌≡◌, ◌+◌, cond, length, is_some, IsSome, Some, None, IfOk, IfErr, OnOk, unwrap_or, MatchOption};
+ghost use Rattle.std.specs.Borrow.{sem, MutBor};
+ghost use Rattle.std.specs.Map.Calls.{ModifiesValue};
+ghost use Rattle.intmap.specs.Bindings.{value_of, Updates};
+ghost use Rattle.intmap.specs.Entries.{entry_reference, entry_map, entry_key, entry_value, entry_state, map_with_value, MatchEntry, entry_lends_ok};
+ghost use Rattle.intmap.specs.Map.{IsMap, IsOutOfRange, after_search};
+ghost use Rattle.intmap.specs.States.{MayRefuse};
+
+use crate::entry::{Entry, OccupiedEntry, VacantEntry};
+use crate::key::IntKey;
+use crate::map::IntMap;
+use crate::refusal::Refused;
+use std::alloc::Allocator;
+
+impl<K: IntKey, V, A: Allocator + Copy> IntMap<K, V, A> {
+    /// An entry of the key: [`Occupied`](Entry::Occupied) where the key is bound, and else
+    /// [`Vacant`](Entry::Vacant). It looks for the key as [`get_counted`](IntMap::get_counted)
+    /// does, and no call of the entry compares a key again. It is never refused.
+    ///
+    /// The entry borrows the map. One that is dropped without another call leaves the map as it was,
+    /// but for the count of compared keys.
+    ///
+    /// ```text
+    /// match map.entry(21) {
+    ///     Entry::Occupied(entry) => *entry.into_mut() += 1,
+    ///     Entry::Vacant(entry) => *entry.insert(0)? += 1,
+    /// }
+    /// ```
+    pub fn entry(&mut self, key: K) -> Entry<'_, K, V, A>
+        ensures same_reference { (entry_reference result).ghost_name ≡ self.entry.ghost_name }
+        ensures state { entry_map result ≡ after_search K.number_of self.old key }
+        ensures key { entry_key result ≡ key }
+        ensures occupied { MatchEntry result (IsSome (value_of K.number_of self.old.walk key))
+            (value_of K.number_of self.old.walk key ≡ None) }
+        ensures map { IsMap K.number_of K.is_key self.old }
+    {
+        match self.locate(key) {
+            Some(at) => Entry::Occupied(OccupiedEntry { map: self, at }),
+            None => Entry::Vacant(VacantEntry { map: self, key }),
+        }
+    }
+}
+
+impl<'a, K: IntKey, V, A: Allocator + Copy> Entry<'a, K, V, A> {
+    /// The key that was looked for.
+    pub fn key(&self) -> &K
+        ensures value { result.now ≡ entry_key self.now }
+    {
+        match self {
+            Entry::Occupied(entry) => entry.key(),
+            Entry::Vacant(entry) => entry.key(),
+        }
+    }
+
+    /// The value of the key, to be written, once `value` was inserted where the key wasn't bound.
+    /// Where it was, `value` is let go and nothing is refused; else it is refused as
+    /// [`VacantEntry::insert`] is, and the value comes back.
+    ///
+    /// ```text
+    /// *map.entry(word).or_insert(0)? += 1
+    /// ```
+    pub fn or_insert(self, value: V) -> Result<&'a mut V, Refused<V>>
+    where
+        V: Drop,
+        ensures* writes_back { sem 𝓛 (entry_lends_ok K.row V.row A.row A.Allocator self.entry result) }
+        // what is answered and left
+        ensures value { IfOk result (λ r. r.now ≡ unwrap_or (entry_value self.entry) value) }
+        ensures updates { OnOk result ((v : V) → Updates K.number_of (entry_map self.entry).walk
+            (map_with_value self.entry v).walk (entry_key self.entry) (Some v)) }
+        ensures len { OnOk result ((v : V) → length (map_with_value self.entry v).walk
+            ≡ length (entry_map self.entry).walk + cond (is_some (entry_value self.entry)) 0 1) }
+        ensures map_after { OnOk result ((v : V)
+            → IsMap K.number_of K.is_key (map_with_value self.entry v)) }
+
+        // what a refusal hands back
+        ensures value_returned { IfErr result (λ refused. refused.value ≡ value) }
+
+        // when it is refused
+        ensures in_range { OnOk result (IsOutOfRange K.number_of (entry_map self.entry).walk
+            (entry_map self.entry).capacity (entry_map self.entry).factor (entry_key self.entry)
+            → ⊥) }
+        ensures refused { IfErr result (λ refused. MayRefuse K.number_of (entry_state self.entry)
+            (entry_key self.entry) refused.cause) }
+    {
+        match self {
+            Entry::Occupied(entry) => Ok(entry.into_mut()),
+            Entry::Vacant(entry) => entry.insert(value),
+        }
+    }
+
+    /// Calls the closure with the value of the key, to be written, where the key is bound, and
+    /// answers the entry.
+    ///
+    /// ```text
+    /// map.entry(word).and_modify(|count| *count += 1).or_insert(1)?
+    /// ```
+    pub fn and_modify<F: FnOnce(&mut V)>(self, f: F) -> Entry<'a, K, V, A>
+        requires { (p : MutBor V) → entry_value self ≡ Some p.now → F.pre f p }
+        ensures same_reference { (entry_reference result).ghost_name
+            ≡ (entry_reference self.entry).ghost_name }
+        ensures key { entry_key result ≡ entry_key self.entry }
+        ensures value { ModifiesValue F.FnOnce f (entry_value self.entry) (entry_value result) }
+        ensures state { MatchOption (entry_value result) (entry_map result ≡ entry_map self.entry)
+            (λ v. entry_map result ≡ map_with_value self.entry v) }
+    {
+        match self {
+            Entry::Occupied(mut entry) => {
+                f(entry.get_mut());
+                Entry::Occupied(entry)
+            }
+            Entry::Vacant(entry) => Entry::Vacant(entry),
+        }
+    }
+}

@@ -1,0 +1,88 @@
+//! Entries of keys that are bound.
+ghost use Rattle.std.specs.Prelude.{◌≡◌, ◌+◌, length, Some, None};
+ghost use Rattle.std.specs.Borrow.{sem};
+ghost use Rattle.intmap.specs.Bindings.{Updates};
+ghost use Rattle.intmap.specs.Entries.{Occupied, entry_map, entry_key, entry_value, map_with_value, entry_lends, occupied_lends, IsWritten};
+ghost use Rattle.intmap.specs.Map.{IsMap, without_key};
+
+use crate::entry::OccupiedEntry;
+use crate::key::IntKey;
+use std::alloc::Allocator;
+use std::mem;
+
+impl<'a, K: IntKey, V, A: Allocator + Copy> OccupiedEntry<'a, K, V, A> {
+    /// The key.
+    pub fn key(&self) -> &K
+        ensures value { result.now ≡ entry_key (Occupied self.now) }
+    {
+        &self.at.key
+    }
+
+    /// The value of the key.
+    pub fn get(&self) -> &V
+        ensures value { entry_value (Occupied self.now) ≡ Some result.now }
+    {
+        self.map.value_at(self.at)
+    }
+
+    /// The value of the key, to be written in its place. It ends with the entry; `into_mut` answers
+    /// one that lasts as long as the map is borrowed.
+    pub fn get_mut(&mut self) -> &mut V
+        ensures* writes_back { sem 𝓛 (occupied_lends K.row V.row A.row A.Allocator self.entry result) }
+        ensures value { entry_value (Occupied self.old) ≡ Some result.now }
+        ensures updates { (v : V) → Updates K.number_of (entry_map (Occupied self.old)).walk
+            (map_with_value (Occupied self.old) v).walk (entry_key (Occupied self.old)) (Some v) }
+        ensures len { (v : V) → length (map_with_value (Occupied self.old) v).walk
+            ≡ length (entry_map (Occupied self.old)).walk }
+        ensures map_after { (v : V)
+            → IsMap K.number_of K.is_key (map_with_value (Occupied self.old) v) }
+    {
+        let at = self.at;
+        self.map.value_mut_at(at)
+    }
+
+    /// The value of the key, to be written in its place.
+    pub fn into_mut(self) -> &'a mut V
+        ensures* writes_back { sem 𝓛 (entry_lends K.row V.row A.row A.Allocator
+            (Occupied self.entry) result) }
+        ensures value { entry_value (Occupied self.entry) ≡ Some result.now }
+        ensures updates { (v : V) → Updates K.number_of (entry_map (Occupied self.entry)).walk
+            (map_with_value (Occupied self.entry) v).walk (entry_key (Occupied self.entry)) (Some v) }
+        ensures len { (v : V) → length (map_with_value (Occupied self.entry) v).walk
+            ≡ length (entry_map (Occupied self.entry)).walk }
+        ensures map_after { (v : V)
+            → IsMap K.number_of K.is_key (map_with_value (Occupied self.entry) v) }
+    {
+        let OccupiedEntry { map, at } = self;
+        map.value_mut_at(at)
+    }
+
+    /// Sets the value of the key in its place, and answers the one before.
+    pub fn insert(&mut self, value: V) -> V
+        ensures old { entry_value (Occupied self.old) ≡ Some result }
+        ensures written { IsWritten (Occupied self.old) value (Occupied self.new) }
+        ensures updates { Updates K.number_of (entry_map (Occupied self.old)).walk
+            (entry_map (Occupied self.new)).walk (entry_key (Occupied self.old)) (Some value) }
+        ensures len { length (entry_map (Occupied self.new)).walk
+            ≡ length (entry_map (Occupied self.old)).walk }
+        ensures map_after { IsMap K.number_of K.is_key (entry_map (Occupied self.new)) }
+    {
+        mem::replace(self.get_mut(), value)
+    }
+
+    /// Takes the pair of the key out, as [`IntMap::remove`](crate::IntMap::remove) does, and answers
+    /// its value.
+    pub fn remove(self) -> V
+        ensures value { entry_value (Occupied self.entry) ≡ Some result }
+        ensures state { self.exit.0.now ≡ without_key K.number_of (entry_map (Occupied self.entry))
+            (entry_key (Occupied self.entry)) }
+        ensures updates { Updates K.number_of (entry_map (Occupied self.entry)).walk
+            self.exit.0.now.walk (entry_key (Occupied self.entry)) None }
+        ensures len { length self.exit.0.now.walk + 1
+            ≡ length (entry_map (Occupied self.entry)).walk }
+        ensures map_after { IsMap K.number_of K.is_key self.exit.0.now }
+    {
+        let at = self.at;
+        self.map.take_at(at)
+    }
+}

@@ -1,0 +1,62 @@
+//! Entries of keys that aren't bound.
+ghost use Rattle.std.specs.Prelude.{◌≡◌, ◌+◌, length, Some, IfOk, IfErr, OnOk};
+ghost use Rattle.std.specs.Borrow.{sem};
+ghost use Rattle.intmap.specs.Bindings.{Updates};
+ghost use Rattle.intmap.specs.Entries.{Vacant, entry_map, entry_key, entry_state, next_entry_capacity, map_with_value, entry_lends_ok};
+ghost use Rattle.intmap.specs.Growth.{IsNext};
+ghost use Rattle.intmap.specs.Map.{IsMap, IsFull};
+ghost use Rattle.intmap.specs.States.{MayRefuse};
+
+use crate::entry::VacantEntry;
+use crate::key::IntKey;
+use crate::refusal::Refused;
+use std::alloc::Allocator;
+
+impl<'a, K: IntKey, V, A: Allocator + Copy> VacantEntry<'a, K, V, A> {
+    /// The key.
+    pub fn key(&self) -> &K
+        ensures value { result.now ≡ entry_key (Vacant self.now) }
+    {
+        &self.key
+    }
+}
+
+impl<'a, K: IntKey, V: Drop, A: Allocator + Copy> VacantEntry<'a, K, V, A> {
+    /// Binds the key to the value by a pair at the end of its slot, and answers the value, to be
+    /// written. It grows the table where [`IntMap::insert`](crate::IntMap::insert) of a new key
+    /// does, and is refused where that is; a refusal hands the value back and leaves the map.
+    pub fn insert(self, value: V) -> Result<&'a mut V, Refused<V>>
+        ensures* writes_back { sem 𝓛 (entry_lends_ok K.row V.row A.row A.Allocator
+            (Vacant self.entry) result) }
+        // what is answered and left
+        ensures value { IfOk result (λ r. r.now ≡ value) }
+        ensures capacity { OnOk result (IsNext (entry_state (Vacant self.entry)).capacity
+            (length (entry_state (Vacant self.entry)).pairs + 1)
+            (entry_state (Vacant self.entry)).factor (next_entry_capacity (Vacant self.entry))) }
+        ensures updates { OnOk result ((v : V) → Updates K.number_of
+            (entry_map (Vacant self.entry)).walk (map_with_value (Vacant self.entry) v).walk
+            (entry_key (Vacant self.entry)) (Some v)) }
+        ensures len { OnOk result ((v : V) → length (map_with_value (Vacant self.entry) v).walk
+            ≡ length (entry_map (Vacant self.entry)).walk + 1) }
+        ensures map_after { OnOk result ((v : V)
+            → IsMap K.number_of K.is_key (map_with_value (Vacant self.entry) v)) }
+
+        // what a refusal hands back
+        ensures value_returned { IfErr result (λ refused. refused.value ≡ value) }
+
+        // when it is refused
+        ensures in_range { OnOk result (IsFull (entry_map (Vacant self.entry)).walk
+            (entry_map (Vacant self.entry)).capacity (entry_map (Vacant self.entry)).factor → ⊥) }
+        ensures refused { IfErr result (λ refused. MayRefuse K.number_of
+            (entry_state (Vacant self.entry)) (entry_key (Vacant self.entry)) refused.cause) }
+    {
+        let VacantEntry { map, key } = self;
+        // any key at hand is one of its type's
+        let _number = key.number();
+        if let Err(refused) = map.add(key, value) {
+            return Err(refused);
+        }
+        let at = map.locate_last(key);
+        Ok(map.value_mut_at(at))
+    }
+}

@@ -1,0 +1,69 @@
+//! Located pairs: calls on the pair of a key that was found before, which compare no key.
+ghost use Rattle.std.specs.Prelude.{◌≡◌, IfSome, IfNone, Some, None};
+ghost use Rattle.intmap.specs.Bindings.{value_of};
+ghost use Rattle.intmap.specs.Locations.{IsAt, IsLast};
+ghost use Rattle.intmap.specs.Map.{IsMap, after_search, without_key};
+
+use crate::key::IntKey;
+use crate::map::IntMap;
+use crate::table::locate::Location;
+use std::alloc::Allocator;
+
+impl<K: IntKey, V, A: Allocator + Copy> IntMap<K, V, A> {
+    ghost use Rattle.std.specs.Borrow.{sem};
+    ghost use Rattle.intmap.specs.Lending.{map_lends};
+
+    /// Where the pair of the key stands, if it is bound. Its comparisons are counted in the map.
+    pub(crate) fn locate(&mut self, key: K) -> Option<Location<K>>
+        ensures found { IfSome result (λ at. (at.key ≡ key)
+            × IsAt K.number_of self.new.walk self.new.capacity at) }
+        ensures missing { IfNone result (value_of K.number_of self.old.walk key ≡ None) }
+        ensures state { self.new ≡ after_search K.number_of self.old key }
+        ensures known { K.is_key key }
+        ensures map { IsMap K.number_of K.is_key self.old }
+    {
+        self.table.locate(key, &mut self.compared)
+    }
+
+    /// Where the pair of a key stands that is the last of its slot.
+    pub(crate) fn locate_last(&self, key: K) -> Location<K>
+        requires { IsLast K.number_of self.now.walk self.now.capacity key }
+        ensures key { result.key ≡ key }
+        ensures at { IsAt K.number_of self.now.walk self.now.capacity result }
+    {
+        self.table.locate_last(key)
+    }
+
+    /// The value of a located pair.
+    pub(crate) fn value_at(&self, at: Location<K>) -> &V
+        requires { IsAt K.number_of self.now.walk self.now.capacity at }
+        ensures value { value_of K.number_of self.now.walk at.key ≡ Some result.now }
+    {
+        &self.table.value_at(at).value
+    }
+
+    /// The value of a located pair, to be written.
+    pub(crate) fn value_mut_at(&mut self, at: Location<K>) -> &mut V
+        requires { IsAt K.number_of self.old.walk self.old.capacity at }
+        ensures* writes_back { sem 𝓛 (map_lends K.row V.row A.row K.IntKey.own K.PartialEq
+            A.Allocator self.entry at.key result) }
+        ensures value { value_of K.number_of self.old.walk at.key ≡ Some result.now }
+        ensures map { IsMap K.number_of K.is_key self.old }
+    {
+        let kept = self.table.value_mut_at(at);
+        &mut kept.value
+    }
+
+    /// Takes a located pair out. The last pair of its slot takes its place.
+    pub(crate) fn take_at(&mut self, at: Location<K>) -> V
+        requires { IsAt K.number_of self.old.walk self.old.capacity at }
+        ensures value { value_of K.number_of self.old.walk at.key ≡ Some result }
+        ensures state { self.new ≡ without_key K.number_of self.old at.key }
+        ensures map { IsMap K.number_of K.is_key self.old }
+        ensures map_after { IsMap K.number_of K.is_key self.new }
+    {
+        let kept = self.table.take_at(at);
+        self.len -= 1;
+        kept.value
+    }
+}

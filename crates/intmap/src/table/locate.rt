@@ -1,0 +1,87 @@
+//! Where the pair of a key stands, and calls on a pair that was located, which compare no key.
+ghost use Rattle.std.specs.Prelude.{◌≡◌, ◌+◌, IfSome, IfNone, Some, None};
+ghost use Rattle.intmap.specs.Bindings.{HasDistinctKeys, value_of, take_key};
+ghost use Rattle.intmap.specs.Locations.{IsAt, IsLast};
+ghost use Rattle.intmap.specs.Reach.{reach};
+ghost use Rattle.intmap.specs.Walk.{walk_of};
+
+use crate::key::IntKey;
+use crate::steps::Steps;
+use crate::table::Table;
+use std::alloc::Allocator;
+
+/// Where the pair of a key stands: its slot, and its place there from the front.
+#[derive(Clone, Copy)]
+pub(crate) struct Location<K> {
+    pub(crate) key: K,
+    slot: usize,
+    place: usize,
+}
+
+impl<K: IntKey, X, A: Allocator> Table<K, X, A> {
+    ghost use Rattle.std.specs.Borrow.{sem};
+    ghost use Rattle.intmap.specs.Lending.{table_lends};
+
+    /// Where the pair of the key stands, if it is bound. The keys of its slot are compared from the
+    /// front up to it, each by one step.
+    pub(crate) fn locate(&self, key: K, steps: &mut Steps) -> Option<Location<K>>
+        ensures found { IfSome result (λ at. (at.key ≡ key)
+            × IsAt K.number_of self.now.walk self.now.capacity at) }
+        ensures missing { IfNone result (value_of K.number_of self.now.walk key ≡ None) }
+        ensures counted { steps.new
+            ≡ steps.old + reach K.number_of self.now.walk self.now.capacity key }
+        ensures known { K.is_key key }
+    {
+        let slot = self.index_of(&key);
+        let Some(place) = self.slots[slot].find(&key, steps) else {
+            return None;
+        };
+        Some(Location { key, slot, place })
+    }
+
+    /// Where the pair of a key stands that is the last of its slot.
+    pub(crate) fn locate_last(&self, key: K) -> Location<K>
+        requires { IsLast K.number_of self.now.walk self.now.capacity key }
+        ensures key { result.key ≡ key }
+        ensures at { IsAt K.number_of self.now.walk self.now.capacity result }
+    {
+        let slot = self.index_of(&key);
+        let place = self.slots[slot].last_place();
+        Location { key, slot, place }
+    }
+
+    /// The value of a located pair.
+    pub(crate) fn value_at(&self, at: Location<K>) -> &X
+        requires { IsAt K.number_of self.now.walk self.now.capacity at }
+        ensures { value_of K.number_of self.now.walk at.key ≡ Some result.now }
+    {
+        self.slots[at.slot].value_at(at.place)
+    }
+
+    /// The value of a located pair, to be written.
+    pub(crate) fn value_mut_at(&mut self, at: Location<K>) -> &mut X
+        requires at { IsAt K.number_of self.old.walk self.old.capacity at }
+        requires once { HasDistinctKeys K.number_of self.old.walk }
+        ensures* writes_back { sem 𝓛 (table_lends K.row X.row A.row K.IntKey.own K.PartialEq
+            A.Allocator self.entry at.key result) }
+        ensures value { value_of K.number_of self.old.walk at.key ≡ Some result.now }
+    {
+        self.slots[at.slot].value_mut_at(at.place)
+    }
+
+    /// Takes a located pair out. The last pair of its slot is moved into its place.
+    pub(crate) fn take_at(&mut self, at: Location<K>) -> X
+        requires { IsAt K.number_of self.old.walk self.old.capacity at }
+        ensures value { value_of K.number_of self.old.walk at.key ≡ Some result }
+        ensures walk { self.new.walk ≡ walk_of K.number_of
+            (take_key K.number_of self.old.walk self.old.capacity at.key) self.old.capacity }
+        ensures capacity { self.new.capacity ≡ self.old.capacity }
+    {
+        let slot = &mut self.slots[at.slot];
+        let (_, value) = slot.take_at(at.place);
+        if !slot.is_filled() {
+            self.bits.clear(at.slot);
+        }
+        value
+    }
+}
