@@ -16,7 +16,7 @@ use Rattle.intmap.specs.Bits.{marked, marked_places, has_bit, marks_of, places_f
 use Rattle.intmap.proofs.MarkedLemmas.{range_with_len-add, filter-same, filter-none, filter-shift, filter-both}
 
 -- the places of the bits of a word that are set, of its first n
-bits_of : ℕ → ℕ → List ℕ
+unfoldable pub bits_of : ℕ → ℕ → List ℕ
 bits_of n word = filter (has_bit word) (range_with_len 0 n)
 
 -- numbers with one half have the same bits from the second one on
@@ -208,7 +208,7 @@ marked_places-word m bits w ws =
     ∙ sym (marked-marks_of ws (0 + i) under))) in
     ap (λ k. filter f (range_with_len 0 k)) n ∙ filter-both f m (length (marks_of ws)) (filter (has_bit w) (range_with_len 0 m)) (map (λ i. m + i) (marked_places (marks_of ws))) first rest
 
-marked_places-cons : (w : ℕ) (ws : List ℕ) → marked_places (marks_of (w ∷ ws)) ≡ bits_of 64 w ++ map (λ i. 64 + i) (marked_places (marks_of ws))
+pub marked_places-cons : (w : ℕ) (ws : List ℕ) → marked_places (marks_of (w ∷ ws)) ≡ bits_of 64 w ++ map (λ i. 64 + i) (marked_places (marks_of ws))
 marked_places-cons w ws = marked_places-word 64 refl w ws
 
 -- no words mark no place
@@ -228,11 +228,11 @@ length-marked_places-marks_of (w ∷ ws) fits =
     let sum = sum_by-cons count_ones w ws in
     ap length (marked_places-cons w ws) ∙ omega (arith, first, rest, both, moved, sum)
 
-map-add : (base k : ℕ) (ns : List ℕ) → map (λ i. base + i) (map (λ i. k + i) ns) ≡ map (λ i. base + k + i) ns
+pub map-add : (base k : ℕ) (ns : List ℕ) → map (λ i. base + i) (map (λ i. k + i) ns) ≡ map (λ i. base + k + i) ns
 map-add base k [] = refl
 map-add base k (n ∷ ns) = let e : base + (k + n) ≡ base + k + n = omega arith in simp (e, map-add base k ns) refl
 
-map-zero : (ns : List ℕ) → map (λ i. 0 + i) ns ≡ ns
+pub map-zero : (ns : List ℕ) → map (λ i. 0 + i) ns ≡ ns
 map-zero [] = refl
 map-zero (n ∷ ns) = let e : 0 + n ≡ n = omega arith in simp (e, map-zero ns) refl
 

@@ -13,6 +13,9 @@ pub mod TableLemmas
 pub mod MarkedLemmas
 pub mod FilledLemmas
 pub mod BitsLemmas
+pub mod PlacesLemmas
+pub mod RetainLemmas
+pub mod KeepLemmas
 pub mod MappedLemmas
 pub mod MoveLemmas
 pub mod RegroupLemmas

@@ -11,6 +11,7 @@ pub mod Bits
 pub mod Moves
 pub mod Map
 pub mod States
+pub mod Retaining
 pub mod Kept
 pub mod Locations
 pub mod Written

@@ -10,6 +10,7 @@ mod grow;
 mod insert;
 mod locate;
 mod remove;
+mod retain;
 
 use crate::iter::Iter;
 use crate::kept::Kept;

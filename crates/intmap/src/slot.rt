@@ -1,5 +1,5 @@
 //! One slot of a table: the first pair in its place, the rest behind it.
-ghost use Rattle.std.specs.Prelude.{◌≡◌, ◌+◌, ◌<◌, ◌≤◌, [], ◌∷◌, ◌++◌, length, position, swap_remove, slice_index_or, nat_lt, vec_capacity, true, None, Some, OnOk, OnErr, IfOk, IfErr, option_copied};
+ghost use Rattle.std.specs.Prelude.{◌≡◌, ◌+◌, ◌^◌, ◌<◌, ◌≤◌, [], ◌∷◌, ◌++◌, length, position, swap_remove, slice_index_or, nat_lt, vec_capacity, true, None, Some, OnOk, OnErr, IfOk, IfErr, option_copied};
 ghost use Rattle.intmap.specs.Classes.{same_key};
 ghost use Rattle.intmap.specs.Bindings.{swap_out, value_of};
 ghost use Rattle.intmap.specs.Reach.{through_first};
@@ -178,6 +178,28 @@ impl<K: IntKey, X, A: Allocator> Slot<K, X, A> {
         ensures filled { IsFilledInOrder result.0 result.1.items }
     {
         (self.first, self.rest)
+    }
+
+    /// The slot of a first pair, if there is one, and the rest.
+    pub(crate) fn from_parts(
+        first: Option<(Stored<K>, X)>,
+        rest: Vec<(Stored<K>, X), A>,
+    ) -> Slot<K, X, A>
+        requires { IsFilledInOrder first rest.items }
+        ensures { result.pairs ≡ all_pairs first rest.items }
+    {
+        Slot { first, rest }
+    }
+
+    /// The number of pairs.
+    pub(crate) fn len(&self) -> usize
+        requires { length self.now.pairs < 2 ^ 64 }
+        ensures { result ≡ length self.now.pairs }
+    {
+        match self.first {
+            Some(_) => 1 + self.rest.len(),
+            None => 0,
+        }
     }
 
     /// Takes the first pair out. The last pair, if there is another, takes its place.

@@ -4,6 +4,7 @@ mod bits;
 mod grow;
 pub(crate) mod locate;
 mod place;
+mod retain;
 pub(crate) mod stored;
 pub(crate) mod walk;
 

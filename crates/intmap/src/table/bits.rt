@@ -1,5 +1,5 @@
 //! One bit for each place.
-ghost use Rattle.std.specs.Prelude.{◌≡◌, ◌+◌, ◌*◌, ◌/◌, ◌^◌, ◌<◌, ◌≤◌, true, false, length, replicate, slice_set, IfOk};
+ghost use Rattle.std.specs.Prelude.{◌≡◌, ◌+◌, ◌*◌, ◌/◌, ◌^◌, ◌<◌, ◌≤◌, true, false, filter, length, nat_le, replicate, slice_set, IfOk};
 ghost use Rattle.std.specs.Iterator.{YieldsFirstBy, item_count};
 ghost use Rattle.intmap.specs.Bits.{marked, marked_places};
 
@@ -79,6 +79,26 @@ impl<A: Allocator> Bits<A> {
                 base: 0,
                 words: &[],
             },
+        }
+    }
+
+    /// The marked places from a place on, in ascending order.
+    #[inline(always)]
+    pub(crate) fn iter_from(&self, from: usize) -> Places<'_>
+        ensures { result ≡ filter (nat_le from) (marked_places self.now) }
+    {
+        let index = from / BITS;
+        if index >= self.words.len() {
+            return Places {
+                word: 0,
+                base: 0,
+                words: &[],
+            };
+        }
+        Places {
+            word: self.words[index] & (u64::MAX << (from % BITS)),
+            base: index * BITS,
+            words: &self.words[index + 1..],
         }
     }
 }

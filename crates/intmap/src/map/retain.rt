@@ -1,0 +1,40 @@
+//! Keeping some of the pairs.
+ghost use Rattle.std.specs.Prelude.{◌≡◌, ◌⊎◌, ◌≤◌, length, None};
+ghost use Rattle.intmap.specs.Bindings.{value_of};
+ghost use Rattle.intmap.specs.Map.{IsMap};
+ghost use Rattle.intmap.specs.Retaining.{KeepsAt, Retains};
+
+use crate::key::IntKey;
+use crate::map::IntMap;
+use std::alloc::Allocator;
+
+impl<K: IntKey, V: Drop, A: Allocator + Copy> IntMap<K, V, A> {
+    /// Keeps the pairs of which the closure says true, and lets the others go. The closure is
+    /// called once for each pair, in the order of the walk, with the key and a reference to the
+    /// value; what it changes of its own is there at the next call.
+    ///
+    /// The pairs that stay keep their order. The capacity, the load factor and both counts stay,
+    /// and so does the memory of the slots, for pairs to come. It is never refused and takes no
+    /// memory, and apart from the calls its time grows with the number of pairs and of slots,
+    /// however many pairs share a slot.
+    ///
+    /// ```text
+    /// after insert(0, 10), insert(1, 11), insert(4, 14) and insert(8, 18) into 4 slots the walk has
+    /// the keys 0, 4, 8 and 1; retain(|key, _| key != 4) leaves 0, 8 and 1, and so does
+    /// retain(|_, value| *value != 14)
+    /// ```
+    pub fn retain<F: FnMut(K, &V) -> bool>(&mut self, f: F)
+        requires { F.IsAlwaysCallable f }
+        ensures pairs { (last : F) × Retains (KeepsAt F.FnMut) f self.old.walk self.new.walk last }
+        ensures state { self.new ≡ record self.old { walk = self.new.walk } }
+        ensures updates { (q : K)
+            → (value_of K.number_of self.new.walk q ≡ value_of K.number_of self.old.walk q)
+            ⊎ (value_of K.number_of self.new.walk q ≡ None) }
+        ensures len { length self.new.walk ≤ length self.old.walk }
+        ensures map { IsMap K.number_of K.is_key self.old }
+        ensures map_after { IsMap K.number_of K.is_key self.new }
+    {
+        let mut f = f;
+        self.len = self.table.retain(&mut f);
+    }
+}

@@ -1,0 +1,115 @@
+//! Pairs that stay where a closure says so, in their order and in the room that there is.
+ghost use Rattle.std.specs.Prelude.{◌≡◌, ◌+◌, ◌^◌, ◌<◌, ◌≤◌, length};
+ghost use Rattle.intmap.specs.Walk.{walk_of};
+ghost use Rattle.intmap.specs.Slots.{rows, joined, IsMarkedTable};
+ghost use Rattle.intmap.specs.Kept.{unkept, KeepsStored};
+ghost use Rattle.intmap.specs.Retaining.{Retains, KeepsAt};
+
+use crate::kept::Kept;
+use crate::key::IntKey;
+use crate::slot::Slot;
+use crate::table::Table;
+use crate::table::bits::Bits;
+use crate::table::stored::Stored;
+use std::alloc::Allocator;
+use std::mem;
+
+/// Keeps the pairs of which the closure says true, in their order.
+fn retain_in<K: IntKey, V: Drop, A: Allocator, F: FnMut(K, &V) -> bool>(
+    pairs: &mut Vec<(Stored<K>, Kept<V>), A>,
+    f: &mut F,
+)
+    requires { F.IsAlwaysCallable f.old }
+    ensures pairs { Retains (KeepsStored F.FnMut) f.old pairs.old.items pairs.new.items f.new }
+    ensures callable { F.IsAlwaysCallable f.new }
+{
+    let mut kept = 0;
+    for i in 0..pairs.len() {
+        let (key, value) = &pairs[i];
+        if f(*key.key(), &value.value) {
+            pairs.swap(kept, i);
+            kept += 1;
+        }
+    }
+    pairs.truncate(kept);
+}
+
+/// The slot of these pairs, of which the first moves up.
+fn slot_of<K: IntKey, X, A: Allocator>(mut pairs: Vec<(Stored<K>, X), A>) -> Slot<K, X, A>
+    ensures { result.pairs ≡ pairs.items }
+{
+    if pairs.is_empty() {
+        return Slot::from_parts(None, pairs);
+    }
+    let first = pairs.remove(0);
+    Slot::from_parts(Some(first), pairs)
+}
+
+/// The slot with the pairs of which the closure says true, in their order and in the same memory.
+fn retain_slot<K: IntKey, V: Drop, A: Allocator, F: FnMut(K, &V) -> bool>(
+    slot: Slot<K, Kept<V>, A>,
+    f: &mut F,
+) -> Slot<K, Kept<V>, A>
+    requires { F.IsAlwaysCallable f.old }
+    ensures pairs { Retains (KeepsStored F.FnMut) f.old slot.pairs result.pairs f.new }
+    ensures callable { F.IsAlwaysCallable f.new }
+{
+    let (first, mut rest) = slot.into_parts();
+    let Some(pair) = first else {
+        return slot_of(rest);
+    };
+    let stays = f(*pair.0.key(), &pair.1.value);
+    retain_in(&mut rest, f);
+    if stays {
+        return Slot::from_parts(Some(pair), rest);
+    }
+    slot_of(rest)
+}
+
+/// Keeps the pairs of which the closure says true, slot after slot, and answers how many they are.
+/// The bits tell which slots to look at, and a slot that is emptied loses its bit.
+fn retain_slots<K: IntKey, V: Drop, A: Allocator + Copy, F: FnMut(K, &V) -> bool>(
+    bits: &mut Bits<A>,
+    slots: &mut Vec<Slot<K, Kept<V>, A>, A>,
+    f: &mut F,
+) -> usize
+    requires callable { F.IsAlwaysCallable f.old }
+    requires table { IsMarkedTable K.number_of slots.old.items bits.old }
+    requires count { length (joined (rows slots.old.items)) < 2 ^ 64 }
+    ensures pairs { Retains (KeepsStored F.FnMut) f.old (joined (rows slots.old.items))
+        (joined (rows slots.new.items)) f.new }
+    ensures table { IsMarkedTable K.number_of slots.new.items bits.new }
+    ensures len { length slots.new.items ≡ length slots.old.items }
+    ensures count { result ≡ length (joined (rows slots.new.items)) }
+{
+    let alloc = *slots.allocator();
+    let mut count = 0;
+    let mut from = 0;
+    while let Some(place) = bits.iter_from(from).next() {
+        let slot = mem::replace(&mut slots[place], Slot::new(alloc));
+        let slot = retain_slot(slot, f);
+        if !slot.is_filled() {
+            bits.clear(place);
+        }
+        count += slot.len();
+        slots[place] = slot;
+        from = place + 1;
+    }
+    count
+}
+
+impl<K: IntKey, V: Drop, A: Allocator + Copy> Table<K, Kept<V>, A> {
+    /// Keeps the pairs of which the closure says true, in their order, and answers how many they
+    /// are. The closure is asked about each pair once, in the order of the walk.
+    pub(crate) fn retain<F: FnMut(K, &V) -> bool>(&mut self, f: &mut F) -> usize
+        requires callable { F.IsAlwaysCallable f.old }
+        requires count { length self.old.walk < 2 ^ 64 }
+        ensures pairs { Retains (KeepsAt F.FnMut) f.old (unkept self.old.walk)
+            (unkept self.new.walk) f.new }
+        ensures capacity { self.new.capacity ≡ self.old.capacity }
+        ensures own { walk_of K.number_of self.new.walk self.new.capacity ≡ self.new.walk }
+        ensures count { result ≡ length self.new.walk }
+    {
+        retain_slots(&mut self.bits, &mut self.slots, f)
+    }
+}
