@@ -35,7 +35,7 @@ fn retain_in<K: IntKey, V: Drop, A: Allocator, F: FnMut(K, &V) -> bool>(
 }
 
 /// The slot of these pairs, of which the first moves up.
-fn slot_of<K: IntKey, X, A: Allocator>(mut pairs: Vec<(Stored<K>, X), A>) -> Slot<K, X, A>
+fn slot_with<K: IntKey, X, A: Allocator>(mut pairs: Vec<(Stored<K>, X), A>) -> Slot<K, X, A>
     ensures { result.pairs ≡ pairs.items }
 {
     if pairs.is_empty() {
@@ -56,14 +56,14 @@ fn retain_slot<K: IntKey, V: Drop, A: Allocator, F: FnMut(K, &V) -> bool>(
 {
     let (first, mut rest) = slot.into_parts();
     let Some(pair) = first else {
-        return slot_of(rest);
+        return slot_with(rest);
     };
     let stays = f(*pair.0.key(), &pair.1.value);
     retain_in(&mut rest, f);
     if stays {
         return Slot::from_parts(Some(pair), rest);
     }
-    slot_of(rest)
+    slot_with(rest)
 }
 
 /// Keeps the pairs of which the closure says true, slot after slot, and answers how many they are.
