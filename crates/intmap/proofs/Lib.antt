@@ -15,6 +15,7 @@ pub mod FilledLemmas
 pub mod BitsLemmas
 pub mod PlacesLemmas
 pub mod RetainLemmas
+pub mod RetainSlotsLemmas
 pub mod KeepLemmas
 pub mod MappedLemmas
 pub mod MoveLemmas

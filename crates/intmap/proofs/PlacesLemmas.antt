@@ -3,7 +3,8 @@ use Rattle.std.proofs.Common.{◌≡◌, inl, inr, ℕ, zero, suc, ◌+◌, ◌-
 use Rattle.std.specs.Prelude.{filter, nat_le, nat_eq, ◌&&◌}
 use Rattle.std.specs.Int.{bit_at}
 use Rattle.std.specs.List.{range_with_len}
-use Rattle.std.proofs.lemmas.Bool.{cases_Bool, cases_lt, le-leb, leb-true, leb-false, ne_eqb, false≢true}
+use Rattle.std.proofs.lemmas.Bool.{cases_Bool, cases_eq, cases_lt, le-leb, leb-true, leb-false, ne_eqb, false≢true}
+use Rattle.std.proofs.lemmas.List.{get_or_past}
 use Rattle.std.proofs.lemmas.List.Elements.{filter-append}
 use Rattle.std.proofs.lemmas.Nat.Bits.{ones_shl, bit_at_and, bit_at_mask_below, bit_at_mask_inside, bit_at-lt}
 use Rattle.intmap.specs.Bits.{marked, marked_places, has_bit, marks_of, places_from}
@@ -122,3 +123,68 @@ pub marked_places-behind : (from : ℕ) (marks : List Bool) → length marks ≤
 marked_places-behind from marks past =
     filter-filter_both (nat_le from) (marked marks) (λ i. false) 0 (length marks) (λ i lt. let f = not_below from (0 + i) (omega (arith, lt, past)) in rw f refl)
     ∙ filter-never (range_with_len 0 (length marks))
+
+-- the first number of a run that passes a test
+first_kept : (test : ℕ → Bool) (a n place : ℕ) (rest : List ℕ) → filter test (range_with_len a n) ≡ place ∷ rest → (a ≤ place) × (test place ≡ true) × ((j : ℕ) → a ≤ j → j < place → test j ≡ false)
+first_kept test a zero place rest is = let no : [] ≡ place ∷ rest = is in cc
+first_kept test a (suc n) place rest is = elim (cases_Bool (test a)) [
+  | inl passes ↦
+      (let both : a ∷ filter test (range_with_len (a + 1) n) ≡ place ∷ rest = simp passes at is in
+      let here : a ≡ place = ap (λ ns. get_or ns 0 0) both in
+      (omega (arith, here), rw (← here) passes, λ j le lt. absurd (omega (arith, here, le, lt))))
+  | inr fails ↦
+      (let more = first_kept test (a + 1) n place rest (simp fails at is) in
+      (omega (arith, more.0), more.1, λ j le lt. elim (cases_eq a j) as (λ _. test j ≡ false) [
+        | inl q ↦ rw (← q) fails
+        | inr apart ↦ more.2 j (omega (arith, le, apart)) lt
+      ]))
+]
+
+-- where no number of a run passes
+none_kept : (test : ℕ → Bool) (a n : ℕ) → filter test (range_with_len a n) ≡ [] → (j : ℕ) → a ≤ j → j < a + n → test j ≡ false
+none_kept test a zero is j le lt = absurd (omega (arith, le, lt))
+none_kept test a (suc n) is j le lt = elim (cases_Bool (test a)) as (λ _. test j ≡ false) [
+  | inl passes ↦ (let some : a ∷ filter test (range_with_len (a + 1) n) ≡ [] = simp passes at is in cc)
+  | inr fails ↦ elim (cases_eq a j) as (λ _. test j ≡ false) [
+    | inl q ↦ rw (← q) fails
+    | inr apart ↦ none_kept test (a + 1) n (simp fails at is) j (omega (arith, le, apart)) (omega (arith, lt))
+  ]
+]
+
+-- the first marked place from a place on
+pub record IsNextMark (marks : List Bool) (from place : ℕ) : Type 0 where
+  pub behind : from ≤ place
+  pub is : marked marks place ≡ true
+  pub between : (j : ℕ) → from ≤ j → j < place → marked marks j ≡ false
+
+module _ (marks : List Bool) (from : ℕ) where
+  -- marked, and not before that place
+  abbrev behind_from : ℕ → Bool
+  behind_from j = nat_le from j && marked marks j
+
+  both_places : filter (nat_le from) (marked_places marks) ≡ filter behind_from (range_with_len 0 (length marks))
+  both_places = filter-filter_both (nat_le from) (marked marks) behind_from 0 (length marks) (λ i lt. refl)
+
+  unmarked : (j : ℕ) → from ≤ j → behind_from j ≡ false → marked marks j ≡ false
+  unmarked j le fails = let t = le-leb from j le in rw t at fails
+
+  pub IsNextMark-first : (place : ℕ) (rest : List ℕ) → filter (nat_le from) (marked_places marks) ≡ place ∷ rest → IsNextMark marks from place
+  IsNextMark-first place rest is =
+      let first = first_kept behind_from 0 (length marks) place rest (sym both_places ∙ is) in
+      let passes = both_true (nat_le from place) (marked marks place) first.1 in
+      record {
+        behind = leb-true from place passes.0;
+        is = passes.1;
+        between = λ j le lt. unmarked j le (first.2 j (omega arith) lt);
+      }
+    where
+      both_true : (a b : Bool) → (a && b) ≡ true → (a ≡ true) × (b ≡ true)
+      both_true true b e = (refl, e)
+      both_true false b e = absurd (false≢true e)
+
+  -- where there is none, no place is marked from there on
+  pub unmarked-behind : filter (nat_le from) (marked_places marks) ≡ [] → (j : ℕ) → from ≤ j → marked marks j ≡ false
+  unmarked-behind none j le = elim (cases_lt j (length marks)) as (λ _. marked marks j ≡ false) [
+    | inl below ↦ unmarked j le (none_kept behind_from 0 (length marks) (sym both_places ∙ none) j (omega arith) (omega (arith, below)))
+    | inr past ↦ get_or_past marks j false past
+  ]

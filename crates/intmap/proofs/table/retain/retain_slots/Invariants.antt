@@ -1,0 +1,19 @@
+use Rattle.std.proofs.Common.{◌≡◌, ◌-◌, ◌^◌, ◌<◌, length, take, drop}
+use denote.Param.Always.{always_mut}
+use Rattle.intmap.specs.Kept.{KeepsStored}
+use Rattle.intmap.specs.Slots.{rows, joined, IsMarkedTable}
+use Rattle.intmap.proofs.RetainLemmas.{Leads}
+use Rattle.intmap.proofs.table.retain.retain_slots.Given as goal
+
+abbrev pub invariant-loop-place : goal.invariant-loop-place
+invariant-loop-place g l = record {
+  callable : always_mut g.F.FnMut l.initial.f → always_mut g.F.FnMut l.f;
+  table : IsMarkedTable g.K.IntKey.number_of l.slots.items l.bits;
+  len : length l.slots.items ≡ length l.initial.slots.items;
+  few : length (joined (rows l.slots.items)) < 2 ^ 64;
+  count : l.count ≡ length (joined (take l.from (rows l.slots.items)));
+  leads : Leads (KeepsStored g.F.FnMut) l.initial.f (joined (rows l.initial.slots.items)) l.f (joined (take l.from (rows l.slots.items))) (joined (drop l.from (rows l.slots.items)));
+}
+
+abbrev pub decreases-loop-place : goal.decreases-loop-place
+decreases-loop-place g l = length l.slots.items - l.from
