@@ -8,7 +8,18 @@ use Rattle.std.proofs.lemmas.List.Edits.{swap_is}
 use Rattle.std.proofs.lemmas.List.Elements.{All-nil, All-cons, All-head, All-tail}
 use Rattle.std.proofs.lemmas.List.Sums.{sum_by-cons}
 use Rattle.std.proofs.lemmas.Grind.{flat_map-append}
-use Rattle.intmap.specs.Retaining.{Retains}
+use Rattle.std.specs.Fn.{Mut}
+use Rattle.std.specs.Borrow.{Bor}
+use Rattle.intmap.specs.Bindings.{HasDistinctKeys, value_of}
+use Rattle.intmap.specs.Classes.{same_key}
+use Rattle.intmap.specs.Growth.{IsLimit}
+use Rattle.intmap.specs.Kept.{unkept, KeepsStored, IsConsistent}
+use Rattle.intmap.specs.Map.{IsMapWalk}
+use Rattle.intmap.specs.Retaining.{KeepsAt, Retains}
+use Rattle.intmap.specs.Walk.{walk_of}
+use Rattle.intmap.specs.declared.kept.Kept.{Kept}
+use Rattle.intmap.proofs.LoadFactorLemmas.{IsLoaded-fewer, capacity-positive}
+use Rattle.intmap.proofs.MappedLemmas.{walk_of-with_values}
 
 module _ {F X : Type 0} (R : F → X → Bool → F → Type 0) where
   -- first the one list, then the other
@@ -114,3 +125,69 @@ module _ {X : Type 0} (xs : List X) (k i : ℕ) (d : X) (before : k ≤ i) (belo
     -- the element at place i goes
     pub Leads-goes : R f (get_or xs i d) false h → Leads R f₀ L h (take k xs) (drop (i + 1) xs)
     Leads-goes call = subst (λ Z. Leads R f₀ L h Z (drop (i + 1) xs)) (append-nil (take k xs)) (asked false call)
+
+module _ {K V : Type 0} where
+  -- the same with the values as callers see them
+  pub Retains-unkept : {F : Type 0} (m : Mut F (K × (Bor V × Unit {0})) Bool) (f g : F) (L M : List (K × Kept V)) → Retains (KeepsStored m) f L M g → Retains (KeepsAt m) f (unkept L) (unkept M) g
+  Retains-unkept m f g L M r = Retains-map (KeepsAt m) (λ p. (p.0, p.1.value)) f g L M r
+
+module _ {F K V : Type 0} (number : K → ℕ) (R : F → K × V → Bool → F → Type 0) where
+  -- no key that stays is bound twice
+  pub HasDistinctKeys-Retains : (f g : F) (L M : List (K × V)) → Retains R f L M g → HasDistinctKeys number L → HasDistinctKeys number M
+  HasDistinctKeys-Retains f g L M r once k =
+      let few = count_by-Retains R (λ p. same_key number k p.0) f g L M r in let one = once k in omega (arith, few, one)
+
+  -- a key that no pair has isn't bound
+  value_of-uncounted : (k : K) (L : List (K × V)) → count_by (λ p. same_key number k p.0) L ≡ 0 → value_of number L k ≡ None
+  value_of-uncounted k [] none = refl
+  value_of-uncounted k (p ∷ L) none =
+      let sum = sum_by-cons (λ (q : K × V). cond (same_key number k q.0) 1 0) p L in
+      let rest = value_of-uncounted k L in
+      grind (arith, sum, rest, none)
+
+  -- whether the first pair, of the key or of another one, stays or goes
+  value_step : (k : K) (p : K × V) (L N : List (K × V)) (b here : Bool) → same_key number k p.0 ≡ here → (here ≡ true → value_of number N k ≡ None)
+      → (value_of number N k ≡ value_of number L k) ⊎ (value_of number N k ≡ None)
+      → (value_of number (cond b (p ∷ N) N) k ≡ value_of number (p ∷ L) k) ⊎ (value_of number (cond b (p ∷ N) N) k ≡ None)
+  value_step k p L N true true e none rest = inl (simp e)
+  value_step k p L N true false e none rest = simp e rest
+  value_step k p L N false true e none rest = inr (none refl)
+  value_step k p L N false false e none rest = simp e rest
+
+  -- each key is bound to what it was bound to, or not any more
+  pub value_of-Retains : (k : K) (f g : F) (L M : List (K × V)) → Retains R f L M g → HasDistinctKeys number L → (value_of number M k ≡ value_of number L k) ⊎ (value_of number M k ≡ None)
+  value_of-Retains k f g [] M r once = inr (ap (λ Z. value_of number Z k) r.0)
+  value_of-Retains k f g (p ∷ L) M r once =
+      let count = λ (j : K). sum_by-cons (λ (q : K × V). cond (same_key number j q.0) 1 0) p L in
+      let later : HasDistinctKeys number L = λ j. let c = count j in let o = once j in omega (arith, c, o) in
+      let few = count_by-Retains R (λ q. same_key number k q.0) r.1 g L r.2 r.4 in
+      let gone : same_key number k p.0 ≡ true → value_of number r.2 k ≡ None = λ e.
+          let c = count k in let o = once k in let one : ◌≡◌ {A = ℕ} (cond (same_key number k p.0) 1 0) 1 = ap (λ b. cond b 1 0) e in
+          value_of-uncounted k r.2 (omega (arith, c, o, few, one)) in
+      subst (λ Z. (value_of number Z k ≡ value_of number (p ∷ L) k) ⊎ (value_of number Z k ≡ None)) (sym r.5)
+      (value_step k p L r.2 r.0 (same_key number k p.0) refl gone (value_of-Retains k r.1 g L r.2 r.4 later))
+
+  -- what stays of a map's walk is the walk of a map
+  pub IsMapWalk-Retains : (is_key : K → Type 0) (f g : F) (W M : List (K × V)) (C E : ℕ) → Retains R f W M g → walk_of number M C ≡ M → IsMapWalk number is_key W C E → IsMapWalk number is_key M C E
+  IsMapWalk-Retains is_key f g W M C E r own old =
+      let few = length-Retains R f g W M r in
+      record {
+        capacity = old.capacity;
+        own = own;
+        distinct = HasDistinctKeys-Retains f g W M r old.distinct;
+        keys = All-Retains R (λ p. is_key p.0) f g W M r old.keys;
+        count = omega (arith, few, old.count);
+        factor = old.factor;
+        load = IsLoaded-fewer C (length W) (length M) E (capacity-positive C old.capacity) old.load few;
+      }
+
+-- and what a map keeps agrees
+pub IsConsistent-Retains : {F K V : Type 0} (number : K → ℕ) (is_key : K → Type 0) (R : F → K × V → Bool → F → Type 0) (f g : F) (W M : List (K × Kept V)) (C D E n n' most : ℕ)
+    → Retains R f (unkept W) (unkept M) g → D ≡ C → walk_of number M D ≡ M → n' ≡ length M → IsConsistent number is_key W C E n most → IsConsistent number is_key M D E n' most
+IsConsistent-Retains {V = V} number is_key R f g W M C D E n n' most r same own count old = record {
+  map =
+      let own_seen : walk_of number (unkept M) D ≡ unkept M = walk_of-with_values number (λ (x : Kept V). x.value) M D ∙ ap unkept own in
+      IsMapWalk-Retains number R is_key f g (unkept W) (unkept M) D E r own_seen (subst (λ m. IsMapWalk number is_key (unkept W) m E) (sym same) old.map);
+  count = count;
+  limit = subst (λ m. IsLimit m E most) (sym same) old.limit;
+}

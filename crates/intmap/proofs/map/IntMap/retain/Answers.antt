@@ -1,0 +1,26 @@
+use Rattle.std.proofs.Common.{subst}
+use Rattle.intmap.specs.Kept.{unkept}
+use Rattle.intmap.specs.Map.{MapState}
+use Rattle.intmap.specs.Retaining.{KeepsAt, Retains}
+use Rattle.intmap.proofs.RetainLemmas.{length-Retains, value_of-Retains, IsConsistent-Retains}
+use Rattle.intmap.proofs.map.IntMap.retain.Goals as goal
+
+pub invariant_of-self : goal.invariant_of-self
+invariant_of-self g c =
+    let kept = c.retain-self-inside.ensures in
+    IsConsistent-Retains g.K.IntKey.number_of g.K.IntKey.is_key (KeepsAt g.F.FnMut) c.args.f c.retain-self-inside.new.f c.self.inside.table.walk c.retain-self-inside.new.self.walk _ _ _ _ _ _
+    kept.pairs kept.capacity kept.own kept.count c.self.invariant
+
+pub returns-clause-pairs : goal.returns-clause-pairs
+returns-clause-pairs g c =
+    (c.retain-self-inside.new.f, subst (λ (m : MapState _ _). Retains (KeepsAt g.F.FnMut) c.args.f m.walk (unkept c.retain-self-inside.new.self.walk) c.retain-self-inside.new.f) c.self.view_is c.retain-self-inside.ensures.pairs)
+
+pub returns-clause-updates : goal.returns-clause-updates
+returns-clause-updates g c q =
+    rw (← c.self.view_is) (value_of-Retains g.K.IntKey.number_of (KeepsAt g.F.FnMut) q _ _ _ _ c.retain-self-inside.ensures.pairs c.self.invariant.map.distinct)
+
+pub returns-clause-len : goal.returns-clause-len
+returns-clause-len g c = rw (← c.self.view_is) (length-Retains (KeepsAt g.F.FnMut) _ _ _ _ c.retain-self-inside.ensures.pairs)
+
+pub returns-clause-map_after : goal.returns-clause-map_after
+returns-clause-map_after g c = (invariant_of-self g c).map

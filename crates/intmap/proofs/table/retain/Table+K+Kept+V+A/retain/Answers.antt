@@ -1,0 +1,19 @@
+use Rattle.std.proofs.Common.{◌^◌, ◌<◌, length, sym, subst}
+use Rattle.intmap.specs.Slots.{Grid, rows, joined}
+use Rattle.intmap.specs.Kept.{unkept}
+use Rattle.intmap.specs.Retaining.{KeepsAt, Retains}
+use Rattle.intmap.proofs.RetainLemmas.{Retains-unkept}
+use Rattle.intmap.proofs.TableLemmas.{walk_of-joined}
+use Rattle.intmap.proofs.table.retain.Table+K+Kept+V+A.retain.Goals as goal
+
+pub retain_slots-requires-clause-count : goal.retain_slots-requires-clause-count
+retain_slots-requires-clause-count g c = subst (λ (t : Grid _ _). length t.walk < 2 ^ 64) (sym c.self.view_is) c.requires.count
+
+pub returns-clause-pairs : goal.returns-clause-pairs
+returns-clause-pairs g c =
+    let old = joined (rows c.self.inside.slots.items) in let new = joined (rows c.retain_slots.new.slots.items) in
+    subst (λ (t : Grid _ _). Retains (KeepsAt g.F.FnMut) c.args.f.now (unkept t.walk) (unkept new) c.retain_slots.new.f) c.self.view_is
+    (Retains-unkept g.F.FnMut c.args.f.now c.retain_slots.new.f old new c.retain_slots.ensures.pairs)
+
+pub returns-clause-own : goal.returns-clause-own
+returns-clause-own g c = walk_of-joined g.K.IntKey.number_of c.retain_slots.new.slots.items c.retain_slots.ensures.table.table
