@@ -3,12 +3,12 @@ use Rattle.std.proofs.Common.{◌≡◌, inl, inr, ℕ, zero, suc, ◌+◌, ◌-
 use Rattle.std.specs.Prelude.{filter, nat_le, nat_eq, ◌&&◌}
 use Rattle.std.specs.Int.{bit_at}
 use Rattle.std.specs.List.{range_with_len}
-use Rattle.std.proofs.lemmas.Bool.{cases_Bool, cases_eq, cases_lt, le-leb, leb-true, leb-false, ne_eqb, false≢true}
+use Rattle.std.proofs.lemmas.Bool.{cases_Bool, cases_eq, cases_lt, le-leb, leb-true, ne_eqb, false≢true}
 use Rattle.std.proofs.lemmas.List.{get_or_past}
 use Rattle.std.proofs.lemmas.List.Elements.{filter-append}
 use Rattle.std.proofs.lemmas.Nat.Bits.{ones_shl, bit_at_and, bit_at_mask_below, bit_at_mask_inside, bit_at-lt}
 use Rattle.intmap.specs.Bits.{marked, marked_places, has_bit, marks_of, places_from}
-use Rattle.intmap.proofs.BitsLemmas.{bits_of, marked_places-cons, map-add, map-zero, length-marks_of}
+use Rattle.intmap.proofs.BitsLemmas.{bits_of, marked_places-cons, map-add, map-zero}
 
 not_below : (a b : ℕ) → b < a → nat_le a b ≡ false
 not_below a b lt = elim (cases_Bool (nat_le a b)) as (λ _. nat_le a b ≡ false) [
@@ -133,11 +133,14 @@ first_kept test a (suc n) place rest is = elim (cases_Bool (test a)) [
       let here : a ≡ place = ap (λ ns. get_or ns 0 0) both in
       (omega (arith, here), rw (← here) passes, λ j le lt. absurd (omega (arith, here, le, lt))))
   | inr fails ↦
-      (let more = first_kept test (a + 1) n place rest (simp fails at is) in
-      (omega (arith, more.0), more.1, λ j le lt. elim (cases_eq a j) as (λ _. test j ≡ false) [
-        | inl q ↦ rw (← q) fails
-        | inr apart ↦ more.2 j (omega (arith, le, apart)) lt
-      ]))
+      (let more = first_kept test (a + 1) n place rest (simp fails at is) in (
+        omega (arith, more.0),
+        more.1,
+        λ j le lt. elim (cases_eq a j) as (λ _. test j ≡ false) [
+          | inl q ↦ rw (← q) fails
+          | inr apart ↦ more.2 j (omega (arith, le, apart)) lt
+        ],
+      ))
 ]
 
 -- where no number of a run passes

@@ -1,13 +1,12 @@
 -- What a closure that is asked about each pair in turn leaves of lists, of slots and of tables.
-use Rattle.std.proofs.Common.{◌≡◌, inl, inr, ℕ, zero, suc, ◌+◌, ◌-◌, ◌^◌, ◌<◌, ◌≤◌, Bool, true, false, cond, List, [], ◌∷◌, ◌++◌, length, map, get_or, set, take, drop, Option, None, refl, sym, ap, ◌∙◌, subst, arith, append-nil, append_assoc, length-append, length-set, get_or-set_same, get_or-set_other}
-use Rattle.std.specs.Prelude.{◌⊎◌, ◌==◌, ◌&&◌, filter, All, count_by, nat_lt, nat_le}
-use Rattle.std.specs.List.{swap, range_with_len}
-use Rattle.std.proofs.lemmas.Bool.{cases_eq, cases_lt, cases_Bool, lt-ltb, ltb-true, false≢true, eqb-true, le-leb, leb-true, cond_both}
-use Rattle.std.proofs.lemmas.List.{drop_more, drop_all, take_all, take_more_set, take-set-le, drop-set-lt, set-set, map-append, map-set, length-map, get_or_past, take-append-drop}
+use Rattle.std.proofs.Common.{◌≡◌, inl, inr, ℕ, suc, ◌+◌, ◌<◌, ◌≤◌, Bool, true, false, cond, List, [], ◌∷◌, ◌++◌, length, map, get_or, set, take, drop, None, refl, sym, ap, ◌∙◌, subst, arith, append-nil, append_assoc}
+use Rattle.std.specs.Prelude.{◌⊎◌, All, count_by}
+use Rattle.std.specs.List.{swap}
+use Rattle.std.proofs.lemmas.Bool.{cases_lt, cond_both}
+use Rattle.std.proofs.lemmas.List.{drop_more, take_more_set, take-set-le, drop-set-lt, set-set}
 use Rattle.std.proofs.lemmas.List.Edits.{swap_is}
-use Rattle.std.proofs.lemmas.List.Elements.{All-nil, All-cons, All-head, All-tail}
+use Rattle.std.proofs.lemmas.List.Elements.{All-cons, All-head, All-tail}
 use Rattle.std.proofs.lemmas.List.Sums.{sum_by-cons}
-use Rattle.std.proofs.lemmas.Grind.{flat_map-append}
 use Rattle.std.specs.Fn.{Mut}
 use Rattle.std.specs.Borrow.{Bor}
 use Rattle.intmap.specs.Bindings.{HasDistinctKeys, value_of}
@@ -162,8 +161,8 @@ module _ {F K V : Type 0} (number : K → ℕ) (R : F → K × V → Bool → F 
       let later : HasDistinctKeys number L = λ j. let c = count j in let o = once j in omega (arith, c, o) in
       let few = count_by-Retains R (λ q. same_key number k q.0) r.1 g L r.2 r.4 in
       let gone : same_key number k p.0 ≡ true → value_of number r.2 k ≡ None = λ e.
-          let c = count k in let o = once k in let one : ◌≡◌ {A = ℕ} (cond (same_key number k p.0) 1 0) 1 = ap (λ b. cond b 1 0) e in
-          value_of-uncounted k r.2 (omega (arith, c, o, few, one)) in
+      let c = count k in let o = once k in let one : ◌≡◌ {A = ℕ} (cond (same_key number k p.0) 1 0) 1 = ap (λ b. cond b 1 0) e in
+      value_of-uncounted k r.2 (omega (arith, c, o, few, one)) in
       subst (λ Z. (value_of number Z k ≡ value_of number (p ∷ L) k) ⊎ (value_of number Z k ≡ None)) (sym r.5)
       (value_step k p L r.2 r.0 (same_key number k p.0) refl gone (value_of-Retains k r.1 g L r.2 r.4 later))
 

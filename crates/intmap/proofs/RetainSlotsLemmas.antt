@@ -12,7 +12,7 @@ use Rattle.intmap.proofs.FilledLemmas.{marks-set_at, marks-kept_at, joined-empti
 use Rattle.intmap.proofs.MarkedLemmas.{row-none}
 use Rattle.intmap.proofs.PlacesLemmas.{IsNextMark}
 use Rattle.intmap.proofs.RetainLemmas.{Leads, Leads-next, Leads-end, length-Retains, All-Retains}
-use Rattle.intmap.proofs.TableLemmas.{length-rows, get_or-rows}
+use Rattle.intmap.proofs.TableLemmas.{length-rows}
 
 module _ {P : Type 0} where
   joined-drop : (i : ℕ) (R : List (List P)) → joined (drop i R) ≡ get_or R i [] ++ joined (drop (suc i) R)
@@ -117,7 +117,7 @@ module _ {K X : Type 0} (number : K → ℕ) (S : List (Held K X)) (marks : List
   joined-taken =
       let one : place + 1 ≡ suc place = omega arith in
       let past : joined (take place (rows S)) ≡ joined (take from (rows S)) =
-          rw behind at (joined-take_past (place - from) from (rows S) (λ j le lt. empty j le (omega (arith, lt, behind)))) in
+      rw behind at (joined-take_past (place - from) from (rows S) (λ j le lt. empty j le (omega (arith, lt, behind)))) in
       (λ i. joined (take (one i) (map-set (λ (t : Held K X). t.pairs) S place s i)))
       ∙ joined-take place (set (rows S) place s.pairs)
       ∙ (λ i. joined (take-set (rows S) place s.pairs i) ++ get_or-set_same (rows S) place s.pairs [] within i)
@@ -128,9 +128,9 @@ module _ {K X : Type 0} (number : K → ℕ) (S : List (Held K X)) (marks : List
   joined-left =
       let one : suc place ≡ place + 1 = omega arith in
       let past : joined (drop from (rows S)) ≡ joined (drop place (rows S)) =
-          rw behind at (joined-drop_past (place - from) from (rows S) (λ j le lt. empty j le (omega (arith, lt, behind)))) in
+      rw behind at (joined-drop_past (place - from) from (rows S) (λ j le lt. empty j le (omega (arith, lt, behind)))) in
       let same : drop (suc place) (rows S) ≡ drop (place + 1) (rows (set S place s)) =
-          sym (drop-set-lt (suc place) (rows S) place s.pairs (omega arith)) ∙ (λ i. drop (one i) (sym (map-set (λ (t : Held K X). t.pairs) S place s) i)) in
+      sym (drop-set-lt (suc place) (rows S) place s.pairs (omega arith)) ∙ (λ i. drop (one i) (sym (map-set (λ (t : Held K X). t.pairs) S place s) i)) in
       past ∙ joined-drop place (rows S) ∙ ap (λ R. row ++ joined R) same
 
   module _ {F : Type 0} (R : F → K × X → Bool → F → Type 0) (f h : F) (run : Retains R f row s.pairs h) where

@@ -16,7 +16,7 @@ module _ {X : Type 0} (keep test : X → Bool) where
   filter-filter_step x xs false false e f rest = simp (e, f, rest)
 
   -- two filters, in either order
-  filter-filter : (xs : List X) → filter test (filter keep xs) ≡ filter keep (filter test xs)
+  pub filter-filter : (xs : List X) → filter test (filter keep xs) ≡ filter keep (filter test xs)
   filter-filter [] = refl
   filter-filter (x ∷ xs) = filter-filter_step x xs (keep x) (test x) refl refl (filter-filter xs)
 

@@ -19,9 +19,9 @@ impl<K: IntKey, V: Drop, A: Allocator + Copy> IntMap<K, V, A> {
     /// however many pairs share a slot.
     ///
     /// ```text
-    /// after insert(0, 10), insert(1, 11), insert(4, 14) and insert(8, 18) into 4 slots the walk has
-    /// the keys 0, 4, 8 and 1; retain(|key, _| key != 4) leaves 0, 8 and 1, and so does
-    /// retain(|_, value| *value != 14)
+    /// after insert(0, 10), insert(1, 11) and insert(4, 14) into 4 slots the walk is 0, 4, 1:
+    /// retain(|key, _| key != 0)         leaves 4 and 1, and 4 is now the first of its slot
+    /// retain(|_, value| *value > 10)    leaves the same
     /// ```
     pub fn retain<F: FnMut(K, &V) -> bool>(&mut self, f: F)
         requires { F.IsAlwaysCallable f }

@@ -1,8 +1,8 @@
-use Rattle.std.proofs.Common.{◌≡◌, ◌+◌, ◌<◌, ◌∙◌, refl, sym, ap, subst, arith, rules, of_calls, length, take, drop, get_or, true, false}
+use Rattle.std.proofs.Common.{◌<◌, ◌∙◌, refl, ap, subst, arith, rules, of_calls, length, take, get_or}
 use Rattle.std.proofs.lemmas.List.{drop_all}
 use Rattle.std.specs.declared.vec.Vec.{Vec}
 use Rattle.intmap.specs.Kept.{KeepsStored}
-use Rattle.intmap.proofs.RetainLemmas.{Leads, Leads-end, Leads-stays, Leads-goes}
+use Rattle.intmap.proofs.RetainLemmas.{Leads-end, Leads-stays, Leads-goes}
 use Rattle.intmap.proofs.table.retain.retain_in.Goals as goal
 use Rattle.intmap.proofs.table.retain.retain_in.Goals.{then-f, else-f}
 
@@ -12,7 +12,7 @@ loop-i-preserved g c =
     let items = c.loop-i.pairs.items in let i = c.loop-i.i in let pair = c.index.result.now in
     let below : i < length items = omega (arith, c.loop-i-test.true, c.len-i-end.ensures, loop.len, c.loop-i.pairs.ok.0) in
     let call : R c.loop-i.f (get_or items i pair) c.f.result c.f.new.self =
-        subst (λ p. R c.loop-i.f p c.f.result c.f.new.self) c.index.ensures (record { key = _; value = _; shows = (c.key.ensures.value, refl); called = c.f.ensures }) in
+    subst (λ p. R c.loop-i.f p c.f.result c.f.new.self) c.index.ensures (record { key = _; value = _; shows = (c.key.ensures.value, refl); called = c.f.ensures }) in
     elim c.if-f.branch [
       | then-f w ↦
           (let stays = Leads-stays items c.loop-i.kept i pair loop.before below R _ _ _ _ loop.leads (subst (λ b. R c.loop-i.f (get_or items i pair) b c.f.new.self) w.if-f.true call) in

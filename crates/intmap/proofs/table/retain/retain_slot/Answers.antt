@@ -1,6 +1,5 @@
 use Rattle.std.proofs.Common.{refl, subst}
 use Rattle.intmap.specs.Kept.{KeepsStored}
-use Rattle.intmap.specs.Retaining.{Retains}
 use Rattle.intmap.proofs.table.retain.retain_slot.Goals as goal
 
 pub returns-then-stays-clause-pairs : goal.returns-then-stays-clause-pairs

@@ -1,8 +1,8 @@
-use Rattle.std.proofs.Common.{◌≡◌, ◌+◌, ◌-◌, ◌*◌, ◌/◌, ◌%◌, ◌<◌, ◌∙◌, suc, sym, ap, arith, List, Bool, ℕ, [], ◌∷◌, length, take, drop, get_or, refl}
+use Rattle.std.proofs.Common.{◌≡◌, ◌+◌, ◌-◌, ◌*◌, ◌/◌, ◌%◌, ◌<◌, ◌∙◌, suc, sym, ap, arith, List, Bool, [], ◌∷◌, length, take, drop, get_or, refl}
 use Rattle.std.specs.Prelude.{filter, nat_le}
 use Rattle.std.proofs.lemmas.Grind.{get_or_default_zero}
 use Rattle.std.proofs.lemmas.List.{take_all, length-drop}
-use Rattle.intmap.specs.Bits.{marked_places, marks_of, places_from}
+use Rattle.intmap.specs.Bits.{marked_places, places_from}
 use Rattle.intmap.proofs.BitsLemmas.{length-marks_of, places_from-none}
 use Rattle.intmap.proofs.PlacesLemmas.{bits_from, marked_places-from, marked_places-behind}
 use Rattle.intmap.proofs.table.bits.Bits.iter_from.Goals as goal
@@ -21,7 +21,7 @@ returns g c =
     let base : k * 64 ≡ 64 * k = omega arith in
     let word : c.index.result.now ≡ get_or words k 0 = c.index.ensures ∙ get_or_default_zero words k c.index.result.now below in
     let behind : take (length c.deref.result.now - (k + 1)) (drop (k + 1) c.deref.result.now) ≡ drop (suc k) words =
-        take_all (length c.deref.result.now - (k + 1)) (drop (k + 1) c.deref.result.now) (omega (arith, length-drop (k + 1) c.deref.result.now))
-        ∙ ap (λ n. drop n c.deref.result.now) next ∙ ap (drop (suc k)) c.deref.ensures.value in
+    take_all (length c.deref.result.now - (k + 1)) (drop (k + 1) c.deref.result.now) (omega (arith, length-drop (k + 1) c.deref.result.now))
+    ∙ ap (λ n. drop n c.deref.result.now) next ∙ ap (drop (suc k)) c.deref.ensures.value in
     (λ i. places_from (base i) (bits_from (word i) r ∷ behind i)) ∙ sym (rw split at (marked_places-from k r words (omega arith) below))
     ∙ ap (λ (marks : List Bool). filter (nat_le c.args.from) (marked_places marks)) c.self.view_is
