@@ -6,3 +6,4 @@ pub mod Waiting
 pub mod Dense
 pub mod Table
 pub mod Floors
+pub mod Retained

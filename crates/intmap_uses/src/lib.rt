@@ -8,4 +8,5 @@ pub mod id_table;
 pub mod keys;
 pub mod prices;
 pub mod refusals;
+pub mod retained;
 pub mod session;
