@@ -35,10 +35,6 @@ filter-never : (ns : List ℕ) → filter (λ n. false) ns ≡ []
 filter-never [] = refl
 filter-never (n ∷ ns) = filter-never ns
 
-filter-always : (ns : List ℕ) → filter (λ n. true) ns ≡ ns
-filter-always [] = refl
-filter-always (n ∷ ns) = ap (λ xs. n ∷ xs) (filter-always ns)
-
 shifted_step : (t u : ℕ → Bool) (base n : ℕ) (ns : List ℕ) (a : Bool) → t (base + n) ≡ a → u n ≡ a → filter t (map (λ i. base + i) ns) ≡ map (λ i. base + i) (filter u ns) → filter t (map (λ i. base + i) (n ∷ ns)) ≡ map (λ i. base + i) (filter u (n ∷ ns))
 shifted_step t u base n ns true d e rest = simp (d, e, rest)
 shifted_step t u base n ns false d e rest = simp (d, e, rest)

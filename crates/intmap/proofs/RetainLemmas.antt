@@ -39,9 +39,6 @@ module _ {F X : Type 0} (R : F → X → Bool → F → Type 0) where
   abbrev pub Leads : F → List X → F → List X → List X → Type 0
   Leads f₀ L f done left = (N : List X) (g : F) → Retains R f left N g → Retains R f₀ L (done ++ N) g
 
-  pub Leads-start : (f : F) (L : List X) → Leads f L f [] L
-  Leads-start f L N g r = r
-
   -- it goes over the first of those that are left
   pub Leads-next : (f₀ f h : F) (L done first stay left : List X) → Leads f₀ L f done (first ++ left) → Retains R f first stay h → Leads f₀ L h (done ++ stay) left
   Leads-next f₀ f h L done first stay left leads run N g r =
