@@ -10,3 +10,4 @@ pub mod prices;
 pub mod refusals;
 pub mod retained;
 pub mod session;
+pub mod tally;

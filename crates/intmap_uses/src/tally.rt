@@ -1,0 +1,75 @@
+//! How often each number occurs: by entries, and by values that are written in their place.
+ghost use Rattle.std.specs.Prelude.{◌≡◌, ◌+◌, ◌-◌, ◌^◌, ◌<◌, ◌==◌, ℕ, Some, IfOk, OnOk, count_by, unwrap_or};
+ghost use Rattle.intmap.specs.Bindings.{Updates};
+ghost use Rattle.intmap_uses.specs.Counts.{count_of};
+
+use intmap::{Cause, IntMap};
+use std::alloc::Allocator;
+
+/// Counts one occurrence of the number, which is looked for once.
+///
+/// Err: the pair of a new number was refused.
+fn count_by_entry<A: Allocator + Copy>(
+    tally: &mut IntMap<u64, u64, A>,
+    number: u64,
+) -> Result<(), Cause>
+    requires { count_of (λ key. key) tally.old.walk number < 2 ^ 64 - 1 }
+    ensures { OnOk result (Updates (λ key. key) tally.old.walk tally.new.walk number
+        (Some (count_of (λ key. key) tally.old.walk number + 1))) }
+{
+    *tally.entry(number).or_insert(0)? += 1;
+    Ok(())
+}
+
+/// Counts one occurrence of the number, whose count is written in its place.
+///
+/// Err: the pair of a new number was refused.
+fn count_by_get_mut<A: Allocator + Copy>(
+    tally: &mut IntMap<u64, u64, A>,
+    number: u64,
+) -> Result<(), Cause>
+    requires { count_of (λ key. key) tally.old.walk number < 2 ^ 64 - 1 }
+    ensures { OnOk result (Updates (λ key. key) tally.old.walk tally.new.walk number
+        (Some (count_of (λ key. key) tally.old.walk number + 1))) }
+{
+    if let Some(count) = tally.get_mut(number) {
+        *count += 1;
+    } else {
+        tally.insert(number, 1)?;
+    }
+    Ok(())
+}
+
+/// Each number of the slice, bound to how often it occurs there.
+///
+/// Err: the pair of a new number was refused.
+pub fn tally_by_entry<A: Allocator + Copy>(
+    alloc: A,
+    numbers: &[u64],
+) -> Result<IntMap<u64, u64, A>, Cause>
+    ensures { IfOk result (λ tally. (q : ℕ)
+        → count_of (λ key. key) tally.walk q ≡ count_by (λ number. number == q) numbers.now) }
+{
+    let mut tally = IntMap::new(alloc)?;
+    for number in numbers {
+        count_by_entry(&mut tally, *number)?;
+    }
+    Ok(tally)
+}
+
+/// The same map, made by writing counts in their place.
+///
+/// Err: the pair of a new number was refused.
+pub fn tally_by_get_mut<A: Allocator + Copy>(
+    alloc: A,
+    numbers: &[u64],
+) -> Result<IntMap<u64, u64, A>, Cause>
+    ensures { IfOk result (λ tally. (q : ℕ)
+        → count_of (λ key. key) tally.walk q ≡ count_by (λ number. number == q) numbers.now) }
+{
+    let mut tally = IntMap::new(alloc)?;
+    for number in numbers {
+        count_by_get_mut(&mut tally, *number)?;
+    }
+    Ok(tally)
+}
