@@ -7,7 +7,7 @@ use Rattle.std.proofs.Props.{props}
 use Rattle.std.specs.declared.cmp.PartialEq as eq
 use Rattle.intmap.specs.declared.key.IntKey as key
 use Rattle.intmap.specs.declared.entry.OccupiedEntry.{OccupiedEntry}
-use Rattle.intmap.specs.Bindings.{value_of, IsBound, take_key, put_pair, write_value}
+use Rattle.intmap.specs.Bindings.{value_of, take_key, put_pair, write_value}
 use Rattle.intmap.specs.Classes.{IsCapacity, slot_number, same_key}
 use Rattle.intmap.specs.Entries.{occupied_with_value}
 use Rattle.intmap.specs.Growth.{IsNext, is_due, next_capacity}
@@ -18,7 +18,6 @@ use Rattle.intmap.proofs.GrowthLemmas.{IsWanted-wanted_capacity}
 use Rattle.intmap.proofs.LocationLemmas.{walk_of-write_value}
 use Rattle.intmap.proofs.MapLemmas.{MapState-same}
 use Rattle.intmap.proofs.PositionLemmas.{swap_out-none, position-from_none}
-use Rattle.intmap.proofs.WalkLemmas.{value_of-slot_of}
 use Rattle.intmap.specs.Written.{IsAt-write_value}
 use Rattle.intmap.specs.declared.table.locate.Location.{Location}
 
@@ -60,15 +59,6 @@ module _ {K V : Type 0} (number : K → ℕ) where
       ∙ ap (λ L. L ++ cond (same_key number k k) (k, v) (k, x) ∷ []) (write_value-unbound (take_key number m.walk m.capacity k) k v gone)
       ∙ ap (λ b. take_key number m.walk m.capacity k ++ cond b (k, v) (k, x) ∷ []) own in
       MapState-same _ _ _ _ _ _ _ _ _ (sym (walk_of-write_value number (put_pair number m.walk m.capacity k x) D k v) ∙ ap (λ L. walk_of number L D) pair) refl refl refl
-
-  bound_from : (W : List (K × V)) (C : ℕ) (k : K) (i place : ℕ) (o : Option V) → value_of number (slot_of number W C i) k ≡ o → position (λ p. same_key number k p.0) (slot_of number W C i) ≡ Some place → IsSome o
-  bound_from W C k i place None none is = let missed = position-from_none (same_key number k) (slot_of number W C i) none in cc
-  bound_from W C k i place (Some v) some is = refl
-
-  -- the key of a located pair is bound
-  pub IsBound-at : (W : List (K × V)) (C : ℕ) (at : Location K) → IsAt number W C at → IsBound number W at.key
-  IsBound-at W C at is =
-      bound_from W C at.key at.slot at.place (value_of number W at.key) (ap (λ i. value_of number (slot_of number W C i) at.key) is.slot ∙ value_of-slot_of number C W at.key) is.place
 
 -- that a pair was located holds in one way
 IsAt-prop : {K V : Type 0} (number : K → ℕ) (W : List (K × V)) (C : ℕ) (at : Location K) → IsProp (IsAt number W C at)

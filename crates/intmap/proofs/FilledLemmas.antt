@@ -49,10 +49,11 @@ module _ {P : Type 0} (R : List (List P)) (marks : List Bool) (are : AreMarked R
       ];
     }
 
-get_or-replicate : {P : Type 0} (n i : ℕ) → get_or (replicate {A = List P} n []) i [] ≡ []
-get_or-replicate zero i = refl
-get_or-replicate (suc n) zero = refl
-get_or-replicate (suc n) (suc i) = get_or-replicate n i
+-- rows without pairs, one by one
+pub get_or-no_pairs : {P : Type 0} (n i : ℕ) → get_or (replicate {A = List P} n []) i [] ≡ []
+get_or-no_pairs zero i = refl
+get_or-no_pairs (suc n) zero = refl
+get_or-no_pairs (suc n) (suc i) = get_or-no_pairs n i
 
 -- where no row holds a pair, none is marked
 pub AreMarked-none : {P : Type 0} (R : List (List P)) (C : ℕ) → length R ≡ C → ((i : ℕ) → get_or R i [] ≡ []) → AreMarked R (replicate (64 * ((C + 63) / 64)) false)
@@ -69,9 +70,6 @@ pairs_at-set R i row (j ∷ places) behind =
     let here = get_or-set_other R i j row [] (λ q. omega (arith, lt, q)) in
     let rest = pairs_at-set R i row places (All-tail (λ j. i < j) j places behind) in
     rw (here, rest) refl
-
-row-filled : {P : Type 0} (row : List P) → nat_lt 0 (length row) ≡ true → 0 < length row
-row-filled row filled = ltb-true 0 (length row) filled
 
 -- so does one with a pair at its end
 pub filled-pushed : {P : Type 0} (row : List P) (p : P) → nat_lt 0 (length (row ++ p ∷ [])) ≡ true
@@ -115,7 +113,7 @@ pub places-within : {K X : Type 0} (S : List (Held K X)) (bits : List Bool) → 
 places-within S bits marks = λ k d lt.
     let place = get_or (marked_places bits) k d in
     let is = (All-marked_places bits k d lt).1 in
-    let row = row-filled (get_or (rows S) place []) (sym (marks.own place) ∙ is) in
+    let row = ltb-true 0 (length (get_or (rows S) place [])) (sym (marks.own place) ∙ is) in
     elim (cases_lt place (length S)) as (λ _. place < length S) [
       | inl below ↦ below
       | inr past ↦ (let none = get_or_past (rows S) place [] (omega (arith, past, length-rows S)) in let e = ap length none in omega (arith, row, e))
@@ -149,7 +147,7 @@ pub IsMarkedTable-empty : {K X : Type 0} (number : K → ℕ) (S : List (Held K 
 IsMarkedTable-empty number S C capacity empty =
     let rows-len : length (rows S) ≡ C = ap length empty ∙ length-replicate C [] in
     let len : length S ≡ C = sym (length-rows S) ∙ rows-len in
-    let none : (i : ℕ) → get_or (rows S) i [] ≡ [] = λ i. rw empty (get_or-replicate C i) in
+    let none : (i : ℕ) → get_or (rows S) i [] ≡ [] = λ i. rw empty (get_or-no_pairs C i) in
     record {
       table = IsTable-empty number S (rw len capacity) (λ i _. none i);
       marks = AreMarked-none (rows S) C rows-len none;

@@ -1,6 +1,6 @@
 -- Pairs that were located: what stands there, and what a table is once one was written or taken out.
-use Rattle.std.proofs.Common.{◌≡◌, ◌≢◌, ℕ, zero, suc, ◌+◌, ◌<◌, ◌≤◌, Bool, true, false, cond, List, [], ◌∷◌, ◌++◌, length, get_or, set, Some, None, refl, sym, ap, ◌∙◌, subst, arith, length-set}
-use Rattle.std.specs.Prelude.{◌==◌, All, count_by, filter, nat_lt, position}
+use Rattle.std.proofs.Common.{◌≡◌, ◌≢◌, ℕ, zero, suc, ◌+◌, ◌<◌, ◌≤◌, Bool, true, false, cond, List, [], ◌∷◌, ◌++◌, length, get_or, set, Option, Some, None, IsSome, is_some, refl, sym, ap, ◌∙◌, subst, arith, length-set}
+use Rattle.std.specs.Prelude.{◌==◌, All, IfSome, IfNone, count_by, filter, nat_lt, position}
 use Rattle.std.specs.List.{position_or_len, range_with_len}
 use Rattle.std.proofs.lemmas.Bool.{eqb-true, lt-ltb, eq-eqb, cond-true}
 use Rattle.std.proofs.lemmas.List.{length_push}
@@ -8,7 +8,7 @@ use Rattle.std.proofs.lemmas.List.Elements.{All-cons, All-head, All-tail, filter
 use Rattle.std.proofs.lemmas.List.Folds.{position_or_len_push}
 use Rattle.std.proofs.lemmas.List.Sums.{sum_by-cons}
 use Rattle.intmap.specs.Classes.{IsCapacity, slot_number, same_key}
-use Rattle.intmap.specs.Bindings.{value_of, take_key, put_pair, write_value, HasDistinctKeys}
+use Rattle.intmap.specs.Bindings.{value_of, IsBound, take_key, put_pair, write_value, HasDistinctKeys}
 use Rattle.intmap.specs.Locations.{IsAt, IsLast}
 use Rattle.intmap.specs.Slots.{Grid, Held, rows, joined, write_at, AreMarked, IsTable, IsMarkedTable}
 use Rattle.intmap.specs.Walk.{slot_of, walk_of}
@@ -110,6 +110,21 @@ module _ {K X : Type 0} (number : K → ℕ) where
   pub walk_of-write_value : (L : List (K × X)) (C : ℕ) (k : K) (v : X) → walk_of number (write_value number L k v) C ≡ write_value number (walk_of number L C) k v
   walk_of-write_value L C k v =
       flat_map-map (λ p. cond (same_key number k p.0) (p.0, v) p) (slot_of number L C) (slot_of number (write_value number L k v) C) (slot_of-write_value number L C k v) (range_with_len 0 C)
+
+module _ {K V : Type 0} (number : K → ℕ) where
+  bound_from : (W : List (K × V)) (C : ℕ) (k : K) (i place : ℕ) (o : Option V) → value_of number (slot_of number W C i) k ≡ o → position (λ p. same_key number k p.0) (slot_of number W C i) ≡ Some place → IsSome o
+  bound_from W C k i place None none is = let missed = position-from_none (same_key number k) (slot_of number W C i) none in cc
+  bound_from W C k i place (Some v) some is = refl
+
+  -- the key of a located pair is bound
+  pub IsBound-at : (W : List (K × V)) (C : ℕ) (at : Location K) → IsAt number W C at → IsBound number W at.key
+  IsBound-at W C at is =
+      bound_from W C at.key at.slot at.place (value_of number W at.key) (ap (λ i. value_of number (slot_of number W C i) at.key) is.slot ∙ value_of-slot_of number C W at.key) is.place
+
+  -- a key was located exactly where it is bound
+  pub is_some-located : (W : List (K × V)) (C : ℕ) (k : K) (o : Option (Location K)) → IfSome o (λ at. (at.key ≡ k) × IsAt number W C at) → IfNone o (value_of number W k ≡ None) → is_some o ≡ is_some (value_of number W k)
+  is_some-located W C k None found missing = rw missing refl
+  is_some-located W C k (Some at) found missing = sym (subst (IsBound number W) found.0 (IsBound-at W C at found.1))
 
 -- a pair of a table was located, and h is its slot
 module _ {K X : Type 0} (number : K → ℕ) (S : List (Held K X)) (h : Held K X) (l : Location K) (table : IsTable number S) (at : IsAt number (joined (rows S)) (length S) l) (here : h ≡ get_or S l.slot h) where

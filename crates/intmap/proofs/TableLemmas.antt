@@ -41,11 +41,6 @@ module _ {K X : Type 0} where
       let rest = count_by-filled R in
       omega (arith, first, last, one, rest)
 
--- rows without pairs, joined
-pub joined-empty : {P : Type 0} (n : ℕ) → joined {P = P} (replicate n []) ≡ []
-joined-empty zero = refl
-joined-empty {P} (suc n) = joined-empty {P = P} n
-
 module _ {K X : Type 0} (number : K → ℕ) where
   -- a list whose slots are these rows has them, joined, as its walk
   pub walk_of-rows : (L : List (K × X)) (C : ℕ) (T : List (Held K X)) → C ≡ length T → ((i : ℕ) → i < C → slot_of number L C i ≡ get_or (rows T) i []) → walk_of number L C ≡ joined (rows T)

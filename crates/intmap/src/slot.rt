@@ -37,7 +37,6 @@ fn take_in<K: IntKey, X, A: Allocator>(
     ensures value { result ≡ value_of K.number_of pairs.old.items key.now }
     ensures pairs { pairs.new.items
         ≡ swap_out (λ p. same_key K.number_of key.now p.0) (λ p. true) pairs.old.items }
-    ensures capacity { vec_capacity pairs.new ≡ vec_capacity pairs.old }
     ensures counted { steps.new ≡ steps.old
         + length (through_first (λ p. same_key K.number_of key.now p.0) pairs.old.items) }
 {

@@ -34,6 +34,7 @@ impl<K: IntKey, V, A: Allocator + Copy> IntMap<K, V, A> {
         ensures occupied { MatchEntry result (IsSome (value_of K.number_of self.old.walk key))
             (value_of K.number_of self.old.walk key ≡ None) }
         ensures map { IsMap K.number_of K.is_key self.old }
+        ensures map_after { IsMap K.number_of K.is_key (entry_map result) }
     {
         match self.locate(key) {
             Some(at) => Entry::Occupied(OccupiedEntry { map: self, at }),

@@ -20,7 +20,7 @@ const FIRST_FACTOR: usize = 909;
 
 impl<K: IntKey, V: Drop, A: Allocator + Copy> IntMap<K, V, A> {
     /// An empty map of 4 slots, with a load factor of 909 thousandths. It is refused as
-    /// [`Cause::Memory`] where memory for the slots is, and never else.
+    /// [`Cause::Memory`] where memory for the slots or for their bits is, and never else.
     pub fn new(alloc: A) -> Result<IntMap<K, V, A>, Cause>
         ensures state { IfOk result (λ made. made ≡ empty_map 4) }
         ensures memory { IfErr result (λ cause. cause ≡ Cause.Memory) }

@@ -107,23 +107,13 @@ impl<K: IntKey, V: Drop, A: Allocator + Copy> IntMap<K, V, A> {
         ensures map { IsMap K.number_of K.is_key self.old }
         ensures map_after { IsMap K.number_of K.is_key self.new }
     {
-        if self.search(key) {
+        if self.locate(key).is_some() {
             return Ok(false);
         }
         if let Err(refused) = self.add(key, value) {
             return Err(refused);
         }
         Ok(true)
-    }
-
-    /// Whether the key is bound. Its comparisons are counted in the map.
-    fn search(&mut self, key: K) -> bool
-        ensures value { result ≡ is_some (value_of K.number_of self.old.walk key) }
-        ensures state { self.new ≡ after_search K.number_of self.old key }
-        ensures key { K.is_key key }
-        ensures map { IsMap K.number_of K.is_key self.old }
-    {
-        self.table.get(&key, &mut self.compared).is_some()
     }
 
     /// Adds the pair of a key that isn't bound. It compares no key.

@@ -1,5 +1,5 @@
 //! Located pairs: calls on the pair of a key that was found before, which compare no key.
-ghost use Rattle.std.specs.Prelude.{◌≡◌, IfSome, IfNone, Some, None};
+ghost use Rattle.std.specs.Prelude.{◌≡◌, is_some, IfSome, IfNone, Some, None};
 ghost use Rattle.intmap.specs.Bindings.{value_of};
 ghost use Rattle.intmap.specs.Locations.{IsAt, IsLast};
 ghost use Rattle.intmap.specs.Map.{IsMap, after_search, without_key};
@@ -18,6 +18,7 @@ impl<K: IntKey, V, A: Allocator + Copy> IntMap<K, V, A> {
         ensures found { IfSome result (λ at. (at.key ≡ key)
             × IsAt K.number_of self.new.walk self.new.capacity at) }
         ensures missing { IfNone result (value_of K.number_of self.old.walk key ≡ None) }
+        ensures bound { is_some result ≡ is_some (value_of K.number_of self.old.walk key) }
         ensures state { self.new ≡ after_search K.number_of self.old key }
         ensures known { K.is_key key }
         ensures map { IsMap K.number_of K.is_key self.old }

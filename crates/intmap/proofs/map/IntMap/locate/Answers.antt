@@ -1,8 +1,8 @@
 use Rattle.std.proofs.Common.{◌≡◌, ◌+◌, None, refl, sym, ap, ◌∙◌}
 use Rattle.std.specs.Option.{option_map}
-use Rattle.std.specs.Prelude.{Option, Some, IfSome, IfNone}
+use Rattle.std.specs.Prelude.{Option, Some, is_some, IfSome, IfNone}
 use Rattle.intmap.specs.Bindings.{value_of}
-use Rattle.intmap.proofs.LocationLemmas.{IsAt-with_values}
+use Rattle.intmap.proofs.LocationLemmas.{IsAt-with_values, is_some-located}
 use Rattle.intmap.proofs.MapLemmas.{MapState-same}
 use Rattle.intmap.proofs.MappedLemmas.{value_of-with_values, reach-with_values}
 use Rattle.intmap.proofs.map.IntMap.locate.Goals as goal
@@ -23,6 +23,16 @@ returns-clause-found g c =
 pub returns-clause-missing : goal.returns-clause-missing
 returns-clause-missing g c =
     missed _ _ (λ none. rw (← c.self.view_is) (value_of-with_values g.K.IntKey.number_of (λ kept. kept.value) c.self.inside.table.walk c.args.key ∙ ap (option_map (λ kept. kept.value)) none)) c.locate.result c.locate.ensures.missing
+
+-- a value is there where another that is made of it is
+is_some-map : {X Y : Type 0} (f : X → Y) (o : Option X) → is_some (option_map f o) ≡ is_some o
+is_some-map f None = refl
+is_some-map f (Some x) = refl
+
+pub returns-clause-bound : goal.returns-clause-bound
+returns-clause-bound g c =
+    is_some-located g.K.IntKey.number_of c.self.inside.table.walk c.self.inside.table.capacity c.args.key c.locate.result c.locate.ensures.found c.locate.ensures.missing
+    ∙ sym (is_some-map (λ kept. kept.value) _) ∙ rw (← c.self.view_is) (ap is_some (sym (value_of-with_values g.K.IntKey.number_of (λ kept. kept.value) c.self.inside.table.walk c.args.key)))
 
 pub returns-clause-state : goal.returns-clause-state
 returns-clause-state g c =

@@ -1,12 +1,11 @@
 use Rattle.std.proofs.Common.{◌≡◌, ◌∙◌, ap, replicate, [], arith}
 use Rattle.std.proofs.lemmas.Grind.{common_steps}
 use Rattle.intmap.specs.Slots.{joined}
-use Rattle.intmap.proofs.FilledLemmas.{IsMarkedTable-empty}
-use Rattle.intmap.proofs.TableLemmas.{joined-empty}
+use Rattle.intmap.proofs.FilledLemmas.{IsMarkedTable-empty, joined-emptied, get_or-no_pairs}
 use Rattle.intmap.proofs.table.Table.new.Goals as goal
 
 pub returns-clause-walk : goal.returns-clause-walk
-returns-clause-walk g c = ap joined c.loop.invariant.empty ∙ joined-empty c.loop.counter
+returns-clause-walk g c = ap joined c.loop.invariant.empty ∙ joined-emptied _ (get_or-no_pairs c.loop.counter)
 
 pub loop-preserved : goal.loop-preserved
 loop-preserved g c = grind (arith, common_steps)
