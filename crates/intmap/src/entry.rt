@@ -30,9 +30,20 @@ pub struct OccupiedEntry<'a, K: IntKey, V, A: Allocator + Copy = Global> {
 }
 
 /// A map with a key that isn't bound in it.
-#[derive(Drop)]
 pub struct VacantEntry<'a, K: IntKey, V, A: Allocator + Copy = Global> {
     map: &'a mut IntMap<K, V, A>,
     key: K,
     ghost missing: { value_of K.number_of map.now.walk key ≡ None },
+}
+
+/// The map stays as it is.
+impl<K: IntKey, V, A: Allocator + Copy> Drop for VacantEntry<'_, K, V, A> {
+    ghost use Rattle.std.specs.Prelude.{◌≡◌};
+    ghost use Rattle.intmap.specs.Entries.{Vacant, entry_map};
+
+    fn drop(self)
+        ensures { self.exit.0.now ≡ entry_map (Vacant self.entry) }
+    {
+        let VacantEntry { map: _, key: _ } = self;
+    }
 }
