@@ -1,6 +1,6 @@
 -- Entries once a value was written, and maps into which the pair of a new key was put.
-use Rattle.std.proofs.Common.{◌≡◌, inl, inr, ℕ, ◌+◌, ◌^◌, ◌<◌, Bool, true, false, cond, List, [], ◌∷◌, ◌++◌, length, Option, Some, None, IsSome, refl, sym, ap, ◌∙◌, subst, arith}
-use Rattle.std.specs.Prelude.{◌==◌, position, Result, Ok, Err, OnOk}
+use Rattle.std.proofs.Common.{◌≡◌, inl, inr, ℕ, ◌+◌, ◌^◌, ◌<◌, Bool, true, false, cond, List, [], ◌∷◌, ◌++◌, length, Option, Some, None, refl, sym, ap, ◌∙◌}
+use Rattle.std.specs.Prelude.{Result, Ok, Err, OnOk}
 use Rattle.std.proofs.lemmas.Bool.{cases_Bool, cases_lt, eq-eqb}
 use Rattle.std.proofs.lemmas.List.{map-append}
 use Rattle.std.proofs.Props.{props}
@@ -8,12 +8,12 @@ use Rattle.std.specs.declared.cmp.PartialEq as eq
 use Rattle.intmap.specs.declared.key.IntKey as key
 use Rattle.intmap.specs.declared.entry.OccupiedEntry.{OccupiedEntry}
 use Rattle.intmap.specs.Bindings.{value_of, take_key, put_pair, write_value}
-use Rattle.intmap.specs.Classes.{IsCapacity, slot_number, same_key}
+use Rattle.intmap.specs.Classes.{IsCapacity, same_key}
 use Rattle.intmap.specs.Entries.{occupied_with_value}
 use Rattle.intmap.specs.Growth.{IsNext, is_due, next_capacity}
 use Rattle.intmap.specs.Locations.{IsAt}
 use Rattle.intmap.specs.Map.{MapState, IsFull, with_pair, written}
-use Rattle.intmap.specs.Walk.{slot_of, walk_of}
+use Rattle.intmap.specs.Walk.{walk_of}
 use Rattle.intmap.proofs.GrowthLemmas.{IsWanted-wanted_capacity}
 use Rattle.intmap.proofs.LocationLemmas.{walk_of-write_value}
 use Rattle.intmap.proofs.MapLemmas.{MapState-same}

@@ -1,6 +1,6 @@
-use Rattle.std.proofs.Common.{◌≡◌, Some, sym, ap, ◌∙◌, subst, refl}
+use Rattle.std.proofs.Common.{◌≡◌, sym, ap, ◌∙◌, subst, refl}
 use Rattle.std.specs.Map.Calls.{MayWrite, ModifiesValue}
-use Rattle.intmap.specs.Entries.{entry_value, entry_map, map_with_value}
+use Rattle.intmap.specs.Entries.{entry_value}
 use Rattle.intmap.proofs.entry.Entry.and_modify.Goals as goal
 use Rattle.intmap.proofs.entry.Entry.and_modify.Goals.{After-f}
 

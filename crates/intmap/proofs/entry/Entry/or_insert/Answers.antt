@@ -1,6 +1,5 @@
-use Rattle.std.proofs.Common.{◌≡◌, ◌+◌, Some, None, length, refl, sym, ap, ◌∙◌, subst, arith}
+use Rattle.std.proofs.Common.{refl, arith}
 use Rattle.intmap.specs.Bindings.{value_of}
-use Rattle.intmap.specs.Map.{IsFull, IsOutOfRange}
 use Rattle.intmap.proofs.EntryLemmas.{OnOk-so}
 use Rattle.intmap.proofs.MapLemmas.{one_more}
 use Rattle.intmap.proofs.entry.Entry.or_insert.Goals as goal

@@ -1,4 +1,4 @@
-use Rattle.std.proofs.Common.{◌≡◌, ◌+◌, length, is_some, cond, ap, ◌∙◌, arith}
+use Rattle.std.proofs.Common.{ap, arith}
 use Rattle.intmap.specs.Bindings.{value_of}
 use Rattle.intmap.proofs.AfterLemmas.{Updates-taken, length-taken}
 use Rattle.intmap.proofs.MapLemmas.{one_less}

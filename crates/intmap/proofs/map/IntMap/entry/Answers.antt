@@ -1,5 +1,4 @@
-use Rattle.std.proofs.Common.{sym, ap, ◌∙◌}
-use Rattle.std.specs.Prelude.{is_some}
+use Rattle.std.proofs.Common.{sym}
 use Rattle.intmap.proofs.map.IntMap.entry.Goals as goal
 
 pub returns-in-Some-clause-occupied : goal.returns-in-Some-clause-occupied

@@ -1,4 +1,4 @@
-use Rattle.std.proofs.Common.{◌≡◌, ◌+◌, ◌<◌, length, refl, ap, sym, ◌∙◌, vec_capacity}
+use Rattle.std.proofs.Common.{◌+◌, ◌<◌, length, refl, ap, vec_capacity}
 use Rattle.intmap.specs.Slots.{Held, all_pairs}
 use Rattle.intmap.proofs.SlotLemmas.{write_at-behind, value_at-behind}
 use Rattle.intmap.proofs.slot.Slot.value_mut_at.Goals as goal

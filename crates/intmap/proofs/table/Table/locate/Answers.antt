@@ -1,7 +1,6 @@
 use Rattle.std.proofs.Common.{◌≡◌, ◌+◌, sym, ap, refl, ◌∙◌}
 use Rattle.std.specs.Prelude.{position}
 use Rattle.intmap.specs.Classes.{slot_number, same_key}
-use Rattle.intmap.specs.Locations.{IsAt}
 use Rattle.intmap.specs.Reach.{reach}
 use Rattle.intmap.specs.Slots.{Grid}
 use Rattle.intmap.proofs.PositionLemmas.{first_value-none}

@@ -1,5 +1,3 @@
-use Rattle.intmap.specs.Locations.{IsAt}
-use Rattle.intmap.specs.Slots.{Grid}
 use Rattle.intmap.proofs.LocationLemmas.{place-within, value_of-at}
 use Rattle.intmap.proofs.table.Table.value_at.Goals as goal
 
