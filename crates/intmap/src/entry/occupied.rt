@@ -28,10 +28,12 @@ impl<'a, K: IntKey, V, A: Allocator + Copy> OccupiedEntry<'a, K, V, A> {
     /// The value of the key, to be written in its place. It ends with the entry; `into_mut` answers
     /// one that lasts as long as the map is borrowed.
     pub fn get_mut(&mut self) -> &mut V
-        ensures* writes_back { sem 𝓛 (occupied_lends K.row V.row A.row A.Allocator self.entry result) }
+        ensures* writes_back { sem 𝓛 (occupied_lends K.row V.row A.row A.Allocator
+            self.entry result) }
         ensures value { entry_value (Occupied self.old) ≡ Some result.now }
         ensures updates { (v : V) → Updates K.number_of (entry_map (Occupied self.old)).walk
-            (map_with_value (Occupied self.old) v).walk (entry_key (Occupied self.old)) (Some v) }
+            (map_with_value (Occupied self.old) v).walk (entry_key (Occupied self.old))
+            (Some v) }
         ensures len { (v : V) → length (map_with_value (Occupied self.old) v).walk
             ≡ length (entry_map (Occupied self.old)).walk }
         ensures map_after { (v : V)
@@ -47,7 +49,8 @@ impl<'a, K: IntKey, V, A: Allocator + Copy> OccupiedEntry<'a, K, V, A> {
             (Occupied self.entry) result) }
         ensures value { entry_value (Occupied self.entry) ≡ Some result.now }
         ensures updates { (v : V) → Updates K.number_of (entry_map (Occupied self.entry)).walk
-            (map_with_value (Occupied self.entry) v).walk (entry_key (Occupied self.entry)) (Some v) }
+            (map_with_value (Occupied self.entry) v).walk (entry_key (Occupied self.entry))
+            (Some v) }
         ensures len { (v : V) → length (map_with_value (Occupied self.entry) v).walk
             ≡ length (entry_map (Occupied self.entry)).walk }
         ensures map_after { (v : V)
