@@ -3,6 +3,7 @@ pub mod CapacityLemmas
 pub mod PlacementLemmas
 pub mod MapStandLemmas
 pub mod StepLemmas
+pub mod WritingStepLemmas
 pub mod GrowthStepLemmas
 pub mod RunLemmas
 pub mod ZipLemmas

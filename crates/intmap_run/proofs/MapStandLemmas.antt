@@ -1,15 +1,17 @@
 -- What a list tells that stands for a map is what the map tells.
-use Rattle.std.proofs.Common.{◌≡◌, inl, inr, ℕ, ◌+◌, ◌≤◌, cond, length, is_some, refl, sym, ap, ◌∙◌, subst, arith}
+use Rattle.std.proofs.Common.{◌≡◌, inl, inr, ℕ, ◌+◌, ◌≤◌, Bool, cond, length, is_some, refl, sym, ap, ◌∙◌, subst, arith}
 use Rattle.std.specs.Prelude.{◌↔◌, ◌==◌}
 use Rattle.std.proofs.lemmas.Bool.{cases_eq, eq-eqb, ne_eqb}
 use Rattle.intmap.specs.Classes.{IsCapacity}
-use Rattle.intmap.specs.Bindings.{value_of, take_key, put_pair}
+use Rattle.intmap.specs.Bindings.{value_of, take_key, put_pair, write_value, keep_pairs}
 use Rattle.intmap.specs.Walk.{walk_of}
 use Rattle.intmap.specs.Reach.{class_size, reach}
 use Rattle.intmap.specs.Figures.{load_of}
 use Rattle.intmap.specs.Map.{MapState, IsMap, IsOutOfRange, IsCapacityAfter}
 use Rattle.intmap.specs.States.{State, Stands}
 use Rattle.intmap.proofs.DistinctLemmas.{length-put_pair}
+use Rattle.intmap.proofs.KeepLemmas.{StandsFor-keep_pairs}
+use Rattle.intmap.proofs.LocationLemmas.{walk_of-write_value}
 use Rattle.intmap_run.specs.Laws.{StandForOne}
 use Rattle.intmap_run.proofs.CapacityLemmas.{IsLarger, IsCapacityAfter-changed}
 use Rattle.intmap_run.proofs.StandLemmas.{value_of-one, length-one, load_of-one, class_size-one, reach-one, StandForOne-take_key, StandForOne-put_pair, StandForOne-larger}
@@ -77,3 +79,12 @@ module _ {K V : Type 0} {number : K → ℕ} {is_key : K → Type 0} {m : MapSta
   pub walk_of-take_key-stands : (k : K) → walk_of number (take_key number s.pairs s.capacity k) s.capacity ≡ walk_of number (take_key number m.walk m.capacity k) m.capacity
   walk_of-take_key-stands k =
       (StandForOne-take_key StandForOne-stands k).walk ∙ ap (λ C. walk_of number (take_key number m.walk C k) C) stands.capacity
+
+module _ {K V : Type 0} {number : K → ℕ} {m : MapState K V} {s : State K V} (stands : Stands number s m) where
+  -- with a value written, the list has the walk of the map with it written
+  pub walk_of-write_value-stands : (k : K) (v : V) → walk_of number (write_value number s.pairs k v) s.capacity ≡ write_value number m.walk k v
+  walk_of-write_value-stands k v = walk_of-write_value number s.pairs s.capacity k v ∙ ap (λ W. write_value number W k v) stands.walk
+
+  -- the pairs that a test keeps of the list have the walk of those that it keeps of the map
+  pub walk_of-keep_pairs-stands : (keeps : K → V → Bool) → walk_of number (keep_pairs keeps s.pairs) s.capacity ≡ keep_pairs keeps m.walk
+  walk_of-keep_pairs-stands keeps = StandsFor-keep_pairs number keeps s.pairs m.walk s.capacity stands.walk

@@ -82,7 +82,7 @@ module _ {K V : Type 0} where
     growth : IsGrowth s.capacity (length t.pairs) (s.factor + 1) t.capacity
 
   -- an insertion that kept the capacity places nothing
-  placements-kept : (s t : State K V) → t.capacity ≡ s.capacity → cond (t.capacity == s.capacity) 0 (length t.pairs) ≡ 0
+  pub placements-kept : (s t : State K V) → t.capacity ≡ s.capacity → cond (t.capacity == s.capacity) 0 (length t.pairs) ≡ 0
   placements-kept s t same = ap (λ b. cond b 0 (length t.pairs)) (eq-eqb t.capacity s.capacity same)
 
   -- an insertion that changed it places all pairs
@@ -141,9 +141,12 @@ module _ {K V S A : Type 0} (number : K → ℕ) (sees : V → S → Type 0) (ke
       let capacity : t.capacity ≡ s.capacity = ap (λ x. x.capacity) refused.3 in
       inr (inr (Keeps-same s (command.InsertChecked k v) a t _ (placements-kept s t capacity) capacity (ap (λ x. x.factor) refused.3)))
   kind s (command.Get k) a t h = inr (inr (Keeps-same s (command.Get k) a t _ refl (ap (λ x. x.capacity) h.1) (ap (λ x. x.factor) h.1)))
+  kind s (command.GetMut k v) a t (inl bound) = inr (inr (Keeps-same s (command.GetMut k v) a t _ refl (ap (λ x. x.capacity) bound.2) (ap (λ x. x.factor) bound.2)))
+  kind s (command.GetMut k v) a t (inr back) = inr (inr (Keeps-same s (command.GetMut k v) a t _ refl (ap (λ x. x.capacity) back.2) (ap (λ x. x.factor) back.2)))
   kind s (command.ContainsKey k) a t h = inr (inr (Keeps-same s (command.ContainsKey k) a t _ refl (ap (λ x. x.capacity) h.1) (ap (λ x. x.factor) h.1)))
   kind s (command.Remove k) a t h = inr (inr (Keeps-same s (command.Remove k) a t _ refl (ap (λ x. x.capacity) h.1) (ap (λ x. x.factor) h.1)))
   kind s command.Clear a t h = inr (inr (Keeps-same s command.Clear a t _ refl (ap (λ x. x.capacity) h.1) (ap (λ x. x.factor) h.1)))
+  kind s command.Retain a t h = inr (inr (Keeps-same s command.Retain a t _ refl (ap (λ x. x.capacity) h.1) (ap (λ x. x.factor) h.1)))
   kind s (command.Reserve n) a t (inl accepted) = inr (inr (record {
     placed = refl;
     factor = ap (λ x. x.factor) accepted.1.after;
@@ -156,6 +159,14 @@ module _ {K V S A : Type 0} (number : K → ℕ) (sees : V → S → Type 0) (ke
   kind s (command.SetLoadFactor f) a t (inr refused) =
       inr (inr (Keeps-same s (command.SetLoadFactor f) a t _ refl (ap (λ x. x.capacity) refused.3) (ap (λ x. x.factor) refused.3)))
   kind s command.GetLoadFactor a t h = inr (inr (Keeps-same s command.GetLoadFactor a t _ refl (ap (λ x. x.capacity) h.1) (ap (λ x. x.factor) h.1)))
+  kind s (command.EntryInsert k v) a t (inl bound) =
+      let capacity : t.capacity ≡ s.capacity = ap (λ x. x.capacity) bound.2 in
+      inr (inr (Keeps-same s (command.EntryInsert k v) a t _ (placements-kept s t capacity) capacity (ap (λ x. x.factor) bound.2)))
+  kind s (command.EntryInsert k v) a t (inr (inl fresh)) = elim (Grows-or_keeps s (command.EntryInsert k v) k v a t fresh.2) [ inl grows ↦ inl grows | inr kept ↦ inr (inr kept) ]
+  kind s (command.EntryInsert k v) a t (inr (inr refused)) =
+      let capacity : t.capacity ≡ s.capacity = ap (λ x. x.capacity) refused.3 in
+      inr (inr (Keeps-same s (command.EntryInsert k v) a t _ (placements-kept s t capacity) capacity (ap (λ x. x.factor) refused.3)))
+  kind s (command.EntryRemove k) a t h = inr (inr (Keeps-same s (command.EntryRemove k) a t _ refl (ap (λ x. x.capacity) h.1) (ap (λ x. x.factor) h.1)))
   kind s command.Len a t h = inr (inr (Keeps-same s command.Len a t _ refl (ap (λ x. x.capacity) h.1) (ap (λ x. x.factor) h.1)))
   kind s command.IsEmpty a t h = inr (inr (Keeps-same s command.IsEmpty a t _ refl (ap (λ x. x.capacity) h.1) (ap (λ x. x.factor) h.1)))
   kind s command.Capacity a t h = inr (inr (Keeps-same s command.Capacity a t _ refl (ap (λ x. x.capacity) h.1) (ap (λ x. x.factor) h.1)))

@@ -3,7 +3,6 @@ use Rattle.std.proofs.Common.{◌≡◌, inl, inr, ℕ, ◌+◌, ◌<◌, cond, 
 use Rattle.std.specs.Prelude.{◌↔◌, ◌==◌, IsNone, IsSome, is_none, MatchBool}
 use Rattle.std.specs.List.{AllZip}
 use Rattle.std.specs.declared.vec.Vec.{Vec}
-use Rattle.std.proofs.lemmas.Bool.{eq-eqb}
 use Rattle.intmap.specs.Bindings.{value_of, take_key, put_pair}
 use Rattle.intmap.specs.Classes.{IsCapacity}
 use Rattle.intmap.specs.Reach.{class_size, reach}
@@ -21,6 +20,7 @@ use Rattle.intmap_run.specs.Runs.{SeesOption, SeesPair, Answers, comparisons_of,
 use Rattle.intmap_run.specs.Steps.{Step, StepsFrom}
 use Rattle.intmap.proofs.MapLemmas.{IsMapWalk-empty}
 use Rattle.intmap_run.proofs.CapacityLemmas.{IsLarger-after}
+use Rattle.intmap_run.proofs.PlacementLemmas.{placements-kept}
 use Rattle.intmap_run.proofs.MapStandLemmas.{value_of-stands, length-stands, load_of-stands, class_size-stands, reach-stands, IsOutOfRange-stands, placements-stands, walk_of-put_pair-stands, walk_of-take_key-stands}
 
 none_of : {V : Type 0} (o : Option V) → true ≡ is_none o → IsNone o
@@ -47,13 +47,14 @@ Step-same number sees keeps m s c a answers stands compares places = (
 
 module _ {K V : Type 0} (number : K → ℕ) (is_key : K → Type 0) (m : MapState K V) (is_map : IsMap number is_key m) where
   -- what an accepted insertion leaves of list and map
-  record Accepted (k : K) (v : V) (n : MapState K V) (s t : State K V) : Type 0 where
-    inserts : Inserts number s k v t
-    stands : Stands number t n
-    compared : n.compared ≡ m.compared + reach number s.pairs s.capacity k
-    placed : n.placed ≡ m.placed + cond (t.capacity == s.capacity) 0 (length t.pairs)
+  pub record Accepted (k : K) (v : V) (n : MapState K V) (s t : State K V) : Type 0 where
+    pub inserts : Inserts number s k v t
+    pub stands : Stands number t n
+    pub compared : n.compared ≡ m.compared + reach number s.pairs s.capacity k
+    pub placed : n.placed ≡ m.placed + cond (t.capacity == s.capacity) 0 (length t.pairs)
 
-  accepted : (k : K) (v : V) (n : MapState K V) → IsCapacityAfter number m.walk m.capacity m.factor k n.capacity
+  -- it leaves the list with the pair put in
+  pub accepted : (k : K) (v : V) (n : MapState K V) → IsCapacityAfter number m.walk m.capacity m.factor k n.capacity
       → (IsOutOfRange number m.walk m.capacity m.factor k → ⊥) → n ≡ after_insert number m k v n.capacity
       → (s : State K V) → Stands number s m → Accepted k v n s (record s { pairs = put_pair number s.pairs s.capacity k v; capacity = n.capacity })
   accepted k v n capacity in_range is s stands =
@@ -74,7 +75,7 @@ module _ {K V : Type 0} (number : K → ℕ) (is_key : K → Type 0) (m : MapSta
       }
 
   -- an insertion may be refused of each list for the cause that the map tells
-  may : (k : K) (cause : Cause) → IsNone (value_of number m.walk k) → (cause ≡ TooLarge) ↔ IsOutOfRange number m.walk m.capacity m.factor k
+  pub may : (k : K) (cause : Cause) → IsNone (value_of number m.walk k) → (cause ≡ TooLarge) ↔ IsOutOfRange number m.walk m.capacity m.factor k
       → (cause ≡ Memory → IsNext m.capacity (length m.walk + 1) m.factor m.capacity → 0 < class_size number m.walk m.capacity k)
       → (s : State K V) → Stands number s m → MayRefuse number s k cause
   may k cause new_key too_large memory s stands =
@@ -117,8 +118,8 @@ module _ {K V S A : Type 0} (number : K → ℕ) (is_key : K → Type 0) (m : Ma
       )
 
   -- a search that leaves the list
-  StepsFrom-searched : (k : K) (c : Command K V) (a : Answer K V S A) (s : State K V) → Stands number s m → (answers : Answers number sees keeps s c a s)
-      → comparisons_of number sees keeps s c a s answers ≡ reach number s.pairs s.capacity k → placements_of number sees keeps s c a s answers ≡ cond (s.capacity == s.capacity) 0 (length s.pairs)
+  pub StepsFrom-searched : (k : K) (c : Command K V) (a : Answer K V S A) (s : State K V) → Stands number s m → (answers : Answers number sees keeps s c a s)
+      → comparisons_of number sees keeps s c a s answers ≡ reach number s.pairs s.capacity k → placements_of number sees keeps s c a s answers ≡ 0
       → (t : State K V) × Step number sees keeps m s c a t (after_search number m k)
   StepsFrom-searched k c a s stands answers compares places = (
     s,
@@ -126,7 +127,7 @@ module _ {K V S A : Type 0} (number : K → ℕ) (is_key : K → Type 0) (m : Ma
       answers = answers;
       stands = record { walk = stands.walk; capacity = stands.capacity; factor = stands.factor };
       compared = ap (λ n. m.compared + n) (sym (reach-stands is_map stands k) ∙ sym compares);
-      placed = sym (add-zero m.placed) ∙ ap (λ n. m.placed + n) (ap (λ b. cond b 0 (length s.pairs)) (sym (eq-eqb s.capacity s.capacity refl)) ∙ sym places);
+      placed = sym (ap (λ n. m.placed + n) places ∙ add-zero m.placed);
     },
   )
 
@@ -136,7 +137,7 @@ module _ {K V S A : Type 0} (number : K → ℕ) (is_key : K → Type 0) (m : Ma
       → (cause ≡ Memory → IsNext m.capacity (length m.walk + 1) m.factor m.capacity → 0 < class_size number m.walk m.capacity k)
       → StepsFrom {A = A} number sees keeps m (command.Insert k v) (answer.Refused cause (Some v)) (after_search number m k)
   StepsFrom-refused k v cause new_key too_large memory s stands =
-      StepsFrom-searched k (command.Insert k v) (answer.Refused cause (Some v)) s stands (inr (cause, refl, may number is_key m is_map k cause new_key too_large memory s stands, refl)) refl refl
+      StepsFrom-searched k (command.Insert k v) (answer.Refused cause (Some v)) s stands (inr (cause, refl, may number is_key m is_map k cause new_key too_large memory s stands, refl)) refl (placements-kept s s refl)
 
   -- a checked insertion that is refused
   pub StepsFrom-refused_checked : (k : K) (v : V) (cause : Cause)
@@ -144,13 +145,13 @@ module _ {K V S A : Type 0} (number : K → ℕ) (is_key : K → Type 0) (m : Ma
       → (cause ≡ Memory → IsNext m.capacity (length m.walk + 1) m.factor m.capacity → 0 < class_size number m.walk m.capacity k)
       → StepsFrom {A = A} number sees keeps m (command.InsertChecked k v) (answer.Refused cause (Some v)) (after_search number m k)
   StepsFrom-refused_checked k v cause new_key too_large memory s stands =
-      StepsFrom-searched k (command.InsertChecked k v) (answer.Refused cause (Some v)) s stands (inr (inr (cause, refl, may number is_key m is_map k cause new_key too_large memory s stands, refl))) refl refl
+      StepsFrom-searched k (command.InsertChecked k v) (answer.Refused cause (Some v)) s stands (inr (inr (cause, refl, may number is_key m is_map k cause new_key too_large memory s stands, refl))) refl (placements-kept s s refl)
 
   -- a checked insertion over a bound key
   StepsFrom-bound : (k : K) (v : V) → IsSome (value_of number m.walk k)
       → StepsFrom {A = A} number sees keeps m (command.InsertChecked k v) (answer.Flag false) (after_search number m k)
   StepsFrom-bound k v bound s stands =
-      StepsFrom-searched k (command.InsertChecked k v) (answer.Flag false) s stands (inl (refl, rw (value_of-stands is_map stands k) bound, refl)) refl refl
+      StepsFrom-searched k (command.InsertChecked k v) (answer.Flag false) s stands (inl (refl, rw (value_of-stands is_map stands k) bound, refl)) refl (placements-kept s s refl)
 
   -- a checked insertion that is accepted, over a bound key or not
   pub StepsFrom-insert_checked : (k : K) (v : V) (n : MapState K V) (new : Bool) → new ≡ is_none (value_of number m.walk k) → IsCapacityAfter number m.walk m.capacity m.factor k n.capacity

@@ -2,7 +2,7 @@
 use Rattle.std.specs.Prelude.{◌≡◌, ℕ, ◌+◌, ◌*◌, ◌≤◌, ◌==◌, max, cond, Bool, true, false, is_some, IsSome, IsNone, List, [], ◌∷◌, length, Option, Some, None, ◌⊎◌}
 use Rattle.std.specs.List.{AllZip}
 use Rattle.std.specs.declared.vec.Vec.{Vec}
-use Rattle.intmap.specs.Bindings.{value_of, take_key}
+use Rattle.intmap.specs.Bindings.{value_of, take_key, write_value, keep_pairs}
 use Rattle.intmap.specs.Walk.{walk_of}
 use Rattle.intmap.specs.Reach.{reach}
 use Rattle.intmap.specs.Figures.{load_of}
@@ -60,6 +60,26 @@ module _ {K V S A : Type 0} (number : K → ℕ) (sees : V → S → Type 0) (ke
       ⊎ ((a ≡ answer.Flag true) × IsNone (value_of number s.pairs k) × Inserts number s k v t)
       ⊎ ((cause : Cause) × (a ≡ answer.Refused cause (Some v)) × MayRefuse number s k cause × (t ≡ s))
 
+  -- the value goes in the place of the one that the key is bound to, which is answered
+  abbrev pub AnswersWrite : State K V → K → V → Answer K V S A → State K V → Type 0
+  AnswersWrite s k v a t =
+      (a ≡ answer.Old (value_of number s.pairs k)) × IsSome (value_of number s.pairs k)
+      × (t ≡ record s { pairs = write_value number s.pairs k v })
+
+  -- a value is written where the key is bound, and else comes back and changes nothing
+  abbrev pub AnswersGetMut : State K V → K → V → Answer K V S A → State K V → Type 0
+  AnswersGetMut s k v a t =
+      AnswersWrite s k v a t
+      ⊎ ((a ≡ answer.Back v) × IsNone (value_of number s.pairs k) × (t ≡ s))
+
+  -- an insertion by an entry writes the value where the key is bound; of a new key it answers that it inserts, or is refused
+  -- as an insertion is
+  abbrev pub AnswersEntryInsert : State K V → K → V → Answer K V S A → State K V → Type 0
+  AnswersEntryInsert s k v a t =
+      AnswersWrite s k v a t
+      ⊎ ((a ≡ answer.Fresh) × IsNone (value_of number s.pairs k) × Inserts number s k v t)
+      ⊎ ((cause : Cause) × (a ≡ answer.Refused cause (Some v)) × MayRefuse number s k cause × (t ≡ s))
+
   -- a reservation is done, or refused and changes nothing
   abbrev pub AnswersReserve : State K V → ℕ → Answer K V S A → State K V → Type 0
   AnswersReserve s additional a t =
@@ -84,13 +104,18 @@ module _ {K V S A : Type 0} (number : K → ℕ) (sees : V → S → Type 0) (ke
   Answers s (command.InsertChecked k v) a t = AnswersInsertChecked s k v a t
   Answers s (command.Get k) a t =
       ((seen : Option S) × (a ≡ answer.Seen seen) × SeesOption sees (value_of number s.pairs k) seen) × (t ≡ s)
+  Answers s (command.GetMut k v) a t = AnswersGetMut s k v a t
   Answers s (command.ContainsKey k) a t = (a ≡ answer.Flag (is_some (value_of number s.pairs k))) × (t ≡ s)
   Answers s (command.Remove k) a t =
       (a ≡ answer.Old (value_of number s.pairs k)) × (t ≡ record s { pairs = take_key number s.pairs s.capacity k })
   Answers s command.Clear a t = (a ≡ answer.Done) × (t ≡ record s { pairs = [] })
+  Answers s command.Retain a t = (a ≡ answer.Done) × (t ≡ record s { pairs = keep_pairs keeps s.pairs })
   Answers s (command.Reserve additional) a t = AnswersReserve s additional a t
   Answers s (command.SetLoadFactor factor) a t = AnswersSetLoadFactor s factor a t
   Answers s command.GetLoadFactor a t = (a ≡ answer.Number s.factor) × (t ≡ s)
+  Answers s (command.EntryInsert k v) a t = AnswersEntryInsert s k v a t
+  Answers s (command.EntryRemove k) a t =
+      (a ≡ answer.Old (value_of number s.pairs k)) × (t ≡ record s { pairs = take_key number s.pairs s.capacity k })
   Answers s command.Len a t = (a ≡ answer.Number (length s.pairs)) × (t ≡ s)
   Answers s command.IsEmpty a t = (a ≡ answer.Flag (length s.pairs == 0)) × (t ≡ s)
   Answers s command.Capacity a t = (a ≡ answer.Number s.capacity) × (t ≡ s)
@@ -101,7 +126,10 @@ module _ {K V S A : Type 0} (number : K → ℕ) (sees : V → S → Type 0) (ke
   abbrev pub comparisons_of : (s : State K V) (c : Command K V) (a : Answer K V S A) (t : State K V) → Answers s c a t → ℕ
   comparisons_of s (command.Insert k v) a t step = reach number s.pairs s.capacity k
   comparisons_of s (command.InsertChecked k v) a t step = reach number s.pairs s.capacity k
+  comparisons_of s (command.GetMut k v) a t step = reach number s.pairs s.capacity k
   comparisons_of s (command.Remove k) a t step = reach number s.pairs s.capacity k
+  comparisons_of s (command.EntryInsert k v) a t step = reach number s.pairs s.capacity k
+  comparisons_of s (command.EntryRemove k) a t step = reach number s.pairs s.capacity k
   comparisons_of s other a t step = 0
 
   -- the pairs that a command places in a larger table in a step from the list s to the list t: all that there are then, where it
@@ -109,6 +137,7 @@ module _ {K V S A : Type 0} (number : K → ℕ) (sees : V → S → Type 0) (ke
   abbrev pub placements_of : (s : State K V) (c : Command K V) (a : Answer K V S A) (t : State K V) → Answers s c a t → ℕ
   placements_of s (command.Insert k v) a t step = cond (t.capacity == s.capacity) 0 (length t.pairs)
   placements_of s (command.InsertChecked k v) a t step = cond (t.capacity == s.capacity) 0 (length t.pairs)
+  placements_of s (command.EntryInsert k v) a t step = cond (t.capacity == s.capacity) 0 (length t.pairs)
   placements_of s other a t step = 0
 
   -- the commands in order, each from the list that the one before left, with one answer a command

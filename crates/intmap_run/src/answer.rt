@@ -10,6 +10,10 @@ pub enum Answer<K, V, S, A: Allocator = Global> {
     Old(Option<V>),
     /// What the judge sees of the value that the key is bound to; `None` where it isn't bound.
     Seen(Option<S>),
+    /// The command's own value, since the key isn't bound.
+    Back(V),
+    /// The key was new, and its pair was put in.
+    Fresh,
     /// It was done, and there is nothing to hand back.
     Done,
     /// Whether it is so: that the key is bound, that it was new, or that there is no pair.

@@ -16,12 +16,18 @@ pub enum Command<K, V> {
     InsertChecked(K, V),
     /// `get`: answers `Seen` of the value that the key is bound to.
     Get(K),
+    /// `get_mut`: writes the value in the place of the one that the key is bound to, and answers
+    /// `Old` of that one. Where the key isn't bound it answers `Back` of its own value.
+    GetMut(K, V),
     /// `contains_key`: answers `Flag` of whether the key is bound.
     ContainsKey(K),
     /// `remove`: takes the pair of the key out, and answers `Old` of its value.
     Remove(K),
     /// `clear`: lets all pairs go, and answers `Done`. Capacity and load factor stay.
     Clear,
+    /// `retain`: lets the pairs go that the judge doesn't keep, and answers `Done`. The others keep
+    /// their order, and capacity and load factor stay.
+    Retain,
     /// `reserve`: makes the capacity at least the least power of two that is at least the length
     /// and so many slots more, and answers `Done`.
     ///
@@ -36,6 +42,15 @@ pub enum Command<K, V> {
     SetLoadFactor(usize),
     /// `get_load_factor`: answers the `Number` of thousandths that the load factor is.
     GetLoadFactor,
+    /// `entry`, then `insert` on it: writes the value in the place of the one that the key is bound
+    /// to, and answers `Old` of that one. Where the key isn't bound it binds it to the value, and
+    /// answers `Fresh`.
+    ///
+    /// Refused as `Insert` is, for a new key alone and with the value back.
+    EntryInsert(K, V),
+    /// `entry`, then `remove` on it where it is occupied: takes the pair of the key out, and answers
+    /// `Old` of its value.
+    EntryRemove(K),
     /// `len`: answers the `Number` of pairs.
     Len,
     /// `is_empty`: answers `Flag` of whether there is no pair.

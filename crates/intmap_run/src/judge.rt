@@ -1,4 +1,4 @@
-//! What a run is told of values.
+//! What a run is told of values, and of the pairs that stay.
 ghost use Rattle.std.specs.Prelude.{◌≡◌, Bool};
 
 /// Looks at values, and says which pairs stay.
@@ -39,8 +39,7 @@ pub trait Judge<K, V> {
     fn look(&self, value: &V) -> Self::Seen
         ensures { sees self.now value.now result };
 
-    /// Whether the pair stays, where a command asks it of each pair. None of the commands that there
-    /// are does.
+    /// Whether the pair stays; `Retain` calls it once for each pair, in the order of the walk.
     fn keep(&self, key: K, value: &V) -> bool
         ensures { result ≡ keeps self.now key value.now };
 }

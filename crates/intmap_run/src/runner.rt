@@ -5,11 +5,17 @@ ghost use Rattle.intmap.specs.Map.{IsMap};
 ghost use Rattle.intmap_run.specs.Runs.{SeesPair, RunsFrom};
 ghost use Rattle.intmap_run.specs.Steps.{StepsFrom};
 
+mod entries;
+mod keep;
+
 use crate::answer::Answer;
 use crate::command::Command;
 use crate::judge::Judge;
+use crate::runner::entries::{entry_insert, entry_remove};
+use crate::runner::keep::keep_all;
 use intmap::{Cause, IntKey, IntMap, Refused};
 use std::alloc::{AllocError, Allocator};
+use std::mem;
 
 /// Runs the commands in order, and answers one answer a command, in the same order.
 ///
@@ -17,9 +23,10 @@ use std::alloc::{AllocError, Allocator};
 /// that stands for the map at the end. A refused command says so in its answer, leaves walk,
 /// capacity and load factor, and doesn't end the run.
 ///
-/// The map's `compared` rises by the keys that `Insert`, `InsertChecked` and `Remove` compare,
-/// refused ones too; the other commands leave it. Its `placed` rises by the length after each
-/// `Insert` or `InsertChecked` that changed the capacity, and by nothing else: in all by at most three times the greatest length of the run
+/// The map's `compared` rises by the keys that `Insert`, `InsertChecked`, `GetMut`, `Remove`,
+/// `EntryInsert` and `EntryRemove` compare, refused ones too; the other commands leave it. Its
+/// `placed` rises by the length after each `Insert`, `InsertChecked` or `EntryInsert` that changed
+/// the capacity, and by nothing else: in all by at most three times the greatest length of the run
 /// where no load factor was set, and by as much again for each that was. At the end the capacity is
 /// that of the start, or one that an accepted `Reserve` or `SetLoadFactor` left, or a capacity C
 /// with `(F + 1) * C <= 2000 * length`, where F is the load factor then, in thousandths, and length
@@ -61,7 +68,7 @@ pub fn run<K: IntKey, V: Drop, J: Judge<K, V>, A: Allocator + Copy>(
     Ok(answers)
 }
 
-/// One call on the map, and its answer.
+/// What one command does on the map, and its answer.
 fn apply<K: IntKey, V: Drop, J: Judge<K, V>, A: Allocator + Copy>(
     alloc: A,
     map: &mut IntMap<K, V, A>,
@@ -85,15 +92,25 @@ fn apply<K: IntKey, V: Drop, J: Judge<K, V>, A: Allocator + Copy>(
             Some(value) => Answer::Seen(Some(judge.look(value))),
             None => Answer::Seen(None),
         },
+        Command::GetMut(key, value) => match map.get_mut(key) {
+            Some(place) => Answer::Old(Some(mem::replace(place, value))),
+            None => Answer::Back(value),
+        },
         Command::ContainsKey(key) => Answer::Flag(map.contains_key(key)),
         Command::Remove(key) => Answer::Old(map.remove(key)),
         Command::Clear => {
             map.clear();
             Answer::Done
         }
+        Command::Retain => {
+            keep_all(map, judge);
+            Answer::Done
+        }
         Command::Reserve(additional) => done(map.reserve(additional)),
         Command::SetLoadFactor(thousandths) => done(map.set_load_factor(thousandths)),
         Command::GetLoadFactor => Answer::Number(map.get_load_factor() as u128),
+        Command::EntryInsert(key, value) => entry_insert::<K, V, J, A>(map, key, value),
+        Command::EntryRemove(key) => entry_remove::<K, V, J, A>(map, key),
         Command::Len => Answer::Number(map.len() as u128),
         Command::IsEmpty => Answer::Flag(map.is_empty()),
         Command::Capacity => Answer::Number(map.capacity() as u128),

@@ -1,6 +1,7 @@
-use Rattle.std.proofs.Common.{Some, None}
+use Rattle.std.proofs.Common.{rules, Some, None}
 use Rattle.intmap_run.proofs.StepLemmas.{StepsFrom-insert, StepsFrom-refused, StepsFrom-insert_checked, StepsFrom-refused_checked, StepsFrom-contains_key, StepsFrom-is_empty, StepsFrom-clear, StepsFrom-get, StepsFrom-remove, StepsFrom-len, StepsFrom-load}
 use Rattle.intmap_run.proofs.GrowthStepLemmas.{StepsFrom-reserve, StepsFrom-set_load_factor}
+use Rattle.intmap_run.proofs.WritingStepLemmas.{StepsFrom-get_mut, StepsFrom-back, StepsFrom-retain}
 use Rattle.intmap_run.proofs.runner.apply.Goals as goal
 
 pub returns-in-Ok-clause-step : goal.returns-in-Ok-clause-step
@@ -28,6 +29,17 @@ returns-in-Err-insert_checked-clause-step g c =
     (StepsFrom-refused_checked g.K.IntKey.number_of g.K.IntKey.is_key c.args.map.now c.insert_checked.ensures.map (g.J.Judge.sees c.args.judge.now) (g.J.Judge.keeps c.args.judge.now)
     c.in-InsertChecked.key c.in-InsertChecked.value c.in-Err-insert_checked.refused.cause c.in-Err-insert_checked.ensures.new_key c.in-Err-insert_checked.ensures.too_large c.in-Err-insert_checked.ensures.memory)
 
+pub returns-in-Some-get_mut-clause-step : goal.returns-in-Some-get_mut-clause-step
+returns-in-Some-get_mut-clause-step g c =
+    rw (c.in-GetMut.is, c.replace.ensures.after)
+    (StepsFrom-get_mut g.K.IntKey.number_of g.K.IntKey.is_key c.args.map.now c.get_mut.ensures.map (g.J.Judge.sees c.args.judge.now) (g.J.Judge.keeps c.args.judge.now)
+    c.in-GetMut.key c.in-GetMut.value c.replace.result (rw c.replace.ensures.value (search rules)))
+
+pub returns-in-None-get_mut-clause-step : goal.returns-in-None-get_mut-clause-step
+returns-in-None-get_mut-clause-step g c =
+    rw c.in-GetMut.is
+    (StepsFrom-back g.K.IntKey.number_of g.K.IntKey.is_key c.args.map.now c.get_mut.ensures.map (g.J.Judge.sees c.args.judge.now) (g.J.Judge.keeps c.args.judge.now) c.in-GetMut.key c.in-GetMut.value (search rules))
+
 pub returns-in-ContainsKey-clause-step : goal.returns-in-ContainsKey-clause-step
 returns-in-ContainsKey-clause-step g c =
     rw (c.in-ContainsKey.is, c.contains_key.ensures.value)
@@ -37,6 +49,12 @@ pub returns-in-Clear-clause-step : goal.returns-in-Clear-clause-step
 returns-in-Clear-clause-step g c =
     rw (c.in-Clear.is, c.clear.ensures.state)
     (StepsFrom-clear g.K.IntKey.number_of g.K.IntKey.is_key c.args.map.now c.clear.ensures.map (g.J.Judge.sees c.args.judge.now) (g.J.Judge.keeps c.args.judge.now))
+
+pub returns-in-Retain-clause-step : goal.returns-in-Retain-clause-step
+returns-in-Retain-clause-step g c =
+    rw c.in-Retain.is
+    (StepsFrom-retain g.K.IntKey.number_of (g.J.Judge.sees c.args.judge.now) (g.J.Judge.keeps c.args.judge.now) c.args.map.now
+    c.keep_all.new.map c.keep_all.ensures.state c.keep_all.ensures.walk)
 
 pub returns-in-IsEmpty-clause-step : goal.returns-in-IsEmpty-clause-step
 returns-in-IsEmpty-clause-step g c =
@@ -73,6 +91,12 @@ returns-in-SetLoadFactor-clause-step g c =
     rw c.in-SetLoadFactor.is
     (StepsFrom-set_load_factor g.K.IntKey.number_of g.K.IntKey.is_key c.args.map.now e.map (g.J.Judge.sees c.args.judge.now) (g.J.Judge.keeps c.args.judge.now)
     c.in-SetLoadFactor.thousandths c.set_load_factor.result c.done-in-SetLoadFactor.result c.set_load_factor.new.self e.capacity e.state e.err e.too_large e.memory c.done-in-SetLoadFactor.ensures)
+
+pub returns-in-EntryInsert-clause-step : goal.returns-in-EntryInsert-clause-step
+returns-in-EntryInsert-clause-step g c = rw c.in-EntryInsert.is (c.entry_insert.ensures.step c.args.judge.now)
+
+pub returns-in-EntryRemove-clause-step : goal.returns-in-EntryRemove-clause-step
+returns-in-EntryRemove-clause-step g c = rw c.in-EntryRemove.is (c.entry_remove.ensures.step c.args.judge.now)
 
 pub returns-in-Len-clause-step : goal.returns-in-Len-clause-step
 returns-in-Len-clause-step g c =

@@ -1,0 +1,147 @@
+-- Values written in their places, calls of entries and a walk of which some pairs stay are one step of every list that stands for the map.
+use Rattle.std.proofs.Common.{◌≡◌, inl, inr, ℕ, ◌+◌, Bool, length, Some, None, refl, sym, ap, ◌∙◌, add-zero}
+use Rattle.std.specs.Prelude.{IsNone}
+use Rattle.intmap.specs.Bindings.{value_of, take_key, put_pair, write_value, keep_pairs}
+use Rattle.intmap.specs.Classes.{same_key}
+use Rattle.intmap.specs.Growth.{IsNext}
+use Rattle.intmap.specs.Map.{MapState, IsMap, IsCapacityAfter, IsFull, after_search, after_insert, after_remove, with_pair, without_key, written}
+use Rattle.intmap.specs.States.{State, Stands, MayRefuse}
+use Rattle.intmap.specs.declared.refusal.Cause.{Cause}
+use Rattle.intmap_run.specs.declared.command.Command.{Command}
+use Rattle.intmap_run.specs.declared.command.Command.TheVariants as command
+use Rattle.intmap_run.specs.declared.answer.Answer.{Answer}
+use Rattle.intmap_run.specs.declared.answer.Answer.TheVariants as answer
+use Rattle.intmap_run.specs.Runs.{AnswersWrite}
+use Rattle.intmap_run.specs.Steps.{StepsFrom}
+use Rattle.intmap.proofs.PositionLemmas.{swap_out-none, position-from_none}
+use Rattle.intmap_run.proofs.PlacementLemmas.{placements-kept}
+use Rattle.intmap_run.proofs.MapStandLemmas.{value_of-stands, reach-stands, walk_of-write_value-stands, walk_of-keep_pairs-stands}
+use Rattle.intmap_run.proofs.StepLemmas.{accepted, may, StepsFrom-searched, StepsFrom-remove}
+
+module _ {K V : Type 0} (number : K → ℕ) (m : MapState K V) where
+  -- the list with a value written stands for the map with it written
+  Stands-written : (k : K) (v : V) (s : State K V) → Stands number s m → Stands number (record s { pairs = write_value number s.pairs k v }) (written number (after_search number m k) k v)
+  Stands-written k v s stands = record { walk = walk_of-write_value-stands stands k v; capacity = stands.capacity; factor = stands.factor }
+
+module _ {K V S A : Type 0} (number : K → ℕ) (is_key : K → Type 0) (m : MapState K V) (is_map : IsMap number is_key m) (sees : V → S → Type 0) (keeps : K → V → Bool) where
+  -- a value that is written answers the one before
+  AnswersWrite-bound : (k : K) (v old : V) → value_of number m.walk k ≡ Some old → (s : State K V) → Stands number s m
+      → AnswersWrite {A = A} number sees keeps s k v (answer.Old (Some old)) (record s { pairs = write_value number s.pairs k v })
+  AnswersWrite-bound k v old bound s stands =
+      let same : value_of number s.pairs k ≡ Some old = value_of-stands is_map stands k ∙ bound in
+      (ap (λ o. answer.Old o) (sym same), rw same refl, refl)
+
+  -- a value written through a reference
+  pub StepsFrom-get_mut : (k : K) (v old : V) → value_of number m.walk k ≡ Some old
+      → StepsFrom {A = A} number sees keeps m (command.GetMut k v) (answer.Old (Some old)) (written number (after_search number m k) k v)
+  StepsFrom-get_mut k v old bound s stands = (
+    record s { pairs = write_value number s.pairs k v },
+    record {
+      answers = inl (AnswersWrite-bound k v old bound s stands);
+      stands = Stands-written number m k v s stands;
+      compared = ap (λ n. m.compared + n) (sym (reach-stands is_map stands k));
+      placed = sym (add-zero m.placed);
+    },
+  )
+
+  -- a value that has no place to be written in
+  pub StepsFrom-back : (k : K) (v : V) → value_of number m.walk k ≡ None
+      → StepsFrom {A = A} number sees keeps m (command.GetMut k v) (answer.Back v) (after_search number m k)
+  StepsFrom-back k v missing s stands =
+      let none : IsNone (value_of number s.pairs k) = rw (value_of-stands is_map stands k, missing) refl in
+      StepsFrom-searched number is_key m is_map sees keeps k (command.GetMut k v) (answer.Back v) s stands (inr (refl, none, refl)) refl refl
+
+  StepsFrom-entry_bound : (k : K) (v old : V) → value_of number m.walk k ≡ Some old
+      → StepsFrom {A = A} number sees keeps m (command.EntryInsert k v) (answer.Old (Some old)) (written number (after_search number m k) k v)
+  StepsFrom-entry_bound k v old bound s stands =
+      let t : State K V = record s { pairs = write_value number s.pairs k v } in (
+        t,
+        record {
+          answers = inl (AnswersWrite-bound k v old bound s stands);
+          stands = Stands-written number m k v s stands;
+          compared = ap (λ n. m.compared + n) (sym (reach-stands is_map stands k));
+          placed = sym (ap (λ n. m.placed + n) (placements-kept s t refl) ∙ add-zero m.placed);
+        },
+      )
+
+  StepsFrom-entry_missing : (k : K) (v : V) (D : ℕ) → value_of number m.walk k ≡ None → IsNext m.capacity (length m.walk + 1) m.factor D → (IsFull m.walk m.capacity m.factor → ⊥)
+      → StepsFrom {A = A} number sees keeps m (command.EntryInsert k v) answer.Fresh (after_insert number m k v D)
+  StepsFrom-entry_missing k v D missing next in_range s stands =
+      let after : IsCapacityAfter number m.walk m.capacity m.factor k D = rw missing next in
+      let none : IsNone (value_of number s.pairs k) = rw (value_of-stands is_map stands k, missing) refl in
+      let left = accepted number is_key m is_map k v (after_insert number m k v D) after (λ out. in_range out.1) refl s stands in (
+        record s { pairs = put_pair number s.pairs s.capacity k v; capacity = D },
+        record {
+          answers = inr (inl (refl, none, left.inserts));
+          stands = left.stands;
+          compared = left.compared;
+          placed = left.placed;
+        },
+      )
+
+  StepsFrom-entry_refused : (k : K) (v : V) (cause : Cause) → MayRefuse number (record { pairs = m.walk; capacity = m.capacity; factor = m.factor }) k cause
+      → StepsFrom {A = A} number sees keeps m (command.EntryInsert k v) (answer.Refused cause (Some v)) (after_search number m k)
+  StepsFrom-entry_refused k v cause may_be s stands =
+      let refused = may number is_key m is_map k cause may_be.new_key may_be.too_large may_be.memory s stands in
+      StepsFrom-searched number is_key m is_map sees keeps k (command.EntryInsert k v) (answer.Refused cause (Some v)) s stands (inr (inr (cause, refl, refused, refl))) refl (placements-kept s s refl)
+
+  StepsFrom-taken : (k : K) (old : V) → value_of number m.walk k ≡ Some old
+      → StepsFrom {A = A} number sees keeps m (command.EntryRemove k) (answer.Old (Some old)) (after_remove number m k)
+  StepsFrom-taken k old bound s stands =
+      let step = StepsFrom-remove number is_key m is_map sees keeps k s stands in
+      (step.0, record { answers = (ap (λ o. answer.Old o) (sym bound) ∙ step.1.answers.0, step.1.answers.1); stands = step.1.stands; compared = step.1.compared; placed = step.1.placed })
+
+  StepsFrom-not_taken : (k : K) → value_of number m.walk k ≡ None
+      → StepsFrom {A = A} number sees keeps m (command.EntryRemove k) (answer.Old None) (after_search number m k)
+  StepsFrom-not_taken k missing s stands =
+      let none : value_of number s.pairs k ≡ None = value_of-stands is_map stands k ∙ missing in
+      let same : take_key number s.pairs s.capacity k ≡ s.pairs = swap_out-none _ _ s.pairs (position-from_none (same_key number k) s.pairs none) in
+      StepsFrom-searched number is_key m is_map sees keeps k (command.EntryRemove k) (answer.Old None) s stands
+      (ap (λ o. answer.Old o) (sym none), ap (λ L. record s { pairs = L }) (sym same)) refl refl
+
+  module _ (k q : K) (x : MapState K V) (searched : x ≡ after_search number m k) (same_key : q ≡ k) where
+    -- a value written by an entry, of which x is the map and q the key
+    pub StepsFrom-entry_insert : (v old : V) → value_of number x.walk q ≡ Some old
+        → StepsFrom {A = A} number sees keeps m (command.EntryInsert k v) (answer.Old (Some old)) (written number x q v)
+    StepsFrom-entry_insert v old bound = rw (searched, same_key) (StepsFrom-entry_bound k v old (rw (searched, same_key) at bound))
+
+    -- a pair put in by an entry
+    pub StepsFrom-fresh : (v w : V) (D : ℕ) → value_of number x.walk q ≡ None → w ≡ v → IsNext x.capacity (length x.walk + 1) x.factor D → (IsFull x.walk x.capacity x.factor → ⊥)
+        → StepsFrom {A = A} number sees keeps m (command.EntryInsert k v) answer.Fresh (with_pair number x q w D)
+    StepsFrom-fresh v w D missing value next in_range =
+        rw (searched, same_key, value) (StepsFrom-entry_missing k v D (rw (searched, same_key) at missing) (rw searched at next) (rw searched at in_range))
+
+    -- a pair that an entry couldn't put in
+    pub StepsFrom-not_fresh : (v : V) (cause : Cause) → MayRefuse number (record { pairs = x.walk; capacity = x.capacity; factor = x.factor }) q cause
+        → StepsFrom {A = A} number sees keeps m (command.EntryInsert k v) (answer.Refused cause (Some v)) x
+    StepsFrom-not_fresh v cause may_be = rw searched (StepsFrom-entry_refused k v cause (rw (searched, same_key) at may_be))
+
+    -- a pair taken out by an entry
+    pub StepsFrom-entry_remove : (old : V) → value_of number x.walk q ≡ Some old
+        → StepsFrom {A = A} number sees keeps m (command.EntryRemove k) (answer.Old (Some old)) (without_key number x q)
+    StepsFrom-entry_remove old bound = rw (searched, same_key) (StepsFrom-taken k old (rw (searched, same_key) at bound))
+
+    -- an entry with no pair to take out
+    pub StepsFrom-not_removed : value_of number x.walk q ≡ None
+        → StepsFrom {A = A} number sees keeps m (command.EntryRemove k) (answer.Old None) x
+    StepsFrom-not_removed missing = rw searched (StepsFrom-not_taken k (rw (searched, same_key) at missing))
+
+module _ {K V S A : Type 0} (number : K → ℕ) (sees : V → S → Type 0) (keeps : K → V → Bool) (m : MapState K V) where
+  -- the same map is left by the same step
+  pub StepsFrom-equal : (c : Command K V) (a : Answer K V S A) (n n' : MapState K V) → StepsFrom number sees keeps m c a n → n' ≡ n → StepsFrom number sees keeps m c a n'
+  StepsFrom-equal c a n n' step same = rw same step
+
+  StepsFrom-kept : StepsFrom {A = A} number sees keeps m command.Retain answer.Done (record m { walk = keep_pairs keeps m.walk })
+  StepsFrom-kept s stands = (
+    record s { pairs = keep_pairs keeps s.pairs },
+    record {
+      answers = (refl, refl);
+      stands = record { walk = walk_of-keep_pairs-stands stands keeps; capacity = stands.capacity; factor = stands.factor };
+      compared = sym (add-zero m.compared);
+      placed = sym (add-zero m.placed);
+    },
+  )
+
+  -- a walk of which the pairs stay that the judge keeps
+  pub StepsFrom-retain : (n : MapState K V) → n ≡ record m { walk = n.walk } → n.walk ≡ keep_pairs keeps m.walk → StepsFrom {A = A} number sees keeps m command.Retain answer.Done n
+  StepsFrom-retain n state walk = StepsFrom-equal command.Retain answer.Done _ n StepsFrom-kept (state ∙ ap (λ W. record m { walk = W }) walk)
