@@ -1,5 +1,5 @@
 -- The lines of answers.
-use Rattle.std.specs.Prelude.{ℕ, true, false, List, [], ◌∷◌, ◌++◌, Some, None, codes}
+use Rattle.std.specs.Prelude.{ℕ, true, false, List, [], ◌∷◌, ◌++◌, Option, Some, None, codes}
 use Rattle.std.specs.List.{flat_map, join_by}
 use Rattle.std.specs.Fmt.{decimal}
 use Rattle.intmap.specs.declared.refusal.Cause.{Cause}
@@ -11,6 +11,11 @@ use Rattle.intmap_run.specs.declared.answer.Answer.TheVariants as answer
 abbrev pub cause_text : Cause → List ℕ
 cause_text cause.Memory = codes "memory"
 cause_text cause.TooLarge = codes "too large"
+
+-- why a command was refused, behind the value that it hands back
+abbrev pub refusal_text : Cause → Option ℕ → List ℕ
+refusal_text cause None = codes "refused: " ++ cause_text cause
+refusal_text cause (Some v) = codes "refused " ++ decimal v ++ codes ": " ++ cause_text cause
 
 -- a key and its value
 abbrev pub pair_text : ℕ × ℕ → List ℕ
@@ -26,14 +31,14 @@ answer_text (answer.Old None) = codes "none"
 answer_text (answer.Old (Some v)) = codes "some " ++ decimal v
 answer_text (answer.Seen None) = codes "none"
 answer_text (answer.Seen (Some v)) = codes "some " ++ decimal v
+answer_text (answer.Back v) = codes "back " ++ decimal v
+answer_text answer.Fresh = codes "fresh"
 answer_text answer.Done = codes "done"
 answer_text (answer.Flag true) = codes "true"
 answer_text (answer.Flag false) = codes "false"
 answer_text (answer.Number n) = decimal n
 answer_text (answer.Walk pairs) = pairs_text pairs.items
-answer_text (answer.Refused cause None) = codes "refused: " ++ cause_text cause
-answer_text (answer.Refused cause (Some v)) =
-    codes "refused " ++ decimal v ++ codes ": " ++ cause_text cause
+answer_text (answer.Refused cause value) = refusal_text cause value
 
 -- one line an answer, each ended by a byte 10
 abbrev pub lines_of : {A : Type 0} → List (Answer ℕ ℕ ℕ A) → List ℕ

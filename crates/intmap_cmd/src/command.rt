@@ -1,5 +1,5 @@
 //! Commands from words.
-ghost use Rattle.std.specs.Prelude.{◌≡◌, ◌≢◌, ◌≤◌, ℕ, List, ◌∷◌, length, IfSome, IfNone};
+ghost use Rattle.std.specs.Prelude.{◌≡◌, ◌≤◌, ℕ, List, ◌∷◌, length, IfSome, IfNone};
 ghost use Rattle.std.specs.List.{AllZip};
 ghost use Rattle.intmap_run.specs.declared.command.Command.{Command};
 ghost use Rattle.intmap_cmd.specs.Commands.{Writes, Says};
@@ -32,6 +32,11 @@ pub fn command(name: &[u8], words: Words<'_>) -> Option<Command<u64, u64>>
         Numbers::Two(key, value) => with_pair(name, key, value),
     }
 }
+
+/// No words say two commands.
+fn words_say_one_command()
+    ensures { (words : List (List ℕ)) (c d : Command ℕ ℕ) → Says words c → Says words d → c ≡ d }
+{}
 
 /// The numbers that the words write, where they are at most two.
 fn read_numbers(mut words: Words<'_>) -> Option<Numbers>

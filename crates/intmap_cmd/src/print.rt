@@ -1,6 +1,6 @@
 //! The lines of answers.
 ghost use Rattle.std.specs.Prelude.{◌≡◌, ◌++◌, IfOk, OnOk, string_bytes};
-ghost use Rattle.intmap_cmd.specs.Printing.{cause_text, pairs_text, answer_text, lines_of};
+ghost use Rattle.intmap_cmd.specs.Printing.{cause_text, refusal_text, pairs_text, answer_text, lines_of};
 
 use intmap::Cause;
 use intmap_run::Answer;
@@ -31,22 +31,30 @@ fn print_answer<A: Allocator>(
     match answer {
         Answer::Old(None) | Answer::Seen(None) => out.push_str("none"),
         Answer::Old(Some(value)) | Answer::Seen(Some(value)) => write!(out, "some {value}"),
+        Answer::Back(value) => write!(out, "back {value}"),
+        Answer::Fresh => out.push_str("fresh"),
         Answer::Done => out.push_str("done"),
         Answer::Flag(true) => out.push_str("true"),
         Answer::Flag(false) => out.push_str("false"),
         Answer::Number(number) => write!(out, "{number}"),
         Answer::Walk(pairs) => print_pairs(out, pairs.as_slice()),
-        Answer::Refused { cause, value: None } => {
-            let cause = cause_name(*cause);
-            write!(out, "refused: {cause}")
-        }
-        Answer::Refused {
-            cause,
-            value: Some(value),
-        } => {
-            let cause = cause_name(*cause);
-            write!(out, "refused {value}: {cause}")
-        }
+        Answer::Refused { cause, value } => print_refusal(out, *cause, *value),
+    }
+}
+
+/// Writes why a command was refused, behind the value that it hands back.
+fn print_refusal<A: Allocator>(
+    out: &mut String<A>,
+    cause: Cause,
+    value: Option<u64>,
+) -> Result<(), AllocError>
+    ensures { OnOk result
+        (string_bytes out.new ≡ string_bytes out.old ++ refusal_text cause value) }
+{
+    let cause = cause_name(cause);
+    match value {
+        None => write!(out, "refused: {cause}"),
+        Some(value) => write!(out, "refused {value}: {cause}"),
     }
 }
 

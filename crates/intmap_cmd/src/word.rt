@@ -18,6 +18,8 @@ pub fn bare(name: &[u8]) -> Option<Command<u64, u64>>
         Some(Command::IsEmpty)
     } else if is(name, b"clear") {
         Some(Command::Clear)
+    } else if is(name, b"retain") {
+        Some(Command::Retain)
     } else if is(name, b"capacity") {
         Some(Command::Capacity)
     } else if is(name, b"load") {
@@ -44,6 +46,8 @@ pub fn with_number(name: &[u8], number: u64) -> Option<Command<u64, u64>>
         Some(Command::Reserve(number as usize))
     } else if is(name, b"set_load_factor") {
         Some(Command::SetLoadFactor(number as usize))
+    } else if is(name, b"entry_remove") {
+        Some(Command::EntryRemove(number))
     } else {
         None
     }
@@ -58,6 +62,10 @@ pub fn with_pair(name: &[u8], key: u64, value: u64) -> Option<Command<u64, u64>>
         Some(Command::Insert(key, value))
     } else if is(name, b"insert_checked") {
         Some(Command::InsertChecked(key, value))
+    } else if is(name, b"get_mut") {
+        Some(Command::GetMut(key, value))
+    } else if is(name, b"entry_insert") {
+        Some(Command::EntryInsert(key, value))
     } else {
         None
     }

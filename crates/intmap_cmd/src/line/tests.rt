@@ -26,14 +26,18 @@ fn show(line: &[u8]) -> Shown {
             Shown::Pair("insert_checked", key, value)
         }
         Line::Command(Command::Get(key)) => Shown::Key("get", key),
+        Line::Command(Command::GetMut(key, value)) => Shown::Pair("get_mut", key, value),
         Line::Command(Command::ContainsKey(key)) => Shown::Key("contains_key", key),
         Line::Command(Command::Remove(key)) => Shown::Key("remove", key),
         Line::Command(Command::Clear) => Shown::Bare("clear"),
+        Line::Command(Command::Retain) => Shown::Bare("retain"),
         Line::Command(Command::Reserve(additional)) => Shown::Key("reserve", additional as u64),
         Line::Command(Command::SetLoadFactor(thousandths)) => {
             Shown::Key("set_load_factor", thousandths as u64)
         }
         Line::Command(Command::GetLoadFactor) => Shown::Bare("get_load_factor"),
+        Line::Command(Command::EntryInsert(key, value)) => Shown::Pair("entry_insert", key, value),
+        Line::Command(Command::EntryRemove(key)) => Shown::Key("entry_remove", key),
         Line::Command(Command::Len) => Shown::Bare("len"),
         Line::Command(Command::IsEmpty) => Shown::Bare("is_empty"),
         Line::Command(Command::Capacity) => Shown::Bare("capacity"),
@@ -42,19 +46,23 @@ fn show(line: &[u8]) -> Shown {
     }
 }
 
-const COMMANDS: [(&[u8], Shown); 25] = [
+const COMMANDS: [(&[u8], Shown); 29] = [
     (b"insert 21 42", Shown::Pair("insert", 21, 42)),
     (
         b"insert_checked 21 42",
         Shown::Pair("insert_checked", 21, 42),
     ),
     (b"get 21", Shown::Key("get", 21)),
+    (b"get_mut 21 42", Shown::Pair("get_mut", 21, 42)),
     (b"contains_key 21", Shown::Key("contains_key", 21)),
     (b"remove 21", Shown::Key("remove", 21)),
     (b"clear", Shown::Bare("clear")),
+    (b"retain", Shown::Bare("retain")),
     (b"reserve 9", Shown::Key("reserve", 9)),
     (b"set_load_factor 0", Shown::Key("set_load_factor", 0)),
     (b"get_load_factor", Shown::Bare("get_load_factor")),
+    (b"entry_insert 21 42", Shown::Pair("entry_insert", 21, 42)),
+    (b"entry_remove 21", Shown::Key("entry_remove", 21)),
     (b"len", Shown::Bare("len")),
     (b"is_empty", Shown::Bare("is_empty")),
     (b"capacity", Shown::Bare("capacity")),
@@ -99,7 +107,9 @@ const BLANK: &[u8] = b"\n \n          \n\r\n   \r";
 const WORDS: &[u8] = b"Get 1\nGET 1\nlEn\nWalk\nle\nlens\nlen.\nget1\n1\n1 get\nhelp\n-\n,\n\
     insert\ninsert 1\ninsert 1 2 3\nget\nget 1 2\nget 1 len\nremove\nremove 1 2\n\
     reserve\nreserve 1 2\nset_load_factor\nset_load_factor 1 2\nget_load_factor 1\n\
-    insert_checked 1\ncontains_key\nclear 1\nis_empty 0\nempty\n\
+    insert_checked 1\ncontains_key\nclear 1\nget_mut 1\nget_mut 1 2 3\nretain 1\nretain 1 2\n\
+    entry_insert 1\nentry_insert 1 2 3\nentry_remove\nentry_remove 1 2\nentry 1\nentry_insert\n\
+    is_empty 0\nempty\n\
     len 0\nlen len\ncapacity 4\nload 1 2\nwalk x\nwalk 1 2 3\nget len";
 
 /// Numbers that are not canonical, or too great.

@@ -6,6 +6,7 @@ use std::alloc::Global;
 use std::io::{self, ErrorKind, Read, Write};
 use std::test::Fail;
 
+mod plain_list;
 mod refusals;
 
 /// Gives its bytes a few at a time. Each read is first interrupted, and in place of the end it may
@@ -95,7 +96,7 @@ const INPUT: &[u8] = b"insert 0 10\nlen\n\nwalk\n";
 const OUTPUT: &[u8] = b"none\n1\n{0: 10}\n";
 
 /// Texts, each with its status, its output and what is told of it.
-const SESSIONS: [(&[u8], u8, &[u8], &[u8]); 16] = [
+const SESSIONS: [(&[u8], u8, &[u8], &[u8]); 18] = [
     (b"", 0, b"", b""),
     (b"\n \r\n", 0, b"", b""),
     (INPUT, 0, OUTPUT, b""),
@@ -133,6 +134,22 @@ const SESSIONS: [(&[u8], u8, &[u8], &[u8]); 16] = [
         b"is_empty\ninsert_checked 1 2\ninsert_checked 1 3\ncontains_key 1\nget 1\nclear\nis_empty\ncontains_key 1\nwalk",
         0,
         b"true\ntrue\nfalse\ntrue\nsome 2\ndone\ntrue\nfalse\n{}\n",
+        b"",
+    ),
+    (
+        b"insert 0 10\ninsert 4 14\nget_mut 4 99\nget_mut 9 7\nentry_insert 8 18\n\
+            entry_insert 0 1\nwalk\nentry_remove 0\nwalk\nretain\nwalk\nentry_remove 4\nentry_remove 4\n",
+        0,
+        b"none\nnone\nsome 14\nback 7\nfresh\nsome 10\n{0: 1, 4: 99, 8: 18}\nsome 1\n\
+            {8: 18, 4: 99}\ndone\n{4: 99}\nsome 99\nnone\n",
+        b"",
+    ),
+    (
+        b"retain\nentry_insert 0 0\nentry_insert 1 1\nentry_insert 2 2\nentry_insert 3 3\n\
+            entry_insert 3 5\ncapacity\nwalk\nretain\ncapacity\nwalk",
+        0,
+        b"done\nfresh\nfresh\nfresh\nfresh\nsome 3\n8\n{0: 0, 2: 2, 1: 1, 3: 5}\ndone\n8\n\
+            {1: 1, 3: 5}\n",
         b"",
     ),
     (

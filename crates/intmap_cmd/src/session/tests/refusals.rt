@@ -1,6 +1,7 @@
 //! Sessions of which each request for memory is refused in turn, and their commands on a plain
 //! list.
 
+use super::plain_list::List;
 use crate::session::serve;
 use intmap_run::Command;
 use refuser::Refuser;
@@ -22,7 +23,7 @@ const WITHOUT_GROWTH: [Said; 6] = [
 ];
 
 /// Commands that ask for more slots, and the others among them.
-const WITH_GROWTH: [Said; 30] = [
+const WITH_GROWTH: [Said; 39] = [
     ("walk", Command::Walk),
     ("insert 0 10", Command::Insert(0, 10)),
     ("insert 4096 11", Command::Insert(4096, 11)),
@@ -56,108 +57,22 @@ const WITH_GROWTH: [Said; 30] = [
     ("clear", Command::Clear),
     ("is_empty", Command::IsEmpty),
     ("insert_checked 0 17", Command::InsertChecked(0, 17)),
+    ("entry_insert 4096 18", Command::EntryInsert(4096, 18)),
+    ("entry_insert 4096 19", Command::EntryInsert(4096, 19)),
+    ("entry_insert 8192 20", Command::EntryInsert(8192, 20)),
+    ("entry_insert 12288 21", Command::EntryInsert(12288, 21)),
+    ("get_mut 8192 22", Command::GetMut(8192, 22)),
+    ("get_mut 16384 23", Command::GetMut(16384, 23)),
+    ("entry_remove 0", Command::EntryRemove(0)),
+    ("retain", Command::Retain),
+    ("walk", Command::Walk),
 ];
-
-/// A plain list of pairs, in the place of a map of which all keys share a slot, and a load factor.
-#[derive(Drop)]
-struct List {
-    pairs: Vec<(u64, u64)>,
-    factor: usize,
-}
-
-impl List {
-    // the value of a key
-    fn get(&self, key: u64) -> Option<u64> {
-        let place = self.pairs.iter().position(|pair| pair.0 == key)?;
-        self.pairs.get(place).map(|pair| pair.1)
-    }
-
-    // takes the pair of a key out, whose place goes to the last pair
-    fn remove(&mut self, key: u64) -> Option<u64> {
-        let place = self.pairs.iter().position(|pair| pair.0 == key)?;
-        Some(self.pairs.swap_remove(place).1)
-    }
-
-    // the pairs as a walk is printed
-    fn walk(&self, alloc: Global) -> Result<String, AllocError> {
-        let mut text = String::from_str(alloc, "{")?;
-        for (key, value) in self.pairs.iter() {
-            if text.len() > 1 {
-                text.push_str(", ")?;
-            }
-            write!(text, "{key}: {value}")?;
-        }
-        text.push('}')?;
-        Ok(text)
-    }
-
-    // does what a command asks, unless memory was refused to it, and answers its line
-    fn apply(
-        &mut self,
-        alloc: Global,
-        command: &Command<u64, u64>,
-        is_refused: bool,
-    ) -> Result<String, AllocError> {
-        match *command {
-            Command::Insert(_, value) | Command::InsertChecked(_, value) if is_refused => {
-                format!(in alloc; "refused {value}: memory")
-            }
-            Command::Reserve(_) | Command::SetLoadFactor(_) | Command::Walk if is_refused => {
-                String::from_str(alloc, "refused: memory")
-            }
-            Command::Insert(key, value) => {
-                let old = self.remove(key);
-                self.pairs.push((key, value))?;
-                line_of(alloc, old)
-            }
-            Command::InsertChecked(key, value) => {
-                let is_new = self.get(key).is_none();
-                if is_new {
-                    self.pairs.push((key, value))?;
-                }
-                format!(in alloc; "{is_new}")
-            }
-            Command::ContainsKey(key) => format!(in alloc; "{}", self.get(key).is_some()),
-            Command::Clear => {
-                self.pairs.clear();
-                String::from_str(alloc, "done")
-            }
-            Command::Remove(key) => line_of(alloc, self.remove(key)),
-            Command::Get(key) => line_of(alloc, self.get(key)),
-            Command::Reserve(18446744073709551615) => {
-                String::from_str(alloc, "refused: too large")
-            }
-            Command::Reserve(_) => String::from_str(alloc, "done"),
-            Command::SetLoadFactor(thousandths) => {
-                self.factor = thousandths;
-                String::from_str(alloc, "done")
-            }
-            Command::GetLoadFactor => format!(in alloc; "{}", self.factor),
-            Command::IsEmpty => format!(in alloc; "{}", self.pairs.is_empty()),
-            Command::Len => format!(in alloc; "{}", self.pairs.len()),
-            Command::Load => format!(in alloc; "{}", self.pairs.len().min(1)),
-            Command::Capacity => String::from_str(alloc, "not asked"),
-            Command::Walk => self.walk(alloc),
-        }
-    }
-}
-
-// the line that says a value, or that there is none
-fn line_of(alloc: Global, value: Option<u64>) -> Result<String, AllocError> {
-    match value {
-        Some(value) => format!(in alloc; "some {value}"),
-        None => String::from_str(alloc, "none"),
-    }
-}
 
 // the lines of a plain list under the same commands, where memory is refused to those that the
 // session refused it to
 fn replayed(alloc: Global, session: &[Said], written: &[u8]) -> Result<String, AllocError> {
     let mut text = String::new(alloc);
-    let mut list = List {
-        pairs: Vec::new(alloc),
-        factor: 909,
-    };
+    let mut list = List::new(alloc);
     for ((_, command), line) in session.iter().zip(written.split(|byte| *byte == b'\n')) {
         let is_refused = line.ends_with(b": memory");
         text.push_str(list.apply(alloc, command, is_refused)?.as_str())?;
