@@ -1,7 +1,9 @@
 //! One call, from its words to its answer.
 
+use crate::entries::{with_entry, with_reference};
 use crate::many::{Insertion, Keys, get_many, insert_many, remove_many, walk_sum};
 use crate::maps::{MapOf, Maps};
+use crate::retained::retain;
 use crate::runs::run_many;
 use crate::text::{
     bool_text, done_text, number_text, option_text, refusal_text, state_text, walk_text,
@@ -66,12 +68,12 @@ pub fn without_key<K: IntKey + Display>(
             map.clear();
             done_text(alloc, Ok(()))
         }
-        _ => seen(alloc, map, name),
+        _ => retain(alloc, map, name),
     }
 }
 
-// the answer to a call that looks at a map
-fn seen<K: IntKey + Display>(
+/// The answer to a call that looks at a map.
+pub fn seen<K: IntKey + Display>(
     alloc: Global,
     map: &MapOf<'_, K>,
     name: &str,
@@ -111,7 +113,7 @@ fn with_number(
 }
 
 /// The answer to a call with a key.
-pub fn with_key<K: IntKey>(
+pub fn with_key<K: IntKey + Display>(
     alloc: Global,
     map: &mut MapOf<'_, K>,
     name: &str,
@@ -125,7 +127,11 @@ pub fn with_key<K: IntKey>(
         }
         "contains_key" => bool_text(alloc, map.contains_key(key)),
         "remove" => option_text(alloc, map.remove(key)),
-        _ => no_call(alloc),
+        "retain_except" => {
+            map.retain(|other, _| other != key);
+            done_text(alloc, Ok(()))
+        }
+        _ => with_entry(alloc, map, name, key),
     }
 }
 
@@ -146,7 +152,7 @@ pub fn with_pair<K: IntKey>(
             Ok(new) => bool_text(alloc, new),
             Err(refused) => refusal_text(alloc, refused.cause, Some(refused.value)),
         },
-        _ => no_call(alloc),
+        _ => with_reference(alloc, map, name, key, value),
     }
 }
 
@@ -160,9 +166,12 @@ fn with_keys(
     match name {
         "insert_many" => insert_many(alloc, &mut maps.map, Insertion::Over, keys),
         "insert_checked_many" => insert_many(alloc, &mut maps.map, Insertion::Checked, keys),
+        "entry_insert_many" => insert_many(alloc, &mut maps.map, Insertion::ByEntry, keys),
+        "or_insert_many" => insert_many(alloc, &mut maps.map, Insertion::OrInsert, keys),
         "get_many" => number_text(alloc, get_many(&maps.map, keys) as u128),
         "remove_many" => number_text(alloc, remove_many(&mut maps.map, keys) as u128),
-        "run_many" => run_many(alloc, maps.memory, &mut maps.map, keys),
+        "run_many" => run_many(alloc, maps.memory, &mut maps.map, "insert", keys),
+        "run_entries_many" => run_many(alloc, maps.memory, &mut maps.map, "entry_insert", keys),
         _ => no_call(alloc),
     }
 }

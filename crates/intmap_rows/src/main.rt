@@ -7,11 +7,13 @@
 mod block;
 mod call;
 mod cell;
+mod entries;
 mod kinds;
 mod many;
 mod maps;
 mod refused;
 mod report;
+mod retained;
 mod row;
 mod runs;
 mod session;

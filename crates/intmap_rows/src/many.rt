@@ -3,6 +3,7 @@
 use crate::maps::Map;
 use crate::text::refusal_text;
 use intmap::Refused;
+use intmap::entry::Entry;
 use std::alloc::{AllocError, Global};
 
 /// So many keys from a first one on, each so far behind the one before it, wrapped to 64 bits.
@@ -35,6 +36,10 @@ pub enum Insertion {
     Over,
     /// That which leaves a bound key.
     Checked,
+    /// That by an entry, which writes the value of a bound key in its place.
+    ByEntry,
+    /// That by an entry which leaves a bound key.
+    OrInsert,
 }
 
 impl Insertion {
@@ -43,8 +48,31 @@ impl Insertion {
         match self {
             Insertion::Over => Ok(map.insert(key, value_of(key))?.is_none()),
             Insertion::Checked => map.insert_checked(key, value_of(key)),
+            Insertion::ByEntry => insert_by_entry(map, key),
+            Insertion::OrInsert => or_insert(map, key),
         }
     }
+}
+
+// sets the value of the key by its entry; answers whether it was new
+fn insert_by_entry(map: &mut Map<'_>, key: u64) -> Result<bool, Refused<u64>> {
+    match map.entry(key) {
+        Entry::Occupied(mut entry) => {
+            let _old = entry.insert(value_of(key));
+            Ok(false)
+        }
+        Entry::Vacant(entry) => {
+            let _value = entry.insert(value_of(key))?;
+            Ok(true)
+        }
+    }
+}
+
+// has the key bound by its entry; answers whether it was new
+fn or_insert(map: &mut Map<'_>, key: u64) -> Result<bool, Refused<u64>> {
+    let before = map.len();
+    let _value = map.entry(key).or_insert(value_of(key))?;
+    Ok(map.len() != before)
 }
 
 /// Inserts each key with ten more. Says how many were new, and behind each length at which the
@@ -97,15 +125,40 @@ pub fn remove_many(map: &mut Map<'_>, keys: Keys) -> u64 {
     taken
 }
 
-/// How many pairs a walk has, and a sum that tells their order: it begins at 0, and each key, and
-/// then its value, is added to 31 times what there is, wrapped to 64 bits.
-pub fn walk_sum(alloc: Global, map: &Map<'_>) -> Result<String, AllocError> {
-    let mut pairs = 0u64;
-    let mut sum = 0u64;
-    for (key, value) in map.iter() {
-        pairs = pairs.wrapping_add(1);
-        sum = sum.wrapping_mul(31).wrapping_add(*key);
-        sum = sum.wrapping_mul(31).wrapping_add(*value);
+/// How many pairs there were, and a sum that tells their order: it begins at 0, and the number of
+/// each key, and then its value, is added to 31 times what there is, wrapped to 64 bits.
+#[derive(Clone, Copy)]
+pub struct WalkSum {
+    pairs: u64,
+    sum: u64,
+}
+
+impl WalkSum {
+    /// Of no pair.
+    pub fn new() -> WalkSum {
+        WalkSum { pairs: 0, sum: 0 }
     }
-    format!(in alloc; "{pairs} pairs, sum {sum}")
+
+    /// With one pair more.
+    pub fn add(&mut self, number: u64, value: u64) {
+        self.pairs = self.pairs.wrapping_add(1);
+        self.sum = self.sum.wrapping_mul(31).wrapping_add(number);
+        self.sum = self.sum.wrapping_mul(31).wrapping_add(value);
+    }
+
+    /// The two as text.
+    pub fn text(self, alloc: Global) -> Result<String, AllocError> {
+        let pairs = self.pairs;
+        let sum = self.sum;
+        format!(in alloc; "{pairs} pairs, sum {sum}")
+    }
+}
+
+/// How many pairs a walk has, and their sum.
+pub fn walk_sum(alloc: Global, map: &Map<'_>) -> Result<String, AllocError> {
+    let mut seen = WalkSum::new();
+    for (key, value) in map.iter() {
+        seen.add(*key, *value);
+    }
+    seen.text(alloc)
 }

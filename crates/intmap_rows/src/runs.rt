@@ -1,9 +1,12 @@
 //! Lists of commands, run by one call.
 ghost use Rattle.std.specs.Prelude.{◌≡◌, ◌%◌, ◌==◌};
 
+use crate::call::no_call;
 use crate::many::{Keys, value_of};
 use crate::maps::Map;
-use crate::text::{bool_text, done_text, number_text, option_text, pairs_text, refusal_text};
+use crate::text::{
+    back_text, bool_text, done_text, fresh_text, number_text, option_text, pairs_text, refusal_text,
+};
 use crate::word::words_of;
 use intmap_run::{Answer, Command, Judge, run};
 use refuser::Refuser;
@@ -51,6 +54,7 @@ fn bare(name: &str) -> Option<Command<u64, u64>> {
         "len" => Some(Command::Len),
         "is_empty" => Some(Command::IsEmpty),
         "clear" => Some(Command::Clear),
+        "retain" => Some(Command::Retain),
         "capacity" => Some(Command::Capacity),
         "load" => Some(Command::Load),
         "walk" => Some(Command::Walk),
@@ -64,6 +68,7 @@ fn with_number(name: &str, number: u64) -> Option<Command<u64, u64>> {
         "get" => Some(Command::Get(number)),
         "contains_key" => Some(Command::ContainsKey(number)),
         "remove" => Some(Command::Remove(number)),
+        "entry_remove" => Some(Command::EntryRemove(number)),
         "reserve" => Some(Command::Reserve(number as usize)),
         "set_load_factor" => Some(Command::SetLoadFactor(number as usize)),
         _ => None,
@@ -75,6 +80,8 @@ fn with_pair(name: &str, key: u64, value: u64) -> Option<Command<u64, u64>> {
     match name {
         "insert" => Some(Command::Insert(key, value)),
         "insert_checked" => Some(Command::InsertChecked(key, value)),
+        "get_mut" => Some(Command::GetMut(key, value)),
+        "entry_insert" => Some(Command::EntryInsert(key, value)),
         _ => None,
     }
 }
@@ -101,18 +108,22 @@ pub fn run_all<'a>(
     }
 }
 
-/// Binds each key to ten more by a run of one command for each, and a walk behind them. Says how many
-/// keys were new and how many pairs the walk has, or that the commands came back.
+/// Binds each key to ten more by a run of one command of this name for each, and a walk behind them.
+/// Says how many keys were new and how many pairs the walk has, or that the commands came back.
 pub fn run_many<'a>(
     alloc: Global,
     memory: &'a Refuser<Global>,
     map: &mut Map<'a>,
+    name: &str,
     keys: Keys,
 ) -> Result<String, AllocError> {
     let mut commands = Vec::new(memory);
     for place in 0..keys.count {
         let key = keys.at(place);
-        commands.push(Command::Insert(key, value_of(key)))?;
+        let Some(command) = with_pair(name, key, value_of(key)) else {
+            return no_call(alloc);
+        };
+        commands.push(command)?;
     }
     commands.push(Command::Walk)?;
     match run(memory, map, commands, &OddJudge) {
@@ -130,7 +141,7 @@ fn counts_of(
     let mut walked = 0usize;
     for answer in answers {
         match answer {
-            Answer::Old(None) => new = new.wrapping_add(1),
+            Answer::Old(None) | Answer::Fresh => new = new.wrapping_add(1),
             Answer::Walk(pairs) => walked = walked.wrapping_add(pairs.len()),
             _ => {}
         }
@@ -157,6 +168,8 @@ fn text_of(
 ) -> Result<String, AllocError> {
     match answer {
         Answer::Old(value) | Answer::Seen(value) => option_text(alloc, *value),
+        Answer::Back(value) => back_text(alloc, *value),
+        Answer::Fresh => fresh_text(alloc),
         Answer::Done => done_text(alloc, Ok(())),
         Answer::Flag(is_so) => bool_text(alloc, *is_so),
         Answer::Number(number) => number_text(alloc, *number),

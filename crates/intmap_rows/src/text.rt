@@ -31,6 +31,16 @@ pub fn done_text(alloc: Global, called: Result<(), Cause>) -> Result<String, All
     }
 }
 
+/// `back` and the value, which has no place.
+pub fn back_text(alloc: Global, value: u64) -> Result<String, AllocError> {
+    format!(in alloc; "back {value}")
+}
+
+/// `fresh`: the key was new.
+pub fn fresh_text(alloc: Global) -> Result<String, AllocError> {
+    String::from_str(alloc, "fresh")
+}
+
 /// That a call was refused, with the value that came back.
 pub fn refusal_text(alloc: Global, cause: Cause, value: Option<u64>) -> Result<String, AllocError> {
     let cause = cause_name(cause);

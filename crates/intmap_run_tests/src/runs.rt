@@ -1,5 +1,5 @@
 //! Runs over texts: a judge that sees something else than values, and values that come back.
-ghost use Rattle.std.specs.Prelude.{◌≡◌, true, string_len};
+ghost use Rattle.std.specs.Prelude.{◌≡◌, ◌%◌, ◌==◌, string_len};
 
 use intmap::IntMap;
 use intmap_run::{Answer, Command, Judge, run};
@@ -7,7 +7,7 @@ use refuser::Refuser;
 use std::alloc::{AllocError, Global};
 use std::test::Fail;
 
-/// Sees how long a text is, and keeps every pair.
+/// Sees how long a text is, and keeps those of an even length.
 struct Lengths;
 
 impl Judge<u64, String> for Lengths {
@@ -15,14 +15,14 @@ impl Judge<u64, String> for Lengths {
 
     ghost sees = { λ _ value seen. seen ≡ string_len value };
 
-    ghost keeps = { λ _ key value. true };
+    ghost keeps = { λ _ key value. (string_len value % 2) == 0 };
 
     fn look(&self, value: &String) -> usize {
         value.len()
     }
 
-    fn keep(&self, _key: u64, _value: &String) -> bool {
-        true
+    fn keep(&self, _key: u64, value: &String) -> bool {
+        value.len() % 2 == 0
     }
 }
 
@@ -42,7 +42,31 @@ fn commands<'a>(alloc: Global, memory: &'a Refuser<Global>) -> Result<Commands<'
     ] {
         commands.push(command)?;
     }
+    push_entries(alloc, &mut commands)?;
     Ok(commands)
+}
+
+// puts commands behind them that write texts in their places and insert by entries
+fn push_entries(alloc: Global, commands: &mut Commands<'_>) -> Result<(), AllocError> {
+    for (key, text) in [(4, "ghij"), (9, "k")] {
+        commands.push(Command::GetMut(key, String::from_str(alloc, text)?))?;
+    }
+    for (key, text) in [(8, "lm"), (12, "n"), (4, "op")] {
+        commands.push(Command::EntryInsert(key, String::from_str(alloc, text)?))?;
+    }
+    for command in [Command::Retain, Command::Walk, Command::EntryRemove(8)] {
+        commands.push(command)?;
+    }
+    Ok(())
+}
+
+// the key and the text of a command that has both
+fn pair_of(command: Command<u64, String>) -> Option<(u64, String)> {
+    match command {
+        Command::Insert(key, text) | Command::GetMut(key, text) | Command::EntryInsert(key, text) =>
+            Some((key, text)),
+        _ => None,
+    }
 }
 
 // an answer as text
@@ -53,9 +77,12 @@ fn said(
     match answer {
         Answer::Old(old) => format!(in alloc; "old {old:?}"),
         Answer::Seen(seen) => format!(in alloc; "seen {seen:?}"),
+        Answer::Back(value) => format!(in alloc; "back {value}"),
+        Answer::Fresh => String::from_str(alloc, "fresh"),
+        Answer::Done => String::from_str(alloc, "done"),
         Answer::Walk(pairs) => format!(in alloc; "walk {:?}", pairs.as_slice()),
         Answer::Refused { cause, value } => format!(in alloc; "refused {cause:?} {value:?}"),
-        Answer::Done | Answer::Flag(_) | Answer::Number(_) => String::from_str(alloc, "not asked"),
+        Answer::Flag(_) | Answer::Number(_) => String::from_str(alloc, "not asked"),
     }
 }
 
@@ -74,7 +101,7 @@ fn told(alloc: Global, number: u64) -> Result<String, Fail> {
         }
         Err(returned) => {
             for command in returned {
-                if let Command::Insert(key, text) = command {
+                if let Some((key, text)) = pair_of(command) {
                     writeln!(told, "back {key} {text}")?;
                 }
             }
@@ -87,6 +114,11 @@ const TOLD: &str = "\
 back 0 a
 back 4 bcd
 back 4 ef
+back 4 ghij
+back 9 k
+back 8 lm
+back 12 n
+back 4 op
 old None
 refused Memory Some(\"bcd\")
 old None
@@ -94,6 +126,14 @@ seen Some(2)
 walk [(0, 1), (4, 2)]
 old Some(\"a\")
 walk [(4, 2)]
+old Some(\"ef\")
+back k
+fresh
+fresh
+old Some(\"ghij\")
+done
+walk [(4, 2), (8, 2)]
+old Some(\"lm\")
 old None
 old None
 old Some(\"bcd\")
@@ -101,12 +141,35 @@ seen Some(2)
 walk [(0, 1), (4, 2)]
 old Some(\"a\")
 walk [(4, 2)]
+old Some(\"ef\")
+back k
+fresh
+refused Memory Some(\"n\")
+old Some(\"ghij\")
+done
+walk [(4, 2), (8, 2)]
+old Some(\"lm\")
+old None
+old None
+old Some(\"bcd\")
+seen Some(2)
+walk [(0, 1), (4, 2)]
+old Some(\"a\")
+walk [(4, 2)]
+old Some(\"ef\")
+back k
+fresh
+fresh
+old Some(\"ghij\")
+done
+walk [(4, 2), (8, 2)]
+old Some(\"lm\")
 ";
 
 #[test]
 fn texts_come_back_and_a_judge_sees_their_lengths(rt: HostRuntime) -> Result<(), Fail> {
     let mut all = String::new(rt.alloc());
-    for number in [1, 2, 0] {
+    for number in [1, 2, 5, 0] {
         all.push_str(told(rt.alloc(), number)?.as_str())?;
     }
     assert_eq!(rt; all.as_str(), TOLD);

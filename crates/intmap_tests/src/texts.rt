@@ -21,6 +21,8 @@ struct Start {
 enum Call {
     /// `insert` of a key that isn't bound.
     Insert(u64),
+    /// `or_insert` by the entry of a key that isn't bound.
+    OrInsert(u64),
     /// `reserve`.
     Reserve(usize),
     /// `set_load_factor`.
@@ -61,6 +63,10 @@ fn said(alloc: Global, map: &mut Texts<'_>, call: Call) -> Result<String, AllocE
             Ok(old) => format!(in alloc; "{old:?}"),
             Err(Refused { value, cause }) => format!(in alloc; "{value}: {cause:?}"),
         },
+        Call::OrInsert(key) => match map.entry(key).or_insert(text_of(alloc, key)?) {
+            Ok(text) => format!(in alloc; "{text:?}"),
+            Err(Refused { value, cause }) => format!(in alloc; "{value}: {cause:?}"),
+        },
         Call::Reserve(additional) => format!(in alloc; "{:?}", map.reserve(additional)),
         Call::SetLoadFactor(factor) => format!(in alloc; "{:?}", map.set_load_factor(factor)),
     }
@@ -89,12 +95,14 @@ fn told(alloc: Global, start: Start, call: Call) -> Result<String, Fail> {
     Ok(refusal)
 }
 
-const CALLS: [(usize, usize, &[u64], Call); 14] = [
+const CALLS: [(usize, usize, &[u64], Call); 16] = [
     (4, 909, &[0], Call::Insert(4)),
     (4, 909, &[0, 4], Call::Insert(8)),
     (4, 909, &[0, 1, 2], Call::Insert(3)),
     (4, 909, &[0, 4, 8], Call::Insert(12)),
     (4, 909, &[0, 8, 16], Call::Insert(24)),
+    (4, 909, &[0], Call::OrInsert(4)),
+    (4, 909, &[0, 4, 8], Call::OrInsert(12)),
     (4, 909, &[], Call::Reserve(15)),
     (4, 909, &[0, 1, 2], Call::Reserve(15)),
     (4, 909, &[0, 16, 32], Call::Reserve(15)),
@@ -122,6 +130,10 @@ then None; text 0, text 2, text 1, text 3, 8 slots, factor 909
 then None; text 0, text 8, text 4, text 12, 8 slots, factor 909
 4 times text 24: Memory; text 0, text 8, text 16, 4 slots, factor 909
 then None; text 0, text 8, text 16, text 24, 8 slots, factor 909
+1 times text 4: Memory; text 0, 4 slots, factor 909
+then \"text 4\"; text 0, text 4, 4 slots, factor 909
+5 times text 12: Memory; text 0, text 4, text 8, 4 slots, factor 909
+then \"text 12\"; text 0, text 8, text 4, text 12, 8 slots, factor 909
 3 times Err(Memory); 4 slots, factor 909
 then Ok(()); 16 slots, factor 909
 3 times Err(Memory); text 0, text 1, text 2, 4 slots, factor 909

@@ -1,0 +1,153 @@
+//! Calls that write a value in its place, and calls by an entry.
+
+use crate::call::no_call;
+use crate::maps::MapOf;
+use crate::text::{back_text, done_text, fresh_text, number_text, option_text, refusal_text};
+use intmap::entry::Entry;
+use intmap::{IntKey, Refused};
+use refuser::Refuser;
+use std::alloc::{AllocError, Global};
+use std::fmt::Display;
+use std::mem;
+
+/// An entry of a map whose requests for memory can be refused.
+type EntryOf<'m, 'a, K> = Entry<'m, K, u64, &'a Refuser<Global>>;
+
+/// The answer to a call by an entry that needs no value.
+pub fn with_entry<K: IntKey + Display>(
+    alloc: Global,
+    map: &mut MapOf<'_, K>,
+    name: &str,
+    key: K,
+) -> Result<String, AllocError> {
+    match name {
+        "entry" => entry_text(alloc, &map.entry(key)),
+        "entry_key" => {
+            let key = *map.entry(key).key();
+            format!(in alloc; "{key}")
+        }
+        "entry_forget" => {
+            mem::forget(map.entry(key));
+            done_text(alloc, Ok(()))
+        }
+        "entry_remove" => option_text(alloc, remove(map, key)),
+        _ => no_call(alloc),
+    }
+}
+
+/// The answer to a call that writes a value, or puts one in, and has a reference to it.
+pub fn with_reference<K: IntKey>(
+    alloc: Global,
+    map: &mut MapOf<'_, K>,
+    name: &str,
+    key: K,
+    value: u64,
+) -> Result<String, AllocError> {
+    match name {
+        "get_mut" => written_text(alloc, write(map, key, value), value),
+        "entry_get_mut" => written_text(alloc, write_by_entry(map, key, value), value),
+        "entry_insert" => insert(alloc, map, key, value),
+        "entry_add" => add(alloc, value_or_zero(map.entry(key)), value),
+        "or_insert" => add(alloc, map.entry(key).or_insert(value), 0),
+        "or_insert_add" => add(alloc, map.entry(key).or_insert(0), value),
+        "and_modify" => add(alloc, more_or(map.entry(key), value), 0),
+        _ => no_call(alloc),
+    }
+}
+
+// which entry it is, with its key, and its value where there is one
+fn entry_text<K: IntKey + Display>(
+    alloc: Global,
+    entry: &EntryOf<'_, '_, K>,
+) -> Result<String, AllocError> {
+    match entry {
+        Entry::Occupied(entry) => {
+            let key = entry.key();
+            let value = entry.get();
+            format!(in alloc; "occupied {key}: {value}")
+        }
+        Entry::Vacant(entry) => {
+            let key = entry.key();
+            format!(in alloc; "vacant {key}")
+        }
+    }
+}
+
+// takes the pair of the key out, where it has one
+fn remove<K: IntKey>(map: &mut MapOf<'_, K>, key: K) -> Option<u64> {
+    match map.entry(key) {
+        Entry::Occupied(entry) => Some(entry.remove()),
+        Entry::Vacant(_entry) => None,
+    }
+}
+
+// sets the value of the key
+fn insert<K: IntKey>(
+    alloc: Global,
+    map: &mut MapOf<'_, K>,
+    key: K,
+    value: u64,
+) -> Result<String, AllocError> {
+    match map.entry(key) {
+        Entry::Occupied(mut entry) => option_text(alloc, Some(entry.insert(value))),
+        Entry::Vacant(entry) => match entry.insert(value) {
+            Ok(_) => fresh_text(alloc),
+            Err(refused) => refusal_text(alloc, refused.cause, Some(refused.value)),
+        },
+    }
+}
+
+// the value of the key, 0 where it had none
+fn value_or_zero<'m, K: IntKey>(entry: EntryOf<'m, '_, K>) -> Result<&'m mut u64, Refused<u64>> {
+    match entry {
+        Entry::Occupied(entry) => Ok(entry.into_mut()),
+        Entry::Vacant(entry) => entry.insert(0),
+    }
+}
+
+// the value of the key with so much added, or so much where it had none
+fn more_or<'m, K: IntKey>(
+    entry: EntryOf<'m, '_, K>,
+    more: u64,
+) -> Result<&'m mut u64, Refused<u64>> {
+    entry
+        .and_modify(|value| *value = value.wrapping_add(more))
+        .or_insert(more)
+}
+
+// writes the value of the key; answers the one before
+fn write<K: IntKey>(map: &mut MapOf<'_, K>, key: K, value: u64) -> Option<u64> {
+    let place = map.get_mut(key)?;
+    Some(mem::replace(place, value))
+}
+
+// the same by an entry
+fn write_by_entry<K: IntKey>(map: &mut MapOf<'_, K>, key: K, value: u64) -> Option<u64> {
+    match map.entry(key) {
+        Entry::Occupied(mut entry) => Some(mem::replace(entry.get_mut(), value)),
+        Entry::Vacant(_entry) => None,
+    }
+}
+
+// the value before, or the one that found no place
+fn written_text(alloc: Global, old: Option<u64>, value: u64) -> Result<String, AllocError> {
+    match old {
+        Some(_) => option_text(alloc, old),
+        None => back_text(alloc, value),
+    }
+}
+
+// adds to a value in its place, wrapped to 64 bits
+fn add(
+    alloc: Global,
+    place: Result<&mut u64, Refused<u64>>,
+    more: u64,
+) -> Result<String, AllocError> {
+    match place {
+        Ok(place) => {
+            *place = place.wrapping_add(more);
+            number_text(alloc, *place as u128)
+        }
+        Err(refused) => refusal_text(alloc, refused.cause, Some(refused.value)),
+    }
+}

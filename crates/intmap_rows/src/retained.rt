@@ -1,0 +1,50 @@
+//! Calls that keep some of the pairs.
+
+use crate::call::seen;
+use crate::many::WalkSum;
+use crate::maps::MapOf;
+use crate::text::{done_text, number_text};
+use intmap::IntKey;
+use std::alloc::{AllocError, Global};
+use std::fmt::Display;
+
+/// The answer to a call that keeps some of the pairs, or that only looks at them.
+pub fn retain<K: IntKey + Display>(
+    alloc: Global,
+    map: &mut MapOf<'_, K>,
+    name: &str,
+) -> Result<String, AllocError> {
+    match name {
+        "retain" => {
+            map.retain(|_, value| *value % 2 == 1);
+            done_text(alloc, Ok(()))
+        }
+        "retain_odd" => {
+            map.retain(|key, _| key.number() % 2 == 1);
+            done_text(alloc, Ok(()))
+        }
+        "retain_alternate" => number_text(alloc, retain_alternate(map) as u128),
+        "retain_all" => retain_all(map).text(alloc),
+        _ => seen(alloc, map, name),
+    }
+}
+
+// keeps the first, the third, the fifth pair, and so on; answers how many there were
+fn retain_alternate<K: IntKey>(map: &mut MapOf<'_, K>) -> u64 {
+    let mut asked = 0u64;
+    map.retain(|_, _| {
+        asked = asked.wrapping_add(1);
+        asked % 2 == 1
+    });
+    asked
+}
+
+// keeps each pair; answers which there were, in the order in which the closure was called
+fn retain_all<K: IntKey>(map: &mut MapOf<'_, K>) -> WalkSum {
+    let mut seen = WalkSum::new();
+    map.retain(|key, value| {
+        seen.add(key.number(), *value);
+        true
+    });
+    seen
+}
