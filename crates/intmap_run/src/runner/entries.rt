@@ -1,6 +1,6 @@
 //! What commands do by entries, and their answers.
 ghost use Rattle.std.specs.Prelude.{◌≡◌};
-ghost use Rattle.intmap.specs.declared.entry.Entry.TheVariants.{Occupied, Vacant};
+ghost use Rattle.intmap.specs.declared.entry.Entry.TheVariants.{Occupied};
 ghost use Rattle.intmap.specs.Entries.{entry_map};
 ghost use Rattle.intmap.specs.Map.{IsMap};
 ghost use Rattle.intmap_run.specs.declared.command.Command.TheVariants as command;
@@ -9,7 +9,7 @@ ghost use Rattle.intmap_run.specs.Steps.{StepsFrom};
 use crate::answer::Answer;
 use crate::judge::Judge;
 use crate::runner::handed_back;
-use intmap::entry::{Entry, OccupiedEntry, VacantEntry};
+use intmap::entry::{Entry, OccupiedEntry};
 use intmap::{IntKey, IntMap};
 use std::alloc::Allocator;
 
@@ -47,10 +47,7 @@ pub(crate) fn entry_remove<K: IntKey, V: Drop, J: Judge<K, V>, A: Allocator + Co
 {
     match map.entry(key) {
         Entry::Occupied(entry) => Answer::Old(Some(entry.remove())),
-        Entry::Vacant(entry) => {
-            leave_vacant(entry);
-            Answer::Old(None)
-        }
+        Entry::Vacant(_entry) => Answer::Old(None),
     }
 }
 
@@ -58,9 +55,4 @@ pub(crate) fn entry_remove<K: IntKey, V: Drop, J: Judge<K, V>, A: Allocator + Co
 // where any type may be that of the keys, nothing is known of a map whose entry is only dropped
 fn leave_occupied<K: IntKey, V, A: Allocator + Copy>(entry: OccupiedEntry<'_, K, V, A>)
     ensures { entry.exit.0.now ≡ entry_map (Occupied entry.entry) }
-{}
-
-/// Ends the entry, and gives the map back as it is now.
-fn leave_vacant<K: IntKey, V, A: Allocator + Copy>(entry: VacantEntry<'_, K, V, A>)
-    ensures { entry.exit.0.now ≡ entry_map (Vacant entry.entry) }
 {}

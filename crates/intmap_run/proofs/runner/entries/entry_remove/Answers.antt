@@ -14,4 +14,4 @@ returns-in-Vacant-clause-step g c =
     let e = c.in-Vacant.ensures in
     λ judge. StepsFrom-equal g.K.IntKey.number_of (g.J.Judge.sees judge) (g.J.Judge.keeps judge) c.args.map.now _ _ _ _
     (StepsFrom-not_removed g.K.IntKey.number_of g.K.IntKey.is_key c.args.map.now e.map (g.J.Judge.sees judge) (g.J.Judge.keeps judge) c.args.key
-    c.in-Vacant.entry.key c.in-Vacant.entry.map.now e.state e.key c.in-Vacant.entry.missing) (search rules)
+    c.in-Vacant._entry.key c.in-Vacant._entry.map.now e.state e.key c.in-Vacant._entry.missing) (search rules)
