@@ -105,7 +105,7 @@ fn a_value_is_dropped_where_another_is_written_or_its_pair_goes(
     let value = numbered(4, &drops);
     let old = match map.entry(4) {
         Entry::Occupied(mut entry) => Ok(entry.insert(value)),
-        Entry::Vacant(_) => Err(value),
+        Entry::Vacant(_entry) => Err(value),
     };
     assert_eq!(rt; drops.get(), 0x00000, "value 1 was handed back");
     assert_eq!(rt; old.is_ok(), true, "key 4 is bound");
