@@ -64,9 +64,9 @@ impl<'a, K: IntKey, V, A: Allocator + Copy> Entry<'a, K, V, A> {
     pub fn or_insert(self, value: V) -> Result<&'a mut V, Refused<V>>
     where
         V: Drop,
+        // what is answered and left
         ensures* writes_back { sem 𝓛 (entry_lends_ok K.row V.row A.row A.Allocator
             self.entry result) }
-        // what is answered and left
         ensures value { IfOk result (λ r. r.now ≡ unwrap_or (entry_value self.entry) value) }
         ensures updates { OnOk result ((v : V) → Updates K.number_of (entry_map self.entry).walk
             (map_with_value self.entry v).walk (entry_key self.entry) (Some v)) }

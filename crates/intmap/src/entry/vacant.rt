@@ -26,9 +26,9 @@ impl<'a, K: IntKey, V: Drop, A: Allocator + Copy> VacantEntry<'a, K, V, A> {
     /// written. It grows the table where [`IntMap::insert`](crate::IntMap::insert) of a new key
     /// does, and is refused where that is; a refusal hands the value back and leaves the map.
     pub fn insert(self, value: V) -> Result<&'a mut V, Refused<V>>
+        // what is answered and left
         ensures* writes_back { sem 𝓛 (entry_lends_ok K.row V.row A.row A.Allocator
             (Vacant self.entry) result) }
-        // what is answered and left
         ensures value { IfOk result (λ r. r.now ≡ value) }
         ensures capacity { OnOk result (IsNext (entry_state (Vacant self.entry)).capacity
             (length (entry_state (Vacant self.entry)).pairs + 1)
