@@ -36,3 +36,69 @@ impl<'a, K: IntKey, V, A: Allocator + Copy> Iterator for Iter<'a, K, V, A> {
         Some((key, &kept.value))
     }
 }
+
+/// The keys of a map by reference, made by [`IntMap::keys`](crate::IntMap::keys). Contracts see it as
+/// the list of the keys that are left.
+#[derive(Drop)]
+pub struct Keys<'a, K: IntKey, V, A: Allocator + Copy = Global> {
+    pub(crate) pairs: Iter<'a, K, V, A>,
+}
+
+impl<'a, K: IntKey, V, A: Allocator + Copy> Model for Keys<'a, K, V, A> {
+    ghost use Rattle.std.specs.Prelude.{List};
+    ghost use Rattle.std.specs.Map.{keys_of};
+
+    ghost Value = { List K };
+
+    ghost view = { λ it. keys_of it.pairs };
+}
+
+impl<'a, K: IntKey, V, A: Allocator + Copy> Iterator for Keys<'a, K, V, A> {
+    type Item = &'a K;
+
+    ghost next_gives = { YieldsFirstBy (λ key. key.now) (λ rest. rest) };
+
+    ghost remaining = { item_count (λ rest. rest) };
+
+    fn next(&mut self) -> Option<&'a K> {
+        let (key, _) = self.pairs.next()?;
+        Some(key)
+    }
+
+    fn size_hint(&self) -> (usize, Option<usize>) {
+        self.pairs.size_hint()
+    }
+}
+
+/// The values of a map by reference, made by [`IntMap::values`](crate::IntMap::values). Contracts see
+/// it as the list of the values that are left.
+#[derive(Drop)]
+pub struct Values<'a, K: IntKey, V, A: Allocator + Copy = Global> {
+    pub(crate) pairs: Iter<'a, K, V, A>,
+}
+
+impl<'a, K: IntKey, V, A: Allocator + Copy> Model for Values<'a, K, V, A> {
+    ghost use Rattle.std.specs.Prelude.{List};
+    ghost use Rattle.std.specs.Map.{values_of};
+
+    ghost Value = { List V };
+
+    ghost view = { λ it. values_of it.pairs };
+}
+
+impl<'a, K: IntKey, V, A: Allocator + Copy> Iterator for Values<'a, K, V, A> {
+    type Item = &'a V;
+
+    ghost next_gives = { YieldsFirstBy (λ value. value.now) (λ rest. rest) };
+
+    ghost remaining = { item_count (λ rest. rest) };
+
+    fn next(&mut self) -> Option<&'a V> {
+        let (_, value) = self.pairs.next()?;
+        Some(value)
+    }
+
+    fn size_hint(&self) -> (usize, Option<usize>) {
+        self.pairs.size_hint()
+    }
+}

@@ -1,5 +1,6 @@
 //! The map: a table of slots, the number of its pairs and its load factor.
 ghost use Rattle.std.specs.Prelude.{◌≡◌, ◌==◌, length};
+ghost use Rattle.std.specs.Map.{keys_of, values_of};
 ghost use Rattle.intmap.specs.Figures.{load_of};
 ghost use Rattle.intmap.specs.Map.{IsMap};
 
@@ -12,7 +13,7 @@ mod locate;
 mod remove;
 mod retain;
 
-use crate::iter::Iter;
+use crate::iter::{Iter, Keys, Values};
 use crate::kept::Kept;
 use crate::key::IntKey;
 use crate::steps::Steps;
@@ -110,5 +111,35 @@ impl<K: IntKey, V, A: Allocator + Copy> IntMap<K, V, A> {
         Iter {
             pairs: self.table.pairs(),
         }
+    }
+
+    /// The keys by reference, in the order of the walk. It is never refused, and nor is a step of the
+    /// iterator.
+    pub fn keys(&self) -> Keys<'_, K, V, A>
+        ensures walk { result ≡ keys_of self.now.walk }
+        ensures map { IsMap K.number_of K.is_key self.now }
+    {
+        Keys { pairs: self.iter() }
+    }
+
+    /// The values by reference, in the order of the walk. It is never refused, and nor is a step of
+    /// the iterator.
+    pub fn values(&self) -> Values<'_, K, V, A>
+        ensures walk { result ≡ values_of self.now.walk }
+        ensures map { IsMap K.number_of K.is_key self.now }
+    {
+        Values { pairs: self.iter() }
+    }
+}
+
+impl<'a, K: IntKey, V, A: Allocator + Copy> IntoIterator for &'a IntMap<K, V, A> {
+    type Item = (&'a K, &'a V);
+
+    type IntoIter = Iter<'a, K, V, A>;
+
+    ghost into_iter_gives = { λ map it. it ≡ map.now.walk };
+
+    fn into_iter(self) -> Iter<'a, K, V, A> {
+        self.iter()
     }
 }

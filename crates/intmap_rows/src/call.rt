@@ -6,7 +6,8 @@ use crate::maps::{MapOf, Maps};
 use crate::retained::retain;
 use crate::runs::run_many;
 use crate::text::{
-    bool_text, done_text, number_text, option_text, refusal_text, state_text, walk_text,
+    bool_text, done_text, keys_text, number_text, option_text, refusal_text, state_text,
+    values_text, walk_text,
 };
 use crate::word::words_of;
 use intmap::steps::Steps;
@@ -52,6 +53,7 @@ fn bare(alloc: Global, maps: &mut Maps<'_>, name: &str) -> Result<String, AllocE
             done_text(alloc, Ok(()))
         }
         "left" => number_text(alloc, maps.memory.left() as u128),
+        "values" => values_text(alloc, &maps.map),
         "walk_sum" => walk_sum(alloc, &maps.map),
         _ => without_key(alloc, &mut maps.map, name),
     }
@@ -85,6 +87,7 @@ pub fn seen<K: IntKey + Display>(
         "load" => number_text(alloc, map.load() as u128),
         "get_load_factor" => number_text(alloc, map.get_load_factor() as u128),
         "walk" => walk_text(alloc, map),
+        "keys" => keys_text(alloc, map),
         "state" => state_text(alloc, map),
         _ => no_call(alloc),
     }

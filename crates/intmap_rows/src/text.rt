@@ -69,16 +69,48 @@ pub fn pairs_text<K: Display>(alloc: Global, pairs: &[(K, u64)]) -> Result<Strin
     Ok(text)
 }
 
+/// Keys or values in brackets, in their order.
+fn list_text<T: Display>(alloc: Global, items: &[T]) -> Result<String, AllocError> {
+    let mut text = String::from_str(alloc, "[")?;
+    for (index, item) in items.iter().enumerate() {
+        let before = if index == 0 { "" } else { ", " };
+        write!(text, "{before}{item}")?;
+    }
+    text.push(']')?;
+    Ok(text)
+}
+
 /// The pairs of a map in braces, in the order of its walk.
 pub fn walk_text<K: IntKey + Display>(
     alloc: Global,
     map: &MapOf<'_, K>,
 ) -> Result<String, AllocError> {
     let mut pairs = Vec::new(alloc);
-    for (key, value) in map.iter() {
+    for (key, value) in map {
         pairs.push((*key, *value))?;
     }
     pairs_text(alloc, pairs.as_slice())
+}
+
+/// The keys of a map in brackets, in the order of its walk.
+pub fn keys_text<K: IntKey + Display>(
+    alloc: Global,
+    map: &MapOf<'_, K>,
+) -> Result<String, AllocError> {
+    let mut keys = Vec::new(alloc);
+    for key in map.keys() {
+        keys.push(*key)?;
+    }
+    list_text(alloc, keys.as_slice())
+}
+
+/// The values of a map in brackets, in the order of its walk.
+pub fn values_text(alloc: Global, map: &MapOf<'_, u64>) -> Result<String, AllocError> {
+    let mut values = Vec::new(alloc);
+    for value in map.values() {
+        values.push(*value)?;
+    }
+    list_text(alloc, values.as_slice())
 }
 
 /// All that a map shows of itself.
