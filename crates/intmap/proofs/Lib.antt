@@ -16,6 +16,8 @@ pub mod BitsLemmas
 pub mod PlacesLemmas
 pub mod RetainLemmas
 pub mod RetainSlotsLemmas
+pub mod FrontLemmas
+pub mod DrainLemmas
 pub mod KeepLemmas
 pub mod MappedLemmas
 pub mod MoveLemmas

@@ -35,14 +35,16 @@ module _ {P : Type 0} where
       joined-drop i R ∙ ap (λ row. row ++ joined (drop (suc i) R)) (empty i (omega arith) (omega arith))
       ∙ joined-drop_past n (suc i) R (λ j le lt. empty j (omega (arith, le)) (omega (arith, lt))) ∙ ap (λ m. joined (drop m R)) on
 
-  joined-take_past : (n i : ℕ) (R : List (List P)) → ((j : ℕ) → i ≤ j → j < i + n → get_or R j [] ≡ []) → joined (take (i + n) R) ≡ joined (take i R)
+  -- the same of rows that were passed
+  pub joined-take_past : (n i : ℕ) (R : List (List P)) → ((j : ℕ) → i ≤ j → j < i + n → get_or R j [] ≡ []) → joined (take (i + n) R) ≡ joined (take i R)
   joined-take_past zero i R empty = rw add-zero refl
   joined-take_past (suc n) i R empty =
       let on : i + suc n ≡ suc i + n = omega arith in
       ap (λ m. joined (take m R)) on ∙ joined-take_past n (suc i) R (λ j le lt. empty j (omega (arith, le)) (omega (arith, lt)))
       ∙ joined-take i R ∙ ap (λ row. joined (take i R) ++ row) (empty i (omega arith) (omega arith)) ∙ append-nil (joined (take i R))
 
-  joined-cut : (i : ℕ) (R : List (List P)) → joined R ≡ joined (take i R) ++ joined (drop i R)
+  -- the rows before a place, and those from there on
+  pub joined-cut : (i : ℕ) (R : List (List P)) → joined R ≡ joined (take i R) ++ joined (drop i R)
   joined-cut i R = ap joined (sym (take-append-drop i R)) ∙ flat_map-append (λ row. row) (take i R) (drop i R)
 
   -- where no row holds a pair from place i on
@@ -53,7 +55,7 @@ module _ {P : Type 0} where
   joined-before i R empty = sym (joined-cut i R ∙ ap (λ Z. joined (take i R) ++ Z) (joined-none i R empty) ∙ append-nil (joined (take i R)))
 
 -- a table with the pairs of slot i changed
-IsTable-set_at : {K X : Type 0} (number : K → ℕ) (S : List (Held K X)) (i : ℕ) (s : Held K X) → IsTable number S → i < length S → All (λ p. slot_number number p.0 (length S) ≡ i) s.pairs → IsTable number (set S i s)
+pub IsTable-set_at : {K X : Type 0} (number : K → ℕ) (S : List (Held K X)) (i : ℕ) (s : Held K X) → IsTable number S → i < length S → All (λ p. slot_number number p.0 (length S) ≡ i) s.pairs → IsTable number (set S i s)
 IsTable-set_at {K} {X} number S i s table below all =
     let len : length (set S i s) ≡ length S = length-set S i s in
     let within : i < length (rows S) = omega (arith, below, length-rows S) in
@@ -69,7 +71,8 @@ IsTable-set_at {K} {X} number S i s table below all =
     }
 
 module _ {K X : Type 0} (S : List (Held K X)) (marks : List Bool) (are : AreMarked (rows S) marks) (from : ℕ) where
-  empty-unmarked : (j : ℕ) → marked marks j ≡ false → get_or (rows S) j [] ≡ []
+  -- a slot without a mark holds no pair
+  pub empty-unmarked : (j : ℕ) → marked marks j ≡ false → get_or (rows S) j [] ≡ []
   empty-unmarked j not_marked = row-none (get_or (rows S) j []) (sym (are.own j) ∙ not_marked)
 
   -- the slot at the next mark is one of the slots
@@ -82,7 +85,7 @@ module _ {K X : Type 0} (S : List (Held K X)) (marks : List Bool) (are : AreMark
   ]
 
   -- slots before the next mark hold no pair
-  empty-between : (place : ℕ) → IsNextMark marks from place → (j : ℕ) → from ≤ j → j < place → get_or (rows S) j [] ≡ []
+  pub empty-between : (place : ℕ) → IsNextMark marks from place → (j : ℕ) → from ≤ j → j < place → get_or (rows S) j [] ≡ []
   empty-between place next j le lt = empty-unmarked j (next.between j le lt)
 
   -- where there is no mark any more, R went over all

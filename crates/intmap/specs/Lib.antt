@@ -11,9 +11,11 @@ pub mod Bits
 pub mod Moves
 pub mod Map
 pub mod States
+pub mod Passing
 pub mod Retaining
 pub mod Kept
 pub mod Locations
 pub mod Written
 pub mod Lending
 pub mod Entries
+pub mod Draining

@@ -2,9 +2,14 @@
 //! front to the back.
 ghost use Rattle.std.specs.Iterator.{YieldsFirstBy, item_count};
 
+mod drain;
+mod owned;
+
 use crate::kept::Kept;
 use crate::key::IntKey;
 use crate::table::walk::Pairs;
+pub use drain::Drain;
+pub use owned::IntoIter;
 use std::alloc::{Allocator, Global};
 use std::marker::Model;
 

@@ -6,6 +6,7 @@ ghost use Rattle.intmap.specs.Map.{IsMap};
 
 mod build;
 mod clear;
+mod drain;
 mod get;
 mod grow;
 mod insert;
@@ -13,7 +14,7 @@ mod locate;
 mod remove;
 mod retain;
 
-use crate::iter::{Iter, Keys, Values};
+use crate::iter::{IntoIter, Iter, Keys, Values};
 use crate::kept::Kept;
 use crate::key::IntKey;
 use crate::steps::Steps;
@@ -141,5 +142,21 @@ impl<'a, K: IntKey, V, A: Allocator + Copy> IntoIterator for &'a IntMap<K, V, A>
 
     fn into_iter(self) -> Iter<'a, K, V, A> {
         self.iter()
+    }
+}
+
+impl<K: IntKey, V: Drop, A: Allocator + Copy> IntoIterator for IntMap<K, V, A> {
+    type Item = (K, V);
+
+    type IntoIter = IntoIter<K, V, A>;
+
+    ghost into_iter_gives = { λ map it. it ≡ map.walk };
+
+    /// The pairs by value, in the order of the walk. It is never refused, and nor is a step of the
+    /// iterator. What isn't handed out goes with the iterator.
+    fn into_iter(self) -> IntoIter<K, V, A> {
+        IntoIter {
+            pairs: self.table.into_pairs(),
+        }
     }
 }

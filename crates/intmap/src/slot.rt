@@ -218,6 +218,22 @@ impl<K: IntKey, X, A: Allocator> Slot<K, X, A> {
         }
     }
 
+    /// Takes the first pair out. The others keep their order, and the second moves up.
+    pub(crate) fn take_front(&mut self) -> (Stored<K>, X)
+        requires { 0 < length self.old.pairs }
+        ensures { self.old.pairs ≡ result ∷ self.new.pairs }
+    {
+        let second = if self.rest.is_empty() {
+            None
+        } else {
+            Some(self.rest.remove(0))
+        };
+        match mem::replace(&mut self.first, second) {
+            Some(pair) => pair,
+            None => unreachable!(),
+        }
+    }
+
     /// Takes the pair at a place out. The last pair takes its place.
     pub(crate) fn take_at(&mut self, place: usize) -> (Stored<K>, X)
         requires { place < length self.old.pairs }

@@ -1,8 +1,10 @@
 //! Slots, of which each key has one.
 
 mod bits;
+mod front;
 mod grow;
 pub(crate) mod locate;
+pub(crate) mod owned;
 mod place;
 mod retain;
 pub(crate) mod stored;

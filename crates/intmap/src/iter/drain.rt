@@ -1,0 +1,45 @@
+//! An iterator that takes the pairs of a map out.
+ghost use Rattle.std.specs.Prelude.{◌≡◌};
+ghost use Rattle.std.specs.Iterator.{item_count};
+ghost use Rattle.intmap.specs.Passing.{ArePassed};
+
+use crate::key::IntKey;
+use crate::map::IntMap;
+use std::alloc::{Allocator, Global};
+
+/// Takes one pair out of a map at each step, made by [`IntMap::drain`](crate::IntMap::drain). At
+/// every moment the map has the pairs that are still to come, and its length counts these: where
+/// the iterator ends early, or is forgotten, they stay, in their order. Letting it go is one step,
+/// however many are left.
+pub struct Drain<'a, K: IntKey, V, A: Allocator + Copy = Global> {
+    pub(crate) map: &'a mut IntMap<K, V, A>,
+    pub(crate) from: usize,
+    ghost passed: { ArePassed K.number_of map.now.walk map.now.capacity from },
+}
+
+impl<'a, K: IntKey, V: Drop, A: Allocator + Copy> Iterator for Drain<'a, K, V, A> {
+    ghost use Rattle.intmap.specs.Draining.{DrainsFirst, drain_rest};
+
+    type Item = (K, V);
+
+    ghost next_gives = { DrainsFirst };
+
+    ghost remaining = { item_count drain_rest };
+
+    fn next(&mut self) -> Option<(K, V)> {
+        self.map.take_front(&mut self.from)
+    }
+}
+
+impl<'a, K: IntKey, V, A: Allocator + Copy> Drop for Drain<'a, K, V, A> {
+    ghost use Rattle.intmap.specs.Draining.{drained_map};
+    ghost use Rattle.intmap.specs.Map.{IsMap};
+
+    fn drop(self)
+        ensures state { self.exit.0.now ≡ drained_map self.entry }
+        ensures map_after { IsMap K.number_of K.is_key self.exit.0.now }
+    {
+        let Drain { map, from: _ } = self;
+        map.known();
+    }
+}
