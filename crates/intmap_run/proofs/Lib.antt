@@ -4,6 +4,7 @@ pub mod PlacementLemmas
 pub mod MapStandLemmas
 pub mod StepLemmas
 pub mod WritingStepLemmas
+pub mod DrainStepLemmas
 pub mod GrowthStepLemmas
 pub mod RunLemmas
 pub mod ZipLemmas

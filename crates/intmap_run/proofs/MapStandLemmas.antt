@@ -1,9 +1,9 @@
 -- What a list tells that stands for a map is what the map tells.
-use Rattle.std.proofs.Common.{◌≡◌, inl, inr, ℕ, ◌+◌, ◌≤◌, Bool, cond, length, is_some, refl, sym, ap, ◌∙◌, subst, arith}
+use Rattle.std.proofs.Common.{◌≡◌, inl, inr, ℕ, ◌+◌, ◌≤◌, Bool, List, cond, length, is_some, refl, sym, ap, ◌∙◌, subst, arith}
 use Rattle.std.specs.Prelude.{◌↔◌, ◌==◌}
 use Rattle.std.proofs.lemmas.Bool.{cases_eq, eq-eqb, ne_eqb}
 use Rattle.intmap.specs.Classes.{IsCapacity}
-use Rattle.intmap.specs.Bindings.{value_of, take_key, put_pair, write_value, keep_pairs}
+use Rattle.intmap.specs.Bindings.{value_of, take_key, put_pair, write_value, strike_keys, keep_pairs}
 use Rattle.intmap.specs.Walk.{walk_of}
 use Rattle.intmap.specs.Reach.{class_size, reach}
 use Rattle.intmap.specs.Figures.{load_of}
@@ -14,7 +14,7 @@ use Rattle.intmap.proofs.KeepLemmas.{StandsFor-keep_pairs}
 use Rattle.intmap.proofs.LocationLemmas.{walk_of-write_value}
 use Rattle.intmap_run.specs.Laws.{StandForOne}
 use Rattle.intmap_run.proofs.CapacityLemmas.{IsLarger, IsCapacityAfter-changed}
-use Rattle.intmap_run.proofs.StandLemmas.{value_of-one, length-one, load_of-one, class_size-one, reach-one, StandForOne-take_key, StandForOne-put_pair, StandForOne-larger}
+use Rattle.intmap_run.proofs.StandLemmas.{value_of-one, length-one, load_of-one, class_size-one, reach-one, StandForOne-take_key, StandForOne-put_pair, StandForOne-strike_keys, StandForOne-larger}
 
 module _ {K V : Type 0} {number : K → ℕ} {is_key : K → Type 0} {m : MapState K V} {s : State K V} (is_map : IsMap number is_key m) (stands : Stands number s m) where
   -- the list and the map's walk stand for one map
@@ -79,6 +79,11 @@ module _ {K V : Type 0} {number : K → ℕ} {is_key : K → Type 0} {m : MapSta
   pub walk_of-take_key-stands : (k : K) → walk_of number (take_key number s.pairs s.capacity k) s.capacity ≡ walk_of number (take_key number m.walk m.capacity k) m.capacity
   walk_of-take_key-stands k =
       (StandForOne-take_key StandForOne-stands k).walk ∙ ap (λ C. walk_of number (take_key number m.walk C k) C) stands.capacity
+
+  -- with keys struck, it has the walk of the map
+  pub walk_of-strike_keys-stands : (ks : List K) → walk_of number (strike_keys number s.pairs ks) s.capacity ≡ walk_of number (strike_keys number m.walk ks) m.capacity
+  walk_of-strike_keys-stands ks =
+      (StandForOne-strike_keys StandForOne-stands ks).walk ∙ ap (λ C. walk_of number (strike_keys number m.walk ks) C) stands.capacity
 
 module _ {K V : Type 0} {number : K → ℕ} {m : MapState K V} {s : State K V} (stands : Stands number s m) where
   -- with a value written, the list has the walk of the map with it written

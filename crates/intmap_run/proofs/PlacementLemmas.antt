@@ -167,11 +167,15 @@ module _ {K V S A : Type 0} (number : K → ℕ) (sees : V → S → Type 0) (ke
       let capacity : t.capacity ≡ s.capacity = ap (λ x. x.capacity) refused.3 in
       inr (inr (Keeps-same s (command.EntryInsert k v) a t _ (placements-kept s t capacity) capacity (ap (λ x. x.factor) refused.3)))
   kind s (command.EntryRemove k) a t h = inr (inr (Keeps-same s (command.EntryRemove k) a t _ refl (ap (λ x. x.capacity) h.1) (ap (λ x. x.factor) h.1)))
+  kind s (command.Drain m) a t (inl drained) = inr (inr (Keeps-same s (command.Drain m) a t _ refl (ap (λ x. x.capacity) drained.3) (ap (λ x. x.factor) drained.3)))
+  kind s (command.Drain m) a t (inr refused) = inr (inr (Keeps-same s (command.Drain m) a t _ refl (ap (λ x. x.capacity) refused.1) (ap (λ x. x.factor) refused.1)))
   kind s command.Len a t h = inr (inr (Keeps-same s command.Len a t _ refl (ap (λ x. x.capacity) h.1) (ap (λ x. x.factor) h.1)))
   kind s command.IsEmpty a t h = inr (inr (Keeps-same s command.IsEmpty a t _ refl (ap (λ x. x.capacity) h.1) (ap (λ x. x.factor) h.1)))
   kind s command.Capacity a t h = inr (inr (Keeps-same s command.Capacity a t _ refl (ap (λ x. x.capacity) h.1) (ap (λ x. x.factor) h.1)))
   kind s command.Load a t h = inr (inr (Keeps-same s command.Load a t _ refl (ap (λ x. x.capacity) h.1) (ap (λ x. x.factor) h.1)))
   kind s command.Walk a t h = inr (inr (Keeps-same s command.Walk a t _ refl (ap (λ x. x.capacity) h.1) (ap (λ x. x.factor) h.1)))
+  kind s command.Keys a t h = inr (inr (Keeps-same s command.Keys a t _ refl (ap (λ x. x.capacity) h.1) (ap (λ x. x.factor) h.1)))
+  kind s command.Values a t h = inr (inr (Keeps-same s command.Values a t _ refl (ap (λ x. x.capacity) h.1) (ap (λ x. x.factor) h.1)))
 
   -- a run is at least as long as its start
   greatest_length-start : (s : State K V) (cs : List (Command K V)) (as' : List (Answer K V S A)) (t : State K V) (run : Runs number sees keeps s cs as' t)

@@ -2,6 +2,7 @@
 use Rattle.std.proofs.Common.{◌≡◌, inl, inr, ℕ, ◌+◌, ◌<◌, cond, Bool, true, false, [], length, is_some, Option, Some, None, refl, sym, ap, subst, ◌∙◌, add-zero, lit<}
 use Rattle.std.specs.Prelude.{◌↔◌, ◌==◌, IsNone, IsSome, is_none, MatchBool}
 use Rattle.std.specs.List.{AllZip}
+use Rattle.std.specs.Map.{keys_of, values_of}
 use Rattle.std.specs.declared.vec.Vec.{Vec}
 use Rattle.intmap.specs.Bindings.{value_of, take_key, put_pair}
 use Rattle.intmap.specs.Classes.{IsCapacity}
@@ -221,3 +222,13 @@ module _ {K V S A : Type 0} (number : K → ℕ) (sees : V → S → Type 0) (ke
       → StepsFrom {A = A} number sees keeps m command.Walk (answer.Walk seen) m
   StepsFrom-walk seen h s stands =
       Step-same number sees keeps m s command.Walk (answer.Walk seen) (inl (seen, refl, rw stands.walk h), refl) stands refl refl
+
+  -- the keys of the walk
+  pub StepsFrom-keys : (keys : Vec K A) → keys.items ≡ keys_of m.walk → StepsFrom {A = A} number sees keeps m command.Keys (answer.Keys keys) m
+  StepsFrom-keys keys is s stands =
+      Step-same number sees keeps m s command.Keys (answer.Keys keys) (inl (keys, refl, rw stands.walk is), refl) stands refl refl
+
+  -- a look at each value of the walk
+  pub StepsFrom-values : (seen : Vec S A) → AllZip sees (values_of m.walk) seen.items → StepsFrom number sees keeps m command.Values (answer.Values seen) m
+  StepsFrom-values seen h s stands =
+      Step-same number sees keeps m s command.Values (answer.Values seen) (inl (seen, refl, rw stands.walk h), refl) stands refl refl

@@ -1,9 +1,10 @@
 -- What one command answers and leaves of a plain list, and what lists of commands do.
 use Rattle.std.specs.Prelude.{◌≡◌, ℕ, ◌+◌, ◌*◌, ◌≤◌, ◌==◌, max, cond, Bool, true, false, is_some, IsSome, IsNone, List, [], ◌∷◌, length, Option, Some, None, ◌⊎◌}
 use Rattle.std.specs.List.{AllZip}
+use Rattle.std.specs.Map.{keys_of, values_of}
 use Rattle.std.specs.declared.vec.Vec.{Vec}
-use Rattle.intmap.specs.Bindings.{value_of, take_key, write_value, keep_pairs}
-use Rattle.intmap.specs.Walk.{walk_of}
+use Rattle.intmap.specs.Bindings.{value_of, take_key, write_value, keep_pairs, strike_keys}
+use Rattle.intmap.specs.Walk.{walk_of, first_of_walk}
 use Rattle.intmap.specs.Reach.{reach}
 use Rattle.intmap.specs.Figures.{load_of}
 use Rattle.intmap.specs.Map.{MapState}
@@ -98,6 +99,26 @@ module _ {K V S A : Type 0} (number : K → ℕ) (sees : V → S → Type 0) (ke
       ((seen : Vec (K × S) A) × (a ≡ answer.Walk seen) × AllZip (SeesPair sees) (walk_of number s.pairs s.capacity) seen.items)
       ⊎ (a ≡ answer.Refused Memory None)
 
+  -- the keys of the walk are answered, or the command is refused for want of room
+  abbrev pub AnswersKeys : State K V → Answer K V S A → Type 0
+  AnswersKeys s a =
+      ((keys : Vec K A) × (a ≡ answer.Keys keys) × (keys.items ≡ keys_of (walk_of number s.pairs s.capacity)))
+      ⊎ (a ≡ answer.Refused Memory None)
+
+  -- what is seen of the values of the walk is answered, or the command is refused for want of room
+  abbrev pub AnswersValues : State K V → Answer K V S A → Type 0
+  AnswersValues s a =
+      ((seen : Vec S A) × (a ≡ answer.Values seen) × AllZip sees (values_of (walk_of number s.pairs s.capacity)) seen.items)
+      ⊎ (a ≡ answer.Refused Memory None)
+
+  -- the first m pairs of the walk are answered and their keys struck, or the command is refused for want of room and changes
+  -- nothing
+  abbrev pub AnswersDrain : State K V → ℕ → Answer K V S A → State K V → Type 0
+  AnswersDrain s m a t =
+      ((pairs : Vec (K × V) A) × (a ≡ answer.Pairs pairs) × (pairs.items ≡ first_of_walk number m s.pairs s.capacity)
+      × (t ≡ record s { pairs = strike_keys number s.pairs (keys_of pairs.items) }))
+      ⊎ ((a ≡ answer.Refused Memory None) × (t ≡ s))
+
   -- from the list s a command may answer a and leave the list t
   abbrev pub Answers : State K V → Command K V → Answer K V S A → State K V → Type 0
   Answers s (command.Insert k v) a t = AnswersInsert s k v a t
@@ -116,11 +137,14 @@ module _ {K V S A : Type 0} (number : K → ℕ) (sees : V → S → Type 0) (ke
   Answers s (command.EntryInsert k v) a t = AnswersEntryInsert s k v a t
   Answers s (command.EntryRemove k) a t =
       (a ≡ answer.Old (value_of number s.pairs k)) × (t ≡ record s { pairs = take_key number s.pairs s.capacity k })
+  Answers s (command.Drain m) a t = AnswersDrain s m a t
   Answers s command.Len a t = (a ≡ answer.Number (length s.pairs)) × (t ≡ s)
   Answers s command.IsEmpty a t = (a ≡ answer.Flag (length s.pairs == 0)) × (t ≡ s)
   Answers s command.Capacity a t = (a ≡ answer.Number s.capacity) × (t ≡ s)
   Answers s command.Load a t = (a ≡ answer.Number (load_of number s.pairs s.capacity)) × (t ≡ s)
   Answers s command.Walk a t = AnswersWalk s a × (t ≡ s)
+  Answers s command.Keys a t = AnswersKeys s a × (t ≡ s)
+  Answers s command.Values a t = AnswersValues s a × (t ≡ s)
 
   -- the keys that a command compares in a step from the list s
   abbrev pub comparisons_of : (s : State K V) (c : Command K V) (a : Answer K V S A) (t : State K V) → Answers s c a t → ℕ

@@ -22,6 +22,12 @@ pub enum Answer<K, V, S, A: Allocator = Global> {
     Number(u128),
     /// Each key of the walk, in its order, with what the judge sees of its value.
     Walk(Vec<(K, S), A>),
+    /// Each key of the walk, in its order.
+    Keys(Vec<K, A>),
+    /// What the judge sees of each value of the walk, in its order.
+    Values(Vec<S, A>),
+    /// The pairs that were taken out, in the order of the walk.
+    Pairs(Vec<(K, V), A>),
     /// The command was refused and left walk, capacity and load factor as they were.
     Refused {
         /// Why it was refused.

@@ -51,6 +51,12 @@ pub enum Command<K, V> {
     /// `entry`, then `remove` on it where it is occupied: takes the pair of the key out, and answers
     /// `Old` of its value.
     EntryRemove(K),
+    /// `drain`: takes so many pairs out of the front of the walk, or all where there are fewer, and
+    /// answers `Pairs` of them in the order of the walk. The others keep their order, and capacity
+    /// and load factor stay.
+    ///
+    /// Refused as `Memory` where there is no room for the list, before a pair is taken out.
+    Drain(usize),
     /// `len`: answers the `Number` of pairs.
     Len,
     /// `is_empty`: answers `Flag` of whether there is no pair.
@@ -63,4 +69,12 @@ pub enum Command<K, V> {
     ///
     /// Refused as `Memory` where there is no room for the list, before a value is looked at.
     Walk,
+    /// `keys`: answers `Keys` of all pairs, slot by slot.
+    ///
+    /// Refused as `Memory` where there is no room for the list.
+    Keys,
+    /// `values`: answers `Values` of what the judge sees of each value, slot by slot.
+    ///
+    /// Refused as `Memory` where there is no room for the list, before a value is looked at.
+    Values,
 }

@@ -1,20 +1,21 @@
 //! Runs lists of commands over a map.
 ghost use Rattle.std.specs.Prelude.{◌≡◌, Some, IfOk, IfErr, OnErr, MatchResult};
-ghost use Rattle.std.specs.List.{AllZip};
 ghost use Rattle.intmap.specs.Map.{IsMap};
-ghost use Rattle.intmap_run.specs.Runs.{SeesPair, RunsFrom};
+ghost use Rattle.intmap_run.specs.Runs.{RunsFrom};
 ghost use Rattle.intmap_run.specs.Steps.{StepsFrom};
 
 mod entries;
 mod keep;
+mod lists;
 
 use crate::answer::Answer;
 use crate::command::Command;
 use crate::judge::Judge;
 use crate::runner::entries::{entry_insert, entry_remove};
 use crate::runner::keep::keep_all;
+use crate::runner::lists::{drain, keys, values, walk};
 use intmap::{Cause, IntKey, IntMap, Refused};
-use std::alloc::{AllocError, Allocator};
+use std::alloc::Allocator;
 use std::mem;
 
 /// Runs the commands in order, and answers one answer a command, in the same order.
@@ -111,11 +112,14 @@ fn apply<K: IntKey, V: Drop, J: Judge<K, V>, A: Allocator + Copy>(
         Command::GetLoadFactor => Answer::Number(map.get_load_factor() as u128),
         Command::EntryInsert(key, value) => entry_insert::<K, V, J, A>(map, key, value),
         Command::EntryRemove(key) => entry_remove::<K, V, J, A>(map, key),
+        Command::Drain(count) => drain::<K, V, J, A>(alloc, map, count),
         Command::Len => Answer::Number(map.len() as u128),
         Command::IsEmpty => Answer::Flag(map.is_empty()),
         Command::Capacity => Answer::Number(map.capacity() as u128),
         Command::Load => Answer::Number(map.load() as u128),
         Command::Walk => walk(alloc, map, judge),
+        Command::Keys => keys::<K, V, J, A>(alloc, map),
+        Command::Values => values(alloc, map, judge),
     }
 }
 
@@ -138,42 +142,4 @@ fn done<K, V, S, A: Allocator>(called: Result<(), Cause>) -> Answer<K, V, S, A>
         Ok(()) => Answer::Done,
         Err(cause) => Answer::Refused { cause, value: None },
     }
-}
-
-/// The answer of a walk.
-fn walk<K: IntKey, V: Drop, J: Judge<K, V>, A: Allocator + Copy>(
-    alloc: A,
-    map: &IntMap<K, V, A>,
-    judge: &J,
-) -> Answer<K, V, J::Seen, A>
-    ensures step { StepsFrom K.number_of (J.sees judge.now) (J.keeps judge.now)
-        map.now Command.Walk result map.now }
-    ensures map { IsMap K.number_of K.is_key map.now }
-{
-    match look_all(alloc, map, judge) {
-        Ok(pairs) => Answer::Walk(pairs),
-        Err(_) => Answer::Refused {
-            cause: Cause::Memory,
-            value: None,
-        },
-    }
-}
-
-/// Each key of the walk with what the judge sees of its value. Err: there was no room for them.
-fn look_all<K: IntKey, V: Drop, J: Judge<K, V>, A: Allocator + Copy>(
-    alloc: A,
-    map: &IntMap<K, V, A>,
-    judge: &J,
-) -> Result<Vec<(K, J::Seen), A>, AllocError>
-    ensures ok { IfOk result
-        (λ seen. AllZip (SeesPair (J.sees judge.now)) map.now.walk seen.items) }
-    ensures map { IsMap K.number_of K.is_key map.now }
-{
-    let mut seen = Vec::with_capacity(alloc, map.len())?;
-    for (key, value) in map.iter() {
-        let Ok(()) = seen.push((*key, judge.look(value))) else {
-            unreachable!();
-        };
-    }
-    Ok(seen)
 }

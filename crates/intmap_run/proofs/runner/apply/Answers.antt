@@ -98,6 +98,12 @@ returns-in-EntryInsert-clause-step g c = rw c.in-EntryInsert.is (c.entry_insert.
 pub returns-in-EntryRemove-clause-step : goal.returns-in-EntryRemove-clause-step
 returns-in-EntryRemove-clause-step g c = rw c.in-EntryRemove.is (c.entry_remove.ensures.step c.args.judge.now)
 
+pub returns-in-Drain-clause-step : goal.returns-in-Drain-clause-step
+returns-in-Drain-clause-step g c = rw c.in-Drain.is (c.drain.ensures.step c.args.judge.now)
+
+pub returns-in-Keys-clause-step : goal.returns-in-Keys-clause-step
+returns-in-Keys-clause-step g c = rw c.in-Keys.is (c.keys.ensures.step c.args.judge.now)
+
 pub returns-in-Len-clause-step : goal.returns-in-Len-clause-step
 returns-in-Len-clause-step g c =
     rw (c.in-Len.is, c.len.ensures.value)

@@ -1,5 +1,5 @@
 use Rattle.intmap_run.proofs.StepLemmas.{StepsFrom-walk}
-use Rattle.intmap_run.proofs.runner.walk.Goals as goal
+use Rattle.intmap_run.proofs.runner.lists.walk.Goals as goal
 
 pub returns-in-Ok-clause-step : goal.returns-in-Ok-clause-step
 returns-in-Ok-clause-step g c =

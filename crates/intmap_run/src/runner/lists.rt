@@ -1,0 +1,162 @@
+//! Commands that answer a list. The room for it is taken before the map is touched.
+ghost use Rattle.std.specs.Prelude.{◌≡◌, take, drop, None, IfOk, OnErr};
+ghost use Rattle.std.specs.List.{AllZip};
+ghost use Rattle.std.specs.Map.{keys_of, values_of};
+ghost use Rattle.intmap.specs.Map.{IsMap};
+ghost use Rattle.intmap.specs.Passing.{with_walk};
+ghost use Rattle.intmap.specs.declared.refusal.Cause.TheVariants.{Memory};
+ghost use Rattle.intmap_run.specs.declared.command.Command.TheVariants as command;
+ghost use Rattle.intmap_run.specs.Runs.{SeesPair};
+ghost use Rattle.intmap_run.specs.Steps.{StepsFrom};
+
+use crate::answer::Answer;
+use crate::judge::Judge;
+use intmap::{Cause, IntKey, IntMap};
+use std::alloc::{AllocError, Allocator};
+
+/// The answer where there is no room for a list.
+fn no_room<K, V, S, A: Allocator>() -> Answer<K, V, S, A>
+    ensures { result ≡ Answer.Refused Memory None }
+{
+    Answer::Refused {
+        cause: Cause::Memory,
+        value: None,
+    }
+}
+
+/// The answer of a walk.
+pub(crate) fn walk<K: IntKey, V: Drop, J: Judge<K, V>, A: Allocator + Copy>(
+    alloc: A,
+    map: &IntMap<K, V, A>,
+    judge: &J,
+) -> Answer<K, V, J::Seen, A>
+    ensures step { StepsFrom K.number_of (J.sees judge.now) (J.keeps judge.now)
+        map.now command.Walk result map.now }
+    ensures map { IsMap K.number_of K.is_key map.now }
+{
+    match look_all(alloc, map, judge) {
+        Ok(pairs) => Answer::Walk(pairs),
+        Err(_) => no_room(),
+    }
+}
+
+/// The answer of a walk of the keys, whatever the judge is.
+pub(crate) fn keys<K: IntKey, V: Drop, J: Judge<K, V>, A: Allocator + Copy>(
+    alloc: A,
+    map: &IntMap<K, V, A>,
+) -> Answer<K, V, J::Seen, A>
+    ensures step { (judge : J) → StepsFrom K.number_of (J.sees judge) (J.keeps judge)
+        map.now command.Keys result map.now }
+    ensures map { IsMap K.number_of K.is_key map.now }
+{
+    match all_keys(alloc, map) {
+        Ok(keys) => Answer::Keys(keys),
+        Err(_) => no_room(),
+    }
+}
+
+/// The answer of a walk of the values.
+pub(crate) fn values<K: IntKey, V: Drop, J: Judge<K, V>, A: Allocator + Copy>(
+    alloc: A,
+    map: &IntMap<K, V, A>,
+    judge: &J,
+) -> Answer<K, V, J::Seen, A>
+    ensures step { StepsFrom K.number_of (J.sees judge.now) (J.keeps judge.now)
+        map.now command.Values result map.now }
+    ensures map { IsMap K.number_of K.is_key map.now }
+{
+    match look_at_values(alloc, map, judge) {
+        Ok(seen) => Answer::Values(seen),
+        Err(_) => no_room(),
+    }
+}
+
+/// The answer of a drain of so many pairs, whatever the judge is.
+pub(crate) fn drain<K: IntKey, V: Drop, J: Judge<K, V>, A: Allocator + Copy>(
+    alloc: A,
+    map: &mut IntMap<K, V, A>,
+    count: usize,
+) -> Answer<K, V, J::Seen, A>
+    ensures step { (judge : J) → StepsFrom K.number_of (J.sees judge) (J.keeps judge)
+        map.old (command.Drain count) result map.new }
+    ensures map_after { IsMap K.number_of K.is_key map.new }
+{
+    match take_front(alloc, map, count) {
+        Ok(pairs) => Answer::Pairs(pairs),
+        Err(_) => no_room(),
+    }
+}
+
+/// Each key of the walk with what the judge sees of its value. Err: there was no room for them.
+fn look_all<K: IntKey, V: Drop, J: Judge<K, V>, A: Allocator + Copy>(
+    alloc: A,
+    map: &IntMap<K, V, A>,
+    judge: &J,
+) -> Result<Vec<(K, J::Seen), A>, AllocError>
+    ensures ok { IfOk result
+        (λ seen. AllZip (SeesPair (J.sees judge.now)) map.now.walk seen.items) }
+    ensures map { IsMap K.number_of K.is_key map.now }
+{
+    let mut seen = Vec::with_capacity(alloc, map.len())?;
+    for (key, value) in map.iter() {
+        seen.push_reserved((*key, judge.look(value)));
+    }
+    Ok(seen)
+}
+
+/// Each key of the walk. Err: there was no room for them.
+fn all_keys<K: IntKey, V: Drop, A: Allocator + Copy>(
+    alloc: A,
+    map: &IntMap<K, V, A>,
+) -> Result<Vec<K, A>, AllocError>
+    ensures ok { IfOk result (λ keys. keys.items ≡ keys_of map.now.walk) }
+    ensures map { IsMap K.number_of K.is_key map.now }
+{
+    let mut keys = Vec::with_capacity(alloc, map.len())?;
+    for key in map.keys() {
+        keys.push_reserved(*key);
+    }
+    Ok(keys)
+}
+
+/// What the judge sees of each value of the walk. Err: there was no room for them.
+fn look_at_values<K: IntKey, V: Drop, J: Judge<K, V>, A: Allocator + Copy>(
+    alloc: A,
+    map: &IntMap<K, V, A>,
+    judge: &J,
+) -> Result<Vec<J::Seen, A>, AllocError>
+    ensures ok { IfOk result
+        (λ seen. AllZip (J.sees judge.now) (values_of map.now.walk) seen.items) }
+    ensures map { IsMap K.number_of K.is_key map.now }
+{
+    let mut seen = Vec::with_capacity(alloc, map.len())?;
+    for value in map.values() {
+        seen.push_reserved(judge.look(value));
+    }
+    Ok(seen)
+}
+
+/// Takes so many pairs out of the front of the walk, or all where there are fewer. Err: there was
+/// no room for them, and the map is as it was.
+fn take_front<K: IntKey, V: Drop, A: Allocator + Copy>(
+    alloc: A,
+    map: &mut IntMap<K, V, A>,
+    count: usize,
+) -> Result<Vec<(K, V), A>, AllocError>
+    ensures pairs { IfOk result (λ pairs. pairs.items ≡ take count map.old.walk) }
+    ensures state { IfOk result (λ pairs. map.new ≡ with_walk map.old (drop count map.old.walk)) }
+    ensures err { OnErr result (map.new ≡ map.old) }
+    ensures map { IsMap K.number_of K.is_key map.old }
+    ensures map_after { IsMap K.number_of K.is_key map.new }
+{
+    let taken = count.min(map.len());
+    let mut pairs = Vec::with_capacity(alloc, taken)?;
+    let mut drain = map.drain();
+    for _ in 0..taken {
+        let Some(pair) = drain.next() else {
+            unreachable!();
+        };
+        pairs.push_reserved(pair);
+    }
+    Ok(pairs)
+}
