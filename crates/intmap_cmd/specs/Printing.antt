@@ -25,6 +25,10 @@ pair_text p = decimal p.0 ++ codes ": " ++ decimal p.1
 abbrev pub pairs_text : List (ℕ × ℕ) → List ℕ
 pairs_text pairs = codes "{" ++ join_by pair_text (codes ", ") pairs ++ codes "}"
 
+-- numbers in brackets, in their order, with a comma and a space between them
+abbrev pub numbers_text : List ℕ → List ℕ
+numbers_text numbers = codes "[" ++ join_by decimal (codes ", ") numbers ++ codes "]"
+
 -- an answer, without the end of its line
 abbrev pub answer_text : {A : Type 0} → Answer ℕ ℕ ℕ A → List ℕ
 answer_text (answer.Old None) = codes "none"
@@ -38,6 +42,9 @@ answer_text (answer.Flag true) = codes "true"
 answer_text (answer.Flag false) = codes "false"
 answer_text (answer.Number n) = decimal n
 answer_text (answer.Walk pairs) = pairs_text pairs.items
+answer_text (answer.Keys keys) = numbers_text keys.items
+answer_text (answer.Values values) = numbers_text values.items
+answer_text (answer.Pairs pairs) = pairs_text pairs.items
 answer_text (answer.Refused cause value) = refusal_text cause value
 
 -- one line an answer, each ended by a byte 10

@@ -18,11 +18,14 @@ name_of (command.SetLoadFactor thousandths) = codes "set_load_factor"
 name_of command.GetLoadFactor = codes "get_load_factor"
 name_of (command.EntryInsert k v) = codes "entry_insert"
 name_of (command.EntryRemove k) = codes "entry_remove"
+name_of (command.Drain count) = codes "drain"
 name_of command.Len = codes "len"
 name_of command.IsEmpty = codes "is_empty"
 name_of command.Capacity = codes "capacity"
 name_of command.Load = codes "load"
 name_of command.Walk = codes "walk"
+name_of command.Keys = codes "keys"
+name_of command.Values = codes "values"
 
 -- the numbers that follow it
 abbrev pub numbers_of : Command ℕ ℕ → List ℕ
@@ -39,11 +42,14 @@ numbers_of (command.SetLoadFactor thousandths) = thousandths ∷ []
 numbers_of command.GetLoadFactor = []
 numbers_of (command.EntryInsert k v) = k ∷ v ∷ []
 numbers_of (command.EntryRemove k) = k ∷ []
+numbers_of (command.Drain count) = count ∷ []
 numbers_of command.Len = []
 numbers_of command.IsEmpty = []
 numbers_of command.Capacity = []
 numbers_of command.Load = []
 numbers_of command.Walk = []
+numbers_of command.Keys = []
+numbers_of command.Values = []
 
 -- this name and these numbers are the words of the command
 abbrev pub IsSpelled : List ℕ → List ℕ → Command ℕ ℕ → Type 0

@@ -1,6 +1,6 @@
 //! The lines of answers.
 ghost use Rattle.std.specs.Prelude.{◌≡◌, ◌++◌, IfOk, OnOk, string_bytes};
-ghost use Rattle.intmap_cmd.specs.Printing.{cause_text, refusal_text, pairs_text, answer_text, lines_of};
+ghost use Rattle.intmap_cmd.specs.Printing.{cause_text, refusal_text, pairs_text, numbers_text, answer_text, lines_of};
 
 use intmap::Cause;
 use intmap_run::Answer;
@@ -37,7 +37,8 @@ fn print_answer<A: Allocator>(
         Answer::Flag(true) => out.push_str("true"),
         Answer::Flag(false) => out.push_str("false"),
         Answer::Number(number) => write!(out, "{number}"),
-        Answer::Walk(pairs) => print_pairs(out, pairs.as_slice()),
+        Answer::Walk(pairs) | Answer::Pairs(pairs) => print_pairs(out, pairs.as_slice()),
+        Answer::Keys(numbers) | Answer::Values(numbers) => print_numbers(out, numbers.as_slice()),
         Answer::Refused { cause, value } => print_refusal(out, *cause, *value),
     }
 }
@@ -70,6 +71,21 @@ fn print_pairs<A: Allocator>(out: &mut String<A>, pairs: &[(u64, u64)]) -> Resul
         write!(out, ", {key}: {value}")?;
     }
     out.push_str("}")
+}
+
+/// Writes numbers in brackets, in their order.
+fn print_numbers<A: Allocator>(out: &mut String<A>, numbers: &[u64]) -> Result<(), AllocError>
+    ensures { OnOk result
+        (string_bytes out.new ≡ string_bytes out.old ++ numbers_text numbers.now) }
+{
+    let [number, rest @ ..] = numbers else {
+        return out.push_str("[]");
+    };
+    write!(out, "[{number}")?;
+    for number in rest {
+        write!(out, ", {number}")?;
+    }
+    out.push_str("]")
 }
 
 /// The words for why a command was refused.

@@ -26,6 +26,10 @@ pub fn bare(name: &[u8]) -> Option<Command<u64, u64>>
         Some(Command::Load)
     } else if is(name, b"walk") {
         Some(Command::Walk)
+    } else if is(name, b"keys") {
+        Some(Command::Keys)
+    } else if is(name, b"values") {
+        Some(Command::Values)
     } else {
         None
     }
@@ -48,6 +52,8 @@ pub fn with_number(name: &[u8], number: u64) -> Option<Command<u64, u64>>
         Some(Command::SetLoadFactor(number as usize))
     } else if is(name, b"entry_remove") {
         Some(Command::EntryRemove(number))
+    } else if is(name, b"drain") {
+        Some(Command::Drain(number as usize))
     } else {
         None
     }

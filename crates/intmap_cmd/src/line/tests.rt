@@ -38,15 +38,18 @@ fn show(line: &[u8]) -> Shown {
         Line::Command(Command::GetLoadFactor) => Shown::Bare("get_load_factor"),
         Line::Command(Command::EntryInsert(key, value)) => Shown::Pair("entry_insert", key, value),
         Line::Command(Command::EntryRemove(key)) => Shown::Key("entry_remove", key),
+        Line::Command(Command::Drain(count)) => Shown::Key("drain", count as u64),
         Line::Command(Command::Len) => Shown::Bare("len"),
         Line::Command(Command::IsEmpty) => Shown::Bare("is_empty"),
         Line::Command(Command::Capacity) => Shown::Bare("capacity"),
         Line::Command(Command::Load) => Shown::Bare("load"),
         Line::Command(Command::Walk) => Shown::Bare("walk"),
+        Line::Command(Command::Keys) => Shown::Bare("keys"),
+        Line::Command(Command::Values) => Shown::Bare("values"),
     }
 }
 
-const COMMANDS: [(&[u8], Shown); 29] = [
+const COMMANDS: [(&[u8], Shown); 33] = [
     (b"insert 21 42", Shown::Pair("insert", 21, 42)),
     (
         b"insert_checked 21 42",
@@ -63,11 +66,18 @@ const COMMANDS: [(&[u8], Shown); 29] = [
     (b"get_load_factor", Shown::Bare("get_load_factor")),
     (b"entry_insert 21 42", Shown::Pair("entry_insert", 21, 42)),
     (b"entry_remove 21", Shown::Key("entry_remove", 21)),
+    (b"drain 9", Shown::Key("drain", 9)),
+    (
+        b"drain 18446744073709551615",
+        Shown::Key("drain", 18446744073709551615),
+    ),
     (b"len", Shown::Bare("len")),
     (b"is_empty", Shown::Bare("is_empty")),
     (b"capacity", Shown::Bare("capacity")),
     (b"load", Shown::Bare("load")),
     (b"walk", Shown::Bare("walk")),
+    (b"keys", Shown::Bare("keys")),
+    (b"values", Shown::Bare("values")),
     (b"  get   1  ", Shown::Key("get", 1)),
     (b"   insert     7    8 ", Shown::Pair("insert", 7, 8)),
     (b"get 1\r", Shown::Key("get", 1)),
@@ -109,7 +119,7 @@ const WORDS: &[u8] = b"Get 1\nGET 1\nlEn\nWalk\nle\nlens\nlen.\nget1\n1\n1 get\n
     reserve\nreserve 1 2\nset_load_factor\nset_load_factor 1 2\nget_load_factor 1\n\
     insert_checked 1\ncontains_key\nclear 1\nget_mut 1\nget_mut 1 2 3\nretain 1\nretain 1 2\n\
     entry_insert 1\nentry_insert 1 2 3\nentry_remove\nentry_remove 1 2\nentry 1\nentry_insert\n\
-    is_empty 0\nempty\n\
+    is_empty 0\nempty\ndrain\ndrain 1 2\ndrain all\nkeys 1\nkeys 1 2\nvalues 0\nvalue\nkey\n\
     len 0\nlen len\ncapacity 4\nload 1 2\nwalk x\nwalk 1 2 3\nget len";
 
 /// Numbers that are not canonical, or too great.

@@ -96,7 +96,7 @@ const INPUT: &[u8] = b"insert 0 10\nlen\n\nwalk\n";
 const OUTPUT: &[u8] = b"none\n1\n{0: 10}\n";
 
 /// Texts, each with its status, its output and what is told of it.
-const SESSIONS: [(&[u8], u8, &[u8], &[u8]); 18] = [
+const SESSIONS: [(&[u8], u8, &[u8], &[u8]); 20] = [
     (b"", 0, b"", b""),
     (b"\n \r\n", 0, b"", b""),
     (INPUT, 0, OUTPUT, b""),
@@ -150,6 +150,21 @@ const SESSIONS: [(&[u8], u8, &[u8], &[u8]); 18] = [
         0,
         b"done\nfresh\nfresh\nfresh\nfresh\nsome 3\n8\n{0: 0, 2: 2, 1: 1, 3: 5}\ndone\n8\n\
             {1: 1, 3: 5}\n",
+        b"",
+    ),
+    (
+        b"keys\nvalues\ndrain 1\ninsert 0 10\ninsert 4 14\ninsert 8 18\nkeys\nvalues\ndrain 1\n\
+            walk\nlen\ninsert 0 20\nkeys\ninsert 12 22\nkeys\ncapacity\nvalues\n",
+        0,
+        b"[]\n[]\n{}\nnone\nnone\nnone\n[0, 4, 8]\n[10, 14, 18]\n{0: 10}\n{4: 14, 8: 18}\n2\nnone\n\
+            [4, 8, 0]\nnone\n[8, 0, 4, 12]\n8\n[18, 20, 14, 22]\n",
+        b"",
+    ),
+    (
+        b"insert 0 0\ninsert 1 1\ninsert 2 2\ninsert 3 3\ndrain 0\ndrain 3\nkeys\nlen\ncapacity\n\
+            drain 18446744073709551615\nwalk\nlen\ncapacity\ndrain 1\nremove 0",
+        0,
+        b"none\nnone\nnone\nnone\n{}\n{0: 0, 2: 2, 1: 1}\n[3]\n1\n8\n{3: 3}\n{}\n0\n8\n{}\nnone\n",
         b"",
     ),
     (

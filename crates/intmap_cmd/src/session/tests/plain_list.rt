@@ -38,19 +38,6 @@ impl List {
         Some(self.pairs.swap_remove(place).1)
     }
 
-    // the pairs as a walk is printed
-    fn walk(&self, alloc: Global) -> Result<String, AllocError> {
-        let mut text = String::from_str(alloc, "{")?;
-        for (key, value) in self.pairs.iter() {
-            if text.len() > 1 {
-                text.push_str(", ")?;
-            }
-            write!(text, "{key}: {value}")?;
-        }
-        text.push('}')?;
-        Ok(text)
-    }
-
     /// Does what a command asks, unless memory was refused to it, and answers its line.
     pub fn apply(
         &mut self,
@@ -63,9 +50,13 @@ impl List {
             | Command::InsertChecked(_, value)
             | Command::EntryInsert(_, value)
                 if is_refused => { format!(in alloc; "refused {value}: memory") }
-            Command::Reserve(_) | Command::SetLoadFactor(_) | Command::Walk if is_refused => {
-                String::from_str(alloc, "refused: memory")
-            }
+            Command::Reserve(_)
+            | Command::SetLoadFactor(_)
+            | Command::Walk
+            | Command::Keys
+            | Command::Values
+            | Command::Drain(_)
+                if is_refused => { String::from_str(alloc, "refused: memory") }
             Command::Insert(key, value) => {
                 let old = self.remove(key);
                 self.pairs.push((key, value))?;
@@ -109,9 +100,44 @@ impl List {
             Command::Len => format!(in alloc; "{}", self.pairs.len()),
             Command::Load => format!(in alloc; "{}", self.pairs.len().min(1)),
             Command::Capacity => String::from_str(alloc, "not asked"),
-            Command::Walk => self.walk(alloc),
+            Command::Walk => walk_of(alloc, self.pairs.as_slice()),
+            Command::Keys => numbers_of(alloc, self.pairs.iter().map(|pair| pair.0)),
+            Command::Values => numbers_of(alloc, self.pairs.iter().map(|pair| pair.1)),
+            Command::Drain(count) => {
+                let count = count.min(self.pairs.len());
+                let (taken, left) = self.pairs.split_at(count);
+                let text = walk_of(alloc, taken)?;
+                self.pairs = Vec::from_slice(alloc, left)?;
+                Ok(text)
+            }
         }
     }
+}
+
+// pairs as a walk is printed
+fn walk_of(alloc: Global, pairs: &[(u64, u64)]) -> Result<String, AllocError> {
+    let mut text = String::from_str(alloc, "{")?;
+    for (key, value) in pairs {
+        if text.len() > 1 {
+            text.push_str(", ")?;
+        }
+        write!(text, "{key}: {value}")?;
+    }
+    text.push('}')?;
+    Ok(text)
+}
+
+// numbers as a list is printed
+fn numbers_of(alloc: Global, numbers: impl Iterator<Item = u64>) -> Result<String, AllocError> {
+    let mut text = String::from_str(alloc, "[")?;
+    for number in numbers {
+        if text.len() > 1 {
+            text.push_str(", ")?;
+        }
+        write!(text, "{number}")?;
+    }
+    text.push(']')?;
+    Ok(text)
 }
 
 // the line that says a value, or that there is none

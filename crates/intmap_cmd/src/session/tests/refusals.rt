@@ -23,7 +23,7 @@ const WITHOUT_GROWTH: [Said; 6] = [
 ];
 
 /// Commands that ask for more slots, and the others among them.
-const WITH_GROWTH: [Said; 39] = [
+const WITH_GROWTH: [Said; 46] = [
     ("walk", Command::Walk),
     ("insert 0 10", Command::Insert(0, 10)),
     ("insert 4096 11", Command::Insert(4096, 11)),
@@ -64,8 +64,18 @@ const WITH_GROWTH: [Said; 39] = [
     ("get_mut 8192 22", Command::GetMut(8192, 22)),
     ("get_mut 16384 23", Command::GetMut(16384, 23)),
     ("entry_remove 0", Command::EntryRemove(0)),
+    ("keys", Command::Keys),
+    ("values", Command::Values),
+    ("drain 1", Command::Drain(1)),
     ("retain", Command::Retain),
     ("walk", Command::Walk),
+    ("drain 0", Command::Drain(0)),
+    (
+        "drain 18446744073709551615",
+        Command::Drain(18446744073709551615),
+    ),
+    ("keys", Command::Keys),
+    ("values", Command::Values),
 ];
 
 // the lines of a plain list under the same commands, where memory is refused to those that the
