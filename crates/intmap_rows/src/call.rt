@@ -1,6 +1,7 @@
 //! One call, from its words to its answer.
 
 use crate::entries::{with_entry, with_reference};
+use crate::iterated::{through_all, through_front};
 use crate::many::{Insertion, Keys, get_many, insert_many, remove_many, walk_sum};
 use crate::maps::{MapOf, Maps};
 use crate::retained::retain;
@@ -55,7 +56,8 @@ fn bare(alloc: Global, maps: &mut Maps<'_>, name: &str) -> Result<String, AllocE
         "left" => number_text(alloc, maps.memory.left() as u128),
         "values" => values_text(alloc, &maps.map),
         "walk_sum" => walk_sum(alloc, &maps.map),
-        _ => without_key(alloc, &mut maps.map, name),
+        "clear" | "retain" => without_key(alloc, &mut maps.map, name),
+        _ => through_all(alloc, maps, name),
     }
 }
 
@@ -111,7 +113,7 @@ fn with_number(
         }
         "reserve" => done_text(alloc, maps.map.reserve(number as usize)),
         "set_load_factor" => done_text(alloc, maps.map.set_load_factor(number as usize)),
-        _ => with_key(alloc, &mut maps.map, name, number),
+        _ => through_front(alloc, maps, name, number),
     }
 }
 

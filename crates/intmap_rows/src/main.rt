@@ -8,6 +8,7 @@ mod block;
 mod call;
 mod cell;
 mod entries;
+mod iterated;
 mod kinds;
 mod many;
 mod maps;

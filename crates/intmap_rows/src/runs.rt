@@ -5,7 +5,8 @@ use crate::call::no_call;
 use crate::many::{Keys, value_of};
 use crate::maps::Map;
 use crate::text::{
-    back_text, bool_text, done_text, fresh_text, number_text, option_text, pairs_text, refusal_text,
+    back_text, bool_text, done_text, fresh_text, list_text, number_text, option_text, pairs_text,
+    refusal_text,
 };
 use crate::word::words_of;
 use intmap_run::{Answer, Command, Judge, run};
@@ -58,6 +59,8 @@ fn bare(name: &str) -> Option<Command<u64, u64>> {
         "capacity" => Some(Command::Capacity),
         "load" => Some(Command::Load),
         "walk" => Some(Command::Walk),
+        "keys" => Some(Command::Keys),
+        "values" => Some(Command::Values),
         _ => None,
     }
 }
@@ -69,6 +72,7 @@ fn with_number(name: &str, number: u64) -> Option<Command<u64, u64>> {
         "contains_key" => Some(Command::ContainsKey(number)),
         "remove" => Some(Command::Remove(number)),
         "entry_remove" => Some(Command::EntryRemove(number)),
+        "drain" => Some(Command::Drain(number as usize)),
         "reserve" => Some(Command::Reserve(number as usize)),
         "set_load_factor" => Some(Command::SetLoadFactor(number as usize)),
         _ => None,
@@ -173,7 +177,8 @@ fn text_of(
         Answer::Done => done_text(alloc, Ok(())),
         Answer::Flag(is_so) => bool_text(alloc, *is_so),
         Answer::Number(number) => number_text(alloc, *number),
-        Answer::Walk(pairs) => pairs_text(alloc, pairs.as_slice()),
+        Answer::Walk(pairs) | Answer::Pairs(pairs) => pairs_text(alloc, pairs.as_slice()),
+        Answer::Keys(items) | Answer::Values(items) => list_text(alloc, items.as_slice()),
         Answer::Refused { cause, value } => refusal_text(alloc, *cause, *value),
     }
 }

@@ -70,7 +70,7 @@ pub fn pairs_text<K: Display>(alloc: Global, pairs: &[(K, u64)]) -> Result<Strin
 }
 
 /// Keys or values in brackets, in their order.
-fn list_text<T: Display>(alloc: Global, items: &[T]) -> Result<String, AllocError> {
+pub fn list_text<T: Display>(alloc: Global, items: &[T]) -> Result<String, AllocError> {
     let mut text = String::from_str(alloc, "[")?;
     for (index, item) in items.iter().enumerate() {
         let before = if index == 0 { "" } else { ", " };

@@ -43,6 +43,9 @@ fn commands<'a>(alloc: Global, memory: &'a Refuser<Global>) -> Result<Commands<'
         commands.push(command)?;
     }
     push_entries(alloc, &mut commands)?;
+    for command in [Command::Keys, Command::Values, Command::Drain(1)] {
+        commands.push(command)?;
+    }
     Ok(commands)
 }
 
@@ -81,6 +84,9 @@ fn said(
         Answer::Fresh => String::from_str(alloc, "fresh"),
         Answer::Done => String::from_str(alloc, "done"),
         Answer::Walk(pairs) => format!(in alloc; "walk {:?}", pairs.as_slice()),
+        Answer::Keys(keys) => format!(in alloc; "keys {:?}", keys.as_slice()),
+        Answer::Values(values) => format!(in alloc; "values {:?}", values.as_slice()),
+        Answer::Pairs(pairs) => format!(in alloc; "pairs {:?}", pairs.as_slice()),
         Answer::Refused { cause, value } => format!(in alloc; "refused {cause:?} {value:?}"),
         Answer::Flag(_) | Answer::Number(_) => String::from_str(alloc, "not asked"),
     }
@@ -134,6 +140,9 @@ old Some(\"ghij\")
 done
 walk [(4, 2), (8, 2)]
 old Some(\"lm\")
+keys [4]
+values [2]
+pairs [(4, \"op\")]
 old None
 old None
 old Some(\"bcd\")
@@ -149,6 +158,9 @@ old Some(\"ghij\")
 done
 walk [(4, 2), (8, 2)]
 old Some(\"lm\")
+keys [4]
+values [2]
+pairs [(4, \"op\")]
 old None
 old None
 old Some(\"bcd\")
@@ -164,6 +176,9 @@ old Some(\"ghij\")
 done
 walk [(4, 2), (8, 2)]
 old Some(\"lm\")
+keys [4]
+values [2]
+pairs [(4, \"op\")]
 ";
 
 #[test]

@@ -1,0 +1,94 @@
+//! Calls that go through a map from the front of its walk.
+ghost use Rattle.std.specs.Iterator.{IsFinite};
+
+use crate::call::with_key;
+use crate::many::WalkSum;
+use crate::maps::{Map, Maps};
+use crate::retained::retain;
+use crate::text::{list_text, pairs_text, refusal_text};
+use intmap::{Cause, IntMap};
+use std::alloc::{AllocError, Global};
+use std::mem;
+
+/// The answer to a call that takes all pairs out, or that asks iterators how many items are left.
+pub fn through_all(alloc: Global, maps: &mut Maps<'_>, name: &str) -> Result<String, AllocError> {
+    match name {
+        "drain_sum" => sum_of(alloc, maps.map.drain()),
+        "into_sum" => match taken(maps) {
+            Ok(map) => sum_of(alloc, map.into_iter()),
+            Err(cause) => refusal_text(alloc, cause, None),
+        },
+        "size_hints" => size_hints(alloc, maps),
+        _ => retain(alloc, &mut maps.map, name),
+    }
+}
+
+/// The answer to a call that goes through so many items, or through all where there are fewer.
+pub fn through_front(
+    alloc: Global,
+    maps: &mut Maps<'_>,
+    name: &str,
+    count: u64,
+) -> Result<String, AllocError> {
+    match name {
+        "iter" => {
+            let pairs = maps.map.iter().map(|(key, value)| (*key, *value));
+            pairs_text(alloc, &front_of(alloc, pairs, count)?)
+        }
+        "keys" => list_text(alloc, &front_of(alloc, maps.map.keys().copied(), count)?),
+        "values" => list_text(alloc, &front_of(alloc, maps.map.values().copied(), count)?),
+        "drain" => pairs_text(alloc, &front_of(alloc, maps.map.drain(), count)?),
+        "drain_forget" => {
+            let mut drain = maps.map.drain();
+            let pairs = front_of(alloc, drain.by_ref(), count)?;
+            mem::forget(drain);
+            pairs_text(alloc, &pairs)
+        }
+        "into_iter" => match taken(maps) {
+            Ok(map) => pairs_text(alloc, &front_of(alloc, map.into_iter(), count)?),
+            Err(cause) => refusal_text(alloc, cause, None),
+        },
+        _ => with_key(alloc, &mut maps.map, name, count),
+    }
+}
+
+// so many items from the front
+fn front_of<T: Drop, I: Iterator<Item = T>>(
+    alloc: Global,
+    items: I,
+    count: u64,
+) -> Result<Vec<T>, AllocError>
+    requires { I.can_next items × IsFinite (I.remaining items) }
+{
+    let mut front = Vec::new(alloc);
+    for item in items.take(count as usize) {
+        front.push(item)?;
+    }
+    Ok(front)
+}
+
+// how many pairs there are, and their sum
+fn sum_of<I: Iterator<Item = (u64, u64)>>(alloc: Global, pairs: I) -> Result<String, AllocError>
+    requires { I.can_next pairs × IsFinite (I.remaining pairs) }
+{
+    let mut seen = WalkSum::new();
+    for (key, value) in pairs {
+        seen.add(key, value);
+    }
+    seen.text(alloc)
+}
+
+// takes the map away, and leaves one as `new` makes it
+fn taken<'a>(maps: &mut Maps<'a>) -> Result<Map<'a>, Cause> {
+    let fresh = IntMap::new(maps.memory)?;
+    Ok(mem::replace(&mut maps.map, fresh))
+}
+
+// how many items each kind of iterator says that it has at least, and at most
+fn size_hints(alloc: Global, maps: &mut Maps<'_>) -> Result<String, AllocError> {
+    let pairs = maps.map.iter().size_hint();
+    let keys = maps.map.keys().size_hint();
+    let values = maps.map.values().size_hint();
+    let drain = maps.map.drain().size_hint();
+    format!(in alloc; "{pairs:?} {keys:?} {values:?} {drain:?}")
+}
