@@ -11,3 +11,5 @@ pub mod refusals;
 pub mod retained;
 pub mod session;
 pub mod tally;
+pub mod totals;
+pub mod work;
