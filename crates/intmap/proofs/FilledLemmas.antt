@@ -1,5 +1,5 @@
 -- The marks of a table tell which of its slots hold a pair.
-use Rattle.std.proofs.Common.{◌≡◌, inl, inr, ℕ, zero, suc, ◌+◌, ◌*◌, ◌/◌, ◌<◌, ◌≤◌, Bool, true, false, Option, Some, None, List, [], ◌∷◌, ◌++◌, length, get_or, set, replicate, refl, sym, ap, ◌∙◌, arith, length-set, get_or-set_same, get_or-set_other}
+use Rattle.std.proofs.Common.{◌≡◌, ◌≢◌, inl, inr, ℕ, zero, suc, ◌+◌, ◌*◌, ◌/◌, ◌<◌, ◌≤◌, Bool, true, false, Option, Some, None, List, [], ◌∷◌, ◌++◌, length, get_or, set, replicate, refl, sym, ap, ◌∙◌, arith, length-set, get_or-set_same, get_or-set_other}
 use Rattle.std.specs.Prelude.{◌==◌, filter, All, count_by, nat_lt}
 use Rattle.std.specs.List.{list_any, range_with_len}
 use Rattle.std.proofs.lemmas.Bool.{cases_Bool, cases_eq, cases_lt, eq-eqb, ne_eqb, lt-ltb, ltb-true}
@@ -62,13 +62,13 @@ AreMarked-none R C len empty = record {
   own = λ i. marked-replicate (64 * ((C + 63) / 64)) i ∙ rw (empty i) refl;
 }
 
--- a row before these places may change
-pub pairs_at-set : {P : Type 0} (R : List (List P)) (i : ℕ) (row : List P) (places : List ℕ) → All (λ j. i < j) places → pairs_at (set R i row) places ≡ pairs_at R places
-pairs_at-set R i row [] behind = refl
-pairs_at-set R i row (j ∷ places) behind =
-    let lt : i < j = All-head (λ j. i < j) j places behind in
-    let here = get_or-set_other R i j row [] (λ q. omega (arith, lt, q)) in
-    let rest = pairs_at-set R i row places (All-tail (λ j. i < j) j places behind) in
+-- a row at none of these places may change
+pub pairs_at-set : {P : Type 0} (R : List (List P)) (i : ℕ) (row : List P) (places : List ℕ) → All (λ j. i ≢ j) places → pairs_at (set R i row) places ≡ pairs_at R places
+pairs_at-set R i row [] apart = refl
+pairs_at-set R i row (j ∷ places) apart =
+    let other : i ≢ j = All-head (λ j. i ≢ j) j places apart in
+    let here = get_or-set_other R i j row [] (λ q. other (sym q)) in
+    let rest = pairs_at-set R i row places (All-tail (λ j. i ≢ j) j places apart) in
     rw (here, rest) refl
 
 -- so does one with a pair at its end

@@ -14,8 +14,11 @@ pub mod MarkedLemmas
 pub mod FilledLemmas
 pub mod BitsLemmas
 pub mod PlacesLemmas
+pub mod LeadsLemmas
 pub mod RetainLemmas
 pub mod RetainSlotsLemmas
+pub mod WritesLemmas
+pub mod WritesSlotsLemmas
 pub mod FrontLemmas
 pub mod DrainLemmas
 pub mod KeepLemmas

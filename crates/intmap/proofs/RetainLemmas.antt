@@ -1,5 +1,5 @@
 -- What a closure that is asked about each pair in turn leaves of lists, of slots and of tables.
-use Rattle.std.proofs.Common.{◌≡◌, inl, inr, ℕ, suc, ◌+◌, ◌<◌, ◌≤◌, Bool, true, false, cond, List, [], ◌∷◌, ◌++◌, length, map, get_or, set, take, drop, None, refl, sym, ap, ◌∙◌, subst, arith, append-nil, append_assoc}
+use Rattle.std.proofs.Common.{◌≡◌, inl, inr, ℕ, suc, ◌+◌, ◌<◌, ◌≤◌, Bool, true, false, cond, List, [], ◌∷◌, ◌++◌, length, map, get_or, set, take, drop, None, refl, sym, ap, ◌∙◌, subst, arith, append-nil}
 use Rattle.std.specs.Prelude.{◌⊎◌, All, count_by}
 use Rattle.std.specs.List.{swap}
 use Rattle.std.proofs.lemmas.Bool.{cases_lt, cond_both}
@@ -17,6 +17,7 @@ use Rattle.intmap.specs.Map.{IsMapWalk}
 use Rattle.intmap.specs.Retaining.{KeepsAt, Retains}
 use Rattle.intmap.specs.Walk.{walk_of}
 use Rattle.intmap.specs.declared.kept.Kept.{Kept}
+use Rattle.intmap.proofs.LeadsLemmas.{Leads, Leads-next}
 use Rattle.intmap.proofs.LoadFactorLemmas.{IsLoaded-fewer, capacity-positive}
 use Rattle.intmap.proofs.MappedLemmas.{walk_of-with_values}
 
@@ -34,19 +35,6 @@ module _ {F X : Type 0} (R : F → X → Bool → F → Type 0) where
   -- one element
   pub Retains-one : (f g : F) (x : X) (b : Bool) → R f x b g → Retains R f (x ∷ []) (cond b (x ∷ []) []) g
   Retains-one f g x b call = (b, g, [], call, (refl, refl), refl)
-
-  -- R went over L from f₀ up to the elements that are left, where it is at f, and those of `done` stay
-  abbrev pub Leads : F → List X → F → List X → List X → Type 0
-  Leads f₀ L f done left = (N : List X) (g : F) → Retains R f left N g → Retains R f₀ L (done ++ N) g
-
-  -- it goes over the first of those that are left
-  pub Leads-next : (f₀ f h : F) (L done first stay left : List X) → Leads f₀ L f done (first ++ left) → Retains R f first stay h → Leads f₀ L h (done ++ stay) left
-  Leads-next f₀ f h L done first stay left leads run N g r =
-      subst (λ Z. Retains R f₀ L Z g) (sym (append_assoc done stay N)) (leads (stay ++ N) g (Retains-append f h g first left stay N run r))
-
-  -- it went over all
-  pub Leads-end : (f₀ f : F) (L done : List X) → Leads f₀ L f done [] → Retains R f₀ L done f
-  Leads-end f₀ f L done leads = subst (λ Z. Retains R f₀ L Z f) (append-nil done) (leads [] f (refl, refl))
 
   -- no more elements stay than there were
   pub length-Retains : (f g : F) (L M : List X) → Retains R f L M g → length M ≤ length L
@@ -106,21 +94,21 @@ module _ {X : Type 0} (xs : List X) (k i : ℕ) (d : X) (before : k ≤ i) (belo
   pub drop-swap : drop (i + 1) (swap xs k i) ≡ drop (i + 1) xs
   drop-swap = ap (drop (i + 1)) swap-sets ∙ drop-set-lt (i + 1) (set xs k (get_or xs i d)) i (get_or xs k d) (omega arith) ∙ drop-set-lt (i + 1) xs k (get_or xs i d) (omega (arith, before))
 
-  module _ {F : Type 0} (R : F → X → Bool → F → Type 0) (f₀ f h : F) (L : List X) (leads : Leads R f₀ L f (take k xs) (drop i xs)) where
-    asked : (b : Bool) → R f (get_or xs i d) b h → Leads R f₀ L h (take k xs ++ cond b (get_or xs i d ∷ []) []) (drop (i + 1) xs)
+  module _ {F : Type 0} (R : F → X → Bool → F → Type 0) (f₀ f h : F) (L : List X) (leads : Leads (Retains R) f₀ L f (take k xs) (drop i xs)) where
+    asked : (b : Bool) → R f (get_or xs i d) b h → Leads (Retains R) f₀ L h (take k xs ++ cond b (get_or xs i d ∷ []) []) (drop (i + 1) xs)
     asked b call =
         let x = get_or xs i d in
-        Leads-next R f₀ f h L (take k xs) (x ∷ []) (cond b (x ∷ []) []) (drop (i + 1) xs)
-        (subst (λ Z. Leads R f₀ L f (take k xs) Z) (drop_more xs i d below) leads) (Retains-one R f h x b call)
+        Leads-next (Retains R) (Retains-append R) f₀ f h L (take k xs) (x ∷ []) (cond b (x ∷ []) []) (drop (i + 1) xs)
+        (subst (λ Z. Leads (Retains R) f₀ L f (take k xs) Z) (drop_more xs i d below) leads) (Retains-one R f h x b call)
 
     -- the element at place i stays
-    pub Leads-stays : R f (get_or xs i d) true h → Leads R f₀ L h (take (k + 1) (swap xs k i)) (drop (i + 1) (swap xs k i))
+    pub Leads-stays : R f (get_or xs i d) true h → Leads (Retains R) f₀ L h (take (k + 1) (swap xs k i)) (drop (i + 1) (swap xs k i))
     Leads-stays call =
-        subst (λ Z. Leads R f₀ L h Z (drop (i + 1) (swap xs k i))) (sym take-swap) (subst (λ Z. Leads R f₀ L h (take k xs ++ get_or xs i d ∷ []) Z) (sym drop-swap) (asked true call))
+        subst (λ Z. Leads (Retains R) f₀ L h Z (drop (i + 1) (swap xs k i))) (sym take-swap) (subst (λ Z. Leads (Retains R) f₀ L h (take k xs ++ get_or xs i d ∷ []) Z) (sym drop-swap) (asked true call))
 
     -- the element at place i goes
-    pub Leads-goes : R f (get_or xs i d) false h → Leads R f₀ L h (take k xs) (drop (i + 1) xs)
-    Leads-goes call = subst (λ Z. Leads R f₀ L h Z (drop (i + 1) xs)) (append-nil (take k xs)) (asked false call)
+    pub Leads-goes : R f (get_or xs i d) false h → Leads (Retains R) f₀ L h (take k xs) (drop (i + 1) xs)
+    Leads-goes call = subst (λ Z. Leads (Retains R) f₀ L h Z (drop (i + 1) xs)) (append-nil (take k xs)) (asked false call)
 
 module _ {K V : Type 0} where
   -- the same with the values as callers see them

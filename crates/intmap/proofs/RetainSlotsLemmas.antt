@@ -11,7 +11,8 @@ use Rattle.intmap.specs.Slots.{Held, rows, joined, AreMarked, IsTable, IsMarkedT
 use Rattle.intmap.proofs.FilledLemmas.{marks-set_at, marks-kept_at, joined-emptied}
 use Rattle.intmap.proofs.MarkedLemmas.{row-none}
 use Rattle.intmap.proofs.PlacesLemmas.{IsNextMark}
-use Rattle.intmap.proofs.RetainLemmas.{Leads, Leads-next, Leads-end, length-Retains, All-Retains}
+use Rattle.intmap.proofs.LeadsLemmas.{Leads, Leads-next, Leads-end}
+use Rattle.intmap.proofs.RetainLemmas.{Retains-append, length-Retains, All-Retains}
 use Rattle.intmap.proofs.TableLemmas.{length-rows}
 
 module _ {P : Type 0} where
@@ -90,11 +91,11 @@ module _ {K X : Type 0} (S : List (Held K X)) (marks : List Bool) (are : AreMark
 
   -- where there is no mark any more, R went over all
   pub Leads-all : {F : Type 0} (R : F → K × X → Bool → F → Type 0) (f₀ f : F) (L : List (K × X)) → ((j : ℕ) → from ≤ j → marked marks j ≡ false)
-      → Leads R f₀ L f (joined (take from (rows S))) (joined (drop from (rows S))) → Retains R f₀ L (joined (rows S)) f
+      → Leads (Retains R) f₀ L f (joined (take from (rows S))) (joined (drop from (rows S))) → Retains R f₀ L (joined (rows S)) f
   Leads-all R f₀ f L none leads =
       let empty = λ (j : ℕ) (le : from ≤ j). empty-unmarked j (none j le) in
       subst (λ Z. Retains R f₀ L Z f) (joined-before from (rows S) empty)
-      (Leads-end R f₀ f L (joined (take from (rows S))) (subst (λ Z. Leads R f₀ L f (joined (take from (rows S))) Z) (joined-none from (rows S) empty) leads))
+      (Leads-end (Retains R) f₀ f L (joined (take from (rows S))) (refl, refl) (subst (λ Z. Leads (Retains R) f₀ L f (joined (take from (rows S))) Z) (joined-none from (rows S) empty) leads))
 
   pub count-all : ((j : ℕ) → from ≤ j → marked marks j ≡ false) → length (joined (take from (rows S))) ≡ length (joined (rows S))
   count-all none = ap length (joined-before from (rows S) (λ j le. empty-unmarked j (none j le)))
@@ -138,12 +139,12 @@ module _ {K X : Type 0} (number : K → ℕ) (S : List (Held K X)) (marks : List
 
   module _ {F : Type 0} (R : F → K × X → Bool → F → Type 0) (f h : F) (run : Retains R f row s.pairs h) where
     -- R goes over the pairs of the slot
-    pub Leads-slot : (f₀ : F) (L : List (K × X)) → Leads R f₀ L f (joined (take from (rows S))) (joined (drop from (rows S)))
-        → Leads R f₀ L h (joined (take (place + 1) (rows (set S place s)))) (joined (drop (place + 1) (rows (set S place s))))
+    pub Leads-slot : (f₀ : F) (L : List (K × X)) → Leads (Retains R) f₀ L f (joined (take from (rows S))) (joined (drop from (rows S)))
+        → Leads (Retains R) f₀ L h (joined (take (place + 1) (rows (set S place s)))) (joined (drop (place + 1) (rows (set S place s))))
     Leads-slot f₀ L leads =
         let left = joined (drop (place + 1) (rows (set S place s))) in
-        subst (λ Z. Leads R f₀ L h Z left) (sym joined-taken)
-        (Leads-next R f₀ f h L (joined (take from (rows S))) row s.pairs left (subst (λ Z. Leads R f₀ L f (joined (take from (rows S))) Z) joined-left leads) run)
+        subst (λ Z. Leads (Retains R) f₀ L h Z left) (sym joined-taken)
+        (Leads-next (Retains R) (Retains-append R) f₀ f h L (joined (take from (rows S))) row s.pairs left (subst (λ Z. Leads (Retains R) f₀ L f (joined (take from (rows S))) Z) joined-left leads) run)
 
     -- no more pairs are left
     pub fewer : length (joined (rows (set S place s))) ≤ length (joined (rows S))

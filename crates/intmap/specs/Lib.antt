@@ -13,6 +13,7 @@ pub mod Map
 pub mod States
 pub mod Passing
 pub mod Retaining
+pub mod Writes
 pub mod Kept
 pub mod Locations
 pub mod Written

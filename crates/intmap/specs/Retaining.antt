@@ -17,16 +17,17 @@ module _ {F X : Type 0} where
   Retains R f [] M g = (M ≡ []) × (f ≡ g)
   Retains R f (x ∷ L) M g = (b : Bool) × (h : F) × (N : List X) × R f x b h × Retains R h L N g × (M ≡ cond b (x ∷ N) N)
 
+module _ {S X : Type 0} (next : S → X → S) where
+  -- the state behind all elements, each of which changes it
+  abbrev pub state_after : S → List X → S
+  state_after s [] = s
+  state_after s (x ∷ L) = state_after (next s x) L
+
 module _ {S X : Type 0} (says : S → X → Bool) (next : S → X → S) where
   -- the elements of which a test says true that has a state, which each element changes
   abbrev pub kept_from : S → List X → List X
   kept_from s [] = []
   kept_from s (x ∷ L) = cond (says s x) (x ∷ kept_from (next s x) L) (kept_from (next s x) L)
-
-  -- the state behind all elements
-  abbrev pub state_after : S → List X → S
-  state_after s [] = s
-  state_after s (x ∷ L) = state_after (next s x) L
 
 module _ {F X : Type 0} (R : F → X → Bool → F → Type 0) where
   -- what stays where each answer is that of a test of the element alone, and `Own` holds of the closure throughout
@@ -41,7 +42,7 @@ module _ {F X : Type 0} (R : F → X → Bool → F → Type 0) where
   -- what stays where each answer is that of a test with a state, and `Own` tells which state the closure is in; and that state
   pub Retains-kept_from : {S : Type 0} (Own : F → S → Type 0) (says : S → X → Bool) (next : S → X → S)
       → ((f : F) (x : X) (b : Bool) (g : F) (s : S) → Own f s → R f x b g → (b ≡ says s x) × Own g (next s x))
-      → (s : S) (f g : F) (L M : List X) → Own f s → Retains R f L M g → (M ≡ kept_from says next s L) × Own g (state_after says next s L)
+      → (s : S) (f g : F) (L M : List X) → Own f s → Retains R f L M g → (M ≡ kept_from says next s L) × Own g (state_after next s L)
   Retains-kept_from Own says next each s f g [] M own r = (r.0, subst (λ h. Own h s) r.1 own)
   Retains-kept_from Own says next each s f g (x ∷ L) M own r =
       let here = each f x r.0 r.1 s own r.3 in

@@ -7,6 +7,7 @@ ghost use Rattle.intmap.specs.Map.{IsMap};
 mod build;
 mod clear;
 mod drain;
+mod each;
 mod get;
 mod grow;
 mod insert;

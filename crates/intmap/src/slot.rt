@@ -5,6 +5,8 @@ ghost use Rattle.intmap.specs.Bindings.{swap_out, value_of};
 ghost use Rattle.intmap.specs.Reach.{through_first};
 ghost use Rattle.intmap.specs.Slots.{all_pairs, IsFilledInOrder};
 
+mod each;
+
 use crate::key::IntKey;
 use crate::steps::Steps;
 use crate::table::stored::Stored;

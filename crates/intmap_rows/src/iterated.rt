@@ -48,6 +48,7 @@ pub fn through_front(
             Ok(map) => pairs_text(alloc, &front_of(alloc, map.into_iter(), count)?),
             Err(cause) => refusal_text(alloc, cause, None),
         },
+        "for_each_add" => add_to_each(&mut maps.map, count).text(alloc),
         _ => with_key(alloc, &mut maps.map, name, count),
     }
 }
@@ -76,6 +77,17 @@ fn sum_of<I: Iterator<Item = (u64, u64)>>(alloc: Global, pairs: I) -> Result<Str
         seen.add(key, value);
     }
     seen.text(alloc)
+}
+
+// adds so much to each value, wrapped to 64 bits; answers which pairs there were, in the order in
+// which the closure was called
+fn add_to_each(map: &mut Map<'_>, more: u64) -> WalkSum {
+    let mut seen = WalkSum::new();
+    map.for_each_mut(|key, value| {
+        seen.add(key, *value);
+        *value = value.wrapping_add(more);
+    });
+    seen
 }
 
 // takes the map away, and leaves one as `new` makes it

@@ -7,3 +7,4 @@ pub mod Dense
 pub mod Table
 pub mod Floors
 pub mod Retained
+pub mod Values

@@ -12,4 +12,5 @@ pub mod retained;
 pub mod session;
 pub mod tally;
 pub mod totals;
+pub mod values;
 pub mod work;

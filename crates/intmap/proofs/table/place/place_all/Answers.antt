@@ -1,4 +1,4 @@
-use Rattle.std.proofs.Common.{◌≡◌, ◌+◌, ◌<◌, ◌++◌, ◌∙◌, suc, refl, length, set, sym, ap, arith, length-append, length-set}
+use Rattle.std.proofs.Common.{◌≡◌, ◌≢◌, ◌+◌, ◌<◌, ◌++◌, ◌∙◌, suc, refl, length, set, sym, ap, arith, length-append, length-set}
 use Rattle.std.specs.Prelude.{All}
 use Rattle.std.proofs.lemmas.List.{map-set}
 use Rattle.std.proofs.lemmas.List.Elements.{All-head, All-tail}
@@ -51,10 +51,10 @@ loop-index-preserved g c =
     let loop = c.loop-index.invariant in let old = c.loop-index.old.items in let i = c.in-Some.index in
     let at = goal.at.loop-index-preserved g c in let all = left g at.After-replace-slot (here g at.In-Some) in
     let ascending = rw c.in-Some.ensures.steps at loop.ascending in
-    let behind : All (λ j. i < j) c.next.new.self = λ k d below. ascending 0 (suc k) d (omega arith) (omega (arith, below)) in
+    let apart : All (λ j. i ≢ j) c.next.new.self = λ k d below q. let less = ascending 0 (suc k) d (omega arith) (omega (arith, below)) in omega (arith, less, q) in
     let pairs = c.replace-slot.result.pairs in let rest = pairs_at (rows old) c.next.new.self in
     let same : pairs_at (rows (set old i c.replace-slot.new.dest)) c.next.new.self ≡ rest =
-    ap (λ R. pairs_at R c.next.new.self) (map-set (λ h. h.pairs) old i c.replace-slot.new.dest) ∙ pairs_at-set (rows old) i c.replace-slot.new.dest.pairs c.next.new.self behind in
+    ap (λ R. pairs_at R c.next.new.self) (map-set (λ h. h.pairs) old i c.replace-slot.new.dest) ∙ pairs_at-set (rows old) i c.replace-slot.new.dest.pairs c.next.new.self apart in
     rw same (record {
       within = rw (length-set old i c.replace-slot.new.dest) (All-tail (λ place. place < length old) i c.next.new.self (rw c.in-Some.ensures.steps at loop.within));
       ascending = λ j k d less below. ascending (suc j) (suc k) d (omega (arith, less)) (omega (arith, below));

@@ -2,7 +2,9 @@ use Rattle.std.proofs.Common.{◌<◌, ◌∙◌, refl, ap, subst, arith, rules,
 use Rattle.std.proofs.lemmas.List.{drop_all}
 use Rattle.std.specs.declared.vec.Vec.{Vec}
 use Rattle.intmap.specs.Kept.{KeepsStored}
-use Rattle.intmap.proofs.RetainLemmas.{Leads-end, Leads-stays, Leads-goes}
+use Rattle.intmap.specs.Retaining.{Retains}
+use Rattle.intmap.proofs.LeadsLemmas.{Leads-end}
+use Rattle.intmap.proofs.RetainLemmas.{Leads-stays, Leads-goes}
 use Rattle.intmap.proofs.table.retain.retain_in.Goals as goal
 use Rattle.intmap.proofs.table.retain.retain_in.Goals.{then-f, else-f}
 
@@ -37,4 +39,4 @@ pub returns-clause-pairs : goal.returns-clause-pairs
 returns-clause-pairs g c =
     let loop = c.loop-i.invariant in let items = c.loop-i.pairs.items in
     let none = drop_all c.loop-i.i items (omega (arith, c.loop-i-test.false, c.len-i-end.ensures, loop.len, c.loop-i.pairs.ok.0)) in
-    rw c.truncate.ensures.items (Leads-end (KeepsStored g.F.FnMut) _ _ _ (take c.loop-i.kept items) (rw none at loop.leads))
+    rw c.truncate.ensures.items (Leads-end (Retains (KeepsStored g.F.FnMut)) _ _ _ (take c.loop-i.kept items) (refl, refl) (rw none at loop.leads))

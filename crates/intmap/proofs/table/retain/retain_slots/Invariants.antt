@@ -1,8 +1,9 @@
 use Rattle.std.proofs.Common.{◌≡◌, ◌-◌, ◌^◌, ◌<◌, length, take, drop}
 use denote.Param.Always.{always_mut}
 use Rattle.intmap.specs.Kept.{KeepsStored}
+use Rattle.intmap.specs.Retaining.{Retains}
 use Rattle.intmap.specs.Slots.{rows, joined, IsMarkedTable}
-use Rattle.intmap.proofs.RetainLemmas.{Leads}
+use Rattle.intmap.proofs.LeadsLemmas.{Leads}
 use Rattle.intmap.proofs.table.retain.retain_slots.Given as goal
 
 abbrev pub invariant-loop-place : goal.invariant-loop-place
@@ -12,7 +13,7 @@ invariant-loop-place g l = record {
   len : length l.slots.items ≡ length l.initial.slots.items;
   few : length (joined (rows l.slots.items)) < 2 ^ 64;
   count : l.count ≡ length (joined (take l.from (rows l.slots.items)));
-  leads : Leads (KeepsStored g.F.FnMut) l.initial.f (joined (rows l.initial.slots.items)) l.f (joined (take l.from (rows l.slots.items))) (joined (drop l.from (rows l.slots.items)));
+  leads : Leads (Retains (KeepsStored g.F.FnMut)) l.initial.f (joined (rows l.initial.slots.items)) l.f (joined (take l.from (rows l.slots.items))) (joined (drop l.from (rows l.slots.items)));
 }
 
 abbrev pub decreases-loop-place : goal.decreases-loop-place

@@ -1,0 +1,30 @@
+use Rattle.std.proofs.Common.{◌∙◌, sym, subst}
+use Rattle.intmap.specs.Kept.{unkept}
+use Rattle.intmap.specs.Map.{MapState}
+use Rattle.intmap.specs.Writes.{Writes, WritesAt}
+use Rattle.intmap.proofs.WritesLemmas.{keys_of-Writes, is_some-Writes, length-Writes, IsConsistent-Writes}
+use Rattle.intmap.proofs.map.IntMap.for_each_mut.Goals as goal
+
+pub invariant_of-self : goal.invariant_of-self
+invariant_of-self g c =
+    let left = c.write_each.ensures in
+    IsConsistent-Writes g.K.IntKey.number_of g.K.IntKey.is_key (WritesAt g.F.FnMut) c.args.f c.write_each.new.f c.self.inside.table.walk c.write_each.new.self.walk _ _ _ _ _
+    left.pairs left.capacity left.own c.self.invariant
+
+pub returns-clause-values : goal.returns-clause-values
+returns-clause-values g c =
+    (c.write_each.new.f, subst (λ (m : MapState _ _). Writes (WritesAt g.F.FnMut) c.args.f m.walk (unkept c.write_each.new.self.walk) c.write_each.new.f) c.self.view_is c.write_each.ensures.pairs)
+
+pub returns-clause-keys : goal.returns-clause-keys
+returns-clause-keys g c = rw (← c.self.view_is) (keys_of-Writes (WritesAt g.F.FnMut) _ _ _ _ c.write_each.ensures.pairs)
+
+pub returns-clause-updates : goal.returns-clause-updates
+returns-clause-updates g c q =
+    let same = is_some-Writes (WritesAt g.F.FnMut) g.K.IntKey.number_of q _ _ _ _ c.write_each.ensures.pairs in
+    rw (← c.self.view_is) (λ bound. sym same ∙ bound, λ bound. same ∙ bound)
+
+pub returns-clause-len : goal.returns-clause-len
+returns-clause-len g c = rw (← c.self.view_is) (length-Writes (WritesAt g.F.FnMut) _ _ _ _ c.write_each.ensures.pairs)
+
+pub returns-clause-map_after : goal.returns-clause-map_after
+returns-clause-map_after g c = (invariant_of-self g c).map

@@ -1,0 +1,16 @@
+use Rattle.std.proofs.Common.{subst}
+use Rattle.intmap.specs.Kept.{unkept}
+use Rattle.intmap.specs.Slots.{Grid, rows, joined}
+use Rattle.intmap.specs.Writes.{Writes, WritesAt}
+use Rattle.intmap.proofs.TableLemmas.{walk_of-joined}
+use Rattle.intmap.proofs.WritesLemmas.{Writes-unkept}
+use Rattle.intmap.proofs.table.each.Table+K+Kept+V+A.write_each.Goals as goal
+
+pub returns-clause-pairs : goal.returns-clause-pairs
+returns-clause-pairs g c =
+    let old = joined (rows c.self.inside.slots.items) in let new = joined (rows c.write_slots.new.slots.items) in
+    subst (λ (t : Grid _ _). Writes (WritesAt g.F.FnMut) c.args.f.now (unkept t.walk) (unkept new) c.write_slots.new.f) c.self.view_is
+    (Writes-unkept g.F.FnMut c.args.f.now c.write_slots.new.f old new c.write_slots.ensures.pairs)
+
+pub returns-clause-own : goal.returns-clause-own
+returns-clause-own g c = walk_of-joined g.K.IntKey.number_of c.write_slots.new.slots.items c.write_slots.ensures.table.table

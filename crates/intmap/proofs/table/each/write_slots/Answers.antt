@@ -1,0 +1,54 @@
+use Rattle.std.proofs.Common.{◌≡◌, ◌<◌, ◌∙◌, [], ◌∷◌, ◌++◌, length, refl, sym, ap, subst, arith, rules, of_calls, length-set, append_assoc}
+use Rattle.intmap.specs.Bits.{marked_places}
+use Rattle.intmap.specs.Kept.{WritesStored}
+use Rattle.intmap.specs.Slots.{rows}
+use Rattle.intmap.specs.Writes.{Writes}
+use Rattle.intmap.proofs.FilledLemmas.{pairs_at-marked}
+use Rattle.intmap.proofs.TableLemmas.{get_or-rows}
+use Rattle.intmap.proofs.WritesSlotsLemmas.{place-within, Leads-place, IsMarkedTable-Writes, Leads-places}
+use Rattle.intmap.proofs.table.each.write_slots.Goals as goal
+use Rattle.intmap.proofs.table.each.write_slots.Goals.{In-Some}
+
+pub loop-place-init : goal.loop-place-init
+loop-place-init g c =
+    let all = pairs_at-marked (rows c.args.slots.now.items) c.args.bits.now c.requires.table.marks in
+    rw (c.into_iter-place-iterator.ensures.into_iter_gives ∙ c.iter-place-items.ensures) (record {
+      callable = λ always. always;
+      table = c.requires.table;
+      len = refl;
+      passed = ([], refl, λ N last run. rw all at run);
+    })
+
+module _ (g : _) (c : In-Some g) where
+  -- the place at hand is the next one of those that are marked
+  next : c.loop-place.invariant.passed.0 ++ c.in-Some.place ∷ c.next.new.self ≡ marked_places c.args.bits.now
+  next = rw c.in-Some.ensures.steps at c.loop-place.invariant.passed.1
+
+  within : c.in-Some.place < length c.loop-place.slots.items
+  within = place-within c.loop-place.slots.items c.args.bits.now c.loop-place.invariant.table.marks c.loop-place.invariant.passed.0 c.in-Some.place c.next.new.self next
+
+pub index_mut-requires : goal.index_mut-requires
+index_mut-requires g c = let below = within g (goal.at.index_mut-requires g c).In-Some in omega (arith, below, c.loop-place.slots.ok.0)
+
+pub loop-place-preserved : goal.loop-place-preserved
+loop-place-preserved g c =
+    let at = (goal.at.loop-place-preserved g c).In-Some in let loop = c.loop-place.invariant in let R = WritesStored g.F.FnMut in
+    let S = c.loop-place.slots.items in let marks = c.args.bits.now in let before = loop.passed.0 in let place = c.in-Some.place in let rest = c.next.new.self in
+    let s = c.write_each.new.self in let is = next g at in
+    let row = ap (λ h. h.pairs) c.index_mut.ensures.value ∙ sym (get_or-rows S place c.index_mut.result.now (within g at)) in
+    let run = subst (λ ps. Writes R c.loop-place.f ps s.pairs c.write_each.new.f) row c.write_each.ensures.pairs in
+    record {
+      callable = search (of_calls, rules);
+      table = IsMarkedTable-Writes S marks loop.table.marks before place rest is s R _ _ run g.K.IntKey.number_of loop.table;
+      len = length-set S place s ∙ loop.len;
+      passed = (
+        before ++ place ∷ [],
+        append_assoc before (place ∷ []) rest ∙ is,
+        Leads-place S marks loop.table.marks before place rest is s R _ _ run _ _ (rw c.in-Some.ensures.steps at loop.passed.2),
+      );
+    }
+
+pub returns-clause-pairs : goal.returns-clause-pairs
+returns-clause-pairs g c =
+    let loop = c.loop-place.invariant in let none = c.in-None.ensures.steps.0 in
+    Leads-places (WritesStored g.F.FnMut) c.loop-place.slots.items c.args.bits.now _ _ _ loop.passed.0 loop.table.marks (rw none at loop.passed.1) (rw none at loop.passed.2)

@@ -1,0 +1,38 @@
+//! A call at each pair, with its value to be written.
+ghost use Rattle.std.specs.Prelude.{◌≡◌, ◌↔◌, length};
+ghost use Rattle.std.specs.Map.{keys_of};
+ghost use Rattle.intmap.specs.Bindings.{IsBound};
+ghost use Rattle.intmap.specs.Map.{IsMap};
+ghost use Rattle.intmap.specs.Writes.{Writes, WritesAt};
+
+use crate::key::IntKey;
+use crate::map::IntMap;
+use std::alloc::Allocator;
+
+impl<K: IntKey, V, A: Allocator + Copy> IntMap<K, V, A> {
+    /// Calls the closure once at each pair, in the order of the walk, with the key and a reference
+    /// by which it may write the value; what it changes of its own is there at the next call.
+    ///
+    /// The keys, their order and their number stay, and so do the capacity, the load factor and
+    /// both counts: no key is compared. It is never refused and takes no memory, and apart from the
+    /// calls its time grows with the number of pairs and, by one bit each, of slots.
+    ///
+    /// ```text
+    /// after insert(0, 10), insert(1, 11) and insert(4, 14) into 4 slots the walk is 0, 4, 1:
+    /// for_each_mut(|key, value| *value += key)    leaves 10, 18 and 12
+    /// ```
+    pub fn for_each_mut<F: FnMut(K, &mut V)>(&mut self, f: F)
+        requires { F.IsAlwaysCallable f }
+        ensures values { (last : F) × Writes (WritesAt F.FnMut) f self.old.walk self.new.walk last }
+        ensures state { self.new ≡ record self.old { walk = self.new.walk } }
+        ensures keys { keys_of self.new.walk ≡ keys_of self.old.walk }
+        ensures updates { (q : K)
+            → IsBound K.number_of self.new.walk q ↔ IsBound K.number_of self.old.walk q }
+        ensures len { length self.new.walk ≡ length self.old.walk }
+        ensures map { IsMap K.number_of K.is_key self.old }
+        ensures map_after { IsMap K.number_of K.is_key self.new }
+    {
+        let mut f = f;
+        self.table.write_each(&mut f);
+    }
+}

@@ -1,0 +1,35 @@
+//! A call at each pair of a slot, with its value to be written.
+ghost use Rattle.intmap.specs.Kept.{WritesStored};
+ghost use Rattle.intmap.specs.Writes.{Writes};
+
+use crate::kept::Kept;
+use crate::key::IntKey;
+use crate::slot::Slot;
+use crate::table::each::write_pair;
+use crate::table::stored::Stored;
+use std::alloc::Allocator;
+
+/// Calls the closure at each pair in turn, with its value to be written.
+fn write_in<K: IntKey, V, F: FnMut(K, &mut V)>(pairs: &mut [(Stored<K>, Kept<V>)], f: &mut F)
+    requires { F.IsAlwaysCallable f.old }
+    ensures pairs { Writes (WritesStored F.FnMut) f.old pairs.old pairs.new f.new }
+    ensures callable { F.IsAlwaysCallable f.new }
+{
+    for pair in pairs.iter_mut() {
+        write_pair(pair, f);
+    }
+}
+
+impl<K: IntKey, V, A: Allocator> Slot<K, Kept<V>, A> {
+    /// Calls the closure at each pair in turn, with its value to be written.
+    pub(crate) fn write_each<F: FnMut(K, &mut V)>(&mut self, f: &mut F)
+        requires { F.IsAlwaysCallable f.old }
+        ensures pairs { Writes (WritesStored F.FnMut) f.old self.old.pairs self.new.pairs f.new }
+        ensures callable { F.IsAlwaysCallable f.new }
+    {
+        if let Some(pair) = &mut self.first {
+            write_pair(pair, f);
+        }
+        write_in(self.rest.as_mut_slice(), f);
+    }
+}
