@@ -20,3 +20,5 @@ pub mod Written
 pub mod Lending
 pub mod Entries
 pub mod Draining
+pub mod Apart
+pub mod Values

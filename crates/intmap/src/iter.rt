@@ -4,6 +4,7 @@ ghost use Rattle.std.specs.Iterator.{YieldsFirstBy, item_count};
 
 mod drain;
 mod owned;
+mod writing;
 
 use crate::kept::Kept;
 use crate::key::IntKey;
@@ -12,6 +13,7 @@ pub use drain::Drain;
 pub use owned::IntoIter;
 use std::alloc::{Allocator, Global};
 use std::marker::Model;
+pub use writing::{IterMut, ValuesMut};
 
 /// The pairs of a map by reference, made by [`IntMap::iter`](crate::IntMap::iter). Contracts see
 /// it as the list of the pairs that are left.

@@ -6,6 +6,7 @@ pub mod iter;
 mod kept;
 mod key;
 pub mod laws;
+mod lent;
 mod load;
 mod map;
 mod refusal;

@@ -11,6 +11,7 @@ mod each;
 mod get;
 mod grow;
 mod insert;
+mod lend;
 mod locate;
 mod remove;
 mod retain;

@@ -8,3 +8,5 @@ mod drops;
 mod keys;
 #[cfg(test)]
 mod texts;
+#[cfg(test)]
+mod written;

@@ -14,3 +14,4 @@ pub mod tally;
 pub mod totals;
 pub mod values;
 pub mod work;
+pub mod written;

@@ -1,0 +1,19 @@
+use Rattle.std.proofs.Common.{refl, ap, ◌∙◌}
+use Rattle.intmap.specs.Apart.{lent_pairs}
+use Rattle.intmap.proofs.ValuesLemmas.{keys_of-refilled, length-refilled}
+use Rattle.intmap.proofs.map.IntMap.iter_mut.Goals as goal
+
+pub returns : goal.returns
+returns g c =
+    let holes = c.lend-lent.ensures.holes in
+    let walk = c.args.self.now.walk in
+    (
+      (refl, λ last. refl),
+      record {
+        writes_back = tt;
+        walk = ap lent_pairs c.pairs.ensures ∙ holes.0;
+        keys = keys_of-refilled (λ v. v) walk;
+        len = length-refilled (λ v. v) walk;
+        map = holes.2;
+      },
+    )

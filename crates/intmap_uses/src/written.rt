@@ -1,0 +1,49 @@
+//! Values that are written in one walk over a map, with the keys left as they are.
+ghost use Rattle.std.specs.Prelude.{◌≡◌, length};
+ghost use Rattle.std.specs.Map.{keys_of};
+
+use intmap::{IntKey, IntMap};
+use std::alloc::Allocator;
+
+/// Sets the first values of the walk to zero, so many or all where there are fewer, and goes no
+/// further. The keys keep their order, and the map its slots.
+pub fn clear_first<K: IntKey, A: Allocator + Copy>(map: &mut IntMap<K, u64, A>, count: usize)
+    ensures keys { keys_of map.new.walk ≡ keys_of map.old.walk }
+    ensures len { length map.new.walk ≡ length map.old.walk }
+    ensures capacity { map.new.capacity ≡ map.old.capacity }
+    ensures factor { map.new.factor ≡ map.old.factor }
+{
+    let mut left = count;
+    for (_, value) in map.iter_mut() {
+        if left == 0 {
+            return;
+        }
+        *value = 0;
+        left -= 1;
+    }
+}
+
+/// Adds to each value, modulo 2^64. The keys keep their order, nothing is compared, and no pair is
+/// put anew.
+pub fn add_to_all<K: IntKey, A: Allocator + Copy>(map: &mut IntMap<K, u64, A>, more: u64)
+    ensures keys { keys_of map.new.walk ≡ keys_of map.old.walk }
+    ensures capacity { map.new.capacity ≡ map.old.capacity }
+    ensures placed { map.new.placed ≡ map.old.placed }
+    ensures compared { map.new.compared ≡ map.old.compared }
+{
+    for value in map.values_mut() {
+        *value = value.wrapping_add(more);
+    }
+}
+
+/// Binds each key to itself. The keys keep their order, and the map its slots.
+pub fn bind_to_themselves<A: Allocator + Copy>(map: &mut IntMap<u64, u64, A>)
+    ensures keys { keys_of map.new.walk ≡ keys_of map.old.walk }
+    ensures len { length map.new.walk ≡ length map.old.walk }
+    ensures capacity { map.new.capacity ≡ map.old.capacity }
+    ensures factor { map.new.factor ≡ map.old.factor }
+{
+    for (key, value) in &mut *map {
+        *value = *key;
+    }
+}
