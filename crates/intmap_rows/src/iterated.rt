@@ -5,10 +5,19 @@ use crate::call::with_key;
 use crate::many::WalkSum;
 use crate::maps::{Map, Maps};
 use crate::retained::retain;
-use crate::text::{list_text, pairs_text, refusal_text};
+use crate::text::{list_text, number_text, pairs_text, refusal_text};
 use intmap::{Cause, IntMap};
 use std::alloc::{AllocError, Global};
 use std::mem;
+
+/// What becomes of an iterator that isn't asked for more.
+#[derive(Clone, Copy)]
+enum End {
+    /// It is let go.
+    Dropped,
+    /// It is forgotten, so that nothing is done with it.
+    Forgotten,
+}
 
 /// The answer to a call that takes all pairs out, or that asks iterators how many items are left.
 pub fn through_all(alloc: Global, maps: &mut Maps<'_>, name: &str) -> Result<String, AllocError> {
@@ -37,17 +46,15 @@ pub fn through_front(
         }
         "keys" => list_text(alloc, &front_of(alloc, maps.map.keys().copied(), count)?),
         "values" => list_text(alloc, &front_of(alloc, maps.map.values().copied(), count)?),
-        "drain" => pairs_text(alloc, &front_of(alloc, maps.map.drain(), count)?),
-        "drain_forget" => {
-            let mut drain = maps.map.drain();
-            let pairs = front_of(alloc, drain.by_ref(), count)?;
-            mem::forget(drain);
-            pairs_text(alloc, &pairs)
-        }
+        "drain" => drained(alloc, &mut maps.map, count, End::Dropped),
+        "drain_forget" => drained(alloc, &mut maps.map, count, End::Forgotten),
         "into_iter" => match taken(maps) {
             Ok(map) => pairs_text(alloc, &front_of(alloc, map.into_iter(), count)?),
             Err(cause) => refusal_text(alloc, cause, None),
         },
+        "iter_mut" => written(alloc, &mut maps.map, count, End::Dropped),
+        "iter_mut_forget" => written(alloc, &mut maps.map, count, End::Forgotten),
+        "values_mut" => number_text(alloc, u128::from(add_to_values(&mut maps.map, count))),
         "for_each_add" => add_to_each(&mut maps.map, count).text(alloc),
         _ => with_key(alloc, &mut maps.map, name, count),
     }
@@ -66,6 +73,17 @@ fn front_of<T: Drop, I: Iterator<Item = T>>(
         front.push(item)?;
     }
     Ok(front)
+}
+
+// takes so many pairs out
+fn drained(alloc: Global, map: &mut Map<'_>, count: u64, end: End) -> Result<String, AllocError> {
+    let mut left = map.drain();
+    let pairs = front_of(alloc, left.by_ref(), count)?;
+    match end {
+        End::Dropped => drop(left),
+        End::Forgotten => mem::forget(left),
+    }
+    pairs_text(alloc, &pairs)
 }
 
 // how many pairs there are, and their sum
@@ -90,6 +108,37 @@ fn add_to_each(map: &mut Map<'_>, more: u64) -> WalkSum {
     seen
 }
 
+// adds one to the first value, two to the second, and so on, of so many pairs; answers the pairs then
+fn written(alloc: Global, map: &mut Map<'_>, count: u64, end: End) -> Result<String, AllocError> {
+    let mut pairs = Vec::new(alloc);
+    let mut left = map.iter_mut();
+    for place in 0..count {
+        let Some((key, value)) = left.next() else {
+            break;
+        };
+        *value = value.wrapping_add(place).wrapping_add(1);
+        pairs.push((*key, *value))?;
+    }
+    match end {
+        End::Dropped => drop(left),
+        End::Forgotten => mem::forget(left),
+    }
+    pairs_text(alloc, &pairs)
+}
+
+// does the same by the values alone; answers how many there were
+fn add_to_values(map: &mut Map<'_>, count: u64) -> u64 {
+    let mut place = 0u64;
+    for value in map.values_mut() {
+        if place == count {
+            break;
+        }
+        place = place.wrapping_add(1);
+        *value = value.wrapping_add(place);
+    }
+    place
+}
+
 // takes the map away, and leaves one as `new` makes it
 fn taken<'a>(maps: &mut Maps<'a>) -> Result<Map<'a>, Cause> {
     let fresh = IntMap::new(maps.memory)?;
@@ -101,6 +150,8 @@ fn size_hints(alloc: Global, maps: &mut Maps<'_>) -> Result<String, AllocError> 
     let pairs = maps.map.iter().size_hint();
     let keys = maps.map.keys().size_hint();
     let values = maps.map.values().size_hint();
+    let written = maps.map.iter_mut().size_hint();
+    let values_mut = maps.map.values_mut().size_hint();
     let drain = maps.map.drain().size_hint();
-    format!(in alloc; "{pairs:?} {keys:?} {values:?} {drain:?}")
+    format!(in alloc; "{pairs:?} {keys:?} {values:?} {written:?} {values_mut:?} {drain:?}")
 }
