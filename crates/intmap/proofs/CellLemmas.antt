@@ -3,8 +3,8 @@ use mathlib.Core.Path.{refl}
 use Prim.Native.Nat.{ℕ}
 use mathlib.Core.List.{List, [], ◌∷◌}
 use seplogic.Ra.Ura.{Ura}
-use base.Fml.{Lft, GName, Share, Fml, flft, fbor, fobs}
-use base.Logic.{ent, sep, emp, id⊢}
+use base.Fml.{Lft, GName, Share, flft, fbor, fobs}
+use base.Logic.{ent, sep, emp}
 use base.Stored.{coded_list}
 use mir.Syntax.{Lifetime}
 use mir.Val.{Val, vptr, vstruct, vcons, vnil}

@@ -37,6 +37,7 @@ pub mod CellLemmas
 pub mod OpensLemmas
 pub mod OpensVecLemmas
 pub mod OpensStructLemmas
+pub mod OpensTurnedLemmas
 pub mod OpensPairLemmas
 pub mod OpensOptionLemmas
 pub mod OpensSlotLemmas

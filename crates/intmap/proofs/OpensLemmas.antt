@@ -7,11 +7,13 @@ use seplogic.Ra.Ura.{Ura}
 use base.Fraction.{full_share}
 use base.Logic.{SProp, ent, sep, emp, id⊢, never_e}
 use base.Fml.{Lft, Fml, ftrue, fsep}
+use contract.Monad.{fact}
+use contract.Fact.{fact_i}
 use prog.Memory.{size}
 use types.Logic.{Logic, sem}
-use types.Kit.{Item, ‵, raw, ◌⊛◌, some, pick, show, mean, ◌$◌, ◌∵◌, !, qed, move, keep, drop, use0, use1, use2, use3, split, split3, join, fsplit, fjoin, rewrite, done}
+use types.Kit.{Item, ‵, raw, ◌⊛◌, some, pick, show, mean, given, ◌$◌, ◌∵◌, !, qed, by, learn, move, keep, drop, use0, use1, use2, use3, split, split3, join, fsplit, fjoin, rewrite, done}
 use denote.RattleType.{RattleType}
-use denote.RawPtr.{Ptr}
+use denote.RawPtr.{Ptr, lies_at}
 use denote.Steps.{nothing}
 use denote.Memory.{part_at, shared_of, lone, each_shared}
 use denote.Index.{row}
@@ -24,6 +26,14 @@ module _ (V : RattleType) where
   Cells = List (Ptr × V.Denot)
 
   module _ {M : Type 1} {𝓤 : Ura M} (𝓛 : Logic 𝓤) where
+    -- there are as many values as places
+    pub length-each_at : (ps : List Ptr) (ws : List V.Denot) → ent 𝓤 (sem 𝓛 (each_at V ps ws)) (fact 𝓤 (length ws ≡ length ps))
+    length-each_at [] [] = fact_i 𝓤 _ (emp 𝓤) refl
+    length-each_at [] (w ∷ ws) = never_e 𝓤 _
+    length-each_at (p ∷ ps) [] = never_e 𝓤 _
+    length-each_at (p ∷ ps) (w ∷ ws) = qed 𝓛 (‵ (lies_at V full_share p w) ∷ ‵ (each_at V ps ws) ∷ []) ∵ drop ! $
+        use1 𝓛 (given (length ws ≡ length ps) (‵ ftrue)) (length-each_at ps ws) $ learn ! (λ e. by ! (fact_i 𝓤 (suc (length ws) ≡ suc (length ps)) (emp 𝓤) (ap suc e)))
+
     -- cells, and further ones
     pub glue : (cs ds : Cells) → ent 𝓤 (sep 𝓤 (sem 𝓛 (each_at V (places_of cs) (contents_of cs))) (sem 𝓛 (each_at V (places_of ds) (contents_of ds)))) (sem 𝓛 (each_at V (places_of (cs ++ ds)) (contents_of (cs ++ ds))))
     glue [] ds = qed 𝓛 (‵ (each_at V [] []) ∷ ‵ (each_at V (places_of ds) (contents_of ds)) ∷ []) ∵ drop ! $ done !
@@ -92,6 +102,7 @@ module _ {M : Type 1} {𝓤 : Ura M} (𝓛 : Logic 𝓤) (V R R' : RattleType) (
   row_counts [] i b o = refl
   row_counts (x ∷ xs) i b o = length-append (O.cells x i.0 b o) (row_cells xs i.1 b (o + s)) ∙ (λ j. O.counts x i.0 b o j + row_counts xs i.1 b (o + s) j)
 
+  -- each element takes its values, the first ones first
   abbrev pub row_put : List R.Denot → List V.Denot → List R.Denot
   row_put [] ws = []
   row_put (x ∷ xs) ws = O.put x (take (O.count x) ws) ∷ row_put xs (drop_l (O.count x) ws)
@@ -133,6 +144,7 @@ module _ {M : Type 1} {𝓤 : Ura M} (𝓛 : Logic 𝓤) (V R R' : RattleType) (
   abbrev pub RowOpen : (xs : List R.Denot) → ℕ → ℕ → row_Info xs → Item 𝓤
   RowOpen xs b o i = ‵ (Lie (row_cells xs i b o)) ⊛ ‵ (row_frame xs i b o) ⊛ raw (row_Back xs i b o)
 
+  -- each element in turn is taken apart
   pub row_out : (xs : List R.Denot) (b o : ℕ) → ent 𝓤 (sem 𝓛 (row R full_share xs b o)) (mean 𝓛 (some (RowOpen xs b o)))
   row_out [] b o = qed 𝓛 (‵ ftrue ∷ []) ∵ show ! (λ (i : row_Info []). mean 𝓛 (RowOpen [] b o i)) tt $ nothing ! $ use0 𝓛 (raw (emp 𝓤)) (id⊢ 𝓤 (emp 𝓤)) $ move ! (1 ∷ 2 ∷ 0 ∷ []) $ done !
   row_out (x ∷ xs) b o =
@@ -144,6 +156,7 @@ module _ {M : Type 1} {𝓤 : Ura M} (𝓛 : Logic 𝓤) (V R R' : RattleType) (
       move ! (3 ∷ 0 ∷ []) $ use2 𝓛 (‵ (Lie (cs ++ ds))) (glue V 𝓛 cs ds) $
       move ! (3 ∷ 1 ∷ []) $ fjoin ! $ move ! (3 ∷ 2 ∷ []) $ join ! $ show ! (λ (k : row_Info (x ∷ xs)). mean 𝓛 (RowOpen (x ∷ xs) b o k)) (i, is) $ move ! (2 ∷ 1 ∷ 0 ∷ []) $ done !))
 
+  -- and put together
   pub row_back : (xs : List R.Denot) (i : row_Info xs) (b o : ℕ) (ws : List V.Denot)
       → ent 𝓤 (sep 𝓤 (sem 𝓛 (each_at V (places_of (row_cells xs i b o)) ws)) (sep 𝓤 (sem 𝓛 (row_frame xs i b o)) (row_Back xs i b o))) (sem 𝓛 (row R full_share (row_put xs ws) b o))
   row_back [] i b o ws = qed 𝓛 (‵ (each_at V [] ws) ∷ ‵ ftrue ∷ raw (emp 𝓤) ∷ []) ∵ keep ! (1 ∷ []) $ done !
@@ -157,6 +170,7 @@ module _ {M : Type 1} {𝓤 : Ura M} (𝓛 : Logic 𝓤) (V R R' : RattleType) (
       move ! (4 ∷ 2 ∷ 0 ∷ []) $ use3 𝓛 (‵ (part_at R full_share (O.put x (take (O.count x) ws)) b o)) (O.back x i.0 b o (take (O.count x) ws)) $
       move ! (3 ∷ 2 ∷ 1 ∷ []) $ use3 𝓛 (‵ (row R full_share (row_put xs (drop_l (O.count x) ws)) b (o + s))) (row_back xs i.1 b (o + s) (drop_l (O.count x) ws)) $ move ! (1 ∷ []) $ fjoin ! $ done !
 
+  -- what is left of all of them is lent
   pub row_lends : (xs : List R.Denot) (i : row_Info xs) (b o : ℕ) → Lends 𝓛 (row_frame xs i b o) (each_shared (row_holed xs i b o) (shared_of R') s b o) l
   row_lends [] i b o = Lends-nothing 𝓛 ftrue l
   row_lends (x ∷ xs) i b o = Lends-both 𝓛 (O.frame x i.0 b o) (row_frame xs i.1 b (o + s)) (shared_of R' (O.holed x i.0 b o) b o) (each_shared (row_holed xs i.1 b (o + s)) (shared_of R') s b (o + s)) l (O.lends x i.0 b o) (row_lends xs i.1 b (o + s))

@@ -80,6 +80,7 @@ module _ (K' V' : RattleType) (g : key.Ghosts K'.Denot) (e : eq.Ghosts K'.Denot)
     abbrev O : Opens 𝓛 (V V') (Pr K' V' g e) (PHr K' V' g e) l
     O = pair_opens K' V' g e LK LV 𝓛 l ik
 
+    -- an option is shared as it is
     pub option_shares : Shares 𝓛 Or l
     option_shares =
         let both = in_all l (St K' V' g e ∷ Kr V' ∷ []) (S-laws.the_within (K K' V' g e) g e l ik, (K-laws.the_within (V V') l iv, tt)) in
@@ -180,6 +181,7 @@ module _ (K' V' : RattleType) (g : key.Ghosts K'.Denot) (e : eq.Ghosts K'.Denot)
         (Lends-both 𝓛 (O.frame x i b (o + e₂)) (Left b o) s₂ (left_seen b o) l (O.lends x i b (o + e₂)) (Lends-left b o)) κ ts inc sp) $ await ! tt $ split ! $ fsplit3 ! $
         nothing ! $ move ! (2 ∷ 0 ∷ []) $ fjoin ! $ move ! (1 ∷ 0 ∷ []) $ fjoin ! $ fjoin ! $ at_once ! $ done !)
 
+    -- an option of a pair is lent as one of a pair with a hole
     abbrev pub option_opens : Opens 𝓛 (V V') Or OHr l
     option_opens = record {
       Info = Info;

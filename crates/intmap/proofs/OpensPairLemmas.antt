@@ -66,6 +66,7 @@ module _ (V' : RattleType) where
     abbrev pub KeptBack : ℕ → ℕ → SProp 𝓤
     KeptBack b o = PartsBack 𝓛 full_share (K-type.the_type V).name ks b o
 
+    -- the value is taken out of its wrapper
     kept_out : (x : Kept V.Denot) (b o : ℕ) → ent 𝓤 (sem 𝓛 (part_at Kr full_share x b o)) (sep 𝓤 (sem 𝓛 (lies_at V full_share (block_ptr b o) x.value)) (KeptBack b o))
     unfolding part_of
     kept_out x b o = let T = K-type.the_type V in
@@ -74,6 +75,7 @@ module _ (V' : RattleType) where
         (record_field_out 𝓛 full_share T.name ks T.D T.to T.to_one ((param_laws 1 V' L).lawful 𝓛, tt) x b o 0) $ split3 ! $
         rewrite ! 0 (λ (k : ℕ). ‵ (part_at V full_share x.value b k)) (first_at (align (lone V.mir)) o) refl $ keep ! (0 ∷ 2 ∷ []) $ done !
 
+    -- and put in again
     kept_in : (w : V.Denot) (b o : ℕ) → ent 𝓤 (sep 𝓤 (sem 𝓛 (lies_at V full_share (block_ptr b o) w)) (KeptBack b o)) (sem 𝓛 (part_at Kr full_share (record { value = w }) b o))
     unfolding part_of
     kept_in w b o = let T = K-type.the_type V in let x : Kept V.Denot = record { value = w } in
@@ -171,9 +173,11 @@ module _ (K' V' : RattleType) (g : key.Ghosts K'.Denot) (e : eq.Ghosts K'.Denot)
     pair_whole y b o = id⊢ 𝓤 _
 
     module _ (l : Lft) (ik : Incl l K'.lives) where
+      -- a stored key is shared as it is
       pub stored_shares : Shares 𝓛 St l
       stored_shares = Shares-less 𝓛 St St.lives l (S-laws.the_within K g e l ik) ((S-laws.the_row_laws K g e (copied_laws 0 K' LK)).shares 𝓛)
 
+      -- a pair is lent as one with a hole
       abbrev pub pair_opens : Opens 𝓛 (V V') Pr PHr l
       pair_opens =
           two_opens 𝓛 (V V') l m₁ m₂ St (Hr V') ν (still 𝓛 (V V') St l stored_shares) (kept_opens V' LV 𝓛 l) ones

@@ -1,10 +1,9 @@
 -- A slot, whose values are lent. Assumes `Logic`.
-use mathlib.Core.Path.{◌≡◌, refl, ap, sym, subst, ◌∙◌}
+use mathlib.Core.Path.{◌≡◌, refl, ap, sym, ◌∙◌}
 use Prim.Native.Nat.{ℕ, ◌+◌}
 use native.Mathlib.Omega.{arith}
-use native.Mathlib.Nat.{suc-ne-zero}
-use mathlib.Core.List.{List, [], ◌∷◌, ◌++◌}
-use lib.ListN.{length, take, drop}
+use mathlib.Core.List.{List, [], ◌∷◌, ◌++◌, reverse}
+use lib.ListN.{length, take, drop, length-reverse}
 use seplogic.Ra.Ura.{Ura}
 use base.Fraction.{full_share}
 use mir.Syntax.{Sym}
@@ -21,7 +20,7 @@ use denote.Struct.Field.{RawPtr-field, usize-field, row_field, rows}
 use denote.Struct.Members.{Member, rows_of, Lones}
 use denote.Struct.Parts.{shape_of}
 use denote.Struct.Struct.{Struct}
-use Rattle.std.specs.Prelude.{Option, Some, None}
+use Rattle.std.specs.Prelude.{Option, Some, None, is_none}
 use Rattle.std.specs.contracts.vec.Vec as V-type
 use Rattle.std.proofs.vec.Vec.TheLaws as V-laws
 use Rattle.std.proofs.option.Option.TheLaws as Op-laws
@@ -34,12 +33,13 @@ use Rattle.std.specs.Map.{values_of}
 use Rattle.intmap.specs.declared.slot.Slot as declared
 use Rattle.intmap.specs.contracts.slot.Slot as L-type
 use Rattle.intmap.specs.contracts.slot.Slot.TheInside as I-type
-use Rattle.intmap.specs.Slots.{Held, all_pairs, IsFilledInOrder}
+use Rattle.intmap.specs.Slots.{Held, held_pairs}
 use Rattle.intmap.specs.Values.{refilled}
-use Rattle.intmap.proofs.ValuesLemmas.{kept, kept_pairs, refilled_slot, kept_slot}
+use Rattle.intmap.proofs.ValuesLemmas.{kept, kept_pair, kept_pairs, refilled-turned, refilled_slot, kept_slot}
 use Rattle.intmap.proofs.OpensLemmas.{Opens, row_put, row_count, row_cells_in, row_fill}
 use Rattle.intmap.proofs.OpensVecLemmas.{vec_opens}
 use Rattle.intmap.proofs.OpensStructLemmas.{two_opens, view_opens}
+use Rattle.intmap.proofs.OpensTurnedLemmas.{in_turn, map-reverse, turned_opens}
 use Rattle.intmap.proofs.OpensPairLemmas.{V, K, Kr, Hr, Pr, PHr, pair_laws, pair_opens}
 use Rattle.intmap.proofs.OpensOptionLemmas.{Or, OHr, option_opens, option_put, option_fill, option_count, option_cells_in}
 
@@ -106,8 +106,8 @@ module _ (K' V' A' : RattleType) (g : key.Ghosts K'.Denot) (e : eq.Ghosts K'.Den
       abbrev pub rest_opens : Opens 𝓛 (V V') Vr VHr l
       rest_opens = vec_opens 𝓛 (V V') (Pr K' V' g e) (PHr K' V' g e) l PO tt A a (copied_laws 2 A' LA) words_live
 
-      abbrev pub inside_opens : Opens 𝓛 (V V') Ir IHr l
-      inside_opens =
+      abbrev pub field_opens : Opens 𝓛 (V V') Ir IHr l
+      field_opens =
           two_opens 𝓛 (V V') l m₁ m₂ (OHr K' V' g e) VHr ν (option_opens K' V' g e LK LV 𝓛 l ik iv) rest_opens ones
           Ir IHr to_two of_two (λ s. refl) slot_apart slot_whole (λ f r. record { first = f; rest = r }) (λ s. s.first) (λ s. s.rest) (λ f r. refl) (λ f r. refl) (λ f r b o κ. id⊢ 𝓤 _) refl
 
@@ -147,35 +147,34 @@ module _ (K' V' A' : RattleType) (g : key.Ghosts K'.Denot) (e : eq.Ghosts K'.Den
       abbrev fill_first : (OHr K' V' g e).Denot → Option P
       fill_first = option_fill K' V' g e LK LV 𝓛 l ik iv
 
-      pairs-put : (f : Option P) (L : List P) (ws : List V'.Denot) → all_pairs (put_first f (take (count_first f) ws)) (puts L (drop (count_first f) ws)) ≡ refilled kept (all_pairs f L) ws
-      pairs-put None L ws = puts-is L ws
-      pairs-put (Some p) L [] = ap (λ M. p ∷ M) (puts-none L)
-      pairs-put (Some p) L (w ∷ ws) = ap (λ M. (p.0, kept w) ∷ M) (puts-is L ws)
+      none-fill : (f : (OHr K' V' g e).Denot) → is_none (fill_first f) ≡ is_none f
+      none-fill None = refl
+      none-fill (Some h) = refl
 
-      order-put : (f : Option P) (L : List P) (ws : List V'.Denot) → IsFilledInOrder f L → IsFilledInOrder (put_first f (take (count_first f) ws)) (puts L (drop (count_first f) ws))
-      order-put None L ws none = ap (λ M. puts M ws) none
-      order-put (Some p) L ws o = tt
+      pub fields-agree : (s : Ir.Denot) (i : field_opens.Info s) (b o : ℕ) → is_none s.first ≡ is_none (field_opens.holed s i b o).first
+      fields-agree s i b o = sym (ap (λ (z : Ir.Denot). is_none z.first) (field_opens.filled s i b o)) ∙ none-fill (field_opens.holed s i b o).first
 
-      pairs-count : (f : Option P) (L : List P) → count_first f + row_count 𝓛 (V V') (Pr K' V' g e) (PHr K' V' g e) l PO L ≡ length (all_pairs f L)
-      pairs-count None L = let n = count-is L in omega (arith, n)
+      -- where there is no first pair, the rest lies turned
+      abbrev pub inside_opens : Opens 𝓛 (V V') Ir IHr l
+      inside_opens = turned_opens 𝓛 (V V') Ir IHr l field_opens (λ s. is_none s.first) (λ h. is_none h.first) fields-agree
+
+      pairs-put : (f : Option P) (L : List P) (ws : List V'.Denot) → length ws ≡ count_first f + row_count 𝓛 (V V') (Pr K' V' g e) (PHr K' V' g e) l PO L
+          → held_pairs (put_first f (take (count_first f) (in_turn (is_none f) ws))) (puts L (drop (count_first f) (in_turn (is_none f) ws))) ≡ refilled kept (held_pairs f L) ws
+      pairs-put None L ws long = ap reverse (puts-is L (reverse ws)) ∙ refilled-turned kept L ws (let n = count-is L in omega (arith, n, long))
+      pairs-put (Some p) L [] long = ap (λ M. p ∷ M) (puts-none L)
+      pairs-put (Some p) L (w ∷ ws) long = ap (λ M. (p.0, kept w) ∷ M) (puts-is L ws)
+
+      pairs-count : (f : Option P) (L : List P) → count_first f + row_count 𝓛 (V V') (Pr K' V' g e) (PHr K' V' g e) l PO L ≡ length (held_pairs f L)
+      pairs-count None L = let n = count-is L in let m = length-reverse L in omega (arith, n, m)
       pairs-count (Some p) L = let n = count-is L in omega (arith, n)
 
-      no-holes : (L : List (K'.Denot × (Ptr × V'.Denot))) → kept_pairs L ≡ [] → L ≡ []
-      no-holes [] same = refl
-      no-holes (p ∷ L) same = absurd (suc-ne-zero (length (kept_pairs L)) (ap length same))
-
-      -- a slot of holes is filled in order where the slot is
-      order-fill : (f : (OHr K' V' g e).Denot) (L : List (K'.Denot × (Ptr × V'.Denot))) → IsFilledInOrder (fill_first f) (row_fill 𝓛 (V V') (Pr K' V' g e) (PHr K' V' g e) l PO L) → IsFilledInOrder f L
-      order-fill None L none = no-holes L (sym (fill-is L) ∙ none)
-      order-fill (Some h) L o = tt
-
-      pairs-fill : (f : (OHr K' V' g e).Denot) (L : List (K'.Denot × (Ptr × V'.Denot))) → kept_pairs (all_pairs f L) ≡ all_pairs (fill_first f) (row_fill 𝓛 (V V') (Pr K' V' g e) (PHr K' V' g e) l PO L)
-      pairs-fill None L = sym (fill-is L)
+      pairs-fill : (f : (OHr K' V' g e).Denot) (L : List (K'.Denot × (Ptr × V'.Denot))) → kept_pairs (held_pairs f L) ≡ held_pairs (fill_first f) (row_fill 𝓛 (V V') (Pr K' V' g e) (PHr K' V' g e) l PO L)
+      pairs-fill None L = map-reverse kept_pair L ∙ ap reverse (sym (fill-is L))
       pairs-fill (Some h) L = ap (λ M. (h.0, kept h.1.1) ∷ M) (sym (fill-is L))
 
       pairs-cells : (f : (OHr K' V' g e).Denot) (L : List (K'.Denot × (Ptr × V'.Denot)))
-          → option_cells_in K' V' g e LK LV 𝓛 l ik iv f ++ row_cells_in 𝓛 (V V') (Pr K' V' g e) (PHr K' V' g e) l PO L ≡ values_of (all_pairs f L)
-      pairs-cells None L = cells-is L
+          → in_turn (is_none f) (option_cells_in K' V' g e LK LV 𝓛 l ik iv f ++ row_cells_in 𝓛 (V V') (Pr K' V' g e) (PHr K' V' g e) l PO L) ≡ values_of (held_pairs f L)
+      pairs-cells None L = ap reverse (cells-is L) ∙ sym (map-reverse (λ p. p.1) L)
       pairs-cells (Some h) L = ap (λ M. h.1 ∷ M) (cells-is L)
 
       abbrev good : Ir.Denot → Type 0
@@ -190,17 +189,11 @@ module _ (K' V' A' : RattleType) (g : key.Ghosts K'.Denot) (e : eq.Ghosts K'.Den
       abbrev view' : IHr.Denot → Held K'.Denot (Ptr × V'.Denot)
       view' = L-type.the_view (K K' V' g e) (Hr V') A g e a
 
-      pub slot-puts : (s : Ir.Denot) (ws : List V'.Denot) → view (inside_opens.put s ws) ≡ refilled_slot (view s) ws
-      slot-puts s ws = λ i. record { pairs = pairs-put s.first s.rest.items ws i; room = (view s).room }
-
-      pub slot-goods : (s : Ir.Denot) (ws : List V'.Denot) → good s → good (inside_opens.put s ws)
-      slot-goods s ws o = order-put s.first s.rest.items ws o
+      pub slot-puts : (s : Ir.Denot) (ws : List V'.Denot) → length ws ≡ inside_opens.count s → view (inside_opens.put s ws) ≡ refilled_slot (view s) ws
+      slot-puts s ws long = λ i. record { pairs = pairs-put s.first s.rest.items ws long i; room = (view s).room }
 
       pub slot-counts : (s : Ir.Denot) → inside_opens.count s ≡ length (view s).pairs
       slot-counts s = pairs-count s.first s.rest.items
-
-      pub slot-holeds : (s : Ir.Denot) (i : inside_opens.Info s) (b o : ℕ) → good s → good' (inside_opens.holed s i b o)
-      slot-holeds s i b o ok = let h = inside_opens.holed s i b o in order-fill h.first h.rest.items (subst good (sym (inside_opens.filled s i b o)) ok)
 
       pub slot-fills : (h : IHr.Denot) → kept_slot (view' h) ≡ view (inside_opens.fill h)
       slot-fills h = λ i. record { pairs = pairs-fill h.first h.rest.items i; room = (view' h).room }
@@ -214,4 +207,4 @@ module _ (K' V' A' : RattleType) (g : key.Ghosts K'.Denot) (e : eq.Ghosts K'.Den
           view_opens 𝓛 (V V') Ir IHr l inside_opens (Held K'.Denot (Kept V'.Denot)) (Held K'.Denot (Ptr × V'.Denot))
           (declared.the_code K'.Denot (Kr V').Denot A'.Denot K'.coded (Kr V').coded A'.coded) (declared.the_code K'.Denot (Hr V').Denot A'.Denot K'.coded (Hr V').coded A'.coded)
           view view' good good' refilled_slot (λ h. length h.pairs) kept_slot (λ h. values_of h.pairs)
-          slot-puts slot-goods slot-counts slot-holeds slot-fills slot-celleds
+          slot-puts (λ s ws ok. tt) slot-counts (λ s i b o ok. tt) slot-fills slot-celleds

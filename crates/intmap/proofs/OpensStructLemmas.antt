@@ -2,13 +2,14 @@
 use mathlib.Core.Path.{◌≡◌, refl, sym, ap, ◌∙◌}
 use Prim.Native.Nat.{ℕ, zero, ◌+◌}
 use mathlib.Core.List.{List, [], ◌∷◌, ◌++◌}
-use lib.ListN.{length, take, drop as drop_l, length-append}
+use lib.ListN.{length, take, drop as drop_l, length-append, length-map}
 use seplogic.Ra.Ura.{Ura}
 use base.Fraction.{full_share}
 use base.Stored.{Coded}
 use mir.Syntax.{Sym, ty_struct}
-use base.Logic.{SProp, ent, sep, emp, via, id⊢}
+use base.Logic.{SProp, ent, sep, emp, via, id⊢, fst∗}
 use base.Fml.{Lft, Fml, ftrue, fsep, fbor, fleft}
+use contract.Fact.{fact_use}
 use prog.Memory.{size, align, up}
 use types.Logic.{Logic, sem, lfts}
 use types.Kit.{Item, ‵, raw, ◌⊛◌, some, pick, show, mean, later, ◌$◌, ◌∵◌, !, qed, by, move, keep, use0, use1, use2, use3, split, split3, join, fsplit3, fjoin, rewrite, updating, await, done}
@@ -27,7 +28,7 @@ use denote.Struct.Lending.{Lends, Lends-both}
 use denote.Struct.Members.{Member, row_of, rows_of, raw_tys, parts_at, Lones}
 use denote.Struct.Parts.{shape_of, Struct-left, left_Struct}
 use Rattle.intmap.specs.Apart.{each_at, places_of, contents_of}
-use Rattle.intmap.proofs.OpensLemmas.{Opens, glue, part}
+use Rattle.intmap.proofs.OpensLemmas.{Opens, length-each_at, glue, part}
 
 -- a type that holds none of the values is shared as it is
 module _ {M : Type 1} {𝓤 : Ura M} (𝓛 : Logic 𝓤) (V R : RattleType) (l : Lft) (sh : Shares 𝓛 R l) where
@@ -105,6 +106,7 @@ module _ {M : Type 1} {𝓤 : Ura M} (𝓛 : Logic 𝓤) (V : RattleType) (l : L
   abbrev pub Open : (x : Two) (b o : ℕ) → Info x → Item 𝓤
   Open x b o i = ‵ (Lie (cells x i b o)) ⊛ ‵ (frame x i b o) ⊛ raw (Back x i b o)
 
+  -- both fields are taken apart
   pub two_out : (x : Two) (b o : ℕ) → ent 𝓤 (sem 𝓛 (part_at S full_share x b o)) (mean 𝓛 (some (Open x b o)))
   two_out x b o =
       qed 𝓛 (‵ (part_at S full_share x b o) ∷ []) ∵ use1 𝓛 (‵ (parts_at full_share ms zero x b o) ⊛ ‵ (Left b o)) (Struct-left 𝓛 full_share ν ms ones x b o) $ split ! $ fsplit3 ! $
@@ -115,6 +117,7 @@ module _ {M : Type 1} {𝓤 : Ura M} (𝓛 : Logic 𝓤) (V : RattleType) (l : L
       move ! (1 ∷ 6 ∷ []) $ fjoin ! $ move ! (3 ∷ 0 ∷ []) $ fjoin ! $ move ! (3 ∷ 2 ∷ []) $ join ! $
       show ! (λ (k : Info x). mean 𝓛 (Open x b o k)) (i, j) $ move ! (2 ∷ 1 ∷ 0 ∷ []) $ keep ! (0 ∷ 1 ∷ 2 ∷ []) $ done !))
 
+  -- and put together
   pub two_back : (x : Two) (i : Info x) (b o : ℕ) (ws : List V.Denot) → ent 𝓤 (sep 𝓤 (sem 𝓛 (each_at V (places_of (cells x i b o)) ws)) (sep 𝓤 (sem 𝓛 (frame x i b o)) (Back x i b o))) (sem 𝓛 (part_at S full_share (put x ws) b o))
   two_back x i b o ws =
       let cs = O₁.cells x.0 i.0 b (o + e₁) in let ds = O₂.cells x.1.0 i.1 b (o + e₂) in
@@ -128,6 +131,7 @@ module _ {M : Type 1} {𝓤 : Ura M} (𝓛 : Logic 𝓤) (V : RattleType) (l : L
       move ! (4 ∷ 1 ∷ 3 ∷ []) $ use3 𝓛 (‵ (part_at (row_of m₂) full_share (O₂.put x.1.0 vs) b (o + e₂))) (O₂.back x.1.0 i.1 b (o + e₂) vs) $
       nothing ! $ move ! (1 ∷ 0 ∷ []) $ fjoin ! $ move ! (1 ∷ 0 ∷ []) $ fjoin ! $ by ! (left_Struct 𝓛 full_share ν ms (put x ws) b o)
 
+  -- the bytes between the fields are shared
   pub Lends-left : (b o : ℕ) → Lends 𝓛 (Left b o) (left_seen b o) l
   Lends-left b o κ ts inc sp =
       qed 𝓛 (‵ (fbor κ (Left b o)) ∷ raw (lfts 𝓛 ts) ∷ []) {P = H.⇛ (sep 𝓤 (sem 𝓛 (left_seen b o κ)) (lfts 𝓛 ts))} (
@@ -137,6 +141,7 @@ module _ {M : Type 1} {𝓤 : Ura M} (𝓛 : Logic 𝓤) (V : RattleType) (l : L
   abbrev pub seen : (h₁ : R₁'.Denot) (h₂ : R₂'.Denot) (b o : ℕ) → Lft → Fml
   seen h₁ h₂ b o = beside (beside (shared_of R₁' h₁ b (o + e₁)) (beside (shared_of R₂' h₂ b (o + e₂)) (λ κ. ftrue))) (left_seen b o)
 
+  -- what is left of both is lent
   pub two_lends : (x : Two) (i : Info x) (b o : ℕ) → Lends 𝓛 (frame x i b o) (seen (O₁.holed x.0 i.0 b (o + e₁)) (O₂.holed x.1.0 i.1 b (o + e₂)) b o) l
   two_lends x i b o κ ts inc sp =
       let s₁ = shared_of R₁' (O₁.holed x.0 i.0 b (o + e₁)) b (o + e₁) in let s₂ = shared_of R₂' (O₂.holed x.1.0 i.1 b (o + e₂)) b (o + e₂) in
@@ -198,7 +203,7 @@ module _ {M : Type 1} {𝓤 : Ura M} (𝓛 : Logic 𝓤) (V : RattleType) (l : L
 module _ {M : Type 1} {𝓤 : Ura M} (𝓛 : Logic 𝓤) (V F F' : RattleType) (l : Lft) (O : Opens 𝓛 V F F' l)
     (D D' : Type 0) (c : Coded D) (c' : Coded D') (view : F.Denot → D) (view' : F'.Denot → D') (good : F.Denot → Type 0) (good' : F'.Denot → Type 0)
     (put : D → List V.Denot → D) (count : D → ℕ) (fill : D' → D) (cells_in : D' → List (Ptr × V.Denot))
-    (puts : (a : F.Denot) (ws : List V.Denot) → view (O.put a ws) ≡ put (view a) ws) (goods : (a : F.Denot) (ws : List V.Denot) → good a → good (O.put a ws))
+    (puts : (a : F.Denot) (ws : List V.Denot) → length ws ≡ O.count a → view (O.put a ws) ≡ put (view a) ws) (goods : (a : F.Denot) (ws : List V.Denot) → good a → good (O.put a ws))
     (counted : (a : F.Denot) → O.count a ≡ count (view a)) (holeds : (a : F.Denot) (i : O.Info a) (b o : ℕ) → good a → good' (O.holed a i b o))
     (fills : (h : F'.Denot) → fill (view' h) ≡ view (O.fill h)) (celleds : (h : F'.Denot) → O.cells_in h ≡ cells_in (view' h)) where
   open 𝓛 use {H, A}
@@ -215,19 +220,24 @@ module _ {M : Type 1} {𝓤 : Ura M} (𝓛 : Logic 𝓤) (V F F' : RattleType) (
   abbrev pub of_inner : (d : D) (b o : ℕ) → Inner d → Item 𝓤
   of_inner d b o k = ‵ (each_at V (places_of (O.cells k.0.0 k.1 b o)) (contents_of (O.cells k.0.0 k.1 b o))) ⊛ ‵ (O.frame k.0.0 k.1 b o) ⊛ raw (O.Back k.0.0 k.1 b o)
 
+  -- the fields behind the view are taken apart
   pub view_out : (d : D) (b o : ℕ) → ent 𝓤 (sem 𝓛 (part_at W full_share d b o)) (mean 𝓛 (some (of_inner d b o)))
   view_out d b o = qed 𝓛 (‵ (part_at W full_share d b o) ∷ []) ∵
       use1 𝓛 (some (λ (x : (a : F.Denot) × ((view a ≡ d) × good a)). ‵ (part_at F full_share x.0 b o))) (plain_out W F (view_owns F D c view good) 𝓛 full_share d b o) $ pick ! (λ x.
       use1 𝓛 (some (λ (i : O.Info x.0). ‵ (each_at V (places_of (O.cells x.0 i b o)) (contents_of (O.cells x.0 i b o))) ⊛ ‵ (O.frame x.0 i b o) ⊛ raw (O.Back x.0 i b o))) (O.out x.0 b o) $ pick ! (λ i. split3 ! $
       show ! (λ (k : Inner d). mean 𝓛 (of_inner d b o k)) (x, i) $ done !))
 
+  -- and put together, where the view and what is known of the fields follow from the values
   pub view_back : (d : D) (k : Inner d) (b o : ℕ) (ws : List V.Denot)
       → ent 𝓤 (sep 𝓤 (sem 𝓛 (each_at V (places_of (O.cells k.0.0 k.1 b o)) ws)) (sep 𝓤 (sem 𝓛 (O.frame k.0.0 k.1 b o)) (O.Back k.0.0 k.1 b o))) (sem 𝓛 (part_at W full_share (put d ws) b o))
-  view_back d k b o ws = let a = k.0.0 in
-      qed 𝓛 (‵ (each_at V (places_of (O.cells a k.1 b o)) ws) ∷ ‵ (O.frame a k.1 b o) ∷ raw (O.Back a k.1 b o) ∷ []) ∵ use3 𝓛 (‵ (part_at F full_share (O.put a ws) b o)) (O.back a k.1 b o ws) $
+  view_back d k b o ws = let a = k.0.0 in let places = places_of (O.cells a k.1 b o) in
+      fact_use 𝓤 (length ws ≡ length places) (via 𝓤 _ (fst∗ 𝓤 (sem 𝓛 (each_at V places ws)) (sep 𝓤 (sem 𝓛 (O.frame a k.1 b o)) (O.Back a k.1 b o))) (length-each_at V 𝓛 places ws)) (λ long.
+      let many : length ws ≡ O.count a = long ∙ length-map (O.cells a k.1 b o) (λ c. c.0) ∙ O.counts a k.1 b o in
+      qed 𝓛 (‵ (each_at V places ws) ∷ ‵ (O.frame a k.1 b o) ∷ raw (O.Back a k.1 b o) ∷ []) ∵ use3 𝓛 (‵ (part_at F full_share (O.put a ws) b o)) (O.back a k.1 b o ws) $
       by ! (Plain-in W F (view_owns F D c view good) 𝓛 full_share (put d ws) (O.put a ws)
-      (view_made F D c view good 𝓛 (put d ws) (O.put a ws) (puts a ws ∙ ap (λ z. put z ws) k.0.1.0, goods a ws k.0.1.1)) b o)
+      (view_made F D c view good 𝓛 (put d ws) (O.put a ws) (puts a ws many ∙ ap (λ z. put z ws) k.0.1.0, goods a ws k.0.1.1)) b o))
 
+  -- what is left of them is lent as the view of holes
   pub view_lends : (d : D) (k : Inner d) (b o : ℕ) → Lends 𝓛 (O.frame k.0.0 k.1 b o) (shared_of W' (view' (O.holed k.0.0 k.1 b o)) b o) l
   view_lends d k b o κ ts inc sp = let h = O.holed k.0.0 k.1 b o in
       qed 𝓛 (‵ (fbor κ (O.frame k.0.0 k.1 b o)) ∷ raw (lfts 𝓛 ts) ∷ []) {P = H.⇛ (sep 𝓤 (sem 𝓛 (shared_of W' (view' h) b o κ)) (lfts 𝓛 ts))} (

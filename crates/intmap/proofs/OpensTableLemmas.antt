@@ -1,6 +1,6 @@
 -- A table, whose values are lent. Assumes `Logic`.
 use mathlib.Core.Path.{◌≡◌, refl, ap, sym, subst, ◌∙◌}
-use Prim.Native.Nat.{ℕ, zero, suc, ◌<◌}
+use Prim.Native.Nat.{ℕ}
 use native.Mathlib.Omega.{arith}
 use mathlib.Core.List.{List, [], ◌∷◌, ◌++◌}
 use lib.ListN.{length, take, drop, length-append, length-map}
@@ -110,6 +110,7 @@ module _ (K' V' A' : RattleType) (g : key.Ghosts K'.Denot) (e : eq.Ghosts K'.Den
       abbrev pub slots_opens : Opens 𝓛 (V V') Vr VHr l
       slots_opens = vec_opens 𝓛 (V V') (Sr K' V' A' g e a) (SHr K' V' A' g e a) l SO tt (A K' V' A' g e a) a (copied_laws 2 A' LA) (words_live K' V' A' g e a LK LV LA 𝓛 l ik iv ia)
 
+      -- the bits are shared as they are
       pub bits_shares : Shares 𝓛 Br l
       bits_shares = Shares-less 𝓛 Br Br.lives l (B-laws.the_within (A K' V' A' g e a) a l ia) (bits_laws.shares 𝓛)
 
@@ -184,7 +185,7 @@ module _ (K' V' A' : RattleType) (g : key.Ghosts K'.Denot) (e : eq.Ghosts K'.Den
           view_opens 𝓛 (V V') Ir IHr l inside_opens (Grid K'.Denot (Kept V'.Denot)) (Grid K'.Denot (Ptr × V'.Denot))
           (declared.the_code K'.Denot (Kr V').Denot A'.Denot K'.coded (Kr V').coded A'.coded) (declared.the_code K'.Denot (Hr V').Denot A'.Denot K'.coded (Hr V').coded A'.coded)
           view view' good good' grid_with (λ t. length t.walk) grid_fill (λ t. values_of t.walk)
-          table-puts table-goods table-counts table-holeds table-fills table-celleds
+          (λ t ws long. table-puts t ws) table-goods table-counts table-holeds table-fills table-celleds
 
       -- the walk of a table is its own with other values too
       pub walk_of-refilled : (t : Ir.Denot) → good t → (w : Grid K'.Denot (Kept V'.Denot)) → view t ≡ w → (ws : List V'.Denot)

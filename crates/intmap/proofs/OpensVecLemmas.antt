@@ -74,15 +74,18 @@ module _ {M : Type 1} {𝓤 : Ura M} (𝓛 : Logic 𝓤) (V R R' : RattleType) (
   puts = row_put 𝓛 V R R' l O
 
   module _ (Spare : Ptr → Fml) (n c : ℕ) where
+    -- the block of a `Vec`, where it has one: its elements, and the room behind them
     abbrev pub Blk : Ptr → Bool → List R.Denot → Fml
     Blk p y xs = in_block p (owns_if y (fsep (lies_at (Array R n) full_share p xs) (Spare p)))
 
+    -- what is left of it
     abbrev pub Frm : Ptr → Bool → (xs : List R.Denot) → Infos xs → Fml
     Frm p y xs i = in_block p (owns_if y (fsep (row_frame 𝓛 V R R' l O xs i (bl p) (co p)) (Spare p)))
 
     abbrev pub BlkOpen : (p : Ptr) (y : Bool) (xs : List R.Denot) → Infos xs → Item 𝓤
     BlkOpen p y xs i = ‵ (each_at V (places_of (cs xs i p)) (contents_of (cs xs i p))) ⊛ ‵ (Frm p y xs i) ⊛ raw (Way xs i p)
 
+    -- the block is taken apart
     pub blk_out : (xs : List R.Denot) → n ≡ length xs → n ≤ c → (p : Ptr) (y : Bool) → (T y → c ≡ 0)
         → ent 𝓤 (sem 𝓛 (Blk p (not y) xs)) (mean 𝓛 (some (BlkOpen p (not y) xs)))
     blk_out xs lens le null_ptr y z = never_e 𝓤 _
@@ -99,6 +102,7 @@ module _ {M : Type 1} {𝓤 : Ura M} (𝓛 : Logic 𝓤) (V R R' : RattleType) (
         subst (λ (ys : List R.Denot). ent 𝓤 (emp 𝓤) (mean 𝓛 (some (BlkOpen p false ys)))) (sym (none xs n0))
         (qed 𝓛 (raw (emp 𝓤) ∷ []) {P = mean 𝓛 (some (BlkOpen p false []))} (show ! (λ (k : Infos []). mean 𝓛 (BlkOpen p false [] k)) tt $ use0 𝓛 (raw (emp 𝓤)) (id⊢ 𝓤 (emp 𝓤)) $ use0 𝓛 (raw (emp 𝓤)) (id⊢ 𝓤 (emp 𝓤)) $ done !))
 
+    -- and put together
     pub blk_in : (xs : List R.Denot) (i : Infos xs) → n ≡ length xs → n ≤ c → (p : Ptr) (y : Bool) → (T y → c ≡ 0) → (ws : List V.Denot)
         → ent 𝓤 (sep 𝓤 (sem 𝓛 (each_at V (places_of (cs xs i p)) ws)) (sep 𝓤 (sem 𝓛 (Frm p (not y) xs i)) (Way xs i p))) (sem 𝓛 (Blk p (not y) (puts xs ws)))
     blk_in xs i lens le null_ptr y z ws = qed 𝓛 (‵ (each_at V (places_of (cs xs i null_ptr)) ws) ∷ ‵ ffalse ∷ raw (Way xs i null_ptr) ∷ []) ∵ keep ! (1 ∷ []) $ by ! (never_e 𝓤 _)
@@ -110,6 +114,7 @@ module _ {M : Type 1} {𝓤 : Ura M} (𝓛 : Logic 𝓤) (V R R' : RattleType) (
     blk_in xs i lens le (block_ptr b o) true z ws =
         qed 𝓛 (‵ (each_at V (places_of (cs xs i (block_ptr b o))) ws) ∷ ‵ ftrue ∷ raw (Way xs i (block_ptr b o)) ∷ []) ∵ keep ! (1 ∷ []) $ done !
 
+    -- what is left of it is lent
     pub blk_lends : (xs : List R.Denot) (i : Infos xs) → n ≡ length xs → n ≤ c → (p : Ptr) (y : Bool) → (T y → c ≡ 0) → Lends 𝓛 (Frm p (not y) xs i) (lent_at (Array R' n) p (hs xs i p)) l
     blk_lends xs i lens le null_ptr y z κ ts inc sp = Lends-false 𝓛 (lent_at (Array R' n) null_ptr (hs xs i null_ptr)) l κ ts inc sp
     blk_lends xs i lens le (block_ptr b o) false z κ ts inc sp =
@@ -133,6 +138,7 @@ module _ {M : Type 1} {𝓤 : Ura M} (𝓛 : Logic 𝓤) (V R R' : RattleType) (
     abbrev pub Ty' : Owning
     Ty' = V-type.the_type R B G
 
+    -- the pointer, the length, the capacity and the allocator
     abbrev pub Words : RattleType
     Words = Struct (shape Ty')
 

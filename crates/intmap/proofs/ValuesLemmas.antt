@@ -1,8 +1,9 @@
 -- Lists of pairs with other values in the places of their own.
-use Rattle.std.proofs.Common.{◌≡◌, ℕ, suc, List, [], ◌∷◌, ◌++◌, length, map, refl, ap, ◌∙◌, arith}
-use Rattle.std.specs.Prelude.{take, drop}
+use Rattle.std.proofs.Common.{◌≡◌, suc, List, [], ◌∷◌, ◌++◌, length, map, refl, ap, ◌∙◌, arith}
+use mathlib.Core.List.{reverse_aux}
+use Rattle.std.specs.Prelude.{take, drop, reverse}
 use Rattle.std.specs.Map.{keys_of, values_of}
-use Rattle.std.proofs.lemmas.List.{map-append}
+use Rattle.std.proofs.lemmas.List.{map-append, length-reverse, reverse-reverse}
 use Rattle.intmap.specs.Apart.{lent_pairs}
 use Rattle.intmap.specs.Kept.{unkept}
 use Rattle.intmap.specs.Slots.{Held, rows, joined}
@@ -22,6 +23,17 @@ module _ {K X V : Type 0} (make : V → X) where
   refilled-append [] M vs = refl
   refilled-append (p ∷ L) M [] = ap (λ N. p ∷ L ++ N) (refilled-none M)
   refilled-append (p ∷ L) M (v ∷ vs) = ap (λ N. (p.0, make v) ∷ N) (refilled-append L M vs)
+
+  -- as many values as pairs, both put before others one after another
+  pub refilled-onto : (L M : List (K × X)) (ws vs : List V) → length ws ≡ length L → reverse_aux (refilled make L ws) (refilled make M vs) ≡ refilled make (reverse_aux L M) (reverse_aux ws vs)
+  refilled-onto [] M [] vs long = refl
+  refilled-onto [] M (w ∷ ws) vs long = absurd (omega (arith, long))
+  refilled-onto (p ∷ L) M [] vs long = absurd (omega (arith, long))
+  refilled-onto (p ∷ L) M (w ∷ ws) vs long = refilled-onto L (p ∷ M) ws (w ∷ vs) (omega (arith, long))
+
+  -- as many values as pairs, both the last first
+  pub refilled-turned : (L : List (K × X)) (vs : List V) → length vs ≡ length L → reverse (refilled make L (reverse vs)) ≡ refilled make (reverse L) vs
+  refilled-turned L vs long = refilled-onto L [] (reverse vs) [] (length-reverse vs ∙ long) ∙ ap (refilled make (reverse L)) (reverse-reverse vs)
 
   -- the keys stay
   pub keys_of-refilled : (L : List (K × X)) (vs : List V) → keys_of (refilled make L vs) ≡ keys_of L

@@ -1,5 +1,5 @@
 -- How a table lays its pairs out. No public clause cites this module.
-use Rattle.std.specs.Prelude.{◌≡◌, ℕ, zero, suc, ◌+◌, ◌*◌, ◌/◌, ◌<◌, Bool, nat_lt, List, [], ◌∷◌, ◌++◌, length, map, slice_index_or, Option, Some, None}
+use Rattle.std.specs.Prelude.{◌≡◌, ℕ, zero, suc, ◌+◌, ◌*◌, ◌/◌, ◌<◌, Bool, nat_lt, List, [], ◌∷◌, ◌++◌, length, map, reverse, slice_index_or, Option, Some, None}
 use Rattle.std.specs.Option.{option_to_list}
 use Rattle.std.specs.List.{All, flat_map}
 use Rattle.intmap.specs.Bits.{marked}
@@ -17,6 +17,11 @@ rows slots = map (λ h. h.pairs) slots
 -- the first pair, where there is one, and the rest
 abbrev pub all_pairs : {P : Type 0} → Option P → List P → List P
 all_pairs first rest = option_to_list first ++ rest
+
+-- the pairs of a slot: the first, and the rest behind it; where there is no first one, those that lie in the rest, the last first
+abbrev pub held_pairs : {P : Type 0} → Option P → List P → List P
+held_pairs None rest = reverse rest
+held_pairs (Some first) rest = first ∷ rest
 
 -- nothing stands behind an empty first place
 abbrev pub IsFilledInOrder : {P : Type 0} → Option P → List P → Type 0

@@ -1,9 +1,9 @@
 //! One slot of a table: the first pair in its place, the rest behind it.
-ghost use Rattle.std.specs.Prelude.{◌≡◌, ◌+◌, ◌^◌, ◌<◌, ◌≤◌, [], ◌∷◌, ◌++◌, length, position, swap_remove, slice_index_or, nat_lt, vec_capacity, true, None, Some, OnOk, OnErr, IfOk, IfErr, option_copied};
+ghost use Rattle.std.specs.Prelude.{◌≡◌, ◌+◌, ◌^◌, ◌<◌, ◌≤◌, [], ◌∷◌, ◌++◌, length, reverse, position, swap_remove, slice_index_or, nat_lt, vec_capacity, true, None, Some, OnOk, OnErr, IfOk, IfErr, option_copied};
 ghost use Rattle.intmap.specs.Classes.{same_key};
 ghost use Rattle.intmap.specs.Bindings.{swap_out, value_of};
 ghost use Rattle.intmap.specs.Reach.{through_first};
-ghost use Rattle.intmap.specs.Slots.{all_pairs, IsFilledInOrder};
+ghost use Rattle.intmap.specs.Slots.{all_pairs, held_pairs, IsFilledInOrder};
 
 mod each;
 
@@ -22,6 +22,23 @@ fn find_in<K: IntKey, X>(pairs: &[(Stored<K>, X)], key: &K, steps: &mut Steps) -
 {
     for (i, pair) in pairs.iter().enumerate() {
         if pair.0.matches(key, steps) {
+            return Some(i);
+        }
+    }
+    None
+}
+
+/// The place of the key's pair, counted from the back. The pairs are compared from the back, each by
+/// one step.
+#[inline(never)]
+fn find_back_in<K: IntKey, X>(pairs: &[(Stored<K>, X)], key: &K, steps: &mut Steps) -> Option<usize>
+    ensures place { result
+        ≡ position (λ p. same_key K.number_of key.now p.0) (reverse pairs.now) }
+    ensures counted { steps.new ≡ steps.old
+        + length (through_first (λ p. same_key K.number_of key.now p.0) (reverse pairs.now)) }
+{
+    for i in 0..pairs.len() {
+        if pairs[pairs.len() - 1 - i].0.matches(key, steps) {
             return Some(i);
         }
     }
@@ -49,8 +66,25 @@ fn take_in<K: IntKey, X, A: Allocator>(
     Some(value)
 }
 
-/// Pairs in order, with the room that there is for them. Where there is no first pair there is no
-/// other, and one pair takes no memory of its own.
+/// Puts the pairs of a slot in order, where they lie the last first.
+#[inline(always)]
+fn set_in_order<P, A: Allocator>(first: &mut Option<P>, rest: &mut Vec<P, A>)
+    ensures pairs { all_pairs first.new rest.new.items ≡ held_pairs first.old rest.old.items }
+    ensures order { IsFilledInOrder first.new rest.new.items }
+    ensures room { vec_capacity rest.new ≡ vec_capacity rest.old }
+{
+    if first.is_none() {
+        match mem::replace(first, rest.pop()) {
+            None => rest.reverse(),
+            Some(_) => unreachable!(),
+        }
+    }
+}
+
+/// Pairs in order, with the room that there is for them. One pair takes no memory of its own. Where
+/// there is no first pair, all lie in the rest, the last first: so they are left when pairs are
+/// taken out from the front, each in one step. A call that changes the slot otherwise puts them in
+/// order before.
 #[derive(Drop)]
 pub(crate) struct Slot<K: IntKey, X, A: Allocator> {
     first: Option<(Stored<K>, X)>,
@@ -59,16 +93,16 @@ pub(crate) struct Slot<K: IntKey, X, A: Allocator> {
 
 impl<K: IntKey, X, A: Allocator> Model for Slot<K, X, A> {
     ghost use Rattle.std.specs.Prelude.{◌+◌, vec_capacity};
-    ghost use Rattle.intmap.specs.Slots.{Held, all_pairs, IsFilledInOrder};
+    ghost use Rattle.intmap.specs.Slots.{Held, held_pairs};
 
     ghost Value = { Held K X };
 
     ghost view = { λ s. record {
-      pairs = all_pairs s.first s.rest.items;
+      pairs = held_pairs s.first s.rest.items;
       room = 1 + vec_capacity s.rest;
     } };
 
-    ghost invariant = { λ s. IsFilledInOrder s.first s.rest.items };
+    ghost invariant = { λ s. Unit {0} };
 }
 
 impl<K: IntKey, X, A: Allocator> Slot<K, X, A> {
@@ -89,7 +123,7 @@ impl<K: IntKey, X, A: Allocator> Slot<K, X, A> {
     pub(crate) fn is_filled(&self) -> bool
         ensures { result ≡ nat_lt 0 (length self.now.pairs) }
     {
-        self.first.is_some()
+        self.first.is_some() || !self.rest.is_empty()
     }
 
     /// What the key is bound to. The keys are compared from the front up to it, each by one step.
@@ -99,7 +133,10 @@ impl<K: IntKey, X, A: Allocator> Slot<K, X, A> {
             + length (through_first (λ p. same_key K.number_of key.now p.0) self.now.pairs) }
     {
         let Some(first) = &self.first else {
-            return None;
+            let Some(place) = find_back_in(&self.rest, key, steps) else {
+                return None;
+            };
+            return Some(&self.rest[self.rest.len() - 1 - place].1);
         };
         if first.0.matches(key, steps) {
             return Some(&first.1);
@@ -117,7 +154,7 @@ impl<K: IntKey, X, A: Allocator> Slot<K, X, A> {
             + length (through_first (λ p. same_key K.number_of key.now p.0) self.now.pairs) }
     {
         let Some(first) = &self.first else {
-            return None;
+            return find_back_in(&self.rest, key, steps);
         };
         if first.0.matches(key, steps) {
             return Some(0);
@@ -133,7 +170,10 @@ impl<K: IntKey, X, A: Allocator> Slot<K, X, A> {
         requires { 0 < length self.now.pairs }
         ensures { result + 1 ≡ length self.now.pairs }
     {
-        self.rest.len()
+        match self.first {
+            Some(_) => self.rest.len(),
+            None => self.rest.len() - 1,
+        }
     }
 
     /// The value of the pair at a place.
@@ -141,13 +181,13 @@ impl<K: IntKey, X, A: Allocator> Slot<K, X, A> {
         requires { place < length self.now.pairs }
         ensures { (p : K × X) → result.now ≡ (slice_index_or self.now.pairs place p).1 }
     {
+        let Some(first) = &self.first else {
+            return &self.rest[self.rest.len() - 1 - place].1;
+        };
         if place > 0 {
             return &self.rest[place - 1].1;
         }
-        match &self.first {
-            Some(pair) => &pair.1,
-            None => unreachable!(),
-        }
+        &first.1
     }
 
     /// The value of the pair at a place, to be written.
@@ -157,6 +197,7 @@ impl<K: IntKey, X, A: Allocator> Slot<K, X, A> {
             A.Allocator self.entry place result) }
         ensures value { (p : K × X) → result.now ≡ (slice_index_or self.old.pairs place p).1 }
     {
+        set_in_order(&mut self.first, &mut self.rest);
         if place > 0 {
             return &mut self.rest[place - 1].1;
         }
@@ -166,9 +207,10 @@ impl<K: IntKey, X, A: Allocator> Slot<K, X, A> {
         }
     }
 
-    /// The first pair, if there is one, and the rest.
+    /// The first pair, if there is one, and the rest; where there is no first one, all pairs, the
+    /// last first.
     pub(crate) fn parts(&self) -> (Option<&(Stored<K>, X)>, &[(Stored<K>, X)])
-        ensures { self.now.pairs ≡ all_pairs (option_copied result.0) result.1.now }
+        ensures { self.now.pairs ≡ held_pairs (option_copied result.0) result.1.now }
     {
         (self.first.as_ref(), self.rest.as_slice())
     }
@@ -178,7 +220,12 @@ impl<K: IntKey, X, A: Allocator> Slot<K, X, A> {
         ensures pairs { self.pairs ≡ all_pairs result.0 result.1.items }
         ensures filled { IsFilledInOrder result.0 result.1.items }
     {
-        (self.first, self.rest)
+        let Slot {
+            mut first,
+            mut rest,
+        } = self;
+        set_in_order(&mut first, &mut rest);
+        (first, rest)
     }
 
     /// The slot of a first pair, if there is one, and the rest.
@@ -199,7 +246,7 @@ impl<K: IntKey, X, A: Allocator> Slot<K, X, A> {
     {
         match self.first {
             Some(_) => 1 + self.rest.len(),
-            None => 0,
+            None => self.rest.len(),
         }
     }
 
@@ -210,6 +257,7 @@ impl<K: IntKey, X, A: Allocator> Slot<K, X, A> {
         ensures value { result ≡ slice_index_or self.old.pairs 0 result }
         ensures pairs { self.new.pairs ≡ swap_remove self.old.pairs 0 result }
     {
+        set_in_order(&mut self.first, &mut self.rest);
         let first = match self.rest.pop() {
             Some(last) => mem::replace(&mut self.first, Some(last)),
             None => self.first.take(),
@@ -220,17 +268,17 @@ impl<K: IntKey, X, A: Allocator> Slot<K, X, A> {
         }
     }
 
-    /// Takes the first pair out. The others keep their order, and the second moves up.
+    /// Takes the first pair out. The others keep their order, and lie the last first from then on,
+    /// so that all pairs together are turned round once and then taken out in one step each.
     pub(crate) fn take_front(&mut self) -> (Stored<K>, X)
         requires { 0 < length self.old.pairs }
         ensures { self.old.pairs ≡ result ∷ self.new.pairs }
     {
-        let second = if self.rest.is_empty() {
-            None
-        } else {
-            Some(self.rest.remove(0))
-        };
-        match mem::replace(&mut self.first, second) {
+        if let Some(first) = self.first.take() {
+            self.rest.reverse();
+            return first;
+        }
+        match self.rest.pop() {
             Some(pair) => pair,
             None => unreachable!(),
         }
@@ -242,6 +290,7 @@ impl<K: IntKey, X, A: Allocator> Slot<K, X, A> {
         ensures value { result ≡ slice_index_or self.old.pairs place result }
         ensures pairs { self.new.pairs ≡ swap_remove self.old.pairs place result }
     {
+        set_in_order(&mut self.first, &mut self.rest);
         if place > 0 {
             return self.rest.swap_remove(place - 1);
         }
@@ -256,6 +305,7 @@ impl<K: IntKey, X, A: Allocator> Slot<K, X, A> {
         ensures value { result ≡ slice_index_or self.old.pairs 0 result }
         ensures pairs { self.new.pairs ≡ swap_remove self.old.pairs 0 result ++ pair ∷ [] }
     {
+        set_in_order(&mut self.first, &mut self.rest);
         let first = match self.rest.pop() {
             Some(last) => {
                 self.rest.push_reserved(pair);
@@ -279,6 +329,7 @@ impl<K: IntKey, X, A: Allocator> Slot<K, X, A> {
         ensures counted { steps.new ≡ steps.old
             + length (through_first (λ p. same_key K.number_of key.now p.0) self.old.pairs) }
     {
+        set_in_order(&mut self.first, &mut self.rest);
         let Some(first) = &self.first else {
             return None;
         };
@@ -330,6 +381,7 @@ impl<K: IntKey, X: Drop, A: Allocator> Slot<K, X, A> {
         ensures pairs { self.new.pairs ≡ self.old.pairs ++ pair ∷ [] }
         ensures room { self.new.room ≡ self.old.room }
     {
+        set_in_order(&mut self.first, &mut self.rest);
         self.rest.push_reserved(pair);
     }
 
@@ -342,6 +394,7 @@ impl<K: IntKey, X: Drop, A: Allocator> Slot<K, X, A> {
         ensures err { OnErr result (self.new.pairs ≡ self.old.pairs) }
         ensures value_returned { IfErr result (λ returned. returned ≡ value) }
     {
+        set_in_order(&mut self.first, &mut self.rest);
         let room = if self.rest.is_empty() {
             self.rest.reserve_exact(1)
         } else {
@@ -367,6 +420,7 @@ impl<K: IntKey, X: Drop, A: Allocator> Slot<K, X, A> {
         ensures counted { steps.new ≡ steps.old
             + length (through_first (λ p. same_key K.number_of key p.0) self.old.pairs) }
     {
+        set_in_order(&mut self.first, &mut self.rest);
         let Some(first) = &self.first else {
             return Err(value);
         };

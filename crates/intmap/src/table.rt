@@ -86,6 +86,7 @@ impl<K: IntKey, X, A: Allocator> Table<K, X, A> {
         Pairs {
             first: None,
             rest: &[],
+            is_turned: false,
             places: self.bits.iter(),
             slots: &self.slots,
         }

@@ -26,7 +26,12 @@ fn texts_are_written_where_they_lie(rt: HostRuntime) -> Result<(), Fail> {
     for (key, text) in &map {
         write!(shown, "{key}: {text}, ")?;
     }
-    let expected = "0: text 8 of 8, 8: text 0 of 0, 2: text 2 of 2, 4: text 4 of 4, 1: text 1 of 1, ";
-    assert_eq!(rt; shown.as_str(), expected, "the first two texts were swapped");
+    let expected =
+        "0: text 8 of 8, 8: text 0 of 0, 2: text 2 of 2, 4: text 4 of 4, 1: text 1 of 1, ";
+    assert_eq!(rt;
+        shown.as_str(),
+        expected,
+        "the first two texts were swapped"
+    );
     Ok(())
 }

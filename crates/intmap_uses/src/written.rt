@@ -4,6 +4,7 @@ ghost use Rattle.std.specs.Map.{keys_of};
 
 use intmap::{IntKey, IntMap};
 use std::alloc::Allocator;
+use std::mem;
 
 /// Sets the first values of the walk to zero, so many or all where there are fewer, and goes no
 /// further. The keys keep their order, and the map its slots.
@@ -46,4 +47,18 @@ pub fn bind_to_themselves<A: Allocator + Copy>(map: &mut IntMap<u64, u64, A>)
     for (key, value) in &mut *map {
         *value = *key;
     }
+}
+
+/// Sets the first value of the walk to zero, where there is one, and forgets the iterator. The keys
+/// keep their order, and the map its slots.
+pub fn clear_one<K: IntKey, A: Allocator + Copy>(map: &mut IntMap<K, u64, A>)
+    ensures keys { keys_of map.new.walk ≡ keys_of map.old.walk }
+    ensures len { length map.new.walk ≡ length map.old.walk }
+    ensures capacity { map.new.capacity ≡ map.old.capacity }
+{
+    let mut values = map.values_mut();
+    if let Some(value) = values.next() {
+        *value = 0;
+    }
+    mem::forget(values);
 }

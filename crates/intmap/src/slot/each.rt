@@ -4,7 +4,7 @@ ghost use Rattle.intmap.specs.Writes.{Writes};
 
 use crate::kept::Kept;
 use crate::key::IntKey;
-use crate::slot::Slot;
+use crate::slot::{Slot, set_in_order};
 use crate::table::each::write_pair;
 use crate::table::stored::Stored;
 use std::alloc::Allocator;
@@ -27,6 +27,7 @@ impl<K: IntKey, V, A: Allocator> Slot<K, Kept<V>, A> {
         ensures pairs { Writes (WritesStored F.FnMut) f.old self.old.pairs self.new.pairs f.new }
         ensures callable { F.IsAlwaysCallable f.new }
     {
+        set_in_order(&mut self.first, &mut self.rest);
         if let Some(pair) = &mut self.first {
             write_pair(pair, f);
         }

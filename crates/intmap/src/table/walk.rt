@@ -19,24 +19,28 @@ fn slot_at<K: IntKey, X, A: Allocator>(slots: &[Slot<K, X, A>], place: usize) ->
 }
 
 /// The pairs that are left: those of the slot in hand, and those of the slots at the places behind
-/// it, of which each holds a pair.
+/// it, of which each holds a pair. Where the rest of the slot in hand is turned, its last pair is
+/// the next.
 #[derive(Drop)]
 pub(crate) struct Pairs<'a, K: IntKey, X, A: Allocator> {
     pub(super) first: Option<&'a (Stored<K>, X)>,
     pub(super) rest: &'a [(Stored<K>, X)],
+    pub(super) is_turned: bool,
     pub(super) places: Places<'a>,
     pub(super) slots: &'a [Slot<K, X, A>],
 }
 
 impl<'a, K: IntKey, X, A: Allocator> Model for Pairs<'a, K, X, A> {
-    ghost use Rattle.std.specs.Prelude.{List, All, ◌<◌, ◌++◌, length};
+    ghost use Rattle.std.specs.Prelude.{List, All, ◌<◌, ◌++◌, length, cond, reverse};
     ghost use Rattle.std.specs.Option.{option_copied};
     ghost use Rattle.intmap.specs.Slots.{all_pairs, rows, pairs_at};
 
     ghost Value = { List (K × X) };
 
     ghost view = { λ it.
-        all_pairs (option_copied it.first) it.rest.now ++ pairs_at (rows it.slots.now) it.places };
+        all_pairs (option_copied it.first)
+        (cond it.is_turned (reverse it.rest.now) it.rest.now)
+        ++ pairs_at (rows it.slots.now) it.places };
 
     ghost invariant = { λ it. All (λ place. place < length it.slots.now) it.places };
 }
@@ -53,7 +57,12 @@ impl<'a, K: IntKey, X, A: Allocator> Iterator for Pairs<'a, K, X, A> {
             if let Some(pair) = self.first.take() {
                 return Some((pair.0.key(), &pair.1));
             }
-            if let Some((pair, rest)) = self.rest.split_first() {
+            let split = if self.is_turned {
+                self.rest.split_last()
+            } else {
+                self.rest.split_first()
+            };
+            if let Some((pair, rest)) = split {
                 self.rest = rest;
                 return Some((pair.0.key(), &pair.1));
             }
@@ -61,6 +70,7 @@ impl<'a, K: IntKey, X, A: Allocator> Iterator for Pairs<'a, K, X, A> {
                 return None;
             };
             (self.first, self.rest) = slot_at(self.slots, place).parts();
+            self.is_turned = self.first.is_none();
         }
     }
 }

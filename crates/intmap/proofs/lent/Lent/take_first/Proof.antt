@@ -1,5 +1,5 @@
 -- By hand, since the borrow checker follows no raw pointer: the value where the hole lies is taken out of the loan. Assumes `Logic`.
-use mathlib.Core.Path.{◌≡◌, refl, sym, ap, ◌∙◌}
+use mathlib.Core.Path.{◌≡◌, refl, ◌∙◌}
 use Prim.Native.Nat.{ℕ}
 use mathlib.Core.List.{List, [], ◌∷◌}
 use seplogic.Ra.Ura.{Ura}
@@ -9,17 +9,15 @@ use mir.Val.{Val, vptr}
 use prog.Memory.{Memory}
 use prog.Routine.{Routine}
 use prog.Wp.{Env, Calls, Loops, WpFn}
-use base.Fml.{Lft, GName, Share, ftrue, flft, fobs, fbor}
-use base.Logic.{SProp, ent, sep}
+use base.Fml.{GName, ftrue, flft}
+use base.Logic.{SProp, ent}
 use contract.BorrowLft.{◌⊑◌}
 use contract.Lifetimes.{Lfts, Shares, AllOutlive}
 use contract.Monad.{Fun}
 use types.ByLocal.{alloc_all, pass_all, free_all, look_at, get, through, sets, sets_last, env}
-use types.Logic.{Logic, sem}
+use types.Logic.{Logic}
 use types.Run.{stop, of_opd, addr, first, blocks, exec, returns, enter}
-use types.SemTy.{Body}
-use types.Kit.{Item, ‵, raw, ◌⊛◌, some, later, given, pick, learn, at_ret, ◌$◌, ◌∵◌, !, qed, by, move, keep, drop, use2, split, split3, join, rewrite, fsplit, fsplit3, fjoin, fjoin3, feq_l, feq_i, await, suffices, frame, done}
-use denote.Memory.{mem}
+use types.Kit.{‵, raw, ◌⊛◌, some, later, given, pick, learn, at_ret, ◌$◌, ◌∵◌, !, qed, by, move, keep, drop, use2, split, split3, join, rewrite, fsplit, fsplit3, fjoin, fjoin3, feq_l, feq_i, await, suffices, frame, done}
 use denote.Opens.{unhide}
 use denote.Param.{param, layouts}
 use denote.RattleType.{RattleType, owns}

@@ -6,8 +6,7 @@ use Rattle.intmap.proofs.map.IntMap.iter_mut.Goals as goal
 pub returns : goal.returns
 returns g c =
     let holes = c.lend-lent.ensures.holes in
-    let walk = c.args.self.now.walk in
-    (
+    let walk = c.args.self.now.walk in (
       (refl, λ last. refl),
       record {
         writes_back = tt;
