@@ -102,6 +102,7 @@ impl<K: IntKey, X, A: Allocator> Model for Slot<K, X, A> {
       room = 1 + vec_capacity s.rest;
     } };
 
+    // it asks nothing, but without one no reference into a slot is followed back to its owner
     ghost invariant = { λ s. Unit {0} };
 }
 
