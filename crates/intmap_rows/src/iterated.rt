@@ -145,7 +145,8 @@ fn taken<'a>(maps: &mut Maps<'a>) -> Result<Map<'a>, Cause> {
     Ok(mem::replace(&mut maps.map, fresh))
 }
 
-// how many items each kind of iterator says that it has at least, and at most
+// how many items each kind of iterator says that it has at least, and at most; a new map then stands
+// in the place of this one
 fn size_hints(alloc: Global, maps: &mut Maps<'_>) -> Result<String, AllocError> {
     let pairs = maps.map.iter().size_hint();
     let keys = maps.map.keys().size_hint();
@@ -153,5 +154,10 @@ fn size_hints(alloc: Global, maps: &mut Maps<'_>) -> Result<String, AllocError> 
     let written = maps.map.iter_mut().size_hint();
     let values_mut = maps.map.values_mut().size_hint();
     let drain = maps.map.drain().size_hint();
-    format!(in alloc; "{pairs:?} {keys:?} {values:?} {written:?} {values_mut:?} {drain:?}")
+    let mut hints = format!(in alloc; "{pairs:?} {keys:?} {values:?} {written:?} {values_mut:?}")?;
+    match taken(maps) {
+        Ok(map) => write!(hints, " {drain:?} {:?}", map.into_iter().size_hint())?,
+        Err(cause) => return refusal_text(alloc, cause, None),
+    }
+    Ok(hints)
 }
