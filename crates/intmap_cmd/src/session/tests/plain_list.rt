@@ -101,8 +101,8 @@ impl List {
             Command::Load => format!(in alloc; "{}", self.pairs.len().min(1)),
             Command::Capacity => String::from_str(alloc, "not asked"),
             Command::Walk => walk_of(alloc, self.pairs.as_slice()),
-            Command::Keys => numbers_of(alloc, self.pairs.iter().map(|pair| pair.0)),
-            Command::Values => numbers_of(alloc, self.pairs.iter().map(|pair| pair.1)),
+            Command::Keys => numbers_of(alloc, self.pairs.as_slice(), true),
+            Command::Values => numbers_of(alloc, self.pairs.as_slice(), false),
             Command::Drain(count) => {
                 let count = count.min(self.pairs.len());
                 let (taken, left) = self.pairs.split_at(count);
@@ -127,13 +127,14 @@ fn walk_of(alloc: Global, pairs: &[(u64, u64)]) -> Result<String, AllocError> {
     Ok(text)
 }
 
-// numbers as a list is printed
-fn numbers_of(alloc: Global, numbers: impl Iterator<Item = u64>) -> Result<String, AllocError> {
+// the keys of pairs, or their values, as a list is printed
+fn numbers_of(alloc: Global, pairs: &[(u64, u64)], are_keys: bool) -> Result<String, AllocError> {
     let mut text = String::from_str(alloc, "[")?;
-    for number in numbers {
+    for (key, value) in pairs {
         if text.len() > 1 {
             text.push_str(", ")?;
         }
+        let number = if are_keys { key } else { value };
         write!(text, "{number}")?;
     }
     text.push(']')?;
