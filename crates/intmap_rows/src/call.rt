@@ -56,7 +56,6 @@ fn bare(alloc: Global, maps: &mut Maps<'_>, name: &str) -> Result<String, AllocE
         "left" => number_text(alloc, maps.memory.left() as u128),
         "values" => values_text(alloc, &maps.map),
         "walk_sum" => walk_sum(alloc, &maps.map),
-        "clear" | "retain" => without_key(alloc, &mut maps.map, name),
         _ => through_all(alloc, maps, name),
     }
 }

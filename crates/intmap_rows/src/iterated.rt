@@ -1,10 +1,9 @@
 //! Calls that go through a map from the front of its walk.
 ghost use Rattle.std.specs.Iterator.{IsFinite};
 
-use crate::call::with_key;
+use crate::call::{with_key, without_key};
 use crate::many::WalkSum;
 use crate::maps::{Map, Maps};
-use crate::retained::retain;
 use crate::text::{list_text, number_text, pairs_text, refusal_text};
 use intmap::{Cause, IntMap};
 use std::alloc::{AllocError, Global};
@@ -28,7 +27,7 @@ pub fn through_all(alloc: Global, maps: &mut Maps<'_>, name: &str) -> Result<Str
             Err(cause) => refusal_text(alloc, cause, None),
         },
         "size_hints" => size_hints(alloc, maps),
-        _ => retain(alloc, &mut maps.map, name),
+        _ => without_key(alloc, &mut maps.map, name),
     }
 }
 
