@@ -15,7 +15,7 @@ use Rattle.intmap.proofs.WalkLemmas.{slot_of-walk_of, value_of-slot_of}
 
 module _ {K V : Type 0} (test : K → Bool) where
   -- where no key passes, nothing is found
-  first_value-none : (L : List (K × V)) → count_by (λ p. test p.0) L ≡ 0 → first_value test L ≡ None
+  pub first_value-none : (L : List (K × V)) → count_by (λ p. test p.0) L ≡ 0 → first_value test L ≡ None
   first_value-none [] none = refl
   first_value-none (p ∷ L) none =
       let more = sum_by-cons (λ (q : K × V). cond (test q.0) 1 0) p L in let rest = first_value-none L in grind (arith, more, rest, none)

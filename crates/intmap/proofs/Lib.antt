@@ -28,11 +28,14 @@ pub mod RegroupLemmas
 pub mod MapLemmas
 pub mod WriteLemmas
 pub mod EntryLemmas
+pub mod ExtendLemmas
 pub mod LoadFactorLemmas
 pub mod BindingLemmas
+pub mod EqualityLemmas
 pub mod StrikeLemmas
 pub mod ValuesLemmas
 pub mod SameKeysLemmas
+pub mod CloneLemmas
 pub mod CellLemmas
 pub mod OpensLemmas
 pub mod OpensVecLemmas

@@ -25,7 +25,7 @@ get_or-row_keys (h ∷ S) zero = refl
 get_or-row_keys (h ∷ S) (suc i) = get_or-row_keys S i
 
 module _ {K X Y : Type 0} where
-  length-same_keys : (L : List (K × X)) (M : List (K × Y)) → keys_of L ≡ keys_of M → length L ≡ length M
+  pub length-same_keys : (L : List (K × X)) (M : List (K × Y)) → keys_of L ≡ keys_of M → length L ≡ length M
   length-same_keys L M same = sym (length-keys_of L) ∙ ap length same ∙ length-keys_of M
 
   All-same_keys : (P : K → Type 0) (L : List (K × X)) (M : List (K × Y)) → keys_of L ≡ keys_of M → All (λ p. P p.0) L → All (λ p. P p.0) M

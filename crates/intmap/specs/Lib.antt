@@ -22,3 +22,7 @@ pub mod Entries
 pub mod Draining
 pub mod Apart
 pub mod Values
+pub mod Extending
+pub mod Cloning
+pub mod Equality
+pub mod EqualityLaws

@@ -3,14 +3,15 @@
 //!
 //! A call such as `laws::small_keys_are_found_at_once::<u64, V>();` brings its law into the proof
 //! of the function that makes it.
-ghost use Rattle.std.specs.Prelude.{◌≡◌, ◌+◌, ◌^◌, ◌<◌, ◌≤◌, ℕ, List, All, cond, is_some, length, Some, None, false};
+ghost use Rattle.std.specs.Prelude.{◌≡◌, ◌+◌, ◌^◌, ◌<◌, ◌≤◌, ◌↔◌, ℕ, List, All, IsTrue, cond, is_some, length, Some, None, false};
 ghost use Rattle.intmap.specs.Classes.{IsCapacity};
-ghost use Rattle.intmap.specs.Bindings.{value_of, take_key, put_pair, HasDistinctKeys, Updates};
+ghost use Rattle.intmap.specs.Bindings.{value_of, take_key, put_pair, HasDistinctKeys, Updates, BindSame};
 ghost use Rattle.intmap.specs.Walk.{walk_of};
 ghost use Rattle.intmap.specs.Reach.{reach, class_size};
 ghost use Rattle.intmap.specs.Figures.{load_of};
 ghost use Rattle.intmap.specs.Growth.{IsWanted, is_due};
-ghost use Rattle.intmap.specs.Map.{IsCapacityAfter};
+ghost use Rattle.intmap.specs.Map.{MapState, IsCapacityAfter};
+ghost use Rattle.intmap.specs.Equality.{maps_equal};
 ghost use Rattle.intmap.specs.States.{State, MayRefuse};
 ghost use Rattle.intmap.specs.declared.refusal.Cause.{Cause};
 
@@ -103,4 +104,10 @@ pub fn small_keys_are_found_at_once<K: IntKey, V>()
 pub fn small_keys_fill_slots<K: IntKey, V>()
     ensures { (L : List (K × V)) (C : ℕ) → HasDistinctKeys K.number_of L
         → All (λ p. K.number_of p.0 < C) L → load_of K.number_of L C ≡ length L }
+{}
+
+/// Two maps are equal exactly where they bind the same keys, each to equal values.
+pub fn equal_maps_bind_the_same<K: IntKey, V: PartialEq>()
+    ensures { (m n : MapState K V) → IsTrue (maps_equal K.number_of V.eq m n)
+        ↔ BindSame K.number_of V.eq m.walk n.walk }
 {}

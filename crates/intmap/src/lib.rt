@@ -16,4 +16,4 @@ mod table;
 
 pub use key::IntKey;
 pub use map::IntMap;
-pub use refusal::{Cause, Refused};
+pub use refusal::{Cause, Refused, RefusedPair};

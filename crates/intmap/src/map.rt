@@ -6,8 +6,12 @@ ghost use Rattle.intmap.specs.Map.{IsMap};
 
 mod build;
 mod clear;
+mod clone;
+mod debug;
 mod drain;
 mod each;
+mod equal;
+mod extend;
 mod get;
 mod grow;
 mod insert;

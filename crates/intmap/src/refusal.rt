@@ -34,3 +34,33 @@ impl<V: Drop> From<Refused<V>> for Cause {
         refused.cause
     }
 }
+
+/// A pair that could not be put into a map as one of several, with the cause and the number of
+/// those before it, which the map took.
+///
+/// ```text
+/// match map.extend(pairs) {
+///     Ok(()) => ..,
+///     Err(RefusedPair { key, value, applied, cause }) => ..,
+/// }
+/// ```
+#[derive(Debug, Drop)]
+pub struct RefusedPair<K, V> {
+    /// The key of the pair.
+    pub key: K,
+    /// Its value, handed back.
+    pub value: V,
+    /// How many pairs the map took before this one; 2^64 - 1 where there were more.
+    pub applied: usize,
+    /// Why it was refused.
+    pub cause: Cause,
+}
+
+/// The cause alone: by `?` a caller that answers a `Cause` lets the pair go.
+impl<K: Drop, V: Drop> From<RefusedPair<K, V>> for Cause {
+    ghost from_gives = { λ refused cause. cause ≡ refused.cause };
+
+    fn from(refused: RefusedPair<K, V>) -> Cause {
+        refused.cause
+    }
+}

@@ -5,6 +5,7 @@ ghost use Rattle.intmap.specs.Bindings.{swap_out, value_of};
 ghost use Rattle.intmap.specs.Reach.{through_first};
 ghost use Rattle.intmap.specs.Slots.{all_pairs, held_pairs, IsFilledInOrder};
 
+mod clone;
 mod each;
 
 use crate::key::IntKey;

@@ -1,6 +1,7 @@
 //! Slots, of which each key has one.
 
 mod bits;
+mod clone;
 pub(crate) mod each;
 mod front;
 mod grow;

@@ -113,6 +113,14 @@ impl<A: Allocator + Copy> Bits<A> {
         let words = vec![in alloc; 0u64; places.div_ceil(BITS)]?;
         Ok(Bits { words })
     }
+
+    /// The same marks once more. The words are copied, and it takes memory for as many.
+    pub(crate) fn clone(&self) -> Result<Bits<A>, AllocError>
+        ensures { IfOk result (λ bits. bits ≡ self.now) }
+    {
+        let words = Vec::from_slice(*self.words.allocator(), &self.words)?;
+        Ok(Bits { words })
+    }
 }
 
 /// The marked places that are left: those of the word in hand, which begins at the base, and those

@@ -32,6 +32,14 @@ impl<K: IntKey> Stored<K> {
         Stored { key }
     }
 
+    /// The same key, stored once more. It is no step, since nothing is compared.
+    #[inline(always)]
+    pub(crate) fn copied(&self) -> Stored<K>
+        ensures value { result ≡ self.now }
+    {
+        Stored { key: self.key }
+    }
+
     /// Whether this is the key that is looked for. It is one step.
     #[inline(always)]
     pub(crate) fn matches(&self, key: &K, steps: &mut Steps) -> bool

@@ -1,0 +1,154 @@
+-- What the equality of maps comes to once their lengths are compared.
+use Rattle.std.proofs.Common.{◌≡◌, inl, inr, ℕ, ◌≤◌, Bool, true, false, cond, ◌&&◌, List, [], ◌∷◌, length, Option, Some, None, refl, sym, ap, ◌∙◌, arith}
+use Rattle.std.specs.Prelude.{All}
+use Rattle.std.specs.Cmp.{IsPartialEquivalence, first_so, second_so}
+use Rattle.std.specs.List.{list_all}
+use Rattle.std.specs.Option.{option_eq}
+use Rattle.std.proofs.lemmas.Bool.{true≢false, cases_Bool, eqb-true, eq-eqb}
+use Rattle.std.proofs.lemmas.Grind.{common_steps}
+use Rattle.std.proofs.lemmas.List.Elements.{All-nil, All-cons, All-head, All-tail}
+use Rattle.std.proofs.lemmas.List.Sums.{sum_by-cons}
+use Rattle.intmap.specs.Classes.{same_key}
+use Rattle.intmap.specs.Bindings.{value_of, HasDistinctKeys, take_key, put_pair}
+use Rattle.intmap.specs.Equality.{are_bound_alike, maps_equal}
+use Rattle.intmap.specs.EqualityLaws.{value_of-same_number, unbound-or_alike, are_bound_alike-from_BindSame, option_eq-symm}
+use Rattle.intmap.specs.Map.{MapState}
+use Rattle.intmap.proofs.BindingLemmas.{first_value-none, value_of-take_key, value_of-put_pair}
+use Rattle.intmap.proofs.DistinctLemmas.{length-take_key, length-put_pair, HasDistinctKeys-take_key, HasDistinctKeys-put_pair}
+
+module _ {K V : Type 0} (number : K → ℕ) where
+  -- M binds each key that L binds
+  abbrev pub KeysWithin : List (K × V) → List (K × V) → Type 0
+  KeysWithin L M = (q : K) → value_of number M q ≡ None → value_of number L q ≡ None
+
+  HasDistinctKeys-rest : (p : K × V) (L : List (K × V)) → HasDistinctKeys number (p ∷ L) → HasDistinctKeys number L
+  HasDistinctKeys-rest p L once k = let all = once k in let more = sum_by-cons (λ (q : K × V). cond (same_key number k q.0) 1 0) p L in omega (arith, all, more)
+
+  -- a pair's own key is found
+  value_of-first : (p : K × V) (L : List (K × V)) → value_of number (p ∷ L) p.0 ≡ Some p.1
+  value_of-first p L = ap (λ b. cond b (Some p.1) (value_of number L p.0)) (eq-eqb (number p.0) (number p.0) refl)
+
+  -- the first pair's key isn't bound behind it
+  value_of-rest : (p : K × V) (L : List (K × V)) → HasDistinctKeys number (p ∷ L) → (q : K) → same_key number q p.0 ≡ true → value_of number L q ≡ None
+  value_of-rest p L once q found =
+      let more = sum_by-cons (λ (r : K × V). cond (same_key number q r.0) 1 0) p L in
+      let one : ◌≡◌ {A = ℕ} (cond (same_key number q p.0) 1 0) 1 = ap (λ b. cond b 1 0) found in
+      let few = once q in
+      first_value-none (same_key number q) L (omega (arith, more, one, few))
+
+  -- with the first pair's key taken out of both, the one is within the other
+  KeysWithin-rest : (p : K × V) (L M : List (K × V)) → HasDistinctKeys number (p ∷ L) → HasDistinctKeys number M → KeysWithin (p ∷ L) M → KeysWithin L (take_key number M 2 p.0)
+  KeysWithin-rest p L M once distinct within q none =
+      let taken = value_of-take_key number M 2 p.0 q distinct in
+      elim (cases_Bool (same_key number p.0 q)) [
+        | inl same ↦ value_of-rest p L once q (eq-eqb (number p.0) (number q) (sym (eqb-true (number q) (number p.0) same)))
+        | inr apart ↦
+            (let missing : value_of number M q ≡ None = sym (rw apart at taken) ∙ none in
+            let gone = within q missing in
+            grind (arith, common_steps, gone))
+      ]
+
+  -- where M binds each key that L binds, it is no shorter
+  length-KeysWithin : (L M : List (K × V)) → HasDistinctKeys number L → HasDistinctKeys number M → KeysWithin L M → length L ≤ length M
+  length-KeysWithin [] M once distinct within = omega arith
+  length-KeysWithin (p ∷ L) M once distinct within =
+      let rest = length-KeysWithin L (take_key number M 2 p.0) (HasDistinctKeys-rest p L once) (HasDistinctKeys-take_key number M 2 p.0 distinct) (KeysWithin-rest p L M once distinct within) in
+      let less = length-take_key number M 2 p.0 in
+      let first = value_of-first p L in
+      let found = within p.0 in
+      grind (arith, common_steps, rest, less, first, found)
+
+  -- where M binds each key that L binds and is as long, L binds each key that M binds
+  KeysWithin-turned : (L M : List (K × V)) → HasDistinctKeys number L → HasDistinctKeys number M → length L ≡ length M → KeysWithin L M → KeysWithin M L
+  KeysWithin-turned L M once distinct same within q none = at (value_of number M q) refl
+    where
+      at : (o : Option V) → value_of number M q ≡ o → o ≡ None
+      at None is = refl
+      at (Some v) is =
+          let within_too : KeysWithin (put_pair number L 2 q v) M = λ j missing.
+              let put = value_of-put_pair number L 2 q j v once in
+              let before = within j missing in
+              let as_q = value_of-same_number number M j q in
+              elim (cases_Bool (same_key number q j)) [
+                | inl at_q ↦ absurd (let e = as_q (eqb-true (number j) (number q) at_q) in cc)
+                | inr apart ↦ (rw apart at put) ∙ before
+              ] in
+          let longer = length-KeysWithin (put_pair number L 2 q v) M (HasDistinctKeys-put_pair number L 2 q v once) distinct within_too in
+          let more = length-put_pair number L 2 q v in
+          absurd (grind (arith, common_steps, longer, more, none, same))
+
+  -- a pair that is found behind the first one is found behind it still
+  value_of-behind : (p : K × V) (L : List (K × V)) → HasDistinctKeys number (p ∷ L) → (r : K × V) → value_of number L r.0 ≡ Some r.1 → value_of number (p ∷ L) r.0 ≡ Some r.1
+  value_of-behind p L once r found = at (same_key number r.0 p.0) refl
+    where
+      at : (b : Bool) → same_key number r.0 p.0 ≡ b → value_of number (p ∷ L) r.0 ≡ Some r.1
+      at true same = absurd (let none = value_of-rest p L once r.0 same in cc)
+      at false apart = ap (λ b. cond b (Some p.1) (value_of number L r.0)) apart ∙ found
+
+  -- each pair is found
+  All-found : (L : List (K × V)) → HasDistinctKeys number L → All (λ p. value_of number L p.0 ≡ Some p.1) L
+  All-found [] once = All-nil (λ p. value_of number [] p.0 ≡ Some p.1)
+  All-found (p ∷ L) once =
+      let rest = All-found L (HasDistinctKeys-rest p L once) in
+      All-cons (λ q. value_of number (p ∷ L) q.0 ≡ Some q.1) p L (value_of-first p L) (λ i d below. value_of-behind p L once _ (rest i d below))
+
+-- what a test implies adds nothing to it
+and-implied : (a b : Bool) → (a ≡ true → b ≡ true) → (a && b) ≡ a
+and-implied true b implies = implies refl
+and-implied false b implies = refl
+
+-- an option that is equal to none is none
+option_eq-missing : {V : Type 0} (equal : V → V → Bool) (o : Option V) → option_eq equal o None ≡ true → o ≡ None
+option_eq-missing equal None same = refl
+option_eq-missing equal (Some v) same = absurd (true≢false (sym same))
+
+module _ {K V : Type 0} (number : K → ℕ) (equal : V → V → Bool) where
+  -- each pair of P is found in M, with an equal value
+  abbrev pub are_found : List (K × V) → List (K × V) → Bool
+  are_found P M = list_all (λ p. option_eq equal (Some p.1) (value_of number M p.0)) P
+
+  -- to look pairs up that are found in L is to compare what L and M bind
+  are_bound_alike-part : (L M P : List (K × V)) → All (λ p. value_of number L p.0 ≡ Some p.1) P → list_all (λ p. option_eq equal (value_of number L p.0) (value_of number M p.0)) P ≡ are_found P M
+  are_bound_alike-part L M [] found = refl
+  are_bound_alike-part L M (p ∷ P) found =
+      let here = All-head (λ (q : K × V). value_of number L q.0 ≡ Some q.1) p P found in
+      let rest = are_bound_alike-part L M P (All-tail (λ (q : K × V). value_of number L q.0 ≡ Some q.1) p P found) in
+      λ i. option_eq equal (here i) (value_of number M p.0) && rest i
+
+  -- keys that are bound alike are bound
+  KeysWithin-alike : (L M : List (K × V)) → are_bound_alike number equal L M ≡ true → KeysWithin number L M
+  KeysWithin-alike L M all q none =
+      elim (unbound-or_alike number equal L M q all) [
+        | inl unbound ↦ unbound
+        | inr alike ↦ option_eq-missing equal (value_of number L q) (ap (option_eq equal (value_of number L q)) (sym none) ∙ alike)
+      ]
+
+  -- where each key of L is bound alike in M, which is as long, each key of M is in L
+  are_bound_alike-turned : IsPartialEquivalence equal → (L M : List (K × V)) → HasDistinctKeys number L → HasDistinctKeys number M → length L ≡ length M
+      → are_bound_alike number equal L M ≡ true → are_bound_alike number equal M L ≡ true
+  are_bound_alike-turned values L M once distinct same all =
+      are_bound_alike-from_BindSame number equal M L (λ q. elim (unbound-or_alike number equal L M q all) [
+        | inl none ↦
+            (let missing = KeysWithin-turned number L M once distinct same (KeysWithin-alike L M all) q none in
+            λ i. option_eq equal (missing i) (none i))
+        | inr alike ↦ option_eq-symm equal values.symm (value_of number M q) (value_of number L q) ∙ alike
+      ])
+
+  -- equality of maps of one length is to look the pairs of one up in the other
+  pub maps_equal-same_length : IsPartialEquivalence equal → (m n : MapState K V) → HasDistinctKeys number m.walk → HasDistinctKeys number n.walk → length m.walk ≡ length n.walk
+      → maps_equal number equal m n ≡ are_found m.walk n.walk
+  maps_equal-same_length values m n once distinct same =
+      and-implied (are_bound_alike number equal m.walk n.walk) (are_bound_alike number equal n.walk m.walk) (are_bound_alike-turned values m.walk n.walk once distinct same)
+      ∙ are_bound_alike-part m.walk n.walk m.walk (All-found number m.walk once)
+
+  -- maps of other lengths aren't equal
+  pub maps_equal-other_length : (m n : MapState K V) → HasDistinctKeys number m.walk → HasDistinctKeys number n.walk → (length m.walk ≡ length n.walk → ⊥)
+      → maps_equal number equal m n ≡ false
+  maps_equal-other_length m n once distinct other =
+      elim (cases_Bool (maps_equal number equal m n)) [
+        | inl both ↦
+            (let there = length-KeysWithin number m.walk n.walk once distinct (KeysWithin-alike m.walk n.walk (first_so (are_bound_alike number equal m.walk n.walk) _ both)) in
+            let back = length-KeysWithin number n.walk m.walk distinct once (KeysWithin-alike n.walk m.walk (second_so (are_bound_alike number equal m.walk n.walk) _ both)) in
+            absurd (other (omega (arith, there, back))))
+        | inr differ ↦ differ
+      ]

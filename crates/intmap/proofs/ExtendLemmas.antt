@@ -1,0 +1,144 @@
+-- What insertions in turn leave, one pair after another.
+use Rattle.std.proofs.Common.{◌≡◌, inl, inr, ℕ, ◌+◌, ◌≤◌, Bool, true, false, cond, List, [], ◌∷◌, ◌++◌, length, reverse, is_some, Option, Some, None, refl, sym, ap, subst, ◌∙◌, add-zero, arith}
+use Rattle.std.specs.Prelude.{◌↔◌, ◌⊎◌, ◌<◌, ◌^◌, Result, Ok, Err, IsErrAnd, MatchResult}
+use Rattle.std.specs.Option.{option_or}
+use Rattle.std.proofs.lemmas.Bool.{cases_eq, cases_lt, eqb-true, eq-eqb, ne_eqb}
+use Rattle.std.proofs.lemmas.List.{reverse-append}
+use Rattle.intmap.specs.Bindings.{value_of}
+use Rattle.intmap.specs.Classes.{same_key}
+use Rattle.intmap.specs.EqualityLaws.{value_of-same_number}
+use Rattle.intmap.specs.Extending.{IsInserted, AreInserted, new_keys, IsExtended}
+use Rattle.intmap.specs.Map.{MapState}
+use Rattle.intmap.specs.declared.refusal.Cause.{Cause}
+use Rattle.intmap.specs.declared.refusal.Cause.TheVariants.{Memory, TooLarge}
+use Rattle.intmap.proofs.CostLemmas.{capacity-not_less}
+
+module _ {K V : Type 0} (number : K → ℕ) where
+  -- a pair in front of another list
+  value_of-append : (L M : List (K × V)) (q : K) → value_of number (L ++ M) q ≡ option_or (value_of number L q) (value_of number M q)
+  value_of-append [] M q = refl
+  value_of-append (p ∷ L) M q = by_case (same_key number q p.0) refl (value_of-append L M q)
+    where
+      by_case : (b : Bool) → same_key number q p.0 ≡ b → value_of number (L ++ M) q ≡ option_or (value_of number L q) (value_of number M q)
+          → value_of number (p ∷ L ++ M) q ≡ option_or (value_of number (p ∷ L) q) (value_of number M q)
+      by_case true is rest = rw is refl
+      by_case false is rest = rw is rest
+
+  -- the last pair comes first from the back
+  value_of-reverse_push : (ps : List (K × V)) (k q : K) (v : V) → value_of number (reverse (ps ++ (k, v) ∷ [])) q ≡ cond (same_key number q k) (Some v) (value_of number (reverse ps) q)
+  value_of-reverse_push ps k q v = ap (λ L. value_of number L q) (reverse-append ps ((k, v) ∷ []))
+
+  -- where one is found of two, it is found with either in place of the other
+  is_some-or : (o a b : Option V) → is_some a ≡ is_some b → is_some (option_or o a) ≡ is_some (option_or o b)
+  is_some-or None a b same = same
+  is_some-or (Some v) a b same = refl
+
+  -- two that stand in front of a third are found one after another
+  option_or-assoc : (a b c : Option V) → option_or (option_or a b) c ≡ option_or a (option_or b c)
+  option_or-assoc None b c = refl
+  option_or-assoc (Some v) b c = refl
+
+  -- one key more is new where it is neither bound nor came before
+  length-new_keys-push : (L ps : List (K × V)) (k : K) (v : V)
+      → length (new_keys number L (ps ++ (k, v) ∷ [])) ≡ length (new_keys number L ps) + cond (is_some (option_or (value_of number (reverse ps) k) (value_of number L k))) 0 1
+  length-new_keys-push L [] k v = by_case (is_some (value_of number L k)) refl
+    where
+      by_case : (b : Bool) → is_some (value_of number L k) ≡ b → length (new_keys number L ((k, v) ∷ [])) ≡ 0 + cond {A = ℕ} (is_some (value_of number L k)) 0 1
+      by_case true is = rw is refl
+      by_case false is = rw is refl
+  length-new_keys-push L (p ∷ ps) k v = by_case (is_some (value_of number L p.0)) refl (length-new_keys-push L ps k v) (length-new_keys-push (p ∷ L) ps k v)
+    where
+      A : Option V
+      A = value_of number (reverse ps) k
+
+      C : Option V
+      C = value_of number L k
+
+      B : Option V
+      B = cond (same_key number k p.0) (Some p.1) None
+
+      there : value_of number (reverse (p ∷ ps)) k ≡ option_or A B
+      there = ap (λ M. value_of number M k) (reverse-append (p ∷ []) ps) ∙ value_of-append (reverse ps) (p ∷ []) k
+
+      whole : option_or (value_of number (reverse (p ∷ ps)) k) C ≡ option_or A (option_or B C)
+      whole = ap (λ o. option_or o C) there ∙ option_or-assoc A B C
+
+      behind : (s : Bool) → same_key number k p.0 ≡ s → value_of number (p ∷ L) k ≡ option_or (cond (same_key number k p.0) (Some p.1) None) C
+      behind true is = rw is refl
+      behind false is = rw is refl
+
+      bound : (s : Bool) → same_key number k p.0 ≡ s → is_some (value_of number L p.0) ≡ true → is_some C ≡ is_some (option_or (cond (same_key number k p.0) (Some p.1) None) C)
+      bound true is some = rw is (ap is_some (value_of-same_number number L k p.0 (sym (eqb-true (number p.0) (number k) is))) ∙ some)
+      bound false is some = rw is refl
+
+      by_case : (b : Bool) → is_some (value_of number L p.0) ≡ b
+          → length (new_keys number L (ps ++ (k, v) ∷ [])) ≡ length (new_keys number L ps) + cond (is_some (option_or A C)) 0 1
+          → length (new_keys number (p ∷ L) (ps ++ (k, v) ∷ [])) ≡ length (new_keys number (p ∷ L) ps) + cond (is_some (option_or A (value_of number (p ∷ L) k))) 0 1
+          → length (new_keys number L (p ∷ ps ++ (k, v) ∷ [])) ≡ length (new_keys number L (p ∷ ps)) + cond (is_some (option_or (value_of number (reverse (p ∷ ps)) k) C)) 0 1
+      by_case true is rest other =
+          let same : is_some (option_or A C) ≡ is_some (option_or (value_of number (reverse (p ∷ ps)) k) C) =
+          is_some-or A C (option_or B C) (bound (same_key number k p.0) refl is) ∙ sym (ap is_some whole) in
+          rw is (rest ∙ ap (λ b. length (new_keys number L ps) + cond b 0 1) same)
+      by_case false is other rest =
+          let same : is_some (option_or A (value_of number (p ∷ L) k)) ≡ is_some (option_or (value_of number (reverse (p ∷ ps)) k) C) =
+          ap (λ o. is_some (option_or A o)) (behind (same_key number k p.0) refl) ∙ sym (ap is_some whole) in
+          rw is (let h = rest ∙ ap (λ b. length (new_keys number (p ∷ L) ps) + cond b 0 1) same in omega (arith, h))
+
+module _ {K V : Type 0} (number : K → ℕ) (is_key : K → Type 0) where
+  -- one accepted insertion more
+  AreInserted-push : (m l n : MapState K V) (ps : List (K × V)) (k : K) (v : V) → AreInserted number is_key m ps l → IsInserted number is_key l k v n
+      → AreInserted number is_key m (ps ++ (k, v) ∷ []) n
+  AreInserted-push m l n [] k v before last = (n, subst (λ x. IsInserted number is_key x k v n) before last, refl)
+  AreInserted-push m l n (p ∷ ps) k v before last = (before.0, before.1, AreInserted-push before.0 l n ps k v before.2 last)
+
+  -- no insertion
+  pub IsExtended-nil : (m : MapState K V) → IsExtended number is_key m [] m
+  IsExtended-nil m = record { inserted = refl; updates = λ q. refl; len = sym (add-zero (length m.walk)); factor = refl; capacity = omega arith }
+
+  module _ (m l n : MapState K V) (ps : List (K × V)) (k : K) (v : V) (before : IsExtended number is_key m ps l) (last : IsInserted number is_key l k v n) where
+    -- one insertion more, which answered so, by what it says of keys and length
+    pub IsExtended-push : (old : Option V) → old ≡ value_of number l.walk k → ((q : K) → value_of number n.walk q ≡ cond (same_key number k q) (Some v) (value_of number l.walk q))
+        → length n.walk ≡ length l.walk + cond (is_some old) 0 1 → IsExtended number is_key m (ps ++ (k, v) ∷ []) n
+    IsExtended-push old was updates len = record {
+      inserted = AreInserted-push m l n ps k v before.inserted last;
+      updates = λ q. updates q ∙ by_case q (same_key number k q) refl;
+      len =
+          (let more = length-new_keys-push number m.walk ps k v in
+          let bound : cond {A = ℕ} (is_some old) 0 1 ≡ cond {A = ℕ} (is_some (option_or (value_of number (reverse ps) k) (value_of number m.walk k))) 0 1 =
+          ap (λ o. cond (is_some o) 0 1) (was ∙ before.updates k) in
+          let start = before.len in
+          omega (arith, len, more, bound, start));
+      factor = ap (λ x. x.factor) last.state ∙ before.factor;
+      capacity =
+          (let kept = capacity-not_less (value_of number l.walk k) l.capacity (length l.walk + 1) l.factor n.capacity last.capacity in
+          let start = before.capacity in
+          omega (arith, kept, start));
+    }
+      where
+        turned : (q : K) (b : Bool) → same_key number k q ≡ b → same_key number q k ≡ b
+        turned q b is = elim (cases_eq (number k) (number q)) [
+          | inl same ↦ eq-eqb (number k) (number q) same ∙ sym (eq-eqb (number q) (number k) (sym same)) ∙ is
+          | inr apart ↦ ne_eqb (number k) (number q) apart ∙ sym (ne_eqb (number q) (number k) (λ same. apart (sym same))) ∙ is
+        ]
+
+        by_case : (q : K) (b : Bool) → same_key number k q ≡ b
+            → cond (same_key number k q) (Some v) (value_of number l.walk q) ≡ option_or (value_of number (reverse (ps ++ (k, v) ∷ [])) q) (value_of number m.walk q)
+        by_case q true is = rw (is, value_of-reverse_push number ps k q v, turned q true is) refl
+        by_case q false is = rw (is, value_of-reverse_push number ps k q v, turned q false is) (before.updates q)
+
+-- a result that is refused with a cause that meets R is one whose cause meets what follows of R
+pub MatchResult-refused : {T : Type 0} (r : Result T Cause) (R P : Cause → Type 0) (Q : T → Type 0) → IsErrAnd r R → ((cause : Cause) → R cause → P cause) → MatchResult r Q P
+MatchResult-refused (Ok t) R P Q refused follows = absurd refused
+MatchResult-refused (Err cause) R P Q refused follows = follows cause refused
+
+-- a refusal, in place of a T
+abbrev pub refusal_of : (T : Type 0) → Cause → Result T Cause
+refusal_of T cause = Err cause
+
+-- the cause of a map that wasn't made for so many slots
+pub cause-of_slots : {T : Type 0} (cause : Cause) (b : ℕ) → ((refusal_of T cause) ≡ (refusal_of T TooLarge)) ↔ (2 ^ 63 < b) → ((cause ≡ TooLarge) × (2 ^ 63 < b)) ⊎ ((cause ≡ Memory) × (b ≤ 2 ^ 63))
+cause-of_slots TooLarge b large = inl (refl, large.0 refl)
+cause-of_slots Memory b large = elim (cases_lt (2 ^ 63) b) [
+  | inl more ↦ (let no = large.1 more in cc)
+  | inr within ↦ inr (refl, within)
+]

@@ -1,0 +1,35 @@
+use Rattle.std.proofs.Common.{refl, sym, subst}
+use Rattle.intmap.specs.Kept.{unkept}
+use Rattle.intmap.specs.Map.{MapState}
+use Rattle.intmap.proofs.CloneLemmas.{AreClones, AreClones-unkept, keys_of-AreClones, BindsClones-AreClones}
+use Rattle.intmap.proofs.SameKeysLemmas.{length-same_keys, IsConsistent-same_keys}
+use Rattle.intmap.proofs.map.IntMap.clone.Goals as goal
+use Rattle.intmap.proofs.map.IntMap.clone.Goals.{After-new-2}
+
+-- the walk of the clone, as callers see it
+walk : (g : _) (c : After-new-2 g) → AreClones g.V.Clone.is_clone c.args.self.now.walk (unkept c.in-Ok.table.walk)
+walk g c =
+    let clones = g.V.Clone.is_clone in
+    subst (λ (m : MapState _ _). AreClones clones m.walk (unkept c.in-Ok.table.walk)) c.self.view_is
+    (AreClones-unkept clones c.self.inside.table.walk c.in-Ok.table.walk c.in-Ok.ensures.walk)
+
+pub invariant_of-result : goal.invariant_of-result
+invariant_of-result g c =
+    let made = c.in-Ok.ensures in
+    rw made.capacity (IsConsistent-same_keys g.K.IntKey.number_of g.K.IntKey.is_key c.self.inside.table.walk c.in-Ok.table.walk _ _ _ _
+    (keys_of-AreClones _ c.self.inside.table.walk c.in-Ok.table.walk made.walk) (rw made.capacity at made.own) c.self.invariant)
+
+pub returns-clause-clone : goal.returns-clause-clone
+returns-clause-clone g c = record { walk = walk g c; state = rw (← c.self.view_is, c.in-Ok.ensures.capacity, c.new.ensures, c.new-2.ensures) refl }
+
+pub returns-clause-keys : goal.returns-clause-keys
+returns-clause-keys g c = sym (keys_of-AreClones g.V.Clone.is_clone c.args.self.now.walk (unkept c.in-Ok.table.walk) (walk g c))
+
+pub returns-clause-values : goal.returns-clause-values
+returns-clause-values g c = BindsClones-AreClones g.V.Clone.is_clone g.K.IntKey.number_of c.args.self.now.walk (unkept c.in-Ok.table.walk) (walk g c)
+
+pub returns-clause-len : goal.returns-clause-len
+returns-clause-len g c = length-same_keys (unkept c.in-Ok.table.walk) c.args.self.now.walk (returns-clause-keys g c)
+
+pub returns-clause-map_after : goal.returns-clause-map_after
+returns-clause-map_after g c = (invariant_of-result g c).map

@@ -1,0 +1,60 @@
+-- The pairs of an iterator come one after another, and an induction over them is beyond the search.
+use Rattle.std.proofs.Common.{Some, refl, sym, subst, arith, rules}
+use Rattle.std.specs.Iterator.{Yields}
+use Rattle.std.proofs.lemmas.List.{length_push}
+use Rattle.intmap.specs.Extending.{IsInserted}
+use Rattle.intmap.proofs.ExtendLemmas.{IsExtended-nil, IsExtended-push}
+use Rattle.intmap.proofs.map.IntMap.extend.Goals as goal
+
+pub loop-key-init : goal.loop-key-init
+loop-key-init g c = (search rules, IsExtended-nil g.K.IntKey.number_of g.K.IntKey.is_key c.args.self.now, refl, c.known.ensures.map, c.known.ensures.map)
+
+pub loop-key-preserved : goal.loop-key-preserved
+loop-key-preserved g c =
+    let e = c.in-Ok.ensures in
+    let kept = c.loop-key.invariant in
+    let last : IsInserted g.K.IntKey.number_of g.K.IntKey.is_key c.loop-key.self c.in-Some.key c.in-Some.value c.insert.new.self = record { in_range = e.too_large.1; capacity = e.capacity; state = e.state; map = c.insert.ensures.map_after } in (
+      search rules,
+      IsExtended-push g.K.IntKey.number_of g.K.IntKey.is_key c.args.self.now c.loop-key.self c.insert.new.self c.loop-key.yielded c.in-Some.key c.in-Some.value
+      kept.1 last c.in-Ok.field-0 e.old e.updates.0 e.len,
+      omega (arith, c.saturating_add-applied.ensures, kept.2, length_push c.loop-key.yielded (c.in-Some.key, c.in-Some.value)),
+      c.insert.ensures.map_after,
+      kept.4,
+    )
+
+pub returns-in-Err-clause-stops : goal.returns-in-Err-clause-stops
+returns-in-Err-clause-stops g c =
+    let e = c.in-Err.ensures in
+    let gives = g.I.Iterator.next_gives in
+    let pairs = c.loop-key.yielded in
+    record {
+      pairs = pairs;
+      rest = c.next.new.self;
+      came = (
+        c.loop-key.key-iterator,
+        subst (λ s. Yields gives s pairs c.loop-key.key-iterator) c.into_iter-key-iterator.ensures.into_iter_gives c.loop-key.yielded_by,
+        subst (λ v. gives c.loop-key.key-iterator (Some (c.in-Some.key, v)) c.next.new.self) (sym e.value_returned) c.in-Some.ensures.steps,
+      );
+      before = c.loop-key.self;
+      extended = c.loop-key.invariant.1;
+      may_refuse = record { new_key = e.new_key; too_large = e.too_large; memory = e.memory };
+      after = e.err;
+      applied = c.loop-key.invariant.2;
+    }
+
+pub returns-clause-extends : goal.returns-clause-extends
+returns-clause-extends g c =
+    let gives = g.I.Iterator.next_gives in
+    let pairs = c.loop-key.yielded in
+    record {
+      pairs = pairs;
+      came = (
+        c.next.new.self,
+        (
+          c.loop-key.key-iterator,
+          subst (λ s. Yields gives s pairs c.loop-key.key-iterator) c.into_iter-key-iterator.ensures.into_iter_gives c.loop-key.yielded_by,
+          c.in-None.ensures.steps,
+        ),
+      );
+      extended = c.loop-key.invariant.1;
+    }

@@ -1,0 +1,22 @@
+use Rattle.std.proofs.Common.{length, ap, subst, arith}
+use Rattle.intmap.specs.Slots.{Held, held_pairs}
+use Rattle.intmap.proofs.CloneLemmas.{AreClones, AreClones-held_pairs, length-held_pairs}
+use Rattle.intmap.proofs.slot.Slot.clone.Goals as goal
+use Rattle.intmap.proofs.slot.Slot.clone.Goals.{in-Some+in_ok-clone_pair-in-Some, in-None}
+
+pub returns-clause-pairs : goal.returns-clause-pairs
+returns-clause-pairs g c =
+    let clones = g.X.Clone.is_clone in let old = c.self.inside in let new = c.in_ok-rest in
+    subst (λ (s : Held _ _). AreClones clones s.pairs (held_pairs c.match-self.first new.rest.items)) c.self.view_is
+    (AreClones-held_pairs clones old.first c.match-self.first old.rest.items new.rest.items
+    (elim c.match-self.branch [
+      | in-Some+in_ok-clone_pair-in-Some w ↦ rw w.in-Some.is (w.in_ok-clone_pair-in-Some.field-0, w.first-is, w.in_ok-clone_pair-in-Some.ensures)
+      | in-None w ↦ rw w.in-None.is w.first-is
+    ])
+    (rw c.deref.ensures.value at new.ensures.pairs))
+
+pub returns-clause-room : goal.returns-clause-room
+returns-clause-room g c =
+    let held = length-held_pairs c.self.inside.first c.self.inside.rest.items in
+    let view = ap (λ (s : Held _ _). length s.pairs) c.self.view_is in
+    omega (arith, held, view, c.in_ok-rest.ensures.room, ap length c.deref.ensures.value)

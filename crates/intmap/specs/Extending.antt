@@ -1,0 +1,72 @@
+-- What inserting pairs in turn answers and leaves.
+use Rattle.std.specs.Prelude.{◌≡◌, ℕ, ◌+◌, ◌-◌, ◌^◌, ◌<◌, ◌≤◌, cond, is_some, min, max, List, [], ◌∷◌, length, reverse, Option, Some, ◌⊎◌}
+use Rattle.std.specs.Iterator.{Drains, YieldsThen}
+use Rattle.std.specs.Option.{option_or}
+use Rattle.intmap.specs.Bindings.{value_of}
+use Rattle.intmap.specs.Growth.{IsLeastPower}
+use Rattle.intmap.specs.Map.{MapState, IsMap, IsOutOfRange, IsCapacityAfter, empty_map, after_search, after_insert}
+use Rattle.intmap.specs.States.{MayRefuse}
+use Rattle.intmap.specs.declared.refusal.Cause.{Cause}
+use Rattle.intmap.specs.declared.refusal.Cause.TheVariants.{Memory, TooLarge}
+use Rattle.intmap.specs.declared.refusal.RefusedPair.{RefusedPair}
+
+module _ {K V : Type 0} (number : K → ℕ) where
+  -- the keys of the pairs that the list doesn't bind, each once
+  abbrev pub new_keys : List (K × V) → List (K × V) → List K
+  new_keys L [] = []
+  new_keys L (p ∷ ps) = cond (is_some (value_of number L p.0)) (new_keys L ps) (p.0 ∷ new_keys (p ∷ L) ps)
+
+module _ {K V : Type 0} (number : K → ℕ) (is_key : K → Type 0) where
+  -- an accepted insertion of k bound to v took the map m to n
+  pub record IsInserted (m : MapState K V) (k : K) (v : V) (n : MapState K V) : Type 0 where
+    pub in_range : IsOutOfRange number m.walk m.capacity m.factor k → ⊥
+    pub capacity : IsCapacityAfter number m.walk m.capacity m.factor k n.capacity
+    pub state : n ≡ after_insert number m k v n.capacity
+    pub map : IsMap number is_key n
+
+  -- the pairs were inserted in turn, all accepted
+  abbrev pub AreInserted : MapState K V → List (K × V) → MapState K V → Type 0
+  AreInserted m [] n = n ≡ m
+  AreInserted m (p ∷ ps) n = (l : MapState K V) × IsInserted m p.0 p.1 l × AreInserted l ps n
+
+  -- the pairs were inserted in turn, all accepted: each of their keys has its last value, each other key what it had, there is
+  -- one pair more for each new key, the load factor stays, and there are no fewer slots
+  pub record IsExtended (m : MapState K V) (ps : List (K × V)) (n : MapState K V) : Type 0 where
+    pub inserted : AreInserted m ps n
+    pub updates : (q : K) → value_of number n.walk q ≡ option_or (value_of number (reverse ps) q) (value_of number m.walk q)
+    pub len : length n.walk ≡ length m.walk + length (new_keys number m.walk ps)
+    pub factor : n.factor ≡ m.factor
+    pub capacity : m.capacity ≤ n.capacity
+
+module _ {K V S : Type 0} (number : K → ℕ) (is_key : K → Type 0) (steps : S → Option (K × V) → S → Type 0) where
+  -- all pairs that came from the iterator s were inserted in turn
+  pub record Extends (s : S) (m n : MapState K V) : Type 0 where
+    pub pairs : List (K × V)
+    pub came : Drains steps s pairs
+    pub extended : IsExtended number is_key m pairs n
+
+  -- the pairs that came from the iterator s were inserted in turn up to the first that was refused, which comes back with the
+  -- cause and the number of those before it, or the greatest number there is where they were more; then its key was looked for
+  pub record StopsAt (s : S) (m : MapState K V) (refused : RefusedPair K V) (n : MapState K V) : Type 0 where
+    pub pairs : List (K × V)
+    pub rest : S
+    pub came : YieldsThen steps s pairs (Some (refused.key, refused.value)) rest
+    pub before : MapState K V
+    pub extended : IsExtended number is_key m pairs before
+    pub may_refuse : MayRefuse number (record { pairs = before.walk; capacity = before.capacity; factor = before.factor }) refused.key refused.cause
+    pub after : n ≡ after_search number before refused.key
+    pub applied : refused.applied ≡ min (length pairs) (2 ^ 64 - 1)
+
+  -- an empty map with room for b slots was extended by all pairs that came from the iterator s
+  pub record Collects (s : S) (b : ℕ) (n : MapState K V) : Type 0 where
+    pub slots : ℕ
+    pub power : IsLeastPower (max b 2) slots
+    pub extends : Extends s (empty_map slots) n
+
+  -- a map with room for b slots was refused, or the pairs that came from the iterator s up to a refused one were inserted into it
+  abbrev pub MayRefuseToCollect : S → ℕ → Cause → Type 0
+  MayRefuseToCollect s b cause =
+      ((cause ≡ TooLarge) × (2 ^ 63 < b))
+      ⊎ ((cause ≡ Memory) × (b ≤ 2 ^ 63))
+      ⊎ ((slots : ℕ) × IsLeastPower (max b 2) slots × (refused : RefusedPair K V) × (n : MapState K V)
+      × StopsAt s (empty_map slots) refused n × (cause ≡ refused.cause))

@@ -1,0 +1,82 @@
+//! Many pairs at once, from an iterator.
+ghost use Rattle.std.specs.Prelude.{◌≡◌, ℕ, IfOk, IfErr, OnOk, MatchResult};
+ghost use Rattle.std.specs.Iterator.{IsFinite};
+ghost use Rattle.intmap.specs.Map.{IsMap};
+ghost use Rattle.intmap.specs.Extending.{Extends, StopsAt, Collects, MayRefuseToCollect};
+
+use crate::key::IntKey;
+use crate::map::IntMap;
+use crate::refusal::{Cause, RefusedPair};
+use std::alloc::Allocator;
+
+impl<K: IntKey, V: Drop, A: Allocator + Copy> IntMap<K, V, A> {
+    /// Inserts the pairs in turn, each as [`insert`](IntMap::insert) does, so the last value of a
+    /// key is the one that stays. It takes no memory ahead: the table grows as the pairs come.
+    ///
+    /// It ends at the first pair whose insertion is refused, and hands back its key, its value, the
+    /// cause and the number of pairs before it. Exactly those before it are in the map then, and
+    /// the iterator goes, with what it hasn't given yet.
+    ///
+    /// ```text
+    /// map.extend(pairs)    as map.insert(key, value)? of each, with the number of those before
+    /// ```
+    pub fn extend<I: Iterator<Item = (K, V)> + Drop>(
+        &mut self,
+        iter: I,
+    ) -> Result<(), RefusedPair<K, V>>
+        requires can { I.can_next iter }
+        requires ends { IsFinite (I.remaining iter) }
+        ensures extends { OnOk result
+            (Extends K.number_of K.is_key I.next_gives iter self.old self.new) }
+        ensures stops { IfErr result (λ refused.
+            StopsAt K.number_of K.is_key I.next_gives iter self.old refused self.new) }
+        ensures map { IsMap K.number_of K.is_key self.old }
+        ensures map_after { IsMap K.number_of K.is_key self.new }
+    {
+        self.known();
+        let mut applied: usize = 0;
+        for (key, value) in iter {
+            match self.insert(key, value) {
+                Ok(_) => {}
+                Err(refused) => {
+                    return Err(RefusedPair {
+                        key,
+                        value: refused.value,
+                        applied,
+                        cause: refused.cause,
+                    });
+                }
+            }
+            applied = applied.saturating_add(1);
+        }
+        Ok(())
+    }
+
+    /// A map of the pairs, inserted in turn into one with room for as many as the iterator says
+    /// that it gives at least: [`with_capacity`](IntMap::with_capacity) of the lower bound of its
+    /// `size_hint`, and then [`extend`](IntMap::extend).
+    ///
+    /// It is refused where either is, with the same cause, and the pairs that came are let go.
+    ///
+    /// ```text
+    /// IntMap::from_iter(alloc, pairs)    of 20 pairs in a vector has 32 slots
+    /// ```
+    pub fn from_iter<I: Iterator<Item = (K, V)> + Drop>(
+        alloc: A,
+        iter: I,
+    ) -> Result<IntMap<K, V, A>, Cause>
+        requires can { I.can_next iter }
+        requires ends { IsFinite (I.remaining iter) }
+        ensures collects { (b : ℕ) × MatchResult result
+            (λ made. Collects K.number_of K.is_key I.next_gives iter b made)
+            (λ cause. MayRefuseToCollect {V = V} K.number_of K.is_key I.next_gives iter b cause) }
+        ensures map { IfOk result (IsMap K.number_of K.is_key) }
+    {
+        let (lower, _) = iter.size_hint();
+        let mut map = IntMap::with_capacity(alloc, lower)?;
+        match map.extend(iter) {
+            Ok(()) => Ok(map),
+            Err(refused) => Err(refused.cause),
+        }
+    }
+}
