@@ -1,10 +1,10 @@
 -- What clones of lists of pairs have in common with the lists that they were made of.
 use Rattle.std.proofs.Common.{◌≡◌, ℕ, ◌≤◌, Bool, true, false, cond, List, [], ◌∷◌, ◌++◌, length, Option, Some, None, refl, sym, ap, ◌∙◌, subst, arith}
-use Rattle.std.proofs.lemmas.List.{length-reverse}
 use mathlib.Core.List.{reverse_aux}
 use Rattle.std.specs.Prelude.{reverse, MatchOption}
 use Rattle.std.specs.List.{AllZip}
 use Rattle.std.specs.Map.{keys_of}
+use Rattle.std.proofs.lemmas.List.{length-reverse}
 use Rattle.intmap.specs.Bindings.{value_of}
 use Rattle.intmap.specs.Classes.{same_key}
 use Rattle.intmap.specs.Cloning.{IsPairClone, BindsClones}
@@ -19,18 +19,21 @@ length-held_pairs None rest = omega (arith, length-reverse rest)
 length-held_pairs (Some p) rest = omega arith
 
 module _ {P Q : Type 0} (R : P → Q → Type 0) where
+  -- two runs alike, one behind the other
   AllZip-append : (xs us : List P) (ys vs : List Q) → AllZip R xs ys → AllZip R us vs → AllZip R (xs ++ us) (ys ++ vs)
   AllZip-append [] us [] vs all more = more
   AllZip-append [] us (y ∷ ys) vs all more = absurd all
   AllZip-append (x ∷ xs) us [] vs all more = absurd all
   AllZip-append (x ∷ xs) us (y ∷ ys) vs all more = (all.0, AllZip-append xs us ys vs all.1 more)
 
+  -- two runs alike, each turned and put before others
   AllZip-onto : (xs us : List P) (ys vs : List Q) → AllZip R xs ys → AllZip R us vs → AllZip R (reverse_aux xs us) (reverse_aux ys vs)
   AllZip-onto [] us [] vs all more = more
   AllZip-onto [] us (y ∷ ys) vs all more = absurd all
   AllZip-onto (x ∷ xs) us [] vs all more = absurd all
   AllZip-onto (x ∷ xs) us (y ∷ ys) vs all more = AllZip-onto xs (x ∷ us) ys (y ∷ vs) all.1 (all.0, more)
 
+  -- what holds place by place does from the back
   AllZip-reverse : (xs : List P) (ys : List Q) → AllZip R xs ys → AllZip R (reverse xs) (reverse ys)
   AllZip-reverse xs ys all = AllZip-onto xs [] ys [] all tt
 
@@ -63,6 +66,7 @@ module _ {K X : Type 0} (clones : X → X → Type 0) where
   AreClones-joined (h ∷ S) [] all = absurd all
   AreClones-joined (h ∷ S) (g ∷ T) all = AllZip-append (IsPairClone clones) h.pairs (joined (rows S)) g.pairs (joined (rows T)) all.0 (AreClones-joined S T all.1)
 
+  -- and have the keys, slot by slot
   pub row_keys-AllZip : (S T : List (Held K X)) → AllZip IsSlotClone S T → row_keys S ≡ row_keys T
   row_keys-AllZip [] [] all = refl
   row_keys-AllZip [] (g ∷ T) all = absurd all
@@ -77,14 +81,17 @@ module _ {K V : Type 0} (clones : V → V → Type 0) where
   AreClones-unkept (p ∷ L) [] all = absurd all
   AreClones-unkept (p ∷ L) (q ∷ M) all = (all.0, AreClones-unkept L M all.1)
 
-  -- the first pair of a key is cloned into the first pair of the key
+  -- a clone of the first pair is looked at as the pair is
+  value_of-clone : (number : K → ℕ) (k : K) (p q : K × V) (M : List (K × V)) (b : Bool) → same_key number k p.0 ≡ b → q.0 ≡ p.0 → value_of number (q ∷ M) k ≡ cond b (Some q.1) (value_of number M k)
+  value_of-clone number k p q M b is key = ap (λ j. cond (same_key number k j) (Some q.1) (value_of number M k)) key ∙ ap (λ c. cond c (Some q.1) (value_of number M k)) is
+
+  -- where a key is bound to a clone by the rest, it is with clones of the first pair before it
   binds_first : (number : K → ℕ) (k : K) (p q : K × V) (L M : List (K × V)) (b : Bool) → same_key number k p.0 ≡ b → IsPairClone clones p q
       → MatchOption (value_of number L k) (value_of number M k ≡ None) (λ v. (w : V) × (value_of number M k ≡ Some w) × clones v w)
       → MatchOption (cond b (Some p.1) (value_of number L k)) (value_of number (q ∷ M) k ≡ None) (λ v. (w : V) × (value_of number (q ∷ M) k ≡ Some w) × clones v w)
-  binds_first number k p q L M true is one rest = (q.1, ap (λ j. cond (same_key number k j) (Some q.1) (value_of number M k)) one.0 ∙ ap (λ b. cond b (Some q.1) (value_of number M k)) is, one.1)
+  binds_first number k p q L M true is one rest = (q.1, value_of-clone number k p q M true is one.0, one.1)
   binds_first number k p q L M false is one rest =
-      let e : value_of number (q ∷ M) k ≡ value_of number M k = ap (λ j. cond (same_key number k j) (Some q.1) (value_of number M k)) one.0 ∙ ap (λ b. cond b (Some q.1) (value_of number M k)) is in
-      subst (λ o. MatchOption (value_of number L k) (o ≡ None) (λ v. (w : V) × (o ≡ Some w) × clones v w)) (sym e) rest
+      subst (λ o. MatchOption (value_of number L k) (o ≡ None) (λ v. (w : V) × (o ≡ Some w) × clones v w)) (sym (value_of-clone number k p q M false is one.0)) rest
 
   -- so each key is bound to a clone
   pub BindsClones-AreClones : (number : K → ℕ) (L M : List (K × V)) → AreClones clones L M → BindsClones number clones L M

@@ -56,7 +56,7 @@ module _ {K V : Type 0} (number : K → ℕ) where
   reach-within_class L C k = count_by-through_first (λ p. agrees number C k p.0) (λ p. same_key number k p.0) L
 
   -- of distinct keys the rest is distinct
-  HasDistinctKeys-tail : (p : K × V) (L : List (K × V)) → HasDistinctKeys number (p ∷ L) → HasDistinctKeys number L
+  pub HasDistinctKeys-tail : (p : K × V) (L : List (K × V)) → HasDistinctKeys number (p ∷ L) → HasDistinctKeys number L
   HasDistinctKeys-tail p L once k = let all = once k in let more = sum_by-cons (λ (q : K × V). cond (same_key number k q.0) 1 0) p L in omega (arith, all, more)
 
   -- distinct keys below the capacity leave each residue once at most

@@ -15,14 +15,12 @@ use Rattle.intmap.specs.EqualityLaws.{value_of-same_number, unbound-or_alike, ar
 use Rattle.intmap.specs.Map.{MapState}
 use Rattle.intmap.proofs.BindingLemmas.{first_value-none, value_of-take_key, value_of-put_pair}
 use Rattle.intmap.proofs.DistinctLemmas.{length-take_key, length-put_pair, HasDistinctKeys-take_key, HasDistinctKeys-put_pair}
+use Rattle.intmap.proofs.CostLemmas.{HasDistinctKeys-tail}
 
 module _ {K V : Type 0} (number : K → ℕ) where
   -- M binds each key that L binds
   abbrev pub KeysWithin : List (K × V) → List (K × V) → Type 0
   KeysWithin L M = (q : K) → value_of number M q ≡ None → value_of number L q ≡ None
-
-  HasDistinctKeys-rest : (p : K × V) (L : List (K × V)) → HasDistinctKeys number (p ∷ L) → HasDistinctKeys number L
-  HasDistinctKeys-rest p L once k = let all = once k in let more = sum_by-cons (λ (q : K × V). cond (same_key number k q.0) 1 0) p L in omega (arith, all, more)
 
   -- a pair's own key is found
   value_of-first : (p : K × V) (L : List (K × V)) → value_of number (p ∷ L) p.0 ≡ Some p.1
@@ -52,7 +50,7 @@ module _ {K V : Type 0} (number : K → ℕ) where
   length-KeysWithin : (L M : List (K × V)) → HasDistinctKeys number L → HasDistinctKeys number M → KeysWithin L M → length L ≤ length M
   length-KeysWithin [] M once distinct within = omega arith
   length-KeysWithin (p ∷ L) M once distinct within =
-      let rest = length-KeysWithin L (take_key number M 2 p.0) (HasDistinctKeys-rest p L once) (HasDistinctKeys-take_key number M 2 p.0 distinct) (KeysWithin-rest p L M once distinct within) in
+      let rest = length-KeysWithin L (take_key number M 2 p.0) (HasDistinctKeys-tail number p L once) (HasDistinctKeys-take_key number M 2 p.0 distinct) (KeysWithin-rest p L M once distinct within) in
       let less = length-take_key number M 2 p.0 in
       let first = value_of-first p L in
       let found = within p.0 in
@@ -66,13 +64,13 @@ module _ {K V : Type 0} (number : K → ℕ) where
       at None is = refl
       at (Some v) is =
           let within_too : KeysWithin (put_pair number L 2 q v) M = λ j missing.
-              let put = value_of-put_pair number L 2 q j v once in
-              let before = within j missing in
-              let as_q = value_of-same_number number M j q in
-              elim (cases_Bool (same_key number q j)) [
-                | inl at_q ↦ absurd (let e = as_q (eqb-true (number j) (number q) at_q) in cc)
-                | inr apart ↦ (rw apart at put) ∙ before
-              ] in
+          let put = value_of-put_pair number L 2 q j v once in
+          let before = within j missing in
+          let as_q = value_of-same_number number M j q in
+          elim (cases_Bool (same_key number q j)) [
+            | inl at_q ↦ absurd (let e = as_q (eqb-true (number j) (number q) at_q) in cc)
+            | inr apart ↦ (rw apart at put) ∙ before
+          ] in
           let longer = length-KeysWithin (put_pair number L 2 q v) M (HasDistinctKeys-put_pair number L 2 q v once) distinct within_too in
           let more = length-put_pair number L 2 q v in
           absurd (grind (arith, common_steps, longer, more, none, same))
@@ -89,7 +87,7 @@ module _ {K V : Type 0} (number : K → ℕ) where
   All-found : (L : List (K × V)) → HasDistinctKeys number L → All (λ p. value_of number L p.0 ≡ Some p.1) L
   All-found [] once = All-nil (λ p. value_of number [] p.0 ≡ Some p.1)
   All-found (p ∷ L) once =
-      let rest = All-found L (HasDistinctKeys-rest p L once) in
+      let rest = All-found L (HasDistinctKeys-tail number p L once) in
       All-cons (λ q. value_of number (p ∷ L) q.0 ≡ Some q.1) p L (value_of-first p L) (λ i d below. value_of-behind p L once _ (rest i d below))
 
 -- what a test implies adds nothing to it

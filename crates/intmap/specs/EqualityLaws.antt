@@ -24,11 +24,13 @@ module _ {V : Type 0} (equal : V → V → Bool) where
   option_eq-none None = refl
   option_eq-none (Some v) = refl
 
+  -- options are compared symmetrically where values are
   pub option_eq-symm : ((x y : V) → equal x y ≡ equal y x) → (o p : Option V) → option_eq equal o p ≡ option_eq equal p o
   option_eq-symm symm None p = option_eq-none p
   option_eq-symm symm (Some x) None = refl
   option_eq-symm symm (Some x) (Some y) = symm x y
 
+  -- and transitively
   option_eq-trans : ((x y z : V) → equal x y ≡ true → equal y z ≡ true → equal x z ≡ true)
       → (o p q : Option V) → option_eq equal o p ≡ true → option_eq equal p q ≡ true → option_eq equal o q ≡ true
   option_eq-trans trans None None q first second = second
@@ -37,6 +39,7 @@ module _ {V : Type 0} (equal : V → V → Bool) where
   option_eq-trans trans (Some x) (Some y) None first second = second
   option_eq-trans trans (Some x) (Some y) (Some z) first second = trans x y z first second
 
+  -- and an option is equal to itself
   option_eq-refl : ((x : V) → equal x x ≡ true) → (o : Option V) → option_eq equal o o ≡ true
   option_eq-refl same None = refl
   option_eq-refl same (Some x) = same x
@@ -92,17 +95,22 @@ module _ {K V : Type 0} (number : K → ℕ) (equal : V → V → Bool) where
   maps_equal-from_BindSame m n there back =
       ap (λ b. b && are_bound_alike number equal n.walk m.walk) (are_bound_alike-from_BindSame m.walk n.walk there) ∙ are_bound_alike-from_BindSame n.walk m.walk back
 
+  -- equality of maps is symmetric
+  maps_equal-symm : (m n : MapState K V) → maps_equal number equal m n ≡ maps_equal number equal n m
+  maps_equal-symm m n = and-turned (are_bound_alike number equal m.walk n.walk) (are_bound_alike number equal n.walk m.walk)
+
+  -- what binds the same as a list that binds the same as a third one binds the same as that
+  BindSame-trans : IsPartialEquivalence equal → (L M N : List (K × V)) → BindSame number equal L M → BindSame number equal M N → BindSame number equal L N
+  BindSame-trans values L M N first second k = option_eq-trans equal values.trans (value_of number L k) (value_of number M k) (value_of number N k) (first k) (second k)
+
   -- equality of maps is symmetric and transitive where that of values is
   pub IsPartialEquivalence-maps_equal : IsPartialEquivalence equal → IsPartialEquivalence (maps_equal number equal)
   IsPartialEquivalence-maps_equal values = record {
-    symm = λ m n. and-turned (are_bound_alike number equal m.walk n.walk) (are_bound_alike number equal n.walk m.walk);
+    symm = maps_equal-symm;
     trans = λ l m n first second.
-        let chain = λ (L M N : List (K × V)) (one : BindSame number equal L M) (two : BindSame number equal M N) (k : K).
-            option_eq-trans equal values.trans (value_of number L k) (value_of number M k) (value_of number N k) (one k) (two k) in
-        let turned = λ (m n : MapState K V). and-turned (are_bound_alike number equal m.walk n.walk) (are_bound_alike number equal n.walk m.walk) in
         maps_equal-from_BindSame l n
-        (chain l.walk m.walk n.walk (BindSame-from_equal l m first) (BindSame-from_equal m n second))
-        (chain n.walk m.walk l.walk (BindSame-from_equal n m (turned n m ∙ second)) (BindSame-from_equal m l (turned m l ∙ first)));
+        (BindSame-trans values l.walk m.walk n.walk (BindSame-from_equal l m first) (BindSame-from_equal m n second))
+        (BindSame-trans values n.walk m.walk l.walk (BindSame-from_equal n m (maps_equal-symm n m ∙ second)) (BindSame-from_equal m l (maps_equal-symm m l ∙ first)));
   }
 
   -- and an equivalence where that of values is

@@ -1,5 +1,6 @@
 //! One call, from its words to its answer.
 
+use crate::built::{with_many_pairs, with_other, with_pairs, with_squares};
 use crate::entries::{with_entry, with_reference};
 use crate::iterated::{through_all, through_front};
 use crate::many::{Insertion, Keys, get_many, insert_many, remove_many, walk_sum};
@@ -21,6 +22,9 @@ pub fn answer_to(alloc: Global, maps: &mut Maps<'_>, call: &str) -> Result<Strin
     let Some(words) = words_of(alloc, call)? else {
         return no_call(alloc);
     };
+    if let Some(answer) = with_pairs(alloc, maps, words.name, &words.numbers)? {
+        return Ok(answer);
+    }
     match words.numbers.as_slice() {
         [] => bare(alloc, maps, words.name),
         [number] => with_number(alloc, maps, words.name, *number),
@@ -56,7 +60,10 @@ fn bare(alloc: Global, maps: &mut Maps<'_>, name: &str) -> Result<String, AllocE
         "left" => number_text(alloc, maps.memory.left() as u128),
         "values" => values_text(alloc, &maps.map),
         "walk_sum" => walk_sum(alloc, &maps.map),
-        _ => through_all(alloc, maps, name),
+        _ => match with_other(alloc, maps, name)? {
+            Some(answer) => Ok(answer),
+            None => through_all(alloc, maps, name),
+        },
     }
 }
 
@@ -112,7 +119,10 @@ fn with_number(
         }
         "reserve" => done_text(alloc, maps.map.reserve(number as usize)),
         "set_load_factor" => done_text(alloc, maps.map.set_load_factor(number as usize)),
-        _ => through_front(alloc, maps, name, number),
+        _ => match with_squares(alloc, maps, name, number)? {
+            Some(answer) => Ok(answer),
+            None => through_front(alloc, maps, name, number),
+        },
     }
 }
 
@@ -176,6 +186,6 @@ fn with_keys(
         "remove_many" => number_text(alloc, remove_many(&mut maps.map, keys) as u128),
         "run_many" => run_many(alloc, maps.memory, &mut maps.map, "insert", keys),
         "run_entries_many" => run_many(alloc, maps.memory, &mut maps.map, "entry_insert", keys),
-        _ => no_call(alloc),
+        _ => with_many_pairs(alloc, maps, name, keys),
     }
 }

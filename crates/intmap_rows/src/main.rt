@@ -5,6 +5,7 @@
 #![tactic(auto)]
 
 mod block;
+mod built;
 mod call;
 mod cell;
 mod entries;

@@ -45,4 +45,21 @@ impl<'a> Maps<'a> {
         self.map = made?;
         Ok(())
     }
+
+    /// Takes the other map away, and leaves one as `new` makes it.
+    pub fn take_other(&mut self) -> Result<Map<'a>, Cause> {
+        let fresh = IntMap::new(self.memory)?;
+        Ok(mem::replace(&mut self.other, fresh))
+    }
+
+    /// Puts a clone of the map that calls are made on in the place of the other one.
+    pub fn clone_to_other(&mut self) -> Result<(), Cause> {
+        self.other = self.map.clone()?;
+        Ok(())
+    }
+
+    /// Whether the two maps are equal, from either side.
+    pub fn are_equal(&self) -> bool {
+        self.map == self.other && self.other == self.map
+    }
 }

@@ -1,7 +1,7 @@
 //! Answers as text, in the words of the program's lines.
 
 use crate::maps::MapOf;
-use intmap::{Cause, IntKey};
+use intmap::{Cause, IntKey, RefusedPair};
 use std::alloc::{AllocError, Allocator, Global};
 use std::fmt::Display;
 
@@ -48,6 +48,15 @@ pub fn refusal_text(alloc: Global, cause: Cause, value: Option<u64>) -> Result<S
         Some(value) => format!(in alloc; "refused {value}: {cause}"),
         None => format!(in alloc; "refused: {cause}"),
     }
+}
+
+/// That an insertion of several pairs ended at one, which came back, and behind how many.
+pub fn stopped_text(alloc: Global, refused: &RefusedPair<u64, u64>) -> Result<String, AllocError> {
+    let key = refused.key;
+    let value = refused.value;
+    let applied = refused.applied;
+    let cause = cause_name(refused.cause);
+    format!(in alloc; "stopped at {key} {value} after {applied}: {cause}")
 }
 
 /// Why a call was refused.

@@ -3,6 +3,7 @@
 
 pub mod counter;
 pub mod dense;
+pub mod equality;
 pub mod floors;
 pub mod id_table;
 pub mod keys;
@@ -10,6 +11,7 @@ pub mod prices;
 pub mod refusals;
 pub mod retained;
 pub mod session;
+pub mod settings;
 pub mod tally;
 pub mod totals;
 pub mod values;

@@ -15,8 +15,12 @@ impl<K: IntKey, V: Clone, A: Allocator + Copy> IntMap<K, V, A> {
     /// same capacity and load factor. Its own counts begin at zero. This map stays as it is, and no
     /// key is compared: time and memory grow with the number of slots and of pairs.
     ///
-    /// It is refused as [`Cause::Memory`] where memory for the slots, for their bits or for the pairs
-    /// is, or where the clone of a value is, and never else. What was made until then is let go.
+    /// Memory for the slots and for their bits is taken first, and then, as the values are cloned,
+    /// for the pairs of each slot behind its first one, and for no more than these.
+    ///
+    /// It is refused as [`Cause::Memory`] where memory for the slots, for their bits or for the
+    /// pairs is, or where the clone of a value is, and never else. What was made until then is let
+    /// go.
     ///
     /// ```text
     /// after insert(0, 10), insert(1, 11) and insert(4, 14) into 4 slots:

@@ -1,6 +1,6 @@
 //! Many pairs at once, from an iterator.
-ghost use Rattle.std.specs.Prelude.{◌≡◌, ℕ, IfOk, IfErr, OnOk, MatchResult};
-ghost use Rattle.std.specs.Iterator.{IsFinite};
+ghost use Rattle.std.specs.Prelude.{◌≡◌, ℕ, ◌≤◌, IfOk, IfErr, OnOk, MatchResult};
+ghost use Rattle.std.specs.Iterator.{IsFinite, size};
 ghost use Rattle.intmap.specs.Map.{IsMap};
 ghost use Rattle.intmap.specs.Extending.{Extends, StopsAt, Collects, MayRefuseToCollect};
 
@@ -10,15 +10,17 @@ use crate::refusal::{Cause, RefusedPair};
 use std::alloc::Allocator;
 
 impl<K: IntKey, V: Drop, A: Allocator + Copy> IntMap<K, V, A> {
-    /// Inserts the pairs in turn, each as [`insert`](IntMap::insert) does, so the last value of a
-    /// key is the one that stays. It takes no memory ahead: the table grows as the pairs come.
+    /// Inserts the pairs that the iterator gives in turn, each as [`insert`](IntMap::insert) does,
+    /// so a key keeps the last of its values. The table grows as by these calls alone: nothing is
+    /// reserved ahead.
     ///
-    /// It ends at the first pair whose insertion is refused, and hands back its key, its value, the
-    /// cause and the number of pairs before it. Exactly those before it are in the map then, and
-    /// the iterator goes, with what it hasn't given yet.
+    /// The first insertion that is refused ends it, and the key and the value of its pair come
+    /// back, with the cause and the number of pairs before it. Exactly those are in the map then,
+    /// and the iterator is let go, with what it hasn't given.
     ///
     /// ```text
-    /// map.extend(pairs)    as map.insert(key, value)? of each, with the number of those before
+    /// after insert(0, 10) into 4 slots:
+    /// extend of 4: 14 and 0: 20    Ok(()), and the walk is 4: 14, 0: 20
     /// ```
     pub fn extend<I: Iterator<Item = (K, V)> + Drop>(
         &mut self,
@@ -52,14 +54,13 @@ impl<K: IntKey, V: Drop, A: Allocator + Copy> IntMap<K, V, A> {
         Ok(())
     }
 
-    /// A map of the pairs, inserted in turn into one with room for as many as the iterator says
-    /// that it gives at least: [`with_capacity`](IntMap::with_capacity) of the lower bound of its
-    /// `size_hint`, and then [`extend`](IntMap::extend).
+    /// A map of the pairs that the iterator gives: [`with_capacity`](IntMap::with_capacity) of the
+    /// lower bound of its `size_hint`, and then [`extend`](IntMap::extend).
     ///
-    /// It is refused where either is, with the same cause, and the pairs that came are let go.
+    /// It is refused where either is, with the same cause, and all is let go.
     ///
     /// ```text
-    /// IntMap::from_iter(alloc, pairs)    of 20 pairs in a vector has 32 slots
+    /// of the 20 pairs of a vector it has 32 slots, and of no pairs 2
     /// ```
     pub fn from_iter<I: Iterator<Item = (K, V)> + Drop>(
         alloc: A,
@@ -67,7 +68,7 @@ impl<K: IntKey, V: Drop, A: Allocator + Copy> IntMap<K, V, A> {
     ) -> Result<IntMap<K, V, A>, Cause>
         requires can { I.can_next iter }
         requires ends { IsFinite (I.remaining iter) }
-        ensures collects { (b : ℕ) × MatchResult result
+        ensures collects { (b : ℕ) × (b ≤ size (I.remaining iter)) × MatchResult result
             (λ made. Collects K.number_of K.is_key I.next_gives iter b made)
             (λ cause. MayRefuseToCollect {V = V} K.number_of K.is_key I.next_gives iter b cause) }
         ensures map { IfOk result (IsMap K.number_of K.is_key) }

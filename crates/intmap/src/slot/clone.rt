@@ -8,7 +8,7 @@ use crate::slot::Slot;
 use crate::table::stored::Stored;
 use std::alloc::{AllocError, Allocator};
 
-/// The same key with a clone of the value. No key is compared.
+/// The same key with a clone of the value, refused where that is. No key is compared.
 #[inline(always)]
 fn clone_pair<K: IntKey, X: Clone>(pair: &(Stored<K>, X)) -> Result<(Stored<K>, X), AllocError>
     ensures { IfOk result (IsPairClone X.is_clone pair.now) }

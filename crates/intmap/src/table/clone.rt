@@ -9,8 +9,8 @@ use crate::table::Table;
 use std::alloc::{AllocError, Allocator};
 
 impl<K: IntKey, X: Clone, A: Allocator + Copy> Table<K, X, A> {
-    /// The same keys in the same slots, with clones of their values. Memory for the bits and for the
-    /// slots is taken before the first value is cloned.
+    /// The same keys in the same slots, with clones of their values. Memory for the bits and for
+    /// the slots is taken before the first value is cloned.
     pub(crate) fn clone(&self) -> Result<Table<K, X, A>, AllocError>
         ensures walk { IfOk result
             (λ made. AllZip (IsPairClone X.is_clone) self.now.walk made.walk) }

@@ -16,7 +16,7 @@ loop-key-preserved g c =
     let last : IsInserted g.K.IntKey.number_of g.K.IntKey.is_key c.loop-key.self c.in-Some.key c.in-Some.value c.insert.new.self = record { in_range = e.too_large.1; capacity = e.capacity; state = e.state; map = c.insert.ensures.map_after } in (
       search rules,
       IsExtended-push g.K.IntKey.number_of g.K.IntKey.is_key c.args.self.now c.loop-key.self c.insert.new.self c.loop-key.yielded c.in-Some.key c.in-Some.value
-      kept.1 last c.in-Ok.field-0 e.old e.updates.0 e.len,
+          kept.1 last c.in-Ok.field-0 e.old e.updates.0 e.len,
       omega (arith, c.saturating_add-applied.ensures, kept.2, length_push c.loop-key.yielded (c.in-Some.key, c.in-Some.value)),
       c.insert.ensures.map_after,
       kept.4,

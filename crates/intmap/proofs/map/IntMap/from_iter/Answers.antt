@@ -9,11 +9,12 @@ pub returns-in_err-map-clause-collects : goal.returns-in_err-map-clause-collects
 returns-in_err-map-clause-collects g c =
     let lower = c.size_hint-lower.result.0 in (
       lower,
+      c.size_hint-lower.ensures.lower c.requires.ends,
       MatchResult-refused c.from_residual.result _ _ _ c.from_residual.ensures.1
-      (λ cause is. elim (cause-of_slots c.in_err-map.field-0.0 lower c.in_err-map.ensures.too_large) [
-        | inl large ↦ inl (is ∙ large.0, large.1)
-        | inr within ↦ inr (inl (is ∙ within.0, within.1))
-      ]),
+          (λ cause is. elim (cause-of_slots c.in_err-map.field-0.0 lower c.in_err-map.ensures.too_large) [
+            | inl large ↦ inl (is ∙ large.0, large.1)
+            | inr within ↦ inr (inl (is ∙ within.0, within.1))
+          ]),
     )
 
 pub returns-in-Err-clause-collects : goal.returns-in-Err-clause-collects
@@ -21,4 +22,4 @@ returns-in-Err-clause-collects g c =
     let made = c.in_ok-map.ensures in
     let Stops : MapState g.row.K.Denot g.row.V.Denot → Type 0 =
     λ m. StopsAt g.K.IntKey.number_of g.K.IntKey.is_key g.I.Iterator.next_gives c.args.iter m c.in-Err.refused c.extend.new.self in
-    (c.size_hint-lower.result.0, inr (inr (c.in_ok-map.map.capacity, made.capacity, c.in-Err.refused, c.extend.new.self, subst Stops made.state c.in-Err.ensures.stops, refl)))
+    (c.size_hint-lower.result.0, c.size_hint-lower.ensures.lower c.requires.ends, inr (inr (c.in_ok-map.map.capacity, made.capacity, c.in-Err.refused, c.extend.new.self, subst Stops made.state c.in-Err.ensures.stops, refl)))
