@@ -1,5 +1,6 @@
 pub mod SplitLemmas
 pub mod NumberLemmas
+pub mod PairLemmas
 pub mod CommandLemmas
 pub mod LineLemmas
 pub mod ServingLemmas

@@ -14,7 +14,7 @@ empty_stands : Stands {K = ℕ} {V = ℕ} (λ k. k) (empty_state 4) (empty_map 4
 empty_stands = record { walk = refl; capacity = refl; factor = refl }
 
 -- the lines of the answers of a run from a new map, over the commands that a text spells
-pub is_answered : {A : Type 0} (text : List ℕ) (commands : List (Command ℕ ℕ))
+pub is_answered : {A : Type 0} (text : List ℕ) (commands : List (Command ℕ ℕ A))
     (answers : List (Answer ℕ ℕ ℕ A)) (lines : List ℕ) (map new : MapState ℕ ℕ)
     → Spells text commands → map ≡ empty_map 4
     → RunsFrom (λ k. k) (λ v s. s ≡ v) (λ k v. (v % 2) == 1) map commands answers new

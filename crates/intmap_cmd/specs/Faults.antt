@@ -20,8 +20,8 @@ report_of fault.Input = codes "input failed" ++ 10 ∷ []
 report_of fault.Output = codes "output failed" ++ 10 ∷ []
 
 -- a text may be refused so: as no list of commands, by the number of its first line that is none, or for want of memory
-abbrev pub IsRefused : List ℕ → Fault → Type 0
-IsRefused text (fault.NotACommand n) = SpellsNone text × IsFirstUnknown text n
-IsRefused text fault.Memory = ⊤
-IsRefused text fault.Input = ⊥
-IsRefused text fault.Output = ⊥
+abbrev pub IsRefused : Type 0 → List ℕ → Fault → Type 0
+IsRefused A text (fault.NotACommand n) = SpellsNone A text × IsFirstUnknown A text n
+IsRefused A text fault.Memory = ⊤
+IsRefused A text fault.Input = ⊥
+IsRefused A text fault.Output = ⊥

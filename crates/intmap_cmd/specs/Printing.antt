@@ -4,6 +4,7 @@ use Rattle.std.specs.List.{flat_map, join_by}
 use Rattle.std.specs.Fmt.{decimal}
 use Rattle.intmap.specs.declared.refusal.Cause.{Cause}
 use Rattle.intmap.specs.declared.refusal.Cause.TheVariants as cause
+use Rattle.intmap.specs.declared.refusal.RefusedPair.{RefusedPair}
 use Rattle.intmap_run.specs.declared.answer.Answer.{Answer}
 use Rattle.intmap_run.specs.declared.answer.Answer.TheVariants as answer
 
@@ -29,6 +30,12 @@ pairs_text pairs = codes "{" ++ join_by pair_text (codes ", ") pairs ++ codes "}
 abbrev pub numbers_text : List ℕ → List ℕ
 numbers_text numbers = codes "[" ++ join_by decimal (codes ", ") numbers ++ codes "]"
 
+-- the first of several pairs that was refused, behind how many, and why
+abbrev pub stopped_text : RefusedPair ℕ ℕ → List ℕ
+stopped_text refused =
+    codes "stopped at " ++ decimal refused.key ++ codes " " ++ decimal refused.value
+    ++ codes " after " ++ decimal refused.applied ++ codes ": " ++ cause_text refused.cause
+
 -- an answer, without the end of its line
 abbrev pub answer_text : {A : Type 0} → Answer ℕ ℕ ℕ A → List ℕ
 answer_text (answer.Old None) = codes "none"
@@ -45,6 +52,7 @@ answer_text (answer.Walk pairs) = pairs_text pairs.items
 answer_text (answer.Keys keys) = numbers_text keys.items
 answer_text (answer.Values values) = numbers_text values.items
 answer_text (answer.Pairs pairs) = pairs_text pairs.items
+answer_text (answer.Stopped refused) = stopped_text refused
 answer_text (answer.Refused cause value) = refusal_text cause value
 
 -- one line an answer, each ended by a byte 10

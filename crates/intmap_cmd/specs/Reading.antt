@@ -13,7 +13,7 @@ list_of (numbers.One first) = first ∷ []
 list_of (numbers.Two first second) = first ∷ second ∷ []
 
 -- a line of these words is blank, says this command, or has words that say none
-abbrev pub Reads : List (List ℕ) → Line → Type 0
+abbrev pub Reads : {A : Type 0} → List (List ℕ) → Line A → Type 0
 Reads words line.Blank = words ≡ []
 Reads words (line.Command c) = Says words c
-Reads words line.Unknown = IsUnknown words
+Reads {A} words line.Unknown = IsUnknown A words

@@ -1,10 +1,11 @@
 -- The words of a command: its name, and the numbers behind it.
 use Rattle.std.specs.Prelude.{◌≡◌, ℕ, List, [], ◌∷◌, codes}
+use Rattle.std.specs.List.{flat_map}
 use Rattle.intmap_run.specs.declared.command.Command.{Command}
 use Rattle.intmap_run.specs.declared.command.Command.TheVariants as command
 
 -- the word that a command begins with
-abbrev pub name_of : Command ℕ ℕ → List ℕ
+abbrev pub name_of : {A : Type 0} → Command ℕ ℕ A → List ℕ
 name_of (command.Insert k v) = codes "insert"
 name_of (command.InsertChecked k v) = codes "insert_checked"
 name_of (command.Get k) = codes "get"
@@ -18,6 +19,7 @@ name_of (command.SetLoadFactor thousandths) = codes "set_load_factor"
 name_of command.GetLoadFactor = codes "get_load_factor"
 name_of (command.EntryInsert k v) = codes "entry_insert"
 name_of (command.EntryRemove k) = codes "entry_remove"
+name_of (command.Extend pairs) = codes "extend"
 name_of (command.Drain count) = codes "drain"
 name_of command.Len = codes "len"
 name_of command.IsEmpty = codes "is_empty"
@@ -27,8 +29,12 @@ name_of command.Walk = codes "walk"
 name_of command.Keys = codes "keys"
 name_of command.Values = codes "values"
 
+-- the keys and values of pairs in turn
+abbrev pub keys_and_values : List (ℕ × ℕ) → List ℕ
+keys_and_values pairs = flat_map (λ p. p.0 ∷ p.1 ∷ []) pairs
+
 -- the numbers that follow it
-abbrev pub numbers_of : Command ℕ ℕ → List ℕ
+abbrev pub numbers_of : {A : Type 0} → Command ℕ ℕ A → List ℕ
 numbers_of (command.Insert k v) = k ∷ v ∷ []
 numbers_of (command.InsertChecked k v) = k ∷ v ∷ []
 numbers_of (command.Get k) = k ∷ []
@@ -42,6 +48,7 @@ numbers_of (command.SetLoadFactor thousandths) = thousandths ∷ []
 numbers_of command.GetLoadFactor = []
 numbers_of (command.EntryInsert k v) = k ∷ v ∷ []
 numbers_of (command.EntryRemove k) = k ∷ []
+numbers_of (command.Extend pairs) = keys_and_values pairs.items
 numbers_of (command.Drain count) = count ∷ []
 numbers_of command.Len = []
 numbers_of command.IsEmpty = []
@@ -52,5 +59,10 @@ numbers_of command.Keys = []
 numbers_of command.Values = []
 
 -- this name and these numbers are the words of the command
-abbrev pub IsSpelled : List ℕ → List ℕ → Command ℕ ℕ → Type 0
+abbrev pub IsSpelled : {A : Type 0} → List ℕ → List ℕ → Command ℕ ℕ A → Type 0
 IsSpelled name numbers c = (name ≡ name_of c) × (numbers_of c ≡ numbers)
+
+-- the two are one command, but for how a vector in them lies in memory
+abbrev pub IsSame : {A : Type 0} → Command ℕ ℕ A → Command ℕ ℕ A → Type 0
+IsSame (command.Extend pairs) (command.Extend others) = pairs.items ≡ others.items
+IsSame c d = c ≡ d

@@ -1,8 +1,8 @@
 //! The lines of answers.
 ghost use Rattle.std.specs.Prelude.{◌≡◌, ◌++◌, IfOk, OnOk, string_bytes};
-ghost use Rattle.intmap_cmd.specs.Printing.{cause_text, refusal_text, pairs_text, numbers_text, answer_text, lines_of};
+ghost use Rattle.intmap_cmd.specs.Printing.{cause_text, refusal_text, stopped_text, pairs_text, numbers_text, answer_text, lines_of};
 
-use intmap::Cause;
+use intmap::{Cause, RefusedPair};
 use intmap_run::Answer;
 use std::alloc::{AllocError, Allocator};
 
@@ -39,6 +39,7 @@ fn print_answer<A: Allocator>(
         Answer::Number(number) => write!(out, "{number}"),
         Answer::Walk(pairs) | Answer::Pairs(pairs) => print_pairs(out, pairs.as_slice()),
         Answer::Keys(numbers) | Answer::Values(numbers) => print_numbers(out, numbers.as_slice()),
+        Answer::Stopped(refused) => print_stopped(out, refused),
         Answer::Refused { cause, value } => print_refusal(out, *cause, *value),
     }
 }
@@ -57,6 +58,24 @@ fn print_refusal<A: Allocator>(
         None => write!(out, "refused: {cause}"),
         Some(value) => write!(out, "refused {value}: {cause}"),
     }
+}
+
+/// Writes the first of several pairs that was refused, how many the map took before it, and why.
+fn print_stopped<A: Allocator>(
+    out: &mut String<A>,
+    refused: &RefusedPair<u64, u64>,
+) -> Result<(), AllocError>
+    ensures { OnOk result
+        (string_bytes out.new ≡ string_bytes out.old ++ stopped_text refused.now) }
+{
+    let RefusedPair {
+        key,
+        value,
+        applied,
+        cause,
+    } = refused;
+    let cause = cause_name(*cause);
+    write!(out, "stopped at {key} {value} after {applied}: {cause}")
 }
 
 /// Writes pairs in braces, in their order.

@@ -36,7 +36,7 @@ pub fn serve<A: Allocator + Copy, R: Read, W: Write, E: Write>(
     ensures status { (result ≡ 0) ⊎ (result ≡ 2) ⊎ (result ≡ 3) ⊎ (result ≡ 4) }
     ensures done { result ≡ 0 → IfSome (R.remaining input.old)
         (λ text. Serves A text (W.contents output.old) (W.contents output.new)) }
-    ensures not_a_command { result ≡ 2 → IfSome (R.remaining input.old) SpellsNone }
+    ensures not_a_command { result ≡ 2 → IfSome (R.remaining input.old) (SpellsNone A) }
     ensures silent { (result ≡ 2) ⊎ (result ≡ 3)
         → Keeps (W.contents output.old) (W.contents output.new) }
 {
@@ -58,7 +58,7 @@ fn exchange<A: Allocator + Copy, R: Read, W: Write>(
     ensures done { OnOk result (IfSome (R.remaining input.old)
         (λ text. Serves A text (W.contents output.old) (W.contents output.new))) }
     ensures err { IfErr result (λ fault. (fault ≡ Fault.Input) ⊎ (fault ≡ Fault.Output)
-        ⊎ IfSome (R.remaining input.old) (λ text. IsRefused text fault)) }
+        ⊎ IfSome (R.remaining input.old) (λ text. IsRefused A text fault)) }
     ensures silent { IfErr result (λ fault. fault ≢ Fault.Output
         → Keeps (W.contents output.old) (W.contents output.new)) }
 {
@@ -83,7 +83,7 @@ fn read_text<A: Allocator, R: Read>(alloc: A, input: &mut R) -> Result<Vec<u8, A
 /// The lines that answer a text. No command is run before every line is known to be one.
 fn answer<A: Allocator + Copy>(alloc: A, text: &[u8]) -> Result<String<A>, Fault>
     ensures ok { IfOk result (λ lines. IsAnswered A text.now (string_bytes lines)) }
-    ensures err { IfErr result (IsRefused text.now) }
+    ensures err { IfErr result (IsRefused A text.now) }
 {
     let commands = read_commands(alloc, text)?;
     let mut map = IntMap::new(alloc)?;

@@ -1,14 +1,23 @@
 //! The table of the words that commands begin with, by how many numbers follow.
-ghost use Rattle.std.specs.Prelude.{◌≡◌, ◌↔◌, ℕ, [], ◌∷◌, IfSome, IfNone, IsTrue};
+ghost use Rattle.std.specs.Prelude.{◌≡◌, ◌≢◌, ◌↔◌, ℕ, [], ◌∷◌, IfSome, IfNone, IsTrue, codes};
 ghost use Rattle.intmap_run.specs.declared.command.Command.{Command};
 ghost use Rattle.intmap_cmd.specs.Words.{IsSpelled};
 
 use intmap_run::Command;
+use std::alloc::Allocator;
 
-/// The command of this name without a number.
-pub fn bare(name: &[u8]) -> Option<Command<u64, u64>>
+/// Whether the name is that of the command which any number of pairs follows.
+pub fn is_extend(name: &[u8]) -> bool
+    ensures { IsTrue result ↔ (name.now ≡ codes "extend") }
+{
+    is(name, b"extend")
+}
+
+/// The command of this name without a number, `extend` left out.
+pub fn bare<A: Allocator>(name: &[u8]) -> Option<Command<u64, u64, A>>
     ensures some { IfSome result (IsSpelled name.now []) }
-    ensures none { IfNone result ((c : Command ℕ ℕ) → ¬ IsSpelled name.now [] c) }
+    ensures none { IfNone result (name.now ≢ codes "extend"
+        → (c : Command ℕ ℕ A) → ¬ IsSpelled name.now [] c) }
 {
     if is(name, b"get_load_factor") {
         Some(Command::GetLoadFactor)
@@ -36,9 +45,10 @@ pub fn bare(name: &[u8]) -> Option<Command<u64, u64>>
 }
 
 /// The command of this name with one number.
-pub fn with_number(name: &[u8], number: u64) -> Option<Command<u64, u64>>
+pub fn with_number<A: Allocator>(name: &[u8], number: u64) -> Option<Command<u64, u64, A>>
     ensures some { IfSome result (IsSpelled name.now (number ∷ [])) }
-    ensures none { IfNone result ((c : Command ℕ ℕ) → ¬ IsSpelled name.now (number ∷ []) c) }
+    ensures none { IfNone result (name.now ≢ codes "extend"
+        → (c : Command ℕ ℕ A) → ¬ IsSpelled name.now (number ∷ []) c) }
 {
     if is(name, b"get") {
         Some(Command::Get(number))
@@ -59,10 +69,11 @@ pub fn with_number(name: &[u8], number: u64) -> Option<Command<u64, u64>>
     }
 }
 
-/// The command of this name with a key and a value.
-pub fn with_pair(name: &[u8], key: u64, value: u64) -> Option<Command<u64, u64>>
+/// The command of this name with a key and a value, `extend` left out.
+pub fn with_pair<A: Allocator>(name: &[u8], key: u64, value: u64) -> Option<Command<u64, u64, A>>
     ensures some { IfSome result (IsSpelled name.now (key ∷ value ∷ [])) }
-    ensures none { IfNone result ((c : Command ℕ ℕ) → ¬ IsSpelled name.now (key ∷ value ∷ []) c) }
+    ensures none { IfNone result (name.now ≢ codes "extend"
+        → (c : Command ℕ ℕ A) → ¬ IsSpelled name.now (key ∷ value ∷ []) c) }
 {
     if is(name, b"insert") {
         Some(Command::Insert(key, value))

@@ -99,7 +99,7 @@ fn commands_of<'a>(
     let mut commands = Vec::new(maps.memory);
     for line in lines {
         let (call, _) = parts_of(line);
-        match command_of(alloc, call)? {
+        match command_of(alloc, maps.memory, call)? {
             Some(command) => commands.push(command)?,
             None => report.compare(line, "a command", "not a command")?,
         }

@@ -7,7 +7,7 @@ use crate::maps::{Map, Maps};
 use crate::text::{bool_text, done_text, pairs_text, refusal_text, stopped_text};
 use intmap::{Cause, IntMap};
 use refuser::Refuser;
-use std::alloc::{AllocError, Global};
+use std::alloc::{AllocError, Allocator, Global};
 use std::vec;
 
 /// The answer to a call with pairs behind its name; `None` where it has another name.
@@ -103,8 +103,11 @@ pub fn with_other(
     Ok(Some(answer))
 }
 
-// the pairs that the numbers make, a key and a value in turn
-fn pairs_of(alloc: Global, numbers: &[u64]) -> Result<Vec<(u64, u64)>, AllocError> {
+/// The pairs that the numbers make, a key and a value in turn.
+pub fn pairs_of<A: Allocator>(
+    alloc: A,
+    numbers: &[u64],
+) -> Result<Vec<(u64, u64), A>, AllocError> {
     let mut pairs = Vec::new(alloc);
     for pair in numbers.chunks_exact(2) {
         pairs.push((pair[0], pair[1]))?;

@@ -1,12 +1,13 @@
 //! Lists of commands, run by one call.
 ghost use Rattle.std.specs.Prelude.{◌≡◌, ◌%◌, ◌==◌};
 
+use crate::built::pairs_of;
 use crate::call::no_call;
 use crate::many::{Keys, value_of};
 use crate::maps::Map;
 use crate::text::{
     back_text, bool_text, done_text, fresh_text, list_text, number_text, option_text, pairs_text,
-    refusal_text,
+    refusal_text, stopped_text,
 };
 use crate::word::words_of;
 use intmap_run::{Answer, Command, Judge, run};
@@ -32,14 +33,24 @@ impl Judge<u64, u64> for OddJudge {
     }
 }
 
+/// A command whose list of pairs can be refused.
+pub type CommandOf<'a> = Command<u64, u64, &'a Refuser<Global>>;
+
 /// Commands whose list can be refused.
-pub type Commands<'a> = Vec<Command<u64, u64>, &'a Refuser<Global>>;
+pub type Commands<'a> = Vec<CommandOf<'a>, &'a Refuser<Global>>;
 
 /// The command that a text spells.
-pub fn command_of(alloc: Global, text: &str) -> Result<Option<Command<u64, u64>>, AllocError> {
+pub fn command_of<'a>(
+    alloc: Global,
+    memory: &'a Refuser<Global>,
+    text: &str,
+) -> Result<Option<CommandOf<'a>>, AllocError> {
     let Some(words) = words_of(alloc, text)? else {
         return Ok(None);
     };
+    if words.name == "extend" {
+        return Ok(Some(Command::Extend(pairs_of(memory, &words.numbers)?)));
+    }
     Ok(match words.numbers.as_slice() {
         [] => bare(words.name),
         [number] => with_number(words.name, *number),
@@ -49,7 +60,7 @@ pub fn command_of(alloc: Global, text: &str) -> Result<Option<Command<u64, u64>>
 }
 
 // the command of this name without a number
-fn bare(name: &str) -> Option<Command<u64, u64>> {
+fn bare<'a>(name: &str) -> Option<CommandOf<'a>> {
     match name {
         "get_load_factor" => Some(Command::GetLoadFactor),
         "len" => Some(Command::Len),
@@ -66,7 +77,7 @@ fn bare(name: &str) -> Option<Command<u64, u64>> {
 }
 
 // the command of this name with a number
-fn with_number(name: &str, number: u64) -> Option<Command<u64, u64>> {
+fn with_number<'a>(name: &str, number: u64) -> Option<CommandOf<'a>> {
     match name {
         "get" => Some(Command::Get(number)),
         "contains_key" => Some(Command::ContainsKey(number)),
@@ -80,7 +91,7 @@ fn with_number(name: &str, number: u64) -> Option<Command<u64, u64>> {
 }
 
 // the command of this name with a key and a value
-fn with_pair(name: &str, key: u64, value: u64) -> Option<Command<u64, u64>> {
+fn with_pair<'a>(name: &str, key: u64, value: u64) -> Option<CommandOf<'a>> {
     match name {
         "insert" => Some(Command::Insert(key, value)),
         "insert_checked" => Some(Command::InsertChecked(key, value)),
@@ -179,6 +190,7 @@ fn text_of(
         Answer::Number(number) => number_text(alloc, *number),
         Answer::Walk(pairs) | Answer::Pairs(pairs) => pairs_text(alloc, pairs.as_slice()),
         Answer::Keys(items) | Answer::Values(items) => list_text(alloc, items.as_slice()),
+        Answer::Stopped(refused) => stopped_text(alloc, refused),
         Answer::Refused { cause, value } => refusal_text(alloc, *cause, *value),
     }
 }

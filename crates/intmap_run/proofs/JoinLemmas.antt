@@ -9,13 +9,13 @@ use Rattle.intmap_run.proofs.PlacementLemmas.{run_placements-few, last_capacity-
 
 module _ {K V S A : Type 0} (number : K → ℕ) (sees : V → S → Type 0) (keeps : K → V → Bool) where
   -- a run over both lists of commands, which compares and places what the two runs do
-  record Joined (s : State K V) (cs : List (Command K V)) (as' : List (Answer K V S A)) (u : State K V) (compared placed : ℕ) : Type 0 where
+  record Joined (s : State K V) (cs : List (Command K V A)) (as' : List (Answer K V S A)) (u : State K V) (compared placed : ℕ) : Type 0 where
     run : Runs number sees keeps s cs as' u
     comparisons : run_comparisons number sees keeps s cs as' u run ≡ compared
     placements : run_placements number sees keeps s cs as' u run ≡ placed
 
   -- a run and another from where it leads
-  joined : (s : State K V) (cs ds : List (Command K V)) (as' bs : List (Answer K V S A)) (t u : State K V) (one : Runs number sees keeps s cs as' t) (other : Runs number sees keeps t ds bs u)
+  joined : (s : State K V) (cs ds : List (Command K V A)) (as' bs : List (Answer K V S A)) (t u : State K V) (one : Runs number sees keeps s cs as' t) (other : Runs number sees keeps t ds bs u)
       → Joined s (cs ++ ds) (as' ++ bs) u
       (run_comparisons number sees keeps s cs as' t one + run_comparisons number sees keeps t ds bs u other)
       (run_placements number sees keeps s cs as' t one + run_placements number sees keeps t ds bs u other)
@@ -38,7 +38,7 @@ module _ {K V S A : Type 0} (number : K → ℕ) (sees : V → S → Type 0) (ke
       }
 
   -- two runs of a map, one after the other, are one run
-  pub RunsFrom-join : (m n o : MapState K V) (cs ds : List (Command K V)) (as' bs : List (Answer K V S A))
+  pub RunsFrom-join : (m n o : MapState K V) (cs ds : List (Command K V A)) (as' bs : List (Answer K V S A))
       → RunsFrom number sees keeps m cs as' n → RunsFrom number sees keeps n ds bs o → RunsFrom number sees keeps m (cs ++ ds) (as' ++ bs) o
   RunsFrom-join m n o cs ds as' bs one other s stands =
       let first = one s stands in

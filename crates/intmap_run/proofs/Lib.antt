@@ -5,6 +5,7 @@ pub mod MapStandLemmas
 pub mod StepLemmas
 pub mod WritingStepLemmas
 pub mod DrainStepLemmas
+pub mod ExtendStepLemmas
 pub mod GrowthStepLemmas
 pub mod RunLemmas
 pub mod ZipLemmas

@@ -1,5 +1,5 @@
 -- What a run places in larger tables is little for the lengths that it goes through, and so is the capacity that growth leaves.
-use Rattle.std.proofs.Common.{◌≡◌, ◌≢◌, inl, inr, ℕ, ◌+◌, ◌-◌, ◌*◌, ◌/◌, ◌^◌, ◌<◌, ◌≤◌, max, Bool, cond, List, [], ◌∷◌, length, is_some, refl, sym, ap, ◌∙◌, arith}
+use Rattle.std.proofs.Common.{◌≡◌, ◌≢◌, inl, inr, ℕ, ◌+◌, ◌-◌, ◌*◌, ◌/◌, ◌^◌, ◌<◌, ◌≤◌, max, Bool, cond, List, [], ◌∷◌, length, is_some, refl, sym, ap, ◌∙◌, add-zero, add_assoc, arith}
 use Rattle.std.specs.Prelude.{◌==◌, ◌⊎◌}
 use Rattle.std.proofs.Math.Nat.{mul-le-mul_left, mul-le-mul_right, div-mul-le_self, lt-div-mul-add, le-max_right}
 use Rattle.std.proofs.Math.Pow.{pow_pos}
@@ -7,12 +7,12 @@ use Rattle.std.proofs.lemmas.Nat.{pow-add}
 use Rattle.std.proofs.lemmas.Bool.{cases_eq, cases_lt, cases_Bool, eq-eqb, ne_eqb}
 use Rattle.intmap.specs.Bindings.{value_of}
 use Rattle.intmap.specs.Growth.{IsWanted, IsNext, is_due}
-use Rattle.intmap.specs.States.{State, Inserts}
+use Rattle.intmap.specs.States.{State, Inserts, InsertsAll}
 use Rattle.intmap.proofs.DistinctLemmas.{length-put_pair}
 use Rattle.intmap_run.specs.declared.command.Command.{Command}
 use Rattle.intmap_run.specs.declared.command.Command.TheVariants as command
 use Rattle.intmap_run.specs.declared.answer.Answer.{Answer}
-use Rattle.intmap_run.specs.Runs.{Answers, Runs, placements_of, factors_set_by, factors_set, SetsCapacity, run_placements, greatest_length, WasSet}
+use Rattle.intmap_run.specs.Runs.{Answers, Runs, placements_of, insertion_placements, factors_set_by, factors_set, SetsCapacity, run_placements, greatest_length, WasSet}
 use Rattle.intmap_run.proofs.CapacityLemmas.{IsCapacityAfter-changed}
 
 -- a growth from C to D slots at n pairs, by products with f, which is the load factor and one: half of D was too small, and D isn't
@@ -75,11 +75,18 @@ growth_few C n f D P growth few =
     (omega (arith, few, wide, after, whole), omega (arith, few, wide, before))
 
 module _ {K V : Type 0} where
-  -- a step at which the table grew under an insertion
+  -- so many placements are few for the capacity and the load factor
+  abbrev AreFew : State K V → ℕ → Type 0
+  AreFew s P = 1000 * P ≤ 2 * ((s.factor + 1) * s.capacity)
+
+  -- insertions led from s to t and placed so many pairs: where there were few placements before them there are few after them,
+  -- and no more than three times the pairs where they placed any; the capacity stayed, or it is small for the pairs
   record Grows (s t : State K V) (placements : ℕ) : Type 0 where
-    placed : placements ≡ length t.pairs
     factor : t.factor ≡ s.factor
-    growth : IsGrowth s.capacity (length t.pairs) (s.factor + 1) t.capacity
+    longer : length s.pairs ≤ length t.pairs
+    few : (P : ℕ) → AreFew s P → AreFew t (P + placements)
+    most : (placements ≡ 0) ⊎ ((P : ℕ) → AreFew s P → P + placements ≤ 3 * length t.pairs)
+    capacity : (t.capacity ≡ s.capacity) ⊎ ((t.factor + 1) * t.capacity ≤ 2000 * length t.pairs)
 
   -- an insertion that kept the capacity places nothing
   pub placements-kept : (s t : State K V) → t.capacity ≡ s.capacity → cond (t.capacity == s.capacity) 0 (length t.pairs) ≡ 0
@@ -91,52 +98,105 @@ module _ {K V : Type 0} where
 
 module _ {K V S A : Type 0} where
   -- a step at which a load factor was set
-  record Resets (c : Command K V) (a : Answer K V S A) (placements : ℕ) : Type 0 where
+  record Resets (c : Command K V A) (a : Answer K V S A) (placements : ℕ) : Type 0 where
     placed : placements ≡ 0
     counted : factors_set_by c a ≡ 1
     set : SetsCapacity c a
 
   -- any other step
-  record Keeps (s : State K V) (c : Command K V) (a : Answer K V S A) (t : State K V) (placements : ℕ) : Type 0 where
+  record Keeps (s : State K V) (c : Command K V A) (a : Answer K V S A) (t : State K V) (placements : ℕ) : Type 0 where
     placed : placements ≡ 0
     factor : t.factor ≡ s.factor
     more : s.capacity ≤ t.capacity
     capacity : (t.capacity ≡ s.capacity) ⊎ SetsCapacity c a
 
   -- a step that changed neither capacity nor load factor
-  Keeps-same : (s : State K V) (c : Command K V) (a : Answer K V S A) (t : State K V) (placements : ℕ) → placements ≡ 0 → t.capacity ≡ s.capacity → t.factor ≡ s.factor → Keeps s c a t placements
+  Keeps-same : (s : State K V) (c : Command K V A) (a : Answer K V S A) (t : State K V) (placements : ℕ) → placements ≡ 0 → t.capacity ≡ s.capacity → t.factor ≡ s.factor → Keeps s c a t placements
   Keeps-same s c a t placements placed capacity factor = record { placed = placed; factor = factor; more = omega (arith, capacity); capacity = inl capacity }
 
-module _ {K V S A : Type 0} (number : K → ℕ) (sees : V → S → Type 0) (keeps : K → V → Bool) where
+module _ {K V : Type 0} (number : K → ℕ) where
   -- an accepted insertion
-  Grows-or_keeps : (s : State K V) (c : Command K V) (k : K) (v : V) (a : Answer K V S A) (t : State K V) → Inserts number s k v t
-      → Grows s t (cond (t.capacity == s.capacity) 0 (length t.pairs)) ⊎ Keeps s c a t (cond (t.capacity == s.capacity) 0 (length t.pairs))
-  Grows-or_keeps s c k v a t inserts =
+  Grows-inserts : (s : State K V) (k : K) (v : V) (t : State K V) → Inserts number s k v t → Grows s t (cond (t.capacity == s.capacity) 0 (length t.pairs))
+  Grows-inserts s k v t inserts =
       let factor : t.factor ≡ s.factor = ap (λ x. x.factor) inserts.after in
+      let len : length t.pairs ≡ length s.pairs + cond (is_some (value_of number s.pairs k)) 0 1 =
+      ap (λ x. length x.pairs) inserts.after ∙ length-put_pair number s.pairs s.capacity k v in
+      let longer : length s.pairs ≤ length t.pairs = omega (arith, len) in
       elim (cases_eq t.capacity s.capacity) [
-        | inl same ↦ inr (Keeps-same s c a t _ (placements-kept s t same) same factor)
+        | inl same ↦
+            (let none = placements-kept s t same in
+            record {
+              factor = factor;
+              longer = longer;
+              few = λ P few. rw (none, factor, same, add-zero P) few;
+              most = inl none;
+              capacity = inl same;
+            })
         | inr apart ↦
             (let next = IsCapacityAfter-changed (value_of number s.pairs k) s.capacity (length s.pairs + 1) s.factor t.capacity inserts.capacity apart in
-            let longer : length t.pairs ≡ length s.pairs + 1 =
-            ap (λ x. length x.pairs) inserts.after ∙ length-put_pair number s.pairs s.capacity k v ∙ ap (λ o. length s.pairs + cond (is_some o) 0 1) next.0 in
-            inl (record {
-              placed = placements-changed s t apart;
+            let one : length t.pairs ≡ length s.pairs + 1 = len ∙ ap (λ o. length s.pairs + cond (is_some o) 0 1) next.0 in
+            let all = placements-changed s t apart in
+            let growth : IsGrowth s.capacity (length t.pairs) (s.factor + 1) t.capacity =
+            rw one (IsGrowth-from_next s.capacity (length s.pairs + 1) s.factor t.capacity next.1 apart) in
+            let whole : (s.factor + 1) * t.capacity ≡ (s.factor + 1) * growth.half * 2 = ap (λ d. (s.factor + 1) * d) growth.doubled ∙ (let q : (s.factor + 1) * (growth.half * 2) ≡ (s.factor + 1) * growth.half * 2 = omega arith in q) in
+            let before = growth.before in
+            record {
               factor = factor;
-              growth = rw longer (IsGrowth-from_next s.capacity (length s.pairs + 1) s.factor t.capacity next.1 apart);
-            }))
+              longer = longer;
+              few = λ P few. rw (all, factor) (growth_few s.capacity (length t.pairs) (s.factor + 1) t.capacity P growth few).0;
+              most = inr (λ P few. rw all (growth_few s.capacity (length t.pairs) (s.factor + 1) t.capacity P growth few).1);
+              capacity = inr (rw factor (omega (arith, whole, before)));
+            })
       ]
 
+  -- no insertion
+  Grows-none : (s : State K V) → Grows s s 0
+  Grows-none s = record { factor = refl; longer = omega arith; few = λ P few. rw (add-zero P) few; most = inl refl; capacity = inl refl }
+
+  -- insertions after others
+  Grows-then : (s m t : State K V) (p q : ℕ) → Grows s m p → Grows m t q → Grows s t (p + q)
+  Grows-then s m t p q one other =
+      let longer = one.longer in
+      let more = other.longer in
+      record {
+        factor = other.factor ∙ one.factor;
+        longer = omega (arith, longer, more);
+        few = λ P few. rw (← add_assoc P p q) (other.few (P + p) (one.few P few));
+        most = elim other.most [
+          | inr three ↦ inr (λ P few. rw (← add_assoc P p q) (three (P + p) (one.few P few)))
+          | inl none ↦ elim one.most [
+            | inl before ↦ inl (omega (arith, none, before))
+            | inr three ↦ inr (λ P few. let h = three P few in omega (arith, h, none, more))
+          ]
+        ];
+        capacity = elim other.capacity [
+          | inr small ↦ inr small
+          | inl same ↦ elim one.capacity [
+            | inl before ↦ inl (same ∙ before)
+            | inr small ↦ inr (rw (same, other.factor) (omega (arith, small, more)))
+          ]
+        ];
+      }
+
+  -- accepted insertions in turn
+  Grows-all : (s : State K V) (ps : List (K × V)) (t : State K V) (all : InsertsAll number s ps t) → Grows s t (insertion_placements number s ps t all)
+  Grows-all s [] t all = rw all (Grows-none s)
+  Grows-all s (p ∷ ps) t all =
+      Grows-then s all.0 t (cond (all.0.capacity == s.capacity) 0 (length all.0.pairs)) (insertion_placements number all.0 ps t all.2)
+      (Grows-inserts s p.0 p.1 all.0 all.1) (Grows-all all.0 ps t all.2)
+
+module _ {K V S A : Type 0} (number : K → ℕ) (sees : V → S → Type 0) (keeps : K → V → Bool) where
   -- each step is of one of the three kinds
-  kind : (s : State K V) (c : Command K V) (a : Answer K V S A) (t : State K V) → (h : Answers number sees keeps s c a t)
+  kind : (s : State K V) (c : Command K V A) (a : Answer K V S A) (t : State K V) → (h : Answers number sees keeps s c a t)
       → Grows s t (placements_of number sees keeps s c a t h) ⊎ (Resets c a (placements_of number sees keeps s c a t h) ⊎ Keeps s c a t (placements_of number sees keeps s c a t h))
-  kind s (command.Insert k v) a t (inl accepted) = elim (Grows-or_keeps s (command.Insert k v) k v a t accepted.1) [ inl grows ↦ inl grows | inr kept ↦ inr (inr kept) ]
+  kind s (command.Insert k v) a t (inl accepted) = inl (Grows-inserts number s k v t accepted.1)
   kind s (command.Insert k v) a t (inr refused) =
       let capacity : t.capacity ≡ s.capacity = ap (λ x. x.capacity) refused.3 in
       inr (inr (Keeps-same s (command.Insert k v) a t _ (placements-kept s t capacity) capacity (ap (λ x. x.factor) refused.3)))
   kind s (command.InsertChecked k v) a t (inl bound) =
       let capacity : t.capacity ≡ s.capacity = ap (λ x. x.capacity) bound.2 in
       inr (inr (Keeps-same s (command.InsertChecked k v) a t _ (placements-kept s t capacity) capacity (ap (λ x. x.factor) bound.2)))
-  kind s (command.InsertChecked k v) a t (inr (inl accepted)) = elim (Grows-or_keeps s (command.InsertChecked k v) k v a t accepted.2) [ inl grows ↦ inl grows | inr kept ↦ inr (inr kept) ]
+  kind s (command.InsertChecked k v) a t (inr (inl accepted)) = inl (Grows-inserts number s k v t accepted.2)
   kind s (command.InsertChecked k v) a t (inr (inr refused)) =
       let capacity : t.capacity ≡ s.capacity = ap (λ x. x.capacity) refused.3 in
       inr (inr (Keeps-same s (command.InsertChecked k v) a t _ (placements-kept s t capacity) capacity (ap (λ x. x.factor) refused.3)))
@@ -162,11 +222,13 @@ module _ {K V S A : Type 0} (number : K → ℕ) (sees : V → S → Type 0) (ke
   kind s (command.EntryInsert k v) a t (inl bound) =
       let capacity : t.capacity ≡ s.capacity = ap (λ x. x.capacity) bound.2 in
       inr (inr (Keeps-same s (command.EntryInsert k v) a t _ (placements-kept s t capacity) capacity (ap (λ x. x.factor) bound.2)))
-  kind s (command.EntryInsert k v) a t (inr (inl fresh)) = elim (Grows-or_keeps s (command.EntryInsert k v) k v a t fresh.2) [ inl grows ↦ inl grows | inr kept ↦ inr (inr kept) ]
+  kind s (command.EntryInsert k v) a t (inr (inl fresh)) = inl (Grows-inserts number s k v t fresh.2)
   kind s (command.EntryInsert k v) a t (inr (inr refused)) =
       let capacity : t.capacity ≡ s.capacity = ap (λ x. x.capacity) refused.3 in
       inr (inr (Keeps-same s (command.EntryInsert k v) a t _ (placements-kept s t capacity) capacity (ap (λ x. x.factor) refused.3)))
   kind s (command.EntryRemove k) a t h = inr (inr (Keeps-same s (command.EntryRemove k) a t _ refl (ap (λ x. x.capacity) h.1) (ap (λ x. x.factor) h.1)))
+  kind s (command.Extend pairs) a t (inl all) = inl (Grows-all number s pairs.items t all.1.1)
+  kind s (command.Extend pairs) a t (inr stopped) = inl (Grows-all number s stopped.2.0 t stopped.2.4)
   kind s (command.Drain m) a t (inl drained) = inr (inr (Keeps-same s (command.Drain m) a t _ refl (ap (λ x. x.capacity) drained.3) (ap (λ x. x.factor) drained.3)))
   kind s (command.Drain m) a t (inr refused) = inr (inr (Keeps-same s (command.Drain m) a t _ refl (ap (λ x. x.capacity) refused.1) (ap (λ x. x.factor) refused.1)))
   kind s command.Len a t h = inr (inr (Keeps-same s command.Len a t _ refl (ap (λ x. x.capacity) h.1) (ap (λ x. x.factor) h.1)))
@@ -178,14 +240,14 @@ module _ {K V S A : Type 0} (number : K → ℕ) (sees : V → S → Type 0) (ke
   kind s command.Values a t h = inr (inr (Keeps-same s command.Values a t _ refl (ap (λ x. x.capacity) h.1) (ap (λ x. x.factor) h.1)))
 
   -- a run is at least as long as its start
-  greatest_length-start : (s : State K V) (cs : List (Command K V)) (as' : List (Answer K V S A)) (t : State K V) (run : Runs number sees keeps s cs as' t)
+  greatest_length-start : (s : State K V) (cs : List (Command K V A)) (as' : List (Answer K V S A)) (t : State K V) (run : Runs number sees keeps s cs as' t)
       → length s.pairs ≤ greatest_length number sees keeps s cs as' t run
   greatest_length-start s [] as' t run = omega arith
   greatest_length-start s (c ∷ cs) [] t run = omega arith
   greatest_length-start s (c ∷ cs) (a ∷ as') t run = omega arith
 
   -- where P pairs were placed since the load factor was set, few for the capacity, the run keeps them few, H for each load factor
-  few-from : (H P : ℕ) (s : State K V) (cs : List (Command K V)) (as' : List (Answer K V S A)) (t : State K V) (run : Runs number sees keeps s cs as' t)
+  few-from : (H P : ℕ) (s : State K V) (cs : List (Command K V A)) (as' : List (Answer K V S A)) (t : State K V) (run : Runs number sees keeps s cs as' t)
       → 1000 * P ≤ 2 * ((s.factor + 1) * s.capacity) → P ≤ H → 3 * greatest_length number sees keeps s cs as' t run ≤ H
       → P + run_placements number sees keeps s cs as' t run ≤ (factors_set cs as' + 1) * H
   few-from H P s [] [] t run few low high = omega (arith, low)
@@ -199,14 +261,15 @@ module _ {K V S A : Type 0} (number : K → ℕ) (sees : V → S → Type 0) (ke
       let rest : 3 * greatest ≤ H = (let most : greatest ≤ max (length s.pairs) greatest = le-max_right (length s.pairs) greatest in omega (arith, high, most)) in
       elim (kind s c a m run.1) as (λ _. P + (placements_of number sees keeps s c a m run.1 + placed) ≤ (factors_set_by c a + factors_set cs as' + 1) * H) [
         | inl grows ↦
-            (let f : m.factor ≡ s.factor = grows.factor in
-            let after = growth_few s.capacity (length m.pairs) (s.factor + 1) m.capacity P grows.growth few in
-            let few' : 1000 * (P + length m.pairs) ≤ 2 * ((m.factor + 1) * m.capacity) = rw f after.0 in
-            let three = after.1 in
-            let h = few-from H (P + length m.pairs) m cs as' t run.2 few' (omega (arith, three, start, rest)) rest in
+            (let p : ℕ = placements_of number sees keeps s c a m run.1 in
+            let low' : P + p ≤ H = elim grows.most [
+              | inl none ↦ omega (arith, none, low)
+              | inr three ↦ (let h = three P few in omega (arith, h, start, rest))
+            ] in
+            let h = few-from H (P + p) m cs as' t run.2 (grows.few P few) low' rest in
             let wide : (factors_set cs as' + 1) * H ≤ (factors_set_by c a + factors_set cs as' + 1) * H =
             mul-le-mul_right H (let le : factors_set cs as' + 1 ≤ factors_set_by c a + factors_set cs as' + 1 = omega arith in le) in
-            omega (arith, h, wide, grows.placed))
+            omega (arith, h, wide))
         | inr other ↦ elim other [
           | inl resets ↦
               (let h = few-from H 0 m cs as' t run.2 (omega arith) (omega arith) rest in
@@ -224,7 +287,7 @@ module _ {K V S A : Type 0} (number : K → ℕ) (sees : V → S → Type 0) (ke
       ]
 
   -- a run places at most three times its greatest length for each load factor that it had
-  pub run_placements-few : (s : State K V) (cs : List (Command K V)) (as' : List (Answer K V S A)) (t : State K V) (run : Runs number sees keeps s cs as' t)
+  pub run_placements-few : (s : State K V) (cs : List (Command K V A)) (as' : List (Answer K V S A)) (t : State K V) (run : Runs number sees keeps s cs as' t)
       → run_placements number sees keeps s cs as' t run ≤ 3 * (factors_set cs as' + 1) * greatest_length number sees keeps s cs as' t run
   run_placements-few s cs as' t run =
       let greatest : ℕ = greatest_length number sees keeps s cs as' t run in
@@ -232,7 +295,7 @@ module _ {K V S A : Type 0} (number : K → ℕ) (sees : V → S → Type 0) (ke
       omega (arith, h)
 
   -- the capacity and the load factor stayed, or the caller set the capacity, or it is small for the lengths of the run
-  capacity-from : (s : State K V) (cs : List (Command K V)) (as' : List (Answer K V S A)) (t : State K V) (run : Runs number sees keeps s cs as' t)
+  capacity-from : (s : State K V) (cs : List (Command K V A)) (as' : List (Answer K V S A)) (t : State K V) (run : Runs number sees keeps s cs as' t)
       → ((t.capacity ≡ s.capacity) × (t.factor ≡ s.factor))
       ⊎ (WasSet number sees keeps t.capacity s cs as' t run ⊎ ((t.factor + 1) * t.capacity ≤ 2000 * greatest_length number sees keeps s cs as' t run))
   capacity-from s [] [] t run = inl (ap (λ x. x.capacity) run, ap (λ x. x.factor) run)
@@ -249,12 +312,12 @@ module _ {K V S A : Type 0} (number : K → ℕ) (sees : V → S → Type 0) (ke
           | inr small ↦ inr (inr (omega (arith, small, most)))
         ]
         | inl stayed ↦ elim (kind s c a m run.1) [
-          | inl grows ↦
-              (let f : t.factor ≡ s.factor = stayed.1 ∙ grows.factor in
-              let whole : t.capacity ≡ grows.growth.half * 2 = stayed.0 ∙ grows.growth.doubled in
-              let product : (t.factor + 1) * t.capacity ≡ (s.factor + 1) * grows.growth.half * 2 = rw (f, whole) (omega arith) in
-              let before = grows.growth.before in
-              inr (inr (omega (arith, product, before, start, most))))
+          | inl grows ↦ elim grows.capacity [
+            | inl same ↦ inl (stayed.0 ∙ same, stayed.1 ∙ grows.factor)
+            | inr small ↦
+                (let product : (t.factor + 1) * t.capacity ≡ (m.factor + 1) * m.capacity = λ i. (stayed.1 i + 1) * stayed.0 i in
+                inr (inr (omega (arith, product, small, start, most))))
+          ]
           | inr other ↦ elim other [
             | inl resets ↦ inr (inl (inl (resets.set, sym stayed.0)))
             | inr kept ↦ elim kept.capacity [
@@ -266,6 +329,6 @@ module _ {K V S A : Type 0} (number : K → ℕ) (sees : V → S → Type 0) (ke
       ]
 
   -- the capacity at the end of a run is the start's, or one that the caller set, or small for the lengths of the run
-  pub last_capacity-from : (s : State K V) (cs : List (Command K V)) (as' : List (Answer K V S A)) (t : State K V) (run : Runs number sees keeps s cs as' t)
+  pub last_capacity-from : (s : State K V) (cs : List (Command K V A)) (as' : List (Answer K V S A)) (t : State K V) (run : Runs number sees keeps s cs as' t)
       → (t.capacity ≡ s.capacity) ⊎ WasSet number sees keeps t.capacity s cs as' t run ⊎ ((t.factor + 1) * t.capacity ≤ 2000 * greatest_length number sees keeps s cs as' t run)
   last_capacity-from s cs as' t run = elim (capacity-from s cs as' t run) [ inl stayed ↦ inl stayed.0 | inr later ↦ inr later ]

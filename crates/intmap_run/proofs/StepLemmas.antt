@@ -33,7 +33,7 @@ some_of None is = let no : false ≡ true = is in cc
 some_of (Some v) is = refl
 
 -- a command that leaves map and list
-pub Step-same : {K V S A : Type 0} (number : K → ℕ) (sees : V → S → Type 0) (keeps : K → V → Bool) (m : MapState K V) (s : State K V) (c : Command K V) (a : Answer K V S A)
+pub Step-same : {K V S A : Type 0} (number : K → ℕ) (sees : V → S → Type 0) (keeps : K → V → Bool) (m : MapState K V) (s : State K V) (c : Command K V A) (a : Answer K V S A)
     → (answers : Answers number sees keeps s c a s) → Stands number s m → comparisons_of number sees keeps s c a s answers ≡ 0 → placements_of number sees keeps s c a s answers ≡ 0
     → (t : State K V) × Step number sees keeps m s c a t m
 Step-same number sees keeps m s c a answers stands compares places = (
@@ -119,7 +119,7 @@ module _ {K V S A : Type 0} (number : K → ℕ) (is_key : K → Type 0) (m : Ma
       )
 
   -- a search that leaves the list
-  pub StepsFrom-searched : (k : K) (c : Command K V) (a : Answer K V S A) (s : State K V) → Stands number s m → (answers : Answers number sees keeps s c a s)
+  pub StepsFrom-searched : (k : K) (c : Command K V A) (a : Answer K V S A) (s : State K V) → Stands number s m → (answers : Answers number sees keeps s c a s)
       → comparisons_of number sees keeps s c a s answers ≡ reach number s.pairs s.capacity k → placements_of number sees keeps s c a s answers ≡ 0
       → (t : State K V) × Step number sees keeps m s c a t (after_search number m k)
   StepsFrom-searched k c a s stands answers compares places = (

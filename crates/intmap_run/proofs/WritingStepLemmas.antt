@@ -128,7 +128,7 @@ module _ {K V S A : Type 0} (number : K → ℕ) (is_key : K → Type 0) (m : Ma
 
 module _ {K V S A : Type 0} (number : K → ℕ) (sees : V → S → Type 0) (keeps : K → V → Bool) (m : MapState K V) where
   -- the same map is left by the same step
-  pub StepsFrom-equal : (c : Command K V) (a : Answer K V S A) (n n' : MapState K V) → StepsFrom number sees keeps m c a n → n' ≡ n → StepsFrom number sees keeps m c a n'
+  pub StepsFrom-equal : (c : Command K V A) (a : Answer K V S A) (n n' : MapState K V) → StepsFrom number sees keeps m c a n → n' ≡ n → StepsFrom number sees keeps m c a n'
   StepsFrom-equal c a n n' step same = rw same step
 
   StepsFrom-kept : StepsFrom {A = A} number sees keeps m command.Retain answer.Done (record m { walk = keep_pairs keeps m.walk })

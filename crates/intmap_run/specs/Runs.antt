@@ -1,6 +1,7 @@
 -- What one command answers and leaves of a plain list, and what lists of commands do.
 use Rattle.std.specs.Prelude.{◌≡◌, ℕ, ◌+◌, ◌*◌, ◌≤◌, ◌==◌, max, cond, Bool, true, false, is_some, IsSome, IsNone, List, [], ◌∷◌, length, Option, Some, None, ◌⊎◌}
 use Rattle.std.specs.List.{AllZip}
+use Rattle.std.proofs.Common.{inl, inr}
 use Rattle.std.specs.Map.{keys_of, values_of}
 use Rattle.std.specs.declared.vec.Vec.{Vec}
 use Rattle.intmap.specs.Bindings.{value_of, take_key, write_value, keep_pairs, strike_keys}
@@ -8,9 +9,10 @@ use Rattle.intmap.specs.Walk.{walk_of, first_of_walk}
 use Rattle.intmap.specs.Reach.{reach}
 use Rattle.intmap.specs.Figures.{load_of}
 use Rattle.intmap.specs.Map.{MapState}
-use Rattle.intmap.specs.States.{State, Stands, Inserts, MayRefuse}
+use Rattle.intmap.specs.States.{State, Stands, Inserts, InsertsAll, InsertsUpTo, MayRefuse}
 use Rattle.intmap.specs.declared.refusal.Cause.{Cause}
 use Rattle.intmap.specs.declared.refusal.Cause.TheVariants.{Memory}
+use Rattle.intmap.specs.declared.refusal.RefusedPair.{RefusedPair}
 use Rattle.intmap_run.specs.declared.command.Command.{Command}
 use Rattle.intmap_run.specs.declared.command.Command.TheVariants as command
 use Rattle.intmap_run.specs.declared.answer.Answer.{Answer}
@@ -30,21 +32,32 @@ SeesPair sees p q = (q.0 ≡ p.0) × sees p.1 q.1
 
 module _ {K V S A : Type 0} where
   -- how many load factors a command set that was answered so, one or none
-  abbrev pub factors_set_by : Command K V → Answer K V S A → ℕ
+  abbrev pub factors_set_by : Command K V A → Answer K V S A → ℕ
   factors_set_by (command.SetLoadFactor f) answer.Done = 1
   factors_set_by other a = 0
 
   -- how many load factors the commands set that were answered so
-  abbrev pub factors_set : List (Command K V) → List (Answer K V S A) → ℕ
+  abbrev pub factors_set : List (Command K V A) → List (Answer K V S A) → ℕ
   factors_set [] as' = 0
   factors_set (c ∷ cs) [] = 0
   factors_set (c ∷ cs) (a ∷ as') = factors_set_by c a + factors_set cs as'
 
   -- the command, answered so, set the capacity: it is an accepted reservation or load factor
-  abbrev pub SetsCapacity : Command K V → Answer K V S A → Type 0
+  abbrev pub SetsCapacity : Command K V A → Answer K V S A → Type 0
   SetsCapacity (command.Reserve n) answer.Done = Unit {0}
   SetsCapacity (command.SetLoadFactor f) answer.Done = Unit {0}
   SetsCapacity other a = ⊥
+
+module _ {K V : Type 0} (number : K → ℕ) where
+  -- the keys that insertions in turn compare
+  abbrev pub insertion_comparisons : (s : State K V) (ps : List (K × V)) (t : State K V) → InsertsAll number s ps t → ℕ
+  insertion_comparisons s [] t all = 0
+  insertion_comparisons s (p ∷ ps) t all = reach number s.pairs s.capacity p.0 + insertion_comparisons all.0 ps t all.2
+
+  -- the pairs that insertions in turn place in larger tables: at each that changed the capacity, all that there are then
+  abbrev pub insertion_placements : (s : State K V) (ps : List (K × V)) (t : State K V) → InsertsAll number s ps t → ℕ
+  insertion_placements s [] t all = 0
+  insertion_placements s (p ∷ ps) t all = cond (all.0.capacity == s.capacity) 0 (length all.0.pairs) + insertion_placements all.0 ps t all.2
 
 module _ {K V S A : Type 0} (number : K → ℕ) (sees : V → S → Type 0) (keeps : K → V → Bool) where
   -- an insertion answers the old value, or is refused, hands its own value back and changes nothing
@@ -80,6 +93,13 @@ module _ {K V S A : Type 0} (number : K → ℕ) (sees : V → S → Type 0) (ke
       AnswersWrite s k v a t
       ⊎ ((a ≡ answer.Fresh) × IsNone (value_of number s.pairs k) × Inserts number s k v t)
       ⊎ ((cause : Cause) × (a ≡ answer.Refused cause (Some v)) × MayRefuse number s k cause × (t ≡ s))
+
+  -- the pairs are inserted in turn, and up to the first that is refused where one is, which is answered
+  abbrev pub AnswersExtend : State K V → List (K × V) → Answer K V S A → State K V → Type 0
+  AnswersExtend s ps a t =
+      ((a ≡ answer.Done) × InsertsUpTo number s ps (length ps) None t)
+      ⊎ ((refused : RefusedPair K V) × (a ≡ answer.Stopped refused)
+      × InsertsUpTo number s ps refused.applied (Some ((refused.key, refused.value), refused.cause)) t)
 
   -- a reservation is done, or refused and changes nothing
   abbrev pub AnswersReserve : State K V → ℕ → Answer K V S A → State K V → Type 0
@@ -120,7 +140,7 @@ module _ {K V S A : Type 0} (number : K → ℕ) (sees : V → S → Type 0) (ke
       ⊎ ((a ≡ answer.Refused Memory None) × (t ≡ s))
 
   -- from the list s a command may answer a and leave the list t
-  abbrev pub Answers : State K V → Command K V → Answer K V S A → State K V → Type 0
+  abbrev pub Answers : State K V → Command K V A → Answer K V S A → State K V → Type 0
   Answers s (command.Insert k v) a t = AnswersInsert s k v a t
   Answers s (command.InsertChecked k v) a t = AnswersInsertChecked s k v a t
   Answers s (command.Get k) a t =
@@ -137,6 +157,7 @@ module _ {K V S A : Type 0} (number : K → ℕ) (sees : V → S → Type 0) (ke
   Answers s (command.EntryInsert k v) a t = AnswersEntryInsert s k v a t
   Answers s (command.EntryRemove k) a t =
       (a ≡ answer.Old (value_of number s.pairs k)) × (t ≡ record s { pairs = take_key number s.pairs s.capacity k })
+  Answers s (command.Extend pairs) a t = AnswersExtend s pairs.items a t
   Answers s (command.Drain m) a t = AnswersDrain s m a t
   Answers s command.Len a t = (a ≡ answer.Number (length s.pairs)) × (t ≡ s)
   Answers s command.IsEmpty a t = (a ≡ answer.Flag (length s.pairs == 0)) × (t ≡ s)
@@ -147,50 +168,55 @@ module _ {K V S A : Type 0} (number : K → ℕ) (sees : V → S → Type 0) (ke
   Answers s command.Values a t = AnswersValues s a × (t ≡ s)
 
   -- the keys that a command compares in a step from the list s
-  abbrev pub comparisons_of : (s : State K V) (c : Command K V) (a : Answer K V S A) (t : State K V) → Answers s c a t → ℕ
+  abbrev pub comparisons_of : (s : State K V) (c : Command K V A) (a : Answer K V S A) (t : State K V) → Answers s c a t → ℕ
   comparisons_of s (command.Insert k v) a t step = reach number s.pairs s.capacity k
   comparisons_of s (command.InsertChecked k v) a t step = reach number s.pairs s.capacity k
   comparisons_of s (command.GetMut k v) a t step = reach number s.pairs s.capacity k
   comparisons_of s (command.Remove k) a t step = reach number s.pairs s.capacity k
   comparisons_of s (command.EntryInsert k v) a t step = reach number s.pairs s.capacity k
   comparisons_of s (command.EntryRemove k) a t step = reach number s.pairs s.capacity k
+  comparisons_of s (command.Extend pairs) a t (inl all) = insertion_comparisons number s pairs.items t all.1.1
+  comparisons_of s (command.Extend pairs) a t (inr stopped) =
+      insertion_comparisons number s stopped.2.0 t stopped.2.4 + reach number t.pairs t.capacity stopped.0.key
   comparisons_of s other a t step = 0
 
-  -- the pairs that a command places in a larger table in a step from the list s to the list t: all that there are then, where it
-  -- is an insertion that changed the capacity, and else none
-  abbrev pub placements_of : (s : State K V) (c : Command K V) (a : Answer K V S A) (t : State K V) → Answers s c a t → ℕ
+  -- the pairs that a command places in larger tables in a step from the list s to the list t: all that there are then, where it
+  -- is an insertion that changed the capacity, so at each pair of several, and else none
+  abbrev pub placements_of : (s : State K V) (c : Command K V A) (a : Answer K V S A) (t : State K V) → Answers s c a t → ℕ
   placements_of s (command.Insert k v) a t step = cond (t.capacity == s.capacity) 0 (length t.pairs)
   placements_of s (command.InsertChecked k v) a t step = cond (t.capacity == s.capacity) 0 (length t.pairs)
   placements_of s (command.EntryInsert k v) a t step = cond (t.capacity == s.capacity) 0 (length t.pairs)
+  placements_of s (command.Extend pairs) a t (inl all) = insertion_placements number s pairs.items t all.1.1
+  placements_of s (command.Extend pairs) a t (inr stopped) = insertion_placements number s stopped.2.0 t stopped.2.4
   placements_of s other a t step = 0
 
   -- the commands in order, each from the list that the one before left, with one answer a command
-  abbrev pub Runs : State K V → List (Command K V) → List (Answer K V S A) → State K V → Type 0
+  abbrev pub Runs : State K V → List (Command K V A) → List (Answer K V S A) → State K V → Type 0
   Runs s [] [] t = t ≡ s
   Runs s [] (a ∷ as') t = ⊥
   Runs s (c ∷ cs) [] t = ⊥
   Runs s (c ∷ cs) (a ∷ as') t = (m : State K V) × Answers s c a m × Runs m cs as' t
 
   -- the keys that a run compares
-  abbrev pub run_comparisons : (s : State K V) (cs : List (Command K V)) (as' : List (Answer K V S A)) (t : State K V) → Runs s cs as' t → ℕ
+  abbrev pub run_comparisons : (s : State K V) (cs : List (Command K V A)) (as' : List (Answer K V S A)) (t : State K V) → Runs s cs as' t → ℕ
   run_comparisons s [] as' t run = 0
   run_comparisons s (c ∷ cs) [] t run = 0
   run_comparisons s (c ∷ cs) (a ∷ as') t run = comparisons_of s c a run.0 run.1 + run_comparisons run.0 cs as' t run.2
 
   -- the pairs that a run places in larger tables
-  abbrev pub run_placements : (s : State K V) (cs : List (Command K V)) (as' : List (Answer K V S A)) (t : State K V) → Runs s cs as' t → ℕ
+  abbrev pub run_placements : (s : State K V) (cs : List (Command K V A)) (as' : List (Answer K V S A)) (t : State K V) → Runs s cs as' t → ℕ
   run_placements s [] as' t run = 0
   run_placements s (c ∷ cs) [] t run = 0
   run_placements s (c ∷ cs) (a ∷ as') t run = placements_of s c a run.0 run.1 + run_placements run.0 cs as' t run.2
 
   -- the greatest number of pairs that there are at the start of a run or after one of its commands
-  abbrev pub greatest_length : (s : State K V) (cs : List (Command K V)) (as' : List (Answer K V S A)) (t : State K V) → Runs s cs as' t → ℕ
+  abbrev pub greatest_length : (s : State K V) (cs : List (Command K V A)) (as' : List (Answer K V S A)) (t : State K V) → Runs s cs as' t → ℕ
   greatest_length s [] as' t run = length s.pairs
   greatest_length s (c ∷ cs) [] t run = length s.pairs
   greatest_length s (c ∷ cs) (a ∷ as') t run = max (length s.pairs) (greatest_length run.0 cs as' t run.2)
 
   -- an accepted reservation or load factor of the run left this capacity
-  abbrev pub WasSet : ℕ → (s : State K V) (cs : List (Command K V)) (as' : List (Answer K V S A)) (t : State K V) → Runs s cs as' t → Type 0
+  abbrev pub WasSet : ℕ → (s : State K V) (cs : List (Command K V A)) (as' : List (Answer K V S A)) (t : State K V) → Runs s cs as' t → Type 0
   WasSet C s [] as' t run = ⊥
   WasSet C s (c ∷ cs) [] t run = ⊥
   WasSet C s (c ∷ cs) (a ∷ as') t run = (SetsCapacity c a × (run.0.capacity ≡ C)) ⊎ WasSet C run.0 cs as' t run.2
@@ -198,7 +224,7 @@ module _ {K V S A : Type 0} (number : K → ℕ) (sees : V → S → Type 0) (ke
   -- what a run from the list s, which stands for the map m, to the list t leaves of the map: t stands for it, it compared and
   -- placed what the run does, few placements for the lengths that the run went through and the load factors that it set, and
   -- its capacity is the start's, or one that a caller set, or small for these lengths
-  pub record Leaves (m : MapState K V) (s : State K V) (cs : List (Command K V)) (as' : List (Answer K V S A)) (t : State K V) (run : Runs s cs as' t) (n : MapState K V) : Type 0 where
+  pub record Leaves (m : MapState K V) (s : State K V) (cs : List (Command K V A)) (as' : List (Answer K V S A)) (t : State K V) (run : Runs s cs as' t) (n : MapState K V) : Type 0 where
     pub stands : Stands number t n
     pub compared : n.compared ≡ m.compared + run_comparisons s cs as' t run
     pub placed : n.placed ≡ m.placed + run_placements s cs as' t run
@@ -208,6 +234,6 @@ module _ {K V S A : Type 0} (number : K → ℕ) (sees : V → S → Type 0) (ke
         ⊎ ((t.factor + 1) * t.capacity ≤ 2000 * greatest_length s cs as' t run)
 
   -- from every list that stands for the map before, a run leads to a list that stands for the map after
-  abbrev pub RunsFrom : MapState K V → List (Command K V) → List (Answer K V S A) → MapState K V → Type 0
+  abbrev pub RunsFrom : MapState K V → List (Command K V A) → List (Answer K V S A) → MapState K V → Type 0
   RunsFrom m cs as' n =
       (s : State K V) → Stands number s m → (t : State K V) × (run : Runs s cs as' t) × Leaves m s cs as' t run n

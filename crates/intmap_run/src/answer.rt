@@ -1,6 +1,6 @@
 //! What a command answers.
 
-use intmap::Cause;
+use intmap::{Cause, RefusedPair};
 use std::alloc::{Allocator, Global};
 
 /// The answer of one command, where `S` is what the judge sees of a value.
@@ -28,6 +28,9 @@ pub enum Answer<K, V, S, A: Allocator = Global> {
     Values(Vec<S, A>),
     /// The pairs that were taken out, in the order of the walk.
     Pairs(Vec<(K, V), A>),
+    /// The first of several pairs that was refused, with its cause and the number of those before
+    /// it, which were put in.
+    Stopped(RefusedPair<K, V>),
     /// The command was refused and left walk, capacity and load factor as they were.
     Refused {
         /// Why it was refused.

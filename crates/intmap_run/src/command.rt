@@ -1,8 +1,10 @@
 //! What can be asked of a map.
 
+use std::alloc::{Allocator, Global};
+
 /// One call on a map. Where nothing else is said it is never refused and leaves the map as it is.
 #[derive(Drop)]
-pub enum Command<K, V> {
+pub enum Command<K, V, A: Allocator = Global> {
     /// `insert`: binds the key to the value, and answers `Old` of the value before.
     ///
     /// Refused for a new key alone, with the value back: as `TooLarge` exactly where the map has
@@ -51,6 +53,11 @@ pub enum Command<K, V> {
     /// `entry`, then `remove` on it where it is occupied: takes the pair of the key out, and answers
     /// `Old` of its value.
     EntryRemove(K),
+    /// `extend`: inserts the pairs in turn, as `Insert` does each, and answers `Done`.
+    ///
+    /// The first pair that is refused, as `Insert` would be, ends it: it answers `Stopped` with that
+    /// pair, and the pairs before it stay in the map.
+    Extend(Vec<(K, V), A>),
     /// `drain`: takes so many pairs out of the front of the walk, or all where there are fewer, and
     /// answers `Pairs` of them in the order of the walk. The others keep their order, and capacity
     /// and load factor stay.

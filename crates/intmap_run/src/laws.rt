@@ -25,7 +25,7 @@ pub fn no_pairs_stand_for_a_new_map<K: IntKey, V>()
 
 /// A run of a map, and another from where it led, are one run over the commands of both.
 pub fn runs_join<K: IntKey, V, J: Judge<K, V>, A: Allocator>()
-    ensures { (judge : J) (m n o : MapState K V) (cs ds : List (Command K V))
+    ensures { (judge : J) (m n o : MapState K V) (cs ds : List (Command K V A))
         (as' bs : List (Answer K V J.Seen A))
         → RunsFrom K.number_of (J.sees judge) (J.keeps judge) m cs as' n
         → RunsFrom K.number_of (J.sees judge) (J.keeps judge) n ds bs o

@@ -5,6 +5,7 @@ ghost use Rattle.intmap_run.specs.Runs.{RunsFrom};
 ghost use Rattle.intmap_run.specs.Steps.{StepsFrom};
 
 mod entries;
+mod extend;
 mod keep;
 mod lists;
 
@@ -12,6 +13,7 @@ use crate::answer::Answer;
 use crate::command::Command;
 use crate::judge::Judge;
 use crate::runner::entries::{entry_insert, entry_remove};
+use crate::runner::extend::extend;
 use crate::runner::keep::keep_all;
 use crate::runner::lists::{drain, keys, values, walk};
 use intmap::{Cause, IntKey, IntMap, Refused};
@@ -25,9 +27,9 @@ use std::mem;
 /// capacity and load factor, and doesn't end the run.
 ///
 /// The map's `compared` rises by the keys that `Insert`, `InsertChecked`, `GetMut`, `Remove`,
-/// `EntryInsert` and `EntryRemove` compare, refused ones too; the other commands leave it. Its
-/// `placed` rises by the length after each `Insert`, `InsertChecked` or `EntryInsert` that changed
-/// the capacity, and by nothing else: in all by at most three times the greatest length of the run
+/// `EntryInsert`, `EntryRemove` and the pairs of `Extend` compare, refused ones too; the other
+/// commands leave it. Its `placed` rises by the length after each `Insert`, `InsertChecked`,
+/// `EntryInsert` or pair of `Extend` that changed the capacity, and by nothing else: in all by at most three times the greatest length of the run
 /// where no load factor was set, and by as much again for each that was. At the end the capacity is
 /// that of the start, or one that an accepted `Reserve` or `SetLoadFactor` left, or a capacity C
 /// with `(F + 1) * C <= 2000 * length`, where F is the load factor then, in thousandths, and length
@@ -45,9 +47,9 @@ use std::mem;
 pub fn run<K: IntKey, V: Drop, J: Judge<K, V>, A: Allocator + Copy>(
     alloc: A,
     map: &mut IntMap<K, V, A>,
-    commands: Vec<Command<K, V>, A>,
+    commands: Vec<Command<K, V, A>, A>,
     judge: &J,
-) -> Result<Vec<Answer<K, V, J::Seen, A>, A>, Vec<Command<K, V>, A>>
+) -> Result<Vec<Answer<K, V, J::Seen, A>, A>, Vec<Command<K, V, A>, A>>
     ensures ok { IfOk result (λ answers. RunsFrom K.number_of (J.sees judge.now) (J.keeps judge.now)
         map.old commands.items answers.items map.new) }
     ensures commands_returned { IfErr result (λ returned. returned ≡ commands) }
@@ -73,7 +75,7 @@ pub fn run<K: IntKey, V: Drop, J: Judge<K, V>, A: Allocator + Copy>(
 fn apply<K: IntKey, V: Drop, J: Judge<K, V>, A: Allocator + Copy>(
     alloc: A,
     map: &mut IntMap<K, V, A>,
-    command: Command<K, V>,
+    command: Command<K, V, A>,
     judge: &J,
 ) -> Answer<K, V, J::Seen, A>
     ensures step { StepsFrom K.number_of (J.sees judge.now) (J.keeps judge.now)
@@ -112,6 +114,7 @@ fn apply<K: IntKey, V: Drop, J: Judge<K, V>, A: Allocator + Copy>(
         Command::GetLoadFactor => Answer::Number(map.get_load_factor() as u128),
         Command::EntryInsert(key, value) => entry_insert::<K, V, J, A>(map, key, value),
         Command::EntryRemove(key) => entry_remove::<K, V, J, A>(map, key),
+        Command::Extend(pairs) => extend::<K, V, J, A>(map, pairs),
         Command::Drain(count) => drain::<K, V, J, A>(alloc, map, count),
         Command::Len => Answer::Number(map.len() as u128),
         Command::IsEmpty => Answer::Flag(map.is_empty()),

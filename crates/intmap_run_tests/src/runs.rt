@@ -26,7 +26,9 @@ impl Judge<u64, String> for Lengths {
     }
 }
 
-type Commands<'a> = Vec<Command<u64, String>, &'a Refuser<Global>>;
+type CommandOf<'a> = Command<u64, String, &'a Refuser<Global>>;
+
+type Commands<'a> = Vec<CommandOf<'a>, &'a Refuser<Global>>;
 
 // what the runs of this module are asked
 fn commands<'a>(alloc: Global, memory: &'a Refuser<Global>) -> Result<Commands<'a>, AllocError> {
@@ -64,7 +66,7 @@ fn push_entries(alloc: Global, commands: &mut Commands<'_>) -> Result<(), AllocE
 }
 
 // the key and the text of a command that has both
-fn pair_of(command: Command<u64, String>) -> Option<(u64, String)> {
+fn pair_of(command: CommandOf<'_>) -> Option<(u64, String)> {
     match command {
         Command::Insert(key, text) | Command::GetMut(key, text) | Command::EntryInsert(key, text) =>
             Some((key, text)),
@@ -88,7 +90,9 @@ fn said(
         Answer::Values(values) => format!(in alloc; "values {:?}", values.as_slice()),
         Answer::Pairs(pairs) => format!(in alloc; "pairs {:?}", pairs.as_slice()),
         Answer::Refused { cause, value } => format!(in alloc; "refused {cause:?} {value:?}"),
-        Answer::Flag(_) | Answer::Number(_) => String::from_str(alloc, "not asked"),
+        Answer::Stopped(_) | Answer::Flag(_) | Answer::Number(_) => {
+            String::from_str(alloc, "not asked")
+        }
     }
 }
 

@@ -32,9 +32,9 @@ impl Judge<u64, u64> for Plain {
 #[derive(Drop)]
 pub enum Stopped<K, V, S, A: Allocator = Global> {
     /// Before the first run; the commands of both come back.
-    First(Vec<Command<K, V>, A>, Vec<Command<K, V>, A>),
+    First(Vec<Command<K, V, A>, A>, Vec<Command<K, V, A>, A>),
     /// Before the second run; the answers of the first come back, and the commands of the second.
-    Second(Vec<Answer<K, V, S, A>, A>, Vec<Command<K, V>, A>),
+    Second(Vec<Answer<K, V, S, A>, A>, Vec<Command<K, V, A>, A>),
 }
 
 /// Runs two lists of commands on a map, one after the other. Every plain list of pairs that stands
@@ -46,8 +46,8 @@ pub enum Stopped<K, V, S, A: Allocator = Global> {
 pub fn run_twice<K: IntKey, V: Drop, J: Judge<K, V>, A: Allocator + Copy>(
     alloc: A,
     map: &mut IntMap<K, V, A>,
-    first: Vec<Command<K, V>, A>,
-    second: Vec<Command<K, V>, A>,
+    first: Vec<Command<K, V, A>, A>,
+    second: Vec<Command<K, V, A>, A>,
     judge: &J,
 ) -> Result<
     (

@@ -12,13 +12,18 @@ use std::test::Fail;
 enum Shown {
     Blank,
     Unknown,
+    Memory,
     Bare(&'static str),
     Key(&'static str, u64),
     Pair(&'static str, u64, u64),
+    Pairs(&'static str, usize),
 }
 
-fn show(line: &[u8]) -> Shown {
-    match read_line(line) {
+fn show(alloc: Global, line: &[u8]) -> Shown {
+    let Ok(read) = read_line(alloc, line) else {
+        return Shown::Memory;
+    };
+    match read {
         Line::Blank => Shown::Blank,
         Line::Unknown => Shown::Unknown,
         Line::Command(Command::Insert(key, value)) => Shown::Pair("insert", key, value),
@@ -38,6 +43,7 @@ fn show(line: &[u8]) -> Shown {
         Line::Command(Command::GetLoadFactor) => Shown::Bare("get_load_factor"),
         Line::Command(Command::EntryInsert(key, value)) => Shown::Pair("entry_insert", key, value),
         Line::Command(Command::EntryRemove(key)) => Shown::Key("entry_remove", key),
+        Line::Command(Command::Extend(pairs)) => Shown::Pairs("extend", pairs.len()),
         Line::Command(Command::Drain(count)) => Shown::Key("drain", count as u64),
         Line::Command(Command::Len) => Shown::Bare("len"),
         Line::Command(Command::IsEmpty) => Shown::Bare("is_empty"),
@@ -106,7 +112,7 @@ const COMMANDS: [(&[u8], Shown); 33] = [
 #[test]
 fn lines_that_are_commands(rt: HostRuntime) {
     for (line, wanted) in &COMMANDS {
-        assert_eq!(rt; show(line), *wanted, "{line:?}");
+        assert_eq!(rt; show(rt.alloc(), line), *wanted, "{line:?}");
     }
 }
 
@@ -138,17 +144,17 @@ const SPACES: &[u8] = b"get\t1\n\tget 1\nget 1\t\nget\x0b1\nget\x0c1\nget\xa01\n
 const BYTES: &[u8] = b"\x00\nget 1\x00\nget \x001\n\xff\nget \xff\nget 1\xff\n\
     \xef\xbb\xbfget 1\n\xef\xbb\xbf\nget 1\x1a\nl\x80n";
 
-fn expect_all(rt: &impl Abort, text: &[u8], wanted: Shown) {
+fn expect_all(rt: &impl Abort, alloc: Global, text: &[u8], wanted: Shown) {
     for line in text.split(|byte| *byte == b'\n') {
-        assert_eq!(rt; show(line), wanted, "{line:?}");
+        assert_eq!(rt; show(alloc, line), wanted, "{line:?}");
     }
 }
 
 #[test]
 fn lines_that_are_blank_or_no_command(rt: HostRuntime) {
-    expect_all(&rt, BLANK, Shown::Blank);
+    expect_all(&rt, rt.alloc(), BLANK, Shown::Blank);
     for text in [WORDS, NUMBERS, SPACES, BYTES] {
-        expect_all(&rt, text, Shown::Unknown);
+        expect_all(&rt, rt.alloc(), text, Shown::Unknown);
     }
 }
 
@@ -165,7 +171,7 @@ fn long_line(alloc: Global, byte: u8, count: usize) -> Result<Vec<u8>, Fail> {
 fn numbers_of_thousands_of_digits_are_none(rt: HostRuntime) -> Result<(), Fail> {
     for byte in *b"019a \r" {
         let line = long_line(rt.alloc(), byte, 5000)?;
-        assert_eq!(rt; show(line.as_slice()), Shown::Unknown, "{byte}");
+        assert_eq!(rt; show(rt.alloc(), line.as_slice()), Shown::Unknown, "{byte}");
     }
     Ok(())
 }

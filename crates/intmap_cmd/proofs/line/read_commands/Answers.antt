@@ -1,6 +1,6 @@
-use Rattle.std.proofs.Common.{append_assoc, arith, refl, inl, inr}
+use Rattle.std.proofs.Common.{append_assoc, arith, refl}
 use Rattle.std.proofs.lemmas.List.{map-append}
-use Rattle.intmap_cmd.proofs.LineLemmas.{command_more, blank_more, known_more, one_more, few_lines, first_unknown}
+use Rattle.intmap_cmd.proofs.LineLemmas.{command_more, blank_more, one_more, few_lines, first_unknown}
 use Rattle.intmap_cmd.proofs.line.read_commands.Goals as goal
 
 pub overflow_add-number : goal.overflow_add-number
@@ -13,13 +13,12 @@ pub loop-line-preserved-in-Blank : goal.loop-line-preserved-in-Blank
 loop-line-preserved-in-Blank g c =
     let loop = c.loop-line in
     let line = c.in-Some.line in
-    let blank = c.in-Blank.ensures in
+    let blank = rw c.in-Blank.is at c.in_ok-read_line.ensures in
     record {
       said = blank_more loop.yielded line loop.found.items loop.invariant.said blank;
       left =
           rw c.loop-line.invariant.left (rw c.in-Some.ensures.steps (simp (map-append, append_assoc)));
       counted = one_more loop.yielded line loop.number loop.invariant.counted;
-      known = known_more loop.yielded line loop.invariant.known (inl blank);
     }
 
 pub loop-line-preserved : goal.loop-line-preserved
@@ -27,7 +26,7 @@ loop-line-preserved g c =
     let loop = c.loop-line in
     let line = c.in-Some.line in
     let command = c.in-Command.command in
-    let says = c.in-Command.ensures in
+    let says = rw c.in-Command.is at c.in_ok-read_line.ensures in
     record {
       said =
           rw c.in_ok-push-in-Command.ensures.items
@@ -35,12 +34,13 @@ loop-line-preserved g c =
       left =
           rw c.loop-line.invariant.left (rw c.in-Some.ensures.steps (simp (map-append, append_assoc)));
       counted = one_more loop.yielded line loop.number loop.invariant.counted;
-      known = known_more loop.yielded line loop.invariant.known (inr (command, says));
     }
 
 pub returns-in-Unknown-clause-err : goal.returns-in-Unknown-clause-err
 returns-in-Unknown-clause-err g c =
     let loop = c.loop-line in
     first_unknown c.args.text.now loop.yielded c.in-Some.line.now c.next.new.self loop.number
+    loop.found.items
     (rw c.loop-line.invariant.left (rw c.in-Some.ensures.steps refl))
-    loop.invariant.counted loop.invariant.known c.in-Unknown.ensures
+    loop.invariant.counted loop.invariant.said
+    (rw c.in-Unknown.is at c.in_ok-read_line.ensures)

@@ -1,6 +1,6 @@
 use Rattle.std.proofs.Common.{◌≡◌, ◌++◌, map, length}
 use Rattle.intmap_cmd.specs.Lines.{lines_in}
-use Rattle.intmap_cmd.proofs.LineLemmas.{LinesSay, AreKnown}
+use Rattle.intmap_cmd.proofs.LineLemmas.{LinesSay}
 use Rattle.intmap_cmd.proofs.line.read_commands.Given as goal
 
 -- the lines so far are counted, and say what was found and nothing else; the others are left
@@ -9,5 +9,4 @@ invariant-loop-line g l = record {
   said : LinesSay (map (λ line. line.now) l.yielded) l.found.items;
   left : lines_in l.text ≡ map (λ line. line.now) l.yielded ++ l.line-iterator;
   counted : l.number ≡ length l.yielded;
-  known : AreKnown (map (λ line. line.now) l.yielded);
 }

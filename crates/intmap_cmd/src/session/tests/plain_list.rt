@@ -99,7 +99,7 @@ impl List {
             Command::IsEmpty => format!(in alloc; "{}", self.pairs.is_empty()),
             Command::Len => format!(in alloc; "{}", self.pairs.len()),
             Command::Load => format!(in alloc; "{}", self.pairs.len().min(1)),
-            Command::Capacity => String::from_str(alloc, "not asked"),
+            Command::Extend(_) | Command::Capacity => String::from_str(alloc, "not asked"),
             Command::Walk => walk_of(alloc, self.pairs.as_slice()),
             Command::Keys => numbers_of(alloc, self.pairs.as_slice(), true),
             Command::Values => numbers_of(alloc, self.pairs.as_slice(), false),

@@ -98,6 +98,9 @@ returns-in-EntryInsert-clause-step g c = rw c.in-EntryInsert.is (c.entry_insert.
 pub returns-in-EntryRemove-clause-step : goal.returns-in-EntryRemove-clause-step
 returns-in-EntryRemove-clause-step g c = rw c.in-EntryRemove.is (c.entry_remove.ensures.step c.args.judge.now)
 
+pub returns-in-Extend-clause-step : goal.returns-in-Extend-clause-step
+returns-in-Extend-clause-step g c = rw c.in-Extend.is (c.extend.ensures.step c.args.judge.now)
+
 pub returns-in-Drain-clause-step : goal.returns-in-Drain-clause-step
 returns-in-Drain-clause-step g c = rw c.in-Drain.is (c.drain.ensures.step c.args.judge.now)
 

@@ -1,0 +1,107 @@
+-- Insertions of several pairs in turn are one step of every list that stands for the map.
+use Rattle.std.proofs.Common.{◌≡◌, inl, inr, ℕ, ◌+◌, ◌<◌, ◌≤◌, ◌-◌, ◌^◌, Bool, List, [], ◌∷◌, ◌++◌, length, Some, None, refl, sym, ap, ◌∙◌, add-zero, add_assoc, arith}
+use Rattle.std.specs.Prelude.{◌==◌, cond, min}
+use Rattle.std.specs.Iterator.{Yields, YieldsThen}
+use Rattle.std.specs.Vec.Iter.{into_iter_items, into_iter_steps}
+use Rattle.std.specs.declared.vec.IntoIter.{IntoIter}
+use Rattle.std.specs.declared.vec.Vec.{Vec}
+use Rattle.std.proofs.lemmas.List.{length-append}
+use Rattle.intmap.specs.Bindings.{put_pair}
+use Rattle.intmap.specs.Extending.{IsInserted, AreInserted}
+use Rattle.intmap.specs.Map.{MapState, IsMap, after_search}
+use Rattle.intmap.specs.Reach.{reach}
+use Rattle.intmap.specs.States.{State, Stands, InsertsAll, MayRefuse}
+use Rattle.intmap.specs.declared.refusal.RefusedPair.{RefusedPair}
+use Rattle.intmap_run.specs.declared.command.Command.TheVariants as command
+use Rattle.intmap_run.specs.declared.answer.Answer.TheVariants as answer
+use Rattle.intmap_run.specs.Runs.{insertion_comparisons, insertion_placements}
+use Rattle.intmap_run.specs.Steps.{StepsFrom}
+use Rattle.intmap_run.proofs.MapStandLemmas.{reach-stands}
+use Rattle.intmap_run.proofs.StepLemmas.{accepted, may}
+
+module _ {K V : Type 0} (number : K → ℕ) (is_key : K → Type 0) where
+  -- what accepted insertions in turn leave of list and map
+  record AllAccepted (m : MapState K V) (ps : List (K × V)) (n : MapState K V) (s t : State K V) : Type 0 where
+    inserts : InsertsAll number s ps t
+    stands : Stands number t n
+    compared : n.compared ≡ m.compared + insertion_comparisons number s ps t inserts
+    placed : n.placed ≡ m.placed + insertion_placements number s ps t inserts
+    map : IsMap number is_key n
+
+  -- they leave a list with the pairs put in
+  all_accepted : (m : MapState K V) (ps : List (K × V)) (n : MapState K V) → IsMap number is_key m → AreInserted number is_key m ps n
+      → (s : State K V) → Stands number s m → (t : State K V) × AllAccepted m ps n s t
+  all_accepted m [] n is_map is s stands = (
+    s,
+    rw is (record { inserts = refl; stands = stands; compared = sym (add-zero m.compared); placed = sym (add-zero m.placed); map = is_map }),
+  )
+  all_accepted m (p ∷ ps) n is_map inserted s stands =
+      let l : MapState K V = inserted.0 in
+      let one : IsInserted number is_key m p.0 p.1 l = inserted.1 in
+      let t : State K V = record s { pairs = put_pair number s.pairs s.capacity p.0 p.1; capacity = l.capacity } in
+      let first = accepted number is_key m is_map p.0 p.1 l one.capacity one.in_range one.state s stands in
+      let rest = all_accepted l ps n one.map inserted.2 t first.stands in
+      let compared : ℕ = insertion_comparisons number t ps rest.0 rest.1.inserts in
+      let placed : ℕ = insertion_placements number t ps rest.0 rest.1.inserts in (
+        rest.0,
+        record {
+          inserts = (t, first.inserts, rest.1.inserts);
+          stands = rest.1.stands;
+          compared = rest.1.compared ∙ ap (λ k. k + compared) first.compared ∙ add_assoc m.compared (reach number s.pairs s.capacity p.0) compared;
+          placed = rest.1.placed ∙ ap (λ k. k + placed) first.placed ∙ add_assoc m.placed (cond (t.capacity == s.capacity) 0 (length t.pairs)) placed;
+          map = rest.1.map;
+        },
+      )
+
+module _ {K V S A : Type 0} (number : K → ℕ) (is_key : K → Type 0) (m : MapState K V) (is_map : IsMap number is_key m) (sees : V → S → Type 0) (keeps : K → V → Bool) where
+  -- all pairs were inserted
+  pub StepsFrom-extend : (pairs : Vec (K × V) A) (xs : List (K × V)) (n : MapState K V) → xs ≡ pairs.items → AreInserted number is_key m xs n
+      → StepsFrom number sees keeps m (command.Extend pairs) answer.Done n
+  StepsFrom-extend pairs xs n all inserted s stands =
+      let left = all_accepted number is_key m pairs.items n is_map (rw all at inserted) s stands in (
+        left.0,
+        record {
+          answers = inl (refl, (refl, left.1.inserts));
+          stands = left.1.stands;
+          compared = left.1.compared;
+          placed = left.1.placed;
+        },
+      )
+
+  -- the pairs before a refused one were inserted
+  pub StepsFrom-stopped : (pairs : Vec (K × V) A) (xs rest : List (K × V)) (before n : MapState K V) (refused : RefusedPair K V)
+      → pairs.items ≡ xs ++ (refused.key, refused.value) ∷ rest → refused.applied ≡ length xs
+      → AreInserted number is_key m xs before → n ≡ after_search number before refused.key
+      → MayRefuse number (record { pairs = before.walk; capacity = before.capacity; factor = before.factor }) refused.key refused.cause
+      → StepsFrom number sees keeps m (command.Extend pairs) (answer.Stopped refused) n
+  StepsFrom-stopped pairs xs rest before n refused split count inserted searched may_be s stands =
+      let left = all_accepted number is_key m xs before is_map inserted s stands in
+      let t : State K V = left.0 in
+      let stands' = left.1.stands in
+      let is_map' = left.1.map in
+      let compared : ℕ = insertion_comparisons number s xs t left.1.inserts in
+      let refuses = may number is_key before is_map' refused.key refused.cause may_be.new_key may_be.too_large may_be.memory t stands' in (
+        t,
+        rw searched (record {
+          answers = inr (refused, refl, (xs, rest, split, count, left.1.inserts, refuses));
+          stands = record { walk = stands'.walk; capacity = stands'.capacity; factor = stands'.factor };
+          compared =
+              ap (λ k. k + reach number before.walk before.capacity refused.key) left.1.compared
+              ∙ add_assoc m.compared compared (reach number before.walk before.capacity refused.key)
+              ∙ ap (λ k. m.compared + (compared + k)) (sym (reach-stands is_map' stands' refused.key));
+          placed = left.1.placed;
+        }),
+      )
+
+-- what a list by value gave stands before what is left of it
+items-yielded : {X Z : Type 0} (s : IntoIter X Z) (xs : List X) (t : IntoIter X Z) → Yields into_iter_steps s xs t → into_iter_items s ≡ xs ++ into_iter_items t
+items-yielded s [] t h = ap into_iter_items h
+items-yielded s (x ∷ xs) t h = h.1.0 ∙ ap (λ ys. x ∷ ys) (items-yielded h.0 xs t h.2)
+
+-- and so it does with one more
+pub items-yielded_then : {X Z : Type 0} (s : IntoIter X Z) (xs : List X) (x : X) (t : IntoIter X Z) → YieldsThen into_iter_steps s xs (Some x) t → into_iter_items s ≡ xs ++ x ∷ into_iter_items t
+items-yielded_then s xs x t h = items-yielded s xs h.0 h.1 ∙ ap (λ ys. xs ++ ys) h.2.0
+
+-- so many pairs before another one of a list of which a machine has room are counted as they are
+pub counted-all : {X : Type 0} (xs ys rest : List X) (x : X) (n len cap : ℕ) → ys ≡ xs ++ x ∷ rest → len ≡ length ys → len ≤ cap → cap < 2 ^ 63 → n ≡ min (length xs) (2 ^ 64 - 1) → n ≡ length xs
+counted-all xs ys rest x n len cap split is within small count = omega (arith, ap length split, is, within, small, count, length-append xs (x ∷ rest))
