@@ -104,10 +104,7 @@ pub fn with_other(
 }
 
 /// The pairs that the numbers make, a key and a value in turn.
-pub fn pairs_of<A: Allocator>(
-    alloc: A,
-    numbers: &[u64],
-) -> Result<Vec<(u64, u64), A>, AllocError> {
+pub fn pairs_of<A: Allocator>(alloc: A, numbers: &[u64]) -> Result<Vec<(u64, u64), A>, AllocError> {
     let mut pairs = Vec::new(alloc);
     for pair in numbers.chunks_exact(2) {
         pairs.push((pair[0], pair[1]))?;
