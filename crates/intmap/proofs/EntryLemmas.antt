@@ -44,7 +44,7 @@ module _ {K V : Type 0} (number : K → ℕ) where
   write_value-unbound_step p L k v false e rest none = let n : value_of number L k ≡ None = rw e at none in simp e (ap (λ M. p ∷ M) (rest n))
 
   -- a key that isn't bound is written for nothing
-  write_value-unbound : (L : List (K × V)) (k : K) (v : V) → value_of number L k ≡ None → write_value number L k v ≡ L
+  pub write_value-unbound : (L : List (K × V)) (k : K) (v : V) → value_of number L k ≡ None → write_value number L k v ≡ L
   write_value-unbound [] k v none = refl
   write_value-unbound (p ∷ L) k v none = write_value-unbound_step p L k v (same_key number k p.0) refl (write_value-unbound L k v) none
 

@@ -14,8 +14,8 @@ use Rattle.intmap.specs.declared.refusal.Cause.TheVariants.{Memory, TooLarge}
 use Rattle.intmap.proofs.CostLemmas.{capacity-not_less}
 
 module _ {K V : Type 0} (number : K → ℕ) where
-  -- a pair in front of another list
-  value_of-append : (L M : List (K × V)) (q : K) → value_of number (L ++ M) q ≡ option_or (value_of number L q) (value_of number M q)
+  -- a list in front of another
+  pub value_of-append : (L M : List (K × V)) (q : K) → value_of number (L ++ M) q ≡ option_or (value_of number L q) (value_of number M q)
   value_of-append [] M q = refl
   value_of-append (p ∷ L) M q = by_case (same_key number q p.0) refl (value_of-append L M q)
     where
@@ -86,7 +86,7 @@ module _ {K V : Type 0} (number : K → ℕ) where
 
 module _ {K V : Type 0} (number : K → ℕ) (is_key : K → Type 0) where
   -- one accepted insertion more
-  AreInserted-push : (m l n : MapState K V) (ps : List (K × V)) (k : K) (v : V) → AreInserted number is_key m ps l → IsInserted number is_key l k v n
+  pub AreInserted-push : (m l n : MapState K V) (ps : List (K × V)) (k : K) (v : V) → AreInserted number is_key m ps l → IsInserted number is_key l k v n
       → AreInserted number is_key m (ps ++ (k, v) ∷ []) n
   AreInserted-push m l n [] k v before last = (n, subst (λ x. IsInserted number is_key x k v n) before last, refl)
   AreInserted-push m l n (p ∷ ps) k v before last = (before.0, before.1, AreInserted-push before.0 l n ps k v before.2 last)

@@ -50,3 +50,6 @@ pub mod LendMapLemmas
 pub mod AfterLemmas
 pub mod CostLemmas
 pub mod Callers
+pub mod MadeLemmas
+pub mod TallyLemmas
+pub mod CrowdLemmas

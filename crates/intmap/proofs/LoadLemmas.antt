@@ -15,7 +15,7 @@ is_filled [] = false
 is_filled (x ∷ xs) = true
 
 -- how often n stands in a list
-abbrev times : ℕ → List ℕ → ℕ
+abbrev pub times : ℕ → List ℕ → ℕ
 times n ns = count_by (λ m. m == n) ns
 
 -- the number itself in front adds one
@@ -64,7 +64,7 @@ times-each_once n (a ∷ ns) = elim (cases_eq a n) [
 ]
 
 -- a number in front is new, or not
-length-each_once : (n : ℕ) (ns : List ℕ) → length (each_once (n ∷ ns)) + cond (list_any (λ m. m == n) ns) 1 0 ≡ suc (length (each_once ns))
+pub length-each_once : (n : ℕ) (ns : List ℕ) → length (each_once (n ∷ ns)) + cond (list_any (λ m. m == n) ns) 1 0 ≡ suc (length (each_once ns))
 length-each_once n ns =
     let t = times-each_once n ns in
     let l = length-filter (λ m. m == n) (each_once ns) in

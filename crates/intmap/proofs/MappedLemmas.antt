@@ -28,7 +28,7 @@ module _ {X Y : Type 0} (h : X → Y) where
   without_last-map test [] = refl
   without_last-map test (x ∷ xs) = let e = without_last-map test xs in let a = list_any-map test xs in grind (arith, e, a)
 
-  swap_out-map : (is_it in_class : Y → Bool) (xs : List X) → swap_out is_it in_class (map h xs) ≡ map h (swap_out (λ x. is_it (h x)) (λ x. in_class (h x)) xs)
+  pub swap_out-map : (is_it in_class : Y → Bool) (xs : List X) → swap_out is_it in_class (map h xs) ≡ map h (swap_out (λ x. is_it (h x)) (λ x. in_class (h x)) xs)
   swap_out-map is_it in_class [] = refl
   swap_out-map is_it in_class (x ∷ xs) =
       let e = swap_out-map is_it in_class xs in let a = list_any-map in_class xs in

@@ -38,6 +38,12 @@ module _ {K V : Type 0} (number : K → ℕ) (is_key : K → Type 0) where
     pub factor : n.factor ≡ m.factor
     pub capacity : m.capacity ≤ n.capacity
 
+  -- the map is what is left where the pairs are inserted in turn into one of 4 slots that was just made, apart from both counts
+  pub record IsMadeOf (ps : List (K × V)) (m : MapState K V) : Type 0 where
+    pub filled : MapState K V
+    pub inserted : AreInserted (empty_map 4) ps filled
+    pub state : m ≡ record filled { placed = m.placed; compared = m.compared }
+
 module _ {K V S : Type 0} (number : K → ℕ) (is_key : K → Type 0) (steps : S → Option (K × V) → S → Type 0) where
   -- all pairs that came from the iterator s were inserted in turn
   pub record Extends (s : S) (m n : MapState K V) : Type 0 where

@@ -1,13 +1,20 @@
--- What a map says of its table.
-use Rattle.std.specs.Prelude.{ℕ, ◌*◌, ◌/◌, ◌==◌, nat_lt, not, List, [], ◌∷◌, length, map, filter, count_by}
+-- What a map says of its table: how full it is, and how its pairs lie in it.
+use Rattle.std.specs.Prelude.{◌≡◌, ℕ, ◌*◌, ◌/◌, ◌^◌, ◌<◌, ◌==◌, nat_lt, not, List, [], ◌∷◌, length, map, filter, count_by}
 use Rattle.std.specs.List.{range_with_len}
 use Rattle.intmap.specs.Classes.{residue}
+use Rattle.intmap.specs.Bindings.{value_of}
+use Rattle.intmap.specs.Extending.{IsMadeOf}
+use Rattle.intmap.specs.Map.{MapState}
 use Rattle.intmap.specs.Walk.{slot_of}
 
 -- each number once, at its first place
 abbrev pub each_once : List ℕ → List ℕ
 each_once [] = []
 each_once (n ∷ ns) = n ∷ filter (λ m. not (m == n)) (each_once ns)
+
+-- each number at its first place, with how often it stands in the list
+abbrev pub tally_of : List ℕ → List (ℕ × ℕ)
+tally_of ns = map (λ m. (m, count_by (λ n. n == m) ns)) (each_once ns)
 
 module _ {K V : Type 0} where
   -- the pairs to a slot of C, in thousandths
@@ -25,4 +32,10 @@ module _ {K V : Type 0} (number : K → ℕ) where
 
   -- each size above 1 by its first appearance, with the number of slots that have it
   abbrev pub sizes_of : List (K × V) → ℕ → List (ℕ × ℕ)
-  sizes_of L C = map (λ m. (m, count_by (λ n. n == m) (crowds_of L C))) (each_once (crowds_of L C))
+  sizes_of L C = tally_of (crowds_of L C)
+
+-- the map binds each number of the list to how often it stands there, as insertions at the first places of these numbers leave it
+pub record IsTally (ns : List ℕ) (m : MapState ℕ ℕ) : Type 0 where
+  pub made : IsMadeOf (λ n. n) (λ n. n < 2 ^ 64) (tally_of ns) m
+  pub counts : (q : ℕ) → value_of (λ n. n) m.walk q ≡ value_of (λ n. n) (tally_of ns) q
+  pub len : length m.walk ≡ length (tally_of ns)

@@ -1,7 +1,6 @@
 //! The map: a table of slots, the number of its pairs and its load factor.
 ghost use Rattle.std.specs.Prelude.{◌≡◌, ◌==◌, length};
 ghost use Rattle.std.specs.Map.{keys_of, values_of};
-ghost use Rattle.intmap.specs.Figures.{load_of};
 ghost use Rattle.intmap.specs.Map.{IsMap};
 
 mod build;
@@ -12,6 +11,7 @@ mod drain;
 mod each;
 mod equal;
 mod extend;
+mod figures;
 mod get;
 mod grow;
 mod insert;
@@ -89,19 +89,6 @@ impl<K: IntKey, V, A: Allocator + Copy> IntMap<K, V, A> {
         ensures map { IsMap K.number_of K.is_key self.now }
     {
         self.table.capacity()
-    }
-
-    /// The number of slots that hold a pair, which is the number of residues that the keys leave
-    /// modulo the capacity. It counts one bit a slot, a word of 64 at a time, and is never refused.
-    ///
-    /// ```text
-    /// with the keys 0, 4 and 1 in 4 slots it is 2, since 0 and 4 share a slot
-    /// ```
-    pub fn load(&self) -> u64
-        ensures value { result ≡ load_of K.number_of self.now.walk self.now.capacity }
-        ensures map { IsMap K.number_of K.is_key self.now }
-    {
-        self.table.load() as u64
     }
 
     /// The pairs by reference, in the order of the walk. It is never refused, and nor is a step of

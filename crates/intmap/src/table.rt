@@ -12,11 +12,11 @@ mod retain;
 pub(crate) mod stored;
 pub(crate) mod walk;
 
-ghost use Rattle.std.specs.Prelude.{◌≡◌, ℕ, ◌+◌, ◌<◌, slice_index_or, [], OnOk, OnErr, IfOk, IfErr, Some, None, option_copied, length};
+ghost use Rattle.std.specs.Prelude.{◌≡◌, ℕ, ◌+◌, ◌^◌, ◌<◌, slice_index_or, [], OnOk, OnErr, IfOk, IfErr, Some, None, option_copied, length};
 ghost use Rattle.intmap.specs.Classes.{IsCapacity, slot_number};
 ghost use Rattle.intmap.specs.Bindings.{value_of, take_key, put_pair};
 ghost use Rattle.intmap.specs.Slots.{rows, AreMarked};
-ghost use Rattle.intmap.specs.Walk.{walk_of};
+ghost use Rattle.intmap.specs.Walk.{slot_of, walk_of};
 ghost use Rattle.intmap.specs.Reach.{class_size, reach};
 ghost use Rattle.intmap.specs.Figures.{load_of};
 
@@ -78,6 +78,15 @@ impl<K: IntKey, X, A: Allocator> Table<K, X, A> {
         ensures { result ≡ load_of K.number_of self.now.walk self.now.capacity }
     {
         self.bits.count()
+    }
+
+    /// The number of pairs that a slot holds.
+    pub(crate) fn slot_len(&self, slot: usize) -> usize
+        requires within { slot < self.now.capacity }
+        requires fits { length self.now.walk < 2 ^ 64 }
+        ensures { result ≡ length (slot_of K.number_of self.now.walk self.now.capacity slot) }
+    {
+        self.slots[slot].len()
     }
 
     /// The pairs, slot after slot.
@@ -191,6 +200,11 @@ impl<K: IntKey, X: Drop, A: Allocator> Table<K, X, A> {
 }
 
 impl<K: IntKey, X: Drop, A: Allocator + Copy> Table<K, X, A> {
+    /// The allocator that the slots are in.
+    pub(crate) fn allocator(&self) -> A {
+        *self.slots.allocator()
+    }
+
     /// Empty slots, as many as asked for. It takes memory for them and for their bits.
     pub(crate) fn new(alloc: A, capacity: usize) -> Result<Table<K, X, A>, AllocError>
         requires { IsCapacity capacity }

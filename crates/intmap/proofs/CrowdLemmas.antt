@@ -1,0 +1,126 @@
+-- The sizes of slots: in all there are as many pairs, and far fewer different sizes.
+use Rattle.std.proofs.Common.{◌≡◌, inl, inr, ℕ, ◌+◌, ◌*◌, ◌-◌, ◌/◌, ◌^◌, ◌<◌, ◌≤◌, Bool, true, false, cond, List, [], ◌∷◌, ◌++◌, length, map, Option, Some, None, refl, sym, ap, ◌∙◌, arith}
+use Rattle.std.specs.Prelude.{◌==◌, nat_lt, filter, IsNone}
+use Rattle.std.specs.List.{list_any, flat_map, range_with_len, sum}
+use Rattle.std.proofs.lemmas.Nat.{pow-add}
+use Rattle.std.proofs.lemmas.Bool.{cases_eq, cases_Bool, eq-eqb, ne_eqb, ltb-true}
+use Rattle.std.proofs.lemmas.List.{append-nil, length-append, length-map}
+use Rattle.std.proofs.lemmas.List.Concat.{length-flat_map}
+use Rattle.std.proofs.lemmas.List.FromFn.{length-map-range_with_len, take-map-range_with_len, filter_of_map_range_with_len_more}
+use Rattle.std.proofs.lemmas.List.Sums.{sum_by-cons, sum_by-take-le, sum-map, count_by-le-length, length-filter}
+use Rattle.intmap.specs.Bindings.{value_of}
+use Rattle.intmap.specs.Classes.{IsCapacity}
+use Rattle.intmap.specs.Figures.{each_once, tally_of, IsTally}
+use Rattle.intmap.specs.Growth.{IsWanted, GrowsTooMuch, is_due}
+use Rattle.intmap.specs.Map.{MapState, IsMap, IsOutOfRange}
+use Rattle.intmap.proofs.LoadFactorLemmas.{capacity-greatest, MeetsLoad-from}
+use Rattle.intmap.proofs.LoadLemmas.{length-each_once, times}
+use Rattle.intmap.proofs.MadeLemmas.{IsMadeOf-factor}
+use Rattle.intmap.proofs.TallyLemmas.{found, missing, value_of-tally_of, each_once-push}
+
+few_step : (m : ℕ) (sizes : List ℕ) → 3 * length (each_once (filter (nat_lt 1) sizes)) ≤ sum sizes + cond (list_any (λ n. n == 2) (filter (nat_lt 1) sizes)) 1 0
+    → nat_lt 1 m ≡ true → 3 * length (each_once (m ∷ filter (nat_lt 1) sizes)) ≤ sum (m ∷ sizes) + cond (list_any (λ n. n == 2) (m ∷ filter (nat_lt 1) sizes)) 1 0
+few_step m sizes rest crowded =
+    let once = length-each_once m (filter (nat_lt 1) sizes) in
+    let more = sum_by-cons (λ n. n) m sizes in
+    elim (cases_eq m 2) [
+      | inl same ↦
+          (let t = eq-eqb m 2 same in
+          let here : ◌≡◌ {A = ℕ} (cond (list_any (λ n. n == 2) (m ∷ filter (nat_lt 1) sizes)) 1 0) 1 = simp t in
+          let alike = ap (λ k. cond {A = ℕ} (list_any (λ n. n == k) (filter (nat_lt 1) sizes)) 1 0) same in
+          omega (arith, once, more, here, alike, rest, same))
+      | inr apart ↦
+          (let t = ne_eqb m 2 apart in
+          let here : ◌≡◌ {A = ℕ} (cond (list_any (λ n. n == 2) (m ∷ filter (nat_lt 1) sizes)) 1 0) (cond (list_any (λ n. n == 2) (filter (nat_lt 1) sizes)) 1 0) = simp t in
+          let above = ltb-true 1 m crowded in
+          omega (arith, once, more, here, above, rest, apart))
+    ]
+
+-- three times the different sizes above 1 are hardly more than the pairs
+few_sizes : (sizes : List ℕ) → 3 * length (each_once (filter (nat_lt 1) sizes)) ≤ sum sizes + cond (list_any (λ m. m == 2) (filter (nat_lt 1) sizes)) 1 0
+few_sizes [] = omega arith
+few_sizes (m ∷ sizes) = elim (cases_Bool (nat_lt 1 m)) [
+  | inl crowded ↦ (let h = few_step m sizes (few_sizes sizes) crowded in rw crowded h)
+  | inr alone ↦ (let h = few_sizes sizes in let more = sum_by-cons (λ n. n) m sizes in rw alone (omega (arith, h, more)))
+]
+
+-- a new map of so few pairs never wants more than 2^63 slots
+GrowsTooMuch-few : (C n : ℕ) → IsCapacity C → 3 * n ≤ 2 ^ 64 → GrowsTooMuch C n 909 → ⊥
+GrowsTooMuch-few C n cap few much = elim (cases_Bool (is_due n)) [
+  | inl due ↦
+      (let wanted : IsWanted C n 909 much.0 = rw due at much.1 in
+      let i : ℕ = 63 - cap.0 in
+      let e : cap.0 + i ≡ 63 = (let below = cap.2 in omega (arith, below)) in
+      let slots : C * 2 ^ i ≡ 2 ^ 63 = ap (λ c. c * 2 ^ i) cap.3 ∙ sym (pow-add 2 cap.0 i) ∙ ap (λ k. 2 ^ k) e in
+      let over : 909 < n * 1000 / (C * 2 ^ i) = wanted.least i (let above = much.2 in omega (arith, slots, above)) in
+      let meets : n * 1000 / 2 ^ 63 ≤ 909 = MeetsLoad-from n (2 ^ 63) 909 (omega arith) (omega (arith, few)) in
+      let same : n * 1000 / (C * 2 ^ i) ≡ n * 1000 / 2 ^ 63 = ap (λ k. n * 1000 / k) slots in
+      omega (arith, over, meets, same))
+  | inr not ↦ (let same : much.0 ≡ C = rw not at much.1 in let top = capacity-greatest C cap in let above = much.2 in omega (arith, same, top, above))
+]
+
+module _ {X : Type 0} (slot : ℕ → List X) where
+  -- the sizes above 1 of slots 0, 1, .., n - 1
+  abbrev pub crowds_below : ℕ → List ℕ
+  crowds_below n = filter (nat_lt 1) (map (λ i. length (slot i)) (range_with_len 0 n))
+
+  -- one slot more, of several pairs
+  pub crowds_below-crowded : (n : ℕ) → nat_lt 1 (length (slot n)) ≡ true → crowds_below (n + 1) ≡ crowds_below n ++ length (slot n) ∷ []
+  crowds_below-crowded n crowded = filter_of_map_range_with_len_more (nat_lt 1) (λ i. length (slot i)) 0 n n (omega arith) ∙ rw crowded refl
+
+  -- one slot more, of one pair or none
+  pub crowds_below-alone : (n : ℕ) → nat_lt 1 (length (slot n)) ≡ false → crowds_below (n + 1) ≡ crowds_below n
+  crowds_below-alone n alone = filter_of_map_range_with_len_more (nat_lt 1) (λ i. length (slot i)) 0 n n (omega arith) ∙ rw alone (append-nil (crowds_below n))
+
+  -- no more sizes than slots
+  length-crowds_below : (n : ℕ) → length (crowds_below n) ≤ n
+  length-crowds_below n =
+      let f = length-filter (nat_lt 1) (map (λ i. length (slot i)) (range_with_len 0 n)) in
+      let le = count_by-le-length (nat_lt 1) (map (λ i. length (slot i)) (range_with_len 0 n)) in
+      let l = length-map-range_with_len (λ i. length (slot i)) 0 n in
+      omega (arith, f, le, l)
+
+  -- the pairs of the first slots are among all pairs
+  sizes-below : (n C : ℕ) → n ≤ C → sum (map (λ i. length (slot i)) (range_with_len 0 n)) ≤ length (flat_map slot (range_with_len 0 C))
+  sizes-below n C le =
+      let first = ap sum (take-map-range_with_len (λ i. length (slot i)) 0 C n le) in
+      let part = sum_by-take-le (λ k. k) (map (λ i. length (slot i)) (range_with_len 0 C)) n in
+      let all = sum-map (λ i. length (slot i)) (range_with_len 0 C) in
+      let len = length-flat_map slot (range_with_len 0 C) in
+      omega (arith, first, part, all, len)
+
+  module _ (C n : ℕ) (below : n < C) (m : MapState ℕ ℕ) (tally : IsTally (crowds_below n) m) where
+    -- no count is as great as the number of slots
+    pub count-below : C ≤ 2 ^ 63 → (q count : ℕ) → value_of (λ k. k) m.walk q ≡ Some count → count < 2 ^ 64 - 1
+    count-below most q count bound =
+        let here = found (list_any (λ k. k == q) (crowds_below n)) (times q (crowds_below n)) count (sym bound ∙ tally.counts q ∙ value_of-tally_of (crowds_below n) q) in
+        let le = count_by-le-length (λ k. k == q) (crowds_below n) in
+        let short = length-crowds_below n in
+        let is = here.1 in
+        omega (arith, le, short, is, most, below)
+
+    -- the next size is in range of the map
+    pub size-in_range : length (flat_map slot (range_with_len 0 C)) < 2 ^ 64 → IsMap (λ k. k) (λ k. k < 2 ^ 64) m → nat_lt 1 (length (slot n)) ≡ true
+        → IsOutOfRange (λ k. k) m.walk m.capacity m.factor (length (slot n)) → ⊥
+    size-in_range fits is_map crowded out =
+        let q : ℕ = length (slot n) in
+        let away = missing (list_any (λ k. k == q) (crowds_below n)) (times q (crowds_below n)) (sym (none_from (value_of (λ k. k) m.walk q) out.0) ∙ tally.counts q ∙ value_of-tally_of (crowds_below n) q) in
+        let once : each_once (crowds_below n ++ q ∷ []) ≡ each_once (crowds_below n) ++ q ∷ [] = each_once-push (crowds_below n) q ∙ rw away refl in
+        let more = ap length (ap each_once (crowds_below-crowded n crowded) ∙ once) ∙ length-append (each_once (crowds_below n)) (q ∷ []) in
+        let len = tally.len ∙ length-map (each_once (crowds_below n)) (λ k. (k, times k (crowds_below n))) in
+        let few = few_sizes (map (λ i. length (slot i)) (range_with_len 0 (n + 1))) in
+        let one = one-most (list_any (λ k. k == 2) (crowds_below (n + 1))) in
+        let pairs = sizes-below (n + 1) C (omega (arith, below)) in
+        let least : 3 * (length m.walk + 1) ≤ 2 ^ 64 = omega (arith, more, len, few, one, pairs, fits) in
+        elim out.1 [
+          | inl long ↦ omega (arith, long, least)
+          | inr much ↦ GrowsTooMuch-few m.capacity (length m.walk + 1) is_map.capacity least (rw (IsMadeOf-factor (λ k. k) (λ k. k < 2 ^ 64) (tally_of (crowds_below n)) m tally.made) at much)
+        ]
+      where
+        one-most : (b : Bool) → cond {A = ℕ} b 1 0 ≤ 1
+        one-most true = omega arith
+        one-most false = omega arith
+
+        none_from : (o : Option ℕ) → IsNone o → o ≡ None
+        none_from None none = refl
+        none_from (Some v) none = let no : true ≡ false = none in cc

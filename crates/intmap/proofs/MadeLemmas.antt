@@ -1,0 +1,149 @@
+-- Maps that insertions in turn made: with one pair more, and with a value written.
+use Rattle.std.proofs.Common.{◌≡◌, ℕ, ◌+◌, Bool, true, false, cond, List, [], ◌∷◌, ◌++◌, length, map, option_map, Option, Some, None, refl, sym, ap, ◌∙◌, subst}
+use Rattle.std.specs.Prelude.{is_some, IsNone, MatchOption}
+use Rattle.std.proofs.lemmas.List.{map-append}
+use Rattle.intmap.specs.Bindings.{value_of, take_key, put_pair, write_value, swap_out}
+use Rattle.intmap.specs.Classes.{same_key, agrees}
+use Rattle.intmap.specs.Extending.{IsInserted, AreInserted, IsMadeOf}
+use Rattle.intmap.specs.Growth.{IsNext}
+use Rattle.intmap.specs.Map.{MapState, IsMap, IsOutOfRange, IsCapacityAfter, empty_map, after_insert, written}
+use Rattle.intmap.specs.Walk.{walk_of}
+use Rattle.intmap.proofs.ExtendLemmas.{AreInserted-push}
+use Rattle.intmap.proofs.LocationLemmas.{walk_of-write_value}
+use Rattle.intmap.proofs.MappedLemmas.{swap_out-map}
+use Rattle.intmap.proofs.WriteLemmas.{length-write_value, value_of-write_value, IsMapWalk-written}
+
+module _ {K V : Type 0} (number : K → ℕ) (k : K) (v : V) where
+  -- the pair, with v as its value where its key is k
+  abbrev rewritten : K × V → K × V
+  rewritten p = cond (same_key number k p.0) (p.0, v) p
+
+  -- it keeps its key
+  rewritten-key : (p : K × V) → (rewritten p).0 ≡ p.0
+  rewritten-key p = elim (same_key number k p.0) as (λ b. (cond b (p.0, v) p).0 ≡ p.0) [ true ↦ refl | false ↦ refl ]
+
+  -- and is a pair of it and of a value
+  rewritten-pair : (q : K) (w : V) → rewritten (q, w) ≡ (q, cond (same_key number k q) v w)
+  rewritten-pair q w = elim (same_key number k q) as (λ b. ◌≡◌ {A = K × V} (cond b (q, v) (q, w)) (q, cond b v w)) [ true ↦ refl | false ↦ refl ]
+
+  -- a key is taken out of pairs alike, once a value was written
+  take_key-write_value : (L : List (K × V)) (C : ℕ) (q : K) → take_key number (write_value number L k v) C q ≡ write_value number (take_key number L C q) k v
+  take_key-write_value L C q =
+      swap_out-map rewritten (λ p. same_key number q p.0) (λ p. agrees number C q p.0) L
+      ∙ ap (λ (tests : (K × V → Bool) × (K × V → Bool)). map rewritten (swap_out tests.0 tests.1 L))
+      (λ i. ((λ p. same_key number q (rewritten-key p i)), (λ p. agrees number C q (rewritten-key p i))))
+
+  -- and a pair is put in alike
+  put_pair-write_value : (L : List (K × V)) (C : ℕ) (q : K) (w : V)
+      → put_pair number (write_value number L k v) C q (cond (same_key number k q) v w) ≡ write_value number (put_pair number L C q w) k v
+  put_pair-write_value L C q w =
+      ap (λ M. M ++ (q, cond (same_key number k q) v w) ∷ []) (take_key-write_value L C q)
+      ∙ ap (λ p. write_value number (take_key number L C q) k v ++ p ∷ []) (sym (rewritten-pair q w))
+      ∙ sym (map-append rewritten (take_key number L C q) ((q, w) ∷ []))
+
+  -- the same keys are bound
+  is_some-write_value : (L : List (K × V)) (q : K) → is_some (value_of number (write_value number L k v) q) ≡ is_some (value_of number L q)
+  is_some-write_value L q = ap is_some (value_of-write_value number L k q v) ∙ by_case (same_key number k q) (value_of number L q)
+    where
+      by_case : (b : Bool) (o : Option V) → is_some (cond b (option_map (λ _. v) o) o) ≡ is_some o
+      by_case true None = refl
+      by_case true (Some w) = refl
+      by_case false o = refl
+
+-- what asks only whether there is a value
+MatchOption-alike : {V : Type 0} (o p : Option V) (P Q : Type 0) → is_some p ≡ is_some o → MatchOption o P (λ _. Q) → MatchOption p P (λ _. Q)
+MatchOption-alike None None P Q same holds = holds
+MatchOption-alike None (Some w) P Q same holds = let no : true ≡ false = same in cc
+MatchOption-alike (Some v) None P Q same holds = let no : false ≡ true = same in cc
+MatchOption-alike (Some v) (Some w) P Q same holds = holds
+
+IsNone-alike : {V : Type 0} (o p : Option V) → is_some p ≡ is_some o → IsNone p → IsNone o
+IsNone-alike None p same none = refl
+IsNone-alike (Some v) None same none = let no : false ≡ true = same in cc
+IsNone-alike (Some v) (Some w) same none = none
+
+module _ {K V : Type 0} (number : K → ℕ) (is_key : K → Type 0) where
+  -- maps with one walk, one capacity and one load factor are maps alike
+  IsMap-alike : (m n : MapState K V) → n.walk ≡ m.walk → n.capacity ≡ m.capacity → n.factor ≡ m.factor → IsMap number is_key m → IsMap number is_key n
+  IsMap-alike m n walk capacity factor is = rw (walk, capacity, factor) is
+
+  module _ (k : K) (v : V) where
+    -- the map m with v written as the value of k, whatever its counts are
+    record IsWrittenTo (m n : MapState K V) : Type 0 where
+      walk : n.walk ≡ write_value number m.walk k v
+      capacity : n.capacity ≡ m.capacity
+      factor : n.factor ≡ m.factor
+
+    -- what insertions leave of it, where they insert the same pairs with the value written
+    AreInserted-written : (ps : List (K × V)) (m l n : MapState K V) → IsWrittenTo m n → AreInserted number is_key m ps l
+        → (o : MapState K V) × AreInserted number is_key n (write_value number ps k v) o × IsWrittenTo l o
+    AreInserted-written [] m l n is same = (n, refl, rw same is)
+    AreInserted-written (p ∷ ps) m l n is all =
+        let j : MapState K V = all.0 in
+        let one : IsInserted number is_key m p.0 p.1 j = all.1 in
+        let w : V = cond (same_key number k p.0) v p.1 in
+        let i : MapState K V = after_insert number n p.0 w j.capacity in
+        let len : length n.walk ≡ length m.walk = ap length is.walk ∙ length-write_value number m.walk k v in
+        let bound : is_some (value_of number n.walk p.0) ≡ is_some (value_of number m.walk p.0) =
+        ap (λ W. is_some (value_of number W p.0)) is.walk ∙ is_some-write_value number k v m.walk p.0 in
+        let walk : i.walk ≡ write_value number j.walk k v =
+        ap (λ (x : List (K × V) × ℕ). walk_of number (put_pair number x.0 x.1 p.0 w) j.capacity) (λ t. (is.walk t, is.capacity t))
+        ∙ ap (λ L. walk_of number L j.capacity) (put_pair-write_value number k v m.walk m.capacity p.0 p.1)
+        ∙ walk_of-write_value number (put_pair number m.walk m.capacity p.0 p.1) j.capacity k v
+        ∙ ap (λ W. write_value number W k v) (sym (ap (λ x. x.walk) one.state)) in
+        let factor : i.factor ≡ j.factor = is.factor ∙ sym (ap (λ x. x.factor) one.state) in
+        let inserted : IsInserted number is_key n p.0 w i = record {
+          in_range = λ out. one.in_range (IsNone-alike (value_of number m.walk p.0) (value_of number n.walk p.0) bound out.0, rw (len, is.capacity, is.factor) at out.1);
+          capacity = rw (len, is.capacity, is.factor) (MatchOption-alike (value_of number m.walk p.0) (value_of number n.walk p.0) (IsNext m.capacity (length m.walk + 1) m.factor j.capacity) (j.capacity ≡ m.capacity) bound one.capacity);
+          state = refl;
+          map = IsMap-alike (written number j k v) i walk refl factor (IsMapWalk-written number is_key j.walk j.capacity j.factor k v one.map);
+        } in
+        let rest = AreInserted-written ps j l i (record { walk = walk; capacity = refl; factor = factor }) all.2 in
+        (rest.0, (i, subst (λ (r : K × V). IsInserted number is_key n r.0 r.1 i) (sym (rewritten-pair number k v p.0 p.1)) inserted, rest.1), rest.2)
+
+    -- a map that was made of pairs, once the value of a key was written in its place
+    pub IsMadeOf-written : (ps : List (K × V)) (m n : MapState K V) → IsMadeOf number is_key ps m → n.walk ≡ write_value number m.walk k v → n.capacity ≡ m.capacity → n.factor ≡ m.factor
+        → IsMadeOf number is_key (write_value number ps k v) n
+    IsMadeOf-written ps m n made walk capacity factor =
+        let after = AreInserted-written ps (empty_map 4) made.filled (empty_map 4) (record { walk = refl; capacity = refl; factor = refl }) made.inserted in
+        let w : n.walk ≡ after.0.walk = walk ∙ ap (λ x. write_value number x.walk k v) made.state ∙ sym after.2.walk in
+        let c : n.capacity ≡ after.0.capacity = capacity ∙ ap (λ x. x.capacity) made.state ∙ sym after.2.capacity in
+        let f : n.factor ≡ after.0.factor = factor ∙ ap (λ x. x.factor) made.state ∙ sym after.2.factor in
+        record {
+          filled = after.0;
+          inserted = after.1;
+          state = λ t. record n { walk = w t; capacity = c t; factor = f t };
+        }
+
+  -- insertions keep the load factor
+  AreInserted-factor : (ps : List (K × V)) (m n : MapState K V) → AreInserted number is_key m ps n → n.factor ≡ m.factor
+  AreInserted-factor [] m n same = ap (λ x. x.factor) same
+  AreInserted-factor (p ∷ ps) m n all =
+      let one : IsInserted number is_key m p.0 p.1 all.0 = all.1 in AreInserted-factor ps all.0 n all.2 ∙ ap (λ x. x.factor) one.state
+
+  -- a map that was made of pairs has the load factor of a new one
+  pub IsMadeOf-factor : (ps : List (K × V)) (m : MapState K V) → IsMadeOf number is_key ps m → m.factor ≡ 909
+  IsMadeOf-factor ps m made = ap (λ x. x.factor) made.state ∙ AreInserted-factor ps (empty_map 4) made.filled made.inserted
+
+  -- a map that was made of pairs, once one more was inserted
+  pub IsMadeOf-inserted : (ps : List (K × V)) (k : K) (v : V) (m n : MapState K V) → IsMadeOf number is_key ps m → (IsOutOfRange number m.walk m.capacity m.factor k → ⊥)
+      → IsCapacityAfter number m.walk m.capacity m.factor k n.capacity → n.walk ≡ walk_of number (put_pair number m.walk m.capacity k v) n.capacity → n.factor ≡ m.factor → IsMap number is_key n
+      → IsMadeOf number is_key (ps ++ (k, v) ∷ []) n
+  IsMadeOf-inserted ps k v m n made in_range capacity put same is_map =
+      let f : MapState K V = made.filled in
+      let o : MapState K V = after_insert number f k v n.capacity in
+      let walk : m.walk ≡ f.walk = ap (λ x. x.walk) made.state in
+      let slots : m.capacity ≡ f.capacity = ap (λ x. x.capacity) made.state in
+      let load : m.factor ≡ f.factor = ap (λ x. x.factor) made.state in
+      let w : n.walk ≡ o.walk = put ∙ ap (λ (x : List (K × V) × ℕ). walk_of number (put_pair number x.0 x.1 k v) n.capacity) (λ t. (walk t, slots t)) in
+      let l : n.factor ≡ o.factor = same ∙ load in
+      record {
+        filled = o;
+        inserted = AreInserted-push number is_key (empty_map 4) f o ps k v made.inserted (record {
+          in_range = λ out. in_range (rw (walk, slots, load) out);
+          capacity = rw (walk, slots, load) at capacity;
+          state = refl;
+          map = IsMap-alike n o (sym w) refl (sym l) is_map;
+        });
+        state = λ t. record n { walk = w t; factor = l t };
+      }

@@ -1,0 +1,184 @@
+-- How often numbers stand in a list that grows by one number, and what that makes of the pairs that tell it.
+use Rattle.std.proofs.Common.{◌≡◌, ◌≢◌, inl, inr, ℕ, ◌+◌, ◌<◌, ◌^◌, ◌||◌, Bool, true, false, not, cond, List, [], ◌∷◌, ◌++◌, length, map, option_map, Option, Some, None, refl, sym, ap, ◌∙◌, arith}
+use Rattle.std.specs.Prelude.{◌==◌, ◌⊎◌, filter}
+use Rattle.std.specs.List.{list_any}
+use Rattle.std.proofs.lemmas.Bool.{cases_eq, cases_Bool, eq-eqb, ne_eqb}
+use Rattle.std.proofs.lemmas.List.{append-nil, map-append}
+use Rattle.std.proofs.lemmas.List.Elements.{filter-append}
+use Rattle.std.proofs.lemmas.List.Sums.{sum_by-cons, sum_by_push}
+use Rattle.std.proofs.lemmas.List.{length-append}
+use Rattle.std.specs.Option.{option_or}
+use Rattle.intmap.specs.Bindings.{value_of, put_pair, write_value, Updates}
+use Rattle.intmap.specs.Figures.{each_once, tally_of, IsTally}
+use Rattle.intmap.specs.Map.{MapState, IsMap, IsOutOfRange, IsCapacityAfter}
+use Rattle.intmap.specs.Walk.{walk_of}
+use Rattle.intmap.proofs.EntryLemmas.{write_value-unbound}
+use Rattle.intmap.proofs.ExtendLemmas.{value_of-append}
+use Rattle.intmap.proofs.LoadLemmas.{times}
+use Rattle.intmap.proofs.MadeLemmas.{IsMadeOf-written, IsMadeOf-inserted}
+use Rattle.intmap.proofs.WriteLemmas.{length-write_value, value_of-write_value}
+
+-- whether two numbers are one, asked the other way
+turned : (a n : ℕ) → (n == a) ≡ (a == n)
+turned a n = elim (cases_eq a n) [
+  | inl same ↦ eq-eqb n a (sym same) ∙ sym (eq-eqb a n same)
+  | inr apart ↦ ne_eqb n a (λ same. apart (sym same)) ∙ sym (ne_eqb a n apart)
+]
+
+each_once_step : (a : ℕ) (ns : List ℕ) (n : ℕ) (s t : Bool) → list_any (λ m. m == n) ns ≡ s → (a == n) ≡ t
+    → each_once (ns ++ n ∷ []) ≡ cond (list_any (λ m. m == n) ns) (each_once ns) (each_once ns ++ n ∷ [])
+    → each_once (a ∷ ns ++ n ∷ []) ≡ cond (list_any (λ m. m == n) (a ∷ ns)) (each_once (a ∷ ns)) (each_once (a ∷ ns) ++ n ∷ [])
+each_once_step a ns n true true e f rest = simp (e, f) (ap (λ xs. a ∷ filter (λ m. not (m == a)) xs) (rw e at rest))
+each_once_step a ns n true false e f rest = simp (e, f) (ap (λ xs. a ∷ filter (λ m. not (m == a)) xs) (rw e at rest))
+each_once_step a ns n false true e f rest =
+    let here : (n == a) ≡ true = turned a n ∙ f in
+    simp (e, f) (ap (λ xs. a ∷ filter (λ m. not (m == a)) xs) (rw e at rest) ∙ ap (λ xs. a ∷ xs) (filter-append (λ m. not (m == a)) (each_once ns) (n ∷ []) ∙ simp here (append-nil (filter (λ m. not (m == a)) (each_once ns)))))
+each_once_step a ns n false false e f rest =
+    let here : (n == a) ≡ false = turned a n ∙ f in
+    simp (e, f) (ap (λ xs. a ∷ filter (λ m. not (m == a)) xs) (rw e at rest) ∙ ap (λ xs. a ∷ xs) (filter-append (λ m. not (m == a)) (each_once ns) (n ∷ []) ∙ simp here refl))
+
+-- a number at the end is new, or not
+pub each_once-push : (ns : List ℕ) (n : ℕ) → each_once (ns ++ n ∷ []) ≡ cond (list_any (λ m. m == n) ns) (each_once ns) (each_once ns ++ n ∷ [])
+each_once-push [] n = refl
+each_once-push (a ∷ ns) n = each_once_step a ns n (list_any (λ m. m == n) ns) (a == n) refl refl (each_once-push ns n)
+
+-- to strike another number doesn't hide one
+list_any-struck_other : (n a : ℕ) (ns : List ℕ) → a ≢ n → list_any (λ m. m == n) (filter (λ m. not (m == a)) ns) ≡ list_any (λ m. m == n) ns
+list_any-struck_other n a [] apart = refl
+list_any-struck_other n a (m ∷ ns) apart = elim (cases_eq m a) [
+  | inl same ↦
+      (let t = eq-eqb m a same in
+      let other : (m == n) ≡ false = ne_eqb m n (λ q. apart (sym same ∙ q)) in
+      simp (t, other) (list_any-struck_other n a ns apart))
+  | inr other ↦ (let t = ne_eqb m a other in simp t (ap (λ b. (m == n) || b) (list_any-struck_other n a ns apart)))
+]
+
+-- each number of a list stands among those that stand once
+list_any-each_once : (n : ℕ) (ns : List ℕ) → list_any (λ m. m == n) (each_once ns) ≡ list_any (λ m. m == n) ns
+list_any-each_once n [] = refl
+list_any-each_once n (a ∷ ns) = elim (cases_eq a n) [
+  | inl same ↦ (let t = eq-eqb a n same in simp t)
+  | inr apart ↦ (let t = ne_eqb a n apart in simp t (list_any-struck_other n a (each_once ns) apart ∙ list_any-each_once n ns))
+]
+
+-- a number that isn't there stands nowhere
+times-none : (n : ℕ) (ns : List ℕ) → list_any (λ m. m == n) ns ≡ false → times n ns ≡ 0
+times-none n [] none = refl
+times-none n (a ∷ ns) none = elim (cases_Bool (a == n)) [
+  | inl here ↦ (let no : true ≡ false = simp here at none in cc)
+  | inr away ↦
+      (let rest : list_any (λ m. m == n) ns ≡ false = simp away at none in
+      let h = times-none n ns rest in
+      let more = sum_by-cons (λ m. cond (m == n) 1 0) a ns in
+      let zero_here = ap (λ (b : Bool). cond {A = ℕ} b 1 0) away in
+      omega (arith, h, more, zero_here))
+]
+
+-- one number more
+times-push : (q : ℕ) (ns : List ℕ) (n : ℕ) → times q (ns ++ n ∷ []) ≡ times q ns + cond (n == q) 1 0
+times-push q ns n = sum_by_push (λ m. cond (m == q) 1 0) ns n
+
+module _ (g : ℕ → ℕ) where
+  -- numbers with what each is given
+  value_of-tabled : (es : List ℕ) (q : ℕ) → value_of (λ n. n) (map (λ m. (m, g m)) es) q ≡ cond (list_any (λ m. m == q) es) (Some (g q)) None
+  value_of-tabled [] q = refl
+  value_of-tabled (e ∷ es) q = elim (cases_eq e q) [
+    | inl same ↦ (let t = eq-eqb e q same in simp t (ap (λ n. Some (g n)) same))
+    | inr apart ↦ (let t = ne_eqb e q apart in simp t (value_of-tabled es q))
+  ]
+
+-- a number is bound where it is in the list, to how often it stands there
+pub value_of-tally_of : (ns : List ℕ) (q : ℕ) → value_of (λ n. n) (tally_of ns) q ≡ cond (list_any (λ m. m == q) ns) (Some (times q ns)) None
+value_of-tally_of ns q =
+    value_of-tabled (λ m. times m ns) (each_once ns) q ∙ ap (λ (b : Bool). cond {A = Option ℕ} b (Some (times q ns)) None) (list_any-each_once q ns)
+
+module _ (ns : List ℕ) (n : ℕ) where
+  -- the count of n is one more, the others stay
+  tabled-push : (es : List ℕ) → map (λ m. (m, times m (ns ++ n ∷ []))) es ≡ write_value (λ k. k) (map (λ m. (m, times m ns)) es) n (times n ns + 1)
+  tabled-push [] = refl
+  tabled-push (e ∷ es) = elim (cases_eq e n) [
+    | inl same ↦
+        (let t = eq-eqb e n same in
+        let count : times e (ns ++ n ∷ []) ≡ times n ns + 1 =
+        times-push e ns n ∙ ap (λ (b : Bool). times e ns + cond {A = ℕ} b 1 0) (eq-eqb n e (sym same)) ∙ ap (λ k. times k ns + 1) same in
+        simp t (ap (λ k. (e, k) ∷ map (λ m. (m, times m (ns ++ n ∷ []))) es) count ∙ ap (λ xs. (e, times n ns + 1) ∷ xs) (tabled-push es)))
+    | inr apart ↦
+        (let t = ne_eqb e n apart in
+        let count : times e (ns ++ n ∷ []) ≡ times e ns =
+        times-push e ns n ∙ (let z = ap (λ (b : Bool). cond {A = ℕ} b 1 0) (ne_eqb n e (λ same. apart (sym same))) in omega (arith, z)) in
+        simp t (ap (λ k. (e, k) ∷ map (λ m. (m, times m (ns ++ n ∷ []))) es) count ∙ ap (λ xs. (e, times e ns) ∷ xs) (tabled-push es)))
+  ]
+
+  -- a number that is there already counts once more, in its place
+  pub tally_of-push-old : list_any (λ m. m == n) ns ≡ true → tally_of (ns ++ n ∷ []) ≡ write_value (λ k. k) (tally_of ns) n (times n ns + 1)
+  tally_of-push-old there =
+      let same : each_once (ns ++ n ∷ []) ≡ each_once ns = each_once-push ns n ∙ rw there refl in
+      ap (map (λ m. (m, times m (ns ++ n ∷ [])))) same ∙ tabled-push (each_once ns)
+
+  -- a new number stands last, and counts once
+  pub tally_of-push-new : list_any (λ m. m == n) ns ≡ false → tally_of (ns ++ n ∷ []) ≡ tally_of ns ++ (n, 1) ∷ []
+  tally_of-push-new away =
+      let longer : each_once (ns ++ n ∷ []) ≡ each_once ns ++ n ∷ [] = each_once-push ns n ∙ rw away refl in
+      let none : value_of (λ k. k) (tally_of ns) n ≡ None = value_of-tally_of ns n ∙ rw away refl in
+      let count : times n (ns ++ n ∷ []) ≡ 1 =
+      (let z = times-none n ns away in let one = ap (λ (b : Bool). cond {A = ℕ} b 1 0) (eq-eqb n n refl) in let p = times-push n ns n in omega (arith, z, one, p)) in
+      ap (map (λ m. (m, times m (ns ++ n ∷ [])))) longer
+      ∙ map-append (λ m. (m, times m (ns ++ n ∷ []))) (each_once ns) (n ∷ [])
+      ∙ ap (λ xs. xs ++ (n, times n (ns ++ n ∷ [])) ∷ []) (tabled-push (each_once ns) ∙ write_value-unbound (λ k. k) (tally_of ns) n (times n ns + 1) none)
+      ∙ ap (λ k. tally_of ns ++ (n, k) ∷ []) count
+
+-- what is bound is bound where the number is in the list
+pub found : (b : Bool) (t v : ℕ) → ◌≡◌ {A = Option ℕ} (Some v) (cond b (Some t) None) → (b ≡ true) × (v ≡ t)
+found true t v is = (refl, cc)
+found false t v is = cc
+
+pub missing : (b : Bool) (t : ℕ) → ◌≡◌ {A = Option ℕ} None (cond b (Some t) None) → b ≡ false
+missing true t is = cc
+missing false t is = refl
+
+module _ (ns : List ℕ) (n : ℕ) (m o : MapState ℕ ℕ) (tally : IsTally ns m) where
+  -- a map of counts, once that of a bound number was written as one more
+  pub IsTally-written : (v : ℕ) → Some v ≡ value_of (λ k. k) m.walk n → o.walk ≡ write_value (λ k. k) m.walk n (v + 1) → o.capacity ≡ m.capacity → o.factor ≡ m.factor → IsTally (ns ++ n ∷ []) o
+  IsTally-written v bound walk capacity factor =
+      let here = found (list_any (λ k. k == n) ns) (times n ns) v (bound ∙ tally.counts n ∙ value_of-tally_of ns n) in
+      let same : tally_of (ns ++ n ∷ []) ≡ write_value (λ k. k) (tally_of ns) n (v + 1) =
+      tally_of-push-old ns n here.0 ∙ ap (λ k. write_value (λ k. k) (tally_of ns) n (k + 1)) (sym here.1) in
+      record {
+        made = rw same (IsMadeOf-written (λ k. k) (λ k. k < 2 ^ 64) n (v + 1) (tally_of ns) m o tally.made walk capacity factor);
+        counts = λ q.
+            ap (λ W. value_of (λ k. k) W q) walk ∙ value_of-write_value (λ k. k) m.walk n q (v + 1)
+            ∙ ap (λ (w : Option ℕ). cond (q == n) (option_map (λ _. v + 1) w) w) (tally.counts q)
+            ∙ sym (value_of-write_value (λ k. k) (tally_of ns) n q (v + 1)) ∙ sym (ap (λ ps. value_of (λ k. k) ps q) same);
+        len =
+            ap length walk ∙ length-write_value (λ k. k) m.walk n (v + 1) ∙ tally.len
+            ∙ sym (length-write_value (λ k. k) (tally_of ns) n (v + 1)) ∙ sym (ap length same);
+      }
+
+  -- a map of counts, once a number that wasn't bound was inserted
+  pub IsTally-inserted : None ≡ value_of (λ k. k) m.walk n → (IsOutOfRange (λ k. k) m.walk m.capacity m.factor n → ⊥)
+      → IsCapacityAfter (λ k. k) m.walk m.capacity m.factor n o.capacity → o.walk ≡ walk_of (λ k. k) (put_pair (λ k. k) m.walk m.capacity n 1) o.capacity → o.factor ≡ m.factor
+      → IsMap (λ k. k) (λ k. k < 2 ^ 64) o
+      → Updates (λ k. k) m.walk o.walk n (Some 1) → length o.walk ≡ length m.walk + 1 → IsTally (ns ++ n ∷ []) o
+  IsTally-inserted none in_range capacity put same is_map updates len =
+      let unbound : None ≡ value_of (λ k. k) (tally_of ns) n = none ∙ tally.counts n in
+      let away = missing (list_any (λ k. k == n) ns) (times n ns) (unbound ∙ value_of-tally_of ns n) in
+      let longer : tally_of (ns ++ n ∷ []) ≡ tally_of ns ++ (n, 1) ∷ [] = tally_of-push-new ns n away in
+      record {
+        made = rw longer (IsMadeOf-inserted (λ k. k) (λ k. k < 2 ^ 64) (tally_of ns) n 1 m o tally.made in_range capacity put same is_map);
+        counts = λ q. updates.0 q ∙ by_case q unbound (cases_eq q n) ∙ sym (value_of-append (λ k. k) (tally_of ns) ((n, 1) ∷ []) q) ∙ sym (ap (λ ps. value_of (λ k. k) ps q) longer);
+        len = (let more = length-append (tally_of ns) ((n, 1) ∷ []) in let l = ap length longer in let t = tally.len in omega (arith, more, l, t, len));
+      }
+    where
+      beside : (w : Option ℕ) → option_or w None ≡ w
+      beside None = refl
+      beside (Some v) = refl
+
+      by_case : (q : ℕ) → None ≡ value_of (λ k. k) (tally_of ns) n → ◌⊎◌ (q ≡ n) (q ≢ n)
+          → cond (q == n) (Some 1) (value_of (λ k. k) m.walk q) ≡ option_or (value_of (λ k. k) (tally_of ns) q) (value_of (λ k. k) ((n, 1) ∷ []) q)
+      by_case q unbound (inl same) =
+          let t = eq-eqb q n same in let s = eq-eqb n q (sym same) in
+          let gone : value_of (λ k. k) (tally_of ns) q ≡ None = ap (value_of (λ k. k) (tally_of ns)) same ∙ sym unbound in
+          simp (t, s, gone)
+      by_case q unbound (inr apart) =
+          let t = ne_eqb q n apart in let s = ne_eqb n q (λ same. apart (sym same)) in
+          simp (t, s) (tally.counts q ∙ sym (beside (value_of (λ k. k) (tally_of ns) q)))

@@ -1,0 +1,89 @@
+use Rattle.std.proofs.Common.{◌≡◌, ◌^◌, ◌<◌, ◌≤◌, ℕ, List, length, refl, sym, ap, ◌∙◌, arith}
+use Rattle.std.specs.Prelude.{Result, Ok, Err, IsErrAnd, IfErr}
+use Rattle.std.proofs.lemmas.Bool.{lt-ltb, le-ltb}
+use Rattle.intmap.specs.Bindings.{value_of}
+use Rattle.intmap.specs.Figures.{tally_of}
+use Rattle.intmap.specs.Kept.{unkept}
+use Rattle.intmap.specs.Walk.{slot_of, walk_of}
+use Rattle.intmap.specs.declared.kept.Kept.{Kept}
+use Rattle.intmap.specs.declared.refusal.Cause.{Cause}
+use Rattle.intmap.specs.declared.refusal.Cause.TheVariants.{Memory, TooLarge}
+use Rattle.intmap.proofs.CrowdLemmas.{crowds_below, crowds_below-crowded, crowds_below-alone, count-below, size-in_range}
+use Rattle.intmap.proofs.LoadFactorLemmas.{capacity-greatest}
+use Rattle.intmap.proofs.MappedLemmas.{slot_of-with_values, length-with_values}
+use Rattle.intmap.proofs.map.IntMap.collisions.Goals as goal
+use Rattle.intmap.proofs.map.IntMap.collisions.Goals.{After-slot_len-size, then-size-gt1+in_ok-count_once_more, else-size-gt1}
+
+-- a slot has as many pairs, whatever their values are
+slot-len : {K V : Type 0} (number : K → ℕ) (T : List (K × Kept V)) (C i : ℕ) → length (slot_of number T C i) ≡ length (slot_of number (unkept T) C i)
+slot-len number T C i =
+    sym (ap length (slot_of-with_values number (λ (kept : Kept _). kept.value) T C i) ∙ length-with_values number (λ (kept : Kept _). kept.value) (slot_of number T C i))
+
+-- a cause that isn't this one is the other
+memory-otherwise : (cause : Cause) → (cause ≡ TooLarge → ⊥) → cause ≡ Memory
+memory-otherwise Memory not = refl
+memory-otherwise TooLarge not = absurd (not refl)
+
+refused-with : {T : Type 0} (r : Result T Cause) (cause : Cause) → IsErrAnd r (λ to. to ≡ cause) → cause ≡ Memory → IfErr r (λ to. to ≡ Memory)
+refused-with (Ok made) cause same memory = absurd same
+refused-with (Err to) cause same memory = same ∙ memory
+
+module _ (g : _) (c : After-slot_len-size g) where
+  -- the size of the slot, as the map shows it
+  size : c.slot_len-size.result ≡ length (slot_of g.K.IntKey.number_of c.args.self.now.walk c.args.self.now.capacity c.loop-slot.slot)
+  size = c.slot_len-size.ensures ∙ rw (← c.self.view_is) (slot-len g.K.IntKey.number_of c.self.inside.table.walk c.self.inside.table.capacity c.loop-slot.slot)
+
+  -- the slot is one of the map
+  within : c.loop-slot.slot < c.args.self.now.capacity
+  within = rw (← c.self.view_is) (let test = c.loop-slot-test.true in let end = c.capacity-slot-end.ensures.value in omega (arith, test, end))
+
+  most : c.args.self.now.capacity ≤ 2 ^ 63
+  most = rw (← c.self.view_is) (capacity-greatest c.self.inside.table.capacity c.self.invariant.map.capacity)
+
+  -- all pairs are fewer than 2^64
+  fits : length (walk_of g.K.IntKey.number_of c.args.self.now.walk c.args.self.now.capacity) < 2 ^ 64
+  fits = rw (← c.self.view_is) (rw c.self.invariant.map.own c.self.invariant.map.count)
+
+pub count_once_more-requires : goal.count_once_more-requires
+count_once_more-requires g c =
+    let at = (goal.at.count_once_more-requires g c).After-slot_len-size in
+    record {
+      below = λ count. count-below (slot_of g.K.IntKey.number_of c.args.self.now.walk c.args.self.now.capacity) c.args.self.now.capacity c.loop-slot.slot (within g at)
+          c.loop-slot.sizes c.loop-slot.invariant.tally (most g at) c.slot_len-size.result count;
+    }
+
+pub returns-in_err-count_once_more-clause-memory : goal.returns-in_err-count_once_more-clause-memory
+returns-in_err-count_once_more-clause-memory g c =
+    let at = (goal.at.returns-in_err-count_once_more-clause-memory g c).After-slot_len-size in
+    let several = rw (size g at) at (lt-ltb 1 c.slot_len-size.result c.if-size-gt1.true) in
+    let in_range = size-in_range (slot_of g.K.IntKey.number_of c.args.self.now.walk c.args.self.now.capacity) c.args.self.now.capacity c.loop-slot.slot (within g at)
+    c.loop-slot.sizes c.loop-slot.invariant.tally (fits g at) c.loop-slot.invariant.map several in
+    refused-with c.from_residual-in_err-count_once_more.result c.in_err-count_once_more.field-0.0 c.from_residual-in_err-count_once_more.ensures.1
+    (memory-otherwise c.in_err-count_once_more.field-0.0 (λ large.
+    in_range (rw (size g at) at (c.in_err-count_once_more.ensures.too_large large))))
+
+pub loop-slot-preserved : goal.loop-slot-preserved
+loop-slot-preserved g c =
+    let at = (goal.at.loop-slot-preserved g c).After-slot_len-size in
+    let slot = slot_of g.K.IntKey.number_of c.args.self.now.walk c.args.self.now.capacity in
+    elim c.if-size-gt1.branch [
+      | then-size-gt1+in_ok-count_once_more w ↦
+          (let several = rw (size g at) at (lt-ltb 1 c.slot_len-size.result w.if-size-gt1.true) in
+          let counted = w.in_ok-count_once_more.ensures.counted (crowds_below slot c.loop-slot.slot) c.loop-slot.invariant.tally in
+          record {
+            tally = rw (w.sizes-is, crowds_below-crowded slot c.loop-slot.slot several, ← size g at) counted;
+            map = rw w.sizes-is w.in_ok-count_once_more.ensures.map_after;
+          })
+      | else-size-gt1 w ↦
+          (let alone = rw (size g at) at (le-ltb 1 c.slot_len-size.result (let not = w.if-size-gt1.false in omega (arith, not))) in
+          record {
+            tally = rw (w.sizes-is, crowds_below-alone slot c.loop-slot.slot alone) c.loop-slot.invariant.tally;
+            map = rw w.sizes-is c.loop-slot.invariant.map;
+          })
+    ]
+
+pub returns-clause-bindings : goal.returns-clause-bindings
+returns-clause-bindings g c =
+    let end : c.loop-slot.slot ≡ c.args.self.now.capacity =
+    rw (← c.self.view_is) (let test = c.loop-slot-test.false in let last = c.loop-slot.auto.slot-end in let cap = c.capacity-slot-end.ensures.value in omega (arith, test, last, cap)) in
+    λ size. c.loop-slot.invariant.tally.counts size ∙ ap (λ n. value_of (λ k. k) (tally_of (crowds_below (slot_of g.K.IntKey.number_of c.args.self.now.walk c.args.self.now.capacity) n)) size) end

@@ -1,0 +1,102 @@
+//! What a map says of its table: how full it is, and how its pairs lie in it.
+ghost use Rattle.std.specs.Prelude.{◌≡◌, ℕ, ◌-◌, ◌^◌, ◌<◌, true, Some, List, [], ◌∷◌, ◌++◌, IfOk, IfErr, OnOk, length};
+ghost use Rattle.intmap.specs.Bindings.{value_of};
+ghost use Rattle.intmap.specs.Extending.{IsMadeOf};
+ghost use Rattle.intmap.specs.Figures.{IsTally, load_of, rate_of, sizes_of};
+ghost use Rattle.intmap.specs.Map.{IsMap, IsOutOfRange};
+
+use crate::key::IntKey;
+use crate::map::IntMap;
+use crate::refusal::Cause;
+use std::alloc::Allocator;
+
+impl<K: IntKey, V, A: Allocator + Copy> IntMap<K, V, A> {
+    /// The number of slots that hold a pair, which is the number of residues that the keys leave
+    /// modulo the capacity. It counts one bit a slot, a word of 64 at a time, and is never refused.
+    ///
+    /// ```text
+    /// with the keys 0, 4 and 1 in 4 slots it is 2, since 0 and 4 share a slot
+    /// ```
+    pub fn load(&self) -> u64
+        ensures value { result ≡ load_of K.number_of self.now.walk self.now.capacity }
+        ensures map { IsMap K.number_of K.is_key self.now }
+    {
+        self.table.load() as u64
+    }
+
+    /// The pairs to a slot, in thousandths, rounded down. It is never refused.
+    ///
+    /// ```text
+    /// 12 pairs in 128 slots    93
+    /// 16 pairs in 8 slots      2000
+    /// ```
+    pub fn load_rate(&self) -> u128
+        ensures value { result ≡ rate_of self.now.walk self.now.capacity }
+        ensures map { IsMap K.number_of K.is_key self.now }
+    {
+        self.len as u128 * 1000 / self.table.capacity() as u128
+    }
+
+    /// Whether `len` is the number of pairs that the slots hold, as it always is. It goes through
+    /// all pairs to count them, and is never refused.
+    pub fn assert_count(&self) -> bool
+        ensures value { result ≡ true }
+        ensures map { IsMap K.number_of K.is_key self.now }
+    {
+        self.iter().count() == self.len()
+    }
+}
+
+impl<K: IntKey, V: Drop, A: Allocator + Copy> IntMap<K, V, A> {
+    /// How many slots hold two pairs, how many three, and so on: a map of each size above 1 that a
+    /// slot has to the number of slots that have it. The sizes are inserted into a new map as they
+    /// are met first, slot after slot, and so its walk and its capacity follow.
+    ///
+    /// It is refused as [`Cause::Memory`] where memory for that map is, and never else. No key of
+    /// this map is compared; time grows with the number of slots.
+    ///
+    /// ```text
+    /// with the keys 0, 4, 8, 1, 2 and 6 in 4 slots it binds 3 to 1 and 2 to 1
+    /// ```
+    pub fn collisions(&self) -> Result<IntMap<u64, u64, A>, Cause>
+        ensures sizes { IfOk result (IsMadeOf (λ size. size) (λ size. size < 2 ^ 64)
+            (sizes_of K.number_of self.now.walk self.now.capacity)) }
+        ensures bindings { IfOk result (λ made. (size : ℕ) → value_of (λ n. n) made.walk size
+            ≡ value_of (λ n. n) (sizes_of K.number_of self.now.walk self.now.capacity) size) }
+        ensures len { IfOk result (λ made. length made.walk
+            ≡ length (sizes_of K.number_of self.now.walk self.now.capacity)) }
+        ensures memory { IfErr result (λ cause. cause ≡ Cause.Memory) }
+        ensures map { IsMap K.number_of K.is_key self.now }
+        ensures map_after { IfOk result (IsMap (λ size. size) (λ size. size < 2 ^ 64)) }
+    {
+        let mut sizes = IntMap::new(self.table.allocator())?;
+        for slot in 0..self.table.capacity() {
+            let size = self.table.slot_len(slot);
+            if size > 1 {
+                count_once_more(&mut sizes, size as u64)?;
+            }
+        }
+        Ok(sizes)
+    }
+}
+
+/// Adds one to the count of a number, which is 0 where it isn't bound.
+fn count_once_more<A: Allocator + Copy>(
+    counts: &mut IntMap<u64, u64, A>,
+    number: u64,
+) -> Result<(), Cause>
+    requires below { (count : ℕ)
+        → value_of (λ n. n) counts.old.walk number ≡ Some count → count < 2 ^ 64 - 1 }
+    ensures counted { OnOk result
+        ((ns : List ℕ) → IsTally ns counts.old → IsTally (ns ++ number ∷ []) counts.new) }
+    ensures too_large { IfErr result (λ cause. cause ≡ Cause.TooLarge → IsOutOfRange (λ n. n)
+        counts.old.walk counts.old.capacity counts.old.factor number) }
+    ensures map_after { IsMap (λ n. n) (λ n. n < 2 ^ 64) counts.new }
+{
+    if let Some(count) = counts.get_mut(number) {
+        *count += 1;
+        return Ok(());
+    }
+    counts.insert(number, 1)?;
+    Ok(())
+}
