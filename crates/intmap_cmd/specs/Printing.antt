@@ -52,6 +52,7 @@ answer_text (answer.Walk pairs) = pairs_text pairs.items
 answer_text (answer.Keys keys) = numbers_text keys.items
 answer_text (answer.Values values) = numbers_text values.items
 answer_text (answer.Pairs pairs) = pairs_text pairs.items
+answer_text (answer.Sizes sizes) = pairs_text sizes.items
 answer_text (answer.Stopped refused) = stopped_text refused
 answer_text (answer.Refused cause value) = refusal_text cause value
 

@@ -25,9 +25,12 @@ name_of command.Len = codes "len"
 name_of command.IsEmpty = codes "is_empty"
 name_of command.Capacity = codes "capacity"
 name_of command.Load = codes "load"
+name_of command.LoadRate = codes "load_rate"
+name_of command.AssertCount = codes "assert_count"
 name_of command.Walk = codes "walk"
 name_of command.Keys = codes "keys"
 name_of command.Values = codes "values"
+name_of command.Collisions = codes "collisions"
 
 -- the keys and values of pairs in turn
 abbrev pub keys_and_values : List (ℕ × ℕ) → List ℕ
@@ -54,9 +57,12 @@ numbers_of command.Len = []
 numbers_of command.IsEmpty = []
 numbers_of command.Capacity = []
 numbers_of command.Load = []
+numbers_of command.LoadRate = []
+numbers_of command.AssertCount = []
 numbers_of command.Walk = []
 numbers_of command.Keys = []
 numbers_of command.Values = []
+numbers_of command.Collisions = []
 
 -- this name and these numbers are the words of the command
 abbrev pub IsSpelled : {A : Type 0} → List ℕ → List ℕ → Command ℕ ℕ A → Type 0

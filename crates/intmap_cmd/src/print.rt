@@ -37,7 +37,9 @@ fn print_answer<A: Allocator>(
         Answer::Flag(true) => out.push_str("true"),
         Answer::Flag(false) => out.push_str("false"),
         Answer::Number(number) => write!(out, "{number}"),
-        Answer::Walk(pairs) | Answer::Pairs(pairs) => print_pairs(out, pairs.as_slice()),
+        Answer::Walk(pairs) | Answer::Pairs(pairs) | Answer::Sizes(pairs) => {
+            print_pairs(out, pairs.as_slice())
+        }
         Answer::Keys(numbers) | Answer::Values(numbers) => print_numbers(out, numbers.as_slice()),
         Answer::Stopped(refused) => print_stopped(out, refused),
         Answer::Refused { cause, value } => print_refusal(out, *cause, *value),

@@ -33,12 +33,18 @@ pub fn bare<A: Allocator>(name: &[u8]) -> Option<Command<u64, u64, A>>
         Some(Command::Capacity)
     } else if is(name, b"load") {
         Some(Command::Load)
+    } else if is(name, b"load_rate") {
+        Some(Command::LoadRate)
+    } else if is(name, b"assert_count") {
+        Some(Command::AssertCount)
     } else if is(name, b"walk") {
         Some(Command::Walk)
     } else if is(name, b"keys") {
         Some(Command::Keys)
     } else if is(name, b"values") {
         Some(Command::Values)
+    } else if is(name, b"collisions") {
+        Some(Command::Collisions)
     } else {
         None
     }

@@ -2,8 +2,10 @@
 
 use crate::built::{with_many_pairs, with_other, with_pairs, with_squares};
 use crate::entries::{with_entry, with_reference};
+use crate::figures::figure;
+use crate::items::{insert_checked_items, insert_items};
 use crate::iterated::{through_all, through_front};
-use crate::many::{Insertion, Keys, get_many, insert_many, remove_many, walk_sum};
+use crate::many::{Insertion, Keys, Search, find_many, insert_many, keys_sum, values_sum, walk_sum};
 use crate::maps::{MapOf, Maps};
 use crate::retained::retain;
 use crate::runs::run_many;
@@ -60,6 +62,8 @@ fn bare(alloc: Global, maps: &mut Maps<'_>, name: &str) -> Result<String, AllocE
         "left" => number_text(alloc, maps.memory.left() as u128),
         "values" => values_text(alloc, &maps.map),
         "walk_sum" => walk_sum(alloc, &maps.map),
+        "keys_sum" => keys_sum(alloc, &maps.map),
+        "values_sum" => values_sum(alloc, &maps.map),
         _ => match with_other(alloc, maps, name)? {
             Some(answer) => Ok(answer),
             None => through_all(alloc, maps, name),
@@ -92,12 +96,11 @@ pub fn seen<K: IntKey + Display>(
         "len" => number_text(alloc, map.len() as u128),
         "is_empty" => bool_text(alloc, map.is_empty()),
         "capacity" => number_text(alloc, map.capacity() as u128),
-        "load" => number_text(alloc, map.load() as u128),
         "get_load_factor" => number_text(alloc, map.get_load_factor() as u128),
         "walk" => walk_text(alloc, map),
         "keys" => keys_text(alloc, map),
         "state" => state_text(alloc, map),
-        _ => no_call(alloc),
+        _ => figure(alloc, map, name),
     }
 }
 
@@ -119,6 +122,12 @@ fn with_number(
         }
         "reserve" => done_text(alloc, maps.map.reserve(number as usize)),
         "set_load_factor" => done_text(alloc, maps.map.set_load_factor(number as usize)),
+        "retain_above" => {
+            maps.map.retain(|key, _| key > number);
+            done_text(alloc, Ok(()))
+        }
+        "insert_items" => insert_items(alloc, maps.memory, number),
+        "insert_checked_items" => insert_checked_items(alloc, maps.memory, number),
         _ => match with_squares(alloc, maps, name, number)? {
             Some(answer) => Ok(answer),
             None => through_front(alloc, maps, name, number),
@@ -182,10 +191,23 @@ fn with_keys(
         "insert_checked_many" => insert_many(alloc, &mut maps.map, Insertion::Checked, keys),
         "entry_insert_many" => insert_many(alloc, &mut maps.map, Insertion::ByEntry, keys),
         "or_insert_many" => insert_many(alloc, &mut maps.map, Insertion::OrInsert, keys),
-        "get_many" => number_text(alloc, get_many(&maps.map, keys) as u128),
-        "remove_many" => number_text(alloc, remove_many(&mut maps.map, keys) as u128),
         "run_many" => run_many(alloc, maps.memory, &mut maps.map, "insert", keys),
         "run_entries_many" => run_many(alloc, maps.memory, &mut maps.map, "entry_insert", keys),
-        _ => with_many_pairs(alloc, maps, name, keys),
+        _ => match search_of(name) {
+            Some(search) => number_text(alloc, find_many(&mut maps.map, search, keys) as u128),
+            None => with_many_pairs(alloc, maps, name, keys),
+        },
+    }
+}
+
+// how a call with many keys looks for each
+fn search_of(name: &str) -> Option<Search> {
+    match name {
+        "get_many" => Some(Search::Get),
+        "get_mut_many" => Some(Search::GetMut),
+        "contains_many" => Some(Search::ContainsKey),
+        "remove_many" => Some(Search::Remove),
+        "entry_remove_many" => Some(Search::EntryRemove),
+        _ => None,
     }
 }

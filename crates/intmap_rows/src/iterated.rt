@@ -54,6 +54,8 @@ pub fn through_front(
         "iter_mut" => written(alloc, &mut maps.map, count, End::Dropped),
         "iter_mut_forget" => written(alloc, &mut maps.map, count, End::Forgotten),
         "values_mut" => number_text(alloc, u128::from(add_to_values(&mut maps.map, count))),
+        "iter_mut_add" => number_text(alloc, u128::from(add_by_pairs(&mut maps.map, count))),
+        "values_mut_add" => number_text(alloc, u128::from(add_by_values(&mut maps.map, count))),
         "for_each_add" => add_to_each(&mut maps.map, count).text(alloc),
         _ => with_key(alloc, &mut maps.map, name, count),
     }
@@ -136,6 +138,26 @@ fn add_to_values(map: &mut Map<'_>, count: u64) -> u64 {
         *value = value.wrapping_add(place);
     }
     place
+}
+
+// adds so much to each value, wrapped to 64 bits, by the pairs; answers how many there were
+fn add_by_pairs(map: &mut Map<'_>, more: u64) -> u64 {
+    let mut count = 0u64;
+    for (_, value) in map.iter_mut() {
+        *value = value.wrapping_add(more);
+        count = count.wrapping_add(1);
+    }
+    count
+}
+
+// does the same by the values alone
+fn add_by_values(map: &mut Map<'_>, more: u64) -> u64 {
+    let mut count = 0u64;
+    for value in map.values_mut() {
+        *value = value.wrapping_add(more);
+        count = count.wrapping_add(1);
+    }
+    count
 }
 
 // takes the map away, and leaves one as `new` makes it

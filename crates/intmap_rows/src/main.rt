@@ -9,6 +9,8 @@ mod built;
 mod call;
 mod cell;
 mod entries;
+mod figures;
+mod items;
 mod iterated;
 mod kinds;
 mod many;

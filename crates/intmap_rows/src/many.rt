@@ -101,28 +101,52 @@ pub fn insert_many(
     format!(in alloc; "{new} new{changes}")
 }
 
-/// How many of the keys are bound to ten more.
-pub fn get_many(map: &Map<'_>, keys: Keys) -> u64 {
+/// How a key is looked for.
+#[derive(Clone, Copy)]
+pub enum Search {
+    /// By reference.
+    Get,
+    /// By a reference that may write.
+    GetMut,
+    /// Whether it is bound, whatever to.
+    ContainsKey,
+    /// It is taken out.
+    Remove,
+    /// It is taken out by its entry.
+    EntryRemove,
+}
+
+impl Search {
+    // whether the key is found, bound to ten more
+    fn finds(self, map: &mut Map<'_>, key: u64) -> bool {
+        let found = match self {
+            Search::Get => map.get(key).copied(),
+            Search::GetMut => map.get_mut(key).copied(),
+            Search::ContainsKey => return map.contains_key(key),
+            Search::Remove => map.remove(key),
+            Search::EntryRemove => remove_by_entry(map, key),
+        };
+        found == Some(value_of(key))
+    }
+}
+
+// takes the key out by its entry
+fn remove_by_entry(map: &mut Map<'_>, key: u64) -> Option<u64> {
+    match map.entry(key) {
+        Entry::Occupied(entry) => Some(entry.remove()),
+        Entry::Vacant(_) => None,
+    }
+}
+
+/// How many of the keys are found.
+pub fn find_many(map: &mut Map<'_>, search: Search, keys: Keys) -> u64 {
     let mut found = 0u64;
     for place in 0..keys.count {
-        let key = keys.at(place);
-        if map.get(key).copied() == Some(value_of(key)) {
+        if search.finds(map, keys.at(place)) {
             found = found.wrapping_add(1);
         }
     }
     found
-}
-
-/// Takes the keys out. Answers how many were bound to ten more.
-pub fn remove_many(map: &mut Map<'_>, keys: Keys) -> u64 {
-    let mut taken = 0u64;
-    for place in 0..keys.count {
-        let key = keys.at(place);
-        if map.remove(key) == Some(value_of(key)) {
-            taken = taken.wrapping_add(1);
-        }
-    }
-    taken
 }
 
 /// How many pairs there were, and a sum that tells their order: it begins at 0, and the number of
@@ -159,6 +183,24 @@ pub fn walk_sum(alloc: Global, map: &Map<'_>) -> Result<String, AllocError> {
     let mut seen = WalkSum::new();
     for (key, value) in map.iter() {
         seen.add(*key, *value);
+    }
+    seen.text(alloc)
+}
+
+/// The same of the keys of the walk, each with 0.
+pub fn keys_sum(alloc: Global, map: &Map<'_>) -> Result<String, AllocError> {
+    let mut seen = WalkSum::new();
+    for key in map.keys() {
+        seen.add(*key, 0);
+    }
+    seen.text(alloc)
+}
+
+/// The same of the values of the walk, each behind 0.
+pub fn values_sum(alloc: Global, map: &Map<'_>) -> Result<String, AllocError> {
+    let mut seen = WalkSum::new();
+    for value in map.values() {
+        seen.add(0, *value);
     }
     seen.text(alloc)
 }

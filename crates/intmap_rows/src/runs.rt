@@ -69,9 +69,12 @@ fn bare<'a>(name: &str) -> Option<CommandOf<'a>> {
         "retain" => Some(Command::Retain),
         "capacity" => Some(Command::Capacity),
         "load" => Some(Command::Load),
+        "load_rate" => Some(Command::LoadRate),
+        "assert_count" => Some(Command::AssertCount),
         "walk" => Some(Command::Walk),
         "keys" => Some(Command::Keys),
         "values" => Some(Command::Values),
+        "collisions" => Some(Command::Collisions),
         _ => None,
     }
 }
@@ -188,7 +191,9 @@ fn text_of(
         Answer::Done => done_text(alloc, Ok(())),
         Answer::Flag(is_so) => bool_text(alloc, *is_so),
         Answer::Number(number) => number_text(alloc, *number),
-        Answer::Walk(pairs) | Answer::Pairs(pairs) => pairs_text(alloc, pairs.as_slice()),
+        Answer::Walk(pairs) | Answer::Pairs(pairs) | Answer::Sizes(pairs) => {
+            pairs_text(alloc, pairs.as_slice())
+        }
         Answer::Keys(items) | Answer::Values(items) => list_text(alloc, items.as_slice()),
         Answer::Stopped(refused) => stopped_text(alloc, refused),
         Answer::Refused { cause, value } => refusal_text(alloc, *cause, *value),

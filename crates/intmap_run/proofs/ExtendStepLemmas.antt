@@ -1,5 +1,5 @@
 -- Insertions of several pairs in turn are one step of every list that stands for the map.
-use Rattle.std.proofs.Common.{◌≡◌, inl, inr, ℕ, ◌+◌, ◌<◌, ◌≤◌, ◌-◌, ◌^◌, Bool, List, [], ◌∷◌, ◌++◌, length, Some, None, refl, sym, ap, ◌∙◌, add-zero, add_assoc, arith}
+use Rattle.std.proofs.Common.{◌≡◌, inl, inr, ℕ, ◌+◌, ◌<◌, ◌≤◌, ◌-◌, ◌^◌, Bool, List, [], ◌∷◌, ◌++◌, length, Some, refl, sym, ap, ◌∙◌, add-zero, add_assoc, arith}
 use Rattle.std.specs.Prelude.{◌==◌, cond, min}
 use Rattle.std.specs.Iterator.{Yields, YieldsThen}
 use Rattle.std.specs.Vec.Iter.{into_iter_items, into_iter_steps}
@@ -21,15 +21,15 @@ use Rattle.intmap_run.proofs.StepLemmas.{accepted, may}
 
 module _ {K V : Type 0} (number : K → ℕ) (is_key : K → Type 0) where
   -- what accepted insertions in turn leave of list and map
-  record AllAccepted (m : MapState K V) (ps : List (K × V)) (n : MapState K V) (s t : State K V) : Type 0 where
-    inserts : InsertsAll number s ps t
-    stands : Stands number t n
+  pub record AllAccepted (m : MapState K V) (ps : List (K × V)) (n : MapState K V) (s t : State K V) : Type 0 where
+    pub inserts : InsertsAll number s ps t
+    pub stands : Stands number t n
     compared : n.compared ≡ m.compared + insertion_comparisons number s ps t inserts
     placed : n.placed ≡ m.placed + insertion_placements number s ps t inserts
     map : IsMap number is_key n
 
   -- they leave a list with the pairs put in
-  all_accepted : (m : MapState K V) (ps : List (K × V)) (n : MapState K V) → IsMap number is_key m → AreInserted number is_key m ps n
+  pub all_accepted : (m : MapState K V) (ps : List (K × V)) (n : MapState K V) → IsMap number is_key m → AreInserted number is_key m ps n
       → (s : State K V) → Stands number s m → (t : State K V) × AllAccepted m ps n s t
   all_accepted m [] n is_map is s stands = (
     s,

@@ -10,3 +10,4 @@ pub mod GrowthStepLemmas
 pub mod RunLemmas
 pub mod ZipLemmas
 pub mod JoinLemmas
+pub mod CollisionStepLemmas

@@ -235,9 +235,12 @@ module _ {K V S A : Type 0} (number : K → ℕ) (sees : V → S → Type 0) (ke
   kind s command.IsEmpty a t h = inr (inr (Keeps-same s command.IsEmpty a t _ refl (ap (λ x. x.capacity) h.1) (ap (λ x. x.factor) h.1)))
   kind s command.Capacity a t h = inr (inr (Keeps-same s command.Capacity a t _ refl (ap (λ x. x.capacity) h.1) (ap (λ x. x.factor) h.1)))
   kind s command.Load a t h = inr (inr (Keeps-same s command.Load a t _ refl (ap (λ x. x.capacity) h.1) (ap (λ x. x.factor) h.1)))
+  kind s command.LoadRate a t h = inr (inr (Keeps-same s command.LoadRate a t _ refl (ap (λ x. x.capacity) h.1) (ap (λ x. x.factor) h.1)))
+  kind s command.AssertCount a t h = inr (inr (Keeps-same s command.AssertCount a t _ refl (ap (λ x. x.capacity) h.1) (ap (λ x. x.factor) h.1)))
   kind s command.Walk a t h = inr (inr (Keeps-same s command.Walk a t _ refl (ap (λ x. x.capacity) h.1) (ap (λ x. x.factor) h.1)))
   kind s command.Keys a t h = inr (inr (Keeps-same s command.Keys a t _ refl (ap (λ x. x.capacity) h.1) (ap (λ x. x.factor) h.1)))
   kind s command.Values a t h = inr (inr (Keeps-same s command.Values a t _ refl (ap (λ x. x.capacity) h.1) (ap (λ x. x.factor) h.1)))
+  kind s command.Collisions a t h = inr (inr (Keeps-same s command.Collisions a t _ refl (ap (λ x. x.capacity) h.1) (ap (λ x. x.factor) h.1)))
 
   -- a run is at least as long as its start
   greatest_length-start : (s : State K V) (cs : List (Command K V A)) (as' : List (Answer K V S A)) (t : State K V) (run : Runs number sees keeps s cs as' t)

@@ -8,7 +8,7 @@ use Rattle.intmap.specs.Bindings.{value_of, take_key, put_pair}
 use Rattle.intmap.specs.Classes.{IsCapacity}
 use Rattle.intmap.specs.Reach.{class_size, reach}
 use Rattle.intmap.specs.Growth.{IsNext}
-use Rattle.intmap.specs.Figures.{load_of}
+use Rattle.intmap.specs.Figures.{load_of, rate_of}
 use Rattle.intmap.specs.Map.{MapState, IsMap, IsOutOfRange, IsCapacityAfter, after_search, after_insert, after_remove, emptied}
 use Rattle.intmap.specs.States.{State, Stands, Inserts, MayRefuse}
 use Rattle.intmap.specs.declared.refusal.Cause.{Cause}
@@ -216,7 +216,17 @@ module _ {K V S A : Type 0} (number : K → ℕ) (is_key : K → Type 0) (m : Ma
       Step-same number sees keeps m s command.Load (answer.Number (load_of number m.walk m.capacity))
       (ap (λ n. answer.Number n) (sym (load_of-stands is_map stands)), refl) stands refl refl
 
+  -- the pairs to a slot
+  pub StepsFrom-load_rate : StepsFrom {A = A} number sees keeps m command.LoadRate (answer.Number (rate_of m.walk m.capacity)) m
+  StepsFrom-load_rate s stands =
+      Step-same number sees keeps m s command.LoadRate (answer.Number (rate_of m.walk m.capacity))
+      (rw (length-stands is_map stands, stands.capacity) refl, refl) stands refl refl
+
 module _ {K V S A : Type 0} (number : K → ℕ) (sees : V → S → Type 0) (keeps : K → V → Bool) (m : MapState K V) where
+  -- whether the pairs are as many as their number says
+  pub StepsFrom-assert_count : StepsFrom {A = A} number sees keeps m command.AssertCount (answer.Flag true) m
+  StepsFrom-assert_count s stands = Step-same number sees keeps m s command.AssertCount (answer.Flag true) (refl, refl) stands refl refl
+
   -- a look at the value of each pair of the walk
   pub StepsFrom-walk : (seen : Vec (K × S) A) → AllZip (SeesPair sees) m.walk seen.items
       → StepsFrom {A = A} number sees keeps m command.Walk (answer.Walk seen) m

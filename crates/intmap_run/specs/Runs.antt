@@ -7,9 +7,9 @@ use Rattle.std.specs.declared.vec.Vec.{Vec}
 use Rattle.intmap.specs.Bindings.{value_of, take_key, write_value, keep_pairs, strike_keys}
 use Rattle.intmap.specs.Walk.{walk_of, first_of_walk}
 use Rattle.intmap.specs.Reach.{reach}
-use Rattle.intmap.specs.Figures.{load_of}
+use Rattle.intmap.specs.Figures.{load_of, rate_of, sizes_of}
 use Rattle.intmap.specs.Map.{MapState}
-use Rattle.intmap.specs.States.{State, Stands, Inserts, InsertsAll, InsertsUpTo, MayRefuse}
+use Rattle.intmap.specs.States.{State, empty_state, Stands, Inserts, InsertsAll, InsertsUpTo, MayRefuse}
 use Rattle.intmap.specs.declared.refusal.Cause.{Cause}
 use Rattle.intmap.specs.declared.refusal.Cause.TheVariants.{Memory}
 use Rattle.intmap.specs.declared.refusal.RefusedPair.{RefusedPair}
@@ -139,6 +139,15 @@ module _ {K V S A : Type 0} (number : K → ℕ) (sees : V → S → Type 0) (ke
       × (t ≡ record s { pairs = strike_keys number s.pairs (keys_of pairs.items) }))
       ⊎ ((a ≡ answer.Refused Memory None) × (t ≡ s))
 
+  -- the sizes above 1 of slots are answered, as the walk of a list into which they were inserted in turn, from no pairs in 4
+  -- slots on, each with the number of slots that have it, or the command is refused for want of memory
+  abbrev pub AnswersCollisions : State K V → Answer K V S A → Type 0
+  AnswersCollisions s a =
+      ((sizes : Vec (ℕ × ℕ) A) × (a ≡ answer.Sizes sizes)
+      × (u : State ℕ ℕ) × InsertsAll (λ n. n) (empty_state 4) (sizes_of number s.pairs s.capacity) u
+      × (sizes.items ≡ walk_of (λ n. n) u.pairs u.capacity))
+      ⊎ (a ≡ answer.Refused Memory None)
+
   -- from the list s a command may answer a and leave the list t
   abbrev pub Answers : State K V → Command K V A → Answer K V S A → State K V → Type 0
   Answers s (command.Insert k v) a t = AnswersInsert s k v a t
@@ -163,9 +172,12 @@ module _ {K V S A : Type 0} (number : K → ℕ) (sees : V → S → Type 0) (ke
   Answers s command.IsEmpty a t = (a ≡ answer.Flag (length s.pairs == 0)) × (t ≡ s)
   Answers s command.Capacity a t = (a ≡ answer.Number s.capacity) × (t ≡ s)
   Answers s command.Load a t = (a ≡ answer.Number (load_of number s.pairs s.capacity)) × (t ≡ s)
+  Answers s command.LoadRate a t = (a ≡ answer.Number (rate_of s.pairs s.capacity)) × (t ≡ s)
+  Answers s command.AssertCount a t = (a ≡ answer.Flag true) × (t ≡ s)
   Answers s command.Walk a t = AnswersWalk s a × (t ≡ s)
   Answers s command.Keys a t = AnswersKeys s a × (t ≡ s)
   Answers s command.Values a t = AnswersValues s a × (t ≡ s)
+  Answers s command.Collisions a t = AnswersCollisions s a × (t ≡ s)
 
   -- the keys that a command compares in a step from the list s
   abbrev pub comparisons_of : (s : State K V) (c : Command K V A) (a : Answer K V S A) (t : State K V) → Answers s c a t → ℕ

@@ -16,9 +16,10 @@ pub enum Answer<K, V, S, A: Allocator = Global> {
     Fresh,
     /// It was done, and there is nothing to hand back.
     Done,
-    /// Whether it is so: that the key is bound, that it was new, or that there is no pair.
+    /// Whether it is so: that the key is bound, that it was new, that there is no pair, or that the
+    /// pairs are as many as `len` says.
     Flag(bool),
-    /// A number of pairs or slots, or a load factor in thousandths.
+    /// A number of pairs or slots, or a load factor or the pairs to a slot in thousandths.
     Number(u128),
     /// Each key of the walk, in its order, with what the judge sees of its value.
     Walk(Vec<(K, S), A>),
@@ -28,6 +29,8 @@ pub enum Answer<K, V, S, A: Allocator = Global> {
     Values(Vec<S, A>),
     /// The pairs that were taken out, in the order of the walk.
     Pairs(Vec<(K, V), A>),
+    /// Each number of pairs above 1 that a slot holds, with the number of slots that hold so many.
+    Sizes(Vec<(u64, u64), A>),
     /// The first of several pairs that was refused, with its cause and the number of those before
     /// it, which were put in.
     Stopped(RefusedPair<K, V>),

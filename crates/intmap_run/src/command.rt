@@ -72,6 +72,11 @@ pub enum Command<K, V, A: Allocator = Global> {
     Capacity,
     /// `load`: answers the `Number` of slots that hold a pair.
     Load,
+    /// `load_rate`: answers the `Number` of thousandths that pairs to a slot are, rounded down.
+    LoadRate,
+    /// `assert_count`: counts the pairs that the slots hold, and answers `Flag` of whether `len` is
+    /// their number, as it always is.
+    AssertCount,
     /// `iter`: answers `Walk` of all pairs, slot by slot.
     ///
     /// Refused as `Memory` where there is no room for the list, before a value is looked at.
@@ -84,4 +89,8 @@ pub enum Command<K, V, A: Allocator = Global> {
     ///
     /// Refused as `Memory` where there is no room for the list, before a value is looked at.
     Values,
+    /// `collisions`: answers `Sizes` of the walk of the map that it makes.
+    ///
+    /// Refused as `Memory` where memory for that map or for the list is.
+    Collisions,
 }

@@ -15,7 +15,7 @@ use crate::judge::Judge;
 use crate::runner::entries::{entry_insert, entry_remove};
 use crate::runner::extend::extend;
 use crate::runner::keep::keep_all;
-use crate::runner::lists::{drain, keys, values, walk};
+use crate::runner::lists::{collisions, drain, keys, values, walk};
 use intmap::{Cause, IntKey, IntMap, Refused};
 use std::alloc::Allocator;
 use std::mem;
@@ -29,11 +29,11 @@ use std::mem;
 /// The map's `compared` rises by the keys that `Insert`, `InsertChecked`, `GetMut`, `Remove`,
 /// `EntryInsert`, `EntryRemove` and the pairs of `Extend` compare, refused ones too; the other
 /// commands leave it. Its `placed` rises by the length after each `Insert`, `InsertChecked`,
-/// `EntryInsert` or pair of `Extend` that changed the capacity, and by nothing else: in all by at most three times the greatest length of the run
-/// where no load factor was set, and by as much again for each that was. At the end the capacity is
-/// that of the start, or one that an accepted `Reserve` or `SetLoadFactor` left, or a capacity C
-/// with `(F + 1) * C <= 2000 * length`, where F is the load factor then, in thousandths, and length
-/// the greatest length.
+/// `EntryInsert` or pair of `Extend` that changed the capacity, and by nothing else: in all by at
+/// most three times the greatest length of the run where no load factor was set, and by as much
+/// again for each that was. At the end the capacity is that of the start, or one that an accepted
+/// `Reserve` or `SetLoadFactor` left, or a capacity C with `(F + 1) * C <= 2000 * length`, where F
+/// is the load factor then, in thousandths, and length the greatest length.
 ///
 /// Err: there was no room for the answers; the commands come back, and the map is as it was.
 ///
@@ -120,9 +120,12 @@ fn apply<K: IntKey, V: Drop, J: Judge<K, V>, A: Allocator + Copy>(
         Command::IsEmpty => Answer::Flag(map.is_empty()),
         Command::Capacity => Answer::Number(map.capacity() as u128),
         Command::Load => Answer::Number(map.load() as u128),
+        Command::LoadRate => Answer::Number(map.load_rate()),
+        Command::AssertCount => Answer::Flag(map.assert_count()),
         Command::Walk => walk(alloc, map, judge),
         Command::Keys => keys::<K, V, J, A>(alloc, map),
         Command::Values => values(alloc, map, judge),
+        Command::Collisions => collisions::<K, V, J, A>(alloc, map),
     }
 }
 

@@ -49,13 +49,16 @@ fn show(alloc: Global, line: &[u8]) -> Shown {
         Line::Command(Command::IsEmpty) => Shown::Bare("is_empty"),
         Line::Command(Command::Capacity) => Shown::Bare("capacity"),
         Line::Command(Command::Load) => Shown::Bare("load"),
+        Line::Command(Command::LoadRate) => Shown::Bare("load_rate"),
+        Line::Command(Command::AssertCount) => Shown::Bare("assert_count"),
         Line::Command(Command::Walk) => Shown::Bare("walk"),
         Line::Command(Command::Keys) => Shown::Bare("keys"),
         Line::Command(Command::Values) => Shown::Bare("values"),
+        Line::Command(Command::Collisions) => Shown::Bare("collisions"),
     }
 }
 
-const COMMANDS: [(&[u8], Shown); 33] = [
+const COMMANDS: [(&[u8], Shown); 39] = [
     (b"insert 21 42", Shown::Pair("insert", 21, 42)),
     (
         b"insert_checked 21 42",
@@ -72,6 +75,9 @@ const COMMANDS: [(&[u8], Shown); 33] = [
     (b"get_load_factor", Shown::Bare("get_load_factor")),
     (b"entry_insert 21 42", Shown::Pair("entry_insert", 21, 42)),
     (b"entry_remove 21", Shown::Key("entry_remove", 21)),
+    (b"extend", Shown::Pairs("extend", 0)),
+    (b"extend 0 10", Shown::Pairs("extend", 1)),
+    (b"extend 0 10 4 14 8 18", Shown::Pairs("extend", 3)),
     (b"drain 9", Shown::Key("drain", 9)),
     (
         b"drain 18446744073709551615",
@@ -81,9 +87,12 @@ const COMMANDS: [(&[u8], Shown); 33] = [
     (b"is_empty", Shown::Bare("is_empty")),
     (b"capacity", Shown::Bare("capacity")),
     (b"load", Shown::Bare("load")),
+    (b"load_rate", Shown::Bare("load_rate")),
+    (b"assert_count", Shown::Bare("assert_count")),
     (b"walk", Shown::Bare("walk")),
     (b"keys", Shown::Bare("keys")),
     (b"values", Shown::Bare("values")),
+    (b"collisions", Shown::Bare("collisions")),
     (b"  get   1  ", Shown::Key("get", 1)),
     (b"   insert     7    8 ", Shown::Pair("insert", 7, 8)),
     (b"get 1\r", Shown::Key("get", 1)),
@@ -126,7 +135,9 @@ const WORDS: &[u8] = b"Get 1\nGET 1\nlEn\nWalk\nle\nlens\nlen.\nget1\n1\n1 get\n
     insert_checked 1\ncontains_key\nclear 1\nget_mut 1\nget_mut 1 2 3\nretain 1\nretain 1 2\n\
     entry_insert 1\nentry_insert 1 2 3\nentry_remove\nentry_remove 1 2\nentry 1\nentry_insert\n\
     is_empty 0\nempty\ndrain\ndrain 1 2\ndrain all\nkeys 1\nkeys 1 2\nvalues 0\nvalue\nkey\n\
-    len 0\nlen len\ncapacity 4\nload 1 2\nwalk x\nwalk 1 2 3\nget len";
+    len 0\nlen len\ncapacity 4\nload 1 2\nload_rate 0\nassert_count 1\nassert count\n\
+    collisions 4\ncollision\nextend 1\nextend 1 2 3\nextend x\nextend 1 x\nextend 01 2\n\
+    extends 1 2\nwalk x\nwalk 1 2 3\nget len";
 
 /// Numbers that are not canonical, or too great.
 const NUMBERS: &[u8] = b"get 01\nget 00\nget 000\nget 007\ninsert 1 02\ninsert 01 2\n\

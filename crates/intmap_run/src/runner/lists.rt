@@ -1,8 +1,10 @@
 //! Commands that answer a list. The room for it is taken before the map is touched.
-ghost use Rattle.std.specs.Prelude.{◌≡◌, take, drop, None, IfOk, OnErr};
+ghost use Rattle.std.specs.Prelude.{◌≡◌, ℕ, ◌^◌, ◌<◌, take, drop, None, IfOk, OnErr};
 ghost use Rattle.std.specs.List.{AllZip};
 ghost use Rattle.std.specs.Map.{keys_of, values_of};
-ghost use Rattle.intmap.specs.Map.{IsMap};
+ghost use Rattle.intmap.specs.Extending.{IsMadeOf};
+ghost use Rattle.intmap.specs.Figures.{sizes_of};
+ghost use Rattle.intmap.specs.Map.{MapState, IsMap};
 ghost use Rattle.intmap.specs.Passing.{with_walk};
 ghost use Rattle.intmap.specs.declared.refusal.Cause.TheVariants.{Memory};
 ghost use Rattle.intmap_run.specs.declared.command.Command.TheVariants as command;
@@ -87,6 +89,21 @@ pub(crate) fn drain<K: IntKey, V: Drop, J: Judge<K, V>, A: Allocator + Copy>(
     }
 }
 
+/// The answer of the sizes of slots, whatever the judge is.
+pub(crate) fn collisions<K: IntKey, V: Drop, J: Judge<K, V>, A: Allocator + Copy>(
+    alloc: A,
+    map: &IntMap<K, V, A>,
+) -> Answer<K, V, J::Seen, A>
+    ensures step { (judge : J) → StepsFrom K.number_of (J.sees judge) (J.keeps judge)
+        map.now command.Collisions result map.now }
+    ensures map { IsMap K.number_of K.is_key map.now }
+{
+    match all_sizes(alloc, map) {
+        Ok(sizes) => Answer::Sizes(sizes),
+        Err(_) => no_room(),
+    }
+}
+
 /// Each key of the walk with what the judge sees of its value. Err: there was no room for them.
 fn look_all<K: IntKey, V: Drop, J: Judge<K, V>, A: Allocator + Copy>(
     alloc: A,
@@ -159,4 +176,24 @@ fn take_front<K: IntKey, V: Drop, A: Allocator + Copy>(
         pairs.push_reserved(pair);
     }
     Ok(pairs)
+}
+
+/// The walk of the sizes of slots. Err: there was no memory for the map of them, or no room for
+/// its walk.
+fn all_sizes<K: IntKey, V: Drop, A: Allocator + Copy>(
+    alloc: A,
+    map: &IntMap<K, V, A>,
+) -> Result<Vec<(u64, u64), A>, Cause>
+    ensures ok { IfOk result (λ sizes. (made : MapState ℕ ℕ)
+        × IsMadeOf (λ n. n) (λ n. n < 2 ^ 64) (sizes_of K.number_of map.now.walk map.now.capacity)
+        made
+        × (sizes.items ≡ made.walk)) }
+    ensures map { IsMap K.number_of K.is_key map.now }
+{
+    let mut sizes = map.collisions()?;
+    let count = sizes.len();
+    match take_front(alloc, &mut sizes, count) {
+        Ok(pairs) => Ok(pairs),
+        Err(_) => Err(Cause::Memory),
+    }
 }

@@ -38,6 +38,14 @@ impl List {
         Some(self.pairs.swap_remove(place).1)
     }
 
+    // the one size of several pairs, in braces
+    fn crowd_of(&self, alloc: Global) -> Result<String, AllocError> {
+        match self.pairs.len() {
+            0 | 1 => String::from_str(alloc, "{}"),
+            size => format!(in alloc; "{{{size}: 1}}"),
+        }
+    }
+
     /// Does what a command asks, unless memory was refused to it, and answers its line.
     pub fn apply(
         &mut self,
@@ -55,6 +63,7 @@ impl List {
             | Command::Walk
             | Command::Keys
             | Command::Values
+            | Command::Collisions
             | Command::Drain(_)
                 if is_refused => { String::from_str(alloc, "refused: memory") }
             Command::Insert(key, value) => {
@@ -99,7 +108,11 @@ impl List {
             Command::IsEmpty => format!(in alloc; "{}", self.pairs.is_empty()),
             Command::Len => format!(in alloc; "{}", self.pairs.len()),
             Command::Load => format!(in alloc; "{}", self.pairs.len().min(1)),
-            Command::Extend(_) | Command::Capacity => String::from_str(alloc, "not asked"),
+            Command::AssertCount => String::from_str(alloc, "true"),
+            Command::Collisions => self.crowd_of(alloc),
+            Command::Extend(_) | Command::Capacity | Command::LoadRate => {
+                String::from_str(alloc, "not asked")
+            }
             Command::Walk => walk_of(alloc, self.pairs.as_slice()),
             Command::Keys => numbers_of(alloc, self.pairs.as_slice(), true),
             Command::Values => numbers_of(alloc, self.pairs.as_slice(), false),

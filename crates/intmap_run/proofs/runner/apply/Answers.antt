@@ -1,5 +1,5 @@
 use Rattle.std.proofs.Common.{rules, Some, None}
-use Rattle.intmap_run.proofs.StepLemmas.{StepsFrom-insert, StepsFrom-refused, StepsFrom-insert_checked, StepsFrom-refused_checked, StepsFrom-contains_key, StepsFrom-is_empty, StepsFrom-clear, StepsFrom-get, StepsFrom-remove, StepsFrom-len, StepsFrom-load}
+use Rattle.intmap_run.proofs.StepLemmas.{StepsFrom-insert, StepsFrom-refused, StepsFrom-insert_checked, StepsFrom-refused_checked, StepsFrom-contains_key, StepsFrom-is_empty, StepsFrom-clear, StepsFrom-get, StepsFrom-remove, StepsFrom-len, StepsFrom-load, StepsFrom-load_rate, StepsFrom-assert_count}
 use Rattle.intmap_run.proofs.GrowthStepLemmas.{StepsFrom-reserve, StepsFrom-set_load_factor}
 use Rattle.intmap_run.proofs.WritingStepLemmas.{StepsFrom-get_mut, StepsFrom-back, StepsFrom-retain}
 use Rattle.intmap_run.proofs.runner.apply.Goals as goal
@@ -116,3 +116,16 @@ pub returns-in-Load-clause-step : goal.returns-in-Load-clause-step
 returns-in-Load-clause-step g c =
     rw (c.in-Load.is, c.load.ensures.value)
     (StepsFrom-load g.K.IntKey.number_of g.K.IntKey.is_key c.args.map.now c.load.ensures.map (g.J.Judge.sees c.args.judge.now) (g.J.Judge.keeps c.args.judge.now))
+
+pub returns-in-LoadRate-clause-step : goal.returns-in-LoadRate-clause-step
+returns-in-LoadRate-clause-step g c =
+    rw (c.in-LoadRate.is, c.load_rate.ensures.value)
+    (StepsFrom-load_rate g.K.IntKey.number_of g.K.IntKey.is_key c.args.map.now c.load_rate.ensures.map (g.J.Judge.sees c.args.judge.now) (g.J.Judge.keeps c.args.judge.now))
+
+pub returns-in-AssertCount-clause-step : goal.returns-in-AssertCount-clause-step
+returns-in-AssertCount-clause-step g c =
+    rw (c.in-AssertCount.is, c.assert_count.ensures.value)
+    (StepsFrom-assert_count g.K.IntKey.number_of (g.J.Judge.sees c.args.judge.now) (g.J.Judge.keeps c.args.judge.now) c.args.map.now)
+
+pub returns-in-Collisions-clause-step : goal.returns-in-Collisions-clause-step
+returns-in-Collisions-clause-step g c = rw c.in-Collisions.is (c.collisions.ensures.step c.args.judge.now)
