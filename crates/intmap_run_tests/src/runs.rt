@@ -30,39 +30,57 @@ type CommandOf<'a> = Command<u64, String, &'a Refuser<Global>>;
 
 type Commands<'a> = Vec<CommandOf<'a>, &'a Refuser<Global>>;
 
-// what the runs of this module are asked
-fn commands<'a>(alloc: Global, memory: &'a Refuser<Global>) -> Result<Commands<'a>, AllocError> {
-    let mut commands = Vec::new(memory);
-    for (key, text) in [(0, "a"), (4, "bcd"), (4, "ef")] {
-        commands.push(Command::Insert(key, String::from_str(alloc, text)?))?;
-    }
-    for command in [
-        Command::Get(4),
-        Command::Walk,
-        Command::Remove(0),
-        Command::Walk,
-    ] {
-        commands.push(command)?;
-    }
-    push_entries(alloc, &mut commands)?;
-    for command in [Command::Keys, Command::Values, Command::Drain(1)] {
-        commands.push(command)?;
-    }
-    Ok(commands)
+// what the runs of this module are asked: a command by its name, with a key and a text
+const ASKED: [(&str, u64, &str); 18] = [
+    ("insert", 0, "a"),
+    ("insert", 4, "bcd"),
+    ("insert", 4, "ef"),
+    ("get", 4, ""),
+    ("walk", 0, ""),
+    ("remove", 0, ""),
+    ("walk", 0, ""),
+    ("get_mut", 4, "ghij"),
+    ("get_mut", 9, "k"),
+    ("entry_insert", 8, "lm"),
+    ("entry_insert", 12, "n"),
+    ("entry_insert", 4, "op"),
+    ("retain", 0, ""),
+    ("walk", 0, ""),
+    ("entry_remove", 8, ""),
+    ("keys", 0, ""),
+    ("values", 0, ""),
+    ("drain", 1, ""),
+];
+
+// the command of this name
+fn command_of<'a>(
+    alloc: Global,
+    name: &str,
+    key: u64,
+    text: &str,
+) -> Result<CommandOf<'a>, AllocError> {
+    Ok(match name {
+        "insert" => Command::Insert(key, String::from_str(alloc, text)?),
+        "get_mut" => Command::GetMut(key, String::from_str(alloc, text)?),
+        "entry_insert" => Command::EntryInsert(key, String::from_str(alloc, text)?),
+        "get" => Command::Get(key),
+        "remove" => Command::Remove(key),
+        "entry_remove" => Command::EntryRemove(key),
+        "drain" => Command::Drain(key as usize),
+        "retain" => Command::Retain,
+        "keys" => Command::Keys,
+        "values" => Command::Values,
+        _ => Command::Walk,
+    })
 }
 
-// puts commands behind them that write texts in their places and insert by entries
-fn push_entries(alloc: Global, commands: &mut Commands<'_>) -> Result<(), AllocError> {
-    for (key, text) in [(4, "ghij"), (9, "k")] {
-        commands.push(Command::GetMut(key, String::from_str(alloc, text)?))?;
+// these commands
+fn commands<'a>(alloc: Global, memory: &'a Refuser<Global>) -> Result<Commands<'a>, AllocError> {
+    let mut commands = Vec::new(memory);
+    for (name, key, text) in ASKED {
+        commands.push(command_of(alloc, name, key, text)?)?;
     }
-    for (key, text) in [(8, "lm"), (12, "n"), (4, "op")] {
-        commands.push(Command::EntryInsert(key, String::from_str(alloc, text)?))?;
-    }
-    for command in [Command::Retain, Command::Walk, Command::EntryRemove(8)] {
-        commands.push(command)?;
-    }
-    Ok(())
+    Ok(commands)
 }
 
 // the key and the text of a command that has both
@@ -90,7 +108,7 @@ fn said(
         Answer::Values(values) => format!(in alloc; "values {:?}", values.as_slice()),
         Answer::Pairs(pairs) => format!(in alloc; "pairs {:?}", pairs.as_slice()),
         Answer::Refused { cause, value } => format!(in alloc; "refused {cause:?} {value:?}"),
-        Answer::Stopped(_) | Answer::Flag(_) | Answer::Number(_) => {
+        Answer::Stopped(_) | Answer::Flag(_) | Answer::Number(_) | Answer::Sizes(_) => {
             String::from_str(alloc, "not asked")
         }
     }
