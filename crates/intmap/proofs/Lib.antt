@@ -49,4 +49,5 @@ pub mod LendByLemmas
 pub mod LendMapLemmas
 pub mod AfterLemmas
 pub mod CostLemmas
+pub mod JsonLemmas
 pub mod Callers
