@@ -15,7 +15,7 @@ use Rattle.intmap.proofs.CostLemmas.{capacity-not_less}
 
 module _ {K V : Type 0} (number : K → ℕ) where
   -- a pair in front of another list
-  value_of-append : (L M : List (K × V)) (q : K) → value_of number (L ++ M) q ≡ option_or (value_of number L q) (value_of number M q)
+  pub value_of-append : (L M : List (K × V)) (q : K) → value_of number (L ++ M) q ≡ option_or (value_of number L q) (value_of number M q)
   value_of-append [] M q = refl
   value_of-append (p ∷ L) M q = by_case (same_key number q p.0) refl (value_of-append L M q)
     where

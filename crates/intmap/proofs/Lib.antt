@@ -50,4 +50,5 @@ pub mod LendMapLemmas
 pub mod AfterLemmas
 pub mod CostLemmas
 pub mod JsonLemmas
+pub mod MembersLemmas
 pub mod Callers

@@ -1,5 +1,5 @@
 -- JSON objects, and the lists of numbers and JSON values that they show.
-use Rattle.std.specs.Prelude.{◌≡◌, ◌⊎◌, ℕ, ◌^◌, ◌<◌, max, Bool, List, [], ◌∷◌, ◌++◌, Option, option_map, IsSomeAnd, ⊤}
+use Rattle.std.specs.Prelude.{◌≡◌, ◌⊎◌, ℕ, ◌^◌, ◌<◌, ◌≤◌, max, Bool, List, [], ◌∷◌, ◌++◌, Option, option_map, IsSomeAnd, ⊤}
 use Rattle.std.specs.Fmt.{decimal}
 use Rattle.std.specs.List.{list_any}
 use Rattle.serde_json.specs.Data.{Data, Members, no_members, member}
@@ -12,6 +12,15 @@ use Rattle.intmap.specs.Bindings.{value_of}
 use Rattle.intmap.specs.Extending.{IsExtended}
 use Rattle.intmap.specs.Growth.{IsLeastPower}
 use Rattle.intmap.specs.Map.{MapState, IsOutOfRange, empty_map}
+use Rattle.intmap.specs.declared.json_object.JsonCause.{JsonCause}
+use Rattle.intmap.specs.declared.json_object.JsonCause.TheVariants as json
+use Rattle.intmap.specs.declared.refusal.Cause.{Cause}
+use Rattle.intmap.specs.declared.refusal.Cause.TheVariants.{Memory, TooLarge}
+
+-- the cause of a refused call, as one of JSON
+abbrev pub json_cause : Cause → JsonCause
+json_cause Memory = json.Memory
+json_cause TooLarge = json.TooLarge
 
 -- the text is the decimal one of k, which is below 2^64
 abbrev pub IsKeyText : List ℕ → ℕ → Type 0
@@ -75,3 +84,7 @@ pub record LeavesRange (ms : Members) : Type 0 where
 -- there are more members than slots can be, or a pair of one is out of range in its turn
 abbrev pub AreTooMany : Members → Type 0
 AreTooMany ms = (2 ^ 63 < members_len ms) ⊎ LeavesRange ms
+
+-- reading the members may be refused with this cause
+abbrev pub MayRefuseToRead : Members → JsonCause → Type 0
+MayRefuseToRead ms cause = ((cause ≡ json.TooLarge) × AreTooMany ms) ⊎ ((cause ≡ json.Memory) × (members_len ms ≤ 2 ^ 63))

@@ -204,4 +204,8 @@ impl<K: IntKey, X: Drop, A: Allocator + Copy> Table<K, X, A> {
         }
         Ok(Table { bits, slots })
     }
+    /// The allocator that the slots are in.
+    pub(crate) fn allocator(&self) -> A {
+        *self.slots.allocator()
+    }
 }
