@@ -1,6 +1,6 @@
 -- The members of objects beside pairs of numbers and values.
 use Rattle.std.proofs.Common.{◌≡◌, inl, inr, ℕ, suc, ◌^◌, ◌<◌, ◌≤◌, Bool, true, false, cond, List, ◌∷◌, [], length, reverse, is_some, Option, Some, None, option_map, Ordering, Less, Equal, Greater, string_bytes, string_cmp, nat_cmp, refl, ap, sym, ◌∙◌, subst, arith}
-use Rattle.std.specs.Prelude.{◌==◌, ◌↔◌, ⊤, Result, Ok, Err, IsErrAnd, IfErr}
+use Rattle.std.specs.Prelude.{◌==◌, ◌↔◌, ⊤, Result, Ok, Err, IsErrAnd, IfErr, IsSomeAnd}
 use Rattle.std.specs.Fmt.{decimal}
 use Rattle.std.specs.Cmp.Lexicographic.{slice_cmp}
 use Rattle.std.specs.List.{AllByRecursion}
@@ -21,7 +21,7 @@ use Rattle.serde_json.specs.declared.value.Value.{Value}
 use Rattle.serde_json.proofs.Views.{get_member-put, get_member-put_other, member_here, member_later}
 use Rattle.intmap.specs.Bindings.{value_of, HasDistinctKeys}
 use Rattle.intmap.specs.Extending.{new_keys}
-use Rattle.intmap.specs.Json.{json_cause, IsKeyText, HasKeyTexts, tree_of, ShowsBindings, ArePairsOf, AreCollected, LeavesRange, MayRefuseToRead}
+use Rattle.intmap.specs.Json.{json_cause, IsKeyText, HasKeyTexts, tree_of, ShowsBindings, BindSameTrees, ArePairsOf, AreCollected, LeavesRange, MayRefuseToRead}
 use Rattle.intmap.specs.Map.{MapState}
 use Rattle.intmap.specs.declared.refusal.Cause.{Cause}
 use Rattle.intmap.specs.declared.refusal.Cause.TheVariants.{Memory, TooLarge}
@@ -183,6 +183,11 @@ module _ (es : List Entry) (ps : Pairs) (made : MapState ℕ Value) (n : ℕ) (a
         get_member-ArePairsOf es ps k small are
         ∙ sym (ap (option_map view) (collected.extended.updates k ∙ option_or-none (value_at (reverse ps) k) ∙ value_at-reverse ps k apart));
   }
+
+-- what one tree shows is bound alike
+pub BindSameTrees-Shows : (o : Option Members) (L M : Pairs) → IsSomeAnd o (λ ms. ShowsBindings ms L) → IsSomeAnd o (λ ms. ShowsBindings ms M) → BindSameTrees L M
+BindSameTrees-Shows None L M left right = absurd left
+BindSameTrees-Shows (Some ms) L M left right = λ k small. sym (left.trees k small) ∙ right.trees k small
 
 -- members whose keys are texts of numbers have pairs
 pub pairs_of : (es : List Entry) → HasKeyTexts (members_view es) → (ps : Pairs) × ArePairsOf (members_view es) ps
