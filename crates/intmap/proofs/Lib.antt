@@ -49,6 +49,8 @@ pub mod LendByLemmas
 pub mod LendMapLemmas
 pub mod AfterLemmas
 pub mod CostLemmas
+pub mod JsonLemmas
+pub mod MembersLemmas
 pub mod Callers
 pub mod MadeLemmas
 pub mod TallyLemmas

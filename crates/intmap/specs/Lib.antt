@@ -26,3 +26,4 @@ pub mod Extending
 pub mod Cloning
 pub mod Equality
 pub mod EqualityLaws
+pub mod Json

@@ -13,7 +13,10 @@ ghost use Rattle.intmap.specs.Growth.{IsWanted, is_due};
 ghost use Rattle.intmap.specs.Map.{MapState, IsCapacityAfter};
 ghost use Rattle.intmap.specs.Equality.{maps_equal};
 ghost use Rattle.intmap.specs.States.{State, MayRefuse};
+ghost use Rattle.intmap.specs.Json.{Shows, BindSameTrees};
 ghost use Rattle.intmap.specs.declared.refusal.Cause.{Cause};
+ghost use Rattle.serde_json.specs.Data.{Data};
+ghost use Rattle.serde_json.specs.declared.value.Value.{Value};
 
 use crate::key::IntKey;
 
@@ -110,4 +113,10 @@ pub fn small_keys_fill_slots<K: IntKey, V>()
 pub fn equal_maps_bind_the_same<K: IntKey, V: PartialEq>()
     ensures { (m n : MapState K V) → IsTrue (maps_equal K.number_of V.eq m n)
         ↔ BindSame K.number_of V.eq m.walk n.walk }
+{}
+
+/// Two lists of bindings that one JSON value shows bind the same numbers, each to the same tree.
+pub fn shown_bindings_are_the_same()
+    ensures { (tree : Data) (L M : List (ℕ × Value)) → Shows tree L → Shows tree M
+        → BindSameTrees L M }
 {}

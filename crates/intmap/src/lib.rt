@@ -3,6 +3,7 @@
 
 pub mod entry;
 pub mod iter;
+mod json_object;
 mod kept;
 mod key;
 pub mod laws;
@@ -14,6 +15,7 @@ mod slot;
 pub mod steps;
 mod table;
 
+pub use json_object::JsonCause;
 pub use key::IntKey;
 pub use map::IntMap;
 pub use refusal::{Cause, Refused, RefusedPair};

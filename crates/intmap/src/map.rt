@@ -12,6 +12,7 @@ mod each;
 mod equal;
 mod extend;
 mod figures;
+mod from_json;
 mod get;
 mod grow;
 mod insert;
@@ -19,6 +20,7 @@ mod lend;
 mod locate;
 mod remove;
 mod retain;
+mod to_json;
 
 use crate::iter::{IntoIter, Iter, Keys, Values};
 use crate::kept::Kept;

@@ -1,0 +1,90 @@
+-- JSON objects, and the lists of numbers and JSON values that they show.
+use Rattle.std.specs.Prelude.{◌≡◌, ◌⊎◌, ℕ, ◌^◌, ◌<◌, ◌≤◌, max, Bool, List, [], ◌∷◌, ◌++◌, Option, option_map, IsSomeAnd, ⊤}
+use Rattle.std.specs.Fmt.{decimal}
+use Rattle.std.specs.List.{list_any}
+use Rattle.serde_json.specs.Data.{Data, Members, no_members, member}
+use Rattle.serde_json.specs.Events.{members_len}
+use Rattle.serde_json.specs.Find.{get_member, as_object}
+use Rattle.serde_json.specs.View.{view}
+use Rattle.serde_json.specs.Written.{has_float}
+use Rattle.serde_json.specs.declared.value.Value.{Value}
+use Rattle.intmap.specs.Bindings.{value_of}
+use Rattle.intmap.specs.Extending.{IsExtended}
+use Rattle.intmap.specs.Growth.{IsLeastPower}
+use Rattle.intmap.specs.Map.{MapState, IsOutOfRange, empty_map}
+use Rattle.intmap.specs.declared.json_object.JsonCause.{JsonCause}
+use Rattle.intmap.specs.declared.json_object.JsonCause.TheVariants as json
+use Rattle.intmap.specs.declared.refusal.Cause.{Cause}
+use Rattle.intmap.specs.declared.refusal.Cause.TheVariants.{Memory, TooLarge}
+
+-- the cause of a refused call, as one of JSON
+abbrev pub json_cause : Cause → JsonCause
+json_cause Memory = json.Memory
+json_cause TooLarge = json.TooLarge
+
+-- the text is the decimal one of k, which is below 2^64
+abbrev pub IsKeyText : List ℕ → ℕ → Type 0
+IsKeyText text k = (text ≡ decimal k) × (k < 2 ^ 64)
+
+-- the key of each member is the text of a number
+abbrev pub HasKeyTexts : Members → Type 0
+HasKeyTexts no_members = ⊤
+HasKeyTexts (member text d ms) = ((k : ℕ) × IsKeyText text k) × HasKeyTexts ms
+
+-- the tree of the value that a number is bound to
+abbrev pub tree_of : List (ℕ × Value) → ℕ → Option Data
+tree_of L k = option_map view (value_of (λ key. key) L k)
+
+-- whether a value holds a float, at any depth
+abbrev pub holds_a_float : List (ℕ × Value) → Bool
+holds_a_float L = list_any (λ p. has_float (view p.1)) L
+
+-- each member's key is the text of a number, and at the text of each number stands the tree of its value, or nothing where it isn't bound
+pub record ShowsBindings (ms : Members) (L : List (ℕ × Value)) : Type 0 where
+  pub texts : HasKeyTexts ms
+  pub trees : (k : ℕ) → k < 2 ^ 64 → get_member (decimal k) ms ≡ tree_of L k
+
+-- the tree is an object that shows the bindings
+abbrev pub Shows : Data → List (ℕ × Value) → Type 0
+Shows d L = IsSomeAnd (as_object d) (λ ms. ShowsBindings ms L)
+
+-- the same numbers are bound, and each to values with the same tree
+abbrev pub BindSameTrees : List (ℕ × Value) → List (ℕ × Value) → Type 0
+BindSameTrees L M = (k : ℕ) → k < 2 ^ 64 → tree_of L k ≡ tree_of M k
+
+-- the pairs are those of the members, in their order: each member's key is the text of the number, its tree that of the value
+abbrev pub ArePairsOf : Members → List (ℕ × Value) → Type 0
+ArePairsOf no_members [] = ⊤
+ArePairsOf no_members (p ∷ ps) = ⊥
+ArePairsOf (member text d ms) [] = ⊥
+ArePairsOf (member text d ms) (p ∷ ps) = IsKeyText text p.0 × (view p.1 ≡ d) × ArePairsOf ms ps
+
+-- the pairs were inserted in turn, all accepted, into an empty map with room for n pairs
+pub record AreCollected (n : ℕ) (pairs : List (ℕ × Value)) (made : MapState ℕ Value) : Type 0 where
+  pub slots : ℕ
+  pub power : IsLeastPower (max n 2) slots
+  pub extended : IsExtended (λ key. key) (λ key. key < 2 ^ 64) (empty_map slots) pairs made
+
+-- the pairs of the members were inserted in turn into an empty map with room for all of them
+pub record AreRead (ms : Members) (made : MapState ℕ Value) : Type 0 where
+  pub pairs : List (ℕ × Value)
+  pub are : ArePairsOf ms pairs
+  pub collected : AreCollected (members_len ms) pairs made
+
+-- the pairs of the members were inserted in turn into an empty map with room for all of them, up to one that is out of range
+pub record LeavesRange (ms : Members) : Type 0 where
+  pub pairs : List (ℕ × Value)
+  pub next : ℕ × Value
+  pub rest : List (ℕ × Value)
+  pub are : ArePairsOf ms (pairs ++ next ∷ rest)
+  pub before : MapState ℕ Value
+  pub collected : AreCollected (members_len ms) pairs before
+  pub out_of_range : IsOutOfRange (λ key. key) before.walk before.capacity before.factor next.0
+
+-- there are more members than slots can be, or a pair of one is out of range in its turn
+abbrev pub AreTooMany : Members → Type 0
+AreTooMany ms = (2 ^ 63 < members_len ms) ⊎ LeavesRange ms
+
+-- reading the members may be refused with this cause
+abbrev pub MayRefuseToRead : Members → JsonCause → Type 0
+MayRefuseToRead ms cause = ((cause ≡ json.TooLarge) × AreTooMany ms) ⊎ ((cause ≡ json.Memory) × (members_len ms ≤ 2 ^ 63))

@@ -1,0 +1,56 @@
+//! What the two calls for JSON share: their causes, the texts of keys, and floats in trees.
+ghost use Rattle.std.specs.Prelude.{◌≡◌};
+ghost use Rattle.intmap.specs.Json.{json_cause};
+
+pub(crate) mod floats;
+pub(crate) mod key_text;
+
+use crate::refusal::{Cause, Refused};
+use std::alloc::AllocError;
+
+/// Why a map wasn't written as JSON, or wasn't read from it.
+#[derive(Clone, Copy, PartialEq, Eq, Debug)]
+pub enum JsonCause {
+    /// A request for memory was refused.
+    Memory,
+    /// In reading alone: there are more than 2^63 members, or a wanted capacity is above 2^63 slots.
+    TooLarge,
+    /// In reading alone: the value isn't an object.
+    NotAnObject,
+    /// In reading alone: the key of a member isn't the canonical text of a number.
+    BadKey,
+    /// A value holds, at any depth, a number that is neither a `u64` nor an `i64`.
+    HoldsFloat,
+}
+
+/// The cause of a refused call on a map.
+impl From<Cause> for JsonCause {
+    ghost from_gives = { λ cause json. json ≡ json_cause cause };
+
+    fn from(cause: Cause) -> JsonCause {
+        match cause {
+            Cause::Memory => JsonCause::Memory,
+            Cause::TooLarge => JsonCause::TooLarge,
+        }
+    }
+}
+
+/// The cause alone: by `?` a caller that answers a `JsonCause` lets the value go.
+impl<V: Drop> From<Refused<V>> for JsonCause {
+    ghost from_gives = { λ refused json. json ≡ json_cause refused.cause };
+
+    fn from(refused: Refused<V>) -> JsonCause {
+        JsonCause::from(refused.cause)
+    }
+}
+
+/// A refused request for memory.
+impl From<AllocError> for JsonCause {
+    ghost use Rattle.intmap.specs.declared.json_object.JsonCause.{JsonCause};
+
+    ghost from_gives = { λ _ json. json ≡ JsonCause.Memory };
+
+    fn from(_: AllocError) -> JsonCause {
+        JsonCause::Memory
+    }
+}

@@ -1,0 +1,39 @@
+//! The texts of keys: numbers in decimal.
+ghost use Rattle.std.specs.Prelude.{◌≡◌, ◌≢◌, ◌↔◌, ℕ, IfSome, IfNone, IsTrue, length, slice_index};
+ghost use Rattle.intmap.specs.Json.{IsKeyText};
+
+/// The number that the text is printed for, or `None` where it isn't printed for one below 2^64. It
+/// takes no memory.
+///
+/// ```text
+/// "18446744073709551615"    Some(18446744073709551615)
+/// "05", "+5", "" and " 5"   None
+/// ```
+pub(crate) fn key_of(text: &str) -> Option<u64>
+    ensures some { IfSome result (IsKeyText text.now) }
+    ensures none { IfNone result ((k : ℕ) → ¬ IsKeyText text.now k) }
+{
+    if !begins_as_printed(text.as_bytes()) {
+        return None;
+    }
+    text.parse::<u64>().ok()
+}
+
+/// Whether there is no plus in front, and no zero but one that stands alone.
+fn begins_as_printed(bytes: &[u8]) -> bool
+    ensures { IsTrue result
+        ↔ (slice_index bytes.now 0 ≢ 43) × (slice_index bytes.now 0 ≡ 48 → length bytes.now ≡ 1) }
+{
+    match bytes {
+        [] | [b'0'] => true,
+        [first, ..] => *first != b'+' && *first != b'0',
+    }
+}
+
+/// The number that a text is printed for, of a text that is known to have one.
+pub(crate) fn known_key(text: &str) -> u64
+    requires printed { (k : ℕ) × IsKeyText text.now k }
+    ensures value { IsKeyText text.now result }
+{
+    key_of(text).unwrap_or(0)
+}

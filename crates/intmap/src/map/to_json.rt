@@ -1,0 +1,90 @@
+//! A map as a JSON object.
+ghost use Rattle.std.specs.Prelude.{◌≡◌, ◌⊎◌, ◌↔◌, ◌^◌, ◌<◌, IfOk, IfErr, OnOk, IsErrOf, IsTrue};
+ghost use Rattle.std.specs.Fmt.{decimal};
+ghost use Rattle.serde_json.specs.Data.{put};
+ghost use Rattle.serde_json.specs.View.{view, members_view};
+ghost use Rattle.intmap.specs.Json.{Shows, ShowsBindings, holds_a_float};
+ghost use Rattle.intmap.specs.Map.{IsMap};
+
+use crate::json_object::JsonCause;
+use crate::json_object::floats::holds_float;
+use crate::map::IntMap;
+use serde_json::{Map, Value};
+use std::alloc::{AllocError, Global};
+
+impl IntMap<u64, Value> {
+    /// An object with a member for each pair: its key is the canonical text of the key, in decimal
+    /// with no sign and no leading zero, and its value a clone of the value. The map stays as it is.
+    ///
+    /// It is refused as [`JsonCause::HoldsFloat`] exactly where a value holds, at any depth, a
+    /// number that is neither a `u64` nor an `i64`. That is tested first, and takes no memory. Else
+    /// it is refused only as [`JsonCause::Memory`], where memory for a text, for a clone or for the
+    /// object is. What was made until then is let go.
+    ///
+    /// Each part of each value is looked at once, and cloned once. Both go as deep as the value, and
+    /// so does letting it go: how deep a value may be is bounded by the stack alone.
+    ///
+    /// ```text
+    /// with 10: null and 5: true    Ok of {"10":null,"5":true}
+    /// of an empty map              Ok of {}
+    /// with 1: {"a":[1.5]}          Err(JsonCause::HoldsFloat)
+    /// ```
+    pub fn to_json(&self) -> Result<Value, JsonCause>
+        ensures shows { IfOk result (λ tree. Shows (view tree) self.now.walk) }
+        ensures holds_float { IsErrOf result JsonCause.HoldsFloat
+            ↔ IsTrue (holds_a_float self.now.walk) }
+        ensures memory { IfErr result
+            (λ cause. (cause ≡ JsonCause.HoldsFloat) ⊎ (cause ≡ JsonCause.Memory)) }
+        ensures map { IsMap (λ key. key) (λ key. key < 2 ^ 64) self.now }
+    {
+        self.known();
+        if self.holds_float() {
+            return Err(JsonCause::HoldsFloat);
+        }
+        match self.members() {
+            Ok(members) => Ok(Value::Object(members)),
+            Err(_) => Err(JsonCause::Memory),
+        }
+    }
+
+    /// Whether a value holds a float, at any depth.
+    fn holds_float(&self) -> bool
+        ensures value { result ≡ holds_a_float self.now.walk }
+    {
+        for (_, value) in self {
+            if holds_float(value) {
+                return true;
+            }
+        }
+        false
+    }
+
+    /// The members of the object.
+    fn members(&self) -> Result<Map<String, Value>, AllocError>
+        ensures shows { IfOk result
+            (λ members. ShowsBindings (members_view members.entries) self.now.walk) }
+    {
+        self.known();
+        let alloc = self.table.allocator();
+        let mut members = Map::new(alloc);
+        for (key, value) in self {
+            put_member(alloc, &mut members, *key, value)?;
+        }
+        Ok(members)
+    }
+}
+
+/// Sets the member at the text of the key to a clone of the value.
+fn put_member(
+    alloc: Global,
+    members: &mut Map<String, Value>,
+    key: u64,
+    value: &Value,
+) -> Result<(), AllocError>
+    ensures value { OnOk result (members_view members.new.entries
+        ≡ put (decimal key) (view value.now) (members_view members.old.entries)) }
+{
+    let text = key.to_string(alloc)?;
+    drop(members.insert(text, value.clone()?)?);
+    Ok(())
+}
