@@ -5,7 +5,9 @@ use crate::entries::{with_entry, with_reference};
 use crate::figures::figure;
 use crate::items::{insert_checked_items, insert_items};
 use crate::iterated::{through_all, through_front};
-use crate::many::{Insertion, Keys, Search, find_many, insert_many, keys_sum, values_sum, walk_sum};
+use crate::many::{
+    Insertion, Keys, Search, find_many, insert_many, keys_sum, values_sum, walk_sum,
+};
 use crate::maps::{MapOf, Maps};
 use crate::retained::retain;
 use crate::runs::run_many;

@@ -30,7 +30,7 @@ pub fn with_entry<K: IntKey + Display>(
             mem::forget(map.entry(key));
             done_text(alloc, Ok(()))
         }
-        "entry_remove" => option_text(alloc, remove(map, key)),
+        "entry_remove" => option_text(alloc, remove_by_entry(map, key)),
         _ => no_call(alloc),
     }
 }
@@ -73,8 +73,8 @@ fn entry_text<K: IntKey + Display>(
     }
 }
 
-// takes the pair of the key out, where it has one
-fn remove<K: IntKey>(map: &mut MapOf<'_, K>, key: K) -> Option<u64> {
+/// Takes the pair of the key out by its entry, where it has one.
+pub fn remove_by_entry<K: IntKey>(map: &mut MapOf<'_, K>, key: K) -> Option<u64> {
     match map.entry(key) {
         Entry::Occupied(entry) => Some(entry.remove()),
         Entry::Vacant(_entry) => None,

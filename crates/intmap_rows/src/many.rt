@@ -1,5 +1,6 @@
 //! Calls with many keys: a first one, and others at equal distances behind it.
 
+use crate::entries::remove_by_entry;
 use crate::maps::Map;
 use crate::text::refusal_text;
 use intmap::Refused;
@@ -127,14 +128,6 @@ impl Search {
             Search::EntryRemove => remove_by_entry(map, key),
         };
         found == Some(value_of(key))
-    }
-}
-
-// takes the key out by its entry
-fn remove_by_entry(map: &mut Map<'_>, key: u64) -> Option<u64> {
-    match map.entry(key) {
-        Entry::Occupied(entry) => Some(entry.remove()),
-        Entry::Vacant(_) => None,
     }
 }
 
