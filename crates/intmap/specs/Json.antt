@@ -13,14 +13,14 @@ use Rattle.intmap.specs.Extending.{IsExtended}
 use Rattle.intmap.specs.Growth.{IsLeastPower}
 use Rattle.intmap.specs.Map.{MapState, IsOutOfRange, empty_map}
 use Rattle.intmap.specs.declared.json_object.JsonCause.{JsonCause}
-use Rattle.intmap.specs.declared.json_object.JsonCause.TheVariants as json
+use Rattle.intmap.specs.declared.json_object.JsonCause.TheVariants as causes
 use Rattle.intmap.specs.declared.refusal.Cause.{Cause}
 use Rattle.intmap.specs.declared.refusal.Cause.TheVariants.{Memory, TooLarge}
 
 -- the cause of a refused call, as one of JSON
 abbrev pub json_cause : Cause → JsonCause
-json_cause Memory = json.Memory
-json_cause TooLarge = json.TooLarge
+json_cause Memory = causes.Memory
+json_cause TooLarge = causes.TooLarge
 
 -- the text is the decimal one of k, which is below 2^64
 abbrev pub IsKeyText : List ℕ → ℕ → Type 0
@@ -87,4 +87,4 @@ AreTooMany ms = (2 ^ 63 < members_len ms) ⊎ LeavesRange ms
 
 -- reading the members may be refused with this cause
 abbrev pub MayRefuseToRead : Members → JsonCause → Type 0
-MayRefuseToRead ms cause = ((cause ≡ json.TooLarge) × AreTooMany ms) ⊎ ((cause ≡ json.Memory) × (members_len ms ≤ 2 ^ 63))
+MayRefuseToRead ms cause = ((cause ≡ causes.TooLarge) × AreTooMany ms) ⊎ ((cause ≡ causes.Memory) × (members_len ms ≤ 2 ^ 63))

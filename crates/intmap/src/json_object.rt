@@ -13,7 +13,8 @@ use std::alloc::AllocError;
 pub enum JsonCause {
     /// A request for memory was refused.
     Memory,
-    /// In reading alone: there are more than 2^63 members, or a wanted capacity is above 2^63 slots.
+    /// In reading alone: there are more than 2^63 members, or a wanted capacity is above 2^63
+    /// slots.
     TooLarge,
     /// In reading alone: the value isn't an object.
     NotAnObject,

@@ -4,8 +4,8 @@ use intmap::{IntMap, JsonCause};
 use serde_json::Value;
 use std::alloc::{AllocError, Global};
 
-/// The map that is read from a text, with its slots, its keys and the text that is written of it, or
-/// why there is none.
+/// The map that is read from a text, with its slots, its keys and the text that is written of it,
+/// or why there is none.
 pub fn answer_to_read(alloc: Global, text: &str) -> Result<String, AllocError> {
     let Some(value) = parse(alloc, text)? else {
         return String::from_str(alloc, "no JSON");

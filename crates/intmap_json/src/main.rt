@@ -1,5 +1,5 @@
-//! Reads JSON as maps and writes maps as JSON, as rows of text ask for, and tells of each answer that
-//! is another than its row names.
+//! Reads JSON as maps and writes maps as JSON, as rows of text ask for, and tells of each answer
+//! that is another than its row names.
 //!
 //! Each argument is the name of a file of rows. `docs/ROWS.md` says what a row may be.
 #![tactic(auto)]

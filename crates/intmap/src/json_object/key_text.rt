@@ -2,8 +2,8 @@
 ghost use Rattle.std.specs.Prelude.{◌≡◌, ◌≢◌, ◌↔◌, ℕ, IfSome, IfNone, IsTrue, length, slice_index};
 ghost use Rattle.intmap.specs.Json.{IsKeyText};
 
-/// The number that the text is printed for, or `None` where it isn't printed for one below 2^64. It
-/// takes no memory.
+/// The number that the text is printed for, or `None` where it isn't printed for one below 2^64.
+/// It takes no memory.
 ///
 /// ```text
 /// "18446744073709551615"    Some(18446744073709551615)

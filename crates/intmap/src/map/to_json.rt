@@ -14,15 +14,16 @@ use std::alloc::{AllocError, Global};
 
 impl IntMap<u64, Value> {
     /// An object with a member for each pair: its key is the canonical text of the key, in decimal
-    /// with no sign and no leading zero, and its value a clone of the value. The map stays as it is.
+    /// with no sign and no leading zero, and its value a clone of the value. The map stays as it
+    /// is.
     ///
     /// It is refused as [`JsonCause::HoldsFloat`] exactly where a value holds, at any depth, a
-    /// number that is neither a `u64` nor an `i64`. That is tested first, and takes no memory. Else
-    /// it is refused only as [`JsonCause::Memory`], where memory for a text, for a clone or for the
-    /// object is. What was made until then is let go.
+    /// number that is neither a `u64` nor an `i64`. That is tested first, and takes no memory.
+    /// Else it is refused only as [`JsonCause::Memory`], where memory for a text, for a clone or
+    /// for the object is. What was made until then is let go.
     ///
-    /// Each part of each value is looked at once, and cloned once. Both go as deep as the value, and
-    /// so does letting it go: how deep a value may be is bounded by the stack alone.
+    /// Each part of each value is looked at once, and cloned once. Both go as deep as the value,
+    /// and so does letting it go: how deep a value may be is bounded by the stack alone.
     ///
     /// ```text
     /// with 10: null and 5: true    Ok of {"10":null,"5":true}
