@@ -3,6 +3,7 @@
 
 pub mod counter;
 pub mod dense;
+pub mod documents;
 pub mod equality;
 pub mod floors;
 pub mod id_table;
