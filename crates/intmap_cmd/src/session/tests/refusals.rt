@@ -2,100 +2,47 @@
 //! list.
 
 use super::plain_list::List;
+use crate::line::read_commands;
 use crate::session::serve;
-use intmap_run::Command;
 use refuser::Refuser;
 use std::alloc::{AllocError, Global};
 use std::process::Abort;
 use std::test::Fail;
 
-/// A line and the command that it says.
-type Said = (&'static str, Command<u64, u64>);
-
 /// Insertions that leave the slots as many as they were.
-const WITHOUT_GROWTH: [Said; 6] = [
-    ("insert 0 10", Command::Insert(0, 10)),
-    ("insert 4 14", Command::Insert(4, 14)),
-    ("insert 8 18", Command::Insert(8, 18)),
-    ("walk", Command::Walk),
-    ("remove 0", Command::Remove(0)),
-    ("walk", Command::Walk),
-];
+const WITHOUT_GROWTH: &[u8] = b"insert 0 10\ninsert 4 14\ninsert 8 18\nwalk\nremove 0\nwalk\n";
 
 /// Commands that ask for more slots, and the others among them.
-const WITH_GROWTH: [Said; 46] = [
-    ("walk", Command::Walk),
-    ("insert 0 10", Command::Insert(0, 10)),
-    ("insert 4096 11", Command::Insert(4096, 11)),
-    ("insert 8192 12", Command::Insert(8192, 12)),
-    ("insert 12288 13", Command::Insert(12288, 13)),
-    ("len", Command::Len),
-    ("insert 4096 21", Command::Insert(4096, 21)),
-    ("walk", Command::Walk),
-    ("set_load_factor 100", Command::SetLoadFactor(100)),
-    ("get_load_factor", Command::GetLoadFactor),
-    ("insert 16384 14", Command::Insert(16384, 14)),
-    ("get 16384", Command::Get(16384)),
-    ("reserve 200", Command::Reserve(200)),
-    (
-        "reserve 18446744073709551615",
-        Command::Reserve(18446744073709551615),
-    ),
-    ("remove 0", Command::Remove(0)),
-    ("remove 0", Command::Remove(0)),
-    ("insert 20480 15", Command::Insert(20480, 15)),
-    ("load", Command::Load),
-    ("set_load_factor 4", Command::SetLoadFactor(4)),
-    ("get_load_factor", Command::GetLoadFactor),
-    ("walk", Command::Walk),
-    ("get 0", Command::Get(0)),
-    ("len", Command::Len),
-    ("insert_checked 8192 99", Command::InsertChecked(8192, 99)),
-    ("insert_checked 24576 16", Command::InsertChecked(24576, 16)),
-    ("contains_key 24576", Command::ContainsKey(24576)),
-    ("walk", Command::Walk),
-    ("clear", Command::Clear),
-    ("is_empty", Command::IsEmpty),
-    ("insert_checked 0 17", Command::InsertChecked(0, 17)),
-    ("entry_insert 4096 18", Command::EntryInsert(4096, 18)),
-    ("entry_insert 4096 19", Command::EntryInsert(4096, 19)),
-    ("entry_insert 8192 20", Command::EntryInsert(8192, 20)),
-    ("entry_insert 12288 21", Command::EntryInsert(12288, 21)),
-    ("get_mut 8192 22", Command::GetMut(8192, 22)),
-    ("get_mut 16384 23", Command::GetMut(16384, 23)),
-    ("entry_remove 0", Command::EntryRemove(0)),
-    ("keys", Command::Keys),
-    ("values", Command::Values),
-    ("drain 1", Command::Drain(1)),
-    ("retain", Command::Retain),
-    ("walk", Command::Walk),
-    ("drain 0", Command::Drain(0)),
-    (
-        "drain 18446744073709551615",
-        Command::Drain(18446744073709551615),
-    ),
-    ("keys", Command::Keys),
-    ("values", Command::Values),
-];
+const WITH_GROWTH: &[u8] =
+    b"walk\ninsert 0 10\ninsert 4096 11\ninsert 8192 12\ninsert 12288 13\nlen\n\
+    insert 4096 21\nwalk\nset_load_factor 100\nget_load_factor\ninsert 16384 14\n\
+    get 16384\nreserve 200\nreserve 18446744073709551615\nremove 0\nremove 0\n\
+    insert 20480 15\nload\nset_load_factor 4\nget_load_factor\nwalk\nget 0\nlen\n\
+    insert_checked 8192 99\ninsert_checked 24576 16\ncontains_key 24576\nwalk\n\
+    clear\nis_empty\ninsert_checked 0 17\nentry_insert 4096 18\n\
+    entry_insert 4096 19\nentry_insert 8192 20\nentry_insert 12288 21\n\
+    get_mut 8192 22\nget_mut 16384 23\nentry_remove 0\nkeys\nvalues\ndrain 1\n\
+    retain\nwalk\ndrain 0\ndrain 18446744073709551615\nkeys\nvalues\n";
+
+/// Each kind of command.
+const OF_ALL_KINDS: &[u8] =
+    b"extend 0 10 4 14 8 18 12 21\nwalk\ncapacity\ninsert 4 5\nget_mut 9 7\n\
+    entry_insert 8 3\nretain\nkeys\ndrain 1\nlen\nreserve 18446744073709551615\n\
+    collisions\ninsert_checked 1 11\nget 12\ncontains_key 4\nremove 5\n\
+    entry_remove 4\nextend 3 30 7 70 11 110 15 150 3 31\nvalues\nis_empty\nload\n\
+    load_rate\nassert_count\nset_load_factor 100\nget_load_factor\nreserve 300\n\
+    collisions\nclear\nwalk\n";
 
 // the lines of a plain list under the same commands, where memory is refused to those that the
 // session refused it to
-fn replayed(alloc: Global, session: &[Said], written: &[u8]) -> Result<String, AllocError> {
+fn replayed(alloc: Global, session: &[u8], written: &[u8]) -> Result<String, Fail> {
     let mut text = String::new(alloc);
     let mut list = List::new(alloc);
-    for ((_, command), line) in session.iter().zip(written.split(|byte| *byte == b'\n')) {
-        let is_refused = line.ends_with(b": memory");
-        text.push_str(list.apply(alloc, command, is_refused)?.as_str())?;
-        text.push('\n')?;
-    }
-    Ok(text)
-}
-
-// the lines of a session as one text
-fn text_of(alloc: Global, session: &[Said]) -> Result<String, AllocError> {
-    let mut text = String::new(alloc);
-    for (line, _) in session {
-        text.push_str(line)?;
+    let Ok(commands) = read_commands(alloc, session) else {
+        return Err(Fail::from(AllocError));
+    };
+    for (command, line) in commands.iter().zip(written.split(|byte| *byte == b'\n')) {
+        text.push_str(list.apply(command, line)?.as_str())?;
         text.push('\n')?;
     }
     Ok(text)
@@ -124,14 +71,13 @@ enum Outcome {
 fn serve_refused_at(
     rt: &impl Abort,
     alloc: Global,
-    session: &[Said],
+    session: &[u8],
     number: u64,
 ) -> Result<Outcome, Fail> {
-    let text = text_of(alloc, session)?;
     let memory = Refuser::new(alloc, number);
     let mut written = Vec::new(alloc);
     let mut told = Vec::new(alloc);
-    let status = serve(&memory, &mut text.as_bytes(), &mut written, &mut told);
+    let status = serve(&memory, &mut &*session, &mut written, &mut told);
     if status == 3 {
         assert!(rt; written.is_empty(), "request {number}: nothing is written");
         assert_eq!(rt;
@@ -163,7 +109,7 @@ fn serve_refused_at(
 
 // runs a session with each request refused in turn; answers how many of them ended it, and how many
 // it went on after
-fn refusals_of(rt: &impl Abort, alloc: Global, session: &[Said]) -> Result<(u64, u64), Fail> {
+fn refusals_of(rt: &impl Abort, alloc: Global, session: &[u8]) -> Result<(u64, u64), Fail> {
     let mut ended = 0u64;
     let mut answered = 0u64;
     for number in 1..200 {
@@ -178,7 +124,7 @@ fn refusals_of(rt: &impl Abort, alloc: Global, session: &[Said]) -> Result<(u64,
 
 #[test]
 fn each_refused_request_ends_a_session_or_is_answered(rt: HostRuntime) -> Result<(), Fail> {
-    let (ended, answered) = refusals_of(&rt, rt.alloc(), &WITHOUT_GROWTH)?;
+    let (ended, answered) = refusals_of(&rt, rt.alloc(), WITHOUT_GROWTH)?;
     assert!(rt;
         ended >= 5,
         "input, commands, map, answers and text take memory"
@@ -189,7 +135,7 @@ fn each_refused_request_ends_a_session_or_is_answered(rt: HostRuntime) -> Result
 
 #[test]
 fn each_refused_request_of_a_growth_is_answered(rt: HostRuntime) -> Result<(), Fail> {
-    let (ended, answered) = refusals_of(&rt, rt.alloc(), &WITH_GROWTH)?;
+    let (ended, answered) = refusals_of(&rt, rt.alloc(), WITH_GROWTH)?;
     assert!(rt;
         ended >= 5,
         "input, commands, map, answers and text take memory"
@@ -197,6 +143,20 @@ fn each_refused_request_of_a_growth_is_answered(rt: HostRuntime) -> Result<(), F
     assert!(rt;
         answered >= 10,
         "crowded pairs, walks and growth take memory"
+    );
+    Ok(())
+}
+
+#[test]
+fn each_refused_request_of_any_command_is_answered(rt: HostRuntime) -> Result<(), Fail> {
+    let (ended, answered) = refusals_of(&rt, rt.alloc(), OF_ALL_KINDS)?;
+    assert!(rt;
+        ended >= 5,
+        "input, commands, pairs, map, answers and text take memory"
+    );
+    assert!(rt;
+        answered >= 15,
+        "crowded pairs, lists and growth take memory"
     );
     Ok(())
 }
