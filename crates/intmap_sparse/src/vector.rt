@@ -1,0 +1,245 @@
+//! The vector: a map from places to values other than 0.
+ghost use Rattle.std.specs.Prelude.{◌≡◌, ◌≢◌, ◌↔◌, ◌+◌, ◌<◌, ◌==◌, pos, ◌+ℤ◌, FitsSigned, IfOk, IfErr, IfSome, OnOk, OnErr, IsErrOf, IsNone, IsTrue, cond, length, []};
+ghost use Rattle.std.specs.Int.{w64};
+ghost use Rattle.intmap.specs.Reach.{class_size};
+ghost use Rattle.intmap.specs.Growth.{IsNext};
+ghost use Rattle.intmap_sparse.specs.Vectors.{value_at, is_nonzero, SetsValue, IsVector, HaveSameValues, IsBeyondRange, with_value, IsCapacityWith, load_factor, product, products, products_along, HasWideSum, count_of_nonzero};
+
+mod equal;
+
+use crate::cause::SparseCause;
+use intmap::iter::{IntoIter, Iter};
+use intmap::{Cause, IntMap};
+use std::alloc::{Allocator, Global};
+use std::fmt;
+use std::marker::Model;
+
+/// A vector of integers over places from 0 to 2^64 - 1, most of which have the value 0.
+///
+/// It stores the places whose value isn't 0, and no other. Contracts see it as a
+/// [`Vector`](../specs/Vectors.antt): these places with their values, in the order of the walk of
+/// its map, and the number of slots. What a place has is `value_at` of the walk.
+#[derive(Drop)]
+pub struct SparseVec<A: Allocator + Copy = Global> {
+    values: IntMap<u64, i64, A>,
+}
+
+impl<A: Allocator + Copy> Model for SparseVec<A> {
+    ghost use Rattle.std.specs.Prelude.{◌≡◌};
+    ghost use Rattle.intmap_sparse.specs.Vectors.{Vector, HasNoZeros, load_factor};
+
+    ghost Value = { Vector };
+
+    ghost view = { λ vector. record {
+      walk = vector.values.walk;
+      capacity = vector.values.capacity;
+    } };
+
+    ghost invariant = { λ vector. HasNoZeros vector.values.walk
+        × (vector.values.factor ≡ load_factor) };
+}
+
+impl<A: Allocator + Copy> SparseVec<A> {
+    /// A vector with the value 0 at every place. It is refused as [`Cause::Memory`] where memory for
+    /// 4 slots or for their bits is, and never else.
+    pub fn new(alloc: A) -> Result<SparseVec<A>, Cause>
+        ensures walk { IfOk result (λ made. made.walk ≡ []) }
+        ensures capacity { IfOk result (λ made. made.capacity ≡ 4) }
+        ensures memory { IfErr result (λ cause. cause ≡ Cause.Memory) }
+    {
+        Ok(SparseVec {
+            values: IntMap::new(alloc)?,
+        })
+    }
+
+    /// The value at the place, 0 where none is stored. It is never refused.
+    pub fn get(&self, place: u64) -> i64
+        ensures value { result ≡ value_at self.now.walk place }
+    {
+        self.values.get(place).copied().unwrap_or(0)
+    }
+
+    /// Sets the value at the place, and answers the one before. A 0 removes the place.
+    ///
+    /// It is refused only where the place isn't stored and the value isn't 0: as too large exactly
+    /// where the vector stores 2^64 - 1 places or the wanted capacity is above 2^63 slots, and else
+    /// where memory is refused. Then nothing has changed.
+    ///
+    /// ```text
+    /// set(3, 5)    Ok(0), on a new vector
+    /// set(3, 0)    Ok(5), and no place is stored
+    /// ```
+    pub fn set(&mut self, place: u64, value: i64) -> Result<i64, Cause>
+        // what is answered and left
+        ensures old { IfOk result (λ old. old ≡ value_at self.old.walk place) }
+        ensures capacity { OnOk result (IsCapacityWith self.old place value self.new.capacity) }
+        ensures state { OnOk result
+            (self.new ≡ with_value self.old place value self.new.capacity) }
+        ensures sets { OnOk result (SetsValue self.old.walk self.new.walk place value) }
+        ensures len { OnOk result
+            (length self.new.walk + cond (is_nonzero (value_at self.old.walk place)) 1 0
+            ≡ length self.old.walk + cond (is_nonzero value) 1 0) }
+        ensures err { OnErr result (self.new ≡ self.old) }
+
+        // when it is refused
+        ensures new_place { OnErr result (value_at self.old.walk place ≡ pos 0) }
+        ensures nonzero { OnErr result (value ≢ pos 0) }
+        ensures too_large { IsErrOf result Cause.TooLarge
+            ↔ ((value ≢ pos 0) × IsBeyondRange self.old place) }
+        ensures memory { IsErrOf result Cause.Memory
+            → IsNext self.old.capacity (length self.old.walk + 1) load_factor self.old.capacity
+            → 0 < class_size (λ key. key) self.old.walk self.old.capacity place }
+    {
+        if value == 0 {
+            return Ok(self.values.remove(place).unwrap_or(0));
+        }
+        let old = self.values.insert(place, value)?;
+        Ok(old.unwrap_or(0))
+    }
+
+    /// Adds to the value at the place, and answers the new one. A sum of 0 removes the place.
+    ///
+    /// It is refused as an overflow exactly where the sum isn't an `i64`. Else it is refused only
+    /// where the place isn't stored and the sum isn't 0: as too large exactly where the vector
+    /// stores 2^64 - 1 places or the wanted capacity is above 2^63 slots, and else where memory is
+    /// refused. Where it is refused nothing has changed.
+    ///
+    /// ```text
+    /// add(7, 5)     Ok(5), on a new vector
+    /// add(7, -5)    Ok(0), and no place is stored
+    /// ```
+    pub fn add(&mut self, place: u64, delta: i64) -> Result<i64, SparseCause>
+        // what is answered and left
+        ensures sum { IfOk result (λ sum. sum ≡ value_at self.old.walk place +ℤ delta) }
+        ensures capacity { OnOk result (IsCapacityWith self.old place
+            (value_at self.old.walk place +ℤ delta) self.new.capacity) }
+        ensures state { OnOk result (self.new ≡ with_value self.old place
+            (value_at self.old.walk place +ℤ delta) self.new.capacity) }
+        ensures sets { OnOk result (SetsValue self.old.walk self.new.walk place
+            (value_at self.old.walk place +ℤ delta)) }
+        ensures len { OnOk result
+            (length self.new.walk + cond (is_nonzero (value_at self.old.walk place)) 1 0
+            ≡ length self.old.walk
+            + cond (is_nonzero (value_at self.old.walk place +ℤ delta)) 1 0) }
+        ensures err { OnErr result (self.new ≡ self.old) }
+
+        // when it is refused
+        ensures overflow { IsErrOf result SparseCause.Overflow
+            ↔ ¬ (FitsSigned w64 (value_at self.old.walk place +ℤ delta)) }
+        ensures new_place { IsErrOf result SparseCause.Memory
+            → value_at self.old.walk place ≡ pos 0 }
+        ensures nonzero { IsErrOf result SparseCause.Memory → delta ≢ pos 0 }
+        ensures too_large { IsErrOf result SparseCause.TooLarge
+            ↔ ((delta ≢ pos 0) × IsBeyondRange self.old place) }
+        ensures memory { IsErrOf result SparseCause.Memory
+            → IsNext self.old.capacity (length self.old.walk + 1) load_factor self.old.capacity
+            → 0 < class_size (λ key. key) self.old.walk self.old.capacity place }
+    {
+        let Some(sum) = self.get(place).checked_add(delta) else {
+            return Err(SparseCause::Overflow);
+        };
+        self.set(place, sum)?;
+        Ok(sum)
+    }
+
+    /// The sum of the products of the values of both vectors, over all places.
+    ///
+    /// It is taken place by place in the walk of the vector with fewer stored places, and of `self`
+    /// where both have as many. It is `None` exactly where a partial sum of that walk isn't an
+    /// `i128`. It takes no memory; it costs a step and a look-up for each of those places.
+    ///
+    /// ```text
+    /// {1: 2, 5: 3} and {5: 4, 7: 9}    Some(12)
+    /// ```
+    pub fn dot(&self, other: &SparseVec<A>) -> Option<i128>
+        ensures product { IfSome result (λ sum. sum ≡ product self.now.walk other.now.walk) }
+        ensures none { IsNone result ↔ HasWideSum (products self.now.walk other.now.walk) }
+    {
+        if other.len() < self.len() {
+            other.dot_along(self)
+        } else {
+            self.dot_along(other)
+        }
+    }
+
+    /// The same, taken in the walk of this vector.
+    fn dot_along(&self, other: &SparseVec<A>) -> Option<i128>
+        ensures product { IfSome result (λ sum. sum ≡ product self.now.walk other.now.walk) }
+        ensures none { IsNone result ↔ HasWideSum (products_along self.now.walk other.now.walk) }
+    {
+        let mut sum = 0i128;
+        for (place, value) in self.iter() {
+            let term = *value as i128 * other.get(*place) as i128;
+            let Some(more) = sum.checked_add(term) else {
+                return None;
+            };
+            sum = more;
+        }
+        Some(sum)
+    }
+
+    /// The number of stored places: of those whose value isn't 0. It is never refused.
+    pub fn len(&self) -> usize
+        ensures value { result ≡ length self.now.walk }
+        ensures count { result ≡ count_of_nonzero self.now.walk }
+        ensures vector { IsVector self.now.walk }
+    {
+        self.values.len()
+    }
+
+    /// Whether every place has the value 0. It is never refused.
+    pub fn is_empty(&self) -> bool
+        ensures value { result ≡ (length self.now.walk == 0) }
+        ensures zeros { IsTrue result ↔ HaveSameValues self.now.walk [] }
+    {
+        self.values.is_empty()
+    }
+
+    /// The stored places and their values by reference, in the order of the walk. It is never
+    /// refused, and nor is a step of the iterator.
+    ///
+    /// ```text
+    /// for (place, value) in vector.iter()    1 and 2, then 5 and 3
+    /// ```
+    pub fn iter(&self) -> Iter<'_, u64, i64, A>
+        ensures walk { result ≡ self.now.walk }
+        ensures vector { IsVector self.now.walk }
+    {
+        self.values.iter()
+    }
+}
+
+impl<'a, A: Allocator + Copy> IntoIterator for &'a SparseVec<A> {
+    type Item = (&'a u64, &'a i64);
+
+    type IntoIter = Iter<'a, u64, i64, A>;
+
+    ghost into_iter_gives = { λ vector it. it ≡ vector.now.walk };
+
+    fn into_iter(self) -> Iter<'a, u64, i64, A> {
+        self.iter()
+    }
+}
+
+impl<A: Allocator + Copy> IntoIterator for SparseVec<A> {
+    type Item = (u64, i64);
+
+    type IntoIter = IntoIter<u64, i64, A>;
+
+    ghost into_iter_gives = { λ vector it. it ≡ vector.walk };
+
+    /// The stored places and their values, in the order of the walk. It is never refused, and nor is
+    /// a step of the iterator.
+    fn into_iter(self) -> IntoIter<u64, i64, A> {
+        self.values.into_iter()
+    }
+}
+
+impl<A: Allocator + Copy> fmt::Debug for SparseVec<A> {
+    /// Writes the stored places and their values in the order of the walk, as `{1: 2, 5: 3}`, and
+    /// `{}` where there is none. It looks at no flag of the format. It fails only where the writer
+    /// does.
+    fn fmt<W: fmt::Write>(&self, f: &mut fmt::Formatter<W>) -> fmt::Result {
+        write!(f, "{:?}", self.values)
+    }
+}

@@ -1,0 +1,27 @@
+//! Equality, which is of the values at all places.
+ghost use Rattle.intmap_sparse.specs.Vectors.{vectors_equal};
+ghost use Rattle.intmap_sparse.specs.EqualityLaws.{IsPartialEquivalence-vectors_equal, IsEquivalence-vectors_equal};
+
+use crate::vector::SparseVec;
+use std::alloc::Allocator;
+
+impl<A: Allocator + Copy> PartialEq for SparseVec<A> {
+    ghost eq = { vectors_equal };
+
+    ghost laws = { IsPartialEquivalence-vectors_equal };
+
+    /// Whether both vectors have the same value at every place. The order of the walks doesn't
+    /// matter, nor does the number of slots. It is never refused.
+    ///
+    /// ```text
+    /// set(0, 1) and then set(4, 2), or the other way round: the vectors are equal
+    /// with set(8, 3) and set(8, 0) behind them they still are
+    /// ```
+    fn eq(&self, other: &SparseVec<A>) -> bool {
+        self.values == other.values
+    }
+}
+
+impl<A: Allocator + Copy> Eq for SparseVec<A> {
+    ghost laws = { IsEquivalence-vectors_equal };
+}
