@@ -1,5 +1,5 @@
 //! One slot of a table: the first pair in its place, the rest behind it.
-ghost use Rattle.std.specs.Prelude.{◌≡◌, ◌+◌, ◌^◌, ◌<◌, ◌≤◌, [], ◌∷◌, ◌++◌, length, reverse, position, swap_remove, slice_index_or, nat_lt, vec_capacity, true, None, Some, OnOk, OnErr, IfOk, IfErr, option_copied};
+ghost use Rattle.std.specs.Prelude.{◌≡◌, ◌+◌, ◌^◌, ◌<◌, ◌≤◌, ◌==◌, [], ◌∷◌, ◌++◌, length, reverse, position, swap_remove, slice_index_or, nat_lt, vec_capacity, true, None, Some, OnOk, OnErr, IfOk, IfErr, IfSome, IfNone, IsNone, option_copied};
 ghost use Rattle.intmap.specs.Classes.{same_key};
 ghost use Rattle.intmap.specs.Bindings.{swap_out, value_of};
 ghost use Rattle.intmap.specs.Reach.{through_first};
@@ -31,15 +31,16 @@ fn find_in<K: IntKey, X>(pairs: &[(Stored<K>, X)], key: &K, steps: &mut Steps) -
 
 /// The place of the key's pair, counted from the back. The pairs are compared from the back, each by
 /// one step.
+#[cold]
 #[inline(never)]
-fn find_back_in<K: IntKey, X>(pairs: &[(Stored<K>, X)], key: &K, steps: &mut Steps) -> Option<usize>
+fn find_back_in<K: IntKey, X>(pairs: &[(Stored<K>, X)], key: K, steps: &mut Steps) -> Option<usize>
     ensures place { result
-        ≡ position (λ p. same_key K.number_of key.now p.0) (reverse pairs.now) }
+        ≡ position (λ p. same_key K.number_of key p.0) (reverse pairs.now) }
     ensures counted { steps.new ≡ steps.old
-        + length (through_first (λ p. same_key K.number_of key.now p.0) (reverse pairs.now)) }
+        + length (through_first (λ p. same_key K.number_of key p.0) (reverse pairs.now)) }
 {
     for i in 0..pairs.len() {
-        if pairs[pairs.len() - 1 - i].0.matches(key, steps) {
+        if pairs[pairs.len() - 1 - i].0.matches(&key, steps) {
             return Some(i);
         }
     }
@@ -67,6 +68,21 @@ fn take_in<K: IntKey, X, A: Allocator>(
     Some(value)
 }
 
+/// Turns the pairs of a slot round, which lie the last first.
+#[cold]
+#[inline(never)]
+fn turn<P, A: Allocator>(first: &mut Option<P>, rest: &mut Vec<P, A>)
+    requires { IsNone first.old }
+    ensures pairs { all_pairs first.new rest.new.items ≡ reverse rest.old.items }
+    ensures order { IsFilledInOrder first.new rest.new.items }
+    ensures room { vec_capacity rest.new ≡ vec_capacity rest.old }
+{
+    match mem::replace(first, rest.pop()) {
+        None => rest.reverse(),
+        Some(_) => unreachable!(),
+    }
+}
+
 /// Puts the pairs of a slot in order, where they lie the last first.
 #[inline(always)]
 fn set_in_order<P, A: Allocator>(first: &mut Option<P>, rest: &mut Vec<P, A>)
@@ -74,11 +90,8 @@ fn set_in_order<P, A: Allocator>(first: &mut Option<P>, rest: &mut Vec<P, A>)
     ensures order { IsFilledInOrder first.new rest.new.items }
     ensures room { vec_capacity rest.new ≡ vec_capacity rest.old }
 {
-    if first.is_none() {
-        match mem::replace(first, rest.pop()) {
-            None => rest.reverse(),
-            Some(_) => unreachable!(),
-        }
+    if first.is_none() && !rest.is_empty() {
+        turn(first, rest);
     }
 }
 
@@ -135,7 +148,10 @@ impl<K: IntKey, X, A: Allocator> Slot<K, X, A> {
             + length (through_first (λ p. same_key K.number_of key.now p.0) self.now.pairs) }
     {
         let Some(first) = &self.first else {
-            let Some(place) = find_back_in(&self.rest, key, steps) else {
+            if self.rest.is_empty() {
+                return None;
+            }
+            let Some(place) = find_back_in(&self.rest, *key, steps) else {
                 return None;
             };
             return Some(&self.rest[self.rest.len() - 1 - place].1);
@@ -156,7 +172,10 @@ impl<K: IntKey, X, A: Allocator> Slot<K, X, A> {
             + length (through_first (λ p. same_key K.number_of key.now p.0) self.now.pairs) }
     {
         let Some(first) = &self.first else {
-            return find_back_in(&self.rest, key, steps);
+            if self.rest.is_empty() {
+                return None;
+            }
+            return find_back_in(&self.rest, *key, steps);
         };
         if first.0.matches(key, steps) {
             return Some(0);
@@ -270,6 +289,19 @@ impl<K: IntKey, X, A: Allocator> Slot<K, X, A> {
         }
     }
 
+    /// Takes the pair out that has no other beside it. Where there is none, or where there are more,
+    /// it answers `None` and changes nothing.
+    #[inline(always)]
+    pub(crate) fn take_lone(&mut self) -> Option<(Stored<K>, X)>
+        ensures lone { IfSome result (λ pair. self.old.pairs ≡ pair ∷ []) }
+        ensures others { IfNone result (self.new.pairs ≡ self.old.pairs) }
+    {
+        if !self.rest.is_empty() {
+            return None;
+        }
+        self.first.take()
+    }
+
     /// Takes the first pair out. The others keep their order, and lie the last first from then on,
     /// so that all pairs together are turned round once and then taken out in one step each.
     pub(crate) fn take_front(&mut self) -> (Stored<K>, X)
@@ -322,10 +354,13 @@ impl<K: IntKey, X, A: Allocator> Slot<K, X, A> {
     }
 
     /// Takes the pair of the key out, and the last pair takes its place. The keys are compared as
-    /// by [`get`](Slot::get).
+    /// by [`get`](Slot::get). Beside the value it answers whether no pair is left.
     #[inline(always)]
-    pub(crate) fn take(&mut self, key: &K, steps: &mut Steps) -> Option<X>
-        ensures value { result ≡ value_of K.number_of self.old.pairs key.now }
+    pub(crate) fn take(&mut self, key: &K, steps: &mut Steps) -> Option<(X, bool)>
+        ensures value { IfSome result (λ taken.
+            value_of K.number_of self.old.pairs key.now ≡ Some taken.0) }
+        ensures missing { IfNone result (value_of K.number_of self.old.pairs key.now ≡ None) }
+        ensures emptied { IfSome result (λ taken. taken.1 ≡ (length self.new.pairs == 0)) }
         ensures pairs { self.new.pairs
             ≡ swap_out (λ p. same_key K.number_of key.now p.0) (λ p. true) self.old.pairs }
         ensures counted { steps.new ≡ steps.old
@@ -336,10 +371,14 @@ impl<K: IntKey, X, A: Allocator> Slot<K, X, A> {
             return None;
         };
         if first.0.matches(key, steps) {
+            let emptied = self.rest.is_empty();
             let (_, value) = self.take_first();
-            return Some(value);
+            return Some((value, emptied));
         }
-        take_in(&mut self.rest, key, steps)
+        let Some(value) = take_in(&mut self.rest, key, steps) else {
+            return None;
+        };
+        Some((value, false))
     }
 }
 

@@ -70,21 +70,28 @@ fn place_each<K: IntKey, X: Drop, A: Allocator>(
     }
 }
 
-/// Puts the pairs of a slot, in order, at the ends of their slots, where there is room for them.
+/// Takes the pairs of an old slot out and puts them, in order, at the ends of their slots, where
+/// there is room for them.
+#[inline(always)]
 fn place_slot<K: IntKey, X: Drop, A: Allocator>(
     bits: &mut Bits<A>,
     slots: &mut [Slot<K, X, A>],
-    slot: Slot<K, X, A>,
+    old: &mut Slot<K, X, A>,
+    alloc: A,
     placed: &mut Steps,
 )
     requires marks { AreMarked (rows slots.old) bits.old }
     requires capacity { IsCapacity (length slots.old) }
-    requires room { HasRoom K.number_of slots.old slot.pairs }
-    ensures pairs { IsPlaced K.number_of slots.old slot.pairs slots.new }
-    ensures placed { placed.new ≡ placed.old + length slot.pairs }
+    requires room { HasRoom K.number_of slots.old old.old.pairs }
+    ensures pairs { IsPlaced K.number_of slots.old old.old.pairs slots.new }
+    ensures placed { placed.new ≡ placed.old + length old.old.pairs }
     ensures marks { AreMarked (rows slots.new) bits.new }
 {
-    let (first, rest) = slot.into_parts();
+    if let Some(lone) = old.take_lone() {
+        place(bits, slots, lone, placed);
+        return;
+    }
+    let (first, rest) = mem::replace(old, Slot::new(alloc)).into_parts();
     let Some(pair) = first else {
         return;
     };
@@ -111,7 +118,6 @@ pub(super) fn place_all<K: IntKey, X: Drop, A: Allocator + Copy>(
 {
     let alloc = *old.allocator();
     for index in old_bits.iter() {
-        let slot = mem::replace(&mut old[index], Slot::new(alloc));
-        place_slot(bits, slots, slot, placed);
+        place_slot(bits, slots, &mut old[index], alloc, placed);
     }
 }

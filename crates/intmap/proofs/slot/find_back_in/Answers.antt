@@ -6,12 +6,12 @@ use Rattle.intmap.proofs.PositionLemmas.{IsFound, IsFound-here, IsPassed-more}
 use Rattle.intmap.proofs.slot.find_back_in.Goals as goal
 
 -- the pair is the key's, and those behind it aren't
-found : (g : _) (c : goal.Then-matches g) → IsFound (λ p. same_key g.K.IntKey.number_of c.args.key.now p.0) (reverse c.args.pairs.now) c.loop-i.i
+found : (g : _) (c : goal.Then-matches g) → IsFound (λ p. same_key g.K.IntKey.number_of c.args.key p.0) (reverse c.args.pairs.now) c.loop-i.i
 found g c =
     let pairs = c.args.pairs.now in
     let pair = c.index-pairs-pairs.result in
     let below : c.loop-i.i < length (reverse pairs) = let same = length-reverse pairs in omega (arith, c.loop-i-test.true, same) in
-    let test = λ (p : g.row.K.Denot × g.row.X.Denot). same_key g.K.IntKey.number_of c.args.key.now p.0 in
+    let test = λ (p : g.row.K.Denot × g.row.X.Denot). same_key g.K.IntKey.number_of c.args.key p.0 in
     IsFound-here test (reverse pairs) c.loop-i.i pair below (ap test (get_or-reverse pairs c.loop-i.i pair c.loop-i-test.true) ∙ sym c.matches.ensures.same ∙ c.if-matches.true) c.loop-i.invariant.passed
 
 pub returns-then-matches-clause-place : goal.returns-then-matches-clause-place
@@ -25,7 +25,7 @@ loop-i-preserved g c =
     let pairs = c.args.pairs.now in
     let pair = c.index-pairs-pairs.result in
     let below : c.loop-i.i < length (reverse pairs) = let same = length-reverse pairs in omega (arith, c.loop-i-test.true, same) in
-    let test = λ (p : g.row.K.Denot × g.row.X.Denot). same_key g.K.IntKey.number_of c.args.key.now p.0 in
+    let test = λ (p : g.row.K.Denot × g.row.X.Denot). same_key g.K.IntKey.number_of c.args.key p.0 in
     record {
       passed = IsPassed-more test (reverse pairs) c.loop-i.i pair below (ap test (get_or-reverse pairs c.loop-i.i pair c.loop-i-test.true) ∙ sym c.matches.ensures.same ∙ c.if-matches.false) c.loop-i.invariant.passed;
       counted = omega (arith, c.matches.ensures.counted, c.loop-i.invariant.counted);

@@ -8,7 +8,7 @@ use Rattle.intmap.proofs.MarkedLemmas.{AllPairs-marked_places}
 use Rattle.intmap.proofs.MoveLemmas.{HasRoom-first, HasRoom-more, IsPlaced-none, IsPlaced-more}
 use Rattle.intmap.proofs.TableLemmas.{get_or-rows}
 use Rattle.intmap.proofs.table.place.place_all.Goals as goal
-use Rattle.intmap.proofs.table.place.place_all.Goals.{In-Some, After-replace-slot}
+use Rattle.intmap.proofs.table.place.place_all.Goals.{In-Some, After-index_mut}
 
 pub loop-index-init : goal.loop-index-init
 loop-index-init g c =
@@ -32,16 +32,16 @@ index_mut-requires g c =
     let below = here g (goal.at.index_mut-requires g c).In-Some in let len = c.loop-index.old.ok.0 in omega (arith, below, len)
 
 -- the pairs that are left are those of the slot at hand and those behind it
-left : (g : _) (c : After-replace-slot g) → c.in-Some.index < length c.loop-index.old.items → pairs_at (rows c.loop-index.old.items) c.loop-index.index-iterator ≡ c.replace-slot.result.pairs ++ pairs_at (rows c.loop-index.old.items) c.next.new.self
+left : (g : _) (c : After-index_mut g) → c.in-Some.index < length c.loop-index.old.items → pairs_at (rows c.loop-index.old.items) c.loop-index.index-iterator ≡ c.index_mut.result.now.pairs ++ pairs_at (rows c.loop-index.old.items) c.next.new.self
 left g c below =
     let old = c.loop-index.old.items in let rest = pairs_at (rows old) c.next.new.self in
-    let row = get_or-rows old c.in-Some.index c.index_mut.result.now below ∙ ap (λ h. h.pairs) (sym (c.replace-slot.ensures.value ∙ c.index_mut.ensures.value)) in
+    let row = get_or-rows old c.in-Some.index c.index_mut.result.now below ∙ ap (λ h. h.pairs) (sym c.index_mut.ensures.value) in
     rw c.in-Some.ensures.steps (ap (λ ps. ps ++ rest) row)
 
 pub place_slot-requires-clause-room : goal.place_slot-requires-clause-room
 place_slot-requires-clause-room g c =
     let at = goal.at.place_slot-requires-clause-room g c in
-    HasRoom-first _ _ c.replace-slot.result.pairs _ (rw (left g at.After-replace-slot (here g at.In-Some)) at c.loop-index.invariant.room)
+    HasRoom-first _ _ c.index_mut.result.now.pairs _ (rw (left g at.After-index_mut (here g at.In-Some)) at c.loop-index.invariant.room)
 
 pub place_slot-requires-clause-capacity : goal.place_slot-requires-clause-capacity
 place_slot-requires-clause-capacity g c = rw c.loop-index.invariant.capacity c.requires.capacity
@@ -49,14 +49,14 @@ place_slot-requires-clause-capacity g c = rw c.loop-index.invariant.capacity c.r
 pub loop-index-preserved : goal.loop-index-preserved
 loop-index-preserved g c =
     let loop = c.loop-index.invariant in let old = c.loop-index.old.items in let i = c.in-Some.index in
-    let at = goal.at.loop-index-preserved g c in let all = left g at.After-replace-slot (here g at.In-Some) in
+    let at = goal.at.loop-index-preserved g c in let all = left g at.After-index_mut (here g at.In-Some) in
     let ascending = rw c.in-Some.ensures.steps at loop.ascending in
     let apart : All (λ j. i ≢ j) c.next.new.self = λ k d below q. let less = ascending 0 (suc k) d (omega arith) (omega (arith, below)) in omega (arith, less, q) in
-    let pairs = c.replace-slot.result.pairs in let rest = pairs_at (rows old) c.next.new.self in
-    let same : pairs_at (rows (set old i c.replace-slot.new.dest)) c.next.new.self ≡ rest =
-    ap (λ R. pairs_at R c.next.new.self) (map-set (λ h. h.pairs) old i c.replace-slot.new.dest) ∙ pairs_at-set (rows old) i c.replace-slot.new.dest.pairs c.next.new.self apart in
+    let pairs = c.index_mut.result.now.pairs in let rest = pairs_at (rows old) c.next.new.self in
+    let same : pairs_at (rows (set old i c.place_slot.new.old)) c.next.new.self ≡ rest =
+    ap (λ R. pairs_at R c.next.new.self) (map-set (λ h. h.pairs) old i c.place_slot.new.old) ∙ pairs_at-set (rows old) i c.place_slot.new.old.pairs c.next.new.self apart in
     rw same (record {
-      within = rw (length-set old i c.replace-slot.new.dest) (All-tail (λ place. place < length old) i c.next.new.self (rw c.in-Some.ensures.steps at loop.within));
+      within = rw (length-set old i c.place_slot.new.old) (All-tail (λ place. place < length old) i c.next.new.self (rw c.in-Some.ensures.steps at loop.within));
       ascending = λ j k d less below. ascending (suc j) (suc k) d (omega (arith, less)) (omega (arith, below));
       room = HasRoom-more _ _ _ pairs _ (rw all at loop.room) c.place_slot.ensures.pairs;
       pairs = λ T placed. loop.pairs T (rw all (IsPlaced-more _ _ _ _ pairs rest c.place_slot.ensures.pairs placed));
