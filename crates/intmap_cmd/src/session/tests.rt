@@ -9,6 +9,8 @@ use std::test::Fail;
 mod plain_list;
 mod refusals;
 
+use refusals::OF_ALL_KINDS;
+
 /// Gives its bytes a few at a time. Each read is first interrupted, and in place of the end it may
 /// fail.
 #[derive(Drop)]
@@ -96,7 +98,7 @@ const INPUT: &[u8] = b"insert 0 10\nlen\n\nwalk\n";
 const OUTPUT: &[u8] = b"none\n1\n{0: 10}\n";
 
 /// Texts, each with its status, its output and what is told of it.
-const SESSIONS: [(&[u8], u8, &[u8], &[u8]); 20] = [
+const SESSIONS: [(&[u8], u8, &[u8], &[u8]); 22] = [
     (b"", 0, b"", b""),
     (b"\n \r\n", 0, b"", b""),
     (INPUT, 0, OUTPUT, b""),
@@ -189,6 +191,30 @@ const SESSIONS: [(&[u8], u8, &[u8], &[u8]); 20] = [
     ),
     (b"len\nget\t1\n", 2, b"", b"line 2: not a command\n"),
     (b"len\nget +1\n", 2, b"", b"line 2: not a command\n"),
+    (b"  get   1  \nlen\r\n\r\nlen", 0, b"none\n0\n0\n", b""),
+    (
+        b"extend\nextend 0 10 4 14\nload_rate\nassert_count\ncollisions\n",
+        0,
+        b"done\ndone\n500\ntrue\n{2: 1}\n",
+        b"",
+    ),
+];
+
+/// Lines of which none is a command.
+const NO_COMMANDS: [&[u8]; 13] = [
+    b"insert 1 2 3",
+    b"get -1",
+    b"get +1",
+    b"get 01",
+    b"get 18446744073709551616",
+    b"Get 1",
+    b"extend 1",
+    b"walk 1",
+    b"get\t1",
+    b"get",
+    b"\xff",
+    b"get 1\xff",
+    b"len\r\r",
 ];
 
 #[test]
@@ -200,6 +226,23 @@ fn sessions_answer_their_texts(rt: HostRuntime) -> Result<(), Fail> {
         assert_eq!(rt; got, status, "{text:?}");
         assert_eq!(rt; written.as_slice(), output, "{text:?}");
         assert_eq!(rt; told.as_slice(), faults, "{text:?}");
+    }
+    Ok(())
+}
+
+#[test]
+fn a_line_that_is_no_command_is_told_and_nothing_is_written(rt: HostRuntime) -> Result<(), Fail> {
+    for line in NO_COMMANDS {
+        let mut written = Vec::new(rt.alloc());
+        let mut told = Vec::new(rt.alloc());
+        let got = serve(rt.alloc(), &mut { line }, &mut written, &mut told);
+        assert_eq!(rt; got, 2, "{line:?}");
+        assert!(rt; written.is_empty(), "{line:?}");
+        assert_eq!(rt;
+            told.as_slice(),
+            b"line 1: not a command\n".as_slice(),
+            "{line:?}"
+        );
     }
     Ok(())
 }
@@ -224,7 +267,7 @@ fn an_interrupted_read_is_asked_again(rt: HostRuntime) -> Result<(), Fail> {
 
 #[test]
 fn a_failing_input_comes_before_all_else(rt: HostRuntime) -> Result<(), Fail> {
-    for text in [INPUT, b"x\nlen\n"] {
+    for text in [INPUT, OF_ALL_KINDS, b"x\nlen\n"] {
         for length in 0..=text.len() {
             let mut written = Vec::new(rt.alloc());
             let mut told = Vec::new(rt.alloc());
@@ -240,13 +283,19 @@ fn a_failing_input_comes_before_all_else(rt: HostRuntime) -> Result<(), Fail> {
 
 #[test]
 fn a_failing_output_holds_what_it_took(rt: HostRuntime) -> Result<(), Fail> {
-    for room in 0..OUTPUT.len() {
-        let mut written = Limited::new(rt.alloc(), room, true);
-        let mut told = Vec::new(rt.alloc());
-        let got = serve(rt.alloc(), &mut { INPUT }, &mut written, &mut told);
-        assert_eq!(rt; got, 4, "with room for {room} bytes");
-        assert_eq!(rt; written.held.as_slice(), &OUTPUT[..room]);
-        assert_eq!(rt; told.as_slice(), b"output failed\n".as_slice());
+    for text in [INPUT, OF_ALL_KINDS] {
+        let mut whole = Vec::new(rt.alloc());
+        let mut none = Vec::new(rt.alloc());
+        let got = serve(rt.alloc(), &mut { text }, &mut whole, &mut none);
+        assert_eq!(rt; got, 0);
+        for room in 0..whole.len() {
+            let mut written = Limited::new(rt.alloc(), room, true);
+            let mut told = Vec::new(rt.alloc());
+            let got = serve(rt.alloc(), &mut { text }, &mut written, &mut told);
+            assert_eq!(rt; got, 4, "with room for {room} bytes");
+            assert_eq!(rt; written.held.as_slice(), &whole[..room]);
+            assert_eq!(rt; told.as_slice(), b"output failed\n".as_slice());
+        }
     }
     Ok(())
 }

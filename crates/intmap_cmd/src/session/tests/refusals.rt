@@ -25,7 +25,7 @@ const WITH_GROWTH: &[u8] =
     retain\nwalk\ndrain 0\ndrain 18446744073709551615\nkeys\nvalues\n";
 
 /// Each kind of command.
-const OF_ALL_KINDS: &[u8] =
+pub(super) const OF_ALL_KINDS: &[u8] =
     b"extend 0 10 4 14 8 18 12 21\nwalk\ncapacity\ninsert 4 5\nget_mut 9 7\n\
     entry_insert 8 3\nretain\nkeys\ndrain 1\nlen\nreserve 18446744073709551615\n\
     collisions\ninsert_checked 1 11\nget 12\ncontains_key 4\nremove 5\n\
