@@ -1,6 +1,7 @@
 //! Callers of a map from integer keys, each of which says in its own words what it does.
 #![tactic(auto)]
 
+pub mod bindings;
 pub mod counter;
 pub mod dense;
 pub mod documents;
