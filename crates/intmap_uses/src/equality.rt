@@ -50,6 +50,24 @@ pub fn cloned_and_compared<A: Allocator + Copy>(map: &IntMap<u64, u64, A>) -> Re
     Ok(clone == *map)
 }
 
+/// Clones the map, gives the clone more slots and another load factor, and answers whether it is
+/// still equal to the map, which it is.
+///
+/// Err: the clone was refused, or more slots were.
+pub fn grown_and_compared<A: Allocator + Copy>(
+    map: &IntMap<u64, u64, A>,
+    additional: usize,
+    thousandths: usize,
+) -> Result<bool, Cause>
+    ensures { IfOk result (λ equal. equal ≡ true) }
+{
+    laws::equal_maps_bind_the_same::<u64, u64>();
+    let mut clone = map.clone()?;
+    clone.reserve(additional)?;
+    clone.set_load_factor(thousandths)?;
+    Ok(clone == *map)
+}
+
 /// Whether a map is equal to itself, as it is where each value is.
 pub fn is_equal_to_itself<K: IntKey, V: Eq, A: Allocator + Copy>(map: &IntMap<K, V, A>) -> bool
     ensures { result ≡ true }
