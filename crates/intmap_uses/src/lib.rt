@@ -17,5 +17,6 @@ pub mod settings;
 pub mod tally;
 pub mod totals;
 pub mod values;
+pub mod walks;
 pub mod work;
 pub mod written;
