@@ -72,6 +72,16 @@ impl<V: Drop, A: Allocator + Copy> Dense<V, A> {
         self.values.get_counted(number, steps)
     }
 
+    /// How many slots hold a value: as many as numbers were handed out, since each value has one of
+    /// its own.
+    pub fn slots_in_use(&self) -> u64
+        ensures { result ≡ length self.now }
+    {
+        laws::bound_keys_are_below::<u64, V>();
+        laws::small_keys_fill_slots::<u64, V>();
+        self.values.load()
+    }
+
     /// How many numbers were handed out.
     pub fn len(&self) -> usize
         ensures { result ≡ length self.now }
