@@ -1,5 +1,5 @@
 //! Work by number: a queue whose jobs are taken out from the front of the walk.
-ghost use Rattle.std.specs.Prelude.{◌≡◌, [], ◌++◌, OnOk};
+ghost use Rattle.std.specs.Prelude.{◌≡◌, [], ◌++◌, IfOk, OnOk, OnErr, length, min};
 
 use intmap::IntMap;
 use std::alloc::{AllocError, Allocator};
@@ -27,4 +27,31 @@ pub fn work_off<V: Drop, A: Allocator + Copy>(
         left -= 1;
     }
     Ok(())
+}
+
+/// Takes so many jobs off the front of the queue, or all where there are fewer. Those that are taken,
+/// and then those that stay, are the queue as it was.
+///
+/// Err: there was no room for them; the queue stays as it is.
+pub fn take_first<V: Drop, A: Allocator + Copy>(
+    alloc: A,
+    queue: &mut IntMap<u64, V, A>,
+    count: usize,
+) -> Result<Vec<(u64, V), A>, AllocError>
+    ensures jobs { IfOk result (λ taken. taken.items ++ queue.new.walk ≡ queue.old.walk) }
+    ensures count { IfOk result
+        (λ taken. length taken.items ≡ min count (length queue.old.walk)) }
+    ensures capacity { queue.new.capacity ≡ queue.old.capacity }
+    ensures err { OnErr result (queue.new ≡ queue.old) }
+{
+    let wanted = count.min(queue.len());
+    let mut taken = Vec::with_capacity(alloc, wanted)?;
+    let mut jobs = queue.drain();
+    for _ in 0..wanted {
+        let Some(job) = jobs.next() else {
+            unreachable!();
+        };
+        taken.push_reserved(job);
+    }
+    Ok(taken)
 }
