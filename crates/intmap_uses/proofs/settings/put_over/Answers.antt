@@ -1,4 +1,4 @@
-use Rattle.std.proofs.Common.{◌≡◌, ap, ◌∙◌}
+use Rattle.std.proofs.Common.{ap, ◌∙◌}
 use Rattle.std.specs.Prelude.{Result, Ok, Err, OnOk, reverse}
 use Rattle.std.specs.Option.{option_or}
 use Rattle.std.proofs.IntoIterSteps.{All-taken}
