@@ -129,8 +129,40 @@ fn with_value(
             Ok(sum) => format!(in alloc; "{sum}"),
             Err(cause) => format!(in alloc; "{cause:?}"),
         },
+        "set_below" => set_below(alloc, vectors, place, value),
+        "add_below" => add_below(alloc, vectors, place, value),
         _ => no_call(alloc),
     }
+}
+
+// sets the value at each place below a number
+fn set_below(
+    alloc: Global,
+    vectors: &mut Vectors<'_>,
+    count: u64,
+    value: i64,
+) -> Result<String, AllocError> {
+    for place in 0..count {
+        if let Err(cause) = vectors.vector.set(place, value) {
+            return format!(in alloc; "{cause:?} at {place}");
+        }
+    }
+    done(alloc)
+}
+
+// adds to the value at each place below a number
+fn add_below(
+    alloc: Global,
+    vectors: &mut Vectors<'_>,
+    count: u64,
+    delta: i64,
+) -> Result<String, AllocError> {
+    for place in 0..count {
+        if let Err(cause) = vectors.vector.add(place, delta) {
+            return format!(in alloc; "{cause:?} at {place}");
+        }
+    }
+    done(alloc)
 }
 
 // a product, or that there is none
