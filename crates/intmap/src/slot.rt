@@ -449,8 +449,30 @@ impl<K: IntKey, X: Drop, A: Allocator> Slot<K, X, A> {
     }
 
     /// Where the key is bound, takes its pair out as [`take`](Slot::take) does, and adds the new one
-    /// at the end, which takes no memory. Where it isn't, the new value comes back.
+    /// at the end, which takes no memory. Where it isn't, the new value comes back. A slot without a
+    /// pair makes no call.
+    #[inline(always)]
     pub(crate) fn replace(&mut self, key: K, value: X, steps: &mut Steps) -> Result<X, X>
+        ensures old { IfOk result (λ old. value_of K.number_of self.old.pairs key ≡ Some old) }
+        ensures ok { OnOk result (self.new.pairs
+            ≡ swap_out (λ p. same_key K.number_of key p.0) (λ p. true) self.old.pairs
+            ++ (key, value) ∷ []) }
+        ensures missing { OnErr result (value_of K.number_of self.old.pairs key ≡ None) }
+        ensures err { OnErr result (self.new.pairs ≡ self.old.pairs) }
+        ensures value_returned { IfErr result (λ returned. returned ≡ value) }
+        ensures counted { steps.new ≡ steps.old
+            + length (through_first (λ p. same_key K.number_of key p.0) self.old.pairs) }
+    {
+        if self.is_filled() {
+            return self.replace_filled(key, value, steps);
+        }
+        Err(value)
+    }
+
+    /// As [`replace`](Slot::replace), where the slot holds a pair.
+    #[inline(never)]
+    fn replace_filled(&mut self, key: K, value: X, steps: &mut Steps) -> Result<X, X>
+        requires { 0 < length self.old.pairs }
         ensures old { IfOk result (λ old. value_of K.number_of self.old.pairs key ≡ Some old) }
         ensures ok { OnOk result (self.new.pairs
             ≡ swap_out (λ p. same_key K.number_of key p.0) (λ p. true) self.old.pairs

@@ -149,6 +149,7 @@ impl<K: IntKey, X, A: Allocator> Table<K, X, A> {
 impl<K: IntKey, X: Drop, A: Allocator> Table<K, X, A> {
     /// Where the key is bound, takes its pair out and puts the new one last in its slot, which
     /// takes no memory. Where it isn't, the new value comes back and nothing changes.
+    #[inline(always)]
     pub(crate) fn replace(&mut self, key: K, value: X, steps: &mut Steps) -> Result<X, X>
         ensures old { IfOk result (λ old. value_of K.number_of self.old.walk key ≡ Some old) }
         ensures walk { OnOk result (self.new.walk ≡ walk_of K.number_of

@@ -5,8 +5,8 @@ use Rattle.intmap.specs.Bindings.{swap_out}
 use Rattle.intmap.specs.Slots.{all_pairs, held_pairs}
 use Rattle.intmap.proofs.PositionLemmas.{swap_remove-position, first_value-position, first_value-none}
 use Rattle.intmap.proofs.SlotLemmas.{swap_remove-first, IsBehind, behind}
-use Rattle.intmap.proofs.slot.Slot.replace.Goals as goal
-use Rattle.intmap.proofs.slot.Slot.replace.Goals.{After-find_in}
+use Rattle.intmap.proofs.slot.Slot.replace_filled.Goals as goal
+use Rattle.intmap.proofs.slot.Slot.replace_filled.Goals.{After-find_in}
 
 -- the first pair stands before the rest
 pairs : (g : _) (c : After-find_in g) → c.args.self.now.pairs ≡ c.in-Some.first ∷ c.set_in_order.new.rest.items
