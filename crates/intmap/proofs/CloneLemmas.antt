@@ -1,5 +1,5 @@
 -- What clones of lists of pairs have in common with the lists that they were made of.
-use Rattle.std.proofs.Common.{◌≡◌, ℕ, ◌≤◌, Bool, true, false, cond, List, [], ◌∷◌, ◌++◌, length, Option, Some, None, refl, sym, ap, ◌∙◌, subst, arith}
+use Rattle.std.proofs.Common.{◌≡◌, ℕ, ◌≤◌, Bool, true, false, cond, List, [], ◌∷◌, ◌++◌, length, Some, None, refl, sym, ap, ◌∙◌, subst, arith}
 use mathlib.Core.List.{reverse_aux}
 use Rattle.std.specs.Prelude.{reverse, MatchOption}
 use Rattle.std.specs.List.{AllZip}
@@ -9,14 +9,16 @@ use Rattle.intmap.specs.Bindings.{value_of}
 use Rattle.intmap.specs.Classes.{same_key}
 use Rattle.intmap.specs.Cloning.{IsPairClone, BindsClones}
 use Rattle.intmap.specs.Kept.{unkept}
-use Rattle.intmap.specs.Slots.{Held, rows, joined, held_pairs}
+use Rattle.intmap.specs.Slots.{Empty, InOrder, Turned, Held, rows, joined, held_pairs}
+use Rattle.intmap.specs.declared.slot.first.First.{First}
 use Rattle.intmap.specs.declared.kept.Kept.{Kept}
 use Rattle.intmap.proofs.SameKeysLemmas.{row_keys}
 
 -- a slot holds at least the pairs of its rest
-pub length-held_pairs : {P : Type 0} (first : Option P) (rest : List P) → length rest ≤ length (held_pairs first rest)
-length-held_pairs None rest = omega (arith, length-reverse rest)
-length-held_pairs (Some p) rest = omega arith
+pub length-held_pairs : {P : Type 0} (first : First P) (rest : List P) → length rest ≤ length (held_pairs first rest)
+length-held_pairs Empty rest = omega arith
+length-held_pairs (InOrder p) rest = omega arith
+length-held_pairs (Turned p) rest = omega (arith, length-reverse rest)
 
 module _ {P Q : Type 0} (R : P → Q → Type 0) where
   -- two runs alike, one behind the other
@@ -46,11 +48,17 @@ module _ {K X : Type 0} (clones : X → X → Type 0) where
   abbrev pub IsSlotClone : Held K X → Held K X → Type 0
   IsSlotClone h g = AreClones h.pairs g.pairs
 
+  -- a first place with a clone of the pair, where there is one, and with the others behind it as they lay
+  abbrev pub IsFirstClone : First (K × X) → First (K × X) → Type 0
+  IsFirstClone Empty made = made ≡ Empty
+  IsFirstClone (InOrder p) made = (q : K × X) × (made ≡ InOrder q) × IsPairClone clones p q
+  IsFirstClone (Turned p) made = (q : K × X) × (made ≡ Turned q) × IsPairClone clones p q
+
   -- where the pairs that lie in a slot are cloned, those that it holds are
-  pub AreClones-held_pairs : (first made : Option (K × X)) (rest more : List (K × X)) → MatchOption first (made ≡ None) (λ p. (q : K × X) × (made ≡ Some q) × IsPairClone clones p q)
-      → AreClones rest more → AreClones (held_pairs first rest) (held_pairs made more)
-  AreClones-held_pairs None made rest more one all = rw one (AllZip-reverse (IsPairClone clones) rest more all)
-  AreClones-held_pairs (Some p) made rest more one all = rw one.1 (one.2, all)
+  pub AreClones-held_pairs : (first made : First (K × X)) (rest more : List (K × X)) → IsFirstClone first made → AreClones rest more → AreClones (held_pairs first rest) (held_pairs made more)
+  AreClones-held_pairs Empty made rest more one all = rw one all
+  AreClones-held_pairs (InOrder p) made rest more one all = rw one.1 (one.2, all)
+  AreClones-held_pairs (Turned p) made rest more one all = rw one.1 (one.2, AllZip-reverse (IsPairClone clones) rest more all)
 
   -- clones have the keys
   pub keys_of-AreClones : (L M : List (K × X)) → AreClones L M → keys_of L ≡ keys_of M

@@ -42,7 +42,7 @@ pub mod OpensVecLemmas
 pub mod OpensStructLemmas
 pub mod OpensTurnedLemmas
 pub mod OpensPairLemmas
-pub mod OpensOptionLemmas
+pub mod OpensFirstLemmas
 pub mod OpensSlotLemmas
 pub mod OpensTableLemmas
 pub mod LendByLemmas

@@ -1,8 +1,8 @@
 -- A slot, whose values are lent. Assumes `Logic`.
-use mathlib.Core.Path.{◌≡◌, refl, ap, sym, ◌∙◌}
+use mathlib.Core.Path.{◌≡◌, refl, ap, sym, subst, ◌∙◌}
 use Prim.Native.Nat.{ℕ, ◌+◌}
 use native.Mathlib.Omega.{arith}
-use mathlib.Core.List.{List, [], ◌∷◌, ◌++◌, reverse}
+use mathlib.Core.List.{List, [], ◌∷◌, ◌++◌, reverse, cons≢nil}
 use lib.ListN.{length, take, drop, length-reverse}
 use seplogic.Ra.Ura.{Ura}
 use base.Fraction.{full_share}
@@ -20,10 +20,8 @@ use denote.Struct.Field.{RawPtr-field, usize-field, row_field, rows}
 use denote.Struct.Members.{Member, rows_of, Lones}
 use denote.Struct.Parts.{shape_of}
 use denote.Struct.Struct.{Struct}
-use Rattle.std.specs.Prelude.{Option, Some, None, is_none}
 use Rattle.std.specs.contracts.vec.Vec as V-type
 use Rattle.std.proofs.vec.Vec.TheLaws as V-laws
-use Rattle.std.proofs.option.Option.TheLaws as Op-laws
 use Rattle.std.specs.declared.alloc.Allocator as allocator
 use Rattle.std.specs.declared.cmp.PartialEq as eq
 use Rattle.intmap.specs.declared.key.IntKey as key
@@ -31,17 +29,19 @@ use Rattle.intmap.specs.declared.kept.Kept.{Kept}
 use denote.RawPtr.{Ptr}
 use Rattle.std.specs.Map.{values_of}
 use Rattle.intmap.specs.declared.slot.Slot as declared
+use Rattle.intmap.specs.declared.slot.first.First.{First}
 use Rattle.intmap.specs.contracts.slot.Slot as L-type
 use Rattle.intmap.specs.contracts.slot.Slot.TheInside as I-type
-use Rattle.intmap.specs.Slots.{Held, held_pairs}
+use Rattle.intmap.specs.Slots.{Held, Empty, InOrder, Turned, first_pair, is_turned, held_pairs, IsFilledInOrder}
 use Rattle.intmap.specs.Values.{refilled}
+use Rattle.intmap.proofs.slot.first.First.TheLaws as F-laws
 use Rattle.intmap.proofs.ValuesLemmas.{kept, kept_pair, kept_pairs, refilled-turned, refilled_slot, kept_slot}
 use Rattle.intmap.proofs.OpensLemmas.{Opens, row_put, row_count, row_cells_in, row_fill}
 use Rattle.intmap.proofs.OpensVecLemmas.{vec_opens}
 use Rattle.intmap.proofs.OpensStructLemmas.{two_opens, view_opens}
 use Rattle.intmap.proofs.OpensTurnedLemmas.{in_turn, map-reverse, turned_opens}
 use Rattle.intmap.proofs.OpensPairLemmas.{V, K, Kr, Hr, Pr, PHr, pair_laws, pair_opens}
-use Rattle.intmap.proofs.OpensOptionLemmas.{Or, OHr, option_opens, option_put, option_fill, option_count, option_cells_in}
+use Rattle.intmap.proofs.OpensFirstLemmas.{Fr, FHr, first_opens, first_put, first_fill, first_count, first_cells_in}
 
 module _ (K' V' A' : RattleType) (g : key.Ghosts K'.Denot) (e : eq.Ghosts K'.Denot) (a : allocator.Ghosts A'.Denot) where
   abbrev pub A : RattleType
@@ -66,7 +66,7 @@ module _ (K' V' A' : RattleType) (g : key.Ghosts K'.Denot) (e : eq.Ghosts K'.Den
   SHr = L-type.the_row (K K' V' g e) (Hr V') A g e a
 
   abbrev pub m₁ : Member
-  m₁ = record { row = Or K' V' g e; ty = lone (Or K' V' g e).mir }
+  m₁ = record { row = Fr K' V' g e; ty = lone (Fr K' V' g e).mir }
 
   abbrev pub m₂ : Member
   m₂ = record { row = Vr; ty = lone Vr.mir }
@@ -86,7 +86,7 @@ module _ (K' V' A' : RattleType) (g : key.Ghosts K'.Denot) (e : eq.Ghosts K'.Den
   module _ (LK : Laws K') (LV : Laws V') (LA : Laws A') {M : Type 1} {𝓤 : Ura M} (𝓛 : Logic 𝓤) where
     pub ones : Lones (rows_of (m₁ ∷ m₂ ∷ []))
     ones = let P = pair_laws K' V' g e LK LV 𝓛 in
-        ((Op-laws.the_row_laws (Pr K' V' g e) P).single, ((V-laws.the_row_laws (Pr K' V' g e) A a P (copied_laws 2 A' LA)).single, tt))
+        ((F-laws.the_row_laws (Pr K' V' g e) P).single, ((V-laws.the_row_laws (Pr K' V' g e) A a P (copied_laws 2 A' LA)).single, tt))
 
     pub slot_apart : (s : Ir.Denot) (b o : ℕ) → ent 𝓤 (sem 𝓛 (part_at Ir full_share s b o)) (sem 𝓛 (part_at Two full_share (to_two s) b o))
     unfolding part_of
@@ -108,7 +108,7 @@ module _ (K' V' A' : RattleType) (g : key.Ghosts K'.Denot) (e : eq.Ghosts K'.Den
 
       abbrev pub field_opens : Opens 𝓛 (V V') Ir IHr l
       field_opens =
-          two_opens 𝓛 (V V') l m₁ m₂ (OHr K' V' g e) VHr ν (option_opens K' V' g e LK LV 𝓛 l ik iv) rest_opens ones
+          two_opens 𝓛 (V V') l m₁ m₂ (FHr K' V' g e) VHr ν (first_opens K' V' g e LK LV 𝓛 l ik iv) rest_opens ones
           Ir IHr to_two of_two (λ s. refl) slot_apart slot_whole (λ f r. record { first = f; rest = r }) (λ s. s.first) (λ s. s.rest) (λ f r. refl) (λ f r. refl) (λ f r b o κ. id⊢ 𝓤 _) refl
 
       abbrev P : Type 0
@@ -138,44 +138,64 @@ module _ (K' V' A' : RattleType) (g : key.Ghosts K'.Denot) (e : eq.Ghosts K'.Den
       cells-is [] = refl
       cells-is (p ∷ L) = ap (λ M. p.1 ∷ M) (cells-is L)
 
-      abbrev put_first : Option P → List V'.Denot → Option P
-      put_first = option_put K' V' g e LK LV 𝓛 l ik iv
+      abbrev put_first : First P → List V'.Denot → First P
+      put_first = first_put K' V' g e LK LV 𝓛 l ik iv
 
-      abbrev count_first : Option P → ℕ
-      count_first = option_count K' V' g e LK LV 𝓛 l ik iv
+      abbrev count_first : First P → ℕ
+      count_first = first_count K' V' g e LK LV 𝓛 l ik iv
 
-      abbrev fill_first : (OHr K' V' g e).Denot → Option P
-      fill_first = option_fill K' V' g e LK LV 𝓛 l ik iv
+      abbrev fill_first : (FHr K' V' g e).Denot → First P
+      fill_first = first_fill K' V' g e LK LV 𝓛 l ik iv
 
-      none-fill : (f : (OHr K' V' g e).Denot) → is_none (fill_first f) ≡ is_none f
-      none-fill None = refl
-      none-fill (Some h) = refl
+      turned-fill : (f : (FHr K' V' g e).Denot) → is_turned (fill_first f) ≡ is_turned f
+      turned-fill Empty = refl
+      turned-fill (InOrder h) = refl
+      turned-fill (Turned h) = refl
 
-      pub fields-agree : (s : Ir.Denot) (i : field_opens.Info s) (b o : ℕ) → is_none s.first ≡ is_none (field_opens.holed s i b o).first
-      fields-agree s i b o = sym (ap (λ (z : Ir.Denot). is_none z.first) (field_opens.filled s i b o)) ∙ none-fill (field_opens.holed s i b o).first
+      pub fields-agree : (s : Ir.Denot) (i : field_opens.Info s) (b o : ℕ) → is_turned s.first ≡ is_turned (field_opens.holed s i b o).first
+      fields-agree s i b o = sym (ap (λ (z : Ir.Denot). is_turned z.first) (field_opens.filled s i b o)) ∙ turned-fill (field_opens.holed s i b o).first
 
-      -- where there is no first pair, the rest lies turned
+      -- where the rest lies turned, the values behind the first do too
       abbrev pub inside_opens : Opens 𝓛 (V V') Ir IHr l
-      inside_opens = turned_opens 𝓛 (V V') Ir IHr l field_opens (λ s. is_none s.first) (λ h. is_none h.first) fields-agree
+      inside_opens = turned_opens 𝓛 (V V') Ir IHr l field_opens (λ s. is_turned s.first) (λ h. is_turned h.first) fields-agree
 
-      pairs-put : (f : Option P) (L : List P) (ws : List V'.Denot) → length ws ≡ count_first f + row_count 𝓛 (V V') (Pr K' V' g e) (PHr K' V' g e) l PO L
-          → held_pairs (put_first f (take (count_first f) (in_turn (is_none f) ws))) (puts L (drop (count_first f) (in_turn (is_none f) ws))) ≡ refilled kept (held_pairs f L) ws
-      pairs-put None L ws long = ap reverse (puts-is L (reverse ws)) ∙ refilled-turned kept L ws (let n = count-is L in omega (arith, n, long))
-      pairs-put (Some p) L [] long = ap (λ M. p ∷ M) (puts-none L)
-      pairs-put (Some p) L (w ∷ ws) long = ap (λ M. (p.0, kept w) ∷ M) (puts-is L ws)
+      pairs-put : (f : First P) (L : List P) (ws : List V'.Denot) → length ws ≡ count_first f + row_count 𝓛 (V V') (Pr K' V' g e) (PHr K' V' g e) l PO L
+          → held_pairs (put_first f (take (count_first f) (in_turn (is_turned f) ws))) (puts L (drop (count_first f) (in_turn (is_turned f) ws))) ≡ refilled kept (held_pairs f L) ws
+      pairs-put Empty L ws long = puts-is L ws
+      pairs-put (InOrder p) L [] long = ap (λ M. p ∷ M) (puts-none L)
+      pairs-put (InOrder p) L (w ∷ ws) long = ap (λ M. (p.0, kept w) ∷ M) (puts-is L ws)
+      pairs-put (Turned p) L [] long = ap (λ M. p ∷ reverse M) (puts-none L)
+      pairs-put (Turned p) L (w ∷ ws) long = ap (λ M. (p.0, kept w) ∷ M) (ap reverse (puts-is L (reverse ws)) ∙ refilled-turned kept L ws (let n = count-is L in omega (arith, n, long)))
 
-      pairs-count : (f : Option P) (L : List P) → count_first f + row_count 𝓛 (V V') (Pr K' V' g e) (PHr K' V' g e) l PO L ≡ length (held_pairs f L)
-      pairs-count None L = let n = count-is L in let m = length-reverse L in omega (arith, n, m)
-      pairs-count (Some p) L = let n = count-is L in omega (arith, n)
+      pairs-count : (f : First P) (L : List P) → count_first f + row_count 𝓛 (V V') (Pr K' V' g e) (PHr K' V' g e) l PO L ≡ length (held_pairs f L)
+      pairs-count Empty L = let n = count-is L in omega (arith, n)
+      pairs-count (InOrder p) L = let n = count-is L in omega (arith, n)
+      pairs-count (Turned p) L = let n = count-is L in let m = length-reverse L in omega (arith, n, m)
 
-      pairs-fill : (f : (OHr K' V' g e).Denot) (L : List (K'.Denot × (Ptr × V'.Denot))) → kept_pairs (held_pairs f L) ≡ held_pairs (fill_first f) (row_fill 𝓛 (V V') (Pr K' V' g e) (PHr K' V' g e) l PO L)
-      pairs-fill None L = map-reverse kept_pair L ∙ ap reverse (sym (fill-is L))
-      pairs-fill (Some h) L = ap (λ M. (h.0, kept h.1.1) ∷ M) (sym (fill-is L))
+      pairs-fill : (f : (FHr K' V' g e).Denot) (L : List (K'.Denot × (Ptr × V'.Denot))) → kept_pairs (held_pairs f L) ≡ held_pairs (fill_first f) (row_fill 𝓛 (V V') (Pr K' V' g e) (PHr K' V' g e) l PO L)
+      pairs-fill Empty L = sym (fill-is L)
+      pairs-fill (InOrder h) L = ap (λ M. (h.0, kept h.1.1) ∷ M) (sym (fill-is L))
+      pairs-fill (Turned h) L = ap (λ M. (h.0, kept h.1.1) ∷ M) (map-reverse kept_pair L ∙ ap reverse (sym (fill-is L)))
 
-      pairs-cells : (f : (OHr K' V' g e).Denot) (L : List (K'.Denot × (Ptr × V'.Denot)))
-          → in_turn (is_none f) (option_cells_in K' V' g e LK LV 𝓛 l ik iv f ++ row_cells_in 𝓛 (V V') (Pr K' V' g e) (PHr K' V' g e) l PO L) ≡ values_of (held_pairs f L)
-      pairs-cells None L = ap reverse (cells-is L) ∙ sym (map-reverse (λ p. p.1) L)
-      pairs-cells (Some h) L = ap (λ M. h.1 ∷ M) (cells-is L)
+      pairs-cells : (f : (FHr K' V' g e).Denot) (L : List (K'.Denot × (Ptr × V'.Denot)))
+          → in_turn (is_turned f) (first_cells_in K' V' g e LK LV 𝓛 l ik iv f ++ row_cells_in 𝓛 (V V') (Pr K' V' g e) (PHr K' V' g e) l PO L) ≡ values_of (held_pairs f L)
+      pairs-cells Empty L = cells-is L
+      pairs-cells (InOrder h) L = ap (λ M. h.1 ∷ M) (cells-is L)
+      pairs-cells (Turned h) L = ap (λ M. h.1 ∷ M) (ap reverse (cells-is L) ∙ sym (map-reverse (λ p. p.1) L))
+
+      -- where nothing stands behind an empty first place, nothing does with other values
+      filled-put : (f : First P) (L : List P) (vs ws : List V'.Denot) → IsFilledInOrder (first_pair f) L → IsFilledInOrder (first_pair (put_first f vs)) (puts L ws)
+      filled-put Empty L vs ws none = ap (λ M. puts M ws) none
+      filled-put (InOrder p) L vs ws ok = tt
+      filled-put (Turned p) L vs ws ok = tt
+
+      -- and nothing does with holes in the place of the values
+      filled-fill : (f : (FHr K' V' g e).Denot) (L : List (K'.Denot × (Ptr × V'.Denot)))
+          → IsFilledInOrder (first_pair (fill_first f)) (row_fill 𝓛 (V V') (Pr K' V' g e) (PHr K' V' g e) l PO L) → IsFilledInOrder (first_pair f) L
+      filled-fill Empty [] none = refl
+      filled-fill Empty (h ∷ L) none = absurd (cons≢nil none)
+      filled-fill (InOrder h) L ok = tt
+      filled-fill (Turned h) L ok = tt
 
       abbrev good : Ir.Denot → Type 0
       good = L-type.the_invariant (K K' V' g e) (Kr V') A g e a
@@ -192,8 +212,16 @@ module _ (K' V' A' : RattleType) (g : key.Ghosts K'.Denot) (e : eq.Ghosts K'.Den
       pub slot-puts : (s : Ir.Denot) (ws : List V'.Denot) → length ws ≡ inside_opens.count s → view (inside_opens.put s ws) ≡ refilled_slot (view s) ws
       slot-puts s ws long = λ i. record { pairs = pairs-put s.first s.rest.items ws long i; room = (view s).room }
 
+      pub slot-goods : (s : Ir.Denot) (ws : List V'.Denot) → good s → good (inside_opens.put s ws)
+      slot-goods s ws ok =
+          let us = in_turn (is_turned s.first) ws in
+          filled-put s.first s.rest.items (take (count_first s.first) us) (drop (count_first s.first) us) ok
+
       pub slot-counts : (s : Ir.Denot) → inside_opens.count s ≡ length (view s).pairs
       slot-counts s = pairs-count s.first s.rest.items
+
+      pub slot-holeds : (s : Ir.Denot) (i : inside_opens.Info s) (b o : ℕ) → good s → good' (inside_opens.holed s i b o)
+      slot-holeds s i b o ok = let h = inside_opens.holed s i b o in filled-fill h.first h.rest.items (subst good (sym (inside_opens.filled s i b o)) ok)
 
       pub slot-fills : (h : IHr.Denot) → kept_slot (view' h) ≡ view (inside_opens.fill h)
       slot-fills h = λ i. record { pairs = pairs-fill h.first h.rest.items i; room = (view' h).room }
@@ -207,4 +235,4 @@ module _ (K' V' A' : RattleType) (g : key.Ghosts K'.Denot) (e : eq.Ghosts K'.Den
           view_opens 𝓛 (V V') Ir IHr l inside_opens (Held K'.Denot (Kept V'.Denot)) (Held K'.Denot (Ptr × V'.Denot))
           (declared.the_code K'.Denot (Kr V').Denot A'.Denot K'.coded (Kr V').coded A'.coded) (declared.the_code K'.Denot (Hr V').Denot A'.Denot K'.coded (Hr V').coded A'.coded)
           view view' good good' refilled_slot (λ h. length h.pairs) kept_slot (λ h. values_of h.pairs)
-          slot-puts (λ s ws ok. tt) slot-counts (λ s i b o ok. tt) slot-fills slot-celleds
+          slot-puts slot-goods slot-counts slot-holeds slot-fills slot-celleds

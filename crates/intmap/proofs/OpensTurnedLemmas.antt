@@ -1,6 +1,6 @@
--- Values that are lent in the other order. Assumes `Logic`.
-use mathlib.Core.Path.{◌≡◌, refl, sym, ◌∙◌}
-use Prim.Native.Nat.{ℕ}
+-- Values that are lent, all but the first of them in the other order. Assumes `Logic`.
+use mathlib.Core.Path.{◌≡◌, refl, sym, ap, ◌∙◌}
+use Prim.Native.Nat.{ℕ, suc}
 use mathlib.Core.Bool.{Bool, true, false}
 use mathlib.Core.List.{List, [], ◌∷◌, map, reverse, reverse_aux, reverse-reverse}
 use lib.ListN.{length, length-reverse}
@@ -17,13 +17,15 @@ use denote.Memory.{part_at}
 use Rattle.intmap.specs.Apart.{each_at, places_of, contents_of}
 use Rattle.intmap.proofs.OpensLemmas.{Opens, Cells}
 
--- a list, and where it is turned, the last first
+-- a list, and where it is turned, what stands behind its first element the last first
 abbrev pub in_turn : {X : Type 0} → Bool → List X → List X
-in_turn true xs = reverse xs
+in_turn true [] = []
+in_turn true (x ∷ xs) = x ∷ reverse xs
 in_turn false xs = xs
 
 pub length-in_turn : {X : Type 0} (t : Bool) (xs : List X) → length (in_turn t xs) ≡ length xs
-length-in_turn true xs = length-reverse xs
+length-in_turn true [] = refl
+length-in_turn true (x ∷ xs) = ap suc (length-reverse xs)
 length-in_turn false xs = refl
 
 module _ {X Y : Type 0} (f : X → Y) where
@@ -47,19 +49,25 @@ module _ (V : RattleType) {M : Type 1} {𝓤 : Ura M} (𝓛 : Logic 𝓤) where
   pub turn_all : (cs : Cells V) (ws : List V.Denot) → ent 𝓤 (sem 𝓛 (each_at V (places_of cs) ws)) (sem 𝓛 (each_at V (places_of (reverse cs)) (reverse ws)))
   turn_all cs ws = qed 𝓛 (‵ (each_at V (places_of cs) ws) ∷ []) ∵ nothing ! $ move ! (1 ∷ 0 ∷ []) $ by ! (turn_onto cs [] ws [])
 
-  -- cells in the other order
+  -- the cells behind the first in the other order
   pub turn : (t : Bool) (cs : Cells V) → ent 𝓤 (sem 𝓛 (each_at V (places_of cs) (contents_of cs))) (sem 𝓛 (each_at V (places_of (in_turn t cs)) (contents_of (in_turn t cs))))
-  turn true cs = qed 𝓛 (‵ (each_at V (places_of cs) (contents_of cs)) ∷ []) ∵ use1 𝓛 (‵ (each_at V (places_of (reverse cs)) (reverse (contents_of cs)))) (turn_all cs (contents_of cs)) $
-      rewrite ! 0 (λ (l : List V.Denot). ‵ (each_at V (places_of (reverse cs)) l)) (sym (map-reverse (λ c. c.1) cs)) refl $ done !
+  turn true [] = id⊢ 𝓤 _
+  turn true (c ∷ cs) = qed 𝓛 (‵ (each_at V (places_of (c ∷ cs)) (contents_of (c ∷ cs))) ∷ []) ∵ fsplit ! $ move ! (1 ∷ []) $
+      use1 𝓛 (‵ (each_at V (places_of (reverse cs)) (reverse (contents_of cs)))) (turn_all cs (contents_of cs)) $
+      rewrite ! 0 (λ (l : List V.Denot). ‵ (each_at V (places_of (reverse cs)) l)) (sym (map-reverse (λ c. c.1) cs)) refl $ move ! (1 ∷ 0 ∷ []) $ fjoin ! $ done !
   turn false cs = id⊢ 𝓤 _
 
   -- and back, with other values
   pub turn_back : (t : Bool) (cs : Cells V) (ws : List V.Denot) → ent 𝓤 (sem 𝓛 (each_at V (places_of (in_turn t cs)) ws)) (sem 𝓛 (each_at V (places_of cs) (in_turn t ws)))
-  turn_back true cs ws = qed 𝓛 (‵ (each_at V (places_of (reverse cs)) ws) ∷ []) ∵ use1 𝓛 (‵ (each_at V (places_of (reverse (reverse cs))) (reverse ws))) (turn_all (reverse cs) ws) $
-      rewrite ! 0 (λ (l : Cells V). ‵ (each_at V (places_of l) (reverse ws))) (reverse-reverse cs) refl $ done !
+  turn_back true [] [] = id⊢ 𝓤 _
+  turn_back true [] (w ∷ ws) = never_e 𝓤 _
+  turn_back true (c ∷ cs) [] = never_e 𝓤 _
+  turn_back true (c ∷ cs) (w ∷ ws) = qed 𝓛 (‵ (each_at V (places_of (c ∷ reverse cs)) (w ∷ ws)) ∷ []) ∵ fsplit ! $ move ! (1 ∷ []) $
+      use1 𝓛 (‵ (each_at V (places_of (reverse (reverse cs))) (reverse ws))) (turn_all (reverse cs) ws) $
+      rewrite ! 0 (λ (l : Cells V). ‵ (each_at V (places_of l) (reverse ws))) (reverse-reverse cs) refl $ move ! (1 ∷ 0 ∷ []) $ fjoin ! $ done !
   turn_back false cs ws = id⊢ 𝓤 _
 
--- values of a type are lent, those of some in the other order
+-- values of a type are lent, those of some behind the first in the other order
 module _ {M : Type 1} {𝓤 : Ura M} (𝓛 : Logic 𝓤) (V R R' : RattleType) (l : Lft) (O : Opens 𝓛 V R R' l)
     (turned : R.Denot → Bool) (turned' : R'.Denot → Bool) (agree : (x : R.Denot) (i : O.Info x) (b o : ℕ) → turned x ≡ turned' (O.holed x i b o)) where
   abbrev pub turned_cells : (x : R.Denot) → O.Info x → ℕ → ℕ → List (Ptr × V.Denot)

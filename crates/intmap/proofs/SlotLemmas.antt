@@ -1,13 +1,13 @@
 -- What a search finds in a slot, of which the first pair is looked at apart from the rest, and what stands at a place of it.
 use Rattle.std.proofs.Common.{◌≡◌, ℕ, zero, suc, ◌+◌, ◌-◌, ◌<◌, Bool, true, false, List, [], ◌∷◌, length, get_or, set, Option, Some, None, refl, sym, ap, ◌∙◌, arith}
-use Rattle.std.specs.Borrow.{Bor}
-use Rattle.std.specs.Option.{option_copied}
-use Rattle.std.specs.Prelude.{swap_remove, not, cond, reverse, is_some}
-use Rattle.std.proofs.lemmas.Bool.{false≢true}
-use Rattle.std.proofs.lemmas.List.{get_or_default}
+use Rattle.std.specs.Prelude.{◌==◌, swap_remove, cond, reverse}
+use Rattle.std.proofs.lemmas.Option.{none-some, same_Some}
+use Rattle.std.proofs.lemmas.Bool.{ne_eqb}
+use Rattle.std.proofs.lemmas.List.{get_or_default, length-set, length-take-le}
 use Rattle.intmap.specs.Bindings.{swap_out, first_value}
 use Rattle.intmap.specs.Reach.{through_first}
-use Rattle.intmap.specs.Slots.{all_pairs, held_pairs, write_at, IsFilledInOrder}
+use Rattle.intmap.specs.Slots.{Empty, InOrder, Turned, all_pairs, first_pair, held_pairs, in_order, is_turned, write_at, IsFilledInOrder}
+use Rattle.intmap.specs.declared.slot.first.First.{First}
 use Rattle.intmap.proofs.SwapOutLemmas.{any}
 use Rattle.intmap.proofs.PositionLemmas.{IsPassed-none, IsFound-here, length-through_first-cons, swap_remove-position}
 
@@ -40,7 +40,7 @@ module _ {K X : Type 0} where
 
   -- a place behind the first is one of the rest
   pub write_at-behind : (first : Option (K × X)) (rest : List (K × X)) (i : ℕ) (p : K × X) (v : X) → 0 < i → i < length (all_pairs first rest) → IsFilledInOrder first rest → p ≡ get_or rest (i - 1) p
-      → held_pairs first (set rest (i - 1) (p.0, v)) ≡ write_at (all_pairs first rest) i v
+      → held_pairs (in_order first) (set rest (i - 1) (p.0, v)) ≡ write_at (all_pairs first rest) i v
   write_at-behind None rest i p v some below filled is = let none : length rest ≡ 0 = ap length filled in absurd (omega (arith, below, none, some))
   write_at-behind (Some f) rest i p v some below filled is =
       let step : i ≡ suc (i - 1) = omega (arith, some) in
@@ -54,12 +54,23 @@ module _ {K X : Type 0} where
       let within : i - 1 < length rest = omega (arith, below, some) in
       ap (λ (q : K × X). q.1) (is ∙ get_or_default rest (i - 1) p d within ∙ ap (λ n. get_or (f ∷ rest) n d) (sym step))
 
-  -- where the rest is gone through from the back exactly where there is no first pair, the pairs stand in order
-  pub held_pairs-turned : (first : Option (Bor (K × X))) (rest : List (K × X)) (b : Bool) → is_some first ≡ not b → all_pairs (option_copied first) (cond b (reverse rest) rest) ≡ held_pairs (option_copied first) rest
-  held_pairs-turned None rest true is = refl
-  held_pairs-turned None rest false is = absurd (false≢true is)
-  held_pairs-turned (Some first) rest true is = absurd (false≢true (sym is))
-  held_pairs-turned (Some first) rest false is = refl
+  -- the first place of pairs in order has the first pair
+  pub first_pair-in_order : (first : Option (K × X)) → first_pair (in_order first) ≡ first
+  first_pair-in_order None = refl
+  first_pair-in_order (Some f) = refl
+
+  -- of several pairs one is left when the first is taken out
+  pub swap_remove-more : (ps : List (K × X)) (d : K × X) → 0 < length ps → (length ps ≡ 1 → ⊥) → false ≡ (length (swap_remove ps 0 d) == 0)
+  swap_remove-more ps d some more =
+      let kept = length-set ps 0 (get_or ps (length ps - 1) d) in
+      let long = length-take-le (length ps - 1) (set ps 0 (get_or ps (length ps - 1) d)) (omega (arith, kept)) in
+      sym (ne_eqb (length (swap_remove ps 0 d)) 0 (λ none. more (omega (arith, some, long, none))))
+
+  -- a first pair stands before those of the rest, as they lie
+  pub held_pairs-first : (place : First (K × X)) (rest : List (K × X)) (first : K × X) → first_pair place ≡ Some first → held_pairs place rest ≡ first ∷ cond (is_turned place) (reverse rest) rest
+  held_pairs-first Empty rest first is = absurd (none-some first is)
+  held_pairs-first (InOrder p) rest first is = ap (λ (q : K × X). q ∷ rest) (same_Some p first is)
+  held_pairs-first (Turned p) rest first is = ap (λ (q : K × X). q ∷ reverse rest) (same_Some p first is)
 
   -- no pair is none from the back either
   pub turned-none : (rest : List (K × X)) (b : Bool) → rest ≡ [] → cond b (reverse rest) rest ≡ []

@@ -1,9 +1,11 @@
 -- How a table lays its pairs out. No public clause cites this module.
-use Rattle.std.specs.Prelude.{◌≡◌, ℕ, zero, suc, ◌+◌, ◌*◌, ◌/◌, ◌<◌, Bool, nat_lt, List, [], ◌∷◌, ◌++◌, length, map, reverse, slice_index_or, Option, Some, None}
+use Rattle.std.specs.Prelude.{◌≡◌, ℕ, zero, suc, ◌+◌, ◌*◌, ◌/◌, ◌<◌, Bool, true, false, nat_lt, List, [], ◌∷◌, ◌++◌, length, map, reverse, slice_index_or, Option, Some, None}
 use Rattle.std.specs.Option.{option_to_list}
 use Rattle.std.specs.List.{All, flat_map}
 use Rattle.intmap.specs.Bits.{marked}
 use Rattle.intmap.specs.Classes.{IsCapacity, slot_number}
+use Rattle.intmap.specs.declared.slot.first.First.{First}
+pub use Rattle.intmap.specs.declared.slot.first.First.TheVariants.{Empty, InOrder, Turned}
 
 -- what a slot holds, and how many pairs it has room for
 pub record Held (K X : Type 0) : Type 0 where
@@ -18,10 +20,28 @@ rows slots = map (λ h. h.pairs) slots
 abbrev pub all_pairs : {P : Type 0} → Option P → List P → List P
 all_pairs first rest = option_to_list first ++ rest
 
--- the pairs of a slot: the first, and the rest behind it; where there is no first one, those that lie in the rest, the last first
-abbrev pub held_pairs : {P : Type 0} → Option P → List P → List P
-held_pairs None rest = reverse rest
-held_pairs (Some first) rest = first ∷ rest
+-- the pair in the first place, where there is one
+abbrev pub first_pair : {P : Type 0} → First P → Option P
+first_pair Empty = None
+first_pair (InOrder first) = Some first
+first_pair (Turned first) = Some first
+
+-- the first place of pairs that lie in order
+abbrev pub in_order : {P : Type 0} → Option P → First P
+in_order None = Empty
+in_order (Some first) = InOrder first
+
+-- whether there are pairs that lie the last first
+abbrev pub is_turned : {P : Type 0} → First P → Bool
+is_turned Empty = false
+is_turned (InOrder first) = false
+is_turned (Turned first) = true
+
+-- the pairs of a slot: the first, and behind it those of the rest, which lie in their order or the last first
+abbrev pub held_pairs : {P : Type 0} → First P → List P → List P
+held_pairs Empty rest = rest
+held_pairs (InOrder first) rest = first ∷ rest
+held_pairs (Turned first) rest = first ∷ reverse rest
 
 -- nothing stands behind an empty first place
 abbrev pub IsFilledInOrder : {P : Type 0} → Option P → List P → Type 0

@@ -1,16 +1,18 @@
 //! One slot of a table: the first pair in its place, the rest behind it.
-ghost use Rattle.std.specs.Prelude.{◌≡◌, ◌+◌, ◌^◌, ◌<◌, ◌≤◌, ◌==◌, [], ◌∷◌, ◌++◌, length, reverse, position, swap_remove, slice_index_or, nat_lt, vec_capacity, true, None, Some, OnOk, OnErr, IfOk, IfErr, IfSome, IfNone, IsNone, option_copied};
+ghost use Rattle.std.specs.Prelude.{◌≡◌, ◌+◌, ◌^◌, ◌<◌, ◌≤◌, ◌==◌, [], ◌∷◌, ◌++◌, length, reverse, position, swap_remove, slice_index_or, nat_lt, vec_capacity, cond, true, None, Some, OnOk, OnErr, IfOk, IfErr, IfSome, IfNone, IsNone, option_copied};
 ghost use Rattle.intmap.specs.Classes.{same_key};
 ghost use Rattle.intmap.specs.Bindings.{swap_out, value_of};
 ghost use Rattle.intmap.specs.Reach.{through_first};
-ghost use Rattle.intmap.specs.Slots.{all_pairs, held_pairs, IsFilledInOrder};
+ghost use Rattle.intmap.specs.Slots.{all_pairs, first_pair, held_pairs, in_order, is_turned, IsFilledInOrder};
 
 mod clone;
 mod each;
+mod first;
 
 use crate::key::IntKey;
 use crate::steps::Steps;
 use crate::table::stored::Stored;
+use first::First;
 use std::alloc::{AllocError, Allocator};
 use std::marker::Model;
 use std::mem;
@@ -47,6 +49,27 @@ fn find_back_in<K: IntKey, X>(pairs: &[(Stored<K>, X)], key: K, steps: &mut Step
     None
 }
 
+/// The place of the key's pair, of those that lie in order or, where they are turned, the last first.
+/// They are compared in their order up to it, each by one step.
+#[inline(always)]
+fn find_behind<K: IntKey, X>(
+    rest: &[(Stored<K>, X)],
+    is_turned: bool,
+    key: &K,
+    steps: &mut Steps,
+) -> Option<usize>
+    ensures place { result ≡ position (λ p. same_key K.number_of key.now p.0)
+        (cond is_turned (reverse rest.now) rest.now) }
+    ensures counted { steps.new ≡ steps.old
+        + length (through_first (λ p. same_key K.number_of key.now p.0)
+        (cond is_turned (reverse rest.now) rest.now)) }
+{
+    if is_turned {
+        return find_back_in(rest, *key, steps);
+    }
+    find_in(rest, key, steps)
+}
+
 /// Takes the pair of the key out, and the last pair takes its place. The pairs are compared from
 /// the front up to it, each by one step.
 #[inline(never)]
@@ -68,46 +91,103 @@ fn take_in<K: IntKey, X, A: Allocator>(
     Some(value)
 }
 
-/// Turns the pairs of a slot round, which lie the last first.
+/// Takes the first pair out, puts the last pair in its place, if there is another, and adds a new one
+/// at the end, which takes no memory.
+#[inline(always)]
+fn replace_first<P: Drop, A: Allocator>(first: &mut P, rest: &mut Vec<P, A>, pair: P) -> P
+    ensures value { result ≡ first.old }
+    ensures pairs { first.new ∷ rest.new.items
+        ≡ swap_remove (first.old ∷ rest.old.items) 0 result ++ pair ∷ [] }
+{
+    let last = match rest.pop() {
+        Some(last) => {
+            rest.push_reserved(pair);
+            last
+        }
+        None => pair,
+    };
+    mem::replace(first, last)
+}
+
+/// Where the key is that of the first pair or one behind it, takes its pair out, puts the last pair
+/// in its place, and adds the new one at the end, which takes no memory. Where it isn't, the new
+/// value comes back. The pairs are compared from the front up to it, each by one step.
+#[inline(never)]
+fn replace_in<K: IntKey, X: Drop, A: Allocator>(
+    first: &mut (Stored<K>, X),
+    rest: &mut Vec<(Stored<K>, X), A>,
+    key: K,
+    value: X,
+    steps: &mut Steps,
+) -> Result<X, X>
+    ensures old { IfOk result
+        (λ old. value_of K.number_of (first.old ∷ rest.old.items) key ≡ Some old) }
+    ensures ok { OnOk result (first.new ∷ rest.new.items
+        ≡ swap_out (λ p. same_key K.number_of key p.0) (λ p. true) (first.old ∷ rest.old.items)
+        ++ (key, value) ∷ []) }
+    ensures missing { OnErr result
+        (value_of K.number_of (first.old ∷ rest.old.items) key ≡ None) }
+    ensures err { OnErr result (first.new ∷ rest.new.items ≡ first.old ∷ rest.old.items) }
+    ensures value_returned { IfErr result (λ returned. returned ≡ value) }
+    ensures counted { steps.new ≡ steps.old
+        + length (through_first (λ p. same_key K.number_of key p.0) (first.old ∷ rest.old.items)) }
+{
+    if first.0.matches(&key, steps) {
+        let (_, old) = replace_first(first, rest, (Stored::new(key), value));
+        return Ok(old);
+    }
+    let Some(place) = find_in(rest, &key, steps) else {
+        return Err(value);
+    };
+    let (_, old) = rest.swap_remove(place);
+    rest.push_reserved((Stored::new(key), value));
+    Ok(old)
+}
+
+/// Puts the pairs behind the first one in order, where they lie the last first.
 #[cold]
 #[inline(never)]
-fn turn<P, A: Allocator>(first: &mut Option<P>, rest: &mut Vec<P, A>)
-    requires { IsNone first.old }
-    ensures pairs { all_pairs first.new rest.new.items ≡ reverse rest.old.items }
-    ensures order { IsFilledInOrder first.new rest.new.items }
+fn turn<P, A: Allocator>(first: &mut First<P>, rest: &mut Vec<P, A>)
+    requires turned { is_turned first.old ≡ true }
+    ensures order { first.new ≡ in_order (first_pair first.old) }
+    ensures pairs { rest.new.items ≡ reverse rest.old.items }
     ensures room { vec_capacity rest.new ≡ vec_capacity rest.old }
 {
-    match mem::replace(first, rest.pop()) {
-        None => rest.reverse(),
-        Some(_) => unreachable!(),
+    rest.reverse();
+    let pair = first.take();
+    match mem::replace(first, First::new(pair)) {
+        First::Empty => (),
+        _ => unreachable!(),
     }
 }
 
-/// Puts the pairs of a slot in order, where they lie the last first.
+/// Puts the pairs of a slot in order, where some lie the last first.
 #[inline(always)]
-fn set_in_order<P, A: Allocator>(first: &mut Option<P>, rest: &mut Vec<P, A>)
-    ensures pairs { all_pairs first.new rest.new.items ≡ held_pairs first.old rest.old.items }
-    ensures order { IsFilledInOrder first.new rest.new.items }
+fn set_in_order<P, A: Allocator>(first: &mut First<P>, rest: &mut Vec<P, A>)
+    requires { IsFilledInOrder (first_pair first.old) rest.old.items }
+    ensures order { first.new ≡ in_order (first_pair first.old) }
+    ensures pairs { all_pairs (first_pair first.old) rest.new.items
+        ≡ held_pairs first.old rest.old.items }
+    ensures filled { IsFilledInOrder (first_pair first.old) rest.new.items }
     ensures room { vec_capacity rest.new ≡ vec_capacity rest.old }
 {
-    if first.is_none() && !rest.is_empty() {
+    if first.is_turned() {
         turn(first, rest);
     }
 }
 
-/// Pairs in order, with the room that there is for them. One pair takes no memory of its own. Where
-/// there is no first pair, all lie in the rest, the last first: so they are left when pairs are
-/// taken out from the front, each in one step. A call that changes the slot otherwise puts them in
-/// order before.
+/// Pairs in order, with the room that there is for them. One pair takes no memory of its own. When
+/// pairs are taken out from the front, each in one step, those behind the first one lie the last
+/// first. A call that changes the slot otherwise puts them in order before.
 #[derive(Drop)]
 pub(crate) struct Slot<K: IntKey, X, A: Allocator> {
-    first: Option<(Stored<K>, X)>,
+    first: First<(Stored<K>, X)>,
     rest: Vec<(Stored<K>, X), A>,
 }
 
 impl<K: IntKey, X, A: Allocator> Model for Slot<K, X, A> {
     ghost use Rattle.std.specs.Prelude.{◌+◌, vec_capacity};
-    ghost use Rattle.intmap.specs.Slots.{Held, held_pairs};
+    ghost use Rattle.intmap.specs.Slots.{Held, first_pair, held_pairs, IsFilledInOrder};
 
     ghost Value = { Held K X };
 
@@ -116,8 +196,7 @@ impl<K: IntKey, X, A: Allocator> Model for Slot<K, X, A> {
       room = 1 + vec_capacity s.rest;
     } };
 
-    // it asks nothing, but without one no reference into a slot is followed back to its owner
-    ghost invariant = { λ s. Unit {0} };
+    ghost invariant = { λ s. IsFilledInOrder (first_pair s.first) s.rest.items };
 }
 
 impl<K: IntKey, X, A: Allocator> Slot<K, X, A> {
@@ -129,7 +208,7 @@ impl<K: IntKey, X, A: Allocator> Slot<K, X, A> {
         ensures pairs { result.pairs ≡ [] }
     {
         Slot {
-            first: None,
+            first: First::Empty,
             rest: Vec::new(alloc),
         }
     }
@@ -138,7 +217,10 @@ impl<K: IntKey, X, A: Allocator> Slot<K, X, A> {
     pub(crate) fn is_filled(&self) -> bool
         ensures { result ≡ nat_lt 0 (length self.now.pairs) }
     {
-        self.first.is_some() || !self.rest.is_empty()
+        match self.first {
+            First::Empty => false,
+            _ => true,
+        }
     }
 
     /// What the key is bound to. The keys are compared from the front up to it, each by one step.
@@ -147,22 +229,16 @@ impl<K: IntKey, X, A: Allocator> Slot<K, X, A> {
         ensures counted { steps.new ≡ steps.old
             + length (through_first (λ p. same_key K.number_of key.now p.0) self.now.pairs) }
     {
-        let Some(first) = &self.first else {
-            if self.rest.is_empty() {
-                return None;
-            }
-            let Some(place) = find_back_in(&self.rest, *key, steps) else {
-                return None;
-            };
-            return Some(&self.rest[self.rest.len() - 1 - place].1);
+        let Some(first) = self.first.pair() else {
+            return None;
         };
         if first.0.matches(key, steps) {
             return Some(&first.1);
         }
-        let Some(place) = find_in(&self.rest, key, steps) else {
+        let Some(place) = find_behind(&self.rest, self.first.is_turned(), key, steps) else {
             return None;
         };
-        Some(&self.rest[place].1)
+        Some(self.value_at(place + 1))
     }
 
     /// The place of the key's pair. The keys are compared as by [`get`](Slot::get).
@@ -171,16 +247,13 @@ impl<K: IntKey, X, A: Allocator> Slot<K, X, A> {
         ensures counted { steps.new ≡ steps.old
             + length (through_first (λ p. same_key K.number_of key.now p.0) self.now.pairs) }
     {
-        let Some(first) = &self.first else {
-            if self.rest.is_empty() {
-                return None;
-            }
-            return find_back_in(&self.rest, *key, steps);
+        let Some(first) = self.first.pair() else {
+            return None;
         };
         if first.0.matches(key, steps) {
             return Some(0);
         }
-        let Some(place) = find_in(&self.rest, key, steps) else {
+        let Some(place) = find_behind(&self.rest, self.first.is_turned(), key, steps) else {
             return None;
         };
         Some(place + 1)
@@ -191,10 +264,7 @@ impl<K: IntKey, X, A: Allocator> Slot<K, X, A> {
         requires { 0 < length self.now.pairs }
         ensures { result + 1 ≡ length self.now.pairs }
     {
-        match self.first {
-            Some(_) => self.rest.len(),
-            None => self.rest.len() - 1,
-        }
+        self.rest.len()
     }
 
     /// The value of the pair at a place.
@@ -202,13 +272,16 @@ impl<K: IntKey, X, A: Allocator> Slot<K, X, A> {
         requires { place < length self.now.pairs }
         ensures { (p : K × X) → result.now ≡ (slice_index_or self.now.pairs place p).1 }
     {
-        let Some(first) = &self.first else {
-            return &self.rest[self.rest.len() - 1 - place].1;
-        };
         if place > 0 {
+            if self.first.is_turned() {
+                return &self.rest[self.rest.len() - place].1;
+            }
             return &self.rest[place - 1].1;
         }
-        &first.1
+        match self.first.pair() {
+            Some(first) => &first.1,
+            None => unreachable!(),
+        }
     }
 
     /// The value of the pair at a place, to be written.
@@ -223,17 +296,22 @@ impl<K: IntKey, X, A: Allocator> Slot<K, X, A> {
             return &mut self.rest[place - 1].1;
         }
         match &mut self.first {
-            Some(pair) => &mut pair.1,
-            None => unreachable!(),
+            First::InOrder(pair) => &mut pair.1,
+            _ => unreachable!(),
         }
     }
 
-    /// The first pair, if there is one, and the rest; where there is no first one, all pairs, the
-    /// last first.
-    pub(crate) fn parts(&self) -> (Option<&(Stored<K>, X)>, &[(Stored<K>, X)])
-        ensures { self.now.pairs ≡ held_pairs (option_copied result.0) result.1.now }
+    /// The first pair, if there is one, the rest, and whether it is turned, so that the last comes
+    /// first.
+    pub(crate) fn parts(&self) -> (Option<&(Stored<K>, X)>, &[(Stored<K>, X)], bool)
+        ensures { self.now.pairs ≡ all_pairs (option_copied result.0)
+            (cond result.2 (reverse result.1.now) result.1.now) }
     {
-        (self.first.as_ref(), self.rest.as_slice())
+        (
+            self.first.pair(),
+            self.rest.as_slice(),
+            self.first.is_turned(),
+        )
     }
 
     /// The first pair, if there is one, and the rest.
@@ -246,7 +324,7 @@ impl<K: IntKey, X, A: Allocator> Slot<K, X, A> {
             mut rest,
         } = self;
         set_in_order(&mut first, &mut rest);
-        (first, rest)
+        (first.into_pair(), rest)
     }
 
     /// The slot of a first pair, if there is one, and the rest.
@@ -257,7 +335,10 @@ impl<K: IntKey, X, A: Allocator> Slot<K, X, A> {
         requires { IsFilledInOrder first rest.items }
         ensures { result.pairs ≡ all_pairs first rest.items }
     {
-        Slot { first, rest }
+        Slot {
+            first: First::new(first),
+            rest,
+        }
     }
 
     /// The number of pairs.
@@ -266,8 +347,8 @@ impl<K: IntKey, X, A: Allocator> Slot<K, X, A> {
         ensures { result ≡ length self.now.pairs }
     {
         match self.first {
-            Some(_) => 1 + self.rest.len(),
-            None => self.rest.len(),
+            First::Empty => 0,
+            _ => 1 + self.rest.len(),
         }
     }
 
@@ -280,7 +361,7 @@ impl<K: IntKey, X, A: Allocator> Slot<K, X, A> {
     {
         set_in_order(&mut self.first, &mut self.rest);
         let first = match self.rest.pop() {
-            Some(last) => mem::replace(&mut self.first, Some(last)),
+            Some(last) => mem::replace(&mut self.first, First::InOrder(last)).into_pair(),
             None => self.first.take(),
         };
         match first {
@@ -294,6 +375,8 @@ impl<K: IntKey, X, A: Allocator> Slot<K, X, A> {
     #[inline(always)]
     pub(crate) fn take_lone(&mut self) -> Option<(Stored<K>, X)>
         ensures lone { IfSome result (λ pair. self.old.pairs ≡ pair ∷ []) }
+        ensures emptied { IfSome result (λ pair. self.new.pairs ≡ []) }
+        ensures not_lone { IfNone result (length self.old.pairs ≡ 1 → ⊥) }
         ensures others { IfNone result (self.new.pairs ≡ self.old.pairs) }
     {
         if !self.rest.is_empty() {
@@ -303,16 +386,19 @@ impl<K: IntKey, X, A: Allocator> Slot<K, X, A> {
     }
 
     /// Takes the first pair out. The others keep their order, and lie the last first from then on,
-    /// so that all pairs together are turned round once and then taken out in one step each.
+    /// so that they are turned round once and then taken out in one step each.
     pub(crate) fn take_front(&mut self) -> (Stored<K>, X)
         requires { 0 < length self.old.pairs }
         ensures { self.old.pairs ≡ result ∷ self.new.pairs }
     {
-        if let Some(first) = self.first.take() {
+        if !self.first.is_turned() {
             self.rest.reverse();
-            return first;
         }
-        match self.rest.pop() {
+        let next = match self.rest.pop() {
+            Some(pair) => First::Turned(pair),
+            None => First::Empty,
+        };
+        match mem::replace(&mut self.first, next).into_pair() {
             Some(pair) => pair,
             None => unreachable!(),
         }
@@ -331,28 +417,6 @@ impl<K: IntKey, X, A: Allocator> Slot<K, X, A> {
         self.take_first()
     }
 
-    /// Takes the first pair out as `take_first` does, and adds a new one at the end, which takes no
-    /// memory.
-    #[inline(always)]
-    fn replace_first(&mut self, pair: (Stored<K>, X)) -> (Stored<K>, X)
-        requires { 0 < length self.old.pairs }
-        ensures value { result ≡ slice_index_or self.old.pairs 0 result }
-        ensures pairs { self.new.pairs ≡ swap_remove self.old.pairs 0 result ++ pair ∷ [] }
-    {
-        set_in_order(&mut self.first, &mut self.rest);
-        let first = match self.rest.pop() {
-            Some(last) => {
-                self.rest.push_reserved(pair);
-                last
-            }
-            None => pair,
-        };
-        match mem::replace(&mut self.first, Some(first)) {
-            Some(old) => old,
-            None => unreachable!(),
-        }
-    }
-
     /// Takes the pair of the key out, and the last pair takes its place. The keys are compared as
     /// by [`get`](Slot::get). Beside the value it answers whether no pair is left.
     #[inline(always)]
@@ -366,15 +430,17 @@ impl<K: IntKey, X, A: Allocator> Slot<K, X, A> {
         ensures counted { steps.new ≡ steps.old
             + length (through_first (λ p. same_key K.number_of key.now p.0) self.old.pairs) }
     {
-        set_in_order(&mut self.first, &mut self.rest);
-        let Some(first) = &self.first else {
+        let Some(first) = self.first.pair() else {
             return None;
         };
         if first.0.matches(key, steps) {
-            let emptied = self.rest.is_empty();
+            if let Some((_, value)) = self.take_lone() {
+                return Some((value, true));
+            }
             let (_, value) = self.take_first();
-            return Some((value, emptied));
+            return Some((value, false));
         }
+        set_in_order(&mut self.first, &mut self.rest);
         let Some(value) = take_in(&mut self.rest, key, steps) else {
             return None;
         };
@@ -387,7 +453,7 @@ impl<K: IntKey, X: Drop, A: Allocator> Slot<K, X, A> {
     pub(crate) fn clear(&mut self)
         ensures { self.new.pairs ≡ [] }
     {
-        self.first = None;
+        self.first = First::Empty;
         self.rest.clear();
     }
 
@@ -401,7 +467,10 @@ impl<K: IntKey, X: Drop, A: Allocator> Slot<K, X, A> {
         if count > 1 {
             rest.reserve_exact(count - 1)?;
         }
-        Ok(Slot { first: None, rest })
+        Ok(Slot {
+            first: First::Empty,
+            rest,
+        })
     }
 
     /// Puts the first pair into a slot without one. It takes no memory.
@@ -411,7 +480,7 @@ impl<K: IntKey, X: Drop, A: Allocator> Slot<K, X, A> {
         ensures pairs { self.new.pairs ≡ pair ∷ [] }
         ensures room { self.new.room ≡ self.old.room }
     {
-        self.first = Some(pair);
+        self.first = First::InOrder(pair);
     }
 
     /// Adds a pair behind others, where there is room for it.
@@ -463,39 +532,13 @@ impl<K: IntKey, X: Drop, A: Allocator> Slot<K, X, A> {
         ensures counted { steps.new ≡ steps.old
             + length (through_first (λ p. same_key K.number_of key p.0) self.old.pairs) }
     {
-        if self.is_filled() {
-            return self.replace_filled(key, value, steps);
+        if !self.is_filled() {
+            return Err(value);
         }
-        Err(value)
-    }
-
-    /// As [`replace`](Slot::replace), where the slot holds a pair.
-    #[inline(never)]
-    fn replace_filled(&mut self, key: K, value: X, steps: &mut Steps) -> Result<X, X>
-        requires { 0 < length self.old.pairs }
-        ensures old { IfOk result (λ old. value_of K.number_of self.old.pairs key ≡ Some old) }
-        ensures ok { OnOk result (self.new.pairs
-            ≡ swap_out (λ p. same_key K.number_of key p.0) (λ p. true) self.old.pairs
-            ++ (key, value) ∷ []) }
-        ensures missing { OnErr result (value_of K.number_of self.old.pairs key ≡ None) }
-        ensures err { OnErr result (self.new.pairs ≡ self.old.pairs) }
-        ensures value_returned { IfErr result (λ returned. returned ≡ value) }
-        ensures counted { steps.new ≡ steps.old
-            + length (through_first (λ p. same_key K.number_of key p.0) self.old.pairs) }
-    {
         set_in_order(&mut self.first, &mut self.rest);
-        let Some(first) = &self.first else {
-            return Err(value);
-        };
-        if first.0.matches(&key, steps) {
-            let (_, old) = self.replace_first((Stored::new(key), value));
-            return Ok(old);
+        match &mut self.first {
+            First::InOrder(first) => replace_in(first, &mut self.rest, key, value, steps),
+            _ => unreachable!(),
         }
-        let Some(place) = find_in(&self.rest, &key, steps) else {
-            return Err(value);
-        };
-        let (_, old) = self.rest.swap_remove(place);
-        self.rest.push_reserved((Stored::new(key), value));
-        Ok(old)
     }
 }

@@ -5,6 +5,7 @@ ghost use Rattle.intmap.specs.Cloning.{IsPairClone};
 
 use crate::key::IntKey;
 use crate::slot::Slot;
+use crate::slot::first::First;
 use crate::table::stored::Stored;
 use std::alloc::{AllocError, Allocator};
 
@@ -42,8 +43,9 @@ impl<K: IntKey, X: Clone, A: Allocator + Copy> Slot<K, X, A> {
         ensures room { IfOk result (λ made. made.room ≤ 1 + length self.now.pairs) }
     {
         let first = match &self.first {
-            Some(pair) => Some(clone_pair(pair)?),
-            None => None,
+            First::Empty => First::Empty,
+            First::InOrder(pair) => First::InOrder(clone_pair(pair)?),
+            First::Turned(pair) => First::Turned(clone_pair(pair)?),
         };
         let rest = clone_in(*self.rest.allocator(), &self.rest)?;
         Ok(Slot { first, rest })

@@ -4,6 +4,7 @@ ghost use Rattle.intmap.specs.Writes.{Writes};
 
 use crate::kept::Kept;
 use crate::key::IntKey;
+use crate::slot::first::First;
 use crate::slot::{Slot, set_in_order};
 use crate::table::each::write_pair;
 use crate::table::stored::Stored;
@@ -28,8 +29,10 @@ impl<K: IntKey, V, A: Allocator> Slot<K, Kept<V>, A> {
         ensures callable { F.IsAlwaysCallable f.new }
     {
         set_in_order(&mut self.first, &mut self.rest);
-        if let Some(pair) = &mut self.first {
-            write_pair(pair, f);
+        match &mut self.first {
+            First::Empty => (),
+            First::InOrder(pair) => write_pair(pair, f),
+            First::Turned(_) => unreachable!(),
         }
         write_in(self.rest.as_mut_slice(), f);
     }

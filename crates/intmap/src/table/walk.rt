@@ -69,8 +69,7 @@ impl<'a, K: IntKey, X, A: Allocator> Iterator for Pairs<'a, K, X, A> {
             let Some(place) = self.places.next() else {
                 return None;
             };
-            (self.first, self.rest) = slot_at(self.slots, place).parts();
-            self.is_turned = self.first.is_none();
+            (self.first, self.rest, self.is_turned) = slot_at(self.slots, place).parts();
         }
     }
 }

@@ -2,7 +2,7 @@ use Rattle.std.proofs.Common.{length, ap, subst, arith}
 use Rattle.intmap.specs.Slots.{Held, held_pairs}
 use Rattle.intmap.proofs.CloneLemmas.{AreClones, AreClones-held_pairs, length-held_pairs}
 use Rattle.intmap.proofs.slot.Slot.clone.Goals as goal
-use Rattle.intmap.proofs.slot.Slot.clone.Goals.{in-Some+in_ok-clone_pair-in-Some, in-None}
+use Rattle.intmap.proofs.slot.Slot.clone.Goals.{in-Empty, in-InOrder+in_ok-clone_pair-in-InOrder, in-Turned+in_ok-clone_pair-in-Turned}
 
 pub returns-clause-pairs : goal.returns-clause-pairs
 returns-clause-pairs g c =
@@ -10,8 +10,9 @@ returns-clause-pairs g c =
     subst (λ (s : Held _ _). AreClones clones s.pairs (held_pairs c.match-self.first new.rest.items)) c.self.view_is
     (AreClones-held_pairs clones old.first c.match-self.first old.rest.items new.rest.items
     (elim c.match-self.branch [
-      | in-Some+in_ok-clone_pair-in-Some w ↦ rw w.in-Some.is (w.in_ok-clone_pair-in-Some.field-0, w.first-is, w.in_ok-clone_pair-in-Some.ensures)
-      | in-None w ↦ rw w.in-None.is w.first-is
+      | in-Empty w ↦ rw w.in-Empty.is w.first-is
+      | in-InOrder+in_ok-clone_pair-in-InOrder w ↦ rw w.in-InOrder.is (w.in_ok-clone_pair-in-InOrder.field-0, w.first-is, w.in_ok-clone_pair-in-InOrder.ensures)
+      | in-Turned+in_ok-clone_pair-in-Turned w ↦ rw w.in-Turned.is (w.in_ok-clone_pair-in-Turned.field-0, w.first-is, w.in_ok-clone_pair-in-Turned.ensures)
     ])
     (rw c.deref.ensures.value at new.ensures.pairs))
 

@@ -1,15 +1,41 @@
-use Rattle.std.proofs.Common.{true, ap, sym, ◌∙◌}
+use Rattle.std.proofs.Common.{◌≡◌, ◌<◌, ◌∷◌, List, length, get_or, ap, sym, ◌∙◌, arith}
+use Rattle.std.specs.Option.{option_copied}
+use Rattle.std.specs.Prelude.{◌==◌, cond, reverse, swap_remove}
 use Rattle.intmap.specs.Classes.{same_key}
-use Rattle.intmap.specs.Bindings.{swap_out}
-use Rattle.intmap.specs.Slots.{all_pairs, held_pairs}
-use Rattle.intmap.proofs.SlotLemmas.{swap_remove-first}
+use Rattle.intmap.specs.Slots.{is_turned}
+use Rattle.intmap.proofs.SlotLemmas.{held_pairs-first, swap_remove-first, swap_remove-more}
 use Rattle.intmap.proofs.slot.Slot.take.Goals as goal
-use Rattle.intmap.proofs.slot.Slot.take.Goals.{After-take_in}
+use Rattle.intmap.proofs.slot.Slot.take.Goals.{After-take_lone}
+
+-- the pairs behind the first one, in their order
+abbrev others : (g : _) → After-take_lone g → List (g.row.K.Denot × g.row.X.Denot)
+others g c = cond (is_turned c.self.inside.first) (reverse c.self.inside.rest.items) c.self.inside.rest.items
+
+-- the first pair stands before them
+pairs : (g : _) (c : After-take_lone g) → c.args.self.now.pairs ≡ c.in-Some.first.now ∷ others g c
+pairs g c = sym (ap (λ h. h.pairs) c.self.view_is) ∙ held_pairs-first c.self.inside.first c.self.inside.rest.items c.in-Some.first.now (sym c.pair.ensures ∙ ap option_copied c.in-Some.is)
+
+pub returns-in-Some-take_lone-clause-pairs : goal.returns-in-Some-take_lone-clause-pairs
+returns-in-Some-take_lone-clause-pairs g c =
+    let at = (goal.at.returns-in-Some-take_lone-clause-pairs g c).After-take_lone in
+    let first = c.in-Some.first.now in
+    let here = ap (λ ps. get_or ps 0 first) (sym (pairs g at)) in
+    c.in-Some-take_lone.ensures.emptied ∙ ap (λ ps. swap_remove ps 0 first) (sym c.in-Some-take_lone.ensures.lone)
+    ∙ swap_remove-first (same_key g.K.IntKey.number_of c.args.key.now) _ first (others g at) (pairs g at) (sym c.matches.ensures.same ∙ c.if-matches.true) first here
+
+pub returns-then-matches-clause-emptied : goal.returns-then-matches-clause-emptied
+returns-then-matches-clause-emptied g c =
+    let at = (goal.at.returns-then-matches-clause-emptied g c).After-take_lone in
+    let long = ap length (pairs g at) in
+    let some : 0 < length c.args.self.now.pairs = omega (arith, long) in
+    swap_remove-more c.args.self.now.pairs c.take_first-value.result some c.in_default-take_lone.ensures.not_lone
+    ∙ ap (λ ps. length ps == 0) (ap (λ ps. swap_remove ps 0 c.take_first-value.result) (sym c.in_default-take_lone.ensures.others) ∙ sym c.take_first-value.ensures.pairs)
 
 pub returns-then-matches-clause-pairs : goal.returns-then-matches-clause-pairs
 returns-then-matches-clause-pairs g c =
-    let rest = c.set_in_order.new.rest.items in
-    let here = ap (λ first. held_pairs first rest) c.in-Some.is in
-    let before = sym (ap (λ h. h.pairs) c.self.view_is) ∙ sym c.set_in_order.ensures.pairs ∙ ap (λ first. all_pairs first rest) c.in-Some.is in
-    c.take_first-value.ensures.pairs ∙ swap_remove-first (same_key g.K.IntKey.number_of c.args.key.now) _ _ _ here (sym c.matches.ensures.same ∙ c.if-matches.true) c.take_first-value.result c.take_first-value.ensures.value
-    ∙ ap (λ ps. swap_out (λ p. same_key g.K.IntKey.number_of c.args.key.now p.0) (λ p. true) ps) (here ∙ sym before)
+    let at = (goal.at.returns-then-matches-clause-pairs g c).After-take_lone in
+    let kept = c.in_default-take_lone.ensures.others in
+    let value = c.take_first-value.result in
+    let here = c.take_first-value.ensures.value ∙ ap (λ ps. get_or ps 0 value) kept in
+    c.take_first-value.ensures.pairs ∙ ap (λ ps. swap_remove ps 0 value) kept
+    ∙ swap_remove-first (same_key g.K.IntKey.number_of c.args.key.now) _ c.in-Some.first.now (others g at) (pairs g at) (sym c.matches.ensures.same ∙ c.if-matches.true) value here

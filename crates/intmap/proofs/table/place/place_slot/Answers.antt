@@ -1,6 +1,6 @@
 use Rattle.std.proofs.Common.{◌≡◌, [], ◌∷◌, sym, ap, ◌∙◌}
 use Rattle.intmap.specs.Slots.{all_pairs}
-use Rattle.intmap.proofs.MoveLemmas.{HasRoom-first, HasRoom-more, IsPlaced-more}
+use Rattle.intmap.proofs.MoveLemmas.{HasRoom-first, HasRoom-more, IsPlaced-more, IsPlaced-none}
 use Rattle.intmap.proofs.table.place.place_slot.Goals as goal
 use Rattle.intmap.proofs.table.place.place_slot.Goals.{In-Some-first}
 
@@ -9,6 +9,13 @@ whole : (g : _) (c : In-Some-first g) → c.args.old.now.pairs ≡ c.in-Some-fir
 whole g c =
     sym c.in_default.ensures.others ∙ ap (λ h. h.pairs) (sym c.replace.ensures.value) ∙ c.into_parts-first.ensures.pairs
     ∙ ap (λ first. all_pairs first c.into_parts-first.result.1.items) c.in-Some-first.is
+
+pub returns-in_default-first-clause-pairs : goal.returns-in_default-first-clause-pairs
+returns-in_default-first-clause-pairs g c =
+    let none = rw c.in_default-first.is at c.into_parts-first.ensures.filled in
+    let empty : c.args.old.now.pairs ≡ [] = sym c.in_default.ensures.others ∙ ap (λ h. h.pairs) (sym c.replace.ensures.value) ∙ c.into_parts-first.ensures.pairs
+    ∙ ap (λ first. all_pairs first c.into_parts-first.result.1.items) c.in_default-first.is ∙ none in
+    rw empty (IsPlaced-none _ c.args.slots.now)
 
 pub place-requires-2-clause-room : goal.place-requires-2-clause-room
 place-requires-2-clause-room g c =

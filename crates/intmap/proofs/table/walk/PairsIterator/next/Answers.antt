@@ -1,7 +1,7 @@
 use Rattle.std.proofs.Common.{◌≡◌, ◌<◌, ◌∙◌, [], length, sym}
 use Rattle.std.proofs.lemmas.List.{nil_from_length}
 use Rattle.std.proofs.lemmas.List.Elements.{All-head, All-tail}
-use Rattle.intmap.proofs.SlotLemmas.{held_pairs-turned, turned-none}
+use Rattle.intmap.proofs.SlotLemmas.{turned-none}
 use Rattle.intmap.proofs.TableLemmas.{get_or-rows}
 use Rattle.intmap.proofs.table.walk.PairsIterator.next.Goals as goal
 use Rattle.intmap.proofs.table.walk.PairsIterator.next.Goals.{In-Some-next, After-next, then-self, else-self}
@@ -27,7 +27,7 @@ loop-pair-preserved g c = record {
       let none = sym c.take.ensures.value ∙ c.in_default.is in
       let gone = empty g (goal.at.loop-pair-preserved g c).After-next in
       let row = get_or-rows c.loop-pair.self-inside.slots.now c.in-Some-next.place c.slot_at.result.now (within g (goal.at.loop-pair-preserved g c).In-Some-next) in
-      rw (held_pairs-turned c.parts.result.0 c.parts.result.1.now c.is_none-self-inside.result c.is_none-self-inside.ensures, ← c.parts.ensures, c.slot_at.ensures, ← row)
+      rw (← c.parts.ensures, c.slot_at.ensures, ← row)
       (rw (none, turned-none c.loop-pair.self-inside.rest.now c.loop-pair.self-inside.is_turned gone, c.in-Some-next.ensures.steps) at c.loop-pair.invariant.pairs);
   within = All-tail (λ place. place < length c.loop-pair.self-inside.slots.now) c.in-Some-next.place c.next.new.self (rw c.in-Some-next.ensures.steps at c.loop-pair.invariant.within);
 }
