@@ -91,6 +91,44 @@ fn take_in<K: IntKey, X, A: Allocator>(
     Some(value)
 }
 
+/// Takes the first pair out, and puts the last of the others in its place.
+#[inline(always)]
+fn swap_up<P, A: Allocator>(first: &mut P, rest: &mut Vec<P, A>) -> P
+    requires { 0 < length rest.old.items }
+    ensures value { result ≡ first.old }
+    ensures pairs { first.new ∷ rest.new.items
+        ≡ swap_remove (first.old ∷ rest.old.items) 0 result }
+{
+    match rest.pop() {
+        Some(last) => mem::replace(first, last),
+        None => unreachable!(),
+    }
+}
+
+/// Takes the pair of the key out of a first pair and others behind it, and the last pair takes its
+/// place. The pairs are compared from the front up to it, each by one step.
+#[inline(always)]
+fn take_beside<K: IntKey, X, A: Allocator>(
+    first: &mut (Stored<K>, X),
+    rest: &mut Vec<(Stored<K>, X), A>,
+    key: &K,
+    steps: &mut Steps,
+) -> Option<X>
+    requires { 0 < length rest.old.items }
+    ensures value { result ≡ value_of K.number_of (first.old ∷ rest.old.items) key.now }
+    ensures pairs { first.new ∷ rest.new.items
+        ≡ swap_out (λ p. same_key K.number_of key.now p.0) (λ p. true)
+        (first.old ∷ rest.old.items) }
+    ensures counted { steps.new ≡ steps.old + length
+        (through_first (λ p. same_key K.number_of key.now p.0) (first.old ∷ rest.old.items)) }
+{
+    if first.0.matches(key, steps) {
+        let (_, value) = swap_up(first, rest);
+        return Some(value);
+    }
+    take_in(rest, key, steps)
+}
+
 /// Takes the first pair out, puts the last pair in its place, if there is another, and adds a new one
 /// at the end, which takes no memory.
 #[inline(always)]
@@ -235,10 +273,19 @@ impl<K: IntKey, X, A: Allocator> Slot<K, X, A> {
         if first.0.matches(key, steps) {
             return Some(&first.1);
         }
-        let Some(place) = find_behind(&self.rest, self.first.is_turned(), key, steps) else {
+        if self.rest.is_empty() {
+            return None;
+        }
+        if self.first.is_turned() {
+            let Some(place) = find_back_in(&self.rest, *key, steps) else {
+                return None;
+            };
+            return Some(&self.rest[self.rest.len() - 1 - place].1);
+        }
+        let Some(place) = find_in(&self.rest, key, steps) else {
             return None;
         };
-        Some(self.value_at(place + 1))
+        Some(&self.rest[place].1)
     }
 
     /// The place of the key's pair. The keys are compared as by [`get`](Slot::get).
@@ -433,18 +480,24 @@ impl<K: IntKey, X, A: Allocator> Slot<K, X, A> {
         let Some(first) = self.first.pair() else {
             return None;
         };
-        if first.0.matches(key, steps) {
-            if let Some((_, value)) = self.take_lone() {
-                return Some((value, true));
+        if self.rest.is_empty() {
+            if !first.0.matches(key, steps) {
+                return None;
             }
-            let (_, value) = self.take_first();
-            return Some((value, false));
+            match self.first.take() {
+                Some((_, value)) => return Some((value, true)),
+                None => unreachable!(),
+            }
         }
         set_in_order(&mut self.first, &mut self.rest);
-        let Some(value) = take_in(&mut self.rest, key, steps) else {
-            return None;
+        let taken = match &mut self.first {
+            First::InOrder(first) => take_beside(first, &mut self.rest, key, steps),
+            _ => unreachable!(),
         };
-        Some((value, false))
+        match taken {
+            Some(value) => Some((value, false)),
+            None => None,
+        }
     }
 }
 
