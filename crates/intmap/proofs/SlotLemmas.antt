@@ -59,6 +59,11 @@ module _ {K X : Type 0} where
   first_pair-in_order None = refl
   first_pair-in_order (Some f) = refl
 
+  -- pairs in order are held as they lie
+  pub held_pairs-in_order : (first : Option (K × X)) (rest : List (K × X)) → held_pairs (in_order first) rest ≡ all_pairs first rest
+  held_pairs-in_order None rest = refl
+  held_pairs-in_order (Some f) rest = refl
+
   -- of several pairs one is left when the first is taken out
   pub swap_remove-more : (ps : List (K × X)) (d : K × X) → 0 < length ps → (length ps ≡ 1 → ⊥) → false ≡ (length (swap_remove ps 0 d) == 0)
   swap_remove-more ps d some more =

@@ -129,6 +129,51 @@ fn take_beside<K: IntKey, X, A: Allocator>(
     take_in(rest, key, steps)
 }
 
+/// Takes the pair of the key out of pairs in order, and the last pair takes its place. The pairs are
+/// compared from the front up to it, each by one step. Beside the value it answers whether no pair is
+/// left.
+#[inline(always)]
+fn take_in_order<K: IntKey, X, A: Allocator>(
+    first: &mut First<(Stored<K>, X)>,
+    rest: &mut Vec<(Stored<K>, X), A>,
+    key: &K,
+    steps: &mut Steps,
+) -> Option<(X, bool)>
+    requires order { first.old ≡ in_order (first_pair first.old) }
+    requires filled { IsFilledInOrder (first_pair first.old) rest.old.items }
+    ensures value { IfSome result (λ taken. value_of K.number_of
+        (all_pairs (first_pair first.old) rest.old.items) key.now ≡ Some taken.0) }
+    ensures missing { IfNone result (value_of K.number_of
+        (all_pairs (first_pair first.old) rest.old.items) key.now ≡ None) }
+    ensures emptied { IfSome result (λ taken.
+        taken.1 ≡ (length (all_pairs (first_pair first.new) rest.new.items) == 0)) }
+    ensures pairs { all_pairs (first_pair first.new) rest.new.items
+        ≡ swap_out (λ p. same_key K.number_of key.now p.0) (λ p. true)
+        (all_pairs (first_pair first.old) rest.old.items) }
+    ensures order { first.new ≡ in_order (first_pair first.new) }
+    ensures filled { IsFilledInOrder (first_pair first.new) rest.new.items }
+    ensures counted { steps.new ≡ steps.old + length
+        (through_first (λ p. same_key K.number_of key.now p.0)
+        (all_pairs (first_pair first.old) rest.old.items)) }
+{
+    let First::InOrder(pair) = &mut *first else {
+        return None;
+    };
+    if !rest.is_empty() {
+        match take_beside(pair, rest, key, steps) {
+            Some(value) => return Some((value, false)),
+            None => return None,
+        }
+    }
+    if !pair.0.matches(key, steps) {
+        return None;
+    }
+    match first.take() {
+        Some((_, value)) => Some((value, true)),
+        None => unreachable!(),
+    }
+}
+
 /// Takes the first pair out, puts the last pair in its place, if there is another, and adds a new one
 /// at the end, which takes no memory.
 #[inline(always)]
@@ -477,27 +522,30 @@ impl<K: IntKey, X, A: Allocator> Slot<K, X, A> {
         ensures counted { steps.new ≡ steps.old
             + length (through_first (λ p. same_key K.number_of key.now p.0) self.old.pairs) }
     {
-        let Some(first) = self.first.pair() else {
-            return None;
-        };
-        if self.rest.is_empty() {
-            if !first.0.matches(key, steps) {
-                return None;
-            }
-            match self.first.take() {
-                Some((_, value)) => return Some((value, true)),
-                None => unreachable!(),
-            }
+        if let First::InOrder(_) = self.first {
+            return take_in_order(&mut self.first, &mut self.rest, key, steps);
         }
+        if self.first.is_turned() {
+            return self.take_turned(key, steps);
+        }
+        None
+    }
+
+    /// As [`take`](Slot::take), where the pairs behind the first one lie the last first.
+    #[cold]
+    #[inline(never)]
+    fn take_turned(&mut self, key: &K, steps: &mut Steps) -> Option<(X, bool)>
+        ensures value { IfSome result (λ taken.
+            value_of K.number_of self.old.pairs key.now ≡ Some taken.0) }
+        ensures missing { IfNone result (value_of K.number_of self.old.pairs key.now ≡ None) }
+        ensures emptied { IfSome result (λ taken. taken.1 ≡ (length self.new.pairs == 0)) }
+        ensures pairs { self.new.pairs
+            ≡ swap_out (λ p. same_key K.number_of key.now p.0) (λ p. true) self.old.pairs }
+        ensures counted { steps.new ≡ steps.old
+            + length (through_first (λ p. same_key K.number_of key.now p.0) self.old.pairs) }
+    {
         set_in_order(&mut self.first, &mut self.rest);
-        let taken = match &mut self.first {
-            First::InOrder(first) => take_beside(first, &mut self.rest, key, steps),
-            _ => unreachable!(),
-        };
-        match taken {
-            Some(value) => Some((value, false)),
-            None => None,
-        }
+        take_in_order(&mut self.first, &mut self.rest, key, steps)
     }
 }
 

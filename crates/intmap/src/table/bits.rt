@@ -27,6 +27,15 @@ impl<A: Allocator> Model for Bits<A> {
 }
 
 impl<A: Allocator> Bits<A> {
+    /// Whether a place is marked.
+    #[inline(always)]
+    pub(crate) fn get(&self, place: usize) -> bool
+        requires { place < length self.now }
+        ensures { result ≡ marked self.now place }
+    {
+        (self.words[place / BITS] >> (place % BITS)) & 1 == 1
+    }
+
     /// Marks a place. No other place changes.
     #[inline(always)]
     pub(crate) fn set(&mut self, place: usize)

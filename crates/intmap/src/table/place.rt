@@ -42,11 +42,11 @@ pub(super) fn place<K: IntKey, X: Drop, A: Allocator>(
 {
     let index = index_of(pair.0.key(), slots.len());
     let slot = &mut slots[index];
-    if slot.is_filled() {
+    if bits.get(index) {
         slot.push_reserved(pair);
     } else {
-        slot.put_first(pair);
         bits.set(index);
+        slot.put_first(pair);
     }
     placed.tick();
 }

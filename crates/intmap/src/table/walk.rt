@@ -57,14 +57,19 @@ impl<'a, K: IntKey, X, A: Allocator> Iterator for Pairs<'a, K, X, A> {
             if let Some(pair) = self.first.take() {
                 return Some((pair.0.key(), &pair.1));
             }
-            let split = if self.is_turned {
-                self.rest.split_last()
-            } else {
-                self.rest.split_first()
-            };
-            if let Some((pair, rest)) = split {
-                self.rest = rest;
-                return Some((pair.0.key(), &pair.1));
+            if !self.rest.is_empty() {
+                let split = if self.is_turned {
+                    self.rest.split_last()
+                } else {
+                    self.rest.split_first()
+                };
+                match split {
+                    Some((pair, rest)) => {
+                        self.rest = rest;
+                        return Some((pair.0.key(), &pair.1));
+                    }
+                    None => unreachable!(),
+                }
             }
             let Some(place) = self.places.next() else {
                 return None;

@@ -1,10 +1,11 @@
-use Rattle.std.proofs.Common.{◌≡◌, ◌<◌, ◌∙◌, [], length, sym}
+use Rattle.std.proofs.Common.{◌<◌, ◌∙◌, length, sym}
+use Rattle.std.proofs.lemmas.Bool.{eqb-true}
 use Rattle.std.proofs.lemmas.List.{nil_from_length}
 use Rattle.std.proofs.lemmas.List.Elements.{All-head, All-tail}
 use Rattle.intmap.proofs.SlotLemmas.{turned-none}
 use Rattle.intmap.proofs.TableLemmas.{get_or-rows}
 use Rattle.intmap.proofs.table.walk.PairsIterator.next.Goals as goal
-use Rattle.intmap.proofs.table.walk.PairsIterator.next.Goals.{In-Some-next, After-next, then-self, else-self}
+use Rattle.intmap.proofs.table.walk.PairsIterator.next.Goals.{In-Some-next}
 
 -- the place is that of a slot
 within : (g : _) (c : In-Some-next g) → c.in-Some-next.place < length c.loop-pair.self-inside.slots.now
@@ -14,18 +15,11 @@ within g c =
 pub slot_at-requires : goal.slot_at-requires
 slot_at-requires g c = within g (goal.at.slot_at-requires g c).In-Some-next
 
--- no pair of the slot in hand is left
-empty : (g : _) (c : After-next g) → c.loop-pair.self-inside.rest.now ≡ []
-empty g c = elim c.if-self.branch [
-  | then-self w ↦ nil_from_length _ (rw (sym w.split-is ∙ c.in_default-split.is) at w.split_last-split.ensures.cases)
-  | else-self w ↦ nil_from_length _ (rw (sym w.split-is ∙ c.in_default-split.is) at w.split_first-split.ensures.cases)
-]
-
 pub loop-pair-preserved : goal.loop-pair-preserved
 loop-pair-preserved g c = record {
   pairs =
       let none = sym c.take.ensures.value ∙ c.in_default.is in
-      let gone = empty g (goal.at.loop-pair-preserved g c).After-next in
+      let gone = nil_from_length c.loop-pair.self-inside.rest.now (eqb-true _ 0 (sym c.is_empty.ensures ∙ c.if-not-is_empty.false)) in
       let row = get_or-rows c.loop-pair.self-inside.slots.now c.in-Some-next.place c.slot_at.result.now (within g (goal.at.loop-pair-preserved g c).In-Some-next) in
       rw (← c.parts.ensures, c.slot_at.ensures, ← row)
       (rw (none, turned-none c.loop-pair.self-inside.rest.now c.loop-pair.self-inside.is_turned gone, c.in-Some-next.ensures.steps) at c.loop-pair.invariant.pairs);
