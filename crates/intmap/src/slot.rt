@@ -130,23 +130,18 @@ fn take_beside<K: IntKey, X, A: Allocator>(
 }
 
 /// Takes the pair of the key out of pairs in order, and the last pair takes its place. The pairs are
-/// compared from the front up to it, each by one step. Beside the value it answers whether no pair is
-/// left.
+/// compared from the front up to it, each by one step.
 #[inline(always)]
 fn take_in_order<K: IntKey, X, A: Allocator>(
     first: &mut First<(Stored<K>, X)>,
     rest: &mut Vec<(Stored<K>, X), A>,
     key: &K,
     steps: &mut Steps,
-) -> Option<(X, bool)>
+) -> Option<X>
     requires order { first.old ≡ in_order (first_pair first.old) }
     requires filled { IsFilledInOrder (first_pair first.old) rest.old.items }
-    ensures value { IfSome result (λ taken. value_of K.number_of
-        (all_pairs (first_pair first.old) rest.old.items) key.now ≡ Some taken.0) }
-    ensures missing { IfNone result (value_of K.number_of
-        (all_pairs (first_pair first.old) rest.old.items) key.now ≡ None) }
-    ensures emptied { IfSome result (λ taken.
-        taken.1 ≡ (length (all_pairs (first_pair first.new) rest.new.items) == 0)) }
+    ensures value { result
+        ≡ value_of K.number_of (all_pairs (first_pair first.old) rest.old.items) key.now }
     ensures pairs { all_pairs (first_pair first.new) rest.new.items
         ≡ swap_out (λ p. same_key K.number_of key.now p.0) (λ p. true)
         (all_pairs (first_pair first.old) rest.old.items) }
@@ -160,16 +155,13 @@ fn take_in_order<K: IntKey, X, A: Allocator>(
         return None;
     };
     if !rest.is_empty() {
-        match take_beside(pair, rest, key, steps) {
-            Some(value) => return Some((value, false)),
-            None => return None,
-        }
+        return take_beside(pair, rest, key, steps);
     }
     if !pair.0.matches(key, steps) {
         return None;
     }
     match first.take() {
-        Some((_, value)) => Some((value, true)),
+        Some((_, value)) => Some(value),
         None => unreachable!(),
     }
 }
@@ -510,13 +502,10 @@ impl<K: IntKey, X, A: Allocator> Slot<K, X, A> {
     }
 
     /// Takes the pair of the key out, and the last pair takes its place. The keys are compared as
-    /// by [`get`](Slot::get). Beside the value it answers whether no pair is left.
+    /// by [`get`](Slot::get).
     #[inline(always)]
-    pub(crate) fn take(&mut self, key: &K, steps: &mut Steps) -> Option<(X, bool)>
-        ensures value { IfSome result (λ taken.
-            value_of K.number_of self.old.pairs key.now ≡ Some taken.0) }
-        ensures missing { IfNone result (value_of K.number_of self.old.pairs key.now ≡ None) }
-        ensures emptied { IfSome result (λ taken. taken.1 ≡ (length self.new.pairs == 0)) }
+    pub(crate) fn take(&mut self, key: &K, steps: &mut Steps) -> Option<X>
+        ensures value { result ≡ value_of K.number_of self.old.pairs key.now }
         ensures pairs { self.new.pairs
             ≡ swap_out (λ p. same_key K.number_of key.now p.0) (λ p. true) self.old.pairs }
         ensures counted { steps.new ≡ steps.old
@@ -534,11 +523,8 @@ impl<K: IntKey, X, A: Allocator> Slot<K, X, A> {
     /// As [`take`](Slot::take), where the pairs behind the first one lie the last first.
     #[cold]
     #[inline(never)]
-    fn take_turned(&mut self, key: &K, steps: &mut Steps) -> Option<(X, bool)>
-        ensures value { IfSome result (λ taken.
-            value_of K.number_of self.old.pairs key.now ≡ Some taken.0) }
-        ensures missing { IfNone result (value_of K.number_of self.old.pairs key.now ≡ None) }
-        ensures emptied { IfSome result (λ taken. taken.1 ≡ (length self.new.pairs == 0)) }
+    fn take_turned(&mut self, key: &K, steps: &mut Steps) -> Option<X>
+        ensures value { result ≡ value_of K.number_of self.old.pairs key.now }
         ensures pairs { self.new.pairs
             ≡ swap_out (λ p. same_key K.number_of key.now p.0) (λ p. true) self.old.pairs }
         ensures counted { steps.new ≡ steps.old

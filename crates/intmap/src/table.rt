@@ -136,10 +136,10 @@ impl<K: IntKey, X, A: Allocator> Table<K, X, A> {
     {
         let index = self.index_of(key);
         let slot = &mut self.slots[index];
-        let Some((value, emptied)) = slot.take(key, steps) else {
+        let Some(value) = slot.take(key, steps) else {
             return None;
         };
-        if emptied {
+        if !slot.is_filled() {
             self.bits.clear(index);
         }
         Some(value)

@@ -6,7 +6,7 @@ use Rattle.intmap.specs.Slots.{Grid, IsTable}
 use Rattle.intmap.proofs.FilledLemmas.{filled-bound, marks-set, marks-kept}
 use Rattle.intmap.proofs.TableLemmas.{IsSlot, reach-here, value_of-here, swap_out-missing, walk-taken, Belong-taken, IsTable-set}
 use Rattle.intmap.proofs.table.Table.take.Goals as goal
-use Rattle.intmap.proofs.table.Table.take.Goals.{After-take, then-emptied, else-emptied}
+use Rattle.intmap.proofs.table.Table.take.Goals.{After-take, then-not-is_filled, else-not-is_filled}
 
 module _ (g : _) (c : After-take g) where
   here : IsSlot g.K.IntKey.number_of c.self.inside.slots.items c.index_mut-slot.result.now c.index_of-index.result c.args.key.now
@@ -27,7 +27,7 @@ module _ (g : _) (c : After-take g) where
 pub invariant_of-self : goal.invariant_of-self
 invariant_of-self g c =
     let after = (goal.at.invariant_of-self g c).After-take in
-    let none = c.in_default.ensures.missing in
+    let none = sym c.take.ensures.value ∙ c.in_default.is in
     let same = sym (c.take.ensures.pairs ∙ swap_out-missing _ _ _ _ _ (here g after) none) in
     record {
       table = table g after;
@@ -37,7 +37,7 @@ invariant_of-self g c =
 pub returns-in_default-clause-value : goal.returns-in_default-clause-value
 returns-in_default-clause-value g c =
     let at = here g (goal.at.returns-in_default-clause-value g c).After-take in
-    sym c.in_default.ensures.missing ∙ rw (← c.self.view_is) (sym (value_of-here _ _ _ _ _ at))
+    sym c.in_default.is ∙ c.take.ensures.value ∙ rw (← c.self.view_is) (sym (value_of-here _ _ _ _ _ at))
 
 pub returns-in_default-clause-walk : goal.returns-in_default-clause-walk
 returns-in_default-clause-walk g c =
@@ -47,20 +47,20 @@ returns-in_default-clause-walk g c =
 pub returns-in_default-clause-counted : goal.returns-in_default-clause-counted
 returns-in_default-clause-counted g c = counted g (goal.at.returns-in_default-clause-counted g c).After-take
 
-pub invariant_of-self-then-emptied : goal.invariant_of-self-then-emptied
-invariant_of-self-then-emptied g c =
-    let after = (goal.at.invariant_of-self-then-emptied g c).After-take in
-    let empty : false ≡ nat_lt 0 (length c.take.new.self.pairs) = let told = c.in-Some.ensures.emptied in let yes = c.if-emptied.true in grind (arith, told, yes) in
+pub invariant_of-self-then-not-is_filled : goal.invariant_of-self-then-not-is_filled
+invariant_of-self-then-not-is_filled g c =
+    let after = (goal.at.invariant_of-self-then-not-is_filled g c).After-take in
+    let empty : false ≡ nat_lt 0 (length c.take.new.self.pairs) = let told = c.is_filled.ensures in let no = c.if-not-is_filled.true in grind (arith, told, no) in
     record {
       table = table g after;
       marks = rw c.clear.ensures (marks-set _ _ _ _ _ (here g after) c.self.inside.bits c.self.invariant.marks c.take.new.self false empty);
     }
 
-pub invariant_of-self-else-emptied : goal.invariant_of-self-else-emptied
-invariant_of-self-else-emptied g c =
-    let after = (goal.at.invariant_of-self-else-emptied g c).After-take in
-    let filled : true ≡ nat_lt 0 (length c.take.new.self.pairs) = let told = c.in-Some.ensures.emptied in let no = c.if-emptied.false in grind (arith, told, no) in
-    let before = filled-bound g.K.IntKey.number_of c.index_mut-slot.result.now.pairs c.args.key.now c.in-Some.value c.in-Some.ensures.value in
+pub invariant_of-self-else-not-is_filled : goal.invariant_of-self-else-not-is_filled
+invariant_of-self-else-not-is_filled g c =
+    let after = (goal.at.invariant_of-self-else-not-is_filled g c).After-take in
+    let filled : true ≡ nat_lt 0 (length c.take.new.self.pairs) = let told = c.is_filled.ensures in let yes = c.if-not-is_filled.false in grind (arith, told, yes) in
+    let before = filled-bound g.K.IntKey.number_of c.index_mut-slot.result.now.pairs c.args.key.now c.in-Some.value (sym c.take.ensures.value ∙ c.in-Some.is) in
     record {
       table = table g after;
       marks = marks-kept _ _ _ _ _ (here g after) c.self.inside.bits c.self.invariant.marks c.take.new.self (before ∙ filled);
@@ -69,15 +69,15 @@ invariant_of-self-else-emptied g c =
 pub returns-clause-value : goal.returns-clause-value
 returns-clause-value g c =
     let at = here g (goal.at.returns-clause-value g c).After-take in
-    sym c.in-Some.ensures.value ∙ rw (← c.self.view_is) (sym (value_of-here _ _ _ _ _ at))
+    sym c.in-Some.is ∙ c.take.ensures.value ∙ rw (← c.self.view_is) (sym (value_of-here _ _ _ _ _ at))
 
 pub returns-clause-walk : goal.returns-clause-walk
 returns-clause-walk g c =
     let at = here g (goal.at.returns-clause-walk g c).After-take in
     let walk = walk-taken _ _ _ _ _ at c.take.new.self c.take.ensures.pairs in
-    elim c.if-emptied.branch [
-      | then-emptied w ↦ rw (w.self-is, ← c.self.view_is) walk
-      | else-emptied w ↦ rw (w.self-is, ← c.self.view_is) walk
+    elim c.if-not-is_filled.branch [
+      | then-not-is_filled w ↦ rw (w.self-is, ← c.self.view_is) walk
+      | else-not-is_filled w ↦ rw (w.self-is, ← c.self.view_is) walk
     ]
 
 pub returns-clause-counted : goal.returns-clause-counted
