@@ -8,248 +8,18 @@ ghost use Rattle.intmap.specs.Slots.{all_pairs, first_pair, held_pairs, in_order
 mod clone;
 mod each;
 mod first;
+mod in_order;
+mod search;
 
 use crate::key::IntKey;
 use crate::steps::Steps;
 use crate::table::stored::Stored;
-use first::First;
+use first::{First, set_in_order};
+use in_order::{replace_in, take_beside};
+use search::{find_back_in, find_behind, find_in};
 use std::alloc::{AllocError, Allocator};
 use std::marker::Model;
 use std::mem;
-
-/// The place of the key's pair. The pairs are compared from the front, each by one step.
-fn find_in<K: IntKey, X>(pairs: &[(Stored<K>, X)], key: &K, steps: &mut Steps) -> Option<usize>
-    ensures place { result ≡ position (λ p. same_key K.number_of key.now p.0) pairs.now }
-    ensures counted { steps.new ≡ steps.old
-        + length (through_first (λ p. same_key K.number_of key.now p.0) pairs.now) }
-{
-    for (i, pair) in pairs.iter().enumerate() {
-        if pair.0.matches(key, steps) {
-            return Some(i);
-        }
-    }
-    None
-}
-
-/// The place of the key's pair, counted from the back. The pairs are compared from the back, each by
-/// one step.
-#[cold]
-#[inline(never)]
-fn find_back_in<K: IntKey, X>(pairs: &[(Stored<K>, X)], key: K, steps: &mut Steps) -> Option<usize>
-    ensures place { result
-        ≡ position (λ p. same_key K.number_of key p.0) (reverse pairs.now) }
-    ensures counted { steps.new ≡ steps.old
-        + length (through_first (λ p. same_key K.number_of key p.0) (reverse pairs.now)) }
-{
-    for i in 0..pairs.len() {
-        if pairs[pairs.len() - 1 - i].0.matches(&key, steps) {
-            return Some(i);
-        }
-    }
-    None
-}
-
-/// The place of the key's pair, of those that lie in order or, where they are turned, the last first.
-/// They are compared in their order up to it, each by one step.
-#[inline(always)]
-fn find_behind<K: IntKey, X>(
-    rest: &[(Stored<K>, X)],
-    is_turned: bool,
-    key: &K,
-    steps: &mut Steps,
-) -> Option<usize>
-    ensures place { result ≡ position (λ p. same_key K.number_of key.now p.0)
-        (cond is_turned (reverse rest.now) rest.now) }
-    ensures counted { steps.new ≡ steps.old
-        + length (through_first (λ p. same_key K.number_of key.now p.0)
-        (cond is_turned (reverse rest.now) rest.now)) }
-{
-    if is_turned {
-        return find_back_in(rest, *key, steps);
-    }
-    find_in(rest, key, steps)
-}
-
-/// Takes the pair of the key out, and the last pair takes its place. The pairs are compared from
-/// the front up to it, each by one step.
-#[inline(never)]
-fn take_in<K: IntKey, X, A: Allocator>(
-    pairs: &mut Vec<(Stored<K>, X), A>,
-    key: &K,
-    steps: &mut Steps,
-) -> Option<X>
-    ensures value { result ≡ value_of K.number_of pairs.old.items key.now }
-    ensures pairs { pairs.new.items
-        ≡ swap_out (λ p. same_key K.number_of key.now p.0) (λ p. true) pairs.old.items }
-    ensures counted { steps.new ≡ steps.old
-        + length (through_first (λ p. same_key K.number_of key.now p.0) pairs.old.items) }
-{
-    let Some(place) = find_in(pairs, key, steps) else {
-        return None;
-    };
-    let (_, value) = pairs.swap_remove(place);
-    Some(value)
-}
-
-/// Takes the first pair out, and puts the last of the others in its place.
-#[inline(always)]
-fn swap_up<P, A: Allocator>(first: &mut P, rest: &mut Vec<P, A>) -> P
-    requires { 0 < length rest.old.items }
-    ensures value { result ≡ first.old }
-    ensures pairs { first.new ∷ rest.new.items
-        ≡ swap_remove (first.old ∷ rest.old.items) 0 result }
-{
-    match rest.pop() {
-        Some(last) => mem::replace(first, last),
-        None => unreachable!(),
-    }
-}
-
-/// Takes the pair of the key out of a first pair and others behind it, and the last pair takes its
-/// place. The pairs are compared from the front up to it, each by one step.
-#[inline(always)]
-fn take_beside<K: IntKey, X, A: Allocator>(
-    first: &mut (Stored<K>, X),
-    rest: &mut Vec<(Stored<K>, X), A>,
-    key: &K,
-    steps: &mut Steps,
-) -> Option<X>
-    requires { 0 < length rest.old.items }
-    ensures value { result ≡ value_of K.number_of (first.old ∷ rest.old.items) key.now }
-    ensures pairs { first.new ∷ rest.new.items
-        ≡ swap_out (λ p. same_key K.number_of key.now p.0) (λ p. true)
-        (first.old ∷ rest.old.items) }
-    ensures counted { steps.new ≡ steps.old + length
-        (through_first (λ p. same_key K.number_of key.now p.0) (first.old ∷ rest.old.items)) }
-{
-    if first.0.matches(key, steps) {
-        let (_, value) = swap_up(first, rest);
-        return Some(value);
-    }
-    take_in(rest, key, steps)
-}
-
-/// Takes the pair of the key out of pairs in order, and the last pair takes its place. The pairs are
-/// compared from the front up to it, each by one step.
-#[inline(always)]
-fn take_in_order<K: IntKey, X, A: Allocator>(
-    first: &mut First<(Stored<K>, X)>,
-    rest: &mut Vec<(Stored<K>, X), A>,
-    key: &K,
-    steps: &mut Steps,
-) -> Option<X>
-    requires order { first.old ≡ in_order (first_pair first.old) }
-    requires filled { IsFilledInOrder (first_pair first.old) rest.old.items }
-    ensures value { result
-        ≡ value_of K.number_of (all_pairs (first_pair first.old) rest.old.items) key.now }
-    ensures pairs { all_pairs (first_pair first.new) rest.new.items
-        ≡ swap_out (λ p. same_key K.number_of key.now p.0) (λ p. true)
-        (all_pairs (first_pair first.old) rest.old.items) }
-    ensures order { first.new ≡ in_order (first_pair first.new) }
-    ensures filled { IsFilledInOrder (first_pair first.new) rest.new.items }
-    ensures counted { steps.new ≡ steps.old + length
-        (through_first (λ p. same_key K.number_of key.now p.0)
-        (all_pairs (first_pair first.old) rest.old.items)) }
-{
-    let First::InOrder(pair) = &mut *first else {
-        return None;
-    };
-    if !rest.is_empty() {
-        return take_beside(pair, rest, key, steps);
-    }
-    if !pair.0.matches(key, steps) {
-        return None;
-    }
-    match first.take() {
-        Some((_, value)) => Some(value),
-        None => unreachable!(),
-    }
-}
-
-/// Takes the first pair out, puts the last pair in its place, if there is another, and adds a new one
-/// at the end, which takes no memory.
-#[inline(always)]
-fn replace_first<P: Drop, A: Allocator>(first: &mut P, rest: &mut Vec<P, A>, pair: P) -> P
-    ensures value { result ≡ first.old }
-    ensures pairs { first.new ∷ rest.new.items
-        ≡ swap_remove (first.old ∷ rest.old.items) 0 result ++ pair ∷ [] }
-{
-    let last = match rest.pop() {
-        Some(last) => {
-            rest.push_reserved(pair);
-            last
-        }
-        None => pair,
-    };
-    mem::replace(first, last)
-}
-
-/// Where the key is that of the first pair or one behind it, takes its pair out, puts the last pair
-/// in its place, and adds the new one at the end, which takes no memory. Where it isn't, the new
-/// value comes back. The pairs are compared from the front up to it, each by one step.
-#[inline(never)]
-fn replace_in<K: IntKey, X: Drop, A: Allocator>(
-    first: &mut (Stored<K>, X),
-    rest: &mut Vec<(Stored<K>, X), A>,
-    key: K,
-    value: X,
-    steps: &mut Steps,
-) -> Result<X, X>
-    ensures old { IfOk result
-        (λ old. value_of K.number_of (first.old ∷ rest.old.items) key ≡ Some old) }
-    ensures ok { OnOk result (first.new ∷ rest.new.items
-        ≡ swap_out (λ p. same_key K.number_of key p.0) (λ p. true) (first.old ∷ rest.old.items)
-        ++ (key, value) ∷ []) }
-    ensures missing { OnErr result
-        (value_of K.number_of (first.old ∷ rest.old.items) key ≡ None) }
-    ensures err { OnErr result (first.new ∷ rest.new.items ≡ first.old ∷ rest.old.items) }
-    ensures value_returned { IfErr result (λ returned. returned ≡ value) }
-    ensures counted { steps.new ≡ steps.old
-        + length (through_first (λ p. same_key K.number_of key p.0) (first.old ∷ rest.old.items)) }
-{
-    if first.0.matches(&key, steps) {
-        let (_, old) = replace_first(first, rest, (Stored::new(key), value));
-        return Ok(old);
-    }
-    let Some(place) = find_in(rest, &key, steps) else {
-        return Err(value);
-    };
-    let (_, old) = rest.swap_remove(place);
-    rest.push_reserved((Stored::new(key), value));
-    Ok(old)
-}
-
-/// Puts the pairs behind the first one in order, where they lie the last first.
-#[cold]
-#[inline(never)]
-fn turn<P, A: Allocator>(first: &mut First<P>, rest: &mut Vec<P, A>)
-    requires turned { is_turned first.old ≡ true }
-    ensures order { first.new ≡ in_order (first_pair first.old) }
-    ensures pairs { rest.new.items ≡ reverse rest.old.items }
-    ensures room { vec_capacity rest.new ≡ vec_capacity rest.old }
-{
-    rest.reverse();
-    let pair = first.take();
-    match mem::replace(first, First::new(pair)) {
-        First::Empty => (),
-        _ => unreachable!(),
-    }
-}
-
-/// Puts the pairs of a slot in order, where some lie the last first.
-#[inline(always)]
-fn set_in_order<P, A: Allocator>(first: &mut First<P>, rest: &mut Vec<P, A>)
-    requires { IsFilledInOrder (first_pair first.old) rest.old.items }
-    ensures order { first.new ≡ in_order (first_pair first.old) }
-    ensures pairs { all_pairs (first_pair first.old) rest.new.items
-        ≡ held_pairs first.old rest.old.items }
-    ensures filled { IsFilledInOrder (first_pair first.old) rest.new.items }
-    ensures room { vec_capacity rest.new ≡ vec_capacity rest.old }
-{
-    if first.is_turned() {
-        turn(first, rest);
-    }
-}
 
 /// Pairs in order, with the room that there is for them. One pair takes no memory of its own. When
 /// pairs are taken out from the front, each in one step, those behind the first one lie the last
@@ -296,6 +66,14 @@ impl<K: IntKey, X, A: Allocator> Slot<K, X, A> {
             First::Empty => false,
             _ => true,
         }
+    }
+
+    /// Whether the slot holds several pairs.
+    #[inline(always)]
+    pub(crate) fn is_shared(&self) -> bool
+        ensures { result ≡ nat_lt 1 (length self.now.pairs) }
+    {
+        self.is_filled() && !self.rest.is_empty()
     }
 
     /// What the key is bound to. The keys are compared from the front up to it, each by one step.
@@ -501,37 +279,46 @@ impl<K: IntKey, X, A: Allocator> Slot<K, X, A> {
         self.take_first()
     }
 
-    /// Takes the pair of the key out, and the last pair takes its place. The keys are compared as
-    /// by [`get`](Slot::get).
+    /// Takes the pair of the key out of a slot that holds one at most.
     #[inline(always)]
-    pub(crate) fn take(&mut self, key: &K, steps: &mut Steps) -> Option<X>
+    pub(crate) fn take_alone(&mut self, key: &K, steps: &mut Steps) -> Option<X>
+        requires { length self.old.pairs < 2 }
         ensures value { result ≡ value_of K.number_of self.old.pairs key.now }
+        ensures emptied { IfSome result (λ value. self.new.pairs ≡ []) }
         ensures pairs { self.new.pairs
             ≡ swap_out (λ p. same_key K.number_of key.now p.0) (λ p. true) self.old.pairs }
         ensures counted { steps.new ≡ steps.old
             + length (through_first (λ p. same_key K.number_of key.now p.0) self.old.pairs) }
     {
-        if let First::InOrder(_) = self.first {
-            return take_in_order(&mut self.first, &mut self.rest, key, steps);
+        let Some(first) = self.first.pair() else {
+            return None;
+        };
+        if !first.0.matches(key, steps) {
+            return None;
         }
-        if self.first.is_turned() {
-            return self.take_turned(key, steps);
+        match self.first.take() {
+            Some((_, value)) => Some(value),
+            None => unreachable!(),
         }
-        None
     }
 
-    /// As [`take`](Slot::take), where the pairs behind the first one lie the last first.
-    #[cold]
-    #[inline(never)]
-    fn take_turned(&mut self, key: &K, steps: &mut Steps) -> Option<X>
+    /// Takes the pair of the key out of a slot that holds several, and the last pair takes its
+    /// place. The keys are compared as by [`get`](Slot::get).
+    #[inline(always)]
+    pub(crate) fn take_shared(&mut self, key: &K, steps: &mut Steps) -> Option<X>
+        requires { 1 < length self.old.pairs }
         ensures value { result ≡ value_of K.number_of self.old.pairs key.now }
+        ensures left { 0 < length self.new.pairs }
         ensures pairs { self.new.pairs
             ≡ swap_out (λ p. same_key K.number_of key.now p.0) (λ p. true) self.old.pairs }
         ensures counted { steps.new ≡ steps.old
             + length (through_first (λ p. same_key K.number_of key.now p.0) self.old.pairs) }
     {
         set_in_order(&mut self.first, &mut self.rest);
-        take_in_order(&mut self.first, &mut self.rest, key, steps)
+        match &mut self.first {
+            First::InOrder(first) => take_beside(first, &mut self.rest, *key, steps),
+            _ => unreachable!(),
+        }
     }
 }
 
@@ -604,9 +391,9 @@ impl<K: IntKey, X: Drop, A: Allocator> Slot<K, X, A> {
         Ok(())
     }
 
-    /// Where the key is bound, takes its pair out as [`take`](Slot::take) does, and adds the new one
-    /// at the end, which takes no memory. Where it isn't, the new value comes back. A slot without a
-    /// pair makes no call.
+    /// Where the key is bound, takes its pair out, puts the last pair in its place, and adds the new
+    /// one at the end, which takes no memory. Where it isn't, the new value comes back. A slot without
+    /// a pair makes no call.
     #[inline(always)]
     pub(crate) fn replace(&mut self, key: K, value: X, steps: &mut Steps) -> Result<X, X>
         ensures old { IfOk result (λ old. value_of K.number_of self.old.pairs key ≡ Some old) }

@@ -136,12 +136,13 @@ impl<K: IntKey, X, A: Allocator> Table<K, X, A> {
     {
         let index = self.index_of(key);
         let slot = &mut self.slots[index];
-        let Some(value) = slot.take(key, steps) else {
+        if slot.is_shared() {
+            return slot.take_shared(key, steps);
+        }
+        let Some(value) = slot.take_alone(key, steps) else {
             return None;
         };
-        if !slot.is_filled() {
-            self.bits.clear(index);
-        }
+        self.bits.clear(index);
         Some(value)
     }
 }

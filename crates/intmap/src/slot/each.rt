@@ -4,8 +4,8 @@ ghost use Rattle.intmap.specs.Writes.{Writes};
 
 use crate::kept::Kept;
 use crate::key::IntKey;
-use crate::slot::first::First;
-use crate::slot::{Slot, set_in_order};
+use crate::slot::Slot;
+use crate::slot::first::{First, set_in_order};
 use crate::table::each::write_pair;
 use crate::table::stored::Stored;
 use std::alloc::Allocator;

@@ -1,8 +1,9 @@
-//! The first place of a slot.
-ghost use Rattle.std.specs.Prelude.{◌≡◌, None};
+//! The first place of a slot, and the order of the pairs behind it.
+ghost use Rattle.std.specs.Prelude.{◌≡◌, true, None, reverse, vec_capacity};
 ghost use Rattle.std.specs.Option.{option_copied};
-ghost use Rattle.intmap.specs.Slots.{Empty, first_pair, in_order, is_turned};
+ghost use Rattle.intmap.specs.Slots.{Empty, all_pairs, first_pair, held_pairs, in_order, is_turned, IsFilledInOrder};
 
+use std::alloc::Allocator;
 use std::mem;
 
 /// What stands in the first place of a slot, and how the pairs behind it lie.
@@ -70,5 +71,37 @@ impl<P> First<P> {
         ensures empty { self.new ≡ Empty }
     {
         mem::replace(self, First::Empty).into_pair()
+    }
+}
+
+/// Puts the pairs behind the first one in order, where they lie the last first.
+#[cold]
+#[inline(never)]
+fn turn<P, A: Allocator>(first: &mut First<P>, rest: &mut Vec<P, A>)
+    requires turned { is_turned first.old ≡ true }
+    ensures order { first.new ≡ in_order (first_pair first.old) }
+    ensures pairs { rest.new.items ≡ reverse rest.old.items }
+    ensures room { vec_capacity rest.new ≡ vec_capacity rest.old }
+{
+    rest.reverse();
+    let pair = first.take();
+    match mem::replace(first, First::new(pair)) {
+        First::Empty => (),
+        _ => unreachable!(),
+    }
+}
+
+/// Puts the pairs of a slot in order, where some lie the last first.
+#[inline(always)]
+pub(super) fn set_in_order<P, A: Allocator>(first: &mut First<P>, rest: &mut Vec<P, A>)
+    requires { IsFilledInOrder (first_pair first.old) rest.old.items }
+    ensures order { first.new ≡ in_order (first_pair first.old) }
+    ensures pairs { all_pairs (first_pair first.old) rest.new.items
+        ≡ held_pairs first.old rest.old.items }
+    ensures filled { IsFilledInOrder (first_pair first.old) rest.new.items }
+    ensures room { vec_capacity rest.new ≡ vec_capacity rest.old }
+{
+    if first.is_turned() {
+        turn(first, rest);
     }
 }

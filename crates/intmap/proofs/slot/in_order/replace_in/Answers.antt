@@ -2,8 +2,8 @@ use Rattle.std.proofs.Common.{[], ◌∷◌, ◌++◌, Some, refl, ap, sym, ◌�
 use Rattle.intmap.specs.Classes.{same_key}
 use Rattle.intmap.proofs.PositionLemmas.{swap_remove-position, first_value-position, first_value-none}
 use Rattle.intmap.proofs.SlotLemmas.{swap_remove-first, IsBehind, behind}
-use Rattle.intmap.proofs.slot.replace_in.Goals as goal
-use Rattle.intmap.proofs.slot.replace_in.Goals.{After-find_in}
+use Rattle.intmap.proofs.slot.in_order.replace_in.Goals as goal
+use Rattle.intmap.proofs.slot.in_order.replace_in.Goals.{After-find_in}
 
 -- the first pair isn't the key's, so the rest was searched
 rest : (g : _) (c : After-find_in g) → IsBehind (same_key g.K.IntKey.number_of c.args.key) (c.args.first.now ∷ c.args.rest.now.items) c.args.first.now c.args.rest.now.items refl

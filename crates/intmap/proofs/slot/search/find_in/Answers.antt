@@ -1,6 +1,6 @@
 use Rattle.std.proofs.Common.{arith}
 use Rattle.std.proofs.lemmas.Grind.{common_steps}
-use Rattle.intmap.proofs.slot.find_in.Goals as goal
+use Rattle.intmap.proofs.slot.search.find_in.Goals as goal
 
 pub returns-then-matches-clause-place : goal.returns-then-matches-clause-place
 returns-then-matches-clause-place g c = grind (arith, common_steps)

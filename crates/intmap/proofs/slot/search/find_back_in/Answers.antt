@@ -3,7 +3,7 @@ use Rattle.std.specs.Prelude.{reverse}
 use Rattle.std.proofs.lemmas.List.{get_or-reverse, length-reverse}
 use Rattle.intmap.specs.Classes.{same_key}
 use Rattle.intmap.proofs.PositionLemmas.{IsFound, IsFound-here, IsPassed-more}
-use Rattle.intmap.proofs.slot.find_back_in.Goals as goal
+use Rattle.intmap.proofs.slot.search.find_back_in.Goals as goal
 
 -- the pair is the key's, and those behind it aren't
 found : (g : _) (c : goal.Then-matches g) → IsFound (λ p. same_key g.K.IntKey.number_of c.args.key p.0) (reverse c.args.pairs.now) c.loop-i.i

@@ -1,7 +1,7 @@
 use Rattle.std.proofs.Common.{◌≡◌, ◌+◌}
 use Rattle.intmap.specs.Classes.{same_key}
 use Rattle.intmap.proofs.PositionLemmas.{IsPassed}
-use Rattle.intmap.proofs.slot.find_in.Given as goal
+use Rattle.intmap.proofs.slot.search.find_in.Given as goal
 
 abbrev pub invariant-loop-i : goal.invariant-loop-i
 invariant-loop-i g l = record {

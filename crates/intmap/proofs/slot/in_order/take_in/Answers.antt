@@ -1,7 +1,7 @@
 use Rattle.std.proofs.Common.{Some, ap, sym, ◌∙◌}
 use Rattle.intmap.proofs.PositionLemmas.{swap_remove-position, swap_out-none, first_value-position, first_value-none}
 use Rattle.intmap.proofs.SwapOutLemmas.{any}
-use Rattle.intmap.proofs.slot.take_in.Goals as goal
+use Rattle.intmap.proofs.slot.in_order.take_in.Goals as goal
 
 pub returns-in_default-clause-value : goal.returns-in_default-clause-value
 returns-in_default-clause-value g c =
