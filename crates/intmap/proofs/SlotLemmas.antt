@@ -1,9 +1,8 @@
 -- What a search finds in a slot, of which the first pair is looked at apart from the rest, and what stands at a place of it.
 use Rattle.std.proofs.Common.{◌≡◌, ℕ, zero, suc, ◌+◌, ◌-◌, ◌<◌, Bool, true, false, List, [], ◌∷◌, length, get_or, set, Option, Some, None, refl, sym, ap, ◌∙◌, arith}
-use Rattle.std.specs.Prelude.{◌==◌, swap_remove, cond, reverse}
+use Rattle.std.specs.Prelude.{swap_remove, cond, reverse}
 use Rattle.std.proofs.lemmas.Option.{none-some, same_Some}
-use Rattle.std.proofs.lemmas.Bool.{ne_eqb}
-use Rattle.std.proofs.lemmas.List.{get_or_default, length-set, length-take-le}
+use Rattle.std.proofs.lemmas.List.{get_or_default}
 use Rattle.intmap.specs.Bindings.{swap_out, first_value}
 use Rattle.intmap.specs.Reach.{through_first}
 use Rattle.intmap.specs.Slots.{Empty, InOrder, Turned, all_pairs, first_pair, held_pairs, in_order, is_turned, write_at, IsFilledInOrder}
@@ -58,18 +57,6 @@ module _ {K X : Type 0} where
   pub first_pair-in_order : (first : Option (K × X)) → first_pair (in_order first) ≡ first
   first_pair-in_order None = refl
   first_pair-in_order (Some f) = refl
-
-  -- pairs in order are held as they lie
-  pub held_pairs-in_order : (first : Option (K × X)) (rest : List (K × X)) → held_pairs (in_order first) rest ≡ all_pairs first rest
-  held_pairs-in_order None rest = refl
-  held_pairs-in_order (Some f) rest = refl
-
-  -- of several pairs one is left when the first is taken out
-  pub swap_remove-more : (ps : List (K × X)) (d : K × X) → 0 < length ps → (length ps ≡ 1 → ⊥) → false ≡ (length (swap_remove ps 0 d) == 0)
-  swap_remove-more ps d some more =
-      let kept = length-set ps 0 (get_or ps (length ps - 1) d) in
-      let long = length-take-le (length ps - 1) (set ps 0 (get_or ps (length ps - 1) d)) (omega (arith, kept)) in
-      sym (ne_eqb (length (swap_remove ps 0 d)) 0 (λ none. more (omega (arith, some, long, none))))
 
   -- a first pair stands before those of the rest, as they lie
   pub held_pairs-first : (place : First (K × X)) (rest : List (K × X)) (first : K × X) → first_pair place ≡ Some first → held_pairs place rest ≡ first ∷ cond (is_turned place) (reverse rest) rest

@@ -304,19 +304,39 @@ impl<K: IntKey, X, A: Allocator> Slot<K, X, A> {
 
     /// Takes the pair of the key out of a slot that holds several, and the last pair takes its
     /// place. The keys are compared as by [`get`](Slot::get).
-    #[inline(always)]
-    pub(crate) fn take_shared(&mut self, key: &K, steps: &mut Steps) -> Option<X>
+    #[inline(never)]
+    pub(crate) fn take_shared(&mut self, key: K, steps: &mut Steps) -> Option<X>
         requires { 1 < length self.old.pairs }
-        ensures value { result ≡ value_of K.number_of self.old.pairs key.now }
+        ensures value { result ≡ value_of K.number_of self.old.pairs key }
         ensures left { 0 < length self.new.pairs }
         ensures pairs { self.new.pairs
-            ≡ swap_out (λ p. same_key K.number_of key.now p.0) (λ p. true) self.old.pairs }
+            ≡ swap_out (λ p. same_key K.number_of key p.0) (λ p. true) self.old.pairs }
         ensures counted { steps.new ≡ steps.old
-            + length (through_first (λ p. same_key K.number_of key.now p.0) self.old.pairs) }
+            + length (through_first (λ p. same_key K.number_of key p.0) self.old.pairs) }
+    {
+        match &mut self.first {
+            First::Empty => unreachable!(),
+            First::InOrder(first) => take_beside(first, &mut self.rest, key, steps),
+            First::Turned(_) => self.take_turned(key, steps),
+        }
+    }
+
+    /// As [`take_shared`](Slot::take_shared), where the pairs behind the first one may lie the last
+    /// first.
+    #[cold]
+    #[inline(never)]
+    fn take_turned(&mut self, key: K, steps: &mut Steps) -> Option<X>
+        requires { 1 < length self.old.pairs }
+        ensures value { result ≡ value_of K.number_of self.old.pairs key }
+        ensures left { 0 < length self.new.pairs }
+        ensures pairs { self.new.pairs
+            ≡ swap_out (λ p. same_key K.number_of key p.0) (λ p. true) self.old.pairs }
+        ensures counted { steps.new ≡ steps.old
+            + length (through_first (λ p. same_key K.number_of key p.0) self.old.pairs) }
     {
         set_in_order(&mut self.first, &mut self.rest);
         match &mut self.first {
-            First::InOrder(first) => take_beside(first, &mut self.rest, *key, steps),
+            First::InOrder(first) => take_beside(first, &mut self.rest, key, steps),
             _ => unreachable!(),
         }
     }

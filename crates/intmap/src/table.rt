@@ -137,7 +137,7 @@ impl<K: IntKey, X, A: Allocator> Table<K, X, A> {
         let index = self.index_of(key);
         let slot = &mut self.slots[index];
         if slot.is_shared() {
-            return slot.take_shared(key, steps);
+            return slot.take_shared(*key, steps);
         }
         let Some(value) = slot.take_alone(key, steps) else {
             return None;

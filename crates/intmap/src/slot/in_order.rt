@@ -47,7 +47,7 @@ fn swap_up<P, A: Allocator>(first: &mut P, rest: &mut Vec<P, A>) -> P
 
 /// Takes the pair of the key out of a first pair and others behind it, and the last pair takes its
 /// place. The pairs are compared from the front up to it, each by one step.
-#[inline(never)]
+#[inline(always)]
 pub(super) fn take_beside<K: IntKey, X, A: Allocator>(
     first: &mut (Stored<K>, X),
     rest: &mut Vec<(Stored<K>, X), A>,
