@@ -1,9 +1,9 @@
 //! One slot of a table: the first pair in its place, the rest behind it.
-ghost use Rattle.std.specs.Prelude.{◌≡◌, ◌+◌, ◌^◌, ◌<◌, ◌≤◌, ◌==◌, [], ◌∷◌, ◌++◌, length, reverse, position, swap_remove, slice_index_or, nat_lt, vec_capacity, cond, true, None, Some, OnOk, OnErr, IfOk, IfErr, IfSome, IfNone, IsNone, option_copied};
+ghost use Rattle.std.specs.Prelude.{◌≡◌, ◌+◌, ◌^◌, ◌<◌, ◌≤◌, [], ◌∷◌, ◌++◌, length, reverse, position, swap_remove, slice_index_or, nat_lt, vec_capacity, cond, true, None, Some, OnOk, OnErr, IfOk, IfErr, IfSome, IfNone, option_copied};
 ghost use Rattle.intmap.specs.Classes.{same_key};
 ghost use Rattle.intmap.specs.Bindings.{swap_out, value_of};
 ghost use Rattle.intmap.specs.Reach.{through_first};
-ghost use Rattle.intmap.specs.Slots.{all_pairs, first_pair, held_pairs, in_order, is_turned, IsFilledInOrder};
+ghost use Rattle.intmap.specs.Slots.{all_pairs, first_pair, held_pairs, IsFilledInOrder};
 
 mod clone;
 mod each;

@@ -1,5 +1,5 @@
 //! The first place of a slot, and the order of the pairs behind it.
-ghost use Rattle.std.specs.Prelude.{◌≡◌, true, None, reverse, vec_capacity};
+ghost use Rattle.std.specs.Prelude.{◌≡◌, true, reverse, vec_capacity};
 ghost use Rattle.std.specs.Option.{option_copied};
 ghost use Rattle.intmap.specs.Slots.{Empty, all_pairs, first_pair, held_pairs, in_order, is_turned, IsFilledInOrder};
 
