@@ -58,6 +58,12 @@ module _ {K X : Type 0} where
   first_pair-in_order None = refl
   first_pair-in_order (Some f) = refl
 
+  -- of several pairs in order, the first of which fails, that one stands before the rest
+  pub first-fails : (test : K → Bool) (first : Option (K × X)) (rest pairs : List (K × X)) → all_pairs first rest ≡ pairs → IsFilledInOrder first rest → 1 < length pairs → ((p : K × X) → test (get_or pairs 0 p).0 ≡ false)
+      → (f : K × X) × (first ≡ Some f) × (pairs ≡ f ∷ rest) × (test f.0 ≡ false)
+  first-fails test None rest pairs is filled long fails = let none : length rest ≡ 0 = ap length filled in let same = ap length is in absurd (omega (arith, none, same, long))
+  first-fails test (Some f) rest pairs is filled long fails = (f, refl, sym is, ap (λ ps. test (get_or ps 0 f).0) is ∙ fails f)
+
   -- a first pair stands before those of the rest, as they lie
   pub held_pairs-first : (place : First (K × X)) (rest : List (K × X)) (first : K × X) → first_pair place ≡ Some first → held_pairs place rest ≡ first ∷ cond (is_turned place) (reverse rest) rest
   held_pairs-first Empty rest first is = absurd (none-some first is)

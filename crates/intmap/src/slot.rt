@@ -1,5 +1,5 @@
 //! One slot of a table: the first pair in its place, the rest behind it.
-ghost use Rattle.std.specs.Prelude.{◌≡◌, ◌+◌, ◌^◌, ◌<◌, ◌≤◌, [], ◌∷◌, ◌++◌, length, reverse, position, swap_remove, slice_index_or, nat_lt, vec_capacity, cond, true, None, Some, OnOk, OnErr, IfOk, IfErr, IfSome, IfNone, option_copied};
+ghost use Rattle.std.specs.Prelude.{◌≡◌, ◌+◌, ◌^◌, ◌<◌, ◌≤◌, ◌==◌, [], ◌∷◌, ◌++◌, length, reverse, position, swap_remove, slice_index_or, nat_lt, vec_capacity, cond, true, false, None, Some, OnOk, OnErr, IfOk, IfErr, IfSome, IfNone, option_copied};
 ghost use Rattle.intmap.specs.Classes.{same_key};
 ghost use Rattle.intmap.specs.Bindings.{swap_out, value_of};
 ghost use Rattle.intmap.specs.Reach.{through_first};
@@ -15,7 +15,7 @@ use crate::key::IntKey;
 use crate::steps::Steps;
 use crate::table::stored::Stored;
 use first::{First, set_in_order};
-use in_order::{replace_in, take_beside};
+use in_order::{replace_in, swap_up, take_in};
 use search::{find_back_in, find_behind, find_in};
 use std::alloc::{AllocError, Allocator};
 use std::marker::Model;
@@ -66,14 +66,6 @@ impl<K: IntKey, X, A: Allocator> Slot<K, X, A> {
             First::Empty => false,
             _ => true,
         }
-    }
-
-    /// Whether the slot holds several pairs.
-    #[inline(always)]
-    pub(crate) fn is_shared(&self) -> bool
-        ensures { result ≡ nat_lt 1 (length self.now.pairs) }
-    {
-        self.is_filled() && !self.rest.is_empty()
     }
 
     /// What the key is bound to. The keys are compared from the front up to it, each by one step.
@@ -214,21 +206,18 @@ impl<K: IntKey, X, A: Allocator> Slot<K, X, A> {
         }
     }
 
-    /// Takes the first pair out. The last pair, if there is another, takes its place.
-    #[inline(always)]
+    /// Takes the first of several pairs out. The last pair takes its place.
+    #[inline(never)]
     fn take_first(&mut self) -> (Stored<K>, X)
-        requires { 0 < length self.old.pairs }
+        requires { 1 < length self.old.pairs }
         ensures value { result ≡ slice_index_or self.old.pairs 0 result }
+        ensures left { 0 < length self.new.pairs }
         ensures pairs { self.new.pairs ≡ swap_remove self.old.pairs 0 result }
     {
         set_in_order(&mut self.first, &mut self.rest);
-        let first = match self.rest.pop() {
-            Some(last) => mem::replace(&mut self.first, First::InOrder(last)).into_pair(),
-            None => self.first.take(),
-        };
-        match first {
-            Some(pair) => pair,
-            None => unreachable!(),
+        match &mut self.first {
+            First::InOrder(first) => swap_up(first, &mut self.rest),
+            _ => unreachable!(),
         }
     }
 
@@ -272,19 +261,24 @@ impl<K: IntKey, X, A: Allocator> Slot<K, X, A> {
         ensures value { result ≡ slice_index_or self.old.pairs place result }
         ensures pairs { self.new.pairs ≡ swap_remove self.old.pairs place result }
     {
-        set_in_order(&mut self.first, &mut self.rest);
+        if let Some(pair) = self.take_lone() {
+            return pair;
+        }
         if place > 0 {
+            set_in_order(&mut self.first, &mut self.rest);
             return self.rest.swap_remove(place - 1);
         }
         self.take_first()
     }
 
-    /// Takes the pair of the key out of a slot that holds one at most.
+    /// Takes the pair of the key out, and the last pair takes its place. The keys are compared as
+    /// by [`get`](Slot::get). Beside the value it answers whether no pair is left.
     #[inline(always)]
-    pub(crate) fn take_alone(&mut self, key: &K, steps: &mut Steps) -> Option<X>
-        requires { length self.old.pairs < 2 }
-        ensures value { result ≡ value_of K.number_of self.old.pairs key.now }
-        ensures emptied { IfSome result (λ value. self.new.pairs ≡ []) }
+    pub(crate) fn take(&mut self, key: &K, steps: &mut Steps) -> Option<(X, bool)>
+        ensures value { IfSome result (λ taken.
+            value_of K.number_of self.old.pairs key.now ≡ Some taken.0) }
+        ensures missing { IfNone result (value_of K.number_of self.old.pairs key.now ≡ None) }
+        ensures emptied { IfSome result (λ taken. taken.1 ≡ (length self.new.pairs == 0)) }
         ensures pairs { self.new.pairs
             ≡ swap_out (λ p. same_key K.number_of key.now p.0) (λ p. true) self.old.pairs }
         ensures counted { steps.new ≡ steps.old
@@ -293,52 +287,38 @@ impl<K: IntKey, X, A: Allocator> Slot<K, X, A> {
         let Some(first) = self.first.pair() else {
             return None;
         };
-        if !first.0.matches(key, steps) {
+        if first.0.matches(key, steps) {
+            if let Some((_, value)) = self.take_lone() {
+                return Some((value, true));
+            }
+            let (_, value) = self.take_first();
+            return Some((value, false));
+        }
+        if self.rest.is_empty() {
             return None;
         }
-        match self.first.take() {
-            Some((_, value)) => Some(value),
-            None => unreachable!(),
+        match self.take_behind(*key, steps) {
+            Some(value) => Some((value, false)),
+            None => None,
         }
     }
 
-    /// Takes the pair of the key out of a slot that holds several, and the last pair takes its
-    /// place. The keys are compared as by [`get`](Slot::get).
+    /// Takes the pair of the key out of those behind the first one, whose key is another. The last
+    /// pair takes its place. The keys are compared in order up to it, each by one step.
     #[inline(never)]
-    pub(crate) fn take_shared(&mut self, key: K, steps: &mut Steps) -> Option<X>
-        requires { 1 < length self.old.pairs }
+    fn take_behind(&mut self, key: K, steps: &mut Steps) -> Option<X>
+        requires several { 1 < length self.old.pairs }
+        requires other { (p : K × X)
+            → same_key K.number_of key (slice_index_or self.old.pairs 0 p).0 ≡ false }
         ensures value { result ≡ value_of K.number_of self.old.pairs key }
         ensures left { 0 < length self.new.pairs }
         ensures pairs { self.new.pairs
             ≡ swap_out (λ p. same_key K.number_of key p.0) (λ p. true) self.old.pairs }
-        ensures counted { steps.new ≡ steps.old
-            + length (through_first (λ p. same_key K.number_of key p.0) self.old.pairs) }
-    {
-        match &mut self.first {
-            First::Empty => unreachable!(),
-            First::InOrder(first) => take_beside(first, &mut self.rest, key, steps),
-            First::Turned(_) => self.take_turned(key, steps),
-        }
-    }
-
-    /// As [`take_shared`](Slot::take_shared), where the pairs behind the first one may lie the last
-    /// first.
-    #[cold]
-    #[inline(never)]
-    fn take_turned(&mut self, key: K, steps: &mut Steps) -> Option<X>
-        requires { 1 < length self.old.pairs }
-        ensures value { result ≡ value_of K.number_of self.old.pairs key }
-        ensures left { 0 < length self.new.pairs }
-        ensures pairs { self.new.pairs
-            ≡ swap_out (λ p. same_key K.number_of key p.0) (λ p. true) self.old.pairs }
-        ensures counted { steps.new ≡ steps.old
+        ensures counted { steps.new + 1 ≡ steps.old
             + length (through_first (λ p. same_key K.number_of key p.0) self.old.pairs) }
     {
         set_in_order(&mut self.first, &mut self.rest);
-        match &mut self.first {
-            First::InOrder(first) => take_beside(first, &mut self.rest, key, steps),
-            _ => unreachable!(),
-        }
+        take_in(&mut self.rest, &key, steps)
     }
 }
 

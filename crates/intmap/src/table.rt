@@ -136,13 +136,12 @@ impl<K: IntKey, X, A: Allocator> Table<K, X, A> {
     {
         let index = self.index_of(key);
         let slot = &mut self.slots[index];
-        if slot.is_shared() {
-            return slot.take_shared(*key, steps);
-        }
-        let Some(value) = slot.take_alone(key, steps) else {
+        let Some((value, emptied)) = slot.take(key, steps) else {
             return None;
         };
-        self.bits.clear(index);
+        if emptied {
+            self.bits.clear(index);
+        }
         Some(value)
     }
 }

@@ -13,7 +13,7 @@ use std::mem;
 
 /// Takes the pair of the key out, and the last pair takes its place. The pairs are compared from
 /// the front up to it, each by one step.
-fn take_in<K: IntKey, X, A: Allocator>(
+pub(super) fn take_in<K: IntKey, X, A: Allocator>(
     pairs: &mut Vec<(Stored<K>, X), A>,
     key: &K,
     steps: &mut Steps,
@@ -33,7 +33,7 @@ fn take_in<K: IntKey, X, A: Allocator>(
 
 /// Takes the first pair out, and puts the last of the others in its place.
 #[inline(always)]
-fn swap_up<P, A: Allocator>(first: &mut P, rest: &mut Vec<P, A>) -> P
+pub(super) fn swap_up<P, A: Allocator>(first: &mut P, rest: &mut Vec<P, A>) -> P
     requires { 0 < length rest.old.items }
     ensures value { result ≡ first.old }
     ensures pairs { first.new ∷ rest.new.items
@@ -43,30 +43,6 @@ fn swap_up<P, A: Allocator>(first: &mut P, rest: &mut Vec<P, A>) -> P
         Some(last) => mem::replace(first, last),
         None => unreachable!(),
     }
-}
-
-/// Takes the pair of the key out of a first pair and others behind it, and the last pair takes its
-/// place. The pairs are compared from the front up to it, each by one step.
-#[inline(always)]
-pub(super) fn take_beside<K: IntKey, X, A: Allocator>(
-    first: &mut (Stored<K>, X),
-    rest: &mut Vec<(Stored<K>, X), A>,
-    key: K,
-    steps: &mut Steps,
-) -> Option<X>
-    requires { 0 < length rest.old.items }
-    ensures value { result ≡ value_of K.number_of (first.old ∷ rest.old.items) key }
-    ensures pairs { first.new ∷ rest.new.items
-        ≡ swap_out (λ p. same_key K.number_of key p.0) (λ p. true)
-        (first.old ∷ rest.old.items) }
-    ensures counted { steps.new ≡ steps.old + length
-        (through_first (λ p. same_key K.number_of key p.0) (first.old ∷ rest.old.items)) }
-{
-    if first.0.matches(&key, steps) {
-        let (_, value) = swap_up(first, rest);
-        return Some(value);
-    }
-    take_in(rest, &key, steps)
 }
 
 /// Takes the first pair out, puts the last pair in its place, if there is another, and adds a new one
