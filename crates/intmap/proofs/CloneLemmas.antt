@@ -9,7 +9,7 @@ use Rattle.intmap.specs.Bindings.{value_of}
 use Rattle.intmap.specs.Classes.{same_key}
 use Rattle.intmap.specs.Cloning.{IsPairClone, BindsClones}
 use Rattle.intmap.specs.Kept.{unkept}
-use Rattle.intmap.specs.Slots.{Empty, InOrder, Turned, Held, rows, joined, held_pairs}
+use Rattle.intmap.specs.Slots.{Empty, Lone, InOrder, Turned, Held, rows, joined, held_pairs}
 use Rattle.intmap.specs.declared.slot.first.First.{First}
 use Rattle.intmap.specs.declared.kept.Kept.{Kept}
 use Rattle.intmap.proofs.SameKeysLemmas.{row_keys}
@@ -17,6 +17,7 @@ use Rattle.intmap.proofs.SameKeysLemmas.{row_keys}
 -- a slot holds at least the pairs of its rest
 pub length-held_pairs : {P : Type 0} (first : First P) (rest : List P) → length rest ≤ length (held_pairs first rest)
 length-held_pairs Empty rest = omega arith
+length-held_pairs (Lone p) rest = omega arith
 length-held_pairs (InOrder p) rest = omega arith
 length-held_pairs (Turned p) rest = omega (arith, length-reverse rest)
 
@@ -51,12 +52,14 @@ module _ {K X : Type 0} (clones : X → X → Type 0) where
   -- a first place with a clone of the pair, where there is one, and with the others behind it as they lay
   abbrev pub IsFirstClone : First (K × X) → First (K × X) → Type 0
   IsFirstClone Empty made = made ≡ Empty
+  IsFirstClone (Lone p) made = (q : K × X) × (made ≡ Lone q) × IsPairClone clones p q
   IsFirstClone (InOrder p) made = (q : K × X) × (made ≡ InOrder q) × IsPairClone clones p q
   IsFirstClone (Turned p) made = (q : K × X) × (made ≡ Turned q) × IsPairClone clones p q
 
   -- where the pairs that lie in a slot are cloned, those that it holds are
   pub AreClones-held_pairs : (first made : First (K × X)) (rest more : List (K × X)) → IsFirstClone first made → AreClones rest more → AreClones (held_pairs first rest) (held_pairs made more)
   AreClones-held_pairs Empty made rest more one all = rw one all
+  AreClones-held_pairs (Lone p) made rest more one all = rw one.1 (one.2, all)
   AreClones-held_pairs (InOrder p) made rest more one all = rw one.1 (one.2, all)
   AreClones-held_pairs (Turned p) made rest more one all = rw one.1 (one.2, AllZip-reverse (IsPairClone clones) rest more all)
 

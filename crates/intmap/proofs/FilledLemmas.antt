@@ -102,11 +102,14 @@ module _ {K X : Type 0} (S : List (Held K X)) (bits : List Bool) (marks : AreMar
 
 -- the same, of the slot of a key
 module _ {K X : Type 0} (number : K → ℕ) (S : List (Held K X)) (h : Held K X) (i : ℕ) (k : K) (at : IsSlot number S h i k) (bits : List Bool) (marks : AreMarked (rows S) bits) where
+  pub marked-here : marked bits i ≡ nat_lt 0 (length h.pairs)
+  marked-here = marked-at S bits marks i (within number S h i k at) h at.here
+
   pub marks-set : (s : Held K X) (b : Bool) → b ≡ nat_lt 0 (length s.pairs) → AreMarked (rows (set S i s)) (set bits i b)
   marks-set = marks-set_at S bits marks i (within number S h i k at)
 
   pub marks-kept : (s : Held K X) → nat_lt 0 (length h.pairs) ≡ nat_lt 0 (length s.pairs) → AreMarked (rows (set S i s)) bits
-  marks-kept s is = marks-kept_at S bits marks i (within number S h i k at) s (marked-at S bits marks i (within number S h i k at) h at.here ∙ is)
+  marks-kept s is = marks-kept_at S bits marks i (within number S h i k at) s (marked-here ∙ is)
 
 -- the marked places are places of slots
 pub places-within : {K X : Type 0} (S : List (Held K X)) (bits : List Bool) → AreMarked (rows S) bits → All (λ place. place < length S) (marked_places bits)

@@ -2,7 +2,6 @@
 use mathlib.Core.Path.{◌≡◌, refl, ap}
 use Prim.Native.Nat.{ℕ, zero, ◌+◌}
 use lib.ListN.{length}
-use mathlib.Core.Bool.{Bool, true, false}
 use mathlib.Core.List.{List, [], ◌∷◌}
 use seplogic.Ra.Ura.{Ura}
 use base.Fraction.{full_share}
@@ -41,19 +40,27 @@ use Rattle.intmap.proofs.slot.first.First.TheLaws as F-laws
 use Rattle.intmap.proofs.table.stored.Stored.TheLaws as S-laws
 use Rattle.intmap.proofs.kept.Kept.TheLaws as K-laws
 use Rattle.intmap.specs.Apart.{each_at, places_of, contents_of}
-use Rattle.intmap.specs.Slots.{Empty, InOrder, Turned}
+use Rattle.intmap.specs.Slots.{Empty, Lone, InOrder, Turned}
 use Rattle.intmap.proofs.OpensLemmas.{Opens}
 use Rattle.intmap.proofs.OpensPairLemmas.{V, K, St, Kr, Pr, PHr, pair_laws, pair_opens}
 
--- the first place with a pair in it, where the others lie in their order, or turned
-abbrev with_pair : {X : Type 0} → Bool → X → First X
-with_pair false p = InOrder p
-with_pair true p = Turned p
+-- how a pair in the first place lies: it is the only one, or the others lie in their order, or turned
+pub data Lying : Type 0 where
+  alone : Lying
+  ordered : Lying
+  turned : Lying
+
+-- the first place with a pair in it
+abbrev with_pair : {X : Type 0} → Lying → X → First X
+with_pair alone p = Lone p
+with_pair ordered p = InOrder p
+with_pair turned p = Turned p
 
 -- its tag in memory
-abbrev tag : Bool → ℕ
-tag false = 1
-tag true = 2
+abbrev tag : Lying → ℕ
+tag alone = 1
+tag ordered = 2
+tag turned = 3
 
 module _ (K' V' : RattleType) (g : key.Ghosts K'.Denot) (e : eq.Ghosts K'.Denot) where
   abbrev pub Fr : RattleType
@@ -90,7 +97,7 @@ module _ (K' V' : RattleType) (g : key.Ghosts K'.Denot) (e : eq.Ghosts K'.Denot)
   tag_at k b o = part_at u8 full_share k b (o + e₁)
 
   -- what a `&` to a first place with a pair that has a hole holds
-  abbrev seen : Bool → HP → ℕ → ℕ → Lft → Fml
+  abbrev seen : Lying → HP → ℕ → ℕ → Lft → Fml
   seen t h b o = beside (beside (shared_of u8 (tag t) b (o + e₁)) (beside (shared_of (PHr K' V' g e) h b (o + e₂)) (λ κ. ftrue))) (left_seen b o)
 
   module _ (LK : Laws K') (LV : Laws V') {M : Type 1} {𝓤 : Ura M} (𝓛 : Logic 𝓤) (l : Lft) (ik : Incl l K'.lives) (iv : Incl l V'.lives) where
@@ -109,94 +116,109 @@ module _ (K' V' : RattleType) (g : key.Ghosts K'.Denot) (e : eq.Ghosts K'.Denot)
 
     abbrev Info : First P → Type 0
     Info Empty = Unit {0}
+    Info (Lone x) = O.Info x
     Info (InOrder x) = O.Info x
     Info (Turned x) = O.Info x
 
     abbrev holed : (x : First P) → Info x → ℕ → ℕ → FHr.Denot
     holed Empty i b o = Empty
+    holed (Lone x) i b o = Lone (O.holed x i b (o + e₂))
     holed (InOrder x) i b o = InOrder (O.holed x i b (o + e₂))
     holed (Turned x) i b o = Turned (O.holed x i b (o + e₂))
 
     abbrev cells : (x : First P) → Info x → ℕ → ℕ → List (Ptr × V'.Denot)
     cells Empty i b o = []
+    cells (Lone x) i b o = O.cells x i b (o + e₂)
     cells (InOrder x) i b o = O.cells x i b (o + e₂)
     cells (Turned x) i b o = O.cells x i b (o + e₂)
 
     abbrev pub first_count : First P → ℕ
     first_count Empty = 0
+    first_count (Lone x) = 1
     first_count (InOrder x) = 1
     first_count (Turned x) = 1
 
     pub counts : (x : First P) (i : Info x) (b o : ℕ) → length (cells x i b o) ≡ first_count x
     counts Empty i b o = refl
+    counts (Lone x) i b o = refl
     counts (InOrder x) i b o = refl
     counts (Turned x) i b o = refl
 
     abbrev pub first_put : First P → List V'.Denot → First P
     first_put Empty ws = Empty
+    first_put (Lone x) ws = Lone (O.put x ws)
     first_put (InOrder x) ws = InOrder (O.put x ws)
     first_put (Turned x) ws = Turned (O.put x ws)
 
     abbrev pub first_fill : FHr.Denot → First P
     first_fill Empty = Empty
+    first_fill (Lone h) = Lone (O.fill h)
     first_fill (InOrder h) = InOrder (O.fill h)
     first_fill (Turned h) = Turned (O.fill h)
 
     pub filled : (x : First P) (i : Info x) (b o : ℕ) → first_fill (holed x i b o) ≡ x
     filled Empty i b o = refl
+    filled (Lone x) i b o = ap Lone (O.filled x i b (o + e₂))
     filled (InOrder x) i b o = ap InOrder (O.filled x i b (o + e₂))
     filled (Turned x) i b o = ap Turned (O.filled x i b (o + e₂))
 
     abbrev pub first_cells_in : FHr.Denot → List (Ptr × V'.Denot)
     first_cells_in Empty = []
+    first_cells_in (Lone h) = O.cells_in h
     first_cells_in (InOrder h) = O.cells_in h
     first_cells_in (Turned h) = O.cells_in h
 
     pub celled : (x : First P) (i : Info x) (b o : ℕ) → cells x i b o ≡ first_cells_in (holed x i b o)
     celled Empty i b o = refl
+    celled (Lone x) i b o = O.celled x i b (o + e₂)
     celled (InOrder x) i b o = O.celled x i b (o + e₂)
     celled (Turned x) i b o = O.celled x i b (o + e₂)
 
-    abbrev pair_frame : Bool → (x : P) → O.Info x → ℕ → ℕ → Fml
+    abbrev pair_frame : Lying → (x : P) → O.Info x → ℕ → ℕ → Fml
     pair_frame t x i b o = fsep (tag_at (tag t) b o) (fsep (O.frame x i b (o + e₂)) (Left b o))
 
     abbrev frame : (x : First P) → Info x → ℕ → ℕ → Fml
     frame Empty i b o = part_at Fr full_share Empty b o
-    frame (InOrder x) i b o = pair_frame false x i b o
-    frame (Turned x) i b o = pair_frame true x i b o
+    frame (Lone x) i b o = pair_frame alone x i b o
+    frame (InOrder x) i b o = pair_frame ordered x i b o
+    frame (Turned x) i b o = pair_frame turned x i b o
 
     abbrev Back : (x : First P) → Info x → ℕ → ℕ → SProp 𝓤
     Back Empty i b o = emp 𝓤
+    Back (Lone x) i b o = O.Back x i b (o + e₂)
     Back (InOrder x) i b o = O.Back x i b (o + e₂)
     Back (Turned x) i b o = O.Back x i b (o + e₂)
 
     -- a first place with a pair is taken apart into its tag and the pair
-    pub tagged_out : (t : Bool) (p : P) (b o : ℕ) → ent 𝓤 (sem 𝓛 (part_at Fr full_share (with_pair t p) b o))
+    pub tagged_out : (t : Lying) (p : P) (b o : ℕ) → ent 𝓤 (sem 𝓛 (part_at Fr full_share (with_pair t p) b o))
         (sep 𝓤 (sem 𝓛 (parts_at full_share (tag_m 𝓛 ρss (tag t) ∷ ms) zero (tag t, (p, tt)) b o)) (H.left full_share (ty_enum [] ρss) (tcons (ty_int w8) (raw_tys ms)) b o))
     unfolding part_of
-    tagged_out false p b o = Live-out 𝓛 ρss 1 ms refl (p, tt) b o full_share ((pair_laws K' V' g e LK LV 𝓛).single, tt)
-    tagged_out true p b o = Live-out 𝓛 ρss 2 ms refl (p, tt) b o full_share ((pair_laws K' V' g e LK LV 𝓛).single, tt)
+    tagged_out alone p b o = Live-out 𝓛 ρss 1 ms refl (p, tt) b o full_share ((pair_laws K' V' g e LK LV 𝓛).single, tt)
+    tagged_out ordered p b o = Live-out 𝓛 ρss 2 ms refl (p, tt) b o full_share ((pair_laws K' V' g e LK LV 𝓛).single, tt)
+    tagged_out turned p b o = Live-out 𝓛 ρss 3 ms refl (p, tt) b o full_share ((pair_laws K' V' g e LK LV 𝓛).single, tt)
 
     -- and put together
-    pub tagged_in : (t : Bool) (p : P) (b o : ℕ) → ent 𝓤
+    pub tagged_in : (t : Lying) (p : P) (b o : ℕ) → ent 𝓤
         (sep 𝓤 (sem 𝓛 (parts_at full_share (tag_m 𝓛 ρss (tag t) ∷ ms) zero (tag t, (p, tt)) b o)) (H.left full_share (ty_enum [] ρss) (tcons (ty_int w8) (raw_tys ms)) b o)) (sem 𝓛 (part_at Fr full_share (with_pair t p) b o))
     unfolding part_of
-    tagged_in false p b o = live_in 𝓛 ρss 1 ms refl (p, tt) b o full_share
-    tagged_in true p b o = live_in 𝓛 ρss 2 ms refl (p, tt) b o full_share
+    tagged_in alone p b o = live_in 𝓛 ρss 1 ms refl (p, tt) b o full_share
+    tagged_in ordered p b o = live_in 𝓛 ρss 2 ms refl (p, tt) b o full_share
+    tagged_in turned p b o = live_in 𝓛 ρss 3 ms refl (p, tt) b o full_share
 
     -- what is seen of the tag and of the pair with a hole is a `&` to the first place
-    pub shown : (t : Bool) (h : HP) (b o : ℕ) (κ : Lft) → ent 𝓤 (sem 𝓛 (seen t h b o κ)) (sem 𝓛 (shared_of FHr (with_pair t h) b o κ))
-    shown false h b o κ = id⊢ 𝓤 _
-    shown true h b o κ = id⊢ 𝓤 _
+    pub shown : (t : Lying) (h : HP) (b o : ℕ) (κ : Lft) → ent 𝓤 (sem 𝓛 (seen t h b o κ)) (sem 𝓛 (shared_of FHr (with_pair t h) b o κ))
+    shown alone h b o κ = id⊢ 𝓤 _
+    shown ordered h b o κ = id⊢ 𝓤 _
+    shown turned h b o κ = id⊢ 𝓤 _
 
-    abbrev OpenPair : Bool → (x : P) (b o : ℕ) → O.Info x → Item 𝓤
+    abbrev OpenPair : Lying → (x : P) (b o : ℕ) → O.Info x → Item 𝓤
     OpenPair t x b o i = ‵ (each_at (V V') (places_of (O.cells x i b (o + e₂))) (contents_of (O.cells x i b (o + e₂)))) ⊛ ‵ (pair_frame t x i b o) ⊛ raw (O.Back x i b (o + e₂))
 
     abbrev Open : (x : First P) (b o : ℕ) → Info x → Item 𝓤
     Open x b o i = ‵ (each_at (V V') (places_of (cells x i b o)) (contents_of (cells x i b o))) ⊛ ‵ (frame x i b o) ⊛ raw (Back x i b o)
 
     -- the value of the pair is taken out
-    pub pair_out : (t : Bool) (x : P) (b o : ℕ) → ent 𝓤 (sem 𝓛 (part_at Fr full_share (with_pair t x) b o)) (mean 𝓛 (some (OpenPair t x b o)))
+    pub pair_out : (t : Lying) (x : P) (b o : ℕ) → ent 𝓤 (sem 𝓛 (part_at Fr full_share (with_pair t x) b o)) (mean 𝓛 (some (OpenPair t x b o)))
     pair_out t x b o = qed 𝓛 (‵ (part_at Fr full_share (with_pair t x) b o) ∷ []) ∵
         use1 𝓛 (‵ (parts_at full_share (tag_m 𝓛 ρss (tag t) ∷ ms) zero (tag t, (x, tt)) b o) ⊛ ‵ (Left b o)) (tagged_out t x b o) $ split ! $ fsplit3 ! $ move ! (1 ∷ []) $
         use1 𝓛 (some (λ (i : O.Info x). ‵ (each_at (V V') (places_of (O.cells x i b (o + e₂))) (contents_of (O.cells x i b (o + e₂)))) ⊛ ‵ (O.frame x i b (o + e₂)) ⊛ raw (O.Back x i b (o + e₂)))) (O.out x b (o + e₂)) $ pick ! (λ i. split3 ! $
@@ -206,11 +228,12 @@ module _ (K' V' : RattleType) (g : key.Ghosts K'.Denot) (e : eq.Ghosts K'.Denot)
     pub out : (x : First P) (b o : ℕ) → ent 𝓤 (sem 𝓛 (part_at Fr full_share x b o)) (mean 𝓛 (some (Open x b o)))
     out Empty b o = qed 𝓛 (‵ (part_at Fr full_share Empty b o) ∷ []) ∵ show ! (λ (i : Unit {0}). mean 𝓛 (Open Empty b o i)) tt $
         nothing ! $ use0 𝓛 (raw (emp 𝓤)) (id⊢ 𝓤 (emp 𝓤)) $ move ! (1 ∷ 2 ∷ 0 ∷ []) $ done !
-    out (InOrder x) b o = pair_out false x b o
-    out (Turned x) b o = pair_out true x b o
+    out (Lone x) b o = pair_out alone x b o
+    out (InOrder x) b o = pair_out ordered x b o
+    out (Turned x) b o = pair_out turned x b o
 
     -- and put in again
-    pub pair_back : (t : Bool) (x : P) (i : O.Info x) (b o : ℕ) (ws : List V'.Denot)
+    pub pair_back : (t : Lying) (x : P) (i : O.Info x) (b o : ℕ) (ws : List V'.Denot)
         → ent 𝓤 (sep 𝓤 (sem 𝓛 (each_at (V V') (places_of (O.cells x i b (o + e₂))) ws)) (sep 𝓤 (sem 𝓛 (pair_frame t x i b o)) (O.Back x i b (o + e₂))))
         (sem 𝓛 (part_at Fr full_share (with_pair t (O.put x ws)) b o))
     pair_back t x i b o ws = qed 𝓛 (‵ (each_at (V V') (places_of (O.cells x i b (o + e₂))) ws) ∷ ‵ (pair_frame t x i b o) ∷ raw (O.Back x i b (o + e₂)) ∷ []) ∵ move ! (1 ∷ []) $ fsplit3 ! $
@@ -220,8 +243,9 @@ module _ (K' V' : RattleType) (g : key.Ghosts K'.Denot) (e : eq.Ghosts K'.Denot)
     pub back : (x : First P) (i : Info x) (b o : ℕ) (ws : List V'.Denot)
         → ent 𝓤 (sep 𝓤 (sem 𝓛 (each_at (V V') (places_of (cells x i b o)) ws)) (sep 𝓤 (sem 𝓛 (frame x i b o)) (Back x i b o))) (sem 𝓛 (part_at Fr full_share (first_put x ws) b o))
     back Empty i b o ws = qed 𝓛 (‵ (each_at (V V') [] ws) ∷ ‵ (part_at Fr full_share Empty b o) ∷ raw (emp 𝓤) ∷ []) ∵ keep ! (1 ∷ []) $ done !
-    back (InOrder x) i b o ws = pair_back false x i b o ws
-    back (Turned x) i b o ws = pair_back true x i b o ws
+    back (Lone x) i b o ws = pair_back alone x i b o ws
+    back (InOrder x) i b o ws = pair_back ordered x i b o ws
+    back (Turned x) i b o ws = pair_back turned x i b o ws
 
     pub Lends-left : (b o : ℕ) → Lends 𝓛 (Left b o) (left_seen b o) l
     Lends-left b o κ ts inc sp =
@@ -229,7 +253,7 @@ module _ (K' V' : RattleType) (g : key.Ghosts K'.Denot) (e : eq.Ghosts K'.Denot)
         updating ! $ bor_fracture ! tt (λ q. fleft q (ty_enum [] ρss) (tcons (ty_int w8) (raw_tys ms)) b o) full_share $ at_once ! $ done !)
 
     -- what is left of a first place with a pair is lent as one with a hole
-    pub pair_lends : (t : Bool) (x : P) (i : O.Info x) (b o : ℕ) → Lends 𝓛 (pair_frame t x i b o) (shared_of FHr (with_pair t (O.holed x i b (o + e₂))) b o) l
+    pub pair_lends : (t : Lying) (x : P) (i : O.Info x) (b o : ℕ) → Lends 𝓛 (pair_frame t x i b o) (shared_of FHr (with_pair t (O.holed x i b (o + e₂))) b o) l
     pair_lends t x i b o κ ts inc sp =
         let h = O.holed x i b (o + e₂) in let s₁ = shared_of u8 (tag t) b (o + e₁) in let s₂ = shared_of (PHr K' V' g e) h b (o + e₂) in
         qed 𝓛 (‵ (fbor κ (pair_frame t x i b o)) ∷ raw (lfts 𝓛 ts) ∷ []) {P = H.⇛ (sep 𝓤 (sem 𝓛 (shared_of FHr (with_pair t h) b o κ)) (lfts 𝓛 ts))} (
@@ -241,8 +265,9 @@ module _ (K' V' : RattleType) (g : key.Ghosts K'.Denot) (e : eq.Ghosts K'.Denot)
 
     pub lends : (x : First P) (i : Info x) (b o : ℕ) → Lends 𝓛 (frame x i b o) (shared_of FHr (holed x i b o) b o) l
     lends Empty i b o κ ts inc sp = first_shares Empty κ ts b o inc sp
-    lends (InOrder x) i b o κ ts inc sp = pair_lends false x i b o κ ts inc sp
-    lends (Turned x) i b o κ ts inc sp = pair_lends true x i b o κ ts inc sp
+    lends (Lone x) i b o κ ts inc sp = pair_lends alone x i b o κ ts inc sp
+    lends (InOrder x) i b o κ ts inc sp = pair_lends ordered x i b o κ ts inc sp
+    lends (Turned x) i b o κ ts inc sp = pair_lends turned x i b o κ ts inc sp
 
     -- a first place is lent as one whose pair has a hole
     abbrev pub first_opens : Opens 𝓛 (V V') Fr FHr l

@@ -1,9 +1,9 @@
 -- A slot, whose values are lent. Assumes `Logic`.
 use mathlib.Core.Path.{◌≡◌, refl, ap, sym, subst, ◌∙◌}
-use Prim.Native.Nat.{ℕ, ◌+◌}
+use Prim.Native.Nat.{ℕ, ◌+◌, ◌<◌}
 use native.Mathlib.Omega.{arith}
 use mathlib.Core.List.{List, [], ◌∷◌, ◌++◌, reverse, cons≢nil}
-use lib.ListN.{length, take, drop, length-reverse}
+use lib.ListN.{length, take, drop, length-reverse, length-map}
 use seplogic.Ra.Ura.{Ura}
 use base.Fraction.{full_share}
 use mir.Syntax.{Sym}
@@ -32,11 +32,11 @@ use Rattle.intmap.specs.declared.slot.Slot as declared
 use Rattle.intmap.specs.declared.slot.first.First.{First}
 use Rattle.intmap.specs.contracts.slot.Slot as L-type
 use Rattle.intmap.specs.contracts.slot.Slot.TheInside as I-type
-use Rattle.intmap.specs.Slots.{Held, Empty, InOrder, Turned, first_pair, is_turned, held_pairs, IsFilledInOrder}
+use Rattle.intmap.specs.Slots.{Held, Empty, Lone, InOrder, Turned, is_turned, held_pairs, AreOthers}
 use Rattle.intmap.specs.Values.{refilled}
 use Rattle.intmap.proofs.slot.first.First.TheLaws as F-laws
 use Rattle.intmap.proofs.ValuesLemmas.{kept, kept_pair, kept_pairs, refilled-turned, refilled_slot, kept_slot}
-use Rattle.intmap.proofs.OpensLemmas.{Opens, row_put, row_count, row_cells_in, row_fill}
+use Rattle.intmap.proofs.OpensLemmas.{Opens, row_put, length-row_put, row_count, row_cells_in, row_fill}
 use Rattle.intmap.proofs.OpensVecLemmas.{vec_opens}
 use Rattle.intmap.proofs.OpensStructLemmas.{two_opens, view_opens}
 use Rattle.intmap.proofs.OpensTurnedLemmas.{in_turn, map-reverse, turned_opens}
@@ -149,6 +149,7 @@ module _ (K' V' A' : RattleType) (g : key.Ghosts K'.Denot) (e : eq.Ghosts K'.Den
 
       turned-fill : (f : (FHr K' V' g e).Denot) → is_turned (fill_first f) ≡ is_turned f
       turned-fill Empty = refl
+      turned-fill (Lone h) = refl
       turned-fill (InOrder h) = refl
       turned-fill (Turned h) = refl
 
@@ -162,6 +163,8 @@ module _ (K' V' A' : RattleType) (g : key.Ghosts K'.Denot) (e : eq.Ghosts K'.Den
       pairs-put : (f : First P) (L : List P) (ws : List V'.Denot) → length ws ≡ count_first f + row_count 𝓛 (V V') (Pr K' V' g e) (PHr K' V' g e) l PO L
           → held_pairs (put_first f (take (count_first f) (in_turn (is_turned f) ws))) (puts L (drop (count_first f) (in_turn (is_turned f) ws))) ≡ refilled kept (held_pairs f L) ws
       pairs-put Empty L ws long = puts-is L ws
+      pairs-put (Lone p) L [] long = ap (λ M. p ∷ M) (puts-none L)
+      pairs-put (Lone p) L (w ∷ ws) long = ap (λ M. (p.0, kept w) ∷ M) (puts-is L ws)
       pairs-put (InOrder p) L [] long = ap (λ M. p ∷ M) (puts-none L)
       pairs-put (InOrder p) L (w ∷ ws) long = ap (λ M. (p.0, kept w) ∷ M) (puts-is L ws)
       pairs-put (Turned p) L [] long = ap (λ M. p ∷ reverse M) (puts-none L)
@@ -169,33 +172,45 @@ module _ (K' V' A' : RattleType) (g : key.Ghosts K'.Denot) (e : eq.Ghosts K'.Den
 
       pairs-count : (f : First P) (L : List P) → count_first f + row_count 𝓛 (V V') (Pr K' V' g e) (PHr K' V' g e) l PO L ≡ length (held_pairs f L)
       pairs-count Empty L = let n = count-is L in omega (arith, n)
+      pairs-count (Lone p) L = let n = count-is L in omega (arith, n)
       pairs-count (InOrder p) L = let n = count-is L in omega (arith, n)
       pairs-count (Turned p) L = let n = count-is L in let m = length-reverse L in omega (arith, n, m)
 
       pairs-fill : (f : (FHr K' V' g e).Denot) (L : List (K'.Denot × (Ptr × V'.Denot))) → kept_pairs (held_pairs f L) ≡ held_pairs (fill_first f) (row_fill 𝓛 (V V') (Pr K' V' g e) (PHr K' V' g e) l PO L)
       pairs-fill Empty L = sym (fill-is L)
+      pairs-fill (Lone h) L = ap (λ M. (h.0, kept h.1.1) ∷ M) (sym (fill-is L))
       pairs-fill (InOrder h) L = ap (λ M. (h.0, kept h.1.1) ∷ M) (sym (fill-is L))
       pairs-fill (Turned h) L = ap (λ M. (h.0, kept h.1.1) ∷ M) (map-reverse kept_pair L ∙ ap reverse (sym (fill-is L)))
 
       pairs-cells : (f : (FHr K' V' g e).Denot) (L : List (K'.Denot × (Ptr × V'.Denot)))
           → in_turn (is_turned f) (first_cells_in K' V' g e LK LV 𝓛 l ik iv f ++ row_cells_in 𝓛 (V V') (Pr K' V' g e) (PHr K' V' g e) l PO L) ≡ values_of (held_pairs f L)
       pairs-cells Empty L = cells-is L
+      pairs-cells (Lone h) L = ap (λ M. h.1 ∷ M) (cells-is L)
       pairs-cells (InOrder h) L = ap (λ M. h.1 ∷ M) (cells-is L)
       pairs-cells (Turned h) L = ap (λ M. h.1 ∷ M) (ap reverse (cells-is L) ∙ sym (map-reverse (λ p. p.1) L))
 
-      -- where nothing stands behind an empty first place, nothing does with other values
-      filled-put : (f : First P) (L : List P) (vs ws : List V'.Denot) → IsFilledInOrder (first_pair f) L → IsFilledInOrder (first_pair (put_first f vs)) (puts L ws)
-      filled-put Empty L vs ws none = ap (λ M. puts M ws) none
-      filled-put (InOrder p) L vs ws ok = tt
-      filled-put (Turned p) L vs ws ok = tt
+      -- what stands behind a first place fits it with other values too
+      others-put : (f : First P) (L : List P) (vs ws : List V'.Denot) → AreOthers f L → AreOthers (put_first f vs) (puts L ws)
+      others-put Empty L vs ws none = ap (λ M. puts M ws) none
+      others-put (Lone p) L vs ws none = ap (λ M. puts M ws) none
+      others-put (InOrder p) L vs ws some = subst (λ n. 0 < n) (sym (length-row_put 𝓛 (V V') (Pr K' V' g e) (PHr K' V' g e) l PO L ws)) some
+      others-put (Turned p) L vs ws some = subst (λ n. 0 < n) (sym (length-row_put 𝓛 (V V') (Pr K' V' g e) (PHr K' V' g e) l PO L ws)) some
 
-      -- and nothing does with holes in the place of the values
-      filled-fill : (f : (FHr K' V' g e).Denot) (L : List (K'.Denot × (Ptr × V'.Denot)))
-          → IsFilledInOrder (first_pair (fill_first f)) (row_fill 𝓛 (V V') (Pr K' V' g e) (PHr K' V' g e) l PO L) → IsFilledInOrder (first_pair f) L
-      filled-fill Empty [] none = refl
-      filled-fill Empty (h ∷ L) none = absurd (cons≢nil none)
-      filled-fill (InOrder h) L ok = tt
-      filled-fill (Turned h) L ok = tt
+      -- pairs with holes are none, or some, where the pairs are that they stand for
+      none-fill : (L : List (K'.Denot × (Ptr × V'.Denot))) → row_fill 𝓛 (V V') (Pr K' V' g e) (PHr K' V' g e) l PO L ≡ [] → L ≡ []
+      none-fill [] none = refl
+      none-fill (h ∷ L) none = absurd (cons≢nil none)
+
+      some-fill : (L : List (K'.Denot × (Ptr × V'.Denot))) → 0 < length (row_fill 𝓛 (V V') (Pr K' V' g e) (PHr K' V' g e) l PO L) → 0 < length L
+      some-fill L some = subst (λ n. 0 < n) (length-map L PO.fill) some
+
+      -- and what stands behind a first place fits it with holes in the place of the values
+      others-fill : (f : (FHr K' V' g e).Denot) (L : List (K'.Denot × (Ptr × V'.Denot)))
+          → AreOthers (fill_first f) (row_fill 𝓛 (V V') (Pr K' V' g e) (PHr K' V' g e) l PO L) → AreOthers f L
+      others-fill Empty L none = none-fill L none
+      others-fill (Lone h) L none = none-fill L none
+      others-fill (InOrder h) L some = some-fill L some
+      others-fill (Turned h) L some = some-fill L some
 
       abbrev good : Ir.Denot → Type 0
       good = L-type.the_invariant (K K' V' g e) (Kr V') A g e a
@@ -215,13 +230,13 @@ module _ (K' V' A' : RattleType) (g : key.Ghosts K'.Denot) (e : eq.Ghosts K'.Den
       pub slot-goods : (s : Ir.Denot) (ws : List V'.Denot) → good s → good (inside_opens.put s ws)
       slot-goods s ws ok =
           let us = in_turn (is_turned s.first) ws in
-          filled-put s.first s.rest.items (take (count_first s.first) us) (drop (count_first s.first) us) ok
+          others-put s.first s.rest.items (take (count_first s.first) us) (drop (count_first s.first) us) ok
 
       pub slot-counts : (s : Ir.Denot) → inside_opens.count s ≡ length (view s).pairs
       slot-counts s = pairs-count s.first s.rest.items
 
       pub slot-holeds : (s : Ir.Denot) (i : inside_opens.Info s) (b o : ℕ) → good s → good' (inside_opens.holed s i b o)
-      slot-holeds s i b o ok = let h = inside_opens.holed s i b o in filled-fill h.first h.rest.items (subst good (sym (inside_opens.filled s i b o)) ok)
+      slot-holeds s i b o ok = let h = inside_opens.holed s i b o in others-fill h.first h.rest.items (subst good (sym (inside_opens.filled s i b o)) ok)
 
       pub slot-fills : (h : IHr.Denot) → kept_slot (view' h) ≡ view (inside_opens.fill h)
       slot-fills h = λ i. record { pairs = pairs-fill h.first h.rest.items i; room = (view' h).room }

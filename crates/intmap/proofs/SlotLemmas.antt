@@ -5,7 +5,7 @@ use Rattle.std.proofs.lemmas.Option.{none-some, same_Some}
 use Rattle.std.proofs.lemmas.List.{get_or_default}
 use Rattle.intmap.specs.Bindings.{swap_out, first_value}
 use Rattle.intmap.specs.Reach.{through_first}
-use Rattle.intmap.specs.Slots.{Empty, InOrder, Turned, all_pairs, first_pair, held_pairs, in_order, is_turned, write_at, IsFilledInOrder}
+use Rattle.intmap.specs.Slots.{Empty, Lone, InOrder, Turned, all_pairs, first_of, first_pair, held_pairs, in_order, is_turned, write_at, AreOthers, IsFilledInOrder}
 use Rattle.intmap.specs.declared.slot.first.First.{First}
 use Rattle.intmap.proofs.SwapOutLemmas.{any}
 use Rattle.intmap.proofs.PositionLemmas.{IsPassed-none, IsFound-here, length-through_first-cons, swap_remove-position}
@@ -39,7 +39,7 @@ module _ {K X : Type 0} where
 
   -- a place behind the first is one of the rest
   pub write_at-behind : (first : Option (K × X)) (rest : List (K × X)) (i : ℕ) (p : K × X) (v : X) → 0 < i → i < length (all_pairs first rest) → IsFilledInOrder first rest → p ≡ get_or rest (i - 1) p
-      → held_pairs (in_order first) (set rest (i - 1) (p.0, v)) ≡ write_at (all_pairs first rest) i v
+      → all_pairs first (set rest (i - 1) (p.0, v)) ≡ write_at (all_pairs first rest) i v
   write_at-behind None rest i p v some below filled is = let none : length rest ≡ 0 = ap length filled in absurd (omega (arith, below, none, some))
   write_at-behind (Some f) rest i p v some below filled is =
       let step : i ≡ suc (i - 1) = omega (arith, some) in
@@ -53,10 +53,30 @@ module _ {K X : Type 0} where
       let within : i - 1 < length rest = omega (arith, below, some) in
       ap (λ (q : K × X). q.1) (is ∙ get_or_default rest (i - 1) p d within ∙ ap (λ n. get_or (f ∷ rest) n d) (sym step))
 
-  -- the first place of pairs in order has the first pair
-  pub first_pair-in_order : (first : Option (K × X)) → first_pair (in_order first) ≡ first
-  first_pair-in_order None = refl
-  first_pair-in_order (Some f) = refl
+  -- with the others in order a first place has its pair
+  pub first_pair-in_order : (place : First (K × X)) → first_pair (in_order place) ≡ first_pair place
+  first_pair-in_order Empty = refl
+  first_pair-in_order (Lone f) = refl
+  first_pair-in_order (InOrder f) = refl
+  first_pair-in_order (Turned f) = refl
+
+  -- and the others behind it as they lie
+  pub held_pairs-in_order : (place : First (K × X)) (rest : List (K × X)) → held_pairs (in_order place) rest ≡ all_pairs (first_pair place) rest
+  held_pairs-in_order Empty rest = refl
+  held_pairs-in_order (Lone f) rest = refl
+  held_pairs-in_order (InOrder f) rest = refl
+  held_pairs-in_order (Turned f) rest = refl
+
+  pub held_pairs-first_of : (b : Bool) (first : K × X) (rest : List (K × X)) → held_pairs (first_of b first) rest ≡ first ∷ rest
+  held_pairs-first_of true first rest = refl
+  held_pairs-first_of false first rest = refl
+
+  -- nothing stands behind an empty first place
+  pub filled-in_order : (place : First (K × X)) (rest : List (K × X)) → AreOthers (in_order place) rest → IsFilledInOrder (first_pair place) rest
+  filled-in_order Empty rest none = none
+  filled-in_order (Lone f) rest none = tt
+  filled-in_order (InOrder f) rest some = tt
+  filled-in_order (Turned f) rest some = tt
 
   -- of several pairs in order, the first of which fails, that one stands before the rest
   pub first-fails : (test : K → Bool) (first : Option (K × X)) (rest pairs : List (K × X)) → all_pairs first rest ≡ pairs → IsFilledInOrder first rest → 1 < length pairs → ((p : K × X) → test (get_or pairs 0 p).0 ≡ false)
@@ -67,6 +87,7 @@ module _ {K X : Type 0} where
   -- a first pair stands before those of the rest, as they lie
   pub held_pairs-first : (place : First (K × X)) (rest : List (K × X)) (first : K × X) → first_pair place ≡ Some first → held_pairs place rest ≡ first ∷ cond (is_turned place) (reverse rest) rest
   held_pairs-first Empty rest first is = absurd (none-some first is)
+  held_pairs-first (Lone p) rest first is = ap (λ (q : K × X). q ∷ rest) (same_Some p first is)
   held_pairs-first (InOrder p) rest first is = ap (λ (q : K × X). q ∷ rest) (same_Some p first is)
   held_pairs-first (Turned p) rest first is = ap (λ (q : K × X). q ∷ reverse rest) (same_Some p first is)
 

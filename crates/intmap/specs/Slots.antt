@@ -5,7 +5,7 @@ use Rattle.std.specs.List.{All, flat_map}
 use Rattle.intmap.specs.Bits.{marked}
 use Rattle.intmap.specs.Classes.{IsCapacity, slot_number}
 use Rattle.intmap.specs.declared.slot.first.First.{First}
-pub use Rattle.intmap.specs.declared.slot.first.First.TheVariants.{Empty, InOrder, Turned}
+pub use Rattle.intmap.specs.declared.slot.first.First.TheVariants.{Empty, Lone, InOrder, Turned}
 
 -- what a slot holds, and how many pairs it has room for
 pub record Held (K X : Type 0) : Type 0 where
@@ -23,27 +23,51 @@ all_pairs first rest = option_to_list first ++ rest
 -- the pair in the first place, where there is one
 abbrev pub first_pair : {P : Type 0} → First P → Option P
 first_pair Empty = None
+first_pair (Lone first) = Some first
 first_pair (InOrder first) = Some first
 first_pair (Turned first) = Some first
 
--- the first place of pairs that lie in order
-abbrev pub in_order : {P : Type 0} → Option P → First P
-in_order None = Empty
-in_order (Some first) = InOrder first
+-- the first place of pairs that lie in order, of which this one is the only one or the first
+abbrev pub first_of : {P : Type 0} → Bool → P → First P
+first_of true first = Lone first
+first_of false first = InOrder first
+
+-- whether the first pair is the only one
+abbrev pub is_lone : {P : Type 0} → First P → Bool
+is_lone Empty = false
+is_lone (Lone first) = true
+is_lone (InOrder first) = false
+is_lone (Turned first) = false
 
 -- whether there are pairs that lie the last first
 abbrev pub is_turned : {P : Type 0} → First P → Bool
 is_turned Empty = false
+is_turned (Lone first) = false
 is_turned (InOrder first) = false
 is_turned (Turned first) = true
+
+-- the same first place, with the others in order
+abbrev pub in_order : {P : Type 0} → First P → First P
+in_order Empty = Empty
+in_order (Lone first) = Lone first
+in_order (InOrder first) = InOrder first
+in_order (Turned first) = InOrder first
 
 -- the pairs of a slot: the first, and behind it those of the rest, which lie in their order or the last first
 abbrev pub held_pairs : {P : Type 0} → First P → List P → List P
 held_pairs Empty rest = rest
+held_pairs (Lone first) rest = first ∷ rest
 held_pairs (InOrder first) rest = first ∷ rest
 held_pairs (Turned first) rest = first ∷ reverse rest
 
--- nothing stands behind an empty first place
+-- what stands behind a first place: nothing where it is empty or has the only pair, and else something
+abbrev pub AreOthers : {P : Type 0} → First P → List P → Type 0
+AreOthers Empty rest = rest ≡ []
+AreOthers (Lone first) rest = rest ≡ []
+AreOthers (InOrder first) rest = 0 < length rest
+AreOthers (Turned first) rest = 0 < length rest
+
+-- nothing stands behind where there is no first pair
 abbrev pub IsFilledInOrder : {P : Type 0} → Option P → List P → Type 0
 IsFilledInOrder None rest = rest ≡ []
 IsFilledInOrder (Some first) rest = Unit {0}

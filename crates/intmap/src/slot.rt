@@ -15,7 +15,7 @@ use crate::key::IntKey;
 use crate::steps::Steps;
 use crate::table::stored::Stored;
 use first::{First, set_in_order};
-use in_order::{replace_in, swap_up, take_in};
+use in_order::{replace_in, replace_lone, take_in};
 use search::{find_back_in, find_behind, find_in};
 use std::alloc::{AllocError, Allocator};
 use std::marker::Model;
@@ -32,7 +32,7 @@ pub(crate) struct Slot<K: IntKey, X, A: Allocator> {
 
 impl<K: IntKey, X, A: Allocator> Model for Slot<K, X, A> {
     ghost use Rattle.std.specs.Prelude.{◌+◌, vec_capacity};
-    ghost use Rattle.intmap.specs.Slots.{Held, first_pair, held_pairs, IsFilledInOrder};
+    ghost use Rattle.intmap.specs.Slots.{Held, held_pairs, AreOthers};
 
     ghost Value = { Held K X };
 
@@ -41,7 +41,7 @@ impl<K: IntKey, X, A: Allocator> Model for Slot<K, X, A> {
       room = 1 + vec_capacity s.rest;
     } };
 
-    ghost invariant = { λ s. IsFilledInOrder (first_pair s.first) s.rest.items };
+    ghost invariant = { λ s. AreOthers s.first s.rest.items };
 }
 
 impl<K: IntKey, X, A: Allocator> Slot<K, X, A> {
@@ -80,7 +80,7 @@ impl<K: IntKey, X, A: Allocator> Slot<K, X, A> {
         if first.0.matches(key, steps) {
             return Some(&first.1);
         }
-        if self.rest.is_empty() {
+        if self.first.is_lone() {
             return None;
         }
         if self.first.is_turned() {
@@ -150,6 +150,7 @@ impl<K: IntKey, X, A: Allocator> Slot<K, X, A> {
             return &mut self.rest[place - 1].1;
         }
         match &mut self.first {
+            First::Lone(pair) => &mut pair.1,
             First::InOrder(pair) => &mut pair.1,
             _ => unreachable!(),
         }
@@ -189,10 +190,11 @@ impl<K: IntKey, X, A: Allocator> Slot<K, X, A> {
         requires { IsFilledInOrder first rest.items }
         ensures { result.pairs ≡ all_pairs first rest.items }
     {
-        Slot {
-            first: First::new(first),
-            rest,
-        }
+        let first = match first {
+            Some(pair) => First::new(pair, rest.is_empty()),
+            None => First::Empty,
+        };
+        Slot { first, rest }
     }
 
     /// The number of pairs.
@@ -215,9 +217,13 @@ impl<K: IntKey, X, A: Allocator> Slot<K, X, A> {
         ensures pairs { self.new.pairs ≡ swap_remove self.old.pairs 0 result }
     {
         set_in_order(&mut self.first, &mut self.rest);
-        match &mut self.first {
-            First::InOrder(first) => swap_up(first, &mut self.rest),
-            _ => unreachable!(),
+        let Some(last) = self.rest.pop() else {
+            unreachable!();
+        };
+        let next = First::new(last, self.rest.is_empty());
+        match mem::replace(&mut self.first, next).into_pair() {
+            Some(pair) => pair,
+            None => unreachable!(),
         }
     }
 
@@ -230,7 +236,7 @@ impl<K: IntKey, X, A: Allocator> Slot<K, X, A> {
         ensures not_lone { IfNone result (length self.old.pairs ≡ 1 → ⊥) }
         ensures others { IfNone result (self.new.pairs ≡ self.old.pairs) }
     {
-        if !self.rest.is_empty() {
+        if !self.first.is_lone() {
             return None;
         }
         self.first.take()
@@ -246,7 +252,13 @@ impl<K: IntKey, X, A: Allocator> Slot<K, X, A> {
             self.rest.reverse();
         }
         let next = match self.rest.pop() {
-            Some(pair) => First::Turned(pair),
+            Some(pair) => {
+                if self.rest.is_empty() {
+                    First::Lone(pair)
+                } else {
+                    First::Turned(pair)
+                }
+            }
             None => First::Empty,
         };
         match mem::replace(&mut self.first, next).into_pair() {
@@ -266,7 +278,9 @@ impl<K: IntKey, X, A: Allocator> Slot<K, X, A> {
         }
         if place > 0 {
             set_in_order(&mut self.first, &mut self.rest);
-            return self.rest.swap_remove(place - 1);
+            let pair = self.rest.swap_remove(place - 1);
+            self.first.set_lone(self.rest.is_empty());
+            return pair;
         }
         self.take_first()
     }
@@ -294,7 +308,7 @@ impl<K: IntKey, X, A: Allocator> Slot<K, X, A> {
             let (_, value) = self.take_first();
             return Some((value, false));
         }
-        if self.rest.is_empty() {
+        if self.first.is_lone() {
             return None;
         }
         match self.take_behind(*key, steps) {
@@ -318,7 +332,9 @@ impl<K: IntKey, X, A: Allocator> Slot<K, X, A> {
             + length (through_first (λ p. same_key K.number_of key p.0) self.old.pairs) }
     {
         set_in_order(&mut self.first, &mut self.rest);
-        take_in(&mut self.rest, &key, steps)
+        let value = take_in(&mut self.rest, &key, steps);
+        self.first.set_lone(self.rest.is_empty());
+        value
     }
 }
 
@@ -354,7 +370,7 @@ impl<K: IntKey, X: Drop, A: Allocator> Slot<K, X, A> {
         ensures pairs { self.new.pairs ≡ pair ∷ [] }
         ensures room { self.new.room ≡ self.old.room }
     {
-        self.first = First::InOrder(pair);
+        self.first = First::Lone(pair);
     }
 
     /// Adds a pair behind others, where there is room for it.
@@ -366,6 +382,7 @@ impl<K: IntKey, X: Drop, A: Allocator> Slot<K, X, A> {
         ensures room { self.new.room ≡ self.old.room }
     {
         set_in_order(&mut self.first, &mut self.rest);
+        self.first.set_lone(false);
         self.rest.push_reserved(pair);
     }
 
@@ -387,13 +404,14 @@ impl<K: IntKey, X: Drop, A: Allocator> Slot<K, X, A> {
         if room.is_err() {
             return Err(value);
         }
+        self.first.set_lone(false);
         self.rest.push_reserved((Stored::new(key), value));
         Ok(())
     }
 
     /// Where the key is bound, takes its pair out, puts the last pair in its place, and adds the new
-    /// one at the end, which takes no memory. Where it isn't, the new value comes back. A slot without
-    /// a pair makes no call.
+    /// one at the end, which takes no memory. Where it isn't, the new value comes back. A slot of one
+    /// pair or none makes no call.
     #[inline(always)]
     pub(crate) fn replace(&mut self, key: K, value: X, steps: &mut Steps) -> Result<X, X>
         ensures old { IfOk result (λ old. value_of K.number_of self.old.pairs key ≡ Some old) }
@@ -406,9 +424,28 @@ impl<K: IntKey, X: Drop, A: Allocator> Slot<K, X, A> {
         ensures counted { steps.new ≡ steps.old
             + length (through_first (λ p. same_key K.number_of key p.0) self.old.pairs) }
     {
-        if !self.is_filled() {
-            return Err(value);
+        match &mut self.first {
+            First::Empty => return Err(value),
+            First::Lone(pair) => return replace_lone(pair, key, value, steps),
+            _ => (),
         }
+        self.replace_among(key, value, steps)
+    }
+
+    /// Replaces the key's pair, as [`replace`](Slot::replace) does, in a slot of several.
+    #[inline(never)]
+    fn replace_among(&mut self, key: K, value: X, steps: &mut Steps) -> Result<X, X>
+        requires several { 1 < length self.old.pairs }
+        ensures old { IfOk result (λ old. value_of K.number_of self.old.pairs key ≡ Some old) }
+        ensures ok { OnOk result (self.new.pairs
+            ≡ swap_out (λ p. same_key K.number_of key p.0) (λ p. true) self.old.pairs
+            ++ (key, value) ∷ []) }
+        ensures missing { OnErr result (value_of K.number_of self.old.pairs key ≡ None) }
+        ensures err { OnErr result (self.new.pairs ≡ self.old.pairs) }
+        ensures value_returned { IfErr result (λ returned. returned ≡ value) }
+        ensures counted { steps.new ≡ steps.old
+            + length (through_first (λ p. same_key K.number_of key p.0) self.old.pairs) }
+    {
         set_in_order(&mut self.first, &mut self.rest);
         match &mut self.first {
             First::InOrder(first) => replace_in(first, &mut self.rest, key, value, steps),

@@ -191,11 +191,10 @@ impl<K: IntKey, X: Drop, A: Allocator> Table<K, X, A> {
     {
         let index = self.index_of(&key);
         let slot = &mut self.slots[index];
-        if slot.is_filled() {
+        if self.bits.set(index) {
             return slot.push(key, value);
         }
         slot.put_first((Stored::new(key), value));
-        self.bits.set(index);
         Ok(())
     }
 }

@@ -44,6 +44,7 @@ impl<K: IntKey, X: Clone, A: Allocator + Copy> Slot<K, X, A> {
     {
         let first = match &self.first {
             First::Empty => First::Empty,
+            First::Lone(pair) => First::Lone(clone_pair(pair)?),
             First::InOrder(pair) => First::InOrder(clone_pair(pair)?),
             First::Turned(pair) => First::Turned(clone_pair(pair)?),
         };

@@ -31,6 +31,7 @@ impl<K: IntKey, V, A: Allocator> Slot<K, Kept<V>, A> {
         set_in_order(&mut self.first, &mut self.rest);
         match &mut self.first {
             First::Empty => (),
+            First::Lone(pair) => write_pair(pair, f),
             First::InOrder(pair) => write_pair(pair, f),
             First::Turned(_) => unreachable!(),
         }

@@ -1,7 +1,7 @@
 //! The first place of a slot, and the order of the pairs behind it.
-ghost use Rattle.std.specs.Prelude.{◌≡◌, true, reverse, vec_capacity};
+ghost use Rattle.std.specs.Prelude.{◌≡◌, true, is_some, reverse, vec_capacity, IfSome};
 ghost use Rattle.std.specs.Option.{option_copied};
-ghost use Rattle.intmap.specs.Slots.{Empty, all_pairs, first_pair, held_pairs, in_order, is_turned, IsFilledInOrder};
+ghost use Rattle.intmap.specs.Slots.{Empty, all_pairs, first_of, first_pair, held_pairs, in_order, is_lone, is_turned, AreOthers};
 
 use std::alloc::Allocator;
 use std::mem;
@@ -11,22 +11,24 @@ use std::mem;
 pub(crate) enum First<P> {
     /// No pair. There is none behind it either.
     Empty,
-    /// The first pair. The others lie in their order.
+    /// The only pair.
+    Lone(P),
+    /// The first of several pairs. The others lie in their order.
     InOrder(P),
-    /// The first pair. The others lie the last first.
+    /// The first of several pairs. The others lie the last first.
     Turned(P),
 }
 
 impl<P> First<P> {
-    /// The first place of pairs that lie in order.
+    /// The first place of pairs that lie in order, of which this one is the only one or the first.
     #[inline(always)]
-    pub(super) fn new(pair: Option<P>) -> First<P>
-        ensures { result ≡ in_order pair }
+    pub(super) fn new(pair: P, is_lone: bool) -> First<P>
+        ensures { result ≡ first_of is_lone pair }
     {
-        match pair {
-            Some(pair) => First::InOrder(pair),
-            None => First::Empty,
+        if is_lone {
+            return First::Lone(pair);
         }
+        First::InOrder(pair)
     }
 
     /// The first pair.
@@ -36,8 +38,18 @@ impl<P> First<P> {
     {
         match self {
             First::Empty => None,
-            First::InOrder(pair) => Some(pair),
-            First::Turned(pair) => Some(pair),
+            First::Lone(pair) | First::InOrder(pair) | First::Turned(pair) => Some(pair),
+        }
+    }
+
+    /// Whether the first pair is the only one.
+    #[inline(always)]
+    pub(super) fn is_lone(&self) -> bool
+        ensures { result ≡ is_lone self.now }
+    {
+        match self {
+            First::Lone(_) => true,
+            _ => false,
         }
     }
 
@@ -59,8 +71,7 @@ impl<P> First<P> {
     {
         match self {
             First::Empty => None,
-            First::InOrder(pair) => Some(pair),
-            First::Turned(pair) => Some(pair),
+            First::Lone(pair) | First::InOrder(pair) | First::Turned(pair) => Some(pair),
         }
     }
 
@@ -72,6 +83,21 @@ impl<P> First<P> {
     {
         mem::replace(self, First::Empty).into_pair()
     }
+
+    /// Says anew whether the first pair, behind which the others lie in order, is the only one.
+    #[inline(always)]
+    pub(super) fn set_lone(&mut self, is_lone: bool)
+        requires filled { is_some (first_pair self.old) ≡ true }
+        ensures { IfSome (first_pair self.old) (λ pair. self.new ≡ first_of is_lone pair) }
+    {
+        let Some(pair) = self.take() else {
+            unreachable!();
+        };
+        match mem::replace(self, First::new(pair, is_lone)) {
+            First::Empty => (),
+            _ => unreachable!(),
+        }
+    }
 }
 
 /// Puts the pairs behind the first one in order, where they lie the last first.
@@ -79,26 +105,22 @@ impl<P> First<P> {
 #[inline(never)]
 fn turn<P, A: Allocator>(first: &mut First<P>, rest: &mut Vec<P, A>)
     requires turned { is_turned first.old ≡ true }
-    ensures order { first.new ≡ in_order (first_pair first.old) }
+    ensures order { first.new ≡ in_order first.old }
     ensures pairs { rest.new.items ≡ reverse rest.old.items }
     ensures room { vec_capacity rest.new ≡ vec_capacity rest.old }
 {
     rest.reverse();
-    let pair = first.take();
-    match mem::replace(first, First::new(pair)) {
-        First::Empty => (),
-        _ => unreachable!(),
-    }
+    first.set_lone(false);
 }
 
 /// Puts the pairs of a slot in order, where some lie the last first.
 #[inline(always)]
 pub(super) fn set_in_order<P, A: Allocator>(first: &mut First<P>, rest: &mut Vec<P, A>)
-    requires { IsFilledInOrder (first_pair first.old) rest.old.items }
-    ensures order { first.new ≡ in_order (first_pair first.old) }
+    requires { AreOthers first.old rest.old.items }
+    ensures order { first.new ≡ in_order first.old }
     ensures pairs { all_pairs (first_pair first.old) rest.new.items
         ≡ held_pairs first.old rest.old.items }
-    ensures filled { IsFilledInOrder (first_pair first.old) rest.new.items }
+    ensures others { AreOthers first.new rest.new.items }
     ensures room { vec_capacity rest.new ≡ vec_capacity rest.old }
 {
     if first.is_turned() {

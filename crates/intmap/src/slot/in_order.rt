@@ -31,42 +31,53 @@ pub(super) fn take_in<K: IntKey, X, A: Allocator>(
     Some(value)
 }
 
-/// Takes the first pair out, and puts the last of the others in its place.
+/// Puts a new pair in the place of the only one, where that is the key's. Where it isn't, the new
+/// value comes back. The keys are compared in one step.
 #[inline(always)]
-pub(super) fn swap_up<P, A: Allocator>(first: &mut P, rest: &mut Vec<P, A>) -> P
-    requires { 0 < length rest.old.items }
-    ensures value { result ≡ first.old }
-    ensures pairs { first.new ∷ rest.new.items
-        ≡ swap_remove (first.old ∷ rest.old.items) 0 result }
+pub(super) fn replace_lone<K: IntKey, X: Drop>(
+    pair: &mut (Stored<K>, X),
+    key: K,
+    value: X,
+    steps: &mut Steps,
+) -> Result<X, X>
+    ensures old { IfOk result (λ old. value_of K.number_of (pair.old ∷ []) key ≡ Some old) }
+    ensures ok { OnOk result (pair.new ∷ []
+        ≡ swap_out (λ p. same_key K.number_of key p.0) (λ p. true) (pair.old ∷ [])
+        ++ (key, value) ∷ []) }
+    ensures missing { OnErr result (value_of K.number_of (pair.old ∷ []) key ≡ None) }
+    ensures err { OnErr result (pair.new ≡ pair.old) }
+    ensures value_returned { IfErr result (λ returned. returned ≡ value) }
+    ensures counted { steps.new ≡ steps.old
+        + length (through_first (λ p. same_key K.number_of key p.0) (pair.old ∷ [])) }
 {
-    match rest.pop() {
-        Some(last) => mem::replace(first, last),
-        None => unreachable!(),
+    if !pair.0.matches(&key, steps) {
+        return Err(value);
     }
+    let (_, old) = mem::replace(pair, (Stored::new(key), value));
+    Ok(old)
 }
 
-/// Takes the first pair out, puts the last pair in its place, if there is another, and adds a new one
-/// at the end, which takes no memory.
+/// Takes the first of several pairs out, puts the last in its place, and adds a new one at the end,
+/// which takes no memory.
 #[inline(always)]
-fn replace_first<P: Drop, A: Allocator>(first: &mut P, rest: &mut Vec<P, A>, pair: P) -> P
+fn replace_first<P, A: Allocator>(first: &mut P, rest: &mut Vec<P, A>, pair: P) -> P
+    requires { 0 < length rest.old.items }
     ensures value { result ≡ first.old }
+    ensures len { length rest.new.items ≡ length rest.old.items }
     ensures pairs { first.new ∷ rest.new.items
         ≡ swap_remove (first.old ∷ rest.old.items) 0 result ++ pair ∷ [] }
 {
-    let last = match rest.pop() {
-        Some(last) => {
-            rest.push_reserved(pair);
-            last
-        }
-        None => pair,
+    let Some(last) = rest.pop() else {
+        unreachable!();
     };
+    rest.push_reserved(pair);
     mem::replace(first, last)
 }
 
-/// Where the key is that of the first pair or one behind it, takes its pair out, puts the last pair
+/// Where the key is that of the first of several pairs or one behind it, takes its pair out, puts the last pair
 /// in its place, and adds the new one at the end, which takes no memory. Where it isn't, the new
 /// value comes back. The pairs are compared from the front up to it, each by one step.
-#[inline(never)]
+#[inline(always)]
 pub(super) fn replace_in<K: IntKey, X: Drop, A: Allocator>(
     first: &mut (Stored<K>, X),
     rest: &mut Vec<(Stored<K>, X), A>,
@@ -74,6 +85,7 @@ pub(super) fn replace_in<K: IntKey, X: Drop, A: Allocator>(
     value: X,
     steps: &mut Steps,
 ) -> Result<X, X>
+    requires several { 0 < length rest.old.items }
     ensures old { IfOk result
         (λ old. value_of K.number_of (first.old ∷ rest.old.items) key ≡ Some old) }
     ensures ok { OnOk result (first.new ∷ rest.new.items
@@ -81,6 +93,7 @@ pub(super) fn replace_in<K: IntKey, X: Drop, A: Allocator>(
         ++ (key, value) ∷ []) }
     ensures missing { OnErr result
         (value_of K.number_of (first.old ∷ rest.old.items) key ≡ None) }
+    ensures len { length rest.new.items ≡ length rest.old.items }
     ensures err { OnErr result (first.new ∷ rest.new.items ≡ first.old ∷ rest.old.items) }
     ensures value_returned { IfErr result (λ returned. returned ≡ value) }
     ensures counted { steps.new ≡ steps.old

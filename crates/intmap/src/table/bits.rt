@@ -27,22 +27,16 @@ impl<A: Allocator> Model for Bits<A> {
 }
 
 impl<A: Allocator> Bits<A> {
-    /// Whether a place is marked.
+    /// Marks a place, and answers whether it was marked before. No other place changes.
     #[inline(always)]
-    pub(crate) fn get(&self, place: usize) -> bool
-        requires { place < length self.now }
-        ensures { result ≡ marked self.now place }
-    {
-        (self.words[place / BITS] >> (place % BITS)) & 1 == 1
-    }
-
-    /// Marks a place. No other place changes.
-    #[inline(always)]
-    pub(crate) fn set(&mut self, place: usize)
+    pub(crate) fn set(&mut self, place: usize) -> bool
         requires { place < length self.old }
-        ensures { self.new ≡ slice_set self.old place true }
+        ensures before { result ≡ marked self.old place }
+        ensures marks { self.new ≡ slice_set self.old place true }
     {
-        self.words[place / BITS] |= 1 << (place % BITS);
+        let word = self.words[place / BITS];
+        self.words[place / BITS] = word | 1 << (place % BITS);
+        (word >> (place % BITS)) & 1 == 1
     }
 
     /// Takes the mark of a place away. No other place changes.
@@ -51,7 +45,12 @@ impl<A: Allocator> Bits<A> {
         requires { place < length self.old }
         ensures { self.new ≡ slice_set self.old place false }
     {
-        self.words[place / BITS] &= !(1 << (place % BITS));
+        // a word without marks is left, and so one with marks is read into a register, where a bit
+        // is cleared by one instruction; in memory it takes a mask that is rotated
+        let word = self.words[place / BITS];
+        if word != 0 {
+            self.words[place / BITS] = word & !(1 << (place % BITS));
+        }
     }
 
     /// Takes all marks away.

@@ -42,10 +42,9 @@ pub(super) fn place<K: IntKey, X: Drop, A: Allocator>(
 {
     let index = index_of(pair.0.key(), slots.len());
     let slot = &mut slots[index];
-    if bits.get(index) {
+    if bits.set(index) {
         slot.push_reserved(pair);
     } else {
-        bits.set(index);
         slot.put_first(pair);
     }
     placed.tick();

@@ -2,7 +2,7 @@ use Rattle.std.proofs.Common.{length, ap, subst, arith}
 use Rattle.intmap.specs.Slots.{Held, held_pairs}
 use Rattle.intmap.proofs.CloneLemmas.{AreClones, AreClones-held_pairs, length-held_pairs}
 use Rattle.intmap.proofs.slot.Slot.clone.Goals as goal
-use Rattle.intmap.proofs.slot.Slot.clone.Goals.{in-Empty, in-InOrder+in_ok-clone_pair-in-InOrder, in-Turned+in_ok-clone_pair-in-Turned}
+use Rattle.intmap.proofs.slot.Slot.clone.Goals.{in-Empty, in-Lone+in_ok-clone_pair-in-Lone, in-InOrder+in_ok-clone_pair-in-InOrder, in-Turned+in_ok-clone_pair-in-Turned}
 
 pub returns-clause-pairs : goal.returns-clause-pairs
 returns-clause-pairs g c =
@@ -11,6 +11,7 @@ returns-clause-pairs g c =
     (AreClones-held_pairs clones old.first c.match-self.first old.rest.items new.rest.items
     (elim c.match-self.branch [
       | in-Empty w ↦ rw w.in-Empty.is w.first-is
+      | in-Lone+in_ok-clone_pair-in-Lone w ↦ rw w.in-Lone.is (w.in_ok-clone_pair-in-Lone.field-0, w.first-is, w.in_ok-clone_pair-in-Lone.ensures)
       | in-InOrder+in_ok-clone_pair-in-InOrder w ↦ rw w.in-InOrder.is (w.in_ok-clone_pair-in-InOrder.field-0, w.first-is, w.in_ok-clone_pair-in-InOrder.ensures)
       | in-Turned+in_ok-clone_pair-in-Turned w ↦ rw w.in-Turned.is (w.in_ok-clone_pair-in-Turned.field-0, w.first-is, w.in_ok-clone_pair-in-Turned.ensures)
     ])

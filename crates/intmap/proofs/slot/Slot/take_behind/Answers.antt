@@ -1,30 +1,34 @@
-use Rattle.std.proofs.Common.{◌≡◌, ◌∷◌, Some, false, ap, sym, ◌∙◌, arith}
+use Rattle.std.proofs.Common.{◌≡◌, ◌∷◌, Some, false, ap, sym, subst, ◌∙◌, arith}
 use Rattle.intmap.specs.Classes.{same_key}
-use Rattle.intmap.specs.Slots.{first_pair, held_pairs, in_order}
-use Rattle.intmap.proofs.SlotLemmas.{IsBehind, behind, first-fails}
+use Rattle.intmap.specs.Slots.{first_of, first_pair, held_pairs, AreOthers}
+use Rattle.intmap.proofs.SlotLemmas.{IsBehind, behind, filled-in_order, first-fails, first_pair-in_order, held_pairs-first_of}
 use Rattle.intmap.proofs.slot.Slot.take_behind.Goals as goal
-use Rattle.intmap.proofs.slot.Slot.take_behind.Goals.{After-take_in}
+use Rattle.intmap.proofs.slot.Slot.take_behind.Goals.{After-take_in-value}
 
 -- the first pair, which isn't the key's, and which the others stand behind in order
-first : (g : _) (c : After-take_in g) → (f : g.row.K.Denot × g.row.X.Denot) × (first_pair c.self.inside.first ≡ Some f) × (c.args.self.now.pairs ≡ f ∷ c.set_in_order.new.rest.items)
+first : (g : _) (c : After-take_in-value g) → (f : g.row.K.Denot × g.row.X.Denot) × (first_pair c.self.inside.first ≡ Some f) × (c.args.self.now.pairs ≡ f ∷ c.set_in_order.new.rest.items)
     × (same_key g.K.IntKey.number_of c.args.key f.0 ≡ false)
 first g c =
     first-fails (same_key g.K.IntKey.number_of c.args.key) (first_pair c.self.inside.first) c.set_in_order.new.rest.items c.args.self.now.pairs (c.set_in_order.ensures.pairs ∙ ap (λ h. h.pairs) c.self.view_is)
-    c.set_in_order.ensures.filled c.requires.several c.requires.other
+    (filled-in_order c.self.inside.first c.set_in_order.new.rest.items (subst (λ f. AreOthers f c.set_in_order.new.rest.items) c.set_in_order.ensures.order c.set_in_order.ensures.others)) c.requires.several c.requires.other
 
 -- so the others were searched
-rest : (g : _) (c : After-take_in g) → IsBehind (same_key g.K.IntKey.number_of c.args.key) c.args.self.now.pairs (first g c).0 c.set_in_order.new.rest.items (first g c).2
+rest : (g : _) (c : After-take_in-value g) → IsBehind (same_key g.K.IntKey.number_of c.args.key) c.args.self.now.pairs (first g c).0 c.set_in_order.new.rest.items (first g c).2
 rest g c = behind _ _ _ _ (first g c).2 (first g c).3
 
 pub returns-clause-value : goal.returns-clause-value
-returns-clause-value g c = c.take_in.ensures.value ∙ sym (rest g (goal.at.returns-clause-value g c).After-take_in).value
+returns-clause-value g c = c.take_in-value.ensures.value ∙ sym (rest g (goal.at.returns-clause-value g c).After-take_in-value).value
 
 pub returns-clause-pairs : goal.returns-clause-pairs
 returns-clause-pairs g c =
-    let at = (goal.at.returns-clause-pairs g c).After-take_in in
-    ap (λ f. held_pairs f c.take_in.new.pairs.items) (c.set_in_order.ensures.order ∙ ap in_order (first g at).1) ∙ ap (λ ps. (first g at).0 ∷ ps) c.take_in.ensures.pairs ∙ sym (rest g at).taken
+    let at = (goal.at.returns-clause-pairs g c).After-take_in-value in
+    let others = c.take_in-value.new.pairs.items in
+    let same = ap first_pair c.set_in_order.ensures.order ∙ first_pair-in_order c.self.inside.first ∙ (first g at).1 in
+    let set : c.set_lone.new.self ≡ first_of c.is_empty.result (first g at).0 = rw same at c.set_lone.ensures in
+    ap (λ f. held_pairs f others) set ∙ held_pairs-first_of c.is_empty.result (first g at).0 others
+    ∙ ap (λ ps. (first g at).0 ∷ ps) c.take_in-value.ensures.pairs ∙ sym (rest g at).taken
 
 pub returns-clause-counted : goal.returns-clause-counted
 returns-clause-counted g c =
-    let reached = (rest g (goal.at.returns-clause-counted g c).After-take_in).reached in
-    omega (arith, reached, c.take_in.ensures.counted)
+    let reached = (rest g (goal.at.returns-clause-counted g c).After-take_in-value).reached in
+    omega (arith, reached, c.take_in-value.ensures.counted)

@@ -1,10 +1,11 @@
 use Rattle.std.proofs.Common.{◌≡◌, [], ◌∷◌, cond, refl, sym, ◌∙◌, ap, arith}
 use Rattle.std.specs.Prelude.{reverse}
+use Rattle.std.proofs.lemmas.Bool.{eqb-true}
 use Rattle.std.proofs.lemmas.List.{nil_from_length, reverse-append, reverse-reverse}
 use Rattle.intmap.specs.Slots.{first_pair, held_pairs, is_turned}
 use Rattle.intmap.proofs.SlotLemmas.{held_pairs-first}
 use Rattle.intmap.proofs.slot.Slot.take_front.Goals as goal
-use Rattle.intmap.proofs.slot.Slot.take_front.Goals.{then-not-is_turned, else-not-is_turned, in-Some, in-None, After-pop, In-Some-into_pair}
+use Rattle.intmap.proofs.slot.Slot.take_front.Goals.{then-not-is_turned, else-not-is_turned, in-Some+then-is_empty, in-Some+else-is_empty, in-None, After-pop, In-Some-into_pair}
 
 -- the pairs behind the first one lie the last first
 turned : (g : _) (c : After-pop g) → cond (is_turned c.self.inside.first) (reverse c.self.inside.rest.items) c.self.inside.rest.items ≡ reverse c.if-not-is_turned.self-inside.rest.items
@@ -23,7 +24,10 @@ first g c = elim c.if-not-is_turned.branch [
 -- the pair that is moved up is the first of the others
 others : (g : _) (c : In-Some-into_pair g) → held_pairs c.match-pop.next c.pop.new.self.items ≡ reverse c.if-not-is_turned.self-inside.rest.items
 others g c = elim c.match-pop.branch [
-  | in-Some w ↦ rw (w.next-is, c.pop.ensures.items, w.in-Some.is) (sym (reverse-append c.pop.new.self.items (w.in-Some.pair ∷ [])))
+  | in-Some+then-is_empty w ↦
+      (let left = nil_from_length c.pop.new.self.items (sym c.pop.new.self.ok.0 ∙ eqb-true _ 0 (sym w.is_empty.ensures ∙ w.if-is_empty.true)) in
+      rw (w.next-is, c.pop.ensures.items, w.in-Some.is, left) refl)
+  | in-Some+else-is_empty w ↦ rw (w.next-is, c.pop.ensures.items, w.in-Some.is) (sym (reverse-append c.pop.new.self.items (w.in-Some.pair ∷ [])))
   | in-None w ↦
       (let long = rw w.in-None.is at c.pop.ensures.cases in
       let left = nil_from_length c.pop.new.self.items (omega (arith, long.1)) in

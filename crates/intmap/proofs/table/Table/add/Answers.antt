@@ -4,7 +4,7 @@ use Rattle.std.proofs.lemmas.Bool.{ltb-true}
 use Rattle.std.proofs.lemmas.Result.{on_ok_weaker, on_err_weaker}
 use Rattle.intmap.specs.Classes.{slot_number}
 use Rattle.intmap.specs.Slots.{Held, Grid, joined, IsTable}
-use Rattle.intmap.proofs.FilledLemmas.{filled-pushed, marks-set, marks-kept}
+use Rattle.intmap.proofs.FilledLemmas.{filled-pushed, marked-here, marks-set}
 use Rattle.intmap.proofs.MarkedLemmas.{row-none}
 use Rattle.intmap.proofs.TableLemmas.{IsSlot, rows-set, walk-added, class_size-here, Belong-here, Belong-push, IsTable-set}
 use Rattle.intmap.proofs.table.Table.add.Goals as goal
@@ -30,44 +30,44 @@ module _ {K X : Type 0} (number : K → ℕ) (S : List (Held K X)) (h s : Held K
 pub invariant_of-self : goal.invariant_of-self
 invariant_of-self g c =
     let at = here g (goal.at.invariant_of-self g c).After-index_mut-slot in
-    let full = sym c.is_filled.ensures ∙ c.if-is_filled.true in
+    let full = sym (c.set.ensures.before ∙ marked-here _ _ _ _ _ at c.self.inside.bits c.self.invariant.marks) ∙ c.if-set.true in
     record {
       table = table _ _ _ c.push.new.self _ _ c.args.value at full c.push.result c.push.ensures.ok c.push.ensures.err;
-      marks = marks-kept _ _ _ _ _ at c.self.inside.bits c.self.invariant.marks c.push.new.self (full ∙ filled _ _ _ c.push.new.self _ _ c.args.value at full c.push.result c.push.ensures.ok c.push.ensures.err);
+      marks = rw c.set.ensures.marks (marks-set _ _ _ _ _ at c.self.inside.bits c.self.invariant.marks c.push.new.self true (filled _ _ _ c.push.new.self _ _ c.args.value at full c.push.result c.push.ensures.ok c.push.ensures.err));
     }
 
-pub returns-then-is_filled-clause-walk : goal.returns-then-is_filled-clause-walk
-returns-then-is_filled-clause-walk g c =
-    let at = here g (goal.at.returns-then-is_filled-clause-walk g c).After-index_mut-slot in
+pub returns-then-set-clause-walk : goal.returns-then-set-clause-walk
+returns-then-set-clause-walk g c =
+    let at = here g (goal.at.returns-then-set-clause-walk g c).After-index_mut-slot in
     on_ok_weaker c.push.result (λ left. rw (← c.self.view_is) (walk-added _ _ _ _ _ at c.push.new.self c.args.value (rw (← c.self.view_is) at c.requires) left)) c.push.ensures.ok
 
-pub returns-then-is_filled-clause-err : goal.returns-then-is_filled-clause-err
-returns-then-is_filled-clause-err g c =
-    let at = here g (goal.at.returns-then-is_filled-clause-err g c).After-index_mut-slot in
+pub returns-then-set-clause-err : goal.returns-then-set-clause-err
+returns-then-set-clause-err g c =
+    let at = here g (goal.at.returns-then-set-clause-err g c).After-index_mut-slot in
     on_err_weaker c.push.result (λ same. rw (← c.self.view_is) (ap joined (rows-set _ _ _ _ _ at c.push.new.self same))) c.push.ensures.err
 
-pub returns-then-is_filled-clause-memory : goal.returns-then-is_filled-clause-memory
-returns-then-is_filled-clause-memory g c =
-    let at = here g (goal.at.returns-then-is_filled-clause-memory g c).After-index_mut-slot in
-    let some : 0 < length c.index_mut-slot.result.now.pairs = ltb-true 0 _ (sym c.is_filled.ensures ∙ c.if-is_filled.true) in
+pub returns-then-set-clause-memory : goal.returns-then-set-clause-memory
+returns-then-set-clause-memory g c =
+    let at = here g (goal.at.returns-then-set-clause-memory g c).After-index_mut-slot in
+    let some : 0 < length c.index_mut-slot.result.now.pairs = ltb-true 0 _ (sym (c.set.ensures.before ∙ marked-here _ _ _ _ _ at c.self.inside.bits c.self.invariant.marks) ∙ c.if-set.true) in
     on_err_weaker c.push.result (λ _. rw (← c.self.view_is) (rw (class_size-here _ _ _ _ _ at) some)) c.push.ensures.err
 
 -- the first pair of its slot stands behind none
-alone : (g : _) (c : After-put_first g) → c.put_first.new.self.pairs ≡ c.index_mut-slot.result.now.pairs ++ (c.args.key, c.args.value) ∷ []
-alone g c =
-    let none = row-none c.index_mut-slot.result.now.pairs (sym c.is_filled.ensures ∙ c.if-is_filled.false) in
+alone : (g : _) (c : After-put_first g) → IsSlot g.K.IntKey.number_of c.self.inside.slots.items c.index_mut-slot.result.now c.index_of-index.result c.args.key → c.put_first.new.self.pairs ≡ c.index_mut-slot.result.now.pairs ++ (c.args.key, c.args.value) ∷ []
+alone g c at =
+    let none = row-none c.index_mut-slot.result.now.pairs (sym (c.set.ensures.before ∙ marked-here _ _ _ _ _ at c.self.inside.bits c.self.invariant.marks) ∙ c.if-set.false) in
     c.put_first.ensures.pairs ∙ rw (none, c.new.ensures.value)
 
 pub invariant_of-self-2 : goal.invariant_of-self-2
 invariant_of-self-2 g c =
     let after = goal.at.invariant_of-self-2 g c in let at = here g after.After-index_mut-slot in
-    let left = alone g after.After-put_first in
+    let left = alone g after.After-put_first at in
     record {
       table = IsTable-set _ _ _ _ _ at c.put_first.new.self (rw left (Belong-push _ _ _ _ _ at _ c.args.value (Belong-here _ _ _ _ _ at)));
-      marks = rw c.set.ensures (marks-set _ _ _ _ _ at c.self.inside.bits c.self.invariant.marks c.put_first.new.self true (sym (ap (λ ps. nat_lt 0 (length ps)) left ∙ filled-pushed _ (c.args.key, c.args.value))));
+      marks = rw c.set.ensures.marks (marks-set _ _ _ _ _ at c.self.inside.bits c.self.invariant.marks c.put_first.new.self true (sym (ap (λ ps. nat_lt 0 (length ps)) left ∙ filled-pushed _ (c.args.key, c.args.value))));
     }
 
 pub returns-clause-walk : goal.returns-clause-walk
 returns-clause-walk g c =
     let after = goal.at.returns-clause-walk g c in let at = here g after.After-index_mut-slot in
-    rw (← c.self.view_is) (walk-added _ _ _ _ _ at c.put_first.new.self c.args.value (rw (← c.self.view_is) at c.requires) (alone g after.After-put_first))
+    rw (← c.self.view_is) (walk-added _ _ _ _ _ at c.put_first.new.self c.args.value (rw (← c.self.view_is) at c.requires) (alone g after.After-put_first at))
