@@ -4,15 +4,15 @@ use Rattle.std.specs.Prelude.{filter, nat_eq}
 use Rattle.std.specs.Int.RustNames.{count_ones}
 use Rattle.std.specs.Int.{bit_at, trailing_zeros}
 use Rattle.std.specs.List.{range_with_len}
-use Rattle.std.proofs.lemmas.Bool.{cases_eq, cases_lt, eq-eqb, ne_eqb}
+use Rattle.std.proofs.lemmas.Bool.{cases_eq, cases_lt, eq-eqb, ne_eqb, false≢true}
 use Rattle.std.proofs.lemmas.List.{ext_get_or, get_or-replicate, length-replicate, length-map}
 use Rattle.std.proofs.lemmas.List.Elements.{filter-append}
 use Rattle.std.proofs.lemmas.List.FromFn.{length-map-range_with_len, get_or-map-range_with_len}
 use Rattle.std.proofs.lemmas.List.Sums.{sum_by-cons}
 use Rattle.std.proofs.lemmas.Nat.{ones_cat}
-use Rattle.std.proofs.lemmas.Nat.Bits.{bit_at-zero, bit_at-suc, bit_at_lowest, bit_at_and, bit_at-trailing_zeros}
+use Rattle.std.proofs.lemmas.Nat.Bits.{bit_at-lt, bit_at-zero, bit_at-suc, bit_at_lowest, bit_at_and, bit_at-trailing_zeros}
 use Rattle.std.proofs.Math.Nat.{pow-suc}
-use Rattle.intmap.specs.Bits.{marked, marked_places, has_bit, marks_of, places_from}
+use Rattle.intmap.specs.Bits.{marked, marked_places, has_bit, marks_of, places_from, IsWordOf}
 use Rattle.intmap.proofs.MarkedLemmas.{range_with_len-add, filter-same, filter-none, filter-shift, filter-both}
 
 -- the places of the bits of a word that are set, of its first n
@@ -139,6 +139,29 @@ pub marked-marks_of : (words : List ℕ) (i : ℕ) → i < 64 * length words →
 unfolding marks_of
 marked-marks_of words i below =
     get_or-map-range_with_len (λ i. has_bit (get_or words (i / 64) 0) (i % 64)) 0 (64 * length words) i i false below (zero-add i)
+
+-- a word has the marks of the places around each of its own
+pub IsWordOf-marks_of : (words : List ℕ) (i : ℕ) → i < 64 * length words → IsWordOf (marks_of words) i (get_or words (i / 64) 0)
+IsWordOf-marks_of words i below j lt =
+    let under : 64 * (i / 64) + j < 64 * length words = omega (arith, below, lt) in
+    let d : (64 * (i / 64) + j) / 64 ≡ i / 64 = omega (arith, lt) in
+    let r : (64 * (i / 64) + j) % 64 ≡ j = omega (arith, lt) in
+    sym (marked-marks_of words (64 * (i / 64) + j) under ∙ ap (λ q. has_bit (get_or words q 0) ((64 * (i / 64) + j) % 64)) d ∙ ap (λ q. has_bit (get_or words (i / 64) 0) q) r)
+
+-- bits that are set alike are the same
+same_bit : (a b : ℕ) → a < 2 → b < 2 → nat_eq a 1 ≡ nat_eq b 1 → a ≡ b
+same_bit zero zero _ _ _ = refl
+same_bit (suc zero) (suc zero) _ _ _ = refl
+same_bit zero (suc zero) _ _ alike = absurd (false≢true alike)
+same_bit (suc zero) zero _ _ alike = absurd (false≢true (sym alike))
+same_bit (suc (suc a)) b small _ _ = absurd (omega arith)
+same_bit zero (suc (suc b)) _ small _ = absurd (omega arith)
+same_bit (suc zero) (suc (suc b)) _ small _ = absurd (omega arith)
+
+-- a word with the marks of the places around one has the bits of the word that stands for them
+pub bits-IsWordOf : (words : List ℕ) (i word : ℕ) → i < 64 * length words → IsWordOf (marks_of words) i word → (j : ℕ) → j < 64 → bit_at word j ≡ bit_at (get_or words (i / 64) 0) j
+bits-IsWordOf words i word below is j lt =
+    same_bit (bit_at word j) (bit_at (get_or words (i / 64) 0) j) (bit_at-lt word j) (bit_at-lt (get_or words (i / 64) 0) j) (is j lt ∙ sym (IsWordOf-marks_of words i below j lt))
 
 -- words that are zero mark no place
 pub marks_of-zeros : (n : ℕ) → marks_of (replicate n 0) ≡ replicate (64 * n) false

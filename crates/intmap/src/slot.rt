@@ -209,7 +209,7 @@ impl<K: IntKey, X, A: Allocator> Slot<K, X, A> {
     }
 
     /// Takes the first of several pairs out. The last pair takes its place.
-    #[inline(never)]
+    #[inline(always)]
     fn take_first(&mut self) -> (Stored<K>, X)
         requires { 1 < length self.old.pairs }
         ensures value { result ≡ slice_index_or self.old.pairs 0 result }

@@ -135,12 +135,13 @@ impl<K: IntKey, X, A: Allocator> Table<K, X, A> {
             ≡ steps.old + reach K.number_of self.old.walk self.old.capacity key.now }
     {
         let index = self.index_of(key);
+        let word = self.bits.word(index);
         let slot = &mut self.slots[index];
         let Some((value, emptied)) = slot.take(key, steps) else {
             return None;
         };
         if emptied {
-            self.bits.clear(index);
+            self.bits.clear_in(index, word);
         }
         Some(value)
     }

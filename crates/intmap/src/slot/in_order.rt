@@ -74,9 +74,10 @@ fn replace_first<P, A: Allocator>(first: &mut P, rest: &mut Vec<P, A>, pair: P) 
     mem::replace(first, last)
 }
 
-/// Where the key is that of the first of several pairs or one behind it, takes its pair out, puts the last pair
-/// in its place, and adds the new one at the end, which takes no memory. Where it isn't, the new
-/// value comes back. The pairs are compared from the front up to it, each by one step.
+/// Where the key is that of the first of several pairs or of one behind it, takes its pair out, puts
+/// the last pair in its place, and adds the new one at the end, which takes no memory. Where it
+/// isn't, the new value comes back. The pairs are compared from the front up to it, each by one
+/// step.
 #[inline(always)]
 pub(super) fn replace_in<K: IntKey, X: Drop, A: Allocator>(
     first: &mut (Stored<K>, X),

@@ -1,7 +1,7 @@
 //! One bit for each place.
 ghost use Rattle.std.specs.Prelude.{◌≡◌, ◌+◌, ◌*◌, ◌/◌, ◌^◌, ◌<◌, ◌≤◌, true, false, filter, length, nat_le, replicate, slice_set, IfOk};
 ghost use Rattle.std.specs.Iterator.{YieldsFirstBy, item_count};
-ghost use Rattle.intmap.specs.Bits.{marked, marked_places};
+ghost use Rattle.intmap.specs.Bits.{marked, marked_places, IsWordOf};
 
 use std::alloc::{AllocError, Allocator};
 use std::marker::Model;
@@ -39,18 +39,35 @@ impl<A: Allocator> Bits<A> {
         (word >> (place % BITS)) & 1 == 1
     }
 
+    /// The word that a place has its bit in.
+    #[inline(always)]
+    pub(crate) fn word(&self, place: usize) -> u64
+        requires { place < length self.now }
+        ensures { IsWordOf self.now place result }
+    {
+        self.words[place / BITS]
+    }
+
     /// Takes the mark of a place away. No other place changes.
     #[inline(always)]
     pub(crate) fn clear(&mut self, place: usize)
         requires { place < length self.old }
         ensures { self.new ≡ slice_set self.old place false }
     {
-        // a word without marks is left, and so one with marks is read into a register, where a bit
-        // is cleared by one instruction; in memory it takes a mask that is rotated
-        let word = self.words[place / BITS];
-        if word != 0 {
-            self.words[place / BITS] = word & !(1 << (place % BITS));
-        }
+        let word = self.word(place);
+        self.clear_in(place, word);
+    }
+
+    /// Takes the mark of a place away, whose word is at hand. No other place changes. Where the word
+    /// was read well before, the bit is cleared in a register by one instruction; in memory it takes
+    /// a mask that is rotated.
+    #[inline(always)]
+    pub(crate) fn clear_in(&mut self, place: usize, word: u64)
+        requires within { place < length self.old }
+        requires word { IsWordOf self.old place word }
+        ensures { self.new ≡ slice_set self.old place false }
+    {
+        self.words[place / BITS] = word & !(1 << (place % BITS));
     }
 
     /// Takes all marks away.

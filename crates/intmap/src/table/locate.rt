@@ -77,10 +77,11 @@ impl<K: IntKey, X, A: Allocator> Table<K, X, A> {
             (take_key K.number_of self.old.walk self.old.capacity at.key) self.old.capacity }
         ensures capacity { self.new.capacity ≡ self.old.capacity }
     {
+        let word = self.bits.word(at.slot);
         let slot = &mut self.slots[at.slot];
         let (_, value) = slot.take_at(at.place);
         if !slot.is_filled() {
-            self.bits.clear(at.slot);
+            self.bits.clear_in(at.slot, word);
         }
         value
     }

@@ -53,7 +53,7 @@ invariant_of-self-then-emptied g c =
     let empty : false ≡ nat_lt 0 (length c.take.new.self.pairs) = let told = c.in-Some.ensures.emptied in let yes = c.if-emptied.true in grind (arith, told, yes) in
     record {
       table = table g after;
-      marks = rw c.clear.ensures (marks-set _ _ _ _ _ (here g after) c.self.inside.bits c.self.invariant.marks c.take.new.self false empty);
+      marks = rw c.clear_in.ensures (marks-set _ _ _ _ _ (here g after) c.self.inside.bits c.self.invariant.marks c.take.new.self false empty);
     }
 
 pub invariant_of-self-else-emptied : goal.invariant_of-self-else-emptied

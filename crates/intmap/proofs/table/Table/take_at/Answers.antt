@@ -43,7 +43,7 @@ invariant_of-self g c =
     let after = (goal.at.invariant_of-self g c).After-take_at-value in
     record {
       table = table g after;
-      marks = rw c.clear.ensures (marks-set _ _ _ _ _ (slot g after) c.self.inside.bits c.self.invariant.marks c.take_at-value.new.self false c.if-not-is_filled.ensures);
+      marks = rw c.clear_in.ensures (marks-set _ _ _ _ _ (slot g after) c.self.inside.bits c.self.invariant.marks c.take_at-value.new.self false c.if-not-is_filled.ensures);
     }
 
 pub invariant_of-self-else-not-is_filled : goal.invariant_of-self-else-not-is_filled
