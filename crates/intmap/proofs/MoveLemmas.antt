@@ -1,7 +1,10 @@
 -- Keys counted slot by slot, and pairs put at the ends of their slots.
-use Rattle.std.proofs.Common.{◌≡◌, ◌≢◌, inl, inr, ℕ, ◌+◌, ◌^◌, ◌<◌, ◌≤◌, true, false, cond, List, [], ◌∷◌, ◌++◌, length, get_or, set, replicate, None, refl, sym, ap, ◌∙◌, subst, arith, append-nil, append_assoc, length-append, length-set, get_or-set_same, get_or-set_other}
-use Rattle.std.specs.Prelude.{◌==◌, All}
-use Rattle.std.proofs.lemmas.List.{map-append, map-set, length-map, length-replicate, length_push, get_or-replicate, get_or_append_left, get_or_push, get_or-map}
+use Rattle.std.proofs.Common.{◌≡◌, ◌≢◌, inl, inr, ℕ, ◌+◌, ◌^◌, ◌<◌, ◌≤◌, suc, drop, Bool, true, false, cond, List, [], ◌∷◌, ◌++◌, length, get_or, set, replicate, Option, Some, None, refl, sym, ap, ◌∙◌, subst, arith, append-nil, append_assoc, length-append, length-set, get_or-set_same, get_or-set_other}
+use Rattle.std.specs.Prelude.{◌==◌, All, reverse}
+use Rattle.std.proofs.Math.Seq.{drop-cons}
+use Rattle.std.specs.Vec.Iter.{into_iter_items, into_iter_len, into_iter_steps}
+use Rattle.std.specs.declared.vec.IntoIter.{IntoIter}
+use Rattle.std.proofs.lemmas.List.{reverse-append, map-append, map-set, length-map, length-replicate, length_push, get_or-replicate, get_or_append_left, get_or_push, get_or-map}
 use Rattle.std.proofs.lemmas.Grind.{flat_map-append}
 use Rattle.std.proofs.lemmas.List.Elements.{All-weaker, filter-append, filter_passes}
 use Rattle.std.proofs.lemmas.List.Sums.{sum_by-append, count_by-le-length, length-filter}
@@ -34,6 +37,16 @@ module _ {K : Type 0} (number : K → ℕ) where
   share-append : (ks ls : List K) (C j : ℕ) → share number (ks ++ ls) C j ≡ share number ks C j + share number ls C j
   share-append ks ls C j = sum_by-append (λ k. cond (slot_number number k C == j) 1 0) ks ls
 
+  -- pairs turned round have the same shares
+  share-reverse : {X : Type 0} (L : List (K × X)) (C j : ℕ) → share number (keys_of (reverse L)) C j ≡ share number (keys_of L) C j
+  share-reverse [] C j = refl
+  share-reverse {X} (p ∷ L) C j =
+      let keys : keys_of (reverse (p ∷ L)) ≡ keys_of (reverse L) ++ p.0 ∷ [] = ap keys_of (reverse-append (p ∷ []) L) ∙ map-append (λ (q : K × X). q.0) (reverse L) (p ∷ []) in
+      let back = share-append (keys_of (reverse L)) (p.0 ∷ []) C j in
+      let front = share-append (p.0 ∷ []) (keys_of L) C j in
+      let rest = share-reverse L C j in
+      rw keys (omega (arith, back, front, rest))
+
   -- keys that can be counted with others can be counted without them
   pub CanCount-first : (ns : List ℕ) (ks ls : List K) → CanCount number ns (ks ++ ls) → CanCount number ns ks
   CanCount-first ns ks ls can = record {
@@ -48,6 +61,21 @@ module _ {K : Type 0} (number : K → ℕ) where
         let all = can.fits j w in let here = counted.counts j w in let sum = share-append ks ls (length ns) j in
         rw counted.len (omega (arith, all, here, sum));
   }
+
+  -- the keys of pairs that can be counted turned round can be counted in order
+  pub CanCount-unturned : {X : Type 0} (ns : List ℕ) (L : List (K × X)) (turned : Bool) → CanCount number ns (keys_of (cond turned (reverse L) L)) → CanCount number ns (keys_of L)
+  CanCount-unturned ns L true can = record {
+    fits = λ j below. let all = can.fits j below in let same = share-reverse L (length ns) j in omega (arith, all, same);
+  }
+  CanCount-unturned ns L false can = can
+
+  -- pairs whose keys were counted in order have them counted turned round
+  pub IsCounted-turned : {X : Type 0} (ns ms : List ℕ) (L : List (K × X)) (turned : Bool) → IsCounted number ns (keys_of L) ms → IsCounted number ns (keys_of (cond turned (reverse L) L)) ms
+  IsCounted-turned ns ms L true counted = record {
+    len = counted.len;
+    counts = λ j below. let all = counted.counts j below in let same = share-reverse L (length ns) j in omega (arith, all, same);
+  }
+  IsCounted-turned ns ms L false counted = counted
 
   -- fewer than 2^64 keys can be counted from zero
   CanCount-zeros : (n : ℕ) (ks : List K) → length ks < 2 ^ 64 → CanCount number (zeros n) ks
@@ -270,3 +298,27 @@ module _ {K X : Type 0} (number : K → ℕ) where
         (All-weaker (λ p. (slot_number number p.0 C == j) ≡ true) (λ p. slot_number number p.0 C ≡ j) (λ p e. eqb-true (slot_number number p.0 C) j e)
         (slot_of number L C j) (filter_passes (λ p. slot_number number p.0 C == j) L)));
   }
+
+module _ {T Z : Type 0} where
+  -- the elements of l from place i on are left
+  pub record IsLeft (l : List T) (i : ℕ) (s : IntoIter T Z) : Type 0 where
+    pub items : into_iter_items s ≡ drop i l
+    pub len : into_iter_len s + i ≡ length l
+
+  -- where there is a place there is an element
+  pub IsLeft-some : (l : List T) (i : ℕ) (s t : IntoIter T Z) → IsLeft l i s → into_iter_steps s None t → i < length l → ⊥
+  IsLeft-some l i s t left steps below = let len = left.len in let none = steps.0 in omega (arith, len, none, below)
+
+  -- the next element is the one at the place
+  pub IsLeft-at : (l : List T) (i : ℕ) (s t : IntoIter T Z) (h d : T) → IsLeft l i s → into_iter_steps s (Some h) t → i < length l → h ≡ get_or l i d
+  IsLeft-at l i s t h d left steps below = ap (λ (m : List T). get_or m 0 d) (sym steps.0 ∙ left.items ∙ drop-cons l i d below)
+
+  -- those behind it are left then
+  pub IsLeft-next : (l : List T) (i : ℕ) (s t : IntoIter T Z) (r : Option T) → IsLeft l i s → into_iter_steps s r t → i < length l → IsLeft l (i + 1) t
+  IsLeft-next l i s t None left steps below = absurd (IsLeft-some l i s t left steps below)
+  IsLeft-next l i s t (Some h) left steps below =
+      let next : suc i ≡ i + 1 = omega arith in
+      record {
+        items = ap (λ (m : List T). drop 1 m) (sym steps.0 ∙ left.items ∙ drop-cons l i h below) ∙ ap (λ n. drop n l) next;
+        len = let len = left.len in let less = steps.1 in omega (arith, len, less);
+      }

@@ -51,6 +51,7 @@ impl<K: IntKey, X, A: Allocator> Slot<K, X, A> {
     /// A slot with no pair. It takes no memory.
     pub(crate) fn new(alloc: A) -> Slot<K, X, A>
         ensures pairs { result.pairs ≡ [] }
+        ensures room { 0 < result.room }
     {
         Slot {
             first: First::Empty,
@@ -153,6 +154,18 @@ impl<K: IntKey, X, A: Allocator> Slot<K, X, A> {
             First::Lone(pair) => &mut pair.1,
             First::InOrder(pair) => &mut pair.1,
             _ => unreachable!(),
+        }
+    }
+
+    /// The pair that has no other beside it.
+    #[inline(always)]
+    pub(crate) fn lone(&self) -> Option<&(Stored<K>, X)>
+        ensures lone { IfSome result (λ pair. self.now.pairs ≡ pair.now ∷ []) }
+        ensures not_lone { IfNone result (length self.now.pairs ≡ 1 → ⊥) }
+    {
+        match &self.first {
+            First::Lone(pair) => Some(pair),
+            _ => None,
         }
     }
 
@@ -347,20 +360,27 @@ impl<K: IntKey, X: Drop, A: Allocator> Slot<K, X, A> {
         self.rest.clear();
     }
 
-    /// A slot with no pair and with room for so many. It takes memory for all but the first, and
-    /// is refused where that is.
-    pub(crate) fn with_room(alloc: A, count: usize) -> Result<Slot<K, X, A>, AllocError>
-        ensures pairs { IfOk result (λ slot. slot.pairs ≡ []) }
-        ensures room { IfOk result (λ slot. count ≤ slot.room) }
+    /// The pair that has no other beside it. A slot with none or with more comes back as it was.
+    #[inline(always)]
+    pub(crate) fn into_lone(self) -> Result<(Stored<K>, X), Slot<K, X, A>>
+        ensures lone { IfOk result (λ pair. self.pairs ≡ pair ∷ []) }
+        ensures others { IfErr result (λ slot. slot ≡ self) }
     {
-        let mut rest = Vec::new(alloc);
-        if count > 1 {
-            rest.reserve_exact(count - 1)?;
+        let Slot { first, rest } = self;
+        match first {
+            First::Lone(pair) => Ok(pair),
+            first => Err(Slot { first, rest }),
         }
-        Ok(Slot {
-            first: First::Empty,
-            rest,
-        })
+    }
+
+    /// Makes room for so many pairs behind the first, and takes memory for exactly those. It is
+    /// refused where that is.
+    #[inline(never)]
+    pub(crate) fn reserve_behind(&mut self, count: usize) -> Result<(), AllocError>
+        ensures pairs { self.new.pairs ≡ self.old.pairs }
+        ensures room { OnOk result (count < self.new.room) }
+    {
+        self.rest.reserve_exact(count)
     }
 
     /// Puts the first pair into a slot without one. It takes no memory.

@@ -3,7 +3,7 @@ ghost use Rattle.std.specs.Prelude.{◌≡◌, ◌+◌, ◌^◌, ◌<◌, [], �
 ghost use Rattle.std.specs.Option.{option_to_list};
 ghost use Rattle.intmap.specs.Classes.{IsCapacity};
 ghost use Rattle.intmap.specs.Bindings.{value_of, put_pair};
-ghost use Rattle.intmap.specs.Slots.{rows, AreMarked};
+ghost use Rattle.intmap.specs.Slots.{rows, joined, AreMarked};
 ghost use Rattle.intmap.specs.Walk.{walk_of};
 ghost use Rattle.std.specs.Map.{keys_of};
 ghost use Rattle.intmap.specs.Moves.{CanCount, IsCounted, IsRoomy, IsReady};
@@ -28,6 +28,52 @@ fn count_key<K: IntKey>(counts: &mut [usize], key: &K)
     counts[index] += 1;
 }
 
+/// Adds the number of the pairs that have each slot to its count.
+fn count_each<K: IntKey, X>(counts: &mut [usize], pairs: &[(Stored<K>, X)])
+    requires capacity { IsCapacity (length counts.old) }
+    requires fits { CanCount K.number_of counts.old (keys_of pairs.now) }
+    ensures { IsCounted K.number_of counts.old (keys_of pairs.now) counts.new }
+{
+    for pair in pairs {
+        count_key(counts, pair.0.key());
+    }
+}
+
+/// Adds the number of an old slot's pairs that have each slot to its count.
+#[inline(always)]
+fn count_slot<K: IntKey, X, A: Allocator>(counts: &mut [usize], slot: &Slot<K, X, A>)
+    requires capacity { IsCapacity (length counts.old) }
+    requires fits { CanCount K.number_of counts.old (keys_of slot.now.pairs) }
+    ensures { IsCounted K.number_of counts.old (keys_of slot.now.pairs) counts.new }
+{
+    if let Some(lone) = slot.lone() {
+        count_key(counts, lone.0.key());
+        return;
+    }
+    let (first, rest, _) = slot.parts();
+    if let Some(pair) = first {
+        count_key(counts, pair.0.key());
+    }
+    count_each(counts, rest);
+}
+
+/// Adds the number of all old slots' pairs that have each slot to its count. The bits of the old
+/// slots tell which of them to look at.
+fn count_all<K: IntKey, X, A: Allocator>(
+    counts: &mut [usize],
+    bits: &Bits<A>,
+    slots: &[Slot<K, X, A>],
+)
+    requires marks { AreMarked (rows slots.now) bits.now }
+    requires capacity { IsCapacity (length counts.old) }
+    requires fits { CanCount K.number_of counts.old (keys_of (joined (rows slots.now))) }
+    ensures { IsCounted K.number_of counts.old (keys_of (joined (rows slots.now))) counts.new }
+{
+    for index in bits.iter() {
+        count_slot(counts, &slots[index]);
+    }
+}
+
 /// Empty slots, each with room for as many pairs as its count. All their memory is taken here.
 fn with_room<K: IntKey, X: Drop, A: Allocator + Copy>(
     alloc: A,
@@ -36,8 +82,12 @@ fn with_room<K: IntKey, X: Drop, A: Allocator + Copy>(
     ensures { IfOk result (λ slots. IsRoomy counts.now slots.items) }
 {
     let mut slots = Vec::with_capacity(alloc, counts.len())?;
-    for count in counts {
-        slots.push_reserved(Slot::with_room(alloc, *count)?);
+    for index in 0..counts.len() {
+        slots.push_reserved(Slot::new(alloc));
+        let count = counts[index];
+        if count > 1 {
+            slots[index].reserve_behind(count - 1)?;
+        }
     }
     Ok(slots)
 }
@@ -50,9 +100,7 @@ impl<K: IntKey, X: Drop, A: Allocator + Copy> Table<K, X, A> {
         requires fits { CanCount K.number_of counts.old (keys_of self.now.walk) }
         ensures { IsCounted K.number_of counts.old (keys_of self.now.walk) counts.new }
     {
-        for (key, _) in self.pairs() {
-            count_key(counts, key);
-        }
+        count_all(counts, &self.bits, &self.slots);
     }
 
     /// Empty slots, so many, each with exact room for the pairs that belong in it, that of a new

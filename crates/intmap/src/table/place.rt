@@ -10,7 +10,6 @@ use crate::steps::Steps;
 use crate::table::bits::Bits;
 use crate::table::stored::Stored;
 use std::alloc::Allocator;
-use std::mem;
 
 /// The odd number that spreads keys over slots.
 const MULTIPLIER: u64 = 11400714819323198549;
@@ -69,28 +68,23 @@ fn place_each<K: IntKey, X: Drop, A: Allocator>(
     }
 }
 
-/// Takes the pairs of an old slot out and puts them, in order, at the ends of their slots, where
+/// Puts the pairs of an old slot of none or of several, in order, at the ends of their slots, where
 /// there is room for them.
-#[inline(always)]
-fn place_slot<K: IntKey, X: Drop, A: Allocator>(
+#[inline(never)]
+fn place_several<K: IntKey, X: Drop, A: Allocator>(
     bits: &mut Bits<A>,
     slots: &mut [Slot<K, X, A>],
-    old: &mut Slot<K, X, A>,
-    alloc: A,
+    old: Slot<K, X, A>,
     placed: &mut Steps,
 )
     requires marks { AreMarked (rows slots.old) bits.old }
     requires capacity { IsCapacity (length slots.old) }
-    requires room { HasRoom K.number_of slots.old old.old.pairs }
-    ensures pairs { IsPlaced K.number_of slots.old old.old.pairs slots.new }
-    ensures placed { placed.new ≡ placed.old + length old.old.pairs }
+    requires room { HasRoom K.number_of slots.old old.pairs }
+    ensures pairs { IsPlaced K.number_of slots.old old.pairs slots.new }
+    ensures placed { placed.new ≡ placed.old + length old.pairs }
     ensures marks { AreMarked (rows slots.new) bits.new }
 {
-    if let Some(lone) = old.take_lone() {
-        place(bits, slots, lone, placed);
-        return;
-    }
-    let (first, rest) = mem::replace(old, Slot::new(alloc)).into_parts();
+    let (first, rest) = old.into_parts();
     let Some(pair) = first else {
         return;
     };
@@ -98,13 +92,36 @@ fn place_slot<K: IntKey, X: Drop, A: Allocator>(
     place_each(bits, slots, rest, placed);
 }
 
+/// Puts the pairs of an old slot, in order, at the ends of their slots, where there is room for
+/// them.
+#[inline(always)]
+fn place_slot<K: IntKey, X: Drop, A: Allocator>(
+    bits: &mut Bits<A>,
+    slots: &mut [Slot<K, X, A>],
+    old: Slot<K, X, A>,
+    placed: &mut Steps,
+)
+    requires marks { AreMarked (rows slots.old) bits.old }
+    requires capacity { IsCapacity (length slots.old) }
+    requires room { HasRoom K.number_of slots.old old.pairs }
+    ensures pairs { IsPlaced K.number_of slots.old old.pairs slots.new }
+    ensures placed { placed.new ≡ placed.old + length old.pairs }
+    ensures marks { AreMarked (rows slots.new) bits.new }
+{
+    match old.into_lone() {
+        Ok(lone) => place(bits, slots, lone, placed),
+        Err(several) => place_several(bits, slots, several, placed),
+    }
+}
+
 /// Puts the pairs of all old slots, slot after slot, at the ends of their slots, where there is
-/// room for them. The bits of the old slots tell which of them to look at.
-pub(super) fn place_all<K: IntKey, X: Drop, A: Allocator + Copy>(
+/// room for them. The bits of the old slots tell which of them to look at; those between are let
+/// go as they are passed.
+pub(super) fn place_all<K: IntKey, X: Drop, A: Allocator>(
     bits: &mut Bits<A>,
     slots: &mut [Slot<K, X, A>],
     old_bits: &Bits<A>,
-    mut old: Vec<Slot<K, X, A>, A>,
+    old: Vec<Slot<K, X, A>, A>,
     placed: &mut Steps,
 )
     requires old_marks { AreMarked (rows old.items) old_bits.now }
@@ -115,8 +132,16 @@ pub(super) fn place_all<K: IntKey, X: Drop, A: Allocator + Copy>(
     ensures placed { placed.new ≡ placed.old + length (joined (rows old.items)) }
     ensures marks { AreMarked (rows slots.new) bits.new }
 {
-    let alloc = *old.allocator();
+    let mut left = old.into_iter();
+    let mut next = 0;
     for index in old_bits.iter() {
-        place_slot(bits, slots, &mut old[index], alloc, placed);
+        for _ in next..index {
+            left.next();
+        }
+        let Some(slot) = left.next() else {
+            unreachable!();
+        };
+        place_slot(bits, slots, slot, placed);
+        next = index + 1;
     }
 }

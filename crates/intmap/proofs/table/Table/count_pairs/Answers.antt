@@ -1,20 +1,18 @@
-use Rattle.std.proofs.Common.{◌∙◌, [], ◌∷◌}
-use Rattle.intmap.proofs.MoveLemmas.{CanCount-first, CanCount-more, IsCounted-none, IsCounted-more}
+use Rattle.std.proofs.Common.{◌≡◌, ◌∙◌, ap}
+use Rattle.std.specs.Map.{keys_of}
+use Rattle.intmap.specs.Slots.{Grid, rows, joined}
 use Rattle.intmap.proofs.table.Table.count_pairs.Goals as goal
+use Rattle.intmap.proofs.table.Table.count_pairs.Goals.{After-deref}
 
-pub loop-key-init : goal.loop-key-init
-loop-key-init g c =
-    rw (c.into_iter-key-iterator.ensures.into_iter_gives ∙ c.pairs-key-items.ensures) (record { fits = c.requires.fits; rest = λ ns counted. counted })
+-- the keys of the slots are those of the walk
+whole : (g : _) (c : After-deref g) → keys_of (joined (rows c.deref.result.now)) ≡ keys_of c.args.self.now.walk
+whole g c = ap (λ slots. keys_of (joined (rows slots))) c.deref.ensures.value ∙ ap (λ (t : Grid _ _). keys_of t.walk) c.self.view_is
 
-pub count_key-requires-clause-fits : goal.count_key-requires-clause-fits
-count_key-requires-clause-fits g c =
-    CanCount-first _ _ (c.in-Some.key.now ∷ []) _ (rw c.in-Some.ensures.steps at c.loop-key.invariant.fits)
+pub count_all-requires-clause-marks : goal.count_all-requires-clause-marks
+count_all-requires-clause-marks g c = rw c.deref.ensures.value c.self.invariant.marks
 
-pub loop-key-preserved : goal.loop-key-preserved
-loop-key-preserved g c = record {
-  fits = CanCount-more _ _ _ (c.in-Some.key.now ∷ []) _ (rw c.in-Some.ensures.steps at c.loop-key.invariant.fits) c.count_key.ensures;
-  rest = λ ns counted. (rw c.in-Some.ensures.steps at c.loop-key.invariant.rest) ns (IsCounted-more _ _ _ _ _ _ c.count_key.ensures counted);
-}
+pub count_all-requires-clause-fits : goal.count_all-requires-clause-fits
+count_all-requires-clause-fits g c = rw (whole g (goal.at.count_all-requires-clause-fits g c).After-deref) c.requires.fits
 
 pub returns : goal.returns
-returns g c = c.loop-key.invariant.rest c.loop-key.counts (rw c.in-None.ensures.steps.0 (IsCounted-none _ c.loop-key.counts))
+returns g c = rw (whole g (goal.at.returns g c).After-deref) at c.count_all.ensures
