@@ -1,18 +1,18 @@
 -- What the bits of words tell of the places that they mark.
-use Rattle.std.proofs.Common.{◌≡◌, ◌≢◌, inl, inr, ℕ, zero, suc, ◌+◌, ◌-◌, ◌*◌, ◌/◌, ◌%◌, ◌^◌, ◌<◌, Bool, true, false, List, [], ◌∷◌, ◌++◌, length, map, get_or, set, replicate, sum_by, refl, sym, ap, ◌∙◌, arith, zero-add, bit_and, w64, length-set, get_or-set_same, get_or-set_other, length-append}
-use Rattle.std.specs.Prelude.{filter, nat_eq}
+use Rattle.std.proofs.Common.{◌≡◌, ◌≢◌, inl, inr, ℕ, zero, suc, ◌+◌, ◌-◌, ◌*◌, ◌/◌, ◌%◌, ◌^◌, ◌<◌, Bool, true, false, List, [], ◌∷◌, ◌++◌, length, map, get_or, set, replicate, sum_by, refl, sym, ap, subst, ◌∙◌, arith, zero-add, bit_and, w64, length-set, get_or-set_same, get_or-set_other, length-append}
+use Rattle.std.specs.Prelude.{◌==◌, cond, filter, nat_eq}
 use Rattle.std.specs.Int.RustNames.{count_ones}
 use Rattle.std.specs.Int.{bit_at, trailing_zeros}
 use Rattle.std.specs.List.{range_with_len}
-use Rattle.std.proofs.lemmas.Bool.{cases_eq, cases_lt, eq-eqb, ne_eqb, false≢true}
+use Rattle.std.proofs.lemmas.Bool.{cases_eq, cases_lt, eq-eqb, ne_eqb}
 use Rattle.std.proofs.lemmas.List.{ext_get_or, get_or-replicate, length-replicate, length-map}
 use Rattle.std.proofs.lemmas.List.Elements.{filter-append}
 use Rattle.std.proofs.lemmas.List.FromFn.{length-map-range_with_len, get_or-map-range_with_len}
 use Rattle.std.proofs.lemmas.List.Sums.{sum_by-cons}
 use Rattle.std.proofs.lemmas.Nat.{ones_cat}
-use Rattle.std.proofs.lemmas.Nat.Bits.{bit_at-lt, bit_at-zero, bit_at-suc, bit_at_lowest, bit_at_and, bit_at-trailing_zeros}
+use Rattle.std.proofs.lemmas.Nat.Bits.{bit_at-zero, bit_at-suc, bit_at_lowest, bit_at_and, bit_at-trailing_zeros}
 use Rattle.std.proofs.Math.Nat.{pow-suc}
-use Rattle.intmap.specs.Bits.{marked, marked_places, has_bit, marks_of, places_from, IsWordOf}
+use Rattle.intmap.specs.Bits.{marked, marked_places, has_bit, marks_of, places_from, with_word, IsWordOf}
 use Rattle.intmap.proofs.MarkedLemmas.{range_with_len-add, filter-same, filter-none, filter-shift, filter-both}
 
 -- the places of the bits of a word that are set, of its first n
@@ -148,20 +148,54 @@ IsWordOf-marks_of words i below j lt =
     let r : (64 * (i / 64) + j) % 64 ≡ j = omega (arith, lt) in
     sym (marked-marks_of words (64 * (i / 64) + j) under ∙ ap (λ q. has_bit (get_or words q 0) ((64 * (i / 64) + j) % 64)) d ∙ ap (λ q. has_bit (get_or words (i / 64) 0) q) r)
 
--- bits that are set alike are the same
-same_bit : (a b : ℕ) → a < 2 → b < 2 → nat_eq a 1 ≡ nat_eq b 1 → a ≡ b
-same_bit zero zero _ _ _ = refl
-same_bit (suc zero) (suc zero) _ _ _ = refl
-same_bit zero (suc zero) _ _ alike = absurd (false≢true alike)
-same_bit (suc zero) zero _ _ alike = absurd (false≢true (sym alike))
-same_bit (suc (suc a)) b small _ _ = absurd (omega arith)
-same_bit zero (suc (suc b)) _ small _ = absurd (omega arith)
-same_bit (suc zero) (suc (suc b)) _ small _ = absurd (omega arith)
+-- marks that are those of a word around place i, and some others elsewhere
+pub with_word-is : (marks ns : List Bool) (i word : ℕ) → length ns ≡ length marks → IsWordOf ns i word → ((j : ℕ) → j < length marks → j / 64 ≢ i / 64 → marked ns j ≡ marked marks j)
+    → with_word marks i word ≡ ns
+with_word-is marks ns i word same is others =
+    let f : ℕ → Bool = λ j. cond (j / 64 == i / 64) (has_bit word (j % 64)) (marked marks j) in
+    let l = length-map-range_with_len f 0 (length marks) in
+    ext_get_or false (with_word marks i word) ns (l ∙ sym same) (λ j lt.
+    let below : j < length marks = omega (arith, lt, l) in
+    get_or-map-range_with_len f 0 (length marks) j j false below (zero-add j) ∙ (elim (cases_eq (j / 64) (i / 64)) [
+      | inl e ↦ (let yes : (j / 64 == i / 64) ≡ true = eq-eqb (j / 64) (i / 64) e in
+          let at : 64 * (i / 64) + j % 64 ≡ j = omega (arith, e) in
+          ap (λ b. cond b (has_bit word (j % 64)) (marked marks j)) yes ∙ is (j % 64) (omega arith) ∙ ap (marked ns) at)
+      | inr apart ↦ (let no : (j / 64 == i / 64) ≡ false = ne_eqb (j / 64) (i / 64) apart in
+          ap (λ b. cond b (has_bit word (j % 64)) (marked marks j)) no ∙ sym (others j below apart))
+    ]))
 
--- a word with the marks of the places around one has the bits of the word that stands for them
-pub bits-IsWordOf : (words : List ℕ) (i word : ℕ) → i < 64 * length words → IsWordOf (marks_of words) i word → (j : ℕ) → j < 64 → bit_at word j ≡ bit_at (get_or words (i / 64) 0) j
-bits-IsWordOf words i word below is j lt =
-    same_bit (bit_at word j) (bit_at (get_or words (i / 64) 0) j) (bit_at-lt word j) (bit_at-lt (get_or words (i / 64) 0) j) (is j lt ∙ sym (IsWordOf-marks_of words i below j lt))
+-- the word that is there changes no mark
+pub with_word-same : (marks : List Bool) (i word : ℕ) → IsWordOf marks i word → with_word marks i word ≡ marks
+with_word-same marks i word is = with_word-is marks marks i word refl is (λ j below apart. refl)
+
+-- a word that has the marks without one takes that one away
+pub with_word-unmarked : (marks : List Bool) (i word : ℕ) → IsWordOf (set marks i false) i word → with_word marks i word ≡ set marks i false
+with_word-unmarked marks i word is =
+    with_word-is marks (set marks i false) i word (length-set marks i false) is (λ j below apart. get_or-set_other marks i j false false (λ q. apart (ap (λ n. n / 64) q)))
+
+-- a word without the bit of a place has the marks without that place
+pub IsWordOf-unmarked : (marks : List Bool) (i word less : ℕ) → i < length marks → IsWordOf marks i word → bit_at less (i % 64) ≡ 0 → ((j : ℕ) → j < 64 → j ≢ i % 64 → bit_at less j ≡ bit_at word j)
+    → IsWordOf (set marks i false) i less
+IsWordOf-unmarked marks i word less below is none others j lt = elim (cases_eq j (i % 64)) [
+  | inl e ↦ (let at : 64 * (i / 64) + j ≡ i = omega (arith, e) in
+      ap (has_bit less) e ∙ ne_eqb (bit_at less (i % 64)) 1 (λ q. omega (arith, none, q)) ∙ sym (ap (marked (set marks i false)) at ∙ get_or-set_same marks i false false below))
+  | inr apart ↦ (let other : 64 * (i / 64) + j ≢ i = λ q. apart (omega (arith, q, lt)) in
+      ap (λ (b : ℕ). nat_eq b 1) (others j lt apart) ∙ is j lt ∙ sym (get_or-set_other marks i (64 * (i / 64) + j) false false other))
+]
+
+-- another word among words has its bits around the place
+pub marks_of-with_word : (words : List ℕ) (i word : ℕ) → i < 64 * length words → marks_of (set words (i / 64) word) ≡ with_word (marks_of words) i word
+marks_of-with_word words i word below =
+    let n = length-set words (i / 64) word in
+    let l = length-marks_of words in
+    let m = length-marks_of (set words (i / 64) word) in
+    let within : i / 64 < length words = omega arith in
+    let under : i < 64 * length (set words (i / 64) word) = omega (arith, below, n) in
+    let is : IsWordOf (marks_of (set words (i / 64) word)) i word = subst (IsWordOf (marks_of (set words (i / 64) word)) i) (get_or-set_same words (i / 64) word 0 within) (IsWordOf-marks_of (set words (i / 64) word) i under) in
+    sym (with_word-is (marks_of words) (marks_of (set words (i / 64) word)) i word (omega (arith, l, m, n)) is (λ j lt apart.
+    let here : j < 64 * length words = omega (arith, lt, l) in
+    let there : j < 64 * length (set words (i / 64) word) = omega (arith, here, n) in
+    marked-marks_of (set words (i / 64) word) j there ∙ ap (λ w. has_bit w (j % 64)) (get_or-set_other words (i / 64) (j / 64) word 0 apart) ∙ sym (marked-marks_of words j here)))
 
 -- words that are zero mark no place
 pub marks_of-zeros : (n : ℕ) → marks_of (replicate n 0) ≡ replicate (64 * n) false

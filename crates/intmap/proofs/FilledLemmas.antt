@@ -5,11 +5,12 @@ use Rattle.std.specs.List.{list_any, range_with_len}
 use Rattle.std.proofs.lemmas.Bool.{cases_Bool, cases_eq, cases_lt, eq-eqb, ne_eqb, lt-ltb, ltb-true}
 use Rattle.std.proofs.lemmas.List.{length-replicate, length_push, map-set, get_or_past}
 use Rattle.std.proofs.lemmas.List.Elements.{All-head, All-tail}
-use Rattle.intmap.specs.Bits.{marked, marked_places}
+use Rattle.intmap.specs.Bits.{marked, marked_places, with_word, IsWordOf}
 use Rattle.intmap.specs.Slots.{Held, rows, joined, pairs_at, AreMarked, IsMarkedTable}
 use Rattle.intmap.specs.Bindings.{value_of}
 use Rattle.intmap.specs.Classes.{IsCapacity}
 use Rattle.intmap.specs.Moves.{IsReady}
+use Rattle.intmap.proofs.BitsLemmas.{with_word-same, with_word-unmarked}
 use Rattle.intmap.proofs.TableLemmas.{IsSlot, within, length-rows, get_or-rows, IsTable-empty}
 use Rattle.intmap.proofs.MarkedLemmas.{row-none, marked-replicate, All-marked_places, flat_map-marked_places, length-marked_places}
 
@@ -110,6 +111,18 @@ module _ {K X : Type 0} (number : K → ℕ) (S : List (Held K X)) (h : Held K X
 
   pub marks-kept : (s : Held K X) → nat_lt 0 (length h.pairs) ≡ nat_lt 0 (length s.pairs) → AreMarked (rows (set S i s)) bits
   marks-kept s is = marks-kept_at S bits marks i (within number S h i k at) s (marked-here ∙ is)
+
+  -- there is a mark for it
+  pub mark-below : i < length bits
+  mark-below = place-below S bits marks i (within number S h i k at)
+
+  -- the same, with the word around its mark written: one without that mark
+  pub marks-without : (s : Held K X) (word : ℕ) → IsWordOf (set bits i false) i word → false ≡ nat_lt 0 (length s.pairs) → AreMarked (rows (set S i s)) (with_word bits i word)
+  marks-without s word is empty = rw (with_word-unmarked bits i word is) (marks-set s false empty)
+
+  -- and the word that was there
+  pub marks-with : (s : Held K X) (word : ℕ) → IsWordOf bits i word → nat_lt 0 (length h.pairs) ≡ nat_lt 0 (length s.pairs) → AreMarked (rows (set S i s)) (with_word bits i word)
+  marks-with s word is same = rw (with_word-same bits i word is) (marks-kept s same)
 
 -- the marked places are places of slots
 pub places-within : {K X : Type 0} (S : List (Held K X)) (bits : List Bool) → AreMarked (rows S) bits → All (λ place. place < length S) (marked_places bits)

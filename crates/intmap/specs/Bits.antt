@@ -1,5 +1,5 @@
 -- Places that are marked or not, as bits of words. No public clause cites this module.
-use Rattle.std.specs.Prelude.{ℕ, Bool, false, ◌*◌, ◌/◌, ◌%◌, ◌+◌, ◌<◌, ◌==◌, ◌≡◌, List, length, map, filter, slice_index, slice_index_or}
+use Rattle.std.specs.Prelude.{ℕ, Bool, false, ◌*◌, ◌/◌, ◌%◌, ◌+◌, ◌<◌, ◌==◌, ◌≡◌, List, cond, length, map, filter, slice_index, slice_index_or}
 use Rattle.std.specs.Int.{bit_at}
 use Rattle.std.specs.List.{range_with_len}
 
@@ -18,6 +18,10 @@ has_bit word i = bit_at word i == 1
 -- a word that has, from its lowest bit up, the marks of the 64 places around place i
 abbrev pub IsWordOf : List Bool → ℕ → ℕ → Type 0
 IsWordOf marks i word = (j : ℕ) → j < 64 → has_bit word j ≡ marked marks (64 * (i / 64) + j)
+
+-- the marks with the bits of a word in place of those of the 64 places around place i
+abbrev pub with_word : List Bool → ℕ → ℕ → List Bool
+with_word marks i word = map (λ j. cond (j / 64 == i / 64) (has_bit word (j % 64)) (marked marks j)) (range_with_len 0 (length marks))
 
 -- whether each place of these words is marked: a word has 64, from its lowest bit up
 unfoldable pub marks_of : List ℕ → List Bool

@@ -23,7 +23,7 @@ ghost use Rattle.intmap.specs.Figures.{load_of};
 use crate::key::IntKey;
 use crate::slot::Slot;
 use crate::steps::Steps;
-use bits::Bits;
+use bits::{Bits, without};
 use place::index_of;
 use std::alloc::{AllocError, Allocator};
 use std::marker::Model;
@@ -135,13 +135,14 @@ impl<K: IntKey, X, A: Allocator> Table<K, X, A> {
             ≡ steps.old + reach K.number_of self.old.walk self.old.capacity key.now }
     {
         let index = self.index_of(key);
-        let word = self.bits.word(index);
+        let word = self.bits.word_mut(index);
+        let before = *word;
         let slot = &mut self.slots[index];
         let Some((value, emptied)) = slot.take(key, steps) else {
             return None;
         };
         if emptied {
-            self.bits.clear_in(index, word);
+            *word = without(before, index);
         }
         Some(value)
     }

@@ -1,5 +1,5 @@
 //! One bit for each place.
-ghost use Rattle.std.specs.Prelude.{◌≡◌, ◌+◌, ◌*◌, ◌/◌, ◌^◌, ◌<◌, ◌≤◌, true, false, filter, length, nat_le, replicate, slice_set, IfOk};
+ghost use Rattle.std.specs.Prelude.{◌≡◌, List, Bool, ◌+◌, ◌*◌, ◌/◌, ◌^◌, ◌<◌, ◌≤◌, true, false, filter, length, nat_le, replicate, slice_set, IfOk};
 ghost use Rattle.std.specs.Iterator.{YieldsFirstBy, item_count};
 ghost use Rattle.intmap.specs.Bits.{marked, marked_places, IsWordOf};
 
@@ -26,7 +26,19 @@ impl<A: Allocator> Model for Bits<A> {
     ghost invariant = { λ bits. 64 * length bits.words.items ≤ 2 ^ 63 };
 }
 
+/// A word without the bit of a place.
+#[inline(always)]
+pub(crate) fn without(word: u64, place: usize) -> u64
+    ensures { (marks : List Bool) → place < length marks → IsWordOf marks place word
+        → IsWordOf (slice_set marks place false) place result }
+{
+    word & !(1 << (place % BITS))
+}
+
 impl<A: Allocator> Bits<A> {
+    ghost use Rattle.std.specs.Borrow.{sem};
+    ghost use Rattle.intmap.specs.Lending.{bits_lend};
+
     /// Marks a place, and answers whether it was marked before. No other place changes.
     #[inline(always)]
     pub(crate) fn set(&mut self, place: usize) -> bool
@@ -39,13 +51,14 @@ impl<A: Allocator> Bits<A> {
         (word >> (place % BITS)) & 1 == 1
     }
 
-    /// The word that a place has its bit in.
+    /// The word that a place has its bit in, to be written.
     #[inline(always)]
-    pub(crate) fn word(&self, place: usize) -> u64
-        requires { place < length self.now }
-        ensures { IsWordOf self.now place result }
+    pub(crate) fn word_mut(&mut self, place: usize) -> &mut u64
+        requires { place < length self.old }
+        ensures* writes_back { sem 𝓛 (bits_lend A.row A.Allocator self.entry place result) }
+        ensures word { IsWordOf self.old place result.now }
     {
-        self.words[place / BITS]
+        &mut self.words[place / BITS]
     }
 
     /// Takes the mark of a place away. No other place changes.
@@ -54,20 +67,8 @@ impl<A: Allocator> Bits<A> {
         requires { place < length self.old }
         ensures { self.new ≡ slice_set self.old place false }
     {
-        let word = self.word(place);
-        self.clear_in(place, word);
-    }
-
-    /// Takes the mark of a place away, whose word is at hand. No other place changes. Where the word
-    /// was read well before, the bit is cleared in a register by one instruction; in memory it takes
-    /// a mask that is rotated.
-    #[inline(always)]
-    pub(crate) fn clear_in(&mut self, place: usize, word: u64)
-        requires within { place < length self.old }
-        requires word { IsWordOf self.old place word }
-        ensures { self.new ≡ slice_set self.old place false }
-    {
-        self.words[place / BITS] = word & !(1 << (place % BITS));
+        let word = self.word_mut(place);
+        *word = without(*word, place);
     }
 
     /// Takes all marks away.

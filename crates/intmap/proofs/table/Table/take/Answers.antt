@@ -3,7 +3,7 @@ use Rattle.std.specs.Prelude.{nat_lt}
 use Rattle.intmap.specs.Classes.{slot_number}
 use Rattle.intmap.specs.Reach.{reach}
 use Rattle.intmap.specs.Slots.{Grid, IsTable}
-use Rattle.intmap.proofs.FilledLemmas.{filled-bound, marks-set, marks-kept}
+use Rattle.intmap.proofs.FilledLemmas.{filled-bound, mark-below, marks-without, marks-with}
 use Rattle.intmap.proofs.TableLemmas.{IsSlot, reach-here, value_of-here, swap_out-missing, walk-taken, Belong-taken, IsTable-set}
 use Rattle.intmap.proofs.table.Table.take.Goals as goal
 use Rattle.intmap.proofs.table.Table.take.Goals.{After-take, then-emptied, else-emptied}
@@ -31,8 +31,24 @@ invariant_of-self g c =
     let same = sym (c.take.ensures.pairs ∙ swap_out-missing _ _ _ _ _ (here g after) none) in
     record {
       table = table g after;
-      marks = marks-kept _ _ _ _ _ (here g after) c.self.inside.bits c.self.invariant.marks c.take.new.self (ap (λ ps. nat_lt 0 (length ps)) same);
+      marks = marks-with _ _ _ _ _ (here g after) c.self.inside.bits c.self.invariant.marks c.take.new.self _ c.word_mut-word.ensures.word (ap (λ ps. nat_lt 0 (length ps)) same);
     }
+
+pub invariant_of-self-2 : goal.invariant_of-self-2
+invariant_of-self-2 g c =
+    let after = (goal.at.invariant_of-self-2 g c).After-take in
+    let at = here g after in
+    let bits = c.self.inside.bits in let marks = c.self.invariant.marks in
+    elim c.if-emptied.branch [
+      | then-emptied w ↦ (
+          let empty : false ≡ nat_lt 0 (length c.take.new.self.pairs) = let told = c.in-Some.ensures.emptied in let yes = w.if-emptied.true in grind (arith, told, yes) in
+          let word = w.without.ensures bits (mark-below _ _ _ _ _ at bits marks) c.word_mut-word.ensures.word in
+          rw w.self-inside-is (record { table = table g after; marks = marks-without _ _ _ _ _ at bits marks c.take.new.self _ word empty }))
+      | else-emptied w ↦ (
+          let filled : true ≡ nat_lt 0 (length c.take.new.self.pairs) = let told = c.in-Some.ensures.emptied in let no = w.if-emptied.false in grind (arith, told, no) in
+          let before = filled-bound g.K.IntKey.number_of c.index_mut-slot.result.now.pairs c.args.key.now c.in-Some.value c.in-Some.ensures.value in
+          rw w.self-inside-is (record { table = table g after; marks = marks-with _ _ _ _ _ at bits marks c.take.new.self _ c.word_mut-word.ensures.word (before ∙ filled) }))
+    ]
 
 pub returns-in_default-clause-value : goal.returns-in_default-clause-value
 returns-in_default-clause-value g c =
@@ -47,25 +63,6 @@ returns-in_default-clause-walk g c =
 pub returns-in_default-clause-counted : goal.returns-in_default-clause-counted
 returns-in_default-clause-counted g c = counted g (goal.at.returns-in_default-clause-counted g c).After-take
 
-pub invariant_of-self-then-emptied : goal.invariant_of-self-then-emptied
-invariant_of-self-then-emptied g c =
-    let after = (goal.at.invariant_of-self-then-emptied g c).After-take in
-    let empty : false ≡ nat_lt 0 (length c.take.new.self.pairs) = let told = c.in-Some.ensures.emptied in let yes = c.if-emptied.true in grind (arith, told, yes) in
-    record {
-      table = table g after;
-      marks = rw c.clear_in.ensures (marks-set _ _ _ _ _ (here g after) c.self.inside.bits c.self.invariant.marks c.take.new.self false empty);
-    }
-
-pub invariant_of-self-else-emptied : goal.invariant_of-self-else-emptied
-invariant_of-self-else-emptied g c =
-    let after = (goal.at.invariant_of-self-else-emptied g c).After-take in
-    let filled : true ≡ nat_lt 0 (length c.take.new.self.pairs) = let told = c.in-Some.ensures.emptied in let no = c.if-emptied.false in grind (arith, told, no) in
-    let before = filled-bound g.K.IntKey.number_of c.index_mut-slot.result.now.pairs c.args.key.now c.in-Some.value c.in-Some.ensures.value in
-    record {
-      table = table g after;
-      marks = marks-kept _ _ _ _ _ (here g after) c.self.inside.bits c.self.invariant.marks c.take.new.self (before ∙ filled);
-    }
-
 pub returns-clause-value : goal.returns-clause-value
 returns-clause-value g c =
     let at = here g (goal.at.returns-clause-value g c).After-take in
@@ -76,8 +73,8 @@ returns-clause-walk g c =
     let at = here g (goal.at.returns-clause-walk g c).After-take in
     let walk = walk-taken _ _ _ _ _ at c.take.new.self c.take.ensures.pairs in
     elim c.if-emptied.branch [
-      | then-emptied w ↦ rw (w.self-is, ← c.self.view_is) walk
-      | else-emptied w ↦ rw (w.self-is, ← c.self.view_is) walk
+      | then-emptied w ↦ rw (w.self-inside-is, ← c.self.view_is) walk
+      | else-emptied w ↦ rw (w.self-inside-is, ← c.self.view_is) walk
     ]
 
 pub returns-clause-counted : goal.returns-clause-counted

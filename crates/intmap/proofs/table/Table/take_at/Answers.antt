@@ -1,15 +1,15 @@
-use Rattle.std.proofs.Common.{◌≡◌, ◌∙◌, Some, length, set, false, sym, ap}
+use Rattle.std.proofs.Common.{◌≡◌, ◌∙◌, Some, length, set, sym, ap}
 use Rattle.intmap.specs.Bindings.{swap_out, value_of}
 use Rattle.intmap.specs.Classes.{same_key}
 use Rattle.intmap.specs.Locations.{IsAt}
 use Rattle.intmap.specs.Slots.{rows, joined, IsTable}
-use Rattle.intmap.proofs.FilledLemmas.{filled-bound, marks-set, marks-kept}
+use Rattle.intmap.proofs.FilledLemmas.{filled-bound, mark-below, marks-without, marks-with}
 use Rattle.intmap.proofs.LocationLemmas.{slot-at, place-at, place-within}
 use Rattle.intmap.proofs.PositionLemmas.{swap_remove-position, first_value-position}
 use Rattle.intmap.proofs.SwapOutLemmas.{any}
 use Rattle.intmap.proofs.TableLemmas.{IsSlot, value_of-here, walk-taken, Belong-taken, IsTable-set}
 use Rattle.intmap.proofs.table.Table.take_at.Goals as goal
-use Rattle.intmap.proofs.table.Table.take_at.Goals.{After-take_at-value}
+use Rattle.intmap.proofs.table.Table.take_at.Goals.{After-take_at-value, then-not-is_filled, else-not-is_filled}
 
 module _ (g : _) (c : After-take_at-value g) where
   located : IsAt g.K.IntKey.number_of (joined (rows c.self.inside.slots.items)) (length c.self.inside.slots.items) c.args.at
@@ -41,36 +41,27 @@ take_at-value-requires g c =
 pub invariant_of-self : goal.invariant_of-self
 invariant_of-self g c =
     let after = (goal.at.invariant_of-self g c).After-take_at-value in
-    record {
-      table = table g after;
-      marks = rw c.clear_in.ensures (marks-set _ _ _ _ _ (slot g after) c.self.inside.bits c.self.invariant.marks c.take_at-value.new.self false c.if-not-is_filled.ensures);
-    }
+    let at = slot g after in
+    let bits = c.self.inside.bits in let marks = c.self.invariant.marks in
+    elim c.if-not-is_filled.branch [
+      | then-not-is_filled w ↦ (
+          let word = w.without.ensures bits (mark-below _ _ _ _ _ at bits marks) c.word_mut-word.ensures.word in
+          rw w.self-inside-is (record { table = table g after; marks = marks-without _ _ _ _ _ at bits marks c.take_at-value.new.self _ word w.if-not-is_filled.ensures }))
+      | else-not-is_filled w ↦ (
+          let before = filled-bound g.K.IntKey.number_of c.index_mut-slot.result.now.pairs c.args.at.key c.take_at-value.result.1 (bound g after) in
+          rw w.self-inside-is (record { table = table g after; marks = marks-with _ _ _ _ _ at bits marks c.take_at-value.new.self _ c.word_mut-word.ensures.word (before ∙ w.if-not-is_filled.ensures) }))
+    ]
 
-pub invariant_of-self-else-not-is_filled : goal.invariant_of-self-else-not-is_filled
-invariant_of-self-else-not-is_filled g c =
-    let after = (goal.at.invariant_of-self-else-not-is_filled g c).After-take_at-value in
-    let before = filled-bound g.K.IntKey.number_of c.index_mut-slot.result.now.pairs c.args.at.key c.take_at-value.result.1 (bound g after) in
-    record {
-      table = table g after;
-      marks = marks-kept _ _ _ _ _ (slot g after) c.self.inside.bits c.self.invariant.marks c.take_at-value.new.self (before ∙ c.if-not-is_filled.ensures);
-    }
-
-pub returns-then-not-is_filled-clause-value : goal.returns-then-not-is_filled-clause-value
-returns-then-not-is_filled-clause-value g c =
-    let after = (goal.at.returns-then-not-is_filled-clause-value g c).After-take_at-value in
+pub returns-clause-value : goal.returns-clause-value
+returns-clause-value g c =
+    let after = (goal.at.returns-clause-value g c).After-take_at-value in
     rw (← c.self.view_is) (value_of-here _ _ _ _ _ (slot g after) ∙ bound g after)
 
-pub returns-then-not-is_filled-clause-walk : goal.returns-then-not-is_filled-clause-walk
-returns-then-not-is_filled-clause-walk g c =
-    let after = (goal.at.returns-then-not-is_filled-clause-walk g c).After-take_at-value in
-    rw (← c.self.view_is) (walk-taken _ _ _ _ _ (slot g after) c.take_at-value.new.self (taken g after))
-
-pub returns-else-not-is_filled-clause-value : goal.returns-else-not-is_filled-clause-value
-returns-else-not-is_filled-clause-value g c =
-    let after = (goal.at.returns-else-not-is_filled-clause-value g c).After-take_at-value in
-    rw (← c.self.view_is) (value_of-here _ _ _ _ _ (slot g after) ∙ bound g after)
-
-pub returns-else-not-is_filled-clause-walk : goal.returns-else-not-is_filled-clause-walk
-returns-else-not-is_filled-clause-walk g c =
-    let after = (goal.at.returns-else-not-is_filled-clause-walk g c).After-take_at-value in
-    rw (← c.self.view_is) (walk-taken _ _ _ _ _ (slot g after) c.take_at-value.new.self (taken g after))
+pub returns-clause-walk : goal.returns-clause-walk
+returns-clause-walk g c =
+    let after = (goal.at.returns-clause-walk g c).After-take_at-value in
+    let walk = walk-taken _ _ _ _ _ (slot g after) c.take_at-value.new.self (taken g after) in
+    elim c.if-not-is_filled.branch [
+      | then-not-is_filled w ↦ rw (w.self-inside-is, ← c.self.view_is) walk
+      | else-not-is_filled w ↦ rw (w.self-inside-is, ← c.self.view_is) walk
+    ]
