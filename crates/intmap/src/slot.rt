@@ -1,25 +1,25 @@
 //! One slot of a table: the first pair in its place, the rest behind it.
-ghost use Rattle.std.specs.Prelude.{◌≡◌, ◌+◌, ◌^◌, ◌<◌, ◌≤◌, ◌==◌, [], ◌∷◌, ◌++◌, length, reverse, position, swap_remove, slice_index_or, nat_lt, vec_capacity, cond, true, false, None, Some, OnOk, OnErr, IfOk, IfErr, IfSome, IfNone, option_copied};
+ghost use Rattle.std.specs.Prelude.{◌≡◌, ◌+◌, ◌^◌, ◌<◌, [], ◌∷◌, length, reverse, position, slice_index_or, nat_lt, cond, IfOk, IfErr, IfSome, IfNone, option_copied};
 ghost use Rattle.intmap.specs.Classes.{same_key};
-ghost use Rattle.intmap.specs.Bindings.{swap_out, value_of};
+ghost use Rattle.intmap.specs.Bindings.{value_of};
 ghost use Rattle.intmap.specs.Reach.{through_first};
-ghost use Rattle.intmap.specs.Slots.{all_pairs, first_pair, held_pairs, IsFilledInOrder};
+ghost use Rattle.intmap.specs.Slots.{all_pairs, IsFilledInOrder};
 
 mod clone;
 mod each;
 mod first;
 mod in_order;
+mod put;
 mod search;
+mod take;
 
 use crate::key::IntKey;
 use crate::steps::Steps;
 use crate::table::stored::Stored;
 use first::{First, set_in_order};
-use in_order::{replace_in, replace_lone, take_in};
 use search::{find_back_in, find_behind, find_in};
-use std::alloc::{AllocError, Allocator};
+use std::alloc::Allocator;
 use std::marker::Model;
-use std::mem;
 
 /// Pairs in order, with the room that there is for them. One pair takes no memory of its own. When
 /// pairs are taken out from the front, each in one step, those behind the first one lie the last
@@ -220,135 +220,6 @@ impl<K: IntKey, X, A: Allocator> Slot<K, X, A> {
             _ => 1 + self.rest.len(),
         }
     }
-
-    /// Takes the first of several pairs out. The last pair takes its place.
-    #[inline(always)]
-    fn take_first(&mut self) -> (Stored<K>, X)
-        requires { 1 < length self.old.pairs }
-        ensures value { result ≡ slice_index_or self.old.pairs 0 result }
-        ensures left { 0 < length self.new.pairs }
-        ensures pairs { self.new.pairs ≡ swap_remove self.old.pairs 0 result }
-    {
-        set_in_order(&mut self.first, &mut self.rest);
-        let Some(last) = self.rest.pop() else {
-            unreachable!();
-        };
-        let next = First::new(last, self.rest.is_empty());
-        match mem::replace(&mut self.first, next).into_pair() {
-            Some(pair) => pair,
-            None => unreachable!(),
-        }
-    }
-
-    /// Takes the pair out that has no other beside it. Where there is none, or where there are more,
-    /// it answers `None` and changes nothing.
-    #[inline(always)]
-    pub(crate) fn take_lone(&mut self) -> Option<(Stored<K>, X)>
-        ensures lone { IfSome result (λ pair. self.old.pairs ≡ pair ∷ []) }
-        ensures emptied { IfSome result (λ pair. self.new.pairs ≡ []) }
-        ensures not_lone { IfNone result (length self.old.pairs ≡ 1 → ⊥) }
-        ensures others { IfNone result (self.new.pairs ≡ self.old.pairs) }
-    {
-        if !self.first.is_lone() {
-            return None;
-        }
-        self.first.take()
-    }
-
-    /// Takes the first pair out. The others keep their order, and lie the last first from then on,
-    /// so that they are turned round once and then taken out in one step each.
-    pub(crate) fn take_front(&mut self) -> (Stored<K>, X)
-        requires { 0 < length self.old.pairs }
-        ensures { self.old.pairs ≡ result ∷ self.new.pairs }
-    {
-        if !self.first.is_turned() {
-            self.rest.reverse();
-        }
-        let next = match self.rest.pop() {
-            Some(pair) => {
-                if self.rest.is_empty() {
-                    First::Lone(pair)
-                } else {
-                    First::Turned(pair)
-                }
-            }
-            None => First::Empty,
-        };
-        match mem::replace(&mut self.first, next).into_pair() {
-            Some(pair) => pair,
-            None => unreachable!(),
-        }
-    }
-
-    /// Takes the pair at a place out. The last pair takes its place.
-    pub(crate) fn take_at(&mut self, place: usize) -> (Stored<K>, X)
-        requires { place < length self.old.pairs }
-        ensures value { result ≡ slice_index_or self.old.pairs place result }
-        ensures pairs { self.new.pairs ≡ swap_remove self.old.pairs place result }
-    {
-        if let Some(pair) = self.take_lone() {
-            return pair;
-        }
-        if place > 0 {
-            set_in_order(&mut self.first, &mut self.rest);
-            let pair = self.rest.swap_remove(place - 1);
-            self.first.set_lone(self.rest.is_empty());
-            return pair;
-        }
-        self.take_first()
-    }
-
-    /// Takes the pair of the key out, and the last pair takes its place. The keys are compared as
-    /// by [`get`](Slot::get). Beside the value it answers whether no pair is left.
-    #[inline(always)]
-    pub(crate) fn take(&mut self, key: &K, steps: &mut Steps) -> Option<(X, bool)>
-        ensures value { IfSome result (λ taken.
-            value_of K.number_of self.old.pairs key.now ≡ Some taken.0) }
-        ensures missing { IfNone result (value_of K.number_of self.old.pairs key.now ≡ None) }
-        ensures emptied { IfSome result (λ taken. taken.1 ≡ (length self.new.pairs == 0)) }
-        ensures pairs { self.new.pairs
-            ≡ swap_out (λ p. same_key K.number_of key.now p.0) (λ p. true) self.old.pairs }
-        ensures counted { steps.new ≡ steps.old
-            + length (through_first (λ p. same_key K.number_of key.now p.0) self.old.pairs) }
-    {
-        let Some(first) = self.first.pair() else {
-            return None;
-        };
-        if first.0.matches(key, steps) {
-            if let Some((_, value)) = self.take_lone() {
-                return Some((value, true));
-            }
-            let (_, value) = self.take_first();
-            return Some((value, false));
-        }
-        if self.first.is_lone() {
-            return None;
-        }
-        match self.take_behind(*key, steps) {
-            Some(value) => Some((value, false)),
-            None => None,
-        }
-    }
-
-    /// Takes the pair of the key out of those behind the first one, whose key is another. The last
-    /// pair takes its place. The keys are compared in order up to it, each by one step.
-    #[inline(never)]
-    fn take_behind(&mut self, key: K, steps: &mut Steps) -> Option<X>
-        requires several { 1 < length self.old.pairs }
-        requires other { (p : K × X)
-            → same_key K.number_of key (slice_index_or self.old.pairs 0 p).0 ≡ false }
-        ensures value { result ≡ value_of K.number_of self.old.pairs key }
-        ensures left { 0 < length self.new.pairs }
-        ensures pairs { self.new.pairs
-            ≡ swap_out (λ p. same_key K.number_of key p.0) (λ p. true) self.old.pairs }
-        ensures counted { steps.new + 1 ≡ steps.old
-            + length (through_first (λ p. same_key K.number_of key p.0) self.old.pairs) }
-    {
-        set_in_order(&mut self.first, &mut self.rest);
-        let value = take_in(&mut self.rest, &key, steps);
-        self.first.set_lone(self.rest.is_empty());
-        value
-    }
 }
 
 impl<K: IntKey, X: Drop, A: Allocator> Slot<K, X, A> {
@@ -370,106 +241,6 @@ impl<K: IntKey, X: Drop, A: Allocator> Slot<K, X, A> {
         match first {
             First::Lone(pair) => Ok(pair),
             first => Err(Slot { first, rest }),
-        }
-    }
-
-    /// Makes room for so many pairs behind the first, and takes memory for exactly those. It is
-    /// refused where that is.
-    #[inline(never)]
-    pub(crate) fn reserve_behind(&mut self, count: usize) -> Result<(), AllocError>
-        ensures pairs { self.new.pairs ≡ self.old.pairs }
-        ensures room { OnOk result (count < self.new.room) }
-    {
-        self.rest.reserve_exact(count)
-    }
-
-    /// Puts the first pair into a slot without one. It takes no memory.
-    #[inline(always)]
-    pub(crate) fn put_first(&mut self, pair: (Stored<K>, X))
-        requires { self.old.pairs ≡ [] }
-        ensures pairs { self.new.pairs ≡ pair ∷ [] }
-        ensures room { self.new.room ≡ self.old.room }
-    {
-        self.first = First::Lone(pair);
-    }
-
-    /// Adds a pair behind others, where there is room for it.
-    #[inline(always)]
-    pub(crate) fn push_reserved(&mut self, pair: (Stored<K>, X))
-        requires filled { 0 < length self.old.pairs }
-        requires room { length self.old.pairs < self.old.room }
-        ensures pairs { self.new.pairs ≡ self.old.pairs ++ pair ∷ [] }
-        ensures room { self.new.room ≡ self.old.room }
-    {
-        set_in_order(&mut self.first, &mut self.rest);
-        self.first.set_lone(false);
-        self.rest.push_reserved(pair);
-    }
-
-    /// Adds a pair behind others. The second pair takes memory for itself alone. Where memory is
-    /// refused, the value comes back.
-    #[inline(never)]
-    pub(crate) fn push(&mut self, key: K, value: X) -> Result<(), X>
-        requires { 0 < length self.old.pairs }
-        ensures ok { OnOk result (self.new.pairs ≡ self.old.pairs ++ (key, value) ∷ []) }
-        ensures err { OnErr result (self.new.pairs ≡ self.old.pairs) }
-        ensures value_returned { IfErr result (λ returned. returned ≡ value) }
-    {
-        set_in_order(&mut self.first, &mut self.rest);
-        let room = if self.rest.is_empty() {
-            self.rest.reserve_exact(1)
-        } else {
-            self.rest.reserve(1)
-        };
-        if room.is_err() {
-            return Err(value);
-        }
-        self.first.set_lone(false);
-        self.rest.push_reserved((Stored::new(key), value));
-        Ok(())
-    }
-
-    /// Where the key is bound, takes its pair out, puts the last pair in its place, and adds the new
-    /// one at the end, which takes no memory. Where it isn't, the new value comes back. A slot of one
-    /// pair or none makes no call.
-    #[inline(always)]
-    pub(crate) fn replace(&mut self, key: K, value: X, steps: &mut Steps) -> Result<X, X>
-        ensures old { IfOk result (λ old. value_of K.number_of self.old.pairs key ≡ Some old) }
-        ensures ok { OnOk result (self.new.pairs
-            ≡ swap_out (λ p. same_key K.number_of key p.0) (λ p. true) self.old.pairs
-            ++ (key, value) ∷ []) }
-        ensures missing { OnErr result (value_of K.number_of self.old.pairs key ≡ None) }
-        ensures err { OnErr result (self.new.pairs ≡ self.old.pairs) }
-        ensures value_returned { IfErr result (λ returned. returned ≡ value) }
-        ensures counted { steps.new ≡ steps.old
-            + length (through_first (λ p. same_key K.number_of key p.0) self.old.pairs) }
-    {
-        match &mut self.first {
-            First::Empty => return Err(value),
-            First::Lone(pair) => return replace_lone(pair, key, value, steps),
-            _ => (),
-        }
-        self.replace_among(key, value, steps)
-    }
-
-    /// Replaces the key's pair, as [`replace`](Slot::replace) does, in a slot of several.
-    #[inline(never)]
-    fn replace_among(&mut self, key: K, value: X, steps: &mut Steps) -> Result<X, X>
-        requires several { 1 < length self.old.pairs }
-        ensures old { IfOk result (λ old. value_of K.number_of self.old.pairs key ≡ Some old) }
-        ensures ok { OnOk result (self.new.pairs
-            ≡ swap_out (λ p. same_key K.number_of key p.0) (λ p. true) self.old.pairs
-            ++ (key, value) ∷ []) }
-        ensures missing { OnErr result (value_of K.number_of self.old.pairs key ≡ None) }
-        ensures err { OnErr result (self.new.pairs ≡ self.old.pairs) }
-        ensures value_returned { IfErr result (λ returned. returned ≡ value) }
-        ensures counted { steps.new ≡ steps.old
-            + length (through_first (λ p. same_key K.number_of key p.0) self.old.pairs) }
-    {
-        set_in_order(&mut self.first, &mut self.rest);
-        match &mut self.first {
-            First::InOrder(first) => replace_in(first, &mut self.rest, key, value, steps),
-            _ => unreachable!(),
         }
     }
 }
