@@ -6,6 +6,7 @@ pub mod WalkLemmas
 pub mod RewrittenLemmas
 pub mod LocationLemmas
 pub mod PositionLemmas
+pub mod LastLemmas
 pub mod GrowthLemmas
 pub mod DistinctLemmas
 pub mod LoadLemmas

@@ -1,4 +1,4 @@
--- What a slot, a table and a map end as, once values of theirs were lent and written.
+-- What words of marks, a slot, a table and a map end as, once values of theirs were lent and written.
 use Rattle.std.specs.Prelude.{ℕ, Bool, List, Option}
 use Rattle.std.specs.Borrow.{Lends, LendsIf, follows, Fml, RattleType, MutBor, GName, u64}
 use Rattle.std.specs.Map.{values_of}

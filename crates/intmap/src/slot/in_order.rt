@@ -1,5 +1,5 @@
 //! Pairs in order, of which the first stands apart from the others: taken out, and replaced.
-ghost use Rattle.std.specs.Prelude.{◌≡◌, ◌+◌, ◌<◌, [], ◌∷◌, ◌++◌, length, swap_remove, true, None, Some, OnOk, OnErr, IfOk, IfErr};
+ghost use Rattle.std.specs.Prelude.{◌≡◌, ◌+◌, ◌<◌, [], ◌∷◌, ◌++◌, length, swap_remove, vec_capacity, true, None, Some, OnOk, OnErr, IfOk, IfErr, IfSome, IfNone};
 ghost use Rattle.intmap.specs.Classes.{same_key};
 ghost use Rattle.intmap.specs.Bindings.{swap_out, value_of};
 ghost use Rattle.intmap.specs.Reach.{through_first};
@@ -12,7 +12,8 @@ use std::alloc::Allocator;
 use std::mem;
 
 /// Takes the pair of the key out, and the last pair takes its place. The pairs are compared from
-/// the front up to it, each by one step.
+/// the front up to it, each by one step. The last is compared apart from the others, so that their
+/// loop counts nothing but what is left.
 pub(super) fn take_in<K: IntKey, X, A: Allocator>(
     pairs: &mut Vec<(Stored<K>, X), A>,
     key: &K,
@@ -21,14 +22,29 @@ pub(super) fn take_in<K: IntKey, X, A: Allocator>(
     ensures value { result ≡ value_of K.number_of pairs.old.items key.now }
     ensures pairs { pairs.new.items
         ≡ swap_out (λ p. same_key K.number_of key.now p.0) (λ p. true) pairs.old.items }
+    ensures len { IfSome result (λ value. length pairs.new.items + 1 ≡ length pairs.old.items) }
+    ensures others { IfNone result (pairs.new.items ≡ pairs.old.items) }
+    ensures room { vec_capacity pairs.new ≡ vec_capacity pairs.old }
     ensures counted { steps.new ≡ steps.old
         + length (through_first (λ p. same_key K.number_of key.now p.0) pairs.old.items) }
 {
-    let Some(place) = find_in(pairs, key, steps) else {
+    let Some((last, others)) = pairs.split_last() else {
         return None;
     };
-    let (_, value) = pairs.swap_remove(place);
-    Some(value)
+    if let Some(place) = find_in(others, key, steps) {
+        let Some(last) = pairs.pop() else {
+            unreachable!();
+        };
+        let (_, value) = mem::replace(&mut pairs[place], last);
+        return Some(value);
+    }
+    if !last.0.matches(key, steps) {
+        return None;
+    }
+    match pairs.pop() {
+        Some((_, value)) => Some(value),
+        None => unreachable!(),
+    }
 }
 
 /// Puts a new pair in the place of the only one, where that is the key's. Where it isn't, the new
@@ -104,10 +120,9 @@ pub(super) fn replace_in<K: IntKey, X: Drop, A: Allocator>(
         let (_, old) = replace_first(first, rest, (Stored::new(key), value));
         return Ok(old);
     }
-    let Some(place) = find_in(rest, &key, steps) else {
+    let Some(old) = take_in(rest, &key, steps) else {
         return Err(value);
     };
-    let (_, old) = rest.swap_remove(place);
     rest.push_reserved((Stored::new(key), value));
     Ok(old)
 }

@@ -3,6 +3,7 @@ ghost use Rattle.std.specs.Prelude.{◌≡◌, ◌+◌, ◌<◌, ◌==◌, [], �
 ghost use Rattle.intmap.specs.Classes.{same_key};
 ghost use Rattle.intmap.specs.Bindings.{swap_out, value_of};
 ghost use Rattle.intmap.specs.Reach.{through_first};
+ghost use Rattle.intmap.specs.Slots.{held_pairs, is_turned, AreOthers};
 
 use crate::key::IntKey;
 use crate::slot::Slot;
@@ -13,6 +14,45 @@ use crate::table::stored::Stored;
 use std::alloc::Allocator;
 use std::mem;
 
+/// Takes the first of several pairs out, behind which the others lie in order. The last takes its
+/// place.
+#[inline(always)]
+fn take_first_in<P, A: Allocator>(first: &mut First<P>, rest: &mut Vec<P, A>) -> P
+    requires ordered { is_turned first.old ≡ false }
+    requires others { AreOthers first.old rest.old.items }
+    requires several { 1 < length (held_pairs first.old rest.old.items) }
+    ensures value { result ≡ slice_index_or (held_pairs first.old rest.old.items) 0 result }
+    ensures others { AreOthers first.new rest.new.items }
+    ensures left { 0 < length (held_pairs first.new rest.new.items) }
+    ensures pairs { held_pairs first.new rest.new.items
+        ≡ swap_remove (held_pairs first.old rest.old.items) 0 result }
+{
+    let Some(last) = rest.pop() else {
+        unreachable!();
+    };
+    let next = First::new(last, rest.is_empty());
+    match mem::replace(first, next).into_pair() {
+        Some(pair) => pair,
+        None => unreachable!(),
+    }
+}
+
+/// Puts the others in order, and takes the first of several pairs out. The last takes its place.
+#[cold]
+#[inline(never)]
+fn turn_and_take_first<P, A: Allocator>(first: &mut First<P>, rest: &mut Vec<P, A>) -> P
+    requires others { AreOthers first.old rest.old.items }
+    requires several { 1 < length (held_pairs first.old rest.old.items) }
+    ensures value { result ≡ slice_index_or (held_pairs first.old rest.old.items) 0 result }
+    ensures others { AreOthers first.new rest.new.items }
+    ensures left { 0 < length (held_pairs first.new rest.new.items) }
+    ensures pairs { held_pairs first.new rest.new.items
+        ≡ swap_remove (held_pairs first.old rest.old.items) 0 result }
+{
+    set_in_order(first, rest);
+    take_first_in(first, rest)
+}
+
 impl<K: IntKey, X, A: Allocator> Slot<K, X, A> {
     /// Takes the first of several pairs out. The last pair takes its place.
     #[inline(always)]
@@ -22,15 +62,10 @@ impl<K: IntKey, X, A: Allocator> Slot<K, X, A> {
         ensures left { 0 < length self.new.pairs }
         ensures pairs { self.new.pairs ≡ swap_remove self.old.pairs 0 result }
     {
-        set_in_order(&mut self.first, &mut self.rest);
-        let Some(last) = self.rest.pop() else {
-            unreachable!();
-        };
-        let next = First::new(last, self.rest.is_empty());
-        match mem::replace(&mut self.first, next).into_pair() {
-            Some(pair) => pair,
-            None => unreachable!(),
+        if self.first.is_turned() {
+            return turn_and_take_first(&mut self.first, &mut self.rest);
         }
+        take_first_in(&mut self.first, &mut self.rest)
     }
 
     /// Takes the pair out that has no other beside it. Where there is none, or where there are more,

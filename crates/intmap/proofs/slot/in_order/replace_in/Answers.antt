@@ -1,12 +1,11 @@
-use Rattle.std.proofs.Common.{[], ◌∷◌, ◌++◌, Some, refl, ap, sym, ◌∙◌}
+use Rattle.std.proofs.Common.{[], ◌∷◌, ◌++◌, refl, ap, sym, ◌∙◌}
 use Rattle.intmap.specs.Classes.{same_key}
-use Rattle.intmap.proofs.PositionLemmas.{swap_remove-position, first_value-position, first_value-none}
 use Rattle.intmap.proofs.SlotLemmas.{swap_remove-first, IsBehind, behind}
 use Rattle.intmap.proofs.slot.in_order.replace_in.Goals as goal
-use Rattle.intmap.proofs.slot.in_order.replace_in.Goals.{After-find_in}
+use Rattle.intmap.proofs.slot.in_order.replace_in.Goals.{After-take_in}
 
 -- the first pair isn't the key's, so the rest was searched
-rest : (g : _) (c : After-find_in g) → IsBehind (same_key g.K.IntKey.number_of c.args.key) (c.args.first.now ∷ c.args.rest.now.items) c.args.first.now c.args.rest.now.items refl
+rest : (g : _) (c : After-take_in g) → IsBehind (same_key g.K.IntKey.number_of c.args.key) (c.args.first.now ∷ c.args.rest.now.items) c.args.first.now c.args.rest.now.items refl
 rest g c = behind _ _ _ _ refl (sym c.matches.ensures.same ∙ c.if-matches.false)
 
 pub returns-then-matches-clause-ok : goal.returns-then-matches-clause-ok
@@ -17,20 +16,16 @@ returns-then-matches-clause-ok g c =
 
 pub returns-in_default-clause-missing : goal.returns-in_default-clause-missing
 returns-in_default-clause-missing g c =
-    let at = (goal.at.returns-in_default-clause-missing g c).After-find_in in
-    (rest g at).value ∙ first_value-none _ c.args.rest.now.items (rw c.deref.ensures.value at (sym c.find_in.ensures.place) ∙ c.in_default.is)
+    let at = (goal.at.returns-in_default-clause-missing g c).After-take_in in
+    (rest g at).value ∙ sym c.in_default.ensures.value
 
 pub returns-clause-old : goal.returns-clause-old
 returns-clause-old g c =
-    let at = (goal.at.returns-clause-old g c).After-find_in in
-    let place = rw c.deref.ensures.value at (sym c.find_in.ensures.place) ∙ c.in-Some.is in
-    (rest g at).value ∙ first_value-position _ c.args.rest.now.items c.in-Some.place c.swap_remove-old.result place
-    ∙ ap (λ (p : g.row.K.Denot × g.row.X.Denot). Some p.1) (sym c.swap_remove-old.ensures.value)
+    let at = (goal.at.returns-clause-old g c).After-take_in in
+    (rest g at).value ∙ sym c.in-Some.ensures.value
 
 pub returns-clause-ok : goal.returns-clause-ok
 returns-clause-ok g c =
-    let at = (goal.at.returns-clause-ok g c).After-find_in in
-    let place = rw c.deref.ensures.value at (sym c.find_in.ensures.place) ∙ c.in-Some.is in
-    let taken = swap_remove-position _ c.args.rest.now.items c.in-Some.place c.swap_remove-old.result place c.swap_remove-old.ensures.value in
-    rw (c.push_reserved.ensures.items, c.new-2.ensures.value, c.swap_remove-old.ensures.items, (rest g at).taken)
-    (ap (λ ps. c.args.first.now ∷ (ps ++ (c.args.key, c.args.value) ∷ [])) taken)
+    let at = (goal.at.returns-clause-ok g c).After-take_in in
+    rw (c.push_reserved.ensures.items, c.new-2.ensures.value, (rest g at).taken)
+    (ap (λ ps. c.args.first.now ∷ (ps ++ (c.args.key, c.args.value) ∷ [])) c.take_in.ensures.pairs)
