@@ -25,6 +25,7 @@ pub mod DrainLemmas
 pub mod KeepLemmas
 pub mod MappedLemmas
 pub mod MoveLemmas
+pub mod OldSlotsLemmas
 pub mod RegroupLemmas
 pub mod MapLemmas
 pub mod WriteLemmas

@@ -306,7 +306,7 @@ module _ {T Z : Type 0} where
     pub len : into_iter_len s + i ≡ length l
 
   -- where there is a place there is an element
-  pub IsLeft-some : (l : List T) (i : ℕ) (s t : IntoIter T Z) → IsLeft l i s → into_iter_steps s None t → i < length l → ⊥
+  IsLeft-some : (l : List T) (i : ℕ) (s t : IntoIter T Z) → IsLeft l i s → into_iter_steps s None t → i < length l → ⊥
   IsLeft-some l i s t left steps below = let len = left.len in let none = steps.0 in omega (arith, len, none, below)
 
   -- the next element is the one at the place

@@ -16,7 +16,7 @@ use Rattle.intmap.proofs.RetainLemmas.{Retains-append, length-Retains, All-Retai
 use Rattle.intmap.proofs.TableLemmas.{length-rows}
 
 module _ {P : Type 0} where
-  joined-drop : (i : ℕ) (R : List (List P)) → joined (drop i R) ≡ get_or R i [] ++ joined (drop (suc i) R)
+  pub joined-drop : (i : ℕ) (R : List (List P)) → joined (drop i R) ≡ get_or R i [] ++ joined (drop (suc i) R)
   joined-drop zero [] = refl
   joined-drop zero (row ∷ R) = refl
   joined-drop (suc i) [] = refl
@@ -29,7 +29,7 @@ module _ {P : Type 0} where
   joined-take (suc i) (row ∷ R) = ap (λ Z. row ++ Z) (joined-take i R) ∙ sym (append_assoc row (joined (take i R)) (get_or R i []))
 
   -- rows without pairs are passed over
-  joined-drop_past : (n i : ℕ) (R : List (List P)) → ((j : ℕ) → i ≤ j → j < i + n → get_or R j [] ≡ []) → joined (drop i R) ≡ joined (drop (i + n) R)
+  pub joined-drop_past : (n i : ℕ) (R : List (List P)) → ((j : ℕ) → i ≤ j → j < i + n → get_or R j [] ≡ []) → joined (drop i R) ≡ joined (drop (i + n) R)
   joined-drop_past zero i R empty = rw add-zero refl
   joined-drop_past (suc n) i R empty =
       let on : suc i + n ≡ i + suc n = omega arith in
@@ -49,7 +49,7 @@ module _ {P : Type 0} where
   joined-cut i R = ap joined (sym (take-append-drop i R)) ∙ flat_map-append (λ row. row) (take i R) (drop i R)
 
   -- where no row holds a pair from place i on
-  joined-none : (i : ℕ) (R : List (List P)) → ((j : ℕ) → i ≤ j → get_or R j [] ≡ []) → joined (drop i R) ≡ []
+  pub joined-none : (i : ℕ) (R : List (List P)) → ((j : ℕ) → i ≤ j → get_or R j [] ≡ []) → joined (drop i R) ≡ []
   joined-none i R empty = joined-emptied (drop i R) (λ j. get_or-drop i R j [] ∙ empty (i + j) (omega arith))
 
   pub joined-before : (i : ℕ) (R : List (List P)) → ((j : ℕ) → i ≤ j → get_or R j [] ≡ []) → joined (take i R) ≡ joined R

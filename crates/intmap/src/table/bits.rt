@@ -35,6 +35,16 @@ pub(crate) fn without(word: u64, place: usize) -> u64
     word & !(1 << (place % BITS))
 }
 
+/// The place behind those that have their bits in one word with this one.
+#[inline(always)]
+pub(crate) fn end_of_word(place: usize) -> usize
+    requires { place < 2 ^ 63 }
+    ensures behind { place < result }
+    ensures near { result ≤ place + 64 }
+{
+    (place / BITS + 1) * BITS
+}
+
 impl<A: Allocator> Bits<A> {
     ghost use Rattle.std.specs.Borrow.{sem};
     ghost use Rattle.intmap.specs.Lending.{bits_lend};

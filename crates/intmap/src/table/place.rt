@@ -7,7 +7,7 @@ ghost use Rattle.intmap.specs.Moves.{HasRoom, IsPlaced};
 use crate::key::IntKey;
 use crate::slot::Slot;
 use crate::steps::Steps;
-use crate::table::bits::Bits;
+use crate::table::bits::{Bits, end_of_word};
 use crate::table::stored::Stored;
 use std::alloc::Allocator;
 
@@ -108,6 +108,9 @@ fn place_slot<K: IntKey, X: Drop, A: Allocator>(
     ensures placed { placed.new ≡ placed.old + length old.pairs }
     ensures marks { AreMarked (rows slots.new) bits.new }
 {
+    if !old.is_filled() {
+        return;
+    }
     match old.into_lone() {
         Ok(lone) => place(bits, slots, lone, placed),
         Err(several) => place_several(bits, slots, several, placed),
@@ -115,8 +118,7 @@ fn place_slot<K: IntKey, X: Drop, A: Allocator>(
 }
 
 /// Puts the pairs of all old slots, slot after slot, at the ends of their slots, where there is
-/// room for them. The bits of the old slots tell which of them to look at; those between are let
-/// go as they are passed.
+/// room for them. Old slots whose bits are zero words are let go without a look at them.
 pub(super) fn place_all<K: IntKey, X: Drop, A: Allocator>(
     bits: &mut Bits<A>,
     slots: &mut [Slot<K, X, A>],
@@ -132,16 +134,19 @@ pub(super) fn place_all<K: IntKey, X: Drop, A: Allocator>(
     ensures placed { placed.new ≡ placed.old + length (joined (rows old.items)) }
     ensures marks { AreMarked (rows slots.new) bits.new }
 {
+    let len = old.len();
     let mut left = old.into_iter();
     let mut next = 0;
-    for index in old_bits.iter() {
-        for _ in next..index {
+    while let Some(marked) = old_bits.iter_from(next).next() {
+        for _ in next..marked {
             left.next();
         }
-        let Some(slot) = left.next() else {
-            unreachable!();
-        };
-        place_slot(bits, slots, slot, placed);
-        next = index + 1;
+        next = end_of_word(marked).min(len);
+        for _ in marked..next {
+            let Some(slot) = left.next() else {
+                unreachable!();
+            };
+            place_slot(bits, slots, slot, placed);
+        }
     }
 }

@@ -1,90 +1,98 @@
-use Rattle.std.proofs.Common.{◌≡◌, ℕ, Some, ◌+◌, ◌<◌, ◌≤◌, ◌++◌, ◌∙◌, suc, refl, length, sym, ap, arith, length-append}
-use Rattle.std.specs.Prelude.{slice_index_or}
-use Rattle.std.proofs.lemmas.List.Elements.{All-head, All-tail}
-use Rattle.intmap.specs.Slots.{rows, pairs_at}
-use Rattle.intmap.proofs.FilledLemmas.{pairs_at-marked, places-within}
-use Rattle.intmap.proofs.MarkedLemmas.{AllPairs-marked_places}
-use Rattle.intmap.proofs.MoveLemmas.{HasRoom-first, HasRoom-more, IsPlaced-none, IsPlaced-more, IsLeft-some, IsLeft-at, IsLeft-next}
+use Rattle.std.proofs.Common.{◌≡◌, ℕ, suc, min, ◌<◌, ◌≤◌, ◌∙◌, Some, [], length, get_or, sym, ap, subst, arith}
+use Rattle.std.proofs.Math.Nat.{min-le_right, le-min}
+use Rattle.intmap.specs.Slots.{rows}
+use Rattle.intmap.proofs.MoveLemmas.{IsLeft, IsLeft-at, IsLeft-next}
+use Rattle.intmap.proofs.OldSlotsLemmas.{IsMoved, IsMoved-past, IsMoved-next, IsMoved-end, room-next}
+use Rattle.intmap.proofs.PlacesLemmas.{IsNextMark, IsNextMark-first, unmarked-behind}
+use Rattle.intmap.proofs.RetainSlotsLemmas.{next-within, empty-between, empty-unmarked}
 use Rattle.intmap.proofs.TableLemmas.{get_or-rows}
 use Rattle.intmap.proofs.table.place.place_all.Goals as goal
-use Rattle.intmap.proofs.table.place.place_all.Goals.{In-Some, In-Some-next}
+use Rattle.intmap.proofs.table.place.place_all.Goals.{In-Some, After-min-next, In-Some-next}
 
-pub loop-index-init : goal.loop-index-init
-loop-index-init g c =
-    let all = pairs_at-marked (rows c.args.old.items) c.args.old_bits.now c.requires.old_marks in
-    rw (c.into_iter-index-iterator.ensures.into_iter_gives ∙ c.iter-index-items.ensures) (record {
-      left = record { items = c.into_iter-left.ensures.rest; len = let len = c.into_iter-left.ensures.len in let long = c.args.old.ok.0 in omega (arith, len, long) };
-      within = places-within c.args.old.items c.args.old_bits.now c.requires.old_marks;
-      ascending = AllPairs-marked_places c.args.old_bits.now;
-      behind = λ k d below. omega arith;
-      room = rw all c.requires.room;
-      pairs = λ T placed. rw all at placed;
-      placed = ap (λ ps. c.args.placed.now + length ps) all;
-      capacity = refl;
-      marks = c.requires.marks;
-    })
+module _ (g : _) (c : In-Some g) where
+  -- the place at hand is that of the next mark
+  mark : IsNextMark c.args.old_bits.now c.loop-next.next c.in-Some.marked
+  mark = IsNextMark-first c.args.old_bits.now c.loop-next.next c.in-Some.marked c.next.new.self (sym c.iter_from.ensures ∙ c.in-Some.ensures.steps)
 
--- the place at hand is that of an old slot
-here : (g : _) (c : In-Some g) → c.in-Some.index < length c.args.old.items
-here g c = All-head (λ place. place < length c.args.old.items) c.in-Some.index c.next.new.self (rw c.in-Some.ensures.steps at c.loop-index.invariant.within)
+  -- and that of an old slot
+  within : c.in-Some.marked < length c.args.old.items
+  within = next-within c.args.old.items c.args.old_bits.now c.requires.old_marks c.loop-next.next c.in-Some.marked mark
 
--- it isn't before the slots that are left
-ahead : (g : _) (c : In-Some g) → c.loop-index.next ≤ c.in-Some.index
-ahead g c = All-head (λ place. c.loop-index.next ≤ place) c.in-Some.index c.next.new.self (rw c.in-Some.ensures.steps at c.loop-index.invariant.behind)
+-- the end of a run of slots is behind its first, and not behind the last of all
+run : (first end word len : ℕ) → end ≡ min word len → first < word → first < len → (first < end) × (end ≤ len)
+run first end word len is under below =
+    let least = le-min {k = suc first} {a = word} {b = len} (omega (arith, under)) (omega (arith, below)) in
+    let most = min-le_right word len in
+    (omega (arith, is, least), omega (arith, is, most))
 
--- those before it have gone by the time
-reached : (g : _) (c : In-Some g) (counter : ℕ) → (c.loop-index.next ≤ c.in-Some.index → counter ≤ c.in-Some.index) → c.in-Some.index ≤ counter → counter ≡ c.in-Some.index
-reached g c counter end least = let most = end (ahead g c) in omega (arith, most, least)
+module _ (g : _) (c : After-min-next g) (below : c.in-Some.marked < length c.args.old.items) where
+  ends : (c.in-Some.marked < c.min-next.result) × (c.min-next.result ≤ length c.args.old.items)
+  ends = run c.in-Some.marked c.min-next.result c.end_of_word.result (length c.args.old.items) (c.min-next.ensures ∙ ap (min c.end_of_word.result) (let told = c.len-len.ensures in let long = c.args.old.ok.0 in omega (arith, told, long))) c.end_of_word.ensures.behind below
 
-pub loop-init : goal.loop-init
-loop-init g c = c.loop-index.invariant.left
+  -- each slot before that end is an old one
+  under : (i : ℕ) → i < c.min-next.result → i < length c.args.old.items
+  under i less = let most = ends.1 in omega (arith, less, most)
 
 pub loop-preserved : goal.loop-preserved
 loop-preserved g c =
-    let below = here g (goal.at.loop-preserved g c).In-Some in let less = c.loop-test.true in
+    let below = within g (goal.at.loop-preserved g c).In-Some in let less = c.loop-test.true in
     IsLeft-next c.args.old.items c.loop.counter c.loop.left c.next-in-loop.new.self c.next-in-loop.result c.loop.invariant c.next-in-loop.ensures.cases (omega (arith, below, less))
 
-pub unreachable-requires : goal.unreachable-requires
-unreachable-requires g c =
-    let below = here g (goal.at.unreachable-requires g c).In-Some in let at = reached g (goal.at.unreachable-requires g c).In-Some c.loop.counter c.loop.auto.counter-end c.loop-test.false in
-    IsLeft-some c.args.old.items c.loop.counter c.loop.left c.next-in-loop-index.new.self c.loop.invariant c.in_default.ensures.cases (omega (arith, below, at))
+pub loop-2-init : goal.loop-2-init
+loop-2-init g c =
+    let next = mark g (goal.at.loop-2-init g c).In-Some in
+    let at : c.loop.counter ≡ c.in-Some.marked = let most = c.loop.auto.counter-end next.behind in let least = c.loop-test.false in omega (arith, most, least) in
+    record {
+      left = subst (λ i. IsLeft c.args.old.items i c.loop.left) at c.loop.invariant;
+      passed = IsMoved-past _ _ _ _ _ _ _ _ c.loop-next.invariant.passed c.in-Some.marked next.behind
+          (empty-between c.args.old.items c.args.old_bits.now c.requires.old_marks c.loop-next.next c.in-Some.marked next);
+    }
 
--- the pairs that are left are those of the slot at hand and those behind it
-left : (g : _) (c : In-Some-next g) → c.in-Some.index < length c.args.old.items → c.loop.counter ≡ c.in-Some.index
-    → pairs_at (rows c.args.old.items) c.loop-index.index-iterator ≡ c.in-Some-next.slot.pairs ++ pairs_at (rows c.args.old.items) c.next.new.self
-left g c below at =
-    let old = c.args.old.items in let slot = c.in-Some-next.slot in let rest = pairs_at (rows old) c.next.new.self in
-    let is : slot ≡ slice_index_or old c.in-Some.index slot =
-    IsLeft-at old c.loop.counter c.loop.left c.next-in-loop-index.new.self slot slot c.loop.invariant c.in-Some-next.ensures.cases (omega (arith, below, at)) ∙ ap (λ i. slice_index_or old i slot) at in
-    let row = get_or-rows old c.in-Some.index slot below ∙ ap (λ h. h.pairs) (sym is) in
-    rw c.in-Some.ensures.steps (ap (λ ps. ps ++ rest) row)
+pub loop-next-smaller : goal.loop-next-smaller
+loop-next-smaller g c =
+    let at = goal.at.loop-next-smaller g c in
+    let le = (mark g at.In-Some).behind in let below = within g at.In-Some in
+    let more = (ends g at.After-min-next below).0 in omega (arith, le, below, more)
+
+pub loop-next-preserved : goal.loop-next-preserved
+loop-next-preserved g c =
+    let steps = goal.at.loop-next-preserved g c in
+    let end = ends g steps.After-min-next (within g steps.In-Some) in
+    let at : c.loop-2.counter ≡ c.min-next.result =
+    let more = end.0 in let most = c.loop-2.auto.counter-end (omega (arith, more)) in let least = c.loop-2-test.false in omega (arith, most, least) in
+    record {
+      within = end.1;
+      left = subst (λ i. IsLeft c.args.old.items i c.loop-2.left) at c.loop-2.invariant.left;
+      passed = subst (λ i. IsMoved g.K.IntKey.number_of (rows c.args.old.items) c.args.slots.now c.args.placed.now i c.loop-2.slots c.loop-2.bits c.loop-2.placed) at c.loop-2.invariant.passed;
+    }
+
+-- the pairs of the slot at hand are those of its row
+row : (g : _) (c : In-Some-next g) → c.loop-2.counter < length c.args.old.items → get_or (rows c.args.old.items) c.loop-2.counter [] ≡ c.in-Some-next.slot.pairs
+row g c below =
+    let old = c.args.old.items in let slot = c.in-Some-next.slot in
+    let is : slot ≡ get_or old c.loop-2.counter slot = IsLeft-at old c.loop-2.counter c.loop-2.left c.next-in-loop-2-2.new.self slot slot c.loop-2.invariant.left c.in-Some-next.ensures.cases below in
+    get_or-rows old c.loop-2.counter slot below ∙ ap (λ h. h.pairs) (sym is)
 
 pub place_slot-requires-clause-room : goal.place_slot-requires-clause-room
 place_slot-requires-clause-room g c =
-    let steps = goal.at.place_slot-requires-clause-room g c in
-    let all = left g steps.In-Some-next (here g steps.In-Some) (reached g steps.In-Some c.loop.counter c.loop.auto.counter-end c.loop-test.false) in
-    HasRoom-first _ _ c.in-Some-next.slot.pairs _ (rw all at c.loop-index.invariant.room)
+    let at = goal.at.place_slot-requires-clause-room g c in
+    room-next _ _ _ _ _ _ _ _ c.loop-2.invariant.passed c.in-Some-next.slot.pairs (row g at.In-Some-next (under g at.After-min-next (within g at.In-Some) c.loop-2.counter c.loop-2-test.true))
 
-pub loop-index-preserved : goal.loop-index-preserved
-loop-index-preserved g c =
-    let loop = c.loop-index.invariant in let old = c.args.old.items in
-    let steps = goal.at.loop-index-preserved g c in let below = here g steps.In-Some in
-    let at = reached g steps.In-Some c.loop.counter c.loop.auto.counter-end c.loop-test.false in
-    let all = left g steps.In-Some-next below at in
-    let ascending = rw c.in-Some.ensures.steps at loop.ascending in
-    let pairs = c.in-Some-next.slot.pairs in let rest = pairs_at (rows old) c.next.new.self in
+pub loop-2-preserved : goal.loop-2-preserved
+loop-2-preserved g c =
+    let at = goal.at.loop-2-preserved g c in
+    let below = under g at.After-min-next (within g at.In-Some) c.loop-2.counter c.loop-2-test.true in
     record {
-      left = rw (← at) (IsLeft-next old c.loop.counter c.loop.left c.next-in-loop-index.new.self (Some c.in-Some-next.slot) c.loop.invariant c.in-Some-next.ensures.cases (omega (arith, below, at)));
-      within = All-tail (λ place. place < length old) c.in-Some.index c.next.new.self (rw c.in-Some.ensures.steps at loop.within);
-      ascending = λ j k d less under. ascending (suc j) (suc k) d (omega (arith, less)) (omega (arith, under));
-      behind = λ k d under. let less = ascending 0 (suc k) d (omega arith) (omega (arith, under)) in omega (arith, less);
-      room = HasRoom-more _ _ _ pairs _ (rw all at loop.room) c.place_slot.ensures.pairs;
-      pairs = λ T placed. loop.pairs T (rw all (IsPlaced-more _ _ _ _ pairs rest c.place_slot.ensures.pairs placed));
-      placed =
-          let before = rw all at loop.placed in let sum = length-append pairs rest in omega (arith, before, sum, c.place_slot.ensures.placed);
-      capacity = c.place_slot.ensures.pairs.len ∙ loop.capacity;
-      marks = c.place_slot.ensures.marks;
+      left = IsLeft-next c.args.old.items c.loop-2.counter c.loop-2.left c.next-in-loop-2-2.new.self (Some c.in-Some-next.slot) c.loop-2.invariant.left c.in-Some-next.ensures.cases below;
+      passed = IsMoved-next _ _ _ _ _ _ _ _ c.loop-2.invariant.passed c.in-Some-next.slot.pairs (row g at.In-Some-next below) _ _ _ c.place_slot.ensures.pairs c.place_slot.ensures.marks c.place_slot.ensures.placed;
     }
 
 pub returns-clause-pairs : goal.returns-clause-pairs
-returns-clause-pairs g c = c.loop-index.invariant.pairs c.loop-index.slots (rw c.in-None.ensures.steps.0 (IsPlaced-none _ c.loop-index.slots))
+returns-clause-pairs g c =
+    (IsMoved-end _ _ _ _ _ _ _ _ c.loop-next.invariant.passed (λ k le. empty-unmarked c.args.old.items c.args.old_bits.now c.requires.old_marks c.loop-next.next k
+    (unmarked-behind c.args.old_bits.now c.loop-next.next (sym c.iter_from.ensures ∙ c.in_default.ensures.steps.0) k le))).0
+
+pub returns-clause-placed : goal.returns-clause-placed
+returns-clause-placed g c =
+    (IsMoved-end _ _ _ _ _ _ _ _ c.loop-next.invariant.passed (λ k le. empty-unmarked c.args.old.items c.args.old_bits.now c.requires.old_marks c.loop-next.next k
+    (unmarked-behind c.args.old_bits.now c.loop-next.next (sym c.iter_from.ensures ∙ c.in_default.ensures.steps.0) k le))).1
