@@ -164,10 +164,6 @@ with_word-is marks ns i word same is others =
           ap (λ b. cond b (has_bit word (j % 64)) (marked marks j)) no ∙ sym (others j below apart))
     ]))
 
--- the word that is there changes no mark
-pub with_word-same : (marks : List Bool) (i word : ℕ) → IsWordOf marks i word → with_word marks i word ≡ marks
-with_word-same marks i word is = with_word-is marks marks i word refl is (λ j below apart. refl)
-
 -- a word that has the marks without one takes that one away
 pub with_word-unmarked : (marks : List Bool) (i word : ℕ) → IsWordOf (set marks i false) i word → with_word marks i word ≡ set marks i false
 with_word-unmarked marks i word is =

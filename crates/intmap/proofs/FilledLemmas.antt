@@ -1,17 +1,17 @@
 -- The marks of a table tell which of its slots hold a pair.
 use Rattle.std.proofs.Common.{◌≡◌, ◌≢◌, inl, inr, ℕ, zero, suc, ◌+◌, ◌*◌, ◌/◌, ◌<◌, ◌≤◌, Bool, true, false, Option, Some, None, List, [], ◌∷◌, ◌++◌, length, get_or, set, replicate, refl, sym, ap, ◌∙◌, arith, length-set, get_or-set_same, get_or-set_other}
-use Rattle.std.specs.Prelude.{◌==◌, filter, All, count_by, nat_lt}
+use Rattle.std.specs.Prelude.{◌==◌, filter, All, count_by, nat_lt, OnSome, IfNone}
 use Rattle.std.specs.List.{list_any, range_with_len}
 use Rattle.std.proofs.lemmas.Bool.{cases_Bool, cases_eq, cases_lt, eq-eqb, ne_eqb, lt-ltb, ltb-true}
 use Rattle.std.proofs.lemmas.List.{length-replicate, length_push, map-set, get_or_past}
 use Rattle.std.proofs.lemmas.List.Elements.{All-head, All-tail}
-use Rattle.intmap.specs.Bits.{marked, marked_places, with_word, IsWordOf}
-use Rattle.intmap.specs.Slots.{Held, rows, joined, pairs_at, AreMarked, IsMarkedTable}
-use Rattle.intmap.specs.Bindings.{value_of}
-use Rattle.intmap.specs.Classes.{IsCapacity}
+use Rattle.intmap.specs.Bits.{marked, marked_places}
+use Rattle.intmap.specs.Slots.{Held, rows, joined, pairs_at, marks_left, AreMarked, IsMarkedTable}
+use Rattle.intmap.specs.Bindings.{swap_out, value_of}
+use Rattle.intmap.specs.Classes.{IsCapacity, same_key}
 use Rattle.intmap.specs.Moves.{IsReady}
-use Rattle.intmap.proofs.BitsLemmas.{with_word-same, with_word-unmarked}
-use Rattle.intmap.proofs.TableLemmas.{IsSlot, within, length-rows, get_or-rows, IsTable-empty}
+use Rattle.intmap.proofs.SwapOutLemmas.{any}
+use Rattle.intmap.proofs.TableLemmas.{IsSlot, within, length-rows, get_or-rows, swap_out-missing, IsTable-empty}
 use Rattle.intmap.proofs.MarkedLemmas.{row-none, marked-replicate, All-marked_places, flat_map-marked_places, length-marked_places}
 
 module _ {P : Type 0} (R : List (List P)) (marks : List Bool) (are : AreMarked R marks) where
@@ -116,13 +116,20 @@ module _ {K X : Type 0} (number : K → ℕ) (S : List (Held K X)) (h : Held K X
   pub mark-below : i < length bits
   mark-below = place-below S bits marks i (within number S h i k at)
 
-  -- the same, with the word around its mark written: one without that mark
-  pub marks-without : (s : Held K X) (word : ℕ) → IsWordOf (set bits i false) i word → false ≡ nat_lt 0 (length s.pairs) → AreMarked (rows (set S i s)) (with_word bits i word)
-  marks-without s word is empty = rw (with_word-unmarked bits i word is) (marks-set s false empty)
+  -- with the pairs that a removal leaves, and the slot's mark as it leaves that
+  pub marks-removed : (s : Held K X) → nat_lt 0 (length h.pairs) ≡ true → AreMarked (rows (set S i s)) (marks_left bits i s.pairs)
+  marks-removed s before = elim (cases_Bool (nat_lt 0 (length s.pairs))) as (λ _. AreMarked (rows (set S i s)) (marks_left bits i s.pairs)) [
+    | inl some ↦ rw some (marks-kept s (before ∙ sym some))
+    | inr none ↦ rw none (marks-set s false (sym none))
+  ]
 
-  -- and the word that was there
-  pub marks-with : (s : Held K X) (word : ℕ) → IsWordOf bits i word → nat_lt 0 (length h.pairs) ≡ nat_lt 0 (length s.pairs) → AreMarked (rows (set S i s)) (with_word bits i word)
-  marks-with s word is same = rw (with_word-same bits i word is) (marks-kept s same)
+  -- the same, whether or not the key was bound
+  pub marks-taken : (s : Held K X) (after : List Bool) (taken : Option X) → taken ≡ value_of number h.pairs k → s.pairs ≡ swap_out (λ p. same_key number k p.0) any h.pairs
+      → OnSome taken (after ≡ marks_left bits i s.pairs) → IfNone taken (after ≡ bits) → AreMarked (rows (set S i s)) after
+  marks-taken s after None is left some none =
+      let same = sym (left ∙ swap_out-missing number S h i k at (sym is)) in
+      rw none (marks-kept s (ap (λ (ps : List (K × X)). nat_lt 0 (length ps)) same))
+  marks-taken s after (Some v) is left some none = rw some (marks-removed s (filled-bound number h.pairs k v (sym is)))
 
 -- the marked places are places of slots
 pub places-within : {K X : Type 0} (S : List (Held K X)) (bits : List Bool) → AreMarked (rows S) bits → All (λ place. place < length S) (marked_places bits)

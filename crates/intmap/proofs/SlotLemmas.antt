@@ -79,10 +79,12 @@ module _ {K X : Type 0} where
   filled-in_order (Turned f) rest some = tt
 
   -- of several pairs in order, the first of which fails, that one stands before the rest
-  pub first-fails : (test : K → Bool) (first : Option (K × X)) (rest pairs : List (K × X)) → all_pairs first rest ≡ pairs → IsFilledInOrder first rest → 1 < length pairs → ((p : K × X) → test (get_or pairs 0 p).0 ≡ false)
-      → (f : K × X) × (first ≡ Some f) × (pairs ≡ f ∷ rest) × (test f.0 ≡ false)
-  first-fails test None rest pairs is filled long fails = let none : length rest ≡ 0 = ap length filled in let same = ap length is in absurd (omega (arith, none, same, long))
-  first-fails test (Some f) rest pairs is filled long fails = (f, refl, sym is, ap (λ ps. test (get_or ps 0 f).0) is ∙ fails f)
+  pub first-fails : (test : K → Bool) (place : First (K × X)) (rest : List (K × X)) → is_turned place ≡ false → AreOthers place rest → 1 < length (held_pairs place rest)
+      → ((p : K × X) → test (get_or (held_pairs place rest) 0 p).0 ≡ false) → (f : K × X) × (first_pair place ≡ Some f) × (held_pairs place rest ≡ f ∷ rest) × (test f.0 ≡ false)
+  first-fails test Empty rest ordered none long fails = let n : length rest ≡ 0 = ap length none in absurd (omega (arith, n, long))
+  first-fails test (Lone f) rest ordered none long fails = (f, refl, refl, fails f)
+  first-fails test (InOrder f) rest ordered some long fails = (f, refl, refl, fails f)
+  first-fails test (Turned f) rest ordered some long fails = let wrong : true ≡ false = ordered in cc
 
   -- a first pair stands before those of the rest, as they lie
   pub held_pairs-first : (place : First (K × X)) (rest : List (K × X)) (first : K × X) → first_pair place ≡ Some first → held_pairs place rest ≡ first ∷ cond (is_turned place) (reverse rest) rest

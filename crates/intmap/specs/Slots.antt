@@ -1,5 +1,5 @@
 -- How a table lays its pairs out. No public clause cites this module.
-use Rattle.std.specs.Prelude.{◌≡◌, ℕ, zero, suc, ◌+◌, ◌*◌, ◌/◌, ◌<◌, Bool, true, false, nat_lt, List, [], ◌∷◌, ◌++◌, length, map, reverse, slice_index_or, Option, Some, None}
+use Rattle.std.specs.Prelude.{◌≡◌, ℕ, zero, suc, ◌+◌, ◌*◌, ◌/◌, ◌<◌, Bool, true, false, nat_lt, cond, List, [], ◌∷◌, ◌++◌, length, map, reverse, slice_index_or, slice_set, Option, Some, None}
 use Rattle.std.specs.Option.{option_to_list}
 use Rattle.std.specs.List.{All, flat_map}
 use Rattle.intmap.specs.Bits.{marked}
@@ -95,6 +95,10 @@ pairs_at S places = flat_map (λ i. slice_index_or S i []) places
 pub record AreMarked {P : Type 0} (S : List (List P)) (marks : List Bool) : Type 0 where
   pub words : length marks ≡ 64 * ((length S + 63) / 64)
   pub own : (i : ℕ) → marked marks i ≡ nat_lt 0 (length (slice_index_or S i []))
+
+-- the marks once these pairs are left at place i: where there is none, its mark is gone
+abbrev pub marks_left : {P : Type 0} → List Bool → ℕ → List P → List Bool
+marks_left marks i pairs = cond (nat_lt 0 (length pairs)) marks (slice_set marks i false)
 
 -- the row of each slot has pairs of that slot alone, and there are as many slots as a table may have
 pub record IsTable {K X : Type 0} (number : K → ℕ) (slots : List (Held K X)) : Type 0 where

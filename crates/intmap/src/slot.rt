@@ -81,19 +81,19 @@ impl<K: IntKey, X, A: Allocator> Slot<K, X, A> {
         if first.0.matches(key, steps) {
             return Some(&first.1);
         }
-        if self.first.is_lone() {
-            return None;
+        if let First::InOrder(_) = self.first {
+            let Some(place) = find_in(&self.rest, key, steps) else {
+                return None;
+            };
+            return Some(&self.rest[place].1);
         }
-        if self.first.is_turned() {
+        if let First::Turned(_) = self.first {
             let Some(place) = find_back_in(&self.rest, *key, steps) else {
                 return None;
             };
             return Some(&self.rest[self.rest.len() - 1 - place].1);
         }
-        let Some(place) = find_in(&self.rest, key, steps) else {
-            return None;
-        };
-        Some(&self.rest[place].1)
+        None
     }
 
     /// The place of the key's pair. The keys are compared as by [`get`](Slot::get).

@@ -1,6 +1,6 @@
 //! Slots, of which each key has one.
 
-mod bits;
+pub(crate) mod bits;
 mod clone;
 pub(crate) mod each;
 mod front;
@@ -23,7 +23,7 @@ ghost use Rattle.intmap.specs.Figures.{load_of};
 use crate::key::IntKey;
 use crate::slot::Slot;
 use crate::steps::Steps;
-use bits::{Bits, without};
+use bits::Bits;
 use place::index_of;
 use std::alloc::{AllocError, Allocator};
 use std::marker::Model;
@@ -135,16 +135,8 @@ impl<K: IntKey, X, A: Allocator> Table<K, X, A> {
             ≡ steps.old + reach K.number_of self.old.walk self.old.capacity key.now }
     {
         let index = self.index_of(key);
-        let word = self.bits.word_mut(index);
-        let before = *word;
         let slot = &mut self.slots[index];
-        let Some((value, emptied)) = slot.take(key, steps) else {
-            return None;
-        };
-        if emptied {
-            *word = without(before, index);
-        }
-        Some(value)
+        slot.take(key, steps, &mut self.bits, index)
     }
 }
 

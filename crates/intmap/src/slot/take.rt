@@ -1,15 +1,16 @@
 //! Pairs taken out of a slot.
-ghost use Rattle.std.specs.Prelude.{◌≡◌, ◌+◌, ◌<◌, ◌==◌, [], ◌∷◌, length, swap_remove, slice_index_or, true, false, None, Some, IfSome, IfNone};
+ghost use Rattle.std.specs.Prelude.{◌≡◌, ◌+◌, ◌<◌, [], ◌∷◌, length, swap_remove, slice_index_or, slice_set, true, false, IfSome, IfNone, OnSome};
 ghost use Rattle.intmap.specs.Classes.{same_key};
 ghost use Rattle.intmap.specs.Bindings.{swap_out, value_of};
 ghost use Rattle.intmap.specs.Reach.{through_first};
-ghost use Rattle.intmap.specs.Slots.{held_pairs, is_turned, AreOthers};
+ghost use Rattle.intmap.specs.Slots.{held_pairs, is_turned, marks_left, AreOthers};
 
 use crate::key::IntKey;
 use crate::slot::Slot;
 use crate::slot::first::{First, set_in_order};
 use crate::slot::in_order::take_in;
 use crate::steps::Steps;
+use crate::table::bits::{Bits, without};
 use crate::table::stored::Stored;
 use std::alloc::Allocator;
 use std::mem;
@@ -27,9 +28,8 @@ fn take_first_in<P, A: Allocator>(first: &mut First<P>, rest: &mut Vec<P, A>) ->
     ensures pairs { held_pairs first.new rest.new.items
         ≡ swap_remove (held_pairs first.old rest.old.items) 0 result }
 {
-    let Some(last) = rest.pop() else {
-        unreachable!();
-    };
+    // a `pop` would ask whether there is one
+    let last = rest.swap_remove(rest.len() - 1);
     let next = First::new(last, rest.is_empty());
     match mem::replace(first, next).into_pair() {
         Some(pair) => pair,
@@ -53,9 +53,38 @@ fn turn_and_take_first<P, A: Allocator>(first: &mut First<P>, rest: &mut Vec<P, 
     take_first_in(first, rest)
 }
 
+/// Takes the pair of the key out of those that lie in order behind the first one, whose key is
+/// another. The last pair takes its place. The keys are compared in order up to it, each by one step.
+#[inline(never)]
+fn take_behind<K: IntKey, X, A: Allocator>(
+    first: &mut First<(Stored<K>, X)>,
+    rest: &mut Vec<(Stored<K>, X), A>,
+    key: K,
+    steps: &mut Steps,
+) -> Option<X>
+    requires ordered { is_turned first.old ≡ false }
+    requires others { AreOthers first.old rest.old.items }
+    requires several { 1 < length (held_pairs first.old rest.old.items) }
+    requires other { (p : K × X) → same_key K.number_of key
+        (slice_index_or (held_pairs first.old rest.old.items) 0 p).0 ≡ false }
+    ensures value { result ≡ value_of K.number_of (held_pairs first.old rest.old.items) key }
+    ensures others { AreOthers first.new rest.new.items }
+    ensures left { 0 < length (held_pairs first.new rest.new.items) }
+    ensures pairs { held_pairs first.new rest.new.items
+        ≡ swap_out (λ p. same_key K.number_of key p.0) (λ p. true)
+        (held_pairs first.old rest.old.items) }
+    ensures counted { steps.new + 1 ≡ steps.old + length (through_first
+        (λ p. same_key K.number_of key p.0) (held_pairs first.old rest.old.items)) }
+{
+    let value = take_in(rest, &key, steps);
+    first.set_lone(rest.is_empty());
+    value
+}
+
 impl<K: IntKey, X, A: Allocator> Slot<K, X, A> {
-    /// Takes the first of several pairs out. The last pair takes its place.
-    #[inline(always)]
+    /// Takes the first of several pairs out. The last pair takes its place. It is a call, so that a
+    /// removal of a pair alone in its slot is straight code.
+    #[inline(never)]
     fn take_first(&mut self) -> (Stored<K>, X)
         requires { 1 < length self.old.pairs }
         ensures value { result ≡ slice_index_or self.old.pairs 0 result }
@@ -68,19 +97,27 @@ impl<K: IntKey, X, A: Allocator> Slot<K, X, A> {
         take_first_in(&mut self.first, &mut self.rest)
     }
 
-    /// Takes the pair out that has no other beside it. Where there is none, or where there are more,
-    /// it answers `None` and changes nothing.
+    /// Takes the pair out that has no other beside it, and the mark of the slot's own place away.
+    /// Where there is none, or where there are more, it answers `None` and changes nothing. The word
+    /// of the mark is read before the slot changes, so that its bit is cleared in a register.
     #[inline(always)]
-    pub(crate) fn take_lone(&mut self) -> Option<(Stored<K>, X)>
+    fn take_lone(&mut self, bits: &mut Bits<A>, slot: usize) -> Option<(Stored<K>, X)>
+        requires { slot < length bits.old }
         ensures lone { IfSome result (λ pair. self.old.pairs ≡ pair ∷ []) }
         ensures emptied { IfSome result (λ pair. self.new.pairs ≡ []) }
+        ensures unmarked { IfSome result (λ pair. bits.new ≡ slice_set bits.old slot false) }
         ensures not_lone { IfNone result (length self.old.pairs ≡ 1 → ⊥) }
         ensures others { IfNone result (self.new.pairs ≡ self.old.pairs) }
+        ensures marks { IfNone result (bits.new ≡ bits.old) }
     {
         if !self.first.is_lone() {
             return None;
         }
-        self.first.take()
+        let word = bits.word_mut(slot);
+        let before = *word;
+        let pair = self.first.take();
+        *word = without(before, slot);
+        pair
     }
 
     /// Takes the first pair out. The others keep their order, and lie the last first from then on,
@@ -108,13 +145,21 @@ impl<K: IntKey, X, A: Allocator> Slot<K, X, A> {
         }
     }
 
-    /// Takes the pair at a place out. The last pair takes its place.
-    pub(crate) fn take_at(&mut self, place: usize) -> (Stored<K>, X)
-        requires { place < length self.old.pairs }
+    /// Takes the pair at a place out. The last pair takes its place. Where no pair is left, the mark
+    /// of the slot's own place is taken away.
+    pub(crate) fn take_at(
+        &mut self,
+        place: usize,
+        bits: &mut Bits<A>,
+        slot: usize,
+    ) -> (Stored<K>, X)
+        requires within { place < length self.old.pairs }
+        requires marked { slot < length bits.old }
         ensures value { result ≡ slice_index_or self.old.pairs place result }
         ensures pairs { self.new.pairs ≡ swap_remove self.old.pairs place result }
+        ensures marks { bits.new ≡ marks_left bits.old slot self.new.pairs }
     {
-        if let Some(pair) = self.take_lone() {
+        if let Some(pair) = self.take_lone(bits, slot) {
             return pair;
         }
         if place > 0 {
@@ -127,15 +172,21 @@ impl<K: IntKey, X, A: Allocator> Slot<K, X, A> {
     }
 
     /// Takes the pair of the key out, and the last pair takes its place. The keys are compared as
-    /// by [`get`](Slot::get). Beside the value it answers whether no pair is left.
+    /// by [`get`](Slot::get). Where no pair is left, the mark of the slot's own place is taken away.
     #[inline(always)]
-    pub(crate) fn take(&mut self, key: &K, steps: &mut Steps) -> Option<(X, bool)>
-        ensures value { IfSome result (λ taken.
-            value_of K.number_of self.old.pairs key.now ≡ Some taken.0) }
-        ensures missing { IfNone result (value_of K.number_of self.old.pairs key.now ≡ None) }
-        ensures emptied { IfSome result (λ taken. taken.1 ≡ (length self.new.pairs == 0)) }
+    pub(crate) fn take(
+        &mut self,
+        key: &K,
+        steps: &mut Steps,
+        bits: &mut Bits<A>,
+        slot: usize,
+    ) -> Option<X>
+        requires { slot < length bits.old }
+        ensures value { result ≡ value_of K.number_of self.old.pairs key.now }
         ensures pairs { self.new.pairs
             ≡ swap_out (λ p. same_key K.number_of key.now p.0) (λ p. true) self.old.pairs }
+        ensures marks { OnSome result (bits.new ≡ marks_left bits.old slot self.new.pairs) }
+        ensures kept { IfNone result (bits.new ≡ bits.old) }
         ensures counted { steps.new ≡ steps.old
             + length (through_first (λ p. same_key K.number_of key.now p.0) self.old.pairs) }
     {
@@ -143,38 +194,16 @@ impl<K: IntKey, X, A: Allocator> Slot<K, X, A> {
             return None;
         };
         if first.0.matches(key, steps) {
-            if let Some((_, value)) = self.take_lone() {
-                return Some((value, true));
+            if let Some((_, value)) = self.take_lone(bits, slot) {
+                return Some(value);
             }
             let (_, value) = self.take_first();
-            return Some((value, false));
+            return Some(value);
         }
         if self.first.is_lone() {
             return None;
         }
-        match self.take_behind(*key, steps) {
-            Some(value) => Some((value, false)),
-            None => None,
-        }
-    }
-
-    /// Takes the pair of the key out of those behind the first one, whose key is another. The last
-    /// pair takes its place. The keys are compared in order up to it, each by one step.
-    #[inline(never)]
-    fn take_behind(&mut self, key: K, steps: &mut Steps) -> Option<X>
-        requires several { 1 < length self.old.pairs }
-        requires other { (p : K × X)
-            → same_key K.number_of key (slice_index_or self.old.pairs 0 p).0 ≡ false }
-        ensures value { result ≡ value_of K.number_of self.old.pairs key }
-        ensures left { 0 < length self.new.pairs }
-        ensures pairs { self.new.pairs
-            ≡ swap_out (λ p. same_key K.number_of key p.0) (λ p. true) self.old.pairs }
-        ensures counted { steps.new + 1 ≡ steps.old
-            + length (through_first (λ p. same_key K.number_of key p.0) self.old.pairs) }
-    {
         set_in_order(&mut self.first, &mut self.rest);
-        let value = take_in(&mut self.rest, &key, steps);
-        self.first.set_lone(self.rest.is_empty());
-        value
+        take_behind(&mut self.first, &mut self.rest, *key, steps)
     }
 }

@@ -8,7 +8,6 @@ ghost use Rattle.intmap.specs.Walk.{walk_of};
 use crate::key::IntKey;
 use crate::steps::Steps;
 use crate::table::Table;
-use crate::table::bits::without;
 use std::alloc::Allocator;
 
 /// Where the pair of a key stands: its slot, and its place there from the front.
@@ -78,13 +77,8 @@ impl<K: IntKey, X, A: Allocator> Table<K, X, A> {
             (take_key K.number_of self.old.walk self.old.capacity at.key) self.old.capacity }
         ensures capacity { self.new.capacity ≡ self.old.capacity }
     {
-        let word = self.bits.word_mut(at.slot);
-        let before = *word;
         let slot = &mut self.slots[at.slot];
-        let (_, value) = slot.take_at(at.place);
-        if !slot.is_filled() {
-            *word = without(before, at.slot);
-        }
+        let (_, value) = slot.take_at(at.place, &mut self.bits, at.slot);
         value
     }
 }

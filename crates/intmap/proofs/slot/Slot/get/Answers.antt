@@ -4,6 +4,7 @@ use Rattle.std.specs.Prelude.{cond, reverse}
 use Rattle.std.proofs.lemmas.List.{get_or-reverse, length-reverse}
 use Rattle.intmap.specs.Classes.{same_key}
 use Rattle.intmap.specs.Reach.{through_first}
+use Rattle.intmap.specs.Slots.{is_turned}
 use Rattle.intmap.proofs.PositionLemmas.{first_value-position, first_value-none, position-within}
 use Rattle.intmap.proofs.SlotLemmas.{IsBehind, behind, held_pairs-first}
 use Rattle.intmap.proofs.slot.Slot.get.Goals as goal
@@ -13,7 +14,7 @@ use Rattle.intmap.proofs.slot.Slot.get.Goals.{After-find_in, After-find_back_in}
 in_order : (g : _) (c : After-find_in g) → c.args.self.now.pairs ≡ c.in-Some.first.now ∷ c.self.inside.rest.items
 in_order g c =
     sym (ap (λ h. h.pairs) c.self.view_is) ∙ held_pairs-first c.self.inside.first c.self.inside.rest.items c.in-Some.first.now (sym c.pair.ensures ∙ ap option_copied c.in-Some.is)
-    ∙ ap (λ b. c.in-Some.first.now ∷ cond b (reverse c.self.inside.rest.items) c.self.inside.rest.items) (sym c.is_turned.ensures ∙ c.if-is_turned.false)
+    ∙ ap (λ b. c.in-Some.first.now ∷ cond b (reverse c.self.inside.rest.items) c.self.inside.rest.items) (ap is_turned c.in-InOrder.is)
 
 -- it isn't the key's, so those were searched
 rest : (g : _) (c : After-find_in g) → IsBehind (same_key g.K.IntKey.number_of c.args.key.now) c.args.self.now.pairs c.in-Some.first.now c.self.inside.rest.items (in_order g c)
@@ -21,32 +22,32 @@ rest g c = behind _ _ _ _ (in_order g c) (sym c.matches.ensures.same ∙ c.if-ma
 
 counted : (g : _) (c : After-find_in g) → c.find_in.new.steps ≡ c.args.steps.now + length (through_first (λ p. same_key g.K.IntKey.number_of c.args.key.now p.0) c.args.self.now.pairs)
 counted g c =
-    let in_rest = ap (λ ps. length (through_first (λ p. same_key g.K.IntKey.number_of c.args.key.now p.0) ps)) c.deref-2.ensures.value in
+    let in_rest = ap (λ ps. length (through_first (λ p. same_key g.K.IntKey.number_of c.args.key.now p.0) ps)) c.deref.ensures.value in
     omega (arith, (rest g c).reached, in_rest, c.find_in.ensures.counted, c.matches.ensures.counted)
 
 pub returns-in_default-find_in-clause-value : goal.returns-in_default-find_in-clause-value
 returns-in_default-find_in-clause-value g c =
     let at = (goal.at.returns-in_default-find_in-clause-value g c).After-find_in in
-    sym ((rest g at).value ∙ first_value-none _ c.self.inside.rest.items (rw c.deref-2.ensures.value at (sym c.in_default-find_in.ensures.place)))
+    sym ((rest g at).value ∙ first_value-none _ c.self.inside.rest.items (rw c.deref.ensures.value at (sym c.in_default-find_in.ensures.place)))
 
 pub returns-in_default-find_in-clause-counted : goal.returns-in_default-find_in-clause-counted
 returns-in_default-find_in-clause-counted g c = counted g (goal.at.returns-in_default-find_in-clause-counted g c).After-find_in
 
-pub returns-clause-value : goal.returns-clause-value
-returns-clause-value g c =
-    let at = (goal.at.returns-clause-value g c).After-find_in in
-    let place = rw c.deref-2.ensures.value at (sym c.in-Some-find_in.ensures.place) in
-    sym ((rest g at).value ∙ first_value-position _ c.self.inside.rest.items c.in-Some-find_in.place c.index-2.result.now place
-    ∙ ap (λ (p : g.row.K.Denot × g.row.X.Denot). Some p.1) (sym c.index-2.ensures))
+pub returns-in-InOrder-clause-value : goal.returns-in-InOrder-clause-value
+returns-in-InOrder-clause-value g c =
+    let at = (goal.at.returns-in-InOrder-clause-value g c).After-find_in in
+    let place = rw c.deref.ensures.value at (sym c.in-Some-find_in.ensures.place) in
+    sym ((rest g at).value ∙ first_value-position _ c.self.inside.rest.items c.in-Some-find_in.place c.index.result.now place
+    ∙ ap (λ (p : g.row.K.Denot × g.row.X.Denot). Some p.1) (sym c.index.ensures))
 
-pub returns-clause-counted : goal.returns-clause-counted
-returns-clause-counted g c = counted g (goal.at.returns-clause-counted g c).After-find_in
+pub returns-in-InOrder-clause-counted : goal.returns-in-InOrder-clause-counted
+returns-in-InOrder-clause-counted g c = counted g (goal.at.returns-in-InOrder-clause-counted g c).After-find_in
 
 -- or the last first
 turned : (g : _) (c : After-find_back_in g) → c.args.self.now.pairs ≡ c.in-Some.first.now ∷ reverse c.self.inside.rest.items
 turned g c =
     sym (ap (λ h. h.pairs) c.self.view_is) ∙ held_pairs-first c.self.inside.first c.self.inside.rest.items c.in-Some.first.now (sym c.pair.ensures ∙ ap option_copied c.in-Some.is)
-    ∙ ap (λ b. c.in-Some.first.now ∷ cond b (reverse c.self.inside.rest.items) c.self.inside.rest.items) (sym c.is_turned.ensures ∙ c.if-is_turned.true)
+    ∙ ap (λ b. c.in-Some.first.now ∷ cond b (reverse c.self.inside.rest.items) c.self.inside.rest.items) (ap is_turned c.in-Turned.is)
 
 -- those were searched from the back
 back : (g : _) (c : After-find_back_in g) → IsBehind (same_key g.K.IntKey.number_of c.args.key.now) c.args.self.now.pairs c.in-Some.first.now (reverse c.self.inside.rest.items) (turned g c)
@@ -54,30 +55,30 @@ back g c = behind _ _ _ _ (turned g c) (sym c.matches.ensures.same ∙ c.if-matc
 
 counted_back : (g : _) (c : After-find_back_in g) → c.find_back_in.new.steps ≡ c.args.steps.now + length (through_first (λ p. same_key g.K.IntKey.number_of c.args.key.now p.0) c.args.self.now.pairs)
 counted_back g c =
-    let in_rest = ap (λ ps. length (through_first (λ p. same_key g.K.IntKey.number_of c.args.key.now p.0) (reverse ps))) c.deref.ensures.value in
+    let in_rest = ap (λ ps. length (through_first (λ p. same_key g.K.IntKey.number_of c.args.key.now p.0) (reverse ps))) c.deref-in-Turned.ensures.value in
     omega (arith, (back g c).reached, in_rest, c.find_back_in.ensures.counted, c.matches.ensures.counted)
 
 pub returns-in_default-find_back_in-clause-value : goal.returns-in_default-find_back_in-clause-value
 returns-in_default-find_back_in-clause-value g c =
     let at = (goal.at.returns-in_default-find_back_in-clause-value g c).After-find_back_in in
-    let none = rw c.deref.ensures.value at (sym c.in_default-find_back_in.ensures.place) in
+    let none = rw c.deref-in-Turned.ensures.value at (sym c.in_default-find_back_in.ensures.place) in
     sym ((back g at).value ∙ first_value-none _ (reverse c.self.inside.rest.items) none)
 
 pub returns-in_default-find_back_in-clause-counted : goal.returns-in_default-find_back_in-clause-counted
 returns-in_default-find_back_in-clause-counted g c = counted_back g (goal.at.returns-in_default-find_back_in-clause-counted g c).After-find_back_in
 
-pub returns-then-is_turned-clause-value : goal.returns-then-is_turned-clause-value
-returns-then-is_turned-clause-value g c =
-    let at = (goal.at.returns-then-is_turned-clause-value g c).After-find_back_in in
+pub returns-in-Turned-clause-value : goal.returns-in-Turned-clause-value
+returns-in-Turned-clause-value g c =
+    let at = (goal.at.returns-in-Turned-clause-value g c).After-find_back_in in
     let rest = c.self.inside.rest.items in
     let place = c.in-Some-find_back_in.place in
-    let pair = c.index.result.now in
-    let found = rw c.deref.ensures.value at (sym c.in-Some-find_back_in.ensures.place) in
-    let len : length rest ≡ c.len.result = let read = rw c.deref.ensures.value at c.deref.ensures.len in omega (arith, read, c.len.ensures) in
+    let pair = c.index-in-Turned.result.now in
+    let found = rw c.deref-in-Turned.ensures.value at (sym c.in-Some-find_back_in.ensures.place) in
+    let len : length rest ≡ c.len.result = let read = rw c.deref-in-Turned.ensures.value at c.deref-in-Turned.ensures.len in omega (arith, read, c.len.ensures) in
     let long = length-reverse rest in
     let within = (position-within _ (reverse rest) place found).1 in
-    let here : get_or (reverse rest) place pair ≡ pair = get_or-reverse rest place pair (omega (arith, long, within)) ∙ ap (λ n. get_or rest (n - 1 - place) pair) len ∙ sym c.index.ensures in
+    let here : get_or (reverse rest) place pair ≡ pair = get_or-reverse rest place pair (omega (arith, long, within)) ∙ ap (λ n. get_or rest (n - 1 - place) pair) len ∙ sym c.index-in-Turned.ensures in
     sym ((back g at).value ∙ first_value-position _ (reverse rest) place pair found ∙ ap (λ (p : g.row.K.Denot × g.row.X.Denot). Some p.1) here)
 
-pub returns-then-is_turned-clause-counted : goal.returns-then-is_turned-clause-counted
-returns-then-is_turned-clause-counted g c = counted_back g (goal.at.returns-then-is_turned-clause-counted g c).After-find_back_in
+pub returns-in-Turned-clause-counted : goal.returns-in-Turned-clause-counted
+returns-in-Turned-clause-counted g c = counted_back g (goal.at.returns-in-Turned-clause-counted g c).After-find_back_in

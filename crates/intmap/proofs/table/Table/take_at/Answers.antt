@@ -3,13 +3,13 @@ use Rattle.intmap.specs.Bindings.{swap_out, value_of}
 use Rattle.intmap.specs.Classes.{same_key}
 use Rattle.intmap.specs.Locations.{IsAt}
 use Rattle.intmap.specs.Slots.{rows, joined, IsTable}
-use Rattle.intmap.proofs.FilledLemmas.{filled-bound, mark-below, marks-without, marks-with}
+use Rattle.intmap.proofs.FilledLemmas.{filled-bound, mark-below, marks-removed}
 use Rattle.intmap.proofs.LocationLemmas.{slot-at, place-at, place-within}
 use Rattle.intmap.proofs.PositionLemmas.{swap_remove-position, first_value-position}
 use Rattle.intmap.proofs.SwapOutLemmas.{any}
 use Rattle.intmap.proofs.TableLemmas.{IsSlot, value_of-here, walk-taken, Belong-taken, IsTable-set}
 use Rattle.intmap.proofs.table.Table.take_at.Goals as goal
-use Rattle.intmap.proofs.table.Table.take_at.Goals.{After-take_at-value, then-not-is_filled, else-not-is_filled}
+use Rattle.intmap.proofs.table.Table.take_at.Goals.{After-take_at-value}
 
 module _ (g : _) (c : After-take_at-value g) where
   located : IsAt g.K.IntKey.number_of (joined (rows c.self.inside.slots.items)) (length c.self.inside.slots.items) c.args.at
@@ -34,23 +34,23 @@ module _ (g : _) (c : After-take_at-value g) where
       first_value-position (same_key g.K.IntKey.number_of c.args.at.key) c.index_mut-slot.result.now.pairs c.args.at.place c.take_at-value.result place
       ∙ ap (λ (p : g.row.K.Denot × g.row.X.Denot). Some p.1) (sym c.take_at-value.ensures.value)
 
-pub take_at-value-requires : goal.take_at-value-requires
-take_at-value-requires g c =
+pub take_at-value-requires-clause-within : goal.take_at-value-requires-clause-within
+take_at-value-requires-clause-within g c =
     place-within _ _ _ _ c.self.invariant.table (rw (← c.self.view_is) at c.requires) c.index_mut-slot.ensures.value
+
+pub take_at-value-requires-clause-marked : goal.take_at-value-requires-clause-marked
+take_at-value-requires-clause-marked g c =
+    let at = slot-at _ _ _ _ c.self.invariant.table (rw (← c.self.view_is) at c.requires) c.index_mut-slot.ensures.value in
+    mark-below _ _ _ _ _ at c.self.inside.bits c.self.invariant.marks
 
 pub invariant_of-self : goal.invariant_of-self
 invariant_of-self g c =
     let after = (goal.at.invariant_of-self g c).After-take_at-value in
-    let at = slot g after in
-    let bits = c.self.inside.bits in let marks = c.self.invariant.marks in
-    elim c.if-not-is_filled.branch [
-      | then-not-is_filled w ↦ (
-          let word = w.without.ensures bits (mark-below _ _ _ _ _ at bits marks) c.word_mut-word.ensures.word in
-          rw w.self-inside-is (record { table = table g after; marks = marks-without _ _ _ _ _ at bits marks c.take_at-value.new.self _ word w.if-not-is_filled.ensures }))
-      | else-not-is_filled w ↦ (
-          let before = filled-bound g.K.IntKey.number_of c.index_mut-slot.result.now.pairs c.args.at.key c.take_at-value.result.1 (bound g after) in
-          rw w.self-inside-is (record { table = table g after; marks = marks-with _ _ _ _ _ at bits marks c.take_at-value.new.self _ c.word_mut-word.ensures.word (before ∙ w.if-not-is_filled.ensures) }))
-    ]
+    let before = filled-bound g.K.IntKey.number_of c.index_mut-slot.result.now.pairs c.args.at.key c.take_at-value.result.1 (bound g after) in
+    record {
+      table = table g after;
+      marks = rw c.take_at-value.ensures.marks (marks-removed _ _ _ _ _ (slot g after) c.self.inside.bits c.self.invariant.marks c.take_at-value.new.self before);
+    }
 
 pub returns-clause-value : goal.returns-clause-value
 returns-clause-value g c =
@@ -60,8 +60,4 @@ returns-clause-value g c =
 pub returns-clause-walk : goal.returns-clause-walk
 returns-clause-walk g c =
     let after = (goal.at.returns-clause-walk g c).After-take_at-value in
-    let walk = walk-taken _ _ _ _ _ (slot g after) c.take_at-value.new.self (taken g after) in
-    elim c.if-not-is_filled.branch [
-      | then-not-is_filled w ↦ rw (w.self-inside-is, ← c.self.view_is) walk
-      | else-not-is_filled w ↦ rw (w.self-inside-is, ← c.self.view_is) walk
-    ]
+    rw (← c.self.view_is) (walk-taken _ _ _ _ _ (slot g after) c.take_at-value.new.self (taken g after))
