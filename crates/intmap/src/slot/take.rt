@@ -28,13 +28,14 @@ fn take_first_in<P, A: Allocator>(first: &mut First<P>, rest: &mut Vec<P, A>) ->
     ensures pairs { held_pairs first.new rest.new.items
         ≡ swap_remove (held_pairs first.old rest.old.items) 0 result }
 {
+    let First::InOrder(place) = first else {
+        unreachable!();
+    };
     // a `pop` would ask whether there is one
     let last = rest.swap_remove(rest.len() - 1);
-    let next = First::new(last, rest.is_empty());
-    match mem::replace(first, next).into_pair() {
-        Some(pair) => pair,
-        None => unreachable!(),
-    }
+    let pair = mem::replace(place, last);
+    first.set_lone(rest.is_empty());
+    pair
 }
 
 /// Puts the others in order, and takes the first of several pairs out. The last takes its place.
@@ -91,10 +92,10 @@ impl<K: IntKey, X, A: Allocator> Slot<K, X, A> {
         ensures left { 0 < length self.new.pairs }
         ensures pairs { self.new.pairs ≡ swap_remove self.old.pairs 0 result }
     {
-        if self.first.is_turned() {
-            return turn_and_take_first(&mut self.first, &mut self.rest);
+        if let First::InOrder(_) = self.first {
+            return take_first_in(&mut self.first, &mut self.rest);
         }
-        take_first_in(&mut self.first, &mut self.rest)
+        turn_and_take_first(&mut self.first, &mut self.rest)
     }
 
     /// Takes the pair out that has no other beside it, and the mark of the slot's own place away.
