@@ -1,5 +1,5 @@
 -- Old slots that are gone through one after another, while their pairs are put into new ones.
-use Rattle.std.proofs.Common.{◌≡◌, ℕ, suc, ◌+◌, ◌-◌, ◌<◌, ◌≤◌, Bool, List, [], ◌++◌, length, get_or, drop, refl, sym, ap, ◌∙◌, subst, arith, length-append}
+use Rattle.std.proofs.Common.{◌≡◌, ℕ, suc, ◌+◌, ◌-◌, ◌<◌, ◌≤◌, Bool, List, [], ◌++◌, length, get_or, drop, sym, ap, ◌∙◌, subst, arith, length-append}
 use Rattle.intmap.specs.Slots.{Held, rows, joined, AreMarked}
 use Rattle.intmap.specs.Moves.{HasRoom, IsPlaced}
 use Rattle.intmap.proofs.MoveLemmas.{HasRoom-first, HasRoom-more, IsPlaced-none, IsPlaced-more}
@@ -13,10 +13,6 @@ module _ {K X : Type 0} (number : K → ℕ) (R : List (List (K × X))) (S₀ : 
     pub placed : n + length (joined (drop i R)) ≡ n₀ + length (joined R)
     pub capacity : length S ≡ length S₀
     pub marks : AreMarked (rows S) bits
-
-  -- before the first row
-  pub IsMoved-start : (bits : List Bool) → HasRoom number S₀ (joined R) → AreMarked (rows S₀) bits → IsMoved 0 S₀ bits n₀
-  IsMoved-start bits room are = record { room = room; pairs = λ T placed. placed; placed = refl; capacity = refl; marks = are }
 
   module _ (i : ℕ) (S : List (Held K X)) (bits : List Bool) (n : ℕ) (before : IsMoved i S bits n) where
     -- as many are left where those between hold none

@@ -29,15 +29,15 @@ use denote.Shares.{Shares, Shares-less}
 use Rattle.intmap.specs.declared.table.Table as declared
 use Rattle.intmap.specs.contracts.table.Table as T-type
 use Rattle.intmap.specs.contracts.table.Table.TheInside as I-type
-use Rattle.intmap.specs.contracts.table.bits.Bits as B-type
-use Rattle.intmap.proofs.table.bits.Bits.TheLaws as B-laws
+use Rattle.intmap.specs.contracts.table.Directory as D-type
+use Rattle.intmap.proofs.table.Directory.TheLaws as D-laws
 use Rattle.intmap.proofs.slot.Slot.TheLaws as S-laws
 use Rattle.intmap.proofs.kept.Kept.TheLaws as K-laws
 use Rattle.intmap.specs.Slots.{Held, Grid, rows, joined}
 use Rattle.intmap.specs.Walk.{walk_of}
 use Rattle.intmap.proofs.TableLemmas.{walk_of-joined}
 use Rattle.intmap.specs.Values.{refilled}
-use Rattle.intmap.proofs.SameKeysLemmas.{row_keys, IsMarkedTable-same_keys}
+use Rattle.intmap.proofs.SameKeysLemmas.{row_keys, IsMaskedTable-same_keys}
 use Rattle.intmap.proofs.ValuesLemmas.{kept, refilled-append, keys_of-refilled, kept_pairs, kept_slot, kept_pairs-joined, row_keys-kept_slots}
 use Rattle.intmap.proofs.OpensLemmas.{Opens, row_put, row_count, row_cells_in, length-row_put}
 use Rattle.intmap.proofs.OpensVecLemmas.{vec_opens}
@@ -64,11 +64,11 @@ module _ (K' V' A' : RattleType) (g : key.Ghosts K'.Denot) (e : eq.Ghosts K'.Den
   abbrev pub THr : RattleType
   THr = T-type.the_row (K K' V' g e) (Hr V') (A K' V' A' g e a) g e a
 
-  abbrev pub Br : RattleType
-  Br = B-type.the_row (A K' V' A' g e a) a
+  abbrev pub Dr : RattleType
+  Dr = D-type.the_row (A K' V' A' g e a) a
 
   abbrev pub m₁ : Member
-  m₁ = record { row = Br; ty = lone Br.mir }
+  m₁ = record { row = Dr; ty = lone Dr.mir }
 
   abbrev pub m₂ : Member
   m₂ = record { row = Vr; ty = lone Vr.mir }
@@ -80,20 +80,20 @@ module _ (K' V' A' : RattleType) (g : key.Ghosts K'.Denot) (e : eq.Ghosts K'.Den
   Two = Struct (shape_of ν (m₁ ∷ m₂ ∷ []))
 
   abbrev pub to_two : Ir.Denot → Two.Denot
-  to_two t = (t.bits, (t.slots, tt))
+  to_two t = (t.directory, (t.slots, tt))
 
   abbrev pub of_two : Two.Denot → Ir.Denot
-  of_two y = record { bits = y.0; slots = y.1.0 }
+  of_two y = record { directory = y.0; slots = y.1.0 }
 
   module _ (LK : Laws K') (LV : Laws V') (LA : Laws A') {M : Type 1} {𝓤 : Ura M} (𝓛 : Logic 𝓤) where
     pub slot_laws : Laws (Sr K' V' A' g e a)
     slot_laws = S-laws.the_row_laws (K K' V' g e) (Kr V') (A K' V' A' g e a) g e a (copied_laws 0 K' LK) (K-laws.the_row_laws (V V') (param_laws 1 V' LV)) (copied_laws 2 A' LA)
 
-    pub bits_laws : Laws Br
-    bits_laws = B-laws.the_row_laws (A K' V' A' g e a) a (copied_laws 2 A' LA)
+    pub directory_laws : Laws Dr
+    directory_laws = D-laws.the_row_laws (A K' V' A' g e a) a (copied_laws 2 A' LA)
 
     pub ones : Lones (rows_of (m₁ ∷ m₂ ∷ []))
-    ones = (bits_laws.single, ((V-laws.the_row_laws (Sr K' V' A' g e a) (A K' V' A' g e a) a slot_laws (copied_laws 2 A' LA)).single, tt))
+    ones = (directory_laws.single, ((V-laws.the_row_laws (Sr K' V' A' g e a) (A K' V' A' g e a) a slot_laws (copied_laws 2 A' LA)).single, tt))
 
     pub table_apart : (t : Ir.Denot) (b o : ℕ) → ent 𝓤 (sem 𝓛 (part_at Ir full_share t b o)) (sem 𝓛 (part_at Two full_share (to_two t) b o))
     unfolding part_of
@@ -110,14 +110,14 @@ module _ (K' V' A' : RattleType) (g : key.Ghosts K'.Denot) (e : eq.Ghosts K'.Den
       abbrev pub slots_opens : Opens 𝓛 (V V') Vr VHr l
       slots_opens = vec_opens 𝓛 (V V') (Sr K' V' A' g e a) (SHr K' V' A' g e a) l SO tt (A K' V' A' g e a) a (copied_laws 2 A' LA) (words_live K' V' A' g e a LK LV LA 𝓛 l ik iv ia)
 
-      -- the bits are shared as they are
-      pub bits_shares : Shares 𝓛 Br l
-      bits_shares = Shares-less 𝓛 Br Br.lives l (B-laws.the_within (A K' V' A' g e a) a l ia) (bits_laws.shares 𝓛)
+      -- the directory is shared as it is
+      pub directory_shares : Shares 𝓛 Dr l
+      directory_shares = Shares-less 𝓛 Dr Dr.lives l (D-laws.the_within (A K' V' A' g e a) a l ia) (directory_laws.shares 𝓛)
 
       abbrev pub inside_opens : Opens 𝓛 (V V') Ir IHr l
       inside_opens =
-          two_opens 𝓛 (V V') l m₁ m₂ Br VHr ν (still 𝓛 (V V') Br l bits_shares) slots_opens ones
-          Ir IHr to_two of_two (λ t. refl) table_apart table_whole (λ b s. record { bits = b; slots = s }) (λ t. t.bits) (λ t. t.slots) (λ b s. refl) (λ b s. refl) (λ b s block o κ. id⊢ 𝓤 _) refl
+          two_opens 𝓛 (V V') l m₁ m₂ Dr VHr ν (still 𝓛 (V V') Dr l directory_shares) slots_opens ones
+          Ir IHr to_two of_two (λ t. refl) table_apart table_whole (λ d s. record { directory = d; slots = s }) (λ t. t.directory) (λ t. t.slots) (λ d s. refl) (λ d s. refl) (λ d s block o κ. id⊢ 𝓤 _) refl
 
       abbrev H' : Type 0
       H' = Held K'.Denot (Kept V'.Denot)
@@ -163,7 +163,7 @@ module _ (K' V' A' : RattleType) (g : key.Ghosts K'.Denot) (e : eq.Ghosts K'.Den
       table-puts t ws = λ i. record { walk = joined-puts t.slots.items ws i; capacity = length-row_put 𝓛 (V V') (Sr K' V' A' g e a) (SHr K' V' A' g e a) l SO t.slots.items ws i }
 
       pub table-goods : (t : Ir.Denot) (ws : List V'.Denot) → good t → good (inside_opens.put t ws)
-      table-goods t ws ok = IsMarkedTable-same_keys t.slots.items (puts t.slots.items ws) (sym (keys-puts t.slots.items ws)) g.number_of t.bits ok
+      table-goods t ws ok = IsMaskedTable-same_keys t.slots.items (puts t.slots.items ws) (sym (keys-puts t.slots.items ws)) g.number_of t.directory.bits t.directory.mask ok
 
       pub table-counts : (t : Ir.Denot) → inside_opens.count t ≡ length (view t).walk
       table-counts t = let n = joined-count t.slots.items in omega (arith, n)
@@ -171,7 +171,7 @@ module _ (K' V' A' : RattleType) (g : key.Ghosts K'.Denot) (e : eq.Ghosts K'.Den
       pub table-holeds : (t : Ir.Denot) (i : inside_opens.Info t) (b o : ℕ) → good t → good' (inside_opens.holed t i b o)
       table-holeds t i b o ok =
           let h = inside_opens.holed t i b o in
-          IsMarkedTable-same_keys t.slots.items h.slots.items (ap (λ (s : Ir.Denot). row_keys s.slots.items) (sym (inside_opens.filled t i b o)) ∙ row_keys-kept_slots h.slots.items) g.number_of t.bits ok
+          IsMaskedTable-same_keys t.slots.items h.slots.items (ap (λ (s : Ir.Denot). row_keys s.slots.items) (sym (inside_opens.filled t i b o)) ∙ row_keys-kept_slots h.slots.items) g.number_of t.directory.bits t.directory.mask ok
 
       pub table-fills : (h : IHr.Denot) → grid_fill (view' h) ≡ view (inside_opens.fill h)
       table-fills h = λ i. record { walk = kept_pairs-joined h.slots.items i; capacity = sym (length-map h.slots.items kept_slot) i }
@@ -193,4 +193,4 @@ module _ (K' V' A' : RattleType) (g : key.Ghosts K'.Denot) (e : eq.Ghosts K'.Den
       walk_of-refilled t ok w seen ws =
           let Own : Grid K'.Denot (Kept V'.Denot) → Type 0 = λ u. walk_of g.number_of u.walk u.capacity ≡ u.walk in
           let put = inside_opens.put t ws in
-          subst Own (table-puts t ws ∙ ap (λ (u : Grid K'.Denot (Kept V'.Denot)). grid_with u ws) seen) (walk_of-joined g.number_of put.slots.items (table-goods t ws ok).table)
+          subst Own (table-puts t ws ∙ ap (λ (u : Grid K'.Denot (Kept V'.Denot)). grid_with u ws) seen) (walk_of-joined g.number_of put.slots.items (table-goods t ws ok).marked.table)

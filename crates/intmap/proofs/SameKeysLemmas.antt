@@ -9,7 +9,7 @@ use Rattle.std.proofs.lemmas.Map.Made.{keys_of-map_values}
 use Rattle.intmap.specs.Classes.{IsCapacity, slot_number, same_key}
 use Rattle.intmap.specs.Kept.{unkept, IsConsistent}
 use Rattle.intmap.specs.Map.{IsMapWalk}
-use Rattle.intmap.specs.Slots.{Held, rows, AreMarked, IsTable, IsMarkedTable}
+use Rattle.intmap.specs.Slots.{Held, rows, AreMarked, IsTable, IsMarkedTable, IsMaskedTable}
 use Rattle.intmap.specs.Walk.{walk_of}
 use Rattle.intmap.specs.declared.kept.Kept.{Kept}
 use Rattle.intmap.proofs.LoadFactorLemmas.{IsLoaded}
@@ -59,8 +59,11 @@ module _ {K X Y : Type 0} (S : List (Held K X)) (T : List (Held K Y)) (same : ro
         own = λ i. are.own i ∙ ap (nat_lt 0) (length-same_keys (get_or (rows S) i []) (get_or (rows T) i []) (row-same i));
       }
 
-  pub IsMarkedTable-same_keys : (number : K → ℕ) (marks : List Bool) → IsMarkedTable number S marks → IsMarkedTable number T marks
+  IsMarkedTable-same_keys : (number : K → ℕ) (marks : List Bool) → IsMarkedTable number S marks → IsMarkedTable number T marks
   IsMarkedTable-same_keys number marks is = record { table = IsTable-same_keys number is.table; marks = AreMarked-same_keys marks is.marks }
+
+  pub IsMaskedTable-same_keys : (number : K → ℕ) (marks : List Bool) (mask : ℕ) → IsMaskedTable number S marks mask → IsMaskedTable number T marks mask
+  IsMaskedTable-same_keys number marks mask is = record { marked = IsMarkedTable-same_keys number marks is.marked; count = is.count ∙ length-same_rows }
 
 module _ {K V : Type 0} (number : K → ℕ) (is_key : K → Type 0) where
   -- a list with the keys of a map's walk is one, where it is its own walk

@@ -58,14 +58,15 @@ module _ {K : Type 0} (number : K → ℕ) where
       let some : 0 < C = subst (λ c. 0 < c) (sym cap.3) (pow_pos cap.0) in mod_below (number k * 11400714819323198549) C some
 
 -- a wrapping product and a mask give the slot
-pub bit_and-mask : (n C : ℕ) → IsCapacity C → bit_and ((n * 11400714819323198549) % 2 ^ 64) (C - 1) ≡ (n * 11400714819323198549) % C
-bit_and-mask n C cap =
+pub bit_and-mask : (n mask : ℕ) → IsCapacity (mask + 1) → bit_and ((n * 11400714819323198549) % 2 ^ 64) mask ≡ (n * 11400714819323198549) % (mask + 1)
+bit_and-mask n mask cap =
     let e : ℕ = cap.0 in let rest : ℕ = 64 - e in let small : e < 64 = cap.2 in
     let x : ℕ = n * 11400714819323198549 in
     let sum : rest + e ≡ 64 = omega arith in
     let some : 0 < 2 ^ e = pow_pos e in
     let low : x % 2 ^ e < 2 ^ e = mod_below x (2 ^ e) some in
-    ap (λ c. bit_and (x % 2 ^ 64) (c - 1)) cap.3 ∙ and_mask (x % 2 ^ 64) e
+    let is : mask ≡ 2 ^ e - 1 = omega (arith, cap.3) in
+    ap (λ c. bit_and (x % 2 ^ 64) c) is ∙ and_mask (x % 2 ^ 64) e
     ∙ ap (λ m. x % 2 ^ m % 2 ^ e) (sym sum) ∙ ap (λ m. m % 2 ^ e) (mod-pow-add x rest e)
     ∙ mod-mul-add (x / 2 ^ e % 2 ^ rest) (2 ^ e) (x % 2 ^ e) low
     ∙ ap (λ c. x % c) (sym cap.3)

@@ -109,3 +109,8 @@ pub record IsTable {K X : Type 0} (number : K → ℕ) (slots : List (Held K X))
 pub record IsMarkedTable {K X : Type 0} (number : K → ℕ) (slots : List (Held K X)) (bits : List Bool) : Type 0 where
   pub table : IsTable number slots
   pub marks : AreMarked (rows slots) bits
+
+-- the same, and the mask that the numbers of its slots have: their number less one
+pub record IsMaskedTable {K X : Type 0} (number : K → ℕ) (slots : List (Held K X)) (bits : List Bool) (mask : ℕ) : Type 0 where
+  pub marked : IsMarkedTable number slots bits
+  pub count : mask + 1 ≡ length slots

@@ -24,7 +24,7 @@ use crate::key::IntKey;
 use crate::slot::Slot;
 use crate::steps::Steps;
 use bits::Bits;
-use place::index_of;
+use place::masked_index_of;
 use std::alloc::{AllocError, Allocator};
 use std::marker::Model;
 use stored::Stored;
@@ -41,17 +41,26 @@ fn clear_slots<K: IntKey, X: Drop, A: Allocator>(bits: &Bits<A>, slots: &mut Vec
     }
 }
 
+/// What is known of slots without a look at them.
+#[derive(Drop)]
+struct Directory<A: Allocator> {
+    /// Their number less one, which has exactly the bits that the number of a slot may have.
+    mask: usize,
+    /// Which of them hold a pair.
+    bits: Bits<A>,
+}
+
 /// Slots, as many as a power of two. Each pair lies in the slot of its key, and a bit for each slot
 /// tells whether it holds a pair.
 #[derive(Drop)]
 pub(crate) struct Table<K: IntKey, X, A: Allocator> {
-    bits: Bits<A>,
+    directory: Directory<A>,
     slots: Vec<Slot<K, X, A>, A>,
 }
 
 impl<K: IntKey, X, A: Allocator> Model for Table<K, X, A> {
     ghost use Rattle.std.specs.Prelude.{length};
-    ghost use Rattle.intmap.specs.Slots.{Grid, rows, joined, IsMarkedTable};
+    ghost use Rattle.intmap.specs.Slots.{Grid, rows, joined, IsMaskedTable};
 
     ghost Value = { Grid K X };
 
@@ -60,7 +69,7 @@ impl<K: IntKey, X, A: Allocator> Model for Table<K, X, A> {
       capacity = length t.slots.items;
     } };
 
-    ghost invariant = { λ t. IsMarkedTable K.number_of t.slots.items t.bits };
+    ghost invariant = { λ t. IsMaskedTable K.number_of t.slots.items t.directory.bits t.directory.mask };
 }
 
 impl<K: IntKey, X, A: Allocator> Table<K, X, A> {
@@ -77,7 +86,7 @@ impl<K: IntKey, X, A: Allocator> Table<K, X, A> {
     pub(crate) fn load(&self) -> usize
         ensures { result ≡ load_of K.number_of self.now.walk self.now.capacity }
     {
-        self.bits.count()
+        self.directory.bits.count()
     }
 
     /// The number of pairs that a slot holds.
@@ -97,7 +106,7 @@ impl<K: IntKey, X, A: Allocator> Table<K, X, A> {
             first: None,
             rest: &[],
             is_turned: false,
-            places: self.bits.iter(),
+            places: self.directory.bits.iter(),
             slots: &self.slots,
         }
     }
@@ -108,7 +117,7 @@ impl<K: IntKey, X, A: Allocator> Table<K, X, A> {
         ensures within { result < self.now.capacity }
         ensures key { K.is_key key.now }
     {
-        index_of(key, self.slots.len())
+        masked_index_of(key, self.directory.mask)
     }
 
     /// What the key is bound to. The keys of its slot are compared from the front up to it, each
@@ -136,7 +145,7 @@ impl<K: IntKey, X, A: Allocator> Table<K, X, A> {
     {
         let index = self.index_of(key);
         let slot = &mut self.slots[index];
-        slot.take(key, steps, &mut self.bits, index)
+        slot.take(key, steps, &mut self.directory.bits, index)
     }
 }
 
@@ -166,8 +175,8 @@ impl<K: IntKey, X: Drop, A: Allocator> Table<K, X, A> {
         ensures walk { self.new.walk ≡ [] }
         ensures capacity { self.new.capacity ≡ self.old.capacity }
     {
-        clear_slots(&self.bits, &mut self.slots);
-        self.bits.clear_all();
+        clear_slots(&self.directory.bits, &mut self.slots);
+        self.directory.bits.clear_all();
     }
 
     /// Puts the pair of a key that isn't bound last in its slot. Where memory is refused, which is
@@ -185,7 +194,7 @@ impl<K: IntKey, X: Drop, A: Allocator> Table<K, X, A> {
     {
         let index = self.index_of(&key);
         let slot = &mut self.slots[index];
-        if self.bits.set(index) {
+        if self.directory.bits.set(index) {
             return slot.push(key, value);
         }
         slot.put_first((Stored::new(key), value));
@@ -210,6 +219,10 @@ impl<K: IntKey, X: Drop, A: Allocator + Copy> Table<K, X, A> {
         for _ in 0..capacity {
             slots.push_reserved(Slot::new(alloc));
         }
-        Ok(Table { bits, slots })
+        let directory = Directory {
+            mask: capacity - 1,
+            bits,
+        };
+        Ok(Table { directory, slots })
     }
 }

@@ -5,7 +5,7 @@ ghost use Rattle.intmap.specs.Cloning.{IsPairClone};
 ghost use Rattle.intmap.specs.Walk.{walk_of};
 
 use crate::key::IntKey;
-use crate::table::Table;
+use crate::table::{Directory, Table};
 use std::alloc::{AllocError, Allocator};
 
 impl<K: IntKey, X: Clone, A: Allocator + Copy> Table<K, X, A> {
@@ -18,11 +18,15 @@ impl<K: IntKey, X: Clone, A: Allocator + Copy> Table<K, X, A> {
         ensures own { IfOk result
             (λ made. walk_of K.number_of made.walk made.capacity ≡ made.walk) }
     {
-        let bits = self.bits.clone()?;
+        let bits = self.directory.bits.clone()?;
         let mut slots = Vec::with_capacity(*self.slots.allocator(), self.slots.len())?;
         for slot in &self.slots {
             slots.push_reserved(slot.clone()?);
         }
-        Ok(Table { bits, slots })
+        let directory = Directory {
+            mask: self.directory.mask,
+            bits,
+        };
+        Ok(Table { directory, slots })
     }
 }

@@ -55,6 +55,6 @@ impl<K: IntKey, V, A: Allocator> Table<K, Kept<V>, A> {
         ensures capacity { self.new.capacity ≡ self.old.capacity }
         ensures own { walk_of K.number_of self.new.walk self.new.capacity ≡ self.new.walk }
     {
-        write_slots(&self.bits, &mut self.slots, f);
+        write_slots(&self.directory.bits, &mut self.slots, f);
     }
 }

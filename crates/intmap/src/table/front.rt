@@ -20,14 +20,14 @@ impl<K: IntKey, X, A: Allocator> Table<K, X, A> {
         ensures own { walk_of K.number_of self.new.walk self.new.capacity ≡ self.new.walk }
         ensures passed { ArePassed K.number_of self.new.walk self.new.capacity from.new }
     {
-        let Some(place) = self.bits.iter_from(*from).next() else {
+        let Some(place) = self.directory.bits.iter_from(*from).next() else {
             return None;
         };
         *from = place;
         let slot = &mut self.slots[place];
         let (key, value) = slot.take_front();
         if !slot.is_filled() {
-            self.bits.clear(place);
+            self.directory.bits.clear(place);
         }
         Some((*key.key(), value))
     }
@@ -44,13 +44,13 @@ impl<K: IntKey, X, A: Allocator + Copy> Table<K, X, A> {
         ensures capacity { self.new.capacity ≡ self.old.capacity }
         ensures passed { ArePassed K.number_of self.new.walk self.new.capacity from.new }
     {
-        let Some(place) = self.bits.iter_from(*from).next() else {
+        let Some(place) = self.directory.bits.iter_from(*from).next() else {
             return None;
         };
         *from = place;
         let empty = Slot::new(*self.slots.allocator());
         let slot = mem::replace(&mut self.slots[place], empty);
-        self.bits.clear(place);
+        self.directory.bits.clear(place);
         Some(slot)
     }
 }

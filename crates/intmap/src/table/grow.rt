@@ -11,10 +11,10 @@ ghost use Rattle.intmap.specs.Moves.{CanCount, IsCounted, IsRoomy, IsReady};
 use crate::key::IntKey;
 use crate::slot::Slot;
 use crate::steps::Steps;
-use crate::table::Table;
 use crate::table::bits::Bits;
 use crate::table::place::{index_of, place, place_all};
 use crate::table::stored::Stored;
+use crate::table::{Directory, Table};
 use std::alloc::{AllocError, Allocator};
 use std::mem;
 
@@ -100,7 +100,7 @@ impl<K: IntKey, X: Drop, A: Allocator + Copy> Table<K, X, A> {
         requires fits { CanCount K.number_of counts.old (keys_of self.now.walk) }
         ensures { IsCounted K.number_of counts.old (keys_of self.now.walk) counts.new }
     {
-        count_all(counts, &self.bits, &self.slots);
+        count_all(counts, &self.directory.bits, &self.slots);
     }
 
     /// Empty slots, so many, each with exact room for the pairs that belong in it, that of a new
@@ -109,12 +109,13 @@ impl<K: IntKey, X: Drop, A: Allocator + Copy> Table<K, X, A> {
         &self,
         capacity: usize,
         new: Option<K>,
-    ) -> Result<(Bits<A>, Vec<Slot<K, X, A>, A>), AllocError>
+    ) -> Result<(Directory<A>, Vec<Slot<K, X, A>, A>), AllocError>
         requires capacity { IsCapacity capacity }
         requires count { length self.now.walk + length (option_to_list new) < 2 ^ 64 }
         ensures slots { IfOk result (λ made. IsReady K.number_of
             (keys_of self.now.walk ++ option_to_list new) capacity made.1.items) }
-        ensures marks { IfOk result (λ made. AreMarked (rows made.1.items) made.0) }
+        ensures marks { IfOk result (λ made. AreMarked (rows made.1.items) made.0.bits) }
+        ensures mask { IfOk result (λ made. made.0.mask + 1 ≡ capacity) }
     {
         let alloc = *self.slots.allocator();
         let mut zeros = vec![in alloc; 0usize; capacity]?;
@@ -125,7 +126,11 @@ impl<K: IntKey, X: Drop, A: Allocator + Copy> Table<K, X, A> {
         }
         let bits = Bits::new(alloc, capacity)?;
         let slots = with_room(alloc, counts)?;
-        Ok((bits, slots))
+        let directory = Directory {
+            mask: capacity - 1,
+            bits,
+        };
+        Ok((directory, slots))
     }
 
     /// Moves all pairs, in the order of the walk, into a table of so many slots, and puts the pair
@@ -149,14 +154,15 @@ impl<K: IntKey, X: Drop, A: Allocator + Copy> Table<K, X, A> {
         ensures none_placed { OnErr result (placed.new ≡ placed.old) }
         ensures value_returned { IfErr result (λ returned. returned ≡ value) }
     {
-        let Ok((bits, slots)) = self.slots_for(capacity, Some(key)) else {
+        let Ok((directory, slots)) = self.slots_for(capacity, Some(key)) else {
             return Err(value);
         };
-        let old_bits = mem::replace(&mut self.bits, bits);
+        let old_directory = mem::replace(&mut self.directory, directory);
         let old = mem::replace(&mut self.slots, slots);
+        let bits = &mut self.directory.bits;
         let slots = self.slots.as_mut_slice();
-        place_all(&mut self.bits, slots, &old_bits, old, placed);
-        place(&mut self.bits, slots, (Stored::new(key), value), placed);
+        place_all(bits, slots, &old_directory.bits, old, placed);
+        place(bits, slots, (Stored::new(key), value), placed);
         Ok(())
     }
 
@@ -174,13 +180,13 @@ impl<K: IntKey, X: Drop, A: Allocator + Copy> Table<K, X, A> {
         if capacity == self.slots.len() {
             return Ok(());
         }
-        let (bits, slots) = self.slots_for(capacity, None)?;
-        let old_bits = mem::replace(&mut self.bits, bits);
+        let (directory, slots) = self.slots_for(capacity, None)?;
+        let old_directory = mem::replace(&mut self.directory, directory);
         let old = mem::replace(&mut self.slots, slots);
         place_all(
-            &mut self.bits,
+            &mut self.directory.bits,
             &mut self.slots,
-            &old_bits,
+            &old_directory.bits,
             old,
             &mut Steps::new(),
         );

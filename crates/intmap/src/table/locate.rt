@@ -78,7 +78,7 @@ impl<K: IntKey, X, A: Allocator> Table<K, X, A> {
         ensures capacity { self.new.capacity ≡ self.old.capacity }
     {
         let slot = &mut self.slots[at.slot];
-        let (_, value) = slot.take_at(at.place, &mut self.bits, at.slot);
+        let (_, value) = slot.take_at(at.place, &mut self.directory.bits, at.slot);
         value
     }
 }

@@ -1,5 +1,5 @@
 //! Where a key belongs, and how pairs get there.
-ghost use Rattle.std.specs.Prelude.{◌≡◌, ◌+◌, ◌<◌, [], ◌∷◌, length};
+ghost use Rattle.std.specs.Prelude.{◌≡◌, ◌+◌, ◌<◌, ◌≤◌, [], ◌∷◌, length};
 ghost use Rattle.intmap.specs.Classes.{IsCapacity, slot_number};
 ghost use Rattle.intmap.specs.Slots.{rows, joined, AreMarked};
 ghost use Rattle.intmap.specs.Moves.{HasRoom, IsPlaced};
@@ -14,6 +14,17 @@ use std::alloc::Allocator;
 /// The odd number that spreads keys over slots.
 const MULTIPLIER: u64 = 11400714819323198549;
 
+/// The slot of a key, of one more than the mask.
+#[inline(always)]
+pub(super) fn masked_index_of<K: IntKey>(key: &K, mask: usize) -> usize
+    requires { IsCapacity (mask + 1) }
+    ensures slot { result ≡ slot_number K.number_of key.now (mask + 1) }
+    ensures within { result ≤ mask }
+    ensures key { K.is_key key.now }
+{
+    (key.number().wrapping_mul(MULTIPLIER) & mask as u64) as usize
+}
+
 /// The slot of a key, of so many slots.
 pub(super) fn index_of<K: IntKey>(key: &K, slots: usize) -> usize
     requires { IsCapacity slots }
@@ -21,7 +32,7 @@ pub(super) fn index_of<K: IntKey>(key: &K, slots: usize) -> usize
     ensures within { result < slots }
     ensures key { K.is_key key.now }
 {
-    (key.number().wrapping_mul(MULTIPLIER) & (slots as u64 - 1)) as usize
+    masked_index_of(key, slots - 1)
 }
 
 /// Puts a pair at the end of its slot, where there is room for it, and counts it. The slot's bit is

@@ -110,6 +110,6 @@ impl<K: IntKey, V: Drop, A: Allocator + Copy> Table<K, Kept<V>, A> {
         ensures own { walk_of K.number_of self.new.walk self.new.capacity ≡ self.new.walk }
         ensures count { result ≡ length self.new.walk }
     {
-        retain_slots(&mut self.bits, &mut self.slots, f)
+        retain_slots(&mut self.directory.bits, &mut self.slots, f)
     }
 }

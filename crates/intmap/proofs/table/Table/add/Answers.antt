@@ -1,4 +1,4 @@
-use Rattle.std.proofs.Common.{◌≡◌, ◌∙◌, ℕ, ◌<◌, List, [], ◌∷◌, ◌++◌, length, set, true, sym, ap}
+use Rattle.std.proofs.Common.{◌≡◌, ◌∙◌, ℕ, ◌<◌, List, [], ◌∷◌, ◌++◌, length, set, length-set, true, sym, ap}
 use Rattle.std.specs.Prelude.{Result, Ok, Err, OnOk, OnErr, nat_lt}
 use Rattle.std.proofs.lemmas.Bool.{ltb-true}
 use Rattle.std.proofs.lemmas.Result.{on_ok_weaker, on_err_weaker}
@@ -12,7 +12,7 @@ use Rattle.intmap.proofs.table.Table.add.Goals.{After-index_mut-slot, After-put_
 
 here : (g : _) (c : After-index_mut-slot g) → IsSlot g.K.IntKey.number_of c.self.inside.slots.items c.index_mut-slot.result.now c.index_of-index.result c.args.key
 here g c = record {
-  table = c.self.invariant.table;
+  table = c.self.invariant.marked.table;
   slot = c.index_of-index.ensures.slot ∙ ap (λ (t : Grid _ _). slot_number g.K.IntKey.number_of c.args.key t.capacity) (sym c.self.view_is);
   here = c.index_mut-slot.ensures.value;
 }
@@ -30,10 +30,13 @@ module _ {K X : Type 0} (number : K → ℕ) (S : List (Held K X)) (h s : Held K
 pub invariant_of-self : goal.invariant_of-self
 invariant_of-self g c =
     let at = here g (goal.at.invariant_of-self g c).After-index_mut-slot in
-    let full = sym (c.set.ensures.before ∙ marked-here _ _ _ _ _ at c.self.inside.bits c.self.invariant.marks) ∙ c.if-set.true in
+    let full = sym (c.set.ensures.before ∙ marked-here _ _ _ _ _ at c.self.inside.directory.bits c.self.invariant.marked.marks) ∙ c.if-set.true in
     record {
-      table = table _ _ _ c.push.new.self _ _ c.args.value at full c.push.result c.push.ensures.ok c.push.ensures.err;
-      marks = rw c.set.ensures.marks (marks-set _ _ _ _ _ at c.self.inside.bits c.self.invariant.marks c.push.new.self true (filled _ _ _ c.push.new.self _ _ c.args.value at full c.push.result c.push.ensures.ok c.push.ensures.err));
+      marked = record {
+        table = table _ _ _ c.push.new.self _ _ c.args.value at full c.push.result c.push.ensures.ok c.push.ensures.err;
+        marks = rw c.set.ensures.marks (marks-set _ _ _ _ _ at c.self.inside.directory.bits c.self.invariant.marked.marks c.push.new.self true (filled _ _ _ c.push.new.self _ _ c.args.value at full c.push.result c.push.ensures.ok c.push.ensures.err));
+      };
+      count = c.self.invariant.count ∙ sym (length-set _ _ _);
     }
 
 pub returns-then-set-clause-walk : goal.returns-then-set-clause-walk
@@ -49,13 +52,13 @@ returns-then-set-clause-err g c =
 pub returns-then-set-clause-memory : goal.returns-then-set-clause-memory
 returns-then-set-clause-memory g c =
     let at = here g (goal.at.returns-then-set-clause-memory g c).After-index_mut-slot in
-    let some : 0 < length c.index_mut-slot.result.now.pairs = ltb-true 0 _ (sym (c.set.ensures.before ∙ marked-here _ _ _ _ _ at c.self.inside.bits c.self.invariant.marks) ∙ c.if-set.true) in
+    let some : 0 < length c.index_mut-slot.result.now.pairs = ltb-true 0 _ (sym (c.set.ensures.before ∙ marked-here _ _ _ _ _ at c.self.inside.directory.bits c.self.invariant.marked.marks) ∙ c.if-set.true) in
     on_err_weaker c.push.result (λ _. rw (← c.self.view_is) (rw (class_size-here _ _ _ _ _ at) some)) c.push.ensures.err
 
 -- the first pair of its slot stands behind none
 alone : (g : _) (c : After-put_first g) → IsSlot g.K.IntKey.number_of c.self.inside.slots.items c.index_mut-slot.result.now c.index_of-index.result c.args.key → c.put_first.new.self.pairs ≡ c.index_mut-slot.result.now.pairs ++ (c.args.key, c.args.value) ∷ []
 alone g c at =
-    let none = row-none c.index_mut-slot.result.now.pairs (sym (c.set.ensures.before ∙ marked-here _ _ _ _ _ at c.self.inside.bits c.self.invariant.marks) ∙ c.if-set.false) in
+    let none = row-none c.index_mut-slot.result.now.pairs (sym (c.set.ensures.before ∙ marked-here _ _ _ _ _ at c.self.inside.directory.bits c.self.invariant.marked.marks) ∙ c.if-set.false) in
     c.put_first.ensures.pairs ∙ rw (none, c.new.ensures.value)
 
 pub invariant_of-self-2 : goal.invariant_of-self-2
@@ -63,8 +66,11 @@ invariant_of-self-2 g c =
     let after = goal.at.invariant_of-self-2 g c in let at = here g after.After-index_mut-slot in
     let left = alone g after.After-put_first at in
     record {
-      table = IsTable-set _ _ _ _ _ at c.put_first.new.self (rw left (Belong-push _ _ _ _ _ at _ c.args.value (Belong-here _ _ _ _ _ at)));
-      marks = rw c.set.ensures.marks (marks-set _ _ _ _ _ at c.self.inside.bits c.self.invariant.marks c.put_first.new.self true (sym (ap (λ ps. nat_lt 0 (length ps)) left ∙ filled-pushed _ (c.args.key, c.args.value))));
+      marked = record {
+        table = IsTable-set _ _ _ _ _ at c.put_first.new.self (rw left (Belong-push _ _ _ _ _ at _ c.args.value (Belong-here _ _ _ _ _ at)));
+        marks = rw c.set.ensures.marks (marks-set _ _ _ _ _ at c.self.inside.directory.bits c.self.invariant.marked.marks c.put_first.new.self true (sym (ap (λ ps. nat_lt 0 (length ps)) left ∙ filled-pushed _ (c.args.key, c.args.value))));
+      };
+      count = c.self.invariant.count ∙ sym (length-set _ _ _);
     }
 
 pub returns-clause-walk : goal.returns-clause-walk

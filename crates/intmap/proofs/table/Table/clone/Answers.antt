@@ -4,7 +4,7 @@ use Rattle.std.proofs.lemmas.List.Elements.{all_zip_more}
 use Rattle.std.specs.List.{AllZip}
 use Rattle.intmap.specs.Slots.{Grid, rows, joined}
 use Rattle.intmap.proofs.CloneLemmas.{IsSlotClone, AreClones, AreClones-joined, row_keys-AllZip}
-use Rattle.intmap.proofs.SameKeysLemmas.{IsMarkedTable-same_keys}
+use Rattle.intmap.proofs.SameKeysLemmas.{IsMaskedTable-same_keys}
 use Rattle.intmap.proofs.TableLemmas.{walk_of-joined}
 use Rattle.intmap.proofs.table.Table.clone.Goals as goal
 use Rattle.intmap.proofs.table.Table.clone.Goals.{After-loop-slot}
@@ -28,7 +28,7 @@ all g c =
 pub invariant_of-result : goal.invariant_of-result
 invariant_of-result g c =
     let old = c.self.inside.slots.items in let new = c.loop-slot.slots.items in
-    rw c.in_ok-bits.ensures (IsMarkedTable-same_keys old new (row_keys-AllZip g.X.Clone.is_clone old new (all g c)) g.K.IntKey.number_of c.self.inside.bits c.self.invariant)
+    rw c.in_ok-bits.ensures (IsMaskedTable-same_keys old new (row_keys-AllZip g.X.Clone.is_clone old new (all g c)) g.K.IntKey.number_of c.self.inside.directory.bits c.self.inside.directory.mask c.self.invariant)
 
 pub returns-clause-walk : goal.returns-clause-walk
 returns-clause-walk g c =
@@ -36,4 +36,4 @@ returns-clause-walk g c =
     subst (λ (t : Grid _ _). AreClones clones t.walk (joined (rows new))) c.self.view_is (AreClones-joined clones c.self.inside.slots.items new (all g c))
 
 pub returns-clause-own : goal.returns-clause-own
-returns-clause-own g c = walk_of-joined g.K.IntKey.number_of c.loop-slot.slots.items (invariant_of-result g c).table
+returns-clause-own g c = walk_of-joined g.K.IntKey.number_of c.loop-slot.slots.items (invariant_of-result g c).marked.table

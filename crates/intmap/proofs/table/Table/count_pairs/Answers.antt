@@ -9,7 +9,7 @@ whole : (g : _) (c : After-deref g) → keys_of (joined (rows c.deref.result.now
 whole g c = ap (λ slots. keys_of (joined (rows slots))) c.deref.ensures.value ∙ ap (λ (t : Grid _ _). keys_of t.walk) c.self.view_is
 
 pub count_all-requires-clause-marks : goal.count_all-requires-clause-marks
-count_all-requires-clause-marks g c = rw c.deref.ensures.value c.self.invariant.marks
+count_all-requires-clause-marks g c = rw c.deref.ensures.value c.self.invariant.marked.marks
 
 pub count_all-requires-clause-fits : goal.count_all-requires-clause-fits
 count_all-requires-clause-fits g c = rw (whole g (goal.at.count_all-requires-clause-fits g c).After-deref) c.requires.fits

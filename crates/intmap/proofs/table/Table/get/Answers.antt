@@ -8,7 +8,7 @@ use Rattle.intmap.proofs.table.Table.get.Goals.{After-get}
 
 here : (g : _) (c : After-get g) → IsSlot g.K.IntKey.number_of c.self.inside.slots.items c.index-slot.result.now c.index_of-index.result c.args.key.now
 here g c = record {
-  table = c.self.invariant.table;
+  table = c.self.invariant.marked.table;
   slot = c.index_of-index.ensures.slot ∙ ap (λ (t : Grid _ _). slot_number g.K.IntKey.number_of c.args.key.now t.capacity) (sym c.self.view_is);
   here = c.index-slot.ensures;
 }

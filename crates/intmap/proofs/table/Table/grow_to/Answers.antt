@@ -1,4 +1,4 @@
-use Rattle.std.proofs.Common.{List, ◌≡◌, ◌++◌, [], ◌∙◌, length, sym, ap, rules}
+use Rattle.std.proofs.Common.{List, ◌≡◌, ◌+◌, ◌++◌, [], ◌∙◌, length, sym, ap, rules}
 use Rattle.std.specs.Vec.{with_items}
 use Rattle.std.proofs.lemmas.List.{with_items_is}
 use Rattle.intmap.specs.Slots.{Held, Grid, rows, joined}
@@ -13,7 +13,7 @@ pub returns-then-capacity-len-clause-walk : goal.returns-then-capacity-len-claus
 returns-then-capacity-len-clause-walk g c =
     let slots = c.self.inside.slots in
     let own : c.args.capacity ≡ length slots.items = c.if-capacity-len.true ∙ c.len.ensures ∙ slots.ok.0 in
-    rw (← c.self.view_is, own) (sym (walk_of-joined g.K.IntKey.number_of slots.items c.self.invariant.table))
+    rw (← c.self.view_is, own) (sym (walk_of-joined g.K.IntKey.number_of slots.items c.self.invariant.marked.table))
 
 module _ (g : _) (c : After-deref_mut g) where
   -- the old slots hold the walk
@@ -22,7 +22,7 @@ module _ (g : _) (c : After-deref_mut g) where
 
   -- the new slots are ready for the walk
   ready : IsReady g.K.IntKey.number_of (keys_of c.args.self.now.walk ++ []) c.args.capacity c.deref_mut.result.now
-  ready = rw (c.deref_mut.ensures.value, c.replace-old.ensures.after) c.in_ok-bits.ensures.slots
+  ready = rw (c.deref_mut.ensures.value, c.replace-old.ensures.after) c.in_ok-directory.ensures.slots
 
   -- once all are placed, the new slots have them
   moved : (T : List (Held _ _)) → IsPlaced g.K.IntKey.number_of c.deref_mut.result.now (joined (rows c.replace-old.result.items)) T
@@ -42,8 +42,11 @@ pub invariant_of-self : goal.invariant_of-self
 invariant_of-self g c =
     let at = goal.at.invariant_of-self g c in
     rw (written g at.After-place_all) (record {
-      table = IsTable-moved _ _ _ _ (moved g at.After-deref_mut _ c.place_all.ensures.pairs);
-      marks = c.place_all.ensures.marks;
+      marked = record {
+        table = IsTable-moved _ _ _ _ (moved g at.After-deref_mut _ c.place_all.ensures.pairs);
+        marks = c.place_all.ensures.marks;
+      };
+      count = ap (λ (d : _). d.mask + 1) c.replace-old_directory.ensures.after ∙ c.in_ok-directory.ensures.mask ∙ sym (moved g at.After-deref_mut _ c.place_all.ensures.pairs).len;
     })
 
 pub returns-clause-walk : goal.returns-clause-walk
@@ -67,7 +70,7 @@ pub slots_for-requires-clause-count : goal.slots_for-requires-clause-count
 slots_for-requires-clause-count g c = search rules
 
 pub place_all-requires-clause-old_marks : goal.place_all-requires-clause-old_marks
-place_all-requires-clause-old_marks g c = rw (c.replace-old.ensures.value, c.replace-old_bits.ensures.value) c.self.invariant.marks
+place_all-requires-clause-old_marks g c = rw (c.replace-old.ensures.value, c.replace-old_directory.ensures.value) c.self.invariant.marked.marks
 
 pub place_all-requires-clause-marks : goal.place_all-requires-clause-marks
-place_all-requires-clause-marks g c = rw (c.deref_mut.ensures.value, c.replace-old.ensures.after, c.replace-old_bits.ensures.after) c.in_ok-bits.ensures.marks
+place_all-requires-clause-marks g c = rw (c.deref_mut.ensures.value, c.replace-old.ensures.after, c.replace-old_directory.ensures.after) c.in_ok-directory.ensures.marks

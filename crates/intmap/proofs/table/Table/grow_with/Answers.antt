@@ -1,4 +1,4 @@
-use Rattle.std.proofs.Common.{List, ◌≡◌, ◌++◌, ◌∷◌, [], ◌∙◌, length, ap, arith, rules}
+use Rattle.std.proofs.Common.{List, ◌≡◌, ◌+◌, ◌++◌, ◌∷◌, [], ◌∙◌, length, ap, sym, arith, rules}
 use Rattle.std.specs.Vec.{with_items}
 use Rattle.std.proofs.lemmas.List.{with_items_is}
 use Rattle.intmap.specs.Slots.{Held, Grid, rows, joined}
@@ -48,8 +48,11 @@ pub invariant_of-self : goal.invariant_of-self
 invariant_of-self g c =
     let at = goal.at.invariant_of-self g c in
     rw (written g at.After-place) (record {
-      table = IsTable-moved _ _ _ _ (moved g at.After-as_mut_slice-slots _ (placed g at.After-place));
-      marks = c.place.ensures.marks;
+      marked = record {
+        table = IsTable-moved _ _ _ _ (moved g at.After-as_mut_slice-slots _ (placed g at.After-place));
+        marks = c.place.ensures.marks;
+      };
+      count = ap (λ (d : _). d.mask + 1) c.replace-old_directory.ensures.after ∙ c.in-Ok.ensures.mask ∙ sym (moved g at.After-as_mut_slice-slots _ (placed g at.After-place)).len;
     })
 
 pub returns-clause-walk : goal.returns-clause-walk
@@ -83,7 +86,7 @@ pub slots_for-requires-clause-count : goal.slots_for-requires-clause-count
 slots_for-requires-clause-count g c = search rules
 
 pub place_all-requires-clause-old_marks : goal.place_all-requires-clause-old_marks
-place_all-requires-clause-old_marks g c = rw (c.replace-old.ensures.value, c.replace-old_bits.ensures.value) c.self.invariant.marks
+place_all-requires-clause-old_marks g c = rw (c.replace-old.ensures.value, c.replace-old_directory.ensures.value) c.self.invariant.marked.marks
 
 pub place_all-requires-clause-marks : goal.place_all-requires-clause-marks
-place_all-requires-clause-marks g c = rw (c.as_mut_slice-slots.ensures.value, c.replace-old.ensures.after, c.replace-old_bits.ensures.after) c.in-Ok.ensures.marks
+place_all-requires-clause-marks g c = rw (c.as_mut_slice-slots.ensures.value, c.replace-old.ensures.after, c.replace-old_directory.ensures.after) c.in-Ok.ensures.marks

@@ -8,4 +8,4 @@ pub returns : goal.returns
 returns g c =
     let slots = c.self.inside.slots.items in
     c.count.ensures ∙ (rw (← c.self.view_is)
-    (count-marked (rows slots) c.self.inside.bits c.self.invariant.marks ∙ count_by-filled (rows slots) ∙ sym (load_of-joined g.K.IntKey.number_of slots c.self.invariant.table)))
+    (count-marked (rows slots) c.self.inside.directory.bits c.self.invariant.marked.marks ∙ count_by-filled (rows slots) ∙ sym (load_of-joined g.K.IntKey.number_of slots c.self.invariant.marked.table)))

@@ -8,7 +8,7 @@ use Rattle.intmap.proofs.table.Table.locate_last.Goals.{After-index}
 
 here : (g : _) (c : After-index g) → IsSlot g.K.IntKey.number_of c.self.inside.slots.items c.index.result.now c.index_of-slot.result c.args.key
 here g c = record {
-  table = c.self.invariant.table;
+  table = c.self.invariant.marked.table;
   slot = c.index_of-slot.ensures.slot ∙ ap (λ (t : Grid _ _). slot_number g.K.IntKey.number_of c.args.key t.capacity) (sym c.self.view_is);
   here = c.index.ensures;
 }

@@ -13,7 +13,7 @@ use Rattle.intmap.proofs.table.Table.slot_len.Goals.{After-index}
 row : (g : _) (c : After-index g) → slot_of g.K.IntKey.number_of c.args.self.now.walk c.args.self.now.capacity c.args.slot ≡ c.index.result.now.pairs
 row g c =
     let here : c.args.slot < length c.self.inside.slots.items = rw (← c.self.view_is) at c.requires.within in
-    rw (← c.self.view_is) (slot_of-joined g.K.IntKey.number_of c.self.inside.slots.items c.self.invariant.table c.args.slot
+    rw (← c.self.view_is) (slot_of-joined g.K.IntKey.number_of c.self.inside.slots.items c.self.invariant.marked.table c.args.slot
     ∙ get_or-map (λ (h : Held _ _). h.pairs) c.self.inside.slots.items c.args.slot c.index.result.now [] here
     ∙ sym (ap (λ (h : Held _ _). h.pairs) c.index.ensures))
 

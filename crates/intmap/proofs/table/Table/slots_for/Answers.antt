@@ -1,8 +1,9 @@
-use Rattle.std.proofs.Common.{◌≡◌, ◌++◌, ◌∙◌, append-nil}
+use Rattle.std.proofs.Common.{◌≡◌, ◌++◌, ◌∙◌, append-nil, arith}
 use Rattle.std.specs.Option.{option_to_list}
 use Rattle.std.specs.Map.{keys_of}
 use Rattle.intmap.specs.Moves.{CanCount, IsCounted, IsReady}
 use Rattle.intmap.proofs.FilledLemmas.{AreMarked-ready}
+use Rattle.intmap.proofs.LoadFactorLemmas.{capacity-positive}
 use Rattle.intmap.proofs.MoveLemmas.{zeros, CanCount-start, CanCount-first, CanCount-more, IsCounted-more, IsReady-counted}
 use Rattle.intmap.proofs.table.Table.slots_for.Goals as goal
 use Rattle.intmap.proofs.table.Table.slots_for.Goals.{After-as_mut_slice-counts, After-drop-zeros-2, in-Some, in_default}
@@ -43,3 +44,6 @@ pub returns-clause-marks : goal.returns-clause-marks
 returns-clause-marks g c =
     let at = goal.at.returns-clause-marks g c in
     rw c.in_ok-bits.ensures (AreMarked-ready _ _ c.args.capacity _ (ready g at.After-drop-zeros-2 (start g at.After-as_mut_slice-counts)))
+
+pub returns-clause-mask : goal.returns-clause-mask
+returns-clause-mask g c = let some = capacity-positive c.args.capacity c.requires.capacity in omega (arith, some)

@@ -1,4 +1,4 @@
-use Rattle.std.proofs.Common.{◌≡◌, ◌∙◌, Some, length, set, sym, ap}
+use Rattle.std.proofs.Common.{◌≡◌, ◌∙◌, Some, length, set, length-set, sym, ap}
 use Rattle.intmap.specs.Bindings.{swap_out, value_of}
 use Rattle.intmap.specs.Classes.{same_key}
 use Rattle.intmap.specs.Locations.{IsAt}
@@ -16,12 +16,12 @@ module _ (g : _) (c : After-take_at-value g) where
   located = rw (← c.self.view_is) at c.requires
 
   slot : IsSlot g.K.IntKey.number_of c.self.inside.slots.items c.index_mut-slot.result.now c.args.at.slot c.args.at.key
-  slot = slot-at _ _ _ _ c.self.invariant.table located c.index_mut-slot.ensures.value
+  slot = slot-at _ _ _ _ c.self.invariant.marked.table located c.index_mut-slot.ensures.value
 
   -- the slot is as one that the key was taken out of
   taken : c.take_at-value.new.self.pairs ≡ swap_out (λ p. same_key g.K.IntKey.number_of c.args.at.key p.0) any c.index_mut-slot.result.now.pairs
   taken =
-      let place = place-at _ _ _ _ c.self.invariant.table located c.index_mut-slot.ensures.value in
+      let place = place-at _ _ _ _ c.self.invariant.marked.table located c.index_mut-slot.ensures.value in
       c.take_at-value.ensures.pairs ∙ swap_remove-position (λ p. same_key g.K.IntKey.number_of c.args.at.key p.0) c.index_mut-slot.result.now.pairs c.args.at.place c.take_at-value.result place c.take_at-value.ensures.value
 
   table : IsTable g.K.IntKey.number_of (set c.self.inside.slots.items c.args.at.slot c.take_at-value.new.self)
@@ -30,26 +30,29 @@ module _ (g : _) (c : After-take_at-value g) where
   -- the key was bound to the value
   bound : value_of g.K.IntKey.number_of c.index_mut-slot.result.now.pairs c.args.at.key ≡ Some c.take_at-value.result.1
   bound =
-      let place = place-at _ _ _ _ c.self.invariant.table located c.index_mut-slot.ensures.value in
+      let place = place-at _ _ _ _ c.self.invariant.marked.table located c.index_mut-slot.ensures.value in
       first_value-position (same_key g.K.IntKey.number_of c.args.at.key) c.index_mut-slot.result.now.pairs c.args.at.place c.take_at-value.result place
       ∙ ap (λ (p : g.row.K.Denot × g.row.X.Denot). Some p.1) (sym c.take_at-value.ensures.value)
 
 pub take_at-value-requires-clause-within : goal.take_at-value-requires-clause-within
 take_at-value-requires-clause-within g c =
-    place-within _ _ _ _ c.self.invariant.table (rw (← c.self.view_is) at c.requires) c.index_mut-slot.ensures.value
+    place-within _ _ _ _ c.self.invariant.marked.table (rw (← c.self.view_is) at c.requires) c.index_mut-slot.ensures.value
 
 pub take_at-value-requires-clause-marked : goal.take_at-value-requires-clause-marked
 take_at-value-requires-clause-marked g c =
-    let at = slot-at _ _ _ _ c.self.invariant.table (rw (← c.self.view_is) at c.requires) c.index_mut-slot.ensures.value in
-    mark-below _ _ _ _ _ at c.self.inside.bits c.self.invariant.marks
+    let at = slot-at _ _ _ _ c.self.invariant.marked.table (rw (← c.self.view_is) at c.requires) c.index_mut-slot.ensures.value in
+    mark-below _ _ _ _ _ at c.self.inside.directory.bits c.self.invariant.marked.marks
 
 pub invariant_of-self : goal.invariant_of-self
 invariant_of-self g c =
     let after = (goal.at.invariant_of-self g c).After-take_at-value in
     let before = filled-bound g.K.IntKey.number_of c.index_mut-slot.result.now.pairs c.args.at.key c.take_at-value.result.1 (bound g after) in
     record {
-      table = table g after;
-      marks = rw c.take_at-value.ensures.marks (marks-removed _ _ _ _ _ (slot g after) c.self.inside.bits c.self.invariant.marks c.take_at-value.new.self before);
+      marked = record {
+        table = table g after;
+        marks = rw c.take_at-value.ensures.marks (marks-removed _ _ _ _ _ (slot g after) c.self.inside.directory.bits c.self.invariant.marked.marks c.take_at-value.new.self before);
+      };
+      count = c.self.invariant.count ∙ sym (length-set _ _ _);
     }
 
 pub returns-clause-value : goal.returns-clause-value

@@ -1,4 +1,4 @@
-use Rattle.std.proofs.Common.{◌≡◌, ◌<◌, ◌∷◌, length, set, get_or, [], sym, ap, arith, ◌∙◌}
+use Rattle.std.proofs.Common.{◌≡◌, ◌<◌, ◌∷◌, length, set, length-set, get_or, [], sym, ap, arith, ◌∙◌}
 use Rattle.intmap.specs.Passing.{ArePassed}
 use Rattle.intmap.specs.Slots.{rows, joined, IsTable}
 use Rattle.intmap.proofs.FilledLemmas.{place-below}
@@ -11,20 +11,20 @@ use Rattle.intmap.proofs.table.Table.take_front.Goals.{In-Some, After-take_front
 
 module _ (g : _) (c : In-Some g) where
   -- the slot in hand is that of the next mark
-  next : IsNextMark c.self.inside.bits c.args.from.now c.in-Some.place
-  next = IsNextMark-first c.self.inside.bits c.args.from.now c.in-Some.place c.next.new.self (sym c.iter_from.ensures ∙ c.in-Some.ensures.steps)
+  next : IsNextMark c.self.inside.directory.bits c.args.from.now c.in-Some.place
+  next = IsNextMark-first c.self.inside.directory.bits c.args.from.now c.in-Some.place c.next.new.self (sym c.iter_from.ensures ∙ c.in-Some.ensures.steps)
 
   within : c.in-Some.place < length c.self.inside.slots.items
-  within = next-within c.self.inside.slots.items c.self.inside.bits c.self.invariant.marks c.args.from.now c.in-Some.place next
+  within = next-within c.self.inside.slots.items c.self.inside.directory.bits c.self.invariant.marked.marks c.args.from.now c.in-Some.place next
 
   -- the slots before the place hold no pair
   passed : (j : _) → j < c.args.from.now → get_or (rows c.self.inside.slots.items) j [] ≡ []
-  passed = rows-passed g.K.IntKey.number_of c.self.inside.slots.items c.self.invariant.table c.args.from.now (rw (← c.self.view_is) at c.requires)
+  passed = rows-passed g.K.IntKey.number_of c.self.inside.slots.items c.self.invariant.marked.table c.args.from.now (rw (← c.self.view_is) at c.requires)
 
-module _ (g : _) (c : After-take_front-key g) (is : IsNextMark c.self.inside.bits c.args.from.now c.in-Some.place)
+module _ (g : _) (c : After-take_front-key g) (is : IsNextMark c.self.inside.directory.bits c.args.from.now c.in-Some.place)
     (before : (j : _) → j < c.args.from.now → get_or (rows c.self.inside.slots.items) j [] ≡ []) where
   below : c.in-Some.place < length c.self.inside.slots.items
-  below = next-within c.self.inside.slots.items c.self.inside.bits c.self.invariant.marks c.args.from.now c.in-Some.place is
+  below = next-within c.self.inside.slots.items c.self.inside.directory.bits c.self.invariant.marked.marks c.args.from.now c.in-Some.place is
 
   -- the first pair of the slot was taken out
   taken : get_or (rows c.self.inside.slots.items) c.in-Some.place [] ≡ c.take_front-key.result ∷ c.take_front-key.new.self.pairs
@@ -35,31 +35,31 @@ module _ (g : _) (c : After-take_front-key g) (is : IsNextMark c.self.inside.bit
   -- the walk was the pair and the walk that is left
   front : joined (rows c.self.inside.slots.items) ≡ c.take_front-key.result ∷ joined (rows (set c.self.inside.slots.items c.in-Some.place c.take_front-key.new.self))
   front =
-      joined-front g.K.IntKey.number_of c.self.inside.slots.items c.self.inside.bits c.self.invariant c.args.from.now c.in-Some.place is before
+      joined-front g.K.IntKey.number_of c.self.inside.slots.items c.self.inside.directory.bits c.self.invariant.marked c.args.from.now c.in-Some.place is before
       (c.take_front-key.result ∷ []) c.take_front-key.new.self taken
 
   -- the slots are those of a table
   table : IsTable g.K.IntKey.number_of (set c.self.inside.slots.items c.in-Some.place c.take_front-key.new.self)
   table =
-      IsTable-front g.K.IntKey.number_of c.self.inside.slots.items c.self.inside.bits c.self.invariant c.args.from.now c.in-Some.place is before
+      IsTable-front g.K.IntKey.number_of c.self.inside.slots.items c.self.inside.directory.bits c.self.invariant.marked c.args.from.now c.in-Some.place is before
       (c.take_front-key.result ∷ []) c.take_front-key.new.self taken
 
   -- the slots before the place hold no pair
   empty : ArePassed g.K.IntKey.number_of (joined (rows (set c.self.inside.slots.items c.in-Some.place c.take_front-key.new.self)))
       (length (set c.self.inside.slots.items c.in-Some.place c.take_front-key.new.self)) c.in-Some.place
   empty =
-      ArePassed-front g.K.IntKey.number_of c.self.inside.slots.items c.self.inside.bits c.self.invariant c.args.from.now c.in-Some.place is before
+      ArePassed-front g.K.IntKey.number_of c.self.inside.slots.items c.self.inside.directory.bits c.self.invariant.marked c.args.from.now c.in-Some.place is before
       (c.take_front-key.result ∷ []) c.take_front-key.new.self taken
 
 pub returns-in_default-clause-first : goal.returns-in_default-clause-first
 returns-in_default-clause-first g c =
-    let passed = rows-passed g.K.IntKey.number_of c.self.inside.slots.items c.self.invariant.table c.args.from.now (rw (← c.self.view_is) at c.requires) in
-    let none = unmarked-behind c.self.inside.bits c.args.from.now (sym c.iter_from.ensures ∙ c.in_default.ensures.steps.0) in
-    let empty = joined-passed c.self.inside.slots.items c.self.inside.bits c.self.invariant.marks c.args.from.now passed none in
+    let passed = rows-passed g.K.IntKey.number_of c.self.inside.slots.items c.self.invariant.marked.table c.args.from.now (rw (← c.self.view_is) at c.requires) in
+    let none = unmarked-behind c.self.inside.directory.bits c.args.from.now (sym c.iter_from.ensures ∙ c.in_default.ensures.steps.0) in
+    let empty = joined-passed c.self.inside.slots.items c.self.inside.directory.bits c.self.invariant.marked.marks c.args.from.now passed none in
     rw (← c.self.view_is) (empty, empty)
 
 pub returns-in_default-clause-own : goal.returns-in_default-clause-own
-returns-in_default-clause-own g c = rw (← c.self.view_is) (walk_of-joined g.K.IntKey.number_of c.self.inside.slots.items c.self.invariant.table)
+returns-in_default-clause-own g c = rw (← c.self.view_is) (walk_of-joined g.K.IntKey.number_of c.self.inside.slots.items c.self.invariant.marked.table)
 
 pub index_mut-slot-requires : goal.index_mut-slot-requires
 index_mut-slot-requires g c = let below = within g (goal.at.index_mut-slot-requires g c).In-Some in omega (arith, below, c.self.inside.slots.ok.0)
@@ -67,25 +67,30 @@ index_mut-slot-requires g c = let below = within g (goal.at.index_mut-slot-requi
 pub take_front-key-requires : goal.take_front-key-requires
 take_front-key-requires g c =
     let at = (goal.at.take_front-key-requires g c).In-Some in
-    row-filled (rows c.self.inside.slots.items) c.self.inside.bits c.self.invariant.marks c.in-Some.place c.index_mut-slot.result.now.pairs (next g at).is
+    row-filled (rows c.self.inside.slots.items) c.self.inside.directory.bits c.self.invariant.marked.marks c.in-Some.place c.index_mut-slot.result.now.pairs (next g at).is
     (get_or-rows c.self.inside.slots.items c.in-Some.place c.index_mut-slot.result.now (within g at) ∙ ap (λ (h : _). h.pairs) (sym c.index_mut-slot.ensures.value))
 
 pub clear-requires : goal.clear-requires
 clear-requires g c =
-    place-below c.self.inside.slots.items c.self.inside.bits c.self.invariant.marks c.in-Some.place (within g (goal.at.clear-requires g c).In-Some)
+    place-below c.self.inside.slots.items c.self.inside.directory.bits c.self.invariant.marked.marks c.in-Some.place (within g (goal.at.clear-requires g c).In-Some)
 
 pub invariant_of-self : goal.invariant_of-self
 invariant_of-self g c =
     let at = goal.at.invariant_of-self g c in
-    rw c.clear.ensures
-    (IsMarkedTable-emptied_front g.K.IntKey.number_of c.self.inside.slots.items c.self.inside.bits c.self.invariant c.args.from.now c.in-Some.place (next g at.In-Some) (passed g at.In-Some)
-    (c.take_front-key.result ∷ []) c.take_front-key.new.self (taken g at.After-take_front-key (next g at.In-Some) (passed g at.In-Some)) c.if-not-is_filled.ensures)
+    record {
+      marked = rw c.clear.ensures (IsMarkedTable-emptied_front g.K.IntKey.number_of c.self.inside.slots.items c.self.inside.directory.bits c.self.invariant.marked c.args.from.now c.in-Some.place (next g at.In-Some) (passed g at.In-Some)
+          (c.take_front-key.result ∷ []) c.take_front-key.new.self (taken g at.After-take_front-key (next g at.In-Some) (passed g at.In-Some)) c.if-not-is_filled.ensures);
+      count = c.self.invariant.count ∙ sym (length-set _ _ _);
+    }
 
 pub invariant_of-self-else-not-is_filled : goal.invariant_of-self-else-not-is_filled
 invariant_of-self-else-not-is_filled g c =
     let at = goal.at.invariant_of-self-else-not-is_filled g c in
-    IsMarkedTable-kept_front g.K.IntKey.number_of c.self.inside.slots.items c.self.inside.bits c.self.invariant c.args.from.now c.in-Some.place (next g at.In-Some) (passed g at.In-Some)
-    (c.take_front-key.result ∷ []) c.take_front-key.new.self (taken g at.After-take_front-key (next g at.In-Some) (passed g at.In-Some)) c.if-not-is_filled.ensures
+    record {
+      marked = IsMarkedTable-kept_front g.K.IntKey.number_of c.self.inside.slots.items c.self.inside.directory.bits c.self.invariant.marked c.args.from.now c.in-Some.place (next g at.In-Some) (passed g at.In-Some)
+          (c.take_front-key.result ∷ []) c.take_front-key.new.self (taken g at.After-take_front-key (next g at.In-Some) (passed g at.In-Some)) c.if-not-is_filled.ensures;
+      count = c.self.invariant.count ∙ sym (length-set _ _ _);
+    }
 
 pub returns-clause-first : goal.returns-clause-first
 returns-clause-first g c =

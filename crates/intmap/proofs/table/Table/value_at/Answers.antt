@@ -3,8 +3,8 @@ use Rattle.intmap.proofs.table.Table.value_at.Goals as goal
 
 pub value_at-requires : goal.value_at-requires
 value_at-requires g c =
-    place-within g.K.IntKey.number_of c.self.inside.slots.items c.index.result.now c.args.at c.self.invariant.table (rw (← c.self.view_is) at c.requires) c.index.ensures
+    place-within g.K.IntKey.number_of c.self.inside.slots.items c.index.result.now c.args.at c.self.invariant.marked.table (rw (← c.self.view_is) at c.requires) c.index.ensures
 
 pub returns : goal.returns
 returns g c =
-    rw (← c.self.view_is) (value_of-at g.K.IntKey.number_of c.self.inside.slots.items c.index.result.now c.args.at c.self.invariant.table (rw (← c.self.view_is) at c.requires) c.index.ensures c.value_at.result.now c.value_at.ensures)
+    rw (← c.self.view_is) (value_of-at g.K.IntKey.number_of c.self.inside.slots.items c.index.result.now c.args.at c.self.invariant.marked.table (rw (← c.self.view_is) at c.requires) c.index.ensures c.value_at.result.now c.value_at.ensures)
