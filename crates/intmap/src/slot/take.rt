@@ -56,7 +56,7 @@ fn turn_and_take_first<P, A: Allocator>(first: &mut First<P>, rest: &mut Vec<P, 
 
 /// Takes the pair of the key out of those that lie in order behind the first one, whose key is
 /// another. The last pair takes its place. The keys are compared in order up to it, each by one step.
-#[inline(never)]
+#[inline(always)]
 fn take_behind<K: IntKey, X, A: Allocator>(
     first: &mut First<(Stored<K>, X)>,
     rest: &mut Vec<(Stored<K>, X), A>,
@@ -83,9 +83,8 @@ fn take_behind<K: IntKey, X, A: Allocator>(
 }
 
 impl<K: IntKey, X, A: Allocator> Slot<K, X, A> {
-    /// Takes the first of several pairs out. The last pair takes its place. It is a call, so that a
-    /// removal of a pair alone in its slot is straight code.
-    #[inline(never)]
+    /// Takes the first of several pairs out. The last pair takes its place.
+    #[inline(always)]
     fn take_first(&mut self) -> (Stored<K>, X)
         requires { 1 < length self.old.pairs }
         ensures value { result ≡ slice_index_or self.old.pairs 0 result }
