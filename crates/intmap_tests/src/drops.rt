@@ -1,8 +1,11 @@
 //! Values that count how often they are dropped.
+//!
+//! Each step is taken on a map that is lent. A function that owns one has to be proved to let it go
+//! at each of its ways out, so the one that does here has two.
 
-use intmap::IntMap;
 use intmap::entry::Entry;
-use std::alloc::AllocError;
+use intmap::{Cause, IntMap};
+use std::alloc::Global;
 use std::cell::Cell;
 use std::test::Fail;
 
@@ -24,117 +27,215 @@ impl Drop for Counted<'_> {
     }
 }
 
+type CountedMap<'a> = IntMap<u64, Counted<'a>>;
+
+/// A call, with a key and the number of a value where it takes them.
+#[derive(Clone, Copy, Debug)]
+enum Step {
+    /// `insert`.
+    Insert(u64, u32),
+    /// `insert_checked`.
+    InsertChecked(u64, u32),
+    /// `or_insert` by the entry of the key.
+    OrInsert(u64, u32),
+    /// `insert` by the entry of the key, if it is bound.
+    EntryInsert(u64, u32),
+    /// A write by `get_mut`, if the key is bound.
+    Write(u64, u32),
+    /// `remove`.
+    Remove(u64),
+    /// `retain` of the key and of the value.
+    Retain(u64, u32),
+    /// `retain` of the key.
+    RetainKey(u64),
+    /// `reserve` for so many pairs.
+    Reserve(usize),
+    /// `set_load_factor` to so many thousandths.
+    SetLoadFactor(usize),
+    /// `clear`.
+    Clear,
+}
+
+/// What a step answers.
+#[derive(Drop)]
+enum Answer<'a> {
+    /// The value that was handed back, if one was.
+    Back(Option<Counted<'a>>),
+    /// The number of a value that stays in the map.
+    Lent(u32),
+}
+
+/// What is seen of a map and of the drops when a step was taken.
+#[derive(Clone, Copy, PartialEq, Debug)]
+struct Seen {
+    /// The number of the value that was handed back or lent.
+    number: Option<u32>,
+    /// The drops while a value that was handed back is held.
+    held: u64,
+    /// The drops once it is let go.
+    let_go: u64,
+    pairs: usize,
+    slots: usize,
+}
+
+/// A step, and the five figures that are to be seen when it was taken.
+type Row = (Step, Option<u32>, u64, u64, usize, usize);
+
 // the value of this number
 fn numbered(number: u32, drops: &Cell<u64>) -> Counted<'_> {
     Counted { number, drops }
 }
 
+// the value that another one took the place of, or that other one where the key isn't bound
+fn insert_by_entry<'a>(map: &mut CountedMap<'a>, key: u64, value: Counted<'a>) -> Counted<'a> {
+    match map.entry(key) {
+        Entry::Occupied(mut entry) => entry.insert(value),
+        Entry::Vacant(_entry) => value,
+    }
+}
+
+// writes a value over another one, if there is one
+fn write<'a>(map: &mut CountedMap<'a>, key: u64, value: Counted<'a>) {
+    if let Some(place) = map.get_mut(key) {
+        *place = value;
+    }
+}
+
+// takes a step that answers no value
+fn change<'a>(map: &mut CountedMap<'a>, step: Step, drops: &'a Cell<u64>) -> Result<(), Cause> {
+    match step {
+        Step::Write(key, number) => write(map, key, numbered(number, drops)),
+        Step::Retain(key, number) => map.retain(|k, value| k == key || value.number == number),
+        Step::RetainKey(key) => map.retain(|k, _| k == key),
+        Step::Reserve(additional) => map.reserve(additional)?,
+        Step::SetLoadFactor(thousandths) => map.set_load_factor(thousandths)?,
+        _ => map.clear(),
+    }
+    Ok(())
+}
+
+// takes a step
+fn take<'a>(
+    map: &mut CountedMap<'a>,
+    step: Step,
+    drops: &'a Cell<u64>,
+) -> Result<Answer<'a>, Cause> {
+    match step {
+        Step::Insert(key, number) => Ok(Answer::Back(map.insert(key, numbered(number, drops))?)),
+        Step::InsertChecked(key, number) => {
+            map.insert_checked(key, numbered(number, drops))?;
+            Ok(Answer::Back(None))
+        }
+        Step::OrInsert(key, number) => {
+            Ok(Answer::Lent(map.entry(key).or_insert(numbered(number, drops))?.number))
+        }
+        Step::EntryInsert(key, number) => {
+            Ok(Answer::Back(Some(insert_by_entry(map, key, numbered(number, drops)))))
+        }
+        Step::Remove(key) => Ok(Answer::Back(map.remove(key))),
+        _ => {
+            change(map, step, drops)?;
+            Ok(Answer::Back(None))
+        }
+    }
+}
+
+// the number of the value of an answer
+fn number_of(answer: &Answer<'_>) -> Option<u32> {
+    match answer {
+        Answer::Back(value) => value.as_ref().map(|value| value.number),
+        Answer::Lent(number) => Some(*number),
+    }
+}
+
+// what is seen of a step that is taken now
+fn look<'a>(map: &mut CountedMap<'a>, step: Step, drops: &'a Cell<u64>) -> Result<Seen, Cause> {
+    let answer = take(map, step, drops)?;
+    let number = number_of(&answer);
+    let held = drops.get();
+    drop(answer);
+    Ok(Seen {
+        number,
+        held,
+        let_go: drops.get(),
+        pairs: map.len(),
+        slots: map.capacity(),
+    })
+}
+
+// takes these steps, up to the first of which other figures are seen
+fn follow<'a>(map: &mut CountedMap<'a>, rows: &[Row], drops: &'a Cell<u64>) -> Result<(), Fail> {
+    for (step, number, held, let_go, pairs, slots) in rows.iter().copied() {
+        let seen = look(map, step, drops)?;
+        let wanted = Seen {
+            number,
+            held,
+            let_go,
+            pairs,
+            slots,
+        };
+        if seen != wanted {
+            return Err(Fail::new(format_args!("{step:?}: {seen:?}, not {wanted:?}")));
+        }
+    }
+    Ok(())
+}
+
+// has a new map take these steps, and lets it go
+fn follow_whole(alloc: Global, rows: &[Row], drops: &Cell<u64>) -> Result<(), Fail> {
+    let mut map = IntMap::new(alloc)?;
+    follow(&mut map, rows, drops)
+}
+
+const HANDED_BACK: [Row; 12] = [
+    (Step::Insert(0, 0), None, 0x0000, 0x0000, 1, 4),
+    (Step::Insert(4, 1), None, 0x0000, 0x0000, 2, 4),
+    (Step::Insert(8, 2), None, 0x0000, 0x0000, 3, 4),
+    // The fourth grows the table.
+    (Step::Insert(1, 3), None, 0x0000, 0x0000, 4, 8),
+    // 104 slots are wanted, and then as many as the load factor wants.
+    (Step::Reserve(100), None, 0x0000, 0x0000, 4, 128),
+    (Step::SetLoadFactor(1), None, 0x0000, 0x0000, 4, 2048),
+    // Value 1 is handed back, and then value 0.
+    (Step::Insert(4, 4), Some(1), 0x00000, 0x00010, 4, 2048),
+    (Step::Remove(0), Some(0), 0x00010, 0x00011, 3, 2048),
+    // Key 4 is bound, so value 5 is let go.
+    (Step::InsertChecked(4, 5), None, 0x100011, 0x100011, 3, 2048),
+    (Step::InsertChecked(0, 6), None, 0x100011, 0x100011, 4, 2048),
+    (Step::Clear, None, 0x1111111, 0x1111111, 0, 2048),
+    (Step::Insert(4, 7), None, 0x1111111, 0x1111111, 1, 2048),
+];
+
 #[test]
 fn each_value_is_dropped_once(rt: HostRuntime) -> Result<(), Fail> {
     let drops = Cell::new(0);
-    let mut map = IntMap::new(rt.alloc())?;
-    for (key, number) in [(0u64, 0), (4, 1), (8, 2), (1, 3)] {
-        if map.insert(key, numbered(number, &drops)).is_err() {
-            return Err(Fail::from(AllocError));
-        }
-    }
-    assert_eq!(rt; drops.get(), 0x0000, "four values are in the map");
-    assert_eq!(rt; map.capacity(), 8, "the fourth grew the table");
-
-    map.reserve(100)?;
-    assert_eq!(rt; drops.get(), 0x0000, "104 slots are wanted");
-    map.set_load_factor(1)?;
-    assert_eq!(rt;
-        drops.get(),
-        0x0000,
-        "as many slots as the load factor wants"
-    );
-    assert_eq!(rt;
-        map.capacity(),
-        2048,
-        "as many slots as the load factor wants"
-    );
-
-    let old = map.insert(4, numbered(4, &drops));
-    assert_eq!(rt; drops.get(), 0x00000, "value 1 was handed back");
-    drop(old);
-    assert_eq!(rt; drops.get(), 0x00010, "value 1 was let go");
-
-    let taken = map.remove(0);
-    assert_eq!(rt; drops.get(), 0x00010, "value 0 was handed back");
-    drop(taken);
-    assert_eq!(rt; drops.get(), 0x00011, "value 0 was let go");
-
-    assert_eq!(rt; map.len(), 3, "three values are left");
-    for (key, number) in [(4, 5), (0, 6)] {
-        if map.insert_checked(key, numbered(number, &drops)).is_err() {
-            return Err(Fail::from(AllocError));
-        }
-    }
-    assert_eq!(rt;
-        drops.get(),
-        0x100011,
-        "key 4 was bound, so value 5 was let go"
-    );
-
-    map.clear();
-    assert_eq!(rt; drops.get(), 0x1111111, "the map was emptied");
-    assert_eq!(rt; map.capacity(), 2048, "the map was emptied");
-    if map.insert(4, numbered(7, &drops)).is_err() {
-        return Err(Fail::from(AllocError));
-    }
-    assert_eq!(rt; drops.get(), 0x1111111, "value 7 is in the map");
-    drop(map);
+    follow_whole(rt.alloc(), &HANDED_BACK, &drops)?;
     assert_eq!(rt; drops.get(), 0x11111111, "the map was let go");
     Ok(())
 }
+
+const WRITTEN_OVER: [Row; 9] = [
+    (Step::OrInsert(0, 0), Some(0), 0x0000, 0x0000, 1, 4),
+    (Step::OrInsert(4, 1), Some(1), 0x0000, 0x0000, 2, 4),
+    (Step::OrInsert(8, 2), Some(2), 0x0000, 0x0000, 3, 4),
+    (Step::OrInsert(12, 3), Some(3), 0x0000, 0x0000, 4, 8),
+    // Key 4 is bound, so value 1 is handed back.
+    (Step::EntryInsert(4, 4), Some(1), 0x00000, 0x00010, 4, 8),
+    // Key 0 is bound, so value 5 is let go.
+    (Step::OrInsert(0, 5), Some(0), 0x100010, 0x100010, 4, 8),
+    // Value 6 is written over value 2.
+    (Step::Write(8, 6), None, 0x0100110, 0x0100110, 4, 8),
+    // Keys 4 and 12 go, and then key 0.
+    (Step::Retain(0, 6), None, 0x0111110, 0x0111110, 2, 8),
+    (Step::RetainKey(8), None, 0x0111111, 0x0111111, 1, 8),
+];
 
 #[test]
 fn a_value_is_dropped_where_another_is_written_or_its_pair_goes(
     rt: HostRuntime,
 ) -> Result<(), Fail> {
     let drops = Cell::new(0);
-    let mut map = IntMap::new(rt.alloc())?;
-    for (key, number) in [(0u64, 0), (4, 1), (8, 2), (12, 3)] {
-        if map.entry(key).or_insert(numbered(number, &drops)).is_err() {
-            return Err(Fail::from(AllocError));
-        }
-    }
-    assert_eq!(rt; drops.get(), 0x0000, "four values are in the map");
-
-    let value = numbered(4, &drops);
-    let old = match map.entry(4) {
-        Entry::Occupied(mut entry) => Ok(entry.insert(value)),
-        Entry::Vacant(_entry) => Err(value),
-    };
-    assert_eq!(rt; drops.get(), 0x00000, "value 1 was handed back");
-    assert_eq!(rt; old.is_ok(), true, "key 4 is bound");
-    drop(old);
-    assert_eq!(rt; drops.get(), 0x00010, "value 1 was let go");
-
-    let bound = map.entry(0).or_insert(numbered(5, &drops));
-    assert_eq!(rt;
-        drops.get(),
-        0x100010,
-        "key 0 was bound, so value 5 was let go"
-    );
-    assert_eq!(rt;
-        bound.is_ok_and(|value| value.number == 0),
-        true,
-        "key 0 has value 0"
-    );
-
-    if let Some(value) = map.get_mut(8) {
-        *value = numbered(6, &drops);
-    }
-    assert_eq!(rt; drops.get(), 0x0100110, "value 6 was written over value 2");
-
-    map.retain(|key, value| key == 0 || value.number == 6);
-    assert_eq!(rt; drops.get(), 0x0111110, "keys 4 and 12 went");
-    assert_eq!(rt; map.len(), 2, "keys 0 and 8 stayed");
-    map.retain(|key, _| key == 8);
-    assert_eq!(rt; drops.get(), 0x0111111, "key 0 went");
-    drop(map);
+    follow_whole(rt.alloc(), &WRITTEN_OVER, &drops)?;
     assert_eq!(rt; drops.get(), 0x1111111, "the map was let go");
     Ok(())
 }

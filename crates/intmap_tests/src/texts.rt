@@ -3,13 +3,12 @@
 use intmap::{Cause, IntMap, Refused};
 use refuser::Refuser;
 use std::alloc::{AllocError, Global};
-use std::process::Abort;
 use std::test::Fail;
 
 type Texts<'a> = IntMap<u64, String, &'a Refuser<Global>>;
 
 /// What a map is before a call: made with so many slots, given a load factor, and then bound keys.
-#[derive(Clone, Copy)]
+#[derive(Clone, Copy, Debug)]
 struct Start {
     slots: usize,
     factor: usize,
@@ -17,7 +16,7 @@ struct Start {
 }
 
 /// A call that takes memory.
-#[derive(Clone, Copy)]
+#[derive(Clone, Copy, Debug)]
 enum Call {
     /// `insert` of a key that isn't bound.
     Insert(u64),
@@ -34,14 +33,12 @@ fn text_of(alloc: Global, key: u64) -> Result<String, AllocError> {
     format!(in alloc; "text {key}")
 }
 
-// a map that is as told
-fn map_of<'a>(alloc: Global, memory: &'a Refuser<Global>, start: Start) -> Result<Texts<'a>, Fail> {
-    let mut map = IntMap::with_capacity(memory, start.slots)?;
-    map.set_load_factor(start.factor)?;
-    for key in start.keys {
+// binds each key to its text
+fn bind(alloc: Global, map: &mut Texts<'_>, keys: &[u64]) -> Result<(), Fail> {
+    for key in keys {
         map.insert(*key, text_of(alloc, *key)?)?;
     }
-    Ok(map)
+    Ok(())
 }
 
 // the texts in the order of the walk, and the number of slots
@@ -72,124 +69,208 @@ fn said(alloc: Global, map: &mut Texts<'_>, call: Call) -> Result<String, AllocE
     }
 }
 
+// makes a call, and says what was said and shown
+fn line(alloc: Global, map: &mut Texts<'_>, call: Call) -> Result<String, AllocError> {
+    let said = said(alloc, map, call)?;
+    let shown = shown(alloc, map)?;
+    format!(in alloc; "{said}; {shown}")
+}
+
 // makes a call with its first request refused, then its second one, until none is left; says how often
 // it was refused, with what was said and shown, and then what was at last
-fn told(alloc: Global, start: Start, call: Call) -> Result<String, Fail> {
-    let memory = Refuser::new(alloc, 0);
-    let mut map = map_of(alloc, &memory, start)?;
+fn refusals(
+    alloc: Global,
+    memory: &Refuser<Global>,
+    map: &mut Texts<'_>,
+    call: Call,
+) -> Result<String, AllocError> {
     let mut refusal = String::new(alloc);
     for times in 0..10u64 {
         memory.arm(times.wrapping_add(1));
-        let said = said(alloc, &mut map, call)?;
-        let shown = shown(alloc, &map)?;
-        let line = format!(in alloc; "{said}; {shown}")?;
+        let line = line(alloc, map, call)?;
         if memory.left() > 0 {
-            return Ok(format!(in alloc; "{times} times {refusal}\nthen {line}\n")?);
+            return format!(in alloc; "{times} times {refusal}\nthen {line}");
         }
         if times == 0 {
             refusal = line;
         } else if refusal.as_str() != line.as_str() {
-            return Ok(format!(in alloc; "{refusal}\nbut then {line}\n")?);
+            return format!(in alloc; "{refusal}\nbut then {line}");
         }
     }
     Ok(refusal)
 }
 
-const CALLS: [(usize, usize, &[u64], Call); 16] = [
-    (4, 909, &[0], Call::Insert(4)),
-    (4, 909, &[0, 4], Call::Insert(8)),
-    (4, 909, &[0, 1, 2], Call::Insert(3)),
-    (4, 909, &[0, 4, 8], Call::Insert(12)),
-    (4, 909, &[0, 8, 16], Call::Insert(24)),
-    (4, 909, &[0], Call::OrInsert(4)),
-    (4, 909, &[0, 4, 8], Call::OrInsert(12)),
-    (4, 909, &[], Call::Reserve(15)),
-    (4, 909, &[0, 1, 2], Call::Reserve(15)),
-    (4, 909, &[0, 16, 32], Call::Reserve(15)),
-    (4, 909, &[0, 1, 2], Call::SetLoadFactor(100)),
-    (4, 909, &[0, 32, 4], Call::SetLoadFactor(100)),
-    (2, 0, &[0, 1, 2], Call::Insert(3)),
-    (2, 0, &[0, 4096, 8192], Call::Insert(12288)),
-    (2, 0, &[0, 1, 2], Call::Reserve(4093)),
+// the same of a map that has its slots alone
+fn begun(
+    alloc: Global,
+    memory: &Refuser<Global>,
+    map: &mut Texts<'_>,
+    start: Start,
+    call: Call,
+) -> Result<String, Fail> {
+    map.set_load_factor(start.factor)?;
+    bind(alloc, map, start.keys)?;
+    Ok(refusals(alloc, memory, map, call)?)
+}
+
+// the same of a new map
+fn told(alloc: Global, start: Start, call: Call) -> Result<String, Fail> {
+    let memory = Refuser::new(alloc, 0);
+    let mut map = IntMap::with_capacity(&memory, start.slots)?;
+    begun(alloc, &memory, &mut map, start, call)
+}
+
+/// A map's slots, load factor and keys, a call, and what is to be told of it.
+type Row = ((usize, usize, &'static [u64]), Call, &'static str);
+
+const ROWS: [Row; 16] = [
     (
-        2,
-        18446744073709551615,
-        &[0, 1, 2, 3],
+        (4, 909, &[0]),
+        Call::Insert(4),
+        "1 times text 4: Memory; text 0, 4 slots, factor 909\n\
+         then None; text 0, text 4, 4 slots, factor 909",
+    ),
+    (
+        (4, 909, &[0, 4]),
+        Call::Insert(8),
+        "1 times text 8: Memory; text 0, text 4, 4 slots, factor 909\n\
+         then None; text 0, text 4, text 8, 4 slots, factor 909",
+    ),
+    (
+        (4, 909, &[0, 1, 2]),
+        Call::Insert(3),
+        "3 times text 3: Memory; text 0, text 1, text 2, 4 slots, factor 909\n\
+         then None; text 0, text 2, text 1, text 3, 8 slots, factor 909",
+    ),
+    (
+        (4, 909, &[0, 4, 8]),
+        Call::Insert(12),
+        "5 times text 12: Memory; text 0, text 4, text 8, 4 slots, factor 909\n\
+         then None; text 0, text 8, text 4, text 12, 8 slots, factor 909",
+    ),
+    (
+        (4, 909, &[0, 8, 16]),
+        Call::Insert(24),
+        "4 times text 24: Memory; text 0, text 8, text 16, 4 slots, factor 909\n\
+         then None; text 0, text 8, text 16, text 24, 8 slots, factor 909",
+    ),
+    (
+        (4, 909, &[0]),
+        Call::OrInsert(4),
+        "1 times text 4: Memory; text 0, 4 slots, factor 909\n\
+         then \"text 4\"; text 0, text 4, 4 slots, factor 909",
+    ),
+    (
+        (4, 909, &[0, 4, 8]),
+        Call::OrInsert(12),
+        "5 times text 12: Memory; text 0, text 4, text 8, 4 slots, factor 909\n\
+         then \"text 12\"; text 0, text 8, text 4, text 12, 8 slots, factor 909",
+    ),
+    (
+        (4, 909, &[]),
+        Call::Reserve(15),
+        "3 times Err(Memory); 4 slots, factor 909\n\
+         then Ok(()); 16 slots, factor 909",
+    ),
+    (
+        (4, 909, &[0, 1, 2]),
+        Call::Reserve(15),
+        "3 times Err(Memory); text 0, text 1, text 2, 4 slots, factor 909\n\
+         then Ok(()); text 0, text 2, text 1, 32 slots, factor 909",
+    ),
+    (
+        (4, 909, &[0, 16, 32]),
+        Call::Reserve(15),
+        "4 times Err(Memory); text 0, text 16, text 32, 4 slots, factor 909\n\
+         then Ok(()); text 0, text 32, text 16, 32 slots, factor 909",
+    ),
+    (
+        (4, 909, &[0, 1, 2]),
+        Call::SetLoadFactor(100),
+        "3 times Err(Memory); text 0, text 1, text 2, 4 slots, factor 909\n\
+         then Ok(()); text 0, text 2, text 1, 32 slots, factor 100",
+    ),
+    (
+        (4, 909, &[0, 32, 4]),
+        Call::SetLoadFactor(100),
+        "4 times Err(Memory); text 0, text 32, text 4, 4 slots, factor 909\n\
+         then Ok(()); text 0, text 32, text 4, 32 slots, factor 100",
+    ),
+    (
+        (2, 0, &[0, 1, 2]),
+        Call::Insert(3),
+        "3 times text 3: Memory; text 0, text 2, text 1, 2 slots, factor 0\n\
+         then None; text 0, text 3, text 2, text 1, 4096 slots, factor 0",
+    ),
+    (
+        (2, 0, &[0, 4096, 8192]),
+        Call::Insert(12288),
+        "4 times text 12288: Memory; text 0, text 4096, text 8192, 2 slots, factor 0\n\
+         then None; text 0, text 4096, text 8192, text 12288, 4096 slots, factor 0",
+    ),
+    (
+        (2, 0, &[0, 1, 2]),
+        Call::Reserve(4093),
+        "3 times Err(Memory); text 0, text 2, text 1, 2 slots, factor 0\n\
+         then Ok(()); text 0, text 2, text 1, 4096 slots, factor 0",
+    ),
+    (
+        (2, 18446744073709551615, &[0, 1, 2, 3]),
         Call::SetLoadFactor(0),
+        "3 times Err(Memory); text 0, text 2, text 1, text 3, 2 slots, factor 18446744073709551615\n\
+         then Ok(()); text 0, text 3, text 2, text 1, 4096 slots, factor 0",
     ),
 ];
 
-const TOLD: &str = "\
-1 times text 4: Memory; text 0, 4 slots, factor 909
-then None; text 0, text 4, 4 slots, factor 909
-1 times text 8: Memory; text 0, text 4, 4 slots, factor 909
-then None; text 0, text 4, text 8, 4 slots, factor 909
-3 times text 3: Memory; text 0, text 1, text 2, 4 slots, factor 909
-then None; text 0, text 2, text 1, text 3, 8 slots, factor 909
-5 times text 12: Memory; text 0, text 4, text 8, 4 slots, factor 909
-then None; text 0, text 8, text 4, text 12, 8 slots, factor 909
-4 times text 24: Memory; text 0, text 8, text 16, 4 slots, factor 909
-then None; text 0, text 8, text 16, text 24, 8 slots, factor 909
-1 times text 4: Memory; text 0, 4 slots, factor 909
-then \"text 4\"; text 0, text 4, 4 slots, factor 909
-5 times text 12: Memory; text 0, text 4, text 8, 4 slots, factor 909
-then \"text 12\"; text 0, text 8, text 4, text 12, 8 slots, factor 909
-3 times Err(Memory); 4 slots, factor 909
-then Ok(()); 16 slots, factor 909
-3 times Err(Memory); text 0, text 1, text 2, 4 slots, factor 909
-then Ok(()); text 0, text 2, text 1, 32 slots, factor 909
-4 times Err(Memory); text 0, text 16, text 32, 4 slots, factor 909
-then Ok(()); text 0, text 32, text 16, 32 slots, factor 909
-3 times Err(Memory); text 0, text 1, text 2, 4 slots, factor 909
-then Ok(()); text 0, text 2, text 1, 32 slots, factor 100
-4 times Err(Memory); text 0, text 32, text 4, 4 slots, factor 909
-then Ok(()); text 0, text 32, text 4, 32 slots, factor 100
-3 times text 3: Memory; text 0, text 2, text 1, 2 slots, factor 0
-then None; text 0, text 3, text 2, text 1, 4096 slots, factor 0
-4 times text 12288: Memory; text 0, text 4096, text 8192, 2 slots, factor 0
-then None; text 0, text 4096, text 8192, text 12288, 4096 slots, factor 0
-3 times Err(Memory); text 0, text 2, text 1, 2 slots, factor 0
-then Ok(()); text 0, text 2, text 1, 4096 slots, factor 0
-3 times Err(Memory); text 0, text 2, text 1, text 3, 2 slots, factor 18446744073709551615
-then Ok(()); text 0, text 3, text 2, text 1, 4096 slots, factor 0
-";
-
 #[test]
 fn a_refused_text_comes_back_and_none_is_lost(rt: HostRuntime) -> Result<(), Fail> {
-    let mut all = String::new(rt.alloc());
-    for (slots, factor, keys, call) in CALLS {
+    for ((slots, factor, keys), call, wanted) in ROWS {
         let start = Start {
             slots,
             factor,
             keys,
         };
-        all.push_str(told(rt.alloc(), start, call)?.as_str())?;
+        assert_eq!(rt;
+            told(rt.alloc(), start, call)?.as_str(),
+            wanted,
+            "{call:?} of {start:?}"
+        );
     }
-    assert_eq!(rt; all.as_str(), TOLD);
     Ok(())
+}
+
+// what is found at three keys
+fn found(alloc: Global, map: &Texts<'_>) -> Result<String, AllocError> {
+    let mut found = String::new(alloc);
+    for key in [0, 4, 8] {
+        write!(found, ", key {key} has {:?}", map.get(key))?;
+    }
+    Ok(found)
+}
+
+// what an insertion and a removal hand back, with what is shown and found behind them
+fn handed_back(alloc: Global, map: &mut Texts<'_>) -> Result<String, Fail> {
+    bind(alloc, map, &[0, 4, 8])?;
+    let old = map.insert(4, text_of(alloc, 99)?)?;
+    let taken = map.remove(0);
+    let shown = shown(alloc, map)?;
+    let found = found(alloc, map)?;
+    Ok(format!(in alloc; "inserted over {old:?}, removed {taken:?}; {shown}{found}")?)
+}
+
+// the same of a new map
+fn all_handed_back(alloc: Global) -> Result<String, Fail> {
+    let memory = Refuser::new(alloc, 0);
+    let mut map = IntMap::with_capacity(&memory, 4)?;
+    handed_back(alloc, &mut map)
 }
 
 #[test]
 fn texts_are_bound_and_handed_back(rt: HostRuntime) -> Result<(), Fail> {
-    let alloc = rt.alloc();
-    let memory = Refuser::new(alloc, 0);
-    let start = Start {
-        slots: 4,
-        factor: 909,
-        keys: &[0, 4, 8],
-    };
-    let mut map = map_of(alloc, &memory, start)?;
-    let text = text_of(alloc, 99)?;
-    let old = map.insert(4, text)?;
-    let taken = map.remove(0);
-    let shown = shown(alloc, &map)?;
-    let told = format!(in alloc; "{old:?}, {taken:?}; {shown}")?;
     assert_eq!(rt;
-        told.as_str(),
-        "Some(\"text 4\"), Some(\"text 0\"); text 99, text 8, 4 slots, factor 909"
+        all_handed_back(rt.alloc())?.as_str(),
+        "inserted over Some(\"text 4\"), removed Some(\"text 0\"); text 99, text 8, 4 slots, factor 909, \
+         key 0 has None, key 4 has Some(\"text 99\"), key 8 has Some(\"text 8\")"
     );
-    for (key, text) in [(0, None), (4, Some("text 99")), (8, Some("text 8"))] {
-        assert_eq!(rt; map.get(key).map(|found| found.as_str()), text, "{key}");
-    }
     Ok(())
 }
