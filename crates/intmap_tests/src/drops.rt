@@ -1,7 +1,7 @@
 //! Values that count how often they are dropped.
 //!
 //! Each step is taken on a map that is lent. A function that owns one has to be proved to let it go
-//! at each of its ways out, so the one that does here has two.
+//! at each of its ways out, so the one that owns one here lends it at once.
 
 use intmap::entry::Entry;
 use intmap::{Cause, IntMap};

@@ -269,8 +269,8 @@ fn all_handed_back(alloc: Global) -> Result<String, Fail> {
 fn texts_are_bound_and_handed_back(rt: HostRuntime) -> Result<(), Fail> {
     assert_eq!(rt;
         all_handed_back(rt.alloc())?.as_str(),
-        "inserted over Some(\"text 4\"), removed Some(\"text 0\"); text 99, text 8, 4 slots, factor 909, \
-         key 0 has None, key 4 has Some(\"text 99\"), key 8 has Some(\"text 8\")"
+        "inserted over Some(\"text 4\"), removed Some(\"text 0\"); text 99, text 8, 4 slots, \
+         factor 909, key 0 has None, key 4 has Some(\"text 99\"), key 8 has Some(\"text 8\")"
     );
     Ok(())
 }
