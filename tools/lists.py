@@ -1,0 +1,584 @@
+"""Calls and commands on plain lists of pairs, and what they answer. A list counts the requests for
+memory that a map makes, and so knows which call a refused one belongs to."""
+import copy
+
+MULTIPLIER = 11400714819323198549
+GREATEST = 2**64 - 1
+GREATEST_CAPACITY = 2**63
+# for the words of bits and the slots
+REQUESTS_OF_A_NEW_MAP = 2
+# added to a number of requests, it makes that unequal to any number, and to itself
+NOT_KNOWN = float("nan")
+
+
+class TooLarge(Exception):
+    """The wanted capacity or length is out of range."""
+
+
+class NoMemory(Exception):
+    """The call is taken as refused for want of memory."""
+
+
+class PlainList:
+    """Pairs by their places in a list that no growth touches, a number of slots and a load factor.
+    And how many requests for memory a map would have made, since `asked` was last set to 0."""
+
+    def __init__(self, slots=4):
+        self.pairs = {}
+        self.place_of = {}
+        self.next_place = 0
+        self.factor = 909
+        self.asked = 0
+        self.set_slots(slots)
+
+    def set_slots(self, slots):
+        """Each slot then has room for one pair, or for as many as it holds, and for no more."""
+        self.slots = slots
+        self.classes = {}
+        for place, (key, _) in self.pairs.items():
+            self.classes.setdefault(key % slots, []).append(place)
+        self.room = {slot: len(places) for slot, places in self.classes.items()}
+        self.may_have_more = set()
+
+    def grow(self, slots):
+        """The counts are asked for, the words of bits, the slots, and a block for each slot that is
+        to hold two pairs or more."""
+        self.set_slots(slots)
+        self.asked += 3 + sum(room > 1 for room in self.room.values())
+
+    def make_room(self, key):
+        """A block is asked for where the slot holds a pair and is full. The first one has room for
+        one pair more; a larger one has at least that, and how much beyond isn't known. No call but
+        a growth takes room away from a slot."""
+        slot = key % self.slots
+        held = len(self.classes.get(slot, []))
+        if held < self.room.get(slot, 1):
+            return
+        self.asked += NOT_KNOWN if slot in self.may_have_more else 1
+        self.room[slot] = held + 1
+        if held > 1:
+            self.may_have_more.add(slot)
+
+    def get(self, key):
+        return self.pairs[self.place_of[key]][1] if key in self.place_of else None
+
+    def remove(self, key):
+        """The last pair of the key's class goes to the place of the pair that is taken out."""
+        if key not in self.place_of:
+            return None
+        place, value = self.place_of.pop(key), self.get_at(key)
+        last = self.classes[key % self.slots].pop()
+        if last != place:
+            self.pairs[place] = self.pairs[last]
+            self.place_of[self.pairs[place][0]] = place
+        del self.pairs[last]
+        return value
+
+    def write(self, key, value):
+        """The value gets the place of the one before. None, and nothing, where the key has none."""
+        old = self.get(key)
+        if old is not None:
+            self.pairs[self.place_of[key]] = (key, value)
+        return old
+
+    def retain(self, keeps):
+        """Each pair is asked about once, in the order of the walk. Those that stay keep their places,
+        and each slot the room that it has."""
+        kept = [(key, value) for key, value in self.walk() if keeps(key, value)]
+        self.place_of = {key: self.place_of[key] for key, _ in kept}
+        self.pairs = {place: self.pairs[place] for place in sorted(self.place_of.values())}
+        self.classes = {}
+        for place, (key, _) in self.pairs.items():
+            self.classes.setdefault(key % self.slots, []).append(place)
+
+    def drain(self, count):
+        """Takes so many pairs out of the front of the walk, or all where there are fewer."""
+        taken = self.walk()[:count]
+        keys = {key for key, _ in taken}
+        self.retain(lambda key, _: key not in keys)
+        return taken
+
+    def add_places(self, count):
+        """Adds one to the first value, two to the second, and so on, of so many pairs, or of all where
+        there are fewer. Answers these pairs then."""
+        keys = [key for key, _ in self.walk()[:count]]
+        for place, key in enumerate(keys):
+            self.write(key, (self.get(key) + place + 1) & GREATEST)
+        return self.walk()[:count]
+
+    def into_walk(self, refuses):
+        """The list is then empty, and as a new one, which is asked for first."""
+        if refuses:
+            raise NoMemory
+        taken, asked = self.walk(), self.asked
+        self.__init__()
+        self.asked = asked + REQUESTS_OF_A_NEW_MAP
+        return taken
+
+    def cloned(self):
+        """The same list, of which each slot has room for as many pairs as it holds, and for no more."""
+        made = copy.deepcopy(self)
+        made.set_slots(self.slots)
+        return made
+
+    def requests_of_a_clone(self):
+        """The words of bits, the slots, and a block for each slot that holds two pairs or more."""
+        return REQUESTS_OF_A_NEW_MAP + sum(len(places) > 1 for places in self.classes.values())
+
+    def bindings(self):
+        return dict(self.pairs.values())
+
+    def get_at(self, key):
+        return next(v for k, v in [self.pairs[p] for p in self.classes[key % self.slots]] if k == key)
+
+    def append(self, key, value):
+        place, self.next_place = self.next_place, self.next_place + 1
+        self.pairs[place] = (key, value)
+        self.place_of[key] = place
+        self.classes.setdefault(key % self.slots, []).append(place)
+
+    def wanted(self, length, factor):
+        slots = self.slots
+        while length * 1000 // slots > factor:
+            slots *= 2
+        if slots > GREATEST_CAPACITY:
+            raise TooLarge
+        return slots
+
+    def insert(self, key, value, refuses):
+        if key in self.place_of:
+            old = self.remove(key)
+            self.append(key, value)
+            return old
+        self.add(key, value, refuses)
+        return None
+
+    def insert_checked(self, key, value, refuses):
+        """A bound key keeps its value and its place."""
+        is_new = key not in self.place_of
+        if is_new:
+            self.add(key, value, refuses)
+        return is_new
+
+    def entry_insert(self, key, value, refuses):
+        """A bound key gets the value in its place. Answers the value before."""
+        old = self.write(key, value)
+        if old is None:
+            self.add(key, value, refuses)
+        return old
+
+    def or_insert(self, key, value, refuses):
+        """Answers the value that the key then has."""
+        self.insert_checked(key, value, refuses)
+        return self.get(key)
+
+    def add_to(self, key, more, refuses):
+        """Adds to the value of the key, which is 0 where it has none. Answers the sum."""
+        self.write(key, (self.or_insert(key, 0, refuses) + more) & GREATEST)
+        return self.get(key)
+
+    def and_modify(self, key, more, refuses):
+        """Adds to the value of a bound key, and binds another one. Answers the value then."""
+        return self.add_to(key, more, refuses) if key in self.place_of else self.or_insert(key, more, refuses)
+
+    def add(self, key, value, refuses):
+        """Adds the pair of a key that has none."""
+        length = len(self.pairs) + 1
+        slots = self.wanted(length, self.factor) if length // 4 % 2 else self.slots
+        if refuses and (slots > self.slots or self.classes.get(key % self.slots)):
+            raise NoMemory
+        if slots == self.slots:
+            self.make_room(key)
+        self.append(key, value)
+        if slots > self.slots:
+            self.grow(slots)
+
+    def clear(self):
+        """The pairs go, and nothing else."""
+        self.pairs, self.place_of, self.classes = {}, {}, {}
+
+    def reserve(self, additional, refuses):
+        wanted = len(self.pairs) + additional
+        if wanted > GREATEST_CAPACITY:
+            raise TooLarge
+        if wanted > self.slots:
+            if refuses or wanted > 2**40:
+                raise NoMemory
+            self.grow(1 << (wanted - 1).bit_length())
+
+    def set_load_factor(self, factor, refuses):
+        slots = self.wanted(len(self.pairs), factor)
+        if slots > self.slots:
+            if refuses:
+                raise NoMemory
+            self.grow(slots)
+        self.factor = factor
+
+    def shown(self, key):
+        return key
+
+    def walk(self):
+        def slot(place):
+            return self.pairs[place][0] * MULTIPLIER % self.slots
+
+        return [self.pairs[place] for place in sorted(sorted(self.pairs), key=slot)]
+
+
+def option(value):
+    return "none" if value is None else f"some {value}"
+
+
+def truth(value):
+    return "true" if value else "false"
+
+
+def written(old, value):
+    return f"back {value}" if old is None else option(old)
+
+
+def entered(old):
+    return "fresh" if old is None else option(old)
+
+
+def entry(it, key):
+    shown = it.shown(key)
+    return f"occupied {shown}: {it.get(key)}" if key in it.place_of else f"vacant {shown}"
+
+
+def braces(pairs):
+    return "{" + ", ".join(f"{k}: {v}" for k, v in pairs) + "}"
+
+
+def walk(it):
+    return braces((it.shown(k), v) for k, v in it.walk())
+
+
+def brackets(items):
+    return "[" + ", ".join(map(str, items)) + "]"
+
+
+def state(it):
+    return f"{walk(it)}, {len(it.pairs)} pairs, {it.slots} slots, factor {it.factor}"
+
+
+def keys(first, count, step):
+    return [(first + place * step) & GREATEST for place in range(count)]
+
+
+def ten_more(key):
+    return (key + 10) & GREATEST
+
+
+def insert_many(it, insertion, *numbers):
+    new, changes = 0, ""
+    for key in keys(*numbers):
+        slots = it.slots
+        new += key not in it.place_of
+        insertion(it, key, ten_more(key), False)
+        changes += f", {len(it.pairs)}: {it.slots}" if it.slots != slots else ""
+    return f"{new} new{changes}"
+
+
+def sum_of(pairs):
+    total = 0
+    for key, value in pairs:
+        total = ((total * 31 + key) * 31 + value) & GREATEST
+    return f"{len(pairs)} pairs, sum {total}"
+
+
+def retain_alternate(it):
+    asked = []
+    it.retain(lambda key, _: asked.append(key) or len(asked) % 2)
+    return str(len(asked))
+
+
+def retain_all(it):
+    asked = []
+    it.retain(lambda *pair: asked.append(pair) or True)
+    return sum_of(asked)
+
+
+def for_each_add(it, more):
+    asked = it.walk()
+    for key, value in asked:
+        it.write(key, (value + more) & GREATEST)
+    return sum_of(asked)
+
+
+def size_hints(it, refuses):
+    it.into_walk(refuses)
+    return " ".join(["(0, None)"] * ITERATORS)
+
+
+def run_many(it, insertion, *numbers):
+    new = sum(insertion(it, key, ten_more(key), False) is None for key in keys(*numbers))
+    return f"{new} new, {len(it.walk())} walked"
+
+
+def sizes_of(it):
+    """A list of each number of pairs above 1 that a slot has, by its first appearance, with the number
+    of slots that have so many."""
+    counts = {}
+    for slot in sorted(it.classes, key=lambda residue: residue * MULTIPLIER % it.slots):
+        size = len(it.classes[slot])
+        if size > 1:
+            counts[size] = counts.get(size, 0) + 1
+    one = PlainList()
+    for size, count in counts.items():
+        one.insert(size, count, False)
+    return one
+
+
+def collisions(it, refuses, shown):
+    if refuses:
+        raise NoMemory
+    one = sizes_of(it)
+    it.asked += REQUESTS_OF_A_NEW_MAP + one.asked
+    return shown(one)
+
+
+# how many kinds of iterators there are, none of which says how many items it has
+ITERATORS = 7
+
+
+# each call on a list, or command, by its name and how many numbers follow
+CALLS = {
+    ("get", 1): lambda it, _, k: option(it.get(k)),
+    ("get_counted", 1): lambda it, _, k: option(it.get(k)),
+    ("contains_key", 1): lambda it, _, k: truth(k in it.place_of),
+    ("remove", 1): lambda it, _, k: option(it.remove(k)),
+    ("get_mut", 2): lambda it, _, k, v: written(it.write(k, v), v),
+    ("entry", 1): lambda it, _, k: entry(it, k),
+    ("entry_key", 1): lambda it, _, k: str(it.shown(k)),
+    ("entry_forget", 1): lambda it, _, k: "done",
+    ("entry_remove", 1): lambda it, _, k: option(it.remove(k)),
+    ("entry_get_mut", 2): lambda it, _, k, v: written(it.write(k, v), v),
+    ("entry_insert", 2): lambda it, refuses, k, v: entered(it.entry_insert(k, v, refuses)),
+    ("entry_add", 2): lambda it, refuses, k, v: str(it.add_to(k, v, refuses)),
+    ("or_insert", 2): lambda it, refuses, k, v: str(it.or_insert(k, v, refuses)),
+    ("or_insert_add", 2): lambda it, refuses, k, v: str(it.add_to(k, v, refuses)),
+    ("and_modify", 2): lambda it, refuses, k, v: str(it.and_modify(k, v, refuses)),
+    ("insert", 2): lambda it, refuses, k, v: option(it.insert(k, v, refuses)),
+    ("insert_checked", 2): lambda it, refuses, k, v: truth(it.insert_checked(k, v, refuses)),
+    ("clear", 0): lambda it, _: it.clear() or "done",
+    ("retain", 0): lambda it, _: it.retain(lambda _, value: value % 2) or "done",
+    ("retain_odd", 0): lambda it, _: it.retain(lambda key, _: key % 2) or "done",
+    ("retain_except", 1): lambda it, _, k: it.retain(lambda key, _: key != k) or "done",
+    ("retain_above", 1): lambda it, _, n: it.retain(lambda key, _: key > n) or "done",
+    ("retain_alternate", 0): lambda it, _: retain_alternate(it),
+    ("retain_all", 0): lambda it, _: retain_all(it),
+    ("reserve", 1): lambda it, refuses, n: it.reserve(n, refuses) or "done",
+    ("set_load_factor", 1): lambda it, refuses, n: it.set_load_factor(n, refuses) or "done",
+    ("get_load_factor", 0): lambda it, _: str(it.factor),
+    ("len", 0): lambda it, _: str(len(it.pairs)),
+    ("is_empty", 0): lambda it, _: truth(not it.pairs),
+    ("capacity", 0): lambda it, _: str(it.slots),
+    ("load", 0): lambda it, _: str(sum(1 for places in it.classes.values() if places)),
+    ("load_rate", 0): lambda it, _: str(len(it.pairs) * 1000 // it.slots),
+    ("assert_count", 0): lambda it, _: "true",
+    ("collisions", 0): lambda it, refuses: collisions(it, refuses, walk),
+    ("collisions_state", 0): lambda it, refuses: collisions(it, refuses, state),
+    ("walk", 0): lambda it, _: walk(it),
+    ("keys", 0): lambda it, _: brackets(it.shown(k) for k, _ in it.walk()),
+    ("values", 0): lambda it, _: brackets(v for _, v in it.walk()),
+    ("walk_sum", 0): lambda it, _: sum_of(it.walk()),
+    ("keys_sum", 0): lambda it, _: sum_of([(k, 0) for k, _ in it.walk()]),
+    ("values_sum", 0): lambda it, _: sum_of([(0, v) for _, v in it.walk()]),
+    ("iter", 1): lambda it, _, n: braces(it.walk()[:n]),
+    ("keys", 1): lambda it, _, n: brackets(k for k, _ in it.walk()[:n]),
+    ("values", 1): lambda it, _, n: brackets(v for _, v in it.walk()[:n]),
+    ("drain", 1): lambda it, _, n: braces(it.drain(n)),
+    ("drain_forget", 1): lambda it, _, n: braces(it.drain(n)),
+    ("drain_sum", 0): lambda it, _: sum_of(it.drain(len(it.pairs))),
+    ("iter_mut", 1): lambda it, _, n: braces(it.add_places(n)),
+    ("iter_mut_forget", 1): lambda it, _, n: braces(it.add_places(n)),
+    ("values_mut", 1): lambda it, _, n: str(len(it.add_places(n))),
+    ("iter_mut_add", 1): lambda it, _, n: str(for_each_add(it, n).split(" ")[0]),
+    ("values_mut_add", 1): lambda it, _, n: str(for_each_add(it, n).split(" ")[0]),
+    ("insert_items", 1): lambda it, _, n: f"{n} back, {n} pairs",
+    ("insert_checked_items", 1): lambda it, _, n: f"{n} new, {n} pairs",
+    ("for_each_add", 1): lambda it, _, n: for_each_add(it, n),
+    ("into_iter", 1): lambda it, refuses, n: braces(it.into_walk(refuses)[:n]),
+    ("into_sum", 0): lambda it, refuses: sum_of(it.into_walk(refuses)),
+    ("size_hints", 0): lambda it, refuses: size_hints(it, refuses),
+    ("state", 0): lambda it, _: state(it),
+    ("insert_many", 3): lambda it, _, *numbers: insert_many(it, PlainList.insert, *numbers),
+    ("insert_checked_many", 3): lambda it, _, *numbers: insert_many(it, PlainList.insert_checked, *numbers),
+    ("entry_insert_many", 3): lambda it, _, *numbers: insert_many(it, PlainList.entry_insert, *numbers),
+    ("or_insert_many", 3): lambda it, _, *numbers: insert_many(it, PlainList.or_insert, *numbers),
+    ("run_many", 3): lambda it, _, *numbers: run_many(it, PlainList.insert, *numbers),
+    ("run_entries_many", 3): lambda it, _, *numbers: run_many(it, PlainList.entry_insert, *numbers),
+    ("get_many", 3): lambda it, _, *numbers: str(sum(it.get(k) == ten_more(k) for k in keys(*numbers))),
+    ("get_mut_many", 3): lambda it, _, *numbers: str(sum(it.get(k) == ten_more(k) for k in keys(*numbers))),
+    ("contains_many", 3): lambda it, _, *numbers: str(sum(k in it.place_of for k in keys(*numbers))),
+    ("entry_remove_many", 3): lambda it, _, *numbers: str(sum(it.remove(k) == ten_more(k) for k in keys(*numbers))),
+    ("remove_many", 3): lambda it, _, *numbers: str(sum(it.remove(k) == ten_more(k) for k in keys(*numbers))),
+}
+
+
+def pairs_of(numbers):
+    """A key and a value in turn. A last number alone makes no pair."""
+    return list(zip(numbers[::2], numbers[1::2]))
+
+
+def many_pairs(*numbers):
+    return [(key, ten_more(key)) for key in keys(*numbers)]
+
+
+def squares(count):
+    return [(number, number * number & GREATEST) for number in range(count)]
+
+
+# the calls that put pairs into a list, and those that make one of pairs, by their names
+EXTENDING = {"extend": lambda *numbers: pairs_of(numbers), "extend_many": many_pairs}
+COLLECTING = {
+    "from_iter": lambda *numbers: pairs_of(numbers),
+    "from_iter_many": many_pairs,
+    "from_squares": squares,
+    "from_squares_back": lambda count: squares(count)[::-1],
+    "from_claimed": lambda claimed, *numbers: pairs_of(numbers)[:claimed],
+}
+
+
+# the least and the greatest key of each kind of integer beside u64
+INTEGERS = {
+    "u8": (0, 2**8 - 1),
+    "u16": (0, 2**16 - 1),
+    "u32": (0, 2**32 - 1),
+    "usize": (0, 2**64 - 1),
+    "i32": (-(2**31), 2**31 - 1),
+    "i64": (-(2**63), 2**63 - 1),
+}
+
+
+class KindList(PlainList):
+    """The same of keys of another kind than u64: a list of their numbers, and how they are written."""
+
+    def __init__(self, kind):
+        super().__init__()
+        self.kind = kind
+        self.written = {}
+
+    def number_of(self, key):
+        """A negative key counts as 2^64 more. None where the text is no key of this kind."""
+        if self.kind == "cell":
+            row, column = [int(part) for part in key.split(":")]
+            number = row * 2**32 + column if max(row, column) < 2**32 else None
+        else:
+            least, greatest = INTEGERS[self.kind]
+            number = int(key) % 2**64 if least <= int(key) <= greatest else None
+        self.written[number] = key
+        return number
+
+    def shown(self, number):
+        return self.written[number]
+
+
+def insert_range(it, first, last):
+    numbers = [it.number_of(str(key)) for key in range(int(first), int(last) + 1)]
+    new = sum(it.insert(number, ten_more(number), False) is None for number in numbers)
+    return f"{new} new"
+
+
+def kind_answer(it, call, refuses):
+    name, *words = call.split(" ")
+    if name == "insert_range":
+        return insert_range(it, *words)
+    if words:
+        number = it.number_of(words[0])
+        if number is None:
+            return "not a call"
+        words[0] = str(number)
+    return answer(it, " ".join([name, *words]), refuses)
+
+
+# the calls that hand a value back where they are refused, the last number or 0
+HAND_BACK = ("insert", "insert_checked", "entry_insert", "or_insert", "and_modify")
+HAND_0_BACK = ("entry_add", "or_insert_add")
+
+
+class Unknown(Exception):
+    """A line isn't understood."""
+
+
+def answer(it, call, refuses):
+    name, *numbers = call.split(" ")
+    numbers = [int(number) for number in numbers]
+    called = CALLS.get((name, len(numbers)))
+    if not called:
+        raise Unknown(call)
+    own = f" {numbers[-1]}" if name in HAND_BACK else " 0" if name in HAND_0_BACK else ""
+    try:
+        return called(it, refuses, *numbers)
+    except TooLarge:
+        return f"refused{own}: too large"
+    except NoMemory:
+        return f"refused{own}: memory"
+
+
+def command_answer(it, command, refuses):
+    """A list is asked for where the answer is one and has an item."""
+    name, *numbers = command.split(" ")
+    if it.pairs and (name in ("walk", "keys", "values") or name == "drain" and int(numbers[0])):
+        if refuses:
+            return "refused: memory"
+        it.asked += 1
+    if name == "collisions" and sizes_of(it).pairs:
+        it.asked += 1
+    return answer(it, command, refuses)
+
+
+def requests_of(answers, it, call):
+    """How many requests the call makes where none is refused. The list stays as it is."""
+    tried = copy.deepcopy(it)
+    tried.asked = 0
+    answers(tried, call, False)
+    if tried.asked != tried.asked:
+        raise Unknown(f"{call}, of which it isn't known how many requests it makes")
+    return tried.asked
+
+
+def armed_answer(answers, it, call, armed):
+    """The answer to a call where the request so many away is refused, none at 0, and how far away
+    that one is afterwards."""
+    if not armed:
+        return answers(it, call, False), 0
+    requests = requests_of(answers, it, call)
+    if requests >= armed:
+        return answers(it, call, True), 0
+    return answers(it, call, False), armed - requests
+
+
+def extended(it, pairs, armed, stopped="stopped at {} {} after {}: {}", done="done"):
+    """The answer to an insertion of pairs in turn where the request so many away is refused, and how
+    far away that one is afterwards."""
+    for place, (key, value) in enumerate(pairs):
+        found, armed = armed_answer(answer, it, f"insert {key} {value}", armed)
+        if found.startswith("refused"):
+            return stopped.format(key, value, place, found.split(": ")[1]), armed
+    return done, armed
+
+
+def run_answers(it, commands, armed):
+    """The answers to the commands of a run, and the same number afterwards. The first request is for
+    the room of the answers; where it is the refused one, there are none."""
+    if commands and armed == 1:
+        return None, 0
+    armed -= 1 if commands and armed else 0
+    texts = []
+    for command in commands:
+        name, *numbers = command.split(" ")
+        if name == "extend":
+            text, armed = extended(it, pairs_of([int(number) for number in numbers]), armed)
+        else:
+            text, armed = armed_answer(command_answer, it, command, armed)
+        texts.append(text)
+    return texts, armed
+
+
+def made(call):
+    """The list that a call makes; None where no memory has room for it, or the call makes none."""
+    if call == "new":
+        return PlainList()
+    slots = int(call.removeprefix("with_capacity "))
+    return PlainList(1 << (max(slots, 2) - 1).bit_length()) if slots < 2**40 else None
