@@ -1,4 +1,4 @@
-use Rattle.std.proofs.Common.{Bor, ◌≡◌, length, map, sym, ap, ◌∙◌}
+use Rattle.std.proofs.Common.{inl, arith, Bor, ◌≡◌, length, map, sym, ap, ◌∙◌}
 use Rattle.std.specs.Iterator.{DrainsIf, YieldsFirstBy}
 use Rattle.std.proofs.lemmas.Bool.{eq-eqb}
 use Rattle.std.proofs.lemmas.Iterator.{items_from_drains}
@@ -14,3 +14,9 @@ returns-clause-value g c =
     let items : map shown ran.0 ≡ c.args.self.now.walk = items_from_drains ran.0 drained (YieldsList-from_first shown (λ rest. rest) c.args.self.now.walk c.iter.ensures.walk) in
     let counted = ran.2 ∙ sym (length-map ran.0 shown) ∙ ap length items in
     eq-eqb c.count.result c.len.result (counted ∙ sym c.len.ensures.value)
+
+pub count-requires-clause-fits : goal.count-requires-clause-fits
+count-requires-clause-fits g c =
+    let few = c.iter.ensures.map.count in
+    let same = ap length c.iter.ensures.walk in
+    inl (omega (arith, few, same))
