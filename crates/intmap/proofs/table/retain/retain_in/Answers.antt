@@ -1,42 +1,55 @@
-use Rattle.std.proofs.Common.{◌<◌, ◌∙◌, refl, ap, subst, arith, rules, of_calls, length, take, get_or}
+use Rattle.std.proofs.Common.{◌≡◌, ℕ, ◌+◌, ◌<◌, ◌≤◌, List, ◌∙◌, refl, sym, ap, subst, arith, of_calls, length, take, drop, get_or, vec_len}
 use Rattle.std.proofs.lemmas.List.{drop_all}
 use Rattle.std.specs.declared.vec.Vec.{Vec}
 use Rattle.intmap.specs.Kept.{KeepsStored}
 use Rattle.intmap.specs.Retaining.{Retains}
-use Rattle.intmap.proofs.LeadsLemmas.{Leads-end}
+use Rattle.intmap.proofs.LeadsLemmas.{Leads, Leads-end}
 use Rattle.intmap.proofs.RetainLemmas.{Leads-stays, Leads-goes}
 use Rattle.intmap.proofs.table.retain.retain_in.Goals as goal
 use Rattle.intmap.proofs.table.retain.retain_in.Goals.{then-f, else-f}
+
+-- what holds of a list cut at two places holds of the same list and places under other names
+cut : {X : Type 0} (P : List X → List X → Type 0) (n k i : ℕ) (ys xs : List X) → n ≡ k → ys ≡ xs → P (take k xs) (drop i xs) → P (take n ys) (drop i ys)
+cut P n k i ys xs place items p = rw (place, items) p
+
+-- no more are kept than were asked about
+kept-more : (n k i : ℕ) → k ≤ i → n ≡ k + 1 → n ≤ i + 1
+kept-more n k i before is = omega arith
+
+kept-same : (n k i : ℕ) → k ≤ i → n ≡ k → n ≤ i + 1
+kept-same n k i before is = omega arith
 
 pub loop-i-preserved : goal.loop-i-preserved
 loop-i-preserved g c =
     let loop = c.loop-i.invariant in let R = KeepsStored g.F.FnMut in
     let items = c.loop-i.pairs.items in let i = c.loop-i.i in let pair = c.index.result.now in
-    let below : i < length items = omega (arith, c.loop-i-test.true, c.len-i-end.ensures, loop.len, c.loop-i.pairs.ok.0) in
+    let below : i < length items = subst (λ n. i < n) (c.len-i-end.ensures ∙ sym loop.len ∙ c.loop-i.pairs.ok.0) c.loop-i-test.true in
     let call : R c.loop-i.f (get_or items i pair) c.f.result c.f.new.self =
     subst (λ p. R c.loop-i.f p c.f.result c.f.new.self) c.index.ensures (record { key = _; value = _; shows = (c.key.ensures.value, refl); called = c.f.ensures }) in
+    let P = Leads (Retains R) c.args.f.now c.args.pairs.now.items c.f.new.self in
     elim c.if-f.branch [
       | then-f w ↦
           (let stays = Leads-stays items c.loop-i.kept i pair loop.before below R _ _ _ _ loop.leads (subst (λ b. R c.loop-i.f (get_or items i pair) b c.f.new.self) w.if-f.true call) in
-          let left = ap (λ (v : Vec _ _). v.items) w.pairs-is ∙ w.swap.ensures.items in
           record {
-            callable = search (of_calls, rules);
-            len = rw w.pairs-is (w.swap.ensures.len ∙ loop.len);
-            before = omega (arith, loop.before, w.kept-is);
-            leads = rw (left, w.kept-is) stays;
+            callable = search of_calls;
+            len = ap vec_len w.pairs-is ∙ w.swap.ensures.len ∙ loop.len;
+            before = kept-more _ _ _ loop.before w.kept-is;
+            leads = cut P _ _ _ _ _ w.kept-is (ap (λ (v : Vec _ _). v.items) w.pairs-is ∙ w.swap.ensures.items) stays;
           })
       | else-f w ↦
           (let goes = Leads-goes items c.loop-i.kept i pair loop.before below R _ _ _ _ loop.leads (subst (λ b. R c.loop-i.f (get_or items i pair) b c.f.new.self) w.if-f.false call) in
           record {
-            callable = search (of_calls, rules);
-            len = rw w.pairs-is loop.len;
-            before = omega (arith, loop.before, w.kept-is);
-            leads = rw (w.pairs-is, w.kept-is) goes;
+            callable = search of_calls;
+            len = ap vec_len w.pairs-is ∙ loop.len;
+            before = kept-same _ _ _ loop.before w.kept-is;
+            leads = cut P _ _ _ _ _ w.kept-is (ap (λ (v : Vec _ _). v.items) w.pairs-is) goes;
           })
     ]
 
 pub returns-clause-pairs : goal.returns-clause-pairs
 returns-clause-pairs g c =
-    let loop = c.loop-i.invariant in let items = c.loop-i.pairs.items in
-    let none = drop_all c.loop-i.i items (omega (arith, c.loop-i-test.false, c.len-i-end.ensures, loop.len, c.loop-i.pairs.ok.0)) in
-    rw c.truncate.ensures.items (Leads-end (Retains (KeepsStored g.F.FnMut)) _ _ _ (take c.loop-i.kept items) (refl, refl) (rw none at loop.leads))
+    let loop = c.loop-i.invariant in let items = c.loop-i.pairs.items in let R = Retains (KeepsStored g.F.FnMut) in
+    let none = drop_all c.loop-i.i items (subst (λ n. n ≤ c.loop-i.i) (c.len-i-end.ensures ∙ sym loop.len ∙ c.loop-i.pairs.ok.0) c.loop-i-test.false) in
+    let left = subst (λ Z. Leads R c.args.f.now c.args.pairs.now.items c.loop-i.f (take c.loop-i.kept items) Z) none loop.leads in
+    subst (λ Z. R c.args.f.now c.args.pairs.now.items Z c.loop-i.f) (sym c.truncate.ensures.items)
+    (Leads-end R _ _ _ (take c.loop-i.kept items) (refl, refl) left)

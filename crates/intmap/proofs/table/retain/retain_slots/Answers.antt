@@ -1,4 +1,4 @@
-use Rattle.std.proofs.Common.{◌≡◌, ◌+◌, ◌<◌, ◌∙◌, length, length-set, set, get_or, [], true, false, sym, ap, subst, arith, rules, of_calls}
+use Rattle.std.proofs.Common.{◌≡◌, ◌+◌, ◌<◌, ◌∙◌, length, length-set, set, get_or, [], true, false, refl, sym, ap, subst, arith, of_calls}
 use Rattle.std.specs.Prelude.{nat_lt}
 use Rattle.std.proofs.lemmas.List.{set-set}
 use Rattle.intmap.specs.Kept.{KeepsStored}
@@ -24,6 +24,19 @@ index_mut-requires g c = let below = within g (goal.at.index_mut-requires g c).I
 
 pub index_mut-requires-in-Some : goal.index_mut-requires-in-Some
 index_mut-requires-in-Some g c = let below = within g (goal.at.index_mut-requires-in-Some g c).In-Some in omega (arith, below, c.loop-place.slots.ok.0)
+
+pub loop-place-init : goal.loop-place-init
+loop-place-init g c = record {
+  callable = λ always. always;
+  table = c.requires.table;
+  len = refl;
+  few = c.requires.count;
+  count = refl;
+  leads = λ N last run. run;
+}
+
+pub retain_slot-slot-requires : goal.retain_slot-slot-requires
+retain_slot-slot-requires g c = c.loop-place.invariant.callable c.requires.callable
 
 pub overflow_add-from : goal.overflow_add-from
 overflow_add-from g c = let below = within g (goal.at.overflow_add-from g c).In-Some in omega (arith, below, c.loop-place.slots.ok.0)
@@ -65,7 +78,7 @@ loop-place-preserved g c =
     let number = g.K.IntKey.number_of in
     let few = fewer number S marks loop.table from place is s _ _ _ asked in
     rw set-set (record {
-      callable = search (of_calls, rules);
+      callable = search of_calls;
       table = elim c.if-not-is_filled.branch [
         | then-not-is_filled w ↦
             (let empty : false ≡ nat_lt 0 (length s.pairs) = let told = c.is_filled.ensures in let no = w.if-not-is_filled.true in grind (arith, told, no) in
@@ -89,3 +102,9 @@ pub returns-clause-count : goal.returns-clause-count
 returns-clause-count g c =
     let none = unmarked-behind c.loop-place.bits c.loop-place.from (sym c.iter_from.ensures ∙ c.in_default.ensures.steps.0) in
     c.loop-place.invariant.count ∙ count-all c.loop-place.slots.items c.loop-place.bits c.loop-place.invariant.table.marks c.loop-place.from none
+
+pub returns-clause-table : goal.returns-clause-table
+returns-clause-table g c = c.loop-place.invariant.table
+
+pub returns-clause-len : goal.returns-clause-len
+returns-clause-len g c = c.loop-place.invariant.len
