@@ -4,7 +4,7 @@ use Rattle.std.proofs.lemmas.Bool.{ltb-true}
 use Rattle.std.proofs.lemmas.Result.{on_ok_weaker, on_err_weaker}
 use Rattle.intmap.specs.Classes.{slot_number}
 use Rattle.intmap.specs.Slots.{Held, Grid, joined, IsTable}
-use Rattle.intmap.proofs.FilledLemmas.{filled-pushed, marked-here, marks-set}
+use Rattle.intmap.proofs.FilledLemmas.{filled-pushed, mark-below, marked-here, marks-set}
 use Rattle.intmap.proofs.MarkedLemmas.{row-none}
 use Rattle.intmap.proofs.TableLemmas.{IsSlot, rows-set, walk-added, class_size-here, Belong-here, Belong-push, IsTable-set}
 use Rattle.intmap.proofs.table.Table.add.Goals as goal
@@ -16,6 +16,19 @@ here g c = record {
   slot = c.index_of-index.ensures.slot ∙ ap (λ (t : Grid _ _). slot_number g.K.IntKey.number_of c.args.key t.capacity) (sym c.self.view_is);
   here = c.index_mut-slot.ensures.value;
 }
+
+pub set-requires : goal.set-requires
+set-requires g c = mark-below _ _ _ _ _ (here g (goal.at.set-requires g c).After-index_mut-slot) c.self.inside.directory.bits c.self.invariant.marked.marks
+
+pub push-requires : goal.push-requires
+push-requires g c =
+    let at = here g (goal.at.push-requires g c).After-index_mut-slot in
+    ltb-true 0 _ (sym (c.set.ensures.before ∙ marked-here _ _ _ _ _ at c.self.inside.directory.bits c.self.invariant.marked.marks) ∙ c.if-set.true)
+
+pub put_first-requires : goal.put_first-requires
+put_first-requires g c =
+    let at = here g (goal.at.put_first-requires g c).After-index_mut-slot in
+    row-none _ (sym (c.set.ensures.before ∙ marked-here _ _ _ _ _ at c.self.inside.directory.bits c.self.invariant.marked.marks) ∙ c.if-set.false)
 
 module _ {K X : Type 0} (number : K → ℕ) (S : List (Held K X)) (h s : Held K X) (i : ℕ) (k : K) (v : X) (at : IsSlot number S h i k) (full : nat_lt 0 (length h.pairs) ≡ true) where
   -- a slot that held a pair does so, with another behind it or without

@@ -1,9 +1,11 @@
-use Rattle.std.proofs.Common.{◌≡◌, ◌++◌, ◌∙◌, append-nil, arith}
+use Rattle.std.proofs.Common.{◌≡◌, ◌++◌, ◌∙◌, length, sym, ap, subst, append-nil, arith}
 use Rattle.std.specs.Option.{option_to_list}
 use Rattle.std.specs.Map.{keys_of}
+use Rattle.std.proofs.lemmas.List.{length-replicate}
+use Rattle.intmap.specs.Classes.{IsCapacity}
 use Rattle.intmap.specs.Moves.{CanCount, IsCounted, IsReady}
 use Rattle.intmap.proofs.FilledLemmas.{AreMarked-ready}
-use Rattle.intmap.proofs.LoadFactorLemmas.{capacity-positive}
+use Rattle.intmap.proofs.LoadFactorLemmas.{capacity-positive, capacity-greatest}
 use Rattle.intmap.proofs.MoveLemmas.{zeros, CanCount-start, CanCount-first, CanCount-more, IsCounted-more, IsReady-counted}
 use Rattle.intmap.proofs.table.Table.slots_for.Goals as goal
 use Rattle.intmap.proofs.table.Table.slots_for.Goals.{After-as_mut_slice-counts, After-drop-zeros-2, in-Some, in_default}
@@ -16,6 +18,23 @@ module _ (g : _) (c : After-as_mut_slice-counts g) where
   -- all keys can be counted
   can : CanCount g.K.IntKey.number_of c.as_mut_slice-counts.result.now (keys_of c.args.self.now.walk ++ option_to_list c.args.new)
   can = rw start (CanCount-start _ c.args.capacity c.args.self.now.walk (option_to_list c.args.new) c.requires.count)
+
+  -- they are as many as the slots
+  many : length c.as_mut_slice-counts.result.now ≡ c.args.capacity
+  many = ap length start ∙ length-replicate c.args.capacity 0
+
+pub count_pairs-requires-clause-capacity : goal.count_pairs-requires-clause-capacity
+count_pairs-requires-clause-capacity g c =
+    let many = many g (goal.at.count_pairs-requires-clause-capacity g c).After-as_mut_slice-counts in
+    subst IsCapacity (sym many) c.requires.capacity
+
+pub count_key-requires-clause-capacity : goal.count_key-requires-clause-capacity
+count_key-requires-clause-capacity g c =
+    let many = many g (goal.at.count_key-requires-clause-capacity g c).After-as_mut_slice-counts in
+    subst IsCapacity (sym (c.count_pairs.ensures.len ∙ many)) c.requires.capacity
+
+pub new-requires : goal.new-requires
+new-requires g c = capacity-greatest c.args.capacity c.requires.capacity
 
 pub count_pairs-requires-clause-fits : goal.count_pairs-requires-clause-fits
 count_pairs-requires-clause-fits g c =

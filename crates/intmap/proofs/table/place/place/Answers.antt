@@ -2,7 +2,7 @@ use Rattle.std.proofs.Common.{◌≡◌, ◌∙◌, get_or, [], ◌∷◌, ◌++
 use Rattle.std.specs.Prelude.{nat_lt}
 use Rattle.std.proofs.lemmas.Bool.{ltb-true}
 use Rattle.intmap.specs.Classes.{slot_number}
-use Rattle.intmap.proofs.FilledLemmas.{filled-pushed, marked-at, marks-set_at}
+use Rattle.intmap.proofs.FilledLemmas.{filled-pushed, place-below, marked-at, marks-set_at}
 use Rattle.intmap.proofs.MarkedLemmas.{row-none}
 use Rattle.intmap.proofs.MoveLemmas.{IsSlotOf, room-here, IsPlaced-one}
 use Rattle.intmap.proofs.table.place.place.Goals as goal
@@ -20,6 +20,9 @@ filled : (g : _) (c : After-set g) → c.set.result ≡ nat_lt 0 (length (get_or
 filled g c =
     c.set.ensures.before ∙ marked-at c.args.slots.now c.args.bits.now c.requires.marks c.index_of-index.result c.index_of-index.ensures.within c.index-slots-index.result c.index-slots-index.is
     ∙ ap (λ s. nat_lt 0 (length s.pairs)) c.index-slots-index.is
+
+pub set-requires : goal.set-requires
+set-requires g c = place-below c.args.slots.now c.args.bits.now c.requires.marks c.index_of-index.result c.index_of-index.ensures.within
 
 pub push_reserved-requires : goal.push_reserved-requires
 push_reserved-requires g c = record {
