@@ -1,4 +1,4 @@
-use Rattle.std.proofs.Common.{◌≡◌, ◌<◌, ◌∙◌, [], ◌∷◌, ◌++◌, length, refl, sym, ap, subst, arith, rules, of_calls, length-set, append_assoc}
+use Rattle.std.proofs.Common.{◌≡◌, ◌<◌, ◌∙◌, [], ◌∷◌, ◌++◌, length, refl, sym, ap, subst, arith, of_calls, length-set, append_assoc}
 use Rattle.intmap.specs.Bits.{marked_places}
 use Rattle.intmap.specs.Kept.{WritesStored}
 use Rattle.intmap.specs.Slots.{rows}
@@ -30,6 +30,9 @@ module _ (g : _) (c : In-Some g) where
 pub index_mut-requires : goal.index_mut-requires
 index_mut-requires g c = let below = within g (goal.at.index_mut-requires g c).In-Some in omega (arith, below, c.loop-place.slots.ok.0)
 
+pub write_each-requires : goal.write_each-requires
+write_each-requires g c = c.loop-place.invariant.callable c.requires.callable
+
 pub loop-place-preserved : goal.loop-place-preserved
 loop-place-preserved g c =
     let at = (goal.at.loop-place-preserved g c).In-Some in let loop = c.loop-place.invariant in let R = WritesStored g.F.FnMut in
@@ -38,7 +41,7 @@ loop-place-preserved g c =
     let row = ap (λ h. h.pairs) c.index_mut.ensures.value ∙ sym (get_or-rows S place c.index_mut.result.now (within g at)) in
     let run = subst (λ ps. Writes R c.loop-place.f ps s.pairs c.write_each.new.f) row c.write_each.ensures.pairs in
     record {
-      callable = search (of_calls, rules);
+      callable = search of_calls;
       table = IsMarkedTable-Writes S marks loop.table.marks before place rest is s R _ _ run g.K.IntKey.number_of loop.table;
       len = length-set S place s ∙ loop.len;
       passed = (
@@ -52,3 +55,9 @@ pub returns-clause-pairs : goal.returns-clause-pairs
 returns-clause-pairs g c =
     let loop = c.loop-place.invariant in let none = c.in-None.ensures.steps.0 in
     Leads-places (WritesStored g.F.FnMut) c.loop-place.slots.items c.args.bits.now _ _ _ loop.passed.0 loop.table.marks (rw none at loop.passed.1) (rw none at loop.passed.2)
+
+pub returns-clause-table : goal.returns-clause-table
+returns-clause-table g c = c.loop-place.invariant.table
+
+pub returns-clause-len : goal.returns-clause-len
+returns-clause-len g c = c.loop-place.invariant.len

@@ -1,4 +1,4 @@
-use Rattle.std.proofs.Common.{◌^◌, ◌<◌, length, sym, subst}
+use Rattle.std.proofs.Common.{◌^◌, ◌<◌, length, sym, subst, ◌∙◌}
 use Rattle.intmap.specs.Slots.{Grid, rows, joined}
 use Rattle.intmap.specs.Kept.{unkept}
 use Rattle.intmap.specs.Retaining.{KeepsAt, Retains}
@@ -6,8 +6,17 @@ use Rattle.intmap.proofs.RetainLemmas.{Retains-unkept}
 use Rattle.intmap.proofs.TableLemmas.{walk_of-joined}
 use Rattle.intmap.proofs.table.retain.Table+K+Kept+V+A.retain.Goals as goal
 
+pub retain_slots-requires-clause-callable : goal.retain_slots-requires-clause-callable
+retain_slots-requires-clause-callable g c = c.requires.callable
+
+pub retain_slots-requires-clause-table : goal.retain_slots-requires-clause-table
+retain_slots-requires-clause-table g c = c.self.invariant.marked
+
 pub retain_slots-requires-clause-count : goal.retain_slots-requires-clause-count
 retain_slots-requires-clause-count g c = subst (λ (t : Grid _ _). length t.walk < 2 ^ 64) (sym c.self.view_is) c.requires.count
+
+pub invariant_of-self : goal.invariant_of-self
+invariant_of-self g c = record { marked = c.retain_slots.ensures.table; count = c.self.invariant.count ∙ sym c.retain_slots.ensures.len }
 
 pub returns-clause-pairs : goal.returns-clause-pairs
 returns-clause-pairs g c =
@@ -17,3 +26,6 @@ returns-clause-pairs g c =
 
 pub returns-clause-own : goal.returns-clause-own
 returns-clause-own g c = walk_of-joined g.K.IntKey.number_of c.retain_slots.new.slots.items c.retain_slots.ensures.table.table
+
+pub returns-clause-count : goal.returns-clause-count
+returns-clause-count g c = c.retain_slots.ensures.count
