@@ -114,3 +114,11 @@ module _ {K V : Type 0} (number : K → ℕ) where
     each k ∙ cond-true (same_key number k k) w (value_of number L k) (eq-eqb (number k) (number k) refl),
     (λ q apart. each q ∙ cond-false (same_key number k q) w (value_of number L q) apart),
   )
+
+  -- where nothing changed, the key has the value that it had
+  pub Updates-same : (L M : List (K × V)) (k : K) (w : Option V) → M ≡ L → w ≡ value_of number L k → Updates number L M k w
+  Updates-same L M k w same had =
+      Updates-from L M k w (λ q. ap (λ N. value_of number N q) same ∙ elim (cases_Bool (same_key number k q)) as (λ _. value_of number L q ≡ cond (same_key number k q) w (value_of number L q)) [
+        | inl is ↦ rw is (ap (λ n. first_value (λ r. number r == n) L) (eqb-true (number q) (number k) is) ∙ sym had)
+        | inr apart ↦ rw apart refl
+      ])

@@ -2,10 +2,10 @@
 use Rattle.std.proofs.Common.{◌≡◌, ℕ, zero, suc, ◌+◌, ◌-◌, ◌<◌, Bool, true, false, List, [], ◌∷◌, length, get_or, set, Option, Some, None, refl, sym, ap, ◌∙◌, arith}
 use Rattle.std.specs.Prelude.{swap_remove, cond, reverse}
 use Rattle.std.proofs.lemmas.Option.{none-some, same_Some}
-use Rattle.std.proofs.lemmas.List.{get_or_default}
+use Rattle.std.proofs.lemmas.List.{get_or_default, length-reverse}
 use Rattle.intmap.specs.Bindings.{swap_out, first_value}
 use Rattle.intmap.specs.Reach.{through_first}
-use Rattle.intmap.specs.Slots.{Empty, Lone, InOrder, Turned, all_pairs, first_of, first_pair, held_pairs, in_order, is_turned, write_at, AreOthers, IsFilledInOrder}
+use Rattle.intmap.specs.Slots.{Empty, Lone, InOrder, Turned, all_pairs, first_of, first_pair, held_pairs, in_order, is_lone, is_turned, write_at, AreOthers, IsFilledInOrder}
 use Rattle.intmap.specs.declared.slot.first.First.{First}
 use Rattle.intmap.proofs.SwapOutLemmas.{any}
 use Rattle.intmap.proofs.PositionLemmas.{IsPassed-none, IsFound-here, length-through_first-cons, swap_remove-position}
@@ -16,6 +16,18 @@ module _ {K X : Type 0} (test : K → Bool) (pairs : List (K × X)) (first : K �
   swap_remove-first passes d here =
       let found = IsFound-here (λ p. test p.0) (first ∷ rest) 0 first (omega arith) passes (IsPassed-none (λ p. test p.0) (first ∷ rest)) in
       swap_remove-position (λ p. test p.0) pairs 0 d (rw is found.place) here
+
+  -- it is found, and no pair behind it is gone through
+  pub record IsInFront : Type 0 where
+    pub value : first_value test pairs ≡ Some first.1
+    pub reached : length (through_first (λ p. test p.0) pairs) ≡ 1
+
+  pub in_front : test first.0 ≡ true → IsInFront
+  in_front passes = record { value = rw is (simp passes); reached = rw is (simp passes) }
+
+  -- taken out, it leaves none where no other stands behind it
+  pub swap_out-lone : test first.0 ≡ true → rest ≡ [] → swap_out (λ p. test p.0) any pairs ≡ []
+  swap_out-lone passes lone = rw (is, lone) (simp passes)
 
   -- the first pair fails: what is found, taken out and gone through is that of the rest
   pub record IsBehind : Type 0 where
@@ -92,6 +104,34 @@ module _ {K X : Type 0} where
   held_pairs-first (Lone p) rest first is = ap (λ (q : K × X). q ∷ rest) (same_Some p first is)
   held_pairs-first (InOrder p) rest first is = ap (λ (q : K × X). q ∷ rest) (same_Some p first is)
   held_pairs-first (Turned p) rest first is = ap (λ (q : K × X). q ∷ reverse rest) (same_Some p first is)
+
+  -- where there is no first pair there is none at all
+  pub held_pairs-none : (place : First (K × X)) (rest : List (K × X)) → first_pair place ≡ None → AreOthers place rest → held_pairs place rest ≡ []
+  held_pairs-none Empty rest is none = none
+  held_pairs-none (Lone p) rest is none = absurd (none-some p (sym is))
+  held_pairs-none (InOrder p) rest is some = absurd (none-some p (sym is))
+  held_pairs-none (Turned p) rest is some = absurd (none-some p (sym is))
+
+  -- none stands behind the only one
+  pub others-lone : (place : First (K × X)) (rest : List (K × X)) → is_lone place ≡ true → AreOthers place rest → cond (is_turned place) (reverse rest) rest ≡ []
+  others-lone Empty rest lone none = none
+  others-lone (Lone p) rest lone none = none
+  others-lone (InOrder p) rest lone some = let wrong : false ≡ true = lone in cc
+  others-lone (Turned p) rest lone some = let wrong : false ≡ true = lone in cc
+
+  -- and some behind another first one
+  pub held_pairs-several : (place : First (K × X)) (rest : List (K × X)) (first : K × X) → first_pair place ≡ Some first → is_lone place ≡ false → AreOthers place rest → 1 < length (held_pairs place rest)
+  held_pairs-several Empty rest first is several none = absurd (none-some first is)
+  held_pairs-several (Lone p) rest first is several none = let wrong : true ≡ false = several in cc
+  held_pairs-several (InOrder p) rest first is several some = omega (arith, some)
+  held_pairs-several (Turned p) rest first is several some = omega (arith, some, length-reverse rest)
+
+  -- in order no first place is turned
+  pub is_turned-in_order : (place : First (K × X)) → is_turned (in_order place) ≡ false
+  is_turned-in_order Empty = refl
+  is_turned-in_order (Lone p) = refl
+  is_turned-in_order (InOrder p) = refl
+  is_turned-in_order (Turned p) = refl
 
   -- no pair is none from the back either
   pub turned-none : (rest : List (K × X)) (b : Bool) → rest ≡ [] → cond b (reverse rest) rest ≡ []

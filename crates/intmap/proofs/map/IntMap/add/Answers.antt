@@ -106,3 +106,33 @@ returns-in-Err-clause-map g c = rw (← c.self.view_is) c.self.invariant.map
 
 pub returns-clause-map : goal.returns-clause-map
 returns-clause-map g c = rw (← c.self.view_is) c.self.invariant.map
+
+pub returns-then-self-clause-err : goal.returns-then-self-clause-err
+returns-then-self-clause-err g c = refl
+
+pub returns-then-self-clause-map_after : goal.returns-then-self-clause-map_after
+returns-then-self-clause-map_after g c = rw (← c.self.view_is) c.self.invariant.map
+
+pub returns-then-has_outgrown-clause-capacity : goal.returns-then-has_outgrown-clause-capacity
+returns-then-has_outgrown-clause-capacity g c = c.add_growing.ensures.capacity
+
+pub returns-then-has_outgrown-clause-state : goal.returns-then-has_outgrown-clause-state
+returns-then-has_outgrown-clause-state g c = c.add_growing.ensures.state
+
+pub returns-then-has_outgrown-clause-err : goal.returns-then-has_outgrown-clause-err
+returns-then-has_outgrown-clause-err g c = c.add_growing.ensures.err
+
+pub returns-then-has_outgrown-clause-value_returned : goal.returns-then-has_outgrown-clause-value_returned
+returns-then-has_outgrown-clause-value_returned g c = c.add_growing.ensures.value_returned
+
+pub returns-then-has_outgrown-clause-in_range : goal.returns-then-has_outgrown-clause-in_range
+returns-then-has_outgrown-clause-in_range g c = c.add_growing.ensures.in_range
+
+pub returns-then-has_outgrown-clause-too_large : goal.returns-then-has_outgrown-clause-too_large
+returns-then-has_outgrown-clause-too_large g c = c.add_growing.ensures.too_large
+
+pub returns-then-has_outgrown-clause-map_after : goal.returns-then-has_outgrown-clause-map_after
+returns-then-has_outgrown-clause-map_after g c = c.add_growing.ensures.map_after
+
+pub returns-in-Err-clause-map_after : goal.returns-in-Err-clause-map_after
+returns-in-Err-clause-map_after g c = (invariant_of-self g c).map

@@ -99,3 +99,15 @@ returns-in-Err-clause-err g c = search rules
 
 pub returns-clause-map_after : goal.returns-clause-map_after
 returns-clause-map_after g c = (invariant_of-self-2 g c).map
+
+pub returns-in_default-clause-err : goal.returns-in_default-clause-err
+returns-in_default-clause-err g c = refl
+
+pub returns-in_default-clause-map_after : goal.returns-in_default-clause-map_after
+returns-in_default-clause-map_after g c = rw (← c.self.view_is) c.self.invariant.map
+
+pub returns-in-Err-clause-value_returned : goal.returns-in-Err-clause-value_returned
+returns-in-Err-clause-value_returned g c = ap (λ kept. kept.value) c.in-Err.ensures.value_returned
+
+pub returns-in-Err-clause-map_after : goal.returns-in-Err-clause-map_after
+returns-in-Err-clause-map_after g c = (invariant_of-self g c).map

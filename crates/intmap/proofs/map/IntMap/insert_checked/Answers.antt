@@ -1,16 +1,21 @@
-use Rattle.std.proofs.Common.{◌≡◌, ◌+◌, ◌<◌, ◌∙◌, true, false, Option, Some, None, length, refl, sym, ap, subst}
+use Rattle.std.proofs.Common.{◌≡◌, ◌+◌, ◌<◌, ◌∙◌, true, false, Option, Some, None, length, refl, sym, ap, subst, arith}
 use Rattle.std.specs.Prelude.{is_some}
 use Rattle.intmap.specs.Bindings.{value_of}
 use Rattle.intmap.specs.Growth.{IsNext}
-use Rattle.intmap.specs.Map.{MapState, IsFull, with_pair}
+use Rattle.intmap.specs.Map.{MapState, IsFull, IsMap, with_pair}
 use Rattle.intmap.specs.Reach.{class_size}
 use Rattle.intmap.proofs.AfterLemmas.{Updates-insert, length-insert}
+use Rattle.intmap.proofs.BindingLemmas.{Updates-same}
 use Rattle.intmap.proofs.map.IntMap.insert_checked.Goals as goal
-use Rattle.intmap.proofs.map.IntMap.insert_checked.Goals.{After-add}
+use Rattle.intmap.proofs.map.IntMap.insert_checked.Goals.{After-add, After-is_some}
 
 none_of : {X : Type 0} (o : Option X) → is_some o ≡ false → o ≡ None
 none_of None missed = refl
 none_of (Some x) missed = let w : true ≡ false = missed in cc
+
+some_of : {X : Type 0} (o : Option X) → is_some o ≡ true → (x : X) × (o ≡ Some x)
+some_of None found = let w : false ≡ true = found in absurd (cc)
+some_of (Some x) found = (x, refl)
 
 -- the key isn't bound
 missing : (g : _) (c : After-add g) → value_of g.K.IntKey.number_of c.args.self.now.walk c.args.key ≡ None
@@ -43,3 +48,67 @@ pub returns-clause-len : goal.returns-clause-len
 returns-clause-len g c =
     let none = missing g (goal.at.returns-clause-len g c).After-add in
     rw none at (length-insert g.K.IntKey.number_of g.K.IntKey.is_key c.args.self.now _ c.args.key c.args.value c.add.ensures.map_after.capacity (returns-clause-state g c))
+
+-- the key is bound
+bound : (g : _) (c : After-is_some g) → c.is_some.result ≡ true → (x : g.row.V.Denot) × (value_of g.K.IntKey.number_of c.args.self.now.walk c.args.key ≡ Some x)
+bound g c found = some_of _ (sym c.locate.ensures.bound ∙ sym c.is_some.ensures ∙ found)
+
+pub returns-then-is_some-clause-new : goal.returns-then-is_some-clause-new
+returns-then-is_some-clause-new g c = rw (bound g (goal.at.returns-then-is_some-clause-new g c).After-is_some c.if-is_some.true).1 refl
+
+pub returns-then-is_some-clause-capacity : goal.returns-then-is_some-clause-capacity
+returns-then-is_some-clause-capacity g c = rw (bound g (goal.at.returns-then-is_some-clause-capacity g c).After-is_some c.if-is_some.true).1 (ap (λ (m : MapState g.row.K.Denot g.row.V.Denot). m.capacity) c.locate.ensures.state)
+
+pub returns-then-is_some-clause-state : goal.returns-then-is_some-clause-state
+returns-then-is_some-clause-state g c = c.locate.ensures.state
+
+pub returns-then-is_some-clause-updates : goal.returns-then-is_some-clause-updates
+returns-then-is_some-clause-updates g c =
+    let e = (bound g (goal.at.returns-then-is_some-clause-updates g c).After-is_some c.if-is_some.true).1 in
+    Updates-same g.K.IntKey.number_of c.args.self.now.walk c.locate.new.self.walk c.args.key _ (ap (λ (m : MapState g.row.K.Denot g.row.V.Denot). m.walk) c.locate.ensures.state) (rw e refl)
+
+pub returns-then-is_some-clause-len : goal.returns-then-is_some-clause-len
+returns-then-is_some-clause-len g c = let walk = ap (λ (m : MapState g.row.K.Denot g.row.V.Denot). length m.walk) c.locate.ensures.state in omega (arith, walk)
+
+pub returns-then-is_some-clause-too_large : goal.returns-then-is_some-clause-too_large
+returns-then-is_some-clause-too_large g c = rw (bound g (goal.at.returns-then-is_some-clause-too_large g c).After-is_some c.if-is_some.true).1 ((λ no. absurd no), λ out. absurd (let w : true ≡ false = out.0 in cc))
+
+pub returns-then-is_some-clause-map : goal.returns-then-is_some-clause-map
+returns-then-is_some-clause-map g c = c.locate.ensures.map
+
+pub returns-then-is_some-clause-map_after : goal.returns-then-is_some-clause-map_after
+returns-then-is_some-clause-map_after g c = subst (IsMap g.K.IntKey.number_of g.K.IntKey.is_key) (sym c.locate.ensures.state) c.locate.ensures.map
+
+pub returns-in-Err-clause-err : goal.returns-in-Err-clause-err
+returns-in-Err-clause-err g c = c.in-Err.ensures.err ∙ c.locate.ensures.state
+
+pub returns-in-Err-clause-value_returned : goal.returns-in-Err-clause-value_returned
+returns-in-Err-clause-value_returned g c = c.in-Err.ensures.value_returned
+
+pub returns-in-Err-clause-new_key : goal.returns-in-Err-clause-new_key
+returns-in-Err-clause-new_key g c = rw (missing g (goal.at.returns-in-Err-clause-new_key g c).After-add) refl
+
+pub returns-in-Err-clause-map : goal.returns-in-Err-clause-map
+returns-in-Err-clause-map g c = c.locate.ensures.map
+
+pub returns-in-Err-clause-map_after : goal.returns-in-Err-clause-map_after
+returns-in-Err-clause-map_after g c = c.add.ensures.map_after
+
+pub returns-clause-new : goal.returns-clause-new
+returns-clause-new g c = rw (missing g (goal.at.returns-clause-new g c).After-add) refl
+
+pub returns-clause-capacity : goal.returns-clause-capacity
+returns-clause-capacity g c =
+    let Next : MapState g.row.K.Denot g.row.V.Denot → Type 0 = λ m. IsNext m.capacity (length m.walk + 1) m.factor c.add.new.self.capacity in
+    rw (missing g (goal.at.returns-clause-capacity g c).After-add) (subst Next c.locate.ensures.state c.in_default.ensures.capacity)
+
+pub returns-clause-too_large : goal.returns-clause-too_large
+returns-clause-too_large g c =
+    let Full : MapState g.row.K.Denot g.row.V.Denot → Type 0 = λ m. IsFull m.walk m.capacity m.factor in
+    ((λ no. absurd no), λ out. absurd (c.in_default.ensures.in_range (subst Full (sym c.locate.ensures.state) out.1)))
+
+pub returns-clause-map : goal.returns-clause-map
+returns-clause-map g c = c.locate.ensures.map
+
+pub returns-clause-map_after : goal.returns-clause-map_after
+returns-clause-map_after g c = c.add.ensures.map_after

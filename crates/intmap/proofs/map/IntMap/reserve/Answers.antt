@@ -1,6 +1,7 @@
 use Rattle.std.proofs.Common.{◌≡◌, ◌+◌, ◌≤◌, max, inl, inr, length, sym, ap, ◌∙◌, subst, arith, refl, rules, tests}
 use Rattle.std.proofs.lemmas.Grind.{common_steps}
 use Rattle.std.proofs.lemmas.Bool.{cases_lt}
+use Rattle.intmap.specs.Bindings.{value_of}
 use Rattle.intmap.specs.Classes.{IsCapacity}
 use Rattle.intmap.specs.Growth.{IsLeastPower}
 use Rattle.intmap.specs.Map.{MapState}
@@ -96,10 +97,14 @@ pub returns-then-self-gt-GREATEST_CAPACITY-clause-too_large : goal.returns-then-
 returns-then-self-gt-GREATEST_CAPACITY-clause-too_large g c = grind (arith, common_steps)
 
 pub returns-then-is_err-clause-too_large : goal.returns-then-is_err-clause-too_large
-returns-then-is_err-clause-too_large g c = grind (arith, common_steps)
+returns-then-is_err-clause-too_large g c =
+    let len = seen g (goal.at.returns-then-is_err-clause-too_large g c).After-max-capacity in let small = c.if-additional-self.false in
+    ((λ e. cc), λ much. absurd (omega (arith, much, len, small)))
 
 pub returns-clause-too_large : goal.returns-clause-too_large
-returns-clause-too_large g c = grind (arith, common_steps)
+returns-clause-too_large g c =
+    let len = seen g (goal.at.returns-clause-too_large g c).After-max-capacity in let small = c.if-additional-self.false in
+    ((λ e. cc), λ much. absurd (omega (arith, much, len, small)))
 
 pub overflow_sub-self-inside : goal.overflow_sub-self-inside
 overflow_sub-self-inside g c = search rules
@@ -118,3 +123,39 @@ invariant_of-self g c = search (tests, rules)
 
 pub returns-then-is_err-clause-err : goal.returns-then-is_err-clause-err
 returns-then-is_err-clause-err g c = search (tests, rules)
+
+pub returns-then-self-gt-GREATEST_CAPACITY-clause-err : goal.returns-then-self-gt-GREATEST_CAPACITY-clause-err
+returns-then-self-gt-GREATEST_CAPACITY-clause-err g c = refl
+
+pub returns-then-self-gt-GREATEST_CAPACITY-clause-memory : goal.returns-then-self-gt-GREATEST_CAPACITY-clause-memory
+returns-then-self-gt-GREATEST_CAPACITY-clause-memory g c = λ e. cc
+
+pub returns-then-self-gt-GREATEST_CAPACITY-clause-updates : goal.returns-then-self-gt-GREATEST_CAPACITY-clause-updates
+returns-then-self-gt-GREATEST_CAPACITY-clause-updates g c q = refl
+
+pub returns-then-self-gt-GREATEST_CAPACITY-clause-len : goal.returns-then-self-gt-GREATEST_CAPACITY-clause-len
+returns-then-self-gt-GREATEST_CAPACITY-clause-len g c = refl
+
+pub returns-then-self-gt-GREATEST_CAPACITY-clause-map : goal.returns-then-self-gt-GREATEST_CAPACITY-clause-map
+returns-then-self-gt-GREATEST_CAPACITY-clause-map g c = rw (← c.self.view_is) c.self.invariant.map
+
+pub returns-then-self-gt-GREATEST_CAPACITY-clause-map_after : goal.returns-then-self-gt-GREATEST_CAPACITY-clause-map_after
+returns-then-self-gt-GREATEST_CAPACITY-clause-map_after g c = rw (← c.self.view_is) c.self.invariant.map
+
+pub returns-then-is_err-clause-updates : goal.returns-then-is_err-clause-updates
+returns-then-is_err-clause-updates g c q = ap (λ (m : MapState g.row.K.Denot g.row.V.Denot). value_of g.K.IntKey.number_of m.walk q) (returns-then-is_err-clause-err g c)
+
+pub returns-then-is_err-clause-len : goal.returns-then-is_err-clause-len
+returns-then-is_err-clause-len g c = ap (λ (m : MapState g.row.K.Denot g.row.V.Denot). length m.walk) (returns-then-is_err-clause-err g c)
+
+pub returns-then-is_err-clause-map : goal.returns-then-is_err-clause-map
+returns-then-is_err-clause-map g c = rw (← c.self.view_is) c.self.invariant.map
+
+pub returns-then-is_err-clause-map_after : goal.returns-then-is_err-clause-map_after
+returns-then-is_err-clause-map_after g c = (invariant_of-self g c).map
+
+pub returns-clause-memory : goal.returns-clause-memory
+returns-clause-memory g c = λ e. cc
+
+pub returns-clause-map : goal.returns-clause-map
+returns-clause-map g c = rw (← c.self.view_is) c.self.invariant.map

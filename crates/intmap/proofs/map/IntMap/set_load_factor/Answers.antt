@@ -1,4 +1,5 @@
 use Rattle.std.proofs.Common.{◌≡◌, length, sym, ap, ◌∙◌, subst, arith, refl, rules, tests}
+use Rattle.intmap.specs.Bindings.{value_of}
 use Rattle.intmap.specs.Growth.{IsWanted, WantsTooMuch}
 use Rattle.intmap.specs.Map.{MapState}
 use Rattle.intmap.proofs.GrowthLemmas.{IsWanted-unique}
@@ -93,3 +94,36 @@ returns-in_default-clause-err g c = search rules
 
 pub returns-then-is_err-clause-err : goal.returns-then-is_err-clause-err
 returns-then-is_err-clause-err g c = search (tests, rules)
+
+pub returns-in_default-clause-memory : goal.returns-in_default-clause-memory
+returns-in_default-clause-memory g c = λ e. cc
+
+pub returns-in_default-clause-updates : goal.returns-in_default-clause-updates
+returns-in_default-clause-updates g c q = refl
+
+pub returns-in_default-clause-len : goal.returns-in_default-clause-len
+returns-in_default-clause-len g c = refl
+
+pub returns-in_default-clause-map : goal.returns-in_default-clause-map
+returns-in_default-clause-map g c = rw (← c.self.view_is) c.self.invariant.map
+
+pub returns-in_default-clause-map_after : goal.returns-in_default-clause-map_after
+returns-in_default-clause-map_after g c = rw (← c.self.view_is) c.self.invariant.map
+
+pub returns-then-is_err-clause-updates : goal.returns-then-is_err-clause-updates
+returns-then-is_err-clause-updates g c q = ap (λ (m : MapState g.row.K.Denot g.row.V.Denot). value_of g.K.IntKey.number_of m.walk q) (returns-then-is_err-clause-err g c)
+
+pub returns-then-is_err-clause-len : goal.returns-then-is_err-clause-len
+returns-then-is_err-clause-len g c = ap (λ (m : MapState g.row.K.Denot g.row.V.Denot). length m.walk) (returns-then-is_err-clause-err g c)
+
+pub returns-then-is_err-clause-map : goal.returns-then-is_err-clause-map
+returns-then-is_err-clause-map g c = rw (← c.self.view_is) c.self.invariant.map
+
+pub returns-then-is_err-clause-map_after : goal.returns-then-is_err-clause-map_after
+returns-then-is_err-clause-map_after g c = (invariant_of-self g c).map
+
+pub returns-clause-memory : goal.returns-clause-memory
+returns-clause-memory g c = λ e. cc
+
+pub returns-clause-map : goal.returns-clause-map
+returns-clause-map g c = rw (← c.self.view_is) c.self.invariant.map
