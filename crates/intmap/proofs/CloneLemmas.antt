@@ -1,5 +1,5 @@
 -- What clones of lists of pairs have in common with the lists that they were made of.
-use Rattle.std.proofs.Common.{◌≡◌, ℕ, ◌≤◌, Bool, true, false, cond, List, [], ◌∷◌, ◌++◌, length, Some, None, refl, sym, ap, ◌∙◌, subst, arith}
+use Rattle.std.proofs.Common.{◌≡◌, ℕ, ◌<◌, ◌≤◌, Bool, true, false, cond, List, [], ◌∷◌, ◌++◌, length, Some, None, refl, sym, ap, ◌∙◌, subst, arith}
 use mathlib.Core.List.{reverse_aux}
 use Rattle.std.specs.Prelude.{reverse, MatchOption}
 use Rattle.std.specs.List.{AllZip}
@@ -9,7 +9,7 @@ use Rattle.intmap.specs.Bindings.{value_of}
 use Rattle.intmap.specs.Classes.{same_key}
 use Rattle.intmap.specs.Cloning.{IsPairClone, BindsClones}
 use Rattle.intmap.specs.Kept.{unkept}
-use Rattle.intmap.specs.Slots.{Empty, Lone, InOrder, Turned, Held, rows, joined, held_pairs}
+use Rattle.intmap.specs.Slots.{Empty, Lone, InOrder, Turned, Held, rows, joined, held_pairs, AreOthers}
 use Rattle.intmap.specs.declared.slot.first.First.{First}
 use Rattle.intmap.specs.declared.kept.Kept.{Kept}
 use Rattle.intmap.proofs.SameKeysLemmas.{row_keys}
@@ -62,6 +62,24 @@ module _ {K X : Type 0} (clones : X → X → Type 0) where
   AreClones-held_pairs (Lone p) made rest more one all = rw one.1 (one.2, all)
   AreClones-held_pairs (InOrder p) made rest more one all = rw one.1 (one.2, all)
   AreClones-held_pairs (Turned p) made rest more one all = rw one.1 (one.2, AllZip-reverse (IsPairClone clones) rest more all)
+
+  -- clones of no pairs are none
+  none_cloned : (rest more : List (K × X)) → rest ≡ [] → AreClones rest more → more ≡ []
+  none_cloned rest [] none all = refl
+  none_cloned rest (q ∷ more) none all = absurd (rw none at all)
+
+  -- and those of some pairs are some
+  some_cloned : (rest more : List (K × X)) → 0 < length rest → AreClones rest more → 0 < length more
+  some_cloned [] more some all = absurd (omega (arith, some))
+  some_cloned (p ∷ rest) [] some all = absurd all
+  some_cloned (p ∷ rest) (q ∷ more) some all = omega arith
+
+  -- so there are others behind a cloned first place where there were
+  pub AreOthers-clone : (first made : First (K × X)) (rest more : List (K × X)) → IsFirstClone first made → AreClones rest more → AreOthers first rest → AreOthers made more
+  AreOthers-clone Empty made rest more one all none = rw one (none_cloned rest more none all)
+  AreOthers-clone (Lone p) made rest more one all none = rw one.1 (none_cloned rest more none all)
+  AreOthers-clone (InOrder p) made rest more one all some = rw one.1 (some_cloned rest more some all)
+  AreOthers-clone (Turned p) made rest more one all some = rw one.1 (some_cloned rest more some all)
 
   -- clones have the keys
   pub keys_of-AreClones : (L M : List (K × X)) → AreClones L M → keys_of L ≡ keys_of M

@@ -1,7 +1,8 @@
-use Rattle.std.proofs.Common.{◌≡◌, ◌^◌, ◌<◌, ◌≤◌, ℕ, List, length, refl, sym, ap, ◌∙◌, arith}
+use Rattle.std.proofs.Common.{◌≡◌, ◌^◌, ◌<◌, ◌≤◌, ℕ, List, length, refl, sym, ap, ◌∙◌, subst, arith}
 use Rattle.std.specs.Prelude.{Result, Ok, Err, IsErrAnd, IfErr}
 use Rattle.std.proofs.lemmas.Bool.{lt-ltb, le-ltb}
 use Rattle.intmap.specs.Bindings.{value_of}
+use Rattle.intmap.specs.Extending.{IsMadeOf}
 use Rattle.intmap.specs.Figures.{tally_of}
 use Rattle.intmap.specs.Kept.{unkept}
 use Rattle.intmap.specs.Walk.{slot_of, walk_of}
@@ -12,7 +13,7 @@ use Rattle.intmap.proofs.CrowdLemmas.{crowds_below, crowds_below-crowded, crowds
 use Rattle.intmap.proofs.LoadFactorLemmas.{capacity-greatest}
 use Rattle.intmap.proofs.MappedLemmas.{slot_of-with_values, length-with_values}
 use Rattle.intmap.proofs.map.IntMap.collisions.Goals as goal
-use Rattle.intmap.proofs.map.IntMap.collisions.Goals.{After-slot_len-size, then-size-gt1+in_ok-count_once_more, else-size-gt1}
+use Rattle.intmap.proofs.map.IntMap.collisions.Goals.{After-loop-slot, After-slot_len-size, then-size-gt1+in_ok-count_once_more, else-size-gt1}
 
 -- a slot has as many pairs, whatever their values are
 slot-len : {K V : Type 0} (number : K → ℕ) (T : List (K × Kept V)) (C i : ℕ) → length (slot_of number T C i) ≡ length (slot_of number (unkept T) C i)
@@ -82,8 +83,25 @@ loop-slot-preserved g c =
           })
     ]
 
+-- all slots were gone through
+whole : (g : _) (c : After-loop-slot g) → c.loop-slot.slot ≡ c.args.self.now.capacity
+whole g c = rw (← c.self.view_is) (let test = c.loop-slot-test.false in let last = c.loop-slot.auto.slot-end in let cap = c.capacity-slot-end.ensures.value in omega (arith, test, last, cap))
+
+pub returns-clause-sizes : goal.returns-clause-sizes
+returns-clause-sizes g c =
+    let slot = slot_of g.K.IntKey.number_of c.args.self.now.walk c.args.self.now.capacity in
+    subst (λ n. IsMadeOf (λ (size : ℕ). size) (λ size. size < 2 ^ 64) (tally_of (crowds_below slot n)) c.loop-slot.sizes) (whole g c) c.loop-slot.invariant.tally.made
+
 pub returns-clause-bindings : goal.returns-clause-bindings
-returns-clause-bindings g c =
-    let end : c.loop-slot.slot ≡ c.args.self.now.capacity =
-    rw (← c.self.view_is) (let test = c.loop-slot-test.false in let last = c.loop-slot.auto.slot-end in let cap = c.capacity-slot-end.ensures.value in omega (arith, test, last, cap)) in
-    λ size. c.loop-slot.invariant.tally.counts size ∙ ap (λ n. value_of (λ k. k) (tally_of (crowds_below (slot_of g.K.IntKey.number_of c.args.self.now.walk c.args.self.now.capacity) n)) size) end
+returns-clause-bindings g c = λ size.
+    c.loop-slot.invariant.tally.counts size ∙ ap (λ n. value_of (λ k. k) (tally_of (crowds_below (slot_of g.K.IntKey.number_of c.args.self.now.walk c.args.self.now.capacity) n)) size) (whole g c)
+
+pub returns-clause-len : goal.returns-clause-len
+returns-clause-len g c =
+    c.loop-slot.invariant.tally.len ∙ ap (λ n. length (tally_of (crowds_below (slot_of g.K.IntKey.number_of c.args.self.now.walk c.args.self.now.capacity) n))) (whole g c)
+
+pub returns-clause-map : goal.returns-clause-map
+returns-clause-map g c = rw (← c.self.view_is) c.self.invariant.map
+
+pub returns-clause-map_after : goal.returns-clause-map_after
+returns-clause-map_after g c = c.loop-slot.invariant.map

@@ -1,16 +1,22 @@
-use Rattle.std.proofs.Common.{◌≡◌, ◌+◌, ◌-◌, ◌∷◌, length, get_or, Some, ap, sym, ◌∙◌, arith}
+use Rattle.std.proofs.Common.{◌≡◌, ◌+◌, ◌-◌, ◌∷◌, [], length, get_or, Some, true, refl, ap, sym, ◌∙◌, arith}
 use Rattle.std.specs.Option.{option_copied}
 use Rattle.std.specs.Prelude.{cond, reverse}
+use Rattle.std.proofs.lemmas.Option.{none-some}
 use Rattle.std.proofs.lemmas.List.{get_or-reverse, length-reverse}
 use Rattle.intmap.specs.Classes.{same_key}
 use Rattle.intmap.specs.Reach.{through_first}
-use Rattle.intmap.specs.Slots.{is_turned}
+use Rattle.intmap.specs.Slots.{Empty, Lone, InOrder, Turned, first_pair, is_lone, is_turned}
+use Rattle.intmap.specs.declared.slot.first.First.{First}
 use Rattle.intmap.proofs.PositionLemmas.{first_value-position, first_value-none, position-within}
-use Rattle.intmap.proofs.SlotLemmas.{IsBehind, behind, held_pairs-first}
+use Rattle.intmap.proofs.SlotLemmas.{IsBehind, IsInFront, behind, in_front, held_pairs-first, held_pairs-none, others-lone}
 use Rattle.intmap.proofs.slot.Slot.get.Goals as goal
-use Rattle.intmap.proofs.slot.Slot.get.Goals.{After-find_in, After-find_back_in}
+use Rattle.intmap.proofs.slot.Slot.get.Goals.{After-matches, In_default, In_default-first-2, After-find_in, After-find_back_in}
 
--- the first pair stands before the others, which lie in order
+-- the first pair stands before the others
+pairs : (g : _) (c : After-matches g) → c.args.self.now.pairs ≡ c.in-Some.first.now ∷ cond (is_turned c.self.inside.first) (reverse c.self.inside.rest.items) c.self.inside.rest.items
+pairs g c = sym (ap (λ h. h.pairs) c.self.view_is) ∙ held_pairs-first c.self.inside.first c.self.inside.rest.items c.in-Some.first.now (sym c.pair.ensures ∙ ap option_copied c.in-Some.is)
+
+-- these lie in order
 in_order : (g : _) (c : After-find_in g) → c.args.self.now.pairs ≡ c.in-Some.first.now ∷ c.self.inside.rest.items
 in_order g c =
     sym (ap (λ h. h.pairs) c.self.view_is) ∙ held_pairs-first c.self.inside.first c.self.inside.rest.items c.in-Some.first.now (sym c.pair.ensures ∙ ap option_copied c.in-Some.is)
@@ -82,3 +88,57 @@ returns-in-Turned-clause-value g c =
 
 pub returns-in-Turned-clause-counted : goal.returns-in-Turned-clause-counted
 returns-in-Turned-clause-counted g c = counted_back g (goal.at.returns-in-Turned-clause-counted g c).After-find_back_in
+
+-- there is no pair
+none : (g : _) (c : In_default g) → c.args.self.now.pairs ≡ []
+none g c =
+    sym (ap (λ h. h.pairs) c.self.view_is)
+    ∙ held_pairs-none c.self.inside.first c.self.inside.rest.items (sym c.pair.ensures ∙ ap option_copied c.in_default.is) c.self.invariant
+
+pub returns-in_default-clause-value : goal.returns-in_default-clause-value
+returns-in_default-clause-value g c = rw (none g c) refl
+
+pub returns-in_default-clause-counted : goal.returns-in_default-clause-counted
+returns-in_default-clause-counted g c =
+    let gone = ap (λ ps. length (through_first (λ p. same_key g.K.IntKey.number_of c.args.key.now p.0) ps)) (none g c) in omega (arith, gone)
+
+-- the key is that of the first pair
+front : (g : _) (c : After-matches g) → c.matches.result ≡ true → IsInFront (same_key g.K.IntKey.number_of c.args.key.now) c.args.self.now.pairs c.in-Some.first.now _ (pairs g c)
+front g c passes = in_front _ _ _ _ (pairs g c) (sym c.matches.ensures.same ∙ passes)
+
+pub returns-then-matches-clause-value : goal.returns-then-matches-clause-value
+returns-then-matches-clause-value g c = sym (front g (goal.at.returns-then-matches-clause-value g c).After-matches c.if-matches.true).value
+
+pub returns-then-matches-clause-counted : goal.returns-then-matches-clause-counted
+returns-then-matches-clause-counted g c =
+    let one = (front g (goal.at.returns-then-matches-clause-counted g c).After-matches c.if-matches.true).reached in omega (arith, one, c.matches.ensures.counted)
+
+pub index-requires : goal.index-requires
+index-requires g c =
+    let place = rw c.deref.ensures.value at (sym c.in-Some-find_in.ensures.place) in
+    let within = (position-within _ c.self.inside.rest.items c.in-Some-find_in.place place).1 in
+    let long = rw c.deref.ensures.value at c.deref.ensures.len in omega (arith, within, long)
+
+-- with no other behind it in either order the first pair is the only one
+only : {P : Type 0} (place : First P) (first : P) → first_pair place ≡ Some first → ((x : P) → place ≡ InOrder x → ⊥) → ((x : P) → place ≡ Turned x → ⊥) → is_lone place ≡ true
+only Empty first is not_in_order not_turned = absurd (none-some first is)
+only (Lone p) first is not_in_order not_turned = refl
+only (InOrder p) first is not_in_order not_turned = absurd (not_in_order p refl)
+only (Turned p) first is not_in_order not_turned = absurd (not_turned p refl)
+
+alone : (g : _) (c : In_default-first-2 g) → c.args.self.now.pairs ≡ c.in-Some.first.now ∷ []
+alone g c =
+    let place = c.self.inside.first in let rest = c.self.inside.rest.items in
+    let first = sym c.pair.ensures ∙ ap option_copied c.in-Some.is in
+    let lone = only place c.in-Some.first.now first c.in_default-first.not-InOrder c.in_default-first-2.not-Turned in
+    sym (ap (λ h. h.pairs) c.self.view_is) ∙ held_pairs-first place rest c.in-Some.first.now first ∙ ap (λ ps. c.in-Some.first.now ∷ ps) (others-lone place rest lone c.self.invariant)
+
+-- and it isn't the key's
+missed : (g : _) (c : In_default-first-2 g) → IsBehind (same_key g.K.IntKey.number_of c.args.key.now) c.args.self.now.pairs c.in-Some.first.now [] (alone g c)
+missed g c = behind _ _ _ _ (alone g c) (sym c.matches.ensures.same ∙ c.if-matches.false)
+
+pub returns-clause-value : goal.returns-clause-value
+returns-clause-value g c = sym (missed g c).value
+
+pub returns-clause-counted : goal.returns-clause-counted
+returns-clause-counted g c = let one = (missed g c).reached in omega (arith, one, c.matches.ensures.counted)
