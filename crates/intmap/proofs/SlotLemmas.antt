@@ -126,6 +126,17 @@ module _ {K X : Type 0} where
   held_pairs-several (InOrder p) rest first is several some = omega (arith, some)
   held_pairs-several (Turned p) rest first is several some = omega (arith, some, length-reverse rest)
 
+  none_long : (ps : List (K × X)) → length ps ≡ 0 → ps ≡ []
+  none_long [] e = refl
+  none_long (p ∷ ps) e = absurd (omega (arith, e))
+
+  -- as many others stand behind a first place as well
+  pub others-as_long : (place : First (K × X)) (rest more : List (K × X)) → length more ≡ length rest → AreOthers place rest → AreOthers place more
+  others-as_long Empty rest more long none = none_long more (long ∙ ap length none)
+  others-as_long (Lone p) rest more long none = none_long more (long ∙ ap length none)
+  others-as_long (InOrder p) rest more long some = omega (arith, long, some)
+  others-as_long (Turned p) rest more long some = omega (arith, long, some)
+
   -- in order no first place is turned
   pub is_turned-in_order : (place : First (K × X)) → is_turned (in_order place) ≡ false
   is_turned-in_order Empty = refl
