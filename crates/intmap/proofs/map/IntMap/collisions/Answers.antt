@@ -11,6 +11,7 @@ use Rattle.intmap.specs.declared.refusal.Cause.{Cause}
 use Rattle.intmap.specs.declared.refusal.Cause.TheVariants.{Memory, TooLarge}
 use Rattle.intmap.proofs.CrowdLemmas.{crowds_below, crowds_below-crowded, crowds_below-alone, count-below, size-in_range}
 use Rattle.intmap.proofs.LoadFactorLemmas.{capacity-greatest}
+use Rattle.intmap.proofs.MapLemmas.{length-unkept}
 use Rattle.intmap.proofs.MappedLemmas.{slot_of-with_values, length-with_values}
 use Rattle.intmap.proofs.map.IntMap.collisions.Goals as goal
 use Rattle.intmap.proofs.map.IntMap.collisions.Goals.{After-loop-slot, After-slot_len-size, then-size-gt1+in_ok-count_once_more, else-size-gt1}
@@ -45,6 +46,18 @@ module _ (g : _) (c : After-slot_len-size g) where
   fits : length (walk_of g.K.IntKey.number_of c.args.self.now.walk c.args.self.now.capacity) < 2 ^ 64
   fits = rw (← c.self.view_is) (rw c.self.invariant.map.own c.self.invariant.map.count)
 
+pub slot_len-size-requires : goal.slot_len-size-requires
+slot_len-size-requires g c =
+    let end = c.capacity-slot-end.ensures.value in let test = c.loop-slot-test.true in
+    let few = c.self.invariant.map.count in let long = length-unkept g.K.IntKey.number_of c.self.inside.table.walk in
+    record { within = omega (arith, test, end); fits = omega (arith, few, long) }
+
+pub returns-in_err-sizes-clause-memory : goal.returns-in_err-sizes-clause-memory
+returns-in_err-sizes-clause-memory g c = refused-with c.from_residual.result c.in_err-sizes.field-0.0 c.from_residual.ensures.1 c.in_err-sizes.ensures.memory
+
+pub returns-in_err-sizes-clause-map : goal.returns-in_err-sizes-clause-map
+returns-in_err-sizes-clause-map g c = rw (← c.self.view_is) c.self.invariant.map
+
 pub count_once_more-requires : goal.count_once_more-requires
 count_once_more-requires g c =
     let at = (goal.at.count_once_more-requires g c).After-slot_len-size in
@@ -62,6 +75,9 @@ returns-in_err-count_once_more-clause-memory g c =
     refused-with c.from_residual-in_err-count_once_more.result c.in_err-count_once_more.field-0.0 c.from_residual-in_err-count_once_more.ensures.1
     (memory-otherwise c.in_err-count_once_more.field-0.0 (λ large.
     in_range (rw (size g at) at (c.in_err-count_once_more.ensures.too_large large))))
+
+pub returns-in_err-count_once_more-clause-map : goal.returns-in_err-count_once_more-clause-map
+returns-in_err-count_once_more-clause-map g c = rw (← c.self.view_is) c.self.invariant.map
 
 pub loop-slot-preserved : goal.loop-slot-preserved
 loop-slot-preserved g c =
