@@ -1,0 +1,102 @@
+//! A session: bytes in, bytes out, and an exit status.
+ghost use Rattle.std.specs.Prelude.{◌≡◌, ◌≢◌, ◌⊎◌, IfOk, IfErr, IfSome, OnOk, string_bytes};
+ghost use Rattle.std.specs.Io.KnownBytes.{Appends, Keeps};
+ghost use Rattle.intmap_serve.specs.Commands.{SpellsNone};
+ghost use Rattle.intmap_serve.specs.Faults.{IsRefused};
+ghost use Rattle.intmap_serve.specs.Serving.{IsAnswered, Serves};
+
+use crate::fault::Fault;
+use crate::judge::OddJudge;
+use crate::line::read_commands;
+use crate::print::print_answers;
+use intmap::IntMap;
+use intmap_run::run;
+use std::alloc::Allocator;
+use std::io::{self, ErrorKind, Read, Write};
+
+/// The status of a session whose answers are all out.
+const DONE: u8 = 0;
+
+/// Reads the input to its end, runs the commands that its lines say on an empty map, and writes
+/// one line an answer. All that it makes is made over `alloc`. It answers the exit status:
+///
+/// - 0: every line was a command or blank, and the answers are out;
+/// - 2: some line is not a command; no command was run, and nothing was written;
+/// - 3: a request for memory was refused outside a command; nothing was written;
+/// - 4: the input or the output failed; where it was the output, a part of the answers may be out.
+///
+/// But for status 0 a line on `faults` says what happened; whether it could be written changes
+/// nothing.
+pub fn serve<A: Allocator + Copy, R: Read, W: Write, E: Write>(
+    alloc: A,
+    input: &mut R,
+    output: &mut W,
+    faults: &mut E,
+) -> u8
+    ensures status { (result ≡ 0) ⊎ (result ≡ 2) ⊎ (result ≡ 3) ⊎ (result ≡ 4) }
+    ensures done { result ≡ 0 → IfSome (R.remaining input.old)
+        (λ text. Serves A text (W.contents output.old) (W.contents output.new)) }
+    ensures not_a_command { result ≡ 2 → IfSome (R.remaining input.old) (SpellsNone A) }
+    ensures silent { (result ≡ 2) ⊎ (result ≡ 3)
+        → Keeps (W.contents output.old) (W.contents output.new) }
+{
+    match exchange(alloc, input, output) {
+        Ok(()) => DONE,
+        Err(fault) => {
+            let _ = fault.report(faults);
+            fault.status()
+        }
+    }
+}
+
+/// Reads the input whole, and then writes the lines that answer it.
+fn exchange<A: Allocator + Copy, R: Read, W: Write>(
+    alloc: A,
+    input: &mut R,
+    output: &mut W,
+) -> Result<(), Fault>
+    ensures done { OnOk result (IfSome (R.remaining input.old)
+        (λ text. Serves A text (W.contents output.old) (W.contents output.new))) }
+    ensures err { IfErr result (λ fault. (fault ≡ Fault.Input) ⊎ (fault ≡ Fault.Output)
+        ⊎ IfSome (R.remaining input.old) (λ text. IsRefused A text fault)) }
+    ensures silent { IfErr result (λ fault. fault ≢ Fault.Output
+        → Keeps (W.contents output.old) (W.contents output.new)) }
+{
+    let text = read_text(alloc, input)?;
+    let lines = answer(alloc, text.as_slice())?;
+    send(output, lines.as_bytes()).map_err(|_error| Fault::Output)
+}
+
+/// The input to its end. An interrupted read is asked again.
+fn read_text<A: Allocator, R: Read>(alloc: A, input: &mut R) -> Result<Vec<u8, A>, Fault>
+    ensures ok { IfOk result (λ text. IfSome (R.remaining input.old) (λ all. text.items ≡ all)) }
+    ensures err { IfErr result (λ fault. (fault ≡ Fault.Memory) ⊎ (fault ≡ Fault.Input)) }
+{
+    let mut text = Vec::new(alloc);
+    match input.read_to_end(&mut text) {
+        Ok(_) => Ok(text),
+        Err(error) if error.kind() == ErrorKind::OutOfMemory => Err(Fault::Memory),
+        Err(_) => Err(Fault::Input),
+    }
+}
+
+/// The lines that answer a text. No command is run before every line is known to be one.
+fn answer<A: Allocator + Copy>(alloc: A, text: &[u8]) -> Result<String<A>, Fault>
+    ensures ok { IfOk result (λ lines. IsAnswered A text.now (string_bytes lines)) }
+    ensures err { IfErr result (IsRefused A text.now) }
+{
+    let commands = read_commands(alloc, text)?;
+    let mut map = IntMap::new(alloc)?;
+    let Ok(answers) = run(alloc, &mut map, commands, &OddJudge) else {
+        return Err(Fault::Memory);
+    };
+    Ok(print_answers(alloc, answers.as_slice())?)
+}
+
+/// Writes all the bytes and flushes.
+fn send<W: Write>(output: &mut W, bytes: &[u8]) -> io::Result<()>
+    ensures { OnOk result (Appends (W.contents output.old) (W.contents output.new) bytes.now) }
+{
+    output.write_all(bytes)?;
+    output.flush()
+}

@@ -1,0 +1,204 @@
+//! Sessions over readers and writers in memory, some of which fail.
+
+use crate::ended::{Row, end, end_of, expect, expect_all};
+use crate::refusals::OF_ALL_KINDS;
+use crate::streams::{Limited, MOST, Slow};
+use std::alloc::Global;
+use std::process::Abort;
+
+const INPUT: &[u8] = b"insert 0 10\nlen\n\nwalk\n";
+
+const OUTPUT: &[u8] = b"none\n1\n{0: 10}\n";
+
+/// Sessions of several commands, and of texts that are refused.
+const SESSIONS: [Row<'static>; 22] = [
+    (b"", 0, b"", b""),
+    (b"\n \r\n", 0, b"", b""),
+    (INPUT, 0, OUTPUT, b""),
+    (
+        b"insert 0 10\ninsert 4 14\ninsert 8 18\nwalk\nremove 0\nwalk\n",
+        0,
+        b"none\nnone\nnone\n{0: 10, 4: 14, 8: 18}\nsome 10\n{8: 18, 4: 14}\n",
+        b"",
+    ),
+    (
+        b"walk\nlen\nload\ncapacity\nget 1\nremove 1\ninsert 1 2\ninsert 1 3\nget 1\r\nremove 1\r",
+        0,
+        b"{}\n0\n0\n4\nnone\nnone\nnone\nsome 2\nsome 3\nsome 3\n",
+        b"",
+    ),
+    (
+        b"insert 18446744073709551615 18446744073709551615\nget 18446744073709551615\nwalk",
+        0,
+        b"none\nsome 18446744073709551615\n{18446744073709551615: 18446744073709551615}\n",
+        b"",
+    ),
+    (
+        b"insert 0 0\ninsert 1 1\ninsert 2 2\ncapacity\ninsert 3 3\ncapacity\nload\nwalk\n",
+        0,
+        b"none\nnone\nnone\n4\nnone\n8\n4\n{0: 0, 2: 2, 1: 1, 3: 3}\n",
+        b"",
+    ),
+    (
+        b"get_load_factor\nreserve 5\ncapacity\nset_load_factor 100\nget_load_factor\nreserve 9223372036854775809\n",
+        0,
+        b"909\ndone\n8\ndone\n100\nrefused: too large\n",
+        b"",
+    ),
+    (
+        b"is_empty\ninsert_checked 1 2\ninsert_checked 1 3\ncontains_key 1\nget 1\nclear\nis_empty\ncontains_key 1\nwalk",
+        0,
+        b"true\ntrue\nfalse\ntrue\nsome 2\ndone\ntrue\nfalse\n{}\n",
+        b"",
+    ),
+    (
+        b"insert 0 10\ninsert 4 14\nget_mut 4 99\nget_mut 9 7\nentry_insert 8 18\n\
+            entry_insert 0 1\nwalk\nentry_remove 0\nwalk\nretain\nwalk\nentry_remove 4\nentry_remove 4\n",
+        0,
+        b"none\nnone\nsome 14\nback 7\nfresh\nsome 10\n{0: 1, 4: 99, 8: 18}\nsome 1\n\
+            {8: 18, 4: 99}\ndone\n{4: 99}\nsome 99\nnone\n",
+        b"",
+    ),
+    (
+        b"retain\nentry_insert 0 0\nentry_insert 1 1\nentry_insert 2 2\nentry_insert 3 3\n\
+            entry_insert 3 5\ncapacity\nwalk\nretain\ncapacity\nwalk",
+        0,
+        b"done\nfresh\nfresh\nfresh\nfresh\nsome 3\n8\n{0: 0, 2: 2, 1: 1, 3: 5}\ndone\n8\n\
+            {1: 1, 3: 5}\n",
+        b"",
+    ),
+    (
+        b"keys\nvalues\ndrain 1\ninsert 0 10\ninsert 4 14\ninsert 8 18\nkeys\nvalues\ndrain 1\n\
+            walk\nlen\ninsert 0 20\nkeys\ninsert 12 22\nkeys\ncapacity\nvalues\n",
+        0,
+        b"[]\n[]\n{}\nnone\nnone\nnone\n[0, 4, 8]\n[10, 14, 18]\n{0: 10}\n{4: 14, 8: 18}\n2\nnone\n\
+            [4, 8, 0]\nnone\n[8, 0, 4, 12]\n8\n[18, 20, 14, 22]\n",
+        b"",
+    ),
+    (
+        b"insert 0 0\ninsert 1 1\ninsert 2 2\ninsert 3 3\ndrain 0\ndrain 3\nkeys\nlen\ncapacity\n\
+            drain 18446744073709551615\nwalk\nlen\ncapacity\ndrain 1\nremove 0",
+        0,
+        b"none\nnone\nnone\nnone\n{}\n{0: 0, 2: 2, 1: 1}\n[3]\n1\n8\n{3: 3}\n{}\n0\n8\n{}\nnone\n",
+        b"",
+    ),
+    (
+        b"insert 1 2\n\ninsert 1",
+        2,
+        b"",
+        b"line 3: not a command\n",
+    ),
+    (b"x\ny\n", 2, b"", b"line 1: not a command\n"),
+    (
+        b"len\n \n\r\n\nget 01\nlen\n",
+        2,
+        b"",
+        b"line 5: not a command\n",
+    ),
+    (b"len\r\r", 2, b"", b"line 1: not a command\n"),
+    (
+        b"get 18446744073709551616",
+        2,
+        b"",
+        b"line 1: not a command\n",
+    ),
+    (b"len\nget\t1\n", 2, b"", b"line 2: not a command\n"),
+    (b"len\nget +1\n", 2, b"", b"line 2: not a command\n"),
+    (b"  get   1  \nlen\r\n\r\nlen", 0, b"none\n0\n0\n", b""),
+    (
+        b"extend\nextend 0 10 4 14\nload_rate\nassert_count\ncollisions\n",
+        0,
+        b"done\ndone\n500\ntrue\n{2: 1}\n",
+        b"",
+    ),
+];
+
+#[test]
+fn sessions_answer_their_texts(rt: HostRuntime) {
+    expect_all(&rt, rt.alloc(), &SESSIONS);
+}
+
+// expects the same of a reader that is interrupted, and of a writer that has room for no more
+fn expect_interrupted(rt: &impl Abort, alloc: Global, rows: &[Row<'_>]) {
+    let ample = Limited::new(MOST, true);
+    for row in rows {
+        let written = Limited::new(row.2.len(), true);
+        let ended = end(alloc, &mut Slow::new(row.0, true), written, ample);
+        expect(rt, 0, &ended, *row);
+    }
+}
+
+#[test]
+fn an_interrupted_read_is_asked_again(rt: HostRuntime) {
+    expect_interrupted(&rt, rt.alloc(), &SESSIONS);
+}
+
+// expects a session to fail by its input, after so many bytes of each length
+fn expect_failing_input(rt: &impl Abort, alloc: Global, text: &[u8]) {
+    let ample = Limited::new(MOST, true);
+    for length in 0..=text.len() {
+        let mut input = Slow::new(&text[..length], false);
+        let ended = end(alloc, &mut input, ample, ample);
+        expect(rt, length, &ended, (text, 4, b"", b"input failed\n"));
+    }
+}
+
+#[test]
+fn a_failing_input_comes_before_all_else(rt: HostRuntime) {
+    for text in [INPUT, OF_ALL_KINDS.as_bytes(), b"x\nlen\n"] {
+        expect_failing_input(&rt, rt.alloc(), text);
+    }
+}
+
+// expects a session to hold what its output took, with room for each part of what is to be written
+fn expect_failing_output(rt: &impl Abort, alloc: Global, text: &[u8]) {
+    let ample = Limited::new(MOST, true);
+    let whole = end_of(alloc, text);
+    assert_eq!(rt; whole.status, 0, "{text:?}");
+    let wanted = whole.output.bytes();
+    for room in 0..wanted.len() {
+        let ended = end(alloc, &mut { text }, Limited::new(room, true), ample);
+        expect(
+            rt,
+            room,
+            &ended,
+            (text, 4, &wanted[..room], b"output failed\n"),
+        );
+    }
+}
+
+#[test]
+fn a_failing_output_holds_what_it_took(rt: HostRuntime) {
+    for text in [INPUT, OF_ALL_KINDS.as_bytes()] {
+        expect_failing_output(&rt, rt.alloc(), text);
+    }
+}
+
+#[test]
+fn a_failing_flush_is_a_failing_output(rt: HostRuntime) {
+    let written = Limited::new(OUTPUT.len(), false);
+    let ended = end(
+        rt.alloc(),
+        &mut { INPUT },
+        written,
+        Limited::new(MOST, true),
+    );
+    expect(&rt, 0, &ended, (INPUT, 4, OUTPUT, b"output failed\n"));
+}
+
+#[test]
+fn failing_faults_change_no_status(rt: HostRuntime) {
+    for (text, ends, room, wanted) in [
+        (INPUT, true, OUTPUT.len(), 0),
+        (b"len\nx\n", true, 0, 2),
+        (INPUT, false, 0, 4),
+        (INPUT, true, 3, 4),
+    ] {
+        for told_room in 0..5 {
+            let written = Limited::new(room, true);
+            let told = Limited::new(told_room, false);
+            let ended = end(rt.alloc(), &mut Slow::new(text, ends), written, told);
+            assert_eq!(rt; ended.status, wanted, "room {told_room} for {text:?}");
+        }
+    }
+}
