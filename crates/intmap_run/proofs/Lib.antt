@@ -11,3 +11,4 @@ pub mod RunLemmas
 pub mod ZipLemmas
 pub mod JoinLemmas
 pub mod CollisionStepLemmas
+pub mod FrontLemmas
