@@ -1,6 +1,5 @@
 pub mod Numbered
 pub mod Counts
-pub mod Cells
 pub mod Sessions
 pub mod Waiting
 pub mod Dense

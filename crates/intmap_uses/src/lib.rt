@@ -8,7 +8,6 @@ pub mod documents;
 pub mod equality;
 pub mod floors;
 pub mod id_table;
-pub mod keys;
 pub mod prices;
 pub mod refusals;
 pub mod retained;

@@ -1,7 +1,9 @@
 //! A kind of key of its own: the cells of a sheet.
+#![tactic(auto)]
+
 ghost use Rattle.std.specs.Prelude.{◌≡◌, ◌≢◌, IfOk, OnOk, OnErr, Some};
 ghost use Rattle.intmap.specs.Bindings.{value_of};
-ghost use Rattle.intmap_uses.specs.Cells.{IsCell, cell_number};
+ghost use Rattle.intmap_cell.specs.Cells.{IsCell, cell_number};
 
 use intmap::{Cause, IntKey, IntMap};
 use std::alloc::Allocator;
@@ -23,7 +25,7 @@ impl IntKey for Cell {
     ghost use Rattle.std.proofs.Common.{arith};
     ghost use Rattle.std.proofs.lemmas.Grind.{common_steps};
     ghost use Rattle.std.proofs.lemmas.Bool.Decides.{nat_tests};
-    ghost use Rattle.intmap_uses.specs.Cells.{IsCell, cell_number};
+    ghost use Rattle.intmap_cell.specs.Cells.{IsCell, cell_number};
 
     ghost is_key = { IsCell };
 

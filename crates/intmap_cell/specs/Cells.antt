@@ -1,6 +1,6 @@
 -- Cells of a sheet as numbers.
 use Rattle.std.specs.Prelude.{ℕ, ◌+◌, ◌*◌, ◌^◌, ◌<◌}
-use Rattle.intmap_uses.specs.declared.keys.Cell.{Cell}
+use Rattle.intmap_cell.specs.declared.Cell.{Cell}
 
 -- row and column are in their range
 abbrev pub IsCell : Cell → Type 0
