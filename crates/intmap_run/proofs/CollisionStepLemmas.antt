@@ -27,7 +27,7 @@ map-range_same f g a (suc n) same =
 
 module _ {K V : Type 0} (number : K → ℕ) where
   -- lists that have one walk have slots of the same sizes
-  sizes_of-same : (L M : List (K × V)) (C : ℕ) → walk_of number L C ≡ walk_of number M C → sizes_of number L C ≡ sizes_of number M C
+  pub sizes_of-same : (L M : List (K × V)) (C : ℕ) → walk_of number L C ≡ walk_of number M C → sizes_of number L C ≡ sizes_of number M C
   sizes_of-same L M C same =
       ap (λ ns. tally_of (filter (nat_lt 1) ns))
       (map-range_same (λ i. length (slot_of number L C i)) (λ i. length (slot_of number M C i)) 0 C

@@ -5,7 +5,7 @@ ghost use Rattle.intmap.specs.Classes.{IsCapacity, residue, slot_number};
 ghost use Rattle.intmap.specs.Bindings.{value_of, take_key, put_pair, write_value, strike_keys};
 ghost use Rattle.intmap.specs.Walk.{walk_of};
 ghost use Rattle.intmap.specs.Reach.{class_size, reach};
-ghost use Rattle.intmap.specs.Figures.{load_of};
+ghost use Rattle.intmap.specs.Figures.{load_of, rate_of, sizes_of};
 ghost use Rattle.intmap.specs.Map.{MapState, empty_map};
 ghost use Rattle.intmap.specs.States.{Stands, empty_state};
 ghost use Rattle.intmap_run.specs.Laws.{StandForOne};
@@ -88,6 +88,18 @@ pub fn values_are_the_same<K: IntKey, V>()
 pub fn loads_are_the_same<K: IntKey, V>()
     ensures { (C : ℕ) (L M : List (K × V)) → StandForOne K.number_of C L M
         → load_of K.number_of L C ≡ load_of K.number_of M C }
+{}
+
+/// Lists that stand for one map have as many pairs to a slot.
+pub fn rates_are_the_same<K: IntKey, V>()
+    ensures { (C : ℕ) (L M : List (K × V)) → StandForOne K.number_of C L M
+        → rate_of L C ≡ rate_of M C }
+{}
+
+/// Lists that stand for one map have as many slots of each size above 1, which appear in one order.
+pub fn sizes_are_the_same<K: IntKey, V>()
+    ensures { (C : ℕ) (L M : List (K × V)) → StandForOne K.number_of C L M
+        → sizes_of K.number_of L C ≡ sizes_of K.number_of M C }
 {}
 
 /// Lists that stand for one map have as many pairs.
