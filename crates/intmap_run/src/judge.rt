@@ -34,8 +34,8 @@ pub trait Judge<K, V> {
     /// What `keep` answers for a key and its value.
     ghost keeps: { Self → K → V → Bool };
 
-    /// What is seen of the value; `Get` calls it where the key is bound, and `Walk` for each pair
-    /// in turn.
+    /// What is seen of the value; `Get` calls it where the key is bound, and `Walk` and `Values` for
+    /// each pair in turn.
     fn look(&self, value: &V) -> Self::Seen
         ensures { sees self.now value.now result };
 

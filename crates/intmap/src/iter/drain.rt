@@ -9,8 +9,8 @@ use std::alloc::{Allocator, Global};
 
 /// Takes one pair out of a map at each step, made by [`IntMap::drain`](crate::IntMap::drain). At
 /// every moment the map has the pairs that are still to come, and its length counts these: where
-/// the iterator ends early, or is forgotten, they stay, in their order. Letting it go is one step,
-/// however many are left.
+/// the iterator is let go early they stay, in their order. So they do where it is forgotten, but no
+/// clause says that. Letting it go is one step, however many are left.
 pub struct Drain<'a, K: IntKey, V, A: Allocator + Copy = Global> {
     pub(crate) map: &'a mut IntMap<K, V, A>,
     pub(crate) from: usize,
