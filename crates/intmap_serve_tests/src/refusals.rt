@@ -92,15 +92,15 @@ fn outcome_at(rt: &impl Abort, alloc: Global, session: &str, number: usize) -> O
     let (ended, left) = end_refused_at(alloc, session, number);
     if ended.status == 3 {
         expect(rt, number, &ended, (text, 3, b"", b"no memory\n"));
-        assert_eq!(rt; left, 0, "request {number} was refused");
+        assert!(rt; left == 0, "request {number} was refused");
         return Outcome::Ended;
     }
     let wanted = replayed(alloc, session, ended.output.bytes());
     expect(rt, number, &ended, (text, 0, wanted.bytes(), b""));
-    assert_eq!(rt;
-        refused_lines(ended.output.bytes()),
-        usize::from(left == 0),
-        "request {number}: a command is refused where a request was, and no other"
+    let refused = refused_lines(ended.output.bytes());
+    assert!(rt;
+        refused == usize::from(left == 0),
+        "request {number}: {refused} commands are refused, where one is if a request was"
     );
     if left > 0 {
         Outcome::Unrefused
