@@ -191,15 +191,21 @@ impl List {
         Ok(false)
     }
 
+    // where the pair of a key stands
+    fn place_of(&self, key: u64) -> Option<usize> {
+        self.pairs.iter().position(|pair| pair.0 == key)
+    }
+
     // the value of a key
     fn get(&self, key: u64) -> Option<u64> {
-        let place = self.pairs.iter().position(|pair| pair.0 == key)?;
-        self.pairs.get(place).map(|pair| pair.1)
+        let place = self.place_of(key)?;
+        let (_, value) = self.pairs.get(place)?;
+        Some(*value)
     }
 
     // writes the value of a key that is there, and answers the one before
     fn write(&mut self, key: u64, value: u64) -> Option<u64> {
-        let place = self.pairs.iter().position(|pair| pair.0 == key)?;
+        let place = self.place_of(key)?;
         let pair = self.pairs.get_mut(place)?;
         Some(std::mem::replace(&mut pair.1, value))
     }
@@ -246,7 +252,7 @@ impl List {
 
     // takes the pair of a key out; the last pair of its slot goes to its place
     fn remove(&mut self, key: u64) -> Option<u64> {
-        let place = self.pairs.iter().position(|pair| pair.0 == key)?;
+        let place = self.place_of(key)?;
         let slot = slot_of(key, self.slots);
         let mut last = place;
         for (other, pair) in self.pairs.iter().enumerate() {

@@ -69,7 +69,7 @@ fn refused_lines(written: &[u8]) -> usize {
 }
 
 /// How a session ended of which a request was to be refused.
-#[derive(Clone, Copy, PartialEq, Eq, Debug)]
+#[derive(Clone, Copy)]
 enum Outcome {
     /// No request has so great a number.
     Unrefused,
