@@ -16,6 +16,7 @@ pub mod FilledLemmas
 pub mod BitsLemmas
 pub mod PlacesLemmas
 pub mod LeadsLemmas
+pub mod TakingLemmas
 pub mod RetainLemmas
 pub mod RetainSlotsLemmas
 pub mod WritesLemmas

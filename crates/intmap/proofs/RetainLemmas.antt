@@ -1,7 +1,7 @@
 -- What a closure that is asked about each pair in turn leaves of lists, of slots and of tables.
 use Rattle.std.proofs.Common.{◌≡◌, inl, inr, ℕ, suc, ◌+◌, ◌<◌, ◌≤◌, Bool, true, false, cond, List, [], ◌∷◌, ◌++◌, length, map, get_or, set, take, drop, None, refl, sym, ap, ◌∙◌, subst, arith, append-nil}
 use Rattle.std.specs.Prelude.{◌⊎◌, All, count_by}
-use Rattle.std.specs.List.{swap}
+use Rattle.std.specs.List.{swap, FoldsTo}
 use Rattle.std.proofs.lemmas.Bool.{cases_lt, cond_both}
 use Rattle.std.proofs.lemmas.List.{drop_more, take_more_set, take-set-le, drop-set-lt, set-set}
 use Rattle.std.proofs.lemmas.List.Edits.{swap_is}
@@ -12,14 +12,16 @@ use Rattle.std.specs.Borrow.{Bor}
 use Rattle.intmap.specs.Bindings.{HasDistinctKeys, value_of}
 use Rattle.intmap.specs.Classes.{same_key}
 use Rattle.intmap.specs.Growth.{IsLimit}
-use Rattle.intmap.specs.Kept.{unkept, KeepsStored, IsConsistent}
+use Rattle.intmap.specs.Kept.{unkept, KeepsStored, TakesStored, IsConsistent}
 use Rattle.intmap.specs.Map.{IsMapWalk}
-use Rattle.intmap.specs.Retaining.{KeepsAt, Retains}
+use Rattle.intmap.specs.Retaining.{KeepsAt, Retains, TakesPair}
+use Rattle.intmap.specs.Taking.{Passes, TakesEach}
 use Rattle.intmap.specs.Walk.{walk_of}
 use Rattle.intmap.specs.declared.kept.Kept.{Kept}
 use Rattle.intmap.proofs.LeadsLemmas.{Leads, Leads-next}
 use Rattle.intmap.proofs.LoadFactorLemmas.{IsLoaded-fewer, capacity-positive}
 use Rattle.intmap.proofs.MappedLemmas.{walk_of-with_values}
+use Rattle.intmap.proofs.TakingLemmas.{TakesEach-map}
 
 module _ {F X : Type 0} (R : F → X → Bool → F → Type 0) where
   -- first the one list, then the other
@@ -35,6 +37,11 @@ module _ {F X : Type 0} (R : F → X → Bool → F → Type 0) where
   -- one element
   pub Retains-one : (f g : F) (x : X) (b : Bool) → R f x b g → Retains R f (x ∷ []) (cond b (x ∷ []) []) g
   Retains-one f g x b call = (b, g, [], call, (refl, refl), refl)
+
+  -- it passed each element
+  pub FoldsTo-Retains : (f g : F) (L M : List X) → Retains R f L M g → FoldsTo (Passes R) f L g
+  FoldsTo-Retains f g [] M r = r.1
+  FoldsTo-Retains f g (x ∷ L) M r = (r.1, (r.0, r.3), FoldsTo-Retains r.1 g L r.2 r.4)
 
   -- no more elements stay than there were
   pub length-Retains : (f g : F) (L M : List X) → Retains R f L M g → length M ≤ length L
@@ -114,6 +121,10 @@ module _ {K V : Type 0} where
   -- the same with the values as callers see them
   pub Retains-unkept : {F : Type 0} (m : Mut F (K × (Bor V × Unit {0})) Bool) (f g : F) (L M : List (K × Kept V)) → Retains (KeepsStored m) f L M g → Retains (KeepsAt m) f (unkept L) (unkept M) g
   Retains-unkept m f g L M r = Retains-map (KeepsAt m) (λ p. (p.0, p.1.value)) f g L M r
+
+  -- and takes each pair as it is stored, if it does as callers see it
+  pub TakesEach-stored : {F : Type 0} (m : Mut F (K × (Bor V × Unit {0})) Bool) (f : F) (L : List (K × Kept V)) → TakesEach (KeepsAt m) (TakesPair m) f (unkept L) → TakesEach (KeepsStored m) (TakesStored m) f L
+  TakesEach-stored m f L takes = TakesEach-map (KeepsAt m) (TakesPair m) (λ p. (p.0, p.1.value)) (λ b. b) f L takes
 
 module _ {F K V : Type 0} (number : K → ℕ) (R : F → K × V → Bool → F → Type 0) where
   -- no key that stays is bound twice

@@ -1,6 +1,7 @@
 -- What a closure that writes each value in turn leaves of lists, of slots and of tables.
 use Rattle.std.proofs.Common.{Bool, true, false, cond, Some, is_some, ◌≡◌, ℕ, ◌+◌, ◌<◌, ◌≤◌, List, [], ◌∷◌, ◌++◌, length, get_or, set, take, drop, refl, sym, ap, ◌∙◌, subst, arith}
 use Rattle.std.specs.Prelude.{All, count_by}
+use Rattle.std.specs.List.{FoldsTo}
 use Rattle.std.specs.Map.{keys_of}
 use Rattle.std.specs.Fn.{Mut}
 use Rattle.std.specs.Borrow.{MutBor}
@@ -10,15 +11,17 @@ use Rattle.std.proofs.lemmas.Map.Entries.{length-keys_of}
 use Rattle.intmap.specs.Bindings.{value_of}
 use Rattle.intmap.specs.Classes.{same_key}
 use Rattle.intmap.specs.Growth.{IsLimit}
-use Rattle.intmap.specs.Kept.{unkept, WritesStored, IsConsistent}
+use Rattle.intmap.specs.Kept.{unkept, WritesStored, TakesStoredMut, IsConsistent}
 use Rattle.intmap.specs.Map.{IsMapWalk}
+use Rattle.intmap.specs.Taking.{Passes, TakesEach}
 use Rattle.intmap.specs.Walk.{walk_of}
-use Rattle.intmap.specs.Writes.{Writes, WritesAt}
+use Rattle.intmap.specs.Writes.{Writes, WritesAt, TakesPairMut}
 use Rattle.intmap.specs.declared.kept.Kept.{Kept}
 use Rattle.intmap.proofs.LeadsLemmas.{Leads, Leads-next}
 use Rattle.intmap.proofs.LoadFactorLemmas.{IsLoaded}
 use Rattle.intmap.proofs.MapLemmas.{length-unkept}
 use Rattle.intmap.proofs.MappedLemmas.{count_by-map, walk_of-with_values}
+use Rattle.intmap.proofs.TakingLemmas.{TakesEach-map}
 
 module _ {F K V : Type 0} (R : F → K × V → V → F → Type 0) where
   -- first the one list, then the other
@@ -26,6 +29,11 @@ module _ {F K V : Type 0} (R : F → K × V → V → F → Type 0) where
   Writes-append f g h [] L' M M' first more = subst (λ Z. Writes R f L' (Z ++ M') h) (sym first.0) (subst (λ z. Writes R z L' M' h) (sym first.1) more)
   Writes-append f g h (p ∷ L) L' M M' first more =
       (first.0, first.1, first.2 ++ M', first.3, Writes-append first.1 g h L L' first.2 M' first.4 more, ap (λ Z. Z ++ M') first.5)
+
+  -- it passed each pair
+  pub FoldsTo-Writes : (f g : F) (L M : List (K × V)) → Writes R f L M g → FoldsTo (Passes R) f L g
+  FoldsTo-Writes f g [] M r = r.1
+  FoldsTo-Writes f g (p ∷ L) M r = (r.1, (r.0, r.3), FoldsTo-Writes r.1 g L r.2 r.4)
 
   -- the keys stay, in their order
   pub keys_of-Writes : (f g : F) (L M : List (K × V)) → Writes R f L M g → keys_of M ≡ keys_of L
@@ -68,6 +76,10 @@ module _ {K V : Type 0} where
   pub Writes-unkept : {F : Type 0} (m : Mut F (K × (MutBor V × Unit {0})) (Unit {0} × (MutBor V × Unit {0}))) (f g : F) (L M : List (K × Kept V)) → Writes (WritesStored m) f L M g → Writes (WritesAt m) f (unkept L) (unkept M) g
   Writes-unkept m f g [] M r = (ap unkept r.0, r.1)
   Writes-unkept m f g (p ∷ L) M r = (r.0.value, r.1, unkept r.2, r.3, Writes-unkept m r.1 g L r.2 r.4, ap unkept r.5)
+
+  -- and takes each pair as it is stored, if it does as callers see it
+  pub TakesEach-stored_mut : {F : Type 0} (m : Mut F (K × (MutBor V × Unit {0})) (Unit {0} × (MutBor V × Unit {0}))) (f : F) (L : List (K × Kept V)) → TakesEach (WritesAt m) (TakesPairMut m) f (unkept L) → TakesEach (WritesStored m) (TakesStoredMut m) f L
+  TakesEach-stored_mut m f L takes = TakesEach-map (WritesAt m) (TakesPairMut m) (λ p. (p.0, p.1.value)) (λ w. w.value) f L takes
 
 module _ {K V : Type 0} (number : K → ℕ) (is_key : K → Type 0) where
   -- whether pairs may be the walk of a map follows from their keys, once they are their own walk

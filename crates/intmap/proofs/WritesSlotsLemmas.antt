@@ -8,13 +8,15 @@ use Rattle.std.proofs.lemmas.List.{map-set, get_or-append-add}
 use Rattle.intmap.specs.Bits.{marked_places}
 use Rattle.intmap.specs.Classes.{slot_number}
 use Rattle.intmap.specs.Slots.{Held, rows, joined, pairs_at, AreMarked, IsMarkedTable}
+use Rattle.intmap.specs.Taking.{TakesEach}
 use Rattle.intmap.specs.Writes.{Writes}
 use Rattle.intmap.proofs.FilledLemmas.{pairs_at-marked, pairs_at-set, places-within, marks-kept_at}
 use Rattle.intmap.proofs.LeadsLemmas.{Leads, Leads-next, Leads-end}
 use Rattle.intmap.proofs.MarkedLemmas.{AllPairs-marked_places}
 use Rattle.intmap.proofs.RetainSlotsLemmas.{IsTable-set_at}
 use Rattle.intmap.proofs.TableLemmas.{length-rows}
-use Rattle.intmap.proofs.WritesLemmas.{Writes-append, length-Writes, All-Writes}
+use Rattle.intmap.proofs.TakingLemmas.{TakesEach-behind}
+use Rattle.intmap.proofs.WritesLemmas.{Writes-append, FoldsTo-Writes, length-Writes, All-Writes}
 
 -- of the marked places, some were passed, one is at hand, and the rest is left
 module _ {K X : Type 0} (S : List (Held K X)) (marks : List Bool) (are : AreMarked (rows S) marks) (before : List ℕ) (place : ℕ) (rest : List ℕ) (is : before ++ place ∷ rest ≡ marked_places marks) where
@@ -66,6 +68,12 @@ module _ {K X : Type 0} (S : List (Held K X)) (marks : List Bool) (are : AreMark
           let next = Leads-next (Writes R) (Writes-append R) f₀ f h L (pairs_at (rows S) before) row s.pairs (pairs_at (rows S) rest) leads run in
           subst (λ Z. Leads (Writes R) f₀ L h Z (pairs_at (rows (set S place s)) rest)) (sym passed)
           (subst (λ Z. Leads (Writes R) f₀ L h (pairs_at (rows S) before ++ s.pairs) Z) (sym (others rest apart-rest)) next)
+
+      -- behind the calls there it takes each pair that is left
+      pub TakesEach-place : (Q : F → K × X → Type 0) → TakesEach R Q f (pairs_at (rows S) (place ∷ rest)) → TakesEach R Q h (pairs_at (rows (set S place s)) rest)
+      TakesEach-place Q takes =
+          let row = get_or (rows S) place [] in
+          subst (TakesEach R Q h) (sym (others rest apart-rest)) (TakesEach-behind R Q f h row (pairs_at (rows S) rest) takes (FoldsTo-Writes R f h row s.pairs run))
 
       -- the slot has its keys still, so the table and its marks agree
       pub IsMarkedTable-Writes : (number : K → ℕ) → IsMarkedTable number S marks → IsMarkedTable number (set S place s) marks

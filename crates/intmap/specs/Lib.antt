@@ -12,6 +12,7 @@ pub mod Moves
 pub mod Map
 pub mod States
 pub mod Passing
+pub mod Taking
 pub mod Retaining
 pub mod Writes
 pub mod Kept

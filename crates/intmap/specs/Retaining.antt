@@ -1,7 +1,7 @@
 -- What a closure that is asked about each pair in turn leaves of them.
 use Rattle.std.specs.Prelude.{◌≡◌, Bool, cond, filter, List, [], ◌∷◌}
 use Rattle.std.proofs.Common.{◌∙◌, subst}
-use Rattle.std.specs.Fn.{Called, Mut}
+use Rattle.std.specs.Fn.{Called, Mut, Takes}
 use Rattle.std.specs.Borrow.{Bor}
 
 -- a call of f at the key of p and a `&` to its value answered b and left g
@@ -10,6 +10,10 @@ pub record KeepsAt {F K V : Type 0} (m : Mut F (K × (Bor V × Unit {0})) Bool) 
   pub value : Bor V
   pub shows : (key ≡ p.0) × (value.now ≡ p.1)
   pub called : Called m f (key, (value, tt)) b g
+
+-- f may be called at the key of p and a `&` to its value
+abbrev pub TakesPair : {F K V : Type 0} → Mut F (K × (Bor V × Unit {0})) Bool → F → K × V → Type 0
+TakesPair {V = V} m f p = (value : Bor V) → value.now ≡ p.1 → Takes m f (p.0, (value, tt))
 
 module _ {F X : Type 0} where
   -- R went over the elements of L in turn from f to g, and M has those of which it said true, in their order

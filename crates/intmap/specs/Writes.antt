@@ -1,7 +1,7 @@
 -- What a closure that is called at each pair in turn leaves of the values.
 use Rattle.std.specs.Prelude.{◌≡◌, List, [], ◌∷◌, map}
 use Rattle.std.proofs.Common.{◌∙◌, subst}
-use Rattle.std.specs.Fn.{Called, Mut}
+use Rattle.std.specs.Fn.{Called, Mut, Takes}
 use Rattle.std.specs.Borrow.{MutBor}
 use Rattle.intmap.specs.Retaining.{state_after}
 
@@ -13,6 +13,10 @@ pub record WritesAt {F K V : Type 0} (m : Mut F (K × (MutBor V × Unit {0})) (U
   pub left : MutBor V
   pub leaves : left.now ≡ w
   pub called : Called m f (key, (value, tt)) (tt, (left, tt)) g
+
+-- f may be called at the key of p and a `&mut` to its value
+abbrev pub TakesPairMut : {F K V : Type 0} → Mut F (K × (MutBor V × Unit {0})) (Unit {0} × (MutBor V × Unit {0})) → F → K × V → Type 0
+TakesPairMut {V = V} m f p = (value : MutBor V) → value.now ≡ p.1 → Takes m f (p.0, (value, tt))
 
 module _ {F K V : Type 0} where
   -- R went over the pairs of L in turn from f to g, and M has their keys, in their order, each with the value that R left there

@@ -3,7 +3,8 @@ ghost use Rattle.std.specs.Prelude.{◌≡◌, ◌↔◌, length};
 ghost use Rattle.std.specs.Map.{keys_of};
 ghost use Rattle.intmap.specs.Bindings.{IsBound};
 ghost use Rattle.intmap.specs.Map.{IsMap};
-ghost use Rattle.intmap.specs.Writes.{Writes, WritesAt};
+ghost use Rattle.intmap.specs.Taking.{TakesEach};
+ghost use Rattle.intmap.specs.Writes.{Writes, WritesAt, TakesPairMut};
 
 use crate::key::IntKey;
 use crate::map::IntMap;
@@ -12,6 +13,9 @@ use std::alloc::Allocator;
 impl<K: IntKey, V, A: Allocator + Copy> IntMap<K, V, A> {
     /// Calls the closure once at each pair, in the order of the walk, with the key and a reference
     /// by which it may write the value; what it changes of its own is there at the next call.
+    ///
+    /// It is asked of the closure that it can be called at these pairs in this order, each time as
+    /// the call before has left it, and nothing of other keys, values and calls.
     ///
     /// The keys, their order and their number stay, and so do the capacity, the load factor and
     /// both counts: no key is compared. It is never refused and takes no memory, and apart from the
@@ -22,7 +26,7 @@ impl<K: IntKey, V, A: Allocator + Copy> IntMap<K, V, A> {
     /// for_each_mut(|key, value| *value += key)    leaves 10, 18 and 12
     /// ```
     pub fn for_each_mut<F: FnMut(K, &mut V)>(&mut self, f: F)
-        requires { F.IsAlwaysCallable f }
+        requires { TakesEach (WritesAt F.FnMut) (TakesPairMut F.FnMut) f self.old.walk }
         ensures values { (last : F) × Writes (WritesAt F.FnMut) f self.old.walk self.new.walk last }
         ensures state { self.new ≡ record self.old { walk = self.new.walk } }
         ensures keys { keys_of self.new.walk ≡ keys_of self.old.walk }

@@ -2,7 +2,8 @@
 ghost use Rattle.std.specs.Prelude.{◌≡◌, ◌⊎◌, ◌≤◌, length, None};
 ghost use Rattle.intmap.specs.Bindings.{value_of};
 ghost use Rattle.intmap.specs.Map.{IsMap};
-ghost use Rattle.intmap.specs.Retaining.{KeepsAt, Retains};
+ghost use Rattle.intmap.specs.Retaining.{KeepsAt, Retains, TakesPair};
+ghost use Rattle.intmap.specs.Taking.{TakesEach};
 
 use crate::key::IntKey;
 use crate::map::IntMap;
@@ -12,6 +13,9 @@ impl<K: IntKey, V: Drop, A: Allocator + Copy> IntMap<K, V, A> {
     /// Keeps the pairs of which the closure says true, and lets the others go. The closure is
     /// called once for each pair, in the order of the walk, with the key and a reference to the
     /// value; what it changes of its own is there at the next call.
+    ///
+    /// It is asked of the closure that it can be called at these pairs in this order, each time as
+    /// the call before has left it, and nothing of other keys, values and calls.
     ///
     /// The pairs that stay keep their order. The capacity, the load factor and both counts stay,
     /// and so does the memory of the slots, for pairs to come. It is never refused and takes no
@@ -24,7 +28,7 @@ impl<K: IntKey, V: Drop, A: Allocator + Copy> IntMap<K, V, A> {
     /// retain(|_, value| *value > 10)    leaves the same
     /// ```
     pub fn retain<F: FnMut(K, &V) -> bool>(&mut self, f: F)
-        requires { F.IsAlwaysCallable f }
+        requires { TakesEach (KeepsAt F.FnMut) (TakesPair F.FnMut) f self.old.walk }
         ensures pairs { (last : F) × Retains (KeepsAt F.FnMut) f self.old.walk self.new.walk last }
         ensures state { self.new ≡ record self.old { walk = self.new.walk } }
         ensures updates { (q : K)

@@ -1,5 +1,6 @@
 //! A call at each pair of a slot, with its value to be written.
-ghost use Rattle.intmap.specs.Kept.{WritesStored};
+ghost use Rattle.intmap.specs.Kept.{WritesStored, TakesStoredMut};
+ghost use Rattle.intmap.specs.Taking.{TakesEach};
 ghost use Rattle.intmap.specs.Writes.{Writes};
 
 use crate::kept::Kept;
@@ -12,9 +13,8 @@ use std::alloc::Allocator;
 
 /// Calls the closure at each pair in turn, with its value to be written.
 fn write_in<K: IntKey, V, F: FnMut(K, &mut V)>(pairs: &mut [(Stored<K>, Kept<V>)], f: &mut F)
-    requires { F.IsAlwaysCallable f.old }
-    ensures pairs { Writes (WritesStored F.FnMut) f.old pairs.old pairs.new f.new }
-    ensures callable { F.IsAlwaysCallable f.new }
+    requires { TakesEach (WritesStored F.FnMut) (TakesStoredMut F.FnMut) f.old pairs.old }
+    ensures { Writes (WritesStored F.FnMut) f.old pairs.old pairs.new f.new }
 {
     for pair in pairs.iter_mut() {
         write_pair(pair, f);
@@ -24,9 +24,8 @@ fn write_in<K: IntKey, V, F: FnMut(K, &mut V)>(pairs: &mut [(Stored<K>, Kept<V>)
 impl<K: IntKey, V, A: Allocator> Slot<K, Kept<V>, A> {
     /// Calls the closure at each pair in turn, with its value to be written.
     pub(crate) fn write_each<F: FnMut(K, &mut V)>(&mut self, f: &mut F)
-        requires { F.IsAlwaysCallable f.old }
-        ensures pairs { Writes (WritesStored F.FnMut) f.old self.old.pairs self.new.pairs f.new }
-        ensures callable { F.IsAlwaysCallable f.new }
+        requires { TakesEach (WritesStored F.FnMut) (TakesStoredMut F.FnMut) f.old self.old.pairs }
+        ensures { Writes (WritesStored F.FnMut) f.old self.old.pairs self.new.pairs f.new }
     {
         set_in_order(&mut self.first, &mut self.rest);
         match &mut self.first {

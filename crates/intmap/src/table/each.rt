@@ -1,9 +1,10 @@
 //! A call at each pair of a table, with its value to be written.
 ghost use Rattle.std.specs.Prelude.{◌≡◌, length};
-ghost use Rattle.intmap.specs.Kept.{unkept, WritesStored};
+ghost use Rattle.intmap.specs.Kept.{unkept, WritesStored, TakesStoredMut};
 ghost use Rattle.intmap.specs.Slots.{rows, joined, IsMarkedTable};
+ghost use Rattle.intmap.specs.Taking.{TakesEach};
 ghost use Rattle.intmap.specs.Walk.{walk_of};
-ghost use Rattle.intmap.specs.Writes.{Writes, WritesAt};
+ghost use Rattle.intmap.specs.Writes.{Writes, WritesAt, TakesPairMut};
 
 use crate::kept::Kept;
 use crate::key::IntKey;
@@ -19,10 +20,9 @@ pub(crate) fn write_pair<K: IntKey, V, F: FnMut(K, &mut V)>(
     pair: &mut (Stored<K>, Kept<V>),
     f: &mut F,
 )
-    requires { F.IsAlwaysCallable f.old }
+    requires { TakesStoredMut F.FnMut f.old pair.old }
     ensures key { pair.new.0 ≡ pair.old.0 }
     ensures value { WritesStored F.FnMut f.old pair.old pair.new.1 f.new }
-    ensures callable { F.IsAlwaysCallable f.new }
 {
     f(*pair.0.key(), &mut pair.1.value);
 }
@@ -34,7 +34,8 @@ fn write_slots<K: IntKey, V, A: Allocator, F: FnMut(K, &mut V)>(
     slots: &mut Vec<Slot<K, Kept<V>, A>, A>,
     f: &mut F,
 )
-    requires callable { F.IsAlwaysCallable f.old }
+    requires callable { TakesEach (WritesStored F.FnMut) (TakesStoredMut F.FnMut) f.old
+        (joined (rows slots.old.items)) }
     requires table { IsMarkedTable K.number_of slots.old.items bits.now }
     ensures pairs { Writes (WritesStored F.FnMut) f.old (joined (rows slots.old.items))
         (joined (rows slots.new.items)) f.new }
@@ -49,7 +50,8 @@ fn write_slots<K: IntKey, V, A: Allocator, F: FnMut(K, &mut V)>(
 impl<K: IntKey, V, A: Allocator> Table<K, Kept<V>, A> {
     /// Calls the closure at each pair in the order of the walk, with its value to be written.
     pub(crate) fn write_each<F: FnMut(K, &mut V)>(&mut self, f: &mut F)
-        requires { F.IsAlwaysCallable f.old }
+        requires { TakesEach (WritesAt F.FnMut) (TakesPairMut F.FnMut) f.old
+            (unkept self.old.walk) }
         ensures pairs { Writes (WritesAt F.FnMut) f.old (unkept self.old.walk)
             (unkept self.new.walk) f.new }
         ensures capacity { self.new.capacity ≡ self.old.capacity }

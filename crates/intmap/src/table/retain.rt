@@ -2,8 +2,9 @@
 ghost use Rattle.std.specs.Prelude.{◌≡◌, ◌+◌, ◌^◌, ◌<◌, ◌≤◌, length};
 ghost use Rattle.intmap.specs.Walk.{walk_of};
 ghost use Rattle.intmap.specs.Slots.{rows, joined, IsMarkedTable};
-ghost use Rattle.intmap.specs.Kept.{unkept, KeepsStored};
-ghost use Rattle.intmap.specs.Retaining.{Retains, KeepsAt};
+ghost use Rattle.intmap.specs.Kept.{unkept, KeepsStored, TakesStored};
+ghost use Rattle.intmap.specs.Retaining.{Retains, KeepsAt, TakesPair};
+ghost use Rattle.intmap.specs.Taking.{TakesEach};
 
 use crate::kept::Kept;
 use crate::key::IntKey;
@@ -14,19 +15,26 @@ use crate::table::stored::Stored;
 use std::alloc::Allocator;
 use std::mem;
 
+/// Whether the closure says that a pair stays.
+#[inline(always)]
+fn keeps_pair<K: IntKey, V, F: FnMut(K, &V) -> bool>(pair: &(Stored<K>, Kept<V>), f: &mut F) -> bool
+    requires { TakesStored F.FnMut f.old pair.now }
+    ensures { KeepsStored F.FnMut f.old pair.now result f.new }
+{
+    f(*pair.0.key(), &pair.1.value)
+}
+
 /// Keeps the pairs of which the closure says true, in their order.
 fn retain_in<K: IntKey, V: Drop, A: Allocator, F: FnMut(K, &V) -> bool>(
     pairs: &mut Vec<(Stored<K>, Kept<V>), A>,
     f: &mut F,
 )
-    requires { F.IsAlwaysCallable f.old }
-    ensures pairs { Retains (KeepsStored F.FnMut) f.old pairs.old.items pairs.new.items f.new }
-    ensures callable { F.IsAlwaysCallable f.new }
+    requires { TakesEach (KeepsStored F.FnMut) (TakesStored F.FnMut) f.old pairs.old.items }
+    ensures { Retains (KeepsStored F.FnMut) f.old pairs.old.items pairs.new.items f.new }
 {
     let mut kept = 0;
     for i in 0..pairs.len() {
-        let (key, value) = &pairs[i];
-        if f(*key.key(), &value.value) {
+        if keeps_pair(&pairs[i], f) {
             pairs.swap(kept, i);
             kept += 1;
         }
@@ -50,15 +58,14 @@ fn retain_slot<K: IntKey, V: Drop, A: Allocator, F: FnMut(K, &V) -> bool>(
     slot: Slot<K, Kept<V>, A>,
     f: &mut F,
 ) -> Slot<K, Kept<V>, A>
-    requires { F.IsAlwaysCallable f.old }
-    ensures pairs { Retains (KeepsStored F.FnMut) f.old slot.pairs result.pairs f.new }
-    ensures callable { F.IsAlwaysCallable f.new }
+    requires { TakesEach (KeepsStored F.FnMut) (TakesStored F.FnMut) f.old slot.pairs }
+    ensures { Retains (KeepsStored F.FnMut) f.old slot.pairs result.pairs f.new }
 {
     let (first, mut rest) = slot.into_parts();
     let Some(pair) = first else {
         return slot_with(rest);
     };
-    let stays = f(*pair.0.key(), &pair.1.value);
+    let stays = keeps_pair(&pair, f);
     retain_in(&mut rest, f);
     if stays {
         return Slot::from_parts(Some(pair), rest);
@@ -73,7 +80,8 @@ fn retain_slots<K: IntKey, V: Drop, A: Allocator + Copy, F: FnMut(K, &V) -> bool
     slots: &mut Vec<Slot<K, Kept<V>, A>, A>,
     f: &mut F,
 ) -> usize
-    requires callable { F.IsAlwaysCallable f.old }
+    requires callable { TakesEach (KeepsStored F.FnMut) (TakesStored F.FnMut) f.old
+        (joined (rows slots.old.items)) }
     requires table { IsMarkedTable K.number_of slots.old.items bits.old }
     requires count { length (joined (rows slots.old.items)) < 2 ^ 64 }
     ensures pairs { Retains (KeepsStored F.FnMut) f.old (joined (rows slots.old.items))
@@ -102,7 +110,8 @@ impl<K: IntKey, V: Drop, A: Allocator + Copy> Table<K, Kept<V>, A> {
     /// Keeps the pairs of which the closure says true, in their order, and answers how many they
     /// are. The closure is asked about each pair once, in the order of the walk.
     pub(crate) fn retain<F: FnMut(K, &V) -> bool>(&mut self, f: &mut F) -> usize
-        requires callable { F.IsAlwaysCallable f.old }
+        requires callable { TakesEach (KeepsAt F.FnMut) (TakesPair F.FnMut) f.old
+            (unkept self.old.walk) }
         requires count { length self.old.walk < 2 ^ 64 }
         ensures pairs { Retains (KeepsAt F.FnMut) f.old (unkept self.old.walk)
             (unkept self.new.walk) f.new }

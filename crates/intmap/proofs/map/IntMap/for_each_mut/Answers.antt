@@ -1,7 +1,8 @@
 use Rattle.std.proofs.Common.{◌∙◌, sym, subst}
 use Rattle.intmap.specs.Kept.{unkept}
 use Rattle.intmap.specs.Map.{MapState}
-use Rattle.intmap.specs.Writes.{Writes, WritesAt}
+use Rattle.intmap.specs.Taking.{TakesEach}
+use Rattle.intmap.specs.Writes.{Writes, WritesAt, TakesPairMut}
 use Rattle.intmap.proofs.WritesLemmas.{keys_of-Writes, is_some-Writes, length-Writes, IsConsistent-Writes}
 use Rattle.intmap.proofs.map.IntMap.for_each_mut.Goals as goal
 
@@ -28,3 +29,7 @@ returns-clause-len g c = rw (← c.self.view_is) (length-Writes (WritesAt g.F.Fn
 
 pub returns-clause-map_after : goal.returns-clause-map_after
 returns-clause-map_after g c = (invariant_of-self g c).map
+
+pub write_each-requires : goal.write_each-requires
+write_each-requires g c =
+    subst (λ (m : MapState _ _). TakesEach (WritesAt g.F.FnMut) (TakesPairMut g.F.FnMut) c.args.f m.walk) (sym c.self.view_is) c.requires

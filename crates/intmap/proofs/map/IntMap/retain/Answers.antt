@@ -1,7 +1,8 @@
-use Rattle.std.proofs.Common.{subst}
+use Rattle.std.proofs.Common.{subst, sym}
 use Rattle.intmap.specs.Kept.{unkept}
 use Rattle.intmap.specs.Map.{MapState}
-use Rattle.intmap.specs.Retaining.{KeepsAt, Retains}
+use Rattle.intmap.specs.Retaining.{KeepsAt, Retains, TakesPair}
+use Rattle.intmap.specs.Taking.{TakesEach}
 use Rattle.intmap.proofs.RetainLemmas.{length-Retains, value_of-Retains, IsConsistent-Retains}
 use Rattle.intmap.proofs.map.IntMap.retain.Goals as goal
 
@@ -24,3 +25,7 @@ returns-clause-len g c = rw (← c.self.view_is) (length-Retains (KeepsAt g.F.Fn
 
 pub returns-clause-map_after : goal.returns-clause-map_after
 returns-clause-map_after g c = (invariant_of-self g c).map
+
+pub retain-self-inside-requires-clause-callable : goal.retain-self-inside-requires-clause-callable
+retain-self-inside-requires-clause-callable g c =
+    subst (λ (m : MapState _ _). TakesEach (KeepsAt g.F.FnMut) (TakesPair g.F.FnMut) c.args.f m.walk) (sym c.self.view_is) c.requires

@@ -1,11 +1,13 @@
-use Rattle.std.proofs.Common.{◌≡◌, ◌<◌, ◌∙◌, [], ◌∷◌, ◌++◌, length, refl, sym, ap, subst, arith, of_calls, length-set, append_assoc}
+use Rattle.std.proofs.Common.{◌≡◌, ◌<◌, ◌∙◌, [], ◌∷◌, ◌++◌, length, refl, sym, ap, subst, arith, get_or, length-set, append_assoc}
 use Rattle.intmap.specs.Bits.{marked_places}
-use Rattle.intmap.specs.Kept.{WritesStored}
-use Rattle.intmap.specs.Slots.{rows}
+use Rattle.intmap.specs.Kept.{WritesStored, TakesStoredMut}
+use Rattle.intmap.specs.Slots.{rows, pairs_at}
+use Rattle.intmap.specs.Taking.{TakesEach}
 use Rattle.intmap.specs.Writes.{Writes}
 use Rattle.intmap.proofs.FilledLemmas.{pairs_at-marked}
 use Rattle.intmap.proofs.TableLemmas.{get_or-rows}
-use Rattle.intmap.proofs.WritesSlotsLemmas.{place-within, Leads-place, IsMarkedTable-Writes, Leads-places}
+use Rattle.intmap.proofs.TakingLemmas.{TakesEach-front}
+use Rattle.intmap.proofs.WritesSlotsLemmas.{place-within, Leads-place, TakesEach-place, IsMarkedTable-Writes, Leads-places}
 use Rattle.intmap.proofs.table.each.write_slots.Goals as goal
 use Rattle.intmap.proofs.table.each.write_slots.Goals.{In-Some}
 
@@ -13,7 +15,7 @@ pub loop-place-init : goal.loop-place-init
 loop-place-init g c =
     let all = pairs_at-marked (rows c.args.slots.now.items) c.args.bits.now c.requires.table.marks in
     rw (c.into_iter-place-iterator.ensures.into_iter_gives ∙ c.iter-place-items.ensures) (record {
-      callable = λ always. always;
+      callable = rw all c.requires.callable;
       table = c.requires.table;
       len = refl;
       passed = ([], refl, λ N last run. rw all at run);
@@ -31,7 +33,11 @@ pub index_mut-requires : goal.index_mut-requires
 index_mut-requires g c = let below = within g (goal.at.index_mut-requires g c).In-Some in omega (arith, below, c.loop-place.slots.ok.0)
 
 pub write_each-requires : goal.write_each-requires
-write_each-requires g c = c.loop-place.invariant.callable c.requires.callable
+write_each-requires g c =
+    let at = (goal.at.write_each-requires g c).In-Some in let S = c.loop-place.slots.items in let place = c.in-Some.place in
+    let row = ap (λ h. h.pairs) c.index_mut.ensures.value ∙ sym (get_or-rows S place c.index_mut.result.now (within g at)) in
+    subst (TakesEach (WritesStored g.F.FnMut) (TakesStoredMut g.F.FnMut) c.loop-place.f) (sym row)
+    (TakesEach-front (WritesStored g.F.FnMut) (TakesStoredMut g.F.FnMut) c.loop-place.f (get_or (rows S) place []) (pairs_at (rows S) c.next.new.self) (rw c.in-Some.ensures.steps at c.loop-place.invariant.callable))
 
 pub loop-place-preserved : goal.loop-place-preserved
 loop-place-preserved g c =
@@ -39,9 +45,9 @@ loop-place-preserved g c =
     let S = c.loop-place.slots.items in let marks = c.args.bits.now in let before = loop.passed.0 in let place = c.in-Some.place in let rest = c.next.new.self in
     let s = c.write_each.new.self in let is = next g at in
     let row = ap (λ h. h.pairs) c.index_mut.ensures.value ∙ sym (get_or-rows S place c.index_mut.result.now (within g at)) in
-    let run = subst (λ ps. Writes R c.loop-place.f ps s.pairs c.write_each.new.f) row c.write_each.ensures.pairs in
+    let run = subst (λ ps. Writes R c.loop-place.f ps s.pairs c.write_each.new.f) row c.write_each.ensures in
     record {
-      callable = search of_calls;
+      callable = TakesEach-place S marks loop.table.marks before place rest is s R _ _ run (TakesStoredMut g.F.FnMut) (rw c.in-Some.ensures.steps at loop.callable);
       table = IsMarkedTable-Writes S marks loop.table.marks before place rest is s R _ _ run g.K.IntKey.number_of loop.table;
       len = length-set S place s ∙ loop.len;
       passed = (

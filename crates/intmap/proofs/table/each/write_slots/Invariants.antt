@@ -1,15 +1,15 @@
 use Rattle.std.proofs.Common.{◌≡◌, ℕ, List, ◌++◌, length}
-use denote.Param.Always.{always_mut}
 use Rattle.intmap.specs.Bits.{marked_places}
-use Rattle.intmap.specs.Kept.{WritesStored}
+use Rattle.intmap.specs.Kept.{WritesStored, TakesStoredMut}
 use Rattle.intmap.specs.Slots.{rows, joined, pairs_at, IsMarkedTable}
+use Rattle.intmap.specs.Taking.{TakesEach}
 use Rattle.intmap.specs.Writes.{Writes}
 use Rattle.intmap.proofs.LeadsLemmas.{Leads}
 use Rattle.intmap.proofs.table.each.write_slots.Given as goal
 
 abbrev pub invariant-loop-place : goal.invariant-loop-place
 invariant-loop-place g l = record {
-  callable : always_mut g.F.FnMut l.initial.f → always_mut g.F.FnMut l.f;
+  callable : TakesEach (WritesStored g.F.FnMut) (TakesStoredMut g.F.FnMut) l.f (pairs_at (rows l.slots.items) l.place-iterator);
   table : IsMarkedTable g.K.IntKey.number_of l.slots.items l.bits;
   len : length l.slots.items ≡ length l.initial.slots.items;
   passed : (before : List ℕ) × (before ++ l.place-iterator ≡ marked_places l.bits)

@@ -1,13 +1,16 @@
-use Rattle.std.proofs.Common.{◌≡◌, ◌+◌, ◌<◌, ◌∙◌, length, length-set, set, get_or, [], true, false, refl, sym, ap, subst, arith, of_calls}
+use Rattle.std.proofs.Common.{◌≡◌, ◌+◌, ◌<◌, ◌∙◌, length, length-set, set, get_or, [], true, false, refl, sym, ap, subst, arith, drop}
 use Rattle.std.specs.Prelude.{nat_lt}
 use Rattle.std.proofs.lemmas.List.{set-set}
-use Rattle.intmap.specs.Kept.{KeepsStored}
+use Rattle.intmap.specs.Kept.{KeepsStored, TakesStored}
 use Rattle.intmap.specs.Retaining.{Retains}
-use Rattle.intmap.specs.Slots.{rows}
+use Rattle.intmap.specs.Slots.{rows, joined}
+use Rattle.intmap.specs.Taking.{TakesEach}
 use Rattle.intmap.proofs.FilledLemmas.{place-below}
 use Rattle.intmap.proofs.PlacesLemmas.{IsNextMark, IsNextMark-first, unmarked-behind}
-use Rattle.intmap.proofs.RetainSlotsLemmas.{next-within, Leads-slot, Leads-all, count-all, count-slot, few-slot, fewer, IsMarkedTable-emptied_at, IsMarkedTable-kept_at}
+use Rattle.intmap.proofs.RetainSlotsLemmas.{next-within, joined-left, Leads-slot, Leads-all, count-all, count-slot, few-slot, fewer, IsMarkedTable-emptied_at, IsMarkedTable-kept_at}
+use Rattle.intmap.proofs.RetainLemmas.{FoldsTo-Retains}
 use Rattle.intmap.proofs.TableLemmas.{get_or-rows}
+use Rattle.intmap.proofs.TakingLemmas.{TakesEach-front, TakesEach-behind}
 use Rattle.intmap.proofs.table.retain.retain_slots.Goals as goal
 use Rattle.intmap.proofs.table.retain.retain_slots.Goals.{In-Some, After-len-count, then-not-is_filled, else-not-is_filled}
 
@@ -27,16 +30,13 @@ index_mut-requires-in-Some g c = let below = within g (goal.at.index_mut-require
 
 pub loop-place-init : goal.loop-place-init
 loop-place-init g c = record {
-  callable = λ always. always;
+  callable = c.requires.callable;
   table = c.requires.table;
   len = refl;
   few = c.requires.count;
   count = refl;
   leads = λ N last run. run;
 }
-
-pub retain_slot-slot-requires : goal.retain_slot-slot-requires
-retain_slot-slot-requires g c = c.loop-place.invariant.callable c.requires.callable
 
 pub overflow_add-from : goal.overflow_add-from
 overflow_add-from g c = let below = within g (goal.at.overflow_add-from g c).In-Some in omega (arith, below, c.loop-place.slots.ok.0)
@@ -52,7 +52,16 @@ run : (g : _) (c : After-len-count g) → c.in-Some.place < length c.loop-place.
 run g c below =
     let slots = c.loop-place.slots.items in let place = c.in-Some.place in
     let row = ap (λ h. h.pairs) (c.replace-slot.ensures.value ∙ c.index_mut.ensures.value) ∙ sym (get_or-rows slots place c.index_mut.result.now below) in
-    subst (λ ps. Retains (KeepsStored g.F.FnMut) c.loop-place.f ps c.retain_slot-slot.result.pairs c.retain_slot-slot.new.f) row c.retain_slot-slot.ensures.pairs
+    subst (λ ps. Retains (KeepsStored g.F.FnMut) c.loop-place.f ps c.retain_slot-slot.result.pairs c.retain_slot-slot.new.f) row c.retain_slot-slot.ensures
+
+pub retain_slot-slot-requires : goal.retain_slot-slot-requires
+retain_slot-slot-requires g c =
+    let at = goal.at.retain_slot-slot-requires g c in let loop = c.loop-place.invariant in
+    let S = c.loop-place.slots.items in let place = c.in-Some.place in let Q = TakesEach (KeepsStored g.F.FnMut) (TakesStored g.F.FnMut) c.loop-place.f in
+    let is = next g at.In-Some in let s = c.replace-slot.result in
+    let row = ap (λ h. h.pairs) (c.replace-slot.ensures.value ∙ c.index_mut.ensures.value) ∙ sym (get_or-rows S place c.index_mut.result.now (within g at.In-Some)) in
+    subst Q (sym row) (TakesEach-front (KeepsStored g.F.FnMut) (TakesStored g.F.FnMut) c.loop-place.f _ _
+    (subst Q (joined-left g.K.IntKey.number_of S c.loop-place.bits loop.table c.loop-place.from place is s) loop.callable))
 
 pub overflow_add-count : goal.overflow_add-count
 overflow_add-count g c =
@@ -78,7 +87,9 @@ loop-place-preserved g c =
     let number = g.K.IntKey.number_of in
     let few = fewer number S marks loop.table from place is s _ _ _ asked in
     rw set-set (record {
-      callable = search of_calls;
+      callable = TakesEach-behind (KeepsStored g.F.FnMut) (TakesStored g.F.FnMut) c.loop-place.f c.retain_slot-slot.new.f _ _
+          (subst (TakesEach (KeepsStored g.F.FnMut) (TakesStored g.F.FnMut) c.loop-place.f) (joined-left number S marks loop.table from place is s) loop.callable)
+          (FoldsTo-Retains (KeepsStored g.F.FnMut) _ _ _ s.pairs asked);
       table = elim c.if-not-is_filled.branch [
         | then-not-is_filled w ↦
             (let empty : false ≡ nat_lt 0 (length s.pairs) = let told = c.is_filled.ensures in let no = w.if-not-is_filled.true in grind (arith, told, no) in

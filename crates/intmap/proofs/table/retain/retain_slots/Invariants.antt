@@ -1,14 +1,14 @@
 use Rattle.std.proofs.Common.{◌≡◌, ◌-◌, ◌^◌, ◌<◌, length, take, drop}
-use denote.Param.Always.{always_mut}
-use Rattle.intmap.specs.Kept.{KeepsStored}
+use Rattle.intmap.specs.Kept.{KeepsStored, TakesStored}
 use Rattle.intmap.specs.Retaining.{Retains}
+use Rattle.intmap.specs.Taking.{TakesEach}
 use Rattle.intmap.specs.Slots.{rows, joined, IsMarkedTable}
 use Rattle.intmap.proofs.LeadsLemmas.{Leads}
 use Rattle.intmap.proofs.table.retain.retain_slots.Given as goal
 
 abbrev pub invariant-loop-place : goal.invariant-loop-place
 invariant-loop-place g l = record {
-  callable : always_mut g.F.FnMut l.initial.f → always_mut g.F.FnMut l.f;
+  callable : TakesEach (KeepsStored g.F.FnMut) (TakesStored g.F.FnMut) l.f (joined (drop l.from (rows l.slots.items)));
   table : IsMarkedTable g.K.IntKey.number_of l.slots.items l.bits;
   len : length l.slots.items ≡ length l.initial.slots.items;
   few : length (joined (rows l.slots.items)) < 2 ^ 64;

@@ -1,9 +1,10 @@
-use Rattle.std.proofs.Common.{subst}
+use Rattle.std.proofs.Common.{sym, subst}
 use Rattle.intmap.specs.Kept.{unkept}
 use Rattle.intmap.specs.Slots.{Grid, rows, joined}
-use Rattle.intmap.specs.Writes.{Writes, WritesAt}
+use Rattle.intmap.specs.Taking.{TakesEach}
+use Rattle.intmap.specs.Writes.{Writes, WritesAt, TakesPairMut}
 use Rattle.intmap.proofs.TableLemmas.{walk_of-joined}
-use Rattle.intmap.proofs.WritesLemmas.{Writes-unkept}
+use Rattle.intmap.proofs.WritesLemmas.{Writes-unkept, TakesEach-stored_mut}
 use Rattle.intmap.proofs.table.each.Table+K+Kept+V+A.write_each.Goals as goal
 
 pub returns-clause-pairs : goal.returns-clause-pairs
@@ -14,3 +15,8 @@ returns-clause-pairs g c =
 
 pub returns-clause-own : goal.returns-clause-own
 returns-clause-own g c = walk_of-joined g.K.IntKey.number_of c.write_slots.new.slots.items c.write_slots.ensures.table.table
+
+pub write_slots-requires-clause-callable : goal.write_slots-requires-clause-callable
+write_slots-requires-clause-callable g c =
+    TakesEach-stored_mut g.F.FnMut c.args.f.now (joined (rows c.self.inside.slots.items))
+    (subst (λ (t : Grid _ _). TakesEach (WritesAt g.F.FnMut) (TakesPairMut g.F.FnMut) c.args.f.now (unkept t.walk)) (sym c.self.view_is) c.requires)

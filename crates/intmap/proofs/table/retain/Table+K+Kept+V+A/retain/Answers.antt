@@ -1,13 +1,11 @@
 use Rattle.std.proofs.Common.{◌^◌, ◌<◌, length, sym, subst, ◌∙◌}
 use Rattle.intmap.specs.Slots.{Grid, rows, joined}
 use Rattle.intmap.specs.Kept.{unkept}
-use Rattle.intmap.specs.Retaining.{KeepsAt, Retains}
-use Rattle.intmap.proofs.RetainLemmas.{Retains-unkept}
+use Rattle.intmap.specs.Retaining.{KeepsAt, Retains, TakesPair}
+use Rattle.intmap.specs.Taking.{TakesEach}
+use Rattle.intmap.proofs.RetainLemmas.{Retains-unkept, TakesEach-stored}
 use Rattle.intmap.proofs.TableLemmas.{walk_of-joined}
 use Rattle.intmap.proofs.table.retain.Table+K+Kept+V+A.retain.Goals as goal
-
-pub retain_slots-requires-clause-callable : goal.retain_slots-requires-clause-callable
-retain_slots-requires-clause-callable g c = c.requires.callable
 
 pub retain_slots-requires-clause-table : goal.retain_slots-requires-clause-table
 retain_slots-requires-clause-table g c = c.self.invariant.marked
@@ -29,3 +27,8 @@ returns-clause-own g c = walk_of-joined g.K.IntKey.number_of c.retain_slots.new.
 
 pub returns-clause-count : goal.returns-clause-count
 returns-clause-count g c = c.retain_slots.ensures.count
+
+pub retain_slots-requires-clause-callable : goal.retain_slots-requires-clause-callable
+retain_slots-requires-clause-callable g c =
+    TakesEach-stored g.F.FnMut c.args.f.now (joined (rows c.self.inside.slots.items))
+    (subst (λ (t : Grid _ _). TakesEach (KeepsAt g.F.FnMut) (TakesPair g.F.FnMut) c.args.f.now (unkept t.walk)) (sym c.self.view_is) c.requires.callable)
