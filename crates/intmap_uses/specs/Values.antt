@@ -10,3 +10,7 @@ module _ {K : Type 0} where
   abbrev pub sums_from : ℕ → List (K × ℕ) → List (K × ℕ)
   sums_from before [] = []
   sums_from before (pair ∷ L) = (pair.0, (before + pair.1) % 2 ^ 64) ∷ sums_from ((before + pair.1) % 2 ^ 64) L
+
+-- each value is the sum of its key and of what was there
+abbrev pub more_by_keys : List (ℕ × ℕ) → List (ℕ × ℕ)
+more_by_keys L = map (λ pair. (pair.0, pair.0 + pair.1)) L

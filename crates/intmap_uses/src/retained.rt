@@ -1,5 +1,5 @@
 //! Pairs that stay: by a test of the pair, and by a closure that counts along.
-ghost use Rattle.std.specs.Prelude.{◌≡◌, ◌%◌, ◌==◌, filter, not};
+ghost use Rattle.std.specs.Prelude.{◌≡◌, ◌+◌, ◌<◌, ◌^◌, ◌%◌, ◌==◌, All, false, filter, length, not, slice_index_or, take};
 ghost use Rattle.intmap_uses.specs.Retained.{every_other};
 
 use intmap::{IntKey, IntMap};
@@ -31,4 +31,35 @@ pub fn keep_every_other<K: IntKey, V: Drop, A: Allocator + Copy>(map: &mut IntMa
         stays = !stays;
         stays
     });
+}
+
+/// Keeps the keys for which the table says true, and drops the others. All keys are places of the
+/// table, so each look into it is safe: the closure is called at no other key.
+pub fn keep_listed<V: Drop, A: Allocator + Copy>(map: &mut IntMap<u64, V, A>, keeps: &[bool])
+    requires { All (λ pair. pair.0 < length keeps.now) map.old.walk }
+    ensures walk { map.new.walk
+        ≡ filter (λ pair. slice_index_or keeps.now pair.0 false) map.old.walk }
+    ensures capacity { map.new.capacity ≡ map.old.capacity }
+{
+    map.retain(|key, _| keeps[key as usize]);
+}
+
+/// Keeps the first so many pairs of the walk, or all where there are no more. The closure counts
+/// its calls, a sum that fits since it is called once a pair.
+pub fn keep_first<K: IntKey, V: Drop, A: Allocator + Copy>(map: &mut IntMap<K, V, A>, count: usize)
+    ensures walk { map.new.walk ≡ take count map.old.walk }
+    ensures capacity { map.new.capacity ≡ map.old.capacity }
+{
+    if map.len() <= count {
+        return;
+    }
+    let mut calls = 0usize;
+    map.retain(
+        move |_, _|
+            requires { calls + 1 < 2 ^ 64 }
+        {
+            calls += 1;
+            calls <= count
+        },
+    );
 }

@@ -1,7 +1,7 @@
 //! All values written in one pass: each by itself, and by a closure that sums along.
-ghost use Rattle.std.specs.Prelude.{◌≡◌};
+ghost use Rattle.std.specs.Prelude.{◌≡◌, ◌+◌, ◌<◌, ◌^◌, All};
 ghost use Rattle.std.specs.Map.{keys_of};
-ghost use Rattle.intmap_uses.specs.Values.{one_more, sums_from};
+ghost use Rattle.intmap_uses.specs.Values.{more_by_keys, one_more, sums_from};
 
 use intmap::{IntKey, IntMap};
 use std::alloc::Allocator;
@@ -26,4 +26,14 @@ pub fn add_up<K: IntKey, A: Allocator + Copy>(map: &mut IntMap<K, u64, A>)
         sum = sum.wrapping_add(*value);
         *value = sum;
     });
+}
+
+/// Adds its key to each value. No sum is too large, and no pair's key meets another pair's value.
+pub fn add_keys<A: Allocator + Copy>(map: &mut IntMap<u64, u64, A>)
+    requires { All (λ pair. pair.0 + pair.1 < 2 ^ 64) map.old.walk }
+    ensures walk { map.new.walk ≡ more_by_keys map.old.walk }
+    ensures keys { keys_of map.new.walk ≡ keys_of map.old.walk }
+    ensures capacity { map.new.capacity ≡ map.old.capacity }
+{
+    map.for_each_mut(|key, value| *value += key);
 }
