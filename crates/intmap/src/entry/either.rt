@@ -19,7 +19,9 @@ impl<K: IntKey, V, A: Allocator + Copy> IntMap<K, V, A> {
     /// does, and no call of the entry compares a key again. It is never refused.
     ///
     /// The entry borrows the map. One that is dropped without another call leaves the map as it was,
-    /// but for the count of compared keys.
+    /// but for the count of compared keys. Where any type may be that of the keys, a caller knows the
+    /// map after an occupied entry only by a call that ends it, as [`OccupiedEntry::leave`] or
+    /// [`Entry::into_map`].
     ///
     /// ```text
     /// match map.entry(21) {
@@ -112,6 +114,22 @@ impl<'a, K: IntKey, V, A: Allocator + Copy> Entry<'a, K, V, A> {
                 Entry::Occupied(entry)
             }
             Entry::Vacant(entry) => Entry::Vacant(entry),
+        }
+    }
+
+    /// The map, as the calls on the entry left it, for as long as the map was borrowed. It binds no
+    /// key, takes no pair out and compares no key.
+    ///
+    /// ```text
+    /// map.entry(word).and_modify(|count| *count += 1).into_map();
+    /// ```
+    pub fn into_map(self) -> &'a mut IntMap<K, V, A>
+        ensures same_reference { result.ghost_name ≡ (entry_reference self.entry).ghost_name }
+        ensures state { result.now ≡ entry_map self.entry }
+    {
+        match self {
+            Entry::Occupied(entry) => entry.into_map(),
+            Entry::Vacant(entry) => entry.into_map(),
         }
     }
 }

@@ -2,11 +2,12 @@
 ghost use Rattle.std.specs.Prelude.{◌≡◌, ◌+◌, length, Some, None};
 ghost use Rattle.std.specs.Borrow.{sem};
 ghost use Rattle.intmap.specs.Bindings.{Updates};
-ghost use Rattle.intmap.specs.Entries.{Occupied, entry_map, entry_key, entry_value, map_with_value, entry_lends, occupied_lends, IsWritten};
+ghost use Rattle.intmap.specs.Entries.{Occupied, entry_reference, entry_map, entry_key, entry_value, map_with_value, entry_lends, occupied_lends, IsWritten};
 ghost use Rattle.intmap.specs.Map.{IsMap, without_key};
 
 use crate::entry::OccupiedEntry;
 use crate::key::IntKey;
+use crate::map::IntMap;
 use std::alloc::Allocator;
 use std::mem;
 
@@ -87,5 +88,24 @@ impl<'a, K: IntKey, V, A: Allocator + Copy> OccupiedEntry<'a, K, V, A> {
     {
         let at = self.at;
         self.map.take_at(at)
+    }
+
+    /// Ends the entry, and leaves the map as the calls on the entry left it. It takes no pair out
+    /// and compares no key.
+    pub fn leave(self)
+        ensures state { self.exit.0.now ≡ entry_map (Occupied self.entry) }
+    {
+        let OccupiedEntry { map: _, at: _ } = self;
+    }
+
+    /// The map, as the calls on the entry left it, for as long as the map was borrowed. It takes no
+    /// pair out and compares no key.
+    pub fn into_map(self) -> &'a mut IntMap<K, V, A>
+        ensures same_reference { result.ghost_name
+            ≡ (entry_reference (Occupied self.entry)).ghost_name }
+        ensures state { result.now ≡ entry_map (Occupied self.entry) }
+    {
+        let OccupiedEntry { map, at: _ } = self;
+        map
     }
 }

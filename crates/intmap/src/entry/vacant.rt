@@ -2,13 +2,14 @@
 ghost use Rattle.std.specs.Prelude.{◌≡◌, ◌+◌, length, Some, IfOk, IfErr, OnOk};
 ghost use Rattle.std.specs.Borrow.{sem};
 ghost use Rattle.intmap.specs.Bindings.{Updates};
-ghost use Rattle.intmap.specs.Entries.{Vacant, entry_map, entry_key, entry_state, next_entry_capacity, map_with_value, entry_lends_ok};
+ghost use Rattle.intmap.specs.Entries.{Vacant, entry_reference, entry_map, entry_key, entry_state, next_entry_capacity, map_with_value, entry_lends_ok};
 ghost use Rattle.intmap.specs.Growth.{IsNext};
 ghost use Rattle.intmap.specs.Map.{IsMap, IsFull};
 ghost use Rattle.intmap.specs.States.{MayRefuse};
 
 use crate::entry::VacantEntry;
 use crate::key::IntKey;
+use crate::map::IntMap;
 use crate::refusal::Refused;
 use std::alloc::Allocator;
 
@@ -18,6 +19,16 @@ impl<'a, K: IntKey, V, A: Allocator + Copy> VacantEntry<'a, K, V, A> {
         ensures value { result.now ≡ entry_key (Vacant self.now) }
     {
         &self.key
+    }
+
+    /// The map, with the key not bound, for as long as the map was borrowed. It compares no key.
+    pub fn into_map(self) -> &'a mut IntMap<K, V, A>
+        ensures same_reference { result.ghost_name
+            ≡ (entry_reference (Vacant self.entry)).ghost_name }
+        ensures state { result.now ≡ entry_map (Vacant self.entry) }
+    {
+        let VacantEntry { map, key: _ } = self;
+        map
     }
 }
 
