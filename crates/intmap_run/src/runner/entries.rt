@@ -1,7 +1,5 @@
 //! What commands do by entries, and their answers.
 ghost use Rattle.std.specs.Prelude.{◌≡◌};
-ghost use Rattle.intmap.specs.declared.entry.Entry.TheVariants.{Occupied};
-ghost use Rattle.intmap.specs.Entries.{entry_map};
 ghost use Rattle.intmap.specs.Map.{IsMap};
 ghost use Rattle.intmap_run.specs.declared.command.Command.TheVariants as command;
 ghost use Rattle.intmap_run.specs.Steps.{StepsFrom};
@@ -9,7 +7,7 @@ ghost use Rattle.intmap_run.specs.Steps.{StepsFrom};
 use crate::answer::Answer;
 use crate::judge::Judge;
 use crate::runner::handed_back;
-use intmap::entry::{Entry, OccupiedEntry};
+use intmap::entry::Entry;
 use intmap::{IntKey, IntMap};
 use std::alloc::Allocator;
 
@@ -26,7 +24,7 @@ pub(crate) fn entry_insert<K: IntKey, V: Drop, J: Judge<K, V>, A: Allocator + Co
     match map.entry(key) {
         Entry::Occupied(mut entry) => {
             let old = entry.insert(value);
-            leave_occupied(entry);
+            entry.leave();
             Answer::Old(Some(old))
         }
         Entry::Vacant(entry) => match entry.insert(value) {
@@ -50,9 +48,3 @@ pub(crate) fn entry_remove<K: IntKey, V: Drop, J: Judge<K, V>, A: Allocator + Co
         Entry::Vacant(_entry) => Answer::Old(None),
     }
 }
-
-/// Ends the entry, and gives the map back as it is now.
-// where any type may be that of the keys, nothing is known of a map whose entry is only dropped
-fn leave_occupied<K: IntKey, V, A: Allocator + Copy>(entry: OccupiedEntry<'_, K, V, A>)
-    ensures { entry.exit.0.now ≡ entry_map (Occupied entry.entry) }
-{}
