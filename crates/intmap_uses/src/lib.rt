@@ -5,6 +5,7 @@ pub mod bindings;
 pub mod counter;
 pub mod dense;
 pub mod documents;
+pub mod entries;
 pub mod equality;
 pub mod floors;
 pub mod id_table;

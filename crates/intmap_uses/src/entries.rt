@@ -1,0 +1,95 @@
+//! What a map is once an entry of it has ended, whatever the type of its keys.
+ghost use Rattle.std.specs.Prelude.{◌≡◌, None, Some};
+ghost use Rattle.intmap.specs.Bindings.{value_of};
+ghost use Rattle.intmap.specs.Map.{after_search, written};
+
+use intmap::entry::Entry;
+use intmap::{IntKey, IntMap};
+use std::alloc::Allocator;
+
+/// The value of the key, by an entry. Only the count of compared keys is changed.
+pub fn read_by_entry<K: IntKey, V: Copy, A: Allocator + Copy>(
+    map: &mut IntMap<K, V, A>,
+    key: K,
+) -> Option<V>
+    ensures value { result ≡ value_of K.number_of map.old.walk key }
+    ensures state { map.new ≡ after_search K.number_of map.old key }
+{
+    match map.entry(key) {
+        Entry::Occupied(entry) => {
+            let value = *entry.get();
+            entry.leave();
+            Some(value)
+        }
+        Entry::Vacant(_entry) => None,
+    }
+}
+
+/// Sets the value of the key in its place, where the key is bound, and answers the one before.
+/// Where it isn't, only the count of compared keys is changed.
+pub fn replace_by_entry<K: IntKey, V: Drop, A: Allocator + Copy>(
+    map: &mut IntMap<K, V, A>,
+    key: K,
+    value: V,
+) -> Option<V>
+    ensures value { result ≡ value_of K.number_of map.old.walk key }
+    ensures bound { (old : V) → value_of K.number_of map.old.walk key ≡ Some old
+        → map.new ≡ written K.number_of (after_search K.number_of map.old key) key value }
+    ensures missing { value_of K.number_of map.old.walk key ≡ None
+        → map.new ≡ after_search K.number_of map.old key }
+{
+    match map.entry(key) {
+        Entry::Occupied(mut entry) => {
+            let old = entry.insert(value);
+            entry.leave();
+            Some(old)
+        }
+        Entry::Vacant(_entry) => None,
+    }
+}
+
+/// Sets the value of the key in its place, where the key is bound. Where it isn't, only the count
+/// of compared keys is changed.
+pub fn write_by_entry<K: IntKey, V: Drop, A: Allocator + Copy>(
+    map: &mut IntMap<K, V, A>,
+    key: K,
+    value: V,
+)
+    ensures bound { (old : V) → value_of K.number_of map.old.walk key ≡ Some old
+        → map.new ≡ written K.number_of (after_search K.number_of map.old key) key value }
+    ensures missing { value_of K.number_of map.old.walk key ≡ None
+        → map.new ≡ after_search K.number_of map.old key }
+{
+    match map.entry(key) {
+        Entry::Occupied(mut entry) => {
+            *entry.get_mut() = value;
+            entry.leave();
+        }
+        Entry::Vacant(_entry) => (),
+    }
+}
+
+/// Looks for the key, and changes nothing but the count of compared keys.
+pub fn search_by_entry<K: IntKey, V: Drop, A: Allocator + Copy>(map: &mut IntMap<K, V, A>, key: K)
+    ensures { map.new ≡ after_search K.number_of map.old key }
+{
+    map.entry(key).into_map();
+}
+
+/// Sets the number of the key to 0, where the key is bound. Where it isn't, only the count of
+/// compared keys is changed.
+pub fn reset_by_entry<K: IntKey, A: Allocator + Copy>(map: &mut IntMap<K, u64, A>, key: K)
+    ensures bound { (old : _) → value_of K.number_of map.old.walk key ≡ Some old
+        → map.new ≡ written K.number_of (after_search K.number_of map.old key) key 0 }
+    ensures missing { value_of K.number_of map.old.walk key ≡ None
+        → map.new ≡ after_search K.number_of map.old key }
+{
+    let entry = map.entry(key).and_modify(
+        |number: &mut u64|
+            ensures { number.new ≡ 0 }
+        {
+            *number = 0;
+        },
+    );
+    entry.into_map();
+}
