@@ -1,11 +1,12 @@
 //! Rows that belong together: those that are made again and again, and lists of commands.
 
-use crate::maps::Maps;
+use crate::maps::{Maps, new_map};
 use crate::report::Report;
 use crate::row::{compare_row, parts_of};
-use crate::runs::{Commands, Ran, command_of, run_all};
-use crate::text::state_text;
+use crate::runs::{AnswerOf, Commands, command_of, run_all, write_answer, write_run};
+use crate::text::write_state;
 use crate::word::words_of;
+use refuser::Refuser;
 use std::alloc::{AllocError, Global};
 
 /// What is done with the lines of a block.
@@ -36,18 +37,14 @@ impl<'t> Block<'t> {
         let Some(words) = words_of(alloc, head)? else {
             return Ok(None);
         };
-        let kind = match (words.name, words.numbers.as_slice()) {
-            ("repeat", [times]) => Kind::Repeat(*times),
-            ("run", []) => Kind::Run(0),
-            ("run", [number]) => Kind::Run(*number),
-            ("replay", []) => Kind::Replay,
-            _ => return Ok(None),
-        };
-        Ok(Some(Block {
-            kind,
-            head: line,
-            lines: Vec::new(alloc),
-        }))
+        match kind_of(words.name, &words.numbers) {
+            Some(kind) => Ok(Some(Block {
+                kind,
+                head: line,
+                lines: Vec::new(alloc),
+            })),
+            None => Ok(None),
+        }
     }
 
     /// Puts a line behind the others.
@@ -68,8 +65,19 @@ impl<'t> Block<'t> {
         match kind {
             Kind::Repeat(times) => repeat(alloc, maps, report, lines, times),
             Kind::Run(number) => run_rows(alloc, maps, report, self.head, lines, number),
-            Kind::Replay => replay(alloc, maps, report, lines),
+            Kind::Replay => replay(alloc, maps.memory, report, lines),
         }
+    }
+}
+
+// what is done with the lines of a block whose head has these words; `None` where they are no head
+fn kind_of(name: &str, numbers: &[u64]) -> Option<Kind> {
+    match (name, numbers) {
+        ("repeat", [times]) => Some(Kind::Repeat(*times)),
+        ("run", []) => Some(Kind::Run(0)),
+        ("run", [number]) => Some(Kind::Run(*number)),
+        ("replay", []) => Some(Kind::Replay),
+        _ => None,
     }
 }
 
@@ -92,14 +100,14 @@ fn repeat(
 // the commands that lines spell, those left out that spell none
 fn commands_of<'a>(
     alloc: Global,
-    maps: &Maps<'a>,
+    memory: &'a Refuser<Global>,
     report: &mut Report,
     lines: &[&str],
 ) -> Result<Commands<'a>, AllocError> {
-    let mut commands = Vec::new(maps.memory);
+    let mut commands = Vec::new(memory);
     for line in lines {
         let (call, _) = parts_of(line);
-        match command_of(alloc, maps.memory, call)? {
+        match command_of(alloc, memory, call)? {
             Some(command) => commands.push(command)?,
             None => report.compare(line, "a command", "not a command")?,
         }
@@ -116,27 +124,45 @@ fn run_rows(
     lines: &[&str],
     number: u64,
 ) -> Result<(), AllocError> {
-    let commands = commands_of(alloc, maps, report, lines)?;
+    let commands = commands_of(alloc, maps.memory, report, lines)?;
     maps.memory.arm(number);
-    let ran = run_all(alloc, maps.memory, &mut maps.map, commands)?;
+    let ran = run_all(maps.memory, &mut maps.map, commands);
     maps.memory.arm(0);
-    let (_, wanted) = parts_of(head);
     match ran {
-        Ran::Returned(count) => {
-            let answer = format!(in alloc; "{count} commands back")?;
-            report.compare(head, wanted, answer.as_str())
-        }
-        Ran::Answered(texts) => {
-            let count = texts.len();
-            let answer = format!(in alloc; "{count} answers")?;
-            report.compare(head, wanted, answer.as_str())?;
-            for (line, text) in lines.iter().zip(texts.iter()) {
-                let (_, wanted) = parts_of(line);
-                report.compare(line, wanted, text.as_str())?;
-            }
-            Ok(())
-        }
+        Ok(answers) => compare_answers(alloc, report, head, lines, answers.as_slice()),
+        Err(commands) => compare_head(alloc, report, head, commands.len(), "commands back"),
     }
+}
+
+// compares the answers with those of the head and the rows of a run
+fn compare_answers(
+    alloc: Global,
+    report: &mut Report,
+    head: &str,
+    lines: &[&str],
+    answers: &[AnswerOf<'_>],
+) -> Result<(), AllocError> {
+    compare_head(alloc, report, head, answers.len(), "answers")?;
+    for (line, answer) in lines.iter().zip(answers.iter()) {
+        let (_, wanted) = parts_of(line);
+        let mut text = String::new(alloc);
+        write_answer(&mut text, answer)?;
+        report.compare(line, wanted, text.as_str())?;
+    }
+    Ok(())
+}
+
+// compares the number of what a run handed back with the one of its head
+fn compare_head(
+    alloc: Global,
+    report: &mut Report,
+    head: &str,
+    count: usize,
+    what: &str,
+) -> Result<(), AllocError> {
+    let (_, wanted) = parts_of(head);
+    let answer = format!(in alloc; "{count} {what}")?;
+    report.compare(head, wanted, answer.as_str())
 }
 
 /// More requests than any run of rows makes.
@@ -145,39 +171,50 @@ const MANY: u64 = 1000;
 // runs commands on a new map with each request refused in turn, and tells the answers and the map
 fn replay(
     alloc: Global,
-    maps: &mut Maps<'_>,
+    memory: &Refuser<Global>,
     report: &mut Report,
     lines: &[&str],
 ) -> Result<(), AllocError> {
+    memory.arm(0);
     for number in 1..MANY {
-        let mut fresh = Maps::new(maps.memory)?;
-        let commands = commands_of(alloc, &fresh, report, lines)?;
-        fresh.memory.arm(number);
-        let ran = run_all(alloc, fresh.memory, &mut fresh.map, commands)?;
-        let is_refused = fresh.memory.left() == 0;
-        fresh.memory.arm(0);
-        let told = told_of(alloc, &ran)?;
-        let state = state_text(alloc, &fresh.map)?;
+        let commands = commands_of(alloc, memory, report, lines)?;
+        let mut told = String::new(alloc);
+        replay_one(&mut told, memory, commands, number)?;
+        let is_refused = memory.left() == 0;
+        memory.arm(0);
+        tell_replay(alloc, report, number, is_refused, told.as_str())?;
         if !is_refused {
-            let line = format!(in alloc; "no request refused: {told}{state}")?;
-            return report.tell(line.as_str());
+            return Ok(());
         }
-        let line = format!(in alloc; "request {number} refused: {told}{state}")?;
-        report.tell(line.as_str())?;
     }
     Ok(())
 }
 
-// the answers in a row, or how many commands came back
-fn told_of(alloc: Global, ran: &Ran) -> Result<String, AllocError> {
-    let mut told = String::new(alloc);
-    match ran {
-        Ran::Returned(count) => write!(told, "{count} commands back; ")?,
-        Ran::Answered(texts) => {
-            for text in texts.iter() {
-                write!(told, "{text}; ")?;
-            }
-        }
-    }
-    Ok(told)
+// runs commands on a new map with the request of this number refused; writes the answers and the map
+fn replay_one<'a>(
+    out: &mut String,
+    memory: &'a Refuser<Global>,
+    commands: Commands<'a>,
+    number: u64,
+) -> Result<(), AllocError> {
+    let mut map = new_map(memory)?;
+    memory.arm(number);
+    write_run(out, memory, &mut map, commands)?;
+    write_state(out, &map)
+}
+
+// tells of a replay whose request of this number was refused, or that made fewer
+fn tell_replay(
+    alloc: Global,
+    report: &mut Report,
+    number: u64,
+    is_refused: bool,
+    told: &str,
+) -> Result<(), AllocError> {
+    let line = if is_refused {
+        format!(in alloc; "request {number} refused: {told}")?
+    } else {
+        format!(in alloc; "no request refused: {told}")?
+    };
+    report.tell(line.as_str())
 }

@@ -1,74 +1,72 @@
 //! Calls that put many pairs into a map at once, make a map of pairs or of another map, or compare two.
 ghost use Rattle.std.specs.Iterator.{IsFinite, at_most};
 
-use crate::call::no_call;
+use crate::call::{no_call, with_few};
+use crate::iterated::{through_all, through_front};
 use crate::many::{Keys, value_of};
 use crate::maps::{Map, Maps};
-use crate::text::{bool_text, done_text, pairs_text, refusal_text, stopped_text};
+use crate::text::{write_bool, write_done, write_pairs, write_refusal, write_stopped};
 use intmap::{Cause, IntMap};
 use refuser::Refuser;
 use std::alloc::{AllocError, Allocator, Global};
 use std::vec;
 
-/// The answer to a call with pairs behind its name; `None` where it has another name.
+/// Writes the answer to a call with any number of pairs behind its name, or to one with three numbers
+/// at most.
 pub fn with_pairs(
-    alloc: Global,
+    out: &mut String,
     maps: &mut Maps<'_>,
     name: &str,
     numbers: &[u64],
-) -> Result<Option<String>, AllocError> {
-    let answer = match name {
-        "extend" => extended(alloc, &mut maps.map, pairs_of(alloc, numbers)?.into_iter())?,
+) -> Result<(), AllocError> {
+    let alloc = *out.allocator();
+    match name {
+        "extend" => extended(out, &mut maps.map, pairs_of(alloc, numbers)?.into_iter()),
         "extend_debug" => {
             let called = maps.map.extend(pairs_of(alloc, numbers)?.into_iter());
-            format!(in alloc; "{called:?}")?
+            write!(out, "{called:?}")
         }
-        "from_iter" => made_of(alloc, maps, pairs_of(alloc, numbers)?.into_iter())?,
+        "from_iter" => made_of(out, maps, pairs_of(alloc, numbers)?.into_iter()),
         "from_claimed" => match numbers.split_first() {
-            Some((claimed, numbers)) => made_of(
-                alloc,
-                maps,
-                Claimed {
-                    pairs: pairs_of(alloc, numbers)?.into_iter(),
-                    left: *claimed as usize,
-                },
-            )?,
-            None => no_call(alloc)?,
+            Some((claimed, numbers)) => {
+                let pairs = pairs_of(alloc, numbers)?.into_iter();
+                let left = *claimed as usize;
+                made_of(out, maps, Claimed { pairs, left })
+            }
+            None => no_call(out),
         },
-        _ => return Ok(None),
-    };
-    Ok(Some(answer))
-}
-
-/// The answer to a call with many keys, each bound to ten more.
-pub fn with_many_pairs(
-    alloc: Global,
-    maps: &mut Maps<'_>,
-    name: &str,
-    keys: Keys,
-) -> Result<String, AllocError> {
-    let pairs = (0..keys.count).map(move |place| (keys.at(place), value_of(keys.at(place))));
-    match name {
-        "extend_many" => extended(alloc, &mut maps.map, pairs),
-        "from_iter_many" => made_of(alloc, maps, pairs),
-        _ => no_call(alloc),
+        _ => with_few(out, maps, name, numbers),
     }
 }
 
-/// The answer to a call that makes a map of so many numbers, each bound to its square; `None`
-/// where it has another name.
+/// Writes the answer to a call with many keys, each bound to ten more.
+pub fn with_many_pairs(
+    out: &mut String,
+    maps: &mut Maps<'_>,
+    name: &str,
+    keys: Keys,
+) -> Result<(), AllocError> {
+    let pairs = (0..keys.count).map(move |place| (keys.at(place), value_of(keys.at(place))));
+    match name {
+        "extend_many" => extended(out, &mut maps.map, pairs),
+        "from_iter_many" => made_of(out, maps, pairs),
+        _ => no_call(out),
+    }
+}
+
+/// Writes the answer to a call that makes a map of so many numbers, each bound to its square, or to
+/// another one with a number.
 pub fn with_squares(
-    alloc: Global,
+    out: &mut String,
     maps: &mut Maps<'_>,
     name: &str,
     count: u64,
-) -> Result<Option<String>, AllocError> {
-    let answer = match name {
-        "from_squares" => made_of(alloc, maps, (0..count).map(squared))?,
-        "from_squares_back" => made_of(alloc, maps, (0..count).rev().map(squared))?,
-        _ => return Ok(None),
-    };
-    Ok(Some(answer))
+) -> Result<(), AllocError> {
+    match name {
+        "from_squares" => made_of(out, maps, (0..count).map(squared)),
+        "from_squares_back" => made_of(out, maps, (0..count).rev().map(squared)),
+        _ => through_front(out, maps, name, count),
+    }
 }
 
 // the number with its square, wrapped to 64 bits
@@ -76,31 +74,26 @@ fn squared(number: u64) -> (u64, u64) {
     (number, number.wrapping_mul(number))
 }
 
-/// The answer to a call that speaks of both maps; `None` where it has another name.
-pub fn with_other(
-    alloc: Global,
-    maps: &mut Maps<'_>,
-    name: &str,
-) -> Result<Option<String>, AllocError> {
-    let answer = match name {
+/// Writes the answer to a call that speaks of both maps, or to another one without a number.
+pub fn with_other(out: &mut String, maps: &mut Maps<'_>, name: &str) -> Result<(), AllocError> {
+    match name {
         "extend_other" => match maps.take_other() {
-            Ok(other) => extended(alloc, &mut maps.map, other.into_iter())?,
-            Err(cause) => refusal_text(alloc, cause, None)?,
+            Ok(other) => extended(out, &mut maps.map, other.into_iter()),
+            Err(cause) => write_refusal(out, cause, None),
         },
         "from_other" => match maps.take_other() {
-            Ok(other) => made_of(alloc, maps, other.into_iter())?,
-            Err(cause) => refusal_text(alloc, cause, None)?,
+            Ok(other) => made_of(out, maps, other.into_iter()),
+            Err(cause) => write_refusal(out, cause, None),
         },
-        "clone" => done_text(alloc, maps.clone_to_other())?,
-        "clone_lists" => clone_lists(alloc, maps)?,
-        "equal" => bool_text(alloc, maps.are_equal())?,
+        "clone" => write_done(out, maps.clone_to_other()),
+        "clone_lists" => clone_lists(out, maps),
+        "equal" => write_bool(out, maps.are_equal()),
         "debug" => {
             let map = &maps.map;
-            format!(in alloc; "{map:?}")?
+            write!(out, "{map:?}")
         }
-        _ => return Ok(None),
-    };
-    Ok(Some(answer))
+        _ => through_all(out, maps, name),
+    }
 }
 
 /// The pairs that the numbers make, a key and a value in turn.
@@ -114,28 +107,28 @@ pub fn pairs_of<A: Allocator>(alloc: A, numbers: &[u64]) -> Result<Vec<(u64, u64
 
 // extends the map by pairs
 fn extended<I: Iterator<Item = (u64, u64)>>(
-    alloc: Global,
+    out: &mut String,
     map: &mut Map<'_>,
     pairs: I,
-) -> Result<String, AllocError>
+) -> Result<(), AllocError>
     requires { I.can_next pairs × IsFinite (I.remaining pairs) }
 {
     match map.extend(pairs) {
-        Ok(()) => done_text(alloc, Ok(())),
-        Err(refused) => stopped_text(alloc, &refused),
+        Ok(()) => write_done(out, Ok(())),
+        Err(refused) => write_stopped(out, &refused),
     }
 }
 
 // puts a map of pairs in the place of the one that calls are made on
 fn made_of<I: Iterator<Item = (u64, u64)>>(
-    alloc: Global,
+    out: &mut String,
     maps: &mut Maps<'_>,
     pairs: I,
-) -> Result<String, AllocError>
+) -> Result<(), AllocError>
     requires { I.can_next pairs × IsFinite (I.remaining pairs) }
 {
     let made = IntMap::from_iter(maps.memory, pairs);
-    done_text(alloc, maps.put(made))
+    write_done(out, maps.put(made))
 }
 
 /// Pairs, of which it is claimed that so many are left.
@@ -166,30 +159,43 @@ impl Iterator for Claimed {
 // a value that asks for memory of its own where it is cloned
 type Listed<'a> = Vec<u64, &'a Refuser<Global>>;
 
-// a clone of a map with the same keys, whose values are lists of one number; only the requests of the
-// clone are counted
-fn clone_lists(alloc: Global, maps: &mut Maps<'_>) -> Result<String, AllocError> {
+// a map of such values
+type ListedMap<'a> = IntMap<u64, Listed<'a>, &'a Refuser<Global>>;
+
+// writes the pairs of a clone of a map with the same keys, whose values are lists of one number
+fn clone_lists(out: &mut String, maps: &Maps<'_>) -> Result<(), AllocError> {
+    match cloned_lists(maps) {
+        Ok(cloned) => write_pairs(
+            out,
+            cloned.iter().map(|(key, values)| (*key, first_of(values))),
+        ),
+        Err(cause) => write_refusal(out, cause, None),
+    }
+}
+
+// the number of such a list
+fn first_of(values: &Listed<'_>) -> u64 {
+    values.first().copied().unwrap_or(0)
+}
+
+// that clone; only the requests of the clone are counted
+fn cloned_lists<'a>(maps: &Maps<'a>) -> Result<ListedMap<'a>, Cause> {
     let refused = maps.memory.left();
     maps.memory.arm(0);
-    let listed = match lists_of(maps) {
-        Ok(listed) => listed,
-        Err(cause) => return refusal_text(alloc, cause, None),
-    };
+    let listed = lists_of(maps)?;
     maps.memory.arm(refused);
-    let made = match listed.clone() {
-        Ok(made) => made,
-        Err(cause) => return refusal_text(alloc, cause, None),
-    };
-    let mut pairs = Vec::new(alloc);
-    for (key, values) in &made {
-        pairs.push((*key, values.first().copied().unwrap_or(0)))?;
-    }
-    pairs_text(alloc, &pairs)
+    listed.clone()
 }
 
 // a map with the same walk, and a list of the value in place of each
-fn lists_of<'a>(maps: &Maps<'a>) -> Result<IntMap<u64, Listed<'a>, &'a Refuser<Global>>, Cause> {
+fn lists_of<'a>(maps: &Maps<'a>) -> Result<ListedMap<'a>, Cause> {
     let mut listed = IntMap::with_capacity(maps.memory, maps.map.capacity())?;
+    put_lists(maps, &mut listed)?;
+    Ok(listed)
+}
+
+// puts the lists in, and has no slot grow by them
+fn put_lists<'a>(maps: &Maps<'a>, listed: &mut ListedMap<'a>) -> Result<(), Cause> {
     listed.set_load_factor(usize::MAX)?;
     for (key, value) in &maps.map {
         let mut values = Vec::new(maps.memory);
@@ -198,5 +204,5 @@ fn lists_of<'a>(maps: &Maps<'a>) -> Result<IntMap<u64, Listed<'a>, &'a Refuser<G
         }
         let _old = listed.insert(*key, values)?;
     }
-    Ok(listed)
+    Ok(())
 }

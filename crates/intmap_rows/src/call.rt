@@ -4,7 +4,6 @@ use crate::built::{with_many_pairs, with_other, with_pairs, with_squares};
 use crate::entries::{with_entry, with_reference};
 use crate::figures::figure;
 use crate::items::{insert_checked_items, insert_items};
-use crate::iterated::{through_all, through_front};
 use crate::many::{
     Insertion, Keys, Search, find_many, insert_many, keys_sum, values_sum, walk_sum,
 };
@@ -12,192 +11,193 @@ use crate::maps::{MapOf, Maps};
 use crate::retained::retain;
 use crate::runs::run_many;
 use crate::text::{
-    bool_text, done_text, keys_text, number_text, option_text, refusal_text, state_text,
-    values_text, walk_text,
+    write_bool, write_done, write_keys, write_number, write_option, write_refusal, write_state,
+    write_values, write_walk,
 };
 use crate::word::words_of;
 use intmap::steps::Steps;
 use intmap::{IntKey, IntMap};
-use std::alloc::{AllocError, Global};
+use std::alloc::AllocError;
 use std::fmt::Display;
 
-/// The answer to a call, as text. Words that are no call answer so.
-pub fn answer_to(alloc: Global, maps: &mut Maps<'_>, call: &str) -> Result<String, AllocError> {
-    let Some(words) = words_of(alloc, call)? else {
-        return no_call(alloc);
-    };
-    if let Some(answer) = with_pairs(alloc, maps, words.name, &words.numbers)? {
-        return Ok(answer);
+/// Writes the answer to a call. Words that are no call answer so.
+pub fn answer_to(out: &mut String, maps: &mut Maps<'_>, call: &str) -> Result<(), AllocError> {
+    match words_of(*out.allocator(), call)? {
+        Some(words) => with_pairs(out, maps, words.name, &words.numbers),
+        None => no_call(out),
     }
-    match words.numbers.as_slice() {
-        [] => bare(alloc, maps, words.name),
-        [number] => with_number(alloc, maps, words.name, *number),
-        [key, value] => with_pair(alloc, &mut maps.map, words.name, *key, *value),
+}
+
+/// Writes the answer to a call with three numbers at most.
+pub fn with_few(
+    out: &mut String,
+    maps: &mut Maps<'_>,
+    name: &str,
+    numbers: &[u64],
+) -> Result<(), AllocError> {
+    match numbers {
+        [] => bare(out, maps, name),
+        [number] => with_number(out, maps, name, *number),
+        [key, value] => with_pair(out, &mut maps.map, name, *key, *value),
         [first, count, step] => {
             let keys = Keys {
                 first: *first,
                 count: *count,
                 step: *step,
             };
-            with_keys(alloc, maps, words.name, keys)
+            with_keys(out, maps, name, keys)
         }
-        _ => no_call(alloc),
+        _ => no_call(out),
     }
 }
 
 /// What is answered to words that are no call.
-pub fn no_call(alloc: Global) -> Result<String, AllocError> {
-    String::from_str(alloc, "not a call")
+pub fn no_call(out: &mut String) -> Result<(), AllocError> {
+    out.push_str("not a call")
 }
 
-// the answer to a call without a number
-fn bare(alloc: Global, maps: &mut Maps<'_>, name: &str) -> Result<String, AllocError> {
+// writes the answer to a call without a number
+fn bare(out: &mut String, maps: &mut Maps<'_>, name: &str) -> Result<(), AllocError> {
     match name {
         "new" => {
             let made = IntMap::new(maps.memory);
-            done_text(alloc, maps.put(made))
+            write_done(out, maps.put(made))
         }
         "other" => {
             maps.swap();
-            done_text(alloc, Ok(()))
+            write_done(out, Ok(()))
         }
-        "left" => number_text(alloc, maps.memory.left() as u128),
-        "values" => values_text(alloc, &maps.map),
-        "walk_sum" => walk_sum(alloc, &maps.map),
-        "keys_sum" => keys_sum(alloc, &maps.map),
-        "values_sum" => values_sum(alloc, &maps.map),
-        _ => match with_other(alloc, maps, name)? {
-            Some(answer) => Ok(answer),
-            None => through_all(alloc, maps, name),
-        },
+        "left" => write_number(out, maps.memory.left() as u128),
+        "values" => write_values(out, &maps.map),
+        "walk_sum" => walk_sum(out, &maps.map),
+        "keys_sum" => keys_sum(out, &maps.map),
+        "values_sum" => values_sum(out, &maps.map),
+        _ => with_other(out, maps, name),
     }
 }
 
-/// The answer to a call without a key.
+/// Writes the answer to a call without a key.
 pub fn without_key<K: IntKey + Display>(
-    alloc: Global,
+    out: &mut String,
     map: &mut MapOf<'_, K>,
     name: &str,
-) -> Result<String, AllocError> {
+) -> Result<(), AllocError> {
     match name {
         "clear" => {
             map.clear();
-            done_text(alloc, Ok(()))
+            write_done(out, Ok(()))
         }
-        _ => retain(alloc, map, name),
+        _ => retain(out, map, name),
     }
 }
 
-/// The answer to a call that looks at a map.
+/// Writes the answer to a call that looks at a map.
 pub fn seen<K: IntKey + Display>(
-    alloc: Global,
+    out: &mut String,
     map: &MapOf<'_, K>,
     name: &str,
-) -> Result<String, AllocError> {
+) -> Result<(), AllocError> {
     match name {
-        "len" => number_text(alloc, map.len() as u128),
-        "is_empty" => bool_text(alloc, map.is_empty()),
-        "capacity" => number_text(alloc, map.capacity() as u128),
-        "get_load_factor" => number_text(alloc, map.get_load_factor() as u128),
-        "walk" => walk_text(alloc, map),
-        "keys" => keys_text(alloc, map),
-        "state" => state_text(alloc, map),
-        _ => figure(alloc, map, name),
+        "len" => write_number(out, map.len() as u128),
+        "is_empty" => write_bool(out, map.is_empty()),
+        "capacity" => write_number(out, map.capacity() as u128),
+        "get_load_factor" => write_number(out, map.get_load_factor() as u128),
+        "walk" => write_walk(out, map),
+        "keys" => write_keys(out, map),
+        "state" => write_state(out, map),
+        _ => figure(out, map, name),
     }
 }
 
-// the answer to a call with a number
+// writes the answer to a call with a number
 fn with_number(
-    alloc: Global,
+    out: &mut String,
     maps: &mut Maps<'_>,
     name: &str,
     number: u64,
-) -> Result<String, AllocError> {
+) -> Result<(), AllocError> {
     match name {
         "with_capacity" => {
             let made = IntMap::with_capacity(maps.memory, number as usize);
-            done_text(alloc, maps.put(made))
+            write_done(out, maps.put(made))
         }
         "arm" => {
             maps.memory.arm(number);
-            done_text(alloc, Ok(()))
+            write_done(out, Ok(()))
         }
-        "reserve" => done_text(alloc, maps.map.reserve(number as usize)),
-        "set_load_factor" => done_text(alloc, maps.map.set_load_factor(number as usize)),
+        "reserve" => write_done(out, maps.map.reserve(number as usize)),
+        "set_load_factor" => write_done(out, maps.map.set_load_factor(number as usize)),
         "retain_above" => {
             maps.map.retain(|key, _| key > number);
-            done_text(alloc, Ok(()))
+            write_done(out, Ok(()))
         }
-        "insert_items" => insert_items(alloc, maps.memory, number),
-        "insert_checked_items" => insert_checked_items(alloc, maps.memory, number),
-        _ => match with_squares(alloc, maps, name, number)? {
-            Some(answer) => Ok(answer),
-            None => through_front(alloc, maps, name, number),
-        },
+        "insert_items" => insert_items(out, maps.memory, number),
+        "insert_checked_items" => insert_checked_items(out, maps.memory, number),
+        _ => with_squares(out, maps, name, number),
     }
 }
 
-/// The answer to a call with a key.
+/// Writes the answer to a call with a key.
 pub fn with_key<K: IntKey + Display>(
-    alloc: Global,
+    out: &mut String,
     map: &mut MapOf<'_, K>,
     name: &str,
     key: K,
-) -> Result<String, AllocError> {
+) -> Result<(), AllocError> {
     match name {
-        "get" => option_text(alloc, map.get(key).copied()),
+        "get" => write_option(out, map.get(key).copied()),
         "get_counted" => {
             let found = map.get_counted(key, &mut Steps::new()).copied();
-            option_text(alloc, found)
+            write_option(out, found)
         }
-        "contains_key" => bool_text(alloc, map.contains_key(key)),
-        "remove" => option_text(alloc, map.remove(key)),
+        "contains_key" => write_bool(out, map.contains_key(key)),
+        "remove" => write_option(out, map.remove(key)),
         "retain_except" => {
             map.retain(|other, _| other != key);
-            done_text(alloc, Ok(()))
+            write_done(out, Ok(()))
         }
-        _ => with_entry(alloc, map, name, key),
+        _ => with_entry(out, map, name, key),
     }
 }
 
-/// The answer to a call with a key and a value.
+/// Writes the answer to a call with a key and a value.
 pub fn with_pair<K: IntKey>(
-    alloc: Global,
+    out: &mut String,
     map: &mut MapOf<'_, K>,
     name: &str,
     key: K,
     value: u64,
-) -> Result<String, AllocError> {
+) -> Result<(), AllocError> {
     match name {
         "insert" => match map.insert(key, value) {
-            Ok(old) => option_text(alloc, old),
-            Err(refused) => refusal_text(alloc, refused.cause, Some(refused.value)),
+            Ok(old) => write_option(out, old),
+            Err(refused) => write_refusal(out, refused.cause, Some(refused.value)),
         },
         "insert_checked" => match map.insert_checked(key, value) {
-            Ok(new) => bool_text(alloc, new),
-            Err(refused) => refusal_text(alloc, refused.cause, Some(refused.value)),
+            Ok(new) => write_bool(out, new),
+            Err(refused) => write_refusal(out, refused.cause, Some(refused.value)),
         },
-        _ => with_reference(alloc, map, name, key, value),
+        _ => with_reference(out, map, name, key, value),
     }
 }
 
-// the answer to a call with many keys
+// writes the answer to a call with many keys
 fn with_keys(
-    alloc: Global,
+    out: &mut String,
     maps: &mut Maps<'_>,
     name: &str,
     keys: Keys,
-) -> Result<String, AllocError> {
+) -> Result<(), AllocError> {
     match name {
-        "insert_many" => insert_many(alloc, &mut maps.map, Insertion::Over, keys),
-        "insert_checked_many" => insert_many(alloc, &mut maps.map, Insertion::Checked, keys),
-        "entry_insert_many" => insert_many(alloc, &mut maps.map, Insertion::ByEntry, keys),
-        "or_insert_many" => insert_many(alloc, &mut maps.map, Insertion::OrInsert, keys),
-        "run_many" => run_many(alloc, maps.memory, &mut maps.map, "insert", keys),
-        "run_entries_many" => run_many(alloc, maps.memory, &mut maps.map, "entry_insert", keys),
+        "insert_many" => insert_many(out, &mut maps.map, Insertion::Over, keys),
+        "insert_checked_many" => insert_many(out, &mut maps.map, Insertion::Checked, keys),
+        "entry_insert_many" => insert_many(out, &mut maps.map, Insertion::ByEntry, keys),
+        "or_insert_many" => insert_many(out, &mut maps.map, Insertion::OrInsert, keys),
+        "run_many" => run_many(out, maps.memory, &mut maps.map, "insert", keys),
+        "run_entries_many" => run_many(out, maps.memory, &mut maps.map, "entry_insert", keys),
         _ => match search_of(name) {
-            Some(search) => number_text(alloc, find_many(&mut maps.map, search, keys) as u128),
-            None => with_many_pairs(alloc, maps, name, keys),
+            Some(search) => write_number(out, find_many(&mut maps.map, search, keys) as u128),
+            None => with_many_pairs(out, maps, name, keys),
         },
     }
 }

@@ -2,7 +2,7 @@
 
 use crate::call::no_call;
 use crate::maps::MapOf;
-use crate::text::{back_text, done_text, fresh_text, number_text, option_text, refusal_text};
+use crate::text::{write_back, write_done, write_fresh, write_number, write_option, write_refusal};
 use intmap::entry::Entry;
 use intmap::{IntKey, Refused};
 use refuser::Refuser;
@@ -13,62 +13,62 @@ use std::mem;
 /// An entry of a map whose requests for memory can be refused.
 type EntryOf<'m, 'a, K> = Entry<'m, K, u64, &'a Refuser<Global>>;
 
-/// The answer to a call by an entry that needs no value.
+/// Writes the answer to a call by an entry that needs no value.
 pub fn with_entry<K: IntKey + Display>(
-    alloc: Global,
+    out: &mut String,
     map: &mut MapOf<'_, K>,
     name: &str,
     key: K,
-) -> Result<String, AllocError> {
+) -> Result<(), AllocError> {
     match name {
-        "entry" => entry_text(alloc, &map.entry(key)),
+        "entry" => write_entry(out, &map.entry(key)),
         "entry_key" => {
             let key = *map.entry(key).key();
-            format!(in alloc; "{key}")
+            write!(out, "{key}")
         }
         "entry_forget" => {
             mem::forget(map.entry(key));
-            done_text(alloc, Ok(()))
+            write_done(out, Ok(()))
         }
-        "entry_remove" => option_text(alloc, remove_by_entry(map, key)),
-        _ => no_call(alloc),
+        "entry_remove" => write_option(out, remove_by_entry(map, key)),
+        _ => no_call(out),
     }
 }
 
-/// The answer to a call that writes a value, or puts one in, and has a reference to it.
+/// Writes the answer to a call that writes a value, or puts one in, and has a reference to it.
 pub fn with_reference<K: IntKey>(
-    alloc: Global,
+    out: &mut String,
     map: &mut MapOf<'_, K>,
     name: &str,
     key: K,
     value: u64,
-) -> Result<String, AllocError> {
+) -> Result<(), AllocError> {
     match name {
-        "get_mut" => written_text(alloc, write(map, key, value), value),
-        "entry_get_mut" => written_text(alloc, write_by_entry(map, key, value), value),
-        "entry_insert" => insert(alloc, map, key, value),
-        "entry_add" => add(alloc, value_or_zero(map.entry(key)), value),
-        "or_insert" => add(alloc, map.entry(key).or_insert(value), 0),
-        "or_insert_add" => add(alloc, map.entry(key).or_insert(0), value),
-        "and_modify" => add(alloc, more_or(map.entry(key), value), 0),
-        _ => no_call(alloc),
+        "get_mut" => write_old(out, write(map, key, value), value),
+        "entry_get_mut" => write_old(out, write_by_entry(map, key, value), value),
+        "entry_insert" => insert(out, map, key, value),
+        "entry_add" => add(out, value_or_zero(map.entry(key)), value),
+        "or_insert" => add(out, map.entry(key).or_insert(value), 0),
+        "or_insert_add" => add(out, map.entry(key).or_insert(0), value),
+        "and_modify" => add(out, more_or(map.entry(key), value), 0),
+        _ => no_call(out),
     }
 }
 
 // which entry it is, with its key, and its value where there is one
-fn entry_text<K: IntKey + Display>(
-    alloc: Global,
+fn write_entry<K: IntKey + Display>(
+    out: &mut String,
     entry: &EntryOf<'_, '_, K>,
-) -> Result<String, AllocError> {
+) -> Result<(), AllocError> {
     match entry {
         Entry::Occupied(entry) => {
             let key = entry.key();
             let value = entry.get();
-            format!(in alloc; "occupied {key}: {value}")
+            write!(out, "occupied {key}: {value}")
         }
         Entry::Vacant(entry) => {
             let key = entry.key();
-            format!(in alloc; "vacant {key}")
+            write!(out, "vacant {key}")
         }
     }
 }
@@ -83,16 +83,16 @@ pub fn remove_by_entry<K: IntKey>(map: &mut MapOf<'_, K>, key: K) -> Option<u64>
 
 // sets the value of the key
 fn insert<K: IntKey>(
-    alloc: Global,
+    out: &mut String,
     map: &mut MapOf<'_, K>,
     key: K,
     value: u64,
-) -> Result<String, AllocError> {
+) -> Result<(), AllocError> {
     match map.entry(key) {
-        Entry::Occupied(mut entry) => option_text(alloc, Some(entry.insert(value))),
+        Entry::Occupied(mut entry) => write_option(out, Some(entry.insert(value))),
         Entry::Vacant(entry) => match entry.insert(value) {
-            Ok(_) => fresh_text(alloc),
-            Err(refused) => refusal_text(alloc, refused.cause, Some(refused.value)),
+            Ok(_) => write_fresh(out),
+            Err(refused) => write_refusal(out, refused.cause, Some(refused.value)),
         },
     }
 }
@@ -130,24 +130,24 @@ fn write_by_entry<K: IntKey>(map: &mut MapOf<'_, K>, key: K, value: u64) -> Opti
 }
 
 // the value before, or the one that found no place
-fn written_text(alloc: Global, old: Option<u64>, value: u64) -> Result<String, AllocError> {
+fn write_old(out: &mut String, old: Option<u64>, value: u64) -> Result<(), AllocError> {
     match old {
-        Some(_) => option_text(alloc, old),
-        None => back_text(alloc, value),
+        Some(_) => write_option(out, old),
+        None => write_back(out, value),
     }
 }
 
 // adds to a value in its place, wrapped to 64 bits
 fn add(
-    alloc: Global,
+    out: &mut String,
     place: Result<&mut u64, Refused<u64>>,
     more: u64,
-) -> Result<String, AllocError> {
+) -> Result<(), AllocError> {
     match place {
         Ok(place) => {
             *place = place.wrapping_add(more);
-            number_text(alloc, *place as u128)
+            write_number(out, *place as u128)
         }
-        Err(refused) => refusal_text(alloc, refused.cause, Some(refused.value)),
+        Err(refused) => write_refusal(out, refused.cause, Some(refused.value)),
     }
 }

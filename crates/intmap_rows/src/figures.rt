@@ -2,28 +2,28 @@
 
 use crate::call::no_call;
 use crate::maps::MapOf;
-use crate::text::{bool_text, number_text, refusal_text, state_text, walk_text};
+use crate::text::{write_bool, write_number, write_refusal, write_state, write_walk};
 use intmap::IntKey;
-use std::alloc::{AllocError, Global};
+use std::alloc::AllocError;
 
-/// The answer to such a call.
+/// Writes the answer to such a call.
 pub fn figure<K: IntKey>(
-    alloc: Global,
+    out: &mut String,
     map: &MapOf<'_, K>,
     name: &str,
-) -> Result<String, AllocError> {
+) -> Result<(), AllocError> {
     match name {
-        "load" => number_text(alloc, map.load() as u128),
-        "load_rate" => number_text(alloc, map.load_rate()),
-        "assert_count" => bool_text(alloc, map.assert_count()),
+        "load" => write_number(out, map.load() as u128),
+        "load_rate" => write_number(out, map.load_rate()),
+        "assert_count" => write_bool(out, map.assert_count()),
         "collisions" => match map.collisions() {
-            Ok(sizes) => walk_text(alloc, &sizes),
-            Err(cause) => refusal_text(alloc, cause, None),
+            Ok(sizes) => write_walk(out, &sizes),
+            Err(cause) => write_refusal(out, cause, None),
         },
         "collisions_state" => match map.collisions() {
-            Ok(sizes) => state_text(alloc, &sizes),
-            Err(cause) => refusal_text(alloc, cause, None),
+            Ok(sizes) => write_state(out, &sizes),
+            Err(cause) => write_refusal(out, cause, None),
         },
-        _ => no_call(alloc),
+        _ => no_call(out),
     }
 }

@@ -2,10 +2,10 @@
 
 use crate::entries::remove_by_entry;
 use crate::maps::Map;
-use crate::text::refusal_text;
+use crate::text::write_refusal;
 use intmap::Refused;
 use intmap::entry::Entry;
-use std::alloc::{AllocError, Global};
+use std::alloc::AllocError;
 
 /// So many keys from a first one on, each so far behind the one before it, wrapped to 64 bits.
 #[derive(Clone, Copy)]
@@ -76,22 +76,22 @@ fn or_insert(map: &mut Map<'_>, key: u64) -> Result<bool, Refused<u64>> {
     Ok(map.len() != before)
 }
 
-/// Inserts each key with ten more. Says how many were new, and behind each length at which the
+/// Inserts each key with ten more. Writes how many were new, and behind each length at which the
 /// number of slots changed how many there were from then on; a refusal ends it.
 pub fn insert_many(
-    alloc: Global,
+    out: &mut String,
     map: &mut Map<'_>,
     insertion: Insertion,
     keys: Keys,
-) -> Result<String, AllocError> {
+) -> Result<(), AllocError> {
     let mut new = 0u64;
     let mut slots = map.capacity();
-    let mut changes = String::new(alloc);
+    let mut changes = String::new(*out.allocator());
     for place in 0..keys.count {
         let key = keys.at(place);
         match insertion.insert(map, key) {
             Ok(is_new) => new = new.wrapping_add(u64::from(is_new)),
-            Err(refused) => return refusal_text(alloc, refused.cause, Some(refused.value)),
+            Err(refused) => return write_refusal(out, refused.cause, Some(refused.value)),
         }
         if map.capacity() != slots {
             slots = map.capacity();
@@ -99,7 +99,7 @@ pub fn insert_many(
             write!(changes, ", {length}: {slots}")?;
         }
     }
-    format!(in alloc; "{new} new{changes}")
+    write!(out, "{new} new{changes}")
 }
 
 /// How a key is looked for.
@@ -163,37 +163,37 @@ impl WalkSum {
         self.sum = self.sum.wrapping_mul(31).wrapping_add(value);
     }
 
-    /// The two as text.
-    pub fn text(self, alloc: Global) -> Result<String, AllocError> {
+    /// Writes the two.
+    pub fn write(self, out: &mut String) -> Result<(), AllocError> {
         let pairs = self.pairs;
         let sum = self.sum;
-        format!(in alloc; "{pairs} pairs, sum {sum}")
+        write!(out, "{pairs} pairs, sum {sum}")
     }
 }
 
-/// How many pairs a walk has, and their sum.
-pub fn walk_sum(alloc: Global, map: &Map<'_>) -> Result<String, AllocError> {
+/// Writes how many pairs a walk has, and their sum.
+pub fn walk_sum(out: &mut String, map: &Map<'_>) -> Result<(), AllocError> {
     let mut seen = WalkSum::new();
     for (key, value) in map.iter() {
         seen.add(*key, *value);
     }
-    seen.text(alloc)
+    seen.write(out)
 }
 
 /// The same of the keys of the walk, each with 0.
-pub fn keys_sum(alloc: Global, map: &Map<'_>) -> Result<String, AllocError> {
+pub fn keys_sum(out: &mut String, map: &Map<'_>) -> Result<(), AllocError> {
     let mut seen = WalkSum::new();
     for key in map.keys() {
         seen.add(*key, 0);
     }
-    seen.text(alloc)
+    seen.write(out)
 }
 
 /// The same of the values of the walk, each behind 0.
-pub fn values_sum(alloc: Global, map: &Map<'_>) -> Result<String, AllocError> {
+pub fn values_sum(out: &mut String, map: &Map<'_>) -> Result<(), AllocError> {
     let mut seen = WalkSum::new();
     for value in map.values() {
         seen.add(0, *value);
     }
-    seen.text(alloc)
+    seen.write(out)
 }

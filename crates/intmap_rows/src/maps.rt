@@ -1,6 +1,6 @@
 //! The two maps that the rows of a group speak of.
 
-use intmap::{Cause, IntMap};
+use intmap::{Cause, IntKey, IntMap};
 use refuser::Refuser;
 use std::alloc::{AllocError, Global};
 use std::mem;
@@ -10,6 +10,15 @@ pub type MapOf<'a, K> = IntMap<K, u64, &'a Refuser<Global>>;
 
 /// Such a map with `u64` keys.
 pub type Map<'a> = MapOf<'a, u64>;
+
+/// A map as `new` makes it. None of its requests is refused, and none counts for one that will be.
+pub fn new_map<K: IntKey>(memory: &Refuser<Global>) -> Result<MapOf<'_, K>, AllocError> {
+    let refused = memory.left();
+    memory.arm(0);
+    let made = IntMap::new(memory);
+    memory.arm(refused);
+    made.map_err(|_| AllocError)
+}
 
 /// The map that calls are made on, another one, and the memory of both.
 #[derive(Drop)]
@@ -26,12 +35,8 @@ impl<'a> Maps<'a> {
     /// Two maps as `new` makes them, and no request that will be refused.
     pub fn new(memory: &'a Refuser<Global>) -> Result<Maps<'a>, AllocError> {
         memory.arm(0);
-        let Ok(map) = IntMap::new(memory) else {
-            return Err(AllocError);
-        };
-        let Ok(other) = IntMap::new(memory) else {
-            return Err(AllocError);
-        };
+        let map = new_map(memory)?;
+        let other = new_map(memory)?;
         Ok(Maps { map, other, memory })
     }
 

@@ -3,45 +3,47 @@
 use crate::call::answer_to;
 use crate::maps::Maps;
 use crate::text::state_text;
-use std::alloc::{AllocError, Global};
+use std::alloc::AllocError;
 
 /// More requests than any call makes.
 const MANY: u64 = 1000;
 
 /// Makes a call with its first request refused, then with its second one, until none has so great a
-/// number and the call is accepted. Says how often it was refused, and with which answer, or that a
+/// number and the call is accepted. Writes how often it was refused, and with which answer, or that a
 /// refusal answered otherwise or changed the map.
 pub fn answer_to_refused(
-    alloc: Global,
+    out: &mut String,
     maps: &mut Maps<'_>,
     call: &str,
-) -> Result<String, AllocError> {
+) -> Result<(), AllocError> {
+    let alloc = *out.allocator();
     let before = state_text(alloc, &maps.map)?;
     let mut refusal = String::new(alloc);
     for times in 0..MANY {
         maps.memory.arm(times.wrapping_add(1));
-        let answer = answer_to(alloc, maps, call)?;
+        let mut answer = String::new(alloc);
+        answer_to(&mut answer, maps, call)?;
         if maps.memory.left() > 0 {
             maps.memory.arm(0);
-            return accepted(alloc, answer.as_str(), times, refusal.as_str());
+            return accepted(out, answer.as_str(), times, refusal.as_str());
         }
         if times == 0 {
             refusal = answer;
         } else if answer.as_str() != refusal.as_str() {
-            return format!(in alloc; "{refusal}, and then {answer}");
+            return write!(out, "{refusal}, and then {answer}");
         }
         let after = state_text(alloc, &maps.map)?;
         if after.as_str() != before.as_str() {
-            return format!(in alloc; "{refusal}, and the map changed to {after}");
+            return write!(out, "{refusal}, and the map changed to {after}");
         }
     }
-    format!(in alloc; "{refusal}, again and again")
+    write!(out, "{refusal}, again and again")
 }
 
 // what is said of a call that was accepted at last
-fn accepted(alloc: Global, answer: &str, times: u64, refusal: &str) -> Result<String, AllocError> {
+fn accepted(out: &mut String, answer: &str, times: u64, refusal: &str) -> Result<(), AllocError> {
     if times == 0 {
-        return format!(in alloc; "{answer} at once");
+        return write!(out, "{answer} at once");
     }
-    format!(in alloc; "{times} times {refusal}, then {answer}")
+    write!(out, "{times} times {refusal}, then {answer}")
 }

@@ -1,6 +1,7 @@
 //! What is told of rows.
 
 use std::alloc::{AllocError, Global};
+use std::mem;
 
 /// How many rows there are, how many of their answers were others, and what is told of them.
 #[derive(Drop)]
@@ -70,11 +71,11 @@ impl Report {
     }
 
     /// All that was told.
-    pub fn end(mut self) -> Result<String, AllocError> {
+    pub fn end(&mut self) -> Result<String, AllocError> {
         if !self.is_counted {
             self.tell("MISCOUNTED: the number of rows is not the last line")?;
         }
-        Ok(self.text)
+        Ok(mem::replace(&mut self.text, String::new(self.alloc)))
     }
 
     // tells how many rows the group in hand had

@@ -3,29 +3,29 @@
 use crate::call::seen;
 use crate::many::WalkSum;
 use crate::maps::MapOf;
-use crate::text::{done_text, number_text};
+use crate::text::{write_done, write_number};
 use intmap::IntKey;
-use std::alloc::{AllocError, Global};
+use std::alloc::AllocError;
 use std::fmt::Display;
 
-/// The answer to a call that keeps some of the pairs, or that only looks at them.
+/// Writes the answer to a call that keeps some of the pairs, or that only looks at them.
 pub fn retain<K: IntKey + Display>(
-    alloc: Global,
+    out: &mut String,
     map: &mut MapOf<'_, K>,
     name: &str,
-) -> Result<String, AllocError> {
+) -> Result<(), AllocError> {
     match name {
         "retain" => {
             map.retain(|_, value| *value % 2 == 1);
-            done_text(alloc, Ok(()))
+            write_done(out, Ok(()))
         }
         "retain_odd" => {
             map.retain(|key, _| key.number() % 2 == 1);
-            done_text(alloc, Ok(()))
+            write_done(out, Ok(()))
         }
-        "retain_alternate" => number_text(alloc, retain_alternate(map) as u128),
-        "retain_all" => retain_all(map).text(alloc),
-        _ => seen(alloc, map, name),
+        "retain_alternate" => write_number(out, retain_alternate(map) as u128),
+        "retain_all" => retain_all(map).write(out),
+        _ => seen(out, map, name),
     }
 }
 

@@ -19,9 +19,10 @@ pub fn compare_row(
     line: &str,
 ) -> Result<(), AllocError> {
     let (call, wanted) = parts_of(line);
-    let answer = match call.strip_prefix("refused ") {
-        Some(call) => answer_to_refused(alloc, maps, call)?,
-        None => answer_to(alloc, maps, call)?,
-    };
+    let mut answer = String::new(alloc);
+    match call.strip_prefix("refused ") {
+        Some(call) => answer_to_refused(&mut answer, maps, call)?,
+        None => answer_to(&mut answer, maps, call)?,
+    }
     report.compare(line, wanted, answer.as_str())
 }

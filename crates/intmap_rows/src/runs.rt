@@ -2,12 +2,11 @@
 ghost use Rattle.std.specs.Prelude.{◌≡◌, ◌%◌, ◌==◌};
 
 use crate::built::pairs_of;
-use crate::call::no_call;
 use crate::many::{Keys, value_of};
 use crate::maps::Map;
 use crate::text::{
-    back_text, bool_text, done_text, fresh_text, list_text, number_text, option_text, pairs_text,
-    refusal_text, stopped_text,
+    write_back, write_bool, write_done, write_fresh, write_list, write_number, write_option,
+    write_pairs, write_refusal, write_stopped,
 };
 use crate::word::words_of;
 use intmap_run::{Answer, Command, Judge, run};
@@ -39,22 +38,37 @@ pub type CommandOf<'a> = Command<u64, u64, &'a Refuser<Global>>;
 /// Commands whose list can be refused.
 pub type Commands<'a> = Vec<CommandOf<'a>, &'a Refuser<Global>>;
 
+/// The answer to a command of such a list.
+pub type AnswerOf<'a> = Answer<u64, u64, u64, &'a Refuser<Global>>;
+
+/// What became of commands: the answer to each, or the commands, since there was no room for answers.
+pub type Ran<'a> = Result<Vec<AnswerOf<'a>, &'a Refuser<Global>>, Commands<'a>>;
+
 /// The command that a text spells.
 pub fn command_of<'a>(
     alloc: Global,
     memory: &'a Refuser<Global>,
     text: &str,
 ) -> Result<Option<CommandOf<'a>>, AllocError> {
-    let Some(words) = words_of(alloc, text)? else {
-        return Ok(None);
-    };
-    if words.name == "extend" {
-        return Ok(Some(Command::Extend(pairs_of(memory, &words.numbers)?)));
+    match words_of(alloc, text)? {
+        Some(words) => named(memory, words.name, &words.numbers),
+        None => Ok(None),
     }
-    Ok(match words.numbers.as_slice() {
-        [] => bare(words.name),
-        [number] => with_number(words.name, *number),
-        [key, value] => with_pair(words.name, *key, *value),
+}
+
+// the command of this name with these numbers
+fn named<'a>(
+    memory: &'a Refuser<Global>,
+    name: &str,
+    numbers: &[u64],
+) -> Result<Option<CommandOf<'a>>, AllocError> {
+    if name == "extend" {
+        return Ok(Some(Command::Extend(pairs_of(memory, numbers)?)));
+    }
+    Ok(match numbers {
+        [] => bare(name),
+        [number] => with_number(name, *number),
+        [key, value] => with_pair(name, *key, *value),
         _ => None,
     })
 }
@@ -104,57 +118,50 @@ fn with_pair<'a>(name: &str, key: u64, value: u64) -> Option<CommandOf<'a>> {
     }
 }
 
-/// What became of a list of commands.
-#[derive(Drop)]
-pub enum Ran {
-    /// Each was answered, with these texts.
-    Answered(Vec<String>),
-    /// So many came back, since there was no room for their answers.
-    Returned(usize),
-}
-
 /// Runs commands on a map.
 pub fn run_all<'a>(
-    alloc: Global,
     memory: &'a Refuser<Global>,
     map: &mut Map<'a>,
     commands: Commands<'a>,
-) -> Result<Ran, AllocError> {
-    match run(memory, map, commands, &OddJudge) {
-        Ok(answers) => Ok(Ran::Answered(texts_of(alloc, answers.as_slice())?)),
-        Err(commands) => Ok(Ran::Returned(commands.len())),
-    }
+) -> Ran<'a> {
+    run(memory, map, commands, &OddJudge)
 }
 
 /// Binds each key to ten more by a run of one command of this name for each, and a walk behind them.
-/// Says how many keys were new and how many pairs the walk has, or that the commands came back.
+/// Writes how many keys were new and how many pairs the walk has, or that the commands came back.
 pub fn run_many<'a>(
-    alloc: Global,
+    out: &mut String,
     memory: &'a Refuser<Global>,
     map: &mut Map<'a>,
     name: &str,
     keys: Keys,
-) -> Result<String, AllocError> {
-    let mut commands = Vec::new(memory);
-    for place in 0..keys.count {
-        let key = keys.at(place);
-        let Some(command) = with_pair(name, key, value_of(key)) else {
-            return no_call(alloc);
-        };
-        commands.push(command)?;
-    }
-    commands.push(Command::Walk)?;
-    match run(memory, map, commands, &OddJudge) {
-        Ok(answers) => counts_of(alloc, answers.as_slice()),
-        Err(commands) => format!(in alloc; "{} commands back", commands.len()),
+) -> Result<(), AllocError> {
+    let commands = many_commands(memory, name, keys)?;
+    match run_all(memory, map, commands) {
+        Ok(answers) => write_counts(out, answers.as_slice()),
+        Err(commands) => write!(out, "{} commands back", commands.len()),
     }
 }
 
-// how many answers tell of a new key, and how many pairs stand in walks
-fn counts_of(
-    alloc: Global,
-    answers: &[Answer<u64, u64, u64, &Refuser<Global>>],
-) -> Result<String, AllocError> {
+// these commands
+fn many_commands<'a>(
+    memory: &'a Refuser<Global>,
+    name: &str,
+    keys: Keys,
+) -> Result<Commands<'a>, AllocError> {
+    let mut commands = Vec::new(memory);
+    for place in 0..keys.count {
+        let key = keys.at(place);
+        if let Some(command) = with_pair(name, key, value_of(key)) {
+            commands.push(command)?;
+        }
+    }
+    commands.push(Command::Walk)?;
+    Ok(commands)
+}
+
+// writes how many answers tell of a new key, and how many pairs stand in walks
+fn write_counts(out: &mut String, answers: &[AnswerOf<'_>]) -> Result<(), AllocError> {
     let mut new = 0u64;
     let mut walked = 0usize;
     for answer in answers {
@@ -164,38 +171,45 @@ fn counts_of(
             _ => {}
         }
     }
-    format!(in alloc; "{new} new, {walked} walked")
+    write!(out, "{new} new, {walked} walked")
 }
 
-// the texts of answers, in their order
-fn texts_of(
-    alloc: Global,
-    answers: &[Answer<u64, u64, u64, &Refuser<Global>>],
-) -> Result<Vec<String>, AllocError> {
-    let mut texts = Vec::new(alloc);
-    for answer in answers {
-        texts.push(text_of(alloc, answer)?)?;
+/// Runs commands on a map. Writes the answers in a row, or how many commands came back.
+pub fn write_run<'a>(
+    out: &mut String,
+    memory: &'a Refuser<Global>,
+    map: &mut Map<'a>,
+    commands: Commands<'a>,
+) -> Result<(), AllocError> {
+    match run_all(memory, map, commands) {
+        Ok(answers) => write_answers(out, answers.as_slice()),
+        Err(commands) => write!(out, "{} commands back; ", commands.len()),
     }
-    Ok(texts)
 }
 
-// the text of an answer
-fn text_of(
-    alloc: Global,
-    answer: &Answer<u64, u64, u64, &Refuser<Global>>,
-) -> Result<String, AllocError> {
+// writes answers in a row
+fn write_answers(out: &mut String, answers: &[AnswerOf<'_>]) -> Result<(), AllocError> {
+    for answer in answers {
+        write_answer(out, answer)?;
+        out.push_str("; ")?;
+    }
+    Ok(())
+}
+
+/// Writes an answer.
+pub fn write_answer(out: &mut String, answer: &AnswerOf<'_>) -> Result<(), AllocError> {
     match answer {
-        Answer::Old(value) | Answer::Seen(value) => option_text(alloc, *value),
-        Answer::Back(value) => back_text(alloc, *value),
-        Answer::Fresh => fresh_text(alloc),
-        Answer::Done => done_text(alloc, Ok(())),
-        Answer::Flag(is_so) => bool_text(alloc, *is_so),
-        Answer::Number(number) => number_text(alloc, *number),
+        Answer::Old(value) | Answer::Seen(value) => write_option(out, *value),
+        Answer::Back(value) => write_back(out, *value),
+        Answer::Fresh => write_fresh(out),
+        Answer::Done => write_done(out, Ok(())),
+        Answer::Flag(is_so) => write_bool(out, *is_so),
+        Answer::Number(number) => write_number(out, *number),
         Answer::Walk(pairs) | Answer::Pairs(pairs) | Answer::Sizes(pairs) => {
-            pairs_text(alloc, pairs.as_slice())
+            write_pairs(out, pairs.iter().copied())
         }
-        Answer::Keys(items) | Answer::Values(items) => list_text(alloc, items.as_slice()),
-        Answer::Stopped(refused) => stopped_text(alloc, refused),
-        Answer::Refused { cause, value } => refusal_text(alloc, *cause, *value),
+        Answer::Keys(items) | Answer::Values(items) => write_list(out, items.iter().copied()),
+        Answer::Stopped(refused) => write_stopped(out, refused),
+        Answer::Refused { cause, value } => write_refusal(out, *cause, *value),
     }
 }

@@ -10,17 +10,15 @@ use std::alloc::{AllocError, Global};
 
 /// Goes through the lines of a file of rows, and tells what is to be told of them.
 pub fn report(alloc: Global, memory: &Refuser<Global>, rows: &str) -> Result<String, AllocError> {
+    let maps = Maps::new(memory)?;
     let mut session = Session {
         alloc,
-        maps: Maps::new(memory)?,
-        kinds: Kinds::new(memory)?,
+        maps,
+        kinds: Kinds::new(memory),
         block: None,
         report: Report::new(alloc),
     };
-    for line in rows.lines() {
-        session.line(line.trim())?;
-    }
-    session.end()
+    session.all_lines(rows)
 }
 
 /// What lasts from line to line.
@@ -34,20 +32,34 @@ struct Session<'a, 't> {
 }
 
 impl<'a, 't> Session<'a, 't> {
+    // goes through the lines; answers all that is to be told
+    fn all_lines(&mut self, rows: &'t str) -> Result<String, AllocError> {
+        for line in rows.lines() {
+            self.line(line.trim())?;
+        }
+        self.end()
+    }
+
     // does what a line asks
     fn line(&mut self, line: &'t str) -> Result<(), AllocError> {
         if line.is_empty() || line.starts_with('#') {
             return Ok(());
         }
         if let Some(name) = line.strip_prefix("= ") {
-            self.maps = Maps::new(self.maps.memory)?;
-            self.kinds = Kinds::new(self.maps.memory)?;
-            return self.report.begin(name);
+            return self.begin(name);
         }
         if let Some(count) = line.strip_prefix("rows ") {
             return self.report.count_is(count.parse::<u64>().ok());
         }
         self.row_or_block(line)
+    }
+
+    // begins a group with new maps
+    fn begin(&mut self, name: &str) -> Result<(), AllocError> {
+        let memory = self.maps.memory;
+        self.maps = Maps::new(memory)?;
+        self.kinds = Kinds::new(memory);
+        self.report.begin(name)
     }
 
     // takes a line that is a row, or the head, a part or the end of a block
@@ -74,14 +86,15 @@ impl<'a, 't> Session<'a, 't> {
     // makes the call of a row, on the map of a kind of key where it names one
     fn row(&mut self, line: &str) -> Result<(), AllocError> {
         let (call, wanted) = parts_of(line);
-        match self.kinds.answer_to(self.alloc, call)? {
-            Some(answer) => self.report.compare(line, wanted, answer.as_str()),
-            None => compare_row(self.alloc, &mut self.maps, &mut self.report, line),
+        let mut answer = String::new(self.alloc);
+        if self.kinds.answer_to(&mut answer, call)? {
+            return self.report.compare(line, wanted, answer.as_str());
         }
+        compare_row(self.alloc, &mut self.maps, &mut self.report, line)
     }
 
     // all that is to be told
-    fn end(mut self) -> Result<String, AllocError> {
+    fn end(&mut self) -> Result<String, AllocError> {
         if self.block.is_some() {
             self.report.tell("UNENDED: a block has no end")?;
         }

@@ -1,62 +1,66 @@
 //! Answers as text, in the words of the program's lines.
+//!
+//! Each is written behind what a text holds. The caller owns that text, so nothing has to be let go
+//! where there is no memory for more of it.
+ghost use Rattle.std.specs.Iterator.{IsFinite};
 
 use crate::maps::MapOf;
 use intmap::{Cause, IntKey, RefusedPair};
-use std::alloc::{AllocError, Allocator, Global};
+use std::alloc::{AllocError, Global};
 use std::fmt::Display;
 
 /// `none`, or `some` and the value.
-pub fn option_text(alloc: Global, value: Option<u64>) -> Result<String, AllocError> {
+pub fn write_option(out: &mut String, value: Option<u64>) -> Result<(), AllocError> {
     match value {
-        Some(value) => format!(in alloc; "some {value}"),
-        None => String::from_str(alloc, "none"),
+        Some(value) => write!(out, "some {value}"),
+        None => out.push_str("none"),
     }
 }
 
 /// `true` or `false`.
-pub fn bool_text(alloc: Global, value: bool) -> Result<String, AllocError> {
-    format!(in alloc; "{value}")
+pub fn write_bool(out: &mut String, value: bool) -> Result<(), AllocError> {
+    write!(out, "{value}")
 }
 
 /// A number alone.
-pub fn number_text(alloc: Global, number: u128) -> Result<String, AllocError> {
-    format!(in alloc; "{number}")
+pub fn write_number(out: &mut String, number: u128) -> Result<(), AllocError> {
+    write!(out, "{number}")
 }
 
 /// `done`, or that the call was refused.
-pub fn done_text(alloc: Global, called: Result<(), Cause>) -> Result<String, AllocError> {
+pub fn write_done(out: &mut String, called: Result<(), Cause>) -> Result<(), AllocError> {
     match called {
-        Ok(()) => String::from_str(alloc, "done"),
-        Err(cause) => refusal_text(alloc, cause, None),
+        Ok(()) => out.push_str("done"),
+        Err(cause) => write_refusal(out, cause, None),
     }
 }
 
 /// `back` and the value, which has no place.
-pub fn back_text(alloc: Global, value: u64) -> Result<String, AllocError> {
-    format!(in alloc; "back {value}")
+pub fn write_back(out: &mut String, value: u64) -> Result<(), AllocError> {
+    write!(out, "back {value}")
 }
 
 /// `fresh`: the key was new.
-pub fn fresh_text(alloc: Global) -> Result<String, AllocError> {
-    String::from_str(alloc, "fresh")
+pub fn write_fresh(out: &mut String) -> Result<(), AllocError> {
+    out.push_str("fresh")
 }
 
 /// That a call was refused, with the value that came back.
-pub fn refusal_text(alloc: Global, cause: Cause, value: Option<u64>) -> Result<String, AllocError> {
+pub fn write_refusal(out: &mut String, cause: Cause, value: Option<u64>) -> Result<(), AllocError> {
     let cause = cause_name(cause);
     match value {
-        Some(value) => format!(in alloc; "refused {value}: {cause}"),
-        None => format!(in alloc; "refused: {cause}"),
+        Some(value) => write!(out, "refused {value}: {cause}"),
+        None => write!(out, "refused: {cause}"),
     }
 }
 
 /// That an insertion of several pairs ended at one, which came back, and behind how many.
-pub fn stopped_text(alloc: Global, refused: &RefusedPair<u64, u64>) -> Result<String, AllocError> {
+pub fn write_stopped(out: &mut String, refused: &RefusedPair<u64, u64>) -> Result<(), AllocError> {
     let key = refused.key;
     let value = refused.value;
     let applied = refused.applied;
     let cause = cause_name(refused.cause);
-    format!(in alloc; "stopped at {key} {value} after {applied}: {cause}")
+    write!(out, "stopped at {key} {value} after {applied}: {cause}")
 }
 
 /// Why a call was refused.
@@ -68,68 +72,75 @@ fn cause_name(cause: Cause) -> &'static str {
 }
 
 /// Pairs in braces, in their order.
-pub fn pairs_text<K: Display>(alloc: Global, pairs: &[(K, u64)]) -> Result<String, AllocError> {
-    let mut text = String::from_str(alloc, "{")?;
-    for (index, (key, value)) in pairs.iter().enumerate() {
-        let before = if index == 0 { "" } else { ", " };
-        write!(text, "{before}{key}: {value}")?;
+pub fn write_pairs<K: Copy + Display, I: Iterator<Item = (K, u64)>>(
+    out: &mut String,
+    pairs: I,
+) -> Result<(), AllocError>
+    requires { I.can_next pairs × IsFinite (I.remaining pairs) }
+{
+    out.push('{')?;
+    let mut is_first = true;
+    for (key, value) in pairs {
+        let before = if is_first { "" } else { ", " };
+        write!(out, "{before}{key}: {value}")?;
+        is_first = false;
     }
-    text.push('}')?;
-    Ok(text)
+    out.push('}')
 }
 
 /// Keys or values in brackets, in their order.
-pub fn list_text<T: Display>(alloc: Global, items: &[T]) -> Result<String, AllocError> {
-    let mut text = String::from_str(alloc, "[")?;
-    for (index, item) in items.iter().enumerate() {
-        let before = if index == 0 { "" } else { ", " };
-        write!(text, "{before}{item}")?;
+pub fn write_list<T: Copy + Display, I: Iterator<Item = T>>(
+    out: &mut String,
+    items: I,
+) -> Result<(), AllocError>
+    requires { I.can_next items × IsFinite (I.remaining items) }
+{
+    out.push('[')?;
+    let mut is_first = true;
+    for item in items {
+        let before = if is_first { "" } else { ", " };
+        write!(out, "{before}{item}")?;
+        is_first = false;
     }
-    text.push(']')?;
-    Ok(text)
+    out.push(']')
 }
 
 /// The pairs of a map in braces, in the order of its walk.
-pub fn walk_text<K: IntKey + Display>(
-    alloc: Global,
+pub fn write_walk<K: IntKey + Display>(
+    out: &mut String,
     map: &MapOf<'_, K>,
-) -> Result<String, AllocError> {
-    let mut pairs = Vec::new(alloc);
-    for (key, value) in map {
-        pairs.push((*key, *value))?;
-    }
-    pairs_text(alloc, pairs.as_slice())
+) -> Result<(), AllocError> {
+    write_pairs(out, map.iter().map(|(key, value)| (*key, *value)))
 }
 
 /// The keys of a map in brackets, in the order of its walk.
-pub fn keys_text<K: IntKey + Display>(
-    alloc: Global,
+pub fn write_keys<K: IntKey + Display>(
+    out: &mut String,
     map: &MapOf<'_, K>,
-) -> Result<String, AllocError> {
-    let mut keys = Vec::new(alloc);
-    for key in map.keys() {
-        keys.push(*key)?;
-    }
-    list_text(alloc, keys.as_slice())
+) -> Result<(), AllocError> {
+    write_list(out, map.keys().copied())
 }
 
 /// The values of a map in brackets, in the order of its walk.
-pub fn values_text(alloc: Global, map: &MapOf<'_, u64>) -> Result<String, AllocError> {
-    let mut values = Vec::new(alloc);
-    for value in map.values() {
-        values.push(*value)?;
-    }
-    list_text(alloc, values.as_slice())
+pub fn write_values(out: &mut String, map: &MapOf<'_, u64>) -> Result<(), AllocError> {
+    write_list(out, map.values().copied())
 }
 
 /// All that a map shows of itself.
-pub fn state_text<K: IntKey + Display>(
-    alloc: Global,
+pub fn write_state<K: IntKey + Display>(
+    out: &mut String,
     map: &MapOf<'_, K>,
-) -> Result<String, AllocError> {
-    let walk = walk_text(alloc, map)?;
+) -> Result<(), AllocError> {
+    write_walk(out, map)?;
     let pairs = map.len();
     let slots = map.capacity();
     let factor = map.get_load_factor();
-    format!(in alloc; "{walk}, {pairs} pairs, {slots} slots, factor {factor}")
+    write!(out, ", {pairs} pairs, {slots} slots, factor {factor}")
+}
+
+/// The same as a text of its own.
+pub fn state_text(alloc: Global, map: &MapOf<'_, u64>) -> Result<String, AllocError> {
+    let mut text = String::new(alloc);
+    write_state(&mut text, map)?;
+    Ok(text)
 }
