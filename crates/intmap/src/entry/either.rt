@@ -4,7 +4,7 @@ ghost use Rattle.std.specs.Borrow.{sem, MutBor};
 ghost use Rattle.std.specs.Map.Calls.{ModifiesValue};
 ghost use Rattle.intmap.specs.Bindings.{value_of, Updates};
 ghost use Rattle.intmap.specs.Entries.{entry_reference, entry_map, entry_key, entry_value, entry_state, map_with_value, MatchEntry, entry_lends_ok};
-ghost use Rattle.intmap.specs.Map.{IsMap, IsOutOfRange, after_search};
+ghost use Rattle.intmap.specs.Map.{IsMap, IsOutOfRange, IsCapacityAfter, after_search};
 ghost use Rattle.intmap.specs.States.{MayRefuse};
 
 use crate::entry::{Entry, OccupiedEntry, VacantEntry};
@@ -70,6 +70,10 @@ impl<'a, K: IntKey, V, A: Allocator + Copy> Entry<'a, K, V, A> {
         ensures* writes_back { sem 𝓛 (entry_lends_ok K.row V.row A.row A.Allocator
             self.entry result) }
         ensures value { IfOk result (λ r. r.now ≡ unwrap_or (entry_value self.entry) value) }
+        ensures capacity { OnOk result ((v : V) → IsCapacityAfter K.number_of
+            (entry_state self.entry).pairs (entry_state self.entry).capacity
+            (entry_state self.entry).factor (entry_key self.entry)
+            (map_with_value self.entry v).capacity) }
         ensures updates { OnOk result ((v : V) → Updates K.number_of (entry_map self.entry).walk
             (map_with_value self.entry v).walk (entry_key self.entry) (Some v)) }
         ensures len { OnOk result ((v : V) → length (map_with_value self.entry v).walk

@@ -14,6 +14,7 @@ returns-in-Vacant g c =
       record {
         writes_back = tt;
         value = rw e.missing told.value;
+        capacity = OnOk-so _ _ (λ next v. rw e.missing next) c.insert.result told.capacity;
         updates = told.updates;
         len = OnOk-so _ _ (λ len v. let n = len v in omega (arith, n, one)) c.insert.result told.len;
         map_after = told.map_after;
