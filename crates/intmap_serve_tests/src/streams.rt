@@ -32,6 +32,7 @@ impl<'a> Read for Slow<'a> {
 }
 
 impl<'a> Slow<'a> {
+    /// A reader of these bytes, which ends behind them or fails there.
     pub fn new(rest: &'a [u8], ends: bool) -> Slow<'a> {
         Slow {
             rest,
