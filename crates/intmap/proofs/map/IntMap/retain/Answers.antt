@@ -1,4 +1,4 @@
-use Rattle.std.proofs.Common.{subst, sym}
+use Rattle.std.proofs.Common.{length, refl, sym, subst}
 use Rattle.intmap.specs.Kept.{unkept}
 use Rattle.intmap.specs.Map.{MapState}
 use Rattle.intmap.specs.Retaining.{KeepsAt, Retains, TakesPair}
@@ -24,7 +24,10 @@ pub returns-clause-len : goal.returns-clause-len
 returns-clause-len g c = rw (← c.self.view_is) (length-Retains (KeepsAt g.F.FnMut) _ _ _ _ c.retain-self-inside.ensures.pairs)
 
 pub returns-clause-map_after : goal.returns-clause-map_after
-returns-clause-map_after g c = (invariant_of-self g c).map
+returns-clause-map_after g c =
+    let kept = c.retain-self-inside.ensures in
+    (IsConsistent-Retains g.K.IntKey.number_of g.K.IntKey.is_key (KeepsAt g.F.FnMut) c.args.f c.retain-self-inside.new.f c.self.inside.table.walk c.retain-self-inside.new.self.walk _ _ _ _ (length c.retain-self-inside.new.self.walk) _
+    kept.pairs kept.capacity kept.own refl c.self.invariant).map
 
 pub retain-self-inside-requires-clause-callable : goal.retain-self-inside-requires-clause-callable
 retain-self-inside-requires-clause-callable g c =

@@ -1,9 +1,9 @@
-use Rattle.std.proofs.Common.{◌≡◌, ◌+◌, ◌<◌, ◌∙◌, length, length-set, set, get_or, [], true, false, refl, sym, ap, subst, arith, drop}
+use Rattle.std.proofs.Common.{◌≡◌, ◌+◌, ◌<◌, ◌∙◌, length, length-set, set, get_or, [], true, false, refl, sym, ap, subst, arith}
 use Rattle.std.specs.Prelude.{nat_lt}
 use Rattle.std.proofs.lemmas.List.{set-set}
 use Rattle.intmap.specs.Kept.{KeepsStored, TakesStored}
 use Rattle.intmap.specs.Retaining.{Retains}
-use Rattle.intmap.specs.Slots.{rows, joined}
+use Rattle.intmap.specs.Slots.{rows}
 use Rattle.intmap.specs.Taking.{TakesEach}
 use Rattle.intmap.proofs.FilledLemmas.{place-below}
 use Rattle.intmap.proofs.PlacesLemmas.{IsNextMark, IsNextMark-first, unmarked-behind}
