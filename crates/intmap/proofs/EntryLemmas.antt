@@ -1,5 +1,5 @@
 -- Entries once a value was written, and maps into which the pair of a new key was put.
-use Rattle.std.proofs.Common.{◌≡◌, inl, inr, ℕ, ◌+◌, ◌^◌, ◌<◌, Bool, true, false, cond, List, [], ◌∷◌, ◌++◌, length, Option, Some, None, refl, sym, ap, ◌∙◌}
+use Rattle.std.proofs.Common.{◌≡◌, inl, inr, ℕ, ◌+◌, ◌^◌, ◌<◌, Bool, true, false, cond, List, [], ◌∷◌, ◌++◌, length, Option, Some, None, refl, sym, ap, ◌∙◌, subst}
 use Rattle.std.specs.Prelude.{Result, Ok, Err, OnOk}
 use Rattle.std.proofs.lemmas.Bool.{cases_Bool, cases_lt, eq-eqb}
 use Rattle.std.proofs.lemmas.List.{map-append}
@@ -9,17 +9,16 @@ use Rattle.intmap.specs.declared.key.IntKey as key
 use Rattle.intmap.specs.declared.entry.OccupiedEntry.{OccupiedEntry}
 use Rattle.intmap.specs.Bindings.{value_of, take_key, put_pair, write_value}
 use Rattle.intmap.specs.Classes.{IsCapacity, same_key}
-use Rattle.intmap.specs.Entries.{occupied_with_value}
+use Rattle.intmap.specs.Entries.{occupied_with_value, occupied_key}
 use Rattle.intmap.specs.Growth.{IsNext, is_due, next_capacity}
-use Rattle.intmap.specs.Locations.{IsAt}
+use Rattle.intmap.specs.Locations.{IsFound}
 use Rattle.intmap.specs.Map.{MapState, IsFull, with_pair, written}
 use Rattle.intmap.specs.Walk.{walk_of}
 use Rattle.intmap.proofs.GrowthLemmas.{IsWanted-wanted_capacity}
 use Rattle.intmap.proofs.LocationLemmas.{walk_of-write_value}
 use Rattle.intmap.proofs.MapLemmas.{MapState-same}
 use Rattle.intmap.proofs.PositionLemmas.{swap_out-none, position-from_none}
-use Rattle.intmap.specs.Written.{IsAt-write_value}
-use Rattle.intmap.specs.declared.table.locate.Location.{Location}
+use Rattle.intmap.specs.Written.{IsFound-write_value, key_at-written, the_key-same}
 
 -- what an accepted call says, where that follows
 pub OnOk-so : {T E : Type 0} (P Q : Type 0) → (P → Q) → (r : Result T E) → OnOk r P → OnOk r Q
@@ -60,14 +59,25 @@ module _ {K V : Type 0} (number : K → ℕ) where
       ∙ ap (λ b. take_key number m.walk m.capacity k ++ cond b (k, v) (k, x) ∷ []) own in
       MapState-same _ _ _ _ _ _ _ _ _ (sym (walk_of-write_value number (put_pair number m.walk m.capacity k x) D k v) ∙ ap (λ L. walk_of number L D) pair) refl refl refl
 
--- that a pair was located holds in one way
-IsAt-prop : {K V : Type 0} (number : K → ℕ) (W : List (K × V)) (C : ℕ) (at : Location K) → IsProp (IsAt number W C at)
-IsAt-prop number W C at = Prim.hlevel props
+-- that a pair was found holds in one way
+IsFound-prop : {K V : Type 0} (number : K → ℕ) (W : List (K × V)) (C slot place : ℕ) → IsProp (IsFound number W C slot place)
+IsFound-prop number W C slot place = Prim.hlevel props
 
 module _ {K V A : Type 0} {g : key.Ghosts K} {e : eq.Ghosts K} where
+  -- the entry whose map was written at its key
+  rewritten : (o : OccupiedEntry K V A g e) (w : V) (found : IsFound g.number_of (written g.number_of o.map.now (occupied_key o) w).walk (written g.number_of o.map.now (occupied_key o) w).capacity o.slot o.place)
+      → ◌≡◌ {A = OccupiedEntry K V A g e} (record { map = record o.map { now = written g.number_of o.map.now (occupied_key o) w }; slot = o.slot; place = o.place; found = found }) (occupied_with_value o w)
+  rewritten o w found =
+      ap (λ z. let o : OccupiedEntry K V A g e = record { map = record o.map { now = written g.number_of o.map.now (occupied_key o) w }; slot = o.slot; place = o.place; found = z } in o)
+      (IsFound-prop g.number_of _ _ o.slot o.place found (IsFound-write_value g.number_of o.map.now.walk o.map.now.capacity o.slot o.place (occupied_key o) w o.found))
+
   -- an entry whose map was written is the entry with the value, however it is known where the key stands
-  pub occupied-rewritten : (o : OccupiedEntry K V A g e) (w : V) (bound : IsAt g.number_of (written g.number_of o.map.now o.at.key w).walk (written g.number_of o.map.now o.at.key w).capacity o.at)
-      → ◌≡◌ {A = OccupiedEntry K V A g e} (record { map = record o.map { now = written g.number_of o.map.now o.at.key w }; at = o.at; bound = bound }) (occupied_with_value o w)
-  occupied-rewritten o w bound =
-      ap (λ z. let o : OccupiedEntry K V A g e = record { map = record o.map { now = written g.number_of o.map.now o.at.key w }; at = o.at; bound = z } in o)
-      (IsAt-prop g.number_of _ _ o.at bound (IsAt-write_value g.number_of o.map.now.walk o.map.now.capacity o.at o.at.key w o.bound))
+  pub occupied-rewritten : (o : OccupiedEntry K V A g e) (w : V) (k : K) → occupied_key o ≡ k → (found : IsFound g.number_of (written g.number_of o.map.now k w).walk (written g.number_of o.map.now k w).capacity o.slot o.place)
+      → ◌≡◌ {A = OccupiedEntry K V A g e} (record { map = record o.map { now = written g.number_of o.map.now k w }; slot = o.slot; place = o.place; found = found }) (occupied_with_value o w)
+  occupied-rewritten o w k same =
+      subst (λ k. (found : IsFound g.number_of (written g.number_of o.map.now k w).walk (written g.number_of o.map.now k w).capacity o.slot o.place)
+      → ◌≡◌ {A = OccupiedEntry K V A g e} (record { map = record o.map { now = written g.number_of o.map.now k w }; slot = o.slot; place = o.place; found = found }) (occupied_with_value o w)) same (rewritten o w)
+
+  -- an entry with a value has the key that it had
+  pub occupied_key-written : (o : OccupiedEntry K V A g e) (w : V) → occupied_key (occupied_with_value o w) ≡ occupied_key o
+  occupied_key-written o w = the_key-same _ _ _ _ (key_at-written g.number_of o.map.now.walk o.map.now.capacity o.slot o.place (occupied_key o) w)

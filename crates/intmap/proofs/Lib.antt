@@ -58,3 +58,4 @@ pub mod Callers
 pub mod MadeLemmas
 pub mod TallyLemmas
 pub mod CrowdLemmas
+pub mod FoundLemmas

@@ -14,7 +14,9 @@ use Rattle.intmap.specs.Bindings.{value_of}
 use Rattle.intmap.specs.Growth.{next_capacity}
 use Rattle.intmap.specs.Map.{MapState, with_pair, written}
 use Rattle.intmap.specs.States.{State}
-use Rattle.intmap.specs.Written.{IsAt-write_value}
+use Rattle.intmap.specs.Written.{IsFound-write_value}
+use Rattle.intmap.specs.Locations.{key_at, the_key}
+use Rattle.intmap.specs.Walk.{slot_of}
 
 module _ {K V A : Type 0} {g : key.Ghosts K} {e : eq.Ghosts K} where
   -- the reference to the map
@@ -26,9 +28,13 @@ module _ {K V A : Type 0} {g : key.Ghosts K} {e : eq.Ghosts K} where
   abbrev pub entry_map : Entry K V A g e → MapState K V
   entry_map x = (entry_reference x).now
 
+  -- the key of an occupied one: that of the pair at its place
+  abbrev pub occupied_key : OccupiedEntry K V A g e → K
+  occupied_key o = the_key (key_at (slot_of g.number_of o.map.now.walk o.map.now.capacity o.slot) o.place) o.found.some
+
   -- the key that was looked for
   abbrev pub entry_key : Entry K V A g e → K
-  entry_key (Occupied o) = o.at.key
+  entry_key (Occupied o) = occupied_key o
   entry_key (Vacant v) = v.key
 
   -- the value that it is bound to
@@ -50,7 +56,7 @@ module _ {K V A : Type 0} {g : key.Ghosts K} {e : eq.Ghosts K} where
 
   -- the map once w is the value of the key: in its place where it is bound, and else by a new pair at the end of its slot
   abbrev pub map_with_value : Entry K V A g e → V → MapState K V
-  map_with_value (Occupied o) w = written g.number_of o.map.now o.at.key w
+  map_with_value (Occupied o) w = written g.number_of o.map.now (occupied_key o) w
   map_with_value (Vacant v) w = with_pair g.number_of v.map.now v.key w (next_entry_capacity (Vacant v))
 
   -- y is the entry x, once w is the value of the key
@@ -63,8 +69,9 @@ module _ {K V A : Type 0} {g : key.Ghosts K} {e : eq.Ghosts K} where
   abbrev pub occupied_with_value : OccupiedEntry K V A g e → V → OccupiedEntry K V A g e
   occupied_with_value o w = record {
     map = record o.map { now = map_with_value (Occupied o) w };
-    at = o.at;
-    bound = IsAt-write_value g.number_of o.map.now.walk o.map.now.capacity o.at o.at.key w o.bound;
+    slot = o.slot;
+    place = o.place;
+    found = IsFound-write_value g.number_of o.map.now.walk o.map.now.capacity o.slot o.place (occupied_key o) w o.found;
   }
 
 module _ (K V A : RattleType) {g : key.Ghosts K.Denot} {e : eq.Ghosts K.Denot} (a : allocator.Ghosts A.Denot) where

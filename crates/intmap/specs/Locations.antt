@@ -1,8 +1,19 @@
 -- Where the pair of a key stands in a table.
-use Rattle.std.specs.Prelude.{◌≡◌, ℕ, ◌+◌, List, length, Some, position}
+use Rattle.std.specs.Prelude.{◌≡◌, ℕ, zero, suc, ◌+◌, List, [], ◌∷◌, length, Option, Some, None, IsSome, position}
 use Rattle.intmap.specs.Classes.{slot_number, same_key}
 use Rattle.intmap.specs.Walk.{slot_of}
 use Rattle.intmap.specs.declared.table.locate.Location.{Location}
+
+-- the key of the pair at place i
+abbrev pub key_at : {K V : Type 0} → List (K × V) → ℕ → Option K
+key_at [] i = None
+key_at (p ∷ L) zero = Some p.0
+key_at (p ∷ L) (suc i) = key_at L i
+
+-- the key that is there
+abbrev pub the_key : {K : Type 0} → (o : Option K) → IsSome o → K
+the_key (Some k) is = k
+the_key None is = absurd cc
 
 module _ {K V : Type 0} (number : K → ℕ) where
   -- the pair of the location's key stands there, in the walk through C slots
@@ -15,3 +26,8 @@ module _ {K V : Type 0} (number : K → ℕ) where
     pub place : ℕ
     pub stands : position (λ p. same_key number k p.0) (slot_of number W C (slot_number number k C)) ≡ Some place
     pub last : place + 1 ≡ length (slot_of number W C (slot_number number k C))
+
+  -- a pair stands at the place of the slot, and its key is found there
+  pub record IsFound (W : List (K × V)) (C slot place : ℕ) : Type 0 where
+    pub some : IsSome (key_at (slot_of number W C slot) place)
+    pub at : IsAt W C (record { key = the_key (key_at (slot_of number W C slot) place) some; slot = slot; place = place })

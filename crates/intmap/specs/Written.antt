@@ -1,12 +1,12 @@
 -- Where pairs stand once a value was written: each where it stood.
-use Rattle.std.proofs.Common.{◌≡◌, ℕ, Bool, true, false, cond, List, [], ◌∷◌, refl, ap, ◌∙◌}
+use Rattle.std.proofs.Common.{◌≡◌, ℕ, Bool, true, false, cond, zero, suc, List, [], ◌∷◌, Option, Some, None, IsSome, refl, sym, ap, ◌∙◌, subst}
 use Rattle.std.specs.Prelude.{◌==◌, position}
 use Rattle.std.specs.List.{position_or_len}
 use Rattle.std.proofs.lemmas.List.{length-map}
 use Rattle.intmap.specs.Classes.{slot_number, same_key}
 use Rattle.intmap.specs.Bindings.{write_value}
 use Rattle.intmap.specs.Walk.{slot_of}
-use Rattle.intmap.specs.Locations.{IsAt}
+use Rattle.intmap.specs.Locations.{IsAt, IsFound, key_at, the_key}
 use Rattle.intmap.specs.declared.table.locate.Location.{Location}
 
 module _ {K V : Type 0} (number : K → ℕ) where
@@ -46,3 +46,37 @@ module _ {K V : Type 0} (number : K → ℕ) where
     slot = is.slot;
     place = ap (position (λ p. same_key number at.key p.0)) (slot_of-write_value W C k v at.slot) ∙ position-write_value (slot_of number W C at.slot) k at.key v ∙ is.place;
   }
+
+  first-written : (p : K × V) (v : V) (s : Bool) → (cond s (p.0, v) p).0 ≡ p.0
+  first-written p v true = refl
+  first-written p v false = refl
+
+  key_at-write_value : (L : List (K × V)) (k : K) (v : V) (i : ℕ) → key_at (write_value number L k v) i ≡ key_at L i
+  key_at-write_value [] k v i = refl
+  key_at-write_value (p ∷ L) k v zero = ap (λ q. Some q) (first-written p v (same_key number k p.0))
+  key_at-write_value (p ∷ L) k v (suc i) = key_at-write_value L k v i
+
+  -- each place has the key that it had
+  pub key_at-written : (W : List (K × V)) (C slot place : ℕ) (k : K) (v : V) → key_at (slot_of number (write_value number W k v) C slot) place ≡ key_at (slot_of number W C slot) place
+  key_at-written W C slot place k v = ap (λ L. key_at L place) (slot_of-write_value W C k v slot) ∙ key_at-write_value (slot_of number W C slot) k v place
+
+abbrev key_or : {K : Type 0} → Option K → K → K
+key_or (Some k) d = k
+key_or None d = d
+
+-- the keys of equal options are one
+pub the_key-same : {K : Type 0} (o p : Option K) (s : IsSome o) (t : IsSome p) → o ≡ p → the_key o s ≡ the_key p t
+the_key-same (Some x) (Some y) s t e = ap (λ o. key_or o x) e
+the_key-same (Some x) None s t e = absurd cc
+the_key-same None p s t e = absurd cc
+
+module _ {K V : Type 0} (number : K → ℕ) where
+  -- a pair that was found stands there still
+  pub IsFound-write_value : (W : List (K × V)) (C slot place : ℕ) (k : K) (v : V) → IsFound number W C slot place → IsFound number (write_value number W k v) C slot place
+  IsFound-write_value W C slot place k v is =
+      let same = key_at-written number W C slot place k v in
+      let some : IsSome (key_at (slot_of number (write_value number W k v) C slot) place) = subst IsSome (sym same) is.some in
+      record {
+        some = some;
+        at = subst (λ q. IsAt number (write_value number W k v) C (record { key = q; slot = slot; place = place })) (sym (the_key-same _ _ some is.some same)) (IsAt-write_value number W C _ k v is.at);
+      }

@@ -1,7 +1,7 @@
 //! Entries: a map with a key that was looked for once, to read, write, take out or add its pair.
 ghost use Rattle.std.specs.Prelude.{◌≡◌, None};
 ghost use Rattle.intmap.specs.Bindings.{value_of};
-ghost use Rattle.intmap.specs.Locations.{IsAt};
+ghost use Rattle.intmap.specs.Locations.{IsFound};
 
 mod either;
 mod occupied;
@@ -9,7 +9,6 @@ mod vacant;
 
 use crate::key::IntKey;
 use crate::map::IntMap;
-use crate::table::locate::Location;
 use std::alloc::{Allocator, Global};
 
 /// A map with a key that was looked for in it, made by [`IntMap::entry`].
@@ -25,8 +24,9 @@ pub enum Entry<'a, K: IntKey, V, A: Allocator + Copy = Global> {
 #[derive(Drop)]
 pub struct OccupiedEntry<'a, K: IntKey, V, A: Allocator + Copy = Global> {
     map: &'a mut IntMap<K, V, A>,
-    at: Location<K>,
-    ghost bound: { IsAt K.number_of map.now.walk map.now.capacity at },
+    slot: usize,
+    place: usize,
+    ghost found: { IsFound K.number_of map.now.walk map.now.capacity slot place },
 }
 
 /// A map with a key that isn't bound in it.

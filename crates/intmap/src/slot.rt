@@ -122,6 +122,23 @@ impl<K: IntKey, X, A: Allocator> Slot<K, X, A> {
         self.rest.len()
     }
 
+    /// The stored key of the pair at a place.
+    pub(crate) fn key_at(&self, place: usize) -> &Stored<K>
+        requires { place < length self.now.pairs }
+        ensures { (p : K × X) → result.now ≡ (slice_index_or self.now.pairs place p).0 }
+    {
+        if place > 0 {
+            if self.first.is_turned() {
+                return &self.rest[self.rest.len() - place].0;
+            }
+            return &self.rest[place - 1].0;
+        }
+        match self.first.pair() {
+            Some(first) => &first.0,
+            None => unreachable!(),
+        }
+    }
+
     /// The value of the pair at a place.
     pub(crate) fn value_at(&self, place: usize) -> &X
         requires { place < length self.now.pairs }

@@ -93,3 +93,46 @@ pub fn reset_by_entry<K: IntKey, A: Allocator + Copy>(map: &mut IntMap<K, u64, A
     );
     entry.into_map();
 }
+
+/// The value of the key, by an entry that is only let go.
+pub fn read_and_let_go<K: IntKey, V: Copy, A: Allocator + Copy>(
+    map: &mut IntMap<K, V, A>,
+    key: K,
+) -> Option<V>
+    ensures value { result ≡ value_of K.number_of map.old.walk key }
+    ensures state { map.new ≡ after_search K.number_of map.old key }
+{
+    match map.entry(key) {
+        Entry::Occupied(entry) => Some(*entry.get()),
+        Entry::Vacant(_entry) => None,
+    }
+}
+
+/// Sets the value of the key in its place, where the key is bound, by an entry that is only let go.
+pub fn write_and_let_go<K: IntKey, V: Drop, A: Allocator + Copy>(
+    map: &mut IntMap<K, V, A>,
+    key: K,
+    value: V,
+)
+    ensures bound { (old : V) → value_of K.number_of map.old.walk key ≡ Some old
+        → map.new ≡ written K.number_of (after_search K.number_of map.old key) key value }
+{
+    match map.entry(key) {
+        Entry::Occupied(mut entry) => *entry.get_mut() = value,
+        Entry::Vacant(_entry) => (),
+    }
+}
+
+/// The same by `insert` of the entry, whose answer is let go too.
+pub fn insert_and_let_go<K: IntKey, V: Drop, A: Allocator + Copy>(
+    map: &mut IntMap<K, V, A>,
+    key: K,
+    value: V,
+)
+    ensures bound { (old : V) → value_of K.number_of map.old.walk key ≡ Some old
+        → map.new ≡ written K.number_of (after_search K.number_of map.old key) key value }
+{
+    if let Entry::Occupied(mut entry) = map.entry(key) {
+        let _old = entry.insert(value);
+    }
+}

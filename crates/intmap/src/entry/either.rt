@@ -19,9 +19,8 @@ impl<K: IntKey, V, A: Allocator + Copy> IntMap<K, V, A> {
     /// does, and no call of the entry compares a key again. It is never refused.
     ///
     /// The entry borrows the map. One that is dropped without another call leaves the map as it was,
-    /// but for the count of compared keys. Where any type may be that of the keys, a caller knows the
-    /// map after an occupied entry only by a call that ends it, as [`OccupiedEntry::leave`] or
-    /// [`Entry::into_map`].
+    /// but for the count of compared keys. A caller knows so of an entry that was taken apart by a
+    /// `match`, and of any that was ended by [`OccupiedEntry::leave`] or [`Entry::into_map`].
     ///
     /// ```text
     /// match map.entry(21) {
@@ -39,7 +38,11 @@ impl<K: IntKey, V, A: Allocator + Copy> IntMap<K, V, A> {
         ensures map_after { IsMap K.number_of K.is_key (entry_map result) }
     {
         match self.locate(key) {
-            Some(at) => Entry::Occupied(OccupiedEntry { map: self, at }),
+            Some(at) => Entry::Occupied(OccupiedEntry {
+                map: self,
+                slot: at.slot,
+                place: at.place,
+            }),
             None => Entry::Vacant(VacantEntry { map: self, key }),
         }
     }

@@ -16,14 +16,15 @@ impl<'a, K: IntKey, V, A: Allocator + Copy> OccupiedEntry<'a, K, V, A> {
     pub fn key(&self) -> &K
         ensures value { result.now ≡ entry_key (Occupied self.now) }
     {
-        &self.at.key
+        self.map.key_at(self.slot, self.place)
     }
 
     /// The value of the key.
     pub fn get(&self) -> &V
         ensures value { entry_value (Occupied self.now) ≡ Some result.now }
     {
-        self.map.value_at(self.at)
+        let at = self.map.location(self.slot, self.place);
+        self.map.value_at(at)
     }
 
     /// The value of the key, to be written in its place. It ends with the entry; `into_mut` answers
@@ -40,7 +41,9 @@ impl<'a, K: IntKey, V, A: Allocator + Copy> OccupiedEntry<'a, K, V, A> {
         ensures map_after { (v : V)
             → IsMap K.number_of K.is_key (map_with_value (Occupied self.old) v) }
     {
-        let at = self.at;
+        let slot = self.slot;
+        let place = self.place;
+        let at = self.map.location(slot, place);
         self.map.value_mut_at(at)
     }
 
@@ -57,7 +60,8 @@ impl<'a, K: IntKey, V, A: Allocator + Copy> OccupiedEntry<'a, K, V, A> {
         ensures map_after { (v : V)
             → IsMap K.number_of K.is_key (map_with_value (Occupied self.entry) v) }
     {
-        let OccupiedEntry { map, at } = self;
+        let OccupiedEntry { map, slot, place } = self;
+        let at = map.location(slot, place);
         map.value_mut_at(at)
     }
 
@@ -86,7 +90,9 @@ impl<'a, K: IntKey, V, A: Allocator + Copy> OccupiedEntry<'a, K, V, A> {
             ≡ length (entry_map (Occupied self.entry)).walk }
         ensures map_after { IsMap K.number_of K.is_key self.exit.0.now }
     {
-        let at = self.at;
+        let slot = self.slot;
+        let place = self.place;
+        let at = self.map.location(slot, place);
         self.map.take_at(at)
     }
 
@@ -95,7 +101,11 @@ impl<'a, K: IntKey, V, A: Allocator + Copy> OccupiedEntry<'a, K, V, A> {
     pub fn leave(self)
         ensures state { self.exit.0.now ≡ entry_map (Occupied self.entry) }
     {
-        let OccupiedEntry { map: _, at: _ } = self;
+        let OccupiedEntry {
+            map: _,
+            slot: _,
+            place: _,
+        } = self;
     }
 
     /// The map, as the calls on the entry left it, for as long as the map was borrowed. It takes no
@@ -105,7 +115,11 @@ impl<'a, K: IntKey, V, A: Allocator + Copy> OccupiedEntry<'a, K, V, A> {
             ≡ (entry_reference (Occupied self.entry)).ghost_name }
         ensures state { result.now ≡ entry_map (Occupied self.entry) }
     {
-        let OccupiedEntry { map, at: _ } = self;
+        let OccupiedEntry {
+            map,
+            slot: _,
+            place: _,
+        } = self;
         map
     }
 }

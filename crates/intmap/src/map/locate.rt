@@ -1,8 +1,9 @@
 //! Located pairs: calls on the pair of a key that was found before, which compare no key.
 ghost use Rattle.std.specs.Prelude.{◌≡◌, is_some, IfSome, IfNone, Some, None};
 ghost use Rattle.intmap.specs.Bindings.{value_of};
-ghost use Rattle.intmap.specs.Locations.{IsAt, IsLast};
+ghost use Rattle.intmap.specs.Locations.{IsAt, IsLast, IsFound, key_at};
 ghost use Rattle.intmap.specs.Map.{IsMap, after_search, without_key};
+ghost use Rattle.intmap.specs.Walk.{slot_of};
 
 use crate::key::IntKey;
 use crate::map::IntMap;
@@ -17,6 +18,8 @@ impl<K: IntKey, V, A: Allocator + Copy> IntMap<K, V, A> {
     pub(crate) fn locate(&mut self, key: K) -> Option<Location<K>>
         ensures found { IfSome result (λ at. (at.key ≡ key)
             × IsAt K.number_of self.new.walk self.new.capacity at) }
+        ensures key { IfSome result (λ at. key_at (slot_of K.number_of self.new.walk
+            self.new.capacity at.slot) at.place ≡ Some key) }
         ensures missing { IfNone result (value_of K.number_of self.old.walk key ≡ None) }
         ensures bound { is_some result ≡ is_some (value_of K.number_of self.old.walk key) }
         ensures state { self.new ≡ after_search K.number_of self.old key }
@@ -33,6 +36,26 @@ impl<K: IntKey, V, A: Allocator + Copy> IntMap<K, V, A> {
         ensures at { IsAt K.number_of self.now.walk self.now.capacity result }
     {
         self.table.locate_last(key)
+    }
+
+    /// The key of the pair at a place of a slot.
+    pub(crate) fn key_at(&self, slot: usize, place: usize) -> &K
+        requires { IsFound K.number_of self.now.walk self.now.capacity slot place }
+        ensures { Some result.now
+            ≡ key_at (slot_of K.number_of self.now.walk self.now.capacity slot) place }
+    {
+        self.table.key_at(slot, place)
+    }
+
+    /// Where the pair at a place of a slot stands, with its key.
+    pub(crate) fn location(&self, slot: usize, place: usize) -> Location<K>
+        requires { IsFound K.number_of self.now.walk self.now.capacity slot place }
+        ensures key { Some result.key
+            ≡ key_at (slot_of K.number_of self.now.walk self.now.capacity slot) place }
+        ensures at { IsAt K.number_of self.now.walk self.now.capacity result }
+    {
+        let key = *self.key_at(slot, place);
+        Location { key, slot, place }
     }
 
     /// The value of a located pair.

@@ -1,9 +1,9 @@
 //! Where the pair of a key stands, and calls on a pair that was located, which compare no key.
 ghost use Rattle.std.specs.Prelude.{◌≡◌, ◌+◌, IfSome, IfNone, Some, None};
 ghost use Rattle.intmap.specs.Bindings.{HasDistinctKeys, value_of, take_key};
-ghost use Rattle.intmap.specs.Locations.{IsAt, IsLast};
+ghost use Rattle.intmap.specs.Locations.{IsAt, IsLast, IsFound, key_at};
 ghost use Rattle.intmap.specs.Reach.{reach};
-ghost use Rattle.intmap.specs.Walk.{walk_of};
+ghost use Rattle.intmap.specs.Walk.{walk_of, slot_of};
 
 use crate::key::IntKey;
 use crate::steps::Steps;
@@ -14,8 +14,8 @@ use std::alloc::Allocator;
 #[derive(Clone, Copy)]
 pub(crate) struct Location<K> {
     pub(crate) key: K,
-    slot: usize,
-    place: usize,
+    pub(crate) slot: usize,
+    pub(crate) place: usize,
 }
 
 impl<K: IntKey, X, A: Allocator> Table<K, X, A> {
@@ -48,6 +48,15 @@ impl<K: IntKey, X, A: Allocator> Table<K, X, A> {
         let slot = self.index_of(&key);
         let place = self.slots[slot].last_place();
         Location { key, slot, place }
+    }
+
+    /// The key of the pair at a place of a slot.
+    pub(crate) fn key_at(&self, slot: usize, place: usize) -> &K
+        requires { IsFound K.number_of self.now.walk self.now.capacity slot place }
+        ensures { Some result.now
+            ≡ key_at (slot_of K.number_of self.now.walk self.now.capacity slot) place }
+    {
+        self.slots[slot].key_at(place).key()
     }
 
     /// The value of a located pair.

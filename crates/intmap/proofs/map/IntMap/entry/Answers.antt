@@ -1,5 +1,11 @@
-use Rattle.std.proofs.Common.{sym}
+use Rattle.std.proofs.Common.{Some, refl}
+use Rattle.intmap.specs.Written.{the_key-same}
+use Rattle.intmap.proofs.FoundLemmas.{IsFound-located}
 use Rattle.intmap.proofs.map.IntMap.entry.Goals as goal
 
-pub returns-in-Some-clause-occupied : goal.returns-in-Some-clause-occupied
-returns-in-Some-clause-occupied g c = sym c.in-Some.ensures.bound
+pub invariant_of-result : goal.invariant_of-result
+invariant_of-result g c =
+    record { found = IsFound-located g.K.IntKey.number_of c.locate.new.self.walk c.locate.new.self.capacity c.in-Some.at c.args.key c.in-Some.ensures.found.0 c.in-Some.ensures.found.1 c.in-Some.ensures.key }
+
+pub returns-in-Some-clause-key : goal.returns-in-Some-clause-key
+returns-in-Some-clause-key g c = the_key-same _ (Some c.args.key) _ refl c.in-Some.ensures.key

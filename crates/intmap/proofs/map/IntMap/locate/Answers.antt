@@ -1,6 +1,7 @@
-use Rattle.std.proofs.Common.{◌≡◌, ◌+◌, None, refl, sym, ap, ◌∙◌}
+use Rattle.std.proofs.Common.{◌≡◌, ◌+◌, None, refl, sym, ap, ◌∙◌, subst}
 use Rattle.std.specs.Option.{option_map}
 use Rattle.std.specs.Prelude.{Option, Some, is_some, IfSome, IfNone}
+use Rattle.intmap.proofs.FoundLemmas.{key_at-located}
 use Rattle.intmap.proofs.LocationLemmas.{IsAt-with_values, is_some-located}
 use Rattle.intmap.proofs.MapLemmas.{MapState-same}
 use Rattle.intmap.proofs.MappedLemmas.{value_of-with_values, reach-with_values}
@@ -18,6 +19,11 @@ missed P Q so (Some x) all = all
 pub returns-clause-found : goal.returns-clause-found
 returns-clause-found g c =
     found _ _ (λ at is. (is.0, IsAt-with_values g.K.IntKey.number_of (λ kept. kept.value) c.self.inside.table.walk c.self.inside.table.capacity at is.1)) c.locate.result c.locate.ensures.found
+
+pub returns-clause-key : goal.returns-clause-key
+returns-clause-key g c =
+    found _ _ (λ at is. key_at-located g.K.IntKey.number_of g.K.IntKey.is_key g.met.K.IntKey.exact _ c.self.inside.table.capacity at c.self.invariant.map.keys (subst g.K.IntKey.is_key (sym is.0) c.locate.ensures.known)
+    (IsAt-with_values g.K.IntKey.number_of (λ kept. kept.value) c.self.inside.table.walk c.self.inside.table.capacity at is.1) ∙ ap (λ q. Some q) is.0) c.locate.result c.locate.ensures.found
 
 pub returns-clause-missing : goal.returns-clause-missing
 returns-clause-missing g c =

@@ -1,5 +1,6 @@
 use Rattle.std.proofs.Common.{rules}
 use Rattle.intmap_run.proofs.WritingStepLemmas.{StepsFrom-entry_remove, StepsFrom-not_removed, StepsFrom-equal}
+use Rattle.intmap.specs.Entries.{occupied_key}
 use Rattle.intmap_run.proofs.runner.entries.entry_remove.Goals as goal
 
 pub returns-in-Occupied-clause-step : goal.returns-in-Occupied-clause-step
@@ -7,7 +8,7 @@ returns-in-Occupied-clause-step g c =
     let e = c.in-Occupied.ensures in
     λ judge. StepsFrom-equal g.K.IntKey.number_of (g.J.Judge.sees judge) (g.J.Judge.keeps judge) c.args.map.now _ _ _ _
     (StepsFrom-entry_remove g.K.IntKey.number_of g.K.IntKey.is_key c.args.map.now e.map (g.J.Judge.sees judge) (g.J.Judge.keeps judge) c.args.key
-    c.in-Occupied.entry.at.key c.in-Occupied.entry.map.now e.state e.key c.remove.result c.remove.ensures.value) (search rules)
+    (occupied_key c.in-Occupied.entry) c.in-Occupied.entry.map.now e.state e.key c.remove.result c.remove.ensures.value) (search rules)
 
 pub returns-in-Vacant-clause-step : goal.returns-in-Vacant-clause-step
 returns-in-Vacant-clause-step g c =
