@@ -217,6 +217,9 @@ class PlainList:
     def shown(self, key):
         return key
 
+    def debug_of(self, key):
+        return key
+
     def walk(self):
         def slot(place):
             return self.pairs[place][0] * MULTIPLIER % self.slots
@@ -240,6 +243,18 @@ def entered(old):
     return "fresh" if old is None else option(old)
 
 
+def insert_debug(it, refuses, key, value):
+    """The same texts as derived ones."""
+    refused = "Err(Refused {{ value: {}, cause: {} }})"
+    try:
+        old = it.insert(key, value, refuses)
+    except NoMemory:
+        return refused.format(value, "Memory")
+    except TooLarge:
+        return refused.format(value, "TooLarge")
+    return "Ok(None)" if old is None else f"Ok(Some({old}))"
+
+
 def entry(it, key):
     shown = it.shown(key)
     return f"occupied {shown}: {it.get(key)}" if key in it.place_of else f"vacant {shown}"
@@ -251,6 +266,10 @@ def braces(pairs):
 
 def walk(it):
     return braces((it.shown(k), v) for k, v in it.walk())
+
+
+def debug(it):
+    return braces((it.debug_of(k), v) for k, v in it.walk())
 
 
 def brackets(items):
@@ -310,6 +329,16 @@ def size_hints(it, refuses):
     return " ".join(["(0, None)"] * ITERATORS)
 
 
+def find_many(find, first, count, step, more=10):
+    found = [(key, find(key)) for key in keys(first, count, step)]
+    bound = [(key, value) for key, value in found if value is not None]
+    return f"{sum(value == key + more & GREATEST for key, value in bound)} of {len(bound)}"
+
+
+def entry_replace_many(it, first, count, step, more):
+    return str(sum(it.write(key, key + more & GREATEST) == ten_more(key) for key in keys(first, count, step)))
+
+
 def run_many(it, insertion, *numbers):
     new = sum(insertion(it, key, ten_more(key), False) is None for key in keys(*numbers))
     return f"{new} new, {len(it.walk())} walked"
@@ -359,6 +388,7 @@ CALLS = {
     ("or_insert_add", 2): lambda it, refuses, k, v: str(it.add_to(k, v, refuses)),
     ("and_modify", 2): lambda it, refuses, k, v: str(it.and_modify(k, v, refuses)),
     ("insert", 2): lambda it, refuses, k, v: option(it.insert(k, v, refuses)),
+    ("insert_debug", 2): lambda it, refuses, k, v: insert_debug(it, refuses, k, v),
     ("insert_checked", 2): lambda it, refuses, k, v: truth(it.insert_checked(k, v, refuses)),
     ("clear", 0): lambda it, _: it.clear() or "done",
     ("retain", 0): lambda it, _: it.retain(lambda _, value: value % 2) or "done",
@@ -377,8 +407,10 @@ CALLS = {
     ("load_rate", 0): lambda it, _: str(len(it.pairs) * 1000 // it.slots),
     ("assert_count", 0): lambda it, _: "true",
     ("collisions", 0): lambda it, refuses: collisions(it, refuses, walk),
+    ("collisions_debug", 0): lambda it, refuses: collisions(it, refuses, walk),
     ("collisions_state", 0): lambda it, refuses: collisions(it, refuses, state),
     ("walk", 0): lambda it, _: walk(it),
+    ("debug", 0): lambda it, _: debug(it),
     ("keys", 0): lambda it, _: brackets(it.shown(k) for k, _ in it.walk()),
     ("values", 0): lambda it, _: brackets(v for _, v in it.walk()),
     ("walk_sum", 0): lambda it, _: sum_of(it.walk()),
@@ -408,12 +440,18 @@ CALLS = {
     ("or_insert_many", 3): lambda it, _, *numbers: insert_many(it, PlainList.or_insert, *numbers),
     ("run_many", 3): lambda it, _, *numbers: run_many(it, PlainList.insert, *numbers),
     ("run_entries_many", 3): lambda it, _, *numbers: run_many(it, PlainList.entry_insert, *numbers),
-    ("get_many", 3): lambda it, _, *numbers: str(sum(it.get(k) == ten_more(k) for k in keys(*numbers))),
-    ("get_mut_many", 3): lambda it, _, *numbers: str(sum(it.get(k) == ten_more(k) for k in keys(*numbers))),
     ("contains_many", 3): lambda it, _, *numbers: str(sum(k in it.place_of for k in keys(*numbers))),
-    ("entry_remove_many", 3): lambda it, _, *numbers: str(sum(it.remove(k) == ten_more(k) for k in keys(*numbers))),
-    ("remove_many", 3): lambda it, _, *numbers: str(sum(it.remove(k) == ten_more(k) for k in keys(*numbers))),
+    ("entry_replace_many", 4): lambda it, _, *numbers: entry_replace_many(it, *numbers),
 }
+
+# those that look for many keys, bound to ten more than themselves, or to a fourth number more
+for _count in (3, 4):
+    CALLS |= {
+        ("get_many", _count): lambda it, _, *numbers: find_many(it.get, *numbers),
+        ("get_mut_many", _count): lambda it, _, *numbers: find_many(it.get, *numbers),
+        ("remove_many", _count): lambda it, _, *numbers: find_many(it.remove, *numbers),
+        ("entry_remove_many", _count): lambda it, _, *numbers: find_many(it.remove, *numbers),
+    }
 
 
 def pairs_of(numbers):
@@ -472,6 +510,11 @@ class KindList(PlainList):
 
     def shown(self, number):
         return self.written[number]
+
+    def debug_of(self, number):
+        """A cell is shown by its fields, an integer as it is written."""
+        row, _, column = self.shown(number).partition(":")
+        return f"Cell {{ row: {row}, column: {column} }}" if column else row
 
 
 def insert_range(it, first, last):

@@ -129,20 +129,41 @@ fn run_rows(
     let ran = run_all(maps.memory, &mut maps.map, commands);
     maps.memory.arm(0);
     match ran {
-        Ok(answers) => compare_answers(alloc, report, head, lines, answers.as_slice()),
-        Err(commands) => compare_head(alloc, report, head, commands.len(), "commands back"),
+        Ok(answers) => {
+            compare_head(alloc, report, head, answers.len(), "answers")?;
+            compare_answers(alloc, report, lines, answers.as_slice())
+        }
+        Err(commands) => {
+            compare_head(alloc, report, head, commands.len(), "commands back")?;
+            run_again(alloc, maps, report, lines, commands)
+        }
     }
 }
 
-// compares the answers with those of the head and the rows of a run
+// runs commands that came back on a clone of the map, and compares each answer
+fn run_again<'a>(
+    alloc: Global,
+    maps: &Maps<'a>,
+    report: &mut Report,
+    lines: &[&str],
+    commands: Commands<'a>,
+) -> Result<(), AllocError> {
+    let Ok(mut clone) = maps.map.clone() else {
+        return Err(AllocError);
+    };
+    match run_all(maps.memory, &mut clone, commands) {
+        Ok(answers) => compare_answers(alloc, report, lines, answers.as_slice()),
+        Err(_) => Err(AllocError),
+    }
+}
+
+// compares the answers with those of the rows of a run
 fn compare_answers(
     alloc: Global,
     report: &mut Report,
-    head: &str,
     lines: &[&str],
     answers: &[AnswerOf<'_>],
 ) -> Result<(), AllocError> {
-    compare_head(alloc, report, head, answers.len(), "answers")?;
     for (line, answer) in lines.iter().zip(answers.iter()) {
         let (_, wanted) = parts_of(line);
         let mut text = String::new(alloc);

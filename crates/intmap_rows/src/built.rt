@@ -5,14 +5,14 @@ use crate::call::{no_call, with_few};
 use crate::iterated::{through_all, through_front};
 use crate::many::{Keys, value_of};
 use crate::maps::{Map, Maps};
-use crate::text::{write_bool, write_done, write_pairs, write_refusal, write_stopped};
+use crate::text::{write_done, write_pairs, write_refusal, write_stopped};
 use intmap::{Cause, IntMap};
 use refuser::Refuser;
 use std::alloc::{AllocError, Allocator, Global};
 use std::vec;
 
-/// Writes the answer to a call with any number of pairs behind its name, or to one with three numbers
-/// at most.
+/// Writes the answer to a call with any number of pairs behind its name, or to one with four numbers at
+/// most.
 pub fn with_pairs(
     out: &mut String,
     maps: &mut Maps<'_>,
@@ -87,10 +87,9 @@ pub fn with_other(out: &mut String, maps: &mut Maps<'_>, name: &str) -> Result<(
         },
         "clone" => write_done(out, maps.clone_to_other()),
         "clone_lists" => clone_lists(out, maps),
-        "equal" => write_bool(out, maps.are_equal()),
-        "debug" => {
-            let map = &maps.map;
-            write!(out, "{map:?}")
+        "equal" => {
+            let (one, back) = maps.are_equal();
+            write!(out, "{one} {back}")
         }
         _ => through_all(out, maps, name),
     }
@@ -162,29 +161,44 @@ type Listed<'a> = Vec<u64, &'a Refuser<Global>>;
 // a map of such values
 type ListedMap<'a> = IntMap<u64, Listed<'a>, &'a Refuser<Global>>;
 
-// writes the pairs of a clone of a map with the same keys, whose values are lists of one number
+// writes the pairs of a clone of a map with the same keys, whose values are lists of one number; only
+// the requests of the clone are counted
 fn clone_lists(out: &mut String, maps: &Maps<'_>) -> Result<(), AllocError> {
-    match cloned_lists(maps) {
+    let refused = maps.memory.left();
+    maps.memory.arm(0);
+    match lists_of(maps) {
+        Ok(listed) => {
+            maps.memory.arm(refused);
+            write_clone(out, &maps.map, &listed)
+        }
+        Err(cause) => write_refusal(out, cause, None),
+    }
+}
+
+// writes the pairs of that clone, or that it was refused and whether it left what was to be cloned
+fn write_clone(out: &mut String, map: &Map<'_>, listed: &ListedMap<'_>) -> Result<(), AllocError> {
+    match listed.clone() {
         Ok(cloned) => write_pairs(
             out,
             cloned.iter().map(|(key, values)| (*key, first_of(values))),
         ),
+        Err(_) if !is_listed(map, listed) => out.push_str("the source changed"),
         Err(cause) => write_refusal(out, cause, None),
     }
+}
+
+// whether a map of lists has the walk and the slots of a map, and in each list the value alone
+fn is_listed(map: &Map<'_>, listed: &ListedMap<'_>) -> bool {
+    let mut is_so = map.len() == listed.len() && map.capacity() == listed.capacity();
+    for ((key, value), (other, values)) in map.iter().zip(listed.iter()) {
+        is_so = is_so && key == other && values.as_slice() == [*value].as_slice();
+    }
+    is_so
 }
 
 // the number of such a list
 fn first_of(values: &Listed<'_>) -> u64 {
     values.first().copied().unwrap_or(0)
-}
-
-// that clone; only the requests of the clone are counted
-fn cloned_lists<'a>(maps: &Maps<'a>) -> Result<ListedMap<'a>, Cause> {
-    let refused = maps.memory.left();
-    maps.memory.arm(0);
-    let listed = lists_of(maps)?;
-    maps.memory.arm(refused);
-    listed.clone()
 }
 
 // a map with the same walk, and a list of the value in place of each

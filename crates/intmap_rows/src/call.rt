@@ -5,9 +5,10 @@ use crate::entries::{with_entry, with_reference};
 use crate::figures::figure;
 use crate::items::{insert_checked_items, insert_items};
 use crate::many::{
-    Insertion, Keys, Search, find_many, insert_many, keys_sum, values_sum, walk_sum,
+    Insertion, Keys, Search, contains_many, find_many, insert_many, keys_sum, replace_many,
+    value_of, values_sum, walk_sum,
 };
-use crate::maps::{MapOf, Maps};
+use crate::maps::{Map, MapOf, Maps};
 use crate::retained::retain;
 use crate::runs::run_many;
 use crate::text::{
@@ -18,7 +19,7 @@ use crate::word::words_of;
 use intmap::steps::Steps;
 use intmap::{IntKey, IntMap};
 use std::alloc::AllocError;
-use std::fmt::Display;
+use std::fmt::{Debug, Display};
 
 /// Writes the answer to a call. Words that are no call answer so.
 pub fn answer_to(out: &mut String, maps: &mut Maps<'_>, call: &str) -> Result<(), AllocError> {
@@ -28,7 +29,7 @@ pub fn answer_to(out: &mut String, maps: &mut Maps<'_>, call: &str) -> Result<()
     }
 }
 
-/// Writes the answer to a call with three numbers at most.
+/// Writes the answer to a call with four numbers at most.
 pub fn with_few(
     out: &mut String,
     maps: &mut Maps<'_>,
@@ -40,12 +41,15 @@ pub fn with_few(
         [number] => with_number(out, maps, name, *number),
         [key, value] => with_pair(out, &mut maps.map, name, *key, *value),
         [first, count, step] => {
-            let keys = Keys {
-                first: *first,
-                count: *count,
-                step: *step,
-            };
-            with_keys(out, maps, name, keys)
+            let keys = Keys::new(*first, *count, *step);
+            match search_of(name) {
+                Some(search) => find_many(out, &mut maps.map, search, keys, value_of(0)),
+                None => with_keys(out, maps, name, keys),
+            }
+        }
+        [first, count, step, more] => {
+            let keys = Keys::new(*first, *count, *step);
+            with_more(out, &mut maps.map, name, keys, *more)
         }
         _ => no_call(out),
     }
@@ -77,7 +81,7 @@ fn bare(out: &mut String, maps: &mut Maps<'_>, name: &str) -> Result<(), AllocEr
 }
 
 /// Writes the answer to a call without a key.
-pub fn without_key<K: IntKey + Display>(
+pub fn without_key<K: IntKey + Display + Debug>(
     out: &mut String,
     map: &mut MapOf<'_, K>,
     name: &str,
@@ -92,7 +96,7 @@ pub fn without_key<K: IntKey + Display>(
 }
 
 /// Writes the answer to a call that looks at a map.
-pub fn seen<K: IntKey + Display>(
+pub fn seen<K: IntKey + Display + Debug>(
     out: &mut String,
     map: &MapOf<'_, K>,
     name: &str,
@@ -103,6 +107,7 @@ pub fn seen<K: IntKey + Display>(
         "capacity" => write_number(out, map.capacity() as u128),
         "get_load_factor" => write_number(out, map.get_load_factor() as u128),
         "walk" => write_walk(out, map),
+        "debug" => write!(out, "{map:?}"),
         "keys" => write_keys(out, map),
         "state" => write_state(out, map),
         _ => figure(out, map, name),
@@ -177,6 +182,10 @@ pub fn with_pair<K: IntKey>(
             Ok(new) => write_bool(out, new),
             Err(refused) => write_refusal(out, refused.cause, Some(refused.value)),
         },
+        "insert_debug" => {
+            let called = map.insert(key, value);
+            write!(out, "{called:?}")
+        }
         _ => with_reference(out, map, name, key, value),
     }
 }
@@ -195,10 +204,25 @@ fn with_keys(
         "or_insert_many" => insert_many(out, &mut maps.map, Insertion::OrInsert, keys),
         "run_many" => run_many(out, maps.memory, &mut maps.map, "insert", keys),
         "run_entries_many" => run_many(out, maps.memory, &mut maps.map, "entry_insert", keys),
-        _ => match search_of(name) {
-            Some(search) => write_number(out, find_many(&mut maps.map, search, keys) as u128),
-            None => with_many_pairs(out, maps, name, keys),
-        },
+        "contains_many" => write_number(out, contains_many(&maps.map, keys) as u128),
+        _ => with_many_pairs(out, maps, name, keys),
+    }
+}
+
+// writes the answer to a call with many keys, and how much more than themselves they are bound to
+fn with_more(
+    out: &mut String,
+    map: &mut Map<'_>,
+    name: &str,
+    keys: Keys,
+    more: u64,
+) -> Result<(), AllocError> {
+    if name == "entry_replace_many" {
+        return write_number(out, replace_many(map, keys, more) as u128);
+    }
+    match search_of(name) {
+        Some(search) => find_many(out, map, search, keys, more),
+        None => no_call(out),
     }
 }
 
@@ -207,7 +231,6 @@ fn search_of(name: &str) -> Option<Search> {
     match name {
         "get_many" => Some(Search::Get),
         "get_mut_many" => Some(Search::GetMut),
-        "contains_many" => Some(Search::ContainsKey),
         "remove_many" => Some(Search::Remove),
         "entry_remove_many" => Some(Search::EntryRemove),
         _ => None,

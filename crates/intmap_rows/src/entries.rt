@@ -81,6 +81,19 @@ pub fn remove_by_entry<K: IntKey>(map: &mut MapOf<'_, K>, key: K) -> Option<u64>
     }
 }
 
+/// Has the entry of a bound key set its value. Whether it showed the key and the value before, by both
+/// references, handed that value out, and then showed the new one.
+pub fn replace_by_entry(map: &mut MapOf<'_, u64>, key: u64, before: u64, after: u64) -> bool {
+    match map.entry(key) {
+        Entry::Occupied(mut entry) => {
+            let shown = *entry.key() == key && *entry.get() == before && *entry.get_mut() == before;
+            let handed_out = entry.insert(after);
+            shown && handed_out == before && *entry.into_mut() == after
+        }
+        Entry::Vacant(_entry) => false,
+    }
+}
+
 // sets the value of the key
 fn insert<K: IntKey>(
     out: &mut String,

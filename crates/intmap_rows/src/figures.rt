@@ -20,6 +20,10 @@ pub fn figure<K: IntKey>(
             Ok(sizes) => write_walk(out, &sizes),
             Err(cause) => write_refusal(out, cause, None),
         },
+        "collisions_debug" => match map.collisions() {
+            Ok(sizes) => write!(out, "{sizes:?}"),
+            Err(cause) => write_refusal(out, cause, None),
+        },
         "collisions_state" => match map.collisions() {
             Ok(sizes) => write_state(out, &sizes),
             Err(cause) => write_refusal(out, cause, None),

@@ -8,7 +8,7 @@ use crate::text::write_refusal;
 use intmap::IntKey;
 use refuser::Refuser;
 use std::alloc::{AllocError, Global};
-use std::fmt::Display;
+use std::fmt::{Debug, Display};
 use std::str::FromStr;
 
 /// A map of each kind of key. Each is made at the first call on it, so that there are no others to
@@ -73,7 +73,7 @@ fn lend<'k, 'a, K: IntKey>(
 // writes the answer to a call on a map
 fn answer<K>(out: &mut String, map: &mut MapOf<'_, K>, call: &str) -> Result<(), AllocError>
 where
-    K: IntKey + Display + FromStr,
+    K: IntKey + Display + Debug + FromStr,
     K::Err: Drop,
 {
     let (name, rest) = call.split_once(' ').unwrap_or((call, ""));

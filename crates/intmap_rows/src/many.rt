@@ -1,6 +1,6 @@
 //! Calls with many keys: a first one, and others at equal distances behind it.
 
-use crate::entries::remove_by_entry;
+use crate::entries::{remove_by_entry, replace_by_entry};
 use crate::maps::Map;
 use crate::text::write_refusal;
 use intmap::Refused;
@@ -11,14 +11,19 @@ use std::alloc::AllocError;
 #[derive(Clone, Copy)]
 pub struct Keys {
     /// The first key.
-    pub first: u64,
+    first: u64,
     /// How many there are.
     pub count: u64,
     /// How far each is behind the one before it.
-    pub step: u64,
+    step: u64,
 }
 
 impl Keys {
+    /// So many keys.
+    pub fn new(first: u64, count: u64, step: u64) -> Keys {
+        Keys { first, count, step }
+    }
+
     /// The key at this place.
     pub fn at(self, place: u64) -> u64 {
         self.first.wrapping_add(place.wrapping_mul(self.step))
@@ -109,8 +114,6 @@ pub enum Search {
     Get,
     /// By a reference that may write.
     GetMut,
-    /// Whether it is bound, whatever to.
-    ContainsKey,
     /// It is taken out.
     Remove,
     /// It is taken out by its entry.
@@ -118,28 +121,56 @@ pub enum Search {
 }
 
 impl Search {
-    // whether the key is found, bound to ten more
-    fn finds(self, map: &mut Map<'_>, key: u64) -> bool {
-        let found = match self {
+    // the value that is found, if there is one
+    fn found(self, map: &mut Map<'_>, key: u64) -> Option<u64> {
+        match self {
             Search::Get => map.get(key).copied(),
             Search::GetMut => map.get_mut(key).copied(),
-            Search::ContainsKey => return map.contains_key(key),
             Search::Remove => map.remove(key),
             Search::EntryRemove => remove_by_entry(map, key),
-        };
-        found == Some(value_of(key))
+        }
     }
 }
 
-/// How many of the keys are found.
-pub fn find_many(map: &mut Map<'_>, search: Search, keys: Keys) -> u64 {
+/// Writes how many of the keys are found bound to so much more than themselves, of how many that are
+/// found.
+pub fn find_many(
+    out: &mut String,
+    map: &mut Map<'_>,
+    search: Search,
+    keys: Keys,
+    more: u64,
+) -> Result<(), AllocError> {
+    let mut found = 0u64;
+    let mut fitting = 0u64;
+    for place in 0..keys.count {
+        let key = keys.at(place);
+        let value = search.found(map, key);
+        found = found.wrapping_add(u64::from(value.is_some()));
+        fitting = fitting.wrapping_add(u64::from(value == Some(key.wrapping_add(more))));
+    }
+    write!(out, "{fitting} of {found}")
+}
+
+/// How many of the keys are bound, whatever to.
+pub fn contains_many(map: &Map<'_>, keys: Keys) -> u64 {
     let mut found = 0u64;
     for place in 0..keys.count {
-        if search.finds(map, keys.at(place)) {
-            found = found.wrapping_add(1);
-        }
+        found = found.wrapping_add(u64::from(map.contains_key(keys.at(place))));
     }
     found
+}
+
+/// Has the entry of each bound key bind it to so much more than itself, in place of ten more. How many
+/// entries showed their key and the value before, handed that out, and then showed the other one.
+pub fn replace_many(map: &mut Map<'_>, keys: Keys, more: u64) -> u64 {
+    let mut replaced = 0u64;
+    for place in 0..keys.count {
+        let key = keys.at(place);
+        let is_so = replace_by_entry(map, key, value_of(key), key.wrapping_add(more));
+        replaced = replaced.wrapping_add(u64::from(is_so));
+    }
+    replaced
 }
 
 /// How many pairs there were, and a sum that tells their order: it begins at 0, and the number of

@@ -63,8 +63,9 @@ impl<'a> Maps<'a> {
         Ok(())
     }
 
-    /// Whether the two maps are equal, from either side.
-    pub fn are_equal(&self) -> bool {
-        self.map == self.other && self.other == self.map
+    /// Whether the map that calls are made on is equal to the other one, and whether the other one
+    /// is equal to it.
+    pub fn are_equal(&self) -> (bool, bool) {
+        (self.map == self.other, self.other == self.map)
     }
 }

@@ -6,10 +6,10 @@ use crate::maps::MapOf;
 use crate::text::{write_done, write_number};
 use intmap::IntKey;
 use std::alloc::AllocError;
-use std::fmt::Display;
+use std::fmt::{Debug, Display};
 
 /// Writes the answer to a call that keeps some of the pairs, or that only looks at them.
-pub fn retain<K: IntKey + Display>(
+pub fn retain<K: IntKey + Display + Debug>(
     out: &mut String,
     map: &mut MapOf<'_, K>,
     name: &str,
