@@ -71,17 +71,11 @@ def read(value):
 def json_answer(call):
     """The answer to the call of a row of JSON."""
     name, _, text = call.partition(" ")
-    if name == "members":
-        return members_answer(int(text))
     try:
         value = json.loads(text if name == "write" else call, parse_int=number_of, parse_float=Float)
     except ValueError:
         return "no JSON"
     return written(value) if name == "write" else read(value)
-
-
-def members_answer(count):
-    raise Unknown(f"members {count}")
 
 
 class Vectors:
