@@ -1,5 +1,6 @@
 -- Where the pair of a key stands in a table.
-use Rattle.std.specs.Prelude.{◌≡◌, ℕ, zero, suc, ◌+◌, List, [], ◌∷◌, length, Option, Some, None, IsSome, position}
+use Rattle.std.proofs.Common.{subst}
+use Rattle.std.specs.Prelude.{◌≡◌, ℕ, zero, suc, ◌+◌, List, [], ◌∷◌, length, cond, Option, Some, None, IsSome, position}
 use Rattle.intmap.specs.Classes.{slot_number, same_key}
 use Rattle.intmap.specs.Walk.{slot_of}
 use Rattle.intmap.specs.declared.table.locate.Location.{Location}
@@ -13,7 +14,7 @@ key_at (p ∷ L) (suc i) = key_at L i
 -- the key that is there
 abbrev pub the_key : {K : Type 0} → (o : Option K) → IsSome o → K
 the_key (Some k) is = k
-the_key None is = absurd cc
+the_key None is = absurd (subst (λ b. cond b ⊥ (Unit {0})) is tt)
 
 module _ {K V : Type 0} (number : K → ℕ) where
   -- the pair of the location's key stands there, in the walk through C slots
