@@ -1,4 +1,4 @@
-//! Entries: a map with a key that was looked for once, to read, write, take out or add its pair.
+//! Entries: a map with a key that was looked up once, to read, write, remove or insert its pair.
 ghost use Rattle.std.specs.Prelude.{◌≡◌, None};
 ghost use Rattle.intmap.specs.Bindings.{value_of};
 ghost use Rattle.intmap.specs.Locations.{IsFound};
@@ -11,16 +11,16 @@ use crate::key::IntKey;
 use crate::map::IntMap;
 use std::alloc::{Allocator, Global};
 
-/// A map with a key that was looked for in it, made by [`IntMap::entry`].
+/// A map with a key that was looked up in it, made by [`IntMap::entry`].
 #[derive(Drop)]
 pub enum Entry<'a, K: IntKey, V, A: Allocator + Copy = Global> {
-    /// The key is bound.
+    /// The key is present.
     Occupied(OccupiedEntry<'a, K, V, A>),
-    /// The key isn't bound.
+    /// The key is absent.
     Vacant(VacantEntry<'a, K, V, A>),
 }
 
-/// A map with a key that is bound in it.
+/// A map with a key that is present in it.
 #[derive(Drop)]
 pub struct OccupiedEntry<'a, K: IntKey, V, A: Allocator + Copy = Global> {
     map: &'a mut IntMap<K, V, A>,
@@ -29,14 +29,14 @@ pub struct OccupiedEntry<'a, K: IntKey, V, A: Allocator + Copy = Global> {
     ghost found: { IsFound K.number_of map.now.walk map.now.capacity slot place },
 }
 
-/// A map with a key that isn't bound in it.
+/// A map with a key that is absent from it.
 pub struct VacantEntry<'a, K: IntKey, V, A: Allocator + Copy = Global> {
     map: &'a mut IntMap<K, V, A>,
     key: K,
     ghost missing: { value_of K.number_of map.now.walk key ≡ None },
 }
 
-/// The map stays as it is.
+/// Dropping it leaves the map as it is.
 impl<K: IntKey, V, A: Allocator + Copy> Drop for VacantEntry<'_, K, V, A> {
     ghost use Rattle.std.specs.Prelude.{◌≡◌};
     ghost use Rattle.intmap.specs.Entries.{Vacant, entry_map};

@@ -1,5 +1,5 @@
-//! The iterators of a map. Each gives its pairs in the order of the slots, and in a slot from the
-//! front to the back.
+//! The iterators of a map. Each goes through the slots in turn, and through each slot from front to
+//! back.
 ghost use Rattle.std.specs.Iterator.{YieldsFirstBy, item_count};
 
 mod drain;
@@ -44,8 +44,8 @@ impl<'a, K: IntKey, V, A: Allocator + Copy> Iterator for Iter<'a, K, V, A> {
     }
 }
 
-/// The keys of a map by reference, made by [`IntMap::keys`](crate::IntMap::keys). Contracts see it as
-/// the list of the keys that are left.
+/// The keys of a map by reference, made by [`IntMap::keys`](crate::IntMap::keys). Contracts see it
+/// as the list of the keys that are left.
 #[derive(Drop)]
 pub struct Keys<'a, K: IntKey, V, A: Allocator + Copy = Global> {
     pub(crate) pairs: Iter<'a, K, V, A>,
@@ -77,8 +77,8 @@ impl<'a, K: IntKey, V, A: Allocator + Copy> Iterator for Keys<'a, K, V, A> {
     }
 }
 
-/// The values of a map by reference, made by [`IntMap::values`](crate::IntMap::values). Contracts see
-/// it as the list of the values that are left.
+/// The values of a map by reference, made by [`IntMap::values`](crate::IntMap::values). Contracts
+/// see it as the list of the values that are left.
 #[derive(Drop)]
 pub struct Values<'a, K: IntKey, V, A: Allocator + Copy = Global> {
     pub(crate) pairs: Iter<'a, K, V, A>,

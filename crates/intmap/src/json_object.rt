@@ -1,4 +1,4 @@
-//! What the two calls for JSON share: their causes, the texts of keys, and floats in trees.
+//! What the two calls for JSON share: their causes, the texts of keys, and floats in JSON values.
 ghost use Rattle.std.specs.Prelude.{◌≡◌};
 ghost use Rattle.intmap.specs.Json.{json_cause};
 
@@ -8,23 +8,23 @@ pub(crate) mod key_text;
 use crate::refusal::{Cause, Refused};
 use std::alloc::AllocError;
 
-/// Why a map wasn't written as JSON, or wasn't read from it.
+/// Why a map could not be written as JSON, or read from it.
 #[derive(Clone, Copy, PartialEq, Eq, Debug)]
 pub enum JsonCause {
-    /// A request for memory was refused.
+    /// An allocation failed.
     Memory,
-    /// In reading alone: there are more than 2^63 members, or a wanted capacity is above 2^63
+    /// Only in reading: there are more than 2^63 members, or an insertion needs more than 2^63
     /// slots.
     TooLarge,
-    /// In reading alone: the value isn't an object.
+    /// Only in reading: the JSON value isn't an object.
     NotAnObject,
-    /// In reading alone: the key of a member isn't the canonical text of a number.
+    /// Only in reading: the key of a member isn't the canonical text of a number below 2^64.
     BadKey,
     /// A value holds, at any depth, a number that is neither a `u64` nor an `i64`.
     HoldsFloat,
 }
 
-/// The cause of a refused call on a map.
+/// The cause of a failed call on a map.
 impl From<Cause> for JsonCause {
     ghost from_gives = { λ cause json. json ≡ json_cause cause };
 
@@ -36,7 +36,7 @@ impl From<Cause> for JsonCause {
     }
 }
 
-/// The cause alone: by `?` a caller that answers a `JsonCause` lets the value go.
+/// The cause alone. With `?`, a caller that returns a `JsonCause` drops the value.
 impl<V: Drop> From<Refused<V>> for JsonCause {
     ghost from_gives = { λ refused json. json ≡ json_cause refused.cause };
 
@@ -45,7 +45,7 @@ impl<V: Drop> From<Refused<V>> for JsonCause {
     }
 }
 
-/// A refused request for memory.
+/// A failed allocation.
 impl From<AllocError> for JsonCause {
     ghost use Rattle.intmap.specs.declared.json_object.JsonCause.{JsonCause};
 

@@ -1,4 +1,4 @@
-//! Values at rest.
+//! Stored values.
 use std::alloc::AllocError;
 
 /// A value that a table stores.

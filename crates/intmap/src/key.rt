@@ -1,14 +1,14 @@
-//! The kinds of key that a map takes: those of which each has a number of its own.
+//! The types of keys that a map takes. Each key of such a type has a number of its own.
 ghost use Rattle.std.specs.Prelude.{◌≡◌, ℕ, ◌^◌, ◌<◌, ◌==◌};
 
 mod narrow;
 mod wide;
 
-/// A kind of key. Each key has a number below `2 ^ 64` that no other key has.
+/// A type of keys. Each key has a number below `2 ^ 64` that no other key has.
 ///
 /// A `u8`, `u16`, `u32`, `u64` or `usize` is its own number. So is an `i32` or `i64` that isn't
-/// negative; a negative one has the number that is `2 ^ 64` more. A type of one's own is a kind of
-/// key once it implements this trait.
+/// negative; a negative one has the number that is `2 ^ 64` more. Your own type becomes a type of
+/// keys by implementing this trait.
 ///
 /// ```text
 /// // Article has one field, number: u32, and derives Clone, Copy, PartialEq and Eq
@@ -28,7 +28,7 @@ mod wide;
 /// }
 /// ```
 pub trait IntKey: Copy + Eq {
-    /// What holds of each value of the type, as that it is in the type's range.
+    /// What holds of each value of the type, such as its range.
     ghost is_key: { Self → Type 0 };
 
     /// The number of a key.
@@ -43,7 +43,7 @@ pub trait IntKey: Copy + Eq {
     /// Two keys with equal numbers are one and the same key.
     ghost exact: { (x y : Self) → is_key x → is_key y → number_of x ≡ number_of y → x ≡ y };
 
-    /// `==` answers whether two keys have equal numbers.
+    /// `==` returns whether two keys have equal numbers.
     ghost eq_is: { (x y : Self) → is_key x → is_key y
         → Self.eq x y ≡ (number_of x == number_of y) };
 }

@@ -6,8 +6,8 @@ ghost use denote.RawPtr.{Ptr, coded_ptr};
 
 use std::marker::{Model, Move, Owns, PhantomData};
 
-/// What a `&` to a table shows in the place of each stored value, while that is lent: where it lies
-/// and what it was. It is laid out as a stored value is, and none is ever made.
+/// What a `&` to a table shows in place of each stored value while that is lent: where it lies and
+/// what it was. It has the layout of a stored value, and none is ever made.
 pub(crate) struct Hole<V> {
     value: V,
 }
@@ -24,9 +24,9 @@ impl<V> Move for Hole<V> {
     ghost own_val = { λ _ _. ffalse };
 }
 
-/// The right to write values that lie apart, each of which is taken once. Contracts see the name of
-/// their loan, that of the loan behind it, which the map follows, and the cells that are left: where
-/// each value lies and what it was, in order.
+/// The right to write values that lie apart, each of which is taken once. Contracts see three
+/// things: the name of their loan, the name of the loan behind it, which the map follows, and the
+/// cells that are left. The cells say, in order, where each value lies and what it was.
 pub(crate) struct Lent<'a, V> {
     pub(crate) mark: PhantomData<&'a mut V>,
     ghost loan: { GName },
@@ -53,7 +53,7 @@ impl<'a, V> Lent<'a, V> {
     ghost use Rattle.std.specs.Prelude.{◌≡◌, List, ◌∷◌};
     ghost use denote.RawPtr.{Ptr};
 
-    /// The first of the values that are left, to be written. The hole shows where it lies.
+    /// A mutable reference to the first of the values that are left. The hole shows where it lies.
     pub(crate) fn take_first(&mut self, hole: &'a Hole<V>) -> &'a mut V
         requires { (rest : List (Ptr × V)) × (self.old.cells ≡ hole.now ∷ rest) }
         ensures { (result.now ≡ hole.now.1) × (self.old.cells ≡ hole.now ∷ self.new.cells) }

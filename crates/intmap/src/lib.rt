@@ -1,4 +1,5 @@
-//! A hash map from integer keys, whose order and capacity follow from its calls alone.
+//! A hash map from integer keys. Its iteration order and its capacity depend on its calls alone:
+//! there is no random seed.
 #![tactic(auto)]
 
 pub mod entry;

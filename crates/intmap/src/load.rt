@@ -1,4 +1,4 @@
-//! When a table has too few slots for its pairs, and how many slots they want.
+//! Whether a table has too few slots for its pairs, and how many slots they need.
 ghost use Rattle.std.specs.Prelude.{◌≡◌, ◌^◌, ◌<◌, ◌&&◌, nat_lt, IfSome, IfNone};
 ghost use Rattle.intmap.specs.Classes.{IsCapacity};
 ghost use Rattle.intmap.specs.Growth.{IsWanted, IsLimit, WantsTooMuch, is_due};
@@ -6,8 +6,8 @@ ghost use Rattle.intmap.specs.Growth.{IsWanted, IsLimit, WantsTooMuch, is_due};
 /// The greatest number of slots.
 pub(crate) const GREATEST_CAPACITY: usize = 9223372036854775808;
 
-/// The least of `capacity` and its doublings in which so many pairs meet the load factor, which is
-/// in thousandths. `None` where none up to 2^63 is enough.
+/// The least of `capacity` and its doublings in which `len` pairs meet the load factor `factor`, in
+/// thousandths. It is `None` if no capacity up to 2^63 is enough.
 pub(crate) fn wanted_capacity(len: usize, capacity: usize, factor: usize) -> Option<usize>
     requires { IsCapacity capacity }
     ensures wanted { IfSome result (IsWanted capacity len factor) }
@@ -26,7 +26,7 @@ pub(crate) fn wanted_capacity(len: usize, capacity: usize, factor: usize) -> Opt
     Some(slots)
 }
 
-/// The greatest number of pairs, up to the greatest `usize`, that meets the load factor in so many
+/// The greatest number of pairs, at most `usize::MAX`, that meets the load factor in `capacity`
 /// slots.
 pub(crate) fn limit_of(capacity: usize, factor: usize) -> usize
     requires { IsCapacity capacity }
@@ -40,7 +40,7 @@ pub(crate) fn limit_of(capacity: usize, factor: usize) -> usize
     }
 }
 
-/// Whether growth is tested at so many pairs, and they are more than the limit.
+/// Whether the load is checked at `len` pairs, and they are more than the limit.
 pub(crate) fn has_outgrown(len: usize, limit: usize) -> bool
     ensures { result ≡ is_due len && nat_lt limit len }
 {

@@ -32,14 +32,15 @@ use std::marker::Model;
 
 /// A hash map from integer keys to values.
 ///
-/// Its pairs lie in slots, as many as a power of two; a key's slot is its number times an odd
-/// constant, modulo the number of slots. The order of the pairs, the walk, goes through the slots
-/// in turn and each from the front to the back, and follows from the calls alone. No call makes
-/// the number of slots smaller.
+/// Its pairs lie in slots, whose number is a power of two. A key's slot is its number times an odd
+/// constant, modulo the number of slots. Iteration goes through the slots in turn, and through each
+/// from front to back. The list of the pairs in this order is the walk. It depends on the calls
+/// alone: there is no random seed. No call makes the number of slots smaller.
 ///
 /// Contracts see a map as a [`MapState`](../specs/Map.antt): its walk, its number of slots, its
-/// load factor in thousandths, and two counts that take no bytes: of the pairs that insertions put
-/// into larger tables, and of the keys that calls compared.
+/// load factor in thousandths, and two counts. One is of the pairs that insertions put into larger
+/// tables, the other of the keys that calls by `&mut` compared. Only contracts see the counts: they
+/// take no memory.
 #[derive(Drop)]
 pub struct IntMap<K: IntKey, V, A: Allocator + Copy = Global> {
     table: Table<K, Kept<V>, A>,
@@ -69,7 +70,7 @@ impl<K: IntKey, V, A: Allocator + Copy> Model for IntMap<K, V, A> {
 }
 
 impl<K: IntKey, V, A: Allocator + Copy> IntMap<K, V, A> {
-    /// The number of pairs. It is never refused.
+    /// The number of pairs. It never fails.
     pub fn len(&self) -> usize
         ensures value { result ≡ length self.now.walk }
         ensures map { IsMap K.number_of K.is_key self.now }
@@ -77,7 +78,7 @@ impl<K: IntKey, V, A: Allocator + Copy> IntMap<K, V, A> {
         self.len
     }
 
-    /// Whether there is no pair. It is never refused.
+    /// Whether there is no pair. It never fails.
     pub fn is_empty(&self) -> bool
         ensures value { result ≡ (length self.now.walk == 0) }
         ensures map { IsMap K.number_of K.is_key self.now }
@@ -85,7 +86,7 @@ impl<K: IntKey, V, A: Allocator + Copy> IntMap<K, V, A> {
         self.len == 0
     }
 
-    /// The number of slots, a power of two from 2 to 2^63. It is never refused.
+    /// The number of slots, a power of two from 2 to 2^63. It never fails.
     pub fn capacity(&self) -> usize
         ensures value { result ≡ self.now.capacity }
         ensures map { IsMap K.number_of K.is_key self.now }
@@ -93,8 +94,8 @@ impl<K: IntKey, V, A: Allocator + Copy> IntMap<K, V, A> {
         self.table.capacity()
     }
 
-    /// The pairs by reference, in the order of the walk. It is never refused, and nor is a step of
-    /// the iterator.
+    /// An iterator over the pairs by reference, in iteration order. Neither this call nor a step of
+    /// the iterator fails.
     ///
     /// ```text
     /// after insert(0, 10), insert(1, 11) and insert(4, 14) into 4 slots:
@@ -109,8 +110,8 @@ impl<K: IntKey, V, A: Allocator + Copy> IntMap<K, V, A> {
         }
     }
 
-    /// The keys by reference, in the order of the walk. It is never refused, and nor is a step of the
-    /// iterator.
+    /// An iterator over the keys by reference, in iteration order. Neither this call nor a step of
+    /// the iterator fails.
     pub fn keys(&self) -> Keys<'_, K, V, A>
         ensures walk { result ≡ keys_of self.now.walk }
         ensures map { IsMap K.number_of K.is_key self.now }
@@ -118,8 +119,8 @@ impl<K: IntKey, V, A: Allocator + Copy> IntMap<K, V, A> {
         Keys { pairs: self.iter() }
     }
 
-    /// The values by reference, in the order of the walk. It is never refused, and nor is a step of
-    /// the iterator.
+    /// An iterator over the values by reference, in iteration order. Neither this call nor a step
+    /// of the iterator fails.
     pub fn values(&self) -> Values<'_, K, V, A>
         ensures walk { result ≡ values_of self.now.walk }
         ensures map { IsMap K.number_of K.is_key self.now }
@@ -147,8 +148,8 @@ impl<K: IntKey, V: Drop, A: Allocator + Copy> IntoIterator for IntMap<K, V, A> {
 
     ghost into_iter_gives = { λ map it. it ≡ map.walk };
 
-    /// The pairs by value, in the order of the walk. It is never refused, and nor is a step of the
-    /// iterator. What isn't handed out goes with the iterator.
+    /// An iterator over the pairs by value, in iteration order. Neither this call nor a step of the
+    /// iterator fails. Dropping the iterator drops the pairs that are left.
     fn into_iter(self) -> IntoIter<K, V, A> {
         IntoIter {
             pairs: self.table.into_pairs(),

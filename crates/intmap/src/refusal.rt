@@ -1,12 +1,12 @@
-//! Why a call was refused, and what it hands back.
+//! Why a call failed, and what it returns to the caller.
 ghost use Rattle.std.specs.Prelude.{◌≡◌};
 
-/// Why a call was refused.
+/// Why a call failed.
 #[derive(Clone, Copy, PartialEq, Eq, Debug)]
 pub enum Cause {
-    /// A request for memory was refused.
+    /// An allocation failed.
     Memory,
-    /// The wanted length is above 2^64 - 1, or the wanted capacity above 2^63 slots.
+    /// The map would need a length above 2^64 - 1, or a capacity above 2^63 slots.
     TooLarge,
 }
 
@@ -20,13 +20,13 @@ pub enum Cause {
 /// ```
 #[derive(Debug, Drop)]
 pub struct Refused<V> {
-    /// The value, handed back.
+    /// The value, returned to the caller.
     pub value: V,
-    /// Why it was refused.
+    /// Why the call failed.
     pub cause: Cause,
 }
 
-/// The cause alone: by `?` a caller that answers a `Cause` lets the value go.
+/// The cause alone. With `?`, a caller that returns a `Cause` drops the value.
 impl<V: Drop> From<Refused<V>> for Cause {
     ghost from_gives = { λ refused cause. cause ≡ refused.cause };
 
@@ -35,8 +35,8 @@ impl<V: Drop> From<Refused<V>> for Cause {
     }
 }
 
-/// A pair that could not be put into a map as one of several, with the cause and the number of
-/// those before it, which the map took.
+/// The pair at which the insertion of several pairs failed, with the cause and the number of pairs
+/// that were inserted before it.
 ///
 /// ```text
 /// match map.extend(pairs) {
@@ -48,15 +48,15 @@ impl<V: Drop> From<Refused<V>> for Cause {
 pub struct RefusedPair<K, V> {
     /// The key of the pair.
     pub key: K,
-    /// Its value, handed back.
+    /// Its value, returned to the caller.
     pub value: V,
-    /// How many pairs the map took before this one; 2^64 - 1 where there were more.
+    /// How many pairs were inserted before this one, or 2^64 - 1 if there were more.
     pub applied: usize,
-    /// Why it was refused.
+    /// Why its insertion failed.
     pub cause: Cause,
 }
 
-/// The cause alone: by `?` a caller that answers a `Cause` lets the pair go.
+/// The cause alone. With `?`, a caller that returns a `Cause` drops the pair.
 impl<K: Drop, V: Drop> From<RefusedPair<K, V>> for Cause {
     ghost from_gives = { λ refused cause. cause ≡ refused.cause };
 

@@ -21,9 +21,9 @@ use search::{find_back_in, find_behind, find_in};
 use std::alloc::Allocator;
 use std::marker::Model;
 
-/// Pairs in order, with the room that there is for them. One pair takes no memory of its own. When
-/// pairs are taken out from the front, each in one step, those behind the first one lie the last
-/// first. A call that changes the slot otherwise puts them in order before.
+/// Pairs in order, with the room that there is for them. A single pair needs no allocation. When
+/// pairs are removed from the front, each in one step, those behind the first one lie in reverse
+/// order. Every other call that changes the slot puts them in order first.
 #[derive(Drop)]
 pub(crate) struct Slot<K: IntKey, X, A: Allocator> {
     first: First<(Stored<K>, X)>,
@@ -48,7 +48,7 @@ impl<K: IntKey, X, A: Allocator> Slot<K, X, A> {
     ghost use Rattle.std.specs.Borrow.{sem};
     ghost use Rattle.intmap.specs.Lending.{slot_lends};
 
-    /// A slot with no pair. It takes no memory.
+    /// A slot with no pair. It allocates nothing.
     pub(crate) fn new(alloc: A) -> Slot<K, X, A>
         ensures pairs { result.pairs ≡ [] }
         ensures room { 0 < result.room }
@@ -69,7 +69,7 @@ impl<K: IntKey, X, A: Allocator> Slot<K, X, A> {
         }
     }
 
-    /// What the key is bound to. The keys are compared from the front up to it, each by one step.
+    /// The value of the key. The keys are compared from the front up to it, each by one step.
     pub(crate) fn get(&self, key: &K, steps: &mut Steps) -> Option<&X>
         ensures value { option_copied result ≡ value_of K.number_of self.now.pairs key.now }
         ensures counted { steps.new ≡ steps.old
@@ -156,7 +156,7 @@ impl<K: IntKey, X, A: Allocator> Slot<K, X, A> {
         }
     }
 
-    /// The value of the pair at a place, to be written.
+    /// A mutable reference to the value of the pair at a place.
     pub(crate) fn value_mut_at(&mut self, place: usize) -> &mut X
         requires { place < length self.old.pairs }
         ensures* writes_back { sem 𝓛 (slot_lends K.row X.row A.row K.IntKey.own K.PartialEq
@@ -174,7 +174,7 @@ impl<K: IntKey, X, A: Allocator> Slot<K, X, A> {
         }
     }
 
-    /// The pair that has no other beside it.
+    /// The only pair, if there is exactly one.
     #[inline(always)]
     pub(crate) fn lone(&self) -> Option<&(Stored<K>, X)>
         ensures lone { IfSome result (λ pair. self.now.pairs ≡ pair.now ∷ []) }
@@ -186,8 +186,7 @@ impl<K: IntKey, X, A: Allocator> Slot<K, X, A> {
         }
     }
 
-    /// The first pair, if there is one, the rest, and whether it is turned, so that the last comes
-    /// first.
+    /// The first pair, if there is one, the rest, and whether the rest is turned: in reverse order.
     pub(crate) fn parts(&self) -> (Option<&(Stored<K>, X)>, &[(Stored<K>, X)], bool)
         ensures { self.now.pairs ≡ all_pairs (option_copied result.0)
             (cond result.2 (reverse result.1.now) result.1.now) }
@@ -240,7 +239,7 @@ impl<K: IntKey, X, A: Allocator> Slot<K, X, A> {
 }
 
 impl<K: IntKey, X: Drop, A: Allocator> Slot<K, X, A> {
-    /// Lets all pairs go, and keeps the room that there is.
+    /// Drops all pairs, and keeps the room that there is.
     pub(crate) fn clear(&mut self)
         ensures { self.new.pairs ≡ [] }
     {
@@ -248,7 +247,7 @@ impl<K: IntKey, X: Drop, A: Allocator> Slot<K, X, A> {
         self.rest.clear();
     }
 
-    /// The pair that has no other beside it. A slot with none or with more comes back as it was.
+    /// The only pair, if there is exactly one. Otherwise the slot is returned as it was.
     #[inline(always)]
     pub(crate) fn into_lone(self) -> Result<(Stored<K>, X), Slot<K, X, A>>
         ensures lone { IfOk result (λ pair. self.pairs ≡ pair ∷ []) }

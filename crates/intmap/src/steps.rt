@@ -1,4 +1,4 @@
-//! Counters of steps. A counter takes no bytes, and its number is there for contracts alone.
+//! Counters of steps. A counter takes no memory, and only contracts see its number.
 ghost use Rattle.std.specs.Prelude.{◌≡◌, ◌+◌, ℕ};
 ghost use Rattle.std.specs.Borrow.{ftrue};
 
@@ -15,7 +15,7 @@ impl Model for Tally {
 }
 
 impl Tally {
-    /// A tally of nothing.
+    /// A tally of zero.
     #[inline(always)]
     fn new() -> Tally
         ensures { result.count ≡ 0 }
@@ -32,11 +32,11 @@ impl Tally {
     }
 }
 
-/// A counter of steps. Contracts see it as the number of steps that were counted so far, and the
-/// program that runs has nothing of it: it has no bytes, and no method reads the number.
+/// A counter of steps. Contracts see it as the number of steps that were counted so far. The
+/// running program has no trace of it: a counter takes no memory, and no method reads the number.
 ///
-/// A caller makes one or is lent one, lends it to
-/// [`IntMap::get_counted`](crate::IntMap::get_counted), and speaks of it in a contract of its own:
+/// A caller makes a counter or has one by `&mut`, passes it to
+/// [`IntMap::get_counted`](crate::IntMap::get_counted), and mentions it in a contract of its own:
 ///
 /// ```text
 /// ensures counted { steps.new ≤ steps.old + 1 }
@@ -53,7 +53,7 @@ impl Model for Steps {
 }
 
 impl Steps {
-    /// A counter that stands at zero.
+    /// A counter at zero.
     #[inline(always)]
     pub fn new() -> Steps
         ensures { result ≡ 0 }
@@ -63,7 +63,7 @@ impl Steps {
         }
     }
 
-    /// Counts one step. Only this crate can, so no caller of it can add to a count.
+    /// Counts one step. Only this crate can call it, so no caller of the crate can add to a count.
     #[inline(always)]
     pub(crate) fn tick(&mut self)
         ensures { self.new ≡ self.old + 1 }

@@ -1,4 +1,4 @@
-//! Slots, of which each key has one.
+//! A table of slots. Each key has one of them.
 
 pub(crate) mod bits;
 mod clone;
@@ -30,7 +30,7 @@ use std::marker::Model;
 use stored::Stored;
 use walk::Pairs;
 
-/// Lets the pairs of all slots go. The bits tell which of them to look at.
+/// Drops the pairs of all slots. The bits tell which slots to look at.
 fn clear_slots<K: IntKey, X: Drop, A: Allocator>(bits: &Bits<A>, slots: &mut Vec<Slot<K, X, A>, A>)
     requires { AreMarked (rows slots.old.items) bits.now }
     ensures len { length slots.new.items ≡ length slots.old.items }
@@ -41,17 +41,17 @@ fn clear_slots<K: IntKey, X: Drop, A: Allocator>(bits: &Bits<A>, slots: &mut Vec
     }
 }
 
-/// What is known of slots without a look at them.
+/// What is known of the slots without looking at them.
 #[derive(Drop)]
 struct Directory<A: Allocator> {
-    /// Their number less one, which has exactly the bits that the number of a slot may have.
+    /// Their number less one: a mask with exactly the bits that the number of a slot may have.
     mask: usize,
     /// Which of them hold a pair.
     bits: Bits<A>,
 }
 
-/// Slots, as many as a power of two. Each pair lies in the slot of its key, and a bit for each slot
-/// tells whether it holds a pair.
+/// Slots, whose number is a power of two. Each pair lies in the slot of its key, and a bit for each
+/// slot tells whether it holds a pair.
 #[derive(Drop)]
 pub(crate) struct Table<K: IntKey, X, A: Allocator> {
     directory: Directory<A>,
@@ -120,8 +120,8 @@ impl<K: IntKey, X, A: Allocator> Table<K, X, A> {
         masked_index_of(key, self.directory.mask)
     }
 
-    /// What the key is bound to. The keys of its slot are compared from the front up to it, each
-    /// by one step.
+    /// The value of the key. The keys of its slot are compared from the front up to it, and each
+    /// comparison counts one step.
     pub(crate) fn get(&self, key: &K, steps: &mut Steps) -> Option<&X>
         ensures value { option_copied result ≡ value_of K.number_of self.now.walk key.now }
         ensures counted { steps.new
@@ -133,7 +133,7 @@ impl<K: IntKey, X, A: Allocator> Table<K, X, A> {
         slot.get(key, steps)
     }
 
-    /// Takes the pair of a key out. The last pair of its slot is moved into its place.
+    /// Removes the pair of a key. The last pair of its slot moves into its place.
     #[inline(always)]
     pub(crate) fn take(&mut self, key: &K, steps: &mut Steps) -> Option<X>
         ensures value { result ≡ value_of K.number_of self.old.walk key.now }
@@ -150,8 +150,8 @@ impl<K: IntKey, X, A: Allocator> Table<K, X, A> {
 }
 
 impl<K: IntKey, X: Drop, A: Allocator> Table<K, X, A> {
-    /// Where the key is bound, takes its pair out and puts the new one last in its slot, which
-    /// takes no memory. Where it isn't, the new value comes back and nothing changes.
+    /// If the key is present, removes its pair and puts the new one last in its slot, without
+    /// allocating. If it is absent, returns the new value and changes nothing.
     #[inline(always)]
     pub(crate) fn replace(&mut self, key: K, value: X, steps: &mut Steps) -> Result<X, X>
         ensures old { IfOk result (λ old. value_of K.number_of self.old.walk key ≡ Some old) }
@@ -170,7 +170,7 @@ impl<K: IntKey, X: Drop, A: Allocator> Table<K, X, A> {
         slot.replace(key, value, steps)
     }
 
-    /// Lets all pairs go, slot after slot, and keeps the slots and the room that they have.
+    /// Drops all pairs, slot after slot, and keeps the slots and the memory that they have.
     pub(crate) fn clear(&mut self)
         ensures walk { self.new.walk ≡ [] }
         ensures capacity { self.new.capacity ≡ self.old.capacity }
@@ -179,8 +179,8 @@ impl<K: IntKey, X: Drop, A: Allocator> Table<K, X, A> {
         self.directory.bits.clear_all();
     }
 
-    /// Puts the pair of a key that isn't bound last in its slot. Where memory is refused, which is
-    /// never for a slot without a pair, the value comes back and nothing changes.
+    /// Puts the pair of an absent key last in its slot. If an allocation fails, it returns the
+    /// value and changes nothing. A slot without a pair needs no allocation.
     #[inline(always)]
     pub(crate) fn add(&mut self, key: K, value: X) -> Result<(), X>
         requires { value_of K.number_of self.old.walk key ≡ None }
@@ -203,12 +203,12 @@ impl<K: IntKey, X: Drop, A: Allocator> Table<K, X, A> {
 }
 
 impl<K: IntKey, X: Drop, A: Allocator + Copy> Table<K, X, A> {
-    /// The allocator that the slots are in.
+    /// The allocator of the slots.
     pub(crate) fn allocator(&self) -> A {
         *self.slots.allocator()
     }
 
-    /// Empty slots, as many as asked for. It takes memory for them and for their bits.
+    /// A table of so many empty slots. It allocates them and their bits.
     pub(crate) fn new(alloc: A, capacity: usize) -> Result<Table<K, X, A>, AllocError>
         requires { IsCapacity capacity }
         ensures walk { IfOk result (λ table. table.walk ≡ []) }

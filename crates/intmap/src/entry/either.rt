@@ -1,4 +1,4 @@
-//! Entries of keys that are bound or not.
+//! Entries of keys that are present or absent.
 ghost use Rattle.std.specs.Prelude.{◌≡◌, ◌+◌, cond, length, is_some, IsSome, Some, None, IfOk, IfErr, OnOk, unwrap_or, MatchOption};
 ghost use Rattle.std.specs.Borrow.{sem, MutBor};
 ghost use Rattle.std.specs.Map.Calls.{ModifiesValue};
@@ -14,13 +14,13 @@ use crate::refusal::Refused;
 use std::alloc::Allocator;
 
 impl<K: IntKey, V, A: Allocator + Copy> IntMap<K, V, A> {
-    /// An entry of the key: [`Occupied`](Entry::Occupied) where the key is bound, and else
-    /// [`Vacant`](Entry::Vacant). It looks for the key as [`get_counted`](IntMap::get_counted)
-    /// does, and no call of the entry compares a key again. It is never refused.
+    /// An entry of the key: [`Occupied`](Entry::Occupied) if the key is present, and otherwise
+    /// [`Vacant`](Entry::Vacant). The key is looked up as by [`get_counted`](IntMap::get_counted),
+    /// and no call of the entry compares a key again. It never fails.
     ///
-    /// The entry borrows the map. One that is dropped without another call leaves the map as it was,
-    /// but for the count of compared keys. A caller knows so of an entry that was taken apart by a
-    /// `match`, and of any that was ended by [`OccupiedEntry::leave`] or [`Entry::into_map`].
+    /// The entry borrows the map. Dropping it without another call leaves the map as it was, but
+    /// for the count of compared keys. A caller's proof knows this of an entry that is taken apart
+    /// by a `match`, and of any that is ended by [`OccupiedEntry::leave`] or [`Entry::into_map`].
     ///
     /// ```text
     /// match map.entry(21) {
@@ -49,7 +49,7 @@ impl<K: IntKey, V, A: Allocator + Copy> IntMap<K, V, A> {
 }
 
 impl<'a, K: IntKey, V, A: Allocator + Copy> Entry<'a, K, V, A> {
-    /// The key that was looked for.
+    /// The key that was looked up.
     pub fn key(&self) -> &K
         ensures value { result.now ≡ entry_key self.now }
     {
@@ -59,9 +59,9 @@ impl<'a, K: IntKey, V, A: Allocator + Copy> Entry<'a, K, V, A> {
         }
     }
 
-    /// The value of the key, to be written, once `value` was inserted where the key wasn't bound.
-    /// Where it was, `value` is let go and nothing is refused; else it is refused as
-    /// [`VacantEntry::insert`] is, and the value comes back.
+    /// A mutable reference to the value of the key. If the key is absent, `value` is inserted
+    /// first. This fails as [`VacantEntry::insert`] does, and then returns `value`. If the key is
+    /// present, `value` is dropped, and the call never fails.
     ///
     /// ```text
     /// *map.entry(word).or_insert(0)? += 1
@@ -100,8 +100,8 @@ impl<'a, K: IntKey, V, A: Allocator + Copy> Entry<'a, K, V, A> {
         }
     }
 
-    /// Calls the closure with the value of the key, to be written, where the key is bound, and
-    /// answers the entry.
+    /// If the key is present, calls the closure with a mutable reference to its value. Returns the
+    /// entry. The closure must be callable at that value.
     ///
     /// ```text
     /// map.entry(word).and_modify(|count| *count += 1).or_insert(1)?
@@ -124,8 +124,8 @@ impl<'a, K: IntKey, V, A: Allocator + Copy> Entry<'a, K, V, A> {
         }
     }
 
-    /// The map, as the calls on the entry left it, for as long as the map was borrowed. It binds no
-    /// key, takes no pair out and compares no key.
+    /// The map, as the calls on the entry left it, for as long as the map was borrowed. It inserts
+    /// no pair, removes none and compares no key.
     ///
     /// ```text
     /// map.entry(word).and_modify(|count| *count += 1).into_map();

@@ -1,4 +1,4 @@
-//! Entries of keys that are bound.
+//! Entries of present keys.
 ghost use Rattle.std.specs.Prelude.{◌≡◌, ◌+◌, length, Some, None};
 ghost use Rattle.std.specs.Borrow.{sem};
 ghost use Rattle.intmap.specs.Bindings.{Updates};
@@ -27,7 +27,7 @@ impl<'a, K: IntKey, V, A: Allocator + Copy> OccupiedEntry<'a, K, V, A> {
         self.map.value_at(at)
     }
 
-    /// The value of the key, to be written in its place. It ends with the entry; `into_mut` answers
+    /// A mutable reference to the value of the key. It can't outlive the entry; `into_mut` returns
     /// one that lasts as long as the map is borrowed.
     pub fn get_mut(&mut self) -> &mut V
         ensures* writes_back { sem 𝓛 (occupied_lends K.row V.row A.row A.Allocator
@@ -47,7 +47,7 @@ impl<'a, K: IntKey, V, A: Allocator + Copy> OccupiedEntry<'a, K, V, A> {
         self.map.value_mut_at(at)
     }
 
-    /// The value of the key, to be written in its place.
+    /// A mutable reference to the value of the key, for as long as the map is borrowed.
     pub fn into_mut(self) -> &'a mut V
         ensures* writes_back { sem 𝓛 (entry_lends K.row V.row A.row A.Allocator
             (Occupied self.entry) result) }
@@ -96,8 +96,8 @@ impl<'a, K: IntKey, V, A: Allocator + Copy> OccupiedEntry<'a, K, V, A> {
         self.map.take_at(at)
     }
 
-    /// Ends the entry, and leaves the map as the calls on the entry left it. It takes no pair out
-    /// and compares no key.
+    /// Ends the entry, and leaves the map as the calls on the entry left it. It removes no pair and
+    /// compares no key.
     pub fn leave(self)
         ensures state { self.exit.0.now ≡ entry_map (Occupied self.entry) }
     {
@@ -108,8 +108,8 @@ impl<'a, K: IntKey, V, A: Allocator + Copy> OccupiedEntry<'a, K, V, A> {
         } = self;
     }
 
-    /// The map, as the calls on the entry left it, for as long as the map was borrowed. It takes no
-    /// pair out and compares no key.
+    /// The map, as the calls on the entry left it, for as long as the map was borrowed. It removes
+    /// no pair and compares no key.
     pub fn into_map(self) -> &'a mut IntMap<K, V, A>
         ensures same_reference { result.ghost_name
             ≡ (entry_reference (Occupied self.entry)).ghost_name }

@@ -1,4 +1,4 @@
-//! Entries of keys that aren't bound.
+//! Entries of absent keys.
 ghost use Rattle.std.specs.Prelude.{◌≡◌, ◌+◌, length, Some, IfOk, IfErr, OnOk};
 ghost use Rattle.std.specs.Borrow.{sem};
 ghost use Rattle.intmap.specs.Bindings.{Updates};
@@ -21,7 +21,7 @@ impl<'a, K: IntKey, V, A: Allocator + Copy> VacantEntry<'a, K, V, A> {
         &self.key
     }
 
-    /// The map, with the key not bound, for as long as the map was borrowed. It compares no key.
+    /// The map, with the key still absent, for as long as the map was borrowed. It compares no key.
     pub fn into_map(self) -> &'a mut IntMap<K, V, A>
         ensures same_reference { result.ghost_name
             ≡ (entry_reference (Vacant self.entry)).ghost_name }
@@ -33,9 +33,10 @@ impl<'a, K: IntKey, V, A: Allocator + Copy> VacantEntry<'a, K, V, A> {
 }
 
 impl<'a, K: IntKey, V: Drop, A: Allocator + Copy> VacantEntry<'a, K, V, A> {
-    /// Binds the key to the value by a pair at the end of its slot, and answers the value, to be
-    /// written. It grows the table where [`IntMap::insert`](crate::IntMap::insert) of a new key
-    /// does, and is refused where that is; a refusal hands the value back and leaves the map.
+    /// Inserts the pair of the key and the value at the end of its slot, and returns a mutable
+    /// reference to the value. It grows the table and fails as
+    /// [`IntMap::insert`](crate::IntMap::insert) of a new key does. A failed call returns the value
+    /// and leaves the map as it was.
     pub fn insert(self, value: V) -> Result<&'a mut V, Refused<V>>
         // what is answered and left
         ensures* writes_back { sem 𝓛 (entry_lends_ok K.row V.row A.row A.Allocator
@@ -62,7 +63,7 @@ impl<'a, K: IntKey, V: Drop, A: Allocator + Copy> VacantEntry<'a, K, V, A> {
             (entry_state (Vacant self.entry)) (entry_key (Vacant self.entry)) refused.cause) }
     {
         let VacantEntry { map, key } = self;
-        // any key at hand is one of its type's
+        // tells the proof that the key satisfies `is_key`
         let _number = key.number();
         if let Err(refused) = map.add(key, value) {
             return Err(refused);

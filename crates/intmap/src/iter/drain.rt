@@ -1,4 +1,4 @@
-//! An iterator that takes the pairs of a map out.
+//! An iterator that removes the pairs of a map.
 ghost use Rattle.std.specs.Prelude.{◌≡◌};
 ghost use Rattle.std.specs.Iterator.{item_count};
 ghost use Rattle.intmap.specs.Passing.{ArePassed};
@@ -7,10 +7,11 @@ use crate::key::IntKey;
 use crate::map::IntMap;
 use std::alloc::{Allocator, Global};
 
-/// Takes one pair out of a map at each step, made by [`IntMap::drain`](crate::IntMap::drain). At
-/// every moment the map has the pairs that are still to come, and its length counts these: where
-/// the iterator is let go early they stay, in their order. So they do where it is forgotten, but no
-/// clause says that. Letting it go is one step, however many are left.
+/// Removes one pair of a map at each step and returns it, made by
+/// [`IntMap::drain`](crate::IntMap::drain). At every moment the map has the pairs that are still to
+/// come, and its length counts these. If the iterator is dropped early, they stay, in their order.
+/// They also stay if it is forgotten, but no clause says that. Dropping it takes constant time,
+/// however many are left.
 pub struct Drain<'a, K: IntKey, V, A: Allocator + Copy = Global> {
     pub(crate) map: &'a mut IntMap<K, V, A>,
     pub(crate) from: usize,

@@ -1,4 +1,4 @@
-//! Iterators whose values may be written.
+//! Iterators that give mutable references to values.
 ghost use Rattle.std.specs.Iterator.{YieldsFirstBy, item_count};
 
 use crate::key::IntKey;
@@ -7,9 +7,9 @@ use crate::table::walk::Pairs;
 use std::alloc::{Allocator, Global};
 use std::marker::Model;
 
-/// The pairs of a map, each with its value to be written, made by
-/// [`IntMap::iter_mut`](crate::IntMap::iter_mut). Contracts see it as the list of the pairs that are
-/// left, with the name of the loan of all values.
+/// The pairs of a map, each with a mutable reference to its value, made by
+/// [`IntMap::iter_mut`](crate::IntMap::iter_mut). Contracts see it as the list of the pairs that
+/// are left, with the name of the loan of all values.
 #[derive(Drop)]
 pub struct IterMut<'a, K: IntKey, V, A: Allocator + Copy = Global> {
     pub(crate) pairs: Pairs<'a, K, Hole<V>, A>,
@@ -46,9 +46,9 @@ impl<'a, K: IntKey, V, A: Allocator + Copy> Iterator for IterMut<'a, K, V, A> {
     }
 }
 
-/// The values of a map, each to be written, made by
-/// [`IntMap::values_mut`](crate::IntMap::values_mut). Contracts see it as the list of the values that
-/// are left, with the name of the loan of all values.
+/// The values of a map by mutable reference, made by
+/// [`IntMap::values_mut`](crate::IntMap::values_mut). Contracts see it as the list of the values
+/// that are left, with the name of the loan of all values.
 #[derive(Drop)]
 pub struct ValuesMut<'a, K: IntKey, V, A: Allocator + Copy = Global> {
     pub(crate) pairs: IterMut<'a, K, V, A>,

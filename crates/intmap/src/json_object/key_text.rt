@@ -2,8 +2,8 @@
 ghost use Rattle.std.specs.Prelude.{◌≡◌, ◌≢◌, ◌↔◌, ℕ, IfSome, IfNone, IsTrue, length, slice_index};
 ghost use Rattle.intmap.specs.Json.{IsKeyText};
 
-/// The number that the text is printed for, or `None` where it isn't printed for one below 2^64.
-/// It takes no memory.
+/// The number below 2^64 whose decimal text this is, or `None` if there is none. It allocates
+/// nothing.
 ///
 /// ```text
 /// "18446744073709551615"    Some(18446744073709551615)
@@ -19,7 +19,7 @@ pub(crate) fn key_of(text: &str) -> Option<u64>
     text.parse::<u64>().ok()
 }
 
-/// Whether there is no plus in front, and no zero but one that stands alone.
+/// Whether the text begins with no plus, and with a zero only if that zero is all of it.
 fn begins_as_printed(bytes: &[u8]) -> bool
     ensures { IsTrue result
         ↔ (slice_index bytes.now 0 ≢ 43) × (slice_index bytes.now 0 ≡ 48 → length bytes.now ≡ 1) }
@@ -30,7 +30,7 @@ fn begins_as_printed(bytes: &[u8]) -> bool
     }
 }
 
-/// The number that a text is printed for, of a text that is known to have one.
+/// The number whose decimal text this is. The caller knows that there is one.
 pub(crate) fn known_key(text: &str) -> u64
     requires printed { (k : ℕ) × IsKeyText text.now k }
     ensures value { IsKeyText text.now result }

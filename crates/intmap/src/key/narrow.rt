@@ -51,8 +51,8 @@ impl IntKey for u32 {
     }
 }
 
-/// An `i32` is its own number, and `2 ^ 64` more where it is negative: `-1` has the number
-/// 18446744073709551615, as `-1i32 as u64` is in Rust.
+/// An `i32` that isn't negative is its own number. A negative one has the number `2 ^ 64` more:
+/// `-1` has 18446744073709551615, which is `-1i32 as u64` in Rust.
 impl IntKey for i32 {
     ghost use Rattle.std.specs.Prelude.{FitsSigned};
     ghost use Rattle.std.specs.Int.{w32};

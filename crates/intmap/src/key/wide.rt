@@ -35,8 +35,8 @@ impl IntKey for usize {
     }
 }
 
-/// An `i64` is its own number, and `2 ^ 64` more where it is negative: `-1` has the number
-/// 18446744073709551615, as `-1i64 as u64` is in Rust.
+/// An `i64` that isn't negative is its own number. A negative one has the number `2 ^ 64` more:
+/// `-1` has 18446744073709551615, which is `-1i64 as u64` in Rust.
 impl IntKey for i64 {
     ghost use Rattle.std.specs.Prelude.{FitsSigned};
     ghost use Rattle.std.specs.Int.{w64};

@@ -15,12 +15,12 @@ use std::alloc::Allocator;
 /// The number of slots of a map that `new` makes.
 const FIRST_CAPACITY: usize = 4;
 
-/// The load factor of a map that was just made, in thousandths.
+/// The load factor of a new map, in thousandths.
 const FIRST_FACTOR: usize = 909;
 
 impl<K: IntKey, V: Drop, A: Allocator + Copy> IntMap<K, V, A> {
-    /// An empty map of 4 slots, with a load factor of 909 thousandths. It is refused as
-    /// [`Cause::Memory`] where memory for the slots or for their bits is, and never else.
+    /// An empty map of 4 slots, with a load factor of 909 thousandths. It allocates the slots and
+    /// their bits. It fails only if an allocation fails, with [`Cause::Memory`].
     pub fn new(alloc: A) -> Result<IntMap<K, V, A>, Cause>
         ensures state { IfOk result (λ made. made ≡ empty_map 4) }
         ensures memory { IfErr result (λ cause. cause ≡ Cause.Memory) }
@@ -29,9 +29,10 @@ impl<K: IntKey, V: Drop, A: Allocator + Copy> IntMap<K, V, A> {
         IntMap::with_slots(alloc, FIRST_CAPACITY)
     }
 
-    /// An empty map with a load factor of 909 thousandths, whose number of slots is the least
-    /// power of two that is at least `capacity`, and at least 2. It is refused as too large exactly
-    /// where `capacity` is above 2^63, and else where memory for the slots is refused.
+    /// An empty map with a load factor of 909 thousandths. Its number of slots is the least power
+    /// of two that is at least `capacity`, and at least 2. It fails with [`Cause::TooLarge`]
+    /// exactly if `capacity` is above 2^63, and otherwise with [`Cause::Memory`] if an allocation
+    /// fails.
     ///
     /// ```text
     /// IntMap::with_capacity(alloc, 20)                     has 32 slots
@@ -50,7 +51,7 @@ impl<K: IntKey, V: Drop, A: Allocator + Copy> IntMap<K, V, A> {
         IntMap::with_slots(alloc, capacity.max(2).next_power_of_two())
     }
 
-    /// An empty map of so many slots.
+    /// An empty map of so many slots. It fails only if an allocation fails.
     fn with_slots(alloc: A, slots: usize) -> Result<IntMap<K, V, A>, Cause>
         requires { IsCapacity slots }
         ensures state { IfOk result (λ made. made ≡ empty_map slots) }

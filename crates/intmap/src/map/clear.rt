@@ -1,4 +1,4 @@
-//! Emptying.
+//! Removal of all pairs.
 ghost use Rattle.std.specs.Prelude.{◌≡◌, length, None};
 ghost use Rattle.intmap.specs.Bindings.{value_of};
 ghost use Rattle.intmap.specs.Map.{IsMap, emptied};
@@ -8,9 +8,8 @@ use crate::map::IntMap;
 use std::alloc::Allocator;
 
 impl<K: IntKey, V: Drop, A: Allocator + Copy> IntMap<K, V, A> {
-    /// Lets all pairs go. The capacity, the load factor and both counts stay, and so does the
-    /// memory of the slots, for pairs to come. It goes through the slots that hold a pair, and is
-    /// never refused.
+    /// Drops all pairs. The capacity, the load factor and both counts stay, and the slots keep
+    /// their memory for later pairs. It goes through the slots that hold a pair, and never fails.
     ///
     /// ```text
     /// after clear() a map of 128 slots has 128 slots and no pair

@@ -1,4 +1,4 @@
-//! A map once more, with clones of its values.
+//! Clones of a map.
 ghost use Rattle.std.specs.Prelude.{◌≡◌, length, IfOk, IfErr};
 ghost use Rattle.std.specs.Map.{keys_of};
 ghost use Rattle.intmap.specs.Cloning.{IsClone, BindsClones};
@@ -11,16 +11,15 @@ use crate::steps::Steps;
 use std::alloc::Allocator;
 
 impl<K: IntKey, V: Clone, A: Allocator + Copy> IntMap<K, V, A> {
-    /// A map with the same walk, in which each key is bound to a clone of its value, and with the
-    /// same capacity and load factor. Its own counts begin at zero. This map stays as it is, and no
-    /// key is compared: time and memory grow with the number of slots and of pairs.
+    /// A map with the same keys in the same order, each with a clone of its value, and with the
+    /// same capacity and load factor. Its own counts begin at zero. This map stays as it is. No key
+    /// is compared. Time and memory grow with the number of slots and of pairs.
     ///
-    /// Memory for the slots and for their bits is taken first, and then, as the values are cloned,
+    /// It first allocates the bits and the slots. Then, as it clones the values, it allocates room
     /// for the pairs of each slot behind its first one, and for no more than these.
     ///
-    /// It is refused as [`Cause::Memory`] where memory for the slots, for their bits or for the
-    /// pairs is, or where the clone of a value is, and never else. What was made until then is let
-    /// go.
+    /// It fails only with [`Cause::Memory`], if one of these allocations or the clone of a value
+    /// fails. What was made until then is dropped.
     ///
     /// ```text
     /// after insert(0, 10), insert(1, 11) and insert(4, 14) into 4 slots:

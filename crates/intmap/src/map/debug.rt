@@ -5,8 +5,8 @@ use std::alloc::Allocator;
 use std::fmt;
 
 impl<K: IntKey + fmt::Debug, V: fmt::Debug, A: Allocator + Copy> fmt::Debug for IntMap<K, V, A> {
-    /// Writes the pairs in the order of the walk, as `{21: 'a', 3: 'b'}`, and `{}` where there is
-    /// none. It looks at no flag of the format. It fails only where the writer does.
+    /// Writes the pairs in iteration order, as `{21: 'a', 3: 'b'}`, or `{}` if there is none. It
+    /// ignores the flags of the format. It fails only if writing fails.
     fn fmt<W: fmt::Write>(&self, f: &mut fmt::Formatter<W>) -> fmt::Result {
         f.write_str("{")?;
         let mut first = true;

@@ -1,4 +1,4 @@
-//! Pairs that are taken out from the front of the walk.
+//! Removal of pairs from the front of the walk.
 ghost use Rattle.std.specs.Prelude.{◌≡◌};
 ghost use Rattle.std.specs.Iterator.{YieldsFirst};
 ghost use Rattle.intmap.specs.Draining.{drained_map, drain_lender};
@@ -11,10 +11,10 @@ use crate::map::IntMap;
 use std::alloc::Allocator;
 
 impl<K: IntKey, V, A: Allocator + Copy> IntMap<K, V, A> {
-    /// An iterator that takes one pair out at each step, in the order of the walk. At every moment
-    /// what it handed out and then what the map has is the walk of before. The capacity, the load
-    /// factor and both counts stay, and so does the memory of the slots. It takes no memory, and is
-    /// never refused.
+    /// An iterator that removes one pair at each step and returns it, in iteration order. At every
+    /// moment, the pairs that it returned and then the pairs that the map has are the walk at the
+    /// start. The capacity, the load factor and both counts stay, and the slots keep their memory.
+    /// It allocates nothing and never fails.
     ///
     /// ```text
     /// after insert(0, 10), insert(4, 14) and insert(8, 18) into 4 slots, where they share one:
@@ -29,7 +29,7 @@ impl<K: IntKey, V, A: Allocator + Copy> IntMap<K, V, A> {
         Drain { map: self, from: 0 }
     }
 
-    /// Does nothing, and tells contracts what every map is.
+    /// Does nothing. Its contract says what holds of every map.
     #[inline(always)]
     pub(crate) fn known(&self)
         ensures map { IsMap K.number_of K.is_key self.now }

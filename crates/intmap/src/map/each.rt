@@ -1,4 +1,4 @@
-//! A call at each pair, with its value to be written.
+//! A call of a closure at each pair, with a mutable reference to its value.
 ghost use Rattle.std.specs.Prelude.{◌≡◌, ◌↔◌, length};
 ghost use Rattle.std.specs.Map.{keys_of};
 ghost use Rattle.intmap.specs.Bindings.{IsBound};
@@ -11,15 +11,15 @@ use crate::map::IntMap;
 use std::alloc::Allocator;
 
 impl<K: IntKey, V, A: Allocator + Copy> IntMap<K, V, A> {
-    /// Calls the closure once at each pair, in the order of the walk, with the key and a reference
-    /// by which it may write the value; what it changes of its own is there at the next call.
+    /// Calls the closure once for each pair, in iteration order, with the key and a mutable
+    /// reference to the value. What the closure changes of its own state is there at the next call.
     ///
-    /// It is asked of the closure that it can be called at these pairs in this order, each time as
-    /// the call before has left it, and nothing of other keys, values and calls.
+    /// The closure must be callable at these pairs in this order, each time in the state that the
+    /// call before left. Nothing is required of other keys, values and calls.
     ///
     /// The keys, their order and their number stay, and so do the capacity, the load factor and
-    /// both counts: no key is compared. It is never refused and takes no memory, and apart from the
-    /// calls its time grows with the number of pairs and, by one bit each, of slots.
+    /// both counts. No key is compared. It never fails and allocates nothing. Apart from the calls,
+    /// its time grows with the number of pairs and, by one bit each, of slots.
     ///
     /// ```text
     /// after insert(0, 10), insert(1, 11) and insert(4, 14) into 4 slots the walk is 0, 4, 1:

@@ -1,4 +1,4 @@
-//! Equality, which is of bindings.
+//! Equality of maps: the same keys, each with equal values.
 ghost use Rattle.intmap.specs.Equality.{maps_equal};
 ghost use Rattle.intmap.specs.EqualityLaws.{IsPartialEquivalence-maps_equal, IsEquivalence-maps_equal};
 
@@ -11,12 +11,12 @@ impl<K: IntKey, V: PartialEq, A: Allocator + Copy> PartialEq for IntMap<K, V, A>
 
     ghost laws = { IsPartialEquivalence-maps_equal K.number_of V.eq V.laws };
 
-    /// Whether both maps bind the same keys, each to equal values. The order of the pairs doesn't
-    /// matter, nor do capacity, load factor and counts.
+    /// Whether both maps have the same keys, each with equal values. The order of the pairs, the
+    /// capacities, the load factors and the counts don't matter.
     ///
-    /// The lengths are compared first. Where they are equal, each key of this map is looked for in
-    /// the other, in the order of the walk, up to the first that isn't bound there to an equal
-    /// value. It is never refused, and no comparison of keys is counted.
+    /// The lengths are compared first. If they are equal, each key of this map is looked up in the
+    /// other, in iteration order, up to the first that is absent there or has an unequal value. It
+    /// never fails, and its comparisons of keys aren't counted.
     ///
     /// ```text
     /// insert(0, 10) and then insert(4, 14), or the other way round: the maps are equal

@@ -10,13 +10,13 @@ use crate::refusal::{Cause, RefusedPair};
 use std::alloc::Allocator;
 
 impl<K: IntKey, V: Drop, A: Allocator + Copy> IntMap<K, V, A> {
-    /// Inserts the pairs that the iterator gives in turn, each as [`insert`](IntMap::insert) does,
-    /// so a key keeps the last of its values. The table grows as by these calls alone: nothing is
-    /// reserved ahead.
+    /// Inserts the iterator's pairs in turn, each as [`insert`](IntMap::insert) does, so a key
+    /// keeps the last of its values. The table grows only as these insertions make it grow: nothing
+    /// is reserved ahead. The iterator must end.
     ///
-    /// The first insertion that is refused ends it, and the key and the value of its pair come
-    /// back, with the cause and the number of pairs before it. Exactly those are in the map then,
-    /// and the iterator is let go, with what it hasn't given.
+    /// It stops at the first insertion that fails, and returns the key and the value of that pair,
+    /// with the cause and the number of pairs before it. Those pairs stay in the map. The iterator
+    /// is dropped, with the pairs that it hasn't given.
     ///
     /// ```text
     /// after insert(0, 10) into 4 slots:
@@ -54,10 +54,10 @@ impl<K: IntKey, V: Drop, A: Allocator + Copy> IntMap<K, V, A> {
         Ok(())
     }
 
-    /// A map of the pairs that the iterator gives: [`with_capacity`](IntMap::with_capacity) of the
-    /// lower bound of its `size_hint`, and then [`extend`](IntMap::extend).
+    /// A map of the iterator's pairs: [`with_capacity`](IntMap::with_capacity) of the lower bound
+    /// of its `size_hint`, and then [`extend`](IntMap::extend). The iterator must end.
     ///
-    /// It is refused where either is, with the same cause, and all is let go.
+    /// It fails if either call does, with the same cause, and then drops everything.
     ///
     /// ```text
     /// of the 20 pairs of a vector it has 32 slots, and of no pairs 2

@@ -11,8 +11,8 @@ use crate::refusal::Cause;
 use std::alloc::Allocator;
 
 impl<K: IntKey, V, A: Allocator + Copy> IntMap<K, V, A> {
-    /// The number of slots that hold a pair, which is the number of residues that the keys leave
-    /// modulo the capacity. It counts one bit a slot, a word of 64 at a time, and is never refused.
+    /// The number of slots that hold a pair, which is the number of different residues of the keys
+    /// modulo the capacity. It counts one bit a slot, a word of 64 at a time, and never fails.
     ///
     /// ```text
     /// with the keys 0, 4 and 1 in 4 slots it is 2, since 0 and 4 share a slot
@@ -24,7 +24,7 @@ impl<K: IntKey, V, A: Allocator + Copy> IntMap<K, V, A> {
         self.table.load() as u64
     }
 
-    /// The pairs to a slot, in thousandths, rounded down. It is never refused.
+    /// The number of pairs to a slot, in thousandths, rounded down. It never fails.
     ///
     /// ```text
     /// 12 pairs in 128 slots    93
@@ -37,8 +37,8 @@ impl<K: IntKey, V, A: Allocator + Copy> IntMap<K, V, A> {
         self.len as u128 * 1000 / self.table.capacity() as u128
     }
 
-    /// Whether `len` is the number of pairs that the slots hold, as it always is. It goes through
-    /// all pairs to count them, and is never refused.
+    /// Whether `len` is the number of pairs that the slots hold, which is always true. It goes
+    /// through all pairs to count them, and never fails.
     pub fn assert_count(&self) -> bool
         ensures value { result ≡ true }
         ensures map { IsMap K.number_of K.is_key self.now }
@@ -48,15 +48,16 @@ impl<K: IntKey, V, A: Allocator + Copy> IntMap<K, V, A> {
 }
 
 impl<K: IntKey, V: Drop, A: Allocator + Copy> IntMap<K, V, A> {
-    /// How many slots hold two pairs, how many three, and so on: a map of each size above 1 that a
-    /// slot has to the number of slots that have it. The sizes are inserted into a new map as they
-    /// are met first, slot after slot, and so its walk and its capacity follow.
+    /// How many slots hold two pairs, how many three, and so on: a map from each number of pairs
+    /// above 1 that a slot holds to the number of slots that hold so many. These sizes are inserted
+    /// into a new map as they are first met, slot after slot, which determines its walk and its
+    /// capacity.
     ///
-    /// It is refused as [`Cause::Memory`] where memory for that map is, and never else. No key of
-    /// this map is compared; time grows with the number of slots.
+    /// It fails only with [`Cause::Memory`], if an allocation for that map fails. No key of this
+    /// map is compared, and its time grows with the number of slots.
     ///
     /// ```text
-    /// with the keys 0, 4, 8, 1, 2 and 6 in 4 slots it binds 3 to 1 and 2 to 1
+    /// with the keys 0, 4, 8, 1, 2 and 6 in 4 slots it is {2: 1, 3: 1}
     /// ```
     pub fn collisions(&self) -> Result<IntMap<u64, u64, A>, Cause>
         ensures sizes { IfOk result (IsMadeOf (λ size. size) (λ size. size < 2 ^ 64)
@@ -80,7 +81,7 @@ impl<K: IntKey, V: Drop, A: Allocator + Copy> IntMap<K, V, A> {
     }
 }
 
-/// Adds one to the count of a number, which is 0 where it isn't bound.
+/// Adds one to the count of a number. The count of an absent number is 0.
 fn count_once_more<A: Allocator + Copy>(
     counts: &mut IntMap<u64, u64, A>,
     number: u64,

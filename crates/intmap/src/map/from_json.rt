@@ -15,24 +15,24 @@ use serde_json::{Map, Value};
 use std::alloc::Global;
 
 impl IntMap<u64, Value> {
-    /// A map that binds the number of each member's key to a clone of the member's value. It is
-    /// what [`with_capacity`](IntMap::with_capacity) of the number of members makes, once
-    /// [`insert`](IntMap::insert) was called for each member in turn, in the byte order of the
-    /// keys. The value stays as it is.
+    /// A map from the number of each member's key to a clone of the member's value. It is made by
+    /// [`with_capacity`](IntMap::with_capacity) of the number of members, and then
+    /// [`insert`](IntMap::insert) of each member in turn, in the byte order of the keys. The JSON
+    /// value stays as it is.
     ///
-    /// A key has to be a canonical text: decimal digits with no sign and no leading zero, of a
-    /// number of at most 2^64 - 1.
+    /// Each key must be the canonical text of a number of at most 2^64 - 1: decimal digits with no
+    /// sign and no leading zero.
     ///
-    /// It is refused as [`JsonCause::NotAnObject`] exactly where the value is no object; else as
-    /// [`JsonCause::BadKey`] exactly where a key isn't canonical; else as
-    /// [`JsonCause::HoldsFloat`] exactly where a value holds, at any depth, a number that is
-    /// neither a `u64` nor an `i64`. That is tested in this order and takes no memory. Then it is
-    /// refused where `with_capacity` or an insertion is, with the same cause, or where a clone is,
-    /// as [`JsonCause::Memory`]. What was made until then is let go.
+    /// It fails with [`JsonCause::NotAnObject`] exactly if the JSON value is no object; otherwise
+    /// with [`JsonCause::BadKey`] exactly if a key isn't canonical; otherwise with
+    /// [`JsonCause::HoldsFloat`] exactly if a member's value holds, at any depth, a number that is
+    /// neither a `u64` nor an `i64`. These are checked in this order, without allocating. After
+    /// that it fails if `with_capacity` or an insertion does, with the same cause, or if a clone
+    /// does, with [`JsonCause::Memory`]. What was made until then is dropped.
     ///
-    /// Each key is read twice, each part of each value is looked at once and cloned once, and the
-    /// rest is what the insertions cost. The look and the clone go as deep as the value, and so
-    /// does letting it go: how deep a value may be is bounded by the stack alone.
+    /// Each key is read twice, and each part of each value is checked once and cloned once. The
+    /// rest is the cost of the insertions. The check and the clone go as deep as the value, and so
+    /// does dropping it: only the stack bounds how deep a value may be.
     ///
     /// ```text
     /// of {"10":null,"5":true}             2 slots, and the walk is 10: null, 5: true

@@ -14,7 +14,7 @@ impl<K: IntKey, V, A: Allocator + Copy> IntMap<K, V, A> {
     ghost use Rattle.std.specs.Option.{option_copied_mut};
     ghost use Rattle.intmap.specs.Lending.{map_lends_bound};
 
-    /// The value that the key is bound to, or `None`. It is never refused.
+    /// The value of the key, or `None` if the key is absent. It never fails.
     pub fn get(&self, key: K) -> Option<&V>
         ensures value { option_copied result ≡ value_of K.number_of self.now.walk key }
         ensures map { IsMap K.number_of K.is_key self.now }
@@ -23,9 +23,9 @@ impl<K: IntKey, V, A: Allocator + Copy> IntMap<K, V, A> {
         self.get_counted(key, &mut steps)
     }
 
-    /// As [`get`](IntMap::get), with each comparison of a stored key with the sought one counted
-    /// in `steps`: the keys that agree with it modulo the capacity are compared in the order of
-    /// the walk, up to the key itself. It is never refused.
+    /// The same as [`get`](IntMap::get), but each comparison of a stored key with the sought one is
+    /// counted in `steps`. The keys that agree with the sought one modulo the capacity are compared
+    /// in iteration order, up to the key itself. It never fails.
     ///
     /// ```text
     /// with the keys 0, 4 and 8, in this order, in 4 slots:
@@ -45,8 +45,8 @@ impl<K: IntKey, V, A: Allocator + Copy> IntMap<K, V, A> {
         }
     }
 
-    /// The value that the key is bound to, to be written in its place, or `None`. All else stays, but
-    /// for the count of compared keys. It is never refused.
+    /// A mutable reference to the value of the key, or `None` if the key is absent. Only the count
+    /// of compared keys changes besides that value. It never fails.
     ///
     /// ```text
     /// if let Some(value) = map.get_mut(21) { *value += 1; }
@@ -70,7 +70,7 @@ impl<K: IntKey, V, A: Allocator + Copy> IntMap<K, V, A> {
         }
     }
 
-    /// Whether the key is bound. It is never refused.
+    /// Whether the key is present. It never fails.
     ///
     /// ```text
     /// map.contains_key(21)    true after map.insert(21, 'a')?

@@ -11,13 +11,13 @@ use crate::refusal::Cause;
 use std::alloc::Allocator;
 
 impl<K: IntKey, V: Drop, A: Allocator + Copy> IntMap<K, V, A> {
-    /// Makes the capacity at least the least power of two that is at least the length and
-    /// `additional` slots more. It doesn't look at the load factor, so later insertions may still
-    /// grow the table.
+    /// Makes the capacity at least the least power of two that is no less than the length plus
+    /// `additional`. A greater capacity stays. The load factor isn't considered, so later
+    /// insertions may still grow the table.
     ///
-    /// It is refused as too large exactly where the sum of the length and `additional` is above
-    /// 2^63, and else where memory is refused, which it never is where the capacity is enough. A
-    /// refusal leaves the map.
+    /// It fails with [`Cause::TooLarge`] exactly if the length plus `additional` is above 2^63, and
+    /// otherwise with [`Cause::Memory`] if an allocation fails. It never fails if the capacity is
+    /// at least that sum. A failed call leaves the map as it was.
     ///
     /// ```text
     /// with 1 pair in 4 slots:
@@ -53,13 +53,13 @@ impl<K: IntKey, V: Drop, A: Allocator + Copy> IntMap<K, V, A> {
         Ok(())
     }
 
-    /// Sets the load factor, in thousandths: how many pairs there may be to a slot at the lengths
-    /// at which growth is tested. The capacity becomes, at once and for every length, the least
-    /// of itself and its doublings that meets it.
+    /// Sets the load factor, in thousandths: how many pairs to a slot there may be at the lengths
+    /// at which insertions check the load. At once, and whatever the length is, the capacity
+    /// becomes the least of itself and its doublings that meets the load factor.
     ///
-    /// It is refused as too large exactly where no capacity up to 2^63 meets it, and else where
-    /// memory is refused, which it never is where the capacity meets it. A refusal leaves the map,
-    /// its load factor too.
+    /// It fails with [`Cause::TooLarge`] exactly if no capacity up to 2^63 meets the load factor,
+    /// and otherwise with [`Cause::Memory`] if an allocation fails. It never fails if the present
+    /// capacity meets it. A failed call leaves the map as it was, with its load factor.
     ///
     /// ```text
     /// with 3 pairs in 4 slots:
@@ -93,7 +93,7 @@ impl<K: IntKey, V: Drop, A: Allocator + Copy> IntMap<K, V, A> {
         Ok(())
     }
 
-    /// The load factor, in thousandths. It is never refused.
+    /// The load factor, in thousandths. It never fails.
     pub fn get_load_factor(&self) -> usize
         ensures value { result ≡ self.now.factor }
         ensures map { IsMap K.number_of K.is_key self.now }

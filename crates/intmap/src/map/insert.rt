@@ -13,19 +13,20 @@ use crate::refusal::{Cause, Refused};
 use std::alloc::Allocator;
 
 impl<K: IntKey, V: Drop, A: Allocator + Copy> IntMap<K, V, A> {
-    /// Binds the key to the value by a pair at the end of its slot, and answers the value that the
-    /// key was bound to before. Where it was bound, the last pair of the slot first takes the old
-    /// one's place, and the capacity stays.
+    /// Inserts the pair of the key and the value at the end of its slot, and returns the value that
+    /// the key had before, or `None` if the key is new. If the key was present, the last pair of
+    /// the slot first takes the place of the old pair, and the capacity stays.
     ///
-    /// Where a new key makes the length one at which growth is tested, that is, one with its bit
-    /// of value four set, and the pairs then exceed the load factor, all pairs go into a table
-    /// of the least doubled capacity that meets it, in the order of the walk, the new pair last.
+    /// For a new key, the load is checked if the new length has its bit of value 4 set: 4 to 7, 12
+    /// to 15, 20 to 23, and so on. If the pairs then exceed the load factor, all of them move to a
+    /// table of the least doubled capacity that meets it, in iteration order, with the new pair
+    /// last.
     ///
-    /// An insertion over a bound key is never refused. That of a new key is refused as too large
-    /// exactly where the map holds 2^64 - 1 pairs or the wanted capacity is above 2^63, and else
-    /// where memory is refused, which it never is where the capacity stays and the slot holds no
-    /// pair. A refusal hands the value back and leaves the map; only the count of compared keys,
-    /// which takes no bytes, goes on.
+    /// The insertion of a present key never fails. That of a new key fails with [`Cause::TooLarge`]
+    /// exactly if the map holds 2^64 - 1 pairs or growth needs more than 2^63 slots, and otherwise
+    /// with [`Cause::Memory`] if an allocation fails. It allocates nothing if the capacity stays
+    /// and the slot holds no pair. A failed call returns the value and leaves the map as it was.
+    /// Only the count of compared keys, which takes no memory, changes.
     ///
     /// ```text
     /// with 0: 10, 4: 14 and 8: 18, in this order, in 4 slots, where they share one:
@@ -70,10 +71,10 @@ impl<K: IntKey, V: Drop, A: Allocator + Copy> IntMap<K, V, A> {
         Ok(None)
     }
 
-    /// Binds the key to the value where it isn't bound, and answers whether it did so. Where the key
-    /// is bound the map stays, but for the count of compared keys, and the value is let go.
+    /// Inserts the pair if the key is absent, and returns whether it did so. If the key is present,
+    /// the value is dropped, and only the count of compared keys changes.
     ///
-    /// For a new key it does what [`insert`](IntMap::insert) does, and is refused as that is.
+    /// For a new key it does what [`insert`](IntMap::insert) does, and fails as that does.
     ///
     /// ```text
     /// map.insert_checked(21, 'a')?    true
@@ -116,7 +117,7 @@ impl<K: IntKey, V: Drop, A: Allocator + Copy> IntMap<K, V, A> {
         Ok(true)
     }
 
-    /// Adds the pair of a key that isn't bound. It compares no key.
+    /// Adds the pair of an absent key. It compares no key.
     #[inline(always)]
     pub(crate) fn add(&mut self, key: K, value: V) -> Result<(), Refused<V>>
         requires key { K.is_key key }
@@ -157,8 +158,8 @@ impl<K: IntKey, V: Drop, A: Allocator + Copy> IntMap<K, V, A> {
         Ok(())
     }
 
-    /// Adds the pair of a key that isn't bound where so many pairs exceed the load factor: all
-    /// memory is taken before a pair moves.
+    /// Adds the pair of an absent key, where so many pairs exceed the load factor. All memory is
+    /// allocated before a pair moves.
     #[inline(never)]
     fn add_growing(&mut self, len: usize, key: K, value: V) -> Result<(), Refused<V>>
         requires key { K.is_key key }

@@ -1,4 +1,4 @@
-//! Values by reference that may be written, one after another.
+//! Mutable references to the values, one after another.
 ghost use Rattle.std.specs.Prelude.{◌≡◌, List, length};
 ghost use Rattle.std.specs.Borrow.{sem};
 ghost use Rattle.std.specs.Map.{keys_of, values_of};
@@ -28,15 +28,15 @@ impl<K: IntKey, V, A: Allocator + Copy> IntMap<K, V, A> {
         (unsafe { &*table }, Lent { mark: PhantomData })
     }
 
-    /// The pairs in the order of the walk, each with its value to be written. It takes no memory and
-    /// is never refused, and nor is a step of the iterator.
+    /// An iterator over the pairs in iteration order, each with a mutable reference to its value.
+    /// It allocates nothing. Neither this call nor a step of the iterator fails.
     ///
-    /// Wherever the steps end, and where the iterator is forgotten too, the keys, their order, the
-    /// length, the capacity, the load factor and both counts are what they were. Which values are
-    /// left no clause says.
+    /// However far the iterator gets, and even if it is forgotten, the keys, their order, the
+    /// length, the capacity, the load factor and both counts are what they were. No clause says
+    /// which values are left.
     ///
     /// ```text
-    /// for (key, value) in map.iter_mut() { *value = *key; }    each key is bound to itself
+    /// for (key, value) in map.iter_mut() { *value = *key; }    each value is now its key
     /// ```
     pub fn iter_mut(&mut self) -> IterMut<'_, K, V, A>
         ensures* writes_back { sem 𝓛 (map_lends_values K.row V.row A.row K.IntKey.own K.PartialEq
@@ -54,8 +54,8 @@ impl<K: IntKey, V, A: Allocator + Copy> IntMap<K, V, A> {
         }
     }
 
-    /// The values in the order of the walk, each to be written. It takes no memory and is never
-    /// refused, and nor is a step of the iterator. What stays of the map is what
+    /// An iterator over the values in iteration order, by mutable reference. It allocates nothing.
+    /// Neither this call nor a step of the iterator fails. What stays of the map is what
     /// [`iter_mut`](IntMap::iter_mut) leaves of it.
     ///
     /// ```text
@@ -83,7 +83,7 @@ impl<'a, K: IntKey, V, A: Allocator + Copy> IntoIterator for &'a mut IntMap<K, V
 
     ghost into_iter_gives = { λ map it. it.0 ≡ map.now.walk };
 
-    /// The pairs, each with its value to be written, as of [`iter_mut`](IntMap::iter_mut).
+    /// The pairs, each with a mutable reference to its value, as by [`iter_mut`](IntMap::iter_mut).
     fn into_iter(self) -> IterMut<'a, K, V, A>
         ensures* writes_back { sem 𝓛 (map_lends_values K.row V.row A.row K.IntKey.own K.PartialEq
             A.Allocator self.entry result.1) }

@@ -1,4 +1,4 @@
-//! Located pairs: calls on the pair of a key that was found before, which compare no key.
+//! Located pairs: calls on a pair whose key was found before. These compare no key.
 ghost use Rattle.std.specs.Prelude.{◌≡◌, is_some, IfSome, IfNone, Some, None};
 ghost use Rattle.intmap.specs.Bindings.{value_of};
 ghost use Rattle.intmap.specs.Locations.{IsAt, IsLast, IsFound, key_at};
@@ -14,7 +14,7 @@ impl<K: IntKey, V, A: Allocator + Copy> IntMap<K, V, A> {
     ghost use Rattle.std.specs.Borrow.{sem};
     ghost use Rattle.intmap.specs.Lending.{map_lends};
 
-    /// Where the pair of the key stands, if it is bound. Its comparisons are counted in the map.
+    /// Where the pair of the key stands, if the key is present. The map counts the comparisons.
     pub(crate) fn locate(&mut self, key: K) -> Option<Location<K>>
         ensures found { IfSome result (λ at. (at.key ≡ key)
             × IsAt K.number_of self.new.walk self.new.capacity at) }
@@ -66,7 +66,7 @@ impl<K: IntKey, V, A: Allocator + Copy> IntMap<K, V, A> {
         &self.table.value_at(at).value
     }
 
-    /// The value of a located pair, to be written.
+    /// A mutable reference to the value of a located pair.
     pub(crate) fn value_mut_at(&mut self, at: Location<K>) -> &mut V
         requires { IsAt K.number_of self.old.walk self.old.capacity at }
         ensures* writes_back { sem 𝓛 (map_lends K.row V.row A.row K.IntKey.own K.PartialEq
@@ -78,7 +78,7 @@ impl<K: IntKey, V, A: Allocator + Copy> IntMap<K, V, A> {
         &mut kept.value
     }
 
-    /// Takes a located pair out. The last pair of its slot takes its place.
+    /// Removes a located pair. The last pair of its slot takes its place.
     pub(crate) fn take_at(&mut self, at: Location<K>) -> V
         requires { IsAt K.number_of self.old.walk self.old.capacity at }
         ensures value { value_of K.number_of self.old.walk at.key ≡ Some result }

@@ -8,8 +8,8 @@ use crate::map::IntMap;
 use std::alloc::Allocator;
 
 impl<K: IntKey, V, A: Allocator + Copy> IntMap<K, V, A> {
-    /// Takes the pair of the key out and answers its value, or `None` where the key isn't bound.
-    /// The last pair of the slot takes its place. It is never refused.
+    /// Removes the pair of the key and returns its value, or `None` if the key is absent. The last
+    /// pair of the slot takes the place of the removed one. It never fails.
     ///
     /// ```text
     /// with 0: 10, 4: 14 and 8: 18, in this order, in 4 slots, where they share one:

@@ -10,17 +10,17 @@ use crate::map::IntMap;
 use std::alloc::Allocator;
 
 impl<K: IntKey, V: Drop, A: Allocator + Copy> IntMap<K, V, A> {
-    /// Keeps the pairs of which the closure says true, and lets the others go. The closure is
-    /// called once for each pair, in the order of the walk, with the key and a reference to the
-    /// value; what it changes of its own is there at the next call.
+    /// Keeps the pairs for which the closure returns true, and drops the others. The closure is
+    /// called once for each pair, in iteration order, with the key and a reference to the value.
+    /// What it changes of its own state is there at the next call.
     ///
-    /// It is asked of the closure that it can be called at these pairs in this order, each time as
-    /// the call before has left it, and nothing of other keys, values and calls.
+    /// The closure must be callable at these pairs in this order, each time in the state that the
+    /// call before left. Nothing is required of other keys, values and calls.
     ///
     /// The pairs that stay keep their order. The capacity, the load factor and both counts stay,
-    /// and so does the memory of the slots, for pairs to come. It is never refused and takes no
-    /// memory, and apart from the calls its time grows with the number of pairs and of slots,
-    /// however many pairs share a slot.
+    /// and the slots keep their memory for later pairs. It never fails and allocates nothing. Apart
+    /// from the calls, its time grows with the number of pairs and of slots, however many pairs
+    /// share a slot.
     ///
     /// ```text
     /// after insert(0, 10), insert(1, 11) and insert(4, 14) into 4 slots the walk is 0, 4, 1:

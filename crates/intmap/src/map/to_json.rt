@@ -13,17 +13,17 @@ use serde_json::{Map, Value};
 use std::alloc::{AllocError, Global};
 
 impl IntMap<u64, Value> {
-    /// An object with a member for each pair: its key is the canonical text of the key, in decimal
-    /// with no sign and no leading zero, and its value a clone of the value. The map stays as it
-    /// is.
+    /// A JSON object with a member for each pair. The member's key is the canonical text of the
+    /// pair's key, in decimal with no sign and no leading zero, and its value is a clone of the
+    /// pair's value. The map stays as it is.
     ///
-    /// It is refused as [`JsonCause::HoldsFloat`] exactly where a value holds, at any depth, a
-    /// number that is neither a `u64` nor an `i64`. That is tested first, and takes no memory.
-    /// Else it is refused only as [`JsonCause::Memory`], where memory for a text, for a clone or
-    /// for the object is. What was made until then is let go.
+    /// It fails with [`JsonCause::HoldsFloat`] exactly if a value holds, at any depth, a number
+    /// that is neither a `u64` nor an `i64`. This is checked first, without allocating. Otherwise
+    /// it fails only with [`JsonCause::Memory`], if an allocation for a text, for a clone or for
+    /// the object fails. What was made until then is dropped.
     ///
-    /// Each part of each value is looked at once, and cloned once. Both go as deep as the value,
-    /// and so does letting it go: how deep a value may be is bounded by the stack alone.
+    /// Each part of each value is checked once and cloned once. Both go as deep as the value, and
+    /// so does dropping it: only the stack bounds how deep a value may be.
     ///
     /// ```text
     /// with 10: null and 5: true    Ok of {"10":null,"5":true}

@@ -1,4 +1,4 @@
-//! A slot once more, with clones of its values.
+//! Clones of a slot.
 ghost use Rattle.std.specs.Prelude.{◌≡◌, ◌+◌, ◌≤◌, length, vec_capacity, IfOk};
 ghost use Rattle.std.specs.List.{AllZip};
 ghost use Rattle.intmap.specs.Cloning.{IsPairClone};
@@ -9,7 +9,7 @@ use crate::slot::first::First;
 use crate::table::stored::Stored;
 use std::alloc::{AllocError, Allocator};
 
-/// The same key with a clone of the value, refused where that is. No key is compared.
+/// The same key with a clone of the value. It fails if the clone does. No key is compared.
 #[inline(always)]
 fn clone_pair<K: IntKey, X: Clone>(pair: &(Stored<K>, X)) -> Result<(Stored<K>, X), AllocError>
     ensures { IfOk result (IsPairClone X.is_clone pair.now) }
@@ -18,8 +18,8 @@ fn clone_pair<K: IntKey, X: Clone>(pair: &(Stored<K>, X)) -> Result<(Stored<K>, 
     Ok((pair.0.copied(), value))
 }
 
-/// The same keys with clones of their values, in the same order. It takes memory for as many pairs,
-/// before the first value is cloned, and none where there is no pair.
+/// The same keys with clones of their values, in the same order. It allocates room for as many
+/// pairs before the first value is cloned, and nothing if there is no pair.
 fn clone_in<K: IntKey, X: Clone, A: Allocator>(
     alloc: A,
     pairs: &[(Stored<K>, X)],
@@ -36,7 +36,7 @@ fn clone_in<K: IntKey, X: Clone, A: Allocator>(
 
 impl<K: IntKey, X: Clone, A: Allocator + Copy> Slot<K, X, A> {
     /// The same keys in the same order, with clones of their values, which lie as they do here. It
-    /// takes memory for the pairs behind the first place, and for no more of them than there are.
+    /// allocates room for the pairs behind the first one, and for no more than these.
     pub(crate) fn clone(&self) -> Result<Slot<K, X, A>, AllocError>
         ensures pairs { IfOk result
             (λ made. AllZip (IsPairClone X.is_clone) self.now.pairs made.pairs) }

@@ -1,4 +1,4 @@
-//! A call at each pair of a slot, with its value to be written.
+//! A call of a closure at each pair of a slot, with a mutable reference to its value.
 ghost use Rattle.intmap.specs.Kept.{WritesStored, TakesStoredMut};
 ghost use Rattle.intmap.specs.Taking.{TakesEach};
 ghost use Rattle.intmap.specs.Writes.{Writes};
@@ -11,7 +11,7 @@ use crate::table::each::write_pair;
 use crate::table::stored::Stored;
 use std::alloc::Allocator;
 
-/// Calls the closure at each pair in turn, with its value to be written.
+/// Calls the closure at each pair in turn, with a mutable reference to its value.
 fn write_in<K: IntKey, V, F: FnMut(K, &mut V)>(pairs: &mut [(Stored<K>, Kept<V>)], f: &mut F)
     requires { TakesEach (WritesStored F.FnMut) (TakesStoredMut F.FnMut) f.old pairs.old }
     ensures { Writes (WritesStored F.FnMut) f.old pairs.old pairs.new f.new }
@@ -22,7 +22,7 @@ fn write_in<K: IntKey, V, F: FnMut(K, &mut V)>(pairs: &mut [(Stored<K>, Kept<V>)
 }
 
 impl<K: IntKey, V, A: Allocator> Slot<K, Kept<V>, A> {
-    /// Calls the closure at each pair in turn, with its value to be written.
+    /// Calls the closure at each pair in turn, with a mutable reference to its value.
     pub(crate) fn write_each<F: FnMut(K, &mut V)>(&mut self, f: &mut F)
         requires { TakesEach (WritesStored F.FnMut) (TakesStoredMut F.FnMut) f.old self.old.pairs }
         ensures { Writes (WritesStored F.FnMut) f.old self.old.pairs self.new.pairs f.new }

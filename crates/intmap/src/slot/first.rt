@@ -15,7 +15,7 @@ pub(crate) enum First<P> {
     Lone(P),
     /// The first of several pairs. The others lie in their order.
     InOrder(P),
-    /// The first of several pairs. The others lie the last first.
+    /// The first of several pairs. The others lie in reverse order.
     Turned(P),
 }
 
@@ -53,7 +53,7 @@ impl<P> First<P> {
         }
     }
 
-    /// Whether there are pairs that lie the last first.
+    /// Whether the pairs behind the first one lie in reverse order.
     #[inline(always)]
     pub(super) fn is_turned(&self) -> bool
         ensures { result ≡ is_turned self.now }
@@ -75,7 +75,7 @@ impl<P> First<P> {
         }
     }
 
-    /// Takes the first pair out.
+    /// Removes the first pair.
     #[inline(always)]
     pub(super) fn take(&mut self) -> Option<P>
         ensures pair { result ≡ first_pair self.old }
@@ -84,7 +84,7 @@ impl<P> First<P> {
         mem::replace(self, First::Empty).into_pair()
     }
 
-    /// Says anew whether the first pair, behind which the others lie in order, is the only one.
+    /// Sets whether the first pair is the only one. Any others lie in order.
     #[inline(always)]
     pub(super) fn set_lone(&mut self, is_lone: bool)
         requires filled { is_some (first_pair self.old) ≡ true }
@@ -100,7 +100,7 @@ impl<P> First<P> {
     }
 }
 
-/// Puts the pairs behind the first one in order, where they lie the last first.
+/// Puts the pairs behind the first one, which lie in reverse order, back in order.
 #[cold]
 #[inline(never)]
 fn turn<P, A: Allocator>(first: &mut First<P>, rest: &mut Vec<P, A>)
@@ -113,7 +113,7 @@ fn turn<P, A: Allocator>(first: &mut First<P>, rest: &mut Vec<P, A>)
     first.set_lone(false);
 }
 
-/// Puts the pairs of a slot in order, where some lie the last first.
+/// Puts the pairs of a slot in order, if some lie in reverse order.
 #[inline(always)]
 pub(super) fn set_in_order<P, A: Allocator>(first: &mut First<P>, rest: &mut Vec<P, A>)
     requires { AreOthers first.old rest.old.items }

@@ -1,4 +1,4 @@
-//! Pairs in order, of which the first stands apart from the others: taken out, and replaced.
+//! Pairs in order, of which the first stands apart from the others: removal and replacement.
 ghost use Rattle.std.specs.Prelude.{◌≡◌, ◌+◌, ◌<◌, [], ◌∷◌, ◌++◌, length, swap_remove, vec_capacity, true, None, Some, OnOk, OnErr, IfOk, IfErr, IfSome, IfNone};
 ghost use Rattle.intmap.specs.Classes.{same_key};
 ghost use Rattle.intmap.specs.Bindings.{swap_out, value_of};
@@ -11,9 +11,9 @@ use crate::table::stored::Stored;
 use std::alloc::Allocator;
 use std::mem;
 
-/// Takes the pair of the key out, and the last pair takes its place. The pairs are compared from
-/// the front up to it, each by one step. The last is compared apart from the others, so that their
-/// loop counts nothing but what is left.
+/// Removes the pair of the key, and the last pair takes its place. The pairs are compared from the
+/// front up to it, each by one step. The last is compared apart from the others, so that their loop
+/// counts nothing but what is left.
 pub(super) fn take_in<K: IntKey, X, A: Allocator>(
     pairs: &mut Vec<(Stored<K>, X), A>,
     key: &K,
@@ -47,8 +47,8 @@ pub(super) fn take_in<K: IntKey, X, A: Allocator>(
     }
 }
 
-/// Puts a new pair in the place of the only one, where that is the key's. Where it isn't, the new
-/// value comes back. The keys are compared in one step.
+/// Puts a new pair in the place of the only one, if that is the key's. Otherwise the new value is
+/// returned. The keys are compared in one step.
 #[inline(always)]
 pub(super) fn replace_lone<K: IntKey, X: Drop>(
     pair: &mut (Stored<K>, X),
@@ -73,8 +73,8 @@ pub(super) fn replace_lone<K: IntKey, X: Drop>(
     Ok(old)
 }
 
-/// Takes the first of several pairs out, puts the last in its place, and adds a new one at the end,
-/// which takes no memory.
+/// Removes the first of several pairs, puts the last in its place, and adds a new one at the end,
+/// without allocating.
 #[inline(always)]
 fn replace_first<P, A: Allocator>(first: &mut P, rest: &mut Vec<P, A>, pair: P) -> P
     requires { 0 < length rest.old.items }
@@ -90,10 +90,9 @@ fn replace_first<P, A: Allocator>(first: &mut P, rest: &mut Vec<P, A>, pair: P) 
     mem::replace(first, last)
 }
 
-/// Where the key is that of the first of several pairs or of one behind it, takes its pair out, puts
-/// the last pair in its place, and adds the new one at the end, which takes no memory. Where it
-/// isn't, the new value comes back. The pairs are compared from the front up to it, each by one
-/// step.
+/// If the key is that of the first of several pairs or of one behind it, removes its pair, puts the
+/// last pair in its place, and adds the new one at the end, without allocating. Otherwise the new
+/// value is returned. The pairs are compared from the front up to the key's, each by one step.
 #[inline(always)]
 pub(super) fn replace_in<K: IntKey, X: Drop, A: Allocator>(
     first: &mut (Stored<K>, X),

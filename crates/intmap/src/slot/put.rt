@@ -13,8 +13,8 @@ use crate::table::stored::Stored;
 use std::alloc::{AllocError, Allocator};
 
 impl<K: IntKey, X: Drop, A: Allocator> Slot<K, X, A> {
-    /// Makes room for so many pairs behind the first, and takes memory for exactly those. It is
-    /// refused where that is.
+    /// Makes room for so many pairs behind the first, and allocates for exactly those. It fails if
+    /// the allocation does.
     #[inline(never)]
     pub(crate) fn reserve_behind(&mut self, count: usize) -> Result<(), AllocError>
         ensures pairs { self.new.pairs ≡ self.old.pairs }
@@ -23,7 +23,7 @@ impl<K: IntKey, X: Drop, A: Allocator> Slot<K, X, A> {
         self.rest.reserve_exact(count)
     }
 
-    /// Puts the first pair into a slot without one. It takes no memory.
+    /// Puts the first pair into a slot without one. It allocates nothing.
     #[inline(always)]
     pub(crate) fn put_first(&mut self, pair: (Stored<K>, X))
         requires { self.old.pairs ≡ [] }
@@ -46,8 +46,8 @@ impl<K: IntKey, X: Drop, A: Allocator> Slot<K, X, A> {
         self.rest.push_reserved(pair);
     }
 
-    /// Adds a pair behind others. The second pair takes memory for itself alone. Where memory is
-    /// refused, the value comes back.
+    /// Adds a pair behind others. The second pair allocates room for itself alone. If the
+    /// allocation fails, the value is returned.
     #[inline(never)]
     pub(crate) fn push(&mut self, key: K, value: X) -> Result<(), X>
         requires { 0 < length self.old.pairs }
@@ -69,9 +69,9 @@ impl<K: IntKey, X: Drop, A: Allocator> Slot<K, X, A> {
         Ok(())
     }
 
-    /// Where the key is bound, takes its pair out, puts the last pair in its place, and adds the new
-    /// one at the end, which takes no memory. Where it isn't, the new value comes back. A slot of one
-    /// pair or none makes no call.
+    /// If the key is present, removes its pair, puts the last pair in its place, and adds the new
+    /// one at the end, without allocating. If it is absent, the new value is returned. A slot of
+    /// one pair or none makes no call.
     #[inline(always)]
     pub(crate) fn replace(&mut self, key: K, value: X, steps: &mut Steps) -> Result<X, X>
         ensures old { IfOk result (λ old. value_of K.number_of self.old.pairs key ≡ Some old) }

@@ -25,8 +25,8 @@ pub(super) fn find_in<K: IntKey, X>(
     None
 }
 
-/// The place of the key's pair, counted from the back. The pairs are compared from the back, each by
-/// one step.
+/// The place of the key's pair, counted from the back. The pairs are compared from the back, each
+/// by one step.
 #[cold]
 #[inline(never)]
 pub(super) fn find_back_in<K: IntKey, X>(
@@ -47,8 +47,8 @@ pub(super) fn find_back_in<K: IntKey, X>(
     None
 }
 
-/// The place of the key's pair, of those that lie in order or, where they are turned, the last first.
-/// They are compared in their order up to it, each by one step.
+/// The place of the key's pair, of those that lie in order or, if they are turned, in reverse
+/// order. They are compared in their order up to it, each by one step.
 #[inline(always)]
 pub(super) fn find_behind<K: IntKey, X>(
     rest: &[(Stored<K>, X)],

@@ -1,4 +1,4 @@
-//! Pairs taken out of a slot.
+//! Removal of pairs from a slot.
 ghost use Rattle.std.specs.Prelude.{◌≡◌, ◌+◌, ◌<◌, [], ◌∷◌, length, swap_remove, slice_index_or, slice_set, true, false, IfSome, IfNone, OnSome};
 ghost use Rattle.intmap.specs.Classes.{same_key};
 ghost use Rattle.intmap.specs.Bindings.{swap_out, value_of};
@@ -15,7 +15,7 @@ use crate::table::stored::Stored;
 use std::alloc::Allocator;
 use std::mem;
 
-/// Takes the first of several pairs out, behind which the others lie in order. The last takes its
+/// Removes the first of several pairs, behind which the others lie in order. The last takes its
 /// place.
 #[inline(always)]
 fn take_first_in<P, A: Allocator>(first: &mut First<P>, rest: &mut Vec<P, A>) -> P
@@ -31,14 +31,14 @@ fn take_first_in<P, A: Allocator>(first: &mut First<P>, rest: &mut Vec<P, A>) ->
     let First::InOrder(place) = first else {
         unreachable!();
     };
-    // a `pop` would ask whether there is one
+    // a `pop` would check whether there is one
     let last = rest.swap_remove(rest.len() - 1);
     let pair = mem::replace(place, last);
     first.set_lone(rest.is_empty());
     pair
 }
 
-/// Puts the others in order, and takes the first of several pairs out. The last takes its place.
+/// Puts the others in order, and removes the first of several pairs. The last takes its place.
 #[cold]
 #[inline(never)]
 fn turn_and_take_first<P, A: Allocator>(first: &mut First<P>, rest: &mut Vec<P, A>) -> P
@@ -54,8 +54,8 @@ fn turn_and_take_first<P, A: Allocator>(first: &mut First<P>, rest: &mut Vec<P, 
     take_first_in(first, rest)
 }
 
-/// Takes the pair of the key out of those that lie in order behind the first one, whose key is
-/// another. The last pair takes its place. The keys are compared in order up to it, each by one step.
+/// Removes the pair of the key from those that lie in order behind the first one, which has another
+/// key. The last pair takes its place. The keys are compared in order up to it, each by one step.
 #[inline(always)]
 fn take_behind<K: IntKey, X, A: Allocator>(
     first: &mut First<(Stored<K>, X)>,
@@ -83,7 +83,7 @@ fn take_behind<K: IntKey, X, A: Allocator>(
 }
 
 impl<K: IntKey, X, A: Allocator> Slot<K, X, A> {
-    /// Takes the first of several pairs out. The last pair takes its place.
+    /// Removes the first of several pairs. The last pair takes its place.
     #[inline(always)]
     fn take_first(&mut self) -> (Stored<K>, X)
         requires { 1 < length self.old.pairs }
@@ -97,9 +97,9 @@ impl<K: IntKey, X, A: Allocator> Slot<K, X, A> {
         turn_and_take_first(&mut self.first, &mut self.rest)
     }
 
-    /// Takes the pair out that has no other beside it, and the mark of the slot's own place away.
-    /// Where there is none, or where there are more, it answers `None` and changes nothing. The word
-    /// of the mark is read before the slot changes, so that its bit is cleared in a register.
+    /// Removes the only pair and clears the mark of the slot. If the slot has no pair or several,
+    /// it returns `None` and changes nothing. The word of the mark is read before the slot changes,
+    /// so that its bit is cleared in a register.
     #[inline(always)]
     fn take_lone(&mut self, bits: &mut Bits<A>, slot: usize) -> Option<(Stored<K>, X)>
         requires { slot < length bits.old }
@@ -120,8 +120,8 @@ impl<K: IntKey, X, A: Allocator> Slot<K, X, A> {
         pair
     }
 
-    /// Takes the first pair out. The others keep their order, and lie the last first from then on,
-    /// so that they are turned round once and then taken out in one step each.
+    /// Removes the first pair. The others keep their order, and lie in reverse order from then on.
+    /// So they are reversed once and then removed in one step each.
     pub(crate) fn take_front(&mut self) -> (Stored<K>, X)
         requires { 0 < length self.old.pairs }
         ensures { self.old.pairs ≡ result ∷ self.new.pairs }
@@ -145,8 +145,8 @@ impl<K: IntKey, X, A: Allocator> Slot<K, X, A> {
         }
     }
 
-    /// Takes the pair at a place out. The last pair takes its place. Where no pair is left, the mark
-    /// of the slot's own place is taken away.
+    /// Removes the pair at a place. The last pair takes its place. If no pair is left, the mark of
+    /// the slot is cleared.
     pub(crate) fn take_at(
         &mut self,
         place: usize,
@@ -171,8 +171,8 @@ impl<K: IntKey, X, A: Allocator> Slot<K, X, A> {
         self.take_first()
     }
 
-    /// Takes the pair of the key out, and the last pair takes its place. The keys are compared as
-    /// by [`get`](Slot::get). Where no pair is left, the mark of the slot's own place is taken away.
+    /// Removes the pair of the key, and the last pair takes its place. The keys are compared as by
+    /// [`get`](Slot::get). If no pair is left, the mark of the slot is cleared.
     #[inline(always)]
     pub(crate) fn take(
         &mut self,

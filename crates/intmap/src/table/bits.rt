@@ -35,7 +35,7 @@ pub(crate) fn without(word: u64, place: usize) -> u64
     word & !(1 << (place % BITS))
 }
 
-/// The place behind those that have their bits in one word with this one.
+/// The first place whose bit lies in a later word than that of this place.
 #[inline(always)]
 pub(crate) fn end_of_word(place: usize) -> usize
     requires { place < 2 ^ 63 }
@@ -49,7 +49,7 @@ impl<A: Allocator> Bits<A> {
     ghost use Rattle.std.specs.Borrow.{sem};
     ghost use Rattle.intmap.specs.Lending.{bits_lend};
 
-    /// Marks a place, and answers whether it was marked before. No other place changes.
+    /// Marks a place, and returns whether it was marked before. No other place changes.
     #[inline(always)]
     pub(crate) fn set(&mut self, place: usize) -> bool
         requires { place < length self.old }
@@ -61,7 +61,7 @@ impl<A: Allocator> Bits<A> {
         (word >> (place % BITS)) & 1 == 1
     }
 
-    /// The word that a place has its bit in, to be written.
+    /// A mutable reference to the word that a place has its bit in.
     #[inline(always)]
     pub(crate) fn word_mut(&mut self, place: usize) -> &mut u64
         requires { place < length self.old }
@@ -71,7 +71,7 @@ impl<A: Allocator> Bits<A> {
         &mut self.words[place / BITS]
     }
 
-    /// Takes the mark of a place away. No other place changes.
+    /// Clears the mark of a place. No other place changes.
     #[inline(always)]
     pub(crate) fn clear(&mut self, place: usize)
         requires { place < length self.old }
@@ -81,7 +81,7 @@ impl<A: Allocator> Bits<A> {
         *word = without(*word, place);
     }
 
-    /// Takes all marks away.
+    /// Clears all marks.
     pub(crate) fn clear_all(&mut self)
         ensures { self.new ≡ replicate (length self.old) false }
     {
@@ -140,8 +140,8 @@ impl<A: Allocator> Bits<A> {
 }
 
 impl<A: Allocator + Copy> Bits<A> {
-    /// So many places, rounded up to whole words, none of them marked. It takes memory for these
-    /// words alone.
+    /// So many places, rounded up to whole words, none of them marked. It allocates these words
+    /// alone.
     pub(crate) fn new(alloc: A, places: usize) -> Result<Bits<A>, AllocError>
         requires { places ≤ 2 ^ 63 }
         ensures { IfOk result (λ bits. bits ≡ replicate (64 * ((places + 63) / 64)) false) }
@@ -150,7 +150,7 @@ impl<A: Allocator + Copy> Bits<A> {
         Ok(Bits { words })
     }
 
-    /// The same marks once more. The words are copied, and it takes memory for as many.
+    /// A copy of the marks. It allocates as many words.
     pub(crate) fn clone(&self) -> Result<Bits<A>, AllocError>
         ensures { IfOk result (λ bits. bits ≡ self.now) }
     {
@@ -159,7 +159,7 @@ impl<A: Allocator + Copy> Bits<A> {
     }
 }
 
-/// The marked places that are left: those of the word in hand, which begins at the base, and those
+/// The marked places that are left: those of the current word, which begins at the base, and those
 /// of the words behind it.
 #[derive(Drop)]
 pub(crate) struct Places<'a> {

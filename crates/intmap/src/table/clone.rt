@@ -1,4 +1,4 @@
-//! A table once more, with clones of its values.
+//! Clones of a table.
 ghost use Rattle.std.specs.Prelude.{◌≡◌, IfOk};
 ghost use Rattle.std.specs.List.{AllZip};
 ghost use Rattle.intmap.specs.Cloning.{IsPairClone};
@@ -9,8 +9,8 @@ use crate::table::{Directory, Table};
 use std::alloc::{AllocError, Allocator};
 
 impl<K: IntKey, X: Clone, A: Allocator + Copy> Table<K, X, A> {
-    /// The same keys in the same slots, with clones of their values. Memory for the bits and for
-    /// the slots is taken before the first value is cloned.
+    /// The same keys in the same slots, with clones of their values. The bits and the slots are
+    /// allocated before the first value is cloned.
     pub(crate) fn clone(&self) -> Result<Table<K, X, A>, AllocError>
         ensures walk { IfOk result
             (λ made. AllZip (IsPairClone X.is_clone) self.now.walk made.walk) }

@@ -1,4 +1,4 @@
-//! A call at each pair of a table, with its value to be written.
+//! A call of a closure at each pair of a table, with a mutable reference to its value.
 ghost use Rattle.std.specs.Prelude.{◌≡◌, length};
 ghost use Rattle.intmap.specs.Kept.{unkept, WritesStored, TakesStoredMut};
 ghost use Rattle.intmap.specs.Slots.{rows, joined, IsMarkedTable};
@@ -14,7 +14,7 @@ use crate::table::bits::Bits;
 use crate::table::stored::Stored;
 use std::alloc::Allocator;
 
-/// Calls the closure at a pair, with its value to be written.
+/// Calls the closure at a pair, with a mutable reference to its value.
 #[inline(always)]
 pub(crate) fn write_pair<K: IntKey, V, F: FnMut(K, &mut V)>(
     pair: &mut (Stored<K>, Kept<V>),
@@ -27,8 +27,8 @@ pub(crate) fn write_pair<K: IntKey, V, F: FnMut(K, &mut V)>(
     f(*pair.0.key(), &mut pair.1.value);
 }
 
-/// Calls the closure at each pair in turn, slot after slot, with its value to be written. The bits
-/// tell which slots to look at.
+/// Calls the closure at each pair in turn, slot after slot, with a mutable reference to its value.
+/// The bits tell which slots to look at.
 fn write_slots<K: IntKey, V, A: Allocator, F: FnMut(K, &mut V)>(
     bits: &Bits<A>,
     slots: &mut Vec<Slot<K, Kept<V>, A>, A>,
@@ -48,7 +48,8 @@ fn write_slots<K: IntKey, V, A: Allocator, F: FnMut(K, &mut V)>(
 }
 
 impl<K: IntKey, V, A: Allocator> Table<K, Kept<V>, A> {
-    /// Calls the closure at each pair in the order of the walk, with its value to be written.
+    /// Calls the closure at each pair in the order of the walk, with a mutable reference to its
+    /// value.
     pub(crate) fn write_each<F: FnMut(K, &mut V)>(&mut self, f: &mut F)
         requires { TakesEach (WritesAt F.FnMut) (TakesPairMut F.FnMut) f.old
             (unkept self.old.walk) }

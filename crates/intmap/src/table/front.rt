@@ -1,4 +1,4 @@
-//! Pairs that are taken out from the front of the walk.
+//! Removal of pairs from the front of the walk.
 ghost use Rattle.std.specs.Prelude.{◌≡◌, ◌<◌, IfSome, length, option_map};
 ghost use Rattle.std.specs.Iterator.{YieldsFirst};
 ghost use Rattle.intmap.specs.Passing.{ArePassed, TakesFrom};
@@ -11,8 +11,8 @@ use std::alloc::Allocator;
 use std::mem;
 
 impl<K: IntKey, X, A: Allocator> Table<K, X, A> {
-    /// Takes the first pair of the walk out. No slot before the place holds one; it moves on to the
-    /// slot that held the pair.
+    /// Removes the first pair of the walk. No slot before the place `from` holds a pair. The place
+    /// moves on to the slot that held the removed one.
     pub(crate) fn take_front(&mut self, from: &mut usize) -> Option<(K, X)>
         requires { ArePassed K.number_of self.old.walk self.old.capacity from.old }
         ensures first { YieldsFirst (λ t. t.walk) self.old result self.new }
@@ -34,8 +34,8 @@ impl<K: IntKey, X, A: Allocator> Table<K, X, A> {
 }
 
 impl<K: IntKey, X, A: Allocator + Copy> Table<K, X, A> {
-    /// Takes the first slot that holds a pair out, and leaves one without pairs. No slot before the
-    /// place holds one; it moves on to that slot.
+    /// Takes out the first slot that holds a pair, and leaves one without pairs. No slot before the
+    /// place `from` holds a pair. The place moves on to that slot.
     pub(crate) fn take_slot(&mut self, from: &mut usize) -> Option<Slot<K, X, A>>
         requires { ArePassed K.number_of self.old.walk self.old.capacity from.old }
         ensures first { TakesFrom self.old.walk (option_map (λ slot. slot.pairs) result)

@@ -1,4 +1,4 @@
-//! Growth in one jump. All memory is taken before the first pair moves.
+//! Growth in one jump. All memory is allocated before the first pair moves.
 ghost use Rattle.std.specs.Prelude.{◌≡◌, ◌+◌, ◌^◌, ◌<◌, [], ◌∷◌, ◌++◌, length, OnOk, OnErr, IfOk, IfErr, IsOk, None};
 ghost use Rattle.std.specs.Option.{option_to_list};
 ghost use Rattle.intmap.specs.Classes.{IsCapacity};
@@ -28,7 +28,7 @@ fn count_key<K: IntKey>(counts: &mut [usize], key: &K)
     counts[index] += 1;
 }
 
-/// Adds the number of the pairs that have each slot to its count.
+/// Adds to the count of each slot the number of these pairs that belong in it.
 fn count_each<K: IntKey, X>(counts: &mut [usize], pairs: &[(Stored<K>, X)])
     requires capacity { IsCapacity (length counts.old) }
     requires fits { CanCount K.number_of counts.old (keys_of pairs.now) }
@@ -39,7 +39,7 @@ fn count_each<K: IntKey, X>(counts: &mut [usize], pairs: &[(Stored<K>, X)])
     }
 }
 
-/// Adds the number of an old slot's pairs that have each slot to its count.
+/// Adds to the count of each slot the number of an old slot's pairs that belong in it.
 #[inline(always)]
 fn count_slot<K: IntKey, X, A: Allocator>(counts: &mut [usize], slot: &Slot<K, X, A>)
     requires capacity { IsCapacity (length counts.old) }
@@ -57,8 +57,8 @@ fn count_slot<K: IntKey, X, A: Allocator>(counts: &mut [usize], slot: &Slot<K, X
     count_each(counts, rest);
 }
 
-/// Adds the number of all old slots' pairs that have each slot to its count. The bits of the old
-/// slots tell which of them to look at.
+/// Adds to the count of each slot the number of all old slots' pairs that belong in it. The bits of
+/// the old slots tell which of them to look at.
 fn count_all<K: IntKey, X, A: Allocator>(
     counts: &mut [usize],
     bits: &Bits<A>,
@@ -74,7 +74,7 @@ fn count_all<K: IntKey, X, A: Allocator>(
     }
 }
 
-/// Empty slots, each with room for as many pairs as its count. All their memory is taken here.
+/// Empty slots, each with room for as many pairs as its count. All their memory is allocated here.
 fn with_room<K: IntKey, X: Drop, A: Allocator + Copy>(
     alloc: A,
     counts: &[usize],
@@ -93,8 +93,8 @@ fn with_room<K: IntKey, X: Drop, A: Allocator + Copy>(
 }
 
 impl<K: IntKey, X: Drop, A: Allocator + Copy> Table<K, X, A> {
-    /// Adds the number of the pairs that have each slot, of as many as there are counts, to its
-    /// count.
+    /// Adds to the count of each slot, of as many as there are counts, the number of the pairs that
+    /// belong in it.
     fn count_pairs(&self, counts: &mut [usize])
         requires capacity { IsCapacity (length counts.old) }
         requires fits { CanCount K.number_of counts.old (keys_of self.now.walk) }
@@ -103,8 +103,8 @@ impl<K: IntKey, X: Drop, A: Allocator + Copy> Table<K, X, A> {
         count_all(counts, &self.directory.bits, &self.slots);
     }
 
-    /// Empty slots, so many, each with exact room for the pairs that belong in it, that of a new
-    /// key among them, and their bits.
+    /// So many empty slots and their bits. Each slot has exact room for the pairs that belong in
+    /// it, including that of a new key.
     fn slots_for(
         &self,
         capacity: usize,
@@ -133,9 +133,9 @@ impl<K: IntKey, X: Drop, A: Allocator + Copy> Table<K, X, A> {
         Ok((directory, slots))
     }
 
-    /// Moves all pairs, in the order of the walk, into a table of so many slots, and puts the pair
-    /// of a key that isn't bound behind them. Where memory is refused, the value comes back and
-    /// nothing changes.
+    /// Moves all pairs, in the order of the walk, to a table of so many slots, and puts the pair of
+    /// an absent key behind them. If an allocation fails, the value is returned and nothing
+    /// changes.
     pub(crate) fn grow_with(
         &mut self,
         capacity: usize,
@@ -166,8 +166,8 @@ impl<K: IntKey, X: Drop, A: Allocator + Copy> Table<K, X, A> {
         Ok(())
     }
 
-    /// Moves all pairs, in the order of the walk, into a table of so many slots. It does nothing
-    /// where there are so many already. Where memory is refused, nothing changes.
+    /// Moves all pairs, in the order of the walk, to a table of so many slots. It does nothing if
+    /// there are so many already. If an allocation fails, nothing changes.
     pub(crate) fn grow_to(&mut self, capacity: usize) -> Result<(), AllocError>
         requires capacity { IsCapacity capacity }
         requires count { length self.old.walk < 2 ^ 64 }

@@ -1,4 +1,4 @@
-//! Where the pair of a key stands, and calls on a pair that was located, which compare no key.
+//! Where the pair of a key stands, and calls on a located pair, which compare no key.
 ghost use Rattle.std.specs.Prelude.{◌≡◌, ◌+◌, IfSome, IfNone, Some, None};
 ghost use Rattle.intmap.specs.Bindings.{HasDistinctKeys, value_of, take_key};
 ghost use Rattle.intmap.specs.Locations.{IsAt, IsLast, IsFound, key_at};
@@ -22,8 +22,8 @@ impl<K: IntKey, X, A: Allocator> Table<K, X, A> {
     ghost use Rattle.std.specs.Borrow.{sem};
     ghost use Rattle.intmap.specs.Lending.{table_lends};
 
-    /// Where the pair of the key stands, if it is bound. The keys of its slot are compared from the
-    /// front up to it, each by one step.
+    /// Where the pair of the key stands, if the key is present. The keys of its slot are compared
+    /// from the front up to it, each by one step.
     pub(crate) fn locate(&self, key: K, steps: &mut Steps) -> Option<Location<K>>
         ensures found { IfSome result (λ at. (at.key ≡ key)
             × IsAt K.number_of self.now.walk self.now.capacity at) }
@@ -67,7 +67,7 @@ impl<K: IntKey, X, A: Allocator> Table<K, X, A> {
         self.slots[at.slot].value_at(at.place)
     }
 
-    /// The value of a located pair, to be written.
+    /// A mutable reference to the value of a located pair.
     pub(crate) fn value_mut_at(&mut self, at: Location<K>) -> &mut X
         requires at { IsAt K.number_of self.old.walk self.old.capacity at }
         requires once { HasDistinctKeys K.number_of self.old.walk }
@@ -78,7 +78,7 @@ impl<K: IntKey, X, A: Allocator> Table<K, X, A> {
         self.slots[at.slot].value_mut_at(at.place)
     }
 
-    /// Takes a located pair out. The last pair of its slot is moved into its place.
+    /// Removes a located pair. The last pair of its slot moves into its place.
     pub(crate) fn take_at(&mut self, at: Location<K>) -> X
         requires { IsAt K.number_of self.old.walk self.old.capacity at }
         ensures value { value_of K.number_of self.old.walk at.key ≡ Some result }

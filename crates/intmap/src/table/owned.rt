@@ -10,8 +10,8 @@ use std::alloc::Allocator;
 use std::marker::Model;
 use std::vec;
 
-/// The pairs that are left: those of the slot in hand, and those of the table, which lost the
-/// slots that were gone through.
+/// The pairs that are left: those of the current slot, and those of the table, which lost the slots
+/// that were gone through.
 #[derive(Drop)]
 pub(crate) struct IntoPairs<K: IntKey, X, A: Allocator> {
     first: Option<(Stored<K>, X)>,

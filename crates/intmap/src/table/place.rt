@@ -14,7 +14,7 @@ use std::alloc::Allocator;
 /// The odd number that spreads keys over slots.
 const MULTIPLIER: u64 = 11400714819323198549;
 
-/// The slot of a key, of one more than the mask.
+/// The slot of a key, of `mask + 1` slots.
 #[inline(always)]
 pub(super) fn masked_index_of<K: IntKey>(key: &K, mask: usize) -> usize
     requires { IsCapacity (mask + 1) }
@@ -129,7 +129,7 @@ fn place_slot<K: IntKey, X: Drop, A: Allocator>(
 }
 
 /// Puts the pairs of all old slots, slot after slot, at the ends of their slots, where there is
-/// room for them. Old slots whose bits are zero words are let go without a look at them.
+/// room for them. Old slots whose bits are zero words are dropped without being looked at.
 pub(super) fn place_all<K: IntKey, X: Drop, A: Allocator>(
     bits: &mut Bits<A>,
     slots: &mut [Slot<K, X, A>],

@@ -1,4 +1,4 @@
-//! Pairs that stay where a closure says so, in their order and in the room that there is.
+//! Pairs that stay because a closure says so, in their order and in the memory that there is.
 ghost use Rattle.std.specs.Prelude.{◌≡◌, ◌+◌, ◌^◌, ◌<◌, ◌≤◌, length};
 ghost use Rattle.intmap.specs.Walk.{walk_of};
 ghost use Rattle.intmap.specs.Slots.{rows, joined, IsMarkedTable};
@@ -24,7 +24,7 @@ fn keeps_pair<K: IntKey, V, F: FnMut(K, &V) -> bool>(pair: &(Stored<K>, Kept<V>)
     f(*pair.0.key(), &pair.1.value)
 }
 
-/// Keeps the pairs of which the closure says true, in their order.
+/// Keeps the pairs for which the closure returns true, in their order.
 fn retain_in<K: IntKey, V: Drop, A: Allocator, F: FnMut(K, &V) -> bool>(
     pairs: &mut Vec<(Stored<K>, Kept<V>), A>,
     f: &mut F,
@@ -42,7 +42,7 @@ fn retain_in<K: IntKey, V: Drop, A: Allocator, F: FnMut(K, &V) -> bool>(
     pairs.truncate(kept);
 }
 
-/// The slot of these pairs, of which the first moves up.
+/// The slot of these pairs, of which the first moves to the slot's first place.
 fn slot_with<K: IntKey, X, A: Allocator>(mut pairs: Vec<(Stored<K>, X), A>) -> Slot<K, X, A>
     ensures { result.pairs ≡ pairs.items }
 {
@@ -53,7 +53,8 @@ fn slot_with<K: IntKey, X, A: Allocator>(mut pairs: Vec<(Stored<K>, X), A>) -> S
     Slot::from_parts(Some(first), pairs)
 }
 
-/// The slot with the pairs of which the closure says true, in their order and in the same memory.
+/// The slot with the pairs for which the closure returns true, in their order and in the same
+/// memory.
 fn retain_slot<K: IntKey, V: Drop, A: Allocator, F: FnMut(K, &V) -> bool>(
     slot: Slot<K, Kept<V>, A>,
     f: &mut F,
@@ -73,7 +74,7 @@ fn retain_slot<K: IntKey, V: Drop, A: Allocator, F: FnMut(K, &V) -> bool>(
     slot_with(rest)
 }
 
-/// Keeps the pairs of which the closure says true, slot after slot, and answers how many they are.
+/// Keeps the pairs for which the closure returns true, slot after slot, and returns their number.
 /// The bits tell which slots to look at, and a slot that is emptied loses its bit.
 fn retain_slots<K: IntKey, V: Drop, A: Allocator + Copy, F: FnMut(K, &V) -> bool>(
     bits: &mut Bits<A>,
@@ -107,8 +108,8 @@ fn retain_slots<K: IntKey, V: Drop, A: Allocator + Copy, F: FnMut(K, &V) -> bool
 }
 
 impl<K: IntKey, V: Drop, A: Allocator + Copy> Table<K, Kept<V>, A> {
-    /// Keeps the pairs of which the closure says true, in their order, and answers how many they
-    /// are. The closure is asked about each pair once, in the order of the walk.
+    /// Keeps the pairs for which the closure returns true, in their order, and returns their
+    /// number. The closure is called once at each pair, in the order of the walk.
     pub(crate) fn retain<F: FnMut(K, &V) -> bool>(&mut self, f: &mut F) -> usize
         requires callable { TakesEach (KeepsAt F.FnMut) (TakesPair F.FnMut) f.old
             (unkept self.old.walk) }

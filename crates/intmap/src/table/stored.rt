@@ -1,14 +1,14 @@
-//! Keys at rest. What is stored is compared by one method, and that method counts the comparison.
+//! Stored keys. They are compared by one method, and that method counts the comparison.
 ghost use Rattle.std.specs.Prelude.{◌≡◌, ◌+◌, ◌==◌};
 
 use crate::key::IntKey;
 use crate::steps::Steps;
 use std::marker::Model;
 
-/// A key that is stored. It has no `==`, and its field is private: [`Stored::matches`] tells
-/// whether it is the key that is looked for, and counts a step for it. [`Stored::key`] is for a
-/// table alone, whose walks hand keys out and which asks for the slots that they have; where slots
-/// are searched it can't be named.
+/// A stored key. It has no `==`, and its field is private: [`Stored::matches`] returns whether it
+/// is the sought key, and counts a step for it. [`Stored::key`] is visible in the module `table`
+/// alone, whose walks return keys and which computes their slots. The module `slot`, where slots
+/// are searched, can't name it.
 #[derive(Drop)]
 pub struct Stored<K: IntKey> {
     key: K,
@@ -32,7 +32,7 @@ impl<K: IntKey> Stored<K> {
         Stored { key }
     }
 
-    /// The same key, stored once more. It is no step, since nothing is compared.
+    /// A copy of the stored key. It counts no step, since nothing is compared.
     #[inline(always)]
     pub(crate) fn copied(&self) -> Stored<K>
         ensures value { result ≡ self.now }
@@ -40,7 +40,7 @@ impl<K: IntKey> Stored<K> {
         Stored { key: self.key }
     }
 
-    /// Whether this is the key that is looked for. It is one step.
+    /// Whether this is the sought key. It counts one step.
     #[inline(always)]
     pub(crate) fn matches(&self, key: &K, steps: &mut Steps) -> bool
         ensures same { result ≡ (K.number_of self.now == K.number_of key.now) }
@@ -50,7 +50,7 @@ impl<K: IntKey> Stored<K> {
         self.key.number() == key.number()
     }
 
-    /// The key, to be handed out or put into its slot.
+    /// The key, to be returned or to compute its slot.
     #[inline(always)]
     pub(in crate::table) fn key(&self) -> &K
         ensures value { result.now ≡ self.now }

@@ -18,9 +18,9 @@ fn slot_at<K: IntKey, X, A: Allocator>(slots: &[Slot<K, X, A>], place: usize) ->
     &slots[place]
 }
 
-/// The pairs that are left: those of the slot in hand, and those of the slots at the places behind
-/// it, of which each holds a pair. Where the rest of the slot in hand is turned, its last pair is
-/// the next.
+/// The pairs that are left: those of the current slot, and those of the slots at the places behind
+/// it, of which each holds a pair. If the rest of the current slot is turned, its last pair is the
+/// next.
 #[derive(Drop)]
 pub(crate) struct Pairs<'a, K: IntKey, X, A: Allocator> {
     pub(super) first: Option<&'a (Stored<K>, X)>,
