@@ -1,4 +1,4 @@
-//! What a command answers.
+//! The answers of commands.
 
 use intmap::{Cause, RefusedPair};
 use std::alloc::{Allocator, Global};
@@ -6,17 +6,17 @@ use std::alloc::{Allocator, Global};
 /// The answer of one command, where `S` is what the judge sees of a value.
 #[derive(Drop)]
 pub enum Answer<K, V, S, A: Allocator = Global> {
-    /// The value that the key was bound to before the command; `None` where it wasn't bound.
+    /// The value of the key before the command, or `None` if the key was absent.
     Old(Option<V>),
-    /// What the judge sees of the value that the key is bound to; `None` where it isn't bound.
+    /// What the judge sees of the value of the key, or `None` if the key is absent.
     Seen(Option<S>),
-    /// The command's own value, since the key isn't bound.
+    /// The command's own value, since the key is absent.
     Back(V),
-    /// The key was new, and its pair was put in.
+    /// The key was new, and its pair was inserted.
     Fresh,
-    /// It was done, and there is nothing to hand back.
+    /// The command is done, and there is nothing to return.
     Done,
-    /// Whether it is so: that the key is bound, that it was new, that there is no pair, or that the
+    /// Whether the key is present, whether it was new, whether there is no pair, or whether the
     /// pairs are as many as `len` says.
     Flag(bool),
     /// A number of pairs or slots, or a load factor or the pairs to a slot in thousandths.
@@ -27,18 +27,18 @@ pub enum Answer<K, V, S, A: Allocator = Global> {
     Keys(Vec<K, A>),
     /// What the judge sees of each value of the walk, in its order.
     Values(Vec<S, A>),
-    /// The pairs that were taken out, in the order of the walk.
+    /// The pairs that were removed, in the order of the walk.
     Pairs(Vec<(K, V), A>),
     /// Each number of pairs above 1 that a slot holds, with the number of slots that hold so many.
     Sizes(Vec<(u64, u64), A>),
-    /// The first of several pairs that was refused, with its cause and the number of those before
-    /// it, which were put in.
+    /// The first of several pairs whose insertion failed, with the cause and the number of pairs
+    /// that were inserted before it.
     Stopped(RefusedPair<K, V>),
-    /// The command was refused and left walk, capacity and load factor as they were.
+    /// The command failed, and left the walk, the capacity and the load factor as they were.
     Refused {
-        /// Why it was refused.
+        /// Why it failed.
         cause: Cause,
-        /// The command's own value, handed back; `None` where the command has none.
+        /// The command's own value, returned to the caller, or `None` if the command has none.
         value: Option<V>,
     },
 }

@@ -1,96 +1,96 @@
-//! What can be asked of a map.
+//! The commands of a run.
 
 use std::alloc::{Allocator, Global};
 
-/// One call on a map. Where nothing else is said it is never refused and leaves the map as it is.
+/// One call on a map. If nothing else is said, it never fails and leaves the map as it is.
 #[derive(Drop)]
 pub enum Command<K, V, A: Allocator = Global> {
-    /// `insert`: binds the key to the value, and answers `Old` of the value before.
+    /// `insert`: sets the value of the key. The answer is `Old` of the value before.
     ///
-    /// Refused for a new key alone, with the value back: as `TooLarge` exactly where the map has
-    /// 2^64 - 1 pairs or growth wants more than 2^63 slots, and as `Memory` never where the
-    /// capacity stays and no bound key has the same slot.
+    /// It fails only for a new key, and returns the value: with `TooLarge` exactly if the map has
+    /// 2^64 - 1 pairs or growth needs more than 2^63 slots, and with `Memory` never if the capacity
+    /// stays and no present key has the same slot.
     Insert(K, V),
-    /// `insert_checked`: binds the key to the value where it isn't bound, and answers `Flag` of
-    /// whether it did so. Where the key is bound the value is let go.
+    /// `insert_checked`: inserts the pair if the key is absent. The answer is `Flag` of whether it
+    /// did so. If the key is present, the value is dropped.
     ///
-    /// Refused as `Insert` is, with the value back.
+    /// It fails as `Insert` does, and returns the value.
     InsertChecked(K, V),
-    /// `get`: answers `Seen` of the value that the key is bound to.
+    /// `get`: the answer is `Seen` of the value of the key.
     Get(K),
-    /// `get_mut`: writes the value in the place of the one that the key is bound to, and answers
-    /// `Old` of that one. Where the key isn't bound it answers `Back` of its own value.
+    /// `get_mut`: replaces the value of the key in its place. The answer is `Old` of the value
+    /// before, or `Back` of the command's own value if the key is absent.
     GetMut(K, V),
-    /// `contains_key`: answers `Flag` of whether the key is bound.
+    /// `contains_key`: the answer is `Flag` of whether the key is present.
     ContainsKey(K),
-    /// `remove`: takes the pair of the key out, and answers `Old` of its value.
+    /// `remove`: removes the pair of the key. The answer is `Old` of its value.
     Remove(K),
-    /// `clear`: lets all pairs go, and answers `Done`. Capacity and load factor stay.
+    /// `clear`: drops all pairs. The answer is `Done`. Capacity and load factor stay.
     Clear,
-    /// `retain`: lets the pairs go that the judge doesn't keep, and answers `Done`. The others keep
+    /// `retain`: drops the pairs that the judge doesn't keep. The answer is `Done`. The others keep
     /// their order, and capacity and load factor stay.
     Retain,
-    /// `reserve`: makes the capacity at least the least power of two that is at least the length
-    /// and so many slots more, and answers `Done`.
+    /// `reserve`: makes the capacity at least the least power of two that is no less than the
+    /// length plus this number. The answer is `Done`.
     ///
-    /// Refused as `TooLarge` exactly where the sum of the length and so many is above 2^63, and as
-    /// `Memory` only where it is above the capacity.
+    /// It fails with `TooLarge` exactly if that sum is above 2^63, and with `Memory` only if it is
+    /// above the capacity.
     Reserve(usize),
-    /// `set_load_factor`: sets the load factor, in thousandths, makes the capacity at once the
-    /// least of itself and its doublings that meets it, and answers `Done`.
+    /// `set_load_factor`: sets the load factor, in thousandths, and makes the capacity at once the
+    /// least of itself and its doublings that meets it. The answer is `Done`.
     ///
-    /// Refused as `TooLarge` exactly where no capacity up to 2^63 meets it, and as `Memory` only
-    /// where the capacity itself doesn't.
+    /// It fails with `TooLarge` exactly if no capacity up to 2^63 meets it, and with `Memory` only
+    /// if the present capacity doesn't.
     SetLoadFactor(usize),
-    /// `get_load_factor`: answers the `Number` of thousandths that the load factor is.
+    /// `get_load_factor`: the answer is `Number` of the load factor, in thousandths.
     GetLoadFactor,
-    /// `entry`, then `insert` on it: writes the value in the place of the one that the key is bound
-    /// to, and answers `Old` of that one. Where the key isn't bound it binds it to the value, and
-    /// answers `Fresh`.
+    /// `entry`, then `insert` on it: replaces the value of the key in its place. The answer is
+    /// `Old` of the value before. If the key is absent it inserts the pair, and the answer is
+    /// `Fresh`.
     ///
-    /// Refused as `Insert` is, for a new key alone and with the value back.
+    /// It fails as `Insert` does, only for a new key, and returns the value.
     EntryInsert(K, V),
-    /// `entry`, then `remove` on it where it is occupied: takes the pair of the key out, and answers
+    /// `entry`, then `remove` on it if it is occupied: removes the pair of the key. The answer is
     /// `Old` of its value.
     EntryRemove(K),
-    /// `extend`: inserts the pairs in turn, as `Insert` does each, and answers `Done`.
+    /// `extend`: inserts the pairs in turn, each as `Insert` does. The answer is `Done`.
     ///
-    /// The first pair that is refused, as `Insert` would be, ends it: it answers `Stopped` with that
-    /// pair, and the pairs before it stay in the map.
+    /// It stops at the first pair that fails, as `Insert` would. The answer is then `Stopped` with
+    /// that pair, and the pairs before it stay in the map.
     Extend(Vec<(K, V), A>),
-    /// `drain`: takes so many pairs out of the front of the walk, or all where there are fewer, and
-    /// answers `Pairs` of them in the order of the walk. The others keep their order, and capacity
-    /// and load factor stay.
+    /// `drain`: removes this number of pairs from the front of the walk, or all if there are fewer.
+    /// The answer is `Pairs` of them, in the order of the walk. The others keep their order, and
+    /// capacity and load factor stay.
     ///
-    /// Refused as `Memory` where there is no room for the list, before a pair is taken out.
+    /// It fails with `Memory` if there is no memory for the list, before a pair is removed.
     Drain(usize),
-    /// `len`: answers the `Number` of pairs.
+    /// `len`: the answer is `Number` of the pairs.
     Len,
-    /// `is_empty`: answers `Flag` of whether there is no pair.
+    /// `is_empty`: the answer is `Flag` of whether there is no pair.
     IsEmpty,
-    /// `capacity`: answers the `Number` of slots.
+    /// `capacity`: the answer is `Number` of the slots.
     Capacity,
-    /// `load`: answers the `Number` of slots that hold a pair.
+    /// `load`: the answer is `Number` of the slots that hold a pair.
     Load,
-    /// `load_rate`: answers the `Number` of thousandths that pairs to a slot are, rounded down.
+    /// `load_rate`: the answer is `Number` of the pairs to a slot, in thousandths, rounded down.
     LoadRate,
-    /// `assert_count`: counts the pairs that the slots hold, and answers `Flag` of whether `len` is
-    /// their number, as it always is.
+    /// `assert_count`: counts the pairs that the slots hold. The answer is `Flag` of whether `len`
+    /// is their number, which is always true.
     AssertCount,
-    /// `iter`: answers `Walk` of all pairs, slot by slot.
+    /// `iter`: the answer is `Walk` of all pairs, slot by slot.
     ///
-    /// Refused as `Memory` where there is no room for the list, before a value is looked at.
+    /// It fails with `Memory` if there is no memory for the list, before a value is looked at.
     Walk,
-    /// `keys`: answers `Keys` of all pairs, slot by slot.
+    /// `keys`: the answer is `Keys` of all pairs, slot by slot.
     ///
-    /// Refused as `Memory` where there is no room for the list.
+    /// It fails with `Memory` if there is no memory for the list.
     Keys,
-    /// `values`: answers `Values` of what the judge sees of each value, slot by slot.
+    /// `values`: the answer is `Values` of what the judge sees of each value, slot by slot.
     ///
-    /// Refused as `Memory` where there is no room for the list, before a value is looked at.
+    /// It fails with `Memory` if there is no memory for the list, before a value is looked at.
     Values,
-    /// `collisions`: answers `Sizes` of the walk of the map that it makes.
+    /// `collisions`: the answer is `Sizes` of the walk of the map that the call makes.
     ///
-    /// Refused as `Memory` where memory for that map or for the list is.
+    /// It fails with `Memory` if there is no memory for that map or for the list.
     Collisions,
 }

@@ -1,9 +1,9 @@
-//! What a run is told of values, and of the pairs that stay.
+//! What a run shows of values, and which pairs stay.
 ghost use Rattle.std.specs.Prelude.{◌≡◌, Bool};
 
 /// Looks at values, and says which pairs stay.
 ///
-/// A run hands values out only as they leave the map. Of those that stay it shows what a judge
+/// A run returns a value only when it leaves the map. Of the values that stay it shows what a judge
 /// sees: a copy, a number, a text, or nothing at all.
 ///
 /// ```text
@@ -28,18 +28,18 @@ pub trait Judge<K, V> {
     /// What is seen of a value.
     type Seen: Drop;
 
-    /// What `look` may answer for a value: any answer within this relation.
+    /// What `look` may return for a value: anything within this relation.
     ghost sees: { Self → V → Self.Seen → Type 0 };
 
-    /// What `keep` answers for a key and its value.
+    /// What `keep` returns for a key and its value.
     ghost keeps: { Self → K → V → Bool };
 
-    /// What is seen of the value; `Get` calls it where the key is bound, and `Walk` and `Values` for
+    /// What is seen of the value. `Get` calls it if the key is present, `Walk` and `Values` for
     /// each pair in turn.
     fn look(&self, value: &V) -> Self::Seen
         ensures { sees self.now value.now result };
 
-    /// Whether the pair stays; `Retain` calls it once for each pair, in the order of the walk.
+    /// Whether the pair stays. `Retain` calls it once for each pair, in the order of the walk.
     fn keep(&self, key: K, value: &V) -> bool
         ensures { result ≡ keeps self.now key value.now };
 }

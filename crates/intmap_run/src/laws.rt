@@ -1,5 +1,5 @@
-//! Laws of the definitions that a run is told by, each as the contract of a function that does
-//! nothing. A call of one brings its law into the proof of the function that makes it.
+//! Laws of the definitions that describe a run, each as the contract of a function that does
+//! nothing. A call of one brings its law into the proof of the function that contains the call.
 ghost use Rattle.std.specs.Prelude.{◌≡◌, ◌↔◌, ◌≤◌, ◌++◌, ℕ, List, length};
 ghost use Rattle.intmap.specs.Classes.{IsCapacity, residue, slot_number};
 ghost use Rattle.intmap.specs.Bindings.{value_of, take_key, put_pair, write_value, strike_keys};
@@ -17,13 +17,13 @@ use crate::judge::Judge;
 use intmap::IntKey;
 use std::alloc::Allocator;
 
-/// No pairs stand for a map that was just made.
+/// The empty list stands for a new map.
 pub fn no_pairs_stand_for_a_new_map<K: IntKey, V>()
     ensures { (C : ℕ) → IsCapacity C
         → Stands {V = V} K.number_of (empty_state C) (empty_map C) }
 {}
 
-/// A run of a map, and another from where it led, are one run over the commands of both.
+/// A run, and another from the map that it left, are one run over the commands of both.
 pub fn runs_join<K: IntKey, V, J: Judge<K, V>, A: Allocator>()
     ensures { (judge : J) (m n o : MapState K V) (cs ds : List (Command K V A))
         (as' bs : List (Answer K V J.Seen A))
@@ -32,41 +32,41 @@ pub fn runs_join<K: IntKey, V, J: Judge<K, V>, A: Allocator>()
         → RunsFrom K.number_of (J.sees judge) (J.keeps judge) m (cs ++ ds) (as' ++ bs) o }
 {}
 
-/// Two keys have one slot exactly where they agree modulo the number of slots.
+/// Two keys have the same slot exactly if they agree modulo the number of slots.
 pub fn keys_share_slots_by_residue<K: IntKey>()
     ensures { (C : ℕ) (a b : K) → IsCapacity C
         → (slot_number K.number_of a C ≡ slot_number K.number_of b C)
         ↔ (residue K.number_of a C ≡ residue K.number_of b C) }
 {}
 
-/// Lists that stand for one map do so once a key was taken out of both.
+/// Lists that stand for one map still do once a key is taken out of both.
 pub fn removal_keeps_standing<K: IntKey, V>()
     ensures { (C : ℕ) (L M : List (K × V)) (k : K) → StandForOne K.number_of C L M
         → StandForOne K.number_of C (take_key K.number_of L C k) (take_key K.number_of M C k) }
 {}
 
-/// Lists that stand for one map do so once a pair was put into both.
+/// Lists that stand for one map still do once a pair is put into both.
 pub fn insertion_keeps_standing<K: IntKey, V>()
     ensures { (C : ℕ) (L M : List (K × V)) (k : K) (v : V) → StandForOne K.number_of C L M
         → StandForOne K.number_of C (put_pair K.number_of L C k v)
         (put_pair K.number_of M C k v) }
 {}
 
-/// Lists that stand for one map do so once a value was written in both.
+/// Lists that stand for one map still do once a value is written in both.
 pub fn writing_keeps_standing<K: IntKey, V>()
     ensures { (C : ℕ) (L M : List (K × V)) (k : K) (v : V) → StandForOne K.number_of C L M
         → StandForOne K.number_of C (write_value K.number_of L k v)
         (write_value K.number_of M k v) }
 {}
 
-/// Lists that stand for one map do so once keys were struck from both.
+/// Lists that stand for one map still do once keys are struck from both.
 pub fn striking_keeps_standing<K: IntKey, V>()
     ensures { (C : ℕ) (L M : List (K × V)) (ks : List K) → StandForOne K.number_of C L M
         → StandForOne K.number_of C (strike_keys K.number_of L ks)
         (strike_keys K.number_of M ks) }
 {}
 
-/// Lists that stand for one map do so after any growth.
+/// Lists that stand for one map still do after any growth.
 pub fn growth_keeps_standing<K: IntKey, V>()
     ensures { (C D : ℕ) (L M : List (K × V)) → StandForOne K.number_of C L M
         → IsCapacity D → C ≤ D → StandForOne K.number_of D L M }
@@ -78,42 +78,43 @@ pub fn walks_grow_as_lists<K: IntKey, V>()
         → walk_of K.number_of (walk_of K.number_of L C) D ≡ walk_of K.number_of L D }
 {}
 
-/// Lists that stand for one map bind each key to one value, or none of them binds it.
+/// Lists that stand for one map have the same value for each key, or none of them has one.
 pub fn values_are_the_same<K: IntKey, V>()
     ensures { (C : ℕ) (L M : List (K × V)) (k : K) → StandForOne K.number_of C L M
         → value_of K.number_of L k ≡ value_of K.number_of M k }
 {}
 
-/// Lists that stand for one map fill as many slots.
+/// Lists that stand for one map fill the same number of slots.
 pub fn loads_are_the_same<K: IntKey, V>()
     ensures { (C : ℕ) (L M : List (K × V)) → StandForOne K.number_of C L M
         → load_of K.number_of L C ≡ load_of K.number_of M C }
 {}
 
-/// Lists that stand for one map have as many pairs to a slot.
+/// Lists that stand for one map have the same number of pairs to a slot on average.
 pub fn rates_are_the_same<K: IntKey, V>()
     ensures { (C : ℕ) (L M : List (K × V)) → StandForOne K.number_of C L M
         → rate_of L C ≡ rate_of M C }
 {}
 
-/// Lists that stand for one map have as many slots of each size above 1, which appear in one order.
+/// Lists that stand for one map have the same slot sizes above 1, equally often and in the same
+/// order.
 pub fn sizes_are_the_same<K: IntKey, V>()
     ensures { (C : ℕ) (L M : List (K × V)) → StandForOne K.number_of C L M
         → sizes_of K.number_of L C ≡ sizes_of K.number_of M C }
 {}
 
-/// Lists that stand for one map have as many pairs.
+/// Lists that stand for one map have the same number of pairs.
 pub fn lengths_are_the_same<K: IntKey, V>()
     ensures { (C : ℕ) (L M : List (K × V)) → StandForOne K.number_of C L M → length L ≡ length M }
 {}
 
-/// Lists that stand for one map have as many keys that share a slot with a key.
+/// Lists that stand for one map have the same number of keys that share a slot with a key.
 pub fn class_sizes_are_the_same<K: IntKey, V>()
     ensures { (C : ℕ) (L M : List (K × V)) (k : K) → StandForOne K.number_of C L M
         → class_size K.number_of L C k ≡ class_size K.number_of M C k }
 {}
 
-/// Lists that stand for one map are looked through for a key by as many comparisons.
+/// Lists that stand for one map need the same number of comparisons to look up a key.
 pub fn reaches_are_the_same<K: IntKey, V>()
     ensures { (C : ℕ) (L M : List (K × V)) (k : K) → StandForOne K.number_of C L M
         → reach K.number_of L C k ≡ reach K.number_of M C k }

@@ -1,10 +1,10 @@
 //! Lists of commands over a map, run in order.
 //!
-//! `run` makes one call on an `IntMap` for each `Command`, or one on an entry of it, and answers one
-//! `Answer` a command. A `Judge` says what is seen of values on the way, and which pairs stay.
+//! `run` makes one call on an `IntMap`, or on an entry of it, for each `Command`, and returns one
+//! `Answer` per command. A `Judge` says what is seen of values on the way, and which pairs stay.
 //! Whatever the commands are, the answers and the map at the end are those of a plain list of
-//! pairs, from every list that stands for the map at the start. `laws` has what makes any such list
-//! do.
+//! pairs. This holds of every list that stands for the map at the start, and `laws` shows why any
+//! such list will do.
 #![tactic(auto)]
 
 mod answer;

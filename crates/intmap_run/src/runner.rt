@@ -20,22 +20,23 @@ use intmap::{Cause, IntKey, IntMap, Refused};
 use std::alloc::Allocator;
 use std::mem;
 
-/// Runs the commands in order, and answers one answer a command, in the same order.
+/// Runs the commands in order, and returns one answer per command, in the same order.
 ///
 /// From every plain list of pairs that stands for the map, the commands and answers lead to one
-/// that stands for the map at the end. A refused command says so in its answer, leaves walk,
-/// capacity and load factor, and doesn't end the run.
+/// that stands for the map at the end. A failed command says so in its answer, and doesn't end the
+/// run. It leaves the walk, the capacity and the load factor, but an `Extend` that stops keeps the
+/// pairs that it inserted before.
 ///
 /// The map's `compared` rises by the keys that `Insert`, `InsertChecked`, `GetMut`, `Remove`,
-/// `EntryInsert`, `EntryRemove` and the pairs of `Extend` compare, refused ones too; the other
+/// `EntryInsert`, `EntryRemove` and the pairs of `Extend` compare, failed ones too. The other
 /// commands leave it. Its `placed` rises by the length after each `Insert`, `InsertChecked`,
-/// `EntryInsert` or pair of `Extend` that changed the capacity, and by nothing else: in all by at
-/// most three times the greatest length of the run where no load factor was set, and by as much
-/// again for each that was. At the end the capacity is that of the start, or one that an accepted
-/// `Reserve` or `SetLoadFactor` left, or a capacity C with `(F + 1) * C <= 2000 * length`, where F
-/// is the load factor then, in thousandths, and length the greatest length.
+/// `EntryInsert` or pair of `Extend` that changed the capacity, and by nothing else. With n load
+/// factors set in the run, this is in all at most `3 * (n + 1)` times the greatest length of the
+/// run. At the end the capacity is that of the start, or one that a successful `Reserve` or
+/// `SetLoadFactor` left, or a capacity C with `(F + 1) * C <= 2000 * length`. Here F is the load
+/// factor at the end, in thousandths, and length the greatest length.
 ///
-/// Err: there was no room for the answers; the commands come back, and the map is as it was.
+/// Err: out of memory for the answers. The commands are returned, and the map is as it was.
 ///
 /// ```text
 /// on an empty map, with ample memory:
@@ -57,7 +58,7 @@ pub fn run<K: IntKey, V: Drop, J: Judge<K, V>, A: Allocator + Copy>(
     ensures map { IsMap K.number_of K.is_key map.old }
     ensures map_after { IsMap K.number_of K.is_key map.new }
 {
-    // any call on the map tells what every map is, also where there is no command
+    // any call on the map tells the proof what holds of every map, also if there is no command
     let _len = map.len();
     let Ok(mut answers) = Vec::with_capacity(alloc, commands.len()) else {
         return Err(commands);
@@ -71,7 +72,7 @@ pub fn run<K: IntKey, V: Drop, J: Judge<K, V>, A: Allocator + Copy>(
     Ok(answers)
 }
 
-/// What one command does on the map, and its answer.
+/// Runs one command on the map, and returns its answer.
 fn apply<K: IntKey, V: Drop, J: Judge<K, V>, A: Allocator + Copy>(
     alloc: A,
     map: &mut IntMap<K, V, A>,
@@ -129,7 +130,7 @@ fn apply<K: IntKey, V: Drop, J: Judge<K, V>, A: Allocator + Copy>(
     }
 }
 
-/// The answer of an insertion that was refused, which hands the value back.
+/// The answer of a failed insertion, which returns the value.
 fn handed_back<K, V: Drop, S, A: Allocator>(refused: Refused<V>) -> Answer<K, V, S, A>
     ensures { result ≡ Answer.Refused refused.cause (Some refused.value) }
 {
@@ -139,7 +140,7 @@ fn handed_back<K, V: Drop, S, A: Allocator>(refused: Refused<V>) -> Answer<K, V,
     }
 }
 
-/// The answer of a call that hands nothing back.
+/// The answer of a call that returns no value.
 fn done<K, V, S, A: Allocator>(called: Result<(), Cause>) -> Answer<K, V, S, A>
     ensures { MatchResult called (λ _. result ≡ Answer.Done)
         (λ cause. result ≡ Answer.Refused cause None) }

@@ -10,7 +10,7 @@ use std::alloc::Allocator;
 /// Says which pairs stay, as a judge does.
 // a closure that holds a judge gets no proof, since a judge names a type for what it sees
 pub(crate) trait Keeps<K, V> {
-    /// What `stays` answers for a key and its value.
+    /// What `stays` returns for a key and its value.
     ghost stays_at: { Self → K → V → Bool };
 
     /// Whether the pair stays.
@@ -26,7 +26,7 @@ impl<K, V, J: Judge<K, V>> Keeps<K, V> for J {
     }
 }
 
-/// Keeps the pairs of which the keeper says that they stay, and lets the others go.
+/// Keeps the pairs that stay by the keeper, and drops the others.
 pub(crate) fn keep_all<K: IntKey, V: Drop, S: Keeps<K, V>, A: Allocator + Copy>(
     map: &mut IntMap<K, V, A>,
     keeper: &S,

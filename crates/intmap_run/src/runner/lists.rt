@@ -1,4 +1,4 @@
-//! Commands that answer a list. The room for it is taken before the map is touched.
+//! Commands whose answer is a list. Its room is allocated before the map changes.
 ghost use Rattle.std.specs.Prelude.{◌≡◌, ℕ, ◌^◌, ◌<◌, take, drop, None, IfOk, OnErr};
 ghost use Rattle.std.specs.List.{AllZip};
 ghost use Rattle.std.specs.Map.{keys_of, values_of};
@@ -16,7 +16,7 @@ use crate::judge::Judge;
 use intmap::{Cause, IntKey, IntMap};
 use std::alloc::{AllocError, Allocator};
 
-/// The answer where there is no room for a list.
+/// The answer if there is no memory for a list.
 fn no_room<K, V, S, A: Allocator>() -> Answer<K, V, S, A>
     ensures { result ≡ Answer.Refused Memory None }
 {
@@ -104,7 +104,7 @@ pub(crate) fn collisions<K: IntKey, V: Drop, J: Judge<K, V>, A: Allocator + Copy
     }
 }
 
-/// Each key of the walk with what the judge sees of its value. Err: there was no room for them.
+/// Each key of the walk with what the judge sees of its value. Err: out of memory.
 fn look_all<K: IntKey, V: Drop, J: Judge<K, V>, A: Allocator + Copy>(
     alloc: A,
     map: &IntMap<K, V, A>,
@@ -121,7 +121,7 @@ fn look_all<K: IntKey, V: Drop, J: Judge<K, V>, A: Allocator + Copy>(
     Ok(seen)
 }
 
-/// Each key of the walk. Err: there was no room for them.
+/// Each key of the walk. Err: out of memory.
 fn all_keys<K: IntKey, V: Drop, A: Allocator + Copy>(
     alloc: A,
     map: &IntMap<K, V, A>,
@@ -136,7 +136,7 @@ fn all_keys<K: IntKey, V: Drop, A: Allocator + Copy>(
     Ok(keys)
 }
 
-/// What the judge sees of each value of the walk. Err: there was no room for them.
+/// What the judge sees of each value of the walk. Err: out of memory.
 fn look_at_values<K: IntKey, V: Drop, J: Judge<K, V>, A: Allocator + Copy>(
     alloc: A,
     map: &IntMap<K, V, A>,
@@ -153,8 +153,8 @@ fn look_at_values<K: IntKey, V: Drop, J: Judge<K, V>, A: Allocator + Copy>(
     Ok(seen)
 }
 
-/// Takes so many pairs out of the front of the walk, or all where there are fewer. Err: there was
-/// no room for them, and the map is as it was.
+/// Removes so many pairs from the front of the walk, or all if there are fewer. Err: out of memory,
+/// and the map is as it was.
 fn take_front<K: IntKey, V: Drop, A: Allocator + Copy>(
     alloc: A,
     map: &mut IntMap<K, V, A>,
@@ -178,8 +178,7 @@ fn take_front<K: IntKey, V: Drop, A: Allocator + Copy>(
     Ok(pairs)
 }
 
-/// The walk of the sizes of slots. Err: there was no memory for the map of them, or no room for
-/// its walk.
+/// The walk of the sizes of slots. Err: out of memory for the map of them, or for its walk.
 fn all_sizes<K: IntKey, V: Drop, A: Allocator + Copy>(
     alloc: A,
     map: &IntMap<K, V, A>,
