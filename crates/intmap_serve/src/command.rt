@@ -23,9 +23,9 @@ pub enum Numbers {
     Two(u64, u64),
 }
 
-/// The command that a line says by its name and the words behind it.
+/// The command that a line says by its name and the words behind it, or `None` if it says none.
 ///
-/// Err: there was no room for the pairs of an `extend`; no other command takes memory.
+/// Err: out of memory for the pairs of an `extend`. No other command allocates.
 pub fn command<A: Allocator>(
     alloc: A,
     name: &[u8],
@@ -61,7 +61,7 @@ fn words_say_one_command<A: Allocator>()
         → Says words c → Says words d → IsSame c d }
 {}
 
-/// The numbers that the words write, where they are at most two.
+/// The numbers that the words write, or `None` if there are more than two words or one writes none.
 fn read_numbers(mut words: Words<'_>) -> Option<Numbers>
     ensures some { IfSome result (λ found. AllZip Writes words.entry (list_of found)) }
     ensures none { IfNone result ((ns : List ℕ) → length ns ≤ 2 → ¬ AllZip Writes words.entry ns) }
@@ -80,10 +80,10 @@ fn read_numbers(mut words: Words<'_>) -> Option<Numbers>
     }
 }
 
-/// The pairs that the words write, each key before its value, where the words are of an even
-/// number and each writes a number.
+/// The pairs that the words write, each key before its value, or `None` if the number of words is
+/// odd or some word writes no number.
 ///
-/// Err: there was no room for the pairs.
+/// Err: out of memory for the pairs.
 fn read_pairs<A: Allocator>(
     alloc: A,
     mut words: Words<'_>,

@@ -1,4 +1,4 @@
-//! Why a session ends before its answers are out.
+//! Why a session ends before its answers are written.
 ghost use Rattle.std.specs.Prelude.{◌≡◌, OnOk};
 ghost use Rattle.std.specs.Io.KnownBytes.{Appends};
 ghost use Rattle.intmap_serve.specs.declared.fault.Fault.TheVariants.{Memory};
@@ -13,7 +13,7 @@ use std::io::{self, Write};
 pub enum Fault {
     /// The line of this number, counted from 1, is not a command.
     NotACommand(u128),
-    /// A request for memory was refused.
+    /// An allocation failed.
     Memory,
     /// The input could not be read to its end.
     Input,

@@ -1,4 +1,4 @@
-//! What a run is told of values here.
+//! What a run shows of values here, and which pairs stay.
 ghost use Rattle.std.specs.Prelude.{◌≡◌, ◌%◌, ◌==◌};
 
 use intmap_run::Judge;

@@ -11,7 +11,7 @@ use crate::split::{Lines, Words};
 use intmap_run::Command;
 use std::alloc::{AllocError, Allocator};
 
-/// What one line is, where the vector of a command is made over `A`.
+/// What one line is. The vector of a command is made over `A`.
 #[derive(Drop)]
 pub enum Line<A: Allocator> {
     /// It has no word.
@@ -24,7 +24,7 @@ pub enum Line<A: Allocator> {
 
 /// What the bytes of one line are, without the byte 10 that ends it.
 ///
-/// Err: there was no room for the pairs of a command.
+/// Err: out of memory for the pairs of a command.
 pub fn read_line<A: Allocator>(alloc: A, line: &[u8]) -> Result<Line<A>, AllocError>
     ensures { IfOk result (Reads (words_of line.now)) }
 {
@@ -38,8 +38,9 @@ pub fn read_line<A: Allocator>(alloc: A, line: &[u8]) -> Result<Line<A>, AllocEr
     })
 }
 
-/// The commands that a text spells, or the number of its first line that is none.
-/// Blank lines say nothing, and are counted.
+/// The commands that a text spells. Blank lines spell none, and are counted.
+///
+/// Err: the first line that is no command, by its number, or out of memory.
 pub fn read_commands<A: Allocator + Copy>(
     alloc: A,
     text: &[u8],

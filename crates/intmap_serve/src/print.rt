@@ -6,7 +6,7 @@ use intmap::{Cause, RefusedPair};
 use intmap_run::Answer;
 use std::alloc::{AllocError, Allocator};
 
-/// One line an answer, each ended by a byte 10.
+/// One line per answer, each ended by a byte 10. Err: out of memory.
 pub fn print_answers<A: Allocator>(
     alloc: A,
     answers: &[Answer<u64, u64, u64, A>],
@@ -21,7 +21,7 @@ pub fn print_answers<A: Allocator>(
     Ok(out)
 }
 
-/// Writes an answer behind what stands in `out`.
+/// Appends an answer to `out`.
 fn print_answer<A: Allocator>(
     out: &mut String<A>,
     answer: &Answer<u64, u64, u64, A>,
@@ -46,7 +46,7 @@ fn print_answer<A: Allocator>(
     }
 }
 
-/// Writes why a command was refused, behind the value that it hands back.
+/// Writes why a command failed, after the value that it returns.
 fn print_refusal<A: Allocator>(
     out: &mut String<A>,
     cause: Cause,
@@ -62,7 +62,8 @@ fn print_refusal<A: Allocator>(
     }
 }
 
-/// Writes the first of several pairs that was refused, how many the map took before it, and why.
+/// Writes the first of several pairs that failed, how many were inserted before it, and why it
+/// failed.
 fn print_stopped<A: Allocator>(
     out: &mut String<A>,
     refused: &RefusedPair<u64, u64>,
@@ -109,7 +110,7 @@ fn print_numbers<A: Allocator>(out: &mut String<A>, numbers: &[u64]) -> Result<(
     out.push_str("]")
 }
 
-/// The words for why a command was refused.
+/// The words for why a command failed.
 fn cause_name(cause: Cause) -> &'static str
     ensures { result.now ≡ cause_text cause }
 {

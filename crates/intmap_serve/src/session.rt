@@ -14,19 +14,19 @@ use intmap_run::run;
 use std::alloc::Allocator;
 use std::io::{self, ErrorKind, Read, Write};
 
-/// The status of a session whose answers are all out.
+/// The status of a session whose answers are all written.
 const DONE: u8 = 0;
 
-/// Reads the input to its end, runs the commands that its lines say on an empty map, and writes
-/// one line an answer. All that it makes is made over `alloc`. It answers the exit status:
+/// Reads the input to its end, runs the commands in its lines on an empty map, and writes one line
+/// per answer. All its memory comes from `alloc`. It returns the exit status:
 ///
-/// - 0: every line was a command or blank, and the answers are out;
+/// - 0: every line was a command or blank, and the answers are written;
 /// - 2: some line is not a command; no command was run, and nothing was written;
-/// - 3: a request for memory was refused outside a command; nothing was written;
-/// - 4: the input or the output failed; where it was the output, a part of the answers may be out.
+/// - 3: an allocation failed outside a command; nothing was written;
+/// - 4: the input or the output failed; if it was the output, a part of the answers may be written.
 ///
-/// But for status 0 a line on `faults` says what happened; whether it could be written changes
-/// nothing.
+/// At every other status than 0, a line on `faults` says what happened. Whether that line could be
+/// written changes nothing.
 pub fn serve<A: Allocator + Copy, R: Read, W: Write, E: Write>(
     alloc: A,
     input: &mut R,
@@ -67,7 +67,7 @@ fn exchange<A: Allocator + Copy, R: Read, W: Write>(
     send(output, lines.as_bytes()).map_err(|_error| Fault::Output)
 }
 
-/// The input to its end. An interrupted read is asked again.
+/// The input to its end. An interrupted read is tried again.
 fn read_text<A: Allocator, R: Read>(alloc: A, input: &mut R) -> Result<Vec<u8, A>, Fault>
     ensures ok { IfOk result (λ text. IfSome (R.remaining input.old) (λ all. text.items ≡ all)) }
     ensures err { IfErr result (λ fault. (fault ≡ Fault.Memory) ⊎ (fault ≡ Fault.Input)) }

@@ -44,7 +44,7 @@ impl<'a> Iterator for Lines<'a> {
     }
 }
 
-/// The first line of a text, and what stands behind it, where a byte 10 ends it.
+/// The first line of a text, and what follows it if a byte 10 ends it.
 fn first_line(text: &[u8]) -> (&[u8], Option<&[u8]>)
     ensures ended { IfSome result.1 (λ rest. lines_in text.now ≡ result.0.now ∷ lines_in rest.now) }
     ensures last { IfNone result.1 (lines_in text.now ≡ result.0.now ∷ []) }
@@ -79,7 +79,7 @@ impl<'a> Model for Words<'a> {
 }
 
 impl<'a> Words<'a> {
-    /// The words of a line, of which one byte 13 at its end is no part.
+    /// The words of a line. One byte 13 at the end of the line belongs to none.
     pub fn new(line: &'a [u8]) -> Words<'a>
         ensures { result ≡ words_of line.now }
     {
@@ -104,7 +104,7 @@ impl<'a> Iterator for Words<'a> {
     }
 }
 
-/// The first word of a text, and what stands behind it.
+/// The first word of a text, and what follows it.
 fn first_word(text: &[u8]) -> Option<(&[u8], &[u8])>
     ensures some { IfSome result (λ p. words_in text.now ≡ p.0.now ∷ words_in p.1.now) }
     ensures none { IfNone result (words_in text.now ≡ []) }

@@ -6,7 +6,7 @@ ghost use Rattle.intmap_serve.specs.Words.{IsSpelled};
 use intmap_run::Command;
 use std::alloc::Allocator;
 
-/// Whether the name is that of the command which any number of pairs follows.
+/// Whether the name is `extend`, that of the command which any number of pairs follows.
 pub fn is_extend(name: &[u8]) -> bool
     ensures { IsTrue result ↔ (name.now ≡ codes "extend") }
 {
