@@ -1,14 +1,14 @@
-//! Why an addition was refused.
+//! Why an addition failed.
 ghost use Rattle.std.specs.Prelude.{◌≡◌};
 
 use intmap::Cause;
 
-/// Why [`SparseVec::add`](crate::SparseVec::add) was refused.
+/// Why [`SparseVec::add`](crate::SparseVec::add) failed.
 #[derive(Clone, Copy, PartialEq, Eq, Debug)]
 pub enum SparseCause {
-    /// A request for memory was refused.
+    /// An allocation failed.
     Memory,
-    /// The vector would store more than 2^64 - 1 places, or want more than 2^63 slots.
+    /// The vector would store more than 2^64 - 1 places, or need more than 2^63 slots.
     TooLarge,
     /// The sum isn't an `i64`.
     Overflow,

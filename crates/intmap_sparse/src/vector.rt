@@ -17,8 +17,8 @@ use std::marker::Model;
 /// A vector of integers over places from 0 to 2^64 - 1, most of which have the value 0.
 ///
 /// It stores the places whose value isn't 0, and no other. Contracts see it as a
-/// [`Vector`](../specs/Vectors.antt): these places with their values, in the order of the walk of
-/// its map, and the number of slots. What a place has is `value_at` of the walk.
+/// [`Vector`](../specs/Vectors.antt): its walk, these places with their values in iteration order,
+/// and its number of slots. The value at a place is `value_at` of the walk.
 #[derive(Drop)]
 pub struct SparseVec<A: Allocator + Copy = Global> {
     values: IntMap<u64, i64, A>,
@@ -40,8 +40,8 @@ impl<A: Allocator + Copy> Model for SparseVec<A> {
 }
 
 impl<A: Allocator + Copy> SparseVec<A> {
-    /// A vector with the value 0 at every place. It is refused as [`Cause::Memory`] where memory for
-    /// 4 slots or for their bits is, and never else.
+    /// A vector with the value 0 at every place. It allocates 4 slots and their bits. It fails only
+    /// if an allocation fails, with [`Cause::Memory`].
     pub fn new(alloc: A) -> Result<SparseVec<A>, Cause>
         ensures walk { IfOk result (λ made. made.walk ≡ []) }
         ensures capacity { IfOk result (λ made. made.capacity ≡ 4) }
@@ -52,18 +52,18 @@ impl<A: Allocator + Copy> SparseVec<A> {
         })
     }
 
-    /// The value at the place, 0 where none is stored. It is never refused.
+    /// The value at the place, or 0 if none is stored. It never fails.
     pub fn get(&self, place: u64) -> i64
         ensures value { result ≡ value_at self.now.walk place }
     {
         self.values.get(place).copied().unwrap_or(0)
     }
 
-    /// Sets the value at the place, and answers the one before. A 0 removes the place.
+    /// Sets the value at the place, and returns the value before. A 0 removes the place.
     ///
-    /// It is refused only where the place isn't stored and the value isn't 0: as too large exactly
-    /// where the vector stores 2^64 - 1 places or the wanted capacity is above 2^63 slots, and else
-    /// where memory is refused. Then nothing has changed.
+    /// It fails only if the place isn't stored and the value isn't 0: with [`Cause::TooLarge`]
+    /// exactly if the vector already stores 2^64 - 1 places or growth needs more than 2^63 slots,
+    /// and otherwise with [`Cause::Memory`] if an allocation fails. A failed call changes nothing.
     ///
     /// ```text
     /// set(3, 5)    Ok(0), on a new vector
@@ -97,12 +97,13 @@ impl<A: Allocator + Copy> SparseVec<A> {
         Ok(old.unwrap_or(0))
     }
 
-    /// Adds to the value at the place, and answers the new one. A sum of 0 removes the place.
+    /// Adds to the value at the place, and returns the sum. A sum of 0 removes the place.
     ///
-    /// It is refused as an overflow exactly where the sum isn't an `i64`. Else it is refused only
-    /// where the place isn't stored and the sum isn't 0: as too large exactly where the vector
-    /// stores 2^64 - 1 places or the wanted capacity is above 2^63 slots, and else where memory is
-    /// refused. Where it is refused nothing has changed.
+    /// It fails with [`SparseCause::Overflow`] exactly if the sum isn't an `i64`. Otherwise it
+    /// fails only if the place isn't stored and the sum isn't 0: with [`SparseCause::TooLarge`]
+    /// exactly if the vector already stores 2^64 - 1 places or growth needs more than 2^63 slots,
+    /// and otherwise with [`SparseCause::Memory`] if an allocation fails. A failed call changes
+    /// nothing.
     ///
     /// ```text
     /// add(7, 5)     Ok(5), on a new vector
@@ -144,9 +145,9 @@ impl<A: Allocator + Copy> SparseVec<A> {
 
     /// The sum of the products of the values of both vectors, over all places.
     ///
-    /// It is taken place by place in the walk of the vector with fewer stored places, and of `self`
-    /// where both have as many. It is `None` exactly where a partial sum of that walk isn't an
-    /// `i128`. It takes no memory; it costs a step and a look-up for each of those places.
+    /// The products are added along the walk of the vector with fewer stored places, or of `self`
+    /// if both have as many. The result is `None` exactly if a partial sum of that walk isn't an
+    /// `i128`. It allocates nothing, and costs a step and a look-up for each of those places.
     ///
     /// ```text
     /// {1: 2, 5: 3} and {5: 4, 7: 9}    Some(12)
@@ -162,7 +163,7 @@ impl<A: Allocator + Copy> SparseVec<A> {
         }
     }
 
-    /// The same, taken in the walk of this vector.
+    /// The same, added along the walk of this vector.
     fn dot_along(&self, other: &SparseVec<A>) -> Option<i128>
         ensures product { IfSome result (λ sum. sum ≡ product self.now.walk other.now.walk) }
         ensures none { IsNone result ↔ HasWideSum (products_along self.now.walk other.now.walk) }
@@ -178,7 +179,7 @@ impl<A: Allocator + Copy> SparseVec<A> {
         Some(sum)
     }
 
-    /// The number of stored places: of those whose value isn't 0. It is never refused.
+    /// The number of stored places, which are those whose value isn't 0. It never fails.
     pub fn len(&self) -> usize
         ensures value { result ≡ length self.now.walk }
         ensures count { result ≡ count_of_nonzero self.now.walk }
@@ -187,7 +188,7 @@ impl<A: Allocator + Copy> SparseVec<A> {
         self.values.len()
     }
 
-    /// Whether every place has the value 0. It is never refused.
+    /// Whether every place has the value 0. It never fails.
     pub fn is_empty(&self) -> bool
         ensures value { result ≡ (length self.now.walk == 0) }
         ensures zeros { IsTrue result ↔ HaveSameValues self.now.walk [] }
@@ -195,8 +196,8 @@ impl<A: Allocator + Copy> SparseVec<A> {
         self.values.is_empty()
     }
 
-    /// The stored places and their values by reference, in the order of the walk. It is never
-    /// refused, and nor is a step of the iterator.
+    /// An iterator over the stored places and their values by reference, in iteration order.
+    /// Neither this call nor a step of the iterator fails.
     ///
     /// ```text
     /// for (place, value) in vector.iter()    1 and 2, then 5 and 3
@@ -228,17 +229,16 @@ impl<A: Allocator + Copy> IntoIterator for SparseVec<A> {
 
     ghost into_iter_gives = { λ vector it. it ≡ vector.walk };
 
-    /// The stored places and their values, in the order of the walk. It is never refused, and nor is
-    /// a step of the iterator.
+    /// An iterator over the stored places and their values by value, in iteration order. Neither
+    /// this call nor a step of the iterator fails.
     fn into_iter(self) -> IntoIter<u64, i64, A> {
         self.values.into_iter()
     }
 }
 
 impl<A: Allocator + Copy> fmt::Debug for SparseVec<A> {
-    /// Writes the stored places and their values in the order of the walk, as `{1: 2, 5: 3}`, and
-    /// `{}` where there is none. It looks at no flag of the format. It fails only where the writer
-    /// does.
+    /// Writes the stored places and their values in iteration order, as `{1: 2, 5: 3}`, or `{}` if
+    /// there is none. It ignores the flags of the format. It fails only if writing fails.
     fn fmt<W: fmt::Write>(&self, f: &mut fmt::Formatter<W>) -> fmt::Result {
         write!(f, "{:?}", self.values)
     }

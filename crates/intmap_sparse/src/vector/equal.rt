@@ -1,4 +1,4 @@
-//! Equality, which is of the values at all places.
+//! Equality of vectors: the same value at every place.
 ghost use Rattle.intmap_sparse.specs.Vectors.{vectors_equal};
 ghost use Rattle.intmap_sparse.specs.EqualityLaws.{IsPartialEquivalence-vectors_equal, IsEquivalence-vectors_equal};
 
@@ -10,8 +10,8 @@ impl<A: Allocator + Copy> PartialEq for SparseVec<A> {
 
     ghost laws = { IsPartialEquivalence-vectors_equal };
 
-    /// Whether both vectors have the same value at every place. The order of the walks doesn't
-    /// matter, nor does the number of slots. It is never refused.
+    /// Whether both vectors have the same value at every place. The order of the walks and the
+    /// number of slots don't matter. It never fails.
     ///
     /// ```text
     /// set(0, 1) and then set(4, 2), or the other way round: the vectors are equal
