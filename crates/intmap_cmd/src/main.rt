@@ -1,10 +1,10 @@
-//! Reads commands on a map from standard input, runs them, and prints one line an answer.
+//! Reads commands on a map from standard input, runs them, and prints one line per answer.
 #![tactic(auto)]
 
 use intmap_serve::serve;
 use std::process::ExitCode;
 
-/// Hands the real streams to `serve`, whose answer is the exit status.
+/// Passes the real streams to `serve`, which returns the exit status.
 fn main(rt: HostRuntime) -> ExitCode {
     let status = serve(
         rt.alloc(),
