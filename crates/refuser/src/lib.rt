@@ -3,12 +3,12 @@
 //!
 //! Lend it to a collection as `&Refuser<B>`, which is an allocator that is `Copy`. `arm` then says
 //! which request is refused, also while the collection holds memory, and `left` says how far away
-//! that request is. So a test can have each request of a call refused in turn, and look at what the
+//! that request is. So a test can make each allocation of a call fail in turn, and look at what the
 //! call leaves behind.
 //!
-//! Proved: a block that it grants is one of `inner`'s, with the room that was asked for. Only
+//! Proved: a block that it returns is one of `inner`'s, with the room that was asked for. Only
 //! tested: which request is refused, since no contract says what a cell holds. Neither: that a
-//! block which is handed back is freed, since an allocator may keep it.
+//! block passed to `deallocate` is freed, since an allocator may keep it.
 #![tactic(auto)]
 
 use std::alloc::{AllocError, Allocator};
@@ -17,7 +17,7 @@ use std::cell::Cell;
 #[cfg(test)]
 mod tests;
 
-/// Hands each request for memory on to `inner`, but for the one that it was told to refuse.
+/// Passes each request for memory on to `inner`, but for the one that it was told to refuse.
 ///
 /// It is not `Copy`, since a copy would have a count of its own.
 pub struct Refuser<B: Allocator> {
@@ -26,7 +26,7 @@ pub struct Refuser<B: Allocator> {
 }
 
 impl<B: Allocator> Refuser<B> {
-    /// Answers an allocator over `inner` that refuses request number `refused`, counted from 1. At
+    /// Returns an allocator over `inner` that refuses request number `refused`, counted from 1. At
     /// 0 it refuses none.
     pub fn new(inner: B, refused: u64) -> Refuser<B> {
         Refuser {
@@ -41,7 +41,7 @@ impl<B: Allocator> Refuser<B> {
         self.left.set(refused);
     }
 
-    /// Answers how many requests away the refused one is: 1 if the next request is refused. It is 0
+    /// Returns how many requests away the refused one is: 1 if the next request is refused. It is 0
     /// if none will be, because one has been refused already or none was to be.
     pub fn left(&self) -> u64 {
         self.left.get()
@@ -54,7 +54,7 @@ impl<B: Allocator> Drop for Refuser<B> {
     }
 }
 
-/// Counts one request, and answers whether it is the one to refuse.
+/// Counts one request, and returns whether it is the one to refuse.
 fn count_request(left: &Cell<u64>) -> bool {
     let before = left.get();
     left.set(before.saturating_sub(1));
