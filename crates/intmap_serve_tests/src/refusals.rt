@@ -1,7 +1,7 @@
 //! Sessions of which each request for memory is refused in turn, and their commands on a plain
 //! list.
 
-use crate::ended::{Ended, end_of, expect};
+use crate::ended::{Ended, end, end_of, expect};
 use crate::plain_list::List;
 use crate::streams::{Limited, MOST};
 use refuser::Refuser;
@@ -68,6 +68,19 @@ fn refused_lines(written: &[u8]) -> usize {
         .count()
 }
 
+// expects a session that the refusal of this request ends to have the same status where the text for
+// standard error finds no room, or too little
+fn expect_untold(rt: &impl Abort, alloc: Global, session: &str, number: usize) {
+    let text = session.as_bytes();
+    let ample = Limited::new(MOST, true);
+    let told = b"no memory\n";
+    for room in 0..told.len() {
+        let memory = Refuser::new(alloc, number as u64);
+        let ended = end(&memory, &mut { text }, ample, Limited::new(room, true));
+        expect(rt, number, &ended, (text, 3, b"", &told[..room]));
+    }
+}
+
 /// How a session ended of which a request was to be refused.
 #[derive(Clone, Copy)]
 enum Outcome {
@@ -93,6 +106,7 @@ fn outcome_at(rt: &impl Abort, alloc: Global, session: &str, number: usize) -> O
     if ended.status == 3 {
         expect(rt, number, &ended, (text, 3, b"", b"no memory\n"));
         assert!(rt; left == 0, "request {number} was refused");
+        expect_untold(rt, alloc, session, number);
         return Outcome::Ended;
     }
     let wanted = replayed(alloc, session, ended.output.bytes());

@@ -187,18 +187,19 @@ fn a_failing_flush_is_a_failing_output(rt: HostRuntime) {
 }
 
 #[test]
-fn failing_faults_change_no_status(rt: HostRuntime) {
-    for (text, ends, room, wanted) in [
-        (INPUT, true, OUTPUT.len(), 0),
-        (b"len\nx\n", true, 0, 2),
-        (INPUT, false, 0, 4),
-        (INPUT, true, 3, 4),
+fn failing_faults_change_neither_status_nor_output(rt: HostRuntime) {
+    for (text, ends, room, wanted, output) in [
+        (INPUT, true, OUTPUT.len(), 0, OUTPUT),
+        (b"len\nx\n", true, OUTPUT.len(), 2, b""),
+        (INPUT, false, OUTPUT.len(), 4, b""),
+        (INPUT, true, 3, 4, b"non"),
     ] {
         for told_room in 0..5 {
             let written = Limited::new(room, true);
             let told = Limited::new(told_room, false);
             let ended = end(rt.alloc(), &mut Slow::new(text, ends), written, told);
-            assert!(rt; ended.status == wanted, "room {told_room} for {text:?}");
+            let is_right = ended.status == wanted && ended.output.bytes() == output;
+            assert!(rt; is_right, "room {told_room} for {text:?}");
         }
     }
 }
