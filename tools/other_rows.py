@@ -10,6 +10,7 @@ from lists import (
     armed_answer,
     made,
     requests_of,
+    sum_of,
     truth,
 )
 
@@ -61,16 +62,33 @@ def read(value):
         return "BadKey"
     if holds_float(value):
         return "HoldsFloat"
-    one = made(f"with_capacity {len(value)}")
-    for text, member in of_texts(value):
-        one.insert(int(text), member, False)
+    one = list_of(value)
     keys = "".join(f" {key}" for key, _ in one.walk())
     return f"{one.slots} slots, keys{keys}, {written(dict(of_texts(value)))}"
+
+
+def list_of(members):
+    """The list that a map of these members is read as."""
+    one = made(f"with_capacity {len(members)}")
+    for text, member in of_texts(members):
+        one.insert(int(text), member, False)
+    return one
+
+
+def many_members(count):
+    """What an object of so many members is read as, and whether it is written again."""
+    members = {str(7 * place): 10**12 + place for place in range(count)}
+    one = list_of(members)
+    pairs = one.walk()
+    written = "as read" if {str(key): value for key, value in pairs} == members else "otherwise"
+    return f"{one.slots} slots, {sum_of(pairs)}, written {written}"
 
 
 def json_answer(call):
     """The answer to the call of a row of JSON."""
     name, _, text = call.partition(" ")
+    if name == "members":
+        return many_members(int(text))
     try:
         value = json.loads(text if name == "write" else call, parse_int=number_of, parse_float=Float)
     except ValueError:

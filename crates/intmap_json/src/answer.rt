@@ -44,7 +44,7 @@ pub fn answer_to_write(alloc: Global, text: &str) -> Result<String, AllocError> 
 }
 
 /// The value that a text stands for, if it is JSON.
-fn parse(alloc: Global, text: &str) -> Result<Option<Value>, AllocError> {
+pub fn parse(alloc: Global, text: &str) -> Result<Option<Value>, AllocError> {
     match Value::from_str(alloc, text) {
         Ok(value) => Ok(Some(value)),
         Err(error) if error.is_memory() => Err(AllocError),
@@ -105,6 +105,6 @@ fn kept_text(is_kept: bool) -> &'static str {
 }
 
 /// The name of a cause.
-fn cause_text(alloc: Global, cause: JsonCause) -> Result<String, AllocError> {
+pub fn cause_text(alloc: Global, cause: JsonCause) -> Result<String, AllocError> {
     format!(in alloc; "{cause:?}")
 }

@@ -5,6 +5,7 @@
 #![tactic(auto)]
 
 mod answer;
+mod members;
 mod rows;
 
 use std::{env, fs, io};

@@ -1,6 +1,7 @@
 //! A file of rows, from its first line to its last.
 
 use crate::answer::{answer_to_read, answer_to_write};
+use crate::members::answer_to_members;
 use std::alloc::{AllocError, Global};
 
 /// Goes through the lines of a file of rows, and tells what is to be told of them.
@@ -46,10 +47,7 @@ impl Report {
     // makes the call of a row, and compares the answers
     fn row(&mut self, line: &str) -> Result<(), AllocError> {
         let (call, wanted) = line.split_once(" -> ").unwrap_or((line, ""));
-        let answer = match call.strip_prefix("write ") {
-            Some(text) => answer_to_write(self.alloc, text)?,
-            None => answer_to_read(self.alloc, call)?,
-        };
+        let answer = answer_to(self.alloc, call)?;
         if answer.as_str() == wanted {
             return Ok(());
         }
@@ -67,5 +65,16 @@ impl Report {
             writeln!(self.text, "MISCOUNTED: {rows} rows")?;
         }
         Ok(self.text)
+    }
+}
+
+// what the call of a row is answered
+fn answer_to(alloc: Global, call: &str) -> Result<String, AllocError> {
+    if let Some(text) = call.strip_prefix("write ") {
+        return answer_to_write(alloc, text);
+    }
+    match call.strip_prefix("members ") {
+        Some(count) => answer_to_members(alloc, count.parse::<u64>().unwrap_or(0)),
+        None => answer_to_read(alloc, call),
     }
 }
