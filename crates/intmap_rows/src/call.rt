@@ -1,238 +1,27 @@
 //! One call, from its words to its answer.
 
-use crate::built::{with_many_pairs, with_other, with_pairs, with_squares};
-use crate::entries::{with_entry, with_reference};
-use crate::figures::figure;
-use crate::items::{insert_checked_items, insert_items};
-use crate::many::{
-    Insertion, Keys, Search, contains_many, find_many, insert_many, keys_sum, replace_many,
-    value_of, values_sum, walk_sum,
-};
-use crate::maps::{Map, MapOf, Maps};
-use crate::retained::retain;
-use crate::runs::run_many;
-use crate::text::{
-    write_bool, write_done, write_keys, write_number, write_option, write_refusal, write_state,
-    write_values, write_walk,
-};
-use crate::word::words_of;
-use intmap::steps::Steps;
-use intmap::{IntKey, IntMap};
+use intmap_row_words::maps::Maps;
+use intmap_row_words::text::no_call;
+use intmap_row_words::word::words_of;
 use std::alloc::AllocError;
-use std::fmt::{Debug, Display};
 
 /// Writes the answer to a call. Words that are no call answer so.
 pub fn answer_to(out: &mut String, maps: &mut Maps<'_>, call: &str) -> Result<(), AllocError> {
     match words_of(*out.allocator(), call)? {
-        Some(words) => with_pairs(out, maps, words.name, &words.numbers),
+        Some(words) => named(out, maps, words.name, &words.numbers),
         None => no_call(out),
     }
 }
 
-/// Writes the answer to a call with four numbers at most.
-pub fn with_few(
+// writes the answer to the call of this name with these numbers
+fn named(
     out: &mut String,
     maps: &mut Maps<'_>,
     name: &str,
     numbers: &[u64],
 ) -> Result<(), AllocError> {
-    match numbers {
-        [] => bare(out, maps, name),
-        [number] => with_number(out, maps, name, *number),
-        [key, value] => with_pair(out, &mut maps.map, name, *key, *value),
-        [first, count, step] => {
-            let keys = Keys::new(*first, *count, *step);
-            match search_of(name) {
-                Some(search) => find_many(out, &mut maps.map, search, keys, value_of(0)),
-                None => with_keys(out, maps, name, keys),
-            }
-        }
-        [first, count, step, more] => {
-            let keys = Keys::new(*first, *count, *step);
-            with_more(out, &mut maps.map, name, keys, *more)
-        }
-        _ => no_call(out),
+    if intmap_row_lists::answer_to(out, maps, name, numbers)? {
+        return Ok(());
     }
-}
-
-/// What is answered to words that are no call.
-pub fn no_call(out: &mut String) -> Result<(), AllocError> {
-    out.push_str("not a call")
-}
-
-// writes the answer to a call without a number
-fn bare(out: &mut String, maps: &mut Maps<'_>, name: &str) -> Result<(), AllocError> {
-    match name {
-        "new" => {
-            let made = IntMap::new(maps.memory);
-            write_done(out, maps.put(made))
-        }
-        "other" => {
-            maps.swap();
-            write_done(out, Ok(()))
-        }
-        "left" => write_number(out, maps.memory.left() as u128),
-        "values" => write_values(out, &maps.map),
-        "walk_sum" => walk_sum(out, &maps.map),
-        "keys_sum" => keys_sum(out, &maps.map),
-        "values_sum" => values_sum(out, &maps.map),
-        _ => with_other(out, maps, name),
-    }
-}
-
-/// Writes the answer to a call without a key.
-pub fn without_key<K: IntKey + Display + Debug>(
-    out: &mut String,
-    map: &mut MapOf<'_, K>,
-    name: &str,
-) -> Result<(), AllocError> {
-    match name {
-        "clear" => {
-            map.clear();
-            write_done(out, Ok(()))
-        }
-        _ => retain(out, map, name),
-    }
-}
-
-/// Writes the answer to a call that looks at a map.
-pub fn seen<K: IntKey + Display + Debug>(
-    out: &mut String,
-    map: &MapOf<'_, K>,
-    name: &str,
-) -> Result<(), AllocError> {
-    match name {
-        "len" => write_number(out, map.len() as u128),
-        "is_empty" => write_bool(out, map.is_empty()),
-        "capacity" => write_number(out, map.capacity() as u128),
-        "get_load_factor" => write_number(out, map.get_load_factor() as u128),
-        "walk" => write_walk(out, map),
-        "debug" => write!(out, "{map:?}"),
-        "keys" => write_keys(out, map),
-        "state" => write_state(out, map),
-        _ => figure(out, map, name),
-    }
-}
-
-// writes the answer to a call with a number
-fn with_number(
-    out: &mut String,
-    maps: &mut Maps<'_>,
-    name: &str,
-    number: u64,
-) -> Result<(), AllocError> {
-    match name {
-        "with_capacity" => {
-            let made = IntMap::with_capacity(maps.memory, number as usize);
-            write_done(out, maps.put(made))
-        }
-        "arm" => {
-            maps.memory.arm(number);
-            write_done(out, Ok(()))
-        }
-        "reserve" => write_done(out, maps.map.reserve(number as usize)),
-        "set_load_factor" => write_done(out, maps.map.set_load_factor(number as usize)),
-        "retain_above" => {
-            maps.map.retain(|key, _| key > number);
-            write_done(out, Ok(()))
-        }
-        "insert_items" => insert_items(out, maps.memory, number),
-        "insert_checked_items" => insert_checked_items(out, maps.memory, number),
-        _ => with_squares(out, maps, name, number),
-    }
-}
-
-/// Writes the answer to a call with a key.
-pub fn with_key<K: IntKey + Display>(
-    out: &mut String,
-    map: &mut MapOf<'_, K>,
-    name: &str,
-    key: K,
-) -> Result<(), AllocError> {
-    match name {
-        "get" => write_option(out, map.get(key).copied()),
-        "get_counted" => {
-            let found = map.get_counted(key, &mut Steps::new()).copied();
-            write_option(out, found)
-        }
-        "contains_key" => write_bool(out, map.contains_key(key)),
-        "remove" => write_option(out, map.remove(key)),
-        "retain_except" => {
-            map.retain(|other, _| other != key);
-            write_done(out, Ok(()))
-        }
-        _ => with_entry(out, map, name, key),
-    }
-}
-
-/// Writes the answer to a call with a key and a value.
-pub fn with_pair<K: IntKey>(
-    out: &mut String,
-    map: &mut MapOf<'_, K>,
-    name: &str,
-    key: K,
-    value: u64,
-) -> Result<(), AllocError> {
-    match name {
-        "insert" => match map.insert(key, value) {
-            Ok(old) => write_option(out, old),
-            Err(refused) => write_refusal(out, refused.cause, Some(refused.value)),
-        },
-        "insert_checked" => match map.insert_checked(key, value) {
-            Ok(new) => write_bool(out, new),
-            Err(refused) => write_refusal(out, refused.cause, Some(refused.value)),
-        },
-        "insert_debug" => {
-            let called = map.insert(key, value);
-            write!(out, "{called:?}")
-        }
-        _ => with_reference(out, map, name, key, value),
-    }
-}
-
-// writes the answer to a call with many keys
-fn with_keys(
-    out: &mut String,
-    maps: &mut Maps<'_>,
-    name: &str,
-    keys: Keys,
-) -> Result<(), AllocError> {
-    match name {
-        "insert_many" => insert_many(out, &mut maps.map, Insertion::Over, keys),
-        "insert_checked_many" => insert_many(out, &mut maps.map, Insertion::Checked, keys),
-        "entry_insert_many" => insert_many(out, &mut maps.map, Insertion::ByEntry, keys),
-        "or_insert_many" => insert_many(out, &mut maps.map, Insertion::OrInsert, keys),
-        "run_many" => run_many(out, maps.memory, &mut maps.map, "insert", keys),
-        "run_entries_many" => run_many(out, maps.memory, &mut maps.map, "entry_insert", keys),
-        "contains_many" => write_number(out, contains_many(&maps.map, keys) as u128),
-        _ => with_many_pairs(out, maps, name, keys),
-    }
-}
-
-// writes the answer to a call with many keys, and how much more than themselves they are bound to
-fn with_more(
-    out: &mut String,
-    map: &mut Map<'_>,
-    name: &str,
-    keys: Keys,
-    more: u64,
-) -> Result<(), AllocError> {
-    if name == "entry_replace_many" {
-        return write_number(out, replace_many(map, keys, more) as u128);
-    }
-    match search_of(name) {
-        Some(search) => find_many(out, map, search, keys, more),
-        None => no_call(out),
-    }
-}
-
-// how a call with many keys looks for each
-fn search_of(name: &str) -> Option<Search> {
-    match name {
-        "get_many" => Some(Search::Get),
-        "get_mut_many" => Some(Search::GetMut),
-        "remove_many" => Some(Search::Remove),
-        "entry_remove_many" => Some(Search::EntryRemove),
-        _ => None,
-    }
+    intmap_row_calls::answer_to(out, maps, name, numbers)
 }

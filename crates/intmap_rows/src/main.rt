@@ -5,24 +5,10 @@
 #![tactic(auto)]
 
 mod block;
-mod built;
 mod call;
-mod cell;
-mod entries;
-mod figures;
-mod items;
-mod iterated;
-mod kinds;
-mod many;
-mod maps;
 mod refused;
-mod report;
-mod retained;
 mod row;
-mod runs;
 mod session;
-mod text;
-mod word;
 
 use refuser::Refuser;
 use std::{env, fs, io};

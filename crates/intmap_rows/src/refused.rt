@@ -1,8 +1,8 @@
 //! Calls with each of their requests for memory refused in turn.
 
 use crate::call::answer_to;
-use crate::maps::Maps;
-use crate::text::state_text;
+use intmap_row_words::maps::Maps;
+use intmap_row_words::text::state_text;
 use std::alloc::AllocError;
 
 /// More requests than any call makes.

@@ -1,15 +1,11 @@
 //! One row: a call, and the answer that it must get.
 
 use crate::call::answer_to;
-use crate::maps::Maps;
 use crate::refused::answer_to_refused;
-use crate::report::Report;
+use intmap_row_words::maps::Maps;
+use intmap_row_words::report::Report;
+use intmap_row_words::word::parts_of;
 use std::alloc::{AllocError, Global};
-
-/// What stands before the arrow of a line, and behind it.
-pub fn parts_of(line: &str) -> (&str, &str) {
-    line.split_once(" -> ").unwrap_or((line, ""))
-}
 
 /// Makes the call of a row, and compares the answers.
 pub fn compare_row(

@@ -1,10 +1,11 @@
 //! A file of rows, from its first line to its last.
 
 use crate::block::Block;
-use crate::kinds::Kinds;
-use crate::maps::Maps;
-use crate::report::Report;
-use crate::row::{compare_row, parts_of};
+use crate::row::compare_row;
+use intmap_row_calls::kinds::Kinds;
+use intmap_row_words::maps::Maps;
+use intmap_row_words::report::Report;
+use intmap_row_words::word::parts_of;
 use refuser::Refuser;
 use std::alloc::{AllocError, Global};
 

@@ -1,10 +1,11 @@
 //! Calls that write a value in its place, and calls by an entry.
 
-use crate::call::no_call;
-use crate::maps::MapOf;
-use crate::text::{write_back, write_done, write_fresh, write_number, write_option, write_refusal};
 use intmap::entry::Entry;
 use intmap::{IntKey, Refused};
+use intmap_row_words::maps::{MapOf, remove_by_entry};
+use intmap_row_words::text::{
+    no_call, write_back, write_done, write_fresh, write_number, write_option, write_refusal,
+};
 use refuser::Refuser;
 use std::alloc::{AllocError, Global};
 use std::fmt::Display;
@@ -70,27 +71,6 @@ fn write_entry<K: IntKey + Display>(
             let key = entry.key();
             write!(out, "vacant {key}")
         }
-    }
-}
-
-/// Takes the pair of the key out by its entry, where it has one.
-pub fn remove_by_entry<K: IntKey>(map: &mut MapOf<'_, K>, key: K) -> Option<u64> {
-    match map.entry(key) {
-        Entry::Occupied(entry) => Some(entry.remove()),
-        Entry::Vacant(_entry) => None,
-    }
-}
-
-/// Has the entry of a bound key set its value. Whether it showed the key and the value before, by both
-/// references, handed that value out, and then showed the new one.
-pub fn replace_by_entry(map: &mut MapOf<'_, u64>, key: u64, before: u64, after: u64) -> bool {
-    match map.entry(key) {
-        Entry::Occupied(mut entry) => {
-            let shown = *entry.key() == key && *entry.get() == before && *entry.get_mut() == before;
-            let handed_out = entry.insert(after);
-            shown && handed_out == before && *entry.into_mut() == after
-        }
-        Entry::Vacant(_entry) => false,
     }
 }
 

@@ -1,72 +1,47 @@
 //! Calls that put many pairs into a map at once, make a map of pairs or of another map, or compare two.
 ghost use Rattle.std.specs.Iterator.{IsFinite, at_most};
 
-use crate::call::{no_call, with_few};
-use crate::iterated::{through_all, through_front};
-use crate::many::{Keys, value_of};
-use crate::maps::{Map, Maps};
-use crate::text::{write_done, write_pairs, write_refusal, write_stopped};
+use crate::many::Keys;
 use intmap::{Cause, IntMap};
+use intmap_row_words::maps::{Map, Maps, value_of};
+use intmap_row_words::text::{write_done, write_pairs, write_refusal, write_stopped};
 use refuser::Refuser;
 use std::alloc::{AllocError, Allocator, Global};
 use std::vec;
 
-/// Writes the answer to a call with any number of pairs behind its name, or to one with four numbers at
-/// most.
-pub fn with_pairs(
-    out: &mut String,
-    maps: &mut Maps<'_>,
-    name: &str,
-    numbers: &[u64],
-) -> Result<(), AllocError> {
-    let alloc = *out.allocator();
-    match name {
-        "extend" => extended(out, &mut maps.map, pairs_of(alloc, numbers)?.into_iter()),
-        "extend_debug" => {
-            let called = maps.map.extend(pairs_of(alloc, numbers)?.into_iter());
-            write!(out, "{called:?}")
-        }
-        "from_iter" => made_of(out, maps, pairs_of(alloc, numbers)?.into_iter()),
-        "from_claimed" => match numbers.split_first() {
-            Some((claimed, numbers)) => {
-                let pairs = pairs_of(alloc, numbers)?.into_iter();
-                let left = *claimed as usize;
-                made_of(out, maps, Claimed { pairs, left })
-            }
-            None => no_call(out),
-        },
-        _ => with_few(out, maps, name, numbers),
-    }
-}
-
-/// Writes the answer to a call with many keys, each bound to ten more.
+/// Writes the answer to a call with many keys, each bound to ten more. `false`, and nothing written,
+/// where it is no such call.
 pub fn with_many_pairs(
     out: &mut String,
     maps: &mut Maps<'_>,
     name: &str,
     keys: Keys,
-) -> Result<(), AllocError> {
+) -> Result<bool, AllocError> {
     let pairs = (0..keys.count).map(move |place| (keys.at(place), value_of(keys.at(place))));
-    match name {
+    let written = match name {
         "extend_many" => extended(out, &mut maps.map, pairs),
         "from_iter_many" => made_of(out, maps, pairs),
-        _ => no_call(out),
-    }
+        _ => return Ok(false),
+    };
+    written?;
+    Ok(true)
 }
 
-/// Writes the answer to a call that makes a map of so many numbers, each bound to its square, or to
-/// another one with a number.
+/// Writes the answer to a call that makes a map of so many numbers, each bound to its square. `false`,
+/// and nothing written, where it is no such call.
 pub fn with_squares(
     out: &mut String,
     maps: &mut Maps<'_>,
     name: &str,
     count: u64,
-) -> Result<(), AllocError> {
-    match name {
+) -> Result<bool, AllocError> {
+    let written = match name {
         "from_squares" => made_of(out, maps, (0..count).map(squared)),
         "from_squares_back" => made_of(out, maps, (0..count).rev().map(squared)),
-        _ => through_front(out, maps, name, count),
-    }
+        _ => return Ok(false),
+    };
+    written?;
+    Ok(true)
 }
 
 // the number with its square, wrapped to 64 bits
@@ -74,9 +49,10 @@ fn squared(number: u64) -> (u64, u64) {
     (number, number.wrapping_mul(number))
 }
 
-/// Writes the answer to a call that speaks of both maps, or to another one without a number.
-pub fn with_other(out: &mut String, maps: &mut Maps<'_>, name: &str) -> Result<(), AllocError> {
-    match name {
+/// Writes the answer to a call that speaks of both maps. `false`, and nothing written, where it is no
+/// such call.
+pub fn with_other(out: &mut String, maps: &mut Maps<'_>, name: &str) -> Result<bool, AllocError> {
+    let written = match name {
         "extend_other" => match maps.take_other() {
             Ok(other) => extended(out, &mut maps.map, other.into_iter()),
             Err(cause) => write_refusal(out, cause, None),
@@ -91,8 +67,10 @@ pub fn with_other(out: &mut String, maps: &mut Maps<'_>, name: &str) -> Result<(
             let (one, back) = maps.are_equal();
             write!(out, "{one} {back}")
         }
-        _ => through_all(out, maps, name),
-    }
+        _ => return Ok(false),
+    };
+    written?;
+    Ok(true)
 }
 
 /// The pairs that the numbers make, a key and a value in turn.
@@ -104,8 +82,8 @@ pub fn pairs_of<A: Allocator>(alloc: A, numbers: &[u64]) -> Result<Vec<(u64, u64
     Ok(pairs)
 }
 
-// extends the map by pairs
-fn extended<I: Iterator<Item = (u64, u64)>>(
+/// Extends the map by pairs.
+pub fn extended<I: Iterator<Item = (u64, u64)>>(
     out: &mut String,
     map: &mut Map<'_>,
     pairs: I,
@@ -118,8 +96,8 @@ fn extended<I: Iterator<Item = (u64, u64)>>(
     }
 }
 
-// puts a map of pairs in the place of the one that calls are made on
-fn made_of<I: Iterator<Item = (u64, u64)>>(
+/// Puts a map of pairs in the place of the one that calls are made on.
+pub fn made_of<I: Iterator<Item = (u64, u64)>>(
     out: &mut String,
     maps: &mut Maps<'_>,
     pairs: I,
@@ -132,9 +110,11 @@ fn made_of<I: Iterator<Item = (u64, u64)>>(
 
 /// Pairs, of which it is claimed that so many are left.
 #[derive(Drop)]
-struct Claimed {
-    pairs: vec::IntoIter<(u64, u64)>,
-    left: usize,
+pub struct Claimed {
+    /// The pairs.
+    pub pairs: vec::IntoIter<(u64, u64)>,
+    /// How many it is claimed are left.
+    pub left: usize,
 }
 
 impl Iterator for Claimed {

@@ -1,5 +1,6 @@
 //! The two maps that the rows of a group speak of.
 
+use intmap::entry::Entry;
 use intmap::{Cause, IntKey, IntMap};
 use refuser::Refuser;
 use std::alloc::{AllocError, Global};
@@ -18,6 +19,19 @@ pub fn new_map<K: IntKey>(memory: &Refuser<Global>) -> Result<MapOf<'_, K>, Allo
     let made = IntMap::new(memory);
     memory.arm(refused);
     made.map_err(|_| AllocError)
+}
+
+/// The value that calls of many keys bind a key to.
+pub fn value_of(key: u64) -> u64 {
+    key.wrapping_add(10)
+}
+
+/// Takes the pair of the key out by its entry, where it has one.
+pub fn remove_by_entry<K: IntKey>(map: &mut MapOf<'_, K>, key: K) -> Option<u64> {
+    match map.entry(key) {
+        Entry::Occupied(entry) => Some(entry.remove()),
+        Entry::Vacant(_entry) => None,
+    }
 }
 
 /// The map that calls are made on, another one, and the memory of both.

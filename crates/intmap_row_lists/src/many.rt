@@ -1,10 +1,9 @@
 //! Calls with many keys: a first one, and others at equal distances behind it.
 
-use crate::entries::{remove_by_entry, replace_by_entry};
-use crate::maps::Map;
-use crate::text::write_refusal;
 use intmap::Refused;
 use intmap::entry::Entry;
+use intmap_row_words::maps::{Map, remove_by_entry, value_of};
+use intmap_row_words::text::write_refusal;
 use std::alloc::AllocError;
 
 /// So many keys from a first one on, each so far behind the one before it, wrapped to 64 bits.
@@ -28,11 +27,6 @@ impl Keys {
     pub fn at(self, place: u64) -> u64 {
         self.first.wrapping_add(place.wrapping_mul(self.step))
     }
-}
-
-/// The value that these calls bind a key to.
-pub fn value_of(key: u64) -> u64 {
-    key.wrapping_add(10)
 }
 
 /// Which of the two insertions is made.
@@ -173,58 +167,15 @@ pub fn replace_many(map: &mut Map<'_>, keys: Keys, more: u64) -> u64 {
     replaced
 }
 
-/// How many pairs there were, and a sum that tells their order: it begins at 0, and the number of
-/// each key, and then its value, is added to 31 times what there is, wrapped to 64 bits.
-#[derive(Clone, Copy)]
-pub struct WalkSum {
-    pairs: u64,
-    sum: u64,
-}
-
-impl WalkSum {
-    /// Of no pair.
-    pub fn new() -> WalkSum {
-        WalkSum { pairs: 0, sum: 0 }
+// has the entry of a bound key set its value; whether it showed the key and the value before, by both
+// references, handed that value out, and then showed the new one
+fn replace_by_entry(map: &mut Map<'_>, key: u64, before: u64, after: u64) -> bool {
+    match map.entry(key) {
+        Entry::Occupied(mut entry) => {
+            let shown = *entry.key() == key && *entry.get() == before && *entry.get_mut() == before;
+            let handed_out = entry.insert(after);
+            shown && handed_out == before && *entry.into_mut() == after
+        }
+        Entry::Vacant(_entry) => false,
     }
-
-    /// With one pair more.
-    pub fn add(&mut self, number: u64, value: u64) {
-        self.pairs = self.pairs.wrapping_add(1);
-        self.sum = self.sum.wrapping_mul(31).wrapping_add(number);
-        self.sum = self.sum.wrapping_mul(31).wrapping_add(value);
-    }
-
-    /// Writes the two.
-    pub fn write(self, out: &mut String) -> Result<(), AllocError> {
-        let pairs = self.pairs;
-        let sum = self.sum;
-        write!(out, "{pairs} pairs, sum {sum}")
-    }
-}
-
-/// Writes how many pairs a walk has, and their sum.
-pub fn walk_sum(out: &mut String, map: &Map<'_>) -> Result<(), AllocError> {
-    let mut seen = WalkSum::new();
-    for (key, value) in map.iter() {
-        seen.add(*key, *value);
-    }
-    seen.write(out)
-}
-
-/// The same of the keys of the walk, each with 0.
-pub fn keys_sum(out: &mut String, map: &Map<'_>) -> Result<(), AllocError> {
-    let mut seen = WalkSum::new();
-    for key in map.keys() {
-        seen.add(*key, 0);
-    }
-    seen.write(out)
-}
-
-/// The same of the values of the walk, each behind 0.
-pub fn values_sum(out: &mut String, map: &Map<'_>) -> Result<(), AllocError> {
-    let mut seen = WalkSum::new();
-    for value in map.values() {
-        seen.add(0, *value);
-    }
-    seen.write(out)
 }

@@ -1,6 +1,11 @@
-//! The words of a call.
+//! The words of a row.
 
 use std::alloc::{AllocError, Global};
+
+/// What stands before the arrow of a line, and behind it.
+pub fn parts_of(line: &str) -> (&str, &str) {
+    line.split_once(" -> ").unwrap_or((line, ""))
+}
 
 /// The name of a call, and the numbers behind it.
 #[derive(Drop)]

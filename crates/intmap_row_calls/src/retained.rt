@@ -1,10 +1,10 @@
 //! Calls that keep some of the pairs.
 
 use crate::call::seen;
-use crate::many::WalkSum;
-use crate::maps::MapOf;
-use crate::text::{write_done, write_number};
+use crate::walks::WalkSum;
 use intmap::IntKey;
+use intmap_row_words::maps::MapOf;
+use intmap_row_words::text::{write_done, write_number};
 use std::alloc::AllocError;
 use std::fmt::{Debug, Display};
 

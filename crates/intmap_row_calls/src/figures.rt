@@ -1,9 +1,10 @@
 //! Calls that ask how full a map is, and how its pairs lie in it.
 
-use crate::call::no_call;
-use crate::maps::MapOf;
-use crate::text::{write_bool, write_number, write_refusal, write_state, write_walk};
 use intmap::IntKey;
+use intmap_row_words::maps::MapOf;
+use intmap_row_words::text::{
+    no_call, write_bool, write_number, write_refusal, write_state, write_walk,
+};
 use std::alloc::AllocError;
 
 /// Writes the answer to such a call.

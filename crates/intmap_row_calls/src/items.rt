@@ -1,7 +1,7 @@
 //! Texts as values: each names its key.
 
-use crate::text::write_refusal;
 use intmap::IntMap;
+use intmap_row_words::text::write_refusal;
 use refuser::Refuser;
 use std::alloc::{AllocError, Global};
 

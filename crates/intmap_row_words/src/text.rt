@@ -9,6 +9,11 @@ use intmap::{Cause, IntKey, RefusedPair};
 use std::alloc::{AllocError, Global};
 use std::fmt::Display;
 
+/// What is answered to words that are no call.
+pub fn no_call(out: &mut String) -> Result<(), AllocError> {
+    out.push_str("not a call")
+}
+
 /// `none`, or `some` and the value.
 pub fn write_option(out: &mut String, value: Option<u64>) -> Result<(), AllocError> {
     match value {
@@ -111,19 +116,6 @@ pub fn write_walk<K: IntKey + Display>(
     map: &MapOf<'_, K>,
 ) -> Result<(), AllocError> {
     write_pairs(out, map.iter().map(|(key, value)| (*key, *value)))
-}
-
-/// The keys of a map in brackets, in the order of its walk.
-pub fn write_keys<K: IntKey + Display>(
-    out: &mut String,
-    map: &MapOf<'_, K>,
-) -> Result<(), AllocError> {
-    write_list(out, map.keys().copied())
-}
-
-/// The values of a map in brackets, in the order of its walk.
-pub fn write_values(out: &mut String, map: &MapOf<'_, u64>) -> Result<(), AllocError> {
-    write_list(out, map.values().copied())
 }
 
 /// All that a map shows of itself.

@@ -1,11 +1,10 @@
 //! Maps with keys of other kinds than `u64`: one of each kind.
 
-use crate::call::{no_call, with_key, with_pair, without_key};
+use crate::call::{with_key, with_pair, without_key};
 use crate::cell::Cell;
-use crate::many::value_of;
-use crate::maps::{MapOf, new_map};
-use crate::text::write_refusal;
 use intmap::IntKey;
+use intmap_row_words::maps::{MapOf, new_map, value_of};
+use intmap_row_words::text::{no_call, write_refusal};
 use refuser::Refuser;
 use std::alloc::{AllocError, Global};
 use std::fmt::{Debug, Display};

@@ -2,10 +2,10 @@
 ghost use Rattle.std.specs.Iterator.{IsFinite};
 
 use crate::call::{with_key, without_key};
-use crate::many::WalkSum;
-use crate::maps::{Map, Maps};
-use crate::text::{write_list, write_number, write_pairs, write_refusal};
+use crate::walks::WalkSum;
 use intmap::{Cause, IntMap};
+use intmap_row_words::maps::{Map, Maps};
+use intmap_row_words::text::{write_list, write_number, write_pairs, write_refusal};
 use std::alloc::AllocError;
 use std::mem;
 

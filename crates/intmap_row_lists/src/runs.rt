@@ -2,13 +2,13 @@
 ghost use Rattle.std.specs.Prelude.{◌≡◌, ◌%◌, ◌==◌};
 
 use crate::built::pairs_of;
-use crate::many::{Keys, value_of};
-use crate::maps::Map;
-use crate::text::{
+use crate::many::Keys;
+use intmap_row_words::maps::{Map, value_of};
+use intmap_row_words::text::{
     write_back, write_bool, write_done, write_fresh, write_list, write_number, write_option,
     write_pairs, write_refusal, write_stopped,
 };
-use crate::word::words_of;
+use intmap_row_words::word::words_of;
 use intmap_run::{Answer, Command, Judge, run};
 use refuser::Refuser;
 use std::alloc::{AllocError, Global};

@@ -1,0 +1,18 @@
+//! The calls of rows on one map: with a key or a number, through a walk, of a figure, and on a map with
+//! keys of another kind.
+//!
+//! A call is its name and the numbers behind it. The calls with a list, of keys, pairs or commands,
+//! stand in `intmap_row_lists`.
+#![tactic(auto)]
+
+mod call;
+mod cell;
+mod entries;
+mod figures;
+mod items;
+mod iterated;
+pub mod kinds;
+mod retained;
+mod walks;
+
+pub use call::answer_to;
