@@ -1,14 +1,15 @@
-//! An allocator for tests: it refuses one request for memory, and counts the requests up to that
-//! one.
+//! An allocator for tests: it refuses one request for memory, counts the requests up to that one,
+//! and counts the blocks that are alive.
 //!
 //! Lend it to a collection as `&Refuser<B>`, which is an allocator that is `Copy`. `arm` then says
 //! which request is refused, also while the collection holds memory, and `left` says how far away
 //! that request is. So a test can make each allocation of a call fail in turn, and look at what the
-//! call leaves behind.
+//! call leaves behind. `live_blocks` and `live_bytes` are 0 again once nothing holds memory of it.
+//! Where they aren't, a call has lost a block.
 //!
 //! Proved: a block that it returns is one of `inner`'s, with the room that was asked for. Only
-//! tested: which request is refused, since no contract says what a cell holds. Neither: that a
-//! block passed to `deallocate` is freed, since an allocator may keep it.
+//! tested: which request is refused and what the counts are, since no contract says what a cell
+//! holds. Neither: that a block passed to `deallocate` is freed, since an allocator may keep it.
 #![tactic(auto)]
 
 use std::alloc::{AllocError, Allocator};
@@ -19,10 +20,21 @@ mod tests;
 
 /// Passes each request for memory on to `inner`, but for the one that it was told to refuse.
 ///
-/// It is not `Copy`, since a copy would have a count of its own.
+/// It is not `Copy`, since a copy would have counts of its own.
 pub struct Refuser<B: Allocator> {
     inner: B,
+    counts: Counts,
+}
+
+/// What a `Refuser` counts.
+#[derive(Drop)]
+struct Counts {
+    /// How many requests away the refused one is, 0 if none will be.
     left: Cell<u64>,
+    /// The blocks that were granted and not handed back.
+    blocks: Cell<u64>,
+    /// Their bytes.
+    bytes: Cell<u64>,
 }
 
 impl<B: Allocator> Refuser<B> {
@@ -31,34 +43,65 @@ impl<B: Allocator> Refuser<B> {
     pub fn new(inner: B, refused: u64) -> Refuser<B> {
         Refuser {
             inner,
-            left: Cell::new(refused),
+            counts: Counts {
+                left: Cell::new(refused),
+                blocks: Cell::new(0),
+                bytes: Cell::new(0),
+            },
         }
     }
 
     /// Starts the count again: from here on, request number `refused` is refused, counted from 1.
     /// At 0 none is.
     pub fn arm(&self, refused: u64) {
-        self.left.set(refused);
+        self.counts.left.set(refused);
     }
 
     /// Returns how many requests away the refused one is: 1 if the next request is refused. It is 0
     /// if none will be, because one has been refused already or none was to be.
     pub fn left(&self) -> u64 {
-        self.left.get()
+        self.counts.left.get()
+    }
+
+    /// Returns how many of its blocks weren't handed back. `arm` leaves this count.
+    pub fn live_blocks(&self) -> u64 {
+        self.counts.blocks.get()
+    }
+
+    /// Returns how many bytes were asked for these blocks.
+    pub fn live_bytes(&self) -> u64 {
+        self.counts.bytes.get()
     }
 }
 
 impl<B: Allocator> Drop for Refuser<B> {
     fn drop(self) {
-        let Self { inner: _, left: _ } = self;
+        let Self {
+            inner: _,
+            counts: _,
+        } = self;
     }
 }
 
-/// Counts one request, and returns whether it is the one to refuse.
-fn count_request(left: &Cell<u64>) -> bool {
-    let before = left.get();
-    left.set(before.saturating_sub(1));
-    before == 1
+impl Counts {
+    // counts one request, and returns whether it is the one to refuse
+    fn request(&self) -> bool {
+        let before = self.left.get();
+        self.left.set(before.saturating_sub(1));
+        before == 1
+    }
+
+    // counts a block that it returns
+    fn grant(&self, size: usize) {
+        self.blocks.set(self.blocks.get().wrapping_add(1));
+        self.bytes.set(self.bytes.get().wrapping_add(size as u64));
+    }
+
+    // counts a block that is handed back
+    fn hand_back(&self, size: usize) {
+        self.blocks.set(self.blocks.get().wrapping_sub(1));
+        self.bytes.set(self.bytes.get().wrapping_sub(size as u64));
+    }
 }
 
 unsafe impl<B: Allocator> Allocator for Refuser<B> {
@@ -66,13 +109,20 @@ unsafe impl<B: Allocator> Allocator for Refuser<B> {
     ghost dealloc_token = { λ refuser ty ptr. B.dealloc_token refuser.inner ty ptr };
 
     fn allocate(&self, size: usize, align: usize) -> Result<*mut u8, AllocError> {
-        if count_request(&self.left) {
+        if self.counts.request() {
             return Err(AllocError);
         }
-        self.inner.allocate(size, align)
+        match self.inner.allocate(size, align) {
+            Ok(block) => {
+                self.counts.grant(size);
+                Ok(block)
+            }
+            Err(_) => Err(AllocError),
+        }
     }
 
     unsafe fn deallocate(&self, ptr: *mut u8, size: usize, align: usize) {
+        self.counts.hand_back(size);
         self.inner.deallocate(ptr, size, align);
     }
 }

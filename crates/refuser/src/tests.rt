@@ -1,5 +1,6 @@
-//! What a `Vec` sees when its memory is refused.
+//! What a `Vec` sees when its memory is refused, and what is alive meanwhile.
 use super::*;
+use std::alloc::Global;
 use std::test::Fail;
 
 #[test]
@@ -50,4 +51,50 @@ fn left_counts_down_to_the_refused_request(rt: HostRuntime) -> Result<(), Fail> 
     }
     assert_eq!(rt; values.len(), 100);
     Ok(())
+}
+
+// the blocks and the bytes that are alive
+fn alive<B: Allocator>(memory: &Refuser<B>) -> (u64, u64) {
+    (memory.live_blocks(), memory.live_bytes())
+}
+
+// what is alive with one list, with two, where the first is to grow and is refused, where it has grown,
+// and once the second is let go
+fn lists(memory: &Refuser<Global>) -> Result<[(u64, u64); 5], AllocError> {
+    let mut values = Vec::with_capacity(memory, 3)?;
+    let first = alive(memory);
+    let other = Vec::<u8, _>::with_capacity(memory, 5)?;
+    let second = alive(memory);
+    memory.arm(1);
+    let is_refused = values.reserve(100).is_err();
+    let refused = if is_refused { alive(memory) } else { (0, 0) };
+    values.reserve_exact(100)?;
+    let grown = alive(memory);
+    values.push(7u64)?;
+    drop(other);
+    Ok([first, second, refused, grown, alive(memory)])
+}
+
+#[test]
+fn what_is_granted_is_alive_until_it_is_handed_back(rt: HostRuntime) -> Result<(), Fail> {
+    let memory = Refuser::new(rt.alloc(), 0);
+    let counts = lists(&memory)?;
+    let wanted = [(1, 24), (2, 29), (2, 29), (2, 805), (1, 800)];
+    assert_eq!(rt; counts, wanted);
+    assert_eq!(rt; alive(&memory), (0, 0), "each list is let go");
+    Ok(())
+}
+
+// what is alive of an allocator over another one that refuses
+fn refused_inside(inner: &Refuser<Global>) -> (bool, (u64, u64)) {
+    let memory = Refuser::new(inner, 0);
+    inner.arm(1);
+    let is_refused = Vec::<u8, _>::with_capacity(&memory, 5).is_err();
+    (is_refused, alive(&memory))
+}
+
+#[test]
+fn what_the_allocator_inside_refuses_is_not_alive(rt: HostRuntime) {
+    let inner = Refuser::new(rt.alloc(), 0);
+    assert_eq!(rt; refused_inside(&inner), (true, (0, 0)));
 }

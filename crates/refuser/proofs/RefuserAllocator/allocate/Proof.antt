@@ -1,12 +1,15 @@
 -- By hand, since what is handed on is a block of memory, and the borrow checker reads no clause that owns one.
-use Rattle.refuser.proofs.Steps.{Bool, ◌≡◌, ℕ, List, [], ◌∷◌, true, false, Ok, Err, refl, ap, w64, leaves, proved, after, Al, Answer, answer_val, Answer-typed, Answer-Ok, Answer-err, Takes, at_takes, Takes-goes, Takes-gives, Answered, answers, token, seen, ftrue, flft, froom, id⊢, ◌⊑◌, ⊑_trans, fact, tables, inst_fn, Fn, Val, vptr, align, capped, size, ‵, raw, ◌⊛◌, some, later, prop, at_ret, Sq, ◌$◌, ◌∵◌, !, qed, done, move, drop, frame, use0, use1, use2, split, split3, join, fjoin, feq_i, feq_l, pick, await, suffices, agg, addr, and_then, branches, enter, exec, first, fld, lit, no_more, returns, returns_within, skips, stop, alloc_all, env, free_all, get, lands_as, look_at, pass_all, sets, through, bool, usize, yes, uint_Tells, uint_vals, owns, block_ptr, shr_vals, plain, heard, nothing, only, calls_at, Ended, lasts, on_entry, triple_of, framed, Goes-dropped, Stays, stay_dropped, walk_of}
-use Rattle.refuser.proofs.Handle.{passed, self, inner_at, left_at, shared_count, opened}
+use Rattle.refuser.proofs.Steps.{Bool, ◌≡◌, ℕ, List, [], ◌∷◌, true, false, Ok, Err, refl, ap, w64, leaves, proved, after, Al, Answer, answer_val, Answer-typed, Answer-Ok, Answer-err, Takes, at_takes, Takes-goes, Takes-gives, Answered, answers, token, seen, ftrue, flft, froom, id⊢, ◌⊑◌, ⊑_trans, fact, tables, inst_fn, Fn, Val, vptr, align, capped, size, ‵, raw, ◌⊛◌, some, later, prop, at_ret, Sq, ◌$◌, ◌∵◌, !, qed, done, move, drop, frame, use0, use1, use2, split, split3, join, fjoin, feq_i, feq_l, pick, await, suffices, agg, addr, and_then, branches, enter, exec, first, fld, lit, no_more, returns, returns_within, skips, stop, alloc_all, env, free_all, get, lands_as, look_at, pass_all, sets, through, bool, usize, yes, uint_Tells, uint_vals, owns, block_ptr, shr_vals, plain, heard, nothing, only, calls_at, Ended, lasts, on_entry, triple_of, framed, Goes-dropped, Stays, stay_dropped, walk_of, After, any_q, keep, flt_i, fsep, vint, vunit, Wp, after_seq, at_return, switches_on, unit, get_in, get_tag, in_variant, vrt, whole, sets_last, of_opd, shr_dup, arm_body, front, ◌^◌}
+use Rattle.refuser.proofs.Handle.{passed, self, Counted, inner_at, counts_at, shared_counts, opened}
 use Rattle.refuser.specs.contracts.RefuserAllocator.allocate as f
 use Rattle.refuser.specs.contracts.RefuserAllocator.allocate.Key.{name}
 use Rattle.refuser.proofs.RefuserAllocator.allocate.Statement.{statement}
 use Rattle.refuser.proofs.RefuserAllocator.allocate.Code as code
-use Rattle.refuser.specs.contracts.count_request as counted
-use Rattle.refuser.proofs.count_request.Met as counted_proof
+use Rattle.refuser.specs.contracts.Counts.request as counted
+use Rattle.refuser.proofs.Counts.TheLaws as counts_laws
+use Rattle.refuser.proofs.Counts.request.Met as counted_proof
+use Rattle.refuser.specs.contracts.Counts.grant as granted
+use Rattle.refuser.proofs.Counts.grant.Met as granted_proof
 
 module _ (Z : Al) where
   abbrev ended : Ended
@@ -42,28 +45,32 @@ allocate_spec 𝓤 𝓛 𝓜 𝓡 wired B laws ghosts methods drops met _ =
     move ! (2 ∷ 3 ∷ []) $ join ! $ frame ! $ nothing ! $ nothing ! $ fjoin ! $ nothing ! $ fjoin ! $ nothing ! $ fjoin ! $ frame ! $
     use0 𝓛 (‵ (Answer.own_val (Ok (block_ptr b o)) (answer_val true b o ∷ []))) (Answer-Ok 𝓛 b o) $ frame ! $ fjoin ! $ done ! in
     qed 𝓛 (raw (on_entry 𝓛 (ended Z).signature κs qs a y.0.4) ∷ (raw (fact 𝓤 (κs.1.0 ⊑ B.lives)) ⊛ raw (fact 𝓤 HasLayout)) ∷ []) ∵
-    use1 𝓛 (‵ (shared_count Z r κ) ⊛ ‵ (flft κ q) ⊛ ‵ (seen Z κ (inner_at Z r) h) ⊛ ‵ (flft κs.1.0 qs.1.0) ⊛ ‵ ftrue)
+    use1 𝓛 (‵ (shared_counts Z r κ) ⊛ ‵ (flft κ q) ⊛ ‵ (seen Z κ (inner_at Z r) h) ⊛ ‵ (flft κs.1.0 qs.1.0) ⊛ ‵ ftrue)
     (opened Z 𝓛 κ κs.1.0 q qs.1.0 r (shr_vals r) (owns (usize ∷ usize ∷ []) a.1 y.0.4.1)) $
     split3 ! $ move ! (2 ∷ []) $ split ! $ move ! (4 ∷ 2 ∷ 3 ∷ 0 ∷ 1 ∷ []) $ split ! $ heard ! _ (λ lives. heard ! HasLayout (λ layout.
-    -- [the count; the token; the inner allocator; the other tokens]
+    let p = counts_at Z r in let pointer = vptr p.0 p.1 ∷ [] in
+    shr_dup ! Counted counts_laws.the_row_laws.shr_laws r.now.counts p.0 p.1 κ $ move ! (0 ∷ 2 ∷ 3 ∷ 4 ∷ []) $
+    -- [the counts; the token; the inner allocator; the other tokens; the counts once more]
     enter ! _ _ _ _ _ $ alloc_all ! (λ l. pass_all ! refl ((tt, tt), ((tt, record { fits = are.1.0.1 }), ((tt, record { fits = are.1.1.0.1 }), tt))) $
     sets ! (addr ! (through ! refl (fld ! refl (stop !)))) refl (tt, tt) $
     let Count = triple_of 𝓛 counted.signature (counted.spec 𝓛 𝓜.mem 𝓡.returns) in
-    let p = left_at Z r in let pointer = vptr p.0 p.1 ∷ [] in
-    let z : Count.Ghost = (((κ, tt), (q, tt), tt, (record { ref_ptr = p; now = record { value = tt } }, tt), (pointer, tt)), tt) in
+    let z : Count.Ghost = (((κ, tt), (q, tt), tt, (record { ref_ptr = p; now = r.now.counts }, tt), (pointer, tt)), tt) in
     feq_i ! (List Val) pointer pointer refl $ fjoin ! $ nothing ! $ move ! (1 ∷ 0 ∷ []) $ fjoin ! $
     nothing ! $ move ! (2 ∷ 0 ∷ []) $ join ! $ join ! $ nothing ! $ move ! (1 ∷ 0 ∷ []) $ use2 𝓛 (raw (Count.pre z)) (id⊢ 𝓤 _) $
-    calls_at ! (framed 𝓤 𝓛.H 𝓜 𝓣) Count (counted_proof.met 𝓤 𝓛 𝓜 𝓡 (code.calls-refuser::count_request 𝓡.env wired)) z (and_then ! (get ! refl) (no_more !)) (λ v.
+    calls_at ! (framed 𝓤 𝓛.H 𝓜 𝓣) Count (counted_proof.met 𝓤 𝓛 𝓜 𝓡 (code.calls-refuser::Counts::request 𝓡.env wired)) z (and_then ! (get ! refl) (no_more !)) (λ v.
     use1 𝓛 (later (some (λ (refused : Bool). ((‵ (flft κ q) ⊛ ‵ ftrue) ⊛ ‵ (bool.own_val refused (v ∷ []))) ⊛
     some (λ (ws : Unit {0} × Unit {0}). ‵ (lasts counted.ended (κ, tt) z.0.3 ws) ⊛ ‵ ftrue)))) (id⊢ 𝓤 _) $
     await ! tt $ pick ! (λ refused. split ! $ split ! $ split ! $ move ! (2 ∷ []) $ feq_l ! (λ answer. move ! (2 ∷ []) $ drop ! $ move ! (1 ∷ []) $ drop ! $
     lands_as ! (ap only answer) refl (tt, tt) $ move ! (1 ∷ []) $
-    -- [the inner allocator; the token; the other tokens]
+    -- [the inner allocator; the token; the other tokens; the counts]
     first ! $ branches ! (get ! refl)
     (λ _. sets ! (agg ! (no_more !)) refl (tt, tt) $
     sets ! (agg ! (and_then ! (lit ! tt) (and_then ! (get ! refl) (no_more !)))) refl (Answer-typed false 0 0) $
-    returns_within ! (W.post y) refl (look_at ! 0 refl) $ free_all ! refl $ drop ! $ refuses)
-    (λ _. skips ! $ exec ! 𝓣.C 𝓣.Λ (env (here Z).locals l) (after 3 (here Z).body) (at_ret _ (W.post y)) $
+    returns_within ! (W.post y) refl (look_at ! 0 refl) $ free_all ! refl $ keep ! (1 ∷ 2 ∷ []) $ refuses)
+    (λ _. let Locals = env (here Z).locals l in
+    let arms = front (after 5 (here Z).body) in
+    let Then : After 𝓤 𝓛.H = any_q (after_seq 𝓤 𝓛.H (Wp 𝓤 𝓛.H 𝓣.C 𝓣.Λ Locals (after 6 (here Z).body) (at_return 𝓤 𝓛.H Locals (W.post y))) (at_return 𝓤 𝓛.H Locals (W.post y))) in
+    skips ! $ exec ! 𝓣.C 𝓣.Λ Locals (after 3 (here Z).body) (at_ret Locals (W.post y)) $
     sets ! (addr ! (through ! refl (fld ! refl (stop !)))) refl (tt, tt) $
     let x = at_takes Z 𝓛 𝓜.mem 𝓡.returns κ q (inner_at Z r) h bytes boundary τ in
     use2 𝓛 (raw ((Takes Z 𝓛 𝓜.mem 𝓡.returns).pre x))
@@ -71,5 +78,28 @@ allocate_spec 𝓤 𝓛 𝓜 𝓡 wired B laws ghosts methods drops met _ =
     calls_at ! (framed 𝓤 𝓛.H 𝓜 𝓣) (Takes Z 𝓛 𝓜.mem 𝓡.returns) (met.allocate drops) x (and_then ! (get ! refl) (and_then ! (get ! refl) (and_then ! (get ! refl) (no_more !)))) (λ u.
     use1 𝓛 (later (raw (Answered Z 𝓛 𝓜.mem 𝓡.returns h τ u) ⊛ ‵ (flft κ q))) (Takes-gives Z 𝓛 𝓜.mem 𝓡.returns κ q (inner_at Z r) h bytes boundary τ u) $ await ! tt $ split ! $
     answers Z ! 𝓜.mem 𝓡.returns h τ u
-    (λ b o is. lands_as ! is refl (Answer-typed true b o) $ returns ! (look_at ! 0 refl) $ free_all ! refl $ grants b o)
-    (λ is. lands_as ! is refl (Answer-typed false 0 0) $ returns ! (look_at ! 0 refl) $ free_all ! refl $ refuses))))))))))
+    (λ b o is. lands_as ! is refl (Answer-typed true b o) $
+    first ! $ switches_on ! (get_tag ! (vrt ! refl (fld ! refl (stop !))) (whole !)) $ exec ! 𝓣.C 𝓣.Λ Locals (arm_body 0 arms) Then $
+    sets ! (of_opd ! (get_in ! (vrt ! refl (fld ! refl (stop !))) (in_variant ! 0 0 refl refl (whole !)))) refl (tt, tt) $
+    sets ! (addr ! (through ! refl (fld ! refl (stop !)))) refl (tt, tt) $
+    -- [the block, with the right to free it; the token; the other tokens; the counts]
+    let Grant = triple_of 𝓛 granted.signature (granted.spec 𝓛 𝓜.mem 𝓡.returns) in
+    let number = vint w64 bytes ∷ [] in
+    let g : Grant.Ghost = (((κ, tt), (q, tt), tt, (record { ref_ptr = p; now = r.now.counts }, (bytes, tt)), (pointer, (number, tt))), tt) in
+    nothing ! $ flt_i ! bytes (2 ^ 64) are.1.0.1 $ feq_i ! (List Val) number number refl $ fjoin ! $ fjoin ! $
+    move ! (5 ∷ []) $ feq_i ! (List Val) pointer pointer refl $ fjoin ! $ fjoin ! $
+    nothing ! $ move ! (4 ∷ 0 ∷ []) $ join ! $ join ! $ nothing ! $ move ! (1 ∷ 0 ∷ []) $ use2 𝓛 (raw (Grant.pre g)) (id⊢ 𝓤 _) $
+    calls_at ! (framed 𝓤 𝓛.H 𝓜 𝓣) Grant (granted_proof.met 𝓤 𝓛 𝓜 𝓡 (code.calls-refuser::Counts::grant 𝓡.env wired)) g (and_then ! (get ! refl) (and_then ! (get ! refl) (no_more !))) (λ v'.
+    use1 𝓛 (later (some (λ (nought : Unit {0}). ((‵ (flft κ q) ⊛ ‵ ftrue) ⊛ ‵ (unit.own_val nought (v' ∷ []))) ⊛
+    some (λ (ws : Unit {0} × (Unit {0} × Unit {0})). ‵ (lasts granted.ended (κ, tt) g.0.3 ws) ⊛ ‵ ftrue)))) (id⊢ 𝓤 _) $
+    await ! tt $ pick ! (λ nought. split ! $ split ! $ split ! $ move ! (2 ∷ []) $ feq_l ! (λ done_as. move ! (2 ∷ []) $ drop ! $ move ! (1 ∷ []) $ drop ! $
+    lands_as ! (ap only done_as) refl (tt, tt) $
+    sets_last ! (agg ! (and_then ! (lit ! tt) (and_then ! (get ! refl) (no_more !)))) refl (Answer-typed true b o) $
+    exec ! 𝓣.C 𝓣.Λ Locals (after 6 (here Z).body) (at_ret Locals (W.post y)) $ sets ! (of_opd ! (get ! refl)) refl (Answer-typed true b o) $
+    returns ! (look_at ! 0 refl) $ free_all ! refl $ move ! (1 ∷ 2 ∷ []) $ grants b o))))
+    (λ is. lands_as ! is refl (Answer-typed false 0 0) $
+    first ! $ switches_on ! (get_tag ! (vrt ! refl (fld ! refl (stop !))) (whole !)) $ exec ! 𝓣.C 𝓣.Λ Locals (arm_body 1 arms) Then $
+    sets ! (agg ! (no_more !)) refl (tt, tt) $
+    sets_last ! (agg ! (and_then ! (lit ! tt) (and_then ! (get ! refl) (no_more !)))) refl (Answer-typed false 0 0) $
+    exec ! 𝓣.C 𝓣.Λ Locals (after 6 (here Z).body) (at_ret Locals (W.post y)) $ sets ! (of_opd ! (get ! refl)) refl (Answer-typed false 0 0) $
+    returns ! (look_at ! 0 refl) $ free_all ! refl $ keep ! (0 ∷ 1 ∷ []) $ refuses))))))))))

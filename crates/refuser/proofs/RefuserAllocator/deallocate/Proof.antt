@@ -1,10 +1,12 @@
 -- By hand, since a block of memory is handed over, and the borrow checker reads no clause that owns one.
-use Rattle.refuser.proofs.Steps.{◌≡◌, List, [], ◌∷◌, refl, w64, leaves, proved, Al, Gives, at_gives, Gives-goes, Gives-Gives, token, seen, ftrue, fsep, flft, fst∗, never, ◌⊑◌, ⊑_trans, fact, tables, inst_fn, Fn, Val, vint, vptr, vunit, align, capped, size, WpFn, ‵, raw, ◌⊛◌, later, given, prop, ◌$◌, ◌∵◌, !, qed, done, move, drop, frame, use1, split, split3, join, fsplit, fjoin, feq_i, group, learn, await, regoal, suffices, sem, addr, and_then, enter, fld, no_more, of_opd, returns, stop, unit_lit, alloc_all, free_all, get, lands_as, look_at, pass_all, sets, through, usize, yes, uint_Tells, uint_vals, owns, Ptr, RawPtr, block_ptr, in_a_block, null_ptr, ptr_val, rawptr_Tells, rawptr_vals, room_for, shr_vals, plain, heard, nothing, calls_at, Ended, on_entry, framed, Goes-dropped, Stays, stay_dropped, walk_of}
-use Rattle.refuser.proofs.Handle.{passed, self, inner_at, shared_count, opened}
+use Rattle.refuser.proofs.Steps.{◌≡◌, List, [], ◌∷◌, refl, w64, leaves, proved, Al, Gives, at_gives, Gives-goes, Gives-Gives, token, seen, ftrue, fsep, flft, fst∗, never, ◌⊑◌, ⊑_trans, fact, tables, inst_fn, Fn, Val, vint, vptr, vunit, align, capped, size, WpFn, ‵, raw, ◌⊛◌, later, given, prop, ◌$◌, ◌∵◌, !, qed, done, move, drop, frame, use1, split, split3, join, fsplit, fjoin, feq_i, group, learn, await, regoal, suffices, sem, addr, and_then, enter, fld, no_more, of_opd, returns, stop, unit_lit, alloc_all, free_all, get, lands_as, look_at, pass_all, sets, through, usize, yes, uint_Tells, uint_vals, owns, Ptr, RawPtr, block_ptr, in_a_block, null_ptr, ptr_val, rawptr_Tells, rawptr_vals, room_for, shr_vals, plain, heard, nothing, calls_at, Ended, on_entry, framed, Goes-dropped, Stays, stay_dropped, walk_of, ap, some, keep, use2, pick, feq_l, flt_i, unit, lasts, only, triple_of, id⊢, ℕ, ◌^◌}
+use Rattle.refuser.proofs.Handle.{passed, self, inner_at, counts_at, shared_counts, opened}
 use Rattle.refuser.specs.contracts.RefuserAllocator.deallocate as f
 use Rattle.refuser.specs.contracts.RefuserAllocator.deallocate.Key.{name}
 use Rattle.refuser.proofs.RefuserAllocator.deallocate.Statement.{statement}
 use Rattle.refuser.proofs.RefuserAllocator.deallocate.Code as code
+use Rattle.refuser.specs.contracts.Counts.hand_back as handed
+use Rattle.refuser.proofs.Counts.hand_back.Met as handed_proof
 
 module _ (Z : Al) where
   abbrev ended : Ended
@@ -34,16 +36,28 @@ deallocate_spec 𝓤 𝓛 𝓜 𝓡 wired B laws ghosts methods drops met _ =
     let HasLayout : Type 0 = (capped (size τ) ≡ bytes) × (capped (align τ) ≡ boundary) in
     let owned_at = λ (p : Ptr). fsep (room_for τ p) (token Z h τ p) in
     qed 𝓛 (raw (on_entry 𝓛 (ended Z).signature κs qs a (y block).0.4) ∷ (raw (fact 𝓤 (κs.1.0 ⊑ B.lives)) ⊛ raw (fact 𝓤 HasLayout) ⊛ ‵ (owned_at block)) ∷ []) ∵
-    use1 𝓛 (‵ (shared_count Z r κ) ⊛ ‵ (flft κ q) ⊛ ‵ (seen Z κ (inner_at Z r) h) ⊛ ‵ (flft κs.1.0 qs.1.0) ⊛ ‵ ftrue)
+    use1 𝓛 (‵ (shared_counts Z r κ) ⊛ ‵ (flft κ q) ⊛ ‵ (seen Z κ (inner_at Z r) h) ⊛ ‵ (flft κs.1.0 qs.1.0) ⊛ ‵ ftrue)
     (opened Z 𝓛 κ κs.1.0 q qs.1.0 r (shr_vals r) (owns (RawPtr ∷ usize ∷ usize ∷ []) a.1 (y block).0.4.1)) $
-    split3 ! $ drop ! $ move ! (2 ∷ []) $ split3 ! $ heard ! _ (λ lives. heard ! HasLayout (λ layout.
-    -- [the block, with the right to free it; the first token; the inner allocator and the other tokens]
+    split3 ! $ move ! (3 ∷ []) $ split3 ! $ heard ! _ (λ lives. heard ! HasLayout (λ layout.
+    -- [the block, with the right to free it; the counts; the first token; the inner allocator and the other tokens]
     in_a_block ! block owned_at (fst∗ 𝓤 (never 𝓤) (sem 𝓛 (token Z h τ null_ptr))) (λ b o at.
     regoal ! (λ p. prop (WpFn 𝓤 𝓛.H 𝓣.C 𝓣.Λ (here Z) (vptr r.ref_ptr.0 r.ref_ptr.1 ∷ ptr_val p ∷ vint w64 bytes ∷ vint w64 boundary ∷ []) (W.post (y p)))) at refl $
-    fsplit ! $ move ! (3 ∷ []) $ split ! $ move ! (2 ∷ 3 ∷ 0 ∷ 4 ∷ 1 ∷ []) $
+    fsplit ! $ move ! (4 ∷ []) $ split ! $ move ! (4 ∷ 5 ∷ 2 ∷ 3 ∷ 0 ∷ []) $
     enter ! _ _ _ _ _ $
     alloc_all ! (λ l. pass_all ! refl ((tt, tt), ((tt, tt), ((tt, record { fits = are.1.1.0.1 }), ((tt, record { fits = are.1.1.1.0.1 }), tt)))) $
     sets ! (addr ! (through ! refl (fld ! refl (stop !)))) refl (tt, tt) $
+    let Back = triple_of 𝓛 handed.signature (handed.spec 𝓛 𝓜.mem 𝓡.returns) in
+    let p = counts_at Z r in let pointer = vptr p.0 p.1 ∷ [] in let size = vint w64 bytes ∷ [] in
+    let z : Back.Ghost = (((κ, tt), (q, tt), tt, (record { ref_ptr = p; now = r.now.counts }, (bytes, tt)), (pointer, (size, tt))), tt) in
+    nothing ! $ flt_i ! bytes (2 ^ 64) are.1.1.0.1 $ feq_i ! (List Val) size size refl $ fjoin ! $ fjoin ! $
+    move ! (1 ∷ []) $ feq_i ! (List Val) pointer pointer refl $ fjoin ! $ fjoin ! $
+    nothing ! $ move ! (2 ∷ 0 ∷ []) $ join ! $ join ! $ nothing ! $ move ! (1 ∷ 0 ∷ []) $ use2 𝓛 (raw (Back.pre z)) (id⊢ 𝓤 _) $
+    calls_at ! (framed 𝓤 𝓛.H 𝓜 𝓣) Back (handed_proof.met 𝓤 𝓛 𝓜 𝓡 (code.calls-refuser::Counts::hand_back 𝓡.env wired)) z (and_then ! (get ! refl) (and_then ! (get ! refl) (no_more !))) (λ u.
+    use1 𝓛 (later (some (λ (nought : Unit {0}). ((‵ (flft κ q) ⊛ ‵ ftrue) ⊛ ‵ (unit.own_val nought (u ∷ []))) ⊛
+    some (λ (ws : Unit {0} × (Unit {0} × Unit {0})). ‵ (lasts handed.ended (κ, tt) z.0.3 ws) ⊛ ‵ ftrue)))) (id⊢ 𝓤 _) $
+    await ! tt $ pick ! (λ nought. split ! $ split ! $ split ! $ move ! (2 ∷ []) $ feq_l ! (λ answer. move ! (2 ∷ []) $ drop ! $ move ! (1 ∷ []) $ drop ! $
+    lands_as ! (ap only answer) refl (tt, tt) $
+    sets ! (addr ! (through ! refl (fld ! refl (stop !)))) refl (tt, tt) $ move ! (1 ∷ 2 ∷ 3 ∷ 0 ∷ []) $
     let x = at_gives Z 𝓛 𝓜.mem 𝓡.returns κ q (inner_at Z r) h b o bytes boundary τ in
     group ! 4 $ use1 𝓛 (raw ((Gives Z 𝓛 𝓜.mem 𝓡.returns).pre x))
     (Gives-goes Z 𝓛 𝓜.mem 𝓡.returns κ q (inner_at Z r) h (⊑_trans κ κs.1.0 B.lives bounds.0 lives) b o bytes boundary τ layout.0 layout.1 are.1.1.0.1 are.1.1.1.0.1) $
@@ -53,4 +67,4 @@ deallocate_spec 𝓤 𝓛 𝓜 𝓡 wired B laws ghosts methods drops met _ =
     lands_as ! is refl (tt, tt) $ sets ! (of_opd ! (unit_lit !)) refl (tt, tt) $ returns ! (look_at ! 0 refl) $ free_all ! refl $
     suffices ! _ (leaves 𝓛 (ended Z) (stayed Z) c (y (block_ptr b o)) vunit tt (tt, (tt, (tt, (tt, tt)))) (tt, (tt, (tt, (tt, tt))))) $
     join ! $ frame ! $ nothing ! $ nothing ! $ fjoin ! $ nothing ! $ fjoin ! $ nothing ! $ fjoin ! $ nothing ! $ fjoin ! $ frame ! $
-    feq_i ! (List Val) (vunit ∷ []) (vunit ∷ []) refl $ frame ! $ nothing ! $ done !)))))))
+    feq_i ! (List Val) (vunit ∷ []) (vunit ∷ []) refl $ frame ! $ nothing ! $ done !))))))))))
