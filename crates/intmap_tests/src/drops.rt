@@ -1,74 +1,20 @@
-//! Values that count how often they are dropped.
+//! Each value that a map had is dropped once, and no memory is lost.
 //!
 //! Each step is taken on a map that is lent. A function that owns one has to be proved to let it go
 //! at each of its ways out, so the one that owns one here lends it at once.
 
-use intmap::entry::Entry;
+use crate::counted::{CountedMap, Ground};
+use crate::steps::{Step, take};
 use intmap::{Cause, IntMap};
+use refuser::Refuser;
 use std::alloc::Global;
 use std::cell::Cell;
 use std::test::Fail;
 
-/// Adds sixteen to the power of its number to `drops` when it is dropped, so that each digit of
-/// the sum says how often the value of that number was.
-struct Counted<'a> {
-    number: u32,
-    drops: &'a Cell<u64>,
-}
-
-impl Drop for Counted<'_> {
-    fn drop(self) {
-        let Counted { number, drops } = self;
-        drops.set(
-            drops
-                .get()
-                .wrapping_add(1u64.wrapping_shl(number.wrapping_mul(4))),
-        );
-    }
-}
-
-type CountedMap<'a> = IntMap<u64, Counted<'a>>;
-
-/// A call, with a key and the number of a value where it takes them.
-#[derive(Clone, Copy, Debug)]
-enum Step {
-    /// `insert`.
-    Insert(u64, u32),
-    /// `insert_checked`.
-    InsertChecked(u64, u32),
-    /// `or_insert` by the entry of the key.
-    OrInsert(u64, u32),
-    /// `insert` by the entry of the key, if it is bound.
-    EntryInsert(u64, u32),
-    /// A write by `get_mut`, if the key is bound.
-    Write(u64, u32),
-    /// `remove`.
-    Remove(u64),
-    /// `retain` of the key and of the value.
-    Retain(u64, u32),
-    /// `retain` of the key.
-    RetainKey(u64),
-    /// `reserve` for so many pairs.
-    Reserve(usize),
-    /// `set_load_factor` to so many thousandths.
-    SetLoadFactor(usize),
-    /// `clear`.
-    Clear,
-}
-
-/// What a step answers.
-#[derive(Drop)]
-enum Answer<'a> {
-    /// The value that was handed back, if one was.
-    Back(Option<Counted<'a>>),
-    /// The number of a value that stays in the map.
-    Lent(u32),
-}
-
 /// What is seen of a map and of the drops when a step was taken.
 #[derive(Clone, Copy, PartialEq, Debug)]
 struct Seen {
-    /// The number of the value that was handed back or lent.
+    /// The number of the value that was handed back, handed out last, or lent.
     number: Option<u32>,
     /// The drops while a value that was handed back is held.
     held: u64,
@@ -81,92 +27,25 @@ struct Seen {
 /// A step, and the five figures that are to be seen when it was taken.
 type Row = (Step, Option<u32>, u64, u64, usize, usize);
 
-// the value of this number
-fn numbered(number: u32, drops: &Cell<u64>) -> Counted<'_> {
-    Counted { number, drops }
-}
-
-// the value that another one took the place of, or that other one where the key isn't bound
-fn insert_by_entry<'a>(map: &mut CountedMap<'a>, key: u64, value: Counted<'a>) -> Counted<'a> {
-    match map.entry(key) {
-        Entry::Occupied(mut entry) => entry.insert(value),
-        Entry::Vacant(_entry) => value,
-    }
-}
-
-// writes a value over another one, if there is one
-fn write<'a>(map: &mut CountedMap<'a>, key: u64, value: Counted<'a>) {
-    if let Some(place) = map.get_mut(key) {
-        *place = value;
-    }
-}
-
-// takes a step that answers no value
-fn change<'a>(map: &mut CountedMap<'a>, step: Step, drops: &'a Cell<u64>) -> Result<(), Cause> {
-    match step {
-        Step::Write(key, number) => write(map, key, numbered(number, drops)),
-        Step::Retain(key, number) => map.retain(|k, value| k == key || value.number == number),
-        Step::RetainKey(key) => map.retain(|k, _| k == key),
-        Step::Reserve(additional) => map.reserve(additional)?,
-        Step::SetLoadFactor(thousandths) => map.set_load_factor(thousandths)?,
-        _ => map.clear(),
-    }
-    Ok(())
-}
-
-// takes a step
-fn take<'a>(
-    map: &mut CountedMap<'a>,
-    step: Step,
-    drops: &'a Cell<u64>,
-) -> Result<Answer<'a>, Cause> {
-    match step {
-        Step::Insert(key, number) => Ok(Answer::Back(map.insert(key, numbered(number, drops))?)),
-        Step::InsertChecked(key, number) => {
-            map.insert_checked(key, numbered(number, drops))?;
-            Ok(Answer::Back(None))
-        }
-        Step::OrInsert(key, number) => {
-            Ok(Answer::Lent(map.entry(key).or_insert(numbered(number, drops))?.number))
-        }
-        Step::EntryInsert(key, number) => {
-            Ok(Answer::Back(Some(insert_by_entry(map, key, numbered(number, drops)))))
-        }
-        Step::Remove(key) => Ok(Answer::Back(map.remove(key))),
-        _ => {
-            change(map, step, drops)?;
-            Ok(Answer::Back(None))
-        }
-    }
-}
-
-// the number of the value of an answer
-fn number_of(answer: &Answer<'_>) -> Option<u32> {
-    match answer {
-        Answer::Back(value) => value.as_ref().map(|value| value.number),
-        Answer::Lent(number) => Some(*number),
-    }
-}
-
 // what is seen of a step that is taken now
-fn look<'a>(map: &mut CountedMap<'a>, step: Step, drops: &'a Cell<u64>) -> Result<Seen, Cause> {
-    let answer = take(map, step, drops)?;
-    let number = number_of(&answer);
-    let held = drops.get();
+fn look<'a>(map: &mut CountedMap<'a>, step: Step, ground: Ground<'a>) -> Result<Seen, Cause> {
+    let answer = take(map, step, ground)?;
+    let number = answer.number();
+    let held = ground.drops.get();
     drop(answer);
     Ok(Seen {
         number,
         held,
-        let_go: drops.get(),
+        let_go: ground.drops.get(),
         pairs: map.len(),
         slots: map.capacity(),
     })
 }
 
 // takes these steps, up to the first of which other figures are seen
-fn follow<'a>(map: &mut CountedMap<'a>, rows: &[Row], drops: &'a Cell<u64>) -> Result<(), Fail> {
+fn follow<'a>(map: &mut CountedMap<'a>, rows: &[Row], ground: Ground<'a>) -> Result<(), Fail> {
     for (step, number, held, let_go, pairs, slots) in rows.iter().copied() {
-        let seen = look(map, step, drops)?;
+        let seen = look(map, step, ground)?;
         let wanted = Seen {
             number,
             held,
@@ -182,9 +61,24 @@ fn follow<'a>(map: &mut CountedMap<'a>, rows: &[Row], drops: &'a Cell<u64>) -> R
 }
 
 // has a new map take these steps, and lets it go
-fn follow_whole(alloc: Global, rows: &[Row], drops: &Cell<u64>) -> Result<(), Fail> {
-    let mut map = IntMap::new(alloc)?;
-    follow(&mut map, rows, drops)
+fn follow_whole(ground: Ground<'_>, rows: &[Row]) -> Result<(), Fail> {
+    let mut map = IntMap::new(ground.memory)?;
+    follow(&mut map, rows, ground)
+}
+
+// the same in memory of its own; answers the drops, and the blocks that are then alive
+fn end_of(alloc: Global, rows: &[Row]) -> Result<(u64, u64), Fail> {
+    let memory = Refuser::new(alloc, 0);
+    let drops = Cell::new(0);
+    follow_whole(
+        Ground {
+            alloc,
+            memory: &memory,
+            drops: &drops,
+        },
+        rows,
+    )?;
+    Ok((drops.get(), memory.live_blocks()))
 }
 
 const HANDED_BACK: [Row; 12] = [
@@ -208,9 +102,8 @@ const HANDED_BACK: [Row; 12] = [
 
 #[test]
 fn each_value_is_dropped_once(rt: HostRuntime) -> Result<(), Fail> {
-    let drops = Cell::new(0);
-    follow_whole(rt.alloc(), &HANDED_BACK, &drops)?;
-    assert_eq!(rt; drops.get(), 0x11111111, "the map was let go");
+    let end = end_of(rt.alloc(), &HANDED_BACK)?;
+    assert_eq!(rt; end, (0x11111111, 0), "the map was let go");
     Ok(())
 }
 
@@ -234,8 +127,108 @@ const WRITTEN_OVER: [Row; 9] = [
 fn a_value_is_dropped_where_another_is_written_or_its_pair_goes(
     rt: HostRuntime,
 ) -> Result<(), Fail> {
-    let drops = Cell::new(0);
-    follow_whole(rt.alloc(), &WRITTEN_OVER, &drops)?;
-    assert_eq!(rt; drops.get(), 0x1111111, "the map was let go");
+    let end = end_of(rt.alloc(), &WRITTEN_OVER)?;
+    assert_eq!(rt; end, (0x1111111, 0), "the map was let go");
+    Ok(())
+}
+
+const WRITTEN_BY_A_CLOSURE: [Row; 6] = [
+    (Step::Insert(0, 0), None, 0x000, 0x000, 1, 4),
+    (Step::Insert(4, 1), None, 0x000, 0x000, 2, 4),
+    // Value 2 is written over value 1, and no value 3 is made.
+    (Step::Modify(4, 2), None, 0x010, 0x010, 2, 4),
+    (Step::Modify(8, 3), None, 0x010, 0x010, 2, 4),
+    // Value 4 is written over value 0, and value 6 over value 2.
+    (Step::WriteEach(4), None, 0x111, 0x111, 2, 4),
+    (Step::Modify(0, 5), None, 0x10111, 0x10111, 2, 4),
+];
+
+#[test]
+fn a_value_is_dropped_once_where_a_closure_writes_another(rt: HostRuntime) -> Result<(), Fail> {
+    let end = end_of(rt.alloc(), &WRITTEN_BY_A_CLOSURE)?;
+    assert_eq!(rt; end, (0x1110111, 0), "the map was let go");
+    Ok(())
+}
+
+const ENDED_EARLY: [Row; 13] = [
+    (Step::Insert(0, 0), None, 0x000, 0x000, 1, 4),
+    (Step::Insert(4, 1), None, 0x000, 0x000, 2, 4),
+    (Step::Insert(8, 2), None, 0x000, 0x000, 3, 4),
+    // Values 0 and 1 are handed out, and value 2 stays.
+    (Step::Drain(2), Some(1), 0x001, 0x011, 1, 4),
+    (Step::Drain(0), None, 0x011, 0x011, 1, 4),
+    (Step::Insert(0, 3), None, 0x011, 0x011, 2, 4),
+    (Step::Insert(1, 4), None, 0x011, 0x011, 3, 4),
+    // Value 2 is handed out, and the others go with the iterator.
+    (Step::IntoIter(1), Some(2), 0x11011, 0x11111, 0, 4),
+    (Step::Insert(0, 5), None, 0x11111, 0x11111, 1, 4),
+    (Step::Insert(4, 6), None, 0x11111, 0x11111, 2, 4),
+    (Step::IntoIter(0), None, 0x1111111, 0x1111111, 0, 4),
+    (Step::Insert(0, 7), None, 0x1111111, 0x1111111, 1, 4),
+    // There are fewer pairs than steps.
+    (Step::Drain(9), Some(7), 0x1111111, 0x11111111, 0, 4),
+];
+
+#[test]
+fn a_value_is_dropped_once_where_its_iterator_ends_early(rt: HostRuntime) -> Result<(), Fail> {
+    let end = end_of(rt.alloc(), &ENDED_EARLY)?;
+    assert_eq!(rt; end, (0x11111111, 0), "the map was let go");
+    Ok(())
+}
+
+/// The first three pairs share a slot, and each but the first asks for memory.
+const PAIRS: [(u64, u32); 4] = [(0, 2), (4, 3), (8, 4), (1, 5)];
+
+const REFUSED: [Row; 18] = [
+    (Step::Insert(0, 0), None, 0x0, 0x0, 1, 4),
+    (Step::Insert(4, 1), None, 0x0, 0x0, 2, 4),
+    // No map is made, so the four values go with their iterator.
+    (Step::Arm(1), None, 0x0, 0x0, 2, 4),
+    (Step::FromIter(&PAIRS), None, 0x111100, 0x111100, 2, 4),
+    // Two values are in the map that is made, the third one is refused, and the fourth one is left.
+    (Step::Arm(4), None, 0x111100, 0x111100, 2, 4),
+    (Step::FromIter(&PAIRS), None, 0x222200, 0x222200, 2, 4),
+    // Value 2 takes the place of value 0, value 3 is refused, and value 4 is left.
+    (Step::Arm(1), None, 0x222200, 0x222200, 2, 4),
+    (
+        Step::Extend(&[(0, 2), (8, 3), (1, 4)]),
+        Some(3),
+        0x232201,
+        0x233201,
+        2,
+        4,
+    ),
+    (Step::Insert(8, 6), None, 0x233201, 0x233201, 3, 4),
+    // Memory for slots and bits comes first, so nothing was cloned.
+    (Step::Arm(1), None, 0x233201, 0x233201, 3, 4),
+    (Step::Clone, None, 0x233201, 0x233201, 3, 4),
+    (Step::Arm(2), None, 0x233201, 0x233201, 3, 4),
+    (Step::Clone, None, 0x233201, 0x233201, 3, 4),
+    // One value of the slot was cloned before the block for the others, and its clone has number 9.
+    (Step::Arm(3), None, 0x233201, 0x233201, 3, 4),
+    (Step::Clone, None, 0x1000233201, 0x1000233201, 3, 4),
+    (Step::Arm(0), None, 0x1000233201, 0x1000233201, 3, 4),
+    (
+        Step::Clone,
+        None,
+        0x100012000233201,
+        0x100012000233201,
+        3,
+        4,
+    ),
+    (
+        Step::FromIter(&[(0, 3), (4, 5)]),
+        None,
+        0x100012001233311,
+        0x100012001233311,
+        2,
+        2,
+    ),
+];
+
+#[test]
+fn what_was_built_is_dropped_once_where_memory_is_refused(rt: HostRuntime) -> Result<(), Fail> {
+    let end = end_of(rt.alloc(), &REFUSED)?;
+    assert_eq!(rt; end, (0x100012001334311, 0), "the map was let go");
     Ok(())
 }

@@ -3,6 +3,7 @@
 use intmap::{Cause, IntMap, Refused};
 use refuser::Refuser;
 use std::alloc::{AllocError, Global};
+use std::process::Abort;
 use std::test::Fail;
 
 type Texts<'a> = IntMap<u64, String, &'a Refuser<Global>>;
@@ -114,10 +115,18 @@ fn begun(
 }
 
 // the same of a new map
-fn told(alloc: Global, start: Start, call: Call) -> Result<String, Fail> {
+fn told(alloc: Global, memory: &Refuser<Global>, start: Start, call: Call) -> Result<String, Fail> {
+    let mut map = IntMap::with_capacity(memory, start.slots)?;
+    begun(alloc, memory, &mut map, start, call)
+}
+
+// the same in memory of its own, of which nothing is alive behind it
+fn told_alone(rt: &impl Abort, alloc: Global, start: Start, call: Call) -> Result<String, Fail> {
     let memory = Refuser::new(alloc, 0);
-    let mut map = IntMap::with_capacity(&memory, start.slots)?;
-    begun(alloc, &memory, &mut map, start, call)
+    let told = told(alloc, &memory, start, call)?;
+    let alive = memory.live_blocks();
+    assert_eq!(rt; alive, 0, "blocks are alive behind {call:?} of {start:?}");
+    Ok(told)
 }
 
 /// A map's slots, load factor and keys, a call, and what is to be told of it.
@@ -231,7 +240,7 @@ fn a_refused_text_comes_back_and_none_is_lost(rt: HostRuntime) -> Result<(), Fai
             keys,
         };
         assert_eq!(rt;
-            told(rt.alloc(), start, call)?.as_str(),
+            told_alone(&rt, rt.alloc(), start, call)?.as_str(),
             wanted,
             "{call:?} of {start:?}"
         );
@@ -259,18 +268,19 @@ fn handed_back(alloc: Global, map: &mut Texts<'_>) -> Result<String, Fail> {
 }
 
 // the same of a new map
-fn all_handed_back(alloc: Global) -> Result<String, Fail> {
-    let memory = Refuser::new(alloc, 0);
-    let mut map = IntMap::with_capacity(&memory, 4)?;
+fn all_handed_back(alloc: Global, memory: &Refuser<Global>) -> Result<String, Fail> {
+    let mut map = IntMap::with_capacity(memory, 4)?;
     handed_back(alloc, &mut map)
 }
 
 #[test]
 fn texts_are_bound_and_handed_back(rt: HostRuntime) -> Result<(), Fail> {
+    let memory = Refuser::new(rt.alloc(), 0);
     assert_eq!(rt;
-        all_handed_back(rt.alloc())?.as_str(),
+        all_handed_back(rt.alloc(), &memory)?.as_str(),
         "inserted over Some(\"text 4\"), removed Some(\"text 0\"); text 99, text 8, 4 slots, \
          factor 909, key 0 has None, key 4 has Some(\"text 99\"), key 8 has Some(\"text 8\")"
     );
+    assert_eq!(rt; memory.live_blocks(), 0, "the map was let go");
     Ok(())
 }
