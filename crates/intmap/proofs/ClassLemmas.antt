@@ -25,7 +25,8 @@ module _ {A : Type 0} where
       flat_map-rows g (a + 1) S (λ i below. let q : a + 1 + i ≡ a + suc i = omega arith in rw q (same (suc i) (omega arith))) in
       simp (first, rest)
 
-flat_map-map : {X A : Type 0} (g : X → List A) (xs : List X) → flat_map g xs ≡ flat_map (λ s. s) (map g xs)
+-- what is made of each element, joined, are rows joined
+pub flat_map-map : {X A : Type 0} (g : X → List A) (xs : List X) → flat_map g xs ≡ flat_map (λ s. s) (map g xs)
 flat_map-map g [] = refl
 flat_map-map g (x ∷ xs) = ap (λ rest. g x ++ rest) (flat_map-map g xs)
 
@@ -77,7 +78,8 @@ module _ {X : Type 0} (f : X → ℕ) where
       filter-append (λ x. f x == a + suc i) s (flat_map (λ s. s) S)
       ∙ (simp (class-none (a + suc i) a s apart (AreClasses-first a s S all)) (rw q (class-joined (a + 1) i S (AreClasses-rest a s S all))))
 
-  AreClasses-map : (xs : List X) (n : ℕ) → AreClasses 0 (map (λ i. class i xs) (range_with_len 0 n))
+  -- the classes of a list are rows of one class each
+  pub AreClasses-map : (xs : List X) (n : ℕ) → AreClasses 0 (map (λ i. class i xs) (range_with_len 0 n))
   AreClasses-map xs n i below =
       let below_n : i < n = omega (arith, below, length-map-range_with_len (λ i. class i xs) 0 n) in
       let row : get_or (map (λ i. class i xs) (range_with_len 0 n)) i [] ≡ class i xs = get_or-map-range_with_len (λ i. class i xs) 0 n i i [] below_n (zero-add i) in
@@ -85,6 +87,10 @@ module _ {X : Type 0} (f : X → ℕ) where
       All-weaker (λ x. (f x == i) ≡ true) (λ x. f x ≡ i) (λ x h. eqb-true (f x) i h) (class i xs) (filter_passes (λ x. f x == i) xs) in
       let P : List X → Type 0 = λ r. All (λ x. f x ≡ 0 + i) r in
       subst P (sym row) (rw zero-add all)
+
+  -- the classes of joined rows, joined, are the rows joined
+  pub flat_map-classes : (S : List (List X)) → AreClasses 0 S → flat_map (λ i. class i (flat_map (λ s. s) S)) (range_with_len 0 (length S)) ≡ flat_map (λ s. s) S
+  flat_map-classes S all = flat_map-rows (λ i. class i (flat_map (λ s. s) S)) 0 S (λ i below. class-joined 0 i S all)
 
   -- a class of all classes in order is that class of the list
   pub class-classes : (xs : List X) (n i : ℕ) → i < n → class i (flat_map (λ i. class i xs) (range_with_len 0 n)) ≡ class i xs

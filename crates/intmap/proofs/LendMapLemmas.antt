@@ -39,7 +39,7 @@ use Rattle.intmap.proofs.LendByLemmas.{lend_by}
 use Rattle.intmap.proofs.OpensLemmas.{Opens}
 use Rattle.intmap.proofs.OpensPairLemmas.{V, K}
 use Rattle.intmap.proofs.OpensSlotLemmas.{A}
-use Rattle.intmap.proofs.OpensTableLemmas.{Tr, THr, table_opens, walk_of-refilled}
+use Rattle.intmap.proofs.OpensTableLemmas.{Tr, THr, table_opens}
 use Rattle.intmap.proofs.SameKeysLemmas.{IsConsistent-same_keys}
 use Rattle.intmap.proofs.ValuesLemmas.{kept, values_of-revalued, unkept-refilled, unkept-kept_pairs, keys_of-refilled}
 
@@ -126,9 +126,8 @@ module _ (K' V' A' : RattleType) (g : key.Ghosts K'.Denot) (e : eq.Ghosts K'.Den
         back i ws long =
             let n : Inside.Denot = record m { table = O.put m.table ws } in
             let W = m.table.walk in
-            let own = walk_of-refilled K' V' A' g e a LK LV LA 𝓛 κ ik iv ia i.0.0 i.0.1.1 m.table i.0.1.0 ws in
             let same : view n ≡ revalued_map d ws = (λ j. record (view m) { walk = unkept-refilled W ws j }) ∙ ap (λ (s : State). revalued_map s ws) seen in
-            let is : good n = IsConsistent-same_keys g.number_of g.is_key W (refilled kept W ws) m.table.capacity m.factor m.len m.limit (sym (keys_of-refilled kept W ws)) own ok in
+            let is : good n = IsConsistent-same_keys g.number_of g.is_key W (refilled kept W ws) m.table.capacity m.factor m.len m.limit (sym (keys_of-refilled kept W ws)) ok in
             via 𝓤 _ (table_in m (O.put m.table ws))
             (Plain-in Mr Inside (view_owns Inside State Mr.coded view good) 𝓛 full_share (revalued_map d ws) n
             (view_made Inside State Mr.coded view good 𝓛 (revalued_map d ws) n (same, is)) b o)

@@ -122,6 +122,7 @@ module _ (K' V' A' : RattleType) (g : key.Ghosts K'.Denot) (e : eq.Ghosts K'.Den
       puts-none (p ∷ L) = ap (λ M. p ∷ M) (puts-none L)
 
       puts-is : (L : List P) (ws : List V'.Denot) → puts L ws ≡ refilled kept L ws
+      unfolding refilled
       puts-is [] ws = refl
       puts-is (p ∷ L) [] = ap (λ M. p ∷ M) (puts-none L)
       puts-is (p ∷ L) (w ∷ ws) = ap (λ M. (p.0, kept w) ∷ M) (puts-is L ws)
@@ -162,6 +163,7 @@ module _ (K' V' A' : RattleType) (g : key.Ghosts K'.Denot) (e : eq.Ghosts K'.Den
 
       pairs-put : (f : First P) (L : List P) (ws : List V'.Denot) → length ws ≡ count_first f + row_count 𝓛 (V V') (Pr K' V' g e) (PHr K' V' g e) l PO L
           → held_pairs (put_first f (take (count_first f) (in_turn (is_turned f) ws))) (puts L (drop (count_first f) (in_turn (is_turned f) ws))) ≡ refilled kept (held_pairs f L) ws
+      unfolding refilled
       pairs-put Empty L ws long = puts-is L ws
       pairs-put (Lone p) L [] long = ap (λ M. p ∷ M) (puts-none L)
       pairs-put (Lone p) L (w ∷ ws) long = ap (λ M. (p.0, kept w) ∷ M) (puts-is L ws)

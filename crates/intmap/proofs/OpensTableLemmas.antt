@@ -1,5 +1,5 @@
 -- A table, whose values are lent. Assumes `Logic`.
-use mathlib.Core.Path.{◌≡◌, refl, ap, sym, subst, ◌∙◌}
+use mathlib.Core.Path.{◌≡◌, refl, ap, sym, ◌∙◌}
 use Prim.Native.Nat.{ℕ}
 use native.Mathlib.Omega.{arith}
 use mathlib.Core.List.{List, [], ◌∷◌, ◌++◌}
@@ -34,8 +34,6 @@ use Rattle.intmap.proofs.table.Directory.TheLaws as D-laws
 use Rattle.intmap.proofs.slot.Slot.TheLaws as S-laws
 use Rattle.intmap.proofs.kept.Kept.TheLaws as K-laws
 use Rattle.intmap.specs.Slots.{Held, Grid, rows, joined}
-use Rattle.intmap.specs.Walk.{walk_of}
-use Rattle.intmap.proofs.TableLemmas.{walk_of-joined}
 use Rattle.intmap.specs.Values.{refilled}
 use Rattle.intmap.proofs.SameKeysLemmas.{row_keys, IsMaskedTable-same_keys}
 use Rattle.intmap.proofs.ValuesLemmas.{kept, refilled-append, keys_of-refilled, kept_pairs, kept_slot, kept_pairs-joined, row_keys-kept_slots}
@@ -126,6 +124,7 @@ module _ (K' V' A' : RattleType) (g : key.Ghosts K'.Denot) (e : eq.Ghosts K'.Den
       puts = row_put 𝓛 (V V') (Sr K' V' A' g e a) (SHr K' V' A' g e a) l SO
 
       joined-puts : (S : List H') (ws : List V'.Denot) → joined (rows (puts S ws)) ≡ refilled kept (joined (rows S)) ws
+      unfolding refilled
       joined-puts [] ws = refl
       joined-puts (h ∷ S) ws = ap (λ L. refilled kept h.pairs (take (length h.pairs) ws) ++ L) (joined-puts S (drop (length h.pairs) ws)) ∙ refilled-append kept h.pairs (joined (rows S)) ws
 
@@ -186,11 +185,3 @@ module _ (K' V' A' : RattleType) (g : key.Ghosts K'.Denot) (e : eq.Ghosts K'.Den
           (declared.the_code K'.Denot (Kr V').Denot A'.Denot K'.coded (Kr V').coded A'.coded) (declared.the_code K'.Denot (Hr V').Denot A'.Denot K'.coded (Hr V').coded A'.coded)
           view view' good good' grid_with (λ t. length t.walk) grid_fill (λ t. values_of t.walk)
           (λ t ws long. table-puts t ws) table-goods table-counts table-holeds table-fills table-celleds
-
-      -- the walk of a table is its own with other values too
-      pub walk_of-refilled : (t : Ir.Denot) → good t → (w : Grid K'.Denot (Kept V'.Denot)) → view t ≡ w → (ws : List V'.Denot)
-          → walk_of g.number_of (refilled kept w.walk ws) w.capacity ≡ refilled kept w.walk ws
-      walk_of-refilled t ok w seen ws =
-          let Own : Grid K'.Denot (Kept V'.Denot) → Type 0 = λ u. walk_of g.number_of u.walk u.capacity ≡ u.walk in
-          let put = inside_opens.put t ws in
-          subst Own (table-puts t ws ∙ ap (λ (u : Grid K'.Denot (Kept V'.Denot)). grid_with u ws) seen) (walk_of-joined g.number_of put.slots.items (table-goods t ws ok).marked.table)

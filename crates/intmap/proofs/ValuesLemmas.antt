@@ -15,17 +15,20 @@ use denote.RawPtr.{Ptr}
 module _ {K X V : Type 0} (make : V → X) where
   -- no value changes nothing
   pub refilled-none : (L : List (K × X)) → refilled make L [] ≡ L
+  unfolding refilled
   refilled-none [] = refl
   refilled-none (p ∷ L) = refl
 
   -- of two lists, the first takes its values first
   pub refilled-append : (L M : List (K × X)) (vs : List V) → refilled make L (take (length L) vs) ++ refilled make M (drop (length L) vs) ≡ refilled make (L ++ M) vs
+  unfolding refilled
   refilled-append [] M vs = refl
   refilled-append (p ∷ L) M [] = ap (λ N. p ∷ L ++ N) (refilled-none M)
   refilled-append (p ∷ L) M (v ∷ vs) = ap (λ N. (p.0, make v) ∷ N) (refilled-append L M vs)
 
   -- as many values as pairs, both put before others one after another
   pub refilled-onto : (L M : List (K × X)) (ws vs : List V) → length ws ≡ length L → reverse_aux (refilled make L ws) (refilled make M vs) ≡ refilled make (reverse_aux L M) (reverse_aux ws vs)
+  unfolding refilled
   refilled-onto [] M [] vs long = refl
   refilled-onto [] M (w ∷ ws) vs long = absurd (omega (arith, long))
   refilled-onto (p ∷ L) M [] vs long = absurd (omega (arith, long))
@@ -33,16 +36,19 @@ module _ {K X V : Type 0} (make : V → X) where
 
   -- as many values as pairs, both the last first
   pub refilled-turned : (L : List (K × X)) (vs : List V) → length vs ≡ length L → reverse (refilled make L (reverse vs)) ≡ refilled make (reverse L) vs
+  unfolding refilled
   refilled-turned L vs long = refilled-onto L [] (reverse vs) [] (length-reverse vs ∙ long) ∙ ap (refilled make (reverse L)) (reverse-reverse vs)
 
   -- the keys stay
   pub keys_of-refilled : (L : List (K × X)) (vs : List V) → keys_of (refilled make L vs) ≡ keys_of L
+  unfolding refilled
   keys_of-refilled [] vs = refl
   keys_of-refilled (p ∷ L) [] = refl
   keys_of-refilled (p ∷ L) (v ∷ vs) = ap (λ ks. p.0 ∷ ks) (keys_of-refilled L vs)
 
   -- and so does their number
   pub length-refilled : (L : List (K × X)) (vs : List V) → length (refilled make L vs) ≡ length L
+  unfolding refilled
   length-refilled [] vs = refl
   length-refilled (p ∷ L) [] = refl
   length-refilled (p ∷ L) (v ∷ vs) = ap suc (length-refilled L vs)
@@ -54,6 +60,7 @@ kept v = record { value = v }
 module _ {K V : Type 0} where
   -- as many values as pairs are the values then
   pub values_of-revalued : (L : List (K × V)) (vs : List V) → length vs ≡ length L → values_of (revalued L vs) ≡ vs
+  unfolding refilled
   values_of-revalued [] [] long = refl
   values_of-revalued [] (v ∷ vs) long = absurd (omega (arith, long))
   values_of-revalued (p ∷ L) [] long = absurd (omega (arith, long))
@@ -61,6 +68,7 @@ module _ {K V : Type 0} where
 
   -- stored values that are replaced, as a map shows them
   pub unkept-refilled : (L : List (K × Kept V)) (vs : List V) → unkept (refilled kept L vs) ≡ revalued (unkept L) vs
+  unfolding refilled
   unkept-refilled [] vs = refl
   unkept-refilled (p ∷ L) [] = refl
   unkept-refilled (p ∷ L) (v ∷ vs) = ap (λ M. (p.0, v) ∷ M) (unkept-refilled L vs)

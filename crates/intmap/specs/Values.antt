@@ -3,7 +3,7 @@ use Rattle.std.specs.Prelude.{List, [], ◌∷◌}
 use Rattle.intmap.specs.Map.{MapState}
 
 -- the pairs with what is made of these values in the places of their own, in order and as far as they go
-abbrev pub refilled : {K X V : Type 0} → (V → X) → List (K × X) → List V → List (K × X)
+unfoldable pub refilled : {K X V : Type 0} → (V → X) → List (K × X) → List V → List (K × X)
 refilled make [] vs = []
 refilled make (p ∷ L) [] = p ∷ L
 refilled make (p ∷ L) (v ∷ vs) = (p.0, make v) ∷ refilled make L vs

@@ -5,7 +5,7 @@ ghost use Rattle.std.specs.Map.{keys_of, values_of};
 ghost use Rattle.intmap.specs.Apart.{lent_pairs};
 ghost use Rattle.intmap.specs.Lending.{map_lends_values};
 ghost use Rattle.intmap.specs.Map.{IsMap};
-ghost use Rattle.intmap.specs.Values.{revalued};
+ghost use Rattle.intmap.specs.Values.{revalued, revalued_map};
 
 use crate::iter::{IterMut, ValuesMut};
 use crate::key::IntKey;
@@ -46,6 +46,7 @@ impl<K: IntKey, V, A: Allocator + Copy> IntMap<K, V, A> {
             → keys_of (revalued self.old.walk vs) ≡ keys_of self.old.walk }
         ensures len { (vs : List V) → length (revalued self.old.walk vs) ≡ length self.old.walk }
         ensures map { IsMap K.number_of K.is_key self.old }
+        ensures map_after { (vs : List V) → IsMap K.number_of K.is_key (revalued_map self.old vs) }
     {
         let (table, lent) = self.lend();
         IterMut {
@@ -69,6 +70,7 @@ impl<K: IntKey, V, A: Allocator + Copy> IntMap<K, V, A> {
             → keys_of (revalued self.old.walk vs) ≡ keys_of self.old.walk }
         ensures len { (vs : List V) → length (revalued self.old.walk vs) ≡ length self.old.walk }
         ensures map { IsMap K.number_of K.is_key self.old }
+        ensures map_after { (vs : List V) → IsMap K.number_of K.is_key (revalued_map self.old vs) }
     {
         ValuesMut {
             pairs: self.iter_mut(),
@@ -92,6 +94,7 @@ impl<'a, K: IntKey, V, A: Allocator + Copy> IntoIterator for &'a mut IntMap<K, V
             → keys_of (revalued self.old.walk vs) ≡ keys_of self.old.walk }
         ensures len { (vs : List V) → length (revalued self.old.walk vs) ≡ length self.old.walk }
         ensures map { IsMap K.number_of K.is_key self.old }
+        ensures map_after { (vs : List V) → IsMap K.number_of K.is_key (revalued_map self.old vs) }
     {
         self.iter_mut()
     }

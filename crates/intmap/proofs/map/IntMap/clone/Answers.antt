@@ -17,7 +17,7 @@ pub invariant_of-result : goal.invariant_of-result
 invariant_of-result g c =
     let made = c.in-Ok.ensures in
     rw made.capacity (IsConsistent-same_keys g.K.IntKey.number_of g.K.IntKey.is_key c.self.inside.table.walk c.in-Ok.table.walk _ _ _ _
-    (keys_of-AreClones _ c.self.inside.table.walk c.in-Ok.table.walk made.walk) (rw made.capacity at made.own) c.self.invariant)
+    (keys_of-AreClones _ c.self.inside.table.walk c.in-Ok.table.walk made.walk) c.self.invariant)
 
 pub returns-clause-clone : goal.returns-clause-clone
 returns-clause-clone g c = record { walk = walk g c; state = rw (← c.self.view_is, c.in-Ok.ensures.capacity, c.new.ensures, c.new-2.ensures) refl }

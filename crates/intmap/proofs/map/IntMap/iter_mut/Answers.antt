@@ -1,5 +1,6 @@
-use Rattle.std.proofs.Common.{refl, ap, ◌∙◌}
+use Rattle.std.proofs.Common.{refl, sym, ap, ◌∙◌}
 use Rattle.intmap.specs.Apart.{lent_pairs}
+use Rattle.intmap.proofs.SameKeysLemmas.{IsMapWalk-same_keys}
 use Rattle.intmap.proofs.ValuesLemmas.{keys_of-refilled, length-refilled}
 use Rattle.intmap.proofs.map.IntMap.iter_mut.Goals as goal
 
@@ -14,5 +15,6 @@ returns g c =
         keys = keys_of-refilled (λ v. v) walk;
         len = length-refilled (λ v. v) walk;
         map = holes.2;
+        map_after = λ vs. IsMapWalk-same_keys g.K.IntKey.number_of g.K.IntKey.is_key walk _ _ _ (sym (keys_of-refilled (λ v. v) walk vs)) holes.2;
       },
     )
