@@ -1,5 +1,6 @@
 //! Maps that are compared: the order of the insertions doesn't matter, and the pairs do.
-ghost use Rattle.std.specs.Prelude.{◌≡◌, ◌≢◌, ◌==◌, true, IfOk, length};
+ghost use Rattle.std.specs.Prelude.{◌≡◌, ◌≢◌, ◌==◌, true, IfOk, IsTrue, length};
+ghost use Rattle.intmap.specs.Equality.{maps_equal};
 
 use intmap::{Cause, IntKey, IntMap, laws};
 use std::alloc::Allocator;
@@ -75,10 +76,52 @@ pub fn is_equal_to_itself<K: IntKey, V: Eq, A: Allocator + Copy>(map: &IntMap<K,
     are_one(map, map)
 }
 
+/// Whether the other map is equal to this one. The answer is that of this one about the other.
+pub fn is_equal_to_this<K: IntKey, V: PartialEq, A: Allocator + Copy>(
+    map: &IntMap<K, V, A>,
+    other: &IntMap<K, V, A>,
+) -> bool
+    ensures { result ≡ maps_equal K.number_of V.eq map.now other.now }
+{
+    are_one_turned(map, other)
+}
+
+/// Whether three maps are equal, each to each other, by two comparisons.
+pub fn are_all_equal<K: IntKey, V: PartialEq, A: Allocator + Copy>(
+    first: &IntMap<K, V, A>,
+    second: &IntMap<K, V, A>,
+    third: &IntMap<K, V, A>,
+) -> bool
+    ensures first_second { IsTrue result
+        → IsTrue (maps_equal K.number_of V.eq first.now second.now) }
+    ensures second_third { IsTrue result
+        → IsTrue (maps_equal K.number_of V.eq second.now third.now) }
+    ensures first_third { IsTrue result
+        → IsTrue (maps_equal K.number_of V.eq first.now third.now) }
+{
+    are_three_one(first, second, third)
+}
+
 /// Whether a value is equal to itself.
 fn are_one<T: Eq>(value: &T, same: &T) -> bool
     requires { same.now ≡ value.now }
     ensures { result ≡ true }
 {
     *value == *same
+}
+
+/// Whether the other value is equal to this one.
+fn are_one_turned<T: PartialEq>(value: &T, other: &T) -> bool
+    ensures { result ≡ T.eq value.now other.now }
+{
+    *other == *value
+}
+
+/// Whether the first value is equal to the second, and this to the third.
+fn are_three_one<T: PartialEq>(first: &T, second: &T, third: &T) -> bool
+    ensures first_second { IsTrue result → IsTrue (T.eq first.now second.now) }
+    ensures second_third { IsTrue result → IsTrue (T.eq second.now third.now) }
+    ensures first_third { IsTrue result → IsTrue (T.eq first.now third.now) }
+{
+    *first == *second && *second == *third
 }
