@@ -1,9 +1,14 @@
--- Lemmas for the proofs of callers: what a clause can't say, since it speaks of any fact about pairs.
-use Rattle.std.proofs.Common.{◌≡◌, ℕ, List, sym, subst}
+-- Lemmas for the proofs of callers: what a clause can't say, since it speaks of any fact about pairs, or of any closure.
+use Rattle.std.proofs.Common.{◌≡◌, ℕ, Bool, List, [], ◌∷◌, sym, subst}
 use Rattle.std.specs.Prelude.{All}
+use Rattle.std.specs.Borrow.{Bor, MutBor}
+use Rattle.std.specs.Fn.{Mut, always_mut}
 use Rattle.intmap.specs.Map.{MapState, after_insert, after_remove}
 use Rattle.intmap.specs.Bindings.{take_key, put_pair}
+use Rattle.intmap.specs.Retaining.{KeepsAt, TakesPair}
+use Rattle.intmap.specs.Taking.{TakesEach, TakesEach-from}
 use Rattle.intmap.specs.Walk.{walk_of}
+use Rattle.intmap.specs.Writes.{WritesAt, TakesPairMut}
 use Rattle.intmap.proofs.DistinctLemmas.{All-walk_of, All-take_key, All-put_pair}
 
 module _ {K V : Type 0} (number : K → ℕ) (P : K × V → Type 0) where
@@ -20,3 +25,24 @@ module _ {K V : Type 0} (number : K → ℕ) (P : K × V → Type 0) where
   -- what holds of all pairs of a list holds of all of its walk
   pub all_in_walk : (L : List (K × V)) (C : ℕ) → All P L → All P (walk_of number L C)
   all_in_walk L C all = All-walk_of number P L C all
+
+module _ {F K V : Type 0} where
+  -- a closure that is always callable can be asked about each pair in turn
+  pub keeps_each_callable : (m : Mut F (K × (Bor V × Unit {0})) Bool) (f : F) (L : List (K × V)) → always_mut m f → TakesEach (KeepsAt m) (TakesPair m) f L
+  keeps_each_callable m f L callable =
+      TakesEach-from (KeepsAt m) (TakesPair m) (λ g rest. always_mut m g)
+      (λ g p rest own. (
+        λ value is. (own.at ((p.0, (value, tt)) ∷ [])).0,
+        λ b h call. record { at = λ xs. (own.at ((call.key, (call.value, tt)) ∷ xs)).1 b h call.called },
+      ))
+      f L callable
+
+  -- and can be called at each, with its value to be written
+  pub writes_each_callable : (m : Mut F (K × (MutBor V × Unit {0})) (Unit {0} × (MutBor V × Unit {0}))) (f : F) (L : List (K × V)) → always_mut m f → TakesEach (WritesAt m) (TakesPairMut m) f L
+  writes_each_callable m f L callable =
+      TakesEach-from (WritesAt m) (TakesPairMut m) (λ g rest. always_mut m g)
+      (λ g p rest own. (
+        λ value is. (own.at ((p.0, (value, tt)) ∷ [])).0,
+        λ w h call. record { at = λ xs. (own.at ((call.key, (call.value, tt)) ∷ xs)).1 (tt, (call.left, tt)) h call.called },
+      ))
+      f L callable

@@ -63,3 +63,17 @@ pub fn keep_first<K: IntKey, V: Drop, A: Allocator + Copy>(map: &mut IntMap<K, V
         },
     );
 }
+
+/// Keeps the pairs of which the caller's closure says true, and answers how many went.
+pub fn retain_counted<K: IntKey, V: Drop, A: Allocator + Copy, F: FnMut(K, &V) -> bool>(
+    map: &mut IntMap<K, V, A>,
+    keeps: F,
+) -> usize
+    requires { F.IsAlwaysCallable keeps }
+    ensures count { length map.new.walk + result ≡ length map.old.walk }
+    ensures capacity { map.new.capacity ≡ map.old.capacity }
+{
+    let before = map.len();
+    map.retain(keeps);
+    before - map.len()
+}

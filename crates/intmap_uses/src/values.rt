@@ -1,5 +1,5 @@
 //! All values written in one pass: each by itself, and by a closure that sums along.
-ghost use Rattle.std.specs.Prelude.{◌≡◌, ◌+◌, ◌<◌, ◌^◌, All};
+ghost use Rattle.std.specs.Prelude.{◌≡◌, ◌+◌, ◌<◌, ◌^◌, All, length};
 ghost use Rattle.std.specs.Map.{keys_of};
 ghost use Rattle.intmap_uses.specs.Values.{more_by_keys, one_more, sums_from};
 
@@ -36,4 +36,18 @@ pub fn add_keys<A: Allocator + Copy>(map: &mut IntMap<u64, u64, A>)
     ensures capacity { map.new.capacity ≡ map.old.capacity }
 {
     map.for_each_mut(|key, value| *value += key);
+}
+
+/// Lets the caller's closure write each value, and answers how many it wrote.
+pub fn write_counted<K: IntKey, V, A: Allocator + Copy, F: FnMut(K, &mut V)>(
+    map: &mut IntMap<K, V, A>,
+    write: F,
+) -> usize
+    requires { F.IsAlwaysCallable write }
+    ensures count { result ≡ length map.old.walk }
+    ensures keys { keys_of map.new.walk ≡ keys_of map.old.walk }
+    ensures capacity { map.new.capacity ≡ map.old.capacity }
+{
+    map.for_each_mut(write);
+    map.len()
 }
