@@ -115,13 +115,12 @@ fn said(
 }
 
 // what a new map answers to the commands with the request of this number refused, and what comes back
-fn told(alloc: Global, number: u64) -> Result<String, Fail> {
-    let memory = Refuser::new(alloc, 0);
-    let mut map = IntMap::new(&memory)?;
-    let asked = commands(alloc, &memory)?;
+fn told(alloc: Global, memory: &Refuser<Global>, number: u64) -> Result<String, Fail> {
+    let mut map = IntMap::new(memory)?;
+    let asked = commands(alloc, memory)?;
     memory.arm(number);
     let mut told = String::new(alloc);
-    match run(&memory, &mut map, asked, &Lengths) {
+    match run(memory, &mut map, asked, &Lengths) {
         Ok(answers) => {
             for answer in answers.iter() {
                 writeln!(told, "{}", said(alloc, answer)?)?;
@@ -205,10 +204,13 @@ pairs [(4, \"op\")]
 
 #[test]
 fn texts_come_back_and_a_judge_sees_their_lengths(rt: HostRuntime) -> Result<(), Fail> {
+    let memory = Refuser::new(rt.alloc(), 0);
     let mut all = String::new(rt.alloc());
     for number in [1, 2, 5, 0] {
-        all.push_str(told(rt.alloc(), number)?.as_str())?;
+        memory.arm(0);
+        all.push_str(told(rt.alloc(), &memory, number)?.as_str())?;
     }
     assert_eq!(rt; all.as_str(), TOLD);
+    assert_eq!(rt; memory.live_blocks(), 0, "each map was let go");
     Ok(())
 }
