@@ -12,7 +12,8 @@ mod vectors;
 use refuser::Refuser;
 use std::{env, fs, io};
 
-/// Prints the number of rows of each file, and a line for each row that doesn't hold.
+/// Prints the number of rows of each file, and a line for each row that doesn't hold or where memory
+/// is lost.
 fn main(rt: HostRuntime) -> io::Result<()> {
     let alloc = rt.alloc();
     for file in env::args(&rt)?.skip(1) {
@@ -21,6 +22,10 @@ fn main(rt: HostRuntime) -> io::Result<()> {
         let report = rows::told_of(alloc, &memory, rows.as_str())?;
         println!(rt; "{file}:")?;
         print!(rt; "{report}")?;
+        let alive = memory.live_blocks();
+        if alive > 0 {
+            println!(rt; "DIFFERS: {alive} blocks are alive behind the file")?;
+        }
     }
     Ok(())
 }

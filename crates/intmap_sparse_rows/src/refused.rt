@@ -9,13 +9,13 @@ const MANY: u64 = 100;
 
 /// Makes a call with its first request refused, then with its second one, until none has so great a
 /// number and the call is accepted. Says how often it was refused, and with which answer, or that a
-/// refusal answered otherwise or changed the vector.
+/// refusal answered otherwise, or changed the vector or what is alive of the memory.
 pub fn answer_to_refused(
     alloc: Global,
     vectors: &mut Vectors<'_>,
     call: &str,
 ) -> Result<String, AllocError> {
-    let before = format!(in alloc; "{:?}", vectors.vector)?;
+    let before = held(alloc, vectors)?;
     let mut refusal = String::new(alloc);
     for times in 0..MANY {
         vectors.memory.arm(times.wrapping_add(1));
@@ -28,12 +28,18 @@ pub fn answer_to_refused(
             return format!(in alloc; "{refusal}, and then {answer}");
         }
         refusal = answer;
-        let after = format!(in alloc; "{:?}", vectors.vector)?;
+        let after = held(alloc, vectors)?;
         if after.as_str() != before.as_str() {
             return format!(in alloc; "{refusal}, and the vector changed to {after}");
         }
     }
     format!(in alloc; "{refusal}, again and again")
+}
+
+// the text of the vector that calls are made on, and what is alive
+fn held(alloc: Global, vectors: &Vectors<'_>) -> Result<String, AllocError> {
+    let alive = vectors.alive(alloc)?;
+    format!(in alloc; "{:?}, {alive}", vectors.vector)
 }
 
 // what is said of a call that was accepted at last

@@ -8,9 +8,12 @@ use std::alloc::{AllocError, Global};
 
 /// Goes through the lines of a file of rows, and tells what is to be told of them.
 pub fn told_of(alloc: Global, memory: &Refuser<Global>, rows: &str) -> Result<String, AllocError> {
+    let vectors = Vectors::new(memory)?;
+    let alive = vectors.alive(alloc)?;
     let mut session = Session {
         alloc,
-        vectors: Vectors::new(memory)?,
+        vectors,
+        alive,
         text: String::new(alloc),
         rows: 0,
         differing: 0,
@@ -28,6 +31,8 @@ pub fn told_of(alloc: Global, memory: &Refuser<Global>, rows: &str) -> Result<St
 struct Session<'a> {
     alloc: Global,
     vectors: Vectors<'a>,
+    // what was alive when the vectors in hand were made
+    alive: String,
     text: String,
     rows: u64,
     differing: u64,
@@ -41,10 +46,10 @@ impl<'a> Session<'a> {
             return Ok(());
         }
         if line == "= vectors" {
-            self.vectors = Vectors::new(self.vectors.memory)?;
-            return Ok(());
+            return self.renew();
         }
         if let Some(count) = line.strip_prefix("rows ") {
+            self.renew()?;
             self.is_counted = count.parse::<u64>().ok() == Some(self.rows);
             return Ok(());
         }
@@ -63,8 +68,24 @@ impl<'a> Session<'a> {
         if answer.as_str() == wanted {
             return Ok(());
         }
+        self.differs(line, answer.as_str())
+    }
+
+    // puts new vectors in the place of those in hand, and tells where more is then alive than before
+    fn renew(&mut self) -> Result<(), AllocError> {
+        self.vectors = Vectors::new(self.vectors.memory)?;
+        let alive = self.vectors.alive(self.alloc)?;
+        if alive.as_str() != self.alive.as_str() {
+            self.differs("the end of a group", alive.as_str())?;
+        }
+        self.alive = alive;
+        Ok(())
+    }
+
+    // tells of an answer that is another than the one that is wanted
+    fn differs(&mut self, row: &str, answer: &str) -> Result<(), AllocError> {
         self.differing = self.differing.wrapping_add(1);
-        writeln!(self.text, "DIFFERS: {line}: the answer is {answer}")
+        writeln!(self.text, "DIFFERS: {row}: the answer is {answer}")
     }
 
     // all that is to be told

@@ -36,6 +36,13 @@ impl<'a> Vectors<'a> {
         })
     }
 
+    /// What is alive of the memory, as text.
+    pub fn alive(&self, alloc: Global) -> Result<String, AllocError> {
+        let blocks = self.memory.live_blocks();
+        let bytes = self.memory.live_bytes();
+        format!(in alloc; "{blocks} blocks of {bytes} bytes alive")
+    }
+
     /// Has the two vectors take each other's place.
     pub fn swap(&mut self) {
         mem::swap(&mut self.vector, &mut self.other);
