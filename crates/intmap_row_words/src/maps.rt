@@ -54,6 +54,13 @@ impl<'a> Maps<'a> {
         Ok(Maps { map, other, memory })
     }
 
+    /// What is alive of the memory, as text.
+    pub fn alive(&self, alloc: Global) -> Result<String, AllocError> {
+        let blocks = self.memory.live_blocks();
+        let bytes = self.memory.live_bytes();
+        format!(in alloc; "{blocks} blocks of {bytes} bytes alive")
+    }
+
     /// Has the two maps take each other's place.
     pub fn swap(&mut self) {
         mem::swap(&mut self.map, &mut self.other);

@@ -13,7 +13,7 @@ mod session;
 use refuser::Refuser;
 use std::{env, fs, io};
 
-/// Prints one line a group of rows, and one for each row that doesn't hold.
+/// Prints one line a group of rows, and one for each row that doesn't hold or where memory is lost.
 fn main(rt: HostRuntime) -> io::Result<()> {
     let alloc = rt.alloc();
     for file in env::args(&rt)?.skip(1) {
@@ -22,6 +22,10 @@ fn main(rt: HostRuntime) -> io::Result<()> {
         let report = session::report(alloc, &memory, rows.as_str())?;
         println!(rt; "{file}:")?;
         print!(rt; "{report}")?;
+        let alive = memory.live_blocks();
+        if alive > 0 {
+            println!(rt; "DIFFERS: {alive} blocks are alive behind the file")?;
+        }
     }
     Ok(())
 }

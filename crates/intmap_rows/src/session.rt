@@ -12,10 +12,12 @@ use std::alloc::{AllocError, Global};
 /// Goes through the lines of a file of rows, and tells what is to be told of them.
 pub fn report(alloc: Global, memory: &Refuser<Global>, rows: &str) -> Result<String, AllocError> {
     let maps = Maps::new(memory)?;
+    let alive = maps.alive(alloc)?;
     let mut session = Session {
         alloc,
         maps,
         kinds: Kinds::new(memory),
+        alive,
         block: None,
         report: Report::new(alloc),
     };
@@ -28,6 +30,8 @@ struct Session<'a, 't> {
     alloc: Global,
     maps: Maps<'a>,
     kinds: Kinds<'a>,
+    // what was alive when the group in hand began
+    alive: String,
     block: Option<Block<'t>>,
     report: Report,
 }
@@ -50,6 +54,7 @@ impl<'a, 't> Session<'a, 't> {
             return self.begin(name);
         }
         if let Some(count) = line.strip_prefix("rows ") {
+            self.renew()?;
             return self.report.count_is(count.parse::<u64>().ok());
         }
         self.row_or_block(line)
@@ -57,10 +62,21 @@ impl<'a, 't> Session<'a, 't> {
 
     // begins a group with new maps
     fn begin(&mut self, name: &str) -> Result<(), AllocError> {
+        self.renew()?;
+        self.report.begin(name)
+    }
+
+    // puts new maps in the place of those of the group in hand, and tells where more is then alive than
+    // before the group
+    fn renew(&mut self) -> Result<(), AllocError> {
         let memory = self.maps.memory;
         self.maps = Maps::new(memory)?;
         self.kinds = Kinds::new(memory);
-        self.report.begin(name)
+        let alive = self.maps.alive(self.alloc)?;
+        self.report
+            .compare("the end of a group", self.alive.as_str(), alive.as_str())?;
+        self.alive = alive;
+        Ok(())
     }
 
     // takes a line that is a row, or the head, a part or the end of a block

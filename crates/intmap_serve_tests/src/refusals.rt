@@ -92,17 +92,19 @@ enum Outcome {
     Answered,
 }
 
-// a session with the request of this number refused, and how many requests away that still was
-fn end_refused_at(alloc: Global, session: &str, number: usize) -> (Ended, u64) {
+// a session with the request of this number refused, how many requests away that still was, and how
+// many blocks are alive behind the session
+fn end_refused_at(alloc: Global, session: &str, number: usize) -> (Ended, u64, u64) {
     let memory = Refuser::new(alloc, number as u64);
     let ended = end_of(&memory, session.as_bytes());
-    (ended, memory.left())
+    (ended, memory.left(), memory.live_blocks())
 }
 
 // how a session ends with the request of this number refused
 fn outcome_at(rt: &impl Abort, alloc: Global, session: &str, number: usize) -> Outcome {
     let text = session.as_bytes();
-    let (ended, left) = end_refused_at(alloc, session, number);
+    let (ended, left, alive) = end_refused_at(alloc, session, number);
+    assert!(rt; alive == 0, "request {number}: {alive} blocks are lost");
     if ended.status == 3 {
         expect(rt, number, &ended, (text, 3, b"", b"no memory\n"));
         assert!(rt; left == 0, "request {number} was refused");
