@@ -1,0 +1,60 @@
+//! Prints the three numbers that come most often in a text of one number a line, with their counts.
+//! Of two numbers with equal counts the smaller comes first.
+//!
+//! Run it by `rt run` in this folder; it reads the file `stdin` there.
+#![tactic(auto)]
+
+ghost use Rattle.std.specs.Prelude.{◌≡◌, ◌+◌, ◌-◌, ◌^◌, ◌<◌, ◌==◌, ℕ, Some, IfOk, OnOk, count_by};
+ghost use Rattle.intmap.specs.Bindings.{Updates};
+ghost use Rattle.example_counter.specs.Counts.{count_of};
+
+use anyhow::Result;
+use intmap::{Cause, IntMap};
+use std::alloc::{AllocError, Global};
+use std::cmp::Reverse;
+
+/// Counts one occurrence of the number.
+fn count_one(counts: &mut IntMap<u64, u64>, number: u64) -> Result<(), Cause>
+    requires { count_of counts.old.walk number < 2 ^ 64 - 1 }
+    ensures { OnOk result (Updates (λ key. key) counts.old.walk counts.new.walk number
+        (Some (count_of counts.old.walk number + 1))) }
+{
+    *counts.entry(number).or_insert(0)? += 1;
+    Ok(())
+}
+
+/// Counts the numbers.
+///
+/// Proved: every number has as its count how many elements of the slice are equal to it.
+fn count(alloc: Global, numbers: &[u64]) -> Result<IntMap<u64, u64>, Cause>
+    ensures { IfOk result (λ counts. (number : ℕ)
+        → count_of counts.walk number ≡ count_by (λ element. element == number) numbers.now) }
+{
+    let mut counts = IntMap::new(alloc)?;
+    for number in numbers {
+        count_one(&mut counts, *number)?;
+    }
+    Ok(counts)
+}
+
+/// The numbers with their counts, the greatest count first.
+fn most_frequent(alloc: Global, counts: &IntMap<u64, u64>) -> Result<Vec<(u64, u64)>, AllocError> {
+    let mut pairs = Vec::new(alloc);
+    for (number, count) in counts {
+        pairs.push((*number, *count))?;
+    }
+    pairs.sort_by_key(|(number, count)| (Reverse(*count), *number))?;
+    Ok(pairs)
+}
+
+fn main(rt: HostRuntime) -> Result<()> {
+    let mut numbers = Vec::new(rt.alloc());
+    for line in rt.lines(rt.alloc()) {
+        numbers.push(line?.as_str().trim().parse()?)?;
+    }
+    let counts = count(rt.alloc(), numbers.as_slice()).map_err(|_| AllocError)?;
+    for (number, count) in most_frequent(rt.alloc(), &counts)?.iter().take(3) {
+        println!(rt; "{number}: {count}")?;
+    }
+    Ok(())
+}
