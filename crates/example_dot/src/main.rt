@@ -1,0 +1,65 @@
+//! Prints the dot product of two vectors. Each is a list of lines with a place and its value, and a
+//! blank line stands between the two.
+//!
+//! Run it by `rt run` in this folder; it reads the file `stdin` there.
+#![tactic(auto)]
+
+ghost use Rattle.std.specs.Prelude.{◌≡◌, ℕ, IfOk, IfSome};
+ghost use Rattle.intmap_sparse.specs.Vectors.{value_at};
+ghost use Rattle.example_dot.specs.Lists.{last_value, dot};
+
+use anyhow::{Context, Result};
+use intmap::Cause;
+use intmap_sparse::SparseVec;
+use std::alloc::{AllocError, Global};
+
+/// The vector with the value of each place that the list has last, and 0 at any other place.
+fn vector_of(alloc: Global, list: &[(u64, i64)]) -> Result<SparseVec, Cause>
+    ensures { IfOk result (λ vector. (place : ℕ)
+        → value_at vector.walk place ≡ last_value list.now place) }
+{
+    let mut vector = SparseVec::new(alloc)?;
+    for (place, value) in list {
+        vector.set(*place, *value)?;
+    }
+    Ok(vector)
+}
+
+/// The dot product of the vectors of both lists, or `None` where it is too large on the way.
+///
+/// Proved: it is the sum over all 2^64 places of the products of the values that the lists have
+/// there last.
+fn dot_product(
+    alloc: Global,
+    left: &[(u64, i64)],
+    right: &[(u64, i64)],
+) -> Result<Option<i128>, Cause>
+    ensures { IfOk result (λ product. IfSome product (λ sum. sum ≡ dot left.now right.now)) }
+{
+    let left = vector_of(alloc, left)?;
+    let right = vector_of(alloc, right)?;
+    Ok(left.dot(&right))
+}
+
+fn main(rt: HostRuntime) -> Result<()> {
+    let mut left = Vec::new(rt.alloc());
+    let mut right = Vec::new(rt.alloc());
+    let mut is_left = true;
+    for line in rt.lines(rt.alloc()) {
+        let line = line?;
+        let Some((place, value)) = line.as_str().split_once(' ') else {
+            is_left = false;
+            continue;
+        };
+        let pair = (place.parse()?, value.parse()?);
+        if is_left {
+            left.push(pair)?;
+        } else {
+            right.push(pair)?;
+        }
+    }
+    let product = dot_product(rt.alloc(), left.as_slice(), right.as_slice());
+    let product = product.map_err(|_| AllocError)?.context("too large")?;
+    println!(rt; "{product}")?;
+    Ok(())
+}
