@@ -72,7 +72,7 @@ impl Table {
     /// it, and the scopes around it are as they were. Without an open scope, every definition is
     /// undone.
     ///
-    /// Err: memory was refused while a value was put back.
+    /// Err: an allocation failed while a value was put back.
     pub fn leave(&mut self) -> Result<(), Cause>
         ensures { OnOk result (Returns (outer_of self.old) self.new) }
     {
