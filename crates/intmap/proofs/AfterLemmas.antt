@@ -1,9 +1,10 @@
 -- What calls leave of the bindings and the length of a map.
 use Rattle.std.proofs.Common.{◌≡◌, ℕ, ◌+◌, List, cond, length, Some, None, is_some, ap, ◌∙◌, arith}
-use Rattle.intmap.specs.Classes.{IsCapacity}
+use Rattle.intmap.specs.Classes.{IsCapacity, same_key}
 use Rattle.intmap.specs.Bindings.{value_of, take_key, put_pair, Updates}
 use Rattle.intmap.specs.Walk.{walk_of}
-use Rattle.intmap.specs.Map.{MapState, IsMap, after_insert, after_remove}
+use Rattle.intmap.specs.Map.{MapState, IsMap, after_insert, after_remove, without_key}
+use Rattle.intmap.proofs.PositionLemmas.{swap_out-none, position-from_none}
 use Rattle.intmap.proofs.SlotNumberLemmas.{slot_number-below}
 use Rattle.intmap.proofs.DistinctLemmas.{length-walk_of, length-take_key, length-put_pair}
 use Rattle.intmap.proofs.BindingLemmas.{value_of-walk_of, value_of-take_key, value_of-put_pair, Updates-from}
@@ -52,6 +53,13 @@ module _ {K V : Type 0} (number : K → ℕ) (is_key : K → Type 0) where
 
   pub length-remove : (m n : MapState K V) (k : K) → IsMap number is_key m → n ≡ after_remove number m k → length n.walk + cond (is_some (value_of number m.walk k)) 1 0 ≡ length m.walk
   length-remove m n k is_map state = length-taken m n.walk k is_map (ap (λ s. s.walk) state)
+
+  -- a key that is missing leaves the map where it is taken out
+  pub without_missing : (m : MapState K V) (k : K) → IsMap number is_key m → value_of number m.walk k ≡ None → without_key number m k ≡ m
+  without_missing m k is_map none =
+      let kept : take_key number m.walk m.capacity k ≡ m.walk = swap_out-none (λ p. same_key number k p.0) _ m.walk (position-from_none (same_key number k) m.walk none) in
+      let own : walk_of number (take_key number m.walk m.capacity k) m.capacity ≡ m.walk = ap (λ L. walk_of number L m.capacity) kept ∙ is_map.own in
+      λ i. record m { walk = own i }
 
   -- in other slots each key has its value
   pub value_of-in_slots : (W M : List (K × V)) (D : ℕ) (q : K) → IsCapacity D → M ≡ walk_of number W D → value_of number M q ≡ value_of number W q

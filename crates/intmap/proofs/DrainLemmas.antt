@@ -4,7 +4,7 @@ use Rattle.std.specs.Prelude.{cond, map}
 use Rattle.std.proofs.lemmas.List.Sums.{sum_by-cons}
 use Rattle.intmap.specs.Classes.{same_key}
 use Rattle.intmap.specs.Growth.{IsLimit}
-use Rattle.intmap.specs.Kept.{unkept, IsConsistent}
+use Rattle.intmap.specs.Tables.Kept.{unkept, IsConsistent}
 use Rattle.intmap.specs.Map.{IsMapWalk}
 use Rattle.intmap.specs.Passing.{ArePassed}
 use Rattle.intmap.specs.Walk.{walk_of, slot_of}

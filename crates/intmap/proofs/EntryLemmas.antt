@@ -18,7 +18,7 @@ use Rattle.intmap.proofs.GrowthLemmas.{IsWanted-wanted_capacity}
 use Rattle.intmap.proofs.LocationLemmas.{walk_of-write_value}
 use Rattle.intmap.proofs.MapLemmas.{MapState-same}
 use Rattle.intmap.proofs.PositionLemmas.{swap_out-none, position-from_none}
-use Rattle.intmap.specs.Written.{IsFound-write_value, key_at-written, the_key-same}
+use Rattle.intmap.specs.Laws.Written.{IsFound-write_value, key_at-written, the_key-same}
 
 -- what an accepted call says, where that follows
 pub OnOk-so : {T E : Type 0} (P Q : Type 0) → (P → Q) → (r : Result T E) → OnOk r P → OnOk r Q

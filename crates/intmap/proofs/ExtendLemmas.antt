@@ -6,7 +6,7 @@ use Rattle.std.proofs.lemmas.Bool.{cases_eq, cases_lt, eqb-true, eq-eqb, ne_eqb}
 use Rattle.std.proofs.lemmas.List.{reverse-append}
 use Rattle.intmap.specs.Bindings.{value_of}
 use Rattle.intmap.specs.Classes.{same_key}
-use Rattle.intmap.specs.EqualityLaws.{value_of-same_number}
+use Rattle.intmap.specs.Laws.EqualityLaws.{value_of-same_number}
 use Rattle.intmap.specs.Extending.{IsInserted, AreInserted, new_keys, IsExtended}
 use Rattle.intmap.specs.Map.{MapState}
 use Rattle.intmap.specs.declared.refusal.Cause.{Cause}

@@ -35,7 +35,3 @@ module _ {F K V : Type 0} (R : F → K × V → Bool → F → Type 0) (Own : F 
   -- what stays where each answer is that of a test of key and value, and `Own` holds of the closure throughout
   pub Retains-keep_pairs : (f g : F) (L M : List (K × V)) → Own f → Retains R f L M g → M ≡ keep_pairs keeps L
   Retains-keep_pairs f g L M own r = Retains-filter R Own (λ p. keeps p.0 p.1) each f g L M own r
-
-  -- so a map keeps these pairs, and nothing else of it changes
-  pub state-keep_pairs : (m n : MapState K V) (f : F) → Own f → n ≡ record m { walk = n.walk } → (last : F) × Retains R f m.walk n.walk last → n ≡ record m { walk = keep_pairs keeps m.walk }
-  state-keep_pairs m n f own state r = state ∙ ap (λ W. record m { walk = W }) (Retains-keep_pairs f r.0 m.walk n.walk own r.1)

@@ -61,15 +61,6 @@ same_doubling C c i j some is low high = elim (cases_order i j) [
   ]
 ]
 
-pub IsNear-first : (C n F : ℕ) → IsCapacity C → IsNear C n F C
-IsNear-first C n F cap = record {
-  doubled = (0, omega arith);
-  capacity = cap;
-  least = λ i below.
-      let p : 0 < 2 ^ i = pow_pos i in
-      let m : C * 1 ≤ C * 2 ^ i = mul-le-mul_left C p in absurd (omega (arith, below, m));
-}
-
 pub IsNear-more : (C n F c : ℕ) → IsCapacity C → IsNear C n F c → (F + 1) * c ≤ n * 1000 → c ≢ 2 ^ 63 → IsNear C n F (c * 2)
 IsNear-more C n F c cap near over apart =
     let j : ℕ = near.doubled.0 in
@@ -89,13 +80,6 @@ IsNear-more C n F c cap near over apart =
             rw s (exceeds-from n c F (capacity-positive c near.capacity) over))
       ];
     }
-
-pub IsNear-done : (C n F c : ℕ) → IsNear C n F c → n * 1000 < (F + 1) * c → IsWanted C n F c
-IsNear-done C n F c near under = record {
-  doubled = near.doubled;
-  meets = MeetsLoad-from n c F (capacity-positive c near.capacity) under;
-  least = near.least;
-}
 
 -- where 2^63 isn't enough, more is wanted
 pub IsNear-none : (C n F c : ℕ) → IsCapacity C → n < 2 ^ 64 → IsNear C n F c → (F + 1) * c ≤ n * 1000 → c ≡ 2 ^ 63 → WantsTooMuch C n F
@@ -238,17 +222,6 @@ IsLoaded-larger C D n F some le loaded four =
     let wide : (m * 1000 / C + 1) * C ≤ (m * 1000 / C + 1) * D = mul-le-mul_left (m * 1000 / C + 1) le in
     let q : m * 1000 / D < m * 1000 / C + 1 = div_below (m * 1000) D (m * 1000 / C + 1) (omega (arith, some, le)) (omega (arith, up, wide)) in
     omega (arith, q, meets)
-
--- a present key never grows a table that is loaded
-pub IsNext-present : (C n F : ℕ) → IsCapacity C → IsLoaded C n F → IsNext C n F C
-IsNext-present C n F cap loaded = elim (cases_Bool (is_due n)) [
-  | inl due ↦
-      (let e : n / 4 % 2 ≡ 1 = eqb-true (n / 4 % 2) 1 due in
-      let four : 4 ≤ n = omega (arith, e) in
-      let here : last_due n ≡ n = rw due refl in
-      rw due (IsWanted-same C n F cap (subst (λ m. MeetsLoad C m F) here (loaded four))))
-  | inr not ↦ rw not refl
-]
 
 -- what exceeds the load changes the capacity
 pub IsNext-changes : (C n F D : ℕ) → F < n * 1000 / C → MeetsLoad D n F → D ≢ C

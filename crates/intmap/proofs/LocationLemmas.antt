@@ -10,15 +10,15 @@ use Rattle.std.proofs.lemmas.List.Sums.{sum_by-cons}
 use Rattle.intmap.specs.Classes.{IsCapacity, slot_number, same_key}
 use Rattle.intmap.specs.Bindings.{value_of, IsBound, take_key, put_pair, write_value, HasDistinctKeys}
 use Rattle.intmap.specs.Locations.{IsAt, IsLast}
-use Rattle.intmap.specs.Slots.{Grid, Held, rows, joined, write_at, AreMarked, IsTable, IsMarkedTable}
+use Rattle.intmap.specs.Tables.Slots.{Grid, Held, rows, joined, write_at, AreMarked, IsTable, IsMarkedTable}
 use Rattle.intmap.specs.Walk.{slot_of, walk_of}
-use Rattle.intmap.specs.Written.{slot_of-write_value}
+use Rattle.intmap.specs.Laws.Written.{slot_of-write_value}
 use Rattle.intmap.specs.declared.table.locate.Location.{Location}
-use Rattle.intmap.proofs.FilledLemmas.{marks-kept}
+use Rattle.intmap.proofs.Tables.FilledLemmas.{marks-kept}
 use Rattle.intmap.proofs.BindingLemmas.{value_of-take_key}
 use Rattle.intmap.proofs.MappedLemmas.{flat_map-map, count_by-map, with_values, slot_of-with_values, length-with_values}
 use Rattle.intmap.proofs.PositionLemmas.{position-within, position_or_len-none, first_value-position, position-from_none}
-use Rattle.intmap.proofs.TableLemmas.{IsSlot, slot_of-here, value_of-here, walk_of-joined, joined-set, within, IsTable-set, Belong-here}
+use Rattle.intmap.proofs.Tables.TableLemmas.{IsSlot, slot_of-here, value_of-here, walk_of-joined, joined-set, within, IsTable-set, Belong-here}
 use Rattle.intmap.proofs.SlotNumberLemmas.{slot_number-below}
 use Rattle.intmap.proofs.WalkLemmas.{same_key-slot, slot_of-walk_of, value_of-slot_of}
 

@@ -8,7 +8,7 @@ use Rattle.intmap.specs.Bindings.{HasDistinctKeys, value_of, take_key, put_pair}
 use Rattle.intmap.specs.Walk.{walk_of}
 use Rattle.intmap.specs.Growth.{IsLimit, MeetsLoad, is_due}
 use Rattle.intmap.specs.Map.{MapState, IsMapWalk}
-use Rattle.intmap.specs.Kept.{unkept, IsConsistent}
+use Rattle.intmap.specs.Tables.Kept.{unkept, IsConsistent}
 use Rattle.intmap.specs.declared.kept.Kept.{Kept}
 use Rattle.intmap.proofs.SlotNumberLemmas.{slot_number-below}
 use Rattle.intmap.proofs.LoadFactorLemmas.{IsLoaded, IsLoaded-from, IsLoaded-fewer, IsLoaded-more, capacity-positive}
@@ -78,9 +78,6 @@ one_less o x e = ap (λ (o : Option _). cond (is_some o) 1 0) e
 
 pub none_more : {V : Type 0} (o : Option V) (x : V) → o ≡ Some x → ◌≡◌ {A = ℕ} (cond (is_some o) 0 1) 0
 none_more o x e = ap (λ (o : Option _). cond (is_some o) 0 1) e
-
-pub none_less : {V : Type 0} (o : Option V) → o ≡ None → ◌≡◌ {A = ℕ} (cond (is_some o) 1 0) 0
-none_less o e = ap (λ (o : Option _). cond (is_some o) 1 0) e
 
 pub one_more : {V : Type 0} (o : Option V) → o ≡ None → ◌≡◌ {A = ℕ} (cond (is_some o) 0 1) 1
 one_more o e = ap (λ (o : Option _). cond (is_some o) 0 1) e

@@ -8,7 +8,7 @@ use Rattle.std.proofs.lemmas.Bool.Decides.{nat_tests}
 use Rattle.std.proofs.lemmas.Option.{cond_some}
 use Rattle.intmap.specs.Bindings.{last_passing, without_last, swap_out, first_value}
 use Rattle.intmap.specs.Reach.{through_first}
-use Rattle.intmap.proofs.SwapOutLemmas.{any}
+use Rattle.intmap.proofs.Tables.SwapOutLemmas.{any}
 
 module _ {X : Type 0} (test : X → Bool) where
   -- none of the first i elements passes
@@ -44,18 +44,6 @@ module _ {X : Type 0} (test : X → Bool) where
       let e : position_or_len test xs ≡ i = omega (arith, h.place, a') in
       record { place = simp (e, lt-ltb i (length xs) below); reached = omega (arith, h.reached, b') }
 
-  -- none passes
-  pub record IsMissed (xs : List X) : Type 0 where
-    pub place : position test xs ≡ None
-    pub reached : length (through_first test xs) ≡ length xs
-
-  pub IsMissed-all : (xs : List X) (i : ℕ) → length xs ≤ i → i ≤ length xs → IsPassed xs i → IsMissed xs
-  IsMissed-all xs i past within h =
-      let a : position_or_len test (drop i xs) ≡ 0 = at_drop_all (position_or_len test) xs i past in
-      let b : length (through_first test (drop i xs)) ≡ 0 = at_drop_all (λ l. length (through_first test l)) xs i past in
-      let e : position_or_len test xs ≡ length xs = omega (arith, h.place, a) in
-      record { place = simp (e, le-ltb (length xs) (length xs) (omega arith)); reached = omega (arith, h.reached, b) }
-
   position_or_len-le : (xs : List X) → position_or_len test xs ≤ length xs
   position_or_len-le [] = omega arith
   position_or_len-le (x ∷ xs) = let h = position_or_len-le xs in grind (arith, h)
@@ -75,7 +63,7 @@ module _ {X : Type 0} (test : X → Bool) where
   length-through_first-cons x xs fails = rw fails (omega arith)
 
 module _ {X : Type 0} where
-  swap_remove-cons : (z : X) (zs : List X) (i : ℕ) (x : X) → swap_remove (z ∷ zs) i x ≡ take (length zs) (set (z ∷ zs) i (get_or (z ∷ zs) (length zs) x))
+  pub swap_remove-cons : (z : X) (zs : List X) (i : ℕ) (x : X) → swap_remove (z ∷ zs) i x ≡ take (length zs) (set (z ∷ zs) i (get_or (z ∷ zs) (length zs) x))
   swap_remove-cons z zs i x =
       let e : suc (length zs) - 1 ≡ length zs = omega arith in
       ap (λ n. take n (set (z ∷ zs) i (get_or (z ∷ zs) n x))) e

@@ -12,7 +12,7 @@ use Rattle.std.specs.Borrow.{Bor}
 use Rattle.intmap.specs.Bindings.{HasDistinctKeys, value_of}
 use Rattle.intmap.specs.Classes.{same_key}
 use Rattle.intmap.specs.Growth.{IsLimit}
-use Rattle.intmap.specs.Kept.{unkept, KeepsStored, TakesStored, IsConsistent}
+use Rattle.intmap.specs.Tables.Kept.{unkept, KeepsStored, TakesStored, IsConsistent}
 use Rattle.intmap.specs.Map.{IsMapWalk}
 use Rattle.intmap.specs.Retaining.{KeepsAt, Retains, TakesPair}
 use Rattle.intmap.specs.Taking.{Passes, TakesEach}

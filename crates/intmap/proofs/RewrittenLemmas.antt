@@ -5,7 +5,7 @@ use Rattle.std.specs.List.{list_any}
 use Rattle.intmap.specs.Classes.{slot_number, same_key}
 use Rattle.intmap.specs.Bindings.{write_value, strike_keys}
 use Rattle.intmap.specs.Walk.{walk_of}
-use Rattle.intmap.specs.Written.{slot_of-write_value}
+use Rattle.intmap.specs.Laws.Written.{slot_of-write_value}
 use Rattle.intmap.proofs.WalkLemmas.{SameSlots-from_walk_of, walk_of-same}
 
 module _ {X : Type 0} (keep test : X → Bool) where

@@ -9,7 +9,7 @@ use Rattle.intmap.specs.Bindings.{swap_out, first_value, value_of, take_key, put
 use Rattle.intmap.specs.Walk.{slot_of, walk_of}
 use Rattle.intmap.specs.Reach.{through_first, class_size, reach}
 use Rattle.intmap.proofs.SlotNumberLemmas.{agrees-slot_number, slot_number-below}
-use Rattle.intmap.proofs.SwapOutLemmas.{any, filter-swap_out, filter-swap_out-other}
+use Rattle.intmap.proofs.Tables.SwapOutLemmas.{any, filter-swap_out, filter-swap_out-other}
 use Rattle.intmap.proofs.ClassLemmas.{class, class-classes, flat_map-same}
 
 -- a filter that keeps what the test passes sees the list through the first such element

@@ -7,7 +7,7 @@ use Rattle.std.proofs.lemmas.List.Elements.{All-cons, All-head, All-tail}
 use Rattle.std.proofs.lemmas.List.Sums.{sum_by-cons}
 use Rattle.intmap.specs.Classes.{same_key}
 use Rattle.intmap.specs.Bindings.{first_value, value_of, IsBound, write_value, HasDistinctKeys, Updates}
-use Rattle.intmap.specs.Kept.{unkept, IsConsistent}
+use Rattle.intmap.specs.Tables.Kept.{unkept, IsConsistent}
 use Rattle.intmap.specs.Map.{IsMapWalk}
 use Rattle.intmap.specs.declared.kept.Kept.{Kept}
 use Rattle.intmap.proofs.BindingLemmas.{Updates-from}

@@ -11,7 +11,7 @@ use Rattle.std.proofs.lemmas.Map.Entries.{length-keys_of}
 use Rattle.intmap.specs.Bindings.{value_of}
 use Rattle.intmap.specs.Classes.{same_key}
 use Rattle.intmap.specs.Growth.{IsLimit}
-use Rattle.intmap.specs.Kept.{unkept, WritesStored, TakesStoredMut, IsConsistent}
+use Rattle.intmap.specs.Tables.Kept.{unkept, WritesStored, TakesStoredMut, IsConsistent}
 use Rattle.intmap.specs.Map.{IsMapWalk}
 use Rattle.intmap.specs.Taking.{Passes, TakesEach}
 use Rattle.intmap.specs.Walk.{walk_of}

@@ -4,7 +4,7 @@ use Rattle.std.specs.Borrow.{GName}
 use Rattle.std.specs.Iterator.{YieldsFirst}
 use Rattle.std.specs.declared.cmp.PartialEq as eq
 use Rattle.intmap.specs.declared.key.IntKey as key
-use Rattle.intmap.specs.declared.iter.drain.Drain.{Drain}
+use Rattle.intmap.specs.declared.map.iter.drain.Drain.{Drain}
 use Rattle.intmap.specs.Map.{MapState}
 use Rattle.intmap.specs.Passing.{with_walk}
 

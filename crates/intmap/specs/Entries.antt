@@ -14,7 +14,7 @@ use Rattle.intmap.specs.Bindings.{value_of}
 use Rattle.intmap.specs.Growth.{next_capacity}
 use Rattle.intmap.specs.Map.{MapState, with_pair, written}
 use Rattle.intmap.specs.States.{State}
-use Rattle.intmap.specs.Written.{IsFound-write_value}
+use Rattle.intmap.specs.Laws.Written.{IsFound-write_value}
 use Rattle.intmap.specs.Locations.{key_at, the_key}
 use Rattle.intmap.specs.Walk.{slot_of}
 

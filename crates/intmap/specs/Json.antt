@@ -12,8 +12,8 @@ use Rattle.intmap.specs.Bindings.{value_of}
 use Rattle.intmap.specs.Extending.{IsExtended}
 use Rattle.intmap.specs.Growth.{IsLeastPower}
 use Rattle.intmap.specs.Map.{MapState, IsOutOfRange, empty_map}
-use Rattle.intmap.specs.declared.json_object.JsonCause.{JsonCause}
-use Rattle.intmap.specs.declared.json_object.JsonCause.TheVariants as causes
+use Rattle.intmap.specs.declared.map.json.JsonCause.{JsonCause}
+use Rattle.intmap.specs.declared.map.json.JsonCause.TheVariants as causes
 use Rattle.intmap.specs.declared.refusal.Cause.{Cause}
 use Rattle.intmap.specs.declared.refusal.Cause.TheVariants.{Memory, TooLarge}
 

@@ -1,5 +1,5 @@
 -- How pairs are taken out from the front of the walk.
-use Rattle.std.specs.Prelude.{◌≡◌, ℕ, ◌<◌, List, [], ◌++◌, Option, MatchOption}
+use Rattle.std.specs.Prelude.{◌≡◌, ℕ, ◌<◌, List, []}
 use Rattle.intmap.specs.Map.{MapState}
 use Rattle.intmap.specs.Walk.{slot_of}
 
@@ -10,7 +10,3 @@ ArePassed number W C n = (i : ℕ) → i < n → slot_of number W C i ≡ []
 -- the map with this walk
 abbrev pub with_walk : {K V : Type 0} → MapState K V → List (K × V) → MapState K V
 with_walk m W = record m { walk = W }
-
--- the first ones were taken out of W, or none where none was left
-abbrev pub TakesFrom : {P : Type 0} → List P → Option (List P) → List P → Type 0
-TakesFrom W r rest = MatchOption r ((W ≡ []) × (rest ≡ [])) (λ ps. W ≡ ps ++ rest)

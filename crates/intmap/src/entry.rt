@@ -1,14 +1,18 @@
 //! Entries: a map with a key that was looked up once, to read, write, remove or insert its pair.
-ghost use Rattle.std.specs.Prelude.{◌≡◌, None};
-ghost use Rattle.intmap.specs.Bindings.{value_of};
+ghost use Rattle.std.specs.Prelude.{◌≡◌, None, ◌+◌, cond, length, is_some, IsSome, Some, IfOk, IfErr, OnOk, unwrap_or, MatchOption};
+ghost use Rattle.intmap.specs.Bindings.{value_of, Updates};
 ghost use Rattle.intmap.specs.Locations.{IsFound};
+ghost use Rattle.std.specs.Borrow.{sem, MutBor};
+ghost use Rattle.std.specs.Map.Calls.{ModifiesValue};
+ghost use Rattle.intmap.specs.Map.{IsMap, IsOutOfRange, IsCapacityAfter, after_search};
+ghost use Rattle.intmap.specs.States.{MayRefuse};
 
-mod either;
 mod occupied;
 mod vacant;
 
 use crate::key::IntKey;
 use crate::map::IntMap;
+use crate::refusal::Refused;
 use std::alloc::{Allocator, Global};
 
 /// A map with a key that was looked up in it, made by [`IntMap::entry`].
@@ -45,5 +49,137 @@ impl<K: IntKey, V, A: Allocator + Copy> Drop for VacantEntry<'_, K, V, A> {
         ensures { self.exit.0.now ≡ entry_map (Vacant self.entry) }
     {
         let VacantEntry { map: _, key: _ } = self;
+    }
+}
+
+impl<K: IntKey, V, A: Allocator + Copy> IntMap<K, V, A> {
+    ghost use Rattle.intmap.specs.Entries.{entry_reference, entry_map, entry_key, MatchEntry};
+
+    /// An entry of the key: [`Occupied`](Entry::Occupied) if the key is present, and otherwise
+    /// [`Vacant`](Entry::Vacant). The key is looked up as by [`get_counted`](IntMap::get_counted),
+    /// and no call of the entry compares a key again. It never fails.
+    ///
+    /// The entry borrows the map. Dropping it without another call leaves the map as it was, but
+    /// for the count of compared keys. A caller's proof knows this of an entry that is taken apart
+    /// by a `match`, and of any that is ended by [`OccupiedEntry::leave`] or [`Entry::into_map`].
+    ///
+    /// ```text
+    /// match map.entry(21) {
+    ///     Entry::Occupied(entry) => *entry.into_mut() += 1,
+    ///     Entry::Vacant(entry) => *entry.insert(0)? += 1,
+    /// }
+    /// ```
+    pub fn entry(&mut self, key: K) -> Entry<'_, K, V, A>
+        ensures same_reference { (entry_reference result).ghost_name ≡ self.entry.ghost_name }
+        ensures state { entry_map result ≡ after_search K.number_of self.old key }
+        ensures key { entry_key result ≡ key }
+        ensures occupied { MatchEntry result (IsSome (value_of K.number_of self.old.walk key))
+            (value_of K.number_of self.old.walk key ≡ None) }
+        ensures map { IsMap K.number_of K.is_key self.old }
+        ensures map_after { IsMap K.number_of K.is_key (entry_map result) }
+    {
+        match self.locate(key) {
+            Some(at) => Entry::Occupied(OccupiedEntry {
+                map: self,
+                slot: at.slot,
+                place: at.place,
+            }),
+            None => Entry::Vacant(VacantEntry { map: self, key }),
+        }
+    }
+}
+
+impl<'a, K: IntKey, V, A: Allocator + Copy> Entry<'a, K, V, A> {
+    ghost use Rattle.intmap.specs.Entries.{entry_reference, entry_map, entry_key, entry_value, entry_state, map_with_value, entry_lends_ok};
+
+    /// The key that was looked up.
+    pub fn key(&self) -> &K
+        ensures value { result.now ≡ entry_key self.now }
+    {
+        match self {
+            Entry::Occupied(entry) => entry.key(),
+            Entry::Vacant(entry) => entry.key(),
+        }
+    }
+
+    /// A mutable reference to the value of the key. If the key is absent, `value` is inserted
+    /// first. This fails as [`VacantEntry::insert`] does, and then returns `value`. If the key is
+    /// present, `value` is dropped, and the call never fails.
+    ///
+    /// ```text
+    /// *map.entry(word).or_insert(0)? += 1
+    /// ```
+    pub fn or_insert(self, value: V) -> Result<&'a mut V, Refused<V>>
+    where
+        V: Drop,
+        // what is answered and left
+        ensures* writes_back { sem 𝓛 (entry_lends_ok K.row V.row A.row A.Allocator
+            self.entry result) }
+        ensures value { IfOk result (λ r. r.now ≡ unwrap_or (entry_value self.entry) value) }
+        ensures capacity { OnOk result ((v : V) → IsCapacityAfter K.number_of
+            (entry_state self.entry).pairs (entry_state self.entry).capacity
+            (entry_state self.entry).factor (entry_key self.entry)
+            (map_with_value self.entry v).capacity) }
+        ensures updates { OnOk result ((v : V) → Updates K.number_of (entry_map self.entry).walk
+            (map_with_value self.entry v).walk (entry_key self.entry) (Some v)) }
+        ensures len { OnOk result ((v : V) → length (map_with_value self.entry v).walk
+            ≡ length (entry_map self.entry).walk + cond (is_some (entry_value self.entry)) 0 1) }
+        ensures map_after { OnOk result ((v : V)
+            → IsMap K.number_of K.is_key (map_with_value self.entry v)) }
+
+        // what a refusal hands back
+        ensures value_returned { IfErr result (λ refused. refused.value ≡ value) }
+
+        // when it is refused
+        ensures in_range { OnOk result (IsOutOfRange K.number_of (entry_map self.entry).walk
+            (entry_map self.entry).capacity (entry_map self.entry).factor (entry_key self.entry)
+            → ⊥) }
+        ensures refused { IfErr result (λ refused. MayRefuse K.number_of (entry_state self.entry)
+            (entry_key self.entry) refused.cause) }
+    {
+        match self {
+            Entry::Occupied(entry) => Ok(entry.into_mut()),
+            Entry::Vacant(entry) => entry.insert(value),
+        }
+    }
+
+    /// If the key is present, calls the closure with a mutable reference to its value. Returns the
+    /// entry. The closure must be callable at that value.
+    ///
+    /// ```text
+    /// map.entry(word).and_modify(|count| *count += 1).or_insert(1)?
+    /// ```
+    pub fn and_modify<F: FnOnce(&mut V)>(self, f: F) -> Entry<'a, K, V, A>
+        requires { (p : MutBor V) → entry_value self ≡ Some p.now → F.pre f p }
+        ensures same_reference { (entry_reference result).ghost_name
+            ≡ (entry_reference self.entry).ghost_name }
+        ensures key { entry_key result ≡ entry_key self.entry }
+        ensures value { ModifiesValue F.FnOnce f (entry_value self.entry) (entry_value result) }
+        ensures state { MatchOption (entry_value result) (entry_map result ≡ entry_map self.entry)
+            (λ v. entry_map result ≡ map_with_value self.entry v) }
+    {
+        match self {
+            Entry::Occupied(mut entry) => {
+                f(entry.get_mut());
+                Entry::Occupied(entry)
+            }
+            Entry::Vacant(entry) => Entry::Vacant(entry),
+        }
+    }
+
+    /// The map, as the calls on the entry left it, for as long as the map was borrowed. It inserts
+    /// no pair, removes none and compares no key.
+    ///
+    /// ```text
+    /// map.entry(word).and_modify(|count| *count += 1).into_map();
+    /// ```
+    pub fn into_map(self) -> &'a mut IntMap<K, V, A>
+        ensures same_reference { result.ghost_name ≡ (entry_reference self.entry).ghost_name }
+        ensures state { result.now ≡ entry_map self.entry }
+    {
+        match self {
+            Entry::Occupied(entry) => entry.into_map(),
+            Entry::Vacant(entry) => entry.into_map(),
+        }
     }
 }

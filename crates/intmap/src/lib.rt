@@ -2,21 +2,20 @@
 //! there is no random seed.
 #![tactic(auto)]
 
+mod bits;
 pub mod entry;
-pub mod iter;
-mod json_object;
 mod kept;
 mod key;
 pub mod laws;
-mod lent;
 mod load;
 mod map;
 mod refusal;
 mod slot;
 pub mod steps;
+mod stored;
 mod table;
 
-pub use json_object::JsonCause;
 pub use key::IntKey;
-pub use map::IntMap;
+pub use map::json::JsonCause;
+pub use map::{IntMap, iter};
 pub use refusal::{Cause, Refused, RefusedPair};

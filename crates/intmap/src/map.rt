@@ -1,28 +1,18 @@
 //! The map: a table of slots, the number of its pairs and its load factor.
 ghost use Rattle.std.specs.Prelude.{◌≡◌, ◌==◌, length};
-ghost use Rattle.std.specs.Map.{keys_of, values_of};
 ghost use Rattle.intmap.specs.Map.{IsMap};
 
 mod build;
-mod clear;
-mod clone;
-mod debug;
-mod drain;
-mod each;
-mod equal;
-mod extend;
 mod figures;
-mod from_json;
 mod get;
 mod grow;
 mod insert;
-mod lend;
+pub mod iter;
+pub(crate) mod json;
 mod locate;
 mod remove;
-mod retain;
-mod to_json;
+mod traits;
 
-use crate::iter::{IntoIter, Iter, Keys, Values};
 use crate::kept::Kept;
 use crate::key::IntKey;
 use crate::steps::Steps;
@@ -53,7 +43,7 @@ pub struct IntMap<K: IntKey, V, A: Allocator + Copy = Global> {
 
 impl<K: IntKey, V, A: Allocator + Copy> Model for IntMap<K, V, A> {
     ghost use Rattle.intmap.specs.Map.{MapState};
-    ghost use Rattle.intmap.specs.Kept.{unkept, IsConsistent};
+    ghost use Rattle.intmap.specs.Tables.Kept.{unkept, IsConsistent};
 
     ghost Value = { MapState K V };
 
@@ -94,65 +84,11 @@ impl<K: IntKey, V, A: Allocator + Copy> IntMap<K, V, A> {
         self.table.capacity()
     }
 
-    /// An iterator over the pairs by reference, in iteration order. Neither this call nor a step of
-    /// the iterator fails.
-    ///
-    /// ```text
-    /// after insert(0, 10), insert(1, 11) and insert(4, 14) into 4 slots:
-    /// for (key, value) in map.iter()    0 and 10, then 4 and 14, then 1 and 11
-    /// ```
-    pub fn iter(&self) -> Iter<'_, K, V, A>
-        ensures walk { result ≡ self.now.walk }
+    /// Does nothing. Its contract says what holds of every map.
+    #[inline(always)]
+    pub(crate) fn known(&self)
         ensures map { IsMap K.number_of K.is_key self.now }
     {
-        Iter {
-            pairs: self.table.pairs(),
-        }
-    }
-
-    /// An iterator over the keys by reference, in iteration order. Neither this call nor a step of
-    /// the iterator fails.
-    pub fn keys(&self) -> Keys<'_, K, V, A>
-        ensures walk { result ≡ keys_of self.now.walk }
-        ensures map { IsMap K.number_of K.is_key self.now }
-    {
-        Keys { pairs: self.iter() }
-    }
-
-    /// An iterator over the values by reference, in iteration order. Neither this call nor a step
-    /// of the iterator fails.
-    pub fn values(&self) -> Values<'_, K, V, A>
-        ensures walk { result ≡ values_of self.now.walk }
-        ensures map { IsMap K.number_of K.is_key self.now }
-    {
-        Values { pairs: self.iter() }
-    }
-}
-
-impl<'a, K: IntKey, V, A: Allocator + Copy> IntoIterator for &'a IntMap<K, V, A> {
-    type Item = (&'a K, &'a V);
-
-    type IntoIter = Iter<'a, K, V, A>;
-
-    ghost into_iter_gives = { λ map it. it ≡ map.now.walk };
-
-    fn into_iter(self) -> Iter<'a, K, V, A> {
-        self.iter()
-    }
-}
-
-impl<K: IntKey, V: Drop, A: Allocator + Copy> IntoIterator for IntMap<K, V, A> {
-    type Item = (K, V);
-
-    type IntoIter = IntoIter<K, V, A>;
-
-    ghost into_iter_gives = { λ map it. it ≡ map.walk };
-
-    /// An iterator over the pairs by value, in iteration order. Neither this call nor a step of the
-    /// iterator fails. Dropping the iterator drops the pairs that are left.
-    fn into_iter(self) -> IntoIter<K, V, A> {
-        IntoIter {
-            pairs: self.table.into_pairs(),
-        }
+        let _ = &self.table;
     }
 }

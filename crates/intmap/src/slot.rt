@@ -1,47 +1,53 @@
-//! One slot of a table: the first pair in its place, the rest behind it.
-ghost use Rattle.std.specs.Prelude.{◌≡◌, ◌+◌, ◌^◌, ◌<◌, [], ◌∷◌, length, reverse, position, slice_index_or, nat_lt, cond, IfOk, IfErr, IfSome, IfNone, option_copied};
+//! One slot of a table: the first pair in its place, the others behind it.
+ghost use Rattle.std.specs.Prelude.{◌≡◌, ◌+◌, ◌^◌, ◌<◌, [], ◌∷◌, length, position, slice_index_or, nat_lt, IfOk, IfErr, IfSome, IfNone, option_copied, ◌≤◌, vec_capacity};
 ghost use Rattle.intmap.specs.Classes.{same_key};
-ghost use Rattle.intmap.specs.Bindings.{value_of};
 ghost use Rattle.intmap.specs.Reach.{through_first};
-ghost use Rattle.intmap.specs.Slots.{all_pairs, IsFilledInOrder};
+ghost use Rattle.intmap.specs.Tables.Slots.{all_pairs, HasFirst};
+ghost use Rattle.std.specs.List.{AllZip};
+ghost use Rattle.intmap.specs.Cloning.{IsPairClone};
 
-mod clone;
-mod each;
-mod first;
-mod in_order;
-mod put;
-mod search;
-mod take;
+mod change;
 
 use crate::key::IntKey;
 use crate::steps::Steps;
-use crate::table::stored::Stored;
-use first::{First, set_in_order};
-use search::{find_back_in, find_behind, find_in};
-use std::alloc::Allocator;
+use crate::stored::Stored;
+use std::alloc::{AllocError, Allocator};
 use std::marker::Model;
 
-/// Pairs in order, with the room that there is for them. A single pair needs no allocation. When
-/// pairs are removed from the front, each in one step, those behind the first one lie in reverse
-/// order. Every other call that changes the slot puts them in order first.
+/// Pairs in order, with the room that there is for them. A single pair needs no allocation.
 #[derive(Drop)]
 pub(crate) struct Slot<K: IntKey, X, A: Allocator> {
-    first: First<(Stored<K>, X)>,
+    first: Option<(Stored<K>, X)>,
     rest: Vec<(Stored<K>, X), A>,
 }
 
 impl<K: IntKey, X, A: Allocator> Model for Slot<K, X, A> {
     ghost use Rattle.std.specs.Prelude.{◌+◌, vec_capacity};
-    ghost use Rattle.intmap.specs.Slots.{Held, held_pairs, AreOthers};
+    ghost use Rattle.intmap.specs.Tables.Slots.{Held, all_pairs, HasFirst};
 
     ghost Value = { Held K X };
 
     ghost view = { λ s. record {
-      pairs = held_pairs s.first s.rest.items;
+      pairs = all_pairs s.first s.rest.items;
       room = 1 + vec_capacity s.rest;
     } };
 
-    ghost invariant = { λ s. AreOthers s.first s.rest.items };
+    ghost invariant = { λ s. HasFirst s.first s.rest.items };
+}
+
+/// The place of the key's pair. The pairs are compared from the front, each by one step.
+#[inline(always)]
+fn find_in<K: IntKey, X>(pairs: &[(Stored<K>, X)], key: &K, steps: &mut Steps) -> Option<usize>
+    ensures place { result ≡ position (λ p. same_key K.number_of key.now p.0) pairs.now }
+    ensures counted { steps.new ≡ steps.old
+        + length (through_first (λ p. same_key K.number_of key.now p.0) pairs.now) }
+{
+    for (i, pair) in pairs.iter().enumerate() {
+        if pair.0.matches(key, steps) {
+            return Some(i);
+        }
+    }
+    None
 }
 
 impl<K: IntKey, X, A: Allocator> Slot<K, X, A> {
@@ -54,7 +60,7 @@ impl<K: IntKey, X, A: Allocator> Slot<K, X, A> {
         ensures room { 0 < result.room }
     {
         Slot {
-            first: First::Empty,
+            first: None,
             rest: Vec::new(alloc),
         }
     }
@@ -63,52 +69,34 @@ impl<K: IntKey, X, A: Allocator> Slot<K, X, A> {
     pub(crate) fn is_filled(&self) -> bool
         ensures { result ≡ nat_lt 0 (length self.now.pairs) }
     {
-        match self.first {
-            First::Empty => false,
-            _ => true,
-        }
+        self.first.is_some()
     }
 
-    /// The value of the key. The keys are compared from the front up to it, each by one step.
-    pub(crate) fn get(&self, key: &K, steps: &mut Steps) -> Option<&X>
-        ensures value { option_copied result ≡ value_of K.number_of self.now.pairs key.now }
-        ensures counted { steps.new ≡ steps.old
-            + length (through_first (λ p. same_key K.number_of key.now p.0) self.now.pairs) }
+    /// The number of pairs.
+    pub(crate) fn len(&self) -> usize
+        requires { length self.now.pairs < 2 ^ 64 }
+        ensures { result ≡ length self.now.pairs }
     {
-        let Some(first) = self.first.pair() else {
-            return None;
-        };
-        if first.0.matches(key, steps) {
-            return Some(&first.1);
+        match self.first {
+            None => 0,
+            Some(_) => 1 + self.rest.len(),
         }
-        if let First::InOrder(_) = self.first {
-            let Some(place) = find_in(&self.rest, key, steps) else {
-                return None;
-            };
-            return Some(&self.rest[place].1);
-        }
-        if let First::Turned(_) = self.first {
-            let Some(place) = find_back_in(&self.rest, *key, steps) else {
-                return None;
-            };
-            return Some(&self.rest[self.rest.len() - 1 - place].1);
-        }
-        None
     }
 
-    /// The place of the key's pair. The keys are compared as by [`get`](Slot::get).
+    /// The place of the key's pair. The keys are compared from the front up to it, each by one step.
+    #[inline(always)]
     pub(crate) fn find(&self, key: &K, steps: &mut Steps) -> Option<usize>
         ensures place { result ≡ position (λ p. same_key K.number_of key.now p.0) self.now.pairs }
         ensures counted { steps.new ≡ steps.old
             + length (through_first (λ p. same_key K.number_of key.now p.0) self.now.pairs) }
     {
-        let Some(first) = self.first.pair() else {
+        let Some(first) = &self.first else {
             return None;
         };
         if first.0.matches(key, steps) {
             return Some(0);
         }
-        let Some(place) = find_behind(&self.rest, self.first.is_turned(), key, steps) else {
+        let Some(place) = find_in(&self.rest, key, steps) else {
             return None;
         };
         Some(place + 1)
@@ -122,21 +110,26 @@ impl<K: IntKey, X, A: Allocator> Slot<K, X, A> {
         self.rest.len()
     }
 
+    /// The stored pair at a place.
+    fn pair_at(&self, place: usize) -> &(Stored<K>, X)
+        requires { place < length self.now.pairs }
+        ensures { (p : K × X) → result.now ≡ slice_index_or self.now.pairs place p }
+    {
+        if place > 0 {
+            return &self.rest[place - 1];
+        }
+        match &self.first {
+            Some(first) => first,
+            None => unreachable!(),
+        }
+    }
+
     /// The stored key of the pair at a place.
     pub(crate) fn key_at(&self, place: usize) -> &Stored<K>
         requires { place < length self.now.pairs }
         ensures { (p : K × X) → result.now ≡ (slice_index_or self.now.pairs place p).0 }
     {
-        if place > 0 {
-            if self.first.is_turned() {
-                return &self.rest[self.rest.len() - place].0;
-            }
-            return &self.rest[place - 1].0;
-        }
-        match self.first.pair() {
-            Some(first) => &first.0,
-            None => unreachable!(),
-        }
+        &self.pair_at(place).0
     }
 
     /// The value of the pair at a place.
@@ -144,16 +137,7 @@ impl<K: IntKey, X, A: Allocator> Slot<K, X, A> {
         requires { place < length self.now.pairs }
         ensures { (p : K × X) → result.now ≡ (slice_index_or self.now.pairs place p).1 }
     {
-        if place > 0 {
-            if self.first.is_turned() {
-                return &self.rest[self.rest.len() - place].1;
-            }
-            return &self.rest[place - 1].1;
-        }
-        match self.first.pair() {
-            Some(first) => &first.1,
-            None => unreachable!(),
-        }
+        &self.pair_at(place).1
     }
 
     /// A mutable reference to the value of the pair at a place.
@@ -163,14 +147,12 @@ impl<K: IntKey, X, A: Allocator> Slot<K, X, A> {
             A.Allocator self.entry place result) }
         ensures value { (p : K × X) → result.now ≡ (slice_index_or self.old.pairs place p).1 }
     {
-        set_in_order(&mut self.first, &mut self.rest);
         if place > 0 {
             return &mut self.rest[place - 1].1;
         }
         match &mut self.first {
-            First::Lone(pair) => &mut pair.1,
-            First::InOrder(pair) => &mut pair.1,
-            _ => unreachable!(),
+            Some(first) => &mut first.1,
+            None => unreachable!(),
         }
     }
 
@@ -180,35 +162,26 @@ impl<K: IntKey, X, A: Allocator> Slot<K, X, A> {
         ensures lone { IfSome result (λ pair. self.now.pairs ≡ pair.now ∷ []) }
         ensures not_lone { IfNone result (length self.now.pairs ≡ 1 → ⊥) }
     {
-        match &self.first {
-            First::Lone(pair) => Some(pair),
-            _ => None,
+        if !self.rest.is_empty() {
+            return None;
         }
+        self.first.as_ref()
     }
 
-    /// The first pair, if there is one, the rest, and whether the rest is turned: in reverse order.
-    pub(crate) fn parts(&self) -> (Option<&(Stored<K>, X)>, &[(Stored<K>, X)], bool)
-        ensures { self.now.pairs ≡ all_pairs (option_copied result.0)
-            (cond result.2 (reverse result.1.now) result.1.now) }
+    /// The first pair, if there is one, and the rest.
+    pub(crate) fn parts(&self) -> (Option<&(Stored<K>, X)>, &[(Stored<K>, X)])
+        ensures { self.now.pairs ≡ all_pairs (option_copied result.0) result.1.now }
     {
-        (
-            self.first.pair(),
-            self.rest.as_slice(),
-            self.first.is_turned(),
-        )
+        (self.first.as_ref(), self.rest.as_slice())
     }
 
     /// The first pair, if there is one, and the rest.
     pub(crate) fn into_parts(self) -> (Option<(Stored<K>, X)>, Vec<(Stored<K>, X), A>)
         ensures pairs { self.pairs ≡ all_pairs result.0 result.1.items }
-        ensures filled { IsFilledInOrder result.0 result.1.items }
+        ensures first { HasFirst result.0 result.1.items }
     {
-        let Slot {
-            mut first,
-            mut rest,
-        } = self;
-        set_in_order(&mut first, &mut rest);
-        (first.into_pair(), rest)
+        let Slot { first, rest } = self;
+        (first, rest)
     }
 
     /// The slot of a first pair, if there is one, and the rest.
@@ -216,25 +189,10 @@ impl<K: IntKey, X, A: Allocator> Slot<K, X, A> {
         first: Option<(Stored<K>, X)>,
         rest: Vec<(Stored<K>, X), A>,
     ) -> Slot<K, X, A>
-        requires { IsFilledInOrder first rest.items }
+        requires { HasFirst first rest.items }
         ensures { result.pairs ≡ all_pairs first rest.items }
     {
-        let first = match first {
-            Some(pair) => First::new(pair, rest.is_empty()),
-            None => First::Empty,
-        };
         Slot { first, rest }
-    }
-
-    /// The number of pairs.
-    pub(crate) fn len(&self) -> usize
-        requires { length self.now.pairs < 2 ^ 64 }
-        ensures { result ≡ length self.now.pairs }
-    {
-        match self.first {
-            First::Empty => 0,
-            _ => 1 + self.rest.len(),
-        }
     }
 }
 
@@ -243,7 +201,7 @@ impl<K: IntKey, X: Drop, A: Allocator> Slot<K, X, A> {
     pub(crate) fn clear(&mut self)
         ensures { self.new.pairs ≡ [] }
     {
-        self.first = First::Empty;
+        self.first = None;
         self.rest.clear();
     }
 
@@ -255,8 +213,50 @@ impl<K: IntKey, X: Drop, A: Allocator> Slot<K, X, A> {
     {
         let Slot { first, rest } = self;
         match first {
-            First::Lone(pair) => Ok(pair),
+            Some(pair) if rest.is_empty() => Ok(pair),
             first => Err(Slot { first, rest }),
         }
+    }
+}
+
+/// The same key with a clone of the value. It fails if the clone does. No key is compared.
+#[inline(always)]
+fn clone_pair<K: IntKey, X: Clone>(pair: &(Stored<K>, X)) -> Result<(Stored<K>, X), AllocError>
+    ensures { IfOk result (IsPairClone X.is_clone pair.now) }
+{
+    let value = pair.1.clone()?;
+    Ok((pair.0.copied(), value))
+}
+
+/// The same keys with clones of their values, in the same order. It allocates room for as many
+/// pairs before the first value is cloned, and nothing if there is no pair.
+fn clone_in<K: IntKey, X: Clone, A: Allocator>(
+    alloc: A,
+    pairs: &[(Stored<K>, X)],
+) -> Result<Vec<(Stored<K>, X), A>, AllocError>
+    ensures pairs { IfOk result (λ made. AllZip (IsPairClone X.is_clone) pairs.now made.items) }
+    ensures room { IfOk result (λ made. vec_capacity made ≡ length pairs.now) }
+{
+    let mut made = Vec::with_capacity(alloc, pairs.len())?;
+    for pair in pairs {
+        made.push_reserved(clone_pair(pair)?);
+    }
+    Ok(made)
+}
+
+impl<K: IntKey, X: Clone, A: Allocator + Copy> Slot<K, X, A> {
+    /// The same keys in the same order, with clones of their values. It allocates room for the pairs
+    /// behind the first one, and for no more than these.
+    pub(crate) fn clone(&self) -> Result<Slot<K, X, A>, AllocError>
+        ensures pairs { IfOk result
+            (λ made. AllZip (IsPairClone X.is_clone) self.now.pairs made.pairs) }
+        ensures room { IfOk result (λ made. made.room ≤ 1 + length self.now.pairs) }
+    {
+        let first = match &self.first {
+            Some(pair) => Some(clone_pair(pair)?),
+            None => None,
+        };
+        let rest = clone_in(*self.rest.allocator(), &self.rest)?;
+        Ok(Slot { first, rest })
     }
 }

@@ -1,34 +1,55 @@
 //! A table of slots. Each key has one of them.
+//!
+//! What stands here looks at the slot of one key, or at the table as a whole. `locate` has the calls
+//! on a pair whose place is known, `walk` and `each` those that go through all pairs, and `grow` and
+//! `place` the growth.
 
-pub(crate) mod bits;
-mod clone;
-pub(crate) mod each;
-mod front;
+mod each;
 mod grow;
 pub(crate) mod locate;
-pub(crate) mod owned;
 mod place;
-mod retain;
-pub(crate) mod stored;
 pub(crate) mod walk;
 
-ghost use Rattle.std.specs.Prelude.{◌≡◌, ℕ, ◌+◌, ◌^◌, ◌<◌, slice_index_or, [], OnOk, OnErr, IfOk, IfErr, Some, None, option_copied, length};
+ghost use Rattle.std.specs.Prelude.{◌≡◌, ℕ, ◌+◌, ◌^◌, ◌<◌, ◌≤◌, slice_index_or, [], OnOk, OnErr, IfOk, IfErr, Some, None, option_copied, length};
 ghost use Rattle.intmap.specs.Classes.{IsCapacity, slot_number};
-ghost use Rattle.intmap.specs.Bindings.{value_of, take_key, put_pair};
-ghost use Rattle.intmap.specs.Slots.{rows, AreMarked};
+ghost use Rattle.intmap.specs.Bindings.{value_of, put_pair};
+ghost use Rattle.intmap.specs.Tables.Slots.{rows, AreMarked};
 ghost use Rattle.intmap.specs.Walk.{slot_of, walk_of};
-ghost use Rattle.intmap.specs.Reach.{class_size, reach};
+ghost use Rattle.intmap.specs.Reach.{class_size};
 ghost use Rattle.intmap.specs.Figures.{load_of};
 
+use crate::bits::Bits;
 use crate::key::IntKey;
 use crate::slot::Slot;
 use crate::steps::Steps;
-use bits::Bits;
-use place::masked_index_of;
+use crate::stored::Stored;
 use std::alloc::{AllocError, Allocator};
 use std::marker::Model;
-use stored::Stored;
 use walk::Pairs;
+
+/// The odd number that spreads keys over slots.
+const MULTIPLIER: u64 = 11400714819323198549;
+
+/// The slot of a key, of `mask + 1` slots.
+#[inline(always)]
+fn masked_index_of<K: IntKey>(key: &K, mask: usize) -> usize
+    requires { IsCapacity (mask + 1) }
+    ensures slot { result ≡ slot_number K.number_of key.now (mask + 1) }
+    ensures within { result ≤ mask }
+    ensures key { K.is_key key.now }
+{
+    (key.number().wrapping_mul(MULTIPLIER) & mask as u64) as usize
+}
+
+/// The slot of a key, of so many slots.
+fn index_of<K: IntKey>(key: &K, slots: usize) -> usize
+    requires { IsCapacity slots }
+    ensures slot { result ≡ slot_number K.number_of key.now slots }
+    ensures within { result < slots }
+    ensures key { K.is_key key.now }
+{
+    masked_index_of(key, slots - 1)
+}
 
 /// Drops the pairs of all slots. The bits tell which slots to look at.
 fn clear_slots<K: IntKey, X: Drop, A: Allocator>(bits: &Bits<A>, slots: &mut Vec<Slot<K, X, A>, A>)
@@ -60,7 +81,7 @@ pub(crate) struct Table<K: IntKey, X, A: Allocator> {
 
 impl<K: IntKey, X, A: Allocator> Model for Table<K, X, A> {
     ghost use Rattle.std.specs.Prelude.{length};
-    ghost use Rattle.intmap.specs.Slots.{Grid, rows, joined, IsMaskedTable};
+    ghost use Rattle.intmap.specs.Tables.Slots.{Grid, rows, joined, IsMaskedTable};
 
     ghost Value = { Grid K X };
 
@@ -105,7 +126,6 @@ impl<K: IntKey, X, A: Allocator> Table<K, X, A> {
         Pairs {
             first: None,
             rest: &[],
-            is_turned: false,
             places: self.directory.bits.iter(),
             slots: &self.slots,
         }
@@ -119,57 +139,9 @@ impl<K: IntKey, X, A: Allocator> Table<K, X, A> {
     {
         masked_index_of(key, self.directory.mask)
     }
-
-    /// The value of the key. The keys of its slot are compared from the front up to it, and each
-    /// comparison counts one step.
-    pub(crate) fn get(&self, key: &K, steps: &mut Steps) -> Option<&X>
-        ensures value { option_copied result ≡ value_of K.number_of self.now.walk key.now }
-        ensures counted { steps.new
-            ≡ steps.old + reach K.number_of self.now.walk self.now.capacity key.now }
-        ensures key { K.is_key key.now }
-    {
-        let index = self.index_of(key);
-        let slot = &self.slots[index];
-        slot.get(key, steps)
-    }
-
-    /// Removes the pair of a key. The last pair of its slot moves into its place.
-    #[inline(always)]
-    pub(crate) fn take(&mut self, key: &K, steps: &mut Steps) -> Option<X>
-        ensures value { result ≡ value_of K.number_of self.old.walk key.now }
-        ensures walk { self.new.walk ≡ walk_of K.number_of
-            (take_key K.number_of self.old.walk self.old.capacity key.now) self.old.capacity }
-        ensures capacity { self.new.capacity ≡ self.old.capacity }
-        ensures counted { steps.new
-            ≡ steps.old + reach K.number_of self.old.walk self.old.capacity key.now }
-    {
-        let index = self.index_of(key);
-        let slot = &mut self.slots[index];
-        slot.take(key, steps, &mut self.directory.bits, index)
-    }
 }
 
 impl<K: IntKey, X: Drop, A: Allocator> Table<K, X, A> {
-    /// If the key is present, removes its pair and puts the new one last in its slot, without
-    /// allocating. If it is absent, returns the new value and changes nothing.
-    #[inline(always)]
-    pub(crate) fn replace(&mut self, key: K, value: X, steps: &mut Steps) -> Result<X, X>
-        ensures old { IfOk result (λ old. value_of K.number_of self.old.walk key ≡ Some old) }
-        ensures walk { OnOk result (self.new.walk ≡ walk_of K.number_of
-            (put_pair K.number_of self.old.walk self.old.capacity key value) self.old.capacity) }
-        ensures missing { OnErr result (value_of K.number_of self.old.walk key ≡ None) }
-        ensures err { OnErr result (self.new.walk ≡ self.old.walk) }
-        ensures value_returned { IfErr result (λ returned. returned ≡ value) }
-        ensures capacity { self.new.capacity ≡ self.old.capacity }
-        ensures counted { steps.new
-            ≡ steps.old + reach K.number_of self.old.walk self.old.capacity key }
-        ensures key { K.is_key key }
-    {
-        let index = self.index_of(&key);
-        let slot = &mut self.slots[index];
-        slot.replace(key, value, steps)
-    }
-
     /// Drops all pairs, slot after slot, and keeps the slots and the memory that they have.
     pub(crate) fn clear(&mut self)
         ensures walk { self.new.walk ≡ [] }

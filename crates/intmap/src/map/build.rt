@@ -1,13 +1,15 @@
-//! New maps.
-ghost use Rattle.std.specs.Prelude.{◌≡◌, ◌↔◌, ◌^◌, ◌<◌, max, IfOk, IfErr, Err};
+//! New maps, and maps that many pairs are inserted into.
+ghost use Rattle.std.specs.Prelude.{◌≡◌, ◌↔◌, ◌^◌, ◌<◌, max, IfOk, IfErr, Err, ℕ, ◌≤◌, OnOk, MatchResult};
 ghost use Rattle.intmap.specs.Classes.{IsCapacity};
 ghost use Rattle.intmap.specs.Growth.{IsLeastPower};
 ghost use Rattle.intmap.specs.Map.{IsMap, empty_map};
+ghost use Rattle.std.specs.Iterator.{IsFinite, size};
+ghost use Rattle.intmap.specs.Extending.{Extends, StopsAt, Collects, MayRefuseToCollect};
 
 use crate::key::IntKey;
 use crate::load::{GREATEST_CAPACITY, limit_of};
 use crate::map::IntMap;
-use crate::refusal::Cause;
+use crate::refusal::{Cause, RefusedPair};
 use crate::steps::Steps;
 use crate::table::Table;
 use std::alloc::Allocator;
@@ -68,6 +70,79 @@ impl<K: IntKey, V: Drop, A: Allocator + Copy> IntMap<K, V, A> {
                 compared: Steps::new(),
             }),
             Err(_) => Err(Cause::Memory),
+        }
+    }
+}
+
+impl<K: IntKey, V: Drop, A: Allocator + Copy> IntMap<K, V, A> {
+    /// Inserts the iterator's pairs in turn, each as [`insert`](IntMap::insert) does, so a key
+    /// keeps the last of its values. The table grows only as these insertions make it grow: nothing
+    /// is reserved ahead. The iterator must end.
+    ///
+    /// It stops at the first insertion that fails, and returns the key and the value of that pair,
+    /// with the cause and the number of pairs before it. Those pairs stay in the map. The iterator
+    /// is dropped, with the pairs that it hasn't given.
+    ///
+    /// ```text
+    /// after insert(0, 10) into 4 slots:
+    /// extend of 4: 14 and 0: 20    Ok(()), and the walk is 4: 14, 0: 20
+    /// ```
+    pub fn extend<I: Iterator<Item = (K, V)> + Drop>(
+        &mut self,
+        iter: I,
+    ) -> Result<(), RefusedPair<K, V>>
+        requires can { I.can_next iter }
+        requires ends { IsFinite (I.remaining iter) }
+        ensures extends { OnOk result
+            (Extends K.number_of K.is_key I.next_gives iter self.old self.new) }
+        ensures stops { IfErr result (λ refused.
+            StopsAt K.number_of K.is_key I.next_gives iter self.old refused self.new) }
+        ensures map { IsMap K.number_of K.is_key self.old }
+        ensures map_after { IsMap K.number_of K.is_key self.new }
+    {
+        self.known();
+        let mut applied: usize = 0;
+        for (key, value) in iter {
+            match self.insert(key, value) {
+                Ok(_) => {}
+                Err(refused) => {
+                    return Err(RefusedPair {
+                        key,
+                        value: refused.value,
+                        applied,
+                        cause: refused.cause,
+                    });
+                }
+            }
+            applied = applied.saturating_add(1);
+        }
+        Ok(())
+    }
+
+    /// A map of the iterator's pairs: [`with_capacity`](IntMap::with_capacity) of the lower bound
+    /// of its `size_hint`, and then [`extend`](IntMap::extend). The iterator must end.
+    ///
+    /// It fails if either call does, with the same cause, and then drops everything.
+    ///
+    /// ```text
+    /// of the 20 pairs of a vector it has 32 slots, and of no pairs 2
+    /// ```
+    pub fn from_iter<I: Iterator<Item = (K, V)> + Drop>(
+        alloc: A,
+        iter: I,
+    ) -> Result<IntMap<K, V, A>, Cause>
+        requires can { I.can_next iter }
+        requires ends { IsFinite (I.remaining iter) }
+        ensures collects { (b : ℕ) × (b ≤ size (I.remaining iter)) × MatchResult result
+            (λ made. Collects K.number_of K.is_key I.next_gives iter b made)
+            (λ cause. MayRefuseToCollect {V = V} K.number_of K.is_key I.next_gives iter b cause) }
+        ensures map { IfOk result (IsMap K.number_of K.is_key) }
+    {
+        let (lower, _) = iter.size_hint();
+        let mut map = IntMap::with_capacity(alloc, lower)?;
+        match map.extend(iter) {
+            Ok(()) => Ok(map),
+            Err(refused) => Err(refused.cause),
         }
     }
 }

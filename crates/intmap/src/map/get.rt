@@ -39,10 +39,10 @@ impl<K: IntKey, V, A: Allocator + Copy> IntMap<K, V, A> {
             ≡ steps.old + reach K.number_of self.now.walk self.now.capacity key }
         ensures map { IsMap K.number_of K.is_key self.now }
     {
-        match self.table.get(&key, steps) {
-            Some(kept) => Some(&kept.value),
-            None => None,
-        }
+        let Some(at) = self.table.locate(key, steps) else {
+            return None;
+        };
+        Some(&self.table.value_at(at).value)
     }
 
     /// A mutable reference to the value of the key, or `None` if the key is absent. Only the count

@@ -61,10 +61,9 @@ impl<K: IntKey, V: Drop, A: Allocator + Copy> IntMap<K, V, A> {
         ensures map { IsMap K.number_of K.is_key self.old }
         ensures map_after { IsMap K.number_of K.is_key self.new }
     {
-        let value = match self.table.replace(key, Kept { value }, &mut self.compared) {
-            Ok(old) => return Ok(Some(old.value)),
-            Err(kept) => kept.value,
-        };
+        if let Some(at) = self.locate(key) {
+            return Ok(Some(self.replace_at(at, value)));
+        }
         if let Err(refused) = self.add(key, value) {
             return Err(refused);
         }

@@ -2,9 +2,10 @@
 ghost use Rattle.std.specs.Prelude.{◌≡◌, is_some, IfSome, IfNone, Some, None};
 ghost use Rattle.intmap.specs.Bindings.{value_of};
 ghost use Rattle.intmap.specs.Locations.{IsAt, IsLast, IsFound, key_at};
-ghost use Rattle.intmap.specs.Map.{IsMap, after_search, without_key};
+ghost use Rattle.intmap.specs.Map.{IsMap, after_search, with_pair, without_key};
 ghost use Rattle.intmap.specs.Walk.{slot_of};
 
+use crate::kept::Kept;
 use crate::key::IntKey;
 use crate::map::IntMap;
 use crate::table::locate::Location;
@@ -15,6 +16,7 @@ impl<K: IntKey, V, A: Allocator + Copy> IntMap<K, V, A> {
     ghost use Rattle.intmap.specs.Lending.{map_lends};
 
     /// Where the pair of the key stands, if the key is present. The map counts the comparisons.
+    #[inline(always)]
     pub(crate) fn locate(&mut self, key: K) -> Option<Location<K>>
         ensures found { IfSome result (λ at. (at.key ≡ key)
             × IsAt K.number_of self.new.walk self.new.capacity at) }
@@ -79,6 +81,7 @@ impl<K: IntKey, V, A: Allocator + Copy> IntMap<K, V, A> {
     }
 
     /// Removes a located pair. The last pair of its slot takes its place.
+    #[inline(always)]
     pub(crate) fn take_at(&mut self, at: Location<K>) -> V
         requires { IsAt K.number_of self.old.walk self.old.capacity at }
         ensures value { value_of K.number_of self.old.walk at.key ≡ Some result }
@@ -89,5 +92,17 @@ impl<K: IntKey, V, A: Allocator + Copy> IntMap<K, V, A> {
         let kept = self.table.take_at(at);
         self.len -= 1;
         kept.value
+    }
+
+    /// Removes a located pair and puts the pair of its key and this value at the end of the slot. The
+    /// last pair of the slot takes the place of the removed one. It allocates nothing.
+    #[inline(always)]
+    pub(crate) fn replace_at(&mut self, at: Location<K>, value: V) -> V
+        requires { IsAt K.number_of self.old.walk self.old.capacity at }
+        ensures value { value_of K.number_of self.old.walk at.key ≡ Some result }
+        ensures state { self.new ≡ with_pair K.number_of self.old at.key value self.old.capacity }
+        ensures map_after { IsMap K.number_of K.is_key self.new }
+    {
+        self.table.replace_at(at, Kept { value }).value
     }
 }

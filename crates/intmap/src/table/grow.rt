@@ -3,18 +3,18 @@ ghost use Rattle.std.specs.Prelude.{◌≡◌, ◌+◌, ◌^◌, ◌<◌, [], �
 ghost use Rattle.std.specs.Option.{option_to_list};
 ghost use Rattle.intmap.specs.Classes.{IsCapacity};
 ghost use Rattle.intmap.specs.Bindings.{value_of, put_pair};
-ghost use Rattle.intmap.specs.Slots.{rows, joined, AreMarked};
+ghost use Rattle.intmap.specs.Tables.Slots.{rows, joined, AreMarked};
 ghost use Rattle.intmap.specs.Walk.{walk_of};
 ghost use Rattle.std.specs.Map.{keys_of};
-ghost use Rattle.intmap.specs.Moves.{CanCount, IsCounted, IsRoomy, IsReady};
+ghost use Rattle.intmap.specs.Tables.Moves.{CanCount, IsCounted, IsRoomy, IsReady};
 
+use crate::bits::Bits;
 use crate::key::IntKey;
 use crate::slot::Slot;
 use crate::steps::Steps;
-use crate::table::bits::Bits;
-use crate::table::place::{index_of, place, place_all};
-use crate::table::stored::Stored;
-use crate::table::{Directory, Table};
+use crate::stored::Stored;
+use crate::table::place::{place, place_all};
+use crate::table::{Directory, Table, index_of};
 use std::alloc::{AllocError, Allocator};
 use std::mem;
 
@@ -50,7 +50,7 @@ fn count_slot<K: IntKey, X, A: Allocator>(counts: &mut [usize], slot: &Slot<K, X
         count_key(counts, lone.0.key());
         return;
     }
-    let (first, rest, _) = slot.parts();
+    let (first, rest) = slot.parts();
     if let Some(pair) = first {
         count_key(counts, pair.0.key());
     }

@@ -1,12 +1,13 @@
 //! Where the pair of a key stands, and calls on a located pair, which compare no key.
 ghost use Rattle.std.specs.Prelude.{◌≡◌, ◌+◌, IfSome, IfNone, Some, None};
-ghost use Rattle.intmap.specs.Bindings.{HasDistinctKeys, value_of, take_key};
+ghost use Rattle.intmap.specs.Bindings.{HasDistinctKeys, value_of, take_key, put_pair};
 ghost use Rattle.intmap.specs.Locations.{IsAt, IsLast, IsFound, key_at};
 ghost use Rattle.intmap.specs.Reach.{reach};
 ghost use Rattle.intmap.specs.Walk.{walk_of, slot_of};
 
 use crate::key::IntKey;
 use crate::steps::Steps;
+use crate::stored::Stored;
 use crate::table::Table;
 use std::alloc::Allocator;
 
@@ -24,6 +25,7 @@ impl<K: IntKey, X, A: Allocator> Table<K, X, A> {
 
     /// Where the pair of the key stands, if the key is present. The keys of its slot are compared
     /// from the front up to it, each by one step.
+    #[inline(always)]
     pub(crate) fn locate(&self, key: K, steps: &mut Steps) -> Option<Location<K>>
         ensures found { IfSome result (λ at. (at.key ≡ key)
             × IsAt K.number_of self.now.walk self.now.capacity at) }
@@ -60,6 +62,7 @@ impl<K: IntKey, X, A: Allocator> Table<K, X, A> {
     }
 
     /// The value of a located pair.
+    #[inline(always)]
     pub(crate) fn value_at(&self, at: Location<K>) -> &X
         requires { IsAt K.number_of self.now.walk self.now.capacity at }
         ensures { value_of K.number_of self.now.walk at.key ≡ Some result.now }
@@ -79,6 +82,7 @@ impl<K: IntKey, X, A: Allocator> Table<K, X, A> {
     }
 
     /// Removes a located pair. The last pair of its slot moves into its place.
+    #[inline(always)]
     pub(crate) fn take_at(&mut self, at: Location<K>) -> X
         requires { IsAt K.number_of self.old.walk self.old.capacity at }
         ensures value { value_of K.number_of self.old.walk at.key ≡ Some result }
@@ -87,7 +91,26 @@ impl<K: IntKey, X, A: Allocator> Table<K, X, A> {
         ensures capacity { self.new.capacity ≡ self.old.capacity }
     {
         let slot = &mut self.slots[at.slot];
-        let (_, value) = slot.take_at(at.place, &mut self.directory.bits, at.slot);
+        let (_, value) = slot.take_at(at.place);
+        if !slot.is_filled() {
+            self.directory.bits.clear(at.slot);
+        }
         value
+    }
+
+    /// Removes a located pair, whose place the last pair of its slot takes, and puts the pair of its
+    /// key and this value at the end of the slot. It allocates nothing.
+    #[inline(always)]
+    pub(crate) fn replace_at(&mut self, at: Location<K>, value: X) -> X
+        requires { IsAt K.number_of self.old.walk self.old.capacity at }
+        ensures value { value_of K.number_of self.old.walk at.key ≡ Some result }
+        ensures walk { self.new.walk ≡ walk_of K.number_of
+            (put_pair K.number_of self.old.walk self.old.capacity at.key value) self.old.capacity }
+        ensures capacity { self.new.capacity ≡ self.old.capacity }
+        ensures key { K.is_key at.key }
+    {
+        let pair = (Stored::new(at.key), value);
+        let (_, old) = self.slots[at.slot].replace_at(at.place, pair);
+        old
     }
 }

@@ -1,39 +1,16 @@
-//! Where a key belongs, and how pairs get there.
-ghost use Rattle.std.specs.Prelude.{◌≡◌, ◌+◌, ◌<◌, ◌≤◌, [], ◌∷◌, length};
-ghost use Rattle.intmap.specs.Classes.{IsCapacity, slot_number};
-ghost use Rattle.intmap.specs.Slots.{rows, joined, AreMarked};
-ghost use Rattle.intmap.specs.Moves.{HasRoom, IsPlaced};
+//! How pairs get to their slots in a larger table.
+ghost use Rattle.std.specs.Prelude.{◌≡◌, ◌+◌, [], ◌∷◌, length};
+ghost use Rattle.intmap.specs.Classes.{IsCapacity};
+ghost use Rattle.intmap.specs.Tables.Slots.{rows, joined, AreMarked};
+ghost use Rattle.intmap.specs.Tables.Moves.{HasRoom, IsPlaced};
 
+use crate::bits::{Bits, end_of_word};
 use crate::key::IntKey;
 use crate::slot::Slot;
 use crate::steps::Steps;
-use crate::table::bits::{Bits, end_of_word};
-use crate::table::stored::Stored;
+use crate::stored::Stored;
+use crate::table::index_of;
 use std::alloc::Allocator;
-
-/// The odd number that spreads keys over slots.
-const MULTIPLIER: u64 = 11400714819323198549;
-
-/// The slot of a key, of `mask + 1` slots.
-#[inline(always)]
-pub(super) fn masked_index_of<K: IntKey>(key: &K, mask: usize) -> usize
-    requires { IsCapacity (mask + 1) }
-    ensures slot { result ≡ slot_number K.number_of key.now (mask + 1) }
-    ensures within { result ≤ mask }
-    ensures key { K.is_key key.now }
-{
-    (key.number().wrapping_mul(MULTIPLIER) & mask as u64) as usize
-}
-
-/// The slot of a key, of so many slots.
-pub(super) fn index_of<K: IntKey>(key: &K, slots: usize) -> usize
-    requires { IsCapacity slots }
-    ensures slot { result ≡ slot_number K.number_of key.now slots }
-    ensures within { result < slots }
-    ensures key { K.is_key key.now }
-{
-    masked_index_of(key, slots - 1)
-}
 
 /// Puts a pair at the end of its slot, where there is room for it, and counts it. The slot's bit is
 /// set.

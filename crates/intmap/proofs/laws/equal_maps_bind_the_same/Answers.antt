@@ -1,4 +1,4 @@
-use Rattle.intmap.specs.EqualityLaws.{maps_equal-iff_BindSame}
+use Rattle.intmap.specs.Laws.EqualityLaws.{maps_equal-iff_BindSame}
 use Rattle.intmap.proofs.laws.equal_maps_bind_the_same.Goals as goal
 
 pub returns : goal.returns

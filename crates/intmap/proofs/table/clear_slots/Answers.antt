@@ -3,9 +3,9 @@ use Rattle.std.specs.Prelude.{◌==◌}
 use Rattle.std.proofs.lemmas.Bool.{cases_eq, ne_eqb}
 use Rattle.std.proofs.lemmas.List.{map-set}
 use Rattle.std.proofs.lemmas.List.Elements.{All-head, All-tail}
-use Rattle.intmap.specs.Slots.{rows}
-use Rattle.intmap.proofs.FilledLemmas.{places-within, row-unplaced}
-use Rattle.intmap.proofs.TableLemmas.{length-rows}
+use Rattle.intmap.specs.Tables.Slots.{rows}
+use Rattle.intmap.proofs.Tables.FilledLemmas.{places-within, row-unplaced}
+use Rattle.intmap.proofs.Tables.TableLemmas.{length-rows}
 use Rattle.intmap.proofs.table.clear_slots.Goals as goal
 use Rattle.intmap.proofs.table.clear_slots.Goals.{In-Some}
 

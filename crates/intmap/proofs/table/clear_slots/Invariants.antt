@@ -1,7 +1,7 @@
 use Rattle.std.proofs.Common.{◌≡◌, ℕ, ◌<◌, [], false, length, get_or}
 use Rattle.std.specs.Prelude.{◌==◌, All}
 use Rattle.std.specs.List.{list_any}
-use Rattle.intmap.specs.Slots.{rows}
+use Rattle.intmap.specs.Tables.Slots.{rows}
 use Rattle.intmap.proofs.table.clear_slots.Given as goal
 
 abbrev pub invariant-loop-place : goal.invariant-loop-place

@@ -4,7 +4,7 @@ use Rattle.std.proofs.lemmas.Bool.{lt-ltb, le-ltb}
 use Rattle.intmap.specs.Bindings.{value_of}
 use Rattle.intmap.specs.Extending.{IsMadeOf}
 use Rattle.intmap.specs.Figures.{tally_of}
-use Rattle.intmap.specs.Kept.{unkept}
+use Rattle.intmap.specs.Tables.Kept.{unkept}
 use Rattle.intmap.specs.Walk.{slot_of, walk_of}
 use Rattle.intmap.specs.declared.kept.Kept.{Kept}
 use Rattle.intmap.specs.declared.refusal.Cause.{Cause}

@@ -1,5 +1,5 @@
 use Rattle.std.proofs.Common.{◌∙◌, sym, subst}
-use Rattle.intmap.specs.Kept.{unkept}
+use Rattle.intmap.specs.Tables.Kept.{unkept}
 use Rattle.intmap.specs.Map.{MapState}
 use Rattle.intmap.specs.Taking.{TakesEach}
 use Rattle.intmap.specs.Writes.{Writes, WritesAt, TakesPairMut}

@@ -1,7 +1,7 @@
 use Rattle.std.proofs.Common.{◌≡◌, ◌+◌, None, refl, sym, ap, ◌∙◌, subst}
 use Rattle.std.specs.Option.{option_map}
 use Rattle.std.specs.Prelude.{Option, Some, is_some, IfSome, IfNone}
-use Rattle.intmap.proofs.FoundLemmas.{key_at-located}
+use Rattle.intmap.proofs.Tables.FoundLemmas.{key_at-located}
 use Rattle.intmap.proofs.LocationLemmas.{IsAt-with_values, is_some-located}
 use Rattle.intmap.proofs.MapLemmas.{MapState-same}
 use Rattle.intmap.proofs.MappedLemmas.{value_of-with_values, reach-with_values}

@@ -1,5 +1,5 @@
 use Rattle.std.proofs.Common.{length, refl, sym, subst}
-use Rattle.intmap.specs.Kept.{unkept}
+use Rattle.intmap.specs.Tables.Kept.{unkept}
 use Rattle.intmap.specs.Map.{MapState}
 use Rattle.intmap.specs.Retaining.{KeepsAt, Retains, TakesPair}
 use Rattle.intmap.specs.Taking.{TakesEach}

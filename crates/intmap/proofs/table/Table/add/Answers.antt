@@ -3,10 +3,10 @@ use Rattle.std.specs.Prelude.{Result, Ok, Err, OnOk, OnErr, nat_lt}
 use Rattle.std.proofs.lemmas.Bool.{ltb-true}
 use Rattle.std.proofs.lemmas.Result.{on_ok_weaker, on_err_weaker}
 use Rattle.intmap.specs.Classes.{slot_number}
-use Rattle.intmap.specs.Slots.{Held, Grid, joined, IsTable}
-use Rattle.intmap.proofs.FilledLemmas.{filled-pushed, mark-below, marked-here, marks-set}
-use Rattle.intmap.proofs.MarkedLemmas.{row-none}
-use Rattle.intmap.proofs.TableLemmas.{IsSlot, rows-set, walk-added, class_size-here, Belong-here, Belong-push, IsTable-set}
+use Rattle.intmap.specs.Tables.Slots.{Held, Grid, joined, IsTable}
+use Rattle.intmap.proofs.Tables.FilledLemmas.{filled-pushed, mark-below, marked-here, marks-set}
+use Rattle.intmap.proofs.Tables.MarkedLemmas.{row-none}
+use Rattle.intmap.proofs.Tables.TableLemmas.{IsSlot, rows-set, walk-added, class_size-here, Belong-here, Belong-push, IsTable-set}
 use Rattle.intmap.proofs.table.Table.add.Goals as goal
 use Rattle.intmap.proofs.table.Table.add.Goals.{After-index_mut-slot, After-put_first}
 

@@ -1,4 +1,4 @@
-use Rattle.intmap.proofs.TableLemmas.{walk_of-joined}
+use Rattle.intmap.proofs.Tables.TableLemmas.{walk_of-joined}
 use Rattle.intmap.proofs.table.Table.capacity.Goals as goal
 
 pub returns-clause-own : goal.returns-clause-own

@@ -1,6 +1,6 @@
 use Rattle.std.proofs.Common.{◌∙◌, sym}
-use Rattle.intmap.specs.Slots.{rows}
-use Rattle.intmap.proofs.FilledLemmas.{IsMarkedTable-emptied, joined-emptied}
+use Rattle.intmap.specs.Tables.Slots.{rows}
+use Rattle.intmap.proofs.Tables.FilledLemmas.{IsMarkedTable-emptied, joined-emptied}
 use Rattle.intmap.proofs.table.Table.clear.Goals as goal
 
 pub invariant_of-self : goal.invariant_of-self

@@ -2,10 +2,10 @@ use Rattle.std.proofs.Common.{◌∙◌, subst, arith}
 use Rattle.std.proofs.lemmas.List.{take_all}
 use Rattle.std.proofs.lemmas.List.Elements.{all_zip_more}
 use Rattle.std.specs.List.{AllZip}
-use Rattle.intmap.specs.Slots.{Grid, rows, joined}
-use Rattle.intmap.proofs.CloneLemmas.{IsSlotClone, AreClones, AreClones-joined, row_keys-AllZip}
-use Rattle.intmap.proofs.SameKeysLemmas.{IsMaskedTable-same_keys}
-use Rattle.intmap.proofs.TableLemmas.{walk_of-joined}
+use Rattle.intmap.specs.Tables.Slots.{Grid, rows, joined}
+use Rattle.intmap.proofs.Tables.CloneLemmas.{IsSlotClone, AreClones, AreClones-joined, row_keys-AllZip}
+use Rattle.intmap.proofs.Tables.SameKeysLemmas.{IsMaskedTable-same_keys}
+use Rattle.intmap.proofs.Tables.TableLemmas.{walk_of-joined}
 use Rattle.intmap.proofs.table.Table.clone.Goals as goal
 use Rattle.intmap.proofs.table.Table.clone.Goals.{After-loop-slot}
 

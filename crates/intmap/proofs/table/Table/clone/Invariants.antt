@@ -1,6 +1,6 @@
 use Rattle.std.proofs.Common.{◌≡◌, length, take, vec_len, vec_capacity}
 use Rattle.std.specs.List.{AllZip}
-use Rattle.intmap.proofs.CloneLemmas.{IsSlotClone}
+use Rattle.intmap.proofs.Tables.CloneLemmas.{IsSlotClone}
 use Rattle.intmap.proofs.table.Table.clone.Given as goal
 
 abbrev pub invariant-loop-slot : goal.invariant-loop-slot

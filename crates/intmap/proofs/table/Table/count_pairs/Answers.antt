@@ -1,6 +1,6 @@
 use Rattle.std.proofs.Common.{◌≡◌, ◌∙◌, ap}
 use Rattle.std.specs.Map.{keys_of}
-use Rattle.intmap.specs.Slots.{Grid, rows, joined}
+use Rattle.intmap.specs.Tables.Slots.{Grid, rows, joined}
 use Rattle.intmap.proofs.table.Table.count_pairs.Goals as goal
 use Rattle.intmap.proofs.table.Table.count_pairs.Goals.{After-deref}
 

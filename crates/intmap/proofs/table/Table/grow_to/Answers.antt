@@ -1,11 +1,11 @@
 use Rattle.std.proofs.Common.{List, ◌≡◌, ◌+◌, ◌++◌, [], ◌∙◌, length, sym, ap, rules}
 use Rattle.std.specs.Vec.{with_items}
 use Rattle.std.proofs.lemmas.List.{with_items_is}
-use Rattle.intmap.specs.Slots.{Held, Grid, rows, joined}
+use Rattle.intmap.specs.Tables.Slots.{Held, Grid, rows, joined}
 use Rattle.std.specs.Map.{keys_of}
-use Rattle.intmap.specs.Moves.{IsPlaced, IsReady}
-use Rattle.intmap.proofs.TableLemmas.{walk_of-joined}
-use Rattle.intmap.proofs.MoveLemmas.{HasRoom-ready, HasRoom-first, IsMoved, IsMoved-placed, joined-moved, IsTable-moved}
+use Rattle.intmap.specs.Tables.Moves.{IsPlaced, IsReady}
+use Rattle.intmap.proofs.Tables.TableLemmas.{walk_of-joined}
+use Rattle.intmap.proofs.Tables.MoveLemmas.{HasRoom-ready, HasRoom-first, IsMoved, IsMoved-placed, joined-moved, IsTable-moved}
 use Rattle.intmap.proofs.table.Table.grow_to.Goals as goal
 use Rattle.intmap.proofs.table.Table.grow_to.Goals.{After-deref_mut, After-place_all}
 

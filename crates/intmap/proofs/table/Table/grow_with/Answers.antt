@@ -1,10 +1,10 @@
 use Rattle.std.proofs.Common.{List, ◌≡◌, ◌+◌, ◌++◌, ◌∷◌, [], ◌∙◌, length, ap, sym, arith, rules}
 use Rattle.std.specs.Vec.{with_items}
 use Rattle.std.proofs.lemmas.List.{with_items_is}
-use Rattle.intmap.specs.Slots.{Held, Grid, rows, joined}
+use Rattle.intmap.specs.Tables.Slots.{Held, Grid, rows, joined}
 use Rattle.std.specs.Map.{keys_of}
-use Rattle.intmap.specs.Moves.{HasRoom, IsPlaced, IsReady}
-use Rattle.intmap.proofs.MoveLemmas.{HasRoom-ready, HasRoom-first, HasRoom-more, IsPlaced-more, IsMoved, IsMoved-placed, joined-moved, IsTable-moved, put_pair-missing}
+use Rattle.intmap.specs.Tables.Moves.{HasRoom, IsPlaced, IsReady}
+use Rattle.intmap.proofs.Tables.MoveLemmas.{HasRoom-ready, HasRoom-first, HasRoom-more, IsPlaced-more, IsMoved, IsMoved-placed, joined-moved, IsTable-moved, put_pair-missing}
 use Rattle.intmap.proofs.table.Table.grow_with.Goals as goal
 use Rattle.intmap.proofs.table.Table.grow_with.Goals.{After-as_mut_slice-slots, After-place}
 

@@ -1,5 +1,5 @@
 use Rattle.std.proofs.Common.{◌∙◌}
-use Rattle.intmap.proofs.FoundLemmas.{place-found, key_at-here}
+use Rattle.intmap.proofs.Tables.FoundLemmas.{place-found, key_at-here}
 use Rattle.intmap.proofs.table.Table.key_at.Goals as goal
 
 pub key_at-requires : goal.key_at-requires

@@ -1,7 +1,7 @@
 use Rattle.std.proofs.Common.{sym, ◌∙◌}
-use Rattle.intmap.specs.Slots.{rows}
-use Rattle.intmap.proofs.FilledLemmas.{count-marked}
-use Rattle.intmap.proofs.TableLemmas.{load_of-joined, count_by-filled}
+use Rattle.intmap.specs.Tables.Slots.{rows}
+use Rattle.intmap.proofs.Tables.FilledLemmas.{count-marked}
+use Rattle.intmap.proofs.Tables.TableLemmas.{load_of-joined, count_by-filled}
 use Rattle.intmap.proofs.table.Table.load.Goals as goal
 
 pub returns : goal.returns

@@ -2,9 +2,9 @@ use Rattle.std.proofs.Common.{◌≡◌, ◌+◌, sym, ap, refl, ◌∙◌}
 use Rattle.std.specs.Prelude.{position}
 use Rattle.intmap.specs.Classes.{slot_number, same_key}
 use Rattle.intmap.specs.Reach.{reach}
-use Rattle.intmap.specs.Slots.{Grid}
+use Rattle.intmap.specs.Tables.Slots.{Grid}
 use Rattle.intmap.proofs.PositionLemmas.{first_value-none}
-use Rattle.intmap.proofs.TableLemmas.{IsSlot, reach-here, value_of-here, slot_of-here}
+use Rattle.intmap.proofs.Tables.TableLemmas.{IsSlot, reach-here, value_of-here, slot_of-here}
 use Rattle.intmap.proofs.table.Table.locate.Goals as goal
 use Rattle.intmap.proofs.table.Table.locate.Goals.{After-find}
 

@@ -1,8 +1,8 @@
 use Rattle.std.proofs.Common.{sym, ap, ◌∙◌}
 use Rattle.intmap.specs.Classes.{slot_number}
-use Rattle.intmap.specs.Slots.{Grid}
+use Rattle.intmap.specs.Tables.Slots.{Grid}
 use Rattle.intmap.proofs.LocationLemmas.{slot-some, IsAt-last}
-use Rattle.intmap.proofs.TableLemmas.{IsSlot}
+use Rattle.intmap.proofs.Tables.TableLemmas.{IsSlot}
 use Rattle.intmap.proofs.table.Table.locate_last.Goals as goal
 use Rattle.intmap.proofs.table.Table.locate_last.Goals.{After-index}
 

@@ -1,7 +1,7 @@
 use Rattle.std.proofs.Common.{◌≡◌, ◌∙◌, ap, replicate, [], arith}
 use Rattle.std.proofs.lemmas.Grind.{common_steps}
-use Rattle.intmap.specs.Slots.{joined}
-use Rattle.intmap.proofs.FilledLemmas.{IsMarkedTable-empty, joined-emptied, get_or-no_pairs}
+use Rattle.intmap.specs.Tables.Slots.{joined}
+use Rattle.intmap.proofs.Tables.FilledLemmas.{IsMarkedTable-empty, joined-emptied, get_or-no_pairs}
 use Rattle.intmap.proofs.LoadFactorLemmas.{capacity-positive}
 use Rattle.intmap.proofs.table.Table.new.Goals as goal
 

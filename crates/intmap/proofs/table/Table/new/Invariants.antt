@@ -1,5 +1,5 @@
 use Rattle.std.proofs.Common.{◌≡◌, [], replicate, vec_len, vec_capacity}
-use Rattle.intmap.specs.Slots.{rows}
+use Rattle.intmap.specs.Tables.Slots.{rows}
 use Rattle.intmap.proofs.table.Table.new.Given as goal
 
 abbrev pub invariant-loop : goal.invariant-loop

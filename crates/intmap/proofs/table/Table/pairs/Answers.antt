@@ -1,6 +1,6 @@
 use Rattle.std.proofs.Common.{◌∙◌, ap}
-use Rattle.intmap.specs.Slots.{Grid, rows}
-use Rattle.intmap.proofs.FilledLemmas.{pairs_at-marked, places-within}
+use Rattle.intmap.specs.Tables.Slots.{Grid, rows}
+use Rattle.intmap.proofs.Tables.FilledLemmas.{pairs_at-marked, places-within}
 use Rattle.intmap.proofs.table.Table.pairs.Goals as goal
 
 pub invariant_of-result : goal.invariant_of-result

@@ -3,9 +3,9 @@ use Rattle.std.specs.Prelude.{◌==◌}
 use Rattle.std.proofs.lemmas.List.{get_or-map}
 use Rattle.std.proofs.lemmas.List.Sums.{count_by-le-length, length-filter}
 use Rattle.intmap.specs.Classes.{slot_number}
-use Rattle.intmap.specs.Slots.{Held}
+use Rattle.intmap.specs.Tables.Slots.{Held}
 use Rattle.intmap.specs.Walk.{slot_of}
-use Rattle.intmap.proofs.TableLemmas.{slot_of-joined}
+use Rattle.intmap.proofs.Tables.TableLemmas.{slot_of-joined}
 use Rattle.intmap.proofs.table.Table.slot_len.Goals as goal
 use Rattle.intmap.proofs.table.Table.slot_len.Goals.{After-index}
 

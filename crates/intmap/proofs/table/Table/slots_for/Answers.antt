@@ -3,10 +3,10 @@ use Rattle.std.specs.Option.{option_to_list}
 use Rattle.std.specs.Map.{keys_of}
 use Rattle.std.proofs.lemmas.List.{length-replicate}
 use Rattle.intmap.specs.Classes.{IsCapacity}
-use Rattle.intmap.specs.Moves.{CanCount, IsCounted, IsReady}
-use Rattle.intmap.proofs.FilledLemmas.{AreMarked-ready}
+use Rattle.intmap.specs.Tables.Moves.{CanCount, IsCounted, IsReady}
+use Rattle.intmap.proofs.Tables.FilledLemmas.{AreMarked-ready}
 use Rattle.intmap.proofs.LoadFactorLemmas.{capacity-positive, capacity-greatest}
-use Rattle.intmap.proofs.MoveLemmas.{zeros, CanCount-start, CanCount-first, CanCount-more, IsCounted-more, IsReady-counted}
+use Rattle.intmap.proofs.Tables.MoveLemmas.{zeros, CanCount-start, CanCount-first, CanCount-more, IsCounted-more, IsReady-counted}
 use Rattle.intmap.proofs.table.Table.slots_for.Goals as goal
 use Rattle.intmap.proofs.table.Table.slots_for.Goals.{After-as_mut_slice-counts, After-drop-zeros-2, in-Some, in_default}
 

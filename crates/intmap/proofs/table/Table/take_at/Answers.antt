@@ -1,13 +1,13 @@
-use Rattle.std.proofs.Common.{◌≡◌, ◌∙◌, Some, length, set, length-set, sym, ap}
+use Rattle.std.proofs.Common.{◌≡◌, ◌∙◌, Some, false, length, set, length-set, sym, ap}
 use Rattle.intmap.specs.Bindings.{swap_out, value_of}
 use Rattle.intmap.specs.Classes.{same_key}
 use Rattle.intmap.specs.Locations.{IsAt}
-use Rattle.intmap.specs.Slots.{rows, joined, IsTable}
-use Rattle.intmap.proofs.FilledLemmas.{filled-bound, mark-below, marks-removed}
+use Rattle.intmap.specs.Tables.Slots.{rows, joined, IsTable}
+use Rattle.intmap.proofs.Tables.FilledLemmas.{filled-bound, mark-below, marks-kept, marks-set}
 use Rattle.intmap.proofs.LocationLemmas.{slot-at, place-at, place-within}
 use Rattle.intmap.proofs.PositionLemmas.{swap_remove-position, first_value-position}
-use Rattle.intmap.proofs.SwapOutLemmas.{any}
-use Rattle.intmap.proofs.TableLemmas.{IsSlot, value_of-here, walk-taken, Belong-taken, IsTable-set}
+use Rattle.intmap.proofs.Tables.SwapOutLemmas.{any}
+use Rattle.intmap.proofs.Tables.TableLemmas.{IsSlot, value_of-here, walk-taken, Belong-taken, IsTable-set}
 use Rattle.intmap.proofs.table.Table.take_at.Goals as goal
 use Rattle.intmap.proofs.table.Table.take_at.Goals.{After-take_at-value}
 
@@ -34,33 +34,53 @@ module _ (g : _) (c : After-take_at-value g) where
       first_value-position (same_key g.K.IntKey.number_of c.args.at.key) c.index_mut-slot.result.now.pairs c.args.at.place c.take_at-value.result place
       ∙ ap (λ (p : g.row.K.Denot × g.row.X.Denot). Some p.1) (sym c.take_at-value.ensures.value)
 
-pub take_at-value-requires-clause-within : goal.take_at-value-requires-clause-within
-take_at-value-requires-clause-within g c =
+pub take_at-value-requires : goal.take_at-value-requires
+take_at-value-requires g c =
     place-within _ _ _ _ c.self.invariant.marked.table (rw (← c.self.view_is) at c.requires) c.index_mut-slot.ensures.value
 
-pub take_at-value-requires-clause-marked : goal.take_at-value-requires-clause-marked
-take_at-value-requires-clause-marked g c =
-    let at = slot-at _ _ _ _ c.self.invariant.marked.table (rw (← c.self.view_is) at c.requires) c.index_mut-slot.ensures.value in
-    mark-below _ _ _ _ _ at c.self.inside.directory.bits c.self.invariant.marked.marks
+pub clear-requires : goal.clear-requires
+clear-requires g c =
+    mark-below _ _ _ _ _ (slot g (goal.at.clear-requires g c).After-take_at-value) c.self.inside.directory.bits c.self.invariant.marked.marks
 
 pub invariant_of-self : goal.invariant_of-self
 invariant_of-self g c =
     let after = (goal.at.invariant_of-self g c).After-take_at-value in
-    let before = filled-bound g.K.IntKey.number_of c.index_mut-slot.result.now.pairs c.args.at.key c.take_at-value.result.1 (bound g after) in
     record {
       marked = record {
         table = table g after;
-        marks = rw c.take_at-value.ensures.marks (marks-removed _ _ _ _ _ (slot g after) c.self.inside.directory.bits c.self.invariant.marked.marks c.take_at-value.new.self before);
+        marks = rw c.clear.ensures (marks-set _ _ _ _ _ (slot g after) c.self.inside.directory.bits c.self.invariant.marked.marks c.take_at-value.new.self false c.if-not-is_filled.ensures);
       };
       count = c.self.invariant.count ∙ sym (length-set _ _ _);
     }
 
-pub returns-clause-value : goal.returns-clause-value
-returns-clause-value g c =
-    let after = (goal.at.returns-clause-value g c).After-take_at-value in
+pub invariant_of-self-else-not-is_filled : goal.invariant_of-self-else-not-is_filled
+invariant_of-self-else-not-is_filled g c =
+    let after = (goal.at.invariant_of-self-else-not-is_filled g c).After-take_at-value in
+    let before = filled-bound g.K.IntKey.number_of c.index_mut-slot.result.now.pairs c.args.at.key c.take_at-value.result.1 (bound g after) in
+    record {
+      marked = record {
+        table = table g after;
+        marks = marks-kept _ _ _ _ _ (slot g after) c.self.inside.directory.bits c.self.invariant.marked.marks c.take_at-value.new.self (before ∙ c.if-not-is_filled.ensures);
+      };
+      count = c.self.invariant.count ∙ sym (length-set _ _ _);
+    }
+
+pub returns-then-not-is_filled-clause-value : goal.returns-then-not-is_filled-clause-value
+returns-then-not-is_filled-clause-value g c =
+    let after = (goal.at.returns-then-not-is_filled-clause-value g c).After-take_at-value in
     rw (← c.self.view_is) (value_of-here _ _ _ _ _ (slot g after) ∙ bound g after)
 
-pub returns-clause-walk : goal.returns-clause-walk
-returns-clause-walk g c =
-    let after = (goal.at.returns-clause-walk g c).After-take_at-value in
+pub returns-then-not-is_filled-clause-walk : goal.returns-then-not-is_filled-clause-walk
+returns-then-not-is_filled-clause-walk g c =
+    let after = (goal.at.returns-then-not-is_filled-clause-walk g c).After-take_at-value in
+    rw (← c.self.view_is) (walk-taken _ _ _ _ _ (slot g after) c.take_at-value.new.self (taken g after))
+
+pub returns-else-not-is_filled-clause-value : goal.returns-else-not-is_filled-clause-value
+returns-else-not-is_filled-clause-value g c =
+    let after = (goal.at.returns-else-not-is_filled-clause-value g c).After-take_at-value in
+    rw (← c.self.view_is) (value_of-here _ _ _ _ _ (slot g after) ∙ bound g after)
+
+pub returns-else-not-is_filled-clause-walk : goal.returns-else-not-is_filled-clause-walk
+returns-else-not-is_filled-clause-walk g c =
+    let after = (goal.at.returns-else-not-is_filled-clause-walk g c).After-take_at-value in
     rw (← c.self.view_is) (walk-taken _ _ _ _ _ (slot g after) c.take_at-value.new.self (taken g after))

@@ -1,11 +1,11 @@
 use Rattle.std.proofs.Common.{◌≡◌, ◌<◌, ◌∷◌, length, set, length-set, get_or, [], sym, ap, arith, ◌∙◌}
 use Rattle.intmap.specs.Passing.{ArePassed}
-use Rattle.intmap.specs.Slots.{rows, joined, IsTable}
-use Rattle.intmap.proofs.FilledLemmas.{place-below}
-use Rattle.intmap.proofs.FrontLemmas.{row-filled, rows-passed, joined-passed, joined-front, IsTable-front, IsMarkedTable-emptied_front, IsMarkedTable-kept_front, ArePassed-front}
-use Rattle.intmap.proofs.PlacesLemmas.{IsNextMark, IsNextMark-first, unmarked-behind}
-use Rattle.intmap.proofs.RetainSlotsLemmas.{next-within}
-use Rattle.intmap.proofs.TableLemmas.{get_or-rows, walk_of-joined}
+use Rattle.intmap.specs.Tables.Slots.{rows, joined, IsTable}
+use Rattle.intmap.proofs.Tables.FilledLemmas.{place-below}
+use Rattle.intmap.proofs.Tables.FrontLemmas.{row-filled, rows-passed, joined-passed, joined-front, IsTable-front, IsMarkedTable-emptied_front, IsMarkedTable-kept_front, ArePassed-front}
+use Rattle.intmap.proofs.Tables.PlacesLemmas.{IsNextMark, IsNextMark-first, unmarked-behind}
+use Rattle.intmap.proofs.Tables.RetainSlotsLemmas.{next-within}
+use Rattle.intmap.proofs.Tables.TableLemmas.{get_or-rows, walk_of-joined}
 use Rattle.intmap.proofs.table.Table.take_front.Goals as goal
 use Rattle.intmap.proofs.table.Table.take_front.Goals.{In-Some, After-take_front-key, then-not-is_filled, else-not-is_filled}
 

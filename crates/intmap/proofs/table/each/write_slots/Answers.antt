@@ -1,13 +1,13 @@
 use Rattle.std.proofs.Common.{◌≡◌, ◌<◌, ◌∙◌, [], ◌∷◌, ◌++◌, length, refl, sym, ap, subst, arith, get_or, length-set, append_assoc}
-use Rattle.intmap.specs.Bits.{marked_places}
-use Rattle.intmap.specs.Kept.{WritesStored, TakesStoredMut}
-use Rattle.intmap.specs.Slots.{rows, pairs_at}
+use Rattle.intmap.specs.Tables.Bits.{marked_places}
+use Rattle.intmap.specs.Tables.Kept.{WritesStored, TakesStoredMut}
+use Rattle.intmap.specs.Tables.Slots.{rows, pairs_at}
 use Rattle.intmap.specs.Taking.{TakesEach}
 use Rattle.intmap.specs.Writes.{Writes}
-use Rattle.intmap.proofs.FilledLemmas.{pairs_at-marked}
-use Rattle.intmap.proofs.TableLemmas.{get_or-rows}
+use Rattle.intmap.proofs.Tables.FilledLemmas.{pairs_at-marked}
+use Rattle.intmap.proofs.Tables.TableLemmas.{get_or-rows}
 use Rattle.intmap.proofs.TakingLemmas.{TakesEach-front}
-use Rattle.intmap.proofs.WritesSlotsLemmas.{place-within, Leads-place, TakesEach-place, IsMarkedTable-Writes, Leads-places}
+use Rattle.intmap.proofs.Tables.WritesSlotsLemmas.{place-within, Leads-place, TakesEach-place, IsMarkedTable-Writes, Leads-places}
 use Rattle.intmap.proofs.table.each.write_slots.Goals as goal
 use Rattle.intmap.proofs.table.each.write_slots.Goals.{In-Some}
 

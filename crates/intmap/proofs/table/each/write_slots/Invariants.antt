@@ -1,7 +1,7 @@
 use Rattle.std.proofs.Common.{◌≡◌, ℕ, List, ◌++◌, length}
-use Rattle.intmap.specs.Bits.{marked_places}
-use Rattle.intmap.specs.Kept.{WritesStored, TakesStoredMut}
-use Rattle.intmap.specs.Slots.{rows, joined, pairs_at, IsMarkedTable}
+use Rattle.intmap.specs.Tables.Bits.{marked_places}
+use Rattle.intmap.specs.Tables.Kept.{WritesStored, TakesStoredMut}
+use Rattle.intmap.specs.Tables.Slots.{rows, joined, pairs_at, IsMarkedTable}
 use Rattle.intmap.specs.Taking.{TakesEach}
 use Rattle.intmap.specs.Writes.{Writes}
 use Rattle.intmap.proofs.LeadsLemmas.{Leads}

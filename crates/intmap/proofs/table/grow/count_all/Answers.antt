@@ -2,10 +2,10 @@ use Rattle.std.proofs.Common.{◌≡◌, ◌<◌, ◌++◌, ◌∙◌, length, s
 use Rattle.std.proofs.lemmas.List.{map-append}
 use Rattle.std.proofs.lemmas.List.Elements.{All-head, All-tail}
 use Rattle.std.specs.Map.{keys_of}
-use Rattle.intmap.specs.Slots.{rows, pairs_at}
-use Rattle.intmap.proofs.FilledLemmas.{pairs_at-marked, places-within}
-use Rattle.intmap.proofs.MoveLemmas.{CanCount-first, CanCount-more, IsCounted-none, IsCounted-more}
-use Rattle.intmap.proofs.TableLemmas.{get_or-rows}
+use Rattle.intmap.specs.Tables.Slots.{rows, pairs_at}
+use Rattle.intmap.proofs.Tables.FilledLemmas.{pairs_at-marked, places-within}
+use Rattle.intmap.proofs.Tables.MoveLemmas.{CanCount-first, CanCount-more, IsCounted-none, IsCounted-more}
+use Rattle.intmap.proofs.Tables.TableLemmas.{get_or-rows}
 use Rattle.intmap.proofs.table.grow.count_all.Goals as goal
 use Rattle.intmap.proofs.table.grow.count_all.Goals.{In-Some, After-index-slots-index}
 

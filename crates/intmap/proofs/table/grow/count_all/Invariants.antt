@@ -1,8 +1,8 @@
 use Rattle.std.proofs.Common.{◌<◌, length}
 use Rattle.std.specs.Prelude.{All}
 use Rattle.std.specs.Map.{keys_of}
-use Rattle.intmap.specs.Moves.{CanCount, IsCounted}
-use Rattle.intmap.specs.Slots.{rows, joined, pairs_at}
+use Rattle.intmap.specs.Tables.Moves.{CanCount, IsCounted}
+use Rattle.intmap.specs.Tables.Slots.{rows, joined, pairs_at}
 use Rattle.intmap.proofs.table.grow.count_all.Given as goal
 
 abbrev pub invariant-loop-index : goal.invariant-loop-index

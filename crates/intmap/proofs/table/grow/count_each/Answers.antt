@@ -2,7 +2,7 @@ use Rattle.std.proofs.Common.{◌≡◌, ◌∙◌, ◌+◌, [], ◌∷◌, ◌+
 use Rattle.std.specs.Map.{keys_of}
 use Rattle.std.proofs.lemmas.List.{map-append, take_all, take_more, take-append-drop}
 use Rattle.intmap.specs.Classes.{IsCapacity}
-use Rattle.intmap.proofs.MoveLemmas.{CanCount-first, CanCount-more, IsCounted-none, IsCounted-more}
+use Rattle.intmap.proofs.Tables.MoveLemmas.{CanCount-first, CanCount-more, IsCounted-none, IsCounted-more}
 use Rattle.intmap.proofs.table.grow.count_each.Goals as goal
 use Rattle.intmap.proofs.table.grow.count_each.Goals.{After-key}
 

@@ -1,6 +1,6 @@
 use Rattle.std.proofs.Common.{take}
 use Rattle.std.specs.Map.{keys_of}
-use Rattle.intmap.specs.Moves.{IsCounted}
+use Rattle.intmap.specs.Tables.Moves.{IsCounted}
 use Rattle.intmap.proofs.table.grow.count_each.Given as goal
 
 abbrev pub invariant-loop-pair : goal.invariant-loop-pair

@@ -2,7 +2,7 @@ use Rattle.std.proofs.Common.{◌≡◌, ◌∙◌, [], ◌∷◌, ◌++◌, len
 use Rattle.std.proofs.Math.Seq.{set-append_seam}
 use Rattle.std.proofs.lemmas.List.{take_more, get_or_push}
 use Rattle.std.specs.Prelude.{slice_set, slice_index_or}
-use Rattle.intmap.proofs.MoveLemmas.{IsRoomy-push}
+use Rattle.intmap.proofs.Tables.MoveLemmas.{IsRoomy-push}
 use Rattle.intmap.proofs.table.grow.with_room.Goals as goal
 use Rattle.intmap.proofs.table.grow.with_room.Goals.{then-count-gt1+in_ok-reserve_behind, else-count-gt1}
 

@@ -1,5 +1,5 @@
 use Rattle.std.proofs.Common.{◌≡◌, length, take, vec_len, vec_capacity}
-use Rattle.intmap.specs.Moves.{IsRoomy}
+use Rattle.intmap.specs.Tables.Moves.{IsRoomy}
 use Rattle.intmap.proofs.table.grow.with_room.Given as goal
 
 abbrev pub invariant-loop-index : goal.invariant-loop-index

@@ -2,9 +2,9 @@ use Rattle.std.proofs.Common.{◌≡◌, ◌∙◌, get_or, [], ◌∷◌, ◌++
 use Rattle.std.specs.Prelude.{nat_lt}
 use Rattle.std.proofs.lemmas.Bool.{ltb-true}
 use Rattle.intmap.specs.Classes.{slot_number}
-use Rattle.intmap.proofs.FilledLemmas.{filled-pushed, place-below, marked-at, marks-set_at}
-use Rattle.intmap.proofs.MarkedLemmas.{row-none}
-use Rattle.intmap.proofs.MoveLemmas.{IsSlotOf, room-here, IsPlaced-one}
+use Rattle.intmap.proofs.Tables.FilledLemmas.{filled-pushed, place-below, marked-at, marks-set_at}
+use Rattle.intmap.proofs.Tables.MarkedLemmas.{row-none}
+use Rattle.intmap.proofs.Tables.MoveLemmas.{IsSlotOf, room-here, IsPlaced-one}
 use Rattle.intmap.proofs.table.place.place.Goals as goal
 use Rattle.intmap.proofs.table.place.place.Goals.{After-index-slots-index, After-set, then-set, else-set}
 

@@ -1,11 +1,11 @@
 use Rattle.std.proofs.Common.{◌≡◌, ℕ, suc, min, ◌<◌, ◌≤◌, ◌∙◌, Some, [], length, get_or, sym, ap, subst, arith}
 use Rattle.std.proofs.Math.Nat.{min-le_right, le-min}
-use Rattle.intmap.specs.Slots.{rows}
-use Rattle.intmap.proofs.MoveLemmas.{IsLeft, IsLeft-at, IsLeft-next}
-use Rattle.intmap.proofs.OldSlotsLemmas.{IsMoved, IsMoved-past, IsMoved-next, IsMoved-end, room-next}
-use Rattle.intmap.proofs.PlacesLemmas.{IsNextMark, IsNextMark-first, unmarked-behind}
-use Rattle.intmap.proofs.RetainSlotsLemmas.{next-within, empty-between, empty-unmarked}
-use Rattle.intmap.proofs.TableLemmas.{get_or-rows}
+use Rattle.intmap.specs.Tables.Slots.{rows}
+use Rattle.intmap.proofs.Tables.MoveLemmas.{IsLeft, IsLeft-at, IsLeft-next}
+use Rattle.intmap.proofs.Tables.OldSlotsLemmas.{IsMoved, IsMoved-past, IsMoved-next, IsMoved-end, room-next}
+use Rattle.intmap.proofs.Tables.PlacesLemmas.{IsNextMark, IsNextMark-first, unmarked-behind}
+use Rattle.intmap.proofs.Tables.RetainSlotsLemmas.{next-within, empty-between, empty-unmarked}
+use Rattle.intmap.proofs.Tables.TableLemmas.{get_or-rows}
 use Rattle.intmap.proofs.table.place.place_all.Goals as goal
 use Rattle.intmap.proofs.table.place.place_all.Goals.{In-Some, After-min-next, In-Some-next}
 

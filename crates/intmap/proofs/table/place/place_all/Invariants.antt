@@ -1,7 +1,7 @@
 use Rattle.std.proofs.Common.{◌-◌, ◌≤◌, length}
-use Rattle.intmap.specs.Slots.{rows}
-use Rattle.intmap.proofs.MoveLemmas.{IsLeft}
-use Rattle.intmap.proofs.OldSlotsLemmas.{IsMoved}
+use Rattle.intmap.specs.Tables.Slots.{rows}
+use Rattle.intmap.proofs.Tables.MoveLemmas.{IsLeft}
+use Rattle.intmap.proofs.Tables.OldSlotsLemmas.{IsMoved}
 use Rattle.intmap.proofs.table.place.place_all.Given as goal
 
 abbrev pub invariant-loop : goal.invariant-loop

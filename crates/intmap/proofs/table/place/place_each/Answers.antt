@@ -2,7 +2,7 @@ use Rattle.std.proofs.Common.{◌≡◌, [], ◌∷◌, ◌∙◌, sym, arith, l
 use Rattle.std.proofs.lemmas.List.{map-id}
 use Rattle.std.proofs.lemmas.Iterator.Adapters.{YieldsList-from_vec}
 use Rattle.std.proofs.lemmas.Iterator.Consumers.{YieldsList-end}
-use Rattle.intmap.proofs.MoveLemmas.{HasRoom-first, HasRoom-more, IsPlaced-none, IsPlaced-more}
+use Rattle.intmap.proofs.Tables.MoveLemmas.{HasRoom-first, HasRoom-more, IsPlaced-none, IsPlaced-more}
 use Rattle.intmap.proofs.table.place.place_each.Goals as goal
 use Rattle.intmap.proofs.table.place.place_each.Goals.{After-drop-pair-iterator}
 

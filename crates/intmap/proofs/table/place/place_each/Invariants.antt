@@ -1,7 +1,7 @@
 use Rattle.std.proofs.Common.{◌≡◌, ◌+◌, length}
 use Rattle.std.specs.Vec.Iter.{into_iter_items}
-use Rattle.intmap.specs.Slots.{rows, AreMarked}
-use Rattle.intmap.specs.Moves.{IsPlaced, HasRoom}
+use Rattle.intmap.specs.Tables.Slots.{rows, AreMarked}
+use Rattle.intmap.specs.Tables.Moves.{IsPlaced, HasRoom}
 use Rattle.intmap.proofs.table.place.place_each.Given as goal
 
 abbrev pub invariant-loop-pair : goal.invariant-loop-pair

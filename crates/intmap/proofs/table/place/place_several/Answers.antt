@@ -1,16 +1,16 @@
 use Rattle.std.proofs.Common.{◌≡◌, ◌∙◌, Option, Some, None, List, [], ◌∷◌, length, ap, arith}
-use Rattle.intmap.specs.Slots.{all_pairs, IsFilledInOrder}
-use Rattle.intmap.proofs.MoveLemmas.{HasRoom-first, HasRoom-more, IsPlaced-none, IsPlaced-more}
+use Rattle.intmap.specs.Tables.Slots.{all_pairs, HasFirst}
+use Rattle.intmap.proofs.Tables.MoveLemmas.{HasRoom-first, HasRoom-more, IsPlaced-none, IsPlaced-more}
 use Rattle.intmap.proofs.table.place.place_several.Goals as goal
 use Rattle.intmap.proofs.table.place.place_several.Goals.{In-Some, After-drop-rest}
 
 -- nothing stands behind where there is no first pair
-gone : {P : Type 0} (first : Option P) (rest : List P) → IsFilledInOrder first rest → first ≡ None → all_pairs first rest ≡ []
+gone : {P : Type 0} (first : Option P) (rest : List P) → HasFirst first rest → first ≡ None → all_pairs first rest ≡ []
 gone None rest filled is = filled
 gone (Some pair) rest filled is = cc
 
 none : (g : _) (c : After-drop-rest g) → c.args.old.pairs ≡ []
-none g c = c.into_parts-first.ensures.pairs ∙ gone _ _ c.into_parts-first.ensures.filled c.in_default.is
+none g c = c.into_parts-first.ensures.pairs ∙ gone _ _ c.into_parts-first.ensures.first c.in_default.is
 
 pub returns-in_default-clause-pairs : goal.returns-in_default-clause-pairs
 returns-in_default-clause-pairs g c = rw (none g c) (IsPlaced-none _ _)

@@ -1,6 +1,6 @@
 use Rattle.std.proofs.Common.{◌+◌, ◌≡◌, ◌∙◌, [], length, ap, sym, arith}
-use Rattle.intmap.proofs.MarkedLemmas.{row-none}
-use Rattle.intmap.proofs.MoveLemmas.{IsPlaced-none}
+use Rattle.intmap.proofs.Tables.MarkedLemmas.{row-none}
+use Rattle.intmap.proofs.Tables.MoveLemmas.{IsPlaced-none}
 use Rattle.intmap.proofs.table.place.place_slot.Goals as goal
 
 pub returns-then-not-is_filled-clause-pairs : goal.returns-then-not-is_filled-clause-pairs

@@ -1,9 +1,9 @@
 use Rattle.std.proofs.Common.{sym, subst}
-use Rattle.intmap.specs.Kept.{unkept}
-use Rattle.intmap.specs.Slots.{Grid, rows, joined}
+use Rattle.intmap.specs.Tables.Kept.{unkept}
+use Rattle.intmap.specs.Tables.Slots.{Grid, rows, joined}
 use Rattle.intmap.specs.Taking.{TakesEach}
 use Rattle.intmap.specs.Writes.{Writes, WritesAt, TakesPairMut}
-use Rattle.intmap.proofs.TableLemmas.{walk_of-joined}
+use Rattle.intmap.proofs.Tables.TableLemmas.{walk_of-joined}
 use Rattle.intmap.proofs.WritesLemmas.{Writes-unkept, TakesEach-stored_mut}
 use Rattle.intmap.proofs.table.each.Table+K+Kept+V+A.write_each.Goals as goal
 

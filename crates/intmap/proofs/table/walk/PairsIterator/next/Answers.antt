@@ -1,9 +1,7 @@
-use Rattle.std.proofs.Common.{◌<◌, ◌∙◌, length, sym}
-use Rattle.std.proofs.lemmas.Bool.{eqb-true}
+use Rattle.std.proofs.Common.{◌≡◌, ◌<◌, ◌∙◌, [], length, sym}
 use Rattle.std.proofs.lemmas.List.{nil_from_length}
 use Rattle.std.proofs.lemmas.List.Elements.{All-head, All-tail}
-use Rattle.intmap.proofs.SlotLemmas.{turned-none}
-use Rattle.intmap.proofs.TableLemmas.{get_or-rows}
+use Rattle.intmap.proofs.Tables.TableLemmas.{get_or-rows}
 use Rattle.intmap.proofs.table.walk.PairsIterator.next.Goals as goal
 use Rattle.intmap.proofs.table.walk.PairsIterator.next.Goals.{In-Some-next}
 
@@ -19,9 +17,9 @@ pub loop-pair-preserved : goal.loop-pair-preserved
 loop-pair-preserved g c = record {
   pairs =
       let none = sym c.take.ensures.value ∙ c.in_default.is in
-      let gone = nil_from_length c.loop-pair.self-inside.rest.now (eqb-true _ 0 (sym c.is_empty.ensures ∙ c.if-not-is_empty.false)) in
+      let gone : c.loop-pair.self-inside.rest.now ≡ [] = nil_from_length c.loop-pair.self-inside.rest.now c.in_default-split_first.ensures.cases in
       let row = get_or-rows c.loop-pair.self-inside.slots.now c.in-Some-next.place c.slot_at.result.now (within g (goal.at.loop-pair-preserved g c).In-Some-next) in
       rw (← c.parts.ensures, c.slot_at.ensures, ← row)
-      (rw (none, turned-none c.loop-pair.self-inside.rest.now c.loop-pair.self-inside.is_turned gone, c.in-Some-next.ensures.steps) at c.loop-pair.invariant.pairs);
+      (rw (none, gone, c.in-Some-next.ensures.steps) at c.loop-pair.invariant.pairs);
   within = All-tail (λ place. place < length c.loop-pair.self-inside.slots.now) c.in-Some-next.place c.next.new.self (rw c.in-Some-next.ensures.steps at c.loop-pair.invariant.within);
 }

@@ -1,12 +1,12 @@
 use Rattle.std.proofs.Common.{◌≡◌, ◌<◌, ◌++◌, length}
-use Rattle.std.specs.Prelude.{All, cond, reverse}
+use Rattle.std.specs.Prelude.{All}
 use Rattle.std.specs.Option.{option_copied}
-use Rattle.intmap.specs.Slots.{all_pairs, rows, pairs_at}
+use Rattle.intmap.specs.Tables.Slots.{all_pairs, rows, pairs_at}
 use Rattle.intmap.proofs.table.walk.PairsIterator.next.Given as goal
 
 abbrev pub invariant-loop-pair : goal.invariant-loop-pair
 invariant-loop-pair g l = record {
-  pairs : all_pairs (option_copied l.self-inside.first) (cond l.self-inside.is_turned (reverse l.self-inside.rest.now) l.self-inside.rest.now) ++ pairs_at (rows l.self-inside.slots.now) l.self-inside.places ≡ l.fn.self;
+  pairs : all_pairs (option_copied l.self-inside.first) l.self-inside.rest.now ++ pairs_at (rows l.self-inside.slots.now) l.self-inside.places ≡ l.fn.self;
   within : All (λ place. place < length l.self-inside.slots.now) l.self-inside.places;
 }
 

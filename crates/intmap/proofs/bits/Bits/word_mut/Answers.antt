@@ -1,0 +1,23 @@
+use Rattle.std.proofs.Common.{◌≡◌, ◌*◌, ◌/◌, ◌<◌, ◌∙◌, refl, ap, arith, List, Bool, length, get_or}
+use Rattle.std.proofs.lemmas.Grind.{get_or_default_zero}
+use Rattle.intmap.specs.Tables.Bits.{with_word}
+use Rattle.intmap.proofs.Tables.BitsLemmas.{length-marks_of, marks_of-with_word, IsWordOf-marks_of}
+use Rattle.intmap.proofs.bits.Bits.word_mut.Goals as goal
+
+pub index_mut-requires : goal.index_mut-requires
+index_mut-requires g c =
+    let l = length-marks_of c.self.inside.words.items in
+    let m = ap (λ (marks : List Bool). length marks) c.self.view_is in
+    omega (arith, c.requires, l, m, c.self.inside.words.ok.0)
+
+pub returns : goal.returns
+returns g c =
+    let words = c.self.inside.words.items in
+    let l = length-marks_of words in
+    let m = ap (λ (marks : List Bool). length marks) c.self.view_is in
+    let below : c.args.place < 64 * length words = omega (arith, c.requires, l, m) in
+    let word : c.index_mut.result.now ≡ get_or words (c.args.place / 64) 0 =
+    c.index_mut.ensures.value ∙ get_or_default_zero words (c.args.place / 64) c.index_mut.result.now (omega (arith, below)) in (
+      (refl, λ w. marks_of-with_word words c.args.place w below ∙ ap (λ (marks : List Bool). with_word marks c.args.place w) c.self.view_is),
+      record { writes_back = tt; word = rw (← c.self.view_is, word) (IsWordOf-marks_of words c.args.place below) },
+    )

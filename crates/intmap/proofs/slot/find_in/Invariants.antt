@@ -1,0 +1,10 @@
+use Rattle.std.proofs.Common.{◌≡◌, ◌+◌}
+use Rattle.intmap.specs.Classes.{same_key}
+use Rattle.intmap.proofs.PositionLemmas.{IsPassed}
+use Rattle.intmap.proofs.slot.find_in.Given as goal
+
+abbrev pub invariant-loop-i : goal.invariant-loop-i
+invariant-loop-i g l = record {
+  passed : IsPassed (λ p. same_key g.K.IntKey.number_of l.key p.0) l.pairs l.i;
+  counted : l.steps ≡ l.fn.steps + l.i;
+}

@@ -1,0 +1,3 @@
+-- Proofs that stand among the definitions, since definitions are built on them.
+pub mod EqualityLaws
+pub mod Written

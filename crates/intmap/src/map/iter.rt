@@ -1,0 +1,206 @@
+//! The iterators of a map. Each goes through the slots in turn, and through each slot from front to
+//! back.
+ghost use Rattle.std.specs.Iterator.{YieldsFirstBy, item_count, YieldsFirst};
+ghost use Rattle.std.specs.Prelude.{◌≡◌};
+ghost use Rattle.std.specs.Map.{keys_of, values_of};
+ghost use Rattle.intmap.specs.Map.{IsMap};
+ghost use Rattle.intmap.specs.Passing.{ArePassed};
+
+mod drain;
+mod writing;
+
+use crate::kept::Kept;
+use crate::key::IntKey;
+use crate::map::IntMap;
+use crate::table::walk::Pairs;
+pub use drain::Drain;
+use std::alloc::{Allocator, Global};
+use std::marker::Model;
+pub use writing::{IterMut, ValuesMut};
+
+/// The pairs of a map by reference, made by [`IntMap::iter`](crate::IntMap::iter). Contracts see
+/// it as the list of the pairs that are left.
+#[derive(Drop)]
+pub struct Iter<'a, K: IntKey, V, A: Allocator + Copy = Global> {
+    pub(crate) pairs: Pairs<'a, K, Kept<V>, A>,
+}
+
+impl<'a, K: IntKey, V, A: Allocator + Copy> Model for Iter<'a, K, V, A> {
+    ghost use Rattle.std.specs.Prelude.{List};
+    ghost use Rattle.intmap.specs.Tables.Kept.{unkept};
+
+    ghost Value = { List (K × V) };
+
+    ghost view = { λ it. unkept it.pairs };
+}
+
+impl<'a, K: IntKey, V, A: Allocator + Copy> Iterator for Iter<'a, K, V, A> {
+    type Item = (&'a K, &'a V);
+
+    ghost next_gives = { YieldsFirstBy (λ item. (item.0.now, item.1.now)) (λ rest. rest) };
+
+    ghost remaining = { item_count (λ rest. rest) };
+
+    fn next(&mut self) -> Option<(&'a K, &'a V)> {
+        let (key, kept) = self.pairs.next()?;
+        Some((key, &kept.value))
+    }
+}
+
+/// The keys of a map by reference, made by [`IntMap::keys`](crate::IntMap::keys). Contracts see it
+/// as the list of the keys that are left.
+#[derive(Drop)]
+pub struct Keys<'a, K: IntKey, V, A: Allocator + Copy = Global> {
+    pub(crate) pairs: Iter<'a, K, V, A>,
+}
+
+impl<'a, K: IntKey, V, A: Allocator + Copy> Model for Keys<'a, K, V, A> {
+    ghost use Rattle.std.specs.Prelude.{List};
+    ghost use Rattle.std.specs.Map.{keys_of};
+
+    ghost Value = { List K };
+
+    ghost view = { λ it. keys_of it.pairs };
+}
+
+impl<'a, K: IntKey, V, A: Allocator + Copy> Iterator for Keys<'a, K, V, A> {
+    type Item = &'a K;
+
+    ghost next_gives = { YieldsFirstBy (λ key. key.now) (λ rest. rest) };
+
+    ghost remaining = { item_count (λ rest. rest) };
+
+    fn next(&mut self) -> Option<&'a K> {
+        let (key, _) = self.pairs.next()?;
+        Some(key)
+    }
+
+    fn size_hint(&self) -> (usize, Option<usize>) {
+        self.pairs.size_hint()
+    }
+}
+
+/// The values of a map by reference, made by [`IntMap::values`](crate::IntMap::values). Contracts
+/// see it as the list of the values that are left.
+#[derive(Drop)]
+pub struct Values<'a, K: IntKey, V, A: Allocator + Copy = Global> {
+    pub(crate) pairs: Iter<'a, K, V, A>,
+}
+
+impl<'a, K: IntKey, V, A: Allocator + Copy> Model for Values<'a, K, V, A> {
+    ghost use Rattle.std.specs.Prelude.{List};
+    ghost use Rattle.std.specs.Map.{values_of};
+
+    ghost Value = { List V };
+
+    ghost view = { λ it. values_of it.pairs };
+}
+
+impl<'a, K: IntKey, V, A: Allocator + Copy> Iterator for Values<'a, K, V, A> {
+    type Item = &'a V;
+
+    ghost next_gives = { YieldsFirstBy (λ value. value.now) (λ rest. rest) };
+
+    ghost remaining = { item_count (λ rest. rest) };
+
+    fn next(&mut self) -> Option<&'a V> {
+        let (_, value) = self.pairs.next()?;
+        Some(value)
+    }
+
+    fn size_hint(&self) -> (usize, Option<usize>) {
+        self.pairs.size_hint()
+    }
+}
+
+/// The pairs of a map by value, made by [`IntMap::into_iter`](crate::IntMap::into_iter). Contracts
+/// see it as the list of the pairs that are left.
+#[derive(Drop)]
+pub struct IntoIter<K: IntKey, V, A: Allocator + Copy = Global> {
+    pub(crate) map: IntMap<K, V, A>,
+    pub(crate) from: usize,
+    ghost passed: { ArePassed K.number_of map.walk map.capacity from },
+}
+
+impl<K: IntKey, V, A: Allocator + Copy> Model for IntoIter<K, V, A> {
+    ghost use Rattle.std.specs.Prelude.{List};
+
+    ghost Value = { List (K × V) };
+
+    ghost view = { λ it. it.map.walk };
+}
+
+impl<K: IntKey, V: Drop, A: Allocator + Copy> Iterator for IntoIter<K, V, A> {
+    type Item = (K, V);
+
+    ghost next_gives = { YieldsFirst (λ rest. rest) };
+
+    ghost remaining = { item_count (λ rest. rest) };
+
+    fn next(&mut self) -> Option<(K, V)> {
+        self.map.take_front(&mut self.from)
+    }
+}
+
+impl<K: IntKey, V, A: Allocator + Copy> IntMap<K, V, A> {
+    /// An iterator over the pairs by reference, in iteration order. Neither this call nor a step of
+    /// the iterator fails.
+    ///
+    /// ```text
+    /// after insert(0, 10), insert(1, 11) and insert(4, 14) into 4 slots:
+    /// for (key, value) in map.iter()    0 and 10, then 4 and 14, then 1 and 11
+    /// ```
+    pub fn iter(&self) -> Iter<'_, K, V, A>
+        ensures walk { result ≡ self.now.walk }
+        ensures map { IsMap K.number_of K.is_key self.now }
+    {
+        Iter {
+            pairs: self.table.pairs(),
+        }
+    }
+
+    /// An iterator over the keys by reference, in iteration order. Neither this call nor a step of
+    /// the iterator fails.
+    pub fn keys(&self) -> Keys<'_, K, V, A>
+        ensures walk { result ≡ keys_of self.now.walk }
+        ensures map { IsMap K.number_of K.is_key self.now }
+    {
+        Keys { pairs: self.iter() }
+    }
+
+    /// An iterator over the values by reference, in iteration order. Neither this call nor a step
+    /// of the iterator fails.
+    pub fn values(&self) -> Values<'_, K, V, A>
+        ensures walk { result ≡ values_of self.now.walk }
+        ensures map { IsMap K.number_of K.is_key self.now }
+    {
+        Values { pairs: self.iter() }
+    }
+}
+
+impl<'a, K: IntKey, V, A: Allocator + Copy> IntoIterator for &'a IntMap<K, V, A> {
+    type Item = (&'a K, &'a V);
+
+    type IntoIter = Iter<'a, K, V, A>;
+
+    ghost into_iter_gives = { λ map it. it ≡ map.now.walk };
+
+    fn into_iter(self) -> Iter<'a, K, V, A> {
+        self.iter()
+    }
+}
+
+impl<K: IntKey, V: Drop, A: Allocator + Copy> IntoIterator for IntMap<K, V, A> {
+    type Item = (K, V);
+
+    type IntoIter = IntoIter<K, V, A>;
+
+    ghost into_iter_gives = { λ map it. it ≡ map.walk };
+
+    /// An iterator over the pairs by value, in iteration order. Neither this call nor a step of the
+    /// iterator fails. Each step moves the other pairs of its slot up by one place. Dropping the
+    /// iterator drops the pairs that are left.
+    fn into_iter(self) -> IntoIter<K, V, A> {
+        IntoIter { map: self, from: 0 }
+    }
+}

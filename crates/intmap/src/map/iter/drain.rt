@@ -1,0 +1,70 @@
+//! Removal of pairs from the front of the walk, one by one.
+ghost use Rattle.std.specs.Prelude.{◌≡◌};
+ghost use Rattle.std.specs.Iterator.{item_count};
+ghost use Rattle.intmap.specs.Passing.{ArePassed};
+ghost use Rattle.intmap.specs.Map.{IsMap};
+
+use crate::key::IntKey;
+use crate::map::IntMap;
+use std::alloc::{Allocator, Global};
+
+/// Removes one pair of a map at each step and returns it, made by
+/// [`IntMap::drain`](crate::IntMap::drain). At every moment the map has the pairs that are still to
+/// come, and its length counts these. If the iterator is dropped early, they stay, in their order.
+/// They also stay if it is forgotten, but no clause says that. Dropping it takes constant time,
+/// however many are left.
+pub struct Drain<'a, K: IntKey, V, A: Allocator + Copy = Global> {
+    pub(crate) map: &'a mut IntMap<K, V, A>,
+    pub(crate) from: usize,
+    ghost passed: { ArePassed K.number_of map.now.walk map.now.capacity from },
+}
+
+impl<'a, K: IntKey, V: Drop, A: Allocator + Copy> Iterator for Drain<'a, K, V, A> {
+    ghost use Rattle.intmap.specs.Draining.{DrainsFirst, drain_rest};
+
+    type Item = (K, V);
+
+    ghost next_gives = { DrainsFirst };
+
+    ghost remaining = { item_count drain_rest };
+
+    fn next(&mut self) -> Option<(K, V)> {
+        self.map.take_front(&mut self.from)
+    }
+}
+
+impl<'a, K: IntKey, V, A: Allocator + Copy> Drop for Drain<'a, K, V, A> {
+    ghost use Rattle.intmap.specs.Draining.{drained_map};
+    ghost use Rattle.intmap.specs.Map.{IsMap};
+
+    fn drop(self)
+        ensures state { self.exit.0.now ≡ drained_map self.entry }
+        ensures map_after { IsMap K.number_of K.is_key self.exit.0.now }
+    {
+        let Drain { map, from: _ } = self;
+        map.known();
+    }
+}
+
+impl<K: IntKey, V, A: Allocator + Copy> IntMap<K, V, A> {
+    ghost use Rattle.intmap.specs.Draining.{drained_map, drain_lender};
+
+    /// An iterator that removes one pair at each step and returns it, in iteration order. At every
+    /// moment, the pairs that it returned and then the pairs that the map has are the walk at the
+    /// start. The capacity, the load factor and both counts stay, and the slots keep their memory.
+    /// Each step moves the other pairs of its slot up by one place. It allocates nothing and never
+    /// fails.
+    ///
+    /// ```text
+    /// after insert(0, 10), insert(4, 14) and insert(8, 18) into 4 slots, where they share one:
+    /// map.drain().next()    the pair 0 and 10, and then the map has 4: 14 and 8: 18
+    /// ```
+    pub fn drain(&mut self) -> Drain<'_, K, V, A>
+        ensures lender { drain_lender result ≡ self.entry.ghost_name }
+        ensures state { drained_map result ≡ self.old }
+        ensures map { IsMap K.number_of K.is_key self.old }
+    {
+        self.known();
+        Drain { map: self, from: 0 }
+    }
+}

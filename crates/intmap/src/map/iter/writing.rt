@@ -1,0 +1,210 @@
+//! Mutable references to the values, one after another, as an iterator or for a closure.
+ghost use Rattle.std.specs.Iterator.{YieldsFirstBy, item_count};
+ghost use Rattle.std.specs.Prelude.{◌≡◌, List, length, ◌↔◌};
+ghost use Rattle.std.specs.Borrow.{sem};
+ghost use Rattle.std.specs.Map.{keys_of, values_of};
+ghost use Rattle.intmap.specs.Lending.Apart.{lent_pairs};
+ghost use Rattle.intmap.specs.Lending.{map_lends_values};
+ghost use Rattle.intmap.specs.Map.{IsMap};
+ghost use Rattle.intmap.specs.Values.{revalued, revalued_map};
+ghost use Rattle.intmap.specs.Bindings.{IsBound};
+ghost use Rattle.intmap.specs.Taking.{TakesEach};
+ghost use Rattle.intmap.specs.Writes.{Writes, WritesAt, TakesPairMut};
+
+use crate::kept::{Hole, Lent};
+use crate::key::IntKey;
+use crate::map::IntMap;
+use crate::table::Table;
+use crate::table::walk::Pairs;
+use std::alloc::{Allocator, Global};
+use std::marker::{Model, PhantomData};
+
+/// The pairs of a map, each with a mutable reference to its value, made by
+/// [`IntMap::iter_mut`](crate::IntMap::iter_mut). Contracts see it as the list of the pairs that
+/// are left, with the name of the loan of all values.
+#[derive(Drop)]
+pub struct IterMut<'a, K: IntKey, V, A: Allocator + Copy = Global> {
+    pub(crate) pairs: Pairs<'a, K, Hole<V>, A>,
+    pub(crate) lent: Lent<'a, V>,
+}
+
+impl<'a, K: IntKey, V, A: Allocator + Copy> Model for IterMut<'a, K, V, A> {
+    ghost use base.Fml.{GName};
+    ghost use Rattle.std.specs.Prelude.{◌≡◌, List};
+    ghost use Rattle.std.specs.Map.{values_of};
+    ghost use Rattle.intmap.specs.Lending.Apart.{lent_pairs};
+
+    ghost Value = { List (K × V) × GName };
+
+    ghost view = { λ it. (lent_pairs it.pairs, it.lent.behind) };
+
+    ghost invariant = { λ it. it.lent.cells ≡ values_of it.pairs };
+}
+
+impl<'a, K: IntKey, V, A: Allocator + Copy> Iterator for IterMut<'a, K, V, A> {
+    type Item = (&'a K, &'a mut V);
+
+    ghost next_gives = { YieldsFirstBy (λ item. (item.0.now, item.1.now)) (λ it. it.0) };
+
+    ghost remaining = { item_count (λ it. it.0) };
+
+    fn next(&mut self) -> Option<(&'a K, &'a mut V)> {
+        let (key, hole) = self.pairs.next()?;
+        Some((key, self.lent.take_first(hole)))
+    }
+
+    fn size_hint(&self) -> (usize, Option<usize>) {
+        self.pairs.size_hint()
+    }
+}
+
+/// The values of a map by mutable reference, made by
+/// [`IntMap::values_mut`](crate::IntMap::values_mut). Contracts see it as the list of the values
+/// that are left, with the name of the loan of all values.
+#[derive(Drop)]
+pub struct ValuesMut<'a, K: IntKey, V, A: Allocator + Copy = Global> {
+    pub(crate) pairs: IterMut<'a, K, V, A>,
+}
+
+impl<'a, K: IntKey, V, A: Allocator + Copy> Model for ValuesMut<'a, K, V, A> {
+    ghost use base.Fml.{GName};
+    ghost use Rattle.std.specs.Prelude.{List};
+    ghost use Rattle.std.specs.Map.{values_of};
+
+    ghost Value = { List V × GName };
+
+    ghost view = { λ it. (values_of it.pairs.0, it.pairs.1) };
+}
+
+impl<'a, K: IntKey, V, A: Allocator + Copy> Iterator for ValuesMut<'a, K, V, A> {
+    type Item = &'a mut V;
+
+    ghost next_gives = { YieldsFirstBy (λ value. value.now) (λ it. it.0) };
+
+    ghost remaining = { item_count (λ it. it.0) };
+
+    fn next(&mut self) -> Option<&'a mut V> {
+        let (_, value) = self.pairs.next()?;
+        Some(value)
+    }
+
+    fn size_hint(&self) -> (usize, Option<usize>) {
+        self.pairs.size_hint()
+    }
+}
+
+impl<K: IntKey, V, A: Allocator + Copy> IntMap<K, V, A> {
+    /// Lends the values, and shares the keys and where the values lie.
+    fn lend<'a>(&'a mut self) -> (&'a Table<K, Hole<V>, A>, Lent<'a, V>)
+        ensures* writes_back { sem 𝓛 (map_lends_values K.row V.row A.row K.IntKey.own K.PartialEq
+            A.Allocator self.entry result.1.behind) }
+        ensures holes { (lent_pairs result.0.now.walk ≡ self.old.walk)
+            × (result.1.cells ≡ values_of result.0.now.walk)
+            × IsMap K.number_of K.is_key self.old }
+    {
+        let table = &raw mut self.table as *const Table<K, Hole<V>, A>;
+        (unsafe { &*table }, Lent { mark: PhantomData })
+    }
+
+    /// An iterator over the pairs in iteration order, each with a mutable reference to its value.
+    /// It allocates nothing. Neither this call nor a step of the iterator fails.
+    ///
+    /// However far the iterator gets, and even if it is forgotten, the keys, their order, the
+    /// length, the capacity, the load factor and both counts are what they were. No clause says
+    /// which values are left.
+    ///
+    /// ```text
+    /// for (key, value) in map.iter_mut() { *value = *key; }    each value is now its key
+    /// ```
+    pub fn iter_mut(&mut self) -> IterMut<'_, K, V, A>
+        ensures* writes_back { sem 𝓛 (map_lends_values K.row V.row A.row K.IntKey.own K.PartialEq
+            A.Allocator self.entry result.1) }
+        ensures walk { result.0 ≡ self.old.walk }
+        ensures keys { (vs : List V)
+            → keys_of (revalued self.old.walk vs) ≡ keys_of self.old.walk }
+        ensures len { (vs : List V) → length (revalued self.old.walk vs) ≡ length self.old.walk }
+        ensures map { IsMap K.number_of K.is_key self.old }
+        ensures map_after { (vs : List V) → IsMap K.number_of K.is_key (revalued_map self.old vs) }
+    {
+        let (table, lent) = self.lend();
+        IterMut {
+            pairs: table.pairs(),
+            lent,
+        }
+    }
+
+    /// An iterator over the values in iteration order, by mutable reference. It allocates nothing.
+    /// Neither this call nor a step of the iterator fails. What stays of the map is what
+    /// [`iter_mut`](IntMap::iter_mut) leaves of it.
+    ///
+    /// ```text
+    /// for value in map.values_mut() { *value += 1; }    each value is one more
+    /// ```
+    pub fn values_mut(&mut self) -> ValuesMut<'_, K, V, A>
+        ensures* writes_back { sem 𝓛 (map_lends_values K.row V.row A.row K.IntKey.own K.PartialEq
+            A.Allocator self.entry result.1) }
+        ensures walk { result.0 ≡ values_of self.old.walk }
+        ensures keys { (vs : List V)
+            → keys_of (revalued self.old.walk vs) ≡ keys_of self.old.walk }
+        ensures len { (vs : List V) → length (revalued self.old.walk vs) ≡ length self.old.walk }
+        ensures map { IsMap K.number_of K.is_key self.old }
+        ensures map_after { (vs : List V) → IsMap K.number_of K.is_key (revalued_map self.old vs) }
+    {
+        ValuesMut {
+            pairs: self.iter_mut(),
+        }
+    }
+}
+
+impl<'a, K: IntKey, V, A: Allocator + Copy> IntoIterator for &'a mut IntMap<K, V, A> {
+    type Item = (&'a K, &'a mut V);
+
+    type IntoIter = IterMut<'a, K, V, A>;
+
+    ghost into_iter_gives = { λ map it. it.0 ≡ map.now.walk };
+
+    /// The pairs, each with a mutable reference to its value, as by [`iter_mut`](IntMap::iter_mut).
+    fn into_iter(self) -> IterMut<'a, K, V, A>
+        ensures* writes_back { sem 𝓛 (map_lends_values K.row V.row A.row K.IntKey.own K.PartialEq
+            A.Allocator self.entry result.1) }
+        ensures into_iter_gives { result.0 ≡ self.old.walk }
+        ensures keys { (vs : List V)
+            → keys_of (revalued self.old.walk vs) ≡ keys_of self.old.walk }
+        ensures len { (vs : List V) → length (revalued self.old.walk vs) ≡ length self.old.walk }
+        ensures map { IsMap K.number_of K.is_key self.old }
+        ensures map_after { (vs : List V) → IsMap K.number_of K.is_key (revalued_map self.old vs) }
+    {
+        self.iter_mut()
+    }
+}
+
+impl<K: IntKey, V, A: Allocator + Copy> IntMap<K, V, A> {
+    /// Calls the closure once for each pair, in iteration order, with the key and a mutable
+    /// reference to the value. What the closure changes of its own state is there at the next call.
+    ///
+    /// The closure must be callable at these pairs in this order, each time in the state that the
+    /// call before left. Nothing is required of other keys, values and calls.
+    ///
+    /// The keys, their order and their number stay, and so do the capacity, the load factor and
+    /// both counts. No key is compared. It never fails and allocates nothing. Apart from the calls,
+    /// its time grows with the number of pairs and, by one bit each, of slots.
+    ///
+    /// ```text
+    /// after insert(0, 10), insert(1, 11) and insert(4, 14) into 4 slots the walk is 0, 4, 1:
+    /// for_each_mut(|key, value| *value += key)    leaves 10, 18 and 12
+    /// ```
+    pub fn for_each_mut<F: FnMut(K, &mut V)>(&mut self, f: F)
+        requires { TakesEach (WritesAt F.FnMut) (TakesPairMut F.FnMut) f self.old.walk }
+        ensures values { (last : F) × Writes (WritesAt F.FnMut) f self.old.walk self.new.walk last }
+        ensures state { self.new ≡ record self.old { walk = self.new.walk } }
+        ensures keys { keys_of self.new.walk ≡ keys_of self.old.walk }
+        ensures updates { (q : K)
+            → IsBound K.number_of self.new.walk q ↔ IsBound K.number_of self.old.walk q }
+        ensures len { length self.new.walk ≡ length self.old.walk }
+        ensures map { IsMap K.number_of K.is_key self.old }
+        ensures map_after { IsMap K.number_of K.is_key self.new }
+    {
+        let mut f = f;
+        self.table.write_each(&mut f);
+    }
+}

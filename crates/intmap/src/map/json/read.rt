@@ -1,0 +1,145 @@
+//! A map from a JSON object.
+ghost use Rattle.std.specs.Prelude.{◌≡◌, ◌↔◌, ◌^◌, ◌<◌, ◌≤◌, length, IfOk, IfErr, IsErrOf, IsNone, IsSomeAnd, IsTrue, ◌≢◌, ℕ, IfSome, IfNone, slice_index};
+ghost use Rattle.serde_json.specs.Events.{members_len};
+ghost use Rattle.serde_json.specs.Find.{as_object};
+ghost use Rattle.serde_json.specs.View.{view, members_view};
+ghost use Rattle.serde_json.specs.Written.{members_have_float};
+ghost use Rattle.intmap.specs.Json.{HasKeyTexts, Shows, ShowsBindings, AreRead, AreTooMany, MayRefuseToRead, IsKeyText};
+ghost use Rattle.intmap.specs.Map.{IsMap};
+
+use crate::map::IntMap;
+use crate::map::json::{JsonCause, holds_float};
+use serde_json::{Map, Value};
+use std::alloc::Global;
+
+impl IntMap<u64, Value> {
+    /// A map from the number of each member's key to a clone of the member's value. It is made by
+    /// [`with_capacity`](IntMap::with_capacity) of the number of members, and then
+    /// [`insert`](IntMap::insert) of each member in turn, in the byte order of the keys. The JSON
+    /// value stays as it is.
+    ///
+    /// Each key must be the canonical text of a number of at most 2^64 - 1: decimal digits with no
+    /// sign and no leading zero.
+    ///
+    /// It fails with [`JsonCause::NotAnObject`] exactly if the JSON value is no object; otherwise
+    /// with [`JsonCause::BadKey`] exactly if a key isn't canonical; otherwise with
+    /// [`JsonCause::HoldsFloat`] exactly if a member's value holds, at any depth, a number that is
+    /// neither a `u64` nor an `i64`. These are checked in this order, without allocating. After
+    /// that it fails if `with_capacity` or an insertion does, with the same cause, or if a clone
+    /// does, with [`JsonCause::Memory`]. What was made until then is dropped.
+    ///
+    /// Each key is read twice, and each part of each value is checked once and cloned once. The
+    /// rest is the cost of the insertions. The check and the clone go as deep as the value, and so
+    /// does dropping it: only the stack bounds how deep a value may be.
+    ///
+    /// ```text
+    /// of {"10":null,"5":true}             2 slots, and the walk is 10: null, 5: true
+    /// of {"0":0,"1":1,"2":2,"3":3}        8 slots, and the walk is 0: 0, 2: 2, 1: 1, 3: 3
+    /// of {"05":null}, {"+5":1.5}, {"":0}  Err(JsonCause::BadKey)
+    /// of {"5":1.5}                        Err(JsonCause::HoldsFloat)
+    /// of [5]                              Err(JsonCause::NotAnObject)
+    /// ```
+    pub fn from_json(alloc: Global, value: &Value) -> Result<IntMap<u64, Value>, JsonCause>
+        // what is made
+        ensures reads { IfOk result
+            (λ made. IsSomeAnd (as_object (view value.now)) (λ ms. AreRead ms made)) }
+        ensures len { IfOk result (λ made. IsSomeAnd (as_object (view value.now))
+            (λ ms. length made.walk ≡ members_len ms)) }
+        ensures shows { IfOk result (λ made. Shows (view value.now) made.walk) }
+        ensures map { IfOk result (IsMap (λ key. key) (λ key. key < 2 ^ 64)) }
+
+        // when it is refused
+        ensures not_an_object { IsErrOf result JsonCause.NotAnObject
+            ↔ IsNone (as_object (view value.now)) }
+        ensures bad_key { IsErrOf result JsonCause.BadKey
+            ↔ IsSomeAnd (as_object (view value.now)) (λ ms. ¬ HasKeyTexts ms) }
+        ensures holds_float { IsErrOf result JsonCause.HoldsFloat
+            ↔ IsSomeAnd (as_object (view value.now))
+            (λ ms. HasKeyTexts ms × IsTrue (members_have_float ms)) }
+        ensures too_large { IsErrOf result JsonCause.TooLarge
+            → IsSomeAnd (as_object (view value.now)) AreTooMany }
+        ensures memory { IsErrOf result JsonCause.Memory
+            → IsSomeAnd (as_object (view value.now)) (λ ms. members_len ms ≤ 2 ^ 63) }
+    {
+        let Some(members) = value.as_object() else {
+            return Err(JsonCause::NotAnObject);
+        };
+        if !have_key_texts(members) {
+            return Err(JsonCause::BadKey);
+        }
+        if holds_float(value) {
+            return Err(JsonCause::HoldsFloat);
+        }
+        IntMap::of_members(alloc, members)
+    }
+
+    /// A map of the members of an object whose keys are texts of numbers.
+    fn of_members(
+        alloc: Global,
+        members: &Map<String, Value>,
+    ) -> Result<IntMap<u64, Value>, JsonCause>
+        requires texts { HasKeyTexts (members_view members.now.entries) }
+        ensures reads { IfOk result (AreRead (members_view members.now.entries)) }
+        ensures len { IfOk result
+            (λ made. length made.walk ≡ members_len (members_view members.now.entries)) }
+        ensures shows { IfOk result
+            (λ made. ShowsBindings (members_view members.now.entries) made.walk) }
+        ensures map { IfOk result (IsMap (λ key. key) (λ key. key < 2 ^ 64)) }
+        ensures refused { IfErr result (MayRefuseToRead (members_view members.now.entries)) }
+    {
+        let mut map = IntMap::with_capacity(alloc, members.len())?;
+        for (text, value) in members.iter() {
+            let key = known_key(text.as_str());
+            drop(map.insert(key, value.clone()?)?);
+        }
+        Ok(map)
+    }
+}
+
+/// Whether the key of each member is the text of a number.
+fn have_key_texts(members: &Map<String, Value>) -> bool
+    ensures value { IsTrue result ↔ HasKeyTexts (members_view members.now.entries) }
+{
+    for (text, _) in members.iter() {
+        if key_of(text.as_str()).is_none() {
+            return false;
+        }
+    }
+    true
+}
+
+/// The number below 2^64 whose decimal text this is, or `None` if there is none. It allocates
+/// nothing.
+///
+/// ```text
+/// "18446744073709551615"    Some(18446744073709551615)
+/// "05", "+5", "" and " 5"   None
+/// ```
+pub(crate) fn key_of(text: &str) -> Option<u64>
+    ensures some { IfSome result (IsKeyText text.now) }
+    ensures none { IfNone result ((k : ℕ) → ¬ IsKeyText text.now k) }
+{
+    if !begins_as_printed(text.as_bytes()) {
+        return None;
+    }
+    text.parse::<u64>().ok()
+}
+
+/// Whether the text begins with no plus, and with a zero only if that zero is all of it.
+fn begins_as_printed(bytes: &[u8]) -> bool
+    ensures { IsTrue result
+        ↔ (slice_index bytes.now 0 ≢ 43) × (slice_index bytes.now 0 ≡ 48 → length bytes.now ≡ 1) }
+{
+    match bytes {
+        [] | [b'0'] => true,
+        [first, ..] => *first != b'+' && *first != b'0',
+    }
+}
+
+/// The number whose decimal text this is. The caller knows that there is one.
+pub(crate) fn known_key(text: &str) -> u64
+    requires printed { (k : ℕ) × IsKeyText text.now k }
+    ensures value { IsKeyText text.now result }
+{
+    key_of(text).unwrap_or(0)
+}

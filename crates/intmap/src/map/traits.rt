@@ -1,0 +1,108 @@
+//! Equality of maps, their text, and clones.
+ghost use Rattle.intmap.specs.Equality.{maps_equal};
+ghost use Rattle.intmap.specs.Laws.EqualityLaws.{IsPartialEquivalence-maps_equal, IsEquivalence-maps_equal};
+ghost use Rattle.std.specs.Prelude.{◌≡◌, length, IfOk, IfErr};
+ghost use Rattle.std.specs.Map.{keys_of};
+ghost use Rattle.intmap.specs.Cloning.{IsClone, BindsClones};
+ghost use Rattle.intmap.specs.Map.{IsMap};
+
+use crate::key::IntKey;
+use crate::map::IntMap;
+use crate::refusal::Cause;
+use crate::steps::Steps;
+use std::alloc::Allocator;
+use std::fmt;
+
+impl<K: IntKey, V: PartialEq, A: Allocator + Copy> PartialEq for IntMap<K, V, A> {
+    ghost eq = { maps_equal K.number_of V.eq };
+
+    ghost laws = { IsPartialEquivalence-maps_equal K.number_of V.eq V.laws };
+
+    /// Whether both maps have the same keys, each with equal values. The order of the pairs, the
+    /// capacities, the load factors and the counts don't matter.
+    ///
+    /// The lengths are compared first. If they are equal, each key of this map is looked up in the
+    /// other, in iteration order, up to the first that is absent there or has an unequal value. It
+    /// never fails, and its comparisons of keys aren't counted.
+    ///
+    /// ```text
+    /// insert(0, 10) and then insert(4, 14), or the other way round: the maps are equal
+    /// with insert(4, 15) in place of insert(4, 14), or with one pair more, they aren't
+    /// ```
+    fn eq(&self, other: &IntMap<K, V, A>) -> bool {
+        if self.len() != other.len() {
+            return false;
+        }
+        for (key, value) in self {
+            match other.get(*key) {
+                Some(theirs) => {
+                    if value != theirs {
+                        return false;
+                    }
+                }
+                None => return false,
+            }
+        }
+        true
+    }
+}
+
+impl<K: IntKey, V: Eq, A: Allocator + Copy> Eq for IntMap<K, V, A> {
+    ghost laws = { IsEquivalence-maps_equal K.number_of V.eq V.Eq.laws };
+}
+
+impl<K: IntKey + fmt::Debug, V: fmt::Debug, A: Allocator + Copy> fmt::Debug for IntMap<K, V, A> {
+    /// Writes the pairs in iteration order, as `{21: 'a', 3: 'b'}`, or `{}` if there is none. It
+    /// ignores the flags of the format. It fails only if writing fails.
+    fn fmt<W: fmt::Write>(&self, f: &mut fmt::Formatter<W>) -> fmt::Result {
+        f.write_str("{")?;
+        let mut first = true;
+        for (key, value) in self {
+            if !first {
+                f.write_str(", ")?;
+            }
+            first = false;
+            write!(f, "{key:?}: {value:?}")?;
+        }
+        f.write_str("}")
+    }
+}
+
+impl<K: IntKey, V: Clone, A: Allocator + Copy> IntMap<K, V, A> {
+    /// A map with the same keys in the same order, each with a clone of its value, and with the
+    /// same capacity and load factor. Its own counts begin at zero. This map stays as it is. No key
+    /// is compared. Time and memory grow with the number of slots and of pairs.
+    ///
+    /// It first allocates the bits and the slots. Then, as it clones the values, it allocates room
+    /// for the pairs of each slot behind its first one, and for no more than these.
+    ///
+    /// It fails only with [`Cause::Memory`], if one of these allocations or the clone of a value
+    /// fails. What was made until then is dropped.
+    ///
+    /// ```text
+    /// after insert(0, 10), insert(1, 11) and insert(4, 14) into 4 slots:
+    /// map.clone()    Ok(made), and the walk of made is 0 and 10, then 4 and 14, then 1 and 11
+    /// ```
+    pub fn clone(&self) -> Result<IntMap<K, V, A>, Cause>
+        ensures clone { IfOk result (IsClone V.is_clone self.now) }
+        ensures keys { IfOk result (λ made. keys_of made.walk ≡ keys_of self.now.walk) }
+        ensures values { IfOk result
+            (λ made. BindsClones K.number_of V.is_clone self.now.walk made.walk) }
+        ensures len { IfOk result (λ made. length made.walk ≡ length self.now.walk) }
+        ensures memory { IfErr result (λ cause. cause ≡ Cause.Memory) }
+        ensures map { IsMap K.number_of K.is_key self.now }
+        ensures map_after { IfOk result (IsMap K.number_of K.is_key) }
+    {
+        let Ok(table) = self.table.clone() else {
+            return Err(Cause::Memory);
+        };
+        Ok(IntMap {
+            table,
+            len: self.len,
+            limit: self.limit,
+            factor: self.factor,
+            placed: Steps::new(),
+            compared: Steps::new(),
+        })
+    }
+}
