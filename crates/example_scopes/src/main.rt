@@ -1,29 +1,75 @@
-//! A symbol table with scopes. It reads the lines `enter`, `leave`, `let SYMBOL VALUE` and `SYMBOL`,
-//! and prints the value of each symbol that it is asked for, or `undefined`.
+//! A symbol table with scopes. It reads the lines `enter`, `leave`, `let SYMBOL VALUE` and
+//! `SYMBOL`, and prints the value of each symbol that it is asked for, or `undefined`.
 //!
 //! Run it by `rt run` in this folder; it reads the file `stdin` there.
 #![tactic(auto)]
 
-mod table;
+ghost use Rattle.std.specs.Prelude.{◌≡◌, ◌==◌, ℕ, Some, OnOk, cond};
+ghost use Rattle.example_scopes.specs.Scopes.{value_in, outer_scopes};
 
-use anyhow::{Context, Result};
-use std::alloc::AllocError;
-use table::Table;
+use anyhow::{Context, Result, bail};
+use intmap::IntMap;
+use std::alloc::{AllocError, Global};
+
+/// The values of the symbols that one scope defines. Open scopes are a list, the innermost last.
+type Scope = IntMap<u64, i64>;
+
+/// Enters a scope, in which nothing is defined yet.
+fn enter(alloc: Global, scopes: &mut Vec<Scope>) -> Result<()>
+    ensures values { OnOk result ((q : ℕ)
+        → value_in scopes.new.items q ≡ value_in scopes.old.items q) }
+    ensures outer { OnOk result (outer_scopes scopes.new.items ≡ scopes.old.items) }
+{
+    scopes.push(IntMap::new(alloc).map_err(|_| AllocError)?)?;
+    Ok(())
+}
+
+/// Leaves the innermost scope: every symbol has again what it had when the scope was entered.
+fn leave(scopes: &mut Vec<Scope>)
+    ensures { scopes.new.items ≡ outer_scopes scopes.old.items }
+{
+    scopes.pop();
+}
+
+/// Gives the symbol a value in the innermost scope. The scopes around it stay as they were.
+fn define(scopes: &mut Vec<Scope>, symbol: u64, value: i64) -> Result<()>
+    ensures values { OnOk result ((q : ℕ) → value_in scopes.new.items q
+        ≡ cond (q == symbol) (Some value) (value_in scopes.old.items q)) }
+    ensures outer { outer_scopes scopes.new.items ≡ outer_scopes scopes.old.items }
+{
+    let Some(scope) = scopes.last_mut() else {
+        bail!("no scope is open");
+    };
+    scope.insert(symbol, value).map_err(|_| AllocError)?;
+    Ok(())
+}
+
+/// The value of the symbol in the innermost scope that defines it.
+fn value_of(scopes: &[Scope], symbol: u64) -> Option<i64>
+    ensures { result ≡ value_in scopes.now symbol }
+{
+    for scope in scopes.iter().rev() {
+        if let Some(value) = scope.get(symbol) {
+            return Some(*value);
+        }
+    }
+    None
+}
 
 fn main(rt: HostRuntime) -> Result<()> {
-    let mut table = Table::new(rt.alloc()).map_err(|_| AllocError)?;
+    let mut scopes = Vec::new(rt.alloc());
+    enter(rt.alloc(), &mut scopes)?;
     for line in rt.lines(rt.alloc()) {
         let line = line?;
         let line = line.as_str().trim();
         if line == "enter" {
-            table.enter()?;
+            enter(rt.alloc(), &mut scopes)?;
         } else if line == "leave" {
-            table.leave().map_err(|_| AllocError)?;
+            leave(&mut scopes);
         } else if let Some(definition) = line.strip_prefix("let ") {
             let (symbol, value) = definition.split_once(' ').context("a symbol and a value")?;
-            let defined = table.define(symbol.parse()?, value.parse()?);
-            defined.map_err(|_| AllocError)?;
-        } else if let Some(value) = table.get(line.parse()?) {
+            define(&mut scopes, symbol.parse()?, value.parse()?)?;
+        } else if let Some(value) = value_of(&scopes, line.parse()?) {
             println!(rt; "{value}")?;
         } else {
             println!(rt; "undefined")?;
