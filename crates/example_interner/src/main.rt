@@ -4,10 +4,60 @@
 //! Run it by `rt run` in this folder; it reads the file `stdin` there.
 #![tactic(auto)]
 
-mod interner;
+ghost use Rattle.std.specs.Prelude.{◌≡◌, ℕ, IfOk, IsSome, None, Some, length, option_map};
+ghost use Rattle.std.specs.HashMap.{get_by_text};
+ghost use Rattle.example_interner.specs.Words.{word_at, IsIndex};
 
 use anyhow::Result;
-use interner::Interner;
+use intmap::IntMap;
+use std::alloc::{AllocError, Global};
+use std::collections::HashMap;
+
+/// Words with ids, which are handed out from 0 up.
+#[derive(Drop)]
+struct Interner {
+    ids: HashMap<String, u32>,
+    words: IntMap<u32, String>,
+    ghost index: { IsIndex (get_by_text ids) (word_at words.walk) (length words.walk) },
+}
+
+impl Interner {
+    /// Words of which none has an id yet.
+    fn new(alloc: Global) -> Result<Interner>
+        ensures { IfOk result (λ interner. (id : ℕ) → word_at interner.words.walk id ≡ None) }
+    {
+        Ok(Interner {
+            ids: HashMap::new(alloc),
+            words: IntMap::new(alloc).map_err(|_| AllocError)?,
+        })
+    }
+
+    /// The id of the word: the one that it was given before, or else the next.
+    ///
+    /// Proved: the word of this id is that word, and ids that were handed out before keep theirs.
+    fn id_of(&mut self, alloc: Global, word: &str) -> Result<u32>
+        ensures here { IfOk result (λ id. word_at self.new.words.walk id ≡ Some word.now) }
+        ensures kept { (id : ℕ) → IsSome (word_at self.old.words.walk id)
+            → word_at self.new.words.walk id ≡ word_at self.old.words.walk id }
+    {
+        if let Some(id) = self.ids.get(word) {
+            return Ok(*id);
+        }
+        let id = u32::try_from(self.words.len())?;
+        let key = String::from_str(alloc, word)?;
+        let text = String::from_str(alloc, word)?;
+        self.words.insert(id, text).map_err(|_| AllocError)?;
+        self.ids.insert(key, id)?;
+        Ok(id)
+    }
+
+    /// The word of the id, if it was handed out.
+    fn word_of(&self, id: u32) -> Option<&str>
+        ensures { option_map (λ word. word.now) result ≡ word_at self.now.words.walk id }
+    {
+        Some(self.words.get(id)?.as_str())
+    }
+}
 
 fn main(rt: HostRuntime) -> Result<()> {
     let mut interner = Interner::new(rt.alloc())?;
@@ -19,7 +69,7 @@ fn main(rt: HostRuntime) -> Result<()> {
         }
         println!(rt; "{ids:?}")?;
     }
-    for id in 0..interner.len() {
+    for id in 0..interner.words.len() {
         if let Some(word) = interner.word_of(u32::try_from(id)?) {
             println!(rt; "{id}: {word}")?;
         }
