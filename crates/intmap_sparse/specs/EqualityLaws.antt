@@ -9,13 +9,7 @@ use Rattle.std.specs.List.{list_all}
 use Rattle.std.specs.Ordering.{int_eq}
 use Rattle.intmap.specs.Bindings.{value_of}
 use Rattle.intmap_sparse.specs.Vectors.{Vector, value_at, HaveSameValues, are_same_along, vectors_equal}
-
--- both tests pass in either order
-and-turned : (a b : Bool) → (a && b) ≡ (b && a)
-and-turned true true = refl
-and-turned true false = refl
-and-turned false true = refl
-and-turned false false = refl
+use Rattle.std.proofs.Math.Bool.{and_comm}
 
 -- a test that each stored place passes is passed by a place that is stored
 unstored-or_passing : (test : ℕ → Bool) (V : List (ℕ × ℤ)) (place : ℕ) → list_all (λ pair. test pair.0) V ≡ true
@@ -61,7 +55,7 @@ equal-from_HaveSameValues v w same =
 -- equality of vectors is symmetric and transitive
 pub IsPartialEquivalence-vectors_equal : IsPartialEquivalence vectors_equal
 IsPartialEquivalence-vectors_equal = record {
-  symm = λ v w. and-turned (are_same_along v.walk w.walk) (are_same_along w.walk v.walk);
+  symm = λ v w. and_comm (are_same_along v.walk w.walk) (are_same_along w.walk v.walk);
   trans = λ u v w first second.
       equal-from_HaveSameValues u w (λ place. HaveSameValues-from_equal u v first place ∙ HaveSameValues-from_equal v w second place);
 }

@@ -10,13 +10,7 @@ use Rattle.intmap.specs.Classes.{same_key}
 use Rattle.intmap.specs.Bindings.{value_of, BindSame}
 use Rattle.intmap.specs.Equality.{are_bound_alike, maps_equal}
 use Rattle.intmap.specs.Map.{MapState}
-
--- both tests pass in either order
-and-turned : (a b : Bool) → (a && b) ≡ (b && a)
-and-turned true true = refl
-and-turned true false = refl
-and-turned false true = refl
-and-turned false false = refl
+use Rattle.std.proofs.Math.Bool.{and_comm}
 
 module _ {V : Type 0} (equal : V → V → Bool) where
   -- an option is compared with none alike from both sides
@@ -97,7 +91,7 @@ module _ {K V : Type 0} (number : K → ℕ) (equal : V → V → Bool) where
 
   -- equality of maps is symmetric
   maps_equal-symm : (m n : MapState K V) → maps_equal number equal m n ≡ maps_equal number equal n m
-  maps_equal-symm m n = and-turned (are_bound_alike number equal m.walk n.walk) (are_bound_alike number equal n.walk m.walk)
+  maps_equal-symm m n = and_comm (are_bound_alike number equal m.walk n.walk) (are_bound_alike number equal n.walk m.walk)
 
   -- what binds the same as a list that binds the same as a third one binds the same as that
   BindSame-trans : IsPartialEquivalence equal → (L M N : List (K × V)) → BindSame number equal L M → BindSame number equal M N → BindSame number equal L N
