@@ -344,7 +344,7 @@ def run_many(it, insertion, *numbers):
     return f"{new} new, {len(it.walk())} walked"
 
 
-def sizes_of(it):
+def collisions_of(it):
     """A list of each number of pairs above 1 that a slot has, by its first appearance, with the number
     of slots that have so many."""
     counts = {}
@@ -361,7 +361,7 @@ def sizes_of(it):
 def collisions(it, refuses, shown):
     if refuses:
         raise NoMemory
-    one = sizes_of(it)
+    one = collisions_of(it)
     it.asked += REQUESTS_OF_A_NEW_MAP + one.asked
     return shown(one)
 
@@ -566,7 +566,7 @@ def command_answer(it, command, refuses):
         if refuses:
             return "refused: memory"
         it.asked += 1
-    if name == "collisions" and sizes_of(it).pairs:
+    if name == "collisions" and collisions_of(it).pairs:
         it.asked += 1
     return answer(it, command, refuses)
 

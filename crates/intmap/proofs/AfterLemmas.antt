@@ -9,9 +9,9 @@ use Rattle.intmap.proofs.SlotNumberLemmas.{slot_number-below}
 use Rattle.intmap.proofs.DistinctLemmas.{length-walk_of, length-take_key, length-put_pair}
 use Rattle.intmap.proofs.BindingLemmas.{value_of-walk_of, value_of-take_key, value_of-put_pair, Updates-from}
 
-module _ {K V : Type 0} (number : K → ℕ) (is_key : K → Type 0) where
+module _ {K V : Type 0} (number : K → ℕ) (is_valid : K → Type 0) where
   -- with a pair put in its key has the value, and each other key its own
-  pub Updates-put : (m : MapState K V) (W : List (K × V)) (D : ℕ) (k : K) (v : V) → IsMap number is_key m → IsCapacity D → W ≡ walk_of number (put_pair number m.walk m.capacity k v) D → Updates number m.walk W k (Some v)
+  pub Updates-put : (m : MapState K V) (W : List (K × V)) (D : ℕ) (k : K) (v : V) → IsMap number is_valid m → IsCapacity D → W ≡ walk_of number (put_pair number m.walk m.capacity k v) D → Updates number m.walk W k (Some v)
   Updates-put m W D k v is_map cap is =
       Updates-from number m.walk W k (Some v) (λ q.
       ap (λ L. value_of number L q) is
@@ -26,14 +26,14 @@ module _ {K V : Type 0} (number : K → ℕ) (is_key : K → Type 0) where
       ∙ length-put_pair number m.walk m.capacity k v
 
   -- the same after an insertion
-  pub Updates-insert : (m n : MapState K V) (k : K) (v : V) → IsMap number is_key m → IsCapacity n.capacity → n ≡ after_insert number m k v n.capacity → Updates number m.walk n.walk k (Some v)
+  pub Updates-insert : (m n : MapState K V) (k : K) (v : V) → IsMap number is_valid m → IsCapacity n.capacity → n ≡ after_insert number m k v n.capacity → Updates number m.walk n.walk k (Some v)
   Updates-insert m n k v is_map cap state = Updates-put m n.walk n.capacity k v is_map cap (ap (λ s. s.walk) state)
 
   pub length-insert : (m n : MapState K V) (k : K) (v : V) → IsCapacity n.capacity → n ≡ after_insert number m k v n.capacity → length n.walk ≡ length m.walk + cond (is_some (value_of number m.walk k)) 0 1
   length-insert m n k v cap state = length-put m n.walk n.capacity k v cap (ap (λ s. s.walk) state)
 
   -- with a key taken out it has no value, and each other key its own
-  pub Updates-taken : (m : MapState K V) (W : List (K × V)) (k : K) → IsMap number is_key m → W ≡ walk_of number (take_key number m.walk m.capacity k) m.capacity → Updates number m.walk W k None
+  pub Updates-taken : (m : MapState K V) (W : List (K × V)) (k : K) → IsMap number is_valid m → W ≡ walk_of number (take_key number m.walk m.capacity k) m.capacity → Updates number m.walk W k None
   Updates-taken m W k is_map is =
       Updates-from number m.walk W k None (λ q.
       ap (λ L. value_of number L q) is
@@ -41,21 +41,21 @@ module _ {K V : Type 0} (number : K → ℕ) (is_key : K → Type 0) where
       ∙ value_of-take_key number m.walk m.capacity k q is_map.distinct)
 
   -- and there is one pair less where the key was bound
-  pub length-taken : (m : MapState K V) (W : List (K × V)) (k : K) → IsMap number is_key m → W ≡ walk_of number (take_key number m.walk m.capacity k) m.capacity → length W + cond (is_some (value_of number m.walk k)) 1 0 ≡ length m.walk
+  pub length-taken : (m : MapState K V) (W : List (K × V)) (k : K) → IsMap number is_valid m → W ≡ walk_of number (take_key number m.walk m.capacity k) m.capacity → length W + cond (is_some (value_of number m.walk k)) 1 0 ≡ length m.walk
   length-taken m W k is_map is =
       let walked : length W ≡ length (take_key number m.walk m.capacity k) = ap length is ∙ length-walk_of number (take_key number m.walk m.capacity k) m.capacity (λ q. slot_number-below number q m.capacity is_map.capacity) in
       let taken = length-take_key number m.walk m.capacity k in
       omega (arith, walked, taken)
 
   -- the same after a removal
-  pub Updates-remove : (m n : MapState K V) (k : K) → IsMap number is_key m → n ≡ after_remove number m k → Updates number m.walk n.walk k None
+  pub Updates-remove : (m n : MapState K V) (k : K) → IsMap number is_valid m → n ≡ after_remove number m k → Updates number m.walk n.walk k None
   Updates-remove m n k is_map state = Updates-taken m n.walk k is_map (ap (λ s. s.walk) state)
 
-  pub length-remove : (m n : MapState K V) (k : K) → IsMap number is_key m → n ≡ after_remove number m k → length n.walk + cond (is_some (value_of number m.walk k)) 1 0 ≡ length m.walk
+  pub length-remove : (m n : MapState K V) (k : K) → IsMap number is_valid m → n ≡ after_remove number m k → length n.walk + cond (is_some (value_of number m.walk k)) 1 0 ≡ length m.walk
   length-remove m n k is_map state = length-taken m n.walk k is_map (ap (λ s. s.walk) state)
 
   -- a key that is missing leaves the map where it is taken out
-  pub without_missing : (m : MapState K V) (k : K) → IsMap number is_key m → value_of number m.walk k ≡ None → without_key number m k ≡ m
+  pub without_missing : (m : MapState K V) (k : K) → IsMap number is_valid m → value_of number m.walk k ≡ None → without_key number m k ≡ m
   without_missing m k is_map none =
       let kept : take_key number m.walk m.capacity k ≡ m.walk = swap_out-none (λ p. same_key number k p.0) _ m.walk (position-from_none (same_key number k) m.walk none) in
       let own : walk_of number (take_key number m.walk m.capacity k) m.capacity ≡ m.walk = ap (λ L. walk_of number L m.capacity) kept ∙ is_map.own in

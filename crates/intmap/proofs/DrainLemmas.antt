@@ -3,14 +3,14 @@ use Rattle.std.proofs.Common.{◌≡◌, ℕ, suc, ◌-◌, List, [], ◌∷◌,
 use Rattle.std.specs.Prelude.{cond, map}
 use Rattle.std.proofs.lemmas.List.Sums.{sum_by-cons}
 use Rattle.intmap.specs.Classes.{same_key}
-use Rattle.intmap.specs.Growth.{IsLimit}
+use Rattle.intmap.specs.Growth.{IsThreshold}
 use Rattle.intmap.specs.Tables.Kept.{unkept, IsConsistent}
 use Rattle.intmap.specs.Map.{IsMapWalk}
 use Rattle.intmap.specs.Passing.{ArePassed}
 use Rattle.intmap.specs.Walk.{walk_of, slot_of}
 use Rattle.intmap.specs.declared.kept.Kept.{Kept}
 use Rattle.intmap.proofs.LoadFactorLemmas.{IsLoaded-fewer, capacity-positive}
-use Rattle.intmap.proofs.MappedLemmas.{slot_of-with_values, walk_of-with_values}
+use Rattle.intmap.proofs.MappedLemmas.{slot_of-map_values, walk_of-map_values}
 
 nil-mapped : {X Y : Type 0} (h : X → Y) (xs : List X) → map h xs ≡ [] → xs ≡ []
 nil-mapped h [] e = refl
@@ -19,15 +19,15 @@ nil-mapped h (x ∷ xs) e = cc
 module _ {K V : Type 0} (number : K → ℕ) where
   -- whether slots were passed doesn't depend on the values
   pub ArePassed-unkept : (W : List (K × Kept V)) (C n : ℕ) → ArePassed number W C n → ArePassed number (unkept W) C n
-  ArePassed-unkept W C n passed i lt = slot_of-with_values number (λ (x : Kept V). x.value) W C i ∙ ap unkept (passed i lt)
+  ArePassed-unkept W C n passed i lt = slot_of-map_values number (λ (x : Kept V). x.value) W C i ∙ ap unkept (passed i lt)
 
   pub ArePassed-kept : (W : List (K × Kept V)) (C n : ℕ) → ArePassed number (unkept W) C n → ArePassed number W C n
   ArePassed-kept W C n passed i lt =
-      nil-mapped (λ (p : K × Kept V). (p.0, p.1.value)) (slot_of number W C i) (sym (slot_of-with_values number (λ (x : Kept V). x.value) W C i) ∙ passed i lt)
+      nil-mapped (λ (p : K × Kept V). (p.0, p.1.value)) (slot_of number W C i) (sym (slot_of-map_values number (λ (x : Kept V). x.value) W C i) ∙ passed i lt)
 
-  module _ (is_key : K → Type 0) where
+  module _ (is_valid : K → Type 0) where
     -- a map without its first pair
-    pub IsMapWalk-rest : (p : K × V) (W : List (K × V)) (C F : ℕ) → IsMapWalk number is_key (p ∷ W) C F → walk_of number W C ≡ W → IsMapWalk number is_key W C F
+    pub IsMapWalk-rest : (p : K × V) (W : List (K × V)) (C F : ℕ) → IsMapWalk number is_valid (p ∷ W) C F → walk_of number W C ≡ W → IsMapWalk number is_valid W C F
     IsMapWalk-rest p W C F m own =
         let old = m.count in
         record {
@@ -42,11 +42,11 @@ module _ {K V : Type 0} (number : K → ℕ) where
 
     -- the same of what a map keeps, where the first pair of its table was taken out
     pub IsConsistent-rest : (p : K × Kept V) (W M : List (K × Kept V)) (C D F n most : ℕ) → W ≡ p ∷ M → D ≡ C → walk_of number M D ≡ M
-        → IsConsistent number is_key W C F n most → IsConsistent number is_key M D F (n - 1) most
+        → IsConsistent number is_valid W C F n most → IsConsistent number is_valid M D F (n - 1) most
     IsConsistent-rest p W M C D F n most first same own old = record {
       map =
-          let own_seen : walk_of number (unkept M) D ≡ unkept M = walk_of-with_values number (λ (x : Kept V). x.value) M D ∙ ap unkept own in
+          let own_seen : walk_of number (unkept M) D ≡ unkept M = walk_of-map_values number (λ (x : Kept V). x.value) M D ∙ ap unkept own in
           IsMapWalk-rest (p.0, p.1.value) (unkept M) D F (rw (first, ← same) at old.map) own_seen;
       count = let all = old.count ∙ ap length first in omega (arith, all);
-      limit = subst (λ m. IsLimit m F most) (sym same) old.limit;
+      threshold = subst (λ m. IsThreshold m F most) (sym same) old.threshold;
     }

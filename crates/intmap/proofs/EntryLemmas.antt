@@ -12,7 +12,7 @@ use Rattle.intmap.specs.Classes.{IsCapacity, same_key}
 use Rattle.intmap.specs.Entries.{occupied_with_value, occupied_key}
 use Rattle.intmap.specs.Growth.{IsNext, is_due, next_capacity}
 use Rattle.intmap.specs.Locations.{IsFound}
-use Rattle.intmap.specs.Map.{MapState, IsFull, with_pair, written}
+use Rattle.intmap.specs.Map.{MapState, InsertIsTooLarge, with_pair, written}
 use Rattle.intmap.specs.Walk.{walk_of}
 use Rattle.intmap.proofs.GrowthLemmas.{IsWanted-wanted_capacity}
 use Rattle.intmap.proofs.LocationLemmas.{walk_of-write_value}
@@ -32,9 +32,9 @@ IsNext-next_capacity C n F cap fits = elim (cases_Bool (is_due n)) as (λ _. IsN
   | inr not ↦ rw not refl
 ]
 
--- a map that isn't full has room for one more length
-pub length-not_full : {K V : Type 0} (W : List (K × V)) (C F : ℕ) → (IsFull W C F → ⊥) → length W + 1 < 2 ^ 64
-length-not_full W C F room = elim (cases_lt (length W + 1) (2 ^ 64)) [ inl fits ↦ fits | inr many ↦ absurd (room (inl many)) ]
+-- where an insertion isn't too large, there is room for one more length
+pub length-not_too_large : {K V : Type 0} (W : List (K × V)) (C F : ℕ) → (InsertIsTooLarge W C F → ⊥) → length W + 1 < 2 ^ 64
+length-not_too_large W C F room = elim (cases_lt (length W + 1) (2 ^ 64)) [ inl fits ↦ fits | inr many ↦ absurd (room (inl many)) ]
 
 module _ {K V : Type 0} (number : K → ℕ) where
   write_value-unbound_step : (p : K × V) (L : List (K × V)) (k : K) (v : V) (t : Bool) → same_key number k p.0 ≡ t → (value_of number L k ≡ None → write_value number L k v ≡ L)

@@ -7,7 +7,7 @@ use Rattle.intmap.specs.Bindings.{value_of, take_key, put_pair, write_value, kee
 use Rattle.intmap.specs.Walk.{walk_of, first_of_walk}
 use Rattle.intmap.specs.Reach.{class_size, reach}
 use Rattle.intmap.specs.Growth.{last_due, wanted_capacity, next_capacity, least_power}
-use Rattle.intmap.specs.Figures.{load_of, rate_of, sizes_of}
+use Rattle.intmap.specs.Figures.{load_of, rate_of, collisions_of}
 use Rattle.std.specs.Map.{keys_of}
 
 -- a key that is its own number
@@ -88,11 +88,11 @@ wanted_capacity-greatest : wanted_capacity 2 18446744073709551615 0 ≡ 2 ^ 74
 wanted_capacity-greatest = refl
 
 -- slot 0 has three keys and slot 1 two: in four slots the size 2 comes first
-sizes_of-two : sizes_of itself (pairs_of (0 ∷ 2 ∷ 4 ∷ 1 ∷ 3 ∷ [])) 2 ≡ (3, 1) ∷ (2, 1) ∷ []
-sizes_of-two = refl
+collisions_of-two : collisions_of itself (pairs_of (0 ∷ 2 ∷ 4 ∷ 1 ∷ 3 ∷ [])) 2 ≡ (3, 1) ∷ (2, 1) ∷ []
+collisions_of-two = refl
 
-walk_of-sizes : keys_of (walk_of itself (sizes_of itself (pairs_of (0 ∷ 2 ∷ 4 ∷ 1 ∷ 3 ∷ [])) 2) 4) ≡ 2 ∷ 3 ∷ []
-walk_of-sizes = refl
+walk_of-collisions : keys_of (walk_of itself (collisions_of itself (pairs_of (0 ∷ 2 ∷ 4 ∷ 1 ∷ 3 ∷ [])) 2) 4) ≡ 2 ∷ 3 ∷ []
+walk_of-collisions = refl
 
 -- the even keys struck
 strike_keys-even : keys_of (strike_keys itself (walk_of itself (pairs_of (range_with_len 0 8)) 8) (0 ∷ 2 ∷ 4 ∷ 6 ∷ [])) ≡ 5 ∷ 7 ∷ 1 ∷ 3 ∷ []

@@ -7,7 +7,7 @@ use Rattle.std.proofs.lemmas.List.{reverse-append}
 use Rattle.intmap.specs.Bindings.{value_of}
 use Rattle.intmap.specs.Classes.{same_key}
 use Rattle.intmap.specs.Laws.EqualityLaws.{value_of-same_number}
-use Rattle.intmap.specs.Extending.{IsInserted, AreInserted, new_keys, IsExtended}
+use Rattle.intmap.specs.Extending.{MapInserts, MapInsertsAll, new_keys, IsExtended}
 use Rattle.intmap.specs.Map.{MapState}
 use Rattle.intmap.specs.declared.refusal.Cause.{Cause}
 use Rattle.intmap.specs.declared.refusal.Cause.TheVariants.{Memory, TooLarge}
@@ -84,23 +84,23 @@ module _ {K V : Type 0} (number : K → ℕ) where
           ap (λ o. is_some (option_or A o)) (behind (same_key number k p.0) refl) ∙ sym (ap is_some whole) in
           rw is (let h = rest ∙ ap (λ b. length (new_keys number (p ∷ L) ps) + cond b 0 1) same in omega (arith, h))
 
-module _ {K V : Type 0} (number : K → ℕ) (is_key : K → Type 0) where
+module _ {K V : Type 0} (number : K → ℕ) (is_valid : K → Type 0) where
   -- one accepted insertion more
-  pub AreInserted-push : (m l n : MapState K V) (ps : List (K × V)) (k : K) (v : V) → AreInserted number is_key m ps l → IsInserted number is_key l k v n
-      → AreInserted number is_key m (ps ++ (k, v) ∷ []) n
-  AreInserted-push m l n [] k v before last = (n, subst (λ x. IsInserted number is_key x k v n) before last, refl)
-  AreInserted-push m l n (p ∷ ps) k v before last = (before.0, before.1, AreInserted-push before.0 l n ps k v before.2 last)
+  pub MapInsertsAll-push : (m l n : MapState K V) (ps : List (K × V)) (k : K) (v : V) → MapInsertsAll number is_valid m ps l → MapInserts number is_valid l k v n
+      → MapInsertsAll number is_valid m (ps ++ (k, v) ∷ []) n
+  MapInsertsAll-push m l n [] k v before last = (n, subst (λ x. MapInserts number is_valid x k v n) before last, refl)
+  MapInsertsAll-push m l n (p ∷ ps) k v before last = (before.0, before.1, MapInsertsAll-push before.0 l n ps k v before.2 last)
 
   -- no insertion
-  pub IsExtended-nil : (m : MapState K V) → IsExtended number is_key m [] m
+  pub IsExtended-nil : (m : MapState K V) → IsExtended number is_valid m [] m
   IsExtended-nil m = record { inserted = refl; updates = λ q. refl; len = sym (add-zero (length m.walk)); factor = refl; capacity = omega arith }
 
-  module _ (m l n : MapState K V) (ps : List (K × V)) (k : K) (v : V) (before : IsExtended number is_key m ps l) (last : IsInserted number is_key l k v n) where
+  module _ (m l n : MapState K V) (ps : List (K × V)) (k : K) (v : V) (before : IsExtended number is_valid m ps l) (last : MapInserts number is_valid l k v n) where
     -- one insertion more, which answered so, by what it says of keys and length
     pub IsExtended-push : (old : Option V) → old ≡ value_of number l.walk k → ((q : K) → value_of number n.walk q ≡ cond (same_key number k q) (Some v) (value_of number l.walk q))
-        → length n.walk ≡ length l.walk + cond (is_some old) 0 1 → IsExtended number is_key m (ps ++ (k, v) ∷ []) n
+        → length n.walk ≡ length l.walk + cond (is_some old) 0 1 → IsExtended number is_valid m (ps ++ (k, v) ∷ []) n
     IsExtended-push old was updates len = record {
-      inserted = AreInserted-push m l n ps k v before.inserted last;
+      inserted = MapInsertsAll-push m l n ps k v before.inserted last;
       updates = λ q. updates q ∙ by_case q (same_key number k q) refl;
       len =
           (let more = length-new_keys-push number m.walk ps k v in

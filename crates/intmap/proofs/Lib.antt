@@ -30,7 +30,7 @@ pub mod MembersLemmas
 pub mod Callers
 pub mod MadeLemmas
 pub mod TallyLemmas
-pub mod CrowdLemmas
+pub mod CollisionLemmas
 pub mod Tables
 pub mod Lending
 pub mod Examples

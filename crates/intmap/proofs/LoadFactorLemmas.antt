@@ -7,7 +7,7 @@ use Rattle.std.proofs.lemmas.Nat.{le-div, div_below, pow-add}
 use Rattle.std.proofs.lemmas.Nat.Bits.{and_pow}
 use Rattle.std.proofs.lemmas.Bool.{cases_lt, cases_eq, cases_order, cases_Bool, ltb-false, eq-eqb, ne_eqb, eqb-true, eqb-false}
 use Rattle.intmap.specs.Classes.{IsCapacity}
-use Rattle.intmap.specs.Growth.{IsWanted, IsNext, IsLimit, MeetsLoad, WantsTooMuch, GrowsTooMuch, is_due, last_due, wanted_capacity}
+use Rattle.intmap.specs.Growth.{IsWanted, IsNext, IsThreshold, MeetsLoad, WantsTooMuch, GrowsTooMuch, is_due, last_due, wanted_capacity}
 use Rattle.intmap.proofs.GrowthLemmas.{IsWanted-unique, IsWanted-wanted_capacity}
 
 pub capacity-positive : (C : ℕ) → IsCapacity C → 0 < C
@@ -142,12 +142,12 @@ IsNext-unique C n F D E a b = elim (cases_Bool (is_due n)) [
   | inr not ↦ (let x = rw not at a in let y = rw not at b in x ∙ sym y)
 ]
 
--- what doesn't exceed the limit, or isn't tested, leaves the capacity
-pub IsNext-same : (C F n limit : ℕ) → IsCapacity C → n < 2 ^ 64 → IsLimit C F limit → (is_due n && nat_lt limit n) ≡ false → IsNext C n F C
-IsNext-same C F n limit cap fits lim test = elim (cases_Bool (is_due n)) [
+-- what doesn't exceed the threshold, or isn't tested, leaves the capacity
+pub IsNext-same : (C F n threshold : ℕ) → IsCapacity C → n < 2 ^ 64 → IsThreshold C F threshold → (is_due n && nat_lt threshold n) ≡ false → IsNext C n F C
+IsNext-same C F n threshold cap fits lim test = elim (cases_Bool (is_due n)) [
   | inl due ↦
-      (let under : nat_lt limit n ≡ false = rw due at test in
-      let le = ltb-false limit n under in rw due (IsWanted-same C n F cap ((lim n fits).0 le)))
+      (let under : nat_lt threshold n ≡ false = rw due at test in
+      let le = ltb-false threshold n under in rw due (IsWanted-same C n F cap ((lim n fits).0 le)))
   | inr not ↦ rw not refl
 ]
 
@@ -199,8 +199,8 @@ IsLoaded-fewer C n m F some loaded le four =
     last_due-most (last_due m) n (let a = last_due-le m in omega (arith, a, le)) (last_due-is_due m four) in
     MeetsLoad-fewer C (last_due n) (last_due m) F some (loaded many) less
 
--- one pair more, where growth isn't tested or the limit isn't exceeded
-pub IsLoaded-more : (C n F most : ℕ) → 0 < C → n + 1 < 2 ^ 64 → IsLimit C F most → IsLoaded C n F → (is_due (n + 1) && nat_lt most (n + 1)) ≡ false → IsLoaded C (n + 1) F
+-- one pair more, where growth isn't tested or the threshold isn't exceeded
+pub IsLoaded-more : (C n F most : ℕ) → 0 < C → n + 1 < 2 ^ 64 → IsThreshold C F most → IsLoaded C n F → (is_due (n + 1) && nat_lt most (n + 1)) ≡ false → IsLoaded C (n + 1) F
 IsLoaded-more C n F most some fits lim loaded test four = elim (cases_Bool (is_due (n + 1))) [
   | inl due ↦
       (let under : nat_lt most (n + 1) ≡ false = rw due at test in
@@ -227,7 +227,7 @@ IsLoaded-larger C D n F some le loaded four =
 pub IsNext-changes : (C n F D : ℕ) → F < n * 1000 / C → MeetsLoad D n F → D ≢ C
 IsNext-changes C n F D over meets same = let m : MeetsLoad C n F = subst (λ c. MeetsLoad c n F) same meets in omega (arith, over, m)
 
--- within the limit no more than 2^63 slots are asked for
+-- within the threshold no more than 2^63 slots are asked for
 pub GrowsTooMuch-none : (C n F D : ℕ) → IsCapacity D → IsNext C n F D → GrowsTooMuch C n F → ⊥
 GrowsTooMuch-none C n F D cap next much =
     let same : D ≡ much.0 = IsNext-unique C n F D much.0 next much.1 in

@@ -4,11 +4,11 @@ use Rattle.std.specs.Prelude.{is_some, IsNone, MatchOption}
 use Rattle.std.proofs.lemmas.List.{map-append}
 use Rattle.intmap.specs.Bindings.{value_of, take_key, put_pair, write_value, swap_out}
 use Rattle.intmap.specs.Classes.{same_key, agrees}
-use Rattle.intmap.specs.Extending.{IsInserted, AreInserted, IsMadeOf}
+use Rattle.intmap.specs.Extending.{MapInserts, MapInsertsAll, IsMadeOf}
 use Rattle.intmap.specs.Growth.{IsNext}
 use Rattle.intmap.specs.Map.{MapState, IsMap, IsOutOfRange, IsCapacityAfter, empty_map, after_insert, written}
 use Rattle.intmap.specs.Walk.{walk_of}
-use Rattle.intmap.proofs.ExtendLemmas.{AreInserted-push}
+use Rattle.intmap.proofs.ExtendLemmas.{MapInsertsAll-push}
 use Rattle.intmap.proofs.LocationLemmas.{walk_of-write_value}
 use Rattle.intmap.proofs.MappedLemmas.{swap_out-map}
 use Rattle.intmap.proofs.WriteLemmas.{length-write_value, value_of-write_value, IsMapWalk-written}
@@ -62,9 +62,9 @@ IsNone-alike None p same none = refl
 IsNone-alike (Some v) None same none = let no : false ≡ true = same in cc
 IsNone-alike (Some v) (Some w) same none = none
 
-module _ {K V : Type 0} (number : K → ℕ) (is_key : K → Type 0) where
+module _ {K V : Type 0} (number : K → ℕ) (is_valid : K → Type 0) where
   -- maps with one walk, one capacity and one load factor are maps alike
-  IsMap-alike : (m n : MapState K V) → n.walk ≡ m.walk → n.capacity ≡ m.capacity → n.factor ≡ m.factor → IsMap number is_key m → IsMap number is_key n
+  IsMap-alike : (m n : MapState K V) → n.walk ≡ m.walk → n.capacity ≡ m.capacity → n.factor ≡ m.factor → IsMap number is_valid m → IsMap number is_valid n
   IsMap-alike m n walk capacity factor is = rw (walk, capacity, factor) is
 
   module _ (k : K) (v : V) where
@@ -75,12 +75,12 @@ module _ {K V : Type 0} (number : K → ℕ) (is_key : K → Type 0) where
       factor : n.factor ≡ m.factor
 
     -- what insertions leave of it, where they insert the same pairs with the value written
-    AreInserted-written : (ps : List (K × V)) (m l n : MapState K V) → IsWrittenTo m n → AreInserted number is_key m ps l
-        → (o : MapState K V) × AreInserted number is_key n (write_value number ps k v) o × IsWrittenTo l o
-    AreInserted-written [] m l n is same = (n, refl, rw same is)
-    AreInserted-written (p ∷ ps) m l n is all =
+    MapInsertsAll-written : (ps : List (K × V)) (m l n : MapState K V) → IsWrittenTo m n → MapInsertsAll number is_valid m ps l
+        → (o : MapState K V) × MapInsertsAll number is_valid n (write_value number ps k v) o × IsWrittenTo l o
+    MapInsertsAll-written [] m l n is same = (n, refl, rw same is)
+    MapInsertsAll-written (p ∷ ps) m l n is all =
         let j : MapState K V = all.0 in
-        let one : IsInserted number is_key m p.0 p.1 j = all.1 in
+        let one : MapInserts number is_valid m p.0 p.1 j = all.1 in
         let w : V = cond (same_key number k p.0) v p.1 in
         let i : MapState K V = after_insert number n p.0 w j.capacity in
         let len : length n.walk ≡ length m.walk = ap length is.walk ∙ length-write_value number m.walk k v in
@@ -92,20 +92,20 @@ module _ {K V : Type 0} (number : K → ℕ) (is_key : K → Type 0) where
         ∙ walk_of-write_value number (put_pair number m.walk m.capacity p.0 p.1) j.capacity k v
         ∙ ap (λ W. write_value number W k v) (sym (ap (λ x. x.walk) one.state)) in
         let factor : i.factor ≡ j.factor = is.factor ∙ sym (ap (λ x. x.factor) one.state) in
-        let inserted : IsInserted number is_key n p.0 w i = record {
+        let inserted : MapInserts number is_valid n p.0 w i = record {
           in_range = λ out. one.in_range (IsNone-alike (value_of number m.walk p.0) (value_of number n.walk p.0) bound out.0, rw (len, is.capacity, is.factor) at out.1);
           capacity = rw (len, is.capacity, is.factor) (MatchOption-alike (value_of number m.walk p.0) (value_of number n.walk p.0) (IsNext m.capacity (length m.walk + 1) m.factor j.capacity) (j.capacity ≡ m.capacity) bound one.capacity);
           state = refl;
-          map = IsMap-alike (written number j k v) i walk refl factor (IsMapWalk-written number is_key j.walk j.capacity j.factor k v one.map);
+          map = IsMap-alike (written number j k v) i walk refl factor (IsMapWalk-written number is_valid j.walk j.capacity j.factor k v one.map);
         } in
-        let rest = AreInserted-written ps j l i (record { walk = walk; capacity = refl; factor = factor }) all.2 in
-        (rest.0, (i, subst (λ (r : K × V). IsInserted number is_key n r.0 r.1 i) (sym (rewritten-pair number k v p.0 p.1)) inserted, rest.1), rest.2)
+        let rest = MapInsertsAll-written ps j l i (record { walk = walk; capacity = refl; factor = factor }) all.2 in
+        (rest.0, (i, subst (λ (r : K × V). MapInserts number is_valid n r.0 r.1 i) (sym (rewritten-pair number k v p.0 p.1)) inserted, rest.1), rest.2)
 
     -- a map that was made of pairs, once the value of a key was written in its place
-    pub IsMadeOf-written : (ps : List (K × V)) (m n : MapState K V) → IsMadeOf number is_key ps m → n.walk ≡ write_value number m.walk k v → n.capacity ≡ m.capacity → n.factor ≡ m.factor
-        → IsMadeOf number is_key (write_value number ps k v) n
+    pub IsMadeOf-written : (ps : List (K × V)) (m n : MapState K V) → IsMadeOf number is_valid ps m → n.walk ≡ write_value number m.walk k v → n.capacity ≡ m.capacity → n.factor ≡ m.factor
+        → IsMadeOf number is_valid (write_value number ps k v) n
     IsMadeOf-written ps m n made walk capacity factor =
-        let after = AreInserted-written ps (empty_map 4) made.filled (empty_map 4) (record { walk = refl; capacity = refl; factor = refl }) made.inserted in
+        let after = MapInsertsAll-written ps (empty_map 4) made.filled (empty_map 4) (record { walk = refl; capacity = refl; factor = refl }) made.inserted in
         let w : n.walk ≡ after.0.walk = walk ∙ ap (λ x. write_value number x.walk k v) made.state ∙ sym after.2.walk in
         let c : n.capacity ≡ after.0.capacity = capacity ∙ ap (λ x. x.capacity) made.state ∙ sym after.2.capacity in
         let f : n.factor ≡ after.0.factor = factor ∙ ap (λ x. x.factor) made.state ∙ sym after.2.factor in
@@ -116,19 +116,19 @@ module _ {K V : Type 0} (number : K → ℕ) (is_key : K → Type 0) where
         }
 
   -- insertions keep the load factor
-  AreInserted-factor : (ps : List (K × V)) (m n : MapState K V) → AreInserted number is_key m ps n → n.factor ≡ m.factor
-  AreInserted-factor [] m n same = ap (λ x. x.factor) same
-  AreInserted-factor (p ∷ ps) m n all =
-      let one : IsInserted number is_key m p.0 p.1 all.0 = all.1 in AreInserted-factor ps all.0 n all.2 ∙ ap (λ x. x.factor) one.state
+  MapInsertsAll-factor : (ps : List (K × V)) (m n : MapState K V) → MapInsertsAll number is_valid m ps n → n.factor ≡ m.factor
+  MapInsertsAll-factor [] m n same = ap (λ x. x.factor) same
+  MapInsertsAll-factor (p ∷ ps) m n all =
+      let one : MapInserts number is_valid m p.0 p.1 all.0 = all.1 in MapInsertsAll-factor ps all.0 n all.2 ∙ ap (λ x. x.factor) one.state
 
   -- a map that was made of pairs has the load factor of a new one
-  pub IsMadeOf-factor : (ps : List (K × V)) (m : MapState K V) → IsMadeOf number is_key ps m → m.factor ≡ 909
-  IsMadeOf-factor ps m made = ap (λ x. x.factor) made.state ∙ AreInserted-factor ps (empty_map 4) made.filled made.inserted
+  pub IsMadeOf-factor : (ps : List (K × V)) (m : MapState K V) → IsMadeOf number is_valid ps m → m.factor ≡ 909
+  IsMadeOf-factor ps m made = ap (λ x. x.factor) made.state ∙ MapInsertsAll-factor ps (empty_map 4) made.filled made.inserted
 
   -- a map that was made of pairs, once one more was inserted
-  pub IsMadeOf-inserted : (ps : List (K × V)) (k : K) (v : V) (m n : MapState K V) → IsMadeOf number is_key ps m → (IsOutOfRange number m.walk m.capacity m.factor k → ⊥)
-      → IsCapacityAfter number m.walk m.capacity m.factor k n.capacity → n.walk ≡ walk_of number (put_pair number m.walk m.capacity k v) n.capacity → n.factor ≡ m.factor → IsMap number is_key n
-      → IsMadeOf number is_key (ps ++ (k, v) ∷ []) n
+  pub IsMadeOf-inserted : (ps : List (K × V)) (k : K) (v : V) (m n : MapState K V) → IsMadeOf number is_valid ps m → (IsOutOfRange number m.walk m.capacity m.factor k → ⊥)
+      → IsCapacityAfter number m.walk m.capacity m.factor k n.capacity → n.walk ≡ walk_of number (put_pair number m.walk m.capacity k v) n.capacity → n.factor ≡ m.factor → IsMap number is_valid n
+      → IsMadeOf number is_valid (ps ++ (k, v) ∷ []) n
   IsMadeOf-inserted ps k v m n made in_range capacity put same is_map =
       let f : MapState K V = made.filled in
       let o : MapState K V = after_insert number f k v n.capacity in
@@ -139,7 +139,7 @@ module _ {K V : Type 0} (number : K → ℕ) (is_key : K → Type 0) where
       let l : n.factor ≡ o.factor = same ∙ load in
       record {
         filled = o;
-        inserted = AreInserted-push number is_key (empty_map 4) f o ps k v made.inserted (record {
+        inserted = MapInsertsAll-push number is_valid (empty_map 4) f o ps k v made.inserted (record {
           in_range = λ out. in_range (rw (walk, slots, load) out);
           capacity = rw (walk, slots, load) at capacity;
           state = refl;

@@ -6,7 +6,7 @@ use Rattle.std.proofs.lemmas.List.Elements.{All-nil}
 use Rattle.intmap.specs.Classes.{IsCapacity}
 use Rattle.intmap.specs.Bindings.{HasDistinctKeys, value_of, take_key, put_pair}
 use Rattle.intmap.specs.Walk.{walk_of}
-use Rattle.intmap.specs.Growth.{IsLimit, MeetsLoad, is_due}
+use Rattle.intmap.specs.Growth.{IsThreshold, MeetsLoad, is_due}
 use Rattle.intmap.specs.Map.{MapState, IsMapWalk}
 use Rattle.intmap.specs.Tables.Kept.{unkept, IsConsistent}
 use Rattle.intmap.specs.declared.kept.Kept.{Kept}
@@ -14,16 +14,16 @@ use Rattle.intmap.proofs.SlotNumberLemmas.{slot_number-below}
 use Rattle.intmap.proofs.LoadFactorLemmas.{IsLoaded, IsLoaded-from, IsLoaded-fewer, IsLoaded-more, capacity-positive}
 use Rattle.intmap.proofs.WalkLemmas.{walk_of-walk_of}
 use Rattle.intmap.proofs.DistinctLemmas.{length-walk_of, length-take_key, length-put_pair, HasDistinctKeys-nil, HasDistinctKeys-walk_of, HasDistinctKeys-take_key, HasDistinctKeys-put_pair, All-walk_of, All-take_key, All-put_pair}
-use Rattle.intmap.proofs.MappedLemmas.{walk_of-with_values, take_key-with_values, put_pair-with_values, length-with_values}
+use Rattle.intmap.proofs.MappedLemmas.{walk_of-map_values, take_key-map_values, put_pair-map_values, length-map_values}
 
 -- maps whose changed parts are the same are the same
 pub MapState-same : {K V : Type 0} (W W' : List (K × V)) (C C' F p p' c c' : ℕ) → W ≡ W' → C ≡ C' → p ≡ p' → c ≡ c'
     → ◌≡◌ {A = MapState K V} (record { walk = W; capacity = C; factor = F; placed = p; compared = c }) (record { walk = W'; capacity = C'; factor = F; placed = p'; compared = c' })
 MapState-same W W' C C' F p p' c c' walk capacity placed compared = rw (walk, capacity, placed, compared) refl
 
-module _ {K V : Type 0} (number : K → ℕ) (is_key : K → Type 0) where
+module _ {K V : Type 0} (number : K → ℕ) (is_valid : K → Type 0) where
   -- the walk of any list of distinct keys, in enough slots for the load
-  pub IsMapWalk-walk_of : (L : List (K × V)) (C F : ℕ) → IsCapacity C → HasDistinctKeys number L → All (λ p. is_key p.0) L → length L < 2 ^ 64 → F < 2 ^ 64 → IsLoaded C (length L) F → IsMapWalk number is_key (walk_of number L C) C F
+  pub IsMapWalk-walk_of : (L : List (K × V)) (C F : ℕ) → IsCapacity C → HasDistinctKeys number L → All (λ p. is_valid p.0) L → length L < 2 ^ 64 → F < 2 ^ 64 → IsLoaded C (length L) F → IsMapWalk number is_valid (walk_of number L C) C F
   IsMapWalk-walk_of L C F cap distinct keys fits factor loaded =
       let below = λ (k : K). slot_number-below number k C cap in
       let len = length-walk_of number L C below in
@@ -31,7 +31,7 @@ module _ {K V : Type 0} (number : K → ℕ) (is_key : K → Type 0) where
         capacity = cap;
         own = walk_of-walk_of number C L;
         distinct = HasDistinctKeys-walk_of number L C below distinct;
-        keys = All-walk_of number (λ p. is_key p.0) L C keys;
+        keys = All-walk_of number (λ p. is_valid p.0) L C keys;
         count = omega (arith, len, fits);
         factor = factor;
         load = subst (λ n. IsLoaded C n F) (sym len) loaded;
@@ -42,7 +42,7 @@ module _ {K V : Type 0} (number : K → ℕ) (is_key : K → Type 0) where
   nil_from (p ∷ ps) e = absurd (omega (arith, e))
 
   -- a map without pairs
-  pub IsMapWalk-empty : (W : List (K × V)) (C F : ℕ) → W ≡ [] → IsCapacity C → F < 2 ^ 64 → IsMapWalk number is_key W C F
+  pub IsMapWalk-empty : (W : List (K × V)) (C F : ℕ) → W ≡ [] → IsCapacity C → F < 2 ^ 64 → IsMapWalk number is_valid W C F
   IsMapWalk-empty W C F none cap factor =
       let len : length (walk_of number W C) ≡ 0 = length-walk_of number W C (λ k. slot_number-below number k C cap) ∙ ap length none in
       let zero_long : length W ≡ 0 = ap length none in
@@ -50,26 +50,26 @@ module _ {K V : Type 0} (number : K → ℕ) (is_key : K → Type 0) where
         capacity = cap;
         own = nil_from (walk_of number W C) len ∙ sym none;
         distinct = HasDistinctKeys-nil number W none;
-        keys = let P : List (K × V) → Type 0 = λ ps. All (λ p. is_key p.0) ps in subst P (sym none) (All-nil (λ (p : K × V). is_key p.0));
+        keys = let P : List (K × V) → Type 0 = λ ps. All (λ p. is_valid p.0) ps in subst P (sym none) (All-nil (λ (p : K × V). is_valid p.0));
         count = omega (arith, zero_long);
         factor = factor;
         load = λ four. absurd (omega (arith, four, zero_long));
       }
 
   -- a map into which a pair was put, in D slots
-  pub IsMapWalk-put : (W : List (K × V)) (C F D : ℕ) (k : K) (v : V) → IsMapWalk number is_key W C F → IsCapacity D → is_key k → length (put_pair number W C k v) < 2 ^ 64 → IsLoaded D (length (put_pair number W C k v)) F → IsMapWalk number is_key (walk_of number (put_pair number W C k v) D) D F
+  pub IsMapWalk-put : (W : List (K × V)) (C F D : ℕ) (k : K) (v : V) → IsMapWalk number is_valid W C F → IsCapacity D → is_valid k → length (put_pair number W C k v) < 2 ^ 64 → IsLoaded D (length (put_pair number W C k v)) F → IsMapWalk number is_valid (walk_of number (put_pair number W C k v) D) D F
   IsMapWalk-put W C F D k v m cap key fits loaded =
-      IsMapWalk-walk_of (put_pair number W C k v) D F cap (HasDistinctKeys-put_pair number W C k v m.distinct) (All-put_pair number (λ p. is_key p.0) W C k v m.keys key) fits m.factor loaded
+      IsMapWalk-walk_of (put_pair number W C k v) D F cap (HasDistinctKeys-put_pair number W C k v m.distinct) (All-put_pair number (λ p. is_valid p.0) W C k v m.keys key) fits m.factor loaded
 
   -- a map out of which a key was taken
-  pub IsMapWalk-take : (W : List (K × V)) (C F : ℕ) (k : K) → IsMapWalk number is_key W C F → IsMapWalk number is_key (walk_of number (take_key number W C k) C) C F
+  pub IsMapWalk-take : (W : List (K × V)) (C F : ℕ) (k : K) → IsMapWalk number is_valid W C F → IsMapWalk number is_valid (walk_of number (take_key number W C k) C) C F
   IsMapWalk-take W C F k m =
       let fewer = length-take_key number W C k in let old = m.count in
-      IsMapWalk-walk_of (take_key number W C k) C F m.capacity (HasDistinctKeys-take_key number W C k m.distinct) (All-take_key number (λ p. is_key p.0) W C k m.keys) (omega (arith, fewer, old)) m.factor
+      IsMapWalk-walk_of (take_key number W C k) C F m.capacity (HasDistinctKeys-take_key number W C k m.distinct) (All-take_key number (λ p. is_valid p.0) W C k m.keys) (omega (arith, fewer, old)) m.factor
       (IsLoaded-fewer C (length W) (length (take_key number W C k)) F (capacity-positive C m.capacity) m.load (omega (arith, fewer)))
 
   -- a map whose pairs went into D slots
-  pub IsMapWalk-grown : (W : List (K × V)) (C F D G : ℕ) → IsMapWalk number is_key W C F → IsCapacity D → G < 2 ^ 64 → IsLoaded D (length W) G → IsMapWalk number is_key (walk_of number W D) D G
+  pub IsMapWalk-grown : (W : List (K × V)) (C F D G : ℕ) → IsMapWalk number is_valid W C F → IsCapacity D → G < 2 ^ 64 → IsLoaded D (length W) G → IsMapWalk number is_valid (walk_of number W D) D G
   IsMapWalk-grown W C F D G m cap factor loaded = IsMapWalk-walk_of W D G cap m.distinct m.keys m.count factor loaded
 
 -- a value that is there, or isn't, adds so much
@@ -86,33 +86,33 @@ module _ {K V : Type 0} (number : K → ℕ) where
   -- what a put pair leaves in D slots, as callers see it
   pub unkept-put : (W W' : List (K × Kept V)) (C D : ℕ) (k : K) (x : Kept V) → W' ≡ walk_of number (put_pair number W C k x) D → unkept W' ≡ walk_of number (put_pair number (unkept W) C k x.value) D
   unkept-put W W' C D k x is =
-      ap unkept is ∙ sym (walk_of-with_values number (λ (x : Kept V). x.value) (put_pair number W C k x) D)
-      ∙ ap (λ L. walk_of number L D) (sym (put_pair-with_values number (λ (x : Kept V). x.value) W C k x))
+      ap unkept is ∙ sym (walk_of-map_values number (λ (x : Kept V). x.value) (put_pair number W C k x) D)
+      ∙ ap (λ L. walk_of number L D) (sym (put_pair-map_values number (λ (x : Kept V). x.value) W C k x))
 
   -- what a taken key leaves, as callers see it
   pub unkept-take : (W W' : List (K × Kept V)) (C : ℕ) (k : K) → W' ≡ walk_of number (take_key number W C k) C → unkept W' ≡ walk_of number (take_key number (unkept W) C k) C
   unkept-take W W' C k is =
-      ap unkept is ∙ sym (walk_of-with_values number (λ (x : Kept V). x.value) (take_key number W C k) C)
-      ∙ ap (λ L. walk_of number L C) (sym (take_key-with_values number (λ (x : Kept V). x.value) W C k))
+      ap unkept is ∙ sym (walk_of-map_values number (λ (x : Kept V). x.value) (take_key number W C k) C)
+      ∙ ap (λ L. walk_of number L C) (sym (take_key-map_values number (λ (x : Kept V). x.value) W C k))
 
   -- what the pairs in D slots are, as callers see them
   pub unkept-grown : (W W' : List (K × Kept V)) (D : ℕ) → W' ≡ walk_of number W D → unkept W' ≡ walk_of number (unkept W) D
-  unkept-grown W W' D is = ap unkept is ∙ sym (walk_of-with_values number (λ (x : Kept V). x.value) W D)
+  unkept-grown W W' D is = ap unkept is ∙ sym (walk_of-map_values number (λ (x : Kept V). x.value) W D)
 
   pub length-unkept : (W : List (K × Kept V)) → length (unkept W) ≡ length W
-  length-unkept W = length-with_values number (λ (x : Kept V). x.value) W
+  length-unkept W = length-map_values number (λ (x : Kept V). x.value) W
 
-  module _ (is_key : K → Type 0) (W W' : List (K × Kept V)) (C F n most : ℕ) (old : IsConsistent number is_key W C F n most) where
+  module _ (is_valid : K → Type 0) (W W' : List (K × Kept V)) (C F n most : ℕ) (old : IsConsistent number is_valid W C F n most) where
     -- a pair was put in, in D slots
-    put : (D D' n' most' : ℕ) (k : K) (x : Kept V) → D' ≡ D → IsCapacity D → is_key k → W' ≡ walk_of number (put_pair number W C k x) D → length (put_pair number W C k x) ≡ n' → n' < 2 ^ 64 → IsLoaded D n' F → IsLimit D F most' → IsConsistent number is_key W' D' F n' most'
-    put D D' n' most' k x same cap key is len fits loaded limit =
+    put : (D D' n' most' : ℕ) (k : K) (x : Kept V) → D' ≡ D → IsCapacity D → is_valid k → W' ≡ walk_of number (put_pair number W C k x) D → length (put_pair number W C k x) ≡ n' → n' < 2 ^ 64 → IsLoaded D n' F → IsThreshold D F most' → IsConsistent number is_valid W' D' F n' most'
+    put D D' n' most' k x same cap key is len fits loaded threshold =
         let here : length (walk_of number (put_pair number W C k x) D) ≡ n' = length-walk_of number (put_pair number W C k x) D (λ k. slot_number-below number k D cap) ∙ len in
         let seen : length (put_pair number (unkept W) C k x.value) ≡ n' =
-        ap length (put_pair-with_values number (λ (x : Kept V). x.value) W C k x) ∙ length-with_values number (λ (x : Kept V). x.value) (put_pair number W C k x) ∙ len in
+        ap length (put_pair-map_values number (λ (x : Kept V). x.value) W C k x) ∙ length-map_values number (λ (x : Kept V). x.value) (put_pair number W C k x) ∙ len in
         record {
-          map = rw (same, unkept-put W W' C D k x is) (IsMapWalk-put number is_key (unkept W) C F D k x.value old.map cap key (omega (arith, seen, fits)) (subst (λ m. IsLoaded D m F) (sym seen) loaded));
+          map = rw (same, unkept-put W W' C D k x is) (IsMapWalk-put number is_valid (unkept W) C F D k x.value old.map cap key (omega (arith, seen, fits)) (subst (λ m. IsLoaded D m F) (sym seen) loaded));
           count = sym (ap length is ∙ here);
-          limit = rw same limit;
+          threshold = rw same threshold;
         }
 
     loaded-old : IsLoaded C n F
@@ -122,11 +122,11 @@ module _ {K V : Type 0} (number : K → ℕ) where
     fits-old = let fits = old.map.count in omega (arith, fits, length-unkept W, old.count)
 
     -- the pair of a bound key was replaced
-    pub IsConsistent-replaced : (C' : ℕ) (k : K) (x y : Kept V) → C' ≡ C → is_key k → value_of number W k ≡ Some y → W' ≡ walk_of number (put_pair number W C k x) C → IsConsistent number is_key W' C' F n most
+    pub IsConsistent-replaced : (C' : ℕ) (k : K) (x y : Kept V) → C' ≡ C → is_valid k → value_of number W k ≡ Some y → W' ≡ walk_of number (put_pair number W C k x) C → IsConsistent number is_valid W' C' F n most
     IsConsistent-replaced C' k x y same key bound is =
         let len = length-put_pair number W C k x in
         let more = none_more (value_of number W k) y bound in
-        put C C' n most k x same old.map.capacity key is (omega (arith, len, more, old.count)) fits-old loaded-old old.limit
+        put C C' n most k x same old.map.capacity key is (omega (arith, len, more, old.count)) fits-old loaded-old old.threshold
 
     longer : (k : K) (x : Kept V) → value_of number W k ≡ None → length (put_pair number W C k x) ≡ n + 1
     longer k x missing =
@@ -134,38 +134,38 @@ module _ {K V : Type 0} (number : K → ℕ) where
         let more = one_more (value_of number W k) missing in omega (arith, len, more, old.count)
 
     -- the pair of a key that wasn't bound was added, where the table needn't grow
-    pub IsConsistent-added : (C' : ℕ) (k : K) (x : Kept V) → C' ≡ C → is_key k → value_of number W k ≡ None → n + 1 < 2 ^ 64 → (is_due (n + 1) && nat_lt most (n + 1)) ≡ false → W' ≡ walk_of number (put_pair number W C k x) C → IsConsistent number is_key W' C' F (n + 1) most
+    pub IsConsistent-added : (C' : ℕ) (k : K) (x : Kept V) → C' ≡ C → is_valid k → value_of number W k ≡ None → n + 1 < 2 ^ 64 → (is_due (n + 1) && nat_lt most (n + 1)) ≡ false → W' ≡ walk_of number (put_pair number W C k x) C → IsConsistent number is_valid W' C' F (n + 1) most
     IsConsistent-added C' k x same key missing fits test is =
         put C C' (n + 1) most k x same old.map.capacity key is (longer k x missing) fits
-        (IsLoaded-more C n F most (capacity-positive C old.map.capacity) fits old.limit loaded-old test) old.limit
+        (IsLoaded-more C n F most (capacity-positive C old.map.capacity) fits old.threshold loaded-old test) old.threshold
 
     -- and where it grew to D slots
-    pub IsConsistent-grown_with : (D D' most' : ℕ) (k : K) (x : Kept V) → D' ≡ D → IsCapacity D → is_key k → value_of number W k ≡ None → n + 1 < 2 ^ 64 → MeetsLoad D (n + 1) F → IsLimit D F most' → W' ≡ walk_of number (put_pair number W C k x) D → IsConsistent number is_key W' D' F (n + 1) most'
-    IsConsistent-grown_with D D' most' k x same cap key missing fits meets limit is =
-        put D D' (n + 1) most' k x same cap key is (longer k x missing) fits (IsLoaded-from D (n + 1) F (capacity-positive D cap) meets) limit
+    pub IsConsistent-grown_with : (D D' most' : ℕ) (k : K) (x : Kept V) → D' ≡ D → IsCapacity D → is_valid k → value_of number W k ≡ None → n + 1 < 2 ^ 64 → MeetsLoad D (n + 1) F → IsThreshold D F most' → W' ≡ walk_of number (put_pair number W C k x) D → IsConsistent number is_valid W' D' F (n + 1) most'
+    IsConsistent-grown_with D D' most' k x same cap key missing fits meets threshold is =
+        put D D' (n + 1) most' k x same cap key is (longer k x missing) fits (IsLoaded-from D (n + 1) F (capacity-positive D cap) meets) threshold
 
     -- a key was taken out
-    pub IsConsistent-taken : (C' : ℕ) (k : K) (n' : ℕ) → C' ≡ C → W' ≡ walk_of number (take_key number W C k) C → n' ≡ n - cond (is_some (value_of number W k)) 1 0 → IsConsistent number is_key W' C' F n' most
+    pub IsConsistent-taken : (C' : ℕ) (k : K) (n' : ℕ) → C' ≡ C → W' ≡ walk_of number (take_key number W C k) C → n' ≡ n - cond (is_some (value_of number W k)) 1 0 → IsConsistent number is_valid W' C' F n' most
     IsConsistent-taken C' k n' same is len =
         let here : length (walk_of number (take_key number W C k) C) ≡ length (take_key number W C k) = length-walk_of number (take_key number W C k) C (λ k. slot_number-below number k C old.map.capacity) in
         let left = length-take_key number W C k in
         let same_len : length W' ≡ length (take_key number W C k) = ap length is ∙ here in
         record {
-          map = rw (same, unkept-take W W' C k is) (IsMapWalk-take number is_key (unkept W) C F k old.map);
+          map = rw (same, unkept-take W W' C k is) (IsMapWalk-take number is_valid (unkept W) C F k old.map);
           count = omega (arith, same_len, left, len, old.count);
-          limit = rw same old.limit;
+          threshold = rw same old.threshold;
         }
 
     -- the pairs went into D slots, at the load factor G
-    pub IsConsistent-grown : (D D' G most' : ℕ) → D' ≡ D → IsCapacity D → G < 2 ^ 64 → IsLoaded D n G → IsLimit D G most' → W' ≡ walk_of number W D → IsConsistent number is_key W' D' G n most'
-    IsConsistent-grown D D' G most' same cap factor loaded limit is =
+    pub IsConsistent-grown : (D D' G most' : ℕ) → D' ≡ D → IsCapacity D → G < 2 ^ 64 → IsLoaded D n G → IsThreshold D G most' → W' ≡ walk_of number W D → IsConsistent number is_valid W' D' G n most'
+    IsConsistent-grown D D' G most' same cap factor loaded threshold is =
         let here : length (walk_of number W D) ≡ length W = length-walk_of number W D (λ k. slot_number-below number k D cap) in
         let seen : n ≡ length (unkept W) = old.count ∙ sym (length-unkept W) in
         let all : length W' ≡ length W = ap length is ∙ here in
         record {
-          map = rw (same, unkept-grown W W' D is) (IsMapWalk-grown number is_key (unkept W) C F D G old.map cap factor (subst (λ m. IsLoaded D m G) seen loaded));
+          map = rw (same, unkept-grown W W' D is) (IsMapWalk-grown number is_valid (unkept W) C F D G old.map cap factor (subst (λ m. IsLoaded D m G) seen loaded));
           count = omega (arith, all, old.count);
-          limit = rw same limit;
+          threshold = rw same threshold;
         }
 
 -- a clause of an accepted call

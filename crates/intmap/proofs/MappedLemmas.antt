@@ -54,45 +54,45 @@ map-map h k (x ∷ xs) = ap (λ zs. k (h x) ∷ zs) (map-map h k xs)
 
 module _ {K X V : Type 0} (number : K → ℕ) (f : X → V) where
   -- the pairs with their new values
-  abbrev pub with_values : List (K × X) → List (K × V)
-  with_values L = map (λ p. (p.0, f p.1)) L
+  abbrev pub map_values : List (K × X) → List (K × V)
+  map_values L = map (λ p. (p.0, f p.1)) L
 
-  pub value_of-with_values : (L : List (K × X)) (k : K) → value_of number (with_values L) k ≡ option_map f (value_of number L k)
-  value_of-with_values [] k = refl
-  value_of-with_values (p ∷ L) k = let e = value_of-with_values L k in grind (arith, e)
+  pub value_of-map_values : (L : List (K × X)) (k : K) → value_of number (map_values L) k ≡ option_map f (value_of number L k)
+  value_of-map_values [] k = refl
+  value_of-map_values (p ∷ L) k = let e = value_of-map_values L k in grind (arith, e)
 
   none_from : (o : Option X) → option_map f o ≡ None → o ≡ None
   none_from None e = refl
   none_from (Some x) e = cc
 
   -- a key that isn't bound there isn't bound here
-  pub value_of-missing_values : (L : List (K × X)) (k : K) → value_of number (with_values L) k ≡ None → value_of number L k ≡ None
-  value_of-missing_values L k missing = none_from (value_of number L k) (sym (value_of-with_values L k) ∙ missing)
+  pub value_of-missing_values : (L : List (K × X)) (k : K) → value_of number (map_values L) k ≡ None → value_of number L k ≡ None
+  value_of-missing_values L k missing = none_from (value_of number L k) (sym (value_of-map_values L k) ∙ missing)
 
-  pub slot_of-with_values : (L : List (K × X)) (C i : ℕ) → slot_of number (with_values L) C i ≡ with_values (slot_of number L C i)
-  slot_of-with_values L C i = filter-map (λ p. (p.0, f p.1)) (λ p. slot_number number p.0 C == i) L
+  pub slot_of-map_values : (L : List (K × X)) (C i : ℕ) → slot_of number (map_values L) C i ≡ map_values (slot_of number L C i)
+  slot_of-map_values L C i = filter-map (λ p. (p.0, f p.1)) (λ p. slot_number number p.0 C == i) L
 
-  pub walk_of-with_values : (L : List (K × X)) (C : ℕ) → walk_of number (with_values L) C ≡ with_values (walk_of number L C)
-  walk_of-with_values L C =
-      flat_map-map (λ p. (p.0, f p.1)) (slot_of number L C) (slot_of number (with_values L) C) (slot_of-with_values L C) (range_with_len 0 C)
+  pub walk_of-map_values : (L : List (K × X)) (C : ℕ) → walk_of number (map_values L) C ≡ map_values (walk_of number L C)
+  walk_of-map_values L C =
+      flat_map-map (λ p. (p.0, f p.1)) (slot_of number L C) (slot_of number (map_values L) C) (slot_of-map_values L C) (range_with_len 0 C)
 
-  pub take_key-with_values : (L : List (K × X)) (C : ℕ) (k : K) → take_key number (with_values L) C k ≡ with_values (take_key number L C k)
-  take_key-with_values L C k = swap_out-map (λ p. (p.0, f p.1)) (λ p. same_key number k p.0) (λ p. agrees number C k p.0) L
+  pub take_key-map_values : (L : List (K × X)) (C : ℕ) (k : K) → take_key number (map_values L) C k ≡ map_values (take_key number L C k)
+  take_key-map_values L C k = swap_out-map (λ p. (p.0, f p.1)) (λ p. same_key number k p.0) (λ p. agrees number C k p.0) L
 
-  pub put_pair-with_values : (L : List (K × X)) (C : ℕ) (k : K) (x : X) → put_pair number (with_values L) C k (f x) ≡ with_values (put_pair number L C k x)
-  put_pair-with_values L C k x =
-      ap (λ M. M ++ (k, f x) ∷ []) (take_key-with_values L C k) ∙ sym (map-append (λ p. (p.0, f p.1)) (take_key number L C k) ((k, x) ∷ []))
+  pub put_pair-map_values : (L : List (K × X)) (C : ℕ) (k : K) (x : X) → put_pair number (map_values L) C k (f x) ≡ map_values (put_pair number L C k x)
+  put_pair-map_values L C k x =
+      ap (λ M. M ++ (k, f x) ∷ []) (take_key-map_values L C k) ∙ sym (map-append (λ p. (p.0, f p.1)) (take_key number L C k) ((k, x) ∷ []))
 
-  pub class_size-with_values : (L : List (K × X)) (C : ℕ) (k : K) → class_size number (with_values L) C k ≡ class_size number L C k
-  class_size-with_values L C k = count_by-map (λ p. (p.0, f p.1)) (λ p. agrees number C k p.0) L
+  pub class_size-map_values : (L : List (K × X)) (C : ℕ) (k : K) → class_size number (map_values L) C k ≡ class_size number L C k
+  class_size-map_values L C k = count_by-map (λ p. (p.0, f p.1)) (λ p. agrees number C k p.0) L
 
-  pub reach-with_values : (L : List (K × X)) (C : ℕ) (k : K) → reach number (with_values L) C k ≡ reach number L C k
-  reach-with_values L C k =
+  pub reach-map_values : (L : List (K × X)) (C : ℕ) (k : K) → reach number (map_values L) C k ≡ reach number L C k
+  reach-map_values L C k =
       ap (λ M. class_size number M C k) (through_first-map (λ p. (p.0, f p.1)) (λ p. same_key number k p.0) L)
-      ∙ class_size-with_values (through_first (λ p. same_key number k p.0) L) C k
+      ∙ class_size-map_values (through_first (λ p. same_key number k p.0) L) C k
 
-  pub load_of-with_values : (L : List (K × X)) (C : ℕ) → load_of number (with_values L) C ≡ load_of number L C
-  load_of-with_values L C = ap (λ ns. length (each_once ns)) (map-map (λ p. (p.0, f p.1)) (λ p. residue number p.0 C) L)
+  pub load_of-map_values : (L : List (K × X)) (C : ℕ) → load_of number (map_values L) C ≡ load_of number L C
+  load_of-map_values L C = ap (λ ns. length (each_once ns)) (map-map (λ p. (p.0, f p.1)) (λ p. residue number p.0 C) L)
 
-  pub length-with_values : (L : List (K × X)) → length (with_values L) ≡ length L
-  length-with_values L = length-map L (λ p. (p.0, f p.1))
+  pub length-map_values : (L : List (K × X)) → length (map_values L) ≡ length L
+  length-map_values L = length-map L (λ p. (p.0, f p.1))

@@ -11,38 +11,42 @@ use Rattle.intmap.specs.Reach.{through_first}
 use Rattle.intmap.proofs.Tables.SwapOutLemmas.{any}
 
 module _ {X : Type 0} (test : X → Bool) where
-  -- none of the first i elements passes
-  pub record IsPassed (xs : List X) (i : ℕ) : Type 0 where
-    pub place : position_or_len test xs ≡ i + position_or_len test (drop i xs)
-    pub reached : length (through_first test xs) ≡ i + length (through_first test (drop i xs))
+  -- xs ends with ys, and none of the elements before passes
+  pub record ArePassed (xs ys : List X) : Type 0 where
+    pub left : length ys ≤ length xs
+    pub place : position_or_len test xs + length ys ≡ length xs + position_or_len test ys
+    pub reached : length (through_first test xs) + length ys ≡ length xs + length (through_first test ys)
 
-  pub IsPassed-none : (xs : List X) → IsPassed xs 0
-  IsPassed-none xs = record {
-    place = sym (zero-add (position_or_len test xs));
-    reached = sym (zero-add (length (through_first test xs)));
-  }
+  pub ArePassed-none : (xs : List X) → ArePassed xs xs
+  ArePassed-none xs = record { left = omega arith; place = omega arith; reached = omega arith }
 
-  pub IsPassed-more : (xs : List X) (i : ℕ) (d : X) → i < length xs → test (get_or xs i d) ≡ false → IsPassed xs i → IsPassed xs (i + 1)
-  IsPassed-more xs i d below fails h =
-      let a : position_or_len test (drop i xs) ≡ position_or_len test (get_or xs i d ∷ drop (i + 1) xs) = at_drop_more (position_or_len test) xs i d below in
-      let b : length (through_first test (drop i xs)) ≡ length (through_first test (get_or xs i d ∷ drop (i + 1) xs)) = at_drop_more (λ l. length (through_first test l)) xs i d below in
-      let a' : position_or_len test (drop i xs) ≡ 1 + position_or_len test (drop (i + 1) xs) = rw fails at a in
-      let b' : length (through_first test (drop i xs)) ≡ suc (length (through_first test (drop (i + 1) xs))) = rw fails at b in
-      record { place = omega (arith, h.place, a'); reached = omega (arith, h.reached, b') }
+  pub ArePassed-more : (xs ys : List X) (y : X) → test y ≡ false → ArePassed xs (y ∷ ys) → ArePassed xs ys
+  ArePassed-more xs ys y fails h =
+      let a : position_or_len test xs + suc (length ys) ≡ length xs + (1 + position_or_len test ys) = rw fails at h.place in
+      let b : length (through_first test xs) + suc (length ys) ≡ length xs + suc (length (through_first test ys)) = rw fails at h.reached in
+      record { left = omega (arith, h.left); place = omega (arith, a); reached = omega (arith, b) }
 
-  -- the first that passes is at place i
-  pub record IsFound (xs : List X) (i : ℕ) : Type 0 where
-    pub place : position test xs ≡ Some i
-    pub reached : length (through_first test xs) ≡ i + 1
+  -- the first of ys passes, so it is found there
+  pub record IsFound (xs ys : List X) : Type 0 where
+    pub place : position test xs ≡ Some (length xs - length ys)
+    pub reached : length (through_first test xs) ≡ length xs - length ys + 1
 
-  pub IsFound-here : (xs : List X) (i : ℕ) (d : X) → i < length xs → test (get_or xs i d) ≡ true → IsPassed xs i → IsFound xs i
-  IsFound-here xs i d below passes h =
-      let a : position_or_len test (drop i xs) ≡ position_or_len test (get_or xs i d ∷ drop (i + 1) xs) = at_drop_more (position_or_len test) xs i d below in
-      let b : length (through_first test (drop i xs)) ≡ length (through_first test (get_or xs i d ∷ drop (i + 1) xs)) = at_drop_more (λ l. length (through_first test l)) xs i d below in
-      let a' : position_or_len test (drop i xs) ≡ 0 = rw passes at a in
-      let b' : length (through_first test (drop i xs)) ≡ 1 = rw passes at b in
-      let e : position_or_len test xs ≡ i = omega (arith, h.place, a') in
-      record { place = simp (e, lt-ltb i (length xs) below); reached = omega (arith, h.reached, b') }
+  pub IsFound-here : (xs ys : List X) (y : X) → test y ≡ true → ArePassed xs (y ∷ ys) → IsFound xs (y ∷ ys)
+  IsFound-here xs ys y passes h =
+      let a : position_or_len test xs + suc (length ys) ≡ length xs + 0 = rw passes at h.place in
+      let b : length (through_first test xs) + suc (length ys) ≡ length xs + 1 = rw passes at h.reached in
+      let e : position_or_len test xs ≡ length xs - suc (length ys) = omega (arith, a) in
+      record { place = simp (e, lt-ltb (length xs - suc (length ys)) (length xs) (omega (arith, h.left))); reached = omega (arith, b, h.left) }
+
+  -- none passes
+  pub record IsMissed (xs : List X) : Type 0 where
+    pub place : position test xs ≡ None
+    pub reached : length (through_first test xs) ≡ length xs
+
+  pub IsMissed-all : (xs : List X) → ArePassed xs [] → IsMissed xs
+  IsMissed-all xs h =
+      let e : position_or_len test xs ≡ length xs = omega (arith, h.place) in
+      record { place = simp (e, le-ltb (length xs) (length xs) (omega arith)); reached = omega (arith, h.reached) }
 
   position_or_len-le : (xs : List X) → position_or_len test xs ≤ length xs
   position_or_len-le [] = omega arith

@@ -11,7 +11,7 @@ use Rattle.std.specs.Fn.{Mut}
 use Rattle.std.specs.Borrow.{Bor}
 use Rattle.intmap.specs.Bindings.{HasDistinctKeys, value_of}
 use Rattle.intmap.specs.Classes.{same_key}
-use Rattle.intmap.specs.Growth.{IsLimit}
+use Rattle.intmap.specs.Growth.{IsThreshold}
 use Rattle.intmap.specs.Tables.Kept.{unkept, KeepsStored, TakesStored, IsConsistent}
 use Rattle.intmap.specs.Map.{IsMapWalk}
 use Rattle.intmap.specs.Retaining.{KeepsAt, Retains, TakesPair}
@@ -20,7 +20,7 @@ use Rattle.intmap.specs.Walk.{walk_of}
 use Rattle.intmap.specs.declared.kept.Kept.{Kept}
 use Rattle.intmap.proofs.LeadsLemmas.{Leads, Leads-next}
 use Rattle.intmap.proofs.LoadFactorLemmas.{IsLoaded-fewer, capacity-positive}
-use Rattle.intmap.proofs.MappedLemmas.{walk_of-with_values}
+use Rattle.intmap.proofs.MappedLemmas.{walk_of-map_values}
 use Rattle.intmap.proofs.TakingLemmas.{TakesEach-map}
 
 module _ {F X : Type 0} (R : F → X → Bool → F → Type 0) where
@@ -163,26 +163,26 @@ module _ {F K V : Type 0} (number : K → ℕ) (R : F → K × V → Bool → F 
       (value_step k p L r.2 r.0 (same_key number k p.0) refl gone (value_of-Retains k r.1 g L r.2 r.4 later))
 
   -- what stays of a map's walk is the walk of a map
-  pub IsMapWalk-Retains : (is_key : K → Type 0) (f g : F) (W M : List (K × V)) (C E : ℕ) → Retains R f W M g → walk_of number M C ≡ M → IsMapWalk number is_key W C E → IsMapWalk number is_key M C E
-  IsMapWalk-Retains is_key f g W M C E r own old =
+  pub IsMapWalk-Retains : (is_valid : K → Type 0) (f g : F) (W M : List (K × V)) (C E : ℕ) → Retains R f W M g → walk_of number M C ≡ M → IsMapWalk number is_valid W C E → IsMapWalk number is_valid M C E
+  IsMapWalk-Retains is_valid f g W M C E r own old =
       let few = length-Retains R f g W M r in
       record {
         capacity = old.capacity;
         own = own;
         distinct = HasDistinctKeys-Retains f g W M r old.distinct;
-        keys = All-Retains R (λ p. is_key p.0) f g W M r old.keys;
+        keys = All-Retains R (λ p. is_valid p.0) f g W M r old.keys;
         count = omega (arith, few, old.count);
         factor = old.factor;
         load = IsLoaded-fewer C (length W) (length M) E (capacity-positive C old.capacity) old.load few;
       }
 
 -- and what a map keeps agrees
-pub IsConsistent-Retains : {F K V : Type 0} (number : K → ℕ) (is_key : K → Type 0) (R : F → K × V → Bool → F → Type 0) (f g : F) (W M : List (K × Kept V)) (C D E n n' most : ℕ)
-    → Retains R f (unkept W) (unkept M) g → D ≡ C → walk_of number M D ≡ M → n' ≡ length M → IsConsistent number is_key W C E n most → IsConsistent number is_key M D E n' most
-IsConsistent-Retains {V = V} number is_key R f g W M C D E n n' most r same own count old = record {
+pub IsConsistent-Retains : {F K V : Type 0} (number : K → ℕ) (is_valid : K → Type 0) (R : F → K × V → Bool → F → Type 0) (f g : F) (W M : List (K × Kept V)) (C D E n n' most : ℕ)
+    → Retains R f (unkept W) (unkept M) g → D ≡ C → walk_of number M D ≡ M → n' ≡ length M → IsConsistent number is_valid W C E n most → IsConsistent number is_valid M D E n' most
+IsConsistent-Retains {V = V} number is_valid R f g W M C D E n n' most r same own count old = record {
   map =
-      let own_seen : walk_of number (unkept M) D ≡ unkept M = walk_of-with_values number (λ (x : Kept V). x.value) M D ∙ ap unkept own in
-      IsMapWalk-Retains number R is_key f g (unkept W) (unkept M) D E r own_seen (subst (λ m. IsMapWalk number is_key (unkept W) m E) (sym same) old.map);
+      let own_seen : walk_of number (unkept M) D ≡ unkept M = walk_of-map_values number (λ (x : Kept V). x.value) M D ∙ ap unkept own in
+      IsMapWalk-Retains number R is_valid f g (unkept W) (unkept M) D E r own_seen (subst (λ m. IsMapWalk number is_valid (unkept W) m E) (sym same) old.map);
   count = count;
-  limit = subst (λ m. IsLimit m E most) (sym same) old.limit;
+  threshold = subst (λ m. IsThreshold m E most) (sym same) old.threshold;
 }

@@ -12,7 +12,7 @@ use Rattle.intmap.specs.Map.{IsMapWalk}
 use Rattle.intmap.specs.declared.kept.Kept.{Kept}
 use Rattle.intmap.proofs.BindingLemmas.{Updates-from}
 use Rattle.intmap.proofs.LoadFactorLemmas.{IsLoaded}
-use Rattle.intmap.proofs.LocationLemmas.{walk_of-write_value, write_value-with_values}
+use Rattle.intmap.proofs.LocationLemmas.{walk_of-write_value, write_value-map_values}
 
 module _ {K V : Type 0} (number : K → ℕ) where
   pub length-write_value : (L : List (K × V)) (k : K) (v : V) → length (write_value number L k v) ≡ length L
@@ -45,15 +45,15 @@ module _ {K V : Type 0} (number : K → ℕ) where
   HasDistinctKeys-write_value L k v once q = let h = once q in let e = count_by-write_value L k q v in omega (arith, h, e)
 
   -- the walk of a map stays one
-  pub IsMapWalk-written : (is_key : K → Type 0) (W : List (K × V)) (C F : ℕ) (k : K) (v : V) → IsMapWalk number is_key W C F → IsMapWalk number is_key (write_value number W k v) C F
-  IsMapWalk-written is_key W C F k v m =
+  pub IsMapWalk-written : (is_valid : K → Type 0) (W : List (K × V)) (C F : ℕ) (k : K) (v : V) → IsMapWalk number is_valid W C F → IsMapWalk number is_valid (write_value number W k v) C F
+  IsMapWalk-written is_valid W C F k v m =
       let len = length-write_value W k v in
       let fits = m.count in
       record {
         capacity = m.capacity;
         own = walk_of-write_value number W C k v ∙ ap (λ L. write_value number L k v) m.own;
         distinct = HasDistinctKeys-write_value W k v m.distinct;
-        keys = All-write_value is_key W k v m.keys;
+        keys = All-write_value is_valid W k v m.keys;
         count = omega (arith, len, fits);
         factor = m.factor;
         load = subst (λ n. IsLoaded C n F) (sym len) m.load;
@@ -94,11 +94,11 @@ module _ {K V : Type 0} (number : K → ℕ) where
   pub Updates-bound : (L : List (K × V)) (k : K) (v : V) → IsBound number L k → Updates number L (write_value number L k v) k (Some v)
   Updates-bound L k v bound = let some = some_from (value_of number L k) bound in Updates-written L k v some.0 some.1
 
-module _ {K V : Type 0} (number : K → ℕ) (is_key : K → Type 0) where
+module _ {K V : Type 0} (number : K → ℕ) (is_valid : K → Type 0) where
   -- the values of a map as its table stores them, after a write
-  pub IsConsistent-written : (W : List (K × Kept V)) (C F n most : ℕ) (k : K) (x : Kept V) → IsConsistent number is_key W C F n most → IsConsistent number is_key (write_value number W k x) C F n most
+  pub IsConsistent-written : (W : List (K × Kept V)) (C F n most : ℕ) (k : K) (x : Kept V) → IsConsistent number is_valid W C F n most → IsConsistent number is_valid (write_value number W k x) C F n most
   IsConsistent-written W C F n most k x old = record {
-    map = rw (← write_value-with_values number (λ (x : Kept V). x.value) W k x) (IsMapWalk-written number is_key (unkept W) C F k x.value old.map);
+    map = rw (← write_value-map_values number (λ (x : Kept V). x.value) W k x) (IsMapWalk-written number is_valid (unkept W) C F k x.value old.map);
     count = old.count ∙ sym (length-write_value number W k x);
-    limit = old.limit;
+    threshold = old.threshold;
   }

@@ -10,7 +10,7 @@ use Rattle.std.proofs.lemmas.List.Elements.{All-cons, All-head, All-tail}
 use Rattle.std.proofs.lemmas.Map.Entries.{length-keys_of}
 use Rattle.intmap.specs.Bindings.{value_of}
 use Rattle.intmap.specs.Classes.{same_key}
-use Rattle.intmap.specs.Growth.{IsLimit}
+use Rattle.intmap.specs.Growth.{IsThreshold}
 use Rattle.intmap.specs.Tables.Kept.{unkept, WritesStored, TakesStoredMut, IsConsistent}
 use Rattle.intmap.specs.Map.{IsMapWalk}
 use Rattle.intmap.specs.Taking.{Passes, TakesEach}
@@ -20,7 +20,7 @@ use Rattle.intmap.specs.declared.kept.Kept.{Kept}
 use Rattle.intmap.proofs.LeadsLemmas.{Leads, Leads-next}
 use Rattle.intmap.proofs.LoadFactorLemmas.{IsLoaded}
 use Rattle.intmap.proofs.MapLemmas.{length-unkept}
-use Rattle.intmap.proofs.MappedLemmas.{count_by-map, walk_of-with_values}
+use Rattle.intmap.proofs.MappedLemmas.{count_by-map, walk_of-map_values}
 use Rattle.intmap.proofs.TakingLemmas.{TakesEach-map}
 
 module _ {F K V : Type 0} (R : F → K × V → V → F → Type 0) where
@@ -81,9 +81,9 @@ module _ {K V : Type 0} where
   pub TakesEach-stored_mut : {F : Type 0} (m : Mut F (K × (MutBor V × Unit {0})) (Unit {0} × (MutBor V × Unit {0}))) (f : F) (L : List (K × Kept V)) → TakesEach (WritesAt m) (TakesPairMut m) f (unkept L) → TakesEach (WritesStored m) (TakesStoredMut m) f L
   TakesEach-stored_mut m f L takes = TakesEach-map (WritesAt m) (TakesPairMut m) (λ p. (p.0, p.1.value)) (λ w. w.value) f L takes
 
-module _ {K V : Type 0} (number : K → ℕ) (is_key : K → Type 0) where
+module _ {K V : Type 0} (number : K → ℕ) (is_valid : K → Type 0) where
   -- whether pairs may be the walk of a map follows from their keys, once they are their own walk
-  pub IsMapWalk-keys_of : (L M : List (K × V)) (C E : ℕ) → keys_of M ≡ keys_of L → All (λ p. is_key p.0) M → walk_of number M C ≡ M → IsMapWalk number is_key L C E → IsMapWalk number is_key M C E
+  pub IsMapWalk-keys_of : (L M : List (K × V)) (C E : ℕ) → keys_of M ≡ keys_of L → All (λ p. is_valid p.0) M → walk_of number M C ≡ M → IsMapWalk number is_valid L C E → IsMapWalk number is_valid M C E
   IsMapWalk-keys_of L M C E same keys own old =
       let len : length M ≡ length L = sym (length-keys_of M) ∙ ap length same ∙ length-keys_of L in
       record {
@@ -100,13 +100,13 @@ module _ {K V : Type 0} (number : K → ℕ) (is_key : K → Type 0) where
 
   -- and what a map keeps agrees
   pub IsConsistent-Writes : {F : Type 0} (R : F → K × V → V → F → Type 0) (f g : F) (W M : List (K × Kept V)) (C D E n most : ℕ)
-      → Writes R f (unkept W) (unkept M) g → D ≡ C → walk_of number M D ≡ M → IsConsistent number is_key W C E n most → IsConsistent number is_key M D E n most
+      → Writes R f (unkept W) (unkept M) g → D ≡ C → walk_of number M D ≡ M → IsConsistent number is_valid W C E n most → IsConsistent number is_valid M D E n most
   IsConsistent-Writes R f g W M C D E n most r same own old =
-      let own_seen : walk_of number (unkept M) D ≡ unkept M = walk_of-with_values number (λ (x : Kept V). x.value) M D ∙ ap unkept own in
+      let own_seen : walk_of number (unkept M) D ≡ unkept M = walk_of-map_values number (λ (x : Kept V). x.value) M D ∙ ap unkept own in
       record {
         map =
-            IsMapWalk-keys_of (unkept W) (unkept M) D E (keys_of-Writes R f g (unkept W) (unkept M) r) (All-Writes R is_key f g (unkept W) (unkept M) r old.map.keys) own_seen
-            (subst (λ m. IsMapWalk number is_key (unkept W) m E) (sym same) old.map);
+            IsMapWalk-keys_of (unkept W) (unkept M) D E (keys_of-Writes R f g (unkept W) (unkept M) r) (All-Writes R is_valid f g (unkept W) (unkept M) r old.map.keys) own_seen
+            (subst (λ m. IsMapWalk number is_valid (unkept W) m E) (sym same) old.map);
         count = old.count ∙ sym (length-unkept number W) ∙ sym (length-Writes R f g (unkept W) (unkept M) r) ∙ length-unkept number M;
-        limit = subst (λ m. IsLimit m E most) (sym same) old.limit;
+        threshold = subst (λ m. IsThreshold m E most) (sym same) old.threshold;
       }

@@ -13,7 +13,7 @@ use Rattle.intmap.specs.contracts.entry.OccupiedEntry as occupied
 use Rattle.intmap.specs.Bindings.{value_of}
 use Rattle.intmap.specs.Growth.{next_capacity}
 use Rattle.intmap.specs.Map.{MapState, with_pair, written}
-use Rattle.intmap.specs.States.{State}
+use Rattle.intmap.specs.PlainLists.{PlainList}
 use Rattle.intmap.specs.Laws.Written.{IsFound-write_value}
 use Rattle.intmap.specs.Locations.{key_at, the_key}
 use Rattle.intmap.specs.Walk.{slot_of}
@@ -42,8 +42,8 @@ module _ {K V A : Type 0} {g : key.Ghosts K} {e : eq.Ghosts K} where
   entry_value x = value_of g.number_of (entry_map x).walk (entry_key x)
 
   -- the pairs of the map with its capacity and load factor
-  abbrev pub entry_state : Entry K V A g e → State K V
-  entry_state x = let m = entry_map x in record { pairs = m.walk; capacity = m.capacity; factor = m.factor }
+  abbrev pub entry_list : Entry K V A g e → PlainList K V
+  entry_list x = let m = entry_map x in record { pairs = m.walk; capacity = m.capacity; factor = m.factor }
 
   -- the capacity that one more pair leaves
   abbrev pub next_entry_capacity : Entry K V A g e → ℕ

@@ -5,7 +5,7 @@ use Rattle.std.specs.Option.{option_or}
 use Rattle.intmap.specs.Bindings.{value_of}
 use Rattle.intmap.specs.Growth.{IsLeastPower}
 use Rattle.intmap.specs.Map.{MapState, IsMap, IsOutOfRange, IsCapacityAfter, empty_map, after_search, after_insert}
-use Rattle.intmap.specs.States.{MayRefuse}
+use Rattle.intmap.specs.PlainLists.{RefusalIsDue}
 use Rattle.intmap.specs.declared.refusal.Cause.{Cause}
 use Rattle.intmap.specs.declared.refusal.Cause.TheVariants.{Memory, TooLarge}
 use Rattle.intmap.specs.declared.refusal.RefusedPair.{RefusedPair}
@@ -16,23 +16,23 @@ module _ {K V : Type 0} (number : K → ℕ) where
   new_keys L [] = []
   new_keys L (p ∷ ps) = cond (is_some (value_of number L p.0)) (new_keys L ps) (p.0 ∷ new_keys (p ∷ L) ps)
 
-module _ {K V : Type 0} (number : K → ℕ) (is_key : K → Type 0) where
+module _ {K V : Type 0} (number : K → ℕ) (is_valid : K → Type 0) where
   -- an accepted insertion of k bound to v took the map m to n
-  pub record IsInserted (m : MapState K V) (k : K) (v : V) (n : MapState K V) : Type 0 where
+  pub record MapInserts (m : MapState K V) (k : K) (v : V) (n : MapState K V) : Type 0 where
     pub in_range : IsOutOfRange number m.walk m.capacity m.factor k → ⊥
     pub capacity : IsCapacityAfter number m.walk m.capacity m.factor k n.capacity
     pub state : n ≡ after_insert number m k v n.capacity
-    pub map : IsMap number is_key n
+    pub map : IsMap number is_valid n
 
   -- the pairs were inserted in turn, all accepted
-  abbrev pub AreInserted : MapState K V → List (K × V) → MapState K V → Type 0
-  AreInserted m [] n = n ≡ m
-  AreInserted m (p ∷ ps) n = (l : MapState K V) × IsInserted m p.0 p.1 l × AreInserted l ps n
+  abbrev pub MapInsertsAll : MapState K V → List (K × V) → MapState K V → Type 0
+  MapInsertsAll m [] n = n ≡ m
+  MapInsertsAll m (p ∷ ps) n = (l : MapState K V) × MapInserts m p.0 p.1 l × MapInsertsAll l ps n
 
   -- the pairs were inserted in turn, all accepted: each of their keys has its last value, each other key what it had, there is
   -- one pair more for each new key, the load factor stays, and there are no fewer slots
   pub record IsExtended (m : MapState K V) (ps : List (K × V)) (n : MapState K V) : Type 0 where
-    pub inserted : AreInserted m ps n
+    pub inserted : MapInsertsAll m ps n
     pub updates : (q : K) → value_of number n.walk q ≡ option_or (value_of number (reverse ps) q) (value_of number m.walk q)
     pub len : length n.walk ≡ length m.walk + length (new_keys number m.walk ps)
     pub factor : n.factor ≡ m.factor
@@ -41,25 +41,25 @@ module _ {K V : Type 0} (number : K → ℕ) (is_key : K → Type 0) where
   -- the map is what is left where the pairs are inserted in turn into one of 4 slots that was just made, apart from both counts
   pub record IsMadeOf (ps : List (K × V)) (m : MapState K V) : Type 0 where
     pub filled : MapState K V
-    pub inserted : AreInserted (empty_map 4) ps filled
+    pub inserted : MapInsertsAll (empty_map 4) ps filled
     pub state : m ≡ record filled { placed = m.placed; compared = m.compared }
 
-module _ {K V S : Type 0} (number : K → ℕ) (is_key : K → Type 0) (steps : S → Option (K × V) → S → Type 0) where
+module _ {K V S : Type 0} (number : K → ℕ) (is_valid : K → Type 0) (steps : S → Option (K × V) → S → Type 0) where
   -- all pairs that came from the iterator s were inserted in turn
   pub record Extends (s : S) (m n : MapState K V) : Type 0 where
     pub pairs : List (K × V)
     pub came : Drains steps s pairs
-    pub extended : IsExtended number is_key m pairs n
+    pub extended : IsExtended number is_valid m pairs n
 
   -- the pairs that came from the iterator s were inserted in turn up to the first that was refused, which comes back with the
   -- cause and the number of those before it, or the greatest number there is where they were more; then its key was looked for
-  pub record StopsAt (s : S) (m : MapState K V) (refused : RefusedPair K V) (n : MapState K V) : Type 0 where
+  pub record ExtendsUpTo (s : S) (m : MapState K V) (refused : RefusedPair K V) (n : MapState K V) : Type 0 where
     pub pairs : List (K × V)
     pub rest : S
     pub came : YieldsThen steps s pairs (Some (refused.key, refused.value)) rest
     pub before : MapState K V
-    pub extended : IsExtended number is_key m pairs before
-    pub may_refuse : MayRefuse number (record { pairs = before.walk; capacity = before.capacity; factor = before.factor }) refused.key refused.cause
+    pub extended : IsExtended number is_valid m pairs before
+    pub may_refuse : RefusalIsDue number (record { pairs = before.walk; capacity = before.capacity; factor = before.factor }) refused.key refused.cause
     pub after : n ≡ after_search number before refused.key
     pub applied : refused.applied ≡ min (length pairs) (2 ^ 64 - 1)
 
@@ -75,4 +75,4 @@ module _ {K V S : Type 0} (number : K → ℕ) (is_key : K → Type 0) (steps : 
       ((cause ≡ TooLarge) × (2 ^ 63 < b))
       ⊎ ((cause ≡ Memory) × (b ≤ 2 ^ 63))
       ⊎ ((slots : ℕ) × IsLeastPower (max b 2) slots × (refused : RefusedPair K V) × (n : MapState K V)
-      × StopsAt s (empty_map slots) refused n × (cause ≡ refused.cause))
+      × ExtendsUpTo s (empty_map slots) refused n × (cause ≡ refused.cause))

@@ -27,12 +27,12 @@ module _ {K V : Type 0} (number : K → ℕ) where
   load_of L C = length (each_once (map (λ p. residue number p.0 C) L))
 
   -- the sizes above 1 of slots 0, 1, .., C - 1
-  abbrev pub crowds_of : List (K × V) → ℕ → List ℕ
-  crowds_of L C = filter (nat_lt 1) (map (λ i. length (slot_of number L C i)) (range_with_len 0 C))
+  abbrev pub collision_sizes : List (K × V) → ℕ → List ℕ
+  collision_sizes L C = filter (nat_lt 1) (map (λ i. length (slot_of number L C i)) (range_with_len 0 C))
 
   -- each size above 1 by its first appearance, with the number of slots that have it
-  abbrev pub sizes_of : List (K × V) → ℕ → List (ℕ × ℕ)
-  sizes_of L C = tally_of (crowds_of L C)
+  abbrev pub collisions_of : List (K × V) → ℕ → List (ℕ × ℕ)
+  collisions_of L C = tally_of (collision_sizes L C)
 
 -- the map binds each number of the list to how often it stands there, as insertions at the first places of these numbers leave it
 pub record IsTally (ns : List ℕ) (m : MapState ℕ ℕ) : Type 0 where

@@ -24,9 +24,9 @@ pub record IsWanted (C n F D : ℕ) : Type 0 where
 abbrev pub WantsTooMuch : ℕ → ℕ → ℕ → Type 0
 WantsTooMuch C n F = (D : ℕ) × IsWanted C n F D × (2 ^ 63 < D)
 
--- numbers of pairs up to the limit meet the load F in C slots, and no greater one does
-abbrev pub IsLimit : ℕ → ℕ → ℕ → Type 0
-IsLimit C F limit = (n : ℕ) → n < 2 ^ 64 → (n ≤ limit → MeetsLoad C n F) × (limit < n → F < n * 1000 / C)
+-- numbers of pairs up to the threshold meet the load F in C slots, and no greater one does
+abbrev pub IsThreshold : ℕ → ℕ → ℕ → Type 0
+IsThreshold C F threshold = (n : ℕ) → n < 2 ^ 64 → (n ≤ threshold → MeetsLoad C n F) × (threshold < n → F < n * 1000 / C)
 
 -- D is the capacity that is left once a new key made the length n
 abbrev pub IsNext : ℕ → ℕ → ℕ → ℕ → Type 0

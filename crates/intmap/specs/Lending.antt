@@ -10,7 +10,7 @@ use Rattle.intmap.specs.Bindings.{write_value}
 use Rattle.intmap.specs.Tables.Bits.{with_word}
 use Rattle.intmap.specs.Map.{MapState, after_search, written}
 use Rattle.intmap.specs.Tables.Slots.{Held, Grid, write_at}
-use Rattle.intmap.specs.Values.{revalued_map}
+use Rattle.intmap.specs.Values.{map_with_values}
 use Rattle.intmap.specs.contracts.slot.Slot.{the_row as slot_row}
 use Rattle.intmap.specs.contracts.table.Table.{the_row as table_row}
 use Rattle.intmap.specs.contracts.bits.Bits.{the_row as bits_row}
@@ -41,4 +41,4 @@ module _ (K V A : RattleType) (g : key.Ghosts K.Denot) (e : eq.Ghosts K.Denot) (
 
   -- once the loan named r ends, the map behind m is as it was, with the values of some map in the places of its own
   abbrev pub map_lends_values : GName → Fml
-  map_lends_values r = follows (map_row K V A g e a) (map_row K V A g e a) m.ghost_name r (λ last. revalued_map m.now (values_of last.walk))
+  map_lends_values r = follows (map_row K V A g e a) (map_row K V A g e a) m.ghost_name r (λ last. map_with_values m.now (values_of last.walk))

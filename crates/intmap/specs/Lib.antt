@@ -6,7 +6,7 @@ pub mod Reach
 pub mod Growth
 pub mod Figures
 pub mod Map
-pub mod States
+pub mod PlainLists
 pub mod Passing
 pub mod Taking
 pub mod Retaining

@@ -20,8 +20,8 @@ empty_map C = record { walk = []; capacity = C; factor = 909; placed = 0; compar
 
 module _ {K V : Type 0} where
   -- no new key is in range: one more pair would be more than 2^64 - 1, or ask for more than 2^63 slots
-  abbrev pub IsFull : List (K × V) → ℕ → ℕ → Type 0
-  IsFull L C F = (2 ^ 64 ≤ length L + 1) ⊎ GrowsTooMuch C (length L + 1) F
+  abbrev pub InsertIsTooLarge : List (K × V) → ℕ → ℕ → Type 0
+  InsertIsTooLarge L C F = (2 ^ 64 ≤ length L + 1) ⊎ GrowsTooMuch C (length L + 1) F
 
 module _ {K V : Type 0} where
   -- the map without its pairs
@@ -31,22 +31,22 @@ module _ {K V : Type 0} where
 module _ {K V : Type 0} (number : K → ℕ) where
   -- W may be the walk of a map of C slots at the load factor F: it is its own walk, no key is bound twice, each key is a
   -- value of its type, length and load factor are below 2^64, and the last length at which growth was tested meets the load
-  pub record IsMapWalk (is_key : K → Type 0) (W : List (K × V)) (C F : ℕ) : Type 0 where
+  pub record IsMapWalk (is_valid : K → Type 0) (W : List (K × V)) (C F : ℕ) : Type 0 where
     pub capacity : IsCapacity C
     pub own : walk_of number W C ≡ W
     pub distinct : HasDistinctKeys number W
-    pub keys : All (λ p. is_key p.0) W
+    pub keys : All (λ p. is_valid p.0) W
     pub count : length W < 2 ^ 64
     pub factor : F < 2 ^ 64
     pub load : 4 ≤ length W → MeetsLoad C (last_due (length W)) F
 
   -- what every map is
   abbrev pub IsMap : (K → Type 0) → MapState K V → Type 0
-  IsMap is_key m = IsMapWalk is_key m.walk m.capacity m.factor
+  IsMap is_valid m = IsMapWalk is_valid m.walk m.capacity m.factor
 
   -- k is a new key, and none is in range
   abbrev pub IsOutOfRange : List (K × V) → ℕ → ℕ → K → Type 0
-  IsOutOfRange L C F k = IsNone (value_of number L k) × IsFull L C F
+  IsOutOfRange L C F k = IsNone (value_of number L k) × InsertIsTooLarge L C F
 
   -- D is the capacity that is left once k was bound
   abbrev pub IsCapacityAfter : List (K × V) → ℕ → ℕ → K → ℕ → Type 0

@@ -10,9 +10,9 @@ refilled make (p ∷ L) (v ∷ vs) = (p.0, make v) ∷ refilled make L vs
 
 module _ {K V : Type 0} where
   -- the pairs with these values in the places of their own, in order and as far as they go
-  abbrev pub revalued : List (K × V) → List V → List (K × V)
-  revalued L vs = refilled (λ v. v) L vs
+  abbrev pub with_values : List (K × V) → List V → List (K × V)
+  with_values L vs = refilled (λ v. v) L vs
 
   -- the map with these values in the order of its walk, and all else as it was
-  abbrev pub revalued_map : MapState K V → List V → MapState K V
-  revalued_map m vs = record m { walk = revalued m.walk vs }
+  abbrev pub map_with_values : MapState K V → List V → MapState K V
+  map_with_values m vs = record m { walk = with_values m.walk vs }

@@ -5,7 +5,7 @@ ghost use Rattle.intmap.specs.Locations.{IsFound};
 ghost use Rattle.std.specs.Borrow.{sem, MutBor};
 ghost use Rattle.std.specs.Map.Calls.{ModifiesValue};
 ghost use Rattle.intmap.specs.Map.{IsMap, IsOutOfRange, IsCapacityAfter, after_search};
-ghost use Rattle.intmap.specs.States.{MayRefuse};
+ghost use Rattle.intmap.specs.PlainLists.{RefusalIsDue};
 
 mod occupied;
 mod vacant;
@@ -75,8 +75,8 @@ impl<K: IntKey, V, A: Allocator + Copy> IntMap<K, V, A> {
         ensures key { entry_key result ≡ key }
         ensures occupied { MatchEntry result (IsSome (value_of K.number_of self.old.walk key))
             (value_of K.number_of self.old.walk key ≡ None) }
-        ensures map { IsMap K.number_of K.is_key self.old }
-        ensures map_after { IsMap K.number_of K.is_key (entry_map result) }
+        ensures valid { IsMap K.number_of K.is_valid self.old }
+        ensures valid_after { IsMap K.number_of K.is_valid (entry_map result) }
     {
         match self.locate(key) {
             Some(at) => Entry::Occupied(OccupiedEntry {
@@ -90,7 +90,7 @@ impl<K: IntKey, V, A: Allocator + Copy> IntMap<K, V, A> {
 }
 
 impl<'a, K: IntKey, V, A: Allocator + Copy> Entry<'a, K, V, A> {
-    ghost use Rattle.intmap.specs.Entries.{entry_reference, entry_map, entry_key, entry_value, entry_state, map_with_value, entry_lends_ok};
+    ghost use Rattle.intmap.specs.Entries.{entry_reference, entry_map, entry_key, entry_value, entry_list, map_with_value, entry_lends_ok};
 
     /// The key that was looked up.
     pub fn key(&self) -> &K
@@ -117,15 +117,15 @@ impl<'a, K: IntKey, V, A: Allocator + Copy> Entry<'a, K, V, A> {
             self.entry result) }
         ensures value { IfOk result (λ r. r.now ≡ unwrap_or (entry_value self.entry) value) }
         ensures capacity { OnOk result ((v : V) → IsCapacityAfter K.number_of
-            (entry_state self.entry).pairs (entry_state self.entry).capacity
-            (entry_state self.entry).factor (entry_key self.entry)
+            (entry_list self.entry).pairs (entry_list self.entry).capacity
+            (entry_list self.entry).factor (entry_key self.entry)
             (map_with_value self.entry v).capacity) }
         ensures updates { OnOk result ((v : V) → Updates K.number_of (entry_map self.entry).walk
             (map_with_value self.entry v).walk (entry_key self.entry) (Some v)) }
         ensures len { OnOk result ((v : V) → length (map_with_value self.entry v).walk
             ≡ length (entry_map self.entry).walk + cond (is_some (entry_value self.entry)) 0 1) }
-        ensures map_after { OnOk result ((v : V)
-            → IsMap K.number_of K.is_key (map_with_value self.entry v)) }
+        ensures valid_after { OnOk result ((v : V)
+            → IsMap K.number_of K.is_valid (map_with_value self.entry v)) }
 
         // what a refusal hands back
         ensures value_returned { IfErr result (λ refused. refused.value ≡ value) }
@@ -134,7 +134,7 @@ impl<'a, K: IntKey, V, A: Allocator + Copy> Entry<'a, K, V, A> {
         ensures in_range { OnOk result (IsOutOfRange K.number_of (entry_map self.entry).walk
             (entry_map self.entry).capacity (entry_map self.entry).factor (entry_key self.entry)
             → ⊥) }
-        ensures refused { IfErr result (λ refused. MayRefuse K.number_of (entry_state self.entry)
+        ensures refused { IfErr result (λ refused. RefusalIsDue K.number_of (entry_list self.entry)
             (entry_key self.entry) refused.cause) }
     {
         match self {

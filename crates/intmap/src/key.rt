@@ -13,14 +13,14 @@ mod wide;
 /// ```text
 /// // Article has one field, number: u32, and derives Clone, Copy, PartialEq and Eq
 /// impl IntKey for Article {
-///     ghost is_key = { λ article. article.number < 2 ^ 32 };
+///     ghost is_valid = { λ article. article.number < 2 ^ 32 };
 ///
 ///     ghost number_of = { λ article. article.number };
 ///
-///     ghost exact = { λ x y x_is_key y_is_key equal.
+///     ghost number_injective = { λ x y x_is_valid y_is_valid equal.
 ///         ap (λ number. record x { number = number }) equal };
 ///
-///     ghost eq_is = { λ x y x_is_key y_is_key. refl };
+///     ghost eq_agrees = { λ x y x_is_valid y_is_valid. refl };
 ///
 ///     fn number(&self) -> u64 {
 ///         self.number as u64
@@ -29,7 +29,7 @@ mod wide;
 /// ```
 pub trait IntKey: Copy + Eq {
     /// What holds of each value of the type, such as its range.
-    ghost is_key: { Self → Type 0 };
+    ghost is_valid: { Self → Type 0 };
 
     /// The number of a key.
     ghost number_of: { Self → ℕ };
@@ -37,13 +37,14 @@ pub trait IntKey: Copy + Eq {
     /// The number of this key.
     fn number(&self) -> u64
         ensures value { result ≡ number_of self.now }
-        ensures key { is_key self.now }
+        ensures key { is_valid self.now }
         ensures fits { number_of self.now < 2 ^ 64 };
 
     /// Two keys with equal numbers are one and the same key.
-    ghost exact: { (x y : Self) → is_key x → is_key y → number_of x ≡ number_of y → x ≡ y };
+    ghost number_injective: { (x y : Self)
+        → is_valid x → is_valid y → number_of x ≡ number_of y → x ≡ y };
 
     /// `==` returns whether two keys have equal numbers.
-    ghost eq_is: { (x y : Self) → is_key x → is_key y
+    ghost eq_agrees: { (x y : Self) → is_valid x → is_valid y
         → Self.eq x y ≡ (number_of x == number_of y) };
 }

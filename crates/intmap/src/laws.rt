@@ -12,7 +12,7 @@ ghost use Rattle.intmap.specs.Figures.{load_of};
 ghost use Rattle.intmap.specs.Growth.{IsWanted, is_due};
 ghost use Rattle.intmap.specs.Map.{MapState, IsCapacityAfter};
 ghost use Rattle.intmap.specs.Equality.{maps_equal};
-ghost use Rattle.intmap.specs.States.{State, MayRefuse};
+ghost use Rattle.intmap.specs.PlainLists.{PlainList, RefusalIsDue};
 ghost use Rattle.intmap.specs.Json.{Shows, BindSameTrees};
 ghost use Rattle.intmap.specs.declared.refusal.Cause.{Cause};
 ghost use Rattle.serde_json.specs.Data.{Data};
@@ -80,10 +80,10 @@ pub fn reach_is_within_class<K: IntKey, V>()
 /// The insertion of a pair never fails if its slot holds no pair, the new length is below 2^64, and
 /// the load isn't checked at that length.
 pub fn lone_pairs_are_never_refused<K: IntKey, V>()
-    ensures { (s : State K V) (k : K) (cause : Cause) → IsCapacity s.capacity
+    ensures { (s : PlainList K V) (k : K) (cause : Cause) → IsCapacity s.capacity
         → length s.pairs + 1 < 2 ^ 64 → is_due (length s.pairs + 1) ≡ false
         → class_size K.number_of s.pairs s.capacity k ≡ 0
-        → MayRefuse K.number_of s k cause → ⊥ }
+        → RefusalIsDue K.number_of s k cause → ⊥ }
 {}
 
 /// If every key with a number of at least `n` is absent, the numbers of all keys are below `n`.

@@ -1,7 +1,7 @@
 //! Whether a table has too few slots for its pairs, and how many slots they need.
 ghost use Rattle.std.specs.Prelude.{◌≡◌, ◌^◌, ◌<◌, ◌&&◌, nat_lt, IfSome, IfNone};
 ghost use Rattle.intmap.specs.Classes.{IsCapacity};
-ghost use Rattle.intmap.specs.Growth.{IsWanted, IsLimit, WantsTooMuch, is_due};
+ghost use Rattle.intmap.specs.Growth.{IsWanted, IsThreshold, WantsTooMuch, is_due};
 
 /// The greatest number of slots.
 pub(crate) const GREATEST_CAPACITY: usize = 9223372036854775808;
@@ -28,9 +28,9 @@ pub(crate) fn wanted_capacity(len: usize, capacity: usize, factor: usize) -> Opt
 
 /// The greatest number of pairs, at most `usize::MAX`, that meets the load factor in `capacity`
 /// slots.
-pub(crate) fn limit_of(capacity: usize, factor: usize) -> usize
+pub(crate) fn threshold_of(capacity: usize, factor: usize) -> usize
     requires { IsCapacity capacity }
-    ensures { IsLimit capacity factor result }
+    ensures { IsThreshold capacity factor result }
 {
     let most = ((factor as u128 + 1) * capacity as u128 - 1) / 1000;
     if most > usize::MAX as u128 {
@@ -40,9 +40,9 @@ pub(crate) fn limit_of(capacity: usize, factor: usize) -> usize
     }
 }
 
-/// Whether the load is checked at `len` pairs, and they are more than the limit.
-pub(crate) fn has_outgrown(len: usize, limit: usize) -> bool
-    ensures { result ≡ is_due len && nat_lt limit len }
+/// Whether the load is checked at `len` pairs, and they are more than the threshold.
+pub(crate) fn has_outgrown(len: usize, threshold: usize) -> bool
+    ensures { result ≡ is_due len && nat_lt threshold len }
 {
-    len & 4 == 4 && len > limit
+    len & 4 == 4 && len > threshold
 }

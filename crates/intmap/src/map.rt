@@ -39,7 +39,7 @@ use std::marker::Model;
 pub struct IntMap<K: IntKey, V, A: Allocator + Copy = Global> {
     table: Table<K, Kept<V>, A>,
     len: usize,
-    limit: usize,
+    threshold: usize,
     factor: usize,
     placed: Steps,
     compared: Steps,
@@ -59,15 +59,15 @@ impl<K: IntKey, V, A: Allocator + Copy> Model for IntMap<K, V, A> {
       compared = m.compared;
     } };
 
-    ghost invariant = { λ m. IsConsistent K.number_of K.is_key m.table.walk m.table.capacity
-        m.factor m.len m.limit };
+    ghost invariant = { λ m. IsConsistent K.number_of K.is_valid m.table.walk m.table.capacity
+        m.factor m.len m.threshold };
 }
 
 impl<K: IntKey, V, A: Allocator + Copy> IntMap<K, V, A> {
     /// The number of pairs. It never fails.
     pub fn len(&self) -> usize
         ensures value { result ≡ length self.now.walk }
-        ensures map { IsMap K.number_of K.is_key self.now }
+        ensures valid { IsMap K.number_of K.is_valid self.now }
     {
         self.len
     }
@@ -75,7 +75,7 @@ impl<K: IntKey, V, A: Allocator + Copy> IntMap<K, V, A> {
     /// Whether there is no pair. It never fails.
     pub fn is_empty(&self) -> bool
         ensures value { result ≡ (length self.now.walk == 0) }
-        ensures map { IsMap K.number_of K.is_key self.now }
+        ensures valid { IsMap K.number_of K.is_valid self.now }
     {
         self.len == 0
     }
@@ -83,7 +83,7 @@ impl<K: IntKey, V, A: Allocator + Copy> IntMap<K, V, A> {
     /// The number of slots, a power of two from 2 to 2^63. It never fails.
     pub fn capacity(&self) -> usize
         ensures value { result ≡ self.now.capacity }
-        ensures map { IsMap K.number_of K.is_key self.now }
+        ensures valid { IsMap K.number_of K.is_valid self.now }
     {
         self.table.capacity()
     }
@@ -91,7 +91,7 @@ impl<K: IntKey, V, A: Allocator + Copy> IntMap<K, V, A> {
     /// Does nothing. Its contract says what holds of every map.
     #[inline(always)]
     pub(crate) fn known(&self)
-        ensures map { IsMap K.number_of K.is_key self.now }
+        ensures valid { IsMap K.number_of K.is_valid self.now }
     {
         let _ = &self.table;
     }
@@ -111,8 +111,8 @@ impl<K: IntKey, V, A: Allocator + Copy> IntMap<K, V, A> {
         ensures missing { IfNone result (value_of K.number_of self.old.walk key ≡ None) }
         ensures bound { is_some result ≡ is_some (value_of K.number_of self.old.walk key) }
         ensures state { self.new ≡ after_search K.number_of self.old key }
-        ensures known { K.is_key key }
-        ensures map { IsMap K.number_of K.is_key self.old }
+        ensures known { K.is_valid key }
+        ensures valid { IsMap K.number_of K.is_valid self.old }
     {
         self.table.locate(key, &mut self.compared)
     }
@@ -160,7 +160,7 @@ impl<K: IntKey, V, A: Allocator + Copy> IntMap<K, V, A> {
         ensures* writes_back { sem 𝓛 (map_lends K.row V.row A.row K.IntKey.own K.PartialEq
             A.Allocator self.entry at.key result) }
         ensures value { value_of K.number_of self.old.walk at.key ≡ Some result.now }
-        ensures map { IsMap K.number_of K.is_key self.old }
+        ensures valid { IsMap K.number_of K.is_valid self.old }
     {
         let kept = self.table.value_mut_at(at);
         &mut kept.value
@@ -172,8 +172,8 @@ impl<K: IntKey, V, A: Allocator + Copy> IntMap<K, V, A> {
         requires { IsAt K.number_of self.old.walk self.old.capacity at }
         ensures value { value_of K.number_of self.old.walk at.key ≡ Some result }
         ensures state { self.new ≡ without_key K.number_of self.old at.key }
-        ensures map { IsMap K.number_of K.is_key self.old }
-        ensures map_after { IsMap K.number_of K.is_key self.new }
+        ensures valid { IsMap K.number_of K.is_valid self.old }
+        ensures valid_after { IsMap K.number_of K.is_valid self.new }
     {
         let kept = self.table.take_at(at);
         self.len -= 1;
@@ -187,7 +187,7 @@ impl<K: IntKey, V, A: Allocator + Copy> IntMap<K, V, A> {
         requires { IsAt K.number_of self.old.walk self.old.capacity at }
         ensures value { value_of K.number_of self.old.walk at.key ≡ Some result }
         ensures state { self.new ≡ with_pair K.number_of self.old at.key value self.old.capacity }
-        ensures map_after { IsMap K.number_of K.is_key self.new }
+        ensures valid_after { IsMap K.number_of K.is_valid self.new }
     {
         self.table.replace_at(at, Kept { value }).value
     }

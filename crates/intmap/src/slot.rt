@@ -42,10 +42,12 @@ fn find_in<K: IntKey, X>(pairs: &[(Stored<K>, X)], key: &K, steps: &mut Steps) -
     ensures counted { steps.new ≡ steps.old
         + length (through_first (λ p. same_key K.number_of key.now p.0) pairs.now) }
 {
-    for (i, pair) in pairs.iter().enumerate() {
+    let mut left = pairs;
+    while let Some((pair, rest)) = left.split_first() {
         if pair.0.matches(key, steps) {
-            return Some(i);
+            return Some(pairs.len() - left.len());
         }
+        left = rest;
     }
     None
 }

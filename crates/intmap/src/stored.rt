@@ -18,7 +18,7 @@ impl<K: IntKey> Model for Stored<K> {
 
     ghost view = { λ stored. stored.key };
 
-    ghost invariant = { λ stored. K.is_key stored.key };
+    ghost invariant = { λ stored. K.is_valid stored.key };
 }
 
 impl<K: IntKey> Stored<K> {
@@ -53,7 +53,7 @@ impl<K: IntKey> Stored<K> {
     #[inline(always)]
     pub(crate) fn key(&self) -> &K
         ensures value { result.now ≡ self.now }
-        ensures known { K.is_key self.now }
+        ensures known { K.is_valid self.now }
     {
         &self.key
     }

@@ -27,13 +27,13 @@ impl IntKey for Cell {
     ghost use Rattle.std.proofs.lemmas.Bool.Decides.{nat_tests};
     ghost use Rattle.intmap_cell.specs.Cells.{IsCell, cell_number};
 
-    ghost is_key = { IsCell };
+    ghost is_valid = { IsCell };
 
     ghost number_of = { cell_number };
 
-    ghost exact = { λ x y x_is y_is equal. Prim.grind (arith, common_steps) };
+    ghost number_injective = { λ x y x_is y_is equal. Prim.grind (arith, common_steps) };
 
-    ghost eq_is = { λ x y x_is y_is. Prim.grind (arith, common_steps, nat_tests) };
+    ghost eq_agrees = { λ x y x_is y_is. Prim.grind (arith, common_steps, nat_tests) };
 
     fn number(&self) -> u64 {
         self.row as u64 * COLUMNS + self.column as u64

@@ -19,13 +19,13 @@ impl IntKey for Cell {
     ghost use Rattle.std.proofs.lemmas.Grind.{common_steps};
     ghost use Rattle.std.proofs.lemmas.Bool.Decides.{nat_tests};
 
-    ghost is_key = { λ cell. (cell.row < 2 ^ 32) × (cell.column < 2 ^ 32) };
+    ghost is_valid = { λ cell. (cell.row < 2 ^ 32) × (cell.column < 2 ^ 32) };
 
     ghost number_of = { λ cell. cell.row * 2 ^ 32 + cell.column };
 
-    ghost exact = { λ x y x_is y_is equal. Prim.grind (arith, common_steps) };
+    ghost number_injective = { λ x y x_is y_is equal. Prim.grind (arith, common_steps) };
 
-    ghost eq_is = { λ x y x_is y_is. Prim.grind (arith, common_steps, nat_tests) };
+    ghost eq_agrees = { λ x y x_is y_is. Prim.grind (arith, common_steps, nat_tests) };
 
     fn number(&self) -> u64 {
         self.row as u64 * (1 << 32) + self.column as u64

@@ -13,9 +13,9 @@ use Rattle.intmap_run.specs.declared.answer.Answer.TheVariants as answer
 use Rattle.intmap_run.specs.Steps.{StepsFrom}
 use Rattle.intmap_run.proofs.MapStandLemmas.{walk_of-strike_keys-stands}
 
-module _ {K V S A : Type 0} (number : K → ℕ) (is_key : K → Type 0) (m : MapState K V) (is_map : IsMap number is_key m) (sees : V → S → Type 0) (keeps : K → V → Bool) (count : ℕ) where
+module _ {K V S A : Type 0} (number : K → ℕ) (is_valid : K → Type 0) (m : MapState K V) (is_map : IsMap number is_valid m) (sees : V → S → Type 0) (keeps : K → V → Bool) (count : ℕ) where
   -- the first pairs were taken out
-  pub StepsFrom-drain : (n : MapState K V) (pairs : Vec (K × V) A) → IsMap number is_key n → pairs.items ≡ take count m.walk → n ≡ with_walk m (drop count m.walk)
+  pub StepsFrom-drain : (n : MapState K V) (pairs : Vec (K × V) A) → IsMap number is_valid n → pairs.items ≡ take count m.walk → n ≡ with_walk m (drop count m.walk)
       → StepsFrom number sees keeps m (command.Drain count) (answer.Pairs pairs) n
   StepsFrom-drain n pairs is_after taken left s stands =
       let struck : strike_keys number m.walk (keys_of pairs.items) ≡ drop count m.walk =

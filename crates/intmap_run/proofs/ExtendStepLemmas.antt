@@ -7,10 +7,10 @@ use Rattle.std.specs.declared.vec.IntoIter.{IntoIter}
 use Rattle.std.specs.declared.vec.Vec.{Vec}
 use Rattle.std.proofs.lemmas.List.{length-append}
 use Rattle.intmap.specs.Bindings.{put_pair}
-use Rattle.intmap.specs.Extending.{IsInserted, AreInserted}
+use Rattle.intmap.specs.Extending.{MapInserts, MapInsertsAll}
 use Rattle.intmap.specs.Map.{MapState, IsMap, after_search}
 use Rattle.intmap.specs.Reach.{reach}
-use Rattle.intmap.specs.States.{State, Stands, InsertsAll, MayRefuse}
+use Rattle.intmap.specs.PlainLists.{PlainList, Stands, ListInsertsAll, RefusalIsDue}
 use Rattle.intmap.specs.declared.refusal.RefusedPair.{RefusedPair}
 use Rattle.intmap_run.specs.declared.command.Command.TheVariants as command
 use Rattle.intmap_run.specs.declared.answer.Answer.TheVariants as answer
@@ -19,27 +19,27 @@ use Rattle.intmap_run.specs.Steps.{StepsFrom}
 use Rattle.intmap_run.proofs.MapStandLemmas.{reach-stands}
 use Rattle.intmap_run.proofs.StepLemmas.{accepted, may}
 
-module _ {K V : Type 0} (number : K → ℕ) (is_key : K → Type 0) where
+module _ {K V : Type 0} (number : K → ℕ) (is_valid : K → Type 0) where
   -- what accepted insertions in turn leave of list and map
-  pub record AllAccepted (m : MapState K V) (ps : List (K × V)) (n : MapState K V) (s t : State K V) : Type 0 where
-    pub inserts : InsertsAll number s ps t
+  pub record AllAccepted (m : MapState K V) (ps : List (K × V)) (n : MapState K V) (s t : PlainList K V) : Type 0 where
+    pub inserts : ListInsertsAll number s ps t
     pub stands : Stands number t n
     compared : n.compared ≡ m.compared + insertion_comparisons number s ps t inserts
     placed : n.placed ≡ m.placed + insertion_placements number s ps t inserts
-    map : IsMap number is_key n
+    map : IsMap number is_valid n
 
   -- they leave a list with the pairs put in
-  pub all_accepted : (m : MapState K V) (ps : List (K × V)) (n : MapState K V) → IsMap number is_key m → AreInserted number is_key m ps n
-      → (s : State K V) → Stands number s m → (t : State K V) × AllAccepted m ps n s t
+  pub all_accepted : (m : MapState K V) (ps : List (K × V)) (n : MapState K V) → IsMap number is_valid m → MapInsertsAll number is_valid m ps n
+      → (s : PlainList K V) → Stands number s m → (t : PlainList K V) × AllAccepted m ps n s t
   all_accepted m [] n is_map is s stands = (
     s,
     rw is (record { inserts = refl; stands = stands; compared = sym (add-zero m.compared); placed = sym (add-zero m.placed); map = is_map }),
   )
   all_accepted m (p ∷ ps) n is_map inserted s stands =
       let l : MapState K V = inserted.0 in
-      let one : IsInserted number is_key m p.0 p.1 l = inserted.1 in
-      let t : State K V = record s { pairs = put_pair number s.pairs s.capacity p.0 p.1; capacity = l.capacity } in
-      let first = accepted number is_key m is_map p.0 p.1 l one.capacity one.in_range one.state s stands in
+      let one : MapInserts number is_valid m p.0 p.1 l = inserted.1 in
+      let t : PlainList K V = record s { pairs = put_pair number s.pairs s.capacity p.0 p.1; capacity = l.capacity } in
+      let first = accepted number is_valid m is_map p.0 p.1 l one.capacity one.in_range one.state s stands in
       let rest = all_accepted l ps n one.map inserted.2 t first.stands in
       let compared : ℕ = insertion_comparisons number t ps rest.0 rest.1.inserts in
       let placed : ℕ = insertion_placements number t ps rest.0 rest.1.inserts in (
@@ -53,12 +53,12 @@ module _ {K V : Type 0} (number : K → ℕ) (is_key : K → Type 0) where
         },
       )
 
-module _ {K V S A : Type 0} (number : K → ℕ) (is_key : K → Type 0) (m : MapState K V) (is_map : IsMap number is_key m) (sees : V → S → Type 0) (keeps : K → V → Bool) where
+module _ {K V S A : Type 0} (number : K → ℕ) (is_valid : K → Type 0) (m : MapState K V) (is_map : IsMap number is_valid m) (sees : V → S → Type 0) (keeps : K → V → Bool) where
   -- all pairs were inserted
-  pub StepsFrom-extend : (pairs : Vec (K × V) A) (xs : List (K × V)) (n : MapState K V) → xs ≡ pairs.items → AreInserted number is_key m xs n
+  pub StepsFrom-extend : (pairs : Vec (K × V) A) (xs : List (K × V)) (n : MapState K V) → xs ≡ pairs.items → MapInsertsAll number is_valid m xs n
       → StepsFrom number sees keeps m (command.Extend pairs) answer.Done n
   StepsFrom-extend pairs xs n all inserted s stands =
-      let left = all_accepted number is_key m pairs.items n is_map (rw all at inserted) s stands in (
+      let left = all_accepted number is_valid m pairs.items n is_map (rw all at inserted) s stands in (
         left.0,
         record {
           answers = inl (refl, (refl, left.1.inserts));
@@ -71,16 +71,16 @@ module _ {K V S A : Type 0} (number : K → ℕ) (is_key : K → Type 0) (m : Ma
   -- the pairs before a refused one were inserted
   pub StepsFrom-stopped : (pairs : Vec (K × V) A) (xs rest : List (K × V)) (before n : MapState K V) (refused : RefusedPair K V)
       → pairs.items ≡ xs ++ (refused.key, refused.value) ∷ rest → refused.applied ≡ length xs
-      → AreInserted number is_key m xs before → n ≡ after_search number before refused.key
-      → MayRefuse number (record { pairs = before.walk; capacity = before.capacity; factor = before.factor }) refused.key refused.cause
+      → MapInsertsAll number is_valid m xs before → n ≡ after_search number before refused.key
+      → RefusalIsDue number (record { pairs = before.walk; capacity = before.capacity; factor = before.factor }) refused.key refused.cause
       → StepsFrom number sees keeps m (command.Extend pairs) (answer.Stopped refused) n
   StepsFrom-stopped pairs xs rest before n refused split count inserted searched may_be s stands =
-      let left = all_accepted number is_key m xs before is_map inserted s stands in
-      let t : State K V = left.0 in
+      let left = all_accepted number is_valid m xs before is_map inserted s stands in
+      let t : PlainList K V = left.0 in
       let stands' = left.1.stands in
       let is_map' = left.1.map in
       let compared : ℕ = insertion_comparisons number s xs t left.1.inserts in
-      let refuses = may number is_key before is_map' refused.key refused.cause may_be.new_key may_be.too_large may_be.memory t stands' in (
+      let refuses = may number is_valid before is_map' refused.key refused.cause may_be.new_key may_be.too_large may_be.memory t stands' in (
         t,
         rw searched (record {
           answers = inr (refused, refl, (xs, rest, split, count, left.1.inserts, refuses));

@@ -15,7 +15,7 @@ use Rattle.intmap_run.proofs.CapacityLemmas.{IsLarger-wanted, IsLarger-reserved}
 use Rattle.intmap_run.proofs.MapStandLemmas.{length-stands, walk_of-stands}
 use Rattle.intmap_run.proofs.StepLemmas.{Step-same}
 
-module _ {K V S A : Type 0} (number : K → ℕ) (is_key : K → Type 0) (m : MapState K V) (is_map : IsMap number is_key m) (sees : V → S → Type 0) (keeps : K → V → Bool) where
+module _ {K V S A : Type 0} (number : K → ℕ) (is_valid : K → Type 0) (m : MapState K V) (is_map : IsMap number is_valid m) (sees : V → S → Type 0) (keeps : K → V → Bool) where
   -- a reservation that is accepted
   StepsFrom-reserved : (additional : ℕ) (n : MapState K V) → length m.walk + additional ≤ 2 ^ 63
       → (p : ℕ) × IsLeastPower (length m.walk + additional) p × (n.capacity ≡ max m.capacity p) → n ≡ in_slots number m n.capacity

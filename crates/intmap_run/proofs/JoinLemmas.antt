@@ -1,7 +1,7 @@
 -- Two runs, one after the other, as one.
 use Rattle.std.proofs.Common.{◌≡◌, ℕ, ◌+◌, Bool, List, [], ◌∷◌, ◌++◌, sym, ap, ◌∙◌, subst, zero-add, add_assoc}
 use Rattle.intmap.specs.Map.{MapState}
-use Rattle.intmap.specs.States.{State}
+use Rattle.intmap.specs.PlainLists.{PlainList}
 use Rattle.intmap_run.specs.declared.command.Command.{Command}
 use Rattle.intmap_run.specs.declared.answer.Answer.{Answer}
 use Rattle.intmap_run.specs.Runs.{Runs, comparisons_of, placements_of, run_comparisons, run_placements, RunsFrom}
@@ -9,13 +9,13 @@ use Rattle.intmap_run.proofs.PlacementLemmas.{run_placements-few, last_capacity-
 
 module _ {K V S A : Type 0} (number : K → ℕ) (sees : V → S → Type 0) (keeps : K → V → Bool) where
   -- a run over both lists of commands, which compares and places what the two runs do
-  record Joined (s : State K V) (cs : List (Command K V A)) (as' : List (Answer K V S A)) (u : State K V) (compared placed : ℕ) : Type 0 where
+  record Joined (s : PlainList K V) (cs : List (Command K V A)) (as' : List (Answer K V S A)) (u : PlainList K V) (compared placed : ℕ) : Type 0 where
     run : Runs number sees keeps s cs as' u
     comparisons : run_comparisons number sees keeps s cs as' u run ≡ compared
     placements : run_placements number sees keeps s cs as' u run ≡ placed
 
   -- a run and another from where it leads
-  joined : (s : State K V) (cs ds : List (Command K V A)) (as' bs : List (Answer K V S A)) (t u : State K V) (one : Runs number sees keeps s cs as' t) (other : Runs number sees keeps t ds bs u)
+  joined : (s : PlainList K V) (cs ds : List (Command K V A)) (as' bs : List (Answer K V S A)) (t u : PlainList K V) (one : Runs number sees keeps s cs as' t) (other : Runs number sees keeps t ds bs u)
       → Joined s (cs ++ ds) (as' ++ bs) u
       (run_comparisons number sees keeps s cs as' t one + run_comparisons number sees keeps t ds bs u other)
       (run_placements number sees keeps s cs as' t one + run_placements number sees keeps t ds bs u other)

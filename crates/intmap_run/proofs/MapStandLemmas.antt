@@ -8,7 +8,7 @@ use Rattle.intmap.specs.Walk.{walk_of}
 use Rattle.intmap.specs.Reach.{class_size, reach}
 use Rattle.intmap.specs.Figures.{load_of}
 use Rattle.intmap.specs.Map.{MapState, IsMap, IsOutOfRange, IsCapacityAfter}
-use Rattle.intmap.specs.States.{State, Stands}
+use Rattle.intmap.specs.PlainLists.{PlainList, Stands}
 use Rattle.intmap.proofs.DistinctLemmas.{length-put_pair}
 use Rattle.intmap.proofs.KeepLemmas.{StandsFor-keep_pairs}
 use Rattle.intmap.proofs.LocationLemmas.{walk_of-write_value}
@@ -16,7 +16,7 @@ use Rattle.intmap_run.specs.Laws.{StandForOne}
 use Rattle.intmap_run.proofs.CapacityLemmas.{IsLarger, IsCapacityAfter-changed}
 use Rattle.intmap_run.proofs.StandLemmas.{value_of-one, length-one, load_of-one, class_size-one, reach-one, StandForOne-take_key, StandForOne-put_pair, StandForOne-strike_keys, StandForOne-larger}
 
-module _ {K V : Type 0} {number : K → ℕ} {is_key : K → Type 0} {m : MapState K V} {s : State K V} (is_map : IsMap number is_key m) (stands : Stands number s m) where
+module _ {K V : Type 0} {number : K → ℕ} {is_valid : K → Type 0} {m : MapState K V} {s : PlainList K V} (is_map : IsMap number is_valid m) (stands : Stands number s m) where
   -- the list and the map's walk stand for one map
   StandForOne-stands : StandForOne number s.capacity s.pairs m.walk
   StandForOne-stands = record {
@@ -85,7 +85,7 @@ module _ {K V : Type 0} {number : K → ℕ} {is_key : K → Type 0} {m : MapSta
   walk_of-strike_keys-stands ks =
       (StandForOne-strike_keys StandForOne-stands ks).walk ∙ ap (λ C. walk_of number (strike_keys number m.walk ks) C) stands.capacity
 
-module _ {K V : Type 0} {number : K → ℕ} {m : MapState K V} {s : State K V} (stands : Stands number s m) where
+module _ {K V : Type 0} {number : K → ℕ} {m : MapState K V} {s : PlainList K V} (stands : Stands number s m) where
   -- with a value written, the list has the walk of the map with it written
   pub walk_of-write_value-stands : (k : K) (v : V) → walk_of number (write_value number s.pairs k v) s.capacity ≡ write_value number m.walk k v
   walk_of-write_value-stands k v = walk_of-write_value number s.pairs s.capacity k v ∙ ap (λ W. write_value number W k v) stands.walk

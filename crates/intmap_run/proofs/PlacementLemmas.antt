@@ -7,7 +7,7 @@ use Rattle.std.proofs.lemmas.Nat.{pow-add}
 use Rattle.std.proofs.lemmas.Bool.{cases_eq, cases_lt, cases_Bool, eq-eqb, ne_eqb}
 use Rattle.intmap.specs.Bindings.{value_of}
 use Rattle.intmap.specs.Growth.{IsWanted, IsNext, is_due}
-use Rattle.intmap.specs.States.{State, Inserts, InsertsAll}
+use Rattle.intmap.specs.PlainLists.{PlainList, ListInserts, ListInsertsAll}
 use Rattle.intmap.proofs.DistinctLemmas.{length-put_pair}
 use Rattle.intmap_run.specs.declared.command.Command.{Command}
 use Rattle.intmap_run.specs.declared.command.Command.TheVariants as command
@@ -76,12 +76,12 @@ growth_few C n f D P growth few =
 
 module _ {K V : Type 0} where
   -- so many placements are few for the capacity and the load factor
-  abbrev AreFew : State K V → ℕ → Type 0
+  abbrev AreFew : PlainList K V → ℕ → Type 0
   AreFew s P = 1000 * P ≤ 2 * ((s.factor + 1) * s.capacity)
 
   -- insertions led from s to t and placed so many pairs: where there were few placements before them there are few after them,
   -- and no more than three times the pairs where they placed any; the capacity stayed, or it is small for the pairs
-  record Grows (s t : State K V) (placements : ℕ) : Type 0 where
+  record Grows (s t : PlainList K V) (placements : ℕ) : Type 0 where
     factor : t.factor ≡ s.factor
     longer : length s.pairs ≤ length t.pairs
     few : (P : ℕ) → AreFew s P → AreFew t (P + placements)
@@ -89,11 +89,11 @@ module _ {K V : Type 0} where
     capacity : (t.capacity ≡ s.capacity) ⊎ ((t.factor + 1) * t.capacity ≤ 2000 * length t.pairs)
 
   -- an insertion that kept the capacity places nothing
-  pub placements-kept : (s t : State K V) → t.capacity ≡ s.capacity → cond (t.capacity == s.capacity) 0 (length t.pairs) ≡ 0
+  pub placements-kept : (s t : PlainList K V) → t.capacity ≡ s.capacity → cond (t.capacity == s.capacity) 0 (length t.pairs) ≡ 0
   placements-kept s t same = ap (λ b. cond b 0 (length t.pairs)) (eq-eqb t.capacity s.capacity same)
 
   -- an insertion that changed it places all pairs
-  placements-changed : (s t : State K V) → t.capacity ≢ s.capacity → cond (t.capacity == s.capacity) 0 (length t.pairs) ≡ length t.pairs
+  placements-changed : (s t : PlainList K V) → t.capacity ≢ s.capacity → cond (t.capacity == s.capacity) 0 (length t.pairs) ≡ length t.pairs
   placements-changed s t apart = ap (λ b. cond b 0 (length t.pairs)) (ne_eqb t.capacity s.capacity apart)
 
 module _ {K V S A : Type 0} where
@@ -104,19 +104,19 @@ module _ {K V S A : Type 0} where
     set : SetsCapacity c a
 
   -- any other step
-  record Keeps (s : State K V) (c : Command K V A) (a : Answer K V S A) (t : State K V) (placements : ℕ) : Type 0 where
+  record Keeps (s : PlainList K V) (c : Command K V A) (a : Answer K V S A) (t : PlainList K V) (placements : ℕ) : Type 0 where
     placed : placements ≡ 0
     factor : t.factor ≡ s.factor
     more : s.capacity ≤ t.capacity
     capacity : (t.capacity ≡ s.capacity) ⊎ SetsCapacity c a
 
   -- a step that changed neither capacity nor load factor
-  Keeps-same : (s : State K V) (c : Command K V A) (a : Answer K V S A) (t : State K V) (placements : ℕ) → placements ≡ 0 → t.capacity ≡ s.capacity → t.factor ≡ s.factor → Keeps s c a t placements
+  Keeps-same : (s : PlainList K V) (c : Command K V A) (a : Answer K V S A) (t : PlainList K V) (placements : ℕ) → placements ≡ 0 → t.capacity ≡ s.capacity → t.factor ≡ s.factor → Keeps s c a t placements
   Keeps-same s c a t placements placed capacity factor = record { placed = placed; factor = factor; more = omega (arith, capacity); capacity = inl capacity }
 
 module _ {K V : Type 0} (number : K → ℕ) where
   -- an accepted insertion
-  Grows-inserts : (s : State K V) (k : K) (v : V) (t : State K V) → Inserts number s k v t → Grows s t (cond (t.capacity == s.capacity) 0 (length t.pairs))
+  Grows-inserts : (s : PlainList K V) (k : K) (v : V) (t : PlainList K V) → ListInserts number s k v t → Grows s t (cond (t.capacity == s.capacity) 0 (length t.pairs))
   Grows-inserts s k v t inserts =
       let factor : t.factor ≡ s.factor = ap (λ x. x.factor) inserts.after in
       let len : length t.pairs ≡ length s.pairs + cond (is_some (value_of number s.pairs k)) 0 1 =
@@ -150,11 +150,11 @@ module _ {K V : Type 0} (number : K → ℕ) where
       ]
 
   -- no insertion
-  Grows-none : (s : State K V) → Grows s s 0
+  Grows-none : (s : PlainList K V) → Grows s s 0
   Grows-none s = record { factor = refl; longer = omega arith; few = λ P few. rw (add-zero P) few; most = inl refl; capacity = inl refl }
 
   -- insertions after others
-  Grows-then : (s m t : State K V) (p q : ℕ) → Grows s m p → Grows m t q → Grows s t (p + q)
+  Grows-then : (s m t : PlainList K V) (p q : ℕ) → Grows s m p → Grows m t q → Grows s t (p + q)
   Grows-then s m t p q one other =
       let longer = one.longer in
       let more = other.longer in
@@ -179,7 +179,7 @@ module _ {K V : Type 0} (number : K → ℕ) where
       }
 
   -- accepted insertions in turn
-  Grows-all : (s : State K V) (ps : List (K × V)) (t : State K V) (all : InsertsAll number s ps t) → Grows s t (insertion_placements number s ps t all)
+  Grows-all : (s : PlainList K V) (ps : List (K × V)) (t : PlainList K V) (all : ListInsertsAll number s ps t) → Grows s t (insertion_placements number s ps t all)
   Grows-all s [] t all = rw all (Grows-none s)
   Grows-all s (p ∷ ps) t all =
       Grows-then s all.0 t (cond (all.0.capacity == s.capacity) 0 (length all.0.pairs)) (insertion_placements number all.0 ps t all.2)
@@ -187,7 +187,7 @@ module _ {K V : Type 0} (number : K → ℕ) where
 
 module _ {K V S A : Type 0} (number : K → ℕ) (sees : V → S → Type 0) (keeps : K → V → Bool) where
   -- each step is of one of the three kinds
-  kind : (s : State K V) (c : Command K V A) (a : Answer K V S A) (t : State K V) → (h : Answers number sees keeps s c a t)
+  kind : (s : PlainList K V) (c : Command K V A) (a : Answer K V S A) (t : PlainList K V) → (h : Answers number sees keeps s c a t)
       → Grows s t (placements_of number sees keeps s c a t h) ⊎ (Resets c a (placements_of number sees keeps s c a t h) ⊎ Keeps s c a t (placements_of number sees keeps s c a t h))
   kind s (command.Insert k v) a t (inl accepted) = inl (Grows-inserts number s k v t accepted.1)
   kind s (command.Insert k v) a t (inr refused) =
@@ -243,21 +243,21 @@ module _ {K V S A : Type 0} (number : K → ℕ) (sees : V → S → Type 0) (ke
   kind s command.Collisions a t h = inr (inr (Keeps-same s command.Collisions a t _ refl (ap (λ x. x.capacity) h.1) (ap (λ x. x.factor) h.1)))
 
   -- a run is at least as long as its start
-  greatest_length-start : (s : State K V) (cs : List (Command K V A)) (as' : List (Answer K V S A)) (t : State K V) (run : Runs number sees keeps s cs as' t)
+  greatest_length-start : (s : PlainList K V) (cs : List (Command K V A)) (as' : List (Answer K V S A)) (t : PlainList K V) (run : Runs number sees keeps s cs as' t)
       → length s.pairs ≤ greatest_length number sees keeps s cs as' t run
   greatest_length-start s [] as' t run = omega arith
   greatest_length-start s (c ∷ cs) [] t run = omega arith
   greatest_length-start s (c ∷ cs) (a ∷ as') t run = omega arith
 
   -- where P pairs were placed since the load factor was set, few for the capacity, the run keeps them few, H for each load factor
-  few-from : (H P : ℕ) (s : State K V) (cs : List (Command K V A)) (as' : List (Answer K V S A)) (t : State K V) (run : Runs number sees keeps s cs as' t)
+  few-from : (H P : ℕ) (s : PlainList K V) (cs : List (Command K V A)) (as' : List (Answer K V S A)) (t : PlainList K V) (run : Runs number sees keeps s cs as' t)
       → 1000 * P ≤ 2 * ((s.factor + 1) * s.capacity) → P ≤ H → 3 * greatest_length number sees keeps s cs as' t run ≤ H
       → P + run_placements number sees keeps s cs as' t run ≤ (factors_set cs as' + 1) * H
   few-from H P s [] [] t run few low high = omega (arith, low)
   few-from H P s [] (a ∷ as') t run few low high = absurd run
   few-from H P s (c ∷ cs) [] t run few low high = absurd run
   few-from H P s (c ∷ cs) (a ∷ as') t run few low high =
-      let m : State K V = run.0 in
+      let m : PlainList K V = run.0 in
       let placed : ℕ = run_placements number sees keeps m cs as' t run.2 in
       let greatest : ℕ = greatest_length number sees keeps m cs as' t run.2 in
       let start : length m.pairs ≤ greatest = greatest_length-start m cs as' t run.2 in
@@ -290,7 +290,7 @@ module _ {K V S A : Type 0} (number : K → ℕ) (sees : V → S → Type 0) (ke
       ]
 
   -- a run places at most three times its greatest length for each load factor that it had
-  pub run_placements-few : (s : State K V) (cs : List (Command K V A)) (as' : List (Answer K V S A)) (t : State K V) (run : Runs number sees keeps s cs as' t)
+  pub run_placements-few : (s : PlainList K V) (cs : List (Command K V A)) (as' : List (Answer K V S A)) (t : PlainList K V) (run : Runs number sees keeps s cs as' t)
       → run_placements number sees keeps s cs as' t run ≤ 3 * (factors_set cs as' + 1) * greatest_length number sees keeps s cs as' t run
   run_placements-few s cs as' t run =
       let greatest : ℕ = greatest_length number sees keeps s cs as' t run in
@@ -298,14 +298,14 @@ module _ {K V S A : Type 0} (number : K → ℕ) (sees : V → S → Type 0) (ke
       omega (arith, h)
 
   -- the capacity and the load factor stayed, or the caller set the capacity, or it is small for the lengths of the run
-  capacity-from : (s : State K V) (cs : List (Command K V A)) (as' : List (Answer K V S A)) (t : State K V) (run : Runs number sees keeps s cs as' t)
+  capacity-from : (s : PlainList K V) (cs : List (Command K V A)) (as' : List (Answer K V S A)) (t : PlainList K V) (run : Runs number sees keeps s cs as' t)
       → ((t.capacity ≡ s.capacity) × (t.factor ≡ s.factor))
       ⊎ (WasSet number sees keeps t.capacity s cs as' t run ⊎ ((t.factor + 1) * t.capacity ≤ 2000 * greatest_length number sees keeps s cs as' t run))
   capacity-from s [] [] t run = inl (ap (λ x. x.capacity) run, ap (λ x. x.factor) run)
   capacity-from s [] (a ∷ as') t run = absurd run
   capacity-from s (c ∷ cs) [] t run = absurd run
   capacity-from s (c ∷ cs) (a ∷ as') t run =
-      let m : State K V = run.0 in
+      let m : PlainList K V = run.0 in
       let greatest : ℕ = greatest_length number sees keeps m cs as' t run.2 in
       let start : length m.pairs ≤ greatest = greatest_length-start m cs as' t run.2 in
       let most : greatest ≤ max (length s.pairs) greatest = le-max_right (length s.pairs) greatest in
@@ -332,6 +332,6 @@ module _ {K V S A : Type 0} (number : K → ℕ) (sees : V → S → Type 0) (ke
       ]
 
   -- the capacity at the end of a run is the start's, or one that the caller set, or small for the lengths of the run
-  pub last_capacity-from : (s : State K V) (cs : List (Command K V A)) (as' : List (Answer K V S A)) (t : State K V) (run : Runs number sees keeps s cs as' t)
+  pub last_capacity-from : (s : PlainList K V) (cs : List (Command K V A)) (as' : List (Answer K V S A)) (t : PlainList K V) (run : Runs number sees keeps s cs as' t)
       → (t.capacity ≡ s.capacity) ⊎ WasSet number sees keeps t.capacity s cs as' t run ⊎ ((t.factor + 1) * t.capacity ≤ 2000 * greatest_length number sees keeps s cs as' t run)
   last_capacity-from s cs as' t run = elim (capacity-from s cs as' t run) [ inl stayed ↦ inl stayed.0 | inr later ↦ inr later ]

@@ -10,7 +10,7 @@ use Rattle.intmap.specs.Reach.{class_size, reach}
 use Rattle.intmap.specs.Growth.{IsNext}
 use Rattle.intmap.specs.Figures.{load_of, rate_of}
 use Rattle.intmap.specs.Map.{MapState, IsMap, IsOutOfRange, IsCapacityAfter, after_search, after_insert, after_remove, emptied}
-use Rattle.intmap.specs.States.{State, Stands, Inserts, MayRefuse}
+use Rattle.intmap.specs.PlainLists.{PlainList, Stands, ListInserts, RefusalIsDue}
 use Rattle.intmap.specs.declared.refusal.Cause.{Cause}
 use Rattle.intmap.specs.declared.refusal.Cause.TheVariants.{Memory, TooLarge}
 use Rattle.intmap_run.specs.declared.command.Command.{Command}
@@ -33,9 +33,9 @@ some_of None is = let no : false ≡ true = is in cc
 some_of (Some v) is = refl
 
 -- a command that leaves map and list
-pub Step-same : {K V S A : Type 0} (number : K → ℕ) (sees : V → S → Type 0) (keeps : K → V → Bool) (m : MapState K V) (s : State K V) (c : Command K V A) (a : Answer K V S A)
+pub Step-same : {K V S A : Type 0} (number : K → ℕ) (sees : V → S → Type 0) (keeps : K → V → Bool) (m : MapState K V) (s : PlainList K V) (c : Command K V A) (a : Answer K V S A)
     → (answers : Answers number sees keeps s c a s) → Stands number s m → comparisons_of number sees keeps s c a s answers ≡ 0 → placements_of number sees keeps s c a s answers ≡ 0
-    → (t : State K V) × Step number sees keeps m s c a t m
+    → (t : PlainList K V) × Step number sees keeps m s c a t m
 Step-same number sees keeps m s c a answers stands compares places = (
   s,
   record {
@@ -46,10 +46,10 @@ Step-same number sees keeps m s c a answers stands compares places = (
   },
 )
 
-module _ {K V : Type 0} (number : K → ℕ) (is_key : K → Type 0) (m : MapState K V) (is_map : IsMap number is_key m) where
+module _ {K V : Type 0} (number : K → ℕ) (is_valid : K → Type 0) (m : MapState K V) (is_map : IsMap number is_valid m) where
   -- what an accepted insertion leaves of list and map
-  pub record Accepted (k : K) (v : V) (n : MapState K V) (s t : State K V) : Type 0 where
-    pub inserts : Inserts number s k v t
+  pub record Accepted (k : K) (v : V) (n : MapState K V) (s t : PlainList K V) : Type 0 where
+    pub inserts : ListInserts number s k v t
     pub stands : Stands number t n
     pub compared : n.compared ≡ m.compared + reach number s.pairs s.capacity k
     pub placed : n.placed ≡ m.placed + cond (t.capacity == s.capacity) 0 (length t.pairs)
@@ -57,7 +57,7 @@ module _ {K V : Type 0} (number : K → ℕ) (is_key : K → Type 0) (m : MapSta
   -- it leaves the list with the pair put in
   pub accepted : (k : K) (v : V) (n : MapState K V) → IsCapacityAfter number m.walk m.capacity m.factor k n.capacity
       → (IsOutOfRange number m.walk m.capacity m.factor k → ⊥) → n ≡ after_insert number m k v n.capacity
-      → (s : State K V) → Stands number s m → Accepted k v n s (record s { pairs = put_pair number s.pairs s.capacity k v; capacity = n.capacity })
+      → (s : PlainList K V) → Stands number s m → Accepted k v n s (record s { pairs = put_pair number s.pairs s.capacity k v; capacity = n.capacity })
   accepted k v n capacity in_range is s stands =
       let larger = IsLarger-after (value_of number m.walk k) m.capacity (length m.walk + 1) m.factor n.capacity is_map.capacity capacity in_range in
       record {
@@ -78,7 +78,7 @@ module _ {K V : Type 0} (number : K → ℕ) (is_key : K → Type 0) (m : MapSta
   -- an insertion may be refused of each list for the cause that the map tells
   pub may : (k : K) (cause : Cause) → IsNone (value_of number m.walk k) → (cause ≡ TooLarge) ↔ IsOutOfRange number m.walk m.capacity m.factor k
       → (cause ≡ Memory → IsNext m.capacity (length m.walk + 1) m.factor m.capacity → 0 < class_size number m.walk m.capacity k)
-      → (s : State K V) → Stands number s m → MayRefuse number s k cause
+      → (s : PlainList K V) → Stands number s m → RefusalIsDue number s k cause
   may k cause new_key too_large memory s stands =
       let same = IsOutOfRange-stands is_map stands k in
       record {
@@ -87,13 +87,13 @@ module _ {K V : Type 0} (number : K → ℕ) (is_key : K → Type 0) (m : MapSta
         memory = λ h kept. rw (class_size-stands is_map stands k) (memory h (rw (length-stands is_map stands, stands.capacity, stands.factor) at kept));
       }
 
-module _ {K V S A : Type 0} (number : K → ℕ) (is_key : K → Type 0) (m : MapState K V) (is_map : IsMap number is_key m) (sees : V → S → Type 0) (keeps : K → V → Bool) where
+module _ {K V S A : Type 0} (number : K → ℕ) (is_valid : K → Type 0) (m : MapState K V) (is_map : IsMap number is_valid m) (sees : V → S → Type 0) (keeps : K → V → Bool) where
   -- an insertion that is accepted
   pub StepsFrom-insert : (k : K) (v : V) (n : MapState K V) → IsCapacityAfter number m.walk m.capacity m.factor k n.capacity
       → (IsOutOfRange number m.walk m.capacity m.factor k → ⊥) → n ≡ after_insert number m k v n.capacity
       → StepsFrom {A = A} number sees keeps m (command.Insert k v) (answer.Old (value_of number m.walk k)) n
   StepsFrom-insert k v n capacity in_range is s stands =
-      let left = accepted number is_key m is_map k v n capacity in_range is s stands in (
+      let left = accepted number is_valid m is_map k v n capacity in_range is s stands in (
         record s { pairs = put_pair number s.pairs s.capacity k v; capacity = n.capacity },
         record {
           answers = inl (ap (λ o. answer.Old o) (sym (value_of-stands is_map stands k)), left.inserts);
@@ -108,7 +108,7 @@ module _ {K V S A : Type 0} (number : K → ℕ) (is_key : K → Type 0) (m : Ma
       → (IsOutOfRange number m.walk m.capacity m.factor k → ⊥) → n ≡ after_insert number m k v n.capacity
       → StepsFrom {A = A} number sees keeps m (command.InsertChecked k v) (answer.Flag true) n
   StepsFrom-insert_new k v n new_key capacity in_range is s stands =
-      let left = accepted number is_key m is_map k v n capacity in_range is s stands in (
+      let left = accepted number is_valid m is_map k v n capacity in_range is s stands in (
         record s { pairs = put_pair number s.pairs s.capacity k v; capacity = n.capacity },
         record {
           answers = inr (inl (refl, rw (value_of-stands is_map stands k) new_key, left.inserts));
@@ -119,9 +119,9 @@ module _ {K V S A : Type 0} (number : K → ℕ) (is_key : K → Type 0) (m : Ma
       )
 
   -- a search that leaves the list
-  pub StepsFrom-searched : (k : K) (c : Command K V A) (a : Answer K V S A) (s : State K V) → Stands number s m → (answers : Answers number sees keeps s c a s)
+  pub StepsFrom-searched : (k : K) (c : Command K V A) (a : Answer K V S A) (s : PlainList K V) → Stands number s m → (answers : Answers number sees keeps s c a s)
       → comparisons_of number sees keeps s c a s answers ≡ reach number s.pairs s.capacity k → placements_of number sees keeps s c a s answers ≡ 0
-      → (t : State K V) × Step number sees keeps m s c a t (after_search number m k)
+      → (t : PlainList K V) × Step number sees keeps m s c a t (after_search number m k)
   StepsFrom-searched k c a s stands answers compares places = (
     s,
     record {
@@ -138,7 +138,7 @@ module _ {K V S A : Type 0} (number : K → ℕ) (is_key : K → Type 0) (m : Ma
       → (cause ≡ Memory → IsNext m.capacity (length m.walk + 1) m.factor m.capacity → 0 < class_size number m.walk m.capacity k)
       → StepsFrom {A = A} number sees keeps m (command.Insert k v) (answer.Refused cause (Some v)) (after_search number m k)
   StepsFrom-refused k v cause new_key too_large memory s stands =
-      StepsFrom-searched k (command.Insert k v) (answer.Refused cause (Some v)) s stands (inr (cause, refl, may number is_key m is_map k cause new_key too_large memory s stands, refl)) refl (placements-kept s s refl)
+      StepsFrom-searched k (command.Insert k v) (answer.Refused cause (Some v)) s stands (inr (cause, refl, may number is_valid m is_map k cause new_key too_large memory s stands, refl)) refl (placements-kept s s refl)
 
   -- a checked insertion that is refused
   pub StepsFrom-refused_checked : (k : K) (v : V) (cause : Cause)
@@ -146,7 +146,7 @@ module _ {K V S A : Type 0} (number : K → ℕ) (is_key : K → Type 0) (m : Ma
       → (cause ≡ Memory → IsNext m.capacity (length m.walk + 1) m.factor m.capacity → 0 < class_size number m.walk m.capacity k)
       → StepsFrom {A = A} number sees keeps m (command.InsertChecked k v) (answer.Refused cause (Some v)) (after_search number m k)
   StepsFrom-refused_checked k v cause new_key too_large memory s stands =
-      StepsFrom-searched k (command.InsertChecked k v) (answer.Refused cause (Some v)) s stands (inr (inr (cause, refl, may number is_key m is_map k cause new_key too_large memory s stands, refl))) refl (placements-kept s s refl)
+      StepsFrom-searched k (command.InsertChecked k v) (answer.Refused cause (Some v)) s stands (inr (inr (cause, refl, may number is_valid m is_map k cause new_key too_large memory s stands, refl))) refl (placements-kept s s refl)
 
   -- a checked insertion over a bound key
   StepsFrom-bound : (k : K) (v : V) → IsSome (value_of number m.walk k)
@@ -178,7 +178,7 @@ module _ {K V S A : Type 0} (number : K → ℕ) (is_key : K → Type 0) (m : Ma
     record {
       answers = (refl, refl);
       stands = record {
-        walk = (IsMapWalk-empty number is_key [] s.capacity 909 refl (subst IsCapacity (sym stands.capacity) is_map.capacity) (lit< tt)).own;
+        walk = (IsMapWalk-empty number is_valid [] s.capacity 909 refl (subst IsCapacity (sym stands.capacity) is_map.capacity) (lit< tt)).own;
         capacity = stands.capacity;
         factor = stands.factor;
       };

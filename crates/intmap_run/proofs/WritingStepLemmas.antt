@@ -4,8 +4,8 @@ use Rattle.std.specs.Prelude.{IsNone}
 use Rattle.intmap.specs.Bindings.{value_of, take_key, put_pair, write_value, keep_pairs}
 use Rattle.intmap.specs.Classes.{same_key}
 use Rattle.intmap.specs.Growth.{IsNext}
-use Rattle.intmap.specs.Map.{MapState, IsMap, IsCapacityAfter, IsFull, after_search, after_insert, after_remove, with_pair, without_key, written}
-use Rattle.intmap.specs.States.{State, Stands, MayRefuse}
+use Rattle.intmap.specs.Map.{MapState, IsMap, IsCapacityAfter, InsertIsTooLarge, after_search, after_insert, after_remove, with_pair, without_key, written}
+use Rattle.intmap.specs.PlainLists.{PlainList, Stands, RefusalIsDue}
 use Rattle.intmap.specs.declared.refusal.Cause.{Cause}
 use Rattle.intmap_run.specs.declared.command.Command.{Command}
 use Rattle.intmap_run.specs.declared.command.Command.TheVariants as command
@@ -20,12 +20,12 @@ use Rattle.intmap_run.proofs.StepLemmas.{accepted, may, StepsFrom-searched, Step
 
 module _ {K V : Type 0} (number : K → ℕ) (m : MapState K V) where
   -- the list with a value written stands for the map with it written
-  Stands-written : (k : K) (v : V) (s : State K V) → Stands number s m → Stands number (record s { pairs = write_value number s.pairs k v }) (written number (after_search number m k) k v)
+  Stands-written : (k : K) (v : V) (s : PlainList K V) → Stands number s m → Stands number (record s { pairs = write_value number s.pairs k v }) (written number (after_search number m k) k v)
   Stands-written k v s stands = record { walk = walk_of-write_value-stands stands k v; capacity = stands.capacity; factor = stands.factor }
 
-module _ {K V S A : Type 0} (number : K → ℕ) (is_key : K → Type 0) (m : MapState K V) (is_map : IsMap number is_key m) (sees : V → S → Type 0) (keeps : K → V → Bool) where
+module _ {K V S A : Type 0} (number : K → ℕ) (is_valid : K → Type 0) (m : MapState K V) (is_map : IsMap number is_valid m) (sees : V → S → Type 0) (keeps : K → V → Bool) where
   -- a value that is written answers the one before
-  AnswersWrite-bound : (k : K) (v old : V) → value_of number m.walk k ≡ Some old → (s : State K V) → Stands number s m
+  AnswersWrite-bound : (k : K) (v old : V) → value_of number m.walk k ≡ Some old → (s : PlainList K V) → Stands number s m
       → AnswersWrite {A = A} number sees keeps s k v (answer.Old (Some old)) (record s { pairs = write_value number s.pairs k v })
   AnswersWrite-bound k v old bound s stands =
       let same : value_of number s.pairs k ≡ Some old = value_of-stands is_map stands k ∙ bound in
@@ -49,12 +49,12 @@ module _ {K V S A : Type 0} (number : K → ℕ) (is_key : K → Type 0) (m : Ma
       → StepsFrom {A = A} number sees keeps m (command.GetMut k v) (answer.Back v) (after_search number m k)
   StepsFrom-back k v missing s stands =
       let none : IsNone (value_of number s.pairs k) = rw (value_of-stands is_map stands k, missing) refl in
-      StepsFrom-searched number is_key m is_map sees keeps k (command.GetMut k v) (answer.Back v) s stands (inr (refl, none, refl)) refl refl
+      StepsFrom-searched number is_valid m is_map sees keeps k (command.GetMut k v) (answer.Back v) s stands (inr (refl, none, refl)) refl refl
 
   StepsFrom-entry_bound : (k : K) (v old : V) → value_of number m.walk k ≡ Some old
       → StepsFrom {A = A} number sees keeps m (command.EntryInsert k v) (answer.Old (Some old)) (written number (after_search number m k) k v)
   StepsFrom-entry_bound k v old bound s stands =
-      let t : State K V = record s { pairs = write_value number s.pairs k v } in (
+      let t : PlainList K V = record s { pairs = write_value number s.pairs k v } in (
         t,
         record {
           answers = inl (AnswersWrite-bound k v old bound s stands);
@@ -64,12 +64,12 @@ module _ {K V S A : Type 0} (number : K → ℕ) (is_key : K → Type 0) (m : Ma
         },
       )
 
-  StepsFrom-entry_missing : (k : K) (v : V) (D : ℕ) → value_of number m.walk k ≡ None → IsNext m.capacity (length m.walk + 1) m.factor D → (IsFull m.walk m.capacity m.factor → ⊥)
+  StepsFrom-entry_missing : (k : K) (v : V) (D : ℕ) → value_of number m.walk k ≡ None → IsNext m.capacity (length m.walk + 1) m.factor D → (InsertIsTooLarge m.walk m.capacity m.factor → ⊥)
       → StepsFrom {A = A} number sees keeps m (command.EntryInsert k v) answer.Fresh (after_insert number m k v D)
   StepsFrom-entry_missing k v D missing next in_range s stands =
       let after : IsCapacityAfter number m.walk m.capacity m.factor k D = rw missing next in
       let none : IsNone (value_of number s.pairs k) = rw (value_of-stands is_map stands k, missing) refl in
-      let left = accepted number is_key m is_map k v (after_insert number m k v D) after (λ out. in_range out.1) refl s stands in (
+      let left = accepted number is_valid m is_map k v (after_insert number m k v D) after (λ out. in_range out.1) refl s stands in (
         record s { pairs = put_pair number s.pairs s.capacity k v; capacity = D },
         record {
           answers = inr (inl (refl, none, left.inserts));
@@ -79,16 +79,16 @@ module _ {K V S A : Type 0} (number : K → ℕ) (is_key : K → Type 0) (m : Ma
         },
       )
 
-  StepsFrom-entry_refused : (k : K) (v : V) (cause : Cause) → MayRefuse number (record { pairs = m.walk; capacity = m.capacity; factor = m.factor }) k cause
+  StepsFrom-entry_refused : (k : K) (v : V) (cause : Cause) → RefusalIsDue number (record { pairs = m.walk; capacity = m.capacity; factor = m.factor }) k cause
       → StepsFrom {A = A} number sees keeps m (command.EntryInsert k v) (answer.Refused cause (Some v)) (after_search number m k)
   StepsFrom-entry_refused k v cause may_be s stands =
-      let refused = may number is_key m is_map k cause may_be.new_key may_be.too_large may_be.memory s stands in
-      StepsFrom-searched number is_key m is_map sees keeps k (command.EntryInsert k v) (answer.Refused cause (Some v)) s stands (inr (inr (cause, refl, refused, refl))) refl (placements-kept s s refl)
+      let refused = may number is_valid m is_map k cause may_be.new_key may_be.too_large may_be.memory s stands in
+      StepsFrom-searched number is_valid m is_map sees keeps k (command.EntryInsert k v) (answer.Refused cause (Some v)) s stands (inr (inr (cause, refl, refused, refl))) refl (placements-kept s s refl)
 
   StepsFrom-taken : (k : K) (old : V) → value_of number m.walk k ≡ Some old
       → StepsFrom {A = A} number sees keeps m (command.EntryRemove k) (answer.Old (Some old)) (after_remove number m k)
   StepsFrom-taken k old bound s stands =
-      let step = StepsFrom-remove number is_key m is_map sees keeps k s stands in
+      let step = StepsFrom-remove number is_valid m is_map sees keeps k s stands in
       (step.0, record { answers = (ap (λ o. answer.Old o) (sym bound) ∙ step.1.answers.0, step.1.answers.1); stands = step.1.stands; compared = step.1.compared; placed = step.1.placed })
 
   StepsFrom-not_taken : (k : K) → value_of number m.walk k ≡ None
@@ -96,7 +96,7 @@ module _ {K V S A : Type 0} (number : K → ℕ) (is_key : K → Type 0) (m : Ma
   StepsFrom-not_taken k missing s stands =
       let none : value_of number s.pairs k ≡ None = value_of-stands is_map stands k ∙ missing in
       let same : take_key number s.pairs s.capacity k ≡ s.pairs = swap_out-none _ _ s.pairs (position-from_none (same_key number k) s.pairs none) in
-      StepsFrom-searched number is_key m is_map sees keeps k (command.EntryRemove k) (answer.Old None) s stands
+      StepsFrom-searched number is_valid m is_map sees keeps k (command.EntryRemove k) (answer.Old None) s stands
       (ap (λ o. answer.Old o) (sym none), ap (λ L. record s { pairs = L }) (sym same)) refl refl
 
   module _ (k q : K) (x : MapState K V) (searched : x ≡ after_search number m k) (same_key : q ≡ k) where
@@ -106,13 +106,13 @@ module _ {K V S A : Type 0} (number : K → ℕ) (is_key : K → Type 0) (m : Ma
     StepsFrom-entry_insert v old bound = rw (searched, same_key) (StepsFrom-entry_bound k v old (rw (searched, same_key) at bound))
 
     -- a pair put in by an entry
-    pub StepsFrom-fresh : (v w : V) (D : ℕ) → value_of number x.walk q ≡ None → w ≡ v → IsNext x.capacity (length x.walk + 1) x.factor D → (IsFull x.walk x.capacity x.factor → ⊥)
+    pub StepsFrom-fresh : (v w : V) (D : ℕ) → value_of number x.walk q ≡ None → w ≡ v → IsNext x.capacity (length x.walk + 1) x.factor D → (InsertIsTooLarge x.walk x.capacity x.factor → ⊥)
         → StepsFrom {A = A} number sees keeps m (command.EntryInsert k v) answer.Fresh (with_pair number x q w D)
     StepsFrom-fresh v w D missing value next in_range =
         rw (searched, same_key, value) (StepsFrom-entry_missing k v D (rw (searched, same_key) at missing) (rw searched at next) (rw searched at in_range))
 
     -- a pair that an entry couldn't put in
-    pub StepsFrom-not_fresh : (v : V) (cause : Cause) → MayRefuse number (record { pairs = x.walk; capacity = x.capacity; factor = x.factor }) q cause
+    pub StepsFrom-not_fresh : (v : V) (cause : Cause) → RefusalIsDue number (record { pairs = x.walk; capacity = x.capacity; factor = x.factor }) q cause
         → StepsFrom {A = A} number sees keeps m (command.EntryInsert k v) (answer.Refused cause (Some v)) x
     StepsFrom-not_fresh v cause may_be = rw searched (StepsFrom-entry_refused k v cause (rw (searched, same_key) at may_be))
 

@@ -7,9 +7,9 @@ use Rattle.std.specs.declared.vec.Vec.{Vec}
 use Rattle.intmap.specs.Bindings.{value_of, take_key, write_value, keep_pairs, strike_keys}
 use Rattle.intmap.specs.Walk.{walk_of, first_of_walk}
 use Rattle.intmap.specs.Reach.{reach}
-use Rattle.intmap.specs.Figures.{load_of, rate_of, sizes_of}
+use Rattle.intmap.specs.Figures.{load_of, rate_of, collisions_of}
 use Rattle.intmap.specs.Map.{MapState}
-use Rattle.intmap.specs.States.{State, empty_state, Stands, Inserts, InsertsAll, InsertsUpTo, MayRefuse}
+use Rattle.intmap.specs.PlainLists.{PlainList, empty_list, Stands, ListInserts, ListInsertsAll, ListInsertsUpTo, RefusalIsDue}
 use Rattle.intmap.specs.declared.refusal.Cause.{Cause}
 use Rattle.intmap.specs.declared.refusal.Cause.TheVariants.{Memory}
 use Rattle.intmap.specs.declared.refusal.RefusedPair.{RefusedPair}
@@ -50,90 +50,90 @@ module _ {K V S A : Type 0} where
 
 module _ {K V : Type 0} (number : K → ℕ) where
   -- the keys that insertions in turn compare
-  abbrev pub insertion_comparisons : (s : State K V) (ps : List (K × V)) (t : State K V) → InsertsAll number s ps t → ℕ
+  abbrev pub insertion_comparisons : (s : PlainList K V) (ps : List (K × V)) (t : PlainList K V) → ListInsertsAll number s ps t → ℕ
   insertion_comparisons s [] t all = 0
   insertion_comparisons s (p ∷ ps) t all = reach number s.pairs s.capacity p.0 + insertion_comparisons all.0 ps t all.2
 
   -- the pairs that insertions in turn place in larger tables: at each that changed the capacity, all that there are then
-  abbrev pub insertion_placements : (s : State K V) (ps : List (K × V)) (t : State K V) → InsertsAll number s ps t → ℕ
+  abbrev pub insertion_placements : (s : PlainList K V) (ps : List (K × V)) (t : PlainList K V) → ListInsertsAll number s ps t → ℕ
   insertion_placements s [] t all = 0
   insertion_placements s (p ∷ ps) t all = cond (all.0.capacity == s.capacity) 0 (length all.0.pairs) + insertion_placements all.0 ps t all.2
 
 module _ {K V S A : Type 0} (number : K → ℕ) (sees : V → S → Type 0) (keeps : K → V → Bool) where
   -- an insertion answers the old value, or is refused, hands its own value back and changes nothing
-  abbrev pub AnswersInsert : State K V → K → V → Answer K V S A → State K V → Type 0
+  abbrev pub AnswersInsert : PlainList K V → K → V → Answer K V S A → PlainList K V → Type 0
   AnswersInsert s k v a t =
-      ((a ≡ answer.Old (value_of number s.pairs k)) × Inserts number s k v t)
-      ⊎ ((cause : Cause) × (a ≡ answer.Refused cause (Some v)) × MayRefuse number s k cause × (t ≡ s))
+      ((a ≡ answer.Old (value_of number s.pairs k)) × ListInserts number s k v t)
+      ⊎ ((cause : Cause) × (a ≡ answer.Refused cause (Some v)) × RefusalIsDue number s k cause × (t ≡ s))
 
   -- a checked insertion answers false over a bound key and changes nothing; that of a new key answers true and inserts, or is
   -- refused as an insertion is
-  abbrev pub AnswersInsertChecked : State K V → K → V → Answer K V S A → State K V → Type 0
+  abbrev pub AnswersInsertChecked : PlainList K V → K → V → Answer K V S A → PlainList K V → Type 0
   AnswersInsertChecked s k v a t =
       ((a ≡ answer.Flag false) × IsSome (value_of number s.pairs k) × (t ≡ s))
-      ⊎ ((a ≡ answer.Flag true) × IsNone (value_of number s.pairs k) × Inserts number s k v t)
-      ⊎ ((cause : Cause) × (a ≡ answer.Refused cause (Some v)) × MayRefuse number s k cause × (t ≡ s))
+      ⊎ ((a ≡ answer.Flag true) × IsNone (value_of number s.pairs k) × ListInserts number s k v t)
+      ⊎ ((cause : Cause) × (a ≡ answer.Refused cause (Some v)) × RefusalIsDue number s k cause × (t ≡ s))
 
   -- the value goes in the place of the one that the key is bound to, which is answered
-  abbrev pub AnswersWrite : State K V → K → V → Answer K V S A → State K V → Type 0
+  abbrev pub AnswersWrite : PlainList K V → K → V → Answer K V S A → PlainList K V → Type 0
   AnswersWrite s k v a t =
       (a ≡ answer.Old (value_of number s.pairs k)) × IsSome (value_of number s.pairs k)
       × (t ≡ record s { pairs = write_value number s.pairs k v })
 
   -- a value is written where the key is bound, and else comes back and changes nothing
-  abbrev pub AnswersGetMut : State K V → K → V → Answer K V S A → State K V → Type 0
+  abbrev pub AnswersGetMut : PlainList K V → K → V → Answer K V S A → PlainList K V → Type 0
   AnswersGetMut s k v a t =
       AnswersWrite s k v a t
       ⊎ ((a ≡ answer.Back v) × IsNone (value_of number s.pairs k) × (t ≡ s))
 
   -- an insertion by an entry writes the value where the key is bound; of a new key it answers that it inserts, or is refused
   -- as an insertion is
-  abbrev pub AnswersEntryInsert : State K V → K → V → Answer K V S A → State K V → Type 0
+  abbrev pub AnswersEntryInsert : PlainList K V → K → V → Answer K V S A → PlainList K V → Type 0
   AnswersEntryInsert s k v a t =
       AnswersWrite s k v a t
-      ⊎ ((a ≡ answer.Fresh) × IsNone (value_of number s.pairs k) × Inserts number s k v t)
-      ⊎ ((cause : Cause) × (a ≡ answer.Refused cause (Some v)) × MayRefuse number s k cause × (t ≡ s))
+      ⊎ ((a ≡ answer.Fresh) × IsNone (value_of number s.pairs k) × ListInserts number s k v t)
+      ⊎ ((cause : Cause) × (a ≡ answer.Refused cause (Some v)) × RefusalIsDue number s k cause × (t ≡ s))
 
   -- the pairs are inserted in turn, and up to the first that is refused where one is, which is answered
-  abbrev pub AnswersExtend : State K V → List (K × V) → Answer K V S A → State K V → Type 0
+  abbrev pub AnswersExtend : PlainList K V → List (K × V) → Answer K V S A → PlainList K V → Type 0
   AnswersExtend s ps a t =
-      ((a ≡ answer.Done) × InsertsUpTo number s ps (length ps) None t)
+      ((a ≡ answer.Done) × ListInsertsUpTo number s ps (length ps) None t)
       ⊎ ((refused : RefusedPair K V) × (a ≡ answer.Stopped refused)
-      × InsertsUpTo number s ps refused.applied (Some ((refused.key, refused.value), refused.cause)) t)
+      × ListInsertsUpTo number s ps refused.applied (Some ((refused.key, refused.value), refused.cause)) t)
 
   -- a reservation is done, or refused and changes nothing
-  abbrev pub AnswersReserve : State K V → ℕ → Answer K V S A → State K V → Type 0
+  abbrev pub AnswersReserve : PlainList K V → ℕ → Answer K V S A → PlainList K V → Type 0
   AnswersReserve s additional a t =
       ((a ≡ answer.Done) × Reserves s additional t)
       ⊎ ((cause : Cause) × (a ≡ answer.Refused cause None) × MayRefuseReserve s additional cause × (t ≡ s))
 
   -- a load factor is set, or refused and changes nothing
-  abbrev pub AnswersSetLoadFactor : State K V → ℕ → Answer K V S A → State K V → Type 0
+  abbrev pub AnswersSetLoadFactor : PlainList K V → ℕ → Answer K V S A → PlainList K V → Type 0
   AnswersSetLoadFactor s factor a t =
       ((a ≡ answer.Done) × SetsFactor s factor t)
       ⊎ ((cause : Cause) × (a ≡ answer.Refused cause None) × MayRefuseFactor s factor cause × (t ≡ s))
 
   -- a walk is answered, or refused for want of room
-  abbrev pub AnswersWalk : State K V → Answer K V S A → Type 0
+  abbrev pub AnswersWalk : PlainList K V → Answer K V S A → Type 0
   AnswersWalk s a =
       ((seen : Vec (K × S) A) × (a ≡ answer.Walk seen) × AllZip (SeesPair sees) (walk_of number s.pairs s.capacity) seen.items)
       ⊎ (a ≡ answer.Refused Memory None)
 
   -- the keys of the walk are answered, or the command is refused for want of room
-  abbrev pub AnswersKeys : State K V → Answer K V S A → Type 0
+  abbrev pub AnswersKeys : PlainList K V → Answer K V S A → Type 0
   AnswersKeys s a =
       ((keys : Vec K A) × (a ≡ answer.Keys keys) × (keys.items ≡ keys_of (walk_of number s.pairs s.capacity)))
       ⊎ (a ≡ answer.Refused Memory None)
 
   -- what is seen of the values of the walk is answered, or the command is refused for want of room
-  abbrev pub AnswersValues : State K V → Answer K V S A → Type 0
+  abbrev pub AnswersValues : PlainList K V → Answer K V S A → Type 0
   AnswersValues s a =
       ((seen : Vec S A) × (a ≡ answer.Values seen) × AllZip sees (values_of (walk_of number s.pairs s.capacity)) seen.items)
       ⊎ (a ≡ answer.Refused Memory None)
 
   -- the first m pairs of the walk are answered and their keys struck, or the command is refused for want of room and changes
   -- nothing
-  abbrev pub AnswersDrain : State K V → ℕ → Answer K V S A → State K V → Type 0
+  abbrev pub AnswersDrain : PlainList K V → ℕ → Answer K V S A → PlainList K V → Type 0
   AnswersDrain s m a t =
       ((pairs : Vec (K × V) A) × (a ≡ answer.Pairs pairs) × (pairs.items ≡ first_of_walk number m s.pairs s.capacity)
       × (t ≡ record s { pairs = strike_keys number s.pairs (keys_of pairs.items) }))
@@ -141,15 +141,15 @@ module _ {K V S A : Type 0} (number : K → ℕ) (sees : V → S → Type 0) (ke
 
   -- the sizes above 1 of slots are answered, as the walk of a list into which they were inserted in turn, from no pairs in 4
   -- slots on, each with the number of slots that have it, or the command is refused for want of memory
-  abbrev pub AnswersCollisions : State K V → Answer K V S A → Type 0
+  abbrev pub AnswersCollisions : PlainList K V → Answer K V S A → Type 0
   AnswersCollisions s a =
       ((sizes : Vec (ℕ × ℕ) A) × (a ≡ answer.Sizes sizes)
-      × (u : State ℕ ℕ) × InsertsAll (λ n. n) (empty_state 4) (sizes_of number s.pairs s.capacity) u
+      × (u : PlainList ℕ ℕ) × ListInsertsAll (λ n. n) (empty_list 4) (collisions_of number s.pairs s.capacity) u
       × (sizes.items ≡ walk_of (λ n. n) u.pairs u.capacity))
       ⊎ (a ≡ answer.Refused Memory None)
 
   -- from the list s a command may answer a and leave the list t
-  abbrev pub Answers : State K V → Command K V A → Answer K V S A → State K V → Type 0
+  abbrev pub Answers : PlainList K V → Command K V A → Answer K V S A → PlainList K V → Type 0
   Answers s (command.Insert k v) a t = AnswersInsert s k v a t
   Answers s (command.InsertChecked k v) a t = AnswersInsertChecked s k v a t
   Answers s (command.Get k) a t =
@@ -180,7 +180,7 @@ module _ {K V S A : Type 0} (number : K → ℕ) (sees : V → S → Type 0) (ke
   Answers s command.Collisions a t = AnswersCollisions s a × (t ≡ s)
 
   -- the keys that a command compares in a step from the list s
-  abbrev pub comparisons_of : (s : State K V) (c : Command K V A) (a : Answer K V S A) (t : State K V) → Answers s c a t → ℕ
+  abbrev pub comparisons_of : (s : PlainList K V) (c : Command K V A) (a : Answer K V S A) (t : PlainList K V) → Answers s c a t → ℕ
   comparisons_of s (command.Insert k v) a t step = reach number s.pairs s.capacity k
   comparisons_of s (command.InsertChecked k v) a t step = reach number s.pairs s.capacity k
   comparisons_of s (command.GetMut k v) a t step = reach number s.pairs s.capacity k
@@ -194,7 +194,7 @@ module _ {K V S A : Type 0} (number : K → ℕ) (sees : V → S → Type 0) (ke
 
   -- the pairs that a command places in larger tables in a step from the list s to the list t: all that there are then, where it
   -- is an insertion that changed the capacity, so at each pair of several, and else none
-  abbrev pub placements_of : (s : State K V) (c : Command K V A) (a : Answer K V S A) (t : State K V) → Answers s c a t → ℕ
+  abbrev pub placements_of : (s : PlainList K V) (c : Command K V A) (a : Answer K V S A) (t : PlainList K V) → Answers s c a t → ℕ
   placements_of s (command.Insert k v) a t step = cond (t.capacity == s.capacity) 0 (length t.pairs)
   placements_of s (command.InsertChecked k v) a t step = cond (t.capacity == s.capacity) 0 (length t.pairs)
   placements_of s (command.EntryInsert k v) a t step = cond (t.capacity == s.capacity) 0 (length t.pairs)
@@ -203,32 +203,32 @@ module _ {K V S A : Type 0} (number : K → ℕ) (sees : V → S → Type 0) (ke
   placements_of s other a t step = 0
 
   -- the commands in order, each from the list that the one before left, with one answer a command
-  abbrev pub Runs : State K V → List (Command K V A) → List (Answer K V S A) → State K V → Type 0
+  abbrev pub Runs : PlainList K V → List (Command K V A) → List (Answer K V S A) → PlainList K V → Type 0
   Runs s [] [] t = t ≡ s
   Runs s [] (a ∷ as') t = ⊥
   Runs s (c ∷ cs) [] t = ⊥
-  Runs s (c ∷ cs) (a ∷ as') t = (m : State K V) × Answers s c a m × Runs m cs as' t
+  Runs s (c ∷ cs) (a ∷ as') t = (m : PlainList K V) × Answers s c a m × Runs m cs as' t
 
   -- the keys that a run compares
-  abbrev pub run_comparisons : (s : State K V) (cs : List (Command K V A)) (as' : List (Answer K V S A)) (t : State K V) → Runs s cs as' t → ℕ
+  abbrev pub run_comparisons : (s : PlainList K V) (cs : List (Command K V A)) (as' : List (Answer K V S A)) (t : PlainList K V) → Runs s cs as' t → ℕ
   run_comparisons s [] as' t run = 0
   run_comparisons s (c ∷ cs) [] t run = 0
   run_comparisons s (c ∷ cs) (a ∷ as') t run = comparisons_of s c a run.0 run.1 + run_comparisons run.0 cs as' t run.2
 
   -- the pairs that a run places in larger tables
-  abbrev pub run_placements : (s : State K V) (cs : List (Command K V A)) (as' : List (Answer K V S A)) (t : State K V) → Runs s cs as' t → ℕ
+  abbrev pub run_placements : (s : PlainList K V) (cs : List (Command K V A)) (as' : List (Answer K V S A)) (t : PlainList K V) → Runs s cs as' t → ℕ
   run_placements s [] as' t run = 0
   run_placements s (c ∷ cs) [] t run = 0
   run_placements s (c ∷ cs) (a ∷ as') t run = placements_of s c a run.0 run.1 + run_placements run.0 cs as' t run.2
 
   -- the greatest number of pairs that there are at the start of a run or after one of its commands
-  abbrev pub greatest_length : (s : State K V) (cs : List (Command K V A)) (as' : List (Answer K V S A)) (t : State K V) → Runs s cs as' t → ℕ
+  abbrev pub greatest_length : (s : PlainList K V) (cs : List (Command K V A)) (as' : List (Answer K V S A)) (t : PlainList K V) → Runs s cs as' t → ℕ
   greatest_length s [] as' t run = length s.pairs
   greatest_length s (c ∷ cs) [] t run = length s.pairs
   greatest_length s (c ∷ cs) (a ∷ as') t run = max (length s.pairs) (greatest_length run.0 cs as' t run.2)
 
   -- an accepted reservation or load factor of the run left this capacity
-  abbrev pub WasSet : ℕ → (s : State K V) (cs : List (Command K V A)) (as' : List (Answer K V S A)) (t : State K V) → Runs s cs as' t → Type 0
+  abbrev pub WasSet : ℕ → (s : PlainList K V) (cs : List (Command K V A)) (as' : List (Answer K V S A)) (t : PlainList K V) → Runs s cs as' t → Type 0
   WasSet C s [] as' t run = ⊥
   WasSet C s (c ∷ cs) [] t run = ⊥
   WasSet C s (c ∷ cs) (a ∷ as') t run = (SetsCapacity c a × (run.0.capacity ≡ C)) ⊎ WasSet C run.0 cs as' t run.2
@@ -236,7 +236,7 @@ module _ {K V S A : Type 0} (number : K → ℕ) (sees : V → S → Type 0) (ke
   -- what a run from the list s, which stands for the map m, to the list t leaves of the map: t stands for it, it compared and
   -- placed what the run does, few placements for the lengths that the run went through and the load factors that it set, and
   -- its capacity is the start's, or one that a caller set, or small for these lengths
-  pub record Leaves (m : MapState K V) (s : State K V) (cs : List (Command K V A)) (as' : List (Answer K V S A)) (t : State K V) (run : Runs s cs as' t) (n : MapState K V) : Type 0 where
+  pub record Leaves (m : MapState K V) (s : PlainList K V) (cs : List (Command K V A)) (as' : List (Answer K V S A)) (t : PlainList K V) (run : Runs s cs as' t) (n : MapState K V) : Type 0 where
     pub stands : Stands number t n
     pub compared : n.compared ≡ m.compared + run_comparisons s cs as' t run
     pub placed : n.placed ≡ m.placed + run_placements s cs as' t run
@@ -248,4 +248,4 @@ module _ {K V S A : Type 0} (number : K → ℕ) (sees : V → S → Type 0) (ke
   -- from every list that stands for the map before, a run leads to a list that stands for the map after
   abbrev pub RunsFrom : MapState K V → List (Command K V A) → List (Answer K V S A) → MapState K V → Type 0
   RunsFrom m cs as' n =
-      (s : State K V) → Stands number s m → (t : State K V) × (run : Runs s cs as' t) × Leaves m s cs as' t run n
+      (s : PlainList K V) → Stands number s m → (t : PlainList K V) × (run : Runs s cs as' t) × Leaves m s cs as' t run n

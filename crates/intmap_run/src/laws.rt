@@ -5,9 +5,9 @@ ghost use Rattle.intmap.specs.Classes.{IsCapacity, residue, slot_number};
 ghost use Rattle.intmap.specs.Bindings.{value_of, take_key, put_pair, write_value, strike_keys};
 ghost use Rattle.intmap.specs.Walk.{walk_of};
 ghost use Rattle.intmap.specs.Reach.{class_size, reach};
-ghost use Rattle.intmap.specs.Figures.{load_of, rate_of, sizes_of};
+ghost use Rattle.intmap.specs.Figures.{load_of, rate_of, collisions_of};
 ghost use Rattle.intmap.specs.Map.{MapState, empty_map};
-ghost use Rattle.intmap.specs.States.{Stands, empty_state};
+ghost use Rattle.intmap.specs.PlainLists.{Stands, empty_list};
 ghost use Rattle.intmap_run.specs.Laws.{StandForOne};
 ghost use Rattle.intmap_run.specs.Runs.{RunsFrom};
 ghost use Rattle.intmap_run.specs.declared.command.Command.{Command};
@@ -20,7 +20,7 @@ use std::alloc::Allocator;
 /// The empty list stands for a new map.
 pub fn no_pairs_stand_for_a_new_map<K: IntKey, V>()
     ensures { (C : ℕ) → IsCapacity C
-        → Stands {V = V} K.number_of (empty_state C) (empty_map C) }
+        → Stands {V = V} K.number_of (empty_list C) (empty_map C) }
 {}
 
 /// A run, and another from the map that it left, are one run over the commands of both.
@@ -98,9 +98,9 @@ pub fn rates_are_the_same<K: IntKey, V>()
 
 /// Lists that stand for one map have the same slot sizes above 1, equally often and in the same
 /// order.
-pub fn sizes_are_the_same<K: IntKey, V>()
+pub fn collisions_are_the_same<K: IntKey, V>()
     ensures { (C : ℕ) (L M : List (K × V)) → StandForOne K.number_of C L M
-        → sizes_of K.number_of L C ≡ sizes_of K.number_of M C }
+        → collisions_of K.number_of L C ≡ collisions_of K.number_of M C }
 {}
 
 /// Lists that stand for one map have the same number of pairs.

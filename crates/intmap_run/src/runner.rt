@@ -55,8 +55,8 @@ pub fn run<K: IntKey, V: Drop, J: Judge<K, V>, A: Allocator + Copy>(
         map.old commands.items answers.items map.new) }
     ensures commands_returned { IfErr result (λ returned. returned ≡ commands) }
     ensures err { OnErr result (map.new ≡ map.old) }
-    ensures map { IsMap K.number_of K.is_key map.old }
-    ensures map_after { IsMap K.number_of K.is_key map.new }
+    ensures valid { IsMap K.number_of K.is_valid map.old }
+    ensures valid_after { IsMap K.number_of K.is_valid map.new }
 {
     // any call on the map tells the proof what holds of every map, also if there is no command
     let _len = map.len();
@@ -81,7 +81,7 @@ fn apply<K: IntKey, V: Drop, J: Judge<K, V>, A: Allocator + Copy>(
 ) -> Answer<K, V, J::Seen, A>
     ensures step { StepsFrom K.number_of (J.sees judge.now) (J.keeps judge.now)
         map.old command result map.new }
-    ensures map_after { IsMap K.number_of K.is_key map.new }
+    ensures valid_after { IsMap K.number_of K.is_valid map.new }
 {
     match command {
         Command::Insert(key, value) => match map.insert(key, value) {

@@ -1,7 +1,7 @@
 -- What is written for a text.
 use Rattle.std.specs.Prelude.{◌≡◌, ℕ, ◌%◌, ◌==◌, List, Option}
 use Rattle.std.specs.Io.KnownBytes.{Appends}
-use Rattle.intmap.specs.States.{State, empty_state}
+use Rattle.intmap.specs.PlainLists.{PlainList, empty_list}
 use Rattle.intmap_run.specs.declared.command.Command.{Command}
 use Rattle.intmap_run.specs.declared.answer.Answer.{Answer}
 use Rattle.intmap_run.specs.Runs.{Runs}
@@ -11,15 +11,15 @@ use Rattle.intmap_serve.specs.Printing.{lines_of}
 -- from no pairs in 4 slots the commands may give these answers and leave this list,
 -- where a value is seen as itself, and odd values are kept
 abbrev pub RunsFromEmpty : {A : Type 0} → List (Command ℕ ℕ A) → List (Answer ℕ ℕ ℕ A)
-    → State ℕ ℕ → Type 0
+    → PlainList ℕ ℕ → Type 0
 RunsFromEmpty commands answers end =
-    Runs (λ k. k) (λ v s. s ≡ v) (λ k v. (v % 2) == 1) (empty_state 4) commands answers end
+    Runs (λ k. k) (λ v s. s ≡ v) (λ k v. (v % 2) == 1) (empty_list 4) commands answers end
 
 -- the text spells commands, and the lines are those of the answers of a run of them,
 -- where the vectors of both are made over A
 abbrev pub IsAnswered : Type 0 → List ℕ → List ℕ → Type 0
 IsAnswered A text lines =
-    (commands : List (Command ℕ ℕ A)) × (answers : List (Answer ℕ ℕ ℕ A)) × (end : State ℕ ℕ)
+    (commands : List (Command ℕ ℕ A)) × (answers : List (Answer ℕ ℕ ℕ A)) × (end : PlainList ℕ ℕ)
     × Spells text commands × RunsFromEmpty commands answers end × (lines ≡ lines_of answers)
 
 -- the known bytes of an output grow by exactly the lines that answer the text

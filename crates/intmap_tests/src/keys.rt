@@ -13,13 +13,14 @@ struct Article {
 }
 
 impl IntKey for Article {
-    ghost is_key = { λ article. article.number < 2 ^ 32 };
+    ghost is_valid = { λ article. article.number < 2 ^ 32 };
 
     ghost number_of = { λ article. article.number };
 
-    ghost exact = { λ x y x_is_key y_is_key equal. ap (λ number. record x { number = number }) equal };
+    ghost number_injective = { λ x y x_is_valid y_is_valid equal.
+        ap (λ number. record x { number = number }) equal };
 
-    ghost eq_is = { λ x y x_is_key y_is_key. refl };
+    ghost eq_agrees = { λ x y x_is_valid y_is_valid. refl };
 
     fn number(&self) -> u64 {
         self.number as u64

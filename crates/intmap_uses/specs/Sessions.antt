@@ -2,7 +2,7 @@
 use Rattle.std.specs.Prelude.{◌≡◌, ℕ, Bool, List}
 use Rattle.std.specs.declared.vec.Vec.{Vec}
 use Rattle.intmap.specs.Map.{MapState}
-use Rattle.intmap.specs.States.{State, Stands}
+use Rattle.intmap.specs.PlainLists.{PlainList, Stands}
 use Rattle.intmap_run.specs.declared.command.Command.{Command}
 use Rattle.intmap_run.specs.declared.answer.Answer.{Answer}
 use Rattle.intmap_run.specs.Runs.{Runs, RunsFrom}
@@ -14,8 +14,8 @@ module _ {K V S A : Type 0} (number : K → ℕ) (sees : V → S → Type 0) (ke
   -- one that stands for the map n
   abbrev pub RunsTwice : MapState K V → List (Command K V A) → List (Answer K V S A) → List (Command K V A) → List (Answer K V S A) → MapState K V → Type 0
   RunsTwice m cs as' ds bs n =
-      (s : State K V) → Stands number s m
-      → (between : State K V) × (t : State K V)
+      (s : PlainList K V) → Stands number s m
+      → (between : PlainList K V) × (t : PlainList K V)
       × Runs number sees keeps s cs as' between × Runs number sees keeps between ds bs t × Stands number t n
 
   -- what comes back from two runs that stopped, and what is left of the map

@@ -14,7 +14,7 @@ pub fn clear_first<K: IntKey, A: Allocator + Copy>(map: &mut IntMap<K, u64, A>, 
     ensures len { length map.new.walk ≡ length map.old.walk }
     ensures capacity { map.new.capacity ≡ map.old.capacity }
     ensures factor { map.new.factor ≡ map.old.factor }
-    ensures map_after { IsMap K.number_of K.is_key map.new }
+    ensures valid_after { IsMap K.number_of K.is_valid map.new }
 {
     let mut left = count;
     for (_, value) in map.iter_mut() {
@@ -33,7 +33,7 @@ pub fn add_to_all<K: IntKey, A: Allocator + Copy>(map: &mut IntMap<K, u64, A>, m
     ensures capacity { map.new.capacity ≡ map.old.capacity }
     ensures placed { map.new.placed ≡ map.old.placed }
     ensures compared { map.new.compared ≡ map.old.compared }
-    ensures map_after { IsMap K.number_of K.is_key map.new }
+    ensures valid_after { IsMap K.number_of K.is_valid map.new }
 {
     for value in map.values_mut() {
         *value = value.wrapping_add(more);
@@ -46,7 +46,7 @@ pub fn bind_to_themselves<A: Allocator + Copy>(map: &mut IntMap<u64, u64, A>)
     ensures len { length map.new.walk ≡ length map.old.walk }
     ensures capacity { map.new.capacity ≡ map.old.capacity }
     ensures factor { map.new.factor ≡ map.old.factor }
-    ensures map_after { IsMap (λ key. key) (λ key. key < 2 ^ 64) map.new }
+    ensures valid_after { IsMap (λ key. key) (λ key. key < 2 ^ 64) map.new }
 {
     for (key, value) in &mut *map {
         *value = *key;
@@ -59,7 +59,7 @@ pub fn clear_one<K: IntKey, A: Allocator + Copy>(map: &mut IntMap<K, u64, A>)
     ensures keys { keys_of map.new.walk ≡ keys_of map.old.walk }
     ensures len { length map.new.walk ≡ length map.old.walk }
     ensures capacity { map.new.capacity ≡ map.old.capacity }
-    ensures map_after { IsMap K.number_of K.is_key map.new }
+    ensures valid_after { IsMap K.number_of K.is_valid map.new }
 {
     let mut values = map.values_mut();
     if let Some(value) = values.next() {

@@ -29,7 +29,7 @@ use Rattle.std.specs.declared.cmp.PartialEq as eq
 use Rattle.intmap.specs.Lending.Apart.{lent_cells, lent_pairs}
 use Rattle.intmap.specs.Tables.Kept.{unkept}
 use Rattle.intmap.specs.Map.{MapState, IsMap}
-use Rattle.intmap.specs.Values.{refilled, revalued_map}
+use Rattle.intmap.specs.Values.{refilled, map_with_values}
 use Rattle.intmap.specs.declared.key.IntKey as key
 use Rattle.intmap.specs.contracts.map.IntMap as M-type
 use Rattle.intmap.specs.contracts.map.IntMap.TheInside as I-type
@@ -41,7 +41,7 @@ use Rattle.intmap.proofs.Lending.OpensPairLemmas.{V, K}
 use Rattle.intmap.proofs.Lending.OpensSlotLemmas.{A}
 use Rattle.intmap.proofs.Lending.OpensTableLemmas.{Tr, THr, table_opens}
 use Rattle.intmap.proofs.Tables.SameKeysLemmas.{IsConsistent-same_keys}
-use Rattle.intmap.proofs.Lending.ValuesLemmas.{kept, values_of-revalued, unkept-refilled, unkept-kept_pairs, keys_of-refilled}
+use Rattle.intmap.proofs.Lending.ValuesLemmas.{kept, values_of-with_values, unkept-refilled, unkept-kept_pairs, keys_of-refilled}
 
 module _ (K' V' A' : RattleType) (g : key.Ghosts K'.Denot) (e : eq.Ghosts K'.Denot) (a : allocator.Ghosts A'.Denot) where
   abbrev Ki : RattleType
@@ -68,7 +68,7 @@ module _ (K' V' A' : RattleType) (g : key.Ghosts K'.Denot) (e : eq.Ghosts K'.Den
   abbrev member : RattleType → Member
   member R = record { row = R; ty = lone R.mir }
 
-  -- the table, the length, the limit, the load factor and both counts
+  -- the table, the length, the threshold, the load factor and both counts
   abbrev members : List Member
   members = member Table ∷ member usize ∷ member usize ∷ member usize ∷ member N-type.the_row ∷ member N-type.the_row ∷ []
 
@@ -86,7 +86,7 @@ module _ (K' V' A' : RattleType) (g : key.Ghosts K'.Denot) (e : eq.Ghosts K'.Den
   pub record Cut (d : State) : Type 0 where
     pub holes : Holed.Denot
     pub pairs : lent_pairs holes.walk ≡ d.walk
-    pub map : IsMap g.number_of g.is_key d
+    pub map : IsMap g.number_of g.is_valid d
     pub behind : GName
     pub loan : GName
 
@@ -116,21 +116,21 @@ module _ (K' V' A' : RattleType) (g : key.Ghosts K'.Denot) (e : eq.Ghosts K'.Den
       O = table_opens K' V' A' g e a LK LV LA 𝓛 κ ik iv ia
 
       module _ (m : Inside.Denot) (seen : view m ≡ d) (ok : good m) where
-        stays : (ws : List V'.Denot) → length ws ≡ length m.table.walk → values_of (revalued_map d ws).walk ≡ ws
+        stays : (ws : List V'.Denot) → length ws ≡ length m.table.walk → values_of (map_with_values d ws).walk ≡ ws
         stays ws long =
-            values_of-revalued d.walk ws (long ∙ sym (length-map m.table.walk (λ p. (p.0, p.1.value))) ∙ ap (λ (s : State). length s.walk) seen)
+            values_of-with_values d.walk ws (long ∙ sym (length-map m.table.walk (λ p. (p.0, p.1.value))) ∙ ap (λ (s : State). length s.walk) seen)
 
         -- with other values in its table, the map is what it was but for these
         back : O.Info m.table → (ws : List V'.Denot) → length ws ≡ length m.table.walk
-            → ent 𝓤 (sep 𝓤 (sem 𝓛 (part_at Table full_share (O.put m.table ws) b (table_place o))) (Others m)) (sem 𝓛 ((mem Mr).own_at (revalued_map d ws) b o))
+            → ent 𝓤 (sep 𝓤 (sem 𝓛 (part_at Table full_share (O.put m.table ws) b (table_place o))) (Others m)) (sem 𝓛 ((mem Mr).own_at (map_with_values d ws) b o))
         back i ws long =
             let n : Inside.Denot = record m { table = O.put m.table ws } in
             let W = m.table.walk in
-            let same : view n ≡ revalued_map d ws = (λ j. record (view m) { walk = unkept-refilled W ws j }) ∙ ap (λ (s : State). revalued_map s ws) seen in
-            let is : good n = IsConsistent-same_keys g.number_of g.is_key W (refilled kept W ws) m.table.capacity m.factor m.len m.limit (sym (keys_of-refilled kept W ws)) ok in
+            let same : view n ≡ map_with_values d ws = (λ j. record (view m) { walk = unkept-refilled W ws j }) ∙ ap (λ (s : State). map_with_values s ws) seen in
+            let is : good n = IsConsistent-same_keys g.number_of g.is_valid W (refilled kept W ws) m.table.capacity m.factor m.len m.threshold (sym (keys_of-refilled kept W ws)) ok in
             via 𝓤 _ (table_in m (O.put m.table ws))
-            (Plain-in Mr Inside (view_owns Inside State Mr.coded view good) 𝓛 full_share (revalued_map d ws) n
-            (view_made Inside State Mr.coded view good 𝓛 (revalued_map d ws) n (same, is)) b o)
+            (Plain-in Mr Inside (view_owns Inside State Mr.coded view good) 𝓛 full_share (map_with_values d ws) n
+            (view_made Inside State Mr.coded view good 𝓛 (map_with_values d ws) n (same, is)) b o)
 
         abbrev cut_of : O.Info m.table → GName → GName → Cut d
         cut_of i behind loan =
@@ -138,7 +138,7 @@ module _ (K' V' A' : RattleType) (g : key.Ghosts K'.Denot) (e : eq.Ghosts K'.Den
             record {
               holes = h;
               pairs = sym (unkept-kept_pairs h.walk) ∙ ap (λ (t : Table.Denot). unkept t.walk) (O.filled m.table i b (table_place o)) ∙ ap (λ (s : State). s.walk) seen;
-              map = subst (λ (s : State). IsMap g.number_of g.is_key s) seen ok.map;
+              map = subst (λ (s : State). IsMap g.number_of g.is_valid s) seen ok.map;
               behind = behind;
               loan = loan;
             }
@@ -148,7 +148,7 @@ module _ (K' V' A' : RattleType) (g : key.Ghosts K'.Denot) (e : eq.Ghosts K'.Den
         abbrev pub Shared : Cut d → Item 𝓤
         Shared c =
             ‵ (shared_of Holed c.holes b (table_place o) κ) ⊛ ‵ (lent_cells κ (V V') c.loan (values_of c.holes.walk)) ⊛ ‵ (flft κ q)
-            ⊛ ‵ (follows Mr Mr γ c.behind (λ last. revalued_map d (values_of last.walk)))
+            ⊛ ‵ (follows Mr Mr γ c.behind (λ last. map_with_values d (values_of last.walk)))
 
         pub lend_map : (u v : Gv)
             → ent 𝓤 (sep 𝓤 (A.obor κ q (Body (mem Mr) b o γ)) (sep 𝓤 (A.obs γ u) (sep 𝓤 (A.auth γ v) (sem 𝓛 ((mem Mr).own_at d b o))))) (H.⇛ (mean 𝓛 (some Shared)))
@@ -159,8 +159,8 @@ module _ (K' V' A' : RattleType) (g : key.Ghosts K'.Denot) (e : eq.Ghosts K'.Den
             let m = x.0 in
             let at = table_place o in
             use1 𝓛 (‵ (part_at Table full_share m.table b at) ⊛ raw (Others m)) (table_out m) $ split ! $ move ! (2 ∷ 3 ∷ 4 ∷ 0 ∷ 1 ∷ []) $ group ! 5 $
-            use1 𝓛 (later (some (λ (c : O.Info m.table × GName × GName). ‵ (shared_of Holed (O.holed m.table c.0 b at) b at κ) ⊛ ‵ (lent_cells κ (V V') c.2 (O.cells m.table c.0 b at)) ⊛ ‵ (flft κ q) ⊛ ‵ (follows Mr Mr γ c.1 (λ last. revalued_map d (values_of last.walk))))))
-            (lend_by 𝓛 (V V') Table Holed κ O (mem Mr) (revalued_map d) (λ last. values_of last.walk) m.table b at (stays m x.1.0 x.1.1) q b o γ (Others m) (back m x.1.0 x.1.1) u v) $
+            use1 𝓛 (later (some (λ (c : O.Info m.table × GName × GName). ‵ (shared_of Holed (O.holed m.table c.0 b at) b at κ) ⊛ ‵ (lent_cells κ (V V') c.2 (O.cells m.table c.0 b at)) ⊛ ‵ (flft κ q) ⊛ ‵ (follows Mr Mr γ c.1 (λ last. map_with_values d (values_of last.walk))))))
+            (lend_by 𝓛 (V V') Table Holed κ O (mem Mr) (map_with_values d) (λ last. values_of last.walk) m.table b at (stays m x.1.0 x.1.1) q b o γ (Others m) (back m x.1.0 x.1.1) u v) $
             await ! tt $ pick ! (λ c. split3 ! $ move ! (1 ∷ []) $
             rewrite ! 0 (λ (cells : List (Ptr × V'.Denot)). ‵ (lent_cells κ (V V') c.2 cells)) (O.celled m.table c.0 b at) refl $
             at_once ! $ show ! (λ (z : Cut d). mean 𝓛 (Shared z)) (cut_of m x.1.0 x.1.1 c.0 c.1 c.2) $ move ! (1 ∷ 0 ∷ 2 ∷ []) $ done !))

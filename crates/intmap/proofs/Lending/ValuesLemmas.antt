@@ -6,7 +6,7 @@ use Rattle.std.proofs.lemmas.List.{map-append}
 use Rattle.intmap.specs.Lending.Apart.{lent_pairs}
 use Rattle.intmap.specs.Tables.Kept.{unkept}
 use Rattle.intmap.specs.Tables.Slots.{Held, rows, joined}
-use Rattle.intmap.specs.Values.{refilled, revalued}
+use Rattle.intmap.specs.Values.{refilled, with_values}
 use Rattle.intmap.specs.declared.kept.Kept.{Kept}
 use Rattle.intmap.proofs.Tables.SameKeysLemmas.{row_keys}
 use denote.RawPtr.{Ptr}
@@ -45,15 +45,15 @@ kept v = record { value = v }
 
 module _ {K V : Type 0} where
   -- as many values as pairs are the values then
-  pub values_of-revalued : (L : List (K × V)) (vs : List V) → length vs ≡ length L → values_of (revalued L vs) ≡ vs
+  pub values_of-with_values : (L : List (K × V)) (vs : List V) → length vs ≡ length L → values_of (with_values L vs) ≡ vs
   unfolding refilled
-  values_of-revalued [] [] long = refl
-  values_of-revalued [] (v ∷ vs) long = absurd (omega (arith, long))
-  values_of-revalued (p ∷ L) [] long = absurd (omega (arith, long))
-  values_of-revalued (p ∷ L) (v ∷ vs) long = ap (λ ws. v ∷ ws) (values_of-revalued L vs (omega (arith, long)))
+  values_of-with_values [] [] long = refl
+  values_of-with_values [] (v ∷ vs) long = absurd (omega (arith, long))
+  values_of-with_values (p ∷ L) [] long = absurd (omega (arith, long))
+  values_of-with_values (p ∷ L) (v ∷ vs) long = ap (λ ws. v ∷ ws) (values_of-with_values L vs (omega (arith, long)))
 
   -- stored values that are replaced, as a map shows them
-  pub unkept-refilled : (L : List (K × Kept V)) (vs : List V) → unkept (refilled kept L vs) ≡ revalued (unkept L) vs
+  pub unkept-refilled : (L : List (K × Kept V)) (vs : List V) → unkept (refilled kept L vs) ≡ with_values (unkept L) vs
   unfolding refilled
   unkept-refilled [] vs = refl
   unkept-refilled (p ∷ L) [] = refl

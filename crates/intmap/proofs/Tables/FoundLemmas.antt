@@ -11,7 +11,7 @@ use Rattle.intmap.specs.Walk.{slot_of}
 use Rattle.intmap.specs.Laws.Written.{the_key-same}
 use Rattle.intmap.specs.declared.table.locate.Location.{Location}
 use Rattle.intmap.proofs.LocationLemmas.{IsAt-without_values, slot-at, place-within}
-use Rattle.intmap.proofs.MappedLemmas.{with_values, slot_of-with_values}
+use Rattle.intmap.proofs.MappedLemmas.{map_values, slot_of-map_values}
 use Rattle.intmap.proofs.PositionLemmas.{position-within}
 use Rattle.intmap.proofs.Tables.TableLemmas.{slot_of-here}
 
@@ -46,14 +46,14 @@ module _ {K V : Type 0} (test : K → Bool) (P : K → Type 0) where
   Passes-position L i e =
       let p = position-within (λ (q : K × V). test q.0) L i e in subst (Passes L) p.0 (found L (subst (λ n. n < length L) (sym p.0) p.1))
 
-module _ {K V : Type 0} (number : K → ℕ) (is_key : K → Type 0) where
+module _ {K V : Type 0} (number : K → ℕ) (is_valid : K → Type 0) where
   -- the key at the place where a key was found is that key
-  pub key_at-located : ((x y : K) → is_key x → is_key y → number x ≡ number y → x ≡ y) → (W : List (K × V)) (C : ℕ) (at : Location K)
-      → All (λ p. is_key p.0) W → is_key at.key → IsAt number W C at → key_at (slot_of number W C at.slot) at.place ≡ Some at.key
-  key_at-located exact W C at keys known is =
-      let h = Passes-position (same_key number at.key) is_key (slot_of number W C at.slot) at.place is.place in
-      let own = h.own (All-filter (λ p. slot_number number p.0 C == at.slot) (λ p. is_key p.0) W keys) in
-      h.here ∙ ap (λ q. Some q) (exact h.key at.key own known (eqb-true (number h.key) (number at.key) h.passes))
+  pub key_at-located : ((x y : K) → is_valid x → is_valid y → number x ≡ number y → x ≡ y) → (W : List (K × V)) (C : ℕ) (at : Location K)
+      → All (λ p. is_valid p.0) W → is_valid at.key → IsAt number W C at → key_at (slot_of number W C at.slot) at.place ≡ Some at.key
+  key_at-located number_injective W C at keys known is =
+      let h = Passes-position (same_key number at.key) is_valid (slot_of number W C at.slot) at.place is.place in
+      let own = h.own (All-filter (λ p. slot_number number p.0 C == at.slot) (λ p. is_valid p.0) W keys) in
+      h.here ∙ ap (λ q. Some q) (number_injective h.key at.key own known (eqb-true (number h.key) (number at.key) h.passes))
 
 some-from : {K : Type 0} (o : Option K) (k : K) → o ≡ Some k → IsSome o
 some-from (Some x) k e = refl
@@ -86,17 +86,17 @@ module _ {K X : Type 0} (number : K → ℕ) (S : List (Held K X)) (h : Held K X
 
 -- pairs with other values have their keys where they had them
 module _ {K X V : Type 0} (number : K → ℕ) (f : X → V) where
-  key_at-with_values : (L : List (K × X)) (i : ℕ) → key_at (with_values number f L) i ≡ key_at L i
-  key_at-with_values [] i = refl
-  key_at-with_values (p ∷ L) zero = refl
-  key_at-with_values (p ∷ L) (suc i) = key_at-with_values L i
+  key_at-map_values : (L : List (K × X)) (i : ℕ) → key_at (map_values number f L) i ≡ key_at L i
+  key_at-map_values [] i = refl
+  key_at-map_values (p ∷ L) zero = refl
+  key_at-map_values (p ∷ L) (suc i) = key_at-map_values L i
 
-  pub key_at-slot_with_values : (L : List (K × X)) (C slot place : ℕ) → key_at (slot_of number (with_values number f L) C slot) place ≡ key_at (slot_of number L C slot) place
-  key_at-slot_with_values L C slot place = ap (λ M. key_at M place) (slot_of-with_values number f L C slot) ∙ key_at-with_values (slot_of number L C slot) place
+  pub key_at-slot_map_values : (L : List (K × X)) (C slot place : ℕ) → key_at (slot_of number (map_values number f L) C slot) place ≡ key_at (slot_of number L C slot) place
+  key_at-slot_map_values L C slot place = ap (λ M. key_at M place) (slot_of-map_values number f L C slot) ∙ key_at-map_values (slot_of number L C slot) place
 
-  pub IsFound-without_values : (L : List (K × X)) (C slot place : ℕ) → IsFound number (with_values number f L) C slot place → IsFound number L C slot place
+  pub IsFound-without_values : (L : List (K × X)) (C slot place : ℕ) → IsFound number (map_values number f L) C slot place → IsFound number L C slot place
   IsFound-without_values L C slot place is =
-      let same = key_at-slot_with_values L C slot place in
+      let same = key_at-slot_map_values L C slot place in
       let some : IsSome (key_at (slot_of number L C slot) place) = subst IsSome same is.some in
       record {
         some = some;

@@ -120,9 +120,9 @@ module _ {K X Y : Type 0} (S : List (Held K X)) (T : List (Held K Y)) (same : ro
   pub IsMaskedTable-same_keys : (number : K → ℕ) (marks : List Bool) (mask : ℕ) → IsMaskedTable number S marks mask → IsMaskedTable number T marks mask
   IsMaskedTable-same_keys number marks mask is = record { marked = IsMarkedTable-same_keys number marks is.marked; count = is.count ∙ length-same_rows }
 
-module _ {K V : Type 0} (number : K → ℕ) (is_key : K → Type 0) where
+module _ {K V : Type 0} (number : K → ℕ) (is_valid : K → Type 0) where
   -- a list with the keys of a map's walk is one
-  pub IsMapWalk-same_keys : (L M : List (K × V)) (C F : ℕ) → keys_of L ≡ keys_of M → IsMapWalk number is_key L C F → IsMapWalk number is_key M C F
+  pub IsMapWalk-same_keys : (L M : List (K × V)) (C F : ℕ) → keys_of L ≡ keys_of M → IsMapWalk number is_valid L C F → IsMapWalk number is_valid M C F
   IsMapWalk-same_keys L M C F same m =
       let len = length-same_keys L M same in
       let count = λ (N : List (K × V)) (k : K). sym (count_by-map (λ (p : K × V). p.0) (same_key number k) N) in
@@ -130,18 +130,18 @@ module _ {K V : Type 0} (number : K → ℕ) (is_key : K → Type 0) where
         capacity = m.capacity;
         own = walk_of-same_keys number L M C same m.own;
         distinct = λ k. subst (λ n. n ≤ 1) (count L k ∙ ap (count_by (same_key number k)) same ∙ sym (count M k)) (m.distinct k);
-        keys = All-same_keys is_key L M same m.keys;
+        keys = All-same_keys is_valid L M same m.keys;
         count = subst (λ n. n < 2 ^ 64) len m.count;
         factor = m.factor;
         load = subst (λ n. IsLoaded C n F) len m.load;
       }
 
   -- the same of what a map keeps
-  pub IsConsistent-same_keys : (W M : List (K × Kept V)) (C F n most : ℕ) → keys_of W ≡ keys_of M → IsConsistent number is_key W C F n most → IsConsistent number is_key M C F n most
+  pub IsConsistent-same_keys : (W M : List (K × Kept V)) (C F n most : ℕ) → keys_of W ≡ keys_of M → IsConsistent number is_valid W C F n most → IsConsistent number is_valid M C F n most
   IsConsistent-same_keys W M C F n most same old =
       let value : Kept V → V = λ kept. kept.value in
       record {
         map = IsMapWalk-same_keys (unkept W) (unkept M) C F (keys_of-map_values value W ∙ same ∙ sym (keys_of-map_values value M)) old.map;
         count = old.count ∙ length-same_keys W M same;
-        limit = old.limit;
+        threshold = old.threshold;
       }

@@ -2,7 +2,7 @@
 use Rattle.std.specs.Prelude.{◌≡◌, ℕ, Bool, List, map, length}
 use Rattle.std.specs.Fn.{Mut}
 use Rattle.std.specs.Borrow.{Bor, MutBor}
-use Rattle.intmap.specs.Growth.{IsLimit}
+use Rattle.intmap.specs.Growth.{IsThreshold}
 use Rattle.intmap.specs.Map.{IsMapWalk}
 use Rattle.intmap.specs.Retaining.{KeepsAt, TakesPair}
 use Rattle.intmap.specs.Writes.{WritesAt, TakesPairMut}
@@ -30,7 +30,7 @@ module _ {K V : Type 0} where
   TakesStoredMut m f p = TakesPairMut m f (p.0, p.1.value)
 
   -- what a map keeps agrees: its table's walk, the C slots, the load factor F, the number n of pairs and the greatest number that meets the load
-  pub record IsConsistent (number : K → ℕ) (is_key : K → Type 0) (W : List (K × Kept V)) (C F n most : ℕ) : Type 0 where
-    pub map : IsMapWalk number is_key (unkept W) C F
+  pub record IsConsistent (number : K → ℕ) (is_valid : K → Type 0) (W : List (K × Kept V)) (C F n most : ℕ) : Type 0 where
+    pub map : IsMapWalk number is_valid (unkept W) C F
     pub count : n ≡ length W
-    pub limit : IsLimit C F most
+    pub threshold : IsThreshold C F most

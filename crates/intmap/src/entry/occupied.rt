@@ -38,8 +38,8 @@ impl<'a, K: IntKey, V, A: Allocator + Copy> OccupiedEntry<'a, K, V, A> {
             (Some v) }
         ensures len { (v : V) → length (map_with_value (Occupied self.old) v).walk
             ≡ length (entry_map (Occupied self.old)).walk }
-        ensures map_after { (v : V)
-            → IsMap K.number_of K.is_key (map_with_value (Occupied self.old) v) }
+        ensures valid_after { (v : V)
+            → IsMap K.number_of K.is_valid (map_with_value (Occupied self.old) v) }
     {
         let slot = self.slot;
         let place = self.place;
@@ -57,8 +57,8 @@ impl<'a, K: IntKey, V, A: Allocator + Copy> OccupiedEntry<'a, K, V, A> {
             (Some v) }
         ensures len { (v : V) → length (map_with_value (Occupied self.entry) v).walk
             ≡ length (entry_map (Occupied self.entry)).walk }
-        ensures map_after { (v : V)
-            → IsMap K.number_of K.is_key (map_with_value (Occupied self.entry) v) }
+        ensures valid_after { (v : V)
+            → IsMap K.number_of K.is_valid (map_with_value (Occupied self.entry) v) }
     {
         let OccupiedEntry { map, slot, place } = self;
         let at = map.location(slot, place);
@@ -73,7 +73,7 @@ impl<'a, K: IntKey, V, A: Allocator + Copy> OccupiedEntry<'a, K, V, A> {
             (entry_map (Occupied self.new)).walk (entry_key (Occupied self.old)) (Some value) }
         ensures len { length (entry_map (Occupied self.new)).walk
             ≡ length (entry_map (Occupied self.old)).walk }
-        ensures map_after { IsMap K.number_of K.is_key (entry_map (Occupied self.new)) }
+        ensures valid_after { IsMap K.number_of K.is_valid (entry_map (Occupied self.new)) }
     {
         mem::replace(self.get_mut(), value)
     }
@@ -88,7 +88,7 @@ impl<'a, K: IntKey, V, A: Allocator + Copy> OccupiedEntry<'a, K, V, A> {
             self.exit.0.now.walk (entry_key (Occupied self.entry)) None }
         ensures len { length self.exit.0.now.walk + 1
             ≡ length (entry_map (Occupied self.entry)).walk }
-        ensures map_after { IsMap K.number_of K.is_key self.exit.0.now }
+        ensures valid_after { IsMap K.number_of K.is_valid self.exit.0.now }
     {
         let slot = self.slot;
         let place = self.place;

@@ -5,13 +5,13 @@ use super::IntKey;
 
 /// A `u8` is its own number.
 impl IntKey for u8 {
-    ghost is_key = { λ key. key < 2 ^ 8 };
+    ghost is_valid = { λ key. key < 2 ^ 8 };
 
     ghost number_of = { λ key. key };
 
-    ghost exact = { λ x y x_is_key y_is_key equal. equal };
+    ghost number_injective = { λ x y x_is_valid y_is_valid equal. equal };
 
-    ghost eq_is = { λ x y x_is_key y_is_key. refl };
+    ghost eq_agrees = { λ x y x_is_valid y_is_valid. refl };
 
     #[inline(always)]
     fn number(&self) -> u64 {
@@ -21,13 +21,13 @@ impl IntKey for u8 {
 
 /// A `u16` is its own number.
 impl IntKey for u16 {
-    ghost is_key = { λ key. key < 2 ^ 16 };
+    ghost is_valid = { λ key. key < 2 ^ 16 };
 
     ghost number_of = { λ key. key };
 
-    ghost exact = { λ x y x_is_key y_is_key equal. equal };
+    ghost number_injective = { λ x y x_is_valid y_is_valid equal. equal };
 
-    ghost eq_is = { λ x y x_is_key y_is_key. refl };
+    ghost eq_agrees = { λ x y x_is_valid y_is_valid. refl };
 
     #[inline(always)]
     fn number(&self) -> u64 {
@@ -37,13 +37,13 @@ impl IntKey for u16 {
 
 /// A `u32` is its own number.
 impl IntKey for u32 {
-    ghost is_key = { λ key. key < 2 ^ 32 };
+    ghost is_valid = { λ key. key < 2 ^ 32 };
 
     ghost number_of = { λ key. key };
 
-    ghost exact = { λ x y x_is_key y_is_key equal. equal };
+    ghost number_injective = { λ x y x_is_valid y_is_valid equal. equal };
 
-    ghost eq_is = { λ x y x_is_key y_is_key. refl };
+    ghost eq_agrees = { λ x y x_is_valid y_is_valid. refl };
 
     #[inline(always)]
     fn number(&self) -> u64 {
@@ -61,13 +61,13 @@ impl IntKey for i32 {
     ghost use Rattle.std.proofs.lemmas.Bool.Decides.{nat_tests};
     ghost use Rattle.intmap.specs.Keys.{number_of_signed};
 
-    ghost is_key = { FitsSigned w32 };
+    ghost is_valid = { FitsSigned w32 };
 
     ghost number_of = { number_of_signed };
 
-    ghost exact = { λ x y x_is_key y_is_key equal. Prim.grind (arith, ints) };
+    ghost number_injective = { λ x y x_is_valid y_is_valid equal. Prim.grind (arith, ints) };
 
-    ghost eq_is = { λ x y x_is_key y_is_key. Prim.grind (arith, ints, nat_tests) };
+    ghost eq_agrees = { λ x y x_is_valid y_is_valid. Prim.grind (arith, ints, nat_tests) };
 
     #[inline(always)]
     fn number(&self) -> u64 {

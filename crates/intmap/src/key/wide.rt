@@ -5,13 +5,13 @@ use super::IntKey;
 
 /// A `u64` is its own number.
 impl IntKey for u64 {
-    ghost is_key = { λ key. key < 2 ^ 64 };
+    ghost is_valid = { λ key. key < 2 ^ 64 };
 
     ghost number_of = { λ key. key };
 
-    ghost exact = { λ x y x_is_key y_is_key equal. equal };
+    ghost number_injective = { λ x y x_is_valid y_is_valid equal. equal };
 
-    ghost eq_is = { λ x y x_is_key y_is_key. refl };
+    ghost eq_agrees = { λ x y x_is_valid y_is_valid. refl };
 
     #[inline(always)]
     fn number(&self) -> u64 {
@@ -21,13 +21,13 @@ impl IntKey for u64 {
 
 /// A `usize` is its own number.
 impl IntKey for usize {
-    ghost is_key = { λ key. key < 2 ^ 64 };
+    ghost is_valid = { λ key. key < 2 ^ 64 };
 
     ghost number_of = { λ key. key };
 
-    ghost exact = { λ x y x_is_key y_is_key equal. equal };
+    ghost number_injective = { λ x y x_is_valid y_is_valid equal. equal };
 
-    ghost eq_is = { λ x y x_is_key y_is_key. refl };
+    ghost eq_agrees = { λ x y x_is_valid y_is_valid. refl };
 
     #[inline(always)]
     fn number(&self) -> u64 {
@@ -45,13 +45,13 @@ impl IntKey for i64 {
     ghost use Rattle.std.proofs.lemmas.Bool.Decides.{nat_tests};
     ghost use Rattle.intmap.specs.Keys.{number_of_signed};
 
-    ghost is_key = { FitsSigned w64 };
+    ghost is_valid = { FitsSigned w64 };
 
     ghost number_of = { number_of_signed };
 
-    ghost exact = { λ x y x_is_key y_is_key equal. Prim.grind (arith, ints) };
+    ghost number_injective = { λ x y x_is_valid y_is_valid equal. Prim.grind (arith, ints) };
 
-    ghost eq_is = { λ x y x_is_key y_is_key. Prim.grind (arith, ints, nat_tests) };
+    ghost eq_agrees = { λ x y x_is_valid y_is_valid. Prim.grind (arith, ints, nat_tests) };
 
     #[inline(always)]
     fn number(&self) -> u64 {

@@ -4,10 +4,10 @@ ghost use Rattle.intmap.specs.Classes.{IsCapacity};
 ghost use Rattle.intmap.specs.Growth.{IsLeastPower};
 ghost use Rattle.intmap.specs.Map.{IsMap, empty_map};
 ghost use Rattle.std.specs.Iterator.{IsFinite, size};
-ghost use Rattle.intmap.specs.Extending.{Extends, StopsAt, Collects, MayRefuseToCollect};
+ghost use Rattle.intmap.specs.Extending.{Extends, ExtendsUpTo, Collects, MayRefuseToCollect};
 
 use crate::key::IntKey;
-use crate::load::{GREATEST_CAPACITY, limit_of};
+use crate::load::{GREATEST_CAPACITY, threshold_of};
 use crate::map::IntMap;
 use crate::refusal::{Cause, RefusedPair};
 use crate::steps::Steps;
@@ -26,7 +26,7 @@ impl<K: IntKey, V: Drop, A: Allocator + Copy> IntMap<K, V, A> {
     pub fn new(alloc: A) -> Result<IntMap<K, V, A>, Cause>
         ensures state { IfOk result (λ made. made ≡ empty_map 4) }
         ensures memory { IfErr result (λ cause. cause ≡ Cause.Memory) }
-        ensures map { IfOk result (IsMap K.number_of K.is_key) }
+        ensures valid { IfOk result (IsMap K.number_of K.is_valid) }
     {
         IntMap::with_slots(alloc, FIRST_CAPACITY)
     }
@@ -45,7 +45,7 @@ impl<K: IntKey, V: Drop, A: Allocator + Copy> IntMap<K, V, A> {
         ensures state { IfOk result (λ made. made ≡ empty_map made.capacity) }
         ensures capacity { IfOk result (λ made. IsLeastPower (max capacity 2) made.capacity) }
         ensures too_large { (result ≡ Err Cause.TooLarge) ↔ (2 ^ 63 < capacity) }
-        ensures map { IfOk result (IsMap K.number_of K.is_key) }
+        ensures valid { IfOk result (IsMap K.number_of K.is_valid) }
     {
         if capacity > GREATEST_CAPACITY {
             return Err(Cause::TooLarge);
@@ -58,13 +58,13 @@ impl<K: IntKey, V: Drop, A: Allocator + Copy> IntMap<K, V, A> {
         requires { IsCapacity slots }
         ensures state { IfOk result (λ made. made ≡ empty_map slots) }
         ensures memory { IfErr result (λ cause. cause ≡ Cause.Memory) }
-        ensures map { IfOk result (IsMap K.number_of K.is_key) }
+        ensures valid { IfOk result (IsMap K.number_of K.is_valid) }
     {
         match Table::new(alloc, slots) {
             Ok(table) => Ok(IntMap {
                 table,
                 len: 0,
-                limit: limit_of(slots, FIRST_FACTOR),
+                threshold: threshold_of(slots, FIRST_FACTOR),
                 factor: FIRST_FACTOR,
                 placed: Steps::new(),
                 compared: Steps::new(),
@@ -94,11 +94,11 @@ impl<K: IntKey, V: Drop, A: Allocator + Copy> IntMap<K, V, A> {
         requires can { I.can_next iter }
         requires ends { IsFinite (I.remaining iter) }
         ensures extends { OnOk result
-            (Extends K.number_of K.is_key I.next_gives iter self.old self.new) }
+            (Extends K.number_of K.is_valid I.next_gives iter self.old self.new) }
         ensures stops { IfErr result (λ refused.
-            StopsAt K.number_of K.is_key I.next_gives iter self.old refused self.new) }
-        ensures map { IsMap K.number_of K.is_key self.old }
-        ensures map_after { IsMap K.number_of K.is_key self.new }
+            ExtendsUpTo K.number_of K.is_valid I.next_gives iter self.old refused self.new) }
+        ensures valid { IsMap K.number_of K.is_valid self.old }
+        ensures valid_after { IsMap K.number_of K.is_valid self.new }
     {
         self.known();
         let mut applied: usize = 0;
@@ -134,9 +134,9 @@ impl<K: IntKey, V: Drop, A: Allocator + Copy> IntMap<K, V, A> {
         requires can { I.can_next iter }
         requires ends { IsFinite (I.remaining iter) }
         ensures collects { (b : ℕ) × (b ≤ size (I.remaining iter)) × MatchResult result
-            (λ made. Collects K.number_of K.is_key I.next_gives iter b made)
-            (λ cause. MayRefuseToCollect {V = V} K.number_of K.is_key I.next_gives iter b cause) }
-        ensures map { IfOk result (IsMap K.number_of K.is_key) }
+            (λ made. Collects K.number_of K.is_valid I.next_gives iter b made)
+            (λ cause. MayRefuseToCollect {V = V} K.number_of K.is_valid I.next_gives iter b cause) }
+        ensures valid { IfOk result (IsMap K.number_of K.is_valid) }
     {
         let (lower, _) = iter.size_hint();
         let mut map = IntMap::with_capacity(alloc, lower)?;

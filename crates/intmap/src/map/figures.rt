@@ -2,7 +2,7 @@
 ghost use Rattle.std.specs.Prelude.{◌≡◌, ℕ, ◌-◌, ◌^◌, ◌<◌, true, Some, List, [], ◌∷◌, ◌++◌, IfOk, IfErr, OnOk, length};
 ghost use Rattle.intmap.specs.Bindings.{value_of};
 ghost use Rattle.intmap.specs.Extending.{IsMadeOf};
-ghost use Rattle.intmap.specs.Figures.{IsTally, load_of, rate_of, sizes_of};
+ghost use Rattle.intmap.specs.Figures.{IsTally, load_of, rate_of, collisions_of};
 ghost use Rattle.intmap.specs.Map.{IsMap, IsOutOfRange};
 
 use crate::key::IntKey;
@@ -19,7 +19,7 @@ impl<K: IntKey, V, A: Allocator + Copy> IntMap<K, V, A> {
     /// ```
     pub fn load(&self) -> u64
         ensures value { result ≡ load_of K.number_of self.now.walk self.now.capacity }
-        ensures map { IsMap K.number_of K.is_key self.now }
+        ensures valid { IsMap K.number_of K.is_valid self.now }
     {
         self.table.load() as u64
     }
@@ -32,7 +32,7 @@ impl<K: IntKey, V, A: Allocator + Copy> IntMap<K, V, A> {
     /// ```
     pub fn load_rate(&self) -> u128
         ensures value { result ≡ rate_of self.now.walk self.now.capacity }
-        ensures map { IsMap K.number_of K.is_key self.now }
+        ensures valid { IsMap K.number_of K.is_valid self.now }
     {
         self.len as u128 * 1000 / self.table.capacity() as u128
     }
@@ -41,7 +41,7 @@ impl<K: IntKey, V, A: Allocator + Copy> IntMap<K, V, A> {
     /// through all pairs to count them, and never fails.
     pub fn assert_count(&self) -> bool
         ensures value { result ≡ true }
-        ensures map { IsMap K.number_of K.is_key self.now }
+        ensures valid { IsMap K.number_of K.is_valid self.now }
     {
         self.iter().count() == self.len()
     }
@@ -61,14 +61,14 @@ impl<K: IntKey, V: Drop, A: Allocator + Copy> IntMap<K, V, A> {
     /// ```
     pub fn collisions(&self) -> Result<IntMap<u64, u64, A>, Cause>
         ensures sizes { IfOk result (IsMadeOf (λ size. size) (λ size. size < 2 ^ 64)
-            (sizes_of K.number_of self.now.walk self.now.capacity)) }
+            (collisions_of K.number_of self.now.walk self.now.capacity)) }
         ensures bindings { IfOk result (λ made. (size : ℕ) → value_of (λ n. n) made.walk size
-            ≡ value_of (λ n. n) (sizes_of K.number_of self.now.walk self.now.capacity) size) }
+            ≡ value_of (λ n. n) (collisions_of K.number_of self.now.walk self.now.capacity) size) }
         ensures len { IfOk result (λ made. length made.walk
-            ≡ length (sizes_of K.number_of self.now.walk self.now.capacity)) }
+            ≡ length (collisions_of K.number_of self.now.walk self.now.capacity)) }
         ensures memory { IfErr result (λ cause. cause ≡ Cause.Memory) }
-        ensures map { IsMap K.number_of K.is_key self.now }
-        ensures map_after { IfOk result (IsMap (λ size. size) (λ size. size < 2 ^ 64)) }
+        ensures valid { IsMap K.number_of K.is_valid self.now }
+        ensures valid_after { IfOk result (IsMap (λ size. size) (λ size. size < 2 ^ 64)) }
     {
         let mut sizes = IntMap::new(self.table.allocator())?;
         for slot in 0..self.table.capacity() {
@@ -92,7 +92,7 @@ fn count_once_more<A: Allocator + Copy>(
         ((ns : List ℕ) → IsTally ns counts.old → IsTally (ns ++ number ∷ []) counts.new) }
     ensures too_large { IfErr result (λ cause. cause ≡ Cause.TooLarge → IsOutOfRange (λ n. n)
         counts.old.walk counts.old.capacity counts.old.factor number) }
-    ensures map_after { IsMap (λ n. n) (λ n. n < 2 ^ 64) counts.new }
+    ensures valid_after { IsMap (λ n. n) (λ n. n < 2 ^ 64) counts.new }
 {
     if let Some(count) = counts.get_mut(number) {
         *count += 1;

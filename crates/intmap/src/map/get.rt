@@ -17,7 +17,7 @@ impl<K: IntKey, V, A: Allocator + Copy> IntMap<K, V, A> {
     /// The value of the key, or `None` if the key is absent. It never fails.
     pub fn get(&self, key: K) -> Option<&V>
         ensures value { option_copied result ≡ value_of K.number_of self.now.walk key }
-        ensures map { IsMap K.number_of K.is_key self.now }
+        ensures valid { IsMap K.number_of K.is_valid self.now }
     {
         let mut steps = Steps::new();
         self.get_counted(key, &mut steps)
@@ -37,7 +37,7 @@ impl<K: IntKey, V, A: Allocator + Copy> IntMap<K, V, A> {
         ensures value { option_copied result ≡ value_of K.number_of self.now.walk key }
         ensures counted { steps.new
             ≡ steps.old + reach K.number_of self.now.walk self.now.capacity key }
-        ensures map { IsMap K.number_of K.is_key self.now }
+        ensures valid { IsMap K.number_of K.is_valid self.now }
     {
         let Some(at) = self.table.locate(key, steps) else {
             return None;
@@ -60,8 +60,8 @@ impl<K: IntKey, V, A: Allocator + Copy> IntMap<K, V, A> {
             (Some v) }
         ensures len { (v : V)
             → length (write_value K.number_of self.old.walk key v) ≡ length self.old.walk }
-        ensures map { IsMap K.number_of K.is_key self.old }
-        ensures map_after { (v : V) → IsMap K.number_of K.is_key
+        ensures valid { IsMap K.number_of K.is_valid self.old }
+        ensures valid_after { (v : V) → IsMap K.number_of K.is_valid
             (written K.number_of (after_search K.number_of self.old key) key v) }
     {
         match self.locate(key) {
@@ -77,7 +77,7 @@ impl<K: IntKey, V, A: Allocator + Copy> IntMap<K, V, A> {
     /// ```
     pub fn contains_key(&self, key: K) -> bool
         ensures value { result ≡ is_some (value_of K.number_of self.now.walk key) }
-        ensures map { IsMap K.number_of K.is_key self.now }
+        ensures valid { IsMap K.number_of K.is_valid self.now }
     {
         let mut steps = Steps::new();
         self.get_counted(key, &mut steps).is_some()

@@ -5,7 +5,7 @@ ghost use Rattle.intmap.specs.Growth.{IsWanted, IsLeastPower, WantsTooMuch};
 ghost use Rattle.intmap.specs.Map.{IsMap, in_slots};
 
 use crate::key::IntKey;
-use crate::load::{GREATEST_CAPACITY, limit_of, wanted_capacity};
+use crate::load::{GREATEST_CAPACITY, threshold_of, wanted_capacity};
 use crate::map::IntMap;
 use crate::refusal::Cause;
 use std::alloc::Allocator;
@@ -38,8 +38,8 @@ impl<K: IntKey, V: Drop, A: Allocator + Copy> IntMap<K, V, A> {
         ensures updates { (q : K)
             → value_of K.number_of self.new.walk q ≡ value_of K.number_of self.old.walk q }
         ensures len { length self.new.walk ≡ length self.old.walk }
-        ensures map { IsMap K.number_of K.is_key self.old }
-        ensures map_after { IsMap K.number_of K.is_key self.new }
+        ensures valid { IsMap K.number_of K.is_valid self.old }
+        ensures valid_after { IsMap K.number_of K.is_valid self.new }
     {
         if self.len > GREATEST_CAPACITY || additional > GREATEST_CAPACITY - self.len {
             return Err(Cause::TooLarge);
@@ -49,7 +49,7 @@ impl<K: IntKey, V: Drop, A: Allocator + Copy> IntMap<K, V, A> {
         if self.table.grow_to(capacity).is_err() {
             return Err(Cause::Memory);
         }
-        self.limit = limit_of(capacity, self.factor);
+        self.threshold = threshold_of(capacity, self.factor);
         Ok(())
     }
 
@@ -79,8 +79,8 @@ impl<K: IntKey, V: Drop, A: Allocator + Copy> IntMap<K, V, A> {
         ensures updates { (q : K)
             → value_of K.number_of self.new.walk q ≡ value_of K.number_of self.old.walk q }
         ensures len { length self.new.walk ≡ length self.old.walk }
-        ensures map { IsMap K.number_of K.is_key self.old }
-        ensures map_after { IsMap K.number_of K.is_key self.new }
+        ensures valid { IsMap K.number_of K.is_valid self.old }
+        ensures valid_after { IsMap K.number_of K.is_valid self.new }
     {
         let Some(capacity) = wanted_capacity(self.len, self.table.capacity(), thousandths) else {
             return Err(Cause::TooLarge);
@@ -89,14 +89,14 @@ impl<K: IntKey, V: Drop, A: Allocator + Copy> IntMap<K, V, A> {
             return Err(Cause::Memory);
         }
         self.factor = thousandths;
-        self.limit = limit_of(capacity, thousandths);
+        self.threshold = threshold_of(capacity, thousandths);
         Ok(())
     }
 
     /// The load factor, in thousandths. It never fails.
     pub fn get_load_factor(&self) -> usize
         ensures value { result ≡ self.now.factor }
-        ensures map { IsMap K.number_of K.is_key self.now }
+        ensures valid { IsMap K.number_of K.is_valid self.now }
     {
         self.factor
     }

@@ -3,11 +3,11 @@ ghost use Rattle.std.specs.Prelude.{◌≡◌, ◌↔◌, ◌+◌, ◌*◌, ◌/
 ghost use Rattle.intmap.specs.Bindings.{value_of, Updates};
 ghost use Rattle.intmap.specs.Reach.{class_size};
 ghost use Rattle.intmap.specs.Growth.{IsNext, is_due};
-ghost use Rattle.intmap.specs.Map.{IsMap, IsFull, IsOutOfRange, IsCapacityAfter, after_search, after_insert, with_pair};
+ghost use Rattle.intmap.specs.Map.{IsMap, InsertIsTooLarge, IsOutOfRange, IsCapacityAfter, after_search, after_insert, with_pair};
 
 use crate::kept::Kept;
 use crate::key::IntKey;
-use crate::load::{has_outgrown, limit_of, wanted_capacity};
+use crate::load::{has_outgrown, threshold_of, wanted_capacity};
 use crate::map::IntMap;
 use crate::refusal::{Cause, Refused};
 use std::alloc::Allocator;
@@ -58,8 +58,8 @@ impl<K: IntKey, V: Drop, A: Allocator + Copy> IntMap<K, V, A> {
             → IsNext self.old.capacity (length self.old.walk + 1) self.old.factor self.old.capacity
             → 0 < class_size K.number_of self.old.walk self.old.capacity key) }
 
-        ensures map { IsMap K.number_of K.is_key self.old }
-        ensures map_after { IsMap K.number_of K.is_key self.new }
+        ensures valid { IsMap K.number_of K.is_valid self.old }
+        ensures valid_after { IsMap K.number_of K.is_valid self.new }
     {
         if let Some(at) = self.locate(key) {
             return Ok(Some(self.replace_at(at, value)));
@@ -104,8 +104,8 @@ impl<K: IntKey, V: Drop, A: Allocator + Copy> IntMap<K, V, A> {
             → IsNext self.old.capacity (length self.old.walk + 1) self.old.factor self.old.capacity
             → 0 < class_size K.number_of self.old.walk self.old.capacity key) }
 
-        ensures map { IsMap K.number_of K.is_key self.old }
-        ensures map_after { IsMap K.number_of K.is_key self.new }
+        ensures valid { IsMap K.number_of K.is_valid self.old }
+        ensures valid_after { IsMap K.number_of K.is_valid self.new }
     {
         if self.locate(key).is_some() {
             return Ok(false);
@@ -119,7 +119,7 @@ impl<K: IntKey, V: Drop, A: Allocator + Copy> IntMap<K, V, A> {
     /// Adds the pair of an absent key. It compares no key.
     #[inline(always)]
     pub(crate) fn add(&mut self, key: K, value: V) -> Result<(), Refused<V>>
-        requires key { K.is_key key }
+        requires key { K.is_valid key }
         requires missing { value_of K.number_of self.old.walk key ≡ None }
         ensures capacity { OnOk result (IsNext self.old.capacity (length self.old.walk + 1)
             self.old.factor self.new.capacity) }
@@ -128,14 +128,14 @@ impl<K: IntKey, V: Drop, A: Allocator + Copy> IntMap<K, V, A> {
         ensures err { OnErr result (self.new ≡ self.old) }
         ensures value_returned { IfErr result (λ refused. refused.value ≡ value) }
         ensures in_range { OnOk result
-            (IsFull self.old.walk self.old.capacity self.old.factor → ⊥) }
+            (InsertIsTooLarge self.old.walk self.old.capacity self.old.factor → ⊥) }
         ensures too_large { IfErr result (λ refused. (refused.cause ≡ Cause.TooLarge)
-            ↔ IsFull self.old.walk self.old.capacity self.old.factor) }
+            ↔ InsertIsTooLarge self.old.walk self.old.capacity self.old.factor) }
         ensures memory { IfErr result (λ refused. refused.cause ≡ Cause.Memory
             → IsNext self.old.capacity (length self.old.walk + 1) self.old.factor self.old.capacity
             → 0 < class_size K.number_of self.old.walk self.old.capacity key) }
-        ensures map { IsMap K.number_of K.is_key self.old }
-        ensures map_after { IsMap K.number_of K.is_key self.new }
+        ensures valid { IsMap K.number_of K.is_valid self.old }
+        ensures valid_after { IsMap K.number_of K.is_valid self.new }
     {
         if self.len == usize::MAX {
             return Err(Refused {
@@ -144,7 +144,7 @@ impl<K: IntKey, V: Drop, A: Allocator + Copy> IntMap<K, V, A> {
             });
         }
         let len = self.len + 1;
-        if has_outgrown(len, self.limit) {
+        if has_outgrown(len, self.threshold) {
             return self.add_growing(len, key, value);
         }
         if let Err(kept) = self.table.add(key, Kept { value }) {
@@ -161,7 +161,7 @@ impl<K: IntKey, V: Drop, A: Allocator + Copy> IntMap<K, V, A> {
     /// allocated before a pair moves.
     #[inline(never)]
     fn add_growing(&mut self, len: usize, key: K, value: V) -> Result<(), Refused<V>>
-        requires key { K.is_key key }
+        requires key { K.is_valid key }
         requires missing { value_of K.number_of self.old.walk key ≡ None }
         requires count { len ≡ length self.old.walk + 1 }
         requires due { is_due len ≡ true }
@@ -173,10 +173,10 @@ impl<K: IntKey, V: Drop, A: Allocator + Copy> IntMap<K, V, A> {
         ensures err { OnErr result (self.new ≡ self.old) }
         ensures value_returned { IfErr result (λ refused. refused.value ≡ value) }
         ensures in_range { OnOk result
-            (IsFull self.old.walk self.old.capacity self.old.factor → ⊥) }
+            (InsertIsTooLarge self.old.walk self.old.capacity self.old.factor → ⊥) }
         ensures too_large { IfErr result (λ refused. (refused.cause ≡ Cause.TooLarge)
-            ↔ IsFull self.old.walk self.old.capacity self.old.factor) }
-        ensures map_after { IsMap K.number_of K.is_key self.new }
+            ↔ InsertIsTooLarge self.old.walk self.old.capacity self.old.factor) }
+        ensures valid_after { IsMap K.number_of K.is_valid self.new }
     {
         let Some(capacity) = wanted_capacity(len, self.table.capacity(), self.factor) else {
             return Err(Refused {
@@ -184,7 +184,7 @@ impl<K: IntKey, V: Drop, A: Allocator + Copy> IntMap<K, V, A> {
                 cause: Cause::TooLarge,
             });
         };
-        let limit = limit_of(capacity, self.factor);
+        let threshold = threshold_of(capacity, self.factor);
         if let Err(kept) = self
             .table
             .grow_with(capacity, key, Kept { value }, &mut self.placed)
@@ -195,7 +195,7 @@ impl<K: IntKey, V: Drop, A: Allocator + Copy> IntMap<K, V, A> {
             });
         }
         self.len = len;
-        self.limit = limit;
+        self.threshold = threshold;
         Ok(())
     }
 }

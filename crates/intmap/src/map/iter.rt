@@ -152,7 +152,7 @@ impl<K: IntKey, V, A: Allocator + Copy> IntMap<K, V, A> {
     /// ```
     pub fn iter(&self) -> Iter<'_, K, V, A>
         ensures walk { result ≡ self.now.walk }
-        ensures map { IsMap K.number_of K.is_key self.now }
+        ensures valid { IsMap K.number_of K.is_valid self.now }
     {
         Iter {
             pairs: self.table.pairs(),
@@ -163,7 +163,7 @@ impl<K: IntKey, V, A: Allocator + Copy> IntMap<K, V, A> {
     /// the iterator fails.
     pub fn keys(&self) -> Keys<'_, K, V, A>
         ensures walk { result ≡ keys_of self.now.walk }
-        ensures map { IsMap K.number_of K.is_key self.now }
+        ensures valid { IsMap K.number_of K.is_valid self.now }
     {
         Keys { pairs: self.iter() }
     }
@@ -172,7 +172,7 @@ impl<K: IntKey, V, A: Allocator + Copy> IntMap<K, V, A> {
     /// of the iterator fails.
     pub fn values(&self) -> Values<'_, K, V, A>
         ensures walk { result ≡ values_of self.now.walk }
-        ensures map { IsMap K.number_of K.is_key self.now }
+        ensures valid { IsMap K.number_of K.is_valid self.now }
     {
         Values { pairs: self.iter() }
     }

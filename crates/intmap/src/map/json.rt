@@ -86,7 +86,7 @@ impl IntMap<u64, Value> {
             ↔ IsTrue (holds_a_float self.now.walk) }
         ensures memory { IfErr result
             (λ cause. (cause ≡ JsonCause.HoldsFloat) ⊎ (cause ≡ JsonCause.Memory)) }
-        ensures map { IsMap (λ key. key) (λ key. key < 2 ^ 64) self.now }
+        ensures valid { IsMap (λ key. key) (λ key. key < 2 ^ 64) self.now }
     {
         self.known();
         if self.holds_float() {

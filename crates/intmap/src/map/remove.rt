@@ -26,8 +26,8 @@ impl<K: IntKey, V, A: Allocator + Copy> IntMap<K, V, A> {
         ensures state { self.new ≡ after_remove K.number_of self.old key }
         ensures updates { Updates K.number_of self.old.walk self.new.walk key None }
         ensures len { length self.new.walk + cond (is_some result) 1 0 ≡ length self.old.walk }
-        ensures map { IsMap K.number_of K.is_key self.old }
-        ensures map_after { IsMap K.number_of K.is_key self.new }
+        ensures valid { IsMap K.number_of K.is_valid self.old }
+        ensures valid_after { IsMap K.number_of K.is_valid self.new }
     {
         let Some(at) = self.locate(key) else {
             return None;
@@ -42,8 +42,8 @@ impl<K: IntKey, V, A: Allocator + Copy> IntMap<K, V, A> {
         ensures first { YieldsFirst (λ m. m.walk) self.old result self.new }
         ensures state { self.new ≡ with_walk self.old self.new.walk }
         ensures passed { ArePassed K.number_of self.new.walk self.new.capacity from.new }
-        ensures map { IsMap K.number_of K.is_key self.old }
-        ensures map_after { IsMap K.number_of K.is_key self.new }
+        ensures valid { IsMap K.number_of K.is_valid self.old }
+        ensures valid_after { IsMap K.number_of K.is_valid self.new }
     {
         let Some((key, kept)) = self.table.take_front(from) else {
             return None;
@@ -64,8 +64,8 @@ impl<K: IntKey, V: Drop, A: Allocator + Copy> IntMap<K, V, A> {
         ensures state { self.new ≡ emptied self.old }
         ensures updates { (q : K) → value_of K.number_of self.new.walk q ≡ None }
         ensures len { length self.new.walk ≡ 0 }
-        ensures map { IsMap K.number_of K.is_key self.old }
-        ensures map_after { IsMap K.number_of K.is_key self.new }
+        ensures valid { IsMap K.number_of K.is_valid self.old }
+        ensures valid_after { IsMap K.number_of K.is_valid self.new }
     {
         self.table.clear();
         self.len = 0;
@@ -98,8 +98,8 @@ impl<K: IntKey, V: Drop, A: Allocator + Copy> IntMap<K, V, A> {
             → (value_of K.number_of self.new.walk q ≡ value_of K.number_of self.old.walk q)
             ⊎ (value_of K.number_of self.new.walk q ≡ None) }
         ensures len { length self.new.walk ≤ length self.old.walk }
-        ensures map { IsMap K.number_of K.is_key self.old }
-        ensures map_after { IsMap K.number_of K.is_key self.new }
+        ensures valid { IsMap K.number_of K.is_valid self.old }
+        ensures valid_after { IsMap K.number_of K.is_valid self.new }
     {
         let mut f = f;
         self.len = self.table.retain(&mut f);

@@ -90,8 +90,8 @@ impl<K: IntKey, V: Clone, A: Allocator + Copy> IntMap<K, V, A> {
             (λ made. BindsClones K.number_of V.is_clone self.now.walk made.walk) }
         ensures len { IfOk result (λ made. length made.walk ≡ length self.now.walk) }
         ensures memory { IfErr result (λ cause. cause ≡ Cause.Memory) }
-        ensures map { IsMap K.number_of K.is_key self.now }
-        ensures map_after { IfOk result (IsMap K.number_of K.is_key) }
+        ensures valid { IsMap K.number_of K.is_valid self.now }
+        ensures valid_after { IfOk result (IsMap K.number_of K.is_valid) }
     {
         let Ok(table) = self.table.clone() else {
             return Err(Cause::Memory);
@@ -99,7 +99,7 @@ impl<K: IntKey, V: Clone, A: Allocator + Copy> IntMap<K, V, A> {
         Ok(IntMap {
             table,
             len: self.len,
-            limit: self.limit,
+            threshold: self.threshold,
             factor: self.factor,
             placed: Steps::new(),
             compared: Steps::new(),

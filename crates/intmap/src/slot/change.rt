@@ -1,5 +1,5 @@
 //! Pairs that are put into a slot, replaced and removed there, and values that are written.
-ghost use Rattle.std.specs.Prelude.{◌≡◌, ◌+◌, ◌<◌, [], ◌∷◌, ◌++◌, length, swap_remove, OnOk, OnErr, IfErr, slice_index_or};
+ghost use Rattle.std.specs.Prelude.{◌≡◌, ◌+◌, ◌<◌, ◌==◌, [], ◌∷◌, ◌++◌, length, swap_remove, slice_index_or, is_some, true, None, Some, OnOk, OnErr, IfErr};
 ghost use Rattle.intmap.specs.Tables.Kept.{WritesStored, TakesStoredMut};
 ghost use Rattle.intmap.specs.Taking.{TakesEach};
 ghost use Rattle.intmap.specs.Writes.{Writes};
@@ -10,6 +10,32 @@ use crate::slot::Slot;
 use crate::stored::Stored;
 use std::alloc::{AllocError, Allocator};
 use std::mem;
+
+/// Removes the first pair, where there is one.
+#[inline(always)]
+fn take_only<P>(first: &mut Option<P>) -> P
+    requires { is_some first.old ≡ true }
+    ensures value { first.old ≡ Some result }
+    ensures none { first.new ≡ None }
+{
+    match first.take() {
+        Some(pair) => pair,
+        None => unreachable!(),
+    }
+}
+
+/// Puts a pair in the place of the first one, where there is one, and returns that one.
+#[inline(always)]
+fn replace_first<P>(first: &mut Option<P>, pair: P) -> P
+    requires { is_some first.old ≡ true }
+    ensures value { first.old ≡ Some result }
+    ensures first { first.new ≡ Some pair }
+{
+    match first {
+        Some(place) => mem::replace(place, pair),
+        None => unreachable!(),
+    }
+}
 
 /// Puts an element in the place of the last one, and returns that one. If there is none, it returns
 /// the element.
@@ -79,37 +105,37 @@ impl<K: IntKey, X: Drop, A: Allocator> Slot<K, X, A> {
 }
 
 impl<K: IntKey, X, A: Allocator> Slot<K, X, A> {
-    /// Removes the first pair. The others move up by one place.
-    pub(crate) fn take_front(&mut self) -> (Stored<K>, X)
+    /// Removes the first pair, and says whether none is left. The others move up by one place.
+    #[inline(always)]
+    pub(crate) fn take_front(&mut self) -> ((Stored<K>, X), bool)
         requires { 0 < length self.old.pairs }
-        ensures { self.old.pairs ≡ result ∷ self.new.pairs }
+        ensures pairs { self.old.pairs ≡ result.0 ∷ self.new.pairs }
+        ensures emptied { result.1 ≡ (length self.new.pairs == 0) }
     {
-        let next = if self.rest.is_empty() {
-            None
-        } else {
-            Some(self.rest.remove(0))
-        };
-        match mem::replace(&mut self.first, next) {
-            Some(pair) => pair,
-            None => unreachable!(),
+        if self.rest.is_empty() {
+            return (take_only(&mut self.first), true);
         }
+        let next = self.rest.remove(0);
+        (replace_first(&mut self.first, next), false)
     }
 
-    /// Removes the pair at a place. The last pair takes its place.
+    /// Removes the pair at a place, and says whether none is left. The last pair takes its place.
     #[inline(always)]
-    pub(crate) fn take_at(&mut self, place: usize) -> (Stored<K>, X)
+    pub(crate) fn take_at(&mut self, place: usize) -> ((Stored<K>, X), bool)
         requires { place < length self.old.pairs }
-        ensures value { result ≡ slice_index_or self.old.pairs place result }
-        ensures pairs { self.new.pairs ≡ swap_remove self.old.pairs place result }
+        ensures value { result.0 ≡ slice_index_or self.old.pairs place result.0 }
+        ensures pairs { self.new.pairs ≡ swap_remove self.old.pairs place result.0 }
+        ensures emptied { result.1 ≡ (length self.new.pairs == 0) }
     {
         if place > 0 {
-            return self.rest.swap_remove(place - 1);
+            return (self.rest.swap_remove(place - 1), false);
         }
-        let last = self.rest.pop();
-        match mem::replace(&mut self.first, last) {
-            Some(pair) => pair,
-            None => unreachable!(),
+        if self.rest.is_empty() {
+            return (take_only(&mut self.first), true);
         }
+        // a `pop` would check whether there is one
+        let last = self.rest.swap_remove(self.rest.len() - 1);
+        (replace_first(&mut self.first, last), false)
     }
 
     /// Removes the pair at a place, which the last pair takes, and puts a new one at the end. It
@@ -126,10 +152,7 @@ impl<K: IntKey, X, A: Allocator> Slot<K, X, A> {
             return old;
         }
         let last = replace_last(&mut self.rest, new);
-        match mem::replace(&mut self.first, Some(last)) {
-            Some(old) => old,
-            None => unreachable!(),
-        }
+        replace_first(&mut self.first, last)
     }
 }
 

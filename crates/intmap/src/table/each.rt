@@ -32,9 +32,8 @@ impl<K: IntKey, X, A: Allocator> Table<K, X, A> {
             return None;
         };
         *from = place;
-        let slot = &mut self.slots[place];
-        let (key, value) = slot.take_front();
-        if !slot.is_filled() {
+        let ((key, value), is_emptied) = self.slots[place].take_front();
+        if is_emptied {
             self.directory.bits.clear(place);
         }
         Some((*key.key(), value))

@@ -32,7 +32,7 @@ impl<K: IntKey, X, A: Allocator> Table<K, X, A> {
         ensures missing { IfNone result (value_of K.number_of self.now.walk key ≡ None) }
         ensures counted { steps.new
             ≡ steps.old + reach K.number_of self.now.walk self.now.capacity key }
-        ensures known { K.is_key key }
+        ensures known { K.is_valid key }
     {
         let slot = self.index_of(&key);
         let Some(place) = self.slots[slot].find(&key, steps) else {
@@ -90,9 +90,8 @@ impl<K: IntKey, X, A: Allocator> Table<K, X, A> {
             (take_key K.number_of self.old.walk self.old.capacity at.key) self.old.capacity }
         ensures capacity { self.new.capacity ≡ self.old.capacity }
     {
-        let slot = &mut self.slots[at.slot];
-        let (_, value) = slot.take_at(at.place);
-        if !slot.is_filled() {
+        let ((_, value), is_emptied) = self.slots[at.slot].take_at(at.place);
+        if is_emptied {
             self.directory.bits.clear(at.slot);
         }
         value
@@ -107,7 +106,7 @@ impl<K: IntKey, X, A: Allocator> Table<K, X, A> {
         ensures walk { self.new.walk ≡ walk_of K.number_of
             (put_pair K.number_of self.old.walk self.old.capacity at.key value) self.old.capacity }
         ensures capacity { self.new.capacity ≡ self.old.capacity }
-        ensures key { K.is_key at.key }
+        ensures key { K.is_valid at.key }
     {
         let pair = (Stored::new(at.key), value);
         let (_, old) = self.slots[at.slot].replace_at(at.place, pair);

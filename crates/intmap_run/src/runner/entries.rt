@@ -19,7 +19,7 @@ pub(crate) fn entry_insert<K: IntKey, V: Drop, J: Judge<K, V>, A: Allocator + Co
 ) -> Answer<K, V, J::Seen, A>
     ensures step { (judge : J) → StepsFrom K.number_of (J.sees judge) (J.keeps judge)
         map.old (command.EntryInsert key value) result map.new }
-    ensures map_after { IsMap K.number_of K.is_key map.new }
+    ensures valid_after { IsMap K.number_of K.is_valid map.new }
 {
     match map.entry(key) {
         Entry::Occupied(mut entry) => {
@@ -41,7 +41,7 @@ pub(crate) fn entry_remove<K: IntKey, V: Drop, J: Judge<K, V>, A: Allocator + Co
 ) -> Answer<K, V, J::Seen, A>
     ensures step { (judge : J) → StepsFrom K.number_of (J.sees judge) (J.keeps judge)
         map.old (command.EntryRemove key) result map.new }
-    ensures map_after { IsMap K.number_of K.is_key map.new }
+    ensures valid_after { IsMap K.number_of K.is_valid map.new }
 {
     match map.entry(key) {
         Entry::Occupied(entry) => Answer::Old(Some(entry.remove())),

@@ -15,7 +15,7 @@ pub(crate) fn extend<K: IntKey, V: Drop, J: Judge<K, V>, A: Allocator + Copy>(
 ) -> Answer<K, V, J::Seen, A>
     ensures step { (judge : J) → StepsFrom K.number_of (J.sees judge) (J.keeps judge)
         map.old (command.Extend pairs) result map.new }
-    ensures map_after { IsMap K.number_of K.is_key map.new }
+    ensures valid_after { IsMap K.number_of K.is_valid map.new }
 {
     match map.extend(pairs.into_iter()) {
         Ok(()) => Answer::Done,

@@ -33,7 +33,7 @@ pub(crate) fn keep_all<K: IntKey, V: Drop, S: Keeps<K, V>, A: Allocator + Copy>(
 )
     ensures walk { map.new.walk ≡ keep_pairs (S.stays_at keeper.now) map.old.walk }
     ensures state { map.new ≡ record map.old { walk = map.new.walk } }
-    ensures map_after { IsMap K.number_of K.is_key map.new }
+    ensures valid_after { IsMap K.number_of K.is_valid map.new }
 {
     map.retain(|key, value| keeper.stays(key, value));
 }

@@ -3,7 +3,7 @@ ghost use Rattle.std.specs.Prelude.{◌≡◌, ℕ, ◌^◌, ◌<◌, take, drop
 ghost use Rattle.std.specs.List.{AllZip};
 ghost use Rattle.std.specs.Map.{keys_of, values_of};
 ghost use Rattle.intmap.specs.Extending.{IsMadeOf};
-ghost use Rattle.intmap.specs.Figures.{sizes_of};
+ghost use Rattle.intmap.specs.Figures.{collisions_of};
 ghost use Rattle.intmap.specs.Map.{MapState, IsMap};
 ghost use Rattle.intmap.specs.Passing.{with_walk};
 ghost use Rattle.intmap.specs.declared.refusal.Cause.TheVariants.{Memory};
@@ -34,7 +34,7 @@ pub(crate) fn walk<K: IntKey, V: Drop, J: Judge<K, V>, A: Allocator + Copy>(
 ) -> Answer<K, V, J::Seen, A>
     ensures step { StepsFrom K.number_of (J.sees judge.now) (J.keeps judge.now)
         map.now command.Walk result map.now }
-    ensures map { IsMap K.number_of K.is_key map.now }
+    ensures valid { IsMap K.number_of K.is_valid map.now }
 {
     match look_all(alloc, map, judge) {
         Ok(pairs) => Answer::Walk(pairs),
@@ -49,7 +49,7 @@ pub(crate) fn keys<K: IntKey, V: Drop, J: Judge<K, V>, A: Allocator + Copy>(
 ) -> Answer<K, V, J::Seen, A>
     ensures step { (judge : J) → StepsFrom K.number_of (J.sees judge) (J.keeps judge)
         map.now command.Keys result map.now }
-    ensures map { IsMap K.number_of K.is_key map.now }
+    ensures valid { IsMap K.number_of K.is_valid map.now }
 {
     match all_keys(alloc, map) {
         Ok(keys) => Answer::Keys(keys),
@@ -65,7 +65,7 @@ pub(crate) fn values<K: IntKey, V: Drop, J: Judge<K, V>, A: Allocator + Copy>(
 ) -> Answer<K, V, J::Seen, A>
     ensures step { StepsFrom K.number_of (J.sees judge.now) (J.keeps judge.now)
         map.now command.Values result map.now }
-    ensures map { IsMap K.number_of K.is_key map.now }
+    ensures valid { IsMap K.number_of K.is_valid map.now }
 {
     match look_at_values(alloc, map, judge) {
         Ok(seen) => Answer::Values(seen),
@@ -81,7 +81,7 @@ pub(crate) fn drain<K: IntKey, V: Drop, J: Judge<K, V>, A: Allocator + Copy>(
 ) -> Answer<K, V, J::Seen, A>
     ensures step { (judge : J) → StepsFrom K.number_of (J.sees judge) (J.keeps judge)
         map.old (command.Drain count) result map.new }
-    ensures map_after { IsMap K.number_of K.is_key map.new }
+    ensures valid_after { IsMap K.number_of K.is_valid map.new }
 {
     match take_front(alloc, map, count) {
         Ok(pairs) => Answer::Pairs(pairs),
@@ -96,7 +96,7 @@ pub(crate) fn collisions<K: IntKey, V: Drop, J: Judge<K, V>, A: Allocator + Copy
 ) -> Answer<K, V, J::Seen, A>
     ensures step { (judge : J) → StepsFrom K.number_of (J.sees judge) (J.keeps judge)
         map.now command.Collisions result map.now }
-    ensures map { IsMap K.number_of K.is_key map.now }
+    ensures valid { IsMap K.number_of K.is_valid map.now }
 {
     match all_sizes(alloc, map) {
         Ok(sizes) => Answer::Sizes(sizes),
@@ -112,7 +112,7 @@ fn look_all<K: IntKey, V: Drop, J: Judge<K, V>, A: Allocator + Copy>(
 ) -> Result<Vec<(K, J::Seen), A>, AllocError>
     ensures ok { IfOk result
         (λ seen. AllZip (SeesPair (J.sees judge.now)) map.now.walk seen.items) }
-    ensures map { IsMap K.number_of K.is_key map.now }
+    ensures valid { IsMap K.number_of K.is_valid map.now }
 {
     let mut seen = Vec::with_capacity(alloc, map.len())?;
     for (key, value) in map.iter() {
@@ -127,7 +127,7 @@ fn all_keys<K: IntKey, V: Drop, A: Allocator + Copy>(
     map: &IntMap<K, V, A>,
 ) -> Result<Vec<K, A>, AllocError>
     ensures ok { IfOk result (λ keys. keys.items ≡ keys_of map.now.walk) }
-    ensures map { IsMap K.number_of K.is_key map.now }
+    ensures valid { IsMap K.number_of K.is_valid map.now }
 {
     let mut keys = Vec::with_capacity(alloc, map.len())?;
     for key in map.keys() {
@@ -144,7 +144,7 @@ fn look_at_values<K: IntKey, V: Drop, J: Judge<K, V>, A: Allocator + Copy>(
 ) -> Result<Vec<J::Seen, A>, AllocError>
     ensures ok { IfOk result
         (λ seen. AllZip (J.sees judge.now) (values_of map.now.walk) seen.items) }
-    ensures map { IsMap K.number_of K.is_key map.now }
+    ensures valid { IsMap K.number_of K.is_valid map.now }
 {
     let mut seen = Vec::with_capacity(alloc, map.len())?;
     for value in map.values() {
@@ -163,8 +163,8 @@ fn take_front<K: IntKey, V: Drop, A: Allocator + Copy>(
     ensures pairs { IfOk result (λ pairs. pairs.items ≡ take count map.old.walk) }
     ensures state { IfOk result (λ pairs. map.new ≡ with_walk map.old (drop count map.old.walk)) }
     ensures err { OnErr result (map.new ≡ map.old) }
-    ensures map { IsMap K.number_of K.is_key map.old }
-    ensures map_after { IsMap K.number_of K.is_key map.new }
+    ensures valid { IsMap K.number_of K.is_valid map.old }
+    ensures valid_after { IsMap K.number_of K.is_valid map.new }
 {
     let taken = count.min(map.len());
     let mut pairs = Vec::with_capacity(alloc, taken)?;
@@ -184,10 +184,11 @@ fn all_sizes<K: IntKey, V: Drop, A: Allocator + Copy>(
     map: &IntMap<K, V, A>,
 ) -> Result<Vec<(u64, u64), A>, Cause>
     ensures ok { IfOk result (λ sizes. (made : MapState ℕ ℕ)
-        × IsMadeOf (λ n. n) (λ n. n < 2 ^ 64) (sizes_of K.number_of map.now.walk map.now.capacity)
+        × IsMadeOf (λ n. n) (λ n. n < 2 ^ 64)
+        (collisions_of K.number_of map.now.walk map.now.capacity)
         made
         × (sizes.items ≡ made.walk)) }
-    ensures map { IsMap K.number_of K.is_key map.now }
+    ensures valid { IsMap K.number_of K.is_valid map.now }
 {
     let mut sizes = map.collisions()?;
     let count = sizes.len();

@@ -6,9 +6,9 @@ use Rattle.intmap.proofs.load.has_outgrown.Goals as goal
 
 pub returns-then-len-eq4 : goal.returns-then-len-eq4
 returns-then-len-eq4 c =
-    ap (λ (due : Bool). due && nat_lt c.args.limit c.args.len) (sym (eq-eqb (bit_and c.args.len 4) 4 c.if-len-eq4.true) ∙ bit_and-four c.args.len)
+    ap (λ (due : Bool). due && nat_lt c.args.threshold c.args.len) (sym (eq-eqb (bit_and c.args.len 4) 4 c.if-len-eq4.true) ∙ bit_and-four c.args.len)
 
 pub returns-else-len-eq4 : goal.returns-else-len-eq4
 returns-else-len-eq4 c =
     let none = ne_eqb (bit_and c.args.len 4) 4 c.if-len-eq4.false in
-    none ∙ ap (λ (due : Bool). due && nat_lt c.args.limit c.args.len) (sym none ∙ bit_and-four c.args.len)
+    none ∙ ap (λ (due : Bool). due && nat_lt c.args.threshold c.args.len) (sym none ∙ bit_and-four c.args.len)

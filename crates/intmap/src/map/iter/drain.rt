@@ -39,7 +39,7 @@ impl<'a, K: IntKey, V, A: Allocator + Copy> Drop for Drain<'a, K, V, A> {
 
     fn drop(self)
         ensures state { self.exit.0.now ≡ drained_map self.entry }
-        ensures map_after { IsMap K.number_of K.is_key self.exit.0.now }
+        ensures valid_after { IsMap K.number_of K.is_valid self.exit.0.now }
     {
         let Drain { map, from: _ } = self;
         map.known();
@@ -62,7 +62,7 @@ impl<K: IntKey, V, A: Allocator + Copy> IntMap<K, V, A> {
     pub fn drain(&mut self) -> Drain<'_, K, V, A>
         ensures lender { drain_lender result ≡ self.entry.ghost_name }
         ensures state { drained_map result ≡ self.old }
-        ensures map { IsMap K.number_of K.is_key self.old }
+        ensures valid { IsMap K.number_of K.is_valid self.old }
     {
         self.known();
         Drain { map: self, from: 0 }

@@ -6,7 +6,7 @@ ghost use Rattle.std.specs.Map.{keys_of, values_of};
 ghost use Rattle.intmap.specs.Lending.Apart.{lent_pairs};
 ghost use Rattle.intmap.specs.Lending.{map_lends_values};
 ghost use Rattle.intmap.specs.Map.{IsMap};
-ghost use Rattle.intmap.specs.Values.{revalued, revalued_map};
+ghost use Rattle.intmap.specs.Values.{with_values, map_with_values};
 ghost use Rattle.intmap.specs.Bindings.{IsBound};
 ghost use Rattle.intmap.specs.Taking.{TakesEach};
 ghost use Rattle.intmap.specs.Writes.{Writes, WritesAt, TakesPairMut};
@@ -100,7 +100,7 @@ impl<K: IntKey, V, A: Allocator + Copy> IntMap<K, V, A> {
             A.Allocator self.entry result.1.behind) }
         ensures holes { (lent_pairs result.0.now.walk ≡ self.old.walk)
             × (result.1.cells ≡ values_of result.0.now.walk)
-            × IsMap K.number_of K.is_key self.old }
+            × IsMap K.number_of K.is_valid self.old }
     {
         let table = &raw mut self.table as *const Table<K, Hole<V>, A>;
         (unsafe { &*table }, Lent { mark: PhantomData })
@@ -121,10 +121,11 @@ impl<K: IntKey, V, A: Allocator + Copy> IntMap<K, V, A> {
             A.Allocator self.entry result.1) }
         ensures walk { result.0 ≡ self.old.walk }
         ensures keys { (vs : List V)
-            → keys_of (revalued self.old.walk vs) ≡ keys_of self.old.walk }
-        ensures len { (vs : List V) → length (revalued self.old.walk vs) ≡ length self.old.walk }
-        ensures map { IsMap K.number_of K.is_key self.old }
-        ensures map_after { (vs : List V) → IsMap K.number_of K.is_key (revalued_map self.old vs) }
+            → keys_of (with_values self.old.walk vs) ≡ keys_of self.old.walk }
+        ensures len { (vs : List V) → length (with_values self.old.walk vs) ≡ length self.old.walk }
+        ensures valid { IsMap K.number_of K.is_valid self.old }
+        ensures valid_after { (vs : List V)
+            → IsMap K.number_of K.is_valid (map_with_values self.old vs) }
     {
         let (table, lent) = self.lend();
         IterMut {
@@ -145,10 +146,11 @@ impl<K: IntKey, V, A: Allocator + Copy> IntMap<K, V, A> {
             A.Allocator self.entry result.1) }
         ensures walk { result.0 ≡ values_of self.old.walk }
         ensures keys { (vs : List V)
-            → keys_of (revalued self.old.walk vs) ≡ keys_of self.old.walk }
-        ensures len { (vs : List V) → length (revalued self.old.walk vs) ≡ length self.old.walk }
-        ensures map { IsMap K.number_of K.is_key self.old }
-        ensures map_after { (vs : List V) → IsMap K.number_of K.is_key (revalued_map self.old vs) }
+            → keys_of (with_values self.old.walk vs) ≡ keys_of self.old.walk }
+        ensures len { (vs : List V) → length (with_values self.old.walk vs) ≡ length self.old.walk }
+        ensures valid { IsMap K.number_of K.is_valid self.old }
+        ensures valid_after { (vs : List V)
+            → IsMap K.number_of K.is_valid (map_with_values self.old vs) }
     {
         ValuesMut {
             pairs: self.iter_mut(),
@@ -169,10 +171,11 @@ impl<'a, K: IntKey, V, A: Allocator + Copy> IntoIterator for &'a mut IntMap<K, V
             A.Allocator self.entry result.1) }
         ensures into_iter_gives { result.0 ≡ self.old.walk }
         ensures keys { (vs : List V)
-            → keys_of (revalued self.old.walk vs) ≡ keys_of self.old.walk }
-        ensures len { (vs : List V) → length (revalued self.old.walk vs) ≡ length self.old.walk }
-        ensures map { IsMap K.number_of K.is_key self.old }
-        ensures map_after { (vs : List V) → IsMap K.number_of K.is_key (revalued_map self.old vs) }
+            → keys_of (with_values self.old.walk vs) ≡ keys_of self.old.walk }
+        ensures len { (vs : List V) → length (with_values self.old.walk vs) ≡ length self.old.walk }
+        ensures valid { IsMap K.number_of K.is_valid self.old }
+        ensures valid_after { (vs : List V)
+            → IsMap K.number_of K.is_valid (map_with_values self.old vs) }
     {
         self.iter_mut()
     }
@@ -201,8 +204,8 @@ impl<K: IntKey, V, A: Allocator + Copy> IntMap<K, V, A> {
         ensures updates { (q : K)
             → IsBound K.number_of self.new.walk q ↔ IsBound K.number_of self.old.walk q }
         ensures len { length self.new.walk ≡ length self.old.walk }
-        ensures map { IsMap K.number_of K.is_key self.old }
-        ensures map_after { IsMap K.number_of K.is_key self.new }
+        ensures valid { IsMap K.number_of K.is_valid self.old }
+        ensures valid_after { IsMap K.number_of K.is_valid self.new }
     {
         let mut f = f;
         self.table.write_each(&mut f);

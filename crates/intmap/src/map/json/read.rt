@@ -46,7 +46,7 @@ impl IntMap<u64, Value> {
         ensures len { IfOk result (λ made. IsSomeAnd (as_object (view value.now))
             (λ ms. length made.walk ≡ members_len ms)) }
         ensures shows { IfOk result (λ made. Shows (view value.now) made.walk) }
-        ensures map { IfOk result (IsMap (λ key. key) (λ key. key < 2 ^ 64)) }
+        ensures valid { IfOk result (IsMap (λ key. key) (λ key. key < 2 ^ 64)) }
 
         // when it is refused
         ensures not_an_object { IsErrOf result JsonCause.NotAnObject
@@ -84,7 +84,7 @@ impl IntMap<u64, Value> {
             (λ made. length made.walk ≡ members_len (members_view members.now.entries)) }
         ensures shows { IfOk result
             (λ made. ShowsBindings (members_view members.now.entries) made.walk) }
-        ensures map { IfOk result (IsMap (λ key. key) (λ key. key < 2 ^ 64)) }
+        ensures valid { IfOk result (IsMap (λ key. key) (λ key. key < 2 ^ 64)) }
         ensures refused { IfErr result (MayRefuseToRead (members_view members.now.entries)) }
     {
         let mut map = IntMap::with_capacity(alloc, members.len())?;

@@ -4,7 +4,7 @@ use Rattle.intmap_run.proofs.laws.no_pairs_stand_for_a_new_map.Goals as goal
 
 pub returns : goal.returns
 returns g c = λ C capacity. record {
-  walk = (IsMapWalk-empty g.K.IntKey.number_of g.K.IntKey.is_key [] C 909 refl capacity (lit< tt)).own;
+  walk = (IsMapWalk-empty g.K.IntKey.number_of g.K.IntKey.is_valid [] C 909 refl capacity (lit< tt)).own;
   capacity = refl;
   factor = refl;
 }

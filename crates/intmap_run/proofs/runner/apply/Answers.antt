@@ -7,48 +7,48 @@ use Rattle.intmap_run.proofs.runner.apply.Goals as goal
 pub returns-in-Ok-clause-step : goal.returns-in-Ok-clause-step
 returns-in-Ok-clause-step g c =
     rw (c.in-Insert.is, c.in-Ok.ensures.old)
-    (StepsFrom-insert g.K.IntKey.number_of g.K.IntKey.is_key c.args.map.now c.insert.ensures.map (g.J.Judge.sees c.args.judge.now) (g.J.Judge.keeps c.args.judge.now)
+    (StepsFrom-insert g.K.IntKey.number_of g.K.IntKey.is_valid c.args.map.now c.insert.ensures.valid (g.J.Judge.sees c.args.judge.now) (g.J.Judge.keeps c.args.judge.now)
     c.in-Insert.key c.in-Insert.value c.insert.new.self c.in-Ok.ensures.capacity c.in-Ok.ensures.too_large.1 c.in-Ok.ensures.state)
 
 pub returns-in-Err-clause-step : goal.returns-in-Err-clause-step
 returns-in-Err-clause-step g c =
     rw (c.in-Insert.is, c.handed_back.ensures, c.in-Err.ensures.value_returned, c.in-Err.ensures.err)
-    (StepsFrom-refused g.K.IntKey.number_of g.K.IntKey.is_key c.args.map.now c.insert.ensures.map (g.J.Judge.sees c.args.judge.now) (g.J.Judge.keeps c.args.judge.now)
+    (StepsFrom-refused g.K.IntKey.number_of g.K.IntKey.is_valid c.args.map.now c.insert.ensures.valid (g.J.Judge.sees c.args.judge.now) (g.J.Judge.keeps c.args.judge.now)
     c.in-Insert.key c.in-Insert.value c.in-Err.refused.cause c.in-Err.ensures.new_key c.in-Err.ensures.too_large c.in-Err.ensures.memory)
 
 pub returns-in-Ok-insert_checked-clause-step : goal.returns-in-Ok-insert_checked-clause-step
 returns-in-Ok-insert_checked-clause-step g c =
     let e = c.in-Ok-insert_checked.ensures in
     rw c.in-InsertChecked.is
-    (StepsFrom-insert_checked g.K.IntKey.number_of g.K.IntKey.is_key c.args.map.now c.insert_checked.ensures.map (g.J.Judge.sees c.args.judge.now) (g.J.Judge.keeps c.args.judge.now)
+    (StepsFrom-insert_checked g.K.IntKey.number_of g.K.IntKey.is_valid c.args.map.now c.insert_checked.ensures.valid (g.J.Judge.sees c.args.judge.now) (g.J.Judge.keeps c.args.judge.now)
     c.in-InsertChecked.key c.in-InsertChecked.value c.insert_checked.new.self c.in-Ok-insert_checked.new e.new e.capacity e.too_large.1 e.state)
 
 pub returns-in-Err-insert_checked-clause-step : goal.returns-in-Err-insert_checked-clause-step
 returns-in-Err-insert_checked-clause-step g c =
     rw (c.in-InsertChecked.is, c.handed_back-in-Err-insert_checked.ensures, c.in-Err-insert_checked.ensures.value_returned, c.in-Err-insert_checked.ensures.err)
-    (StepsFrom-refused_checked g.K.IntKey.number_of g.K.IntKey.is_key c.args.map.now c.insert_checked.ensures.map (g.J.Judge.sees c.args.judge.now) (g.J.Judge.keeps c.args.judge.now)
+    (StepsFrom-refused_checked g.K.IntKey.number_of g.K.IntKey.is_valid c.args.map.now c.insert_checked.ensures.valid (g.J.Judge.sees c.args.judge.now) (g.J.Judge.keeps c.args.judge.now)
     c.in-InsertChecked.key c.in-InsertChecked.value c.in-Err-insert_checked.refused.cause c.in-Err-insert_checked.ensures.new_key c.in-Err-insert_checked.ensures.too_large c.in-Err-insert_checked.ensures.memory)
 
 pub returns-in-Some-get_mut-clause-step : goal.returns-in-Some-get_mut-clause-step
 returns-in-Some-get_mut-clause-step g c =
     rw (c.in-GetMut.is, c.replace.ensures.after)
-    (StepsFrom-get_mut g.K.IntKey.number_of g.K.IntKey.is_key c.args.map.now c.get_mut.ensures.map (g.J.Judge.sees c.args.judge.now) (g.J.Judge.keeps c.args.judge.now)
+    (StepsFrom-get_mut g.K.IntKey.number_of g.K.IntKey.is_valid c.args.map.now c.get_mut.ensures.valid (g.J.Judge.sees c.args.judge.now) (g.J.Judge.keeps c.args.judge.now)
     c.in-GetMut.key c.in-GetMut.value c.replace.result (rw c.replace.ensures.value (search rules)))
 
 pub returns-in-None-get_mut-clause-step : goal.returns-in-None-get_mut-clause-step
 returns-in-None-get_mut-clause-step g c =
     rw c.in-GetMut.is
-    (StepsFrom-back g.K.IntKey.number_of g.K.IntKey.is_key c.args.map.now c.get_mut.ensures.map (g.J.Judge.sees c.args.judge.now) (g.J.Judge.keeps c.args.judge.now) c.in-GetMut.key c.in-GetMut.value (search rules))
+    (StepsFrom-back g.K.IntKey.number_of g.K.IntKey.is_valid c.args.map.now c.get_mut.ensures.valid (g.J.Judge.sees c.args.judge.now) (g.J.Judge.keeps c.args.judge.now) c.in-GetMut.key c.in-GetMut.value (search rules))
 
 pub returns-in-ContainsKey-clause-step : goal.returns-in-ContainsKey-clause-step
 returns-in-ContainsKey-clause-step g c =
     rw (c.in-ContainsKey.is, c.contains_key.ensures.value)
-    (StepsFrom-contains_key g.K.IntKey.number_of g.K.IntKey.is_key c.args.map.now c.contains_key.ensures.map (g.J.Judge.sees c.args.judge.now) (g.J.Judge.keeps c.args.judge.now) c.in-ContainsKey.key)
+    (StepsFrom-contains_key g.K.IntKey.number_of g.K.IntKey.is_valid c.args.map.now c.contains_key.ensures.valid (g.J.Judge.sees c.args.judge.now) (g.J.Judge.keeps c.args.judge.now) c.in-ContainsKey.key)
 
 pub returns-in-Clear-clause-step : goal.returns-in-Clear-clause-step
 returns-in-Clear-clause-step g c =
     rw (c.in-Clear.is, c.clear.ensures.state)
-    (StepsFrom-clear g.K.IntKey.number_of g.K.IntKey.is_key c.args.map.now c.clear.ensures.map (g.J.Judge.sees c.args.judge.now) (g.J.Judge.keeps c.args.judge.now))
+    (StepsFrom-clear g.K.IntKey.number_of g.K.IntKey.is_valid c.args.map.now c.clear.ensures.valid (g.J.Judge.sees c.args.judge.now) (g.J.Judge.keeps c.args.judge.now))
 
 pub returns-in-Retain-clause-step : goal.returns-in-Retain-clause-step
 returns-in-Retain-clause-step g c =
@@ -59,37 +59,37 @@ returns-in-Retain-clause-step g c =
 pub returns-in-IsEmpty-clause-step : goal.returns-in-IsEmpty-clause-step
 returns-in-IsEmpty-clause-step g c =
     rw (c.in-IsEmpty.is, c.is_empty.ensures.value)
-    (StepsFrom-is_empty g.K.IntKey.number_of g.K.IntKey.is_key c.args.map.now c.is_empty.ensures.map (g.J.Judge.sees c.args.judge.now) (g.J.Judge.keeps c.args.judge.now))
+    (StepsFrom-is_empty g.K.IntKey.number_of g.K.IntKey.is_valid c.args.map.now c.is_empty.ensures.valid (g.J.Judge.sees c.args.judge.now) (g.J.Judge.keeps c.args.judge.now))
 
 pub returns-in-Some-clause-step : goal.returns-in-Some-clause-step
 returns-in-Some-clause-step g c =
     rw c.in-Get.is
-    (StepsFrom-get g.K.IntKey.number_of g.K.IntKey.is_key c.args.map.now c.get.ensures.map (g.J.Judge.sees c.args.judge.now) (g.J.Judge.keeps c.args.judge.now)
+    (StepsFrom-get g.K.IntKey.number_of g.K.IntKey.is_valid c.args.map.now c.get.ensures.valid (g.J.Judge.sees c.args.judge.now) (g.J.Judge.keeps c.args.judge.now)
     c.in-Get.key (Some c.look.result) (rw (← c.in-Some.ensures.value) c.look.ensures))
 
 pub returns-in-None-clause-step : goal.returns-in-None-clause-step
 returns-in-None-clause-step g c =
     rw c.in-Get.is
-    (StepsFrom-get g.K.IntKey.number_of g.K.IntKey.is_key c.args.map.now c.get.ensures.map (g.J.Judge.sees c.args.judge.now) (g.J.Judge.keeps c.args.judge.now)
+    (StepsFrom-get g.K.IntKey.number_of g.K.IntKey.is_valid c.args.map.now c.get.ensures.valid (g.J.Judge.sees c.args.judge.now) (g.J.Judge.keeps c.args.judge.now)
     c.in-Get.key None (rw (← c.in-None.ensures.value) tt))
 
 pub returns-in-Remove-clause-step : goal.returns-in-Remove-clause-step
 returns-in-Remove-clause-step g c =
     rw (c.in-Remove.is, c.remove.ensures.value, c.remove.ensures.state)
-    (StepsFrom-remove g.K.IntKey.number_of g.K.IntKey.is_key c.args.map.now c.remove.ensures.map (g.J.Judge.sees c.args.judge.now) (g.J.Judge.keeps c.args.judge.now) c.in-Remove.key)
+    (StepsFrom-remove g.K.IntKey.number_of g.K.IntKey.is_valid c.args.map.now c.remove.ensures.valid (g.J.Judge.sees c.args.judge.now) (g.J.Judge.keeps c.args.judge.now) c.in-Remove.key)
 
 pub returns-in-Reserve-clause-step : goal.returns-in-Reserve-clause-step
 returns-in-Reserve-clause-step g c =
     let e = c.reserve.ensures in
     rw c.in-Reserve.is
-    (StepsFrom-reserve g.K.IntKey.number_of g.K.IntKey.is_key c.args.map.now e.map (g.J.Judge.sees c.args.judge.now) (g.J.Judge.keeps c.args.judge.now)
+    (StepsFrom-reserve g.K.IntKey.number_of g.K.IntKey.is_valid c.args.map.now e.valid (g.J.Judge.sees c.args.judge.now) (g.J.Judge.keeps c.args.judge.now)
     c.in-Reserve.additional c.reserve.result c.done.result c.reserve.new.self e.capacity e.state e.err e.too_large e.memory c.done.ensures)
 
 pub returns-in-SetLoadFactor-clause-step : goal.returns-in-SetLoadFactor-clause-step
 returns-in-SetLoadFactor-clause-step g c =
     let e = c.set_load_factor.ensures in
     rw c.in-SetLoadFactor.is
-    (StepsFrom-set_load_factor g.K.IntKey.number_of g.K.IntKey.is_key c.args.map.now e.map (g.J.Judge.sees c.args.judge.now) (g.J.Judge.keeps c.args.judge.now)
+    (StepsFrom-set_load_factor g.K.IntKey.number_of g.K.IntKey.is_valid c.args.map.now e.valid (g.J.Judge.sees c.args.judge.now) (g.J.Judge.keeps c.args.judge.now)
     c.in-SetLoadFactor.thousandths c.set_load_factor.result c.done-in-SetLoadFactor.result c.set_load_factor.new.self e.capacity e.state e.err e.too_large e.memory c.done-in-SetLoadFactor.ensures)
 
 pub returns-in-EntryInsert-clause-step : goal.returns-in-EntryInsert-clause-step
@@ -110,17 +110,17 @@ returns-in-Keys-clause-step g c = rw c.in-Keys.is (c.keys.ensures.step c.args.ju
 pub returns-in-Len-clause-step : goal.returns-in-Len-clause-step
 returns-in-Len-clause-step g c =
     rw (c.in-Len.is, c.len.ensures.value)
-    (StepsFrom-len g.K.IntKey.number_of g.K.IntKey.is_key c.args.map.now c.len.ensures.map (g.J.Judge.sees c.args.judge.now) (g.J.Judge.keeps c.args.judge.now))
+    (StepsFrom-len g.K.IntKey.number_of g.K.IntKey.is_valid c.args.map.now c.len.ensures.valid (g.J.Judge.sees c.args.judge.now) (g.J.Judge.keeps c.args.judge.now))
 
 pub returns-in-Load-clause-step : goal.returns-in-Load-clause-step
 returns-in-Load-clause-step g c =
     rw (c.in-Load.is, c.load.ensures.value)
-    (StepsFrom-load g.K.IntKey.number_of g.K.IntKey.is_key c.args.map.now c.load.ensures.map (g.J.Judge.sees c.args.judge.now) (g.J.Judge.keeps c.args.judge.now))
+    (StepsFrom-load g.K.IntKey.number_of g.K.IntKey.is_valid c.args.map.now c.load.ensures.valid (g.J.Judge.sees c.args.judge.now) (g.J.Judge.keeps c.args.judge.now))
 
 pub returns-in-LoadRate-clause-step : goal.returns-in-LoadRate-clause-step
 returns-in-LoadRate-clause-step g c =
     rw (c.in-LoadRate.is, c.load_rate.ensures.value)
-    (StepsFrom-load_rate g.K.IntKey.number_of g.K.IntKey.is_key c.args.map.now c.load_rate.ensures.map (g.J.Judge.sees c.args.judge.now) (g.J.Judge.keeps c.args.judge.now))
+    (StepsFrom-load_rate g.K.IntKey.number_of g.K.IntKey.is_valid c.args.map.now c.load_rate.ensures.valid (g.J.Judge.sees c.args.judge.now) (g.J.Judge.keeps c.args.judge.now))
 
 pub returns-in-AssertCount-clause-step : goal.returns-in-AssertCount-clause-step
 returns-in-AssertCount-clause-step g c =

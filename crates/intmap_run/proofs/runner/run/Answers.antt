@@ -8,7 +8,7 @@ loop-command-init g c = record {
   leads =
       Leads-start g.K.IntKey.number_of (g.J.Judge.sees c.args.judge.now) (g.J.Judge.keeps c.args.judge.now)
       c.args.map.now _ _ _ c.into_iter-command-iterator.ensures.into_iter_gives.0 c.in-Ok.ensures.items;
-  map = c.len-len.ensures.map;
+  map = c.len-len.ensures.valid;
   room = omega (arith, c.in-Ok.ensures.len, c.in-Ok.ensures.exact, c.len.ensures, ap length c.into_iter-command-iterator.ensures.into_iter_gives.0);
 }
 
@@ -18,7 +18,7 @@ loop-command-preserved g c = record {
       Leads-step g.K.IntKey.number_of (g.J.Judge.sees c.args.judge.now) (g.J.Judge.keeps c.args.judge.now)
       c.args.map.now c.loop-command.map c.apply-answer.new.map _ _ _ _ _ c.in-Some.command c.apply-answer.result
       c.in-Some.ensures.steps.0 c.in-Ok-push.ensures.items c.apply-answer.ensures.step c.loop-command.invariant.leads;
-  map = c.apply-answer.ensures.map_after;
+  map = c.apply-answer.ensures.valid_after;
   room = omega (arith, c.in-Ok-push.ensures.len, c.in-Ok-push.ensures.capacity, c.loop-command.invariant.room, ap length c.in-Some.ensures.steps.0);
 }
 

@@ -9,6 +9,6 @@ invariant-loop-command g l = record {
   leads :
       Leads g.K.IntKey.number_of (g.J.Judge.sees l.judge) (g.J.Judge.keeps l.judge)
       l.fn.map l.fn.commands.items l.answers.items l.map (into_iter_items l.command-iterator);
-  map : IsMap g.K.IntKey.number_of g.K.IntKey.is_key l.map;
+  map : IsMap g.K.IntKey.number_of g.K.IntKey.is_valid l.map;
   room : vec_len l.answers + length (into_iter_items l.command-iterator) ≤ vec_capacity l.answers;
 }

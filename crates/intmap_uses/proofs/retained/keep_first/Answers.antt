@@ -8,7 +8,7 @@ use Rattle.intmap_uses.proofs.retained.keep_first.Goals as goal
 pub retain-requires : goal.retain-requires
 retain-requires g c =
     let W = c.args.map.now.walk in
-    let fits : length W < 2 ^ 64 = c.len.ensures.map.count in
+    let fits : length W < 2 ^ 64 = c.len.ensures.valid.count in
     TakesEach-from _ _ (λ (f : ℕ × ℕ) rest. f.0 + length rest ≡ length W)
     (λ f pair rest own. (λ value is. search (arith, own, fits), λ b f' asked. let met = asked.called.met in search (arith, rules)))
     (0, c.args.count) W (omega arith)

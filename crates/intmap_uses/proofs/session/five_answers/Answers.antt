@@ -1,6 +1,6 @@
 use Rattle.std.proofs.Common.{◌≡◌, inl, inr, ℕ, true, false, List, [], ◌∷◌, length, Option, Some, None, refl, ap, ◌∙◌, arith}
 use Rattle.intmap.specs.Bindings.{value_of, take_key, put_pair}
-use Rattle.intmap.specs.States.{State, empty_state, Inserts, MayRefuse}
+use Rattle.intmap.specs.PlainLists.{PlainList, empty_list, ListInserts, RefusalIsDue}
 use Rattle.intmap.specs.declared.refusal.Cause.{Cause}
 use Rattle.intmap_run.specs.declared.command.Command.TheVariants as command
 use Rattle.intmap_run.specs.declared.answer.Answer.{Answer}
@@ -18,22 +18,22 @@ seen_two (Some s) sees = ap (λ x. Some x) sees
 
 -- an empty table refuses no pair
 abbrev NeverRefused : Type 0
-NeverRefused = (cause : Cause) → MayRefuse {K = ℕ} {V = ℕ} (λ k. k) (empty_state 4) 7 cause → ⊥
+NeverRefused = (cause : Cause) → RefusalIsDue {K = ℕ} {V = ℕ} (λ k. k) (empty_list 4) 7 cause → ⊥
 
 module _ {A : Type 0} (never_refused : NeverRefused) where
   -- so the first insertion answers that nothing was there
-  first : (a : Answer ℕ ℕ ℕ A) (t : State ℕ ℕ) → AnswersInsert (λ k. k) (λ v s. s ≡ v) (λ k v. true) (empty_state 4) 7 1 a t → (a ≡ answer.Old None) × Inserts (λ k. k) (empty_state 4) 7 1 t
+  first : (a : Answer ℕ ℕ ℕ A) (t : PlainList ℕ ℕ) → AnswersInsert (λ k. k) (λ v s. s ≡ v) (λ k v. true) (empty_list 4) 7 1 a t → (a ≡ answer.Old None) × ListInserts (λ k. k) (empty_list 4) 7 1 t
   first a t (inl done) = done
   first a t (inr refused) = absurd (never_refused refused.0 refused.2)
 
   -- an insertion over 1 answers 1
-  second : (s : State ℕ ℕ) (a : Answer ℕ ℕ ℕ A) (t : State ℕ ℕ) → value_of (λ k. k) s.pairs 7 ≡ Some 1 → AnswersInsert (λ k. k) (λ v s. s ≡ v) (λ k v. true) s 7 2 a t → (a ≡ answer.Old (Some 1)) × Inserts (λ k. k) s 7 2 t
+  second : (s : PlainList ℕ ℕ) (a : Answer ℕ ℕ ℕ A) (t : PlainList ℕ ℕ) → value_of (λ k. k) s.pairs 7 ≡ Some 1 → AnswersInsert (λ k. k) (λ v s. s ≡ v) (λ k v. true) s 7 2 a t → (a ≡ answer.Old (Some 1)) × ListInserts (λ k. k) s 7 2 t
   second s a t bound (inl done) = (rw bound at done.0, done.1)
   second s a t bound (inr refused) = let no : true ≡ false = rw bound at refused.2.new_key in cc
 
   -- the five answers, one by one
-  five : (as' : List (Answer ℕ ℕ ℕ A)) (t : State ℕ ℕ)
-      → Runs (λ k. k) (λ v s. s ≡ v) (λ k v. true) (empty_state 4) (command.Insert 7 1 ∷ command.Insert 7 2 ∷ command.Get 7 ∷ command.Remove 7 ∷ command.Len ∷ []) as' t
+  five : (as' : List (Answer ℕ ℕ ℕ A)) (t : PlainList ℕ ℕ)
+      → Runs (λ k. k) (λ v s. s ≡ v) (λ k v. true) (empty_list 4) (command.Insert 7 1 ∷ command.Insert 7 2 ∷ command.Get 7 ∷ command.Remove 7 ∷ command.Len ∷ []) as' t
       → as' ≡ answer.Old None ∷ answer.Old (Some 1) ∷ answer.Seen (Some 2) ∷ answer.Old (Some 2) ∷ answer.Number 0 ∷ []
   five [] t run = absurd run
   five (a ∷ []) t run = absurd run.2
@@ -55,6 +55,6 @@ module _ {A : Type 0} (never_refused : NeverRefused) where
 
 pub returns-in-Ok-run-clause-ok : goal.returns-in-Ok-run-clause-ok
 returns-in-Ok-run-clause-ok c =
-    let run = c.in-Ok-run.ensures.ok (empty_state 4) (rw c.in_ok-map.ensures.state (record { walk = refl; capacity = refl; factor = refl })) in
-    let never_refused : NeverRefused = λ cause. c.lone_pairs_are_never_refused.ensures (empty_state 4) 7 cause (2, (omega arith), (omega arith), refl) (omega arith) refl refl in
+    let run = c.in-Ok-run.ensures.ok (empty_list 4) (rw c.in_ok-map.ensures.state (record { walk = refl; capacity = refl; factor = refl })) in
+    let never_refused : NeverRefused = λ cause. c.lone_pairs_are_never_refused.ensures (empty_list 4) 7 cause (2, (omega arith), (omega arith), refl) (omega arith) refl refl in
     five never_refused _ run.0 (rw c.in-Ok.ensures.items at run.1)

@@ -17,7 +17,7 @@ returns-in-Vacant g c =
         capacity = OnOk-so _ _ (λ next v. rw e.missing next) c.insert.result told.capacity;
         updates = told.updates;
         len = OnOk-so _ _ (λ len v. let n = len v in omega (arith, n, one)) c.insert.result told.len;
-        map_after = told.map_after;
+        valid_after = told.valid_after;
         value_returned = told.value_returned;
         in_range = OnOk-so _ _ (λ fits out. fits out.1) c.insert.result told.in_range;
         refused = told.refused;

@@ -22,6 +22,6 @@ returns g c =
         value = value;
         updates = λ v. Updates-written number o.map.now.walk (occupied_key o) v c.value_mut_at.result.now value;
         len = λ v. length-write_value number o.map.now.walk (occupied_key o) v;
-        map_after = λ v. IsMapWalk-written number g.K.IntKey.is_key o.map.now.walk _ _ (occupied_key o) v c.value_mut_at.ensures.map;
+        valid_after = λ v. IsMapWalk-written number g.K.IntKey.is_valid o.map.now.walk _ _ (occupied_key o) v c.value_mut_at.ensures.valid;
       },
     )

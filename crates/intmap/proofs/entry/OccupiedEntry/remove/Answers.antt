@@ -26,11 +26,11 @@ returns-clause-state g c = state g (goal.at.returns-clause-state g c).After-take
 
 pub returns-clause-updates : goal.returns-clause-updates
 returns-clause-updates g c =
-    Updates-taken g.K.IntKey.number_of g.K.IntKey.is_key c.args.self.map.now _ (occupied_key c.args.self) c.take_at.ensures.map (ap (λ m. m.walk) (state g (goal.at.returns-clause-updates g c).After-take_at))
+    Updates-taken g.K.IntKey.number_of g.K.IntKey.is_valid c.args.self.map.now _ (occupied_key c.args.self) c.take_at.ensures.valid (ap (λ m. m.walk) (state g (goal.at.returns-clause-updates g c).After-take_at))
 
 pub returns-clause-len : goal.returns-clause-len
 returns-clause-len g c =
     let after = (goal.at.returns-clause-len g c).After-take_at in
-    let walk = length-taken g.K.IntKey.number_of g.K.IntKey.is_key c.args.self.map.now _ (occupied_key c.args.self) c.take_at.ensures.map (ap (λ m. m.walk) (state g after)) in
+    let walk = length-taken g.K.IntKey.number_of g.K.IntKey.is_valid c.args.self.map.now _ (occupied_key c.args.self) c.take_at.ensures.valid (ap (λ m. m.walk) (state g after)) in
     let one = one_less (value_of g.K.IntKey.number_of c.args.self.map.now.walk (occupied_key c.args.self)) c.take_at.result (value g after) in
     omega (arith, walk, one)

@@ -7,7 +7,7 @@ use Rattle.intmap.specs.Growth.{next_capacity}
 use Rattle.intmap.specs.Locations.{IsLast}
 use Rattle.intmap.specs.Map.{MapState, IsMap, with_pair, written}
 use Rattle.intmap.proofs.AfterLemmas.{Updates-put, length-put}
-use Rattle.intmap.proofs.EntryLemmas.{IsNext-next_capacity, length-not_full, written-with_pair}
+use Rattle.intmap.proofs.EntryLemmas.{IsNext-next_capacity, length-not_too_large, written-with_pair}
 use Rattle.intmap.proofs.LoadFactorLemmas.{IsNext-unique}
 use Rattle.intmap.proofs.LocationLemmas.{IsLast-put}
 use Rattle.intmap.proofs.MapLemmas.{one_more}
@@ -25,7 +25,7 @@ returns-in-Err g c =
         capacity = tt;
         updates = tt;
         len = tt;
-        map_after = tt;
+        valid_after = tt;
         value_returned = c.in-Err.ensures.value_returned;
         in_range = tt;
         refused = record {
@@ -39,7 +39,7 @@ returns-in-Err g c =
 pub locate_last-at-requires : goal.locate_last-at-requires
 locate_last-at-requires g c =
     subst (λ W. IsLast g.K.IntKey.number_of W c.add.new.self.capacity c.args.self.key) (sym (ap (λ m. m.walk) c.in_default.ensures.state))
-    (IsLast-put g.K.IntKey.number_of c.args.self.map.now.walk c.args.self.map.now.capacity c.add.new.self.capacity c.args.self.key c.args.value c.add.ensures.map.distinct c.add.ensures.map_after.capacity)
+    (IsLast-put g.K.IntKey.number_of c.args.self.map.now.walk c.args.self.map.now.capacity c.add.new.self.capacity c.args.self.key c.args.value c.add.ensures.valid.distinct c.add.ensures.valid_after.capacity)
 
 pub returns : goal.returns
 returns g c =
@@ -47,21 +47,21 @@ returns g c =
     let m : MapState g.row.K.Denot g.row.V.Denot = c.args.self.map.now in
     let k = c.args.self.key in
     let D = next_capacity m.capacity (length m.walk + 1) m.factor in
-    let next = IsNext-next_capacity m.capacity (length m.walk + 1) m.factor c.add.ensures.map.capacity (length-not_full m.walk m.capacity m.factor c.in_default.ensures.in_range) in
+    let next = IsNext-next_capacity m.capacity (length m.walk + 1) m.factor c.add.ensures.valid.capacity (length-not_too_large m.walk m.capacity m.factor c.in_default.ensures.in_range) in
     let same : c.add.new.self.capacity ≡ D = IsNext-unique m.capacity (length m.walk + 1) m.factor c.add.new.self.capacity D c.in_default.ensures.capacity next in
-    let cap : IsCapacity D = subst IsCapacity same c.add.ensures.map_after.capacity in
+    let cap : IsCapacity D = subst IsCapacity same c.add.ensures.valid_after.capacity in
     let after : (v : g.row.V.Denot) → written number c.add.new.self c.locate_last-at.result.key v ≡ with_pair number m k v D
     = λ v. ap (λ q. written number c.add.new.self q v) c.locate_last-at.ensures.key ∙ ap (λ n. written number n k v) c.in_default.ensures.state
     ∙ written-with_pair number m k c.args.value v c.add.new.self.capacity c.args.self.missing ∙ ap (λ C. with_pair number m k v C) same in
-    let here = Updates-put number g.K.IntKey.is_key m c.add.new.self.walk c.add.new.self.capacity k c.args.value c.add.ensures.map c.add.ensures.map_after.capacity (ap (λ n. n.walk) c.in_default.ensures.state) in (
+    let here = Updates-put number g.K.IntKey.is_valid m c.add.new.self.walk c.add.new.self.capacity k c.args.value c.add.ensures.valid c.add.ensures.valid_after.capacity (ap (λ n. n.walk) c.in_default.ensures.state) in (
       ap (λ f. inl (c.value_mut_at.result.ghost_name, f)) (fun_ext after),
       record {
         writes_back = tt;
         value = let found : value_of number c.add.new.self.walk k ≡ Some c.value_mut_at.result.now = ap (value_of number c.add.new.self.walk) (sym c.locate_last-at.ensures.key) ∙ c.value_mut_at.ensures.value in let is = here.1 in cc;
         capacity = next;
-        updates = λ v. Updates-put number g.K.IntKey.is_key m _ D k v c.add.ensures.map cap refl;
-        len = λ v. let long = length-put number g.K.IntKey.is_key m _ D k v cap refl in let one = one_more (value_of number m.walk k) c.args.self.missing in omega (arith, long, one);
-        map_after = λ v. subst (IsMap number g.K.IntKey.is_key) (after v) (IsMapWalk-written number g.K.IntKey.is_key c.add.new.self.walk c.add.new.self.capacity c.add.new.self.factor c.locate_last-at.result.key v c.add.ensures.map_after);
+        updates = λ v. Updates-put number g.K.IntKey.is_valid m _ D k v c.add.ensures.valid cap refl;
+        len = λ v. let long = length-put number g.K.IntKey.is_valid m _ D k v cap refl in let one = one_more (value_of number m.walk k) c.args.self.missing in omega (arith, long, one);
+        valid_after = λ v. subst (IsMap number g.K.IntKey.is_valid) (after v) (IsMapWalk-written number g.K.IntKey.is_valid c.add.new.self.walk c.add.new.self.capacity c.add.new.self.factor c.locate_last-at.result.key v c.add.ensures.valid_after);
         value_returned = tt;
         in_range = c.in_default.ensures.in_range;
         refused = tt;

@@ -3,11 +3,11 @@ use Rattle.std.proofs.lemmas.Grind.{common_steps}
 use Rattle.std.specs.Prelude.{◌&&◌, ◌==◌, nat_lt}
 use Rattle.std.proofs.lemmas.Bool.{eq-eqb}
 use Rattle.intmap.specs.Growth.{IsNext, is_due}
-use Rattle.intmap.specs.Map.{IsFull}
+use Rattle.intmap.specs.Map.{InsertIsTooLarge}
 use Rattle.intmap.specs.Tables.Kept.{unkept}
 use Rattle.intmap.proofs.LoadFactorLemmas.{IsNext-same, GrowsTooMuch-none}
 use Rattle.intmap.proofs.MapLemmas.{MapState-same, unkept-put, length-unkept, IsConsistent-added}
-use Rattle.intmap.proofs.MappedLemmas.{value_of-missing_values, class_size-with_values}
+use Rattle.intmap.proofs.MappedLemmas.{value_of-missing_values, class_size-map_values}
 use Rattle.intmap.proofs.map.IntMap.add.Goals as goal
 use Rattle.intmap.proofs.map.IntMap.add.Goals.{After-add}
 
@@ -15,7 +15,7 @@ module _ (g : _) (c : After-add g) where
   fits : c.self.inside.len + 1 < 2 ^ 64
   fits = let apart = c.if-self.false in omega (arith, apart)
 
-  test : (is_due (c.self.inside.len + 1) && nat_lt c.self.inside.limit (c.self.inside.len + 1)) ≡ false
+  test : (is_due (c.self.inside.len + 1) && nat_lt c.self.inside.threshold (c.self.inside.len + 1)) ≡ false
   test = sym c.if-has_outgrown.ensures
 
   seen : c.self.inside.len ≡ length (unkept c.self.inside.table.walk)
@@ -25,10 +25,10 @@ module _ (g : _) (c : After-add g) where
   stays : IsNext c.self.inside.table.capacity (length (unkept c.self.inside.table.walk) + 1) c.self.inside.factor c.self.inside.table.capacity
   stays =
       subst (λ n. IsNext c.self.inside.table.capacity (n + 1) c.self.inside.factor c.self.inside.table.capacity) seen
-      (IsNext-same c.self.inside.table.capacity c.self.inside.factor (c.self.inside.len + 1) c.self.inside.limit c.self.invariant.map.capacity fits c.self.invariant.limit test)
+      (IsNext-same c.self.inside.table.capacity c.self.inside.factor (c.self.inside.len + 1) c.self.inside.threshold c.self.invariant.map.capacity fits c.self.invariant.threshold test)
 
-  in_range : IsFull (unkept c.self.inside.table.walk) c.self.inside.table.capacity c.self.inside.factor → ⊥
-  in_range full = elim full [
+  in_range : InsertIsTooLarge (unkept c.self.inside.table.walk) c.self.inside.table.capacity c.self.inside.factor → ⊥
+  in_range large = elim large [
     | inl long ↦ (let few = fits in omega (arith, long, few, seen))
     | inr much ↦ GrowsTooMuch-none c.self.inside.table.capacity (length (unkept c.self.inside.table.walk) + 1) c.self.inside.factor c.self.inside.table.capacity c.self.invariant.map.capacity stays much
   ]
@@ -39,11 +39,11 @@ add-requires g c =
 
 pub returns-in-Err-clause-too_large : goal.returns-in-Err-clause-too_large
 returns-in-Err-clause-too_large g c =
-    rw (← c.self.view_is) ((λ e. cc), (λ full. absurd (in_range g (goal.at.returns-in-Err-clause-too_large g c).After-add full)))
+    rw (← c.self.view_is) ((λ e. cc), (λ large. absurd (in_range g (goal.at.returns-in-Err-clause-too_large g c).After-add large)))
 
 pub returns-in-Err-clause-memory : goal.returns-in-Err-clause-memory
 returns-in-Err-clause-memory g c = λ _ _.
-    rw (← c.self.view_is) (rw (class_size-with_values g.K.IntKey.number_of (λ kept. kept.value) c.self.inside.table.walk c.self.inside.table.capacity c.args.key) c.in-Err.ensures.memory)
+    rw (← c.self.view_is) (rw (class_size-map_values g.K.IntKey.number_of (λ kept. kept.value) c.self.inside.table.walk c.self.inside.table.capacity c.args.key) c.in-Err.ensures.memory)
 
 pub invariant_of-self-2 : goal.invariant_of-self-2
 invariant_of-self-2 g c =
@@ -92,26 +92,26 @@ add_growing-requires-clause-due g c = let h = c.if-has_outgrown.ensures in searc
 pub add_growing-requires-clause-exceeds : goal.add_growing-requires-clause-exceeds
 add_growing-requires-clause-exceeds g c = let h = c.if-has_outgrown.ensures in search (tests, rules)
 
-pub returns-clause-map_after : goal.returns-clause-map_after
-returns-clause-map_after g c = (invariant_of-self-2 g c).map
+pub returns-clause-valid_after : goal.returns-clause-valid_after
+returns-clause-valid_after g c = (invariant_of-self-2 g c).map
 
-pub returns-then-self-clause-map : goal.returns-then-self-clause-map
-returns-then-self-clause-map g c = rw (← c.self.view_is) c.self.invariant.map
+pub returns-then-self-clause-valid : goal.returns-then-self-clause-valid
+returns-then-self-clause-valid g c = rw (← c.self.view_is) c.self.invariant.map
 
-pub returns-then-has_outgrown-clause-map : goal.returns-then-has_outgrown-clause-map
-returns-then-has_outgrown-clause-map g c = rw (← c.self.view_is) c.self.invariant.map
+pub returns-then-has_outgrown-clause-valid : goal.returns-then-has_outgrown-clause-valid
+returns-then-has_outgrown-clause-valid g c = rw (← c.self.view_is) c.self.invariant.map
 
-pub returns-in-Err-clause-map : goal.returns-in-Err-clause-map
-returns-in-Err-clause-map g c = rw (← c.self.view_is) c.self.invariant.map
+pub returns-in-Err-clause-valid : goal.returns-in-Err-clause-valid
+returns-in-Err-clause-valid g c = rw (← c.self.view_is) c.self.invariant.map
 
-pub returns-clause-map : goal.returns-clause-map
-returns-clause-map g c = rw (← c.self.view_is) c.self.invariant.map
+pub returns-clause-valid : goal.returns-clause-valid
+returns-clause-valid g c = rw (← c.self.view_is) c.self.invariant.map
 
 pub returns-then-self-clause-err : goal.returns-then-self-clause-err
 returns-then-self-clause-err g c = refl
 
-pub returns-then-self-clause-map_after : goal.returns-then-self-clause-map_after
-returns-then-self-clause-map_after g c = rw (← c.self.view_is) c.self.invariant.map
+pub returns-then-self-clause-valid_after : goal.returns-then-self-clause-valid_after
+returns-then-self-clause-valid_after g c = rw (← c.self.view_is) c.self.invariant.map
 
 pub returns-then-has_outgrown-clause-capacity : goal.returns-then-has_outgrown-clause-capacity
 returns-then-has_outgrown-clause-capacity g c = c.add_growing.ensures.capacity
@@ -131,8 +131,8 @@ returns-then-has_outgrown-clause-in_range g c = c.add_growing.ensures.in_range
 pub returns-then-has_outgrown-clause-too_large : goal.returns-then-has_outgrown-clause-too_large
 returns-then-has_outgrown-clause-too_large g c = c.add_growing.ensures.too_large
 
-pub returns-then-has_outgrown-clause-map_after : goal.returns-then-has_outgrown-clause-map_after
-returns-then-has_outgrown-clause-map_after g c = c.add_growing.ensures.map_after
+pub returns-then-has_outgrown-clause-valid_after : goal.returns-then-has_outgrown-clause-valid_after
+returns-then-has_outgrown-clause-valid_after g c = c.add_growing.ensures.valid_after
 
-pub returns-in-Err-clause-map_after : goal.returns-in-Err-clause-map_after
-returns-in-Err-clause-map_after g c = (invariant_of-self g c).map
+pub returns-in-Err-clause-valid_after : goal.returns-in-Err-clause-valid_after
+returns-in-Err-clause-valid_after g c = (invariant_of-self g c).map

@@ -3,7 +3,7 @@ use Rattle.std.specs.Prelude.{◌==◌}
 use Rattle.std.proofs.lemmas.Bool.{ne_eqb}
 use Rattle.intmap.specs.Bindings.{value_of}
 use Rattle.intmap.specs.Growth.{IsWanted, IsNext, WantsTooMuch, MeetsLoad, is_due}
-use Rattle.intmap.specs.Map.{IsFull}
+use Rattle.intmap.specs.Map.{InsertIsTooLarge}
 use Rattle.intmap.specs.Tables.Kept.{unkept, IsConsistent}
 use Rattle.intmap.proofs.LoadFactorLemmas.{IsNext-changes, IsNext-wanted, GrowsTooMuch-none, GrowsTooMuch-wants}
 use Rattle.intmap.proofs.MapLemmas.{MapState-same, unkept-put, length-unkept, IsConsistent-grown_with}
@@ -33,11 +33,11 @@ invariant_of-self-2 g c =
     let here = (goal.at.invariant_of-self-2 g c).After-capacity in
     let e : c.args.len ≡ c.self.inside.len + 1 = long g here ∙ ap (λ n. n + 1) (sym c.self.invariant.count) in
     let fits = c.ranges.len.fits in
-    let Counted : ℕ → Type 0 = λ n. IsConsistent g.K.IntKey.number_of g.K.IntKey.is_key c.grow_with.new.self.walk c.grow_with.new.self.capacity c.self.inside.factor n c.limit_of-limit.result in
+    let Counted : ℕ → Type 0 = λ n. IsConsistent g.K.IntKey.number_of g.K.IntKey.is_valid c.grow_with.new.self.walk c.grow_with.new.self.capacity c.self.inside.factor n c.threshold_of-threshold.result in
     let meets : MeetsLoad c.in-Some.capacity (c.self.inside.len + 1) c.self.inside.factor = subst (λ n. MeetsLoad c.in-Some.capacity n c.self.inside.factor) e c.in-Some.ensures.wanted.meets in
     subst Counted (sym e)
-    (IsConsistent-grown_with _ _ _ _ _ _ _ _ c.self.invariant c.in-Some.capacity c.grow_with.new.self.capacity c.limit_of-limit.result c.args.key (record { value = c.args.value })
-    c.in_default-grow_with.ensures.capacity c.in-Some.ensures.capacity c.requires.key (missing g here) (omega (arith, e, fits)) meets c.limit_of-limit.ensures c.in_default-grow_with.ensures.walk)
+    (IsConsistent-grown_with _ _ _ _ _ _ _ _ c.self.invariant c.in-Some.capacity c.grow_with.new.self.capacity c.threshold_of-threshold.result c.args.key (record { value = c.args.value })
+    c.in_default-grow_with.ensures.capacity c.in-Some.ensures.capacity c.requires.key (missing g here) (omega (arith, e, fits)) meets c.threshold_of-threshold.ensures c.in_default-grow_with.ensures.walk)
 
 pub returns-clause-state : goal.returns-clause-state
 returns-clause-state g c =
@@ -66,8 +66,8 @@ module _ (g : _) (c : After-grow_with g) where
       (subst (λ n. is_due n ≡ true) here c.requires.due)
       (subst (λ n. IsWanted c.self.inside.table.capacity n c.self.inside.factor c.in-Some.capacity) here (rw c.capacity.ensures.value at c.in-Some.ensures.wanted))
 
-  in_range : IsFull (unkept c.self.inside.table.walk) c.self.inside.table.capacity c.self.inside.factor → ⊥
-  in_range full = elim full [
+  in_range : InsertIsTooLarge (unkept c.self.inside.table.walk) c.self.inside.table.capacity c.self.inside.factor → ⊥
+  in_range large = elim large [
     | inl long ↦ (let fits = c.ranges.len.fits in let e = here in omega (arith, long, fits, e))
     | inr much ↦ GrowsTooMuch-none c.self.inside.table.capacity (length (unkept c.self.inside.table.walk) + 1) c.self.inside.factor c.in-Some.capacity c.in-Some.ensures.capacity next much
   ]
@@ -82,7 +82,7 @@ returns-in_default-clause-too_large g c =
 pub returns-in-Err-clause-too_large : goal.returns-in-Err-clause-too_large
 returns-in-Err-clause-too_large g c =
     let at = (goal.at.returns-in-Err-clause-too_large g c).After-grow_with in
-    rw (← c.self.view_is) ((λ e. cc), (λ full. absurd (in_range g at full)))
+    rw (← c.self.view_is) ((λ e. cc), (λ large. absurd (in_range g at large)))
 
 pub returns-clause-capacity : goal.returns-clause-capacity
 returns-clause-capacity g c =
@@ -97,17 +97,17 @@ invariant_of-self g c = rw c.in-Err.ensures.err c.self.invariant
 pub returns-in-Err-clause-err : goal.returns-in-Err-clause-err
 returns-in-Err-clause-err g c = search rules
 
-pub returns-clause-map_after : goal.returns-clause-map_after
-returns-clause-map_after g c = (invariant_of-self-2 g c).map
+pub returns-clause-valid_after : goal.returns-clause-valid_after
+returns-clause-valid_after g c = (invariant_of-self-2 g c).map
 
 pub returns-in_default-clause-err : goal.returns-in_default-clause-err
 returns-in_default-clause-err g c = refl
 
-pub returns-in_default-clause-map_after : goal.returns-in_default-clause-map_after
-returns-in_default-clause-map_after g c = rw (← c.self.view_is) c.self.invariant.map
+pub returns-in_default-clause-valid_after : goal.returns-in_default-clause-valid_after
+returns-in_default-clause-valid_after g c = rw (← c.self.view_is) c.self.invariant.map
 
 pub returns-in-Err-clause-value_returned : goal.returns-in-Err-clause-value_returned
 returns-in-Err-clause-value_returned g c = ap (λ kept. kept.value) c.in-Err.ensures.value_returned
 
-pub returns-in-Err-clause-map_after : goal.returns-in-Err-clause-map_after
-returns-in-Err-clause-map_after g c = (invariant_of-self g c).map
+pub returns-in-Err-clause-valid_after : goal.returns-in-Err-clause-valid_after
+returns-in-Err-clause-valid_after g c = (invariant_of-self g c).map

@@ -17,6 +17,6 @@ returns-clause-value g c =
 
 pub count-requires-clause-fits : goal.count-requires-clause-fits
 count-requires-clause-fits g c =
-    let few = c.iter.ensures.map.count in
+    let few = c.iter.ensures.valid.count in
     let same = ap length c.iter.ensures.walk in
     inl (omega (arith, few, same))

@@ -3,14 +3,14 @@ use Rattle.intmap.specs.Tables.Kept.{unkept}
 use Rattle.intmap.proofs.MapLemmas.{IsMapWalk-empty}
 use Rattle.intmap.proofs.map.IntMap.clear.Goals as goal
 
-pub returns-clause-map_after : goal.returns-clause-map_after
-returns-clause-map_after g c =
+pub returns-clause-valid_after : goal.returns-clause-valid_after
+returns-clause-valid_after g c =
     let map = c.self.invariant.map in
-    IsMapWalk-empty g.K.IntKey.number_of g.K.IntKey.is_key _ _ _ (ap unkept c.clear.ensures.walk) (rw c.clear.ensures.capacity map.capacity) map.factor
+    IsMapWalk-empty g.K.IntKey.number_of g.K.IntKey.is_valid _ _ _ (ap unkept c.clear.ensures.walk) (rw c.clear.ensures.capacity map.capacity) map.factor
 
 pub invariant_of-self : goal.invariant_of-self
 invariant_of-self g c = record {
-  map = returns-clause-map_after g c;
+  map = returns-clause-valid_after g c;
   count = sym (ap length c.clear.ensures.walk);
-  limit = rw c.clear.ensures.capacity c.self.invariant.limit;
+  threshold = rw c.clear.ensures.capacity c.self.invariant.threshold;
 }

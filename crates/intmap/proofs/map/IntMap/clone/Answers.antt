@@ -16,7 +16,7 @@ walk g c =
 pub invariant_of-result : goal.invariant_of-result
 invariant_of-result g c =
     let made = c.in-Ok.ensures in
-    rw made.capacity (IsConsistent-same_keys g.K.IntKey.number_of g.K.IntKey.is_key c.self.inside.table.walk c.in-Ok.table.walk _ _ _ _
+    rw made.capacity (IsConsistent-same_keys g.K.IntKey.number_of g.K.IntKey.is_valid c.self.inside.table.walk c.in-Ok.table.walk _ _ _ _
     (keys_of-AreClones _ c.self.inside.table.walk c.in-Ok.table.walk made.walk) c.self.invariant)
 
 pub returns-clause-clone : goal.returns-clause-clone
@@ -31,5 +31,5 @@ returns-clause-values g c = BindsClones-AreClones g.V.Clone.is_clone g.K.IntKey.
 pub returns-clause-len : goal.returns-clause-len
 returns-clause-len g c = length-same_keys (unkept c.in-Ok.table.walk) c.args.self.now.walk (returns-clause-keys g c)
 
-pub returns-clause-map_after : goal.returns-clause-map_after
-returns-clause-map_after g c = (invariant_of-result g c).map
+pub returns-clause-valid_after : goal.returns-clause-valid_after
+returns-clause-valid_after g c = (invariant_of-result g c).map

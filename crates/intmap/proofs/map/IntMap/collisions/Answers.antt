@@ -9,17 +9,17 @@ use Rattle.intmap.specs.Walk.{slot_of, walk_of}
 use Rattle.intmap.specs.declared.kept.Kept.{Kept}
 use Rattle.intmap.specs.declared.refusal.Cause.{Cause}
 use Rattle.intmap.specs.declared.refusal.Cause.TheVariants.{Memory, TooLarge}
-use Rattle.intmap.proofs.CrowdLemmas.{crowds_below, crowds_below-crowded, crowds_below-alone, count-below, size-in_range}
+use Rattle.intmap.proofs.CollisionLemmas.{collision_sizes_below, collision_sizes_below-crowded, collision_sizes_below-alone, count-below, size-in_range}
 use Rattle.intmap.proofs.LoadFactorLemmas.{capacity-greatest}
 use Rattle.intmap.proofs.MapLemmas.{length-unkept}
-use Rattle.intmap.proofs.MappedLemmas.{slot_of-with_values, length-with_values}
+use Rattle.intmap.proofs.MappedLemmas.{slot_of-map_values, length-map_values}
 use Rattle.intmap.proofs.map.IntMap.collisions.Goals as goal
 use Rattle.intmap.proofs.map.IntMap.collisions.Goals.{After-loop-slot, After-slot_len-size, then-size-gt1+in_ok-count_once_more, else-size-gt1}
 
 -- a slot has as many pairs, whatever their values are
 slot-len : {K V : Type 0} (number : K → ℕ) (T : List (K × Kept V)) (C i : ℕ) → length (slot_of number T C i) ≡ length (slot_of number (unkept T) C i)
 slot-len number T C i =
-    sym (ap length (slot_of-with_values number (λ (kept : Kept _). kept.value) T C i) ∙ length-with_values number (λ (kept : Kept _). kept.value) (slot_of number T C i))
+    sym (ap length (slot_of-map_values number (λ (kept : Kept _). kept.value) T C i) ∙ length-map_values number (λ (kept : Kept _). kept.value) (slot_of number T C i))
 
 -- a cause that isn't this one is the other
 memory-otherwise : (cause : Cause) → (cause ≡ TooLarge → ⊥) → cause ≡ Memory
@@ -55,8 +55,8 @@ slot_len-size-requires g c =
 pub returns-in_err-sizes-clause-memory : goal.returns-in_err-sizes-clause-memory
 returns-in_err-sizes-clause-memory g c = refused-with c.from_residual.result c.in_err-sizes.field-0.0 c.from_residual.ensures.1 c.in_err-sizes.ensures.memory
 
-pub returns-in_err-sizes-clause-map : goal.returns-in_err-sizes-clause-map
-returns-in_err-sizes-clause-map g c = rw (← c.self.view_is) c.self.invariant.map
+pub returns-in_err-sizes-clause-valid : goal.returns-in_err-sizes-clause-valid
+returns-in_err-sizes-clause-valid g c = rw (← c.self.view_is) c.self.invariant.map
 
 pub count_once_more-requires : goal.count_once_more-requires
 count_once_more-requires g c =
@@ -76,8 +76,8 @@ returns-in_err-count_once_more-clause-memory g c =
     (memory-otherwise c.in_err-count_once_more.field-0.0 (λ large.
     in_range (rw (size g at) at (c.in_err-count_once_more.ensures.too_large large))))
 
-pub returns-in_err-count_once_more-clause-map : goal.returns-in_err-count_once_more-clause-map
-returns-in_err-count_once_more-clause-map g c = rw (← c.self.view_is) c.self.invariant.map
+pub returns-in_err-count_once_more-clause-valid : goal.returns-in_err-count_once_more-clause-valid
+returns-in_err-count_once_more-clause-valid g c = rw (← c.self.view_is) c.self.invariant.map
 
 pub loop-slot-preserved : goal.loop-slot-preserved
 loop-slot-preserved g c =
@@ -86,15 +86,15 @@ loop-slot-preserved g c =
     elim c.if-size-gt1.branch [
       | then-size-gt1+in_ok-count_once_more w ↦
           (let several = rw (size g at) at (lt-ltb 1 c.slot_len-size.result w.if-size-gt1.true) in
-          let counted = w.in_ok-count_once_more.ensures.counted (crowds_below slot c.loop-slot.slot) c.loop-slot.invariant.tally in
+          let counted = w.in_ok-count_once_more.ensures.counted (collision_sizes_below slot c.loop-slot.slot) c.loop-slot.invariant.tally in
           record {
-            tally = rw (w.sizes-is, crowds_below-crowded slot c.loop-slot.slot several, ← size g at) counted;
-            map = rw w.sizes-is w.in_ok-count_once_more.ensures.map_after;
+            tally = rw (w.sizes-is, collision_sizes_below-crowded slot c.loop-slot.slot several, ← size g at) counted;
+            map = rw w.sizes-is w.in_ok-count_once_more.ensures.valid_after;
           })
       | else-size-gt1 w ↦
           (let alone = rw (size g at) at (le-ltb 1 c.slot_len-size.result (let not = w.if-size-gt1.false in omega (arith, not))) in
           record {
-            tally = rw (w.sizes-is, crowds_below-alone slot c.loop-slot.slot alone) c.loop-slot.invariant.tally;
+            tally = rw (w.sizes-is, collision_sizes_below-alone slot c.loop-slot.slot alone) c.loop-slot.invariant.tally;
             map = rw w.sizes-is c.loop-slot.invariant.map;
           })
     ]
@@ -106,18 +106,18 @@ whole g c = rw (← c.self.view_is) (let test = c.loop-slot-test.false in let la
 pub returns-clause-sizes : goal.returns-clause-sizes
 returns-clause-sizes g c =
     let slot = slot_of g.K.IntKey.number_of c.args.self.now.walk c.args.self.now.capacity in
-    subst (λ n. IsMadeOf (λ (size : ℕ). size) (λ size. size < 2 ^ 64) (tally_of (crowds_below slot n)) c.loop-slot.sizes) (whole g c) c.loop-slot.invariant.tally.made
+    subst (λ n. IsMadeOf (λ (size : ℕ). size) (λ size. size < 2 ^ 64) (tally_of (collision_sizes_below slot n)) c.loop-slot.sizes) (whole g c) c.loop-slot.invariant.tally.made
 
 pub returns-clause-bindings : goal.returns-clause-bindings
 returns-clause-bindings g c = λ size.
-    c.loop-slot.invariant.tally.counts size ∙ ap (λ n. value_of (λ k. k) (tally_of (crowds_below (slot_of g.K.IntKey.number_of c.args.self.now.walk c.args.self.now.capacity) n)) size) (whole g c)
+    c.loop-slot.invariant.tally.counts size ∙ ap (λ n. value_of (λ k. k) (tally_of (collision_sizes_below (slot_of g.K.IntKey.number_of c.args.self.now.walk c.args.self.now.capacity) n)) size) (whole g c)
 
 pub returns-clause-len : goal.returns-clause-len
 returns-clause-len g c =
-    c.loop-slot.invariant.tally.len ∙ ap (λ n. length (tally_of (crowds_below (slot_of g.K.IntKey.number_of c.args.self.now.walk c.args.self.now.capacity) n))) (whole g c)
+    c.loop-slot.invariant.tally.len ∙ ap (λ n. length (tally_of (collision_sizes_below (slot_of g.K.IntKey.number_of c.args.self.now.walk c.args.self.now.capacity) n))) (whole g c)
 
-pub returns-clause-map : goal.returns-clause-map
-returns-clause-map g c = rw (← c.self.view_is) c.self.invariant.map
+pub returns-clause-valid : goal.returns-clause-valid
+returns-clause-valid g c = rw (← c.self.view_is) c.self.invariant.map
 
-pub returns-clause-map_after : goal.returns-clause-map_after
-returns-clause-map_after g c = c.loop-slot.invariant.map
+pub returns-clause-valid_after : goal.returns-clause-valid_after
+returns-clause-valid_after g c = c.loop-slot.invariant.map

@@ -2,23 +2,23 @@
 use Rattle.std.proofs.Common.{Some, refl, sym, subst, arith, rules}
 use Rattle.std.specs.Iterator.{Yields}
 use Rattle.std.proofs.lemmas.List.{length_push}
-use Rattle.intmap.specs.Extending.{IsInserted}
+use Rattle.intmap.specs.Extending.{MapInserts}
 use Rattle.intmap.proofs.ExtendLemmas.{IsExtended-nil, IsExtended-push}
 use Rattle.intmap.proofs.map.IntMap.extend.Goals as goal
 
 pub loop-key-init : goal.loop-key-init
-loop-key-init g c = (search rules, IsExtended-nil g.K.IntKey.number_of g.K.IntKey.is_key c.args.self.now, refl, c.known.ensures.map, c.known.ensures.map)
+loop-key-init g c = (search rules, IsExtended-nil g.K.IntKey.number_of g.K.IntKey.is_valid c.args.self.now, refl, c.known.ensures.valid, c.known.ensures.valid)
 
 pub loop-key-preserved : goal.loop-key-preserved
 loop-key-preserved g c =
     let e = c.in-Ok.ensures in
     let kept = c.loop-key.invariant in
-    let last : IsInserted g.K.IntKey.number_of g.K.IntKey.is_key c.loop-key.self c.in-Some.key c.in-Some.value c.insert.new.self = record { in_range = e.too_large.1; capacity = e.capacity; state = e.state; map = c.insert.ensures.map_after } in (
+    let last : MapInserts g.K.IntKey.number_of g.K.IntKey.is_valid c.loop-key.self c.in-Some.key c.in-Some.value c.insert.new.self = record { in_range = e.too_large.1; capacity = e.capacity; state = e.state; map = c.insert.ensures.valid_after } in (
       search rules,
-      IsExtended-push g.K.IntKey.number_of g.K.IntKey.is_key c.args.self.now c.loop-key.self c.insert.new.self c.loop-key.yielded c.in-Some.key c.in-Some.value
+      IsExtended-push g.K.IntKey.number_of g.K.IntKey.is_valid c.args.self.now c.loop-key.self c.insert.new.self c.loop-key.yielded c.in-Some.key c.in-Some.value
           kept.1 last c.in-Ok.field-0 e.old e.updates.0 e.len,
       omega (arith, c.saturating_add-applied.ensures, kept.2, length_push c.loop-key.yielded (c.in-Some.key, c.in-Some.value)),
-      c.insert.ensures.map_after,
+      c.insert.ensures.valid_after,
       kept.4,
     )
 

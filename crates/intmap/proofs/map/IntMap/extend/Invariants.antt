@@ -7,7 +7,7 @@ use Rattle.intmap.proofs.map.IntMap.extend.Given as goal
 abbrev pub invariant-loop-key : goal.invariant-loop-key
 invariant-loop-key g l =
     ((goal.iterator-loop-key g).can_next l.key-iterator × (goal.iterator-loop-key g).is_finite l.key-iterator)
-    × IsExtended g.K.IntKey.number_of g.K.IntKey.is_key l.fn.self l.yielded l.self
+    × IsExtended g.K.IntKey.number_of g.K.IntKey.is_valid l.fn.self l.yielded l.self
     × (l.applied ≡ min (length l.yielded) (2 ^ 64 - 1))
-    × IsMap g.K.IntKey.number_of g.K.IntKey.is_key l.self
-    × IsMap g.K.IntKey.number_of g.K.IntKey.is_key l.fn.self
+    × IsMap g.K.IntKey.number_of g.K.IntKey.is_valid l.self
+    × IsMap g.K.IntKey.number_of g.K.IntKey.is_valid l.fn.self

@@ -9,7 +9,7 @@ use Rattle.intmap.proofs.map.IntMap.for_each_mut.Goals as goal
 pub invariant_of-self : goal.invariant_of-self
 invariant_of-self g c =
     let left = c.write_each.ensures in
-    IsConsistent-Writes g.K.IntKey.number_of g.K.IntKey.is_key (WritesAt g.F.FnMut) c.args.f c.write_each.new.f c.self.inside.table.walk c.write_each.new.self.walk _ _ _ _ _
+    IsConsistent-Writes g.K.IntKey.number_of g.K.IntKey.is_valid (WritesAt g.F.FnMut) c.args.f c.write_each.new.f c.self.inside.table.walk c.write_each.new.self.walk _ _ _ _ _
     left.pairs left.capacity left.own c.self.invariant
 
 pub returns-clause-values : goal.returns-clause-values
@@ -27,10 +27,10 @@ returns-clause-updates g c q =
 pub returns-clause-len : goal.returns-clause-len
 returns-clause-len g c = rw (← c.self.view_is) (length-Writes (WritesAt g.F.FnMut) _ _ _ _ c.write_each.ensures.pairs)
 
-pub returns-clause-map_after : goal.returns-clause-map_after
-returns-clause-map_after g c =
+pub returns-clause-valid_after : goal.returns-clause-valid_after
+returns-clause-valid_after g c =
     let left = c.write_each.ensures in
-    (IsConsistent-Writes g.K.IntKey.number_of g.K.IntKey.is_key (WritesAt g.F.FnMut) c.args.f c.write_each.new.f c.self.inside.table.walk c.write_each.new.self.walk _ _ _ _ _
+    (IsConsistent-Writes g.K.IntKey.number_of g.K.IntKey.is_valid (WritesAt g.F.FnMut) c.args.f c.write_each.new.f c.self.inside.table.walk c.write_each.new.self.walk _ _ _ _ _
     left.pairs left.capacity left.own c.self.invariant).map
 
 pub write_each-requires : goal.write_each-requires

@@ -1,6 +1,6 @@
 -- The search does not tell which of the two calls was refused, and gives up on a map that was collected.
 use Rattle.std.proofs.Common.{inl, inr, refl, ◌∙◌, subst}
-use Rattle.intmap.specs.Extending.{Extends, StopsAt}
+use Rattle.intmap.specs.Extending.{Extends, ExtendsUpTo}
 use Rattle.intmap.specs.Map.{MapState}
 use Rattle.intmap.proofs.ExtendLemmas.{MatchResult-refused, cause-of_slots}
 use Rattle.intmap.proofs.map.IntMap.from_iter.Goals as goal
@@ -21,14 +21,14 @@ pub returns-in-Err-clause-collects : goal.returns-in-Err-clause-collects
 returns-in-Err-clause-collects g c =
     let made = c.in_ok-map.ensures in
     let Stops : MapState g.row.K.Denot g.row.V.Denot → Type 0 =
-    λ m. StopsAt g.K.IntKey.number_of g.K.IntKey.is_key g.I.Iterator.next_gives c.args.iter m c.in-Err.refused c.extend.new.self in
+    λ m. ExtendsUpTo g.K.IntKey.number_of g.K.IntKey.is_valid g.I.Iterator.next_gives c.args.iter m c.in-Err.refused c.extend.new.self in
     (c.size_hint-lower.result.0, c.size_hint-lower.ensures.lower c.requires.ends, inr (inr (c.in_ok-map.map.capacity, made.capacity, c.in-Err.refused, c.extend.new.self, subst Stops made.state c.in-Err.ensures.stops, refl)))
 
 pub returns-in-Ok-clause-collects : goal.returns-in-Ok-clause-collects
 returns-in-Ok-clause-collects g c =
     let made = c.in_ok-map.ensures in
     let Extended : MapState g.row.K.Denot g.row.V.Denot → Type 0 =
-    λ m. Extends g.K.IntKey.number_of g.K.IntKey.is_key g.I.Iterator.next_gives c.args.iter m c.extend.new.self in (
+    λ m. Extends g.K.IntKey.number_of g.K.IntKey.is_valid g.I.Iterator.next_gives c.args.iter m c.extend.new.self in (
       c.size_hint-lower.result.0,
       c.size_hint-lower.ensures.lower c.requires.ends,
       record { slots = c.in_ok-map.map.capacity; power = made.capacity; extends = subst Extended made.state c.in-Ok.ensures.extends },

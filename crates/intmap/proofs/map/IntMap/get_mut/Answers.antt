@@ -16,8 +16,8 @@ returns-in-Some g c =
         value = sym (sym (ap (value_of number c.args.self.now.walk) key) ∙ sym (ap (λ m. value_of number m.walk c.in-Some.at.key) state) ∙ c.value_mut_at.ensures.value);
         updates = λ bound v. Updates-bound number c.args.self.now.walk c.args.key v bound;
         len = λ v. length-write_value number c.args.self.now.walk c.args.key v;
-        map = c.locate.ensures.map;
-        map_after = λ v. IsMapWalk-written number g.K.IntKey.is_key c.args.self.now.walk _ _ c.args.key v c.locate.ensures.map;
+        valid = c.locate.ensures.valid;
+        valid_after = λ v. IsMapWalk-written number g.K.IntKey.is_valid c.args.self.now.walk _ _ c.args.key v c.locate.ensures.valid;
       },
     )
 
@@ -30,7 +30,7 @@ returns-in-None g c =
         value = sym c.in-None.ensures.missing;
         updates = λ bound v. Updates-bound number c.args.self.now.walk c.args.key v bound;
         len = λ v. length-write_value number c.args.self.now.walk c.args.key v;
-        map = c.locate.ensures.map;
-        map_after = λ v. IsMapWalk-written number g.K.IntKey.is_key c.args.self.now.walk _ _ c.args.key v c.locate.ensures.map;
+        valid = c.locate.ensures.valid;
+        valid_after = λ v. IsMapWalk-written number g.K.IntKey.is_valid c.args.self.now.walk _ _ c.args.key v c.locate.ensures.valid;
       },
     )

@@ -1,7 +1,7 @@
 use Rattle.std.proofs.Common.{◌≡◌, ◌+◌, ◌<◌, ◌∙◌, Some, length, refl, sym, ap, subst}
 use Rattle.intmap.specs.Bindings.{value_of}
 use Rattle.intmap.specs.Growth.{IsNext}
-use Rattle.intmap.specs.Map.{MapState, IsFull, after_insert, with_pair}
+use Rattle.intmap.specs.Map.{MapState, InsertIsTooLarge, after_insert, with_pair}
 use Rattle.intmap.specs.Reach.{class_size}
 use Rattle.intmap.proofs.AfterLemmas.{Updates-insert, length-insert}
 use Rattle.intmap.proofs.map.IntMap.insert.Goals as goal
@@ -33,12 +33,12 @@ returns-in-Some-clause-state g c = state g (goal.at.returns-in-Some-clause-state
 
 pub returns-in-Some-clause-updates : goal.returns-in-Some-clause-updates
 returns-in-Some-clause-updates g c =
-    Updates-insert g.K.IntKey.number_of g.K.IntKey.is_key c.args.self.now _ c.args.key c.args.value c.in-Some.ensures.map c.replace_at.ensures.map_after.capacity (state g (goal.at.returns-in-Some-clause-updates g c).After-replace_at)
+    Updates-insert g.K.IntKey.number_of g.K.IntKey.is_valid c.args.self.now _ c.args.key c.args.value c.in-Some.ensures.valid c.replace_at.ensures.valid_after.capacity (state g (goal.at.returns-in-Some-clause-updates g c).After-replace_at)
 
 pub returns-in-Some-clause-len : goal.returns-in-Some-clause-len
 returns-in-Some-clause-len g c =
     let at = (goal.at.returns-in-Some-clause-len g c).After-replace_at in
-    rw (bound g at) at (length-insert g.K.IntKey.number_of g.K.IntKey.is_key c.args.self.now _ c.args.key c.args.value c.replace_at.ensures.map_after.capacity (state g at))
+    rw (bound g at) at (length-insert g.K.IntKey.number_of g.K.IntKey.is_valid c.args.self.now _ c.args.key c.args.value c.replace_at.ensures.valid_after.capacity (state g at))
 
 pub returns-in-Some-clause-too_large : goal.returns-in-Some-clause-too_large
 returns-in-Some-clause-too_large g c = (absurd, λ out. let none = rw (bound g (goal.at.returns-in-Some-clause-too_large g c).After-replace_at) at out.0 in cc)
@@ -51,9 +51,9 @@ returns-in-Err-clause-new_key g c = rw c.in_default.ensures.missing refl
 
 pub returns-in-Err-clause-too_large : goal.returns-in-Err-clause-too_large
 returns-in-Err-clause-too_large g c =
-    let Full : MapState g.row.K.Denot g.row.V.Denot → Type 0 = λ m. IsFull m.walk m.capacity m.factor in
+    let IsTooLarge : MapState g.row.K.Denot g.row.V.Denot → Type 0 = λ m. InsertIsTooLarge m.walk m.capacity m.factor in
     let large = c.in-Err.ensures.too_large in
-    (λ e. (rw c.in_default.ensures.missing refl, subst Full c.in_default.ensures.state (large.0 e)), λ out. large.1 (subst Full (sym c.in_default.ensures.state) out.1))
+    (λ e. (rw c.in_default.ensures.missing refl, subst IsTooLarge c.in_default.ensures.state (large.0 e)), λ out. large.1 (subst IsTooLarge (sym c.in_default.ensures.state) out.1))
 
 pub returns-in-Err-clause-memory : goal.returns-in-Err-clause-memory
 returns-in-Err-clause-memory g c =
@@ -75,13 +75,13 @@ returns-clause-state g c =
 
 pub returns-clause-updates : goal.returns-clause-updates
 returns-clause-updates g c =
-    Updates-insert g.K.IntKey.number_of g.K.IntKey.is_key c.args.self.now _ c.args.key c.args.value c.in_default.ensures.map c.add.ensures.map_after.capacity (returns-clause-state g c)
+    Updates-insert g.K.IntKey.number_of g.K.IntKey.is_valid c.args.self.now _ c.args.key c.args.value c.in_default.ensures.valid c.add.ensures.valid_after.capacity (returns-clause-state g c)
 
 pub returns-clause-len : goal.returns-clause-len
 returns-clause-len g c =
-    rw c.in_default.ensures.missing at (length-insert g.K.IntKey.number_of g.K.IntKey.is_key c.args.self.now _ c.args.key c.args.value c.add.ensures.map_after.capacity (returns-clause-state g c))
+    rw c.in_default.ensures.missing at (length-insert g.K.IntKey.number_of g.K.IntKey.is_valid c.args.self.now _ c.args.key c.args.value c.add.ensures.valid_after.capacity (returns-clause-state g c))
 
 pub returns-clause-too_large : goal.returns-clause-too_large
 returns-clause-too_large g c =
-    let Full : MapState g.row.K.Denot g.row.V.Denot → Type 0 = λ m. IsFull m.walk m.capacity m.factor in
-    (absurd, λ out. c.in_default-add.ensures.in_range (subst Full (sym c.in_default.ensures.state) out.1))
+    let IsTooLarge : MapState g.row.K.Denot g.row.V.Denot → Type 0 = λ m. InsertIsTooLarge m.walk m.capacity m.factor in
+    (absurd, λ out. c.in_default-add.ensures.in_range (subst IsTooLarge (sym c.in_default.ensures.state) out.1))

@@ -2,7 +2,7 @@ use Rattle.std.proofs.Common.{◌≡◌, ◌+◌, ◌<◌, ◌∙◌, true, fals
 use Rattle.std.specs.Prelude.{is_some}
 use Rattle.intmap.specs.Bindings.{value_of}
 use Rattle.intmap.specs.Growth.{IsNext}
-use Rattle.intmap.specs.Map.{MapState, IsFull, IsMap, with_pair}
+use Rattle.intmap.specs.Map.{MapState, InsertIsTooLarge, IsMap, with_pair}
 use Rattle.intmap.specs.Reach.{class_size}
 use Rattle.intmap.proofs.AfterLemmas.{Updates-insert, length-insert}
 use Rattle.intmap.proofs.BindingLemmas.{Updates-same}
@@ -24,9 +24,9 @@ missing g c = none_of _ (sym c.locate.ensures.bound ∙ sym c.is_some.ensures �
 pub returns-in-Err-clause-too_large : goal.returns-in-Err-clause-too_large
 returns-in-Err-clause-too_large g c =
     let none = missing g (goal.at.returns-in-Err-clause-too_large g c).After-add in
-    let Full : MapState g.row.K.Denot g.row.V.Denot → Type 0 = λ m. IsFull m.walk m.capacity m.factor in
+    let IsTooLarge : MapState g.row.K.Denot g.row.V.Denot → Type 0 = λ m. InsertIsTooLarge m.walk m.capacity m.factor in
     let large = c.in-Err.ensures.too_large in
-    (λ e. (rw none refl, subst Full c.locate.ensures.state (large.0 e)), λ out. large.1 (subst Full (sym c.locate.ensures.state) out.1))
+    (λ e. (rw none refl, subst IsTooLarge c.locate.ensures.state (large.0 e)), λ out. large.1 (subst IsTooLarge (sym c.locate.ensures.state) out.1))
 
 pub returns-in-Err-clause-memory : goal.returns-in-Err-clause-memory
 returns-in-Err-clause-memory g c =
@@ -41,13 +41,13 @@ returns-clause-state g c =
 pub returns-clause-updates : goal.returns-clause-updates
 returns-clause-updates g c =
     let none = missing g (goal.at.returns-clause-updates g c).After-add in
-    let updates = Updates-insert g.K.IntKey.number_of g.K.IntKey.is_key c.args.self.now _ c.args.key c.args.value c.locate.ensures.map c.add.ensures.map_after.capacity (returns-clause-state g c) in
+    let updates = Updates-insert g.K.IntKey.number_of g.K.IntKey.is_valid c.args.self.now _ c.args.key c.args.value c.locate.ensures.valid c.add.ensures.valid_after.capacity (returns-clause-state g c) in
     rw none updates
 
 pub returns-clause-len : goal.returns-clause-len
 returns-clause-len g c =
     let none = missing g (goal.at.returns-clause-len g c).After-add in
-    rw none at (length-insert g.K.IntKey.number_of g.K.IntKey.is_key c.args.self.now _ c.args.key c.args.value c.add.ensures.map_after.capacity (returns-clause-state g c))
+    rw none at (length-insert g.K.IntKey.number_of g.K.IntKey.is_valid c.args.self.now _ c.args.key c.args.value c.add.ensures.valid_after.capacity (returns-clause-state g c))
 
 -- the key is bound
 bound : (g : _) (c : After-is_some g) → c.is_some.result ≡ true → (x : g.row.V.Denot) × (value_of g.K.IntKey.number_of c.args.self.now.walk c.args.key ≡ Some x)
@@ -73,11 +73,11 @@ returns-then-is_some-clause-len g c = let walk = ap (λ (m : MapState g.row.K.De
 pub returns-then-is_some-clause-too_large : goal.returns-then-is_some-clause-too_large
 returns-then-is_some-clause-too_large g c = rw (bound g (goal.at.returns-then-is_some-clause-too_large g c).After-is_some c.if-is_some.true).1 ((λ no. absurd no), λ out. absurd (let w : true ≡ false = out.0 in cc))
 
-pub returns-then-is_some-clause-map : goal.returns-then-is_some-clause-map
-returns-then-is_some-clause-map g c = c.locate.ensures.map
+pub returns-then-is_some-clause-valid : goal.returns-then-is_some-clause-valid
+returns-then-is_some-clause-valid g c = c.locate.ensures.valid
 
-pub returns-then-is_some-clause-map_after : goal.returns-then-is_some-clause-map_after
-returns-then-is_some-clause-map_after g c = subst (IsMap g.K.IntKey.number_of g.K.IntKey.is_key) (sym c.locate.ensures.state) c.locate.ensures.map
+pub returns-then-is_some-clause-valid_after : goal.returns-then-is_some-clause-valid_after
+returns-then-is_some-clause-valid_after g c = subst (IsMap g.K.IntKey.number_of g.K.IntKey.is_valid) (sym c.locate.ensures.state) c.locate.ensures.valid
 
 pub returns-in-Err-clause-err : goal.returns-in-Err-clause-err
 returns-in-Err-clause-err g c = c.in-Err.ensures.err ∙ c.locate.ensures.state
@@ -88,11 +88,11 @@ returns-in-Err-clause-value_returned g c = c.in-Err.ensures.value_returned
 pub returns-in-Err-clause-new_key : goal.returns-in-Err-clause-new_key
 returns-in-Err-clause-new_key g c = rw (missing g (goal.at.returns-in-Err-clause-new_key g c).After-add) refl
 
-pub returns-in-Err-clause-map : goal.returns-in-Err-clause-map
-returns-in-Err-clause-map g c = c.locate.ensures.map
+pub returns-in-Err-clause-valid : goal.returns-in-Err-clause-valid
+returns-in-Err-clause-valid g c = c.locate.ensures.valid
 
-pub returns-in-Err-clause-map_after : goal.returns-in-Err-clause-map_after
-returns-in-Err-clause-map_after g c = c.add.ensures.map_after
+pub returns-in-Err-clause-valid_after : goal.returns-in-Err-clause-valid_after
+returns-in-Err-clause-valid_after g c = c.add.ensures.valid_after
 
 pub returns-clause-new : goal.returns-clause-new
 returns-clause-new g c = rw (missing g (goal.at.returns-clause-new g c).After-add) refl
@@ -104,11 +104,11 @@ returns-clause-capacity g c =
 
 pub returns-clause-too_large : goal.returns-clause-too_large
 returns-clause-too_large g c =
-    let Full : MapState g.row.K.Denot g.row.V.Denot → Type 0 = λ m. IsFull m.walk m.capacity m.factor in
-    ((λ no. absurd no), λ out. absurd (c.in_default.ensures.in_range (subst Full (sym c.locate.ensures.state) out.1)))
+    let IsTooLarge : MapState g.row.K.Denot g.row.V.Denot → Type 0 = λ m. InsertIsTooLarge m.walk m.capacity m.factor in
+    ((λ no. absurd no), λ out. absurd (c.in_default.ensures.in_range (subst IsTooLarge (sym c.locate.ensures.state) out.1)))
 
-pub returns-clause-map : goal.returns-clause-map
-returns-clause-map g c = c.locate.ensures.map
+pub returns-clause-valid : goal.returns-clause-valid
+returns-clause-valid g c = c.locate.ensures.valid
 
-pub returns-clause-map_after : goal.returns-clause-map_after
-returns-clause-map_after g c = c.add.ensures.map_after
+pub returns-clause-valid_after : goal.returns-clause-valid_after
+returns-clause-valid_after g c = c.add.ensures.valid_after

@@ -14,7 +14,7 @@ returns g c =
         walk = ap lent_pairs c.pairs.ensures ∙ holes.0;
         keys = keys_of-refilled (λ v. v) walk;
         len = length-refilled (λ v. v) walk;
-        map = holes.2;
-        map_after = λ vs. IsMapWalk-same_keys g.K.IntKey.number_of g.K.IntKey.is_key walk _ _ _ (sym (keys_of-refilled (λ v. v) walk vs)) holes.2;
+        valid = holes.2;
+        valid_after = λ vs. IsMapWalk-same_keys g.K.IntKey.number_of g.K.IntKey.is_valid walk _ _ _ (sym (keys_of-refilled (λ v. v) walk vs)) holes.2;
       },
     )

@@ -1,4 +1,4 @@
 use Rattle.intmap.proofs.map.IntMap.len.Goals as goal
 
-pub returns-clause-map : goal.returns-clause-map
-returns-clause-map g c = rw (← c.self.view_is) c.self.invariant.map
+pub returns-clause-valid : goal.returns-clause-valid
+returns-clause-valid g c = rw (← c.self.view_is) c.self.invariant.map

@@ -1,4 +1,4 @@
-use Rattle.intmap.proofs.LocationLemmas.{IsAt-with_values, IsLast-without_values}
+use Rattle.intmap.proofs.LocationLemmas.{IsAt-map_values, IsLast-without_values}
 use Rattle.intmap.proofs.map.IntMap.locate_last.Goals as goal
 
 pub locate_last-requires : goal.locate_last-requires
@@ -7,4 +7,4 @@ locate_last-requires g c =
 
 pub returns-clause-at : goal.returns-clause-at
 returns-clause-at g c =
-    rw (← c.self.view_is) (IsAt-with_values g.K.IntKey.number_of (λ kept. kept.value) c.self.inside.table.walk c.self.inside.table.capacity c.locate_last.result c.locate_last.ensures.at)
+    rw (← c.self.view_is) (IsAt-map_values g.K.IntKey.number_of (λ kept. kept.value) c.self.inside.table.walk c.self.inside.table.capacity c.locate_last.result c.locate_last.ensures.at)

@@ -8,18 +8,18 @@ use Rattle.intmap.proofs.map.IntMap.remove.Goals.{After-take_at}
 pub returns-in_default-clause-state : goal.returns-in_default-clause-state
 returns-in_default-clause-state g c =
     c.in_default.ensures.state
-    ∙ sym (without_missing g.K.IntKey.number_of g.K.IntKey.is_key (after_search g.K.IntKey.number_of c.args.self.now c.args.key) c.args.key c.in_default.ensures.map c.in_default.ensures.missing)
+    ∙ sym (without_missing g.K.IntKey.number_of g.K.IntKey.is_valid (after_search g.K.IntKey.number_of c.args.self.now c.args.key) c.args.key c.in_default.ensures.valid c.in_default.ensures.missing)
 
 pub returns-in_default-clause-updates : goal.returns-in_default-clause-updates
 returns-in_default-clause-updates g c =
-    Updates-remove g.K.IntKey.number_of g.K.IntKey.is_key c.args.self.now _ c.args.key c.in_default.ensures.map (returns-in_default-clause-state g c)
+    Updates-remove g.K.IntKey.number_of g.K.IntKey.is_valid c.args.self.now _ c.args.key c.in_default.ensures.valid (returns-in_default-clause-state g c)
 
 pub returns-in_default-clause-len : goal.returns-in_default-clause-len
 returns-in_default-clause-len g c =
-    rw c.in_default.ensures.missing at (length-remove g.K.IntKey.number_of g.K.IntKey.is_key c.args.self.now _ c.args.key c.in_default.ensures.map (returns-in_default-clause-state g c))
+    rw c.in_default.ensures.missing at (length-remove g.K.IntKey.number_of g.K.IntKey.is_valid c.args.self.now _ c.args.key c.in_default.ensures.valid (returns-in_default-clause-state g c))
 
-pub returns-in_default-clause-map_after : goal.returns-in_default-clause-map_after
-returns-in_default-clause-map_after g c = subst (IsMap g.K.IntKey.number_of g.K.IntKey.is_key) (sym c.in_default.ensures.state) c.in_default.ensures.map
+pub returns-in_default-clause-valid_after : goal.returns-in_default-clause-valid_after
+returns-in_default-clause-valid_after g c = subst (IsMap g.K.IntKey.number_of g.K.IntKey.is_valid) (sym c.in_default.ensures.state) c.in_default.ensures.valid
 
 module _ (g : _) (c : After-take_at g) where
   state : c.take_at.new.self ≡ after_remove g.K.IntKey.number_of c.args.self.now c.args.key
@@ -36,9 +36,9 @@ returns-clause-state g c = state g (goal.at.returns-clause-state g c).After-take
 
 pub returns-clause-updates : goal.returns-clause-updates
 returns-clause-updates g c =
-    Updates-remove g.K.IntKey.number_of g.K.IntKey.is_key c.args.self.now _ c.args.key c.in-Some.ensures.map (state g (goal.at.returns-clause-updates g c).After-take_at)
+    Updates-remove g.K.IntKey.number_of g.K.IntKey.is_valid c.args.self.now _ c.args.key c.in-Some.ensures.valid (state g (goal.at.returns-clause-updates g c).After-take_at)
 
 pub returns-clause-len : goal.returns-clause-len
 returns-clause-len g c =
     let after = (goal.at.returns-clause-len g c).After-take_at in
-    rw (value g after) at (length-remove g.K.IntKey.number_of g.K.IntKey.is_key c.args.self.now _ c.args.key c.in-Some.ensures.map (state g after))
+    rw (value g after) at (length-remove g.K.IntKey.number_of g.K.IntKey.is_valid c.args.self.now _ c.args.key c.in-Some.ensures.valid (state g after))

@@ -5,7 +5,7 @@ use Rattle.std.proofs.lemmas.Bool.{eq-eqb}
 use Rattle.intmap.specs.Tables.Kept.{unkept}
 use Rattle.intmap.proofs.LocationLemmas.{IsAt-without_values}
 use Rattle.intmap.proofs.MapLemmas.{MapState-same, unkept-put, IsConsistent-replaced}
-use Rattle.intmap.proofs.MappedLemmas.{value_of-with_values}
+use Rattle.intmap.proofs.MappedLemmas.{value_of-map_values}
 use Rattle.intmap.proofs.map.IntMap.replace_at.Goals as goal
 
 pub replace_at-requires : goal.replace_at-requires
@@ -18,7 +18,7 @@ invariant_of-self g c =
 
 pub returns-clause-value : goal.returns-clause-value
 returns-clause-value g c =
-    rw (← c.self.view_is) (value_of-with_values g.K.IntKey.number_of (λ kept. kept.value) c.self.inside.table.walk c.args.at.key ∙ ap (option_map (λ kept. kept.value)) c.replace_at.ensures.value)
+    rw (← c.self.view_is) (value_of-map_values g.K.IntKey.number_of (λ kept. kept.value) c.self.inside.table.walk c.args.at.key ∙ ap (option_map (λ kept. kept.value)) c.replace_at.ensures.value)
 
 pub returns-clause-state : goal.returns-clause-state
 returns-clause-state g c =
@@ -27,5 +27,5 @@ returns-clause-state g c =
     (unkept-put g.K.IntKey.number_of c.self.inside.table.walk c.replace_at.new.self.walk c.self.inside.table.capacity c.self.inside.table.capacity c.args.at.key (record { value = c.args.value }) c.replace_at.ensures.walk)
     c.replace_at.ensures.capacity (sym (ap (λ b. c.self.inside.placed + cond b 0 (length (unkept c.self.inside.table.walk) + 1)) same ∙ add-zero c.self.inside.placed)) refl)
 
-pub returns-clause-map_after : goal.returns-clause-map_after
-returns-clause-map_after g c = (invariant_of-self g c).map
+pub returns-clause-valid_after : goal.returns-clause-valid_after
+returns-clause-valid_after g c = (invariant_of-self g c).map

@@ -51,8 +51,8 @@ returns-then-is_err-clause-memory g c = λ _.
           absurd (IsOk-at_err c.grow_to.result refused (c.grow_to.ensures.free equal)))
     ]
 
-pub limit_of-self-inside-requires : goal.limit_of-self-inside-requires
-limit_of-self-inside-requires g c = cap g (goal.at.limit_of-self-inside-requires g c).After-max-capacity
+pub threshold_of-self-inside-requires : goal.threshold_of-self-inside-requires
+threshold_of-self-inside-requires g c = cap g (goal.at.threshold_of-self-inside-requires g c).After-max-capacity
 
 pub invariant_of-self-2 : goal.invariant_of-self-2
 invariant_of-self-2 g c =
@@ -65,7 +65,7 @@ invariant_of-self-2 g c =
     subst (λ n. IsLoaded c.self.inside.table.capacity n c.self.inside.factor) (length-unkept g.K.IntKey.number_of c.self.inside.table.walk ∙ sym c.self.invariant.count) c.self.invariant.map.load in
     IsConsistent-grown _ _ _ _ _ _ _ _ c.self.invariant c.max-capacity.result c.grow_to.new.self.capacity c.self.inside.factor _ capacity (cap g at) c.self.invariant.map.factor
     (IsLoaded-larger c.self.inside.table.capacity c.max-capacity.result c.self.inside.len c.self.inside.factor (capacity-positive c.self.inside.table.capacity c.self.invariant.map.capacity) (omega (arith, most g at)) loaded)
-    c.limit_of-self-inside.ensures walk
+    c.threshold_of-self-inside.ensures walk
 
 pub returns-clause-capacity : goal.returns-clause-capacity
 returns-clause-capacity g c =
@@ -82,16 +82,16 @@ returns-clause-state g c =
     let capacity = OnOk-at c.grow_to.result _ accepted c.grow_to.ensures.capacity in
     rw (capacity, ← c.self.view_is) (MapState-same _ _ _ _ _ _ _ _ _ (unkept-grown g.K.IntKey.number_of c.self.inside.table.walk c.grow_to.new.self.walk c.max-capacity.result walk) refl refl refl)
 
-pub returns-clause-map_after : goal.returns-clause-map_after
-returns-clause-map_after g c = (invariant_of-self-2 g c).map
+pub returns-clause-valid_after : goal.returns-clause-valid_after
+returns-clause-valid_after g c = (invariant_of-self-2 g c).map
 
 pub returns-clause-updates : goal.returns-clause-updates
 returns-clause-updates g c q =
-    value_of-in_slots g.K.IntKey.number_of g.K.IntKey.is_key c.args.self.now.walk _ _ q (invariant_of-self-2 g c).map.capacity (ap (λ s. s.walk) (returns-clause-state g c))
+    value_of-in_slots g.K.IntKey.number_of g.K.IntKey.is_valid c.args.self.now.walk _ _ q (invariant_of-self-2 g c).map.capacity (ap (λ s. s.walk) (returns-clause-state g c))
 
 pub returns-clause-len : goal.returns-clause-len
 returns-clause-len g c =
-    length-in_slots g.K.IntKey.number_of g.K.IntKey.is_key c.args.self.now.walk _ _ (invariant_of-self-2 g c).map.capacity (ap (λ s. s.walk) (returns-clause-state g c))
+    length-in_slots g.K.IntKey.number_of g.K.IntKey.is_valid c.args.self.now.walk _ _ (invariant_of-self-2 g c).map.capacity (ap (λ s. s.walk) (returns-clause-state g c))
 
 pub returns-then-self-gt-GREATEST_CAPACITY-clause-too_large : goal.returns-then-self-gt-GREATEST_CAPACITY-clause-too_large
 returns-then-self-gt-GREATEST_CAPACITY-clause-too_large g c = grind (arith, common_steps)
@@ -136,11 +136,11 @@ returns-then-self-gt-GREATEST_CAPACITY-clause-updates g c q = refl
 pub returns-then-self-gt-GREATEST_CAPACITY-clause-len : goal.returns-then-self-gt-GREATEST_CAPACITY-clause-len
 returns-then-self-gt-GREATEST_CAPACITY-clause-len g c = refl
 
-pub returns-then-self-gt-GREATEST_CAPACITY-clause-map : goal.returns-then-self-gt-GREATEST_CAPACITY-clause-map
-returns-then-self-gt-GREATEST_CAPACITY-clause-map g c = rw (← c.self.view_is) c.self.invariant.map
+pub returns-then-self-gt-GREATEST_CAPACITY-clause-valid : goal.returns-then-self-gt-GREATEST_CAPACITY-clause-valid
+returns-then-self-gt-GREATEST_CAPACITY-clause-valid g c = rw (← c.self.view_is) c.self.invariant.map
 
-pub returns-then-self-gt-GREATEST_CAPACITY-clause-map_after : goal.returns-then-self-gt-GREATEST_CAPACITY-clause-map_after
-returns-then-self-gt-GREATEST_CAPACITY-clause-map_after g c = rw (← c.self.view_is) c.self.invariant.map
+pub returns-then-self-gt-GREATEST_CAPACITY-clause-valid_after : goal.returns-then-self-gt-GREATEST_CAPACITY-clause-valid_after
+returns-then-self-gt-GREATEST_CAPACITY-clause-valid_after g c = rw (← c.self.view_is) c.self.invariant.map
 
 pub returns-then-is_err-clause-updates : goal.returns-then-is_err-clause-updates
 returns-then-is_err-clause-updates g c q = ap (λ (m : MapState g.row.K.Denot g.row.V.Denot). value_of g.K.IntKey.number_of m.walk q) (returns-then-is_err-clause-err g c)
@@ -148,14 +148,14 @@ returns-then-is_err-clause-updates g c q = ap (λ (m : MapState g.row.K.Denot g.
 pub returns-then-is_err-clause-len : goal.returns-then-is_err-clause-len
 returns-then-is_err-clause-len g c = ap (λ (m : MapState g.row.K.Denot g.row.V.Denot). length m.walk) (returns-then-is_err-clause-err g c)
 
-pub returns-then-is_err-clause-map : goal.returns-then-is_err-clause-map
-returns-then-is_err-clause-map g c = rw (← c.self.view_is) c.self.invariant.map
+pub returns-then-is_err-clause-valid : goal.returns-then-is_err-clause-valid
+returns-then-is_err-clause-valid g c = rw (← c.self.view_is) c.self.invariant.map
 
-pub returns-then-is_err-clause-map_after : goal.returns-then-is_err-clause-map_after
-returns-then-is_err-clause-map_after g c = (invariant_of-self g c).map
+pub returns-then-is_err-clause-valid_after : goal.returns-then-is_err-clause-valid_after
+returns-then-is_err-clause-valid_after g c = (invariant_of-self g c).map
 
 pub returns-clause-memory : goal.returns-clause-memory
 returns-clause-memory g c = λ e. cc
 
-pub returns-clause-map : goal.returns-clause-map
-returns-clause-map g c = rw (← c.self.view_is) c.self.invariant.map
+pub returns-clause-valid : goal.returns-clause-valid
+returns-clause-valid g c = rw (← c.self.view_is) c.self.invariant.map

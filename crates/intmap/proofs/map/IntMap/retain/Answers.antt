@@ -9,7 +9,7 @@ use Rattle.intmap.proofs.map.IntMap.retain.Goals as goal
 pub invariant_of-self : goal.invariant_of-self
 invariant_of-self g c =
     let kept = c.retain-self-inside.ensures in
-    IsConsistent-Retains g.K.IntKey.number_of g.K.IntKey.is_key (KeepsAt g.F.FnMut) c.args.f c.retain-self-inside.new.f c.self.inside.table.walk c.retain-self-inside.new.self.walk _ _ _ _ _ _
+    IsConsistent-Retains g.K.IntKey.number_of g.K.IntKey.is_valid (KeepsAt g.F.FnMut) c.args.f c.retain-self-inside.new.f c.self.inside.table.walk c.retain-self-inside.new.self.walk _ _ _ _ _ _
     kept.pairs kept.capacity kept.own kept.count c.self.invariant
 
 pub returns-clause-pairs : goal.returns-clause-pairs
@@ -23,10 +23,10 @@ returns-clause-updates g c q =
 pub returns-clause-len : goal.returns-clause-len
 returns-clause-len g c = rw (← c.self.view_is) (length-Retains (KeepsAt g.F.FnMut) _ _ _ _ c.retain-self-inside.ensures.pairs)
 
-pub returns-clause-map_after : goal.returns-clause-map_after
-returns-clause-map_after g c =
+pub returns-clause-valid_after : goal.returns-clause-valid_after
+returns-clause-valid_after g c =
     let kept = c.retain-self-inside.ensures in
-    (IsConsistent-Retains g.K.IntKey.number_of g.K.IntKey.is_key (KeepsAt g.F.FnMut) c.args.f c.retain-self-inside.new.f c.self.inside.table.walk c.retain-self-inside.new.self.walk _ _ _ _ (length c.retain-self-inside.new.self.walk) _
+    (IsConsistent-Retains g.K.IntKey.number_of g.K.IntKey.is_valid (KeepsAt g.F.FnMut) c.args.f c.retain-self-inside.new.f c.self.inside.table.walk c.retain-self-inside.new.self.walk _ _ _ _ (length c.retain-self-inside.new.self.walk) _
     kept.pairs kept.capacity kept.own refl c.self.invariant).map
 
 pub retain-self-inside-requires-clause-callable : goal.retain-self-inside-requires-clause-callable

@@ -32,7 +32,7 @@ invariant_of-self-2 g c =
     let capacity = OnOk-at c.grow_to.result _ accepted c.grow_to.ensures.capacity in
     IsConsistent-grown _ _ _ _ _ _ _ _ c.self.invariant c.in-Some.capacity c.grow_to.new.self.capacity c.args.thousandths _ capacity c.in-Some.ensures.capacity (omega arith)
     (IsLoaded-from c.in-Some.capacity c.self.inside.len c.args.thousandths (capacity-positive c.in-Some.capacity c.in-Some.ensures.capacity) c.in-Some.ensures.wanted.meets)
-    c.limit_of-self-inside.ensures walk
+    c.threshold_of-self-inside.ensures walk
 
 pub returns-clause-state : goal.returns-clause-state
 returns-clause-state g c =
@@ -45,16 +45,16 @@ pub returns-clause-too_large : goal.returns-clause-too_large
 returns-clause-too_large g c =
     ((λ e. cc), λ much. absurd (within g (goal.at.returns-clause-too_large g c).After-is_err much))
 
-pub returns-clause-map_after : goal.returns-clause-map_after
-returns-clause-map_after g c = (invariant_of-self-2 g c).map
+pub returns-clause-valid_after : goal.returns-clause-valid_after
+returns-clause-valid_after g c = (invariant_of-self-2 g c).map
 
 pub returns-clause-updates : goal.returns-clause-updates
 returns-clause-updates g c q =
-    value_of-in_slots g.K.IntKey.number_of g.K.IntKey.is_key c.args.self.now.walk _ _ q (invariant_of-self-2 g c).map.capacity (ap (λ s. s.walk) (returns-clause-state g c))
+    value_of-in_slots g.K.IntKey.number_of g.K.IntKey.is_valid c.args.self.now.walk _ _ q (invariant_of-self-2 g c).map.capacity (ap (λ s. s.walk) (returns-clause-state g c))
 
 pub returns-clause-len : goal.returns-clause-len
 returns-clause-len g c =
-    length-in_slots g.K.IntKey.number_of g.K.IntKey.is_key c.args.self.now.walk _ _ (invariant_of-self-2 g c).map.capacity (ap (λ s. s.walk) (returns-clause-state g c))
+    length-in_slots g.K.IntKey.number_of g.K.IntKey.is_valid c.args.self.now.walk _ _ (invariant_of-self-2 g c).map.capacity (ap (λ s. s.walk) (returns-clause-state g c))
 
 pub returns-in_default-clause-too_large : goal.returns-in_default-clause-too_large
 returns-in_default-clause-too_large g c =
@@ -86,8 +86,8 @@ grow_to-requires-clause-count g c = search rules
 pub invariant_of-self : goal.invariant_of-self
 invariant_of-self g c = search (tests, rules)
 
-pub limit_of-self-inside-requires : goal.limit_of-self-inside-requires
-limit_of-self-inside-requires g c = search (tests, rules)
+pub threshold_of-self-inside-requires : goal.threshold_of-self-inside-requires
+threshold_of-self-inside-requires g c = search (tests, rules)
 
 pub returns-in_default-clause-err : goal.returns-in_default-clause-err
 returns-in_default-clause-err g c = search rules
@@ -104,11 +104,11 @@ returns-in_default-clause-updates g c q = refl
 pub returns-in_default-clause-len : goal.returns-in_default-clause-len
 returns-in_default-clause-len g c = refl
 
-pub returns-in_default-clause-map : goal.returns-in_default-clause-map
-returns-in_default-clause-map g c = rw (← c.self.view_is) c.self.invariant.map
+pub returns-in_default-clause-valid : goal.returns-in_default-clause-valid
+returns-in_default-clause-valid g c = rw (← c.self.view_is) c.self.invariant.map
 
-pub returns-in_default-clause-map_after : goal.returns-in_default-clause-map_after
-returns-in_default-clause-map_after g c = rw (← c.self.view_is) c.self.invariant.map
+pub returns-in_default-clause-valid_after : goal.returns-in_default-clause-valid_after
+returns-in_default-clause-valid_after g c = rw (← c.self.view_is) c.self.invariant.map
 
 pub returns-then-is_err-clause-updates : goal.returns-then-is_err-clause-updates
 returns-then-is_err-clause-updates g c q = ap (λ (m : MapState g.row.K.Denot g.row.V.Denot). value_of g.K.IntKey.number_of m.walk q) (returns-then-is_err-clause-err g c)
@@ -116,14 +116,14 @@ returns-then-is_err-clause-updates g c q = ap (λ (m : MapState g.row.K.Denot g.
 pub returns-then-is_err-clause-len : goal.returns-then-is_err-clause-len
 returns-then-is_err-clause-len g c = ap (λ (m : MapState g.row.K.Denot g.row.V.Denot). length m.walk) (returns-then-is_err-clause-err g c)
 
-pub returns-then-is_err-clause-map : goal.returns-then-is_err-clause-map
-returns-then-is_err-clause-map g c = rw (← c.self.view_is) c.self.invariant.map
+pub returns-then-is_err-clause-valid : goal.returns-then-is_err-clause-valid
+returns-then-is_err-clause-valid g c = rw (← c.self.view_is) c.self.invariant.map
 
-pub returns-then-is_err-clause-map_after : goal.returns-then-is_err-clause-map_after
-returns-then-is_err-clause-map_after g c = (invariant_of-self g c).map
+pub returns-then-is_err-clause-valid_after : goal.returns-then-is_err-clause-valid_after
+returns-then-is_err-clause-valid_after g c = (invariant_of-self g c).map
 
 pub returns-clause-memory : goal.returns-clause-memory
 returns-clause-memory g c = λ e. cc
 
-pub returns-clause-map : goal.returns-clause-map
-returns-clause-map g c = rw (← c.self.view_is) c.self.invariant.map
+pub returns-clause-valid : goal.returns-clause-valid
+returns-clause-valid g c = rw (← c.self.view_is) c.self.invariant.map

@@ -3,7 +3,7 @@ use Rattle.std.specs.Option.{option_map}
 use Rattle.intmap.specs.Bindings.{value_of}
 use Rattle.intmap.proofs.LocationLemmas.{IsAt-without_values}
 use Rattle.intmap.proofs.MapLemmas.{MapState-same, unkept-take, IsConsistent-taken, one_less}
-use Rattle.intmap.proofs.MappedLemmas.{value_of-with_values}
+use Rattle.intmap.proofs.MappedLemmas.{value_of-map_values}
 use Rattle.intmap.proofs.map.IntMap.take_at.Goals as goal
 
 pub take_at-kept-requires : goal.take_at-kept-requires
@@ -17,11 +17,11 @@ invariant_of-self g c =
 
 pub returns-clause-value : goal.returns-clause-value
 returns-clause-value g c =
-    rw (← c.self.view_is) (value_of-with_values g.K.IntKey.number_of (λ kept. kept.value) c.self.inside.table.walk c.args.at.key ∙ ap (option_map (λ kept. kept.value)) c.take_at-kept.ensures.value)
+    rw (← c.self.view_is) (value_of-map_values g.K.IntKey.number_of (λ kept. kept.value) c.self.inside.table.walk c.args.at.key ∙ ap (option_map (λ kept. kept.value)) c.take_at-kept.ensures.value)
 
 pub returns-clause-state : goal.returns-clause-state
 returns-clause-state g c =
     rw (← c.self.view_is) (MapState-same _ _ _ _ _ _ _ _ _ (unkept-take g.K.IntKey.number_of c.self.inside.table.walk c.take_at-kept.new.self.walk c.self.inside.table.capacity c.args.at.key c.take_at-kept.ensures.walk) c.take_at-kept.ensures.capacity refl refl)
 
-pub returns-clause-map_after : goal.returns-clause-map_after
-returns-clause-map_after g c = (invariant_of-self g c).map
+pub returns-clause-valid_after : goal.returns-clause-valid_after
+returns-clause-valid_after g c = (invariant_of-self g c).map

@@ -8,12 +8,12 @@ take_front-requires g c =
 pub invariant_of-self-2 : goal.invariant_of-self-2
 invariant_of-self-2 g c =
     let taken = c.in-Some.ensures' in
-    IsConsistent-rest g.K.IntKey.number_of g.K.IntKey.is_key _ c.self.inside.table.walk c.take_front.new.self.walk _ _ _ _ _
+    IsConsistent-rest g.K.IntKey.number_of g.K.IntKey.is_valid _ c.self.inside.table.walk c.take_front.new.self.walk _ _ _ _ _
     taken.first taken.capacity taken.own c.self.invariant
 
 pub returns-clause-passed : goal.returns-clause-passed
 returns-clause-passed g c =
     ArePassed-unkept g.K.IntKey.number_of c.take_front.new.self.walk c.take_front.new.self.capacity c.take_front.new.from c.in-Some.ensures.passed
 
-pub returns-clause-map_after : goal.returns-clause-map_after
-returns-clause-map_after g c = (invariant_of-self-2 g c).map
+pub returns-clause-valid_after : goal.returns-clause-valid_after
+returns-clause-valid_after g c = (invariant_of-self-2 g c).map

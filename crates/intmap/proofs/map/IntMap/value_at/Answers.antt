@@ -1,7 +1,7 @@
 use Rattle.std.proofs.Common.{ap, ◌∙◌}
 use Rattle.std.specs.Option.{option_map}
 use Rattle.intmap.proofs.LocationLemmas.{IsAt-without_values}
-use Rattle.intmap.proofs.MappedLemmas.{value_of-with_values}
+use Rattle.intmap.proofs.MappedLemmas.{value_of-map_values}
 use Rattle.intmap.proofs.map.IntMap.value_at.Goals as goal
 
 pub value_at-requires : goal.value_at-requires
@@ -10,4 +10,4 @@ value_at-requires g c =
 
 pub returns : goal.returns
 returns g c =
-    record { value = rw (← c.self.view_is) (value_of-with_values g.K.IntKey.number_of (λ kept. kept.value) c.self.inside.table.walk c.args.at.key ∙ ap (option_map (λ kept. kept.value)) c.value_at.ensures) }
+    record { value = rw (← c.self.view_is) (value_of-map_values g.K.IntKey.number_of (λ kept. kept.value) c.self.inside.table.walk c.args.at.key ∙ ap (option_map (λ kept. kept.value)) c.value_at.ensures) }

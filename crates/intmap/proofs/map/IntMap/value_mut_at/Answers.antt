@@ -1,8 +1,8 @@
 use Rattle.std.proofs.Common.{refl, ap, sym, ◌∙◌}
 use Rattle.std.specs.Option.{option_map}
-use Rattle.intmap.proofs.LocationLemmas.{IsAt-without_values, HasDistinctKeys-without_values, write_value-with_values}
+use Rattle.intmap.proofs.LocationLemmas.{IsAt-without_values, HasDistinctKeys-without_values, write_value-map_values}
 use Rattle.intmap.proofs.MapLemmas.{MapState-same}
-use Rattle.intmap.proofs.MappedLemmas.{value_of-with_values}
+use Rattle.intmap.proofs.MappedLemmas.{value_of-map_values}
 use Rattle.intmap.proofs.WriteLemmas.{IsConsistent-written}
 use Rattle.intmap.proofs.map.IntMap.value_mut_at.Goals as goal
 
@@ -15,18 +15,18 @@ value_mut_at-kept-requires-clause-once g c =
     HasDistinctKeys-without_values g.K.IntKey.number_of (λ kept. kept.value) c.self.inside.table.walk c.self.invariant.map.distinct
 
 pub invariant_of-self-lent : goal.invariant_of-self-lent
-invariant_of-self-lent g c w = IsConsistent-written g.K.IntKey.number_of g.K.IntKey.is_key _ _ _ _ _ c.args.at.key _ c.self.invariant
+invariant_of-self-lent g c w = IsConsistent-written g.K.IntKey.number_of g.K.IntKey.is_valid _ _ _ _ _ c.args.at.key _ c.self.invariant
 
 pub returns : goal.returns
 returns g c = (
   (
     refl,
     λ w. rw (← c.self.view_is) (MapState-same _ _ _ _ _ _ _ _ _
-        (sym (write_value-with_values g.K.IntKey.number_of (λ kept. kept.value) c.self.inside.table.walk c.args.at.key (record { value = w }))) refl refl refl),
+        (sym (write_value-map_values g.K.IntKey.number_of (λ kept. kept.value) c.self.inside.table.walk c.args.at.key (record { value = w }))) refl refl refl),
   ),
   record {
     writes_back = tt;
-    value = rw (← c.self.view_is) (value_of-with_values g.K.IntKey.number_of (λ kept. kept.value) c.self.inside.table.walk c.args.at.key ∙ ap (option_map (λ kept. kept.value)) c.value_mut_at-kept.ensures.value);
-    map = rw (← c.self.view_is) c.self.invariant.map;
+    value = rw (← c.self.view_is) (value_of-map_values g.K.IntKey.number_of (λ kept. kept.value) c.self.inside.table.walk c.args.at.key ∙ ap (option_map (λ kept. kept.value)) c.value_mut_at-kept.ensures.value);
+    valid = rw (← c.self.view_is) c.self.invariant.map;
   },
 )

@@ -6,8 +6,8 @@ pub returns-in-Some-clause-counted : goal.returns-in-Some-clause-counted
 returns-in-Some-clause-counted g c = λ ns tally.
     IsTally-written ns c.args.number c.args.counts.now _ tally c.in-Some.count.now c.in-Some.ensures.value refl refl refl
 
-pub returns-in-Some-clause-map_after : goal.returns-in-Some-clause-map_after
-returns-in-Some-clause-map_after g c = c.in-Some.ensures.map_after (c.in-Some.count.now + 1)
+pub returns-in-Some-clause-valid_after : goal.returns-in-Some-clause-valid_after
+returns-in-Some-clause-valid_after g c = c.in-Some.ensures.valid_after (c.in-Some.count.now + 1)
 
 pub returns-clause-counted : goal.returns-clause-counted
 returns-clause-counted g c = λ ns tally.
@@ -15,4 +15,4 @@ returns-clause-counted g c = λ ns tally.
     let none = c.in_default.ensures.value in
     let len : length c.insert.new.self.walk ≡ length c.args.counts.now.walk + 1 =
     inserted.len ∙ ap (λ (o : Option ℕ). length c.args.counts.now.walk + cond (is_some o) 0 1) (inserted.old ∙ sym none) in
-    IsTally-inserted ns c.args.number c.args.counts.now c.insert.new.self tally none inserted.too_large.1 inserted.capacity (ap (λ x. x.walk) inserted.state) (ap (λ x. x.factor) inserted.state) inserted.map_after inserted.updates len
+    IsTally-inserted ns c.args.number c.args.counts.now c.insert.new.self tally none inserted.too_large.1 inserted.capacity (ap (λ x. x.walk) inserted.state) (ap (λ x. x.factor) inserted.state) inserted.valid_after inserted.updates len

@@ -1,4 +1,4 @@
-use Rattle.std.proofs.Common.{◌-◌, ◌<◌, length, get_or, refl, ap, sym, subst, ◌∙◌}
+use Rattle.std.proofs.Common.{◌<◌, length, get_or, refl, ap, sym, subst, ◌∙◌}
 use Rattle.intmap.specs.Tables.Slots.{all_pairs, write_at}
 use Rattle.intmap.proofs.Tables.SlotLemmas.{write_at-behind, value_at-behind}
 use Rattle.intmap.proofs.slot.Slot.value_mut_at.Goals as goal

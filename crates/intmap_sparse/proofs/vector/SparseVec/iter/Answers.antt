@@ -4,4 +4,4 @@ use Rattle.intmap_sparse.proofs.ValueLemmas.{IsVector-map}
 use Rattle.intmap_sparse.proofs.vector.SparseVec.iter.Goals as goal
 
 pub returns-clause-vector : goal.returns-clause-vector
-returns-clause-vector g c = subst (λ v. IsVector v.walk) c.self.view_is (IsVector-map c.self.inside.values c.iter.ensures.map c.self.invariant.0)
+returns-clause-vector g c = subst (λ v. IsVector v.walk) c.self.view_is (IsVector-map c.self.inside.values c.iter.ensures.valid c.self.invariant.0)

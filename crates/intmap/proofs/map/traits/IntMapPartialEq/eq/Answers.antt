@@ -6,13 +6,13 @@ use Rattle.intmap.proofs.map.traits.IntMapPartialEq.eq.Goals as goal
 
 pub returns-then-len : goal.returns-then-len
 returns-then-len g c =
-    sym (maps_equal-other_length g.K.IntKey.number_of g.V.PartialEq.eq c.args.self.now c.args.other.now c.len.ensures.map.distinct c.len-2.ensures.map.distinct
+    sym (maps_equal-other_length g.K.IntKey.number_of g.V.PartialEq.eq c.args.self.now c.args.other.now c.len.ensures.valid.distinct c.len-2.ensures.valid.distinct
     (λ same. c.if-len.true (c.len.ensures.value ∙ same ∙ sym c.len-2.ensures.value)))
 
 pub loop-key-init : goal.loop-key-init
 loop-key-init g c = record {
   left =
-      maps_equal-same_length g.K.IntKey.number_of g.V.PartialEq.eq g.met.V.PartialEq.laws c.args.self.now c.args.other.now c.len.ensures.map.distinct c.len-2.ensures.map.distinct
+      maps_equal-same_length g.K.IntKey.number_of g.V.PartialEq.eq g.met.V.PartialEq.laws c.args.self.now c.args.other.now c.len.ensures.valid.distinct c.len-2.ensures.valid.distinct
       (sym c.len.ensures.value ∙ c.if-len.false ∙ c.len-2.ensures.value)
       ∙ ap (λ P. are_found g.K.IntKey.number_of g.V.PartialEq.eq P c.args.other.now.walk) (sym c.into_iter-key-iterator.ensures.into_iter_gives);
 }

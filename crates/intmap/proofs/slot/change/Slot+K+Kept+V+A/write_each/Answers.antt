@@ -1,7 +1,7 @@
-use Rattle.std.proofs.Common.{◌≡◌, ◌∷◌, ◌++◌, ◌∙◌, length, take, drop, sym, ap, subst}
+use Rattle.std.proofs.Common.{◌≡◌, ◌∷◌, ◌++◌, ◌∙◌, length, take, drop, ap, subst}
 use Rattle.std.proofs.Math.Seq.{take-append_seam}
 use Rattle.intmap.specs.Tables.Kept.{WritesStored, TakesStoredMut}
-use Rattle.intmap.specs.Tables.Slots.{all_pairs, HasFirst}
+use Rattle.intmap.specs.Tables.Slots.{HasFirst}
 use Rattle.intmap.proofs.TakingLemmas.{TakesEach-first, TakesEach-next}
 use Rattle.intmap.proofs.WritesLemmas.{length-Writes}
 use Rattle.intmap.proofs.slot.change.Slot+K+Kept+V+A.write_each.Goals as goal

@@ -3,7 +3,7 @@ use Rattle.std.proofs.Common.{inr, ◌^◌, ◌<◌, ◌≤◌, [], ◌∷◌, �
 use Rattle.std.proofs.lemmas.List.{append-nil}
 use Rattle.serde_json.specs.View.{members_view}
 use Rattle.serde_json.proofs.Views.{members_len-members_view}
-use Rattle.intmap.specs.Extending.{IsInserted, IsExtended}
+use Rattle.intmap.specs.Extending.{MapInserts, IsExtended}
 use Rattle.intmap.specs.Growth.{IsLeastPower}
 use Rattle.intmap.specs.Json.{IsKeyText, HasKeyTexts, ArePairsOf, AreCollected, MayRefuseToRead}
 use Rattle.intmap.specs.Map.{empty_map}
@@ -29,7 +29,7 @@ loop-text-init c =
       are = λ rest are. subst (λ es. ArePairsOf (members_view es) rest) all are;
       extended = subst (λ m. IsExtended (λ key. key) (λ key. key < 2 ^ 64) (empty_map made.map.capacity) [] m) (sym made.ensures.state)
           (IsExtended-nil (λ key. key) (λ key. key < 2 ^ 64) (empty_map made.map.capacity));
-      map = made.ensures.map;
+      map = made.ensures.valid;
     }
 
 pub returns-in_err-clone-clause-refused : goal.returns-in_err-clone-clause-refused
@@ -78,8 +78,8 @@ loop-text-preserved c =
     let first = c.in-Some.ensures.steps in
     let e = c.in_ok-insert.ensures in
     let text : IsKeyText (string_bytes c.in-Some.text.now) k = subst (λ t. IsKeyText t k) c.as_str.ensures.value c.known_key-key.ensures.value in
-    let last : IsInserted (λ key. key) (λ key. key < 2 ^ 64) c.loop-text.map k v c.insert.new.self =
-    record { in_range = e.too_large.1; capacity = e.capacity; state = e.state; map = c.insert.ensures.map_after } in record {
+    let last : MapInserts (λ key. key) (λ key. key < 2 ^ 64) c.loop-text.map k v c.insert.new.self =
+    record { in_range = e.too_large.1; capacity = e.capacity; state = e.state; map = c.insert.ensures.valid_after } in record {
       can = tt;
       ends = tt;
       texts = (subst (λ es. HasKeyTexts (members_view es)) first kept.texts).1;
@@ -89,7 +89,7 @@ loop-text-preserved c =
           subst (λ ps. ArePairsOf ms ps) (sym (append_assoc kept.pairs ((k, v) ∷ []) rest)) (kept.are ((k, v) ∷ rest) here);
       extended = IsExtended-push (λ key. key) (λ key. key < 2 ^ 64) (empty_map c.in_ok-map.map.capacity) c.loop-text.map c.insert.new.self kept.pairs k v
           kept.extended last c.in_ok-insert.field-0 e.old e.updates.0 e.len;
-      map = c.insert.ensures.map_after;
+      map = c.insert.ensures.valid_after;
     }
 
 pub returns : goal.returns
@@ -106,6 +106,6 @@ returns c =
       reads = record { pairs = kept.pairs; are = are; collected = collected };
       len = length-collected es kept.pairs c.loop-text.map _ are apart collected;
       shows = ShowsBindings-collected es kept.pairs c.loop-text.map _ are apart collected c.requires.texts;
-      map = kept.map;
+      valid = kept.map;
       refused = tt;
     }

@@ -61,20 +61,20 @@ GrowsTooMuch-few C n cap few much = elim (cases_Bool (is_due n)) [
 
 module _ {X : Type 0} (slot : ℕ → List X) where
   -- the sizes above 1 of slots 0, 1, .., n - 1
-  abbrev pub crowds_below : ℕ → List ℕ
-  crowds_below n = filter (nat_lt 1) (map (λ i. length (slot i)) (range_with_len 0 n))
+  abbrev pub collision_sizes_below : ℕ → List ℕ
+  collision_sizes_below n = filter (nat_lt 1) (map (λ i. length (slot i)) (range_with_len 0 n))
 
   -- one slot more, of several pairs
-  pub crowds_below-crowded : (n : ℕ) → nat_lt 1 (length (slot n)) ≡ true → crowds_below (n + 1) ≡ crowds_below n ++ length (slot n) ∷ []
-  crowds_below-crowded n crowded = filter_of_map_range_with_len_more (nat_lt 1) (λ i. length (slot i)) 0 n n (omega arith) ∙ rw crowded refl
+  pub collision_sizes_below-crowded : (n : ℕ) → nat_lt 1 (length (slot n)) ≡ true → collision_sizes_below (n + 1) ≡ collision_sizes_below n ++ length (slot n) ∷ []
+  collision_sizes_below-crowded n crowded = filter_of_map_range_with_len_more (nat_lt 1) (λ i. length (slot i)) 0 n n (omega arith) ∙ rw crowded refl
 
   -- one slot more, of one pair or none
-  pub crowds_below-alone : (n : ℕ) → nat_lt 1 (length (slot n)) ≡ false → crowds_below (n + 1) ≡ crowds_below n
-  crowds_below-alone n alone = filter_of_map_range_with_len_more (nat_lt 1) (λ i. length (slot i)) 0 n n (omega arith) ∙ rw alone (append-nil (crowds_below n))
+  pub collision_sizes_below-alone : (n : ℕ) → nat_lt 1 (length (slot n)) ≡ false → collision_sizes_below (n + 1) ≡ collision_sizes_below n
+  collision_sizes_below-alone n alone = filter_of_map_range_with_len_more (nat_lt 1) (λ i. length (slot i)) 0 n n (omega arith) ∙ rw alone (append-nil (collision_sizes_below n))
 
   -- no more sizes than slots
-  length-crowds_below : (n : ℕ) → length (crowds_below n) ≤ n
-  length-crowds_below n =
+  length-collision_sizes_below : (n : ℕ) → length (collision_sizes_below n) ≤ n
+  length-collision_sizes_below n =
       let f = length-filter (nat_lt 1) (map (λ i. length (slot i)) (range_with_len 0 n)) in
       let le = count_by-le-length (nat_lt 1) (map (λ i. length (slot i)) (range_with_len 0 n)) in
       let l = length-map-range_with_len (λ i. length (slot i)) 0 n in
@@ -89,13 +89,13 @@ module _ {X : Type 0} (slot : ℕ → List X) where
       let len = length-flat_map slot (range_with_len 0 C) in
       omega (arith, first, part, all, len)
 
-  module _ (C n : ℕ) (below : n < C) (m : MapState ℕ ℕ) (tally : IsTally (crowds_below n) m) where
+  module _ (C n : ℕ) (below : n < C) (m : MapState ℕ ℕ) (tally : IsTally (collision_sizes_below n) m) where
     -- no count is as great as the number of slots
     pub count-below : C ≤ 2 ^ 63 → (q count : ℕ) → value_of (λ k. k) m.walk q ≡ Some count → count < 2 ^ 64 - 1
     count-below most q count bound =
-        let here = found (list_any (λ k. k == q) (crowds_below n)) (times q (crowds_below n)) count (sym bound ∙ tally.counts q ∙ value_of-tally_of (crowds_below n) q) in
-        let le = count_by-le-length (λ k. k == q) (crowds_below n) in
-        let short = length-crowds_below n in
+        let here = found (list_any (λ k. k == q) (collision_sizes_below n)) (times q (collision_sizes_below n)) count (sym bound ∙ tally.counts q ∙ value_of-tally_of (collision_sizes_below n) q) in
+        let le = count_by-le-length (λ k. k == q) (collision_sizes_below n) in
+        let short = length-collision_sizes_below n in
         let is = here.1 in
         omega (arith, le, short, is, most, below)
 
@@ -104,17 +104,17 @@ module _ {X : Type 0} (slot : ℕ → List X) where
         → IsOutOfRange (λ k. k) m.walk m.capacity m.factor (length (slot n)) → ⊥
     size-in_range fits is_map crowded out =
         let q : ℕ = length (slot n) in
-        let away = missing (list_any (λ k. k == q) (crowds_below n)) (times q (crowds_below n)) (sym (none_from (value_of (λ k. k) m.walk q) out.0) ∙ tally.counts q ∙ value_of-tally_of (crowds_below n) q) in
-        let once : each_once (crowds_below n ++ q ∷ []) ≡ each_once (crowds_below n) ++ q ∷ [] = each_once-push (crowds_below n) q ∙ rw away refl in
-        let more = ap length (ap each_once (crowds_below-crowded n crowded) ∙ once) ∙ length-append (each_once (crowds_below n)) (q ∷ []) in
-        let len = tally.len ∙ length-map (each_once (crowds_below n)) (λ k. (k, times k (crowds_below n))) in
+        let away = missing (list_any (λ k. k == q) (collision_sizes_below n)) (times q (collision_sizes_below n)) (sym (none_from (value_of (λ k. k) m.walk q) out.0) ∙ tally.counts q ∙ value_of-tally_of (collision_sizes_below n) q) in
+        let once : each_once (collision_sizes_below n ++ q ∷ []) ≡ each_once (collision_sizes_below n) ++ q ∷ [] = each_once-push (collision_sizes_below n) q ∙ rw away refl in
+        let more = ap length (ap each_once (collision_sizes_below-crowded n crowded) ∙ once) ∙ length-append (each_once (collision_sizes_below n)) (q ∷ []) in
+        let len = tally.len ∙ length-map (each_once (collision_sizes_below n)) (λ k. (k, times k (collision_sizes_below n))) in
         let few = few_sizes (map (λ i. length (slot i)) (range_with_len 0 (n + 1))) in
-        let one = one-most (list_any (λ k. k == 2) (crowds_below (n + 1))) in
+        let one = one-most (list_any (λ k. k == 2) (collision_sizes_below (n + 1))) in
         let pairs = sizes-below (n + 1) C (omega (arith, below)) in
         let least : 3 * (length m.walk + 1) ≤ 2 ^ 64 = omega (arith, more, len, few, one, pairs, fits) in
         elim out.1 [
           | inl long ↦ omega (arith, long, least)
-          | inr much ↦ GrowsTooMuch-few m.capacity (length m.walk + 1) is_map.capacity least (rw (IsMadeOf-factor (λ k. k) (λ k. k < 2 ^ 64) (tally_of (crowds_below n)) m tally.made) at much)
+          | inr much ↦ GrowsTooMuch-few m.capacity (length m.walk + 1) is_map.capacity least (rw (IsMadeOf-factor (λ k. k) (λ k. k < 2 ^ 64) (tally_of (collision_sizes_below n)) m tally.made) at much)
         ]
       where
         one-most : (b : Bool) → cond {A = ℕ} b 1 0 ≤ 1

@@ -9,43 +9,43 @@ use Rattle.intmap.specs.declared.refusal.Cause.{Cause}
 use Rattle.intmap.specs.declared.refusal.Cause.TheVariants.{Memory, TooLarge}
 
 -- a plain list of pairs, which growth never touches, with a capacity and a load factor in thousandths
-pub record State (K V : Type 0) : Type 0 where
+pub record PlainList (K V : Type 0) : Type 0 where
   pub pairs : List (K × V)
   pub capacity : ℕ
   pub factor : ℕ
 
 -- no pairs in C slots, at the load factor of a map that was just made
-abbrev pub empty_state : {K V : Type 0} → ℕ → State K V
-empty_state C = record { pairs = []; capacity = C; factor = 909 }
+abbrev pub empty_list : {K V : Type 0} → ℕ → PlainList K V
+empty_list C = record { pairs = []; capacity = C; factor = 909 }
 
 module _ {K V : Type 0} (number : K → ℕ) where
   -- the list stands for the map
-  pub record Stands (s : State K V) (m : MapState K V) : Type 0 where
+  pub record Stands (s : PlainList K V) (m : MapState K V) : Type 0 where
     pub walk : StandsFor number s.pairs m.walk s.capacity
     pub capacity : s.capacity ≡ m.capacity
     pub factor : s.factor ≡ m.factor
 
   -- an accepted insertion: the key is in range, the pair stands last, and growth changes the capacity alone
-  pub record Inserts (s : State K V) (k : K) (v : V) (t : State K V) : Type 0 where
+  pub record ListInserts (s : PlainList K V) (k : K) (v : V) (t : PlainList K V) : Type 0 where
     pub in_range : IsOutOfRange number s.pairs s.capacity s.factor k → ⊥
     pub capacity : IsCapacityAfter number s.pairs s.capacity s.factor k t.capacity
     pub after : t ≡ record s { pairs = put_pair number s.pairs s.capacity k v; capacity = t.capacity }
 
   -- an insertion may be refused for this cause: of a new key alone, as too large exactly where it is out of range, and
   -- for want of memory never where the capacity stays and no bound key shares its slot
-  pub record MayRefuse (s : State K V) (k : K) (cause : Cause) : Type 0 where
+  pub record RefusalIsDue (s : PlainList K V) (k : K) (cause : Cause) : Type 0 where
     pub new_key : IsNone (value_of number s.pairs k)
     pub too_large : (cause ≡ TooLarge) ↔ IsOutOfRange number s.pairs s.capacity s.factor k
     pub memory : cause ≡ Memory → IsNext s.capacity (length s.pairs + 1) s.factor s.capacity → 0 < class_size number s.pairs s.capacity k
 
   -- the pairs are inserted in turn, all accepted
-  abbrev pub InsertsAll : State K V → List (K × V) → State K V → Type 0
-  InsertsAll s [] t = t ≡ s
-  InsertsAll s (p ∷ ps) t = (m : State K V) × Inserts s p.0 p.1 m × InsertsAll m ps t
+  abbrev pub ListInsertsAll : PlainList K V → List (K × V) → PlainList K V → Type 0
+  ListInsertsAll s [] t = t ≡ s
+  ListInsertsAll s (p ∷ ps) t = (m : PlainList K V) × ListInserts s p.0 p.1 m × ListInsertsAll m ps t
 
   -- the pairs are inserted in turn up to the first that is refused: so many were, and that one with its cause, or none
-  abbrev pub InsertsUpTo : State K V → List (K × V) → ℕ → Option ((K × V) × Cause) → State K V → Type 0
-  InsertsUpTo s ps n None t = (n ≡ length ps) × InsertsAll s ps t
-  InsertsUpTo s ps n (Some refused) t =
+  abbrev pub ListInsertsUpTo : PlainList K V → List (K × V) → ℕ → Option ((K × V) × Cause) → PlainList K V → Type 0
+  ListInsertsUpTo s ps n None t = (n ≡ length ps) × ListInsertsAll s ps t
+  ListInsertsUpTo s ps n (Some refused) t =
       (qs : List (K × V)) × (rest : List (K × V))
-      × (ps ≡ qs ++ refused.0 ∷ rest) × (n ≡ length qs) × InsertsAll s qs t × MayRefuse t refused.0.0 refused.1
+      × (ps ≡ qs ++ refused.0 ∷ rest) × (n ≡ length qs) × ListInsertsAll s qs t × RefusalIsDue t refused.0.0 refused.1
