@@ -1,4 +1,4 @@
--- What words of marks, a slot, a table and a map end as, once values of theirs were lent and written.
+-- What a slot, a table and a map end as, once values of theirs were lent and written.
 pub mod Apart
 use Rattle.std.specs.Prelude.{ℕ, Bool, List, Option}
 use Rattle.std.specs.Borrow.{Lends, LendsIf, follows, Fml, RattleType, MutBor, GName, u64}
@@ -7,18 +7,12 @@ use Rattle.std.specs.declared.alloc.Allocator as allocator
 use Rattle.std.specs.declared.cmp.PartialEq as eq
 use Rattle.intmap.specs.declared.key.IntKey as key
 use Rattle.intmap.specs.Bindings.{write_value}
-use Rattle.intmap.specs.Tables.Bits.{with_word}
 use Rattle.intmap.specs.Map.{MapState, after_search, written}
 use Rattle.intmap.specs.Tables.Slots.{Held, Grid, write_at}
 use Rattle.intmap.specs.Values.{map_with_values}
 use Rattle.intmap.specs.contracts.slot.Slot.{the_row as slot_row}
 use Rattle.intmap.specs.contracts.table.Table.{the_row as table_row}
-use Rattle.intmap.specs.contracts.bits.Bits.{the_row as bits_row}
 use Rattle.intmap.specs.contracts.map.IntMap.{the_row as map_row}
-
--- once the loan named r ends, the marks behind b are those of the last word written through it, around place i, and all else is as it was
-abbrev pub bits_lend : (A : RattleType) → allocator.Ghosts A.Denot → MutBor (List Bool) → ℕ → MutBor ℕ → Fml
-bits_lend A a b i r = Lends (bits_row A a) u64 b r (λ word. with_word b.now i word)
 
 -- once the loan named r ends, the slot behind s has the last value written through it at place i, and all else as it was
 abbrev pub slot_lends : (K X A : RattleType) → key.Ghosts K.Denot → eq.Ghosts K.Denot → allocator.Ghosts A.Denot

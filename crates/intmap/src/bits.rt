@@ -46,9 +46,6 @@ pub(crate) fn end_of_word(place: usize) -> usize
 }
 
 impl<A: Allocator> Bits<A> {
-    ghost use Rattle.std.specs.Borrow.{sem};
-    ghost use Rattle.intmap.specs.Lending.{bits_lend};
-
     /// Marks a place, and returns whether it was marked before. No other place changes.
     #[inline(always)]
     pub(crate) fn set(&mut self, place: usize) -> bool
@@ -61,14 +58,23 @@ impl<A: Allocator> Bits<A> {
         (word >> (place % BITS)) & 1 == 1
     }
 
-    /// A mutable reference to the word that a place has its bit in.
+    /// The word that a place has its bit in.
     #[inline(always)]
-    pub(crate) fn word_mut(&mut self, place: usize) -> &mut u64
-        requires { place < length self.old }
-        ensures* writes_back { sem 𝓛 (bits_lend A.row A.Allocator self.entry place result) }
-        ensures word { IsWordOf self.old place result.now }
+    pub(crate) fn word(&self, place: usize) -> u64
+        requires { place < length self.now }
+        ensures { IsWordOf self.now place result }
     {
-        &mut self.words[place / BITS]
+        self.words[place / BITS]
+    }
+
+    /// Clears the mark of a place in its word, which was read before. No other place changes.
+    #[inline(always)]
+    pub(crate) fn clear_in(&mut self, word: u64, place: usize)
+        requires within { place < length self.old }
+        requires word { IsWordOf self.old place word }
+        ensures { self.new ≡ slice_set self.old place false }
+    {
+        self.words[place / BITS] = without(word, place);
     }
 
     /// Clears the mark of a place. No other place changes.
@@ -77,8 +83,7 @@ impl<A: Allocator> Bits<A> {
         requires { place < length self.old }
         ensures { self.new ≡ slice_set self.old place false }
     {
-        let word = self.word_mut(place);
-        *word = without(*word, place);
+        self.clear_in(self.word(place), place);
     }
 
     /// Clears all marks.

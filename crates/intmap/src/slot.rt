@@ -42,12 +42,10 @@ fn find_in<K: IntKey, X>(pairs: &[(Stored<K>, X)], key: &K, steps: &mut Steps) -
     ensures counted { steps.new ≡ steps.old
         + length (through_first (λ p. same_key K.number_of key.now p.0) pairs.now) }
 {
-    let mut left = pairs;
-    while let Some((pair, rest)) = left.split_first() {
-        if pair.0.matches(key, steps) {
-            return Some(pairs.len() - left.len());
+    for i in 0..pairs.len() {
+        if pairs[i].0.matches(key, steps) {
+            return Some(i);
         }
-        left = rest;
     }
     None
 }

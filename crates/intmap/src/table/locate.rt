@@ -90,9 +90,11 @@ impl<K: IntKey, X, A: Allocator> Table<K, X, A> {
             (take_key K.number_of self.old.walk self.old.capacity at.key) self.old.capacity }
         ensures capacity { self.new.capacity ≡ self.old.capacity }
     {
+        // read before the slot changes, so that a write there can't delay it
+        let word = self.directory.bits.word(at.slot);
         let ((_, value), is_emptied) = self.slots[at.slot].take_at(at.place);
         if is_emptied {
-            self.directory.bits.clear(at.slot);
+            self.directory.bits.clear_in(word, at.slot);
         }
         value
     }

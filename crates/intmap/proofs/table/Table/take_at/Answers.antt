@@ -1,9 +1,10 @@
-use Rattle.std.proofs.Common.{◌≡◌, ◌∙◌, Some, false, length, set, length-set, sym, ap}
+use Rattle.std.proofs.Common.{◌≡◌, ◌<◌, ◌∙◌, Some, false, length, set, length-set, sym, ap, subst}
 use Rattle.intmap.specs.Bindings.{swap_out, value_of}
 use Rattle.intmap.specs.Classes.{same_key}
 use Rattle.intmap.specs.Locations.{IsAt}
 use Rattle.intmap.specs.Tables.Slots.{rows, joined, IsTable}
-use Rattle.intmap.proofs.Tables.FilledLemmas.{emptied-none, emptied-some, filled-bound, mark-below, marks-kept, marks-set}
+use Rattle.intmap.proofs.SlotNumberLemmas.{slot_number-below}
+use Rattle.intmap.proofs.Tables.FilledLemmas.{emptied-none, emptied-some, filled-bound, mark-below, marks-kept, marks-set, place-below}
 use Rattle.intmap.proofs.LocationLemmas.{slot-at, place-at, place-within}
 use Rattle.intmap.proofs.PositionLemmas.{swap_remove-position, first_value-position}
 use Rattle.intmap.proofs.Tables.SwapOutLemmas.{any}
@@ -38,9 +39,16 @@ pub take_at-value-requires : goal.take_at-value-requires
 take_at-value-requires g c =
     place-within _ _ _ _ c.self.invariant.marked.table (rw (← c.self.view_is) at c.requires) c.index_mut.ensures.value
 
-pub clear-requires : goal.clear-requires
-clear-requires g c =
-    mark-below _ _ _ _ _ (slot g (goal.at.clear-requires g c).After-take_at-value) c.self.inside.directory.bits c.self.invariant.marked.marks
+pub word-word-requires : goal.word-word-requires
+word-word-requires g c =
+    let slots = c.self.inside.slots.items in
+    let at : IsAt g.K.IntKey.number_of (joined (rows slots)) (length slots) c.args.at = rw (← c.self.view_is) at c.requires in
+    let below = slot_number-below g.K.IntKey.number_of c.args.at.key (length slots) c.self.invariant.marked.table.capacity in
+    place-below slots c.self.inside.directory.bits c.self.invariant.marked.marks c.args.at.slot (subst (λ i. i < length slots) (sym at.slot) below)
+
+pub clear_in-requires-clause-within : goal.clear_in-requires-clause-within
+clear_in-requires-clause-within g c =
+    mark-below _ _ _ _ _ (slot g (goal.at.clear_in-requires-clause-within g c).After-take_at-value) c.self.inside.directory.bits c.self.invariant.marked.marks
 
 pub invariant_of-self : goal.invariant_of-self
 invariant_of-self g c =
@@ -48,7 +56,7 @@ invariant_of-self g c =
     record {
       marked = record {
         table = table g after;
-        marks = rw c.clear.ensures (marks-set _ _ _ _ _ (slot g after) c.self.inside.directory.bits c.self.invariant.marked.marks c.take_at-value.new.self false (emptied-none c.take_at-value.new.self.pairs _ c.take_at-value.ensures.emptied c.if-is_emptied.true));
+        marks = rw c.clear_in.ensures (marks-set _ _ _ _ _ (slot g after) c.self.inside.directory.bits c.self.invariant.marked.marks c.take_at-value.new.self false (emptied-none c.take_at-value.new.self.pairs _ c.take_at-value.ensures.emptied c.if-is_emptied.true));
       };
       count = c.self.invariant.count ∙ sym (length-set _ _ _);
     }
