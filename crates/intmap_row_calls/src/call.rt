@@ -1,20 +1,26 @@
 //! One call, from its words to its answer.
 
-use crate::entries::{with_entry, with_reference};
-use crate::figures::figure;
+use crate::entries::{
+    add, insert, more_or, value_or_zero, write, write_by_entry, write_entry, write_old,
+};
 use crate::items::{insert_checked_items, insert_items};
-use crate::iterated::{through_all, through_front};
-use crate::retained::retain;
-use crate::walks::{keys_sum, values_sum, walk_sum, write_keys, write_values};
+use crate::iterated::{
+    End, add_by_pairs, add_by_values, add_to_each, add_to_values, drained, size_hints, sum_of,
+    taken, written,
+};
+use crate::walks::{
+    keys_sum, retain_all, retain_alternate, values_sum, walk_sum, write_keys, write_values,
+};
 use intmap::steps::Steps;
 use intmap::{IntKey, IntMap};
-use intmap_row_words::maps::{MapOf, Maps};
+use intmap_row_words::maps::{Map, MapOf, Maps, remove_by_entry};
 use intmap_row_words::text::{
-    no_call, write_bool, write_done, write_number, write_option, write_refusal, write_state,
-    write_walk,
+    no_call, write_bool, write_done, write_list, write_number, write_option, write_pairs,
+    write_refusal, write_state, write_walk,
 };
 use std::alloc::AllocError;
 use std::fmt::{Debug, Display};
+use std::mem;
 
 /// Writes the answer to a call with two numbers at most. Words that are no such call answer so.
 pub fn answer_to(
@@ -47,7 +53,16 @@ fn bare(out: &mut String, maps: &mut Maps<'_>, name: &str) -> Result<(), AllocEr
         "walk_sum" => walk_sum(out, &maps.map),
         "keys_sum" => keys_sum(out, &maps.map),
         "values_sum" => values_sum(out, &maps.map),
-        _ => through_all(out, maps, name),
+        "drain_sum" => sum_of(out, maps.map.drain()),
+        "into_sum" => match taken(maps) {
+            Ok(map) => sum_of(out, map.into_iter()),
+            Err(cause) => write_refusal(out, cause, None),
+        },
+        "size_hints" => match taken(maps) {
+            Ok(map) => size_hints(out, map),
+            Err(cause) => write_refusal(out, cause, None),
+        },
+        _ => without_key(out, &mut maps.map, name),
     }
 }
 
@@ -62,12 +77,22 @@ pub fn without_key<K: IntKey + Display + Debug>(
             map.clear();
             write_done(out, Ok(()))
         }
-        _ => retain(out, map, name),
+        "retain" => {
+            map.retain(|_, value| *value % 2 == 1);
+            write_done(out, Ok(()))
+        }
+        "retain_odd" => {
+            map.retain(|key, _| key.number() % 2 == 1);
+            write_done(out, Ok(()))
+        }
+        "retain_alternate" => write_number(out, retain_alternate(map) as u128),
+        "retain_all" => retain_all(map).write(out),
+        _ => seen(out, map, name),
     }
 }
 
-/// Writes the answer to a call that looks at a map.
-pub fn seen<K: IntKey + Display + Debug>(
+// writes the answer to a call that looks at a map
+fn seen<K: IntKey + Display + Debug>(
     out: &mut String,
     map: &MapOf<'_, K>,
     name: &str,
@@ -77,11 +102,27 @@ pub fn seen<K: IntKey + Display + Debug>(
         "is_empty" => write_bool(out, map.is_empty()),
         "capacity" => write_number(out, map.capacity() as u128),
         "get_load_factor" => write_number(out, map.get_load_factor() as u128),
+        "load" => write_number(out, map.load() as u128),
+        "load_rate" => write_number(out, map.load_rate()),
+        "assert_count" => write_bool(out, map.assert_count()),
         "walk" => write_walk(out, map),
-        "debug" => write!(out, "{map:?}"),
         "keys" => write_keys(out, map),
         "state" => write_state(out, map),
-        _ => figure(out, map, name),
+        "debug" => write!(out, "{map:?}"),
+        "collisions" | "collisions_debug" | "collisions_state" => match map.collisions() {
+            Ok(sizes) => write_sizes(out, &sizes, name),
+            Err(cause) => write_refusal(out, cause, None),
+        },
+        _ => no_call(out),
+    }
+}
+
+// writes what such a call shows of the map that it makes
+fn write_sizes(out: &mut String, sizes: &MapOf<'_, u64>, name: &str) -> Result<(), AllocError> {
+    match name {
+        "collisions_debug" => write!(out, "{sizes:?}"),
+        "collisions_state" => write_state(out, sizes),
+        _ => write_walk(out, sizes),
     }
 }
 
@@ -109,7 +150,37 @@ fn with_number(
         }
         "insert_items" => insert_items(out, maps.memory, number),
         "insert_checked_items" => insert_checked_items(out, maps.memory, number),
-        _ => through_front(out, maps, name, number),
+        "into_iter" => match taken(maps) {
+            Ok(map) => write_pairs(out, map.into_iter().take(number as usize)),
+            Err(cause) => write_refusal(out, cause, None),
+        },
+        _ => through_front(out, &mut maps.map, name, number),
+    }
+}
+
+// writes the answer to a call that goes through so many items, or through all where there are fewer
+fn through_front(
+    out: &mut String,
+    map: &mut Map<'_>,
+    name: &str,
+    count: u64,
+) -> Result<(), AllocError> {
+    match name {
+        "iter" => {
+            let pairs = map.iter().map(|(key, value)| (*key, *value));
+            write_pairs(out, pairs.take(count as usize))
+        }
+        "keys" => write_list(out, map.keys().copied().take(count as usize)),
+        "values" => write_list(out, map.values().copied().take(count as usize)),
+        "drain" => drained(out, map, count, End::Dropped),
+        "drain_forget" => drained(out, map, count, End::Forgotten),
+        "iter_mut" => written(out, map, count, End::Dropped),
+        "iter_mut_forget" => written(out, map, count, End::Forgotten),
+        "values_mut" => write_number(out, u128::from(add_to_values(map, count))),
+        "iter_mut_add" => write_number(out, u128::from(add_by_pairs(map, count))),
+        "values_mut_add" => write_number(out, u128::from(add_by_values(map, count))),
+        "for_each_add" => add_to_each(map, count).write(out),
+        _ => with_key(out, map, name, count),
     }
 }
 
@@ -132,7 +203,17 @@ pub fn with_key<K: IntKey + Display>(
             map.retain(|other, _| other != key);
             write_done(out, Ok(()))
         }
-        _ => with_entry(out, map, name, key),
+        "entry" => write_entry(out, &map.entry(key)),
+        "entry_key" => {
+            let key = *map.entry(key).key();
+            write!(out, "{key}")
+        }
+        "entry_forget" => {
+            mem::forget(map.entry(key));
+            write_done(out, Ok(()))
+        }
+        "entry_remove" => write_option(out, remove_by_entry(map, key)),
+        _ => no_call(out),
     }
 }
 
@@ -157,6 +238,13 @@ pub fn with_pair<K: IntKey>(
             let called = map.insert(key, value);
             write!(out, "{called:?}")
         }
-        _ => with_reference(out, map, name, key, value),
+        "get_mut" => write_old(out, write(map, key, value), value),
+        "entry_get_mut" => write_old(out, write_by_entry(map, key, value), value),
+        "entry_insert" => insert(out, map, key, value),
+        "entry_add" => add(out, value_or_zero(map.entry(key)), value),
+        "or_insert" => add(out, map.entry(key).or_insert(value), 0),
+        "or_insert_add" => add(out, map.entry(key).or_insert(0), value),
+        "and_modify" => add(out, more_or(map.entry(key), value), 0),
+        _ => no_call(out),
     }
 }

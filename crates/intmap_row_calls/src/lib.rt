@@ -8,11 +8,9 @@
 mod call;
 mod cell;
 mod entries;
-mod figures;
 mod items;
 mod iterated;
 pub mod kinds;
-mod retained;
 mod walks;
 
 pub use call::answer_to;

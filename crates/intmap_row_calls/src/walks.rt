@@ -1,4 +1,4 @@
-//! Calls that tell of a whole walk.
+//! Calls that tell of a whole walk, or of the pairs that a closure was asked to keep.
 
 use intmap::IntKey;
 use intmap_row_words::maps::{Map, MapOf};
@@ -73,4 +73,24 @@ pub fn values_sum(out: &mut String, map: &Map<'_>) -> Result<(), AllocError> {
         seen.add(0, *value);
     }
     seen.write(out)
+}
+
+/// Keeps the first, the third, the fifth pair, and so on; answers how many there were.
+pub fn retain_alternate<K: IntKey>(map: &mut MapOf<'_, K>) -> u64 {
+    let mut asked = 0u64;
+    map.retain(|_, _| {
+        asked = asked.wrapping_add(1);
+        asked % 2 == 1
+    });
+    asked
+}
+
+/// Keeps each pair; answers which there were, in the order in which the closure was called.
+pub fn retain_all<K: IntKey>(map: &mut MapOf<'_, K>) -> WalkSum {
+    let mut seen = WalkSum::new();
+    map.retain(|key, value| {
+        seen.add(key.number(), *value);
+        true
+    });
+    seen
 }

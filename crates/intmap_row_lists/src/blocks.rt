@@ -1,16 +1,16 @@
 //! Rows of commands, all of which are run by one call.
 
-use crate::runs::{AnswerOf, Commands, command_of, run_all, write_answer, write_run};
+use crate::runs::{AnswerOf, Commands, run_all, write_run};
 use intmap_row_words::maps::{Maps, new_map};
 use intmap_row_words::report::Report;
 use intmap_row_words::text::write_state;
 use intmap_row_words::word::parts_of;
+use intmap_text::{Line, print_answer, read_line};
 use refuser::Refuser;
 use std::alloc::{AllocError, Global};
 
 // the commands that lines spell, those left out that spell none
 fn commands_of<'a>(
-    alloc: Global,
     memory: &'a Refuser<Global>,
     report: &mut Report,
     lines: &[&str],
@@ -18,9 +18,9 @@ fn commands_of<'a>(
     let mut commands = Vec::new(memory);
     for line in lines {
         let (call, _) = parts_of(line);
-        match command_of(alloc, memory, call)? {
-            Some(command) => commands.push(command)?,
-            None => report.compare(line, "a command", "not a command")?,
+        match read_line(memory, call.as_bytes())? {
+            Line::Command(command) => commands.push(command)?,
+            _ => report.compare(line, "a command", "not a command")?,
         }
     }
     Ok(commands)
@@ -36,7 +36,7 @@ pub fn run_rows(
     lines: &[&str],
     number: u64,
 ) -> Result<(), AllocError> {
-    let commands = commands_of(alloc, maps.memory, report, lines)?;
+    let commands = commands_of(maps.memory, report, lines)?;
     maps.memory.arm(number);
     let ran = run_all(maps.memory, &mut maps.map, commands);
     maps.memory.arm(0);
@@ -79,7 +79,7 @@ fn compare_answers(
     for (line, answer) in lines.iter().zip(answers.iter()) {
         let (_, wanted) = parts_of(line);
         let mut text = String::new(alloc);
-        write_answer(&mut text, answer)?;
+        print_answer(&mut text, answer)?;
         report.compare(line, wanted, text.as_str())?;
     }
     Ok(())
@@ -111,7 +111,7 @@ pub fn replay(
 ) -> Result<(), AllocError> {
     memory.arm(0);
     for number in 1..MANY {
-        let commands = commands_of(alloc, memory, report, lines)?;
+        let commands = commands_of(memory, report, lines)?;
         let mut told = String::new(alloc);
         replay_one(&mut told, memory, commands, number)?;
         let is_refused = memory.left() == 0;

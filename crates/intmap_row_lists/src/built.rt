@@ -1,76 +1,25 @@
 //! Calls that put many pairs into a map at once, make a map of pairs or of another map, or compare two.
 ghost use Rattle.std.specs.Iterator.{IsFinite, at_most};
 
-use crate::many::Keys;
 use intmap::{Cause, IntMap};
-use intmap_row_words::maps::{Map, Maps, value_of};
-use intmap_row_words::text::{write_done, write_pairs, write_refusal, write_stopped};
+use intmap_row_words::maps::{Map, Maps};
+use intmap_row_words::text::{Told, print_answer, write_done, write_pairs, write_refusal};
 use refuser::Refuser;
 use std::alloc::{AllocError, Allocator, Global};
 use std::vec;
 
-/// Writes the answer to a call with many keys, each bound to ten more. `false`, and nothing written,
-/// where it is no such call.
-pub fn with_many_pairs(
-    out: &mut String,
-    maps: &mut Maps<'_>,
-    name: &str,
-    keys: Keys,
-) -> Result<bool, AllocError> {
-    let pairs = (0..keys.count).map(move |place| (keys.at(place), value_of(keys.at(place))));
-    let written = match name {
-        "extend_many" => extended(out, &mut maps.map, pairs),
-        "from_iter_many" => made_of(out, maps, pairs),
-        _ => return Ok(false),
-    };
-    written?;
-    Ok(true)
-}
-
-/// Writes the answer to a call that makes a map of so many numbers, each bound to its square. `false`,
-/// and nothing written, where it is no such call.
-pub fn with_squares(
-    out: &mut String,
-    maps: &mut Maps<'_>,
-    name: &str,
-    count: u64,
-) -> Result<bool, AllocError> {
-    let written = match name {
-        "from_squares" => made_of(out, maps, (0..count).map(squared)),
-        "from_squares_back" => made_of(out, maps, (0..count).rev().map(squared)),
-        _ => return Ok(false),
-    };
-    written?;
-    Ok(true)
-}
-
-// the number with its square, wrapped to 64 bits
-fn squared(number: u64) -> (u64, u64) {
+/// The number with its square, wrapped to 64 bits.
+pub fn squared(number: u64) -> (u64, u64) {
     (number, number.wrapping_mul(number))
 }
 
-/// Writes the answer to a call that speaks of both maps. `false`, and nothing written, where it is no
-/// such call.
-pub fn with_other(out: &mut String, maps: &mut Maps<'_>, name: &str) -> Result<bool, AllocError> {
-    let written = match name {
-        "extend_other" => match maps.take_other() {
-            Ok(other) => extended(out, &mut maps.map, other.into_iter()),
-            Err(cause) => write_refusal(out, cause, None),
-        },
-        "from_other" => match maps.take_other() {
-            Ok(other) => made_of(out, maps, other.into_iter()),
-            Err(cause) => write_refusal(out, cause, None),
-        },
-        "clone" => write_done(out, maps.clone_to_other()),
-        "clone_lists" => clone_lists(out, maps),
-        "equal" => {
-            let (one, back) = maps.are_equal();
-            write!(out, "{one} {back}")
-        }
-        _ => return Ok(false),
-    };
-    written?;
-    Ok(true)
+/// Extends the map by the pairs of the other one, or puts a map of them in its place.
+pub fn with_other(out: &mut String, maps: &mut Maps<'_>, name: &str) -> Result<(), AllocError> {
+    match maps.take_other() {
+        Ok(other) if name == "extend_other" => extended(out, &mut maps.map, other.into_iter()),
+        Ok(other) => made_of(out, maps, other.into_iter()),
+        Err(cause) => write_refusal(out, cause, None),
+    }
 }
 
 /// The pairs that the numbers make, a key and a value in turn.
@@ -92,7 +41,7 @@ pub fn extended<I: Iterator<Item = (u64, u64)>>(
 {
     match map.extend(pairs) {
         Ok(()) => write_done(out, Ok(())),
-        Err(refused) => write_stopped(out, &refused),
+        Err(refused) => print_answer(out, &Told::Stopped(refused)),
     }
 }
 
@@ -141,9 +90,9 @@ type Listed<'a> = Vec<u64, &'a Refuser<Global>>;
 // a map of such values
 type ListedMap<'a> = IntMap<u64, Listed<'a>, &'a Refuser<Global>>;
 
-// writes the pairs of a clone of a map with the same keys, whose values are lists of one number; only
-// the requests of the clone are counted
-fn clone_lists(out: &mut String, maps: &Maps<'_>) -> Result<(), AllocError> {
+/// Writes the pairs of a clone of a map with the same keys, whose values are lists of one number. Only
+/// the requests of the clone are counted.
+pub fn clone_lists(out: &mut String, maps: &Maps<'_>) -> Result<(), AllocError> {
     let refused = maps.memory.left();
     maps.memory.arm(0);
     match lists_of(maps) {

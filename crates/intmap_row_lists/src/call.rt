@@ -1,12 +1,10 @@
 //! One call with a list of numbers behind its name, or on both maps, from its words to its answer.
 
-use crate::built::{
-    Claimed, extended, made_of, pairs_of, with_many_pairs, with_other, with_squares,
-};
+use crate::built::{Claimed, clone_lists, extended, made_of, pairs_of, squared, with_other};
 use crate::many::{Insertion, Keys, Search, contains_many, find_many, insert_many, replace_many};
 use crate::runs::run_many;
-use intmap_row_words::maps::{Map, Maps, value_of};
-use intmap_row_words::text::write_number;
+use intmap_row_words::maps::{Maps, value_of};
+use intmap_row_words::text::{write_done, write_number};
 use std::alloc::AllocError;
 
 /// Writes the answer to a call with many pairs or many keys, or to one that makes a map of pairs or
@@ -18,99 +16,67 @@ pub fn answer_to(
     numbers: &[u64],
 ) -> Result<bool, AllocError> {
     let alloc = *out.allocator();
-    let written = match name {
-        "extend" => extended(out, &mut maps.map, pairs_of(alloc, numbers)?.into_iter()),
-        "extend_debug" => {
-            let called = maps.map.extend(pairs_of(alloc, numbers)?.into_iter());
+    let written = match (name, numbers) {
+        ("extend", pairs) => extended(out, &mut maps.map, pairs_of(alloc, pairs)?.into_iter()),
+        ("extend_debug", pairs) => {
+            let called = maps.map.extend(pairs_of(alloc, pairs)?.into_iter());
             write!(out, "{called:?}")
         }
-        "from_iter" => made_of(out, maps, pairs_of(alloc, numbers)?.into_iter()),
-        "from_claimed" => match numbers.split_first() {
-            Some((claimed, numbers)) => {
-                let pairs = pairs_of(alloc, numbers)?.into_iter();
-                let left = *claimed as usize;
-                made_of(out, maps, Claimed { pairs, left })
-            }
-            None => return Ok(false),
-        },
-        _ => return with_few(out, maps, name, numbers),
+        ("from_iter", pairs) => made_of(out, maps, pairs_of(alloc, pairs)?.into_iter()),
+        ("from_claimed", [claimed, pairs @ ..]) => {
+            let pairs = pairs_of(alloc, pairs)?.into_iter();
+            let left = *claimed as usize;
+            made_of(out, maps, Claimed { pairs, left })
+        }
+        ("from_squares", [count]) => made_of(out, maps, (0..*count).map(squared)),
+        ("from_squares_back", [count]) => made_of(out, maps, (0..*count).rev().map(squared)),
+        ("extend_other" | "from_other", []) => with_other(out, maps, name),
+        ("clone", []) => write_done(out, maps.clone_to_other()),
+        ("clone_lists", []) => clone_lists(out, maps),
+        ("equal", []) => {
+            let (one, back) = maps.are_equal();
+            write!(out, "{one} {back}")
+        }
+        (_, [first, count, step, more @ ..]) if more.len() < 2 => {
+            let keys = Keys::new(*first, *count, *step);
+            return with_keys(out, maps, name, keys, more.first().copied());
+        }
+        _ => return Ok(false),
     };
     written?;
     Ok(true)
 }
 
-// does the same with four numbers at most
-fn with_few(
-    out: &mut String,
-    maps: &mut Maps<'_>,
-    name: &str,
-    numbers: &[u64],
-) -> Result<bool, AllocError> {
-    match numbers {
-        [] => with_other(out, maps, name),
-        [number] => with_squares(out, maps, name, *number),
-        [first, count, step] => {
-            let keys = Keys::new(*first, *count, *step);
-            match search_of(name) {
-                Some(_) => with_more(out, &mut maps.map, name, keys, value_of(0)),
-                None => with_keys(out, maps, name, keys),
-            }
-        }
-        [first, count, step, more] => {
-            let keys = Keys::new(*first, *count, *step);
-            with_more(out, &mut maps.map, name, keys, *more)
-        }
-        _ => Ok(false),
-    }
-}
-
-// does the same with many keys
+// does the same with many keys, and how much more than itself each is to be bound to, ten if not said
 fn with_keys(
     out: &mut String,
     maps: &mut Maps<'_>,
     name: &str,
     keys: Keys,
+    more: Option<u64>,
 ) -> Result<bool, AllocError> {
-    let written = match name {
-        "insert_many" => insert_many(out, &mut maps.map, Insertion::Over, keys),
-        "insert_checked_many" => insert_many(out, &mut maps.map, Insertion::Checked, keys),
-        "entry_insert_many" => insert_many(out, &mut maps.map, Insertion::ByEntry, keys),
-        "or_insert_many" => insert_many(out, &mut maps.map, Insertion::OrInsert, keys),
-        "run_many" => run_many(out, maps.memory, &mut maps.map, "insert", keys),
-        "run_entries_many" => run_many(out, maps.memory, &mut maps.map, "entry_insert", keys),
-        "contains_many" => write_number(out, contains_many(&maps.map, keys) as u128),
-        _ => return with_many_pairs(out, maps, name, keys),
+    let map = &mut maps.map;
+    let pairs = (0..keys.count).map(move |place| (keys.at(place), value_of(keys.at(place))));
+    let distance = more.unwrap_or(value_of(0));
+    let written = match (name, more) {
+        ("insert_many", None) => insert_many(out, map, Insertion::Over, keys),
+        ("insert_checked_many", None) => insert_many(out, map, Insertion::Checked, keys),
+        ("entry_insert_many", None) => insert_many(out, map, Insertion::ByEntry, keys),
+        ("or_insert_many", None) => insert_many(out, map, Insertion::OrInsert, keys),
+        ("run_many", None) => run_many(out, maps.memory, map, Insertion::Over, keys),
+        ("run_entries_many", None) => run_many(out, maps.memory, map, Insertion::ByEntry, keys),
+        ("extend_many", None) => extended(out, map, pairs),
+        ("from_iter_many", None) => made_of(out, maps, pairs),
+        ("contains_many", None) => write_number(out, contains_many(map, keys) as u128),
+        ("get_many", _) => find_many(out, map, Search::Get, keys, distance),
+        ("get_mut_many", _) => find_many(out, map, Search::GetMut, keys, distance),
+        ("remove_many", _) => find_many(out, map, Search::Remove, keys, distance),
+        ("entry_remove_many", _) => find_many(out, map, Search::EntryRemove, keys, distance),
+        ("entry_replace_many", Some(_)) => {
+            write_number(out, replace_many(map, keys, distance) as u128)
+        }
+        _ => return Ok(false),
     };
     written?;
     Ok(true)
-}
-
-// does the same with many keys, and how much more than themselves they are bound to
-fn with_more(
-    out: &mut String,
-    map: &mut Map<'_>,
-    name: &str,
-    keys: Keys,
-    more: u64,
-) -> Result<bool, AllocError> {
-    if name == "entry_replace_many" {
-        write_number(out, replace_many(map, keys, more) as u128)?;
-        return Ok(true);
-    }
-    let Some(search) = search_of(name) else {
-        return Ok(false);
-    };
-    find_many(out, map, search, keys, more)?;
-    Ok(true)
-}
-
-// how a call with many keys looks for each
-fn search_of(name: &str) -> Option<Search> {
-    match name {
-        "get_many" => Some(Search::Get),
-        "get_mut_many" => Some(Search::GetMut),
-        "remove_many" => Some(Search::Remove),
-        "entry_remove_many" => Some(Search::EntryRemove),
-        _ => None,
-    }
 }

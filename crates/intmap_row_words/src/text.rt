@@ -5,9 +5,14 @@
 ghost use Rattle.std.specs.Iterator.{IsFinite};
 
 use crate::maps::MapOf;
-use intmap::{Cause, IntKey, RefusedPair};
+use intmap::{Cause, IntKey};
+use intmap_run::Answer;
+pub use intmap_text::print_answer;
 use std::alloc::{AllocError, Global};
 use std::fmt::Display;
+
+/// The answer of a call that answers as a command does.
+pub type Told = Answer<u64, u64, u64>;
 
 /// What is answered to words that are no call.
 pub fn no_call(out: &mut String) -> Result<(), AllocError> {
@@ -16,64 +21,30 @@ pub fn no_call(out: &mut String) -> Result<(), AllocError> {
 
 /// `none`, or `some` and the value.
 pub fn write_option(out: &mut String, value: Option<u64>) -> Result<(), AllocError> {
-    match value {
-        Some(value) => write!(out, "some {value}"),
-        None => out.push_str("none"),
-    }
+    print_answer(out, &Told::Old(value))
 }
 
 /// `true` or `false`.
 pub fn write_bool(out: &mut String, value: bool) -> Result<(), AllocError> {
-    write!(out, "{value}")
+    print_answer(out, &Told::Flag(value))
 }
 
 /// A number alone.
 pub fn write_number(out: &mut String, number: u128) -> Result<(), AllocError> {
-    write!(out, "{number}")
+    print_answer(out, &Told::Number(number))
 }
 
 /// `done`, or that the call was refused.
 pub fn write_done(out: &mut String, called: Result<(), Cause>) -> Result<(), AllocError> {
     match called {
-        Ok(()) => out.push_str("done"),
+        Ok(()) => print_answer(out, &Told::Done),
         Err(cause) => write_refusal(out, cause, None),
     }
 }
 
-/// `back` and the value, which has no place.
-pub fn write_back(out: &mut String, value: u64) -> Result<(), AllocError> {
-    write!(out, "back {value}")
-}
-
-/// `fresh`: the key was new.
-pub fn write_fresh(out: &mut String) -> Result<(), AllocError> {
-    out.push_str("fresh")
-}
-
 /// That a call was refused, with the value that came back.
 pub fn write_refusal(out: &mut String, cause: Cause, value: Option<u64>) -> Result<(), AllocError> {
-    let cause = cause_name(cause);
-    match value {
-        Some(value) => write!(out, "refused {value}: {cause}"),
-        None => write!(out, "refused: {cause}"),
-    }
-}
-
-/// That an insertion of several pairs ended at one, which came back, and behind how many.
-pub fn write_stopped(out: &mut String, refused: &RefusedPair<u64, u64>) -> Result<(), AllocError> {
-    let key = refused.key;
-    let value = refused.value;
-    let applied = refused.applied;
-    let cause = cause_name(refused.cause);
-    write!(out, "stopped at {key} {value} after {applied}: {cause}")
-}
-
-/// Why a call was refused.
-fn cause_name(cause: Cause) -> &'static str {
-    match cause {
-        Cause::Memory => "memory",
-        Cause::TooLarge => "too large",
-    }
+    print_answer(out, &Told::Refused { cause, value })
 }
 
 /// Pairs in braces, in their order.

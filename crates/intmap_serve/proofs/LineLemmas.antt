@@ -6,8 +6,8 @@ use Rattle.std.proofs.lemmas.List.Elements.{filter-append, All-cons, All-nil}
 use Rattle.std.proofs.lemmas.List.Sums.{count_by-le-length}
 use Rattle.std.proofs.lemmas.List.Splits.{length-slice_split}
 use Rattle.intmap_run.specs.declared.command.Command.{Command}
-use Rattle.intmap_serve.specs.Lines.{is_filled, lines_in, words_of, rows_of}
-use Rattle.intmap_serve.specs.Commands.{Says, SpellsNone, IsUnknown, IsKnown, IsFirstUnknown}
+use Rattle.intmap_text.specs.Lines.{is_filled, lines_in, words_of, rows_of}
+use Rattle.intmap_text.specs.Commands.{Says, SpellsNone, IsUnknown, IsKnown, IsFirstUnknown}
 
 -- the lines say these commands, one a line that has a word
 abbrev pub LinesSay : {A : Type 0} → List (List ℕ) → List (Command ℕ ℕ A) → Type 0

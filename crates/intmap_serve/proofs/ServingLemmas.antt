@@ -5,8 +5,8 @@ use Rattle.intmap.specs.PlainLists.{Stands, empty_list}
 use Rattle.intmap_run.specs.declared.command.Command.{Command}
 use Rattle.intmap_run.specs.declared.answer.Answer.{Answer}
 use Rattle.intmap_run.specs.Runs.{RunsFrom}
-use Rattle.intmap_serve.specs.Commands.{Spells}
-use Rattle.intmap_serve.specs.Printing.{lines_of}
+use Rattle.intmap_text.specs.Commands.{Spells}
+use Rattle.intmap_text.specs.Printing.{lines_of}
 use Rattle.intmap_serve.specs.Serving.{IsAnswered}
 
 -- no pairs in 4 slots stand for a new map

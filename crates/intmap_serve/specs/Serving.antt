@@ -5,8 +5,8 @@ use Rattle.intmap.specs.PlainLists.{PlainList, empty_list}
 use Rattle.intmap_run.specs.declared.command.Command.{Command}
 use Rattle.intmap_run.specs.declared.answer.Answer.{Answer}
 use Rattle.intmap_run.specs.Runs.{Runs}
-use Rattle.intmap_serve.specs.Commands.{Spells}
-use Rattle.intmap_serve.specs.Printing.{lines_of}
+use Rattle.intmap_text.specs.Commands.{Spells}
+use Rattle.intmap_text.specs.Printing.{lines_of}
 
 -- from no pairs in 4 slots the commands may give these answers and leave this list,
 -- where a value is seen as itself, and odd values are kept

@@ -6,14 +6,7 @@
 //! to bytes: at status 0 the output is the lines of a run of the commands that the input spells.
 #![tactic(auto)]
 
-mod command;
 mod fault;
-mod judge;
-mod line;
-mod number;
-mod print;
 mod session;
-mod split;
-mod word;
 
 pub use session::serve;

@@ -1,16 +1,14 @@
 //! A session: bytes in, bytes out, and an exit status.
 ghost use Rattle.std.specs.Prelude.{◌≡◌, ◌≢◌, ◌⊎◌, IfOk, IfErr, IfSome, OnOk, string_bytes};
 ghost use Rattle.std.specs.Io.KnownBytes.{Appends, Keeps};
-ghost use Rattle.intmap_serve.specs.Commands.{SpellsNone};
+ghost use Rattle.intmap_text.specs.Commands.{Spells, SpellsNone};
 ghost use Rattle.intmap_serve.specs.Faults.{IsRefused};
 ghost use Rattle.intmap_serve.specs.Serving.{IsAnswered, Serves};
 
 use crate::fault::Fault;
-use crate::judge::OddJudge;
-use crate::line::read_commands;
-use crate::print::print_answers;
 use intmap::IntMap;
-use intmap_run::run;
+use intmap_run::{Command, run};
+use intmap_text::{Line, Lines, OddJudge, print_answers, read_line};
 use std::alloc::Allocator;
 use std::io::{self, ErrorKind, Read, Write};
 
@@ -91,6 +89,29 @@ fn answer<A: Allocator + Copy>(alloc: A, text: &[u8]) -> Result<String<A>, Fault
         return Err(Fault::Memory);
     };
     Ok(print_answers(alloc, answers.as_slice())?)
+}
+
+/// The commands that a text spells. Blank lines spell none, and are counted.
+///
+/// Err: the first line that is no command, by its number, or out of memory.
+fn read_commands<A: Allocator + Copy>(
+    alloc: A,
+    text: &[u8],
+) -> Result<Vec<Command<u64, u64, A>, A>, Fault>
+    ensures some { IfOk result (λ found. Spells text.now found.items) }
+    ensures err { IfErr result (IsRefused A text.now) }
+{
+    let mut found = Vec::new(alloc);
+    let mut number = 0u128;
+    for line in Lines::new(text) {
+        number += 1;
+        match read_line(alloc, line)? {
+            Line::Blank => {}
+            Line::Command(command) => found.push(command)?,
+            Line::Unknown => return Err(Fault::NotACommand(number)),
+        }
+    }
+    Ok(found)
 }
 
 /// Writes all the bytes and flushes.

@@ -1,0 +1,4 @@
+pub mod SplitLemmas
+pub mod NumberLemmas
+pub mod PairLemmas
+pub mod CommandLemmas

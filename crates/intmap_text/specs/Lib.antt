@@ -1,0 +1,5 @@
+pub mod Lines
+pub mod Words
+pub mod Commands
+pub mod Reading
+pub mod Printing
