@@ -42,8 +42,8 @@ fn find_in<K: IntKey, X>(pairs: &[(Stored<K>, X)], key: &K, steps: &mut Steps) -
     ensures counted { steps.new ≡ steps.old
         + length (through_first (λ p. same_key K.number_of key.now p.0) pairs.now) }
 {
-    for i in 0..pairs.len() {
-        if pairs[i].0.matches(key, steps) {
+    for (i, pair) in pairs.iter().enumerate() {
+        if pair.0.matches(key, steps) {
             return Some(i);
         }
     }
