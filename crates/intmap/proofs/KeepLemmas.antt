@@ -5,7 +5,6 @@ use Rattle.std.specs.List.{flat_map, range_with_len}
 use Rattle.std.proofs.lemmas.List.Elements.{filter-append}
 use Rattle.intmap.specs.Bindings.{keep_pairs}
 use Rattle.intmap.specs.Classes.{slot_number}
-use Rattle.intmap.specs.Map.{MapState}
 use Rattle.intmap.specs.Retaining.{Retains, Retains-filter}
 use Rattle.intmap.specs.Walk.{slot_of, walk_of, StandsFor}
 use Rattle.intmap.proofs.ClassLemmas.{flat_map-same}

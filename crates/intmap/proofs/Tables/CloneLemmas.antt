@@ -1,5 +1,5 @@
 -- What clones of lists of pairs have in common with the lists that they were made of.
-use Rattle.std.proofs.Common.{◌≡◌, ℕ, Bool, true, false, cond, List, [], ◌∷◌, ◌++◌, Option, Some, None, refl, sym, ap, ◌∙◌, subst}
+use Rattle.std.proofs.Common.{◌≡◌, ℕ, Bool, true, false, cond, List, [], ◌∷◌, ◌++◌, Some, None, refl, sym, ap, ◌∙◌, subst}
 use Rattle.std.specs.Prelude.{MatchOption}
 use Rattle.std.specs.List.{AllZip}
 use Rattle.std.specs.Map.{keys_of}
@@ -7,7 +7,7 @@ use Rattle.intmap.specs.Bindings.{value_of}
 use Rattle.intmap.specs.Classes.{same_key}
 use Rattle.intmap.specs.Cloning.{IsPairClone, BindsClones}
 use Rattle.intmap.specs.Tables.Kept.{unkept}
-use Rattle.intmap.specs.Tables.Slots.{Held, rows, joined, all_pairs, HasFirst}
+use Rattle.intmap.specs.Tables.Slots.{Held, rows, joined}
 use Rattle.intmap.specs.declared.kept.Kept.{Kept}
 use Rattle.intmap.proofs.Tables.SameKeysLemmas.{row_keys}
 

@@ -1,17 +1,16 @@
 -- The marks of a table tell which of its slots hold a pair.
 use Rattle.std.proofs.Common.{◌≡◌, ◌≢◌, inl, inr, ℕ, zero, suc, ◌+◌, ◌*◌, ◌/◌, ◌<◌, ◌≤◌, Bool, true, false, Option, Some, None, List, [], ◌∷◌, ◌++◌, length, get_or, set, replicate, refl, sym, ap, ◌∙◌, arith, length-set, get_or-set_same, get_or-set_other}
-use Rattle.std.specs.Prelude.{◌==◌, filter, All, count_by, nat_lt, OnSome, IfNone}
+use Rattle.std.specs.Prelude.{◌==◌, filter, All, count_by, nat_lt}
 use Rattle.std.specs.List.{list_any, range_with_len}
-use Rattle.std.proofs.lemmas.Bool.{cases_Bool, cases_eq, cases_lt, eq-eqb, eqb-true, ne_eqb, lt-ltb, ltb-true}
+use Rattle.std.proofs.lemmas.Bool.{cases_Bool, cases_eq, cases_lt, eq-eqb, ne_eqb, lt-ltb, ltb-true}
 use Rattle.std.proofs.lemmas.List.{length-replicate, length_push, map-set, get_or_past}
 use Rattle.std.proofs.lemmas.List.Elements.{All-head, All-tail}
 use Rattle.intmap.specs.Tables.Bits.{marked, marked_places}
 use Rattle.intmap.specs.Tables.Slots.{Held, rows, joined, pairs_at, AreMarked, IsMarkedTable}
-use Rattle.intmap.specs.Bindings.{swap_out, value_of}
-use Rattle.intmap.specs.Classes.{IsCapacity, same_key}
+use Rattle.intmap.specs.Bindings.{value_of}
+use Rattle.intmap.specs.Classes.{IsCapacity}
 use Rattle.intmap.specs.Tables.Moves.{IsReady}
-use Rattle.intmap.proofs.Tables.SwapOutLemmas.{any}
-use Rattle.intmap.proofs.Tables.TableLemmas.{IsSlot, within, length-rows, get_or-rows, swap_out-missing, IsTable-empty}
+use Rattle.intmap.proofs.Tables.TableLemmas.{IsSlot, within, length-rows, get_or-rows, IsTable-empty}
 use Rattle.intmap.proofs.Tables.MarkedLemmas.{row-none, marked-replicate, All-marked_places, flat_map-marked_places, length-marked_places}
 
 module _ {P : Type 0} (R : List (List P)) (marks : List Bool) (are : AreMarked R marks) where
@@ -75,14 +74,6 @@ pairs_at-set R i row (j ∷ places) apart =
 -- so does one with a pair at its end
 pub filled-pushed : {P : Type 0} (row : List P) (p : P) → nat_lt 0 (length (row ++ p ∷ [])) ≡ true
 filled-pushed row p = lt-ltb 0 (length (row ++ p ∷ [])) (let n = length_push row p in omega (arith, n))
-
--- whether none is left, and whether some are
-pub emptied-none : {P : Type 0} (row : List P) (b : Bool) → b ≡ (length row == 0) → b ≡ true → false ≡ nat_lt 0 (length row)
-emptied-none row b is none = let zero : length row ≡ 0 = eqb-true (length row) 0 (sym is ∙ none) in rw zero refl
-
-pub emptied-some : {P : Type 0} (row : List P) (b : Bool) → b ≡ (length row == 0) → b ≡ false → true ≡ nat_lt 0 (length row)
-emptied-some [] b is some = let wrong : true ≡ false = sym is ∙ some in cc
-emptied-some (p ∷ row) b is some = sym (lt-ltb 0 (length (p ∷ row)) (omega arith))
 
 -- a slot with a bound key holds a pair
 pub filled-bound : {K X : Type 0} (number : K → ℕ) (L : List (K × X)) (k : K) (v : X) → value_of number L k ≡ Some v → nat_lt 0 (length L) ≡ true

@@ -5,7 +5,7 @@ use Rattle.std.specs.List.{position_or_len}
 use Rattle.std.proofs.lemmas.Bool.{eqb-true}
 use Rattle.std.proofs.lemmas.List.Elements.{All-head, All-tail, All-filter}
 use Rattle.intmap.specs.Classes.{slot_number, same_key}
-use Rattle.intmap.specs.Locations.{IsAt, IsFound, key_at, the_key}
+use Rattle.intmap.specs.Locations.{IsAt, IsFound, key_at}
 use Rattle.intmap.specs.Tables.Slots.{Held, rows, joined, IsTable}
 use Rattle.intmap.specs.Walk.{slot_of}
 use Rattle.intmap.specs.Laws.Written.{the_key-same}

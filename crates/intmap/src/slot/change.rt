@@ -1,5 +1,5 @@
 //! Pairs that are put into a slot, replaced and removed there, and values that are written.
-ghost use Rattle.std.specs.Prelude.{◌≡◌, ◌+◌, ◌<◌, ◌==◌, [], ◌∷◌, ◌++◌, length, swap_remove, slice_index_or, is_some, true, None, Some, OnOk, OnErr, IfErr};
+ghost use Rattle.std.specs.Prelude.{◌≡◌, ◌+◌, ◌<◌, [], ◌∷◌, ◌++◌, length, swap_remove, slice_index_or, is_some, true, Some, OnOk, OnErr, IfErr, IfSome, IfNone};
 ghost use Rattle.intmap.specs.Tables.Kept.{WritesStored, TakesStoredMut};
 ghost use Rattle.intmap.specs.Taking.{TakesEach};
 ghost use Rattle.intmap.specs.Writes.{Writes};
@@ -10,19 +10,6 @@ use crate::slot::Slot;
 use crate::stored::Stored;
 use std::alloc::{AllocError, Allocator};
 use std::mem;
-
-/// Removes the first pair, where there is one.
-#[inline(always)]
-fn take_only<P>(first: &mut Option<P>) -> P
-    requires { is_some first.old ≡ true }
-    ensures value { first.old ≡ Some result }
-    ensures none { first.new ≡ None }
-{
-    match first.take() {
-        Some(pair) => pair,
-        None => unreachable!(),
-    }
-}
 
 /// Puts a pair in the place of the first one, where there is one, and returns that one.
 #[inline(always)]
@@ -105,37 +92,46 @@ impl<K: IntKey, X: Drop, A: Allocator> Slot<K, X, A> {
 }
 
 impl<K: IntKey, X, A: Allocator> Slot<K, X, A> {
-    /// Removes the first pair, and says whether none is left. The others move up by one place.
+    /// Removes the only pair, if there is exactly one.
     #[inline(always)]
-    pub(crate) fn take_front(&mut self) -> ((Stored<K>, X), bool)
-        requires { 0 < length self.old.pairs }
-        ensures pairs { self.old.pairs ≡ result.0 ∷ self.new.pairs }
-        ensures emptied { result.1 ≡ (length self.new.pairs == 0) }
+    pub(crate) fn take_lone(&mut self) -> Option<(Stored<K>, X)>
+        ensures lone { IfSome result (λ pair. self.old.pairs ≡ pair ∷ []) }
+        ensures emptied { IfSome result (λ pair. self.new.pairs ≡ []) }
+        ensures not_lone { IfNone result (length self.old.pairs ≡ 1 → ⊥) }
+        ensures others { IfNone result (self.new.pairs ≡ self.old.pairs) }
     {
-        if self.rest.is_empty() {
-            return (take_only(&mut self.first), true);
+        if !self.rest.is_empty() {
+            return None;
         }
-        let next = self.rest.remove(0);
-        (replace_first(&mut self.first, next), false)
+        self.first.take()
     }
 
-    /// Removes the pair at a place, and says whether none is left. The last pair takes its place.
+    /// Removes the first of several pairs. The others move up by one place.
     #[inline(always)]
-    pub(crate) fn take_at(&mut self, place: usize) -> ((Stored<K>, X), bool)
-        requires { place < length self.old.pairs }
-        ensures value { result.0 ≡ slice_index_or self.old.pairs place result.0 }
-        ensures pairs { self.new.pairs ≡ swap_remove self.old.pairs place result.0 }
-        ensures emptied { result.1 ≡ (length self.new.pairs == 0) }
+    pub(crate) fn take_front(&mut self) -> (Stored<K>, X)
+        requires { 1 < length self.old.pairs }
+        ensures pairs { self.old.pairs ≡ result ∷ self.new.pairs }
+        ensures left { 0 < length self.new.pairs }
+    {
+        let next = self.rest.remove(0);
+        replace_first(&mut self.first, next)
+    }
+
+    /// Removes the pair at a place of several. The last pair takes its place.
+    #[inline(always)]
+    pub(crate) fn take_at(&mut self, place: usize) -> (Stored<K>, X)
+        requires several { 1 < length self.old.pairs }
+        requires within { place < length self.old.pairs }
+        ensures value { result ≡ slice_index_or self.old.pairs place result }
+        ensures pairs { self.new.pairs ≡ swap_remove self.old.pairs place result }
+        ensures left { 0 < length self.new.pairs }
     {
         if place > 0 {
-            return (self.rest.swap_remove(place - 1), false);
-        }
-        if self.rest.is_empty() {
-            return (take_only(&mut self.first), true);
+            return self.rest.swap_remove(place - 1);
         }
         // a `pop` would check whether there is one
         let last = self.rest.swap_remove(self.rest.len() - 1);
-        (replace_first(&mut self.first, last), false)
+        replace_first(&mut self.first, last)
     }
 
     /// Removes the pair at a place, which the last pair takes, and puts a new one at the end. It

@@ -32,10 +32,12 @@ impl<K: IntKey, X, A: Allocator> Table<K, X, A> {
             return None;
         };
         *from = place;
-        let ((key, value), is_emptied) = self.slots[place].take_front();
-        if is_emptied {
+        let slot = &mut self.slots[place];
+        if let Some((key, value)) = slot.take_lone() {
             self.directory.bits.clear(place);
+            return Some((*key.key(), value));
         }
+        let (key, value) = slot.take_front();
         Some((*key.key(), value))
     }
 }

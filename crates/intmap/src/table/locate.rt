@@ -92,10 +92,12 @@ impl<K: IntKey, X, A: Allocator> Table<K, X, A> {
     {
         // read before the slot changes, so that a write there can't delay it
         let word = self.directory.bits.word(at.slot);
-        let ((_, value), is_emptied) = self.slots[at.slot].take_at(at.place);
-        if is_emptied {
+        let slot = &mut self.slots[at.slot];
+        if let Some((_, value)) = slot.take_lone() {
             self.directory.bits.clear_in(word, at.slot);
+            return value;
         }
+        let (_, value) = slot.take_at(at.place);
         value
     }
 

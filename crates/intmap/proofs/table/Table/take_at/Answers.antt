@@ -1,43 +1,53 @@
-use Rattle.std.proofs.Common.{◌≡◌, ◌<◌, ◌∙◌, Some, false, length, set, length-set, sym, ap, subst}
+use Rattle.std.proofs.Common.{◌≡◌, ◌<◌, ◌∙◌, Some, false, [], length, get_or, length-set, sym, ap, subst, arith}
+use Rattle.std.specs.Prelude.{nat_lt, position, swap_remove}
+use Rattle.std.proofs.lemmas.Bool.{lt-ltb}
 use Rattle.intmap.specs.Bindings.{swap_out, value_of}
 use Rattle.intmap.specs.Classes.{same_key}
 use Rattle.intmap.specs.Locations.{IsAt}
-use Rattle.intmap.specs.Tables.Slots.{rows, joined, IsTable}
-use Rattle.intmap.proofs.SlotNumberLemmas.{slot_number-below}
-use Rattle.intmap.proofs.Tables.FilledLemmas.{emptied-none, emptied-some, filled-bound, mark-below, marks-kept, marks-set, place-below}
+use Rattle.intmap.specs.Tables.Slots.{rows, joined}
 use Rattle.intmap.proofs.LocationLemmas.{slot-at, place-at, place-within}
 use Rattle.intmap.proofs.PositionLemmas.{swap_remove-position, first_value-position}
+use Rattle.intmap.proofs.SlotNumberLemmas.{slot_number-below}
+use Rattle.intmap.proofs.Tables.FilledLemmas.{filled-bound, mark-below, marks-kept, marks-set, place-below}
+use Rattle.intmap.proofs.Tables.SlotLemmas.{lone-found}
 use Rattle.intmap.proofs.Tables.SwapOutLemmas.{any}
 use Rattle.intmap.proofs.Tables.TableLemmas.{IsSlot, value_of-here, walk-taken, Belong-taken, IsTable-set}
 use Rattle.intmap.proofs.table.Table.take_at.Goals as goal
-use Rattle.intmap.proofs.table.Table.take_at.Goals.{After-take_at-value}
+use Rattle.intmap.proofs.table.Table.take_at.Goals.{After-index_mut-slot, In-Some, After-take_at-value}
 
-module _ (g : _) (c : After-take_at-value g) where
+module _ (g : _) (c : After-index_mut-slot g) where
   located : IsAt g.K.IntKey.number_of (joined (rows c.self.inside.slots.items)) (length c.self.inside.slots.items) c.args.at
   located = rw (← c.self.view_is) at c.requires
 
-  slot : IsSlot g.K.IntKey.number_of c.self.inside.slots.items c.index_mut.result.now c.args.at.slot c.args.at.key
-  slot = slot-at _ _ _ _ c.self.invariant.marked.table located c.index_mut.ensures.value
+  slot : IsSlot g.K.IntKey.number_of c.self.inside.slots.items c.index_mut-slot.result.now c.args.at.slot c.args.at.key
+  slot = slot-at _ _ _ _ c.self.invariant.marked.table located c.index_mut-slot.ensures.value
 
-  -- the slot is as one that the key was taken out of
-  taken : c.take_at-value.new.self.pairs ≡ swap_out (λ p. same_key g.K.IntKey.number_of c.args.at.key p.0) any c.index_mut.result.now.pairs
+  -- the key is found in its slot
+  found : position (λ p. same_key g.K.IntKey.number_of c.args.at.key p.0) c.index_mut-slot.result.now.pairs ≡ Some c.args.at.place
+  found = place-at _ _ _ _ c.self.invariant.marked.table located c.index_mut-slot.ensures.value
+
+-- its pair is the only one
+module _ (g : _) (c : In-Some g) (at : After-index_mut-slot g) (here : position (λ p. same_key g.K.IntKey.number_of c.args.at.key p.0) c.index_mut-slot.result.now.pairs ≡ Some c.args.at.place) where
+  lone : (swap_out (λ p. same_key g.K.IntKey.number_of c.args.at.key p.0) any c.index_mut-slot.result.now.pairs ≡ []) × (value_of g.K.IntKey.number_of c.index_mut-slot.result.now.pairs c.args.at.key ≡ Some c.in-Some.value)
+  lone = lone-found (same_key g.K.IntKey.number_of c.args.at.key) c.index_mut-slot.result.now.pairs (c.in-Some.field-0-0, c.in-Some.value) c.args.at.place c.in-Some.ensures.lone here
+
+  none : c.take_lone.new.self.pairs ≡ swap_out (λ p. same_key g.K.IntKey.number_of c.args.at.key p.0) any c.index_mut-slot.result.now.pairs
+  none = c.in-Some.ensures.emptied ∙ sym lone.0
+
+-- or one of several
+module _ (g : _) (c : After-take_at-value g) (here : position (λ p. same_key g.K.IntKey.number_of c.args.at.key p.0) c.index_mut-slot.result.now.pairs ≡ Some c.args.at.place) where
+  value : c.take_at-value.result ≡ get_or c.index_mut-slot.result.now.pairs c.args.at.place c.take_at-value.result
+  value = c.take_at-value.ensures.value ∙ ap (λ ps. get_or ps c.args.at.place c.take_at-value.result) c.in_default.ensures.others
+
+  taken : c.take_at-value.new.self.pairs ≡ swap_out (λ p. same_key g.K.IntKey.number_of c.args.at.key p.0) any c.index_mut-slot.result.now.pairs
   taken =
-      let place = place-at _ _ _ _ c.self.invariant.marked.table located c.index_mut.ensures.value in
-      c.take_at-value.ensures.pairs ∙ swap_remove-position (λ p. same_key g.K.IntKey.number_of c.args.at.key p.0) c.index_mut.result.now.pairs c.args.at.place c.take_at-value.result.0 place c.take_at-value.ensures.value
+      c.take_at-value.ensures.pairs ∙ ap (λ ps. swap_remove ps c.args.at.place c.take_at-value.result) c.in_default.ensures.others
+      ∙ swap_remove-position (λ p. same_key g.K.IntKey.number_of c.args.at.key p.0) c.index_mut-slot.result.now.pairs c.args.at.place c.take_at-value.result here value
 
-  table : IsTable g.K.IntKey.number_of (set c.self.inside.slots.items c.args.at.slot c.take_at-value.new.self)
-  table = IsTable-set _ _ _ _ _ slot c.take_at-value.new.self (rw taken (Belong-taken _ _ _ _ _ slot))
-
-  -- the key was bound to the value
-  bound : value_of g.K.IntKey.number_of c.index_mut.result.now.pairs c.args.at.key ≡ Some c.take_at-value.result.0.1
+  bound : value_of g.K.IntKey.number_of c.index_mut-slot.result.now.pairs c.args.at.key ≡ Some c.take_at-value.result.1
   bound =
-      let place = place-at _ _ _ _ c.self.invariant.marked.table located c.index_mut.ensures.value in
-      first_value-position (same_key g.K.IntKey.number_of c.args.at.key) c.index_mut.result.now.pairs c.args.at.place c.take_at-value.result.0 place
-      ∙ ap (λ (p : g.row.K.Denot × g.row.X.Denot). Some p.1) (sym c.take_at-value.ensures.value)
-
-pub take_at-value-requires : goal.take_at-value-requires
-take_at-value-requires g c =
-    place-within _ _ _ _ c.self.invariant.marked.table (rw (← c.self.view_is) at c.requires) c.index_mut.ensures.value
+      first_value-position (same_key g.K.IntKey.number_of c.args.at.key) c.index_mut-slot.result.now.pairs c.args.at.place c.take_at-value.result here
+      ∙ ap (λ (p : g.row.K.Denot × g.row.X.Denot). Some p.1) (sym value)
 
 pub word-word-requires : goal.word-word-requires
 word-word-requires g c =
@@ -46,49 +56,58 @@ word-word-requires g c =
     let below = slot_number-below g.K.IntKey.number_of c.args.at.key (length slots) c.self.invariant.marked.table.capacity in
     place-below slots c.self.inside.directory.bits c.self.invariant.marked.marks c.args.at.slot (subst (λ i. i < length slots) (sym at.slot) below)
 
-pub clear_in-requires-clause-within : goal.clear_in-requires-clause-within
-clear_in-requires-clause-within g c =
-    mark-below _ _ _ _ _ (slot g (goal.at.clear_in-requires-clause-within g c).After-take_at-value) c.self.inside.directory.bits c.self.invariant.marked.marks
+pub take_at-value-requires : goal.take_at-value-requires
+take_at-value-requires g c =
+    let within = place-within _ _ _ _ c.self.invariant.marked.table (rw (← c.self.view_is) at c.requires) c.index_mut-slot.ensures.value in
+    let same = ap length c.in_default.ensures.others in
+    record { several = omega (arith, within, same, c.in_default.ensures.not_lone); within = omega (arith, within, same) }
+
+pub clear_in-requires : goal.clear_in-requires
+clear_in-requires g c = record {
+  within = mark-below _ _ _ _ _ (slot g (goal.at.clear_in-requires g c).After-index_mut-slot) c.self.inside.directory.bits c.self.invariant.marked.marks;
+  word = c.word-word.ensures;
+}
 
 pub invariant_of-self : goal.invariant_of-self
 invariant_of-self g c =
-    let after = (goal.at.invariant_of-self g c).After-take_at-value in
+    let at = (goal.at.invariant_of-self g c).After-index_mut-slot in
     record {
       marked = record {
-        table = table g after;
-        marks = rw c.clear_in.ensures (marks-set _ _ _ _ _ (slot g after) c.self.inside.directory.bits c.self.invariant.marked.marks c.take_at-value.new.self false (emptied-none c.take_at-value.new.self.pairs _ c.take_at-value.ensures.emptied c.if-is_emptied.true));
+        table = IsTable-set _ _ _ _ _ (slot g at) c.take_lone.new.self (rw (none g (goal.at.invariant_of-self g c).In-Some at (found g at)) (Belong-taken _ _ _ _ _ (slot g at)));
+        marks = rw c.clear_in.ensures (marks-set _ _ _ _ _ (slot g at) c.self.inside.directory.bits c.self.invariant.marked.marks c.take_lone.new.self false (ap (λ ps. nat_lt 0 (length ps)) (sym c.in-Some.ensures.emptied)));
       };
       count = c.self.invariant.count ∙ sym (length-set _ _ _);
     }
 
-pub invariant_of-self-else-is_emptied : goal.invariant_of-self-else-is_emptied
-invariant_of-self-else-is_emptied g c =
-    let after = (goal.at.invariant_of-self-else-is_emptied g c).After-take_at-value in
-    let before = filled-bound g.K.IntKey.number_of c.index_mut.result.now.pairs c.args.at.key c.take_at-value.result.0.1 (bound g after) in
+pub invariant_of-self-2 : goal.invariant_of-self-2
+invariant_of-self-2 g c =
+    let at = (goal.at.invariant_of-self-2 g c).After-index_mut-slot in
+    let after = (goal.at.invariant_of-self-2 g c).After-take_at-value in
+    let before = filled-bound g.K.IntKey.number_of c.index_mut-slot.result.now.pairs c.args.at.key c.take_at-value.result.1 (bound g after (found g at)) in
     record {
       marked = record {
-        table = table g after;
-        marks = marks-kept _ _ _ _ _ (slot g after) c.self.inside.directory.bits c.self.invariant.marked.marks c.take_at-value.new.self (before ∙ emptied-some c.take_at-value.new.self.pairs _ c.take_at-value.ensures.emptied c.if-is_emptied.false);
+        table = IsTable-set _ _ _ _ _ (slot g at) c.take_at-value.new.self (rw (taken g after (found g at)) (Belong-taken _ _ _ _ _ (slot g at)));
+        marks = marks-kept _ _ _ _ _ (slot g at) c.self.inside.directory.bits c.self.invariant.marked.marks c.take_at-value.new.self (before ∙ sym (lt-ltb 0 (length c.take_at-value.new.self.pairs) c.take_at-value.ensures.left));
       };
       count = c.self.invariant.count ∙ sym (length-set _ _ _);
     }
 
-pub returns-then-is_emptied-clause-value : goal.returns-then-is_emptied-clause-value
-returns-then-is_emptied-clause-value g c =
-    let after = (goal.at.returns-then-is_emptied-clause-value g c).After-take_at-value in
-    rw (← c.self.view_is) (value_of-here _ _ _ _ _ (slot g after) ∙ bound g after)
+pub returns-in-Some-clause-value : goal.returns-in-Some-clause-value
+returns-in-Some-clause-value g c =
+    let at = (goal.at.returns-in-Some-clause-value g c).After-index_mut-slot in
+    rw (← c.self.view_is) (value_of-here _ _ _ _ _ (slot g at) ∙ (lone g (goal.at.returns-in-Some-clause-value g c).In-Some at (found g at)).1)
 
-pub returns-then-is_emptied-clause-walk : goal.returns-then-is_emptied-clause-walk
-returns-then-is_emptied-clause-walk g c =
-    let after = (goal.at.returns-then-is_emptied-clause-walk g c).After-take_at-value in
-    rw (← c.self.view_is) (walk-taken _ _ _ _ _ (slot g after) c.take_at-value.new.self (taken g after))
+pub returns-in-Some-clause-walk : goal.returns-in-Some-clause-walk
+returns-in-Some-clause-walk g c =
+    let at = (goal.at.returns-in-Some-clause-walk g c).After-index_mut-slot in
+    rw (← c.self.view_is) (walk-taken _ _ _ _ _ (slot g at) c.take_lone.new.self (none g (goal.at.returns-in-Some-clause-walk g c).In-Some at (found g at)))
 
-pub returns-else-is_emptied-clause-value : goal.returns-else-is_emptied-clause-value
-returns-else-is_emptied-clause-value g c =
-    let after = (goal.at.returns-else-is_emptied-clause-value g c).After-take_at-value in
-    rw (← c.self.view_is) (value_of-here _ _ _ _ _ (slot g after) ∙ bound g after)
+pub returns-clause-value : goal.returns-clause-value
+returns-clause-value g c =
+    let at = (goal.at.returns-clause-value g c).After-index_mut-slot in
+    rw (← c.self.view_is) (value_of-here _ _ _ _ _ (slot g at) ∙ bound g (goal.at.returns-clause-value g c).After-take_at-value (found g at))
 
-pub returns-else-is_emptied-clause-walk : goal.returns-else-is_emptied-clause-walk
-returns-else-is_emptied-clause-walk g c =
-    let after = (goal.at.returns-else-is_emptied-clause-walk g c).After-take_at-value in
-    rw (← c.self.view_is) (walk-taken _ _ _ _ _ (slot g after) c.take_at-value.new.self (taken g after))
+pub returns-clause-walk : goal.returns-clause-walk
+returns-clause-walk g c =
+    let at = (goal.at.returns-clause-walk g c).After-index_mut-slot in
+    rw (← c.self.view_is) (walk-taken _ _ _ _ _ (slot g at) c.take_at-value.new.self (taken g (goal.at.returns-clause-walk g c).After-take_at-value (found g at)))
