@@ -23,8 +23,7 @@ use Rattle.intmap_run.specs.Growing.{Reserves, MayRefuseReserve, SetsFactor, May
 abbrev pub SeesOption : {V S : Type 0} → (V → S → Type 0) → Option V → Option S → Type 0
 SeesOption sees None None = Unit {0}
 SeesOption sees (Some v) (Some s) = sees v s
-SeesOption sees None (Some s) = ⊥
-SeesOption sees (Some v) None = ⊥
+SeesOption sees o p = ⊥
 
 -- what a judge sees of a pair: the key, and what it sees of the value
 abbrev pub SeesPair : {K V S : Type 0} → (V → S → Type 0) → K × V → K × S → Type 0
@@ -38,9 +37,8 @@ module _ {K V S A : Type 0} where
 
   -- how many load factors the commands set that were answered so
   abbrev pub factors_set : List (Command K V A) → List (Answer K V S A) → ℕ
-  factors_set [] as' = 0
-  factors_set (c ∷ cs) [] = 0
   factors_set (c ∷ cs) (a ∷ as') = factors_set_by c a + factors_set cs as'
+  factors_set cs as' = 0
 
   -- the command, answered so, set the capacity: it is an accepted reservation or load factor
   abbrev pub SetsCapacity : Command K V A → Answer K V S A → Type 0
@@ -131,8 +129,7 @@ module _ {K V S A : Type 0} (number : K → ℕ) (sees : V → S → Type 0) (ke
       ((seen : Vec S A) × (a ≡ answer.Values seen) × AllZip sees (values_of (walk_of number s.pairs s.capacity)) seen.items)
       ⊎ (a ≡ answer.Refused Memory None)
 
-  -- the first m pairs of the walk are answered and their keys struck, or the command is refused for want of room and changes
-  -- nothing
+  -- the first m pairs of the walk are answered and their keys struck, or there is no room, and nothing changes
   abbrev pub AnswersDrain : PlainList K V → ℕ → Answer K V S A → PlainList K V → Type 0
   AnswersDrain s m a t =
       ((pairs : Vec (K × V) A) × (a ≡ answer.Pairs pairs) × (pairs.items ≡ first_of_walk number m s.pairs s.capacity)
@@ -205,33 +202,28 @@ module _ {K V S A : Type 0} (number : K → ℕ) (sees : V → S → Type 0) (ke
   -- the commands in order, each from the list that the one before left, with one answer a command
   abbrev pub Runs : PlainList K V → List (Command K V A) → List (Answer K V S A) → PlainList K V → Type 0
   Runs s [] [] t = t ≡ s
-  Runs s [] (a ∷ as') t = ⊥
-  Runs s (c ∷ cs) [] t = ⊥
   Runs s (c ∷ cs) (a ∷ as') t = (m : PlainList K V) × Answers s c a m × Runs m cs as' t
+  Runs s cs as' t = ⊥
 
   -- the keys that a run compares
   abbrev pub run_comparisons : (s : PlainList K V) (cs : List (Command K V A)) (as' : List (Answer K V S A)) (t : PlainList K V) → Runs s cs as' t → ℕ
-  run_comparisons s [] as' t run = 0
-  run_comparisons s (c ∷ cs) [] t run = 0
   run_comparisons s (c ∷ cs) (a ∷ as') t run = comparisons_of s c a run.0 run.1 + run_comparisons run.0 cs as' t run.2
+  run_comparisons s cs as' t run = 0
 
   -- the pairs that a run places in larger tables
   abbrev pub run_placements : (s : PlainList K V) (cs : List (Command K V A)) (as' : List (Answer K V S A)) (t : PlainList K V) → Runs s cs as' t → ℕ
-  run_placements s [] as' t run = 0
-  run_placements s (c ∷ cs) [] t run = 0
   run_placements s (c ∷ cs) (a ∷ as') t run = placements_of s c a run.0 run.1 + run_placements run.0 cs as' t run.2
+  run_placements s cs as' t run = 0
 
   -- the greatest number of pairs that there are at the start of a run or after one of its commands
   abbrev pub greatest_length : (s : PlainList K V) (cs : List (Command K V A)) (as' : List (Answer K V S A)) (t : PlainList K V) → Runs s cs as' t → ℕ
-  greatest_length s [] as' t run = length s.pairs
-  greatest_length s (c ∷ cs) [] t run = length s.pairs
   greatest_length s (c ∷ cs) (a ∷ as') t run = max (length s.pairs) (greatest_length run.0 cs as' t run.2)
+  greatest_length s cs as' t run = length s.pairs
 
   -- an accepted reservation or load factor of the run left this capacity
   abbrev pub WasSet : ℕ → (s : PlainList K V) (cs : List (Command K V A)) (as' : List (Answer K V S A)) (t : PlainList K V) → Runs s cs as' t → Type 0
-  WasSet C s [] as' t run = ⊥
-  WasSet C s (c ∷ cs) [] t run = ⊥
   WasSet C s (c ∷ cs) (a ∷ as') t run = (SetsCapacity c a × (run.0.capacity ≡ C)) ⊎ WasSet C run.0 cs as' t run.2
+  WasSet C s cs as' t run = ⊥
 
   -- what a run from the list s, which stands for the map m, to the list t leaves of the map: t stands for it, it compared and
   -- placed what the run does, few placements for the lengths that the run went through and the load factors that it set, and
