@@ -10,6 +10,9 @@ import subprocess
 import sys
 import tempfile
 
+# the crates of the map, lowest first
+MAP = ["intmap_table", "intmap"]
+
 
 def call(words, **how):
     return subprocess.run(words, check=True, **how)
@@ -76,7 +79,9 @@ def build(root, driver, sources, libraries, commit=None, earlier=None, jobs=None
         shutil.copy2(source, f"{crate}/src/{os.path.basename(source).removesuffix('.txt')}")
     with open(f"{root}/crates.txt", "a") as file:
         file.write(f"{driver}: {libraries}\n")
-    keep_checks("crates/intmap", f"{root}/crates/intmap")
+    for name in MAP:
+        if os.path.isdir(f"{root}/crates/{name}"):
+            keep_checks(f"crates/{name}", f"{root}/crates/{name}")
     if earlier:
         keep_checks(f"{earlier}/crates/{driver}", crate)
     words = ["rt", "run"] + (["--jobs", str(jobs)] if jobs else [])

@@ -1,13 +1,13 @@
 -- What calls leave of the bindings and the length of a map.
 use Rattle.std.proofs.Common.{◌≡◌, ℕ, ◌+◌, List, cond, length, Some, None, is_some, ap, ◌∙◌, arith}
-use Rattle.intmap.specs.Classes.{IsCapacity, same_key}
-use Rattle.intmap.specs.Bindings.{value_of, take_key, put_pair, Updates}
-use Rattle.intmap.specs.Walk.{walk_of}
+use Rattle.intmap_table.specs.Classes.{IsCapacity, same_key}
+use Rattle.intmap_table.specs.Bindings.{value_of, take_key, put_pair, Updates}
+use Rattle.intmap_table.specs.Walk.{walk_of}
 use Rattle.intmap.specs.Map.{MapState, IsMap, after_insert, after_remove, without_key}
-use Rattle.intmap.proofs.PositionLemmas.{swap_out-none, position-from_none}
-use Rattle.intmap.proofs.SlotNumberLemmas.{slot_number-below}
-use Rattle.intmap.proofs.DistinctLemmas.{length-walk_of, length-take_key, length-put_pair}
-use Rattle.intmap.proofs.BindingLemmas.{value_of-walk_of, value_of-take_key, value_of-put_pair, Updates-from}
+use Rattle.intmap_table.proofs.PositionLemmas.{swap_out-none, position-from_none}
+use Rattle.intmap_table.proofs.SlotNumberLemmas.{slot_number-below}
+use Rattle.intmap_table.proofs.DistinctLemmas.{length-walk_of, length-take_key, length-put_pair}
+use Rattle.intmap_table.proofs.BindingLemmas.{value_of-walk_of, value_of-take_key, value_of-put_pair, Updates-from}
 
 module _ {K V : Type 0} (number : K → ℕ) (is_valid : K → Type 0) where
   -- with a pair put in its key has the value, and each other key its own

@@ -4,12 +4,12 @@ use Rattle.std.specs.Prelude.{All}
 use Rattle.std.specs.Borrow.{Bor, MutBor}
 use Rattle.std.specs.Fn.{Mut, always_mut}
 use Rattle.intmap.specs.Map.{MapState, after_insert, after_remove}
-use Rattle.intmap.specs.Bindings.{take_key, put_pair}
-use Rattle.intmap.specs.Retaining.{KeepsAt, TakesPair}
-use Rattle.intmap.specs.Taking.{TakesEach, TakesEach-from}
-use Rattle.intmap.specs.Walk.{walk_of}
-use Rattle.intmap.specs.Writes.{WritesAt, TakesPairMut}
-use Rattle.intmap.proofs.DistinctLemmas.{All-walk_of, All-take_key, All-put_pair}
+use Rattle.intmap_table.specs.Bindings.{take_key, put_pair}
+use Rattle.intmap_table.specs.Retaining.{KeepsAt, TakesPair}
+use Rattle.intmap_table.specs.Taking.{TakesEach, TakesEach-from}
+use Rattle.intmap_table.specs.Walk.{walk_of}
+use Rattle.intmap_table.specs.Writes.{WritesAt, TakesPairMut}
+use Rattle.intmap_table.proofs.DistinctLemmas.{All-walk_of, All-take_key, All-put_pair}
 
 module _ {K V : Type 0} (number : K → ℕ) (P : K × V → Type 0) where
   -- what holds of all pairs and of a new one holds of all once it was inserted

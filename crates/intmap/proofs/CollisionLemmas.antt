@@ -8,13 +8,15 @@ use Rattle.std.proofs.lemmas.List.{append-nil, length-append, length-map}
 use Rattle.std.proofs.lemmas.List.Concat.{length-flat_map}
 use Rattle.std.proofs.lemmas.List.FromFn.{length-map-range_with_len, take-map-range_with_len, filter_of_map_range_with_len_more}
 use Rattle.std.proofs.lemmas.List.Sums.{sum_by-cons, sum_by-take-le, sum-map, count_by-le-length, length-filter}
-use Rattle.intmap.specs.Bindings.{value_of}
-use Rattle.intmap.specs.Classes.{IsCapacity}
-use Rattle.intmap.specs.Figures.{each_once, tally_of, IsTally}
+use Rattle.intmap_table.specs.Bindings.{value_of}
+use Rattle.intmap_table.specs.Classes.{IsCapacity}
+use Rattle.intmap_table.specs.Figures.{each_once, tally_of}
+use Rattle.intmap.specs.Extending.{IsTally}
 use Rattle.intmap.specs.Growth.{IsWanted, GrowsTooMuch, is_due}
 use Rattle.intmap.specs.Map.{MapState, IsMap, IsOutOfRange}
-use Rattle.intmap.proofs.LoadFactorLemmas.{capacity-greatest, MeetsLoad-from}
-use Rattle.intmap.proofs.LoadLemmas.{length-each_once, times}
+use Rattle.intmap_table.proofs.SlotNumberLemmas.{capacity-greatest}
+use Rattle.intmap.proofs.LoadFactorLemmas.{MeetsLoad-from}
+use Rattle.intmap_table.proofs.LoadLemmas.{length-each_once, times}
 use Rattle.intmap.proofs.MadeLemmas.{IsMadeOf-factor}
 use Rattle.intmap.proofs.TallyLemmas.{found, missing, value_of-tally_of, each_once-push}
 

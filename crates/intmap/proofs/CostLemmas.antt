@@ -6,13 +6,13 @@ use Rattle.std.proofs.lemmas.Bool.{cases_Bool, eqb-true, eq-eqb}
 use Rattle.std.proofs.lemmas.List.{length-map}
 use Rattle.std.proofs.lemmas.List.Elements.{All-head, All-tail}
 use Rattle.std.proofs.lemmas.List.Sums.{sum_by-cons}
-use Rattle.intmap.specs.Classes.{same_key, agrees, residue}
-use Rattle.intmap.specs.Bindings.{HasDistinctKeys}
-use Rattle.intmap.specs.Figures.{each_once, load_of}
+use Rattle.intmap_table.specs.Classes.{same_key, agrees, residue}
+use Rattle.intmap_table.specs.Bindings.{HasDistinctKeys}
+use Rattle.intmap_table.specs.Figures.{each_once, load_of}
 use Rattle.intmap.specs.Growth.{IsNext, is_due}
-use Rattle.intmap.specs.Reach.{through_first, class_size, reach}
+use Rattle.intmap_table.specs.Reach.{through_first, class_size, reach}
 use Rattle.intmap.proofs.LoadFactorLemmas.{IsWanted-more}
-use Rattle.intmap.proofs.MappedLemmas.{count_by-map}
+use Rattle.intmap_table.proofs.MappedLemmas.{count_by-map}
 
 module _ {X : Type 0} (test stop : X → Bool) where
   -- up to the first that stops, no more pass than of all

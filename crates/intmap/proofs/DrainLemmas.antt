@@ -2,15 +2,17 @@
 use Rattle.std.proofs.Common.{◌≡◌, ℕ, suc, ◌-◌, List, [], ◌∷◌, length, refl, sym, ap, ◌∙◌, subst, arith}
 use Rattle.std.specs.Prelude.{cond, map}
 use Rattle.std.proofs.lemmas.List.Sums.{sum_by-cons}
-use Rattle.intmap.specs.Classes.{same_key}
+use Rattle.intmap_table.specs.Classes.{same_key}
 use Rattle.intmap.specs.Growth.{IsThreshold}
-use Rattle.intmap.specs.Tables.Kept.{unkept, IsConsistent}
+use Rattle.intmap_table.specs.Tables.Kept.{unkept}
+use Rattle.intmap.specs.Consistency.{IsConsistent}
 use Rattle.intmap.specs.Map.{IsMapWalk}
-use Rattle.intmap.specs.Passing.{ArePassed}
-use Rattle.intmap.specs.Walk.{walk_of, slot_of}
-use Rattle.intmap.specs.declared.kept.Kept.{Kept}
-use Rattle.intmap.proofs.LoadFactorLemmas.{IsLoaded-fewer, capacity-positive}
-use Rattle.intmap.proofs.MappedLemmas.{slot_of-map_values, walk_of-map_values}
+use Rattle.intmap_table.specs.Walk.{ArePassed}
+use Rattle.intmap_table.specs.Walk.{walk_of, slot_of}
+use Rattle.intmap_table.specs.declared.kept.Kept.{Kept}
+use Rattle.intmap.proofs.LoadFactorLemmas.{IsLoaded-fewer}
+use Rattle.intmap_table.proofs.SlotNumberLemmas.{capacity-positive}
+use Rattle.intmap_table.proofs.MappedLemmas.{slot_of-map_values, walk_of-map_values}
 
 nil-mapped : {X Y : Type 0} (h : X → Y) (xs : List X) → map h xs ≡ [] → xs ≡ []
 nil-mapped h [] e = refl

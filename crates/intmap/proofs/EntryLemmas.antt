@@ -5,20 +5,20 @@ use Rattle.std.proofs.lemmas.Bool.{cases_Bool, cases_lt, eq-eqb}
 use Rattle.std.proofs.lemmas.List.{map-append}
 use Rattle.std.proofs.Props.{props}
 use Rattle.std.specs.declared.cmp.PartialEq as eq
-use Rattle.intmap.specs.declared.key.IntKey as key
+use Rattle.intmap_table.specs.declared.key.IntKey as key
 use Rattle.intmap.specs.declared.entry.OccupiedEntry.{OccupiedEntry}
-use Rattle.intmap.specs.Bindings.{value_of, take_key, put_pair, write_value}
-use Rattle.intmap.specs.Classes.{IsCapacity, same_key}
+use Rattle.intmap_table.specs.Bindings.{value_of, take_key, put_pair, write_value}
+use Rattle.intmap_table.specs.Classes.{IsCapacity, same_key}
 use Rattle.intmap.specs.Entries.{occupied_with_value, occupied_key}
 use Rattle.intmap.specs.Growth.{IsNext, is_due, next_capacity}
-use Rattle.intmap.specs.Locations.{IsFound}
+use Rattle.intmap_table.specs.Locations.{IsFound}
 use Rattle.intmap.specs.Map.{MapState, InsertIsTooLarge, with_pair, written}
-use Rattle.intmap.specs.Walk.{walk_of}
+use Rattle.intmap_table.specs.Walk.{walk_of}
 use Rattle.intmap.proofs.GrowthLemmas.{IsWanted-wanted_capacity}
-use Rattle.intmap.proofs.LocationLemmas.{walk_of-write_value}
+use Rattle.intmap_table.proofs.LocationLemmas.{walk_of-write_value}
 use Rattle.intmap.proofs.MapLemmas.{MapState-same}
-use Rattle.intmap.proofs.PositionLemmas.{swap_out-none, position-from_none}
-use Rattle.intmap.specs.Laws.Written.{IsFound-write_value, key_at-written, the_key-same}
+use Rattle.intmap_table.proofs.PositionLemmas.{swap_out-none, position-from_none}
+use Rattle.intmap_table.specs.Laws.Written.{IsFound-write_value, key_at-written, the_key-same}
 
 -- what an accepted call says, where that follows
 pub OnOk-so : {T E : Type 0} (P Q : Type 0) → (P → Q) → (r : Result T E) → OnOk r P → OnOk r Q

@@ -8,13 +8,13 @@ use Rattle.std.proofs.lemmas.Bool.{true≢false, cases_Bool, eqb-true, eq-eqb}
 use Rattle.std.proofs.lemmas.Grind.{common_steps}
 use Rattle.std.proofs.lemmas.List.Elements.{All-nil, All-cons, All-head, All-tail}
 use Rattle.std.proofs.lemmas.List.Sums.{sum_by-cons}
-use Rattle.intmap.specs.Classes.{same_key}
-use Rattle.intmap.specs.Bindings.{value_of, HasDistinctKeys, take_key, put_pair}
+use Rattle.intmap_table.specs.Classes.{same_key}
+use Rattle.intmap_table.specs.Bindings.{value_of, HasDistinctKeys, take_key, put_pair}
 use Rattle.intmap.specs.Equality.{are_bound_alike, maps_equal}
 use Rattle.intmap.specs.Laws.EqualityLaws.{value_of-same_number, unbound-or_alike, are_bound_alike-from_BindSame, option_eq-symm}
 use Rattle.intmap.specs.Map.{MapState}
-use Rattle.intmap.proofs.BindingLemmas.{first_value-none, value_of-take_key, value_of-put_pair}
-use Rattle.intmap.proofs.DistinctLemmas.{length-take_key, length-put_pair, HasDistinctKeys-take_key, HasDistinctKeys-put_pair}
+use Rattle.intmap_table.proofs.BindingLemmas.{first_value-none, value_of-take_key, value_of-put_pair}
+use Rattle.intmap_table.proofs.DistinctLemmas.{length-take_key, length-put_pair, HasDistinctKeys-take_key, HasDistinctKeys-put_pair}
 use Rattle.intmap.proofs.CostLemmas.{HasDistinctKeys-tail}
 
 module _ {K V : Type 0} (number : K → ℕ) where

@@ -1,13 +1,13 @@
 -- The definitions at small lists, computed.
 use Rattle.std.specs.Prelude.{◌≡◌, ℕ, ◌+◌, ◌%◌, ◌^◌, ◌==◌, pos, negsuc, List, [], ◌∷◌, map, Some, refl}
 use Rattle.std.specs.List.{range_with_len}
-use Rattle.intmap.specs.Keys.{number_of_signed}
-use Rattle.intmap.specs.Classes.{slot_number}
-use Rattle.intmap.specs.Bindings.{value_of, take_key, put_pair, write_value, keep_pairs, strike_keys}
-use Rattle.intmap.specs.Walk.{walk_of, first_of_walk}
-use Rattle.intmap.specs.Reach.{class_size, reach}
+use Rattle.intmap_table.specs.Keys.{number_of_signed}
+use Rattle.intmap_table.specs.Classes.{slot_number}
+use Rattle.intmap_table.specs.Bindings.{value_of, take_key, put_pair, write_value, keep_pairs, strike_keys}
+use Rattle.intmap_table.specs.Walk.{walk_of, first_of_walk}
+use Rattle.intmap_table.specs.Reach.{class_size, reach}
 use Rattle.intmap.specs.Growth.{last_due, wanted_capacity, next_capacity, least_power}
-use Rattle.intmap.specs.Figures.{load_of, rate_of, collisions_of}
+use Rattle.intmap_table.specs.Figures.{load_of, rate_of, collisions_of}
 use Rattle.std.specs.Map.{keys_of}
 
 -- a key that is its own number

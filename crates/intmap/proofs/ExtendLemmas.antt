@@ -4,8 +4,8 @@ use Rattle.std.specs.Prelude.{◌↔◌, ◌⊎◌, ◌<◌, ◌^◌, Result, Ok
 use Rattle.std.specs.Option.{option_or}
 use Rattle.std.proofs.lemmas.Bool.{cases_eq, cases_lt, eqb-true, eq-eqb, ne_eqb}
 use Rattle.std.proofs.lemmas.List.{reverse-append}
-use Rattle.intmap.specs.Bindings.{value_of}
-use Rattle.intmap.specs.Classes.{same_key}
+use Rattle.intmap_table.specs.Bindings.{value_of}
+use Rattle.intmap_table.specs.Classes.{same_key}
 use Rattle.intmap.specs.Laws.EqualityLaws.{value_of-same_number}
 use Rattle.intmap.specs.Extending.{MapInserts, MapInsertsAll, new_keys, IsExtended}
 use Rattle.intmap.specs.Map.{MapState}

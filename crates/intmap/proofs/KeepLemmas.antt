@@ -3,11 +3,11 @@ use Rattle.std.proofs.Common.{◌≡◌, ℕ, ◌+◌, Bool, List, [], ◌∷◌
 use Rattle.std.specs.Prelude.{◌==◌, filter}
 use Rattle.std.specs.List.{flat_map, range_with_len}
 use Rattle.std.proofs.lemmas.List.Elements.{filter-append}
-use Rattle.intmap.specs.Bindings.{keep_pairs}
-use Rattle.intmap.specs.Classes.{slot_number}
-use Rattle.intmap.specs.Retaining.{Retains, Retains-filter}
-use Rattle.intmap.specs.Walk.{slot_of, walk_of, StandsFor}
-use Rattle.intmap.proofs.ClassLemmas.{flat_map-same}
+use Rattle.intmap_table.specs.Bindings.{keep_pairs}
+use Rattle.intmap_table.specs.Classes.{slot_number}
+use Rattle.intmap_table.specs.Retaining.{Retains, Retains-filter}
+use Rattle.intmap_table.specs.Walk.{slot_of, walk_of, StandsFor}
+use Rattle.intmap_table.proofs.ClassLemmas.{flat_map-same}
 use Rattle.intmap.proofs.RewrittenLemmas.{filter-filter}
 
 -- what a test keeps of parts that are joined

@@ -6,17 +6,10 @@ use Rattle.std.proofs.Math.Nat.{mul-le-mul_left, div-mul-le_self}
 use Rattle.std.proofs.lemmas.Nat.{le-div, div_below, pow-add}
 use Rattle.std.proofs.lemmas.Nat.Bits.{and_pow}
 use Rattle.std.proofs.lemmas.Bool.{cases_lt, cases_eq, cases_order, cases_Bool, ltb-false, eq-eqb, ne_eqb, eqb-true, eqb-false}
-use Rattle.intmap.specs.Classes.{IsCapacity}
+use Rattle.intmap_table.specs.Classes.{IsCapacity}
+use Rattle.intmap_table.proofs.SlotNumberLemmas.{capacity-positive, capacity-greatest}
 use Rattle.intmap.specs.Growth.{IsWanted, IsNext, IsThreshold, MeetsLoad, WantsTooMuch, GrowsTooMuch, is_due, last_due, wanted_capacity}
 use Rattle.intmap.proofs.GrowthLemmas.{IsWanted-unique, IsWanted-wanted_capacity}
-
-pub capacity-positive : (C : ℕ) → IsCapacity C → 0 < C
-capacity-positive C cap = rw cap.3 (pow_pos cap.0)
-
-pub capacity-greatest : (C : ℕ) → IsCapacity C → C ≤ 2 ^ 63
-capacity-greatest C cap =
-    let most : cap.0 ≤ 63 = (let below = cap.2 in omega (arith, below)) in
-    let p : 2 ^ cap.0 ≤ 2 ^ 63 = pow_mono most in let q = cap.3 in omega (arith, p, q)
 
 -- a product below the factor's meets the load
 pub MeetsLoad-from : (n C F : ℕ) → 0 < C → n * 1000 < (F + 1) * C → MeetsLoad C n F

@@ -2,15 +2,15 @@
 use Rattle.std.proofs.Common.{◌≡◌, ℕ, ◌+◌, Bool, true, false, cond, List, [], ◌∷◌, ◌++◌, length, map, option_map, Option, Some, None, refl, sym, ap, ◌∙◌, subst}
 use Rattle.std.specs.Prelude.{is_some, IsNone, MatchOption}
 use Rattle.std.proofs.lemmas.List.{map-append}
-use Rattle.intmap.specs.Bindings.{value_of, take_key, put_pair, write_value, swap_out}
-use Rattle.intmap.specs.Classes.{same_key, agrees}
+use Rattle.intmap_table.specs.Bindings.{value_of, take_key, put_pair, write_value, swap_out}
+use Rattle.intmap_table.specs.Classes.{same_key, agrees}
 use Rattle.intmap.specs.Extending.{MapInserts, MapInsertsAll, IsMadeOf}
 use Rattle.intmap.specs.Growth.{IsNext}
 use Rattle.intmap.specs.Map.{MapState, IsMap, IsOutOfRange, IsCapacityAfter, empty_map, after_insert, written}
-use Rattle.intmap.specs.Walk.{walk_of}
+use Rattle.intmap_table.specs.Walk.{walk_of}
 use Rattle.intmap.proofs.ExtendLemmas.{MapInsertsAll-push}
-use Rattle.intmap.proofs.LocationLemmas.{walk_of-write_value}
-use Rattle.intmap.proofs.MappedLemmas.{swap_out-map}
+use Rattle.intmap_table.proofs.LocationLemmas.{walk_of-write_value}
+use Rattle.intmap_table.proofs.MappedLemmas.{swap_out-map}
 use Rattle.intmap.proofs.WriteLemmas.{length-write_value, value_of-write_value, IsMapWalk-written}
 
 module _ {K V : Type 0} (number : K → ℕ) (k : K) (v : V) where

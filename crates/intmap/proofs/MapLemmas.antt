@@ -3,18 +3,20 @@ use Rattle.std.proofs.Common.{◌≡◌, ℕ, ◌+◌, ◌-◌, ◌^◌, ◌<◌
 use Rattle.std.specs.Prelude.{All, ◌&&◌, nat_lt, Result, Ok, Err, IsOk, OnOk}
 use Rattle.std.specs.Result.{is_err}
 use Rattle.std.proofs.lemmas.List.Elements.{All-nil}
-use Rattle.intmap.specs.Classes.{IsCapacity}
-use Rattle.intmap.specs.Bindings.{HasDistinctKeys, value_of, take_key, put_pair}
-use Rattle.intmap.specs.Walk.{walk_of}
+use Rattle.intmap_table.specs.Classes.{IsCapacity}
+use Rattle.intmap_table.specs.Bindings.{HasDistinctKeys, value_of, take_key, put_pair}
+use Rattle.intmap_table.specs.Walk.{walk_of}
 use Rattle.intmap.specs.Growth.{IsThreshold, MeetsLoad, is_due}
 use Rattle.intmap.specs.Map.{MapState, IsMapWalk}
-use Rattle.intmap.specs.Tables.Kept.{unkept, IsConsistent}
-use Rattle.intmap.specs.declared.kept.Kept.{Kept}
-use Rattle.intmap.proofs.SlotNumberLemmas.{slot_number-below}
-use Rattle.intmap.proofs.LoadFactorLemmas.{IsLoaded, IsLoaded-from, IsLoaded-fewer, IsLoaded-more, capacity-positive}
-use Rattle.intmap.proofs.WalkLemmas.{walk_of-walk_of}
-use Rattle.intmap.proofs.DistinctLemmas.{length-walk_of, length-take_key, length-put_pair, HasDistinctKeys-nil, HasDistinctKeys-walk_of, HasDistinctKeys-take_key, HasDistinctKeys-put_pair, All-walk_of, All-take_key, All-put_pair}
-use Rattle.intmap.proofs.MappedLemmas.{walk_of-map_values, take_key-map_values, put_pair-map_values, length-map_values}
+use Rattle.intmap_table.specs.Tables.Kept.{unkept}
+use Rattle.intmap.specs.Consistency.{IsConsistent}
+use Rattle.intmap_table.specs.declared.kept.Kept.{Kept}
+use Rattle.intmap_table.proofs.SlotNumberLemmas.{slot_number-below}
+use Rattle.intmap.proofs.LoadFactorLemmas.{IsLoaded, IsLoaded-from, IsLoaded-fewer, IsLoaded-more}
+use Rattle.intmap_table.proofs.SlotNumberLemmas.{capacity-positive}
+use Rattle.intmap_table.proofs.WalkLemmas.{walk_of-walk_of}
+use Rattle.intmap_table.proofs.DistinctLemmas.{length-walk_of, length-take_key, length-put_pair, HasDistinctKeys-nil, HasDistinctKeys-walk_of, HasDistinctKeys-take_key, HasDistinctKeys-put_pair, All-walk_of, All-take_key, All-put_pair}
+use Rattle.intmap_table.proofs.MappedLemmas.{walk_of-map_values, take_key-map_values, put_pair-map_values, length-map_values}
 
 -- maps whose changed parts are the same are the same
 pub MapState-same : {K V : Type 0} (W W' : List (K × V)) (C C' F p p' c c' : ℕ) → W ≡ W' → C ≡ C' → p ≡ p' → c ≡ c'

@@ -19,13 +19,13 @@ use Rattle.serde_json.specs.Find.{get_member}
 use Rattle.serde_json.specs.View.{view, members_view}
 use Rattle.serde_json.specs.declared.value.Value.{Value}
 use Rattle.serde_json.proofs.Views.{get_member-put, get_member-put_other, member_here, member_later}
-use Rattle.intmap.specs.Bindings.{value_of, HasDistinctKeys}
+use Rattle.intmap_table.specs.Bindings.{value_of, HasDistinctKeys}
 use Rattle.intmap.specs.Extending.{new_keys}
 use Rattle.intmap.specs.Json.{json_cause, IsKeyText, HasKeyTexts, tree_of, ShowsBindings, BindSameTrees, ArePairsOf, AreCollected, LeavesRange, MayRefuseToRead}
 use Rattle.intmap.specs.Map.{MapState}
 use Rattle.intmap.specs.declared.refusal.Cause.{Cause}
 use Rattle.intmap.specs.declared.refusal.Cause.TheVariants.{Memory, TooLarge}
-use Rattle.intmap.proofs.BindingLemmas.{first_value-none}
+use Rattle.intmap_table.proofs.BindingLemmas.{first_value-none}
 use Rattle.intmap.proofs.ExtendLemmas.{refusal_of, cause-of_slots, value_of-append}
 use Rattle.intmap.proofs.JsonLemmas.{Entry}
 

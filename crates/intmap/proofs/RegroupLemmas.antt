@@ -4,9 +4,9 @@ use Rattle.std.specs.Prelude.{filter, ◌==◌}
 use Rattle.std.proofs.Math.Pow.{pow_pos, mod-mod-pow}
 use Rattle.std.proofs.lemmas.Nat.{mod_below, pow_below}
 use Rattle.std.proofs.lemmas.Bool.{eq-eqb, eqb-true, cases_lt}
-use Rattle.intmap.specs.Classes.{IsCapacity, slot_number}
-use Rattle.intmap.specs.Walk.{slot_of, walk_of}
-use Rattle.intmap.proofs.WalkLemmas.{slot_of-walk_of, walk_of-same}
+use Rattle.intmap_table.specs.Classes.{IsCapacity, slot_number}
+use Rattle.intmap_table.specs.Walk.{slot_of, walk_of}
+use Rattle.intmap_table.proofs.WalkLemmas.{slot_of-walk_of, walk_of-same}
 
 -- a filter doesn't see one before it that keeps all that it keeps
 filter-wider : {X : Type 0} (keep wider : X → Bool) → ((x : X) → keep x ≡ true → wider x ≡ true) → (xs : List X) → filter keep (filter wider xs) ≡ filter keep xs

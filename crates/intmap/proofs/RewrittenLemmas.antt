@@ -2,11 +2,11 @@
 use Rattle.std.proofs.Common.{◌≡◌, ℕ, Bool, true, false, List, [], ◌∷◌, refl, ap, sym, ◌∙◌}
 use Rattle.std.specs.Prelude.{◌==◌, filter, not}
 use Rattle.std.specs.List.{list_any}
-use Rattle.intmap.specs.Classes.{slot_number, same_key}
-use Rattle.intmap.specs.Bindings.{write_value, strike_keys}
-use Rattle.intmap.specs.Walk.{walk_of}
-use Rattle.intmap.specs.Laws.Written.{slot_of-write_value}
-use Rattle.intmap.proofs.WalkLemmas.{SameSlots-from_walk_of, walk_of-same}
+use Rattle.intmap_table.specs.Classes.{slot_number, same_key}
+use Rattle.intmap_table.specs.Bindings.{write_value, strike_keys}
+use Rattle.intmap_table.specs.Walk.{walk_of}
+use Rattle.intmap_table.specs.Laws.Written.{slot_of-write_value}
+use Rattle.intmap_table.proofs.WalkLemmas.{SameSlots-from_walk_of, walk_of-same}
 
 module _ {X : Type 0} (keep test : X → Bool) where
   filter-filter_step : (x : X) (xs : List X) (k t : Bool) → keep x ≡ k → test x ≡ t → filter test (filter keep xs) ≡ filter keep (filter test xs) → filter test (filter keep (x ∷ xs)) ≡ filter keep (filter test (x ∷ xs))

@@ -4,8 +4,8 @@ use Rattle.std.specs.Prelude.{◌==◌, count_by, take, drop}
 use Rattle.std.specs.Map.{keys_of}
 use Rattle.std.proofs.lemmas.Bool.{eq-eqb, eqb-true}
 use Rattle.std.proofs.lemmas.List.Sums.{sum_by-cons}
-use Rattle.intmap.specs.Classes.{same_key}
-use Rattle.intmap.specs.Bindings.{HasDistinctKeys, strike_keys}
+use Rattle.intmap_table.specs.Classes.{same_key}
+use Rattle.intmap_table.specs.Bindings.{HasDistinctKeys, strike_keys}
 
 module _ {K V : Type 0} (number : K → ℕ) where
   -- no key struck leaves the list

@@ -8,13 +8,14 @@ use Rattle.std.proofs.lemmas.List.Elements.{filter-append}
 use Rattle.std.proofs.lemmas.List.Sums.{sum_by-cons, sum_by_push}
 use Rattle.std.proofs.lemmas.List.{length-append}
 use Rattle.std.specs.Option.{option_or}
-use Rattle.intmap.specs.Bindings.{value_of, put_pair, write_value, Updates}
-use Rattle.intmap.specs.Figures.{each_once, tally_of, IsTally}
+use Rattle.intmap_table.specs.Bindings.{value_of, put_pair, write_value, Updates}
+use Rattle.intmap_table.specs.Figures.{each_once, tally_of}
+use Rattle.intmap.specs.Extending.{IsTally}
 use Rattle.intmap.specs.Map.{MapState, IsMap, IsOutOfRange, IsCapacityAfter}
-use Rattle.intmap.specs.Walk.{walk_of}
+use Rattle.intmap_table.specs.Walk.{walk_of}
 use Rattle.intmap.proofs.EntryLemmas.{write_value-unbound}
 use Rattle.intmap.proofs.ExtendLemmas.{value_of-append}
-use Rattle.intmap.proofs.LoadLemmas.{times}
+use Rattle.intmap_table.proofs.LoadLemmas.{times}
 use Rattle.intmap.proofs.MadeLemmas.{IsMadeOf-written, IsMadeOf-inserted}
 use Rattle.intmap.proofs.WriteLemmas.{length-write_value, value_of-write_value}
 

@@ -5,14 +5,15 @@ use Rattle.std.proofs.lemmas.Bool.{cases_Bool, eqb-true, eq-eqb}
 use Rattle.std.proofs.lemmas.List.{length-map}
 use Rattle.std.proofs.lemmas.List.Elements.{All-cons, All-head, All-tail}
 use Rattle.std.proofs.lemmas.List.Sums.{sum_by-cons}
-use Rattle.intmap.specs.Classes.{same_key}
-use Rattle.intmap.specs.Bindings.{first_value, value_of, IsBound, write_value, HasDistinctKeys, Updates}
-use Rattle.intmap.specs.Tables.Kept.{unkept, IsConsistent}
+use Rattle.intmap_table.specs.Classes.{same_key}
+use Rattle.intmap_table.specs.Bindings.{first_value, value_of, IsBound, write_value, HasDistinctKeys, Updates}
+use Rattle.intmap_table.specs.Tables.Kept.{unkept}
+use Rattle.intmap.specs.Consistency.{IsConsistent}
 use Rattle.intmap.specs.Map.{IsMapWalk}
-use Rattle.intmap.specs.declared.kept.Kept.{Kept}
-use Rattle.intmap.proofs.BindingLemmas.{Updates-from}
+use Rattle.intmap_table.specs.declared.kept.Kept.{Kept}
+use Rattle.intmap_table.proofs.BindingLemmas.{Updates-from}
 use Rattle.intmap.proofs.LoadFactorLemmas.{IsLoaded}
-use Rattle.intmap.proofs.LocationLemmas.{walk_of-write_value, write_value-map_values}
+use Rattle.intmap_table.proofs.LocationLemmas.{walk_of-write_value, write_value-map_values}
 
 module _ {K V : Type 0} (number : K → ℕ) where
   pub length-write_value : (L : List (K × V)) (k : K) (v : V) → length (write_value number L k v) ≡ length L

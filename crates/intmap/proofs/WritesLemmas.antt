@@ -1,85 +1,20 @@
--- What a closure that writes each value in turn leaves of lists, of slots and of tables.
-use Rattle.std.proofs.Common.{Bool, true, false, cond, Some, is_some, ◌≡◌, ℕ, ◌+◌, ◌<◌, ◌≤◌, List, [], ◌∷◌, ◌++◌, length, get_or, set, take, drop, refl, sym, ap, ◌∙◌, subst, arith}
+-- What a map is once its values were written.
+use Rattle.std.proofs.Common.{◌≡◌, ℕ, ◌≤◌, List, length, sym, ap, ◌∙◌, subst, arith}
 use Rattle.std.specs.Prelude.{All, count_by}
-use Rattle.std.specs.List.{FoldsTo}
 use Rattle.std.specs.Map.{keys_of}
-use Rattle.std.specs.Fn.{Mut}
-use Rattle.std.specs.Borrow.{MutBor}
-use Rattle.std.proofs.lemmas.List.{drop_more, take_more_set, drop-set-lt}
-use Rattle.std.proofs.lemmas.List.Elements.{All-cons, All-head, All-tail}
 use Rattle.std.proofs.lemmas.Map.Entries.{length-keys_of}
-use Rattle.intmap.specs.Bindings.{value_of}
-use Rattle.intmap.specs.Classes.{same_key}
+use Rattle.intmap_table.specs.Classes.{same_key}
 use Rattle.intmap.specs.Growth.{IsThreshold}
-use Rattle.intmap.specs.Tables.Kept.{unkept, WritesStored, TakesStoredMut, IsConsistent}
+use Rattle.intmap_table.specs.Tables.Kept.{unkept}
+use Rattle.intmap.specs.Consistency.{IsConsistent}
 use Rattle.intmap.specs.Map.{IsMapWalk}
-use Rattle.intmap.specs.Taking.{Passes, TakesEach}
-use Rattle.intmap.specs.Walk.{walk_of}
-use Rattle.intmap.specs.Writes.{Writes, WritesAt, TakesPairMut}
-use Rattle.intmap.specs.declared.kept.Kept.{Kept}
-use Rattle.intmap.proofs.LeadsLemmas.{Leads, Leads-next}
+use Rattle.intmap_table.specs.Walk.{walk_of}
+use Rattle.intmap_table.specs.Writes.{Writes}
+use Rattle.intmap_table.specs.declared.kept.Kept.{Kept}
 use Rattle.intmap.proofs.LoadFactorLemmas.{IsLoaded}
 use Rattle.intmap.proofs.MapLemmas.{length-unkept}
-use Rattle.intmap.proofs.MappedLemmas.{count_by-map, walk_of-map_values}
-use Rattle.intmap.proofs.TakingLemmas.{TakesEach-map}
-
-module _ {F K V : Type 0} (R : F → K × V → V → F → Type 0) where
-  -- first the one list, then the other
-  pub Writes-append : (f g h : F) (L L' M M' : List (K × V)) → Writes R f L M g → Writes R g L' M' h → Writes R f (L ++ L') (M ++ M') h
-  Writes-append f g h [] L' M M' first more = subst (λ Z. Writes R f L' (Z ++ M') h) (sym first.0) (subst (λ z. Writes R z L' M' h) (sym first.1) more)
-  Writes-append f g h (p ∷ L) L' M M' first more =
-      (first.0, first.1, first.2 ++ M', first.3, Writes-append first.1 g h L L' first.2 M' first.4 more, ap (λ Z. Z ++ M') first.5)
-
-  -- it passed each pair
-  pub FoldsTo-Writes : (f g : F) (L M : List (K × V)) → Writes R f L M g → FoldsTo (Passes R) f L g
-  FoldsTo-Writes f g [] M r = r.1
-  FoldsTo-Writes f g (p ∷ L) M r = (r.1, (r.0, r.3), FoldsTo-Writes r.1 g L r.2 r.4)
-
-  -- the keys stay, in their order
-  pub keys_of-Writes : (f g : F) (L M : List (K × V)) → Writes R f L M g → keys_of M ≡ keys_of L
-  keys_of-Writes f g [] M r = ap keys_of r.0
-  keys_of-Writes f g (p ∷ L) M r = ap keys_of r.5 ∙ ap (λ ks. p.0 ∷ ks) (keys_of-Writes r.1 g L r.2 r.4)
-
-  -- so there are as many pairs
-  pub length-Writes : (f g : F) (L M : List (K × V)) → Writes R f L M g → length M ≡ length L
-  length-Writes f g L M r = sym (length-keys_of M) ∙ ap length (keys_of-Writes f g L M r) ∙ length-keys_of L
-
-  -- what holds of all keys holds of them still
-  pub All-Writes : (P : K → Type 0) (f g : F) (L M : List (K × V)) → Writes R f L M g → All (λ p. P p.0) L → All (λ p. P p.0) M
-  All-Writes P f g [] M r all = subst (All (λ p. P p.0)) (sym r.0) all
-  All-Writes P f g (p ∷ L) M r all =
-      let rest = All-Writes P r.1 g L r.2 r.4 (All-tail (λ q. P q.0) p L all) in
-      subst (All (λ q. P q.0)) (sym r.5) (All-cons (λ q. P q.0) (p.0, r.0) r.2 (All-head (λ q. P q.0) p L all) rest)
-
-  -- a key is bound where it was, and nowhere else
-  pub is_some-Writes : (number : K → ℕ) (k : K) (f g : F) (L M : List (K × V)) → Writes R f L M g → is_some (value_of number M k) ≡ is_some (value_of number L k)
-  is_some-Writes number k f g [] M r = ap (λ Z. is_some (value_of number Z k)) r.0
-  is_some-Writes number k f g (p ∷ L) M r = ap (λ Z. is_some (value_of number Z k)) r.5 ∙ either (same_key number k p.0) (is_some-Writes number k r.1 g L r.2 r.4)
-    where
-      either : (b : Bool) → is_some (value_of number r.2 k) ≡ is_some (value_of number L k) → is_some (cond b (Some r.0) (value_of number r.2 k)) ≡ is_some (cond b (Some p.1) (value_of number L k))
-      either true rest = refl
-      either false rest = rest
-
-  -- the first i pairs of a list that is `ps` now were written, and so is the next one
-  pub Leads-written : (f₀ f h : F) (L ps : List (K × V)) (i : ℕ) (d p : K × V) → i < length ps → p.0 ≡ (get_or ps i d).0 → R f (get_or ps i d) p.1 h
-      → Leads (Writes R) f₀ L f (take i ps) (drop i ps) → Leads (Writes R) f₀ L h (take (i + 1) (set ps i p)) (drop (i + 1) (set ps i p))
-  Leads-written f₀ f h L ps i d p below key call leads =
-      let x = get_or ps i d in
-      let one : Writes R f (x ∷ []) (p ∷ []) h = (p.1, h, [], call, (refl, refl), ap (λ k. (k, p.1) ∷ []) key) in
-      let left = drop-set-lt (i + 1) ps i p (omega arith) in
-      let next = Leads-next (Writes R) Writes-append f₀ f h L (take i ps) (x ∷ []) (p ∷ []) (drop (i + 1) ps) (subst (λ Z. Leads (Writes R) f₀ L f (take i ps) Z) (drop_more ps i d below) leads) one in
-      subst (λ Z. Leads (Writes R) f₀ L h Z (drop (i + 1) (set ps i p))) (sym (take_more_set ps i p below))
-      (subst (λ Z. Leads (Writes R) f₀ L h (take i ps ++ p ∷ []) Z) (sym left) next)
-
-module _ {K V : Type 0} where
-  -- the same with the values as callers see them
-  pub Writes-unkept : {F : Type 0} (m : Mut F (K × (MutBor V × Unit {0})) (Unit {0} × (MutBor V × Unit {0}))) (f g : F) (L M : List (K × Kept V)) → Writes (WritesStored m) f L M g → Writes (WritesAt m) f (unkept L) (unkept M) g
-  Writes-unkept m f g [] M r = (ap unkept r.0, r.1)
-  Writes-unkept m f g (p ∷ L) M r = (r.0.value, r.1, unkept r.2, r.3, Writes-unkept m r.1 g L r.2 r.4, ap unkept r.5)
-
-  -- and takes each pair as it is stored, if it does as callers see it
-  pub TakesEach-stored_mut : {F : Type 0} (m : Mut F (K × (MutBor V × Unit {0})) (Unit {0} × (MutBor V × Unit {0}))) (f : F) (L : List (K × Kept V)) → TakesEach (WritesAt m) (TakesPairMut m) f (unkept L) → TakesEach (WritesStored m) (TakesStoredMut m) f L
-  TakesEach-stored_mut m f L takes = TakesEach-map (WritesAt m) (TakesPairMut m) (λ p. (p.0, p.1.value)) (λ w. w.value) f L takes
+use Rattle.intmap_table.proofs.MappedLemmas.{count_by-map, walk_of-map_values}
+use Rattle.intmap_table.proofs.WritesLemmas.{keys_of-Writes, length-Writes, All-Writes}
 
 module _ {K V : Type 0} (number : K → ℕ) (is_valid : K → Type 0) where
   -- whether pairs may be the walk of a map follows from their keys, once they are their own walk

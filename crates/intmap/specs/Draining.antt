@@ -3,10 +3,10 @@ use Rattle.std.specs.Prelude.{◌≡◌, List, Option}
 use Rattle.std.specs.Borrow.{GName}
 use Rattle.std.specs.Iterator.{YieldsFirst}
 use Rattle.std.specs.declared.cmp.PartialEq as eq
-use Rattle.intmap.specs.declared.key.IntKey as key
+use Rattle.intmap_table.specs.declared.key.IntKey as key
 use Rattle.intmap.specs.declared.map.iter.drain.Drain.{Drain}
 use Rattle.intmap.specs.Map.{MapState}
-use Rattle.intmap.specs.Passing.{with_walk}
+use Rattle.intmap.specs.Map.{with_walk}
 
 module _ {K V A : Type 0} {g : key.Ghosts K} {e : eq.Ghosts K} where
   -- the map as it is at this moment

@@ -5,18 +5,18 @@ use Rattle.std.specs.Borrow.{Fml, RattleType, MutBor, follows, follows_if, name_
 use Rattle.std.specs.declared.alloc.Allocator as allocator
 use Rattle.std.specs.declared.cmp.PartialEq as eq
 use mir.Syntax.{named}
-use Rattle.intmap.specs.declared.key.IntKey as key
+use Rattle.intmap_table.specs.declared.key.IntKey as key
 use Rattle.intmap.specs.declared.entry.Entry.{Entry}
 use Rattle.intmap.specs.declared.entry.OccupiedEntry.{OccupiedEntry}
 use Rattle.intmap.specs.contracts.map.IntMap.{the_row as map_row}
 use Rattle.intmap.specs.contracts.entry.OccupiedEntry as occupied
-use Rattle.intmap.specs.Bindings.{value_of}
+use Rattle.intmap_table.specs.Bindings.{value_of}
 use Rattle.intmap.specs.Growth.{next_capacity}
 use Rattle.intmap.specs.Map.{MapState, with_pair, written}
 use Rattle.intmap.specs.PlainLists.{PlainList}
-use Rattle.intmap.specs.Laws.Written.{IsFound-write_value}
-use Rattle.intmap.specs.Locations.{key_at, the_key}
-use Rattle.intmap.specs.Walk.{slot_of}
+use Rattle.intmap_table.specs.Laws.Written.{IsFound-write_value}
+use Rattle.intmap_table.specs.Locations.{key_at, the_key}
+use Rattle.intmap_table.specs.Walk.{slot_of}
 
 module _ {K V A : Type 0} {g : key.Ghosts K} {e : eq.Ghosts K} where
   -- the reference to the map

@@ -2,7 +2,8 @@
 use Rattle.std.specs.Prelude.{◌≡◌, ℕ, ◌+◌, ◌-◌, ◌^◌, ◌<◌, ◌≤◌, cond, is_some, min, max, List, [], ◌∷◌, length, reverse, Option, Some, ◌⊎◌}
 use Rattle.std.specs.Iterator.{Drains, YieldsThen}
 use Rattle.std.specs.Option.{option_or}
-use Rattle.intmap.specs.Bindings.{value_of}
+use Rattle.intmap_table.specs.Bindings.{value_of}
+use Rattle.intmap_table.specs.Figures.{tally_of}
 use Rattle.intmap.specs.Growth.{IsLeastPower}
 use Rattle.intmap.specs.Map.{MapState, IsMap, IsOutOfRange, IsCapacityAfter, empty_map, after_search, after_insert}
 use Rattle.intmap.specs.PlainLists.{RefusalIsDue}
@@ -76,3 +77,9 @@ module _ {K V S : Type 0} (number : K → ℕ) (is_valid : K → Type 0) (steps 
       ⊎ ((cause ≡ Memory) × (b ≤ 2 ^ 63))
       ⊎ ((slots : ℕ) × IsLeastPower (max b 2) slots × (refused : RefusedPair K V) × (n : MapState K V)
       × ExtendsUpTo s (empty_map slots) refused n × (cause ≡ refused.cause))
+
+-- the map binds each number of the list to how often it stands there, as insertions at the first places of these numbers leave it
+pub record IsTally (ns : List ℕ) (m : MapState ℕ ℕ) : Type 0 where
+  pub made : IsMadeOf (λ n. n) (λ n. n < 2 ^ 64) (tally_of ns) m
+  pub counts : (q : ℕ) → value_of (λ n. n) m.walk q ≡ value_of (λ n. n) (tally_of ns) q
+  pub len : length m.walk ≡ length (tally_of ns)

@@ -8,7 +8,7 @@ use Rattle.serde_json.specs.Find.{get_member, as_object}
 use Rattle.serde_json.specs.View.{view}
 use Rattle.serde_json.specs.Written.{has_float}
 use Rattle.serde_json.specs.declared.value.Value.{Value}
-use Rattle.intmap.specs.Bindings.{value_of}
+use Rattle.intmap_table.specs.Bindings.{value_of}
 use Rattle.intmap.specs.Extending.{IsExtended}
 use Rattle.intmap.specs.Growth.{IsLeastPower}
 use Rattle.intmap.specs.Map.{MapState, IsOutOfRange, empty_map}

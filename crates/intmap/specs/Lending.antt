@@ -1,31 +1,16 @@
--- What a slot, a table and a map end as, once values of theirs were lent and written.
-pub mod Apart
-use Rattle.std.specs.Prelude.{ℕ, Bool, List, Option}
-use Rattle.std.specs.Borrow.{Lends, LendsIf, follows, Fml, RattleType, MutBor, GName, u64}
+-- What a map ends as, once values of it were lent and written.
+use Rattle.std.specs.Prelude.{Option}
+use Rattle.std.specs.Borrow.{Lends, LendsIf, follows, Fml, RattleType, MutBor, GName}
 use Rattle.std.specs.Map.{values_of}
 use Rattle.std.specs.declared.alloc.Allocator as allocator
 use Rattle.std.specs.declared.cmp.PartialEq as eq
-use Rattle.intmap.specs.declared.key.IntKey as key
-use Rattle.intmap.specs.Bindings.{write_value}
+use Rattle.intmap_table.specs.declared.key.IntKey as key
 use Rattle.intmap.specs.Map.{MapState, after_search, written}
-use Rattle.intmap.specs.Tables.Slots.{Held, Grid, write_at}
-use Rattle.intmap.specs.Values.{map_with_values}
-use Rattle.intmap.specs.contracts.slot.Slot.{the_row as slot_row}
-use Rattle.intmap.specs.contracts.table.Table.{the_row as table_row}
+use Rattle.intmap.specs.Map.{map_with_values}
 use Rattle.intmap.specs.contracts.map.IntMap.{the_row as map_row}
 
--- once the loan named r ends, the slot behind s has the last value written through it at place i, and all else as it was
-abbrev pub slot_lends : (K X A : RattleType) → key.Ghosts K.Denot → eq.Ghosts K.Denot → allocator.Ghosts A.Denot
-    → MutBor (Held K.Denot X.Denot) → ℕ → MutBor X.Denot → Fml
-slot_lends K X A g e a s i r = Lends (slot_row K X A g e a) X s r (λ v. record s.now { pairs = write_at s.now.pairs i v })
-
--- and the table behind t has it as the value of the key k
-abbrev pub table_lends : (K X A : RattleType) → (g : key.Ghosts K.Denot) → eq.Ghosts K.Denot → allocator.Ghosts A.Denot
-    → MutBor (Grid K.Denot X.Denot) → K.Denot → MutBor X.Denot → Fml
-table_lends K X A g e a t k r = Lends (table_row K X A g e a) X t r (λ v. record t.now { walk = write_value g.number_of t.now.walk k v })
-
 module _ (K V A : RattleType) (g : key.Ghosts K.Denot) (e : eq.Ghosts K.Denot) (a : allocator.Ghosts A.Denot) (m : MutBor (MapState K.Denot V.Denot)) where
-  -- and the map behind m has it as the value of the key k
+  -- once the loan named r ends, the map behind m has it as the value of the key k
   abbrev pub map_lends : K.Denot → MutBor V.Denot → Fml
   map_lends k r = Lends (map_row K V A g e a) V m r (λ v. written g.number_of m.now k v)
 

@@ -1,9 +1,10 @@
 -- A map as contracts see it, and what calls leave of it.
 use Rattle.std.specs.Prelude.{◌≡◌, ◌⊎◌, ℕ, ◌+◌, ◌^◌, ◌<◌, ◌≤◌, ◌==◌, cond, List, [], length, All, IsNone, MatchOption}
-use Rattle.intmap.specs.Classes.{IsCapacity}
-use Rattle.intmap.specs.Bindings.{HasDistinctKeys, value_of, take_key, put_pair, write_value}
-use Rattle.intmap.specs.Walk.{walk_of}
-use Rattle.intmap.specs.Reach.{reach}
+use Rattle.intmap_table.specs.Classes.{IsCapacity}
+use Rattle.intmap_table.specs.Bindings.{HasDistinctKeys, value_of, take_key, put_pair, write_value}
+use Rattle.intmap_table.specs.Walk.{walk_of}
+use Rattle.intmap_table.specs.Values.{with_values}
+use Rattle.intmap_table.specs.Reach.{reach}
 use Rattle.intmap.specs.Growth.{MeetsLoad, IsNext, GrowsTooMuch, last_due}
 
 -- the walk, the capacity and the load factor in thousandths; how many pairs insertions put into larger tables, and how many keys were compared
@@ -27,6 +28,14 @@ module _ {K V : Type 0} where
   -- the map without its pairs
   abbrev pub emptied : MapState K V → MapState K V
   emptied m = record m { walk = [] }
+
+  -- the map with this walk
+  abbrev pub with_walk : MapState K V → List (K × V) → MapState K V
+  with_walk m W = record m { walk = W }
+
+  -- the map with these values in the order of its walk, and all else as it was
+  abbrev pub map_with_values : MapState K V → List V → MapState K V
+  map_with_values m vs = record m { walk = with_values m.walk vs }
 
 module _ {K V : Type 0} (number : K → ℕ) where
   -- W may be the walk of a map of C slots at the load factor F: it is its own walk, no key is bound twice, each key is a

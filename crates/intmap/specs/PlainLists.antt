@@ -1,10 +1,10 @@
 -- A plain list of pairs with a capacity and a load factor, and what insertions make of it.
 use Rattle.std.specs.Prelude.{◌≡◌, ◌↔◌, ℕ, ◌+◌, ◌<◌, List, [], ◌∷◌, ◌++◌, length, Option, Some, None, IsNone}
-use Rattle.intmap.specs.Bindings.{value_of, put_pair}
-use Rattle.intmap.specs.Reach.{class_size}
+use Rattle.intmap_table.specs.Bindings.{value_of, put_pair}
+use Rattle.intmap_table.specs.Reach.{class_size}
 use Rattle.intmap.specs.Growth.{IsNext}
 use Rattle.intmap.specs.Map.{MapState, IsOutOfRange, IsCapacityAfter}
-use Rattle.intmap.specs.Walk.{StandsFor}
+use Rattle.intmap_table.specs.Walk.{StandsFor}
 use Rattle.intmap.specs.declared.refusal.Cause.{Cause}
 use Rattle.intmap.specs.declared.refusal.Cause.TheVariants.{Memory, TooLarge}
 

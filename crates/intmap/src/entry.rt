@@ -1,7 +1,7 @@
 //! Entries: a map with a key that was looked up once, to read, write, remove or insert its pair.
 ghost use Rattle.std.specs.Prelude.{◌≡◌, None, ◌+◌, cond, length, is_some, IsSome, Some, IfOk, IfErr, OnOk, unwrap_or, MatchOption};
-ghost use Rattle.intmap.specs.Bindings.{value_of, Updates};
-ghost use Rattle.intmap.specs.Locations.{IsFound};
+ghost use Rattle.intmap_table.specs.Bindings.{value_of, Updates};
+ghost use Rattle.intmap_table.specs.Locations.{IsFound};
 ghost use Rattle.std.specs.Borrow.{sem, MutBor};
 ghost use Rattle.std.specs.Map.Calls.{ModifiesValue};
 ghost use Rattle.intmap.specs.Map.{IsMap, IsOutOfRange, IsCapacityAfter, after_search};
@@ -10,9 +10,9 @@ ghost use Rattle.intmap.specs.PlainLists.{RefusalIsDue};
 mod occupied;
 mod vacant;
 
-use crate::key::IntKey;
 use crate::map::IntMap;
 use crate::refusal::Refused;
+use intmap_table::IntKey;
 use std::alloc::{Allocator, Global};
 
 /// A map with a key that was looked up in it, made by [`IntMap::entry`].

@@ -4,11 +4,11 @@
 //! A call such as `laws::small_keys_are_found_at_once::<u64, V>();` brings its law into the proof
 //! of the function that contains the call.
 ghost use Rattle.std.specs.Prelude.{◌≡◌, ◌+◌, ◌^◌, ◌<◌, ◌≤◌, ◌↔◌, ℕ, List, All, IsTrue, cond, is_some, length, Some, None, false};
-ghost use Rattle.intmap.specs.Classes.{IsCapacity};
-ghost use Rattle.intmap.specs.Bindings.{value_of, take_key, put_pair, HasDistinctKeys, Updates, BindSame};
-ghost use Rattle.intmap.specs.Walk.{walk_of};
-ghost use Rattle.intmap.specs.Reach.{reach, class_size};
-ghost use Rattle.intmap.specs.Figures.{load_of};
+ghost use Rattle.intmap_table.specs.Classes.{IsCapacity};
+ghost use Rattle.intmap_table.specs.Bindings.{value_of, take_key, put_pair, HasDistinctKeys, Updates, BindSame};
+ghost use Rattle.intmap_table.specs.Walk.{walk_of};
+ghost use Rattle.intmap_table.specs.Reach.{reach, class_size};
+ghost use Rattle.intmap_table.specs.Figures.{load_of};
 ghost use Rattle.intmap.specs.Growth.{IsWanted, is_due};
 ghost use Rattle.intmap.specs.Map.{MapState, IsCapacityAfter};
 ghost use Rattle.intmap.specs.Equality.{maps_equal};
@@ -18,7 +18,7 @@ ghost use Rattle.intmap.specs.declared.refusal.Cause.{Cause};
 ghost use Rattle.serde_json.specs.Data.{Data};
 ghost use Rattle.serde_json.specs.declared.value.Value.{Value};
 
-use crate::key::IntKey;
+use intmap_table::IntKey;
 
 /// The walk of a list has the same value for each key as the list.
 pub fn walks_bind_as_lists<K: IntKey, V>()

@@ -2,20 +2,14 @@
 //! there is no random seed.
 #![tactic(auto)]
 
-mod bits;
 pub mod entry;
-mod kept;
-mod key;
 pub mod laws;
 mod load;
 mod map;
 mod refusal;
-mod slot;
-pub mod steps;
-mod stored;
-mod table;
 
-pub use key::IntKey;
+pub use intmap_table::{IntKey, steps};
 pub use map::json::JsonCause;
+pub use map::json::read::key_of;
 pub use map::{IntMap, iter};
 pub use refusal::{Cause, Refused, RefusedPair};

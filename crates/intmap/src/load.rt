@@ -1,6 +1,6 @@
 //! Whether a table has too few slots for its pairs, and how many slots they need.
 ghost use Rattle.std.specs.Prelude.{◌≡◌, ◌^◌, ◌<◌, ◌&&◌, nat_lt, IfSome, IfNone};
-ghost use Rattle.intmap.specs.Classes.{IsCapacity};
+ghost use Rattle.intmap_table.specs.Classes.{IsCapacity};
 ghost use Rattle.intmap.specs.Growth.{IsWanted, IsThreshold, WantsTooMuch, is_due};
 
 /// The greatest number of slots.

@@ -2,9 +2,9 @@
 //! the calls on a located pair, whose key was found before. These compare no key.
 ghost use Rattle.std.specs.Prelude.{◌≡◌, ◌==◌, length, is_some, IfSome, IfNone, Some, None};
 ghost use Rattle.intmap.specs.Map.{IsMap, after_search, with_pair, without_key};
-ghost use Rattle.intmap.specs.Bindings.{value_of};
-ghost use Rattle.intmap.specs.Locations.{IsAt, IsLast, IsFound, key_at};
-ghost use Rattle.intmap.specs.Walk.{slot_of};
+ghost use Rattle.intmap_table.specs.Bindings.{value_of};
+ghost use Rattle.intmap_table.specs.Locations.{IsAt, IsLast, IsFound, key_at};
+ghost use Rattle.intmap_table.specs.Walk.{slot_of};
 
 mod build;
 mod figures;
@@ -16,11 +16,11 @@ pub(crate) mod json;
 mod remove;
 mod traits;
 
-use crate::kept::Kept;
-use crate::key::IntKey;
-use crate::steps::Steps;
-use crate::table::Table;
-use crate::table::locate::Location;
+use intmap_table::IntKey;
+use intmap_table::kept::Kept;
+use intmap_table::steps::Steps;
+use intmap_table::table::Table;
+use intmap_table::table::locate::Location;
 use std::alloc::{Allocator, Global};
 use std::marker::Model;
 
@@ -47,7 +47,8 @@ pub struct IntMap<K: IntKey, V, A: Allocator + Copy = Global> {
 
 impl<K: IntKey, V, A: Allocator + Copy> Model for IntMap<K, V, A> {
     ghost use Rattle.intmap.specs.Map.{MapState};
-    ghost use Rattle.intmap.specs.Tables.Kept.{unkept, IsConsistent};
+    ghost use Rattle.intmap_table.specs.Tables.Kept.{unkept};
+    ghost use Rattle.intmap.specs.Consistency.{IsConsistent};
 
     ghost Value = { MapState K V };
 

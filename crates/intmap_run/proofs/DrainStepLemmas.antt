@@ -5,7 +5,7 @@ use Rattle.std.specs.Map.{keys_of}
 use Rattle.std.specs.declared.vec.Vec.{Vec}
 use Rattle.intmap.specs.Bindings.{strike_keys}
 use Rattle.intmap.specs.Map.{MapState, IsMap}
-use Rattle.intmap.specs.Passing.{with_walk}
+use Rattle.intmap.specs.Map.{with_walk}
 use Rattle.intmap.specs.Walk.{walk_of}
 use Rattle.intmap.proofs.StrikeLemmas.{strike_keys-first}
 use Rattle.intmap_run.specs.declared.command.Command.TheVariants as command

@@ -1,4 +1,4 @@
--- Words that write numbers. What `parse` makes of them stands in JsonLemmas of intmap, where such words are keys.
+-- Words that write numbers.
 use Rattle.std.proofs.Common.{ℕ, List, sym, subst}
 use Rattle.std.specs.Fmt.{decimal}
 use Rattle.std.specs.Str.{IsUtf8}

@@ -6,8 +6,8 @@ use Rattle.std.proofs.lemmas.List.Sums.{list_all-from_AllPass}
 use Rattle.std.specs.Cmp.{IsPartialEquivalence, IsEquivalence, equiv, partial_equiv_from_equiv, first_so, second_so}
 use Rattle.std.specs.List.{list_all}
 use Rattle.std.specs.Option.{option_eq}
-use Rattle.intmap.specs.Classes.{same_key}
-use Rattle.intmap.specs.Bindings.{value_of, BindSame}
+use Rattle.intmap_table.specs.Classes.{same_key}
+use Rattle.intmap_table.specs.Bindings.{value_of, BindSame}
 use Rattle.intmap.specs.Equality.{are_bound_alike, maps_equal}
 use Rattle.intmap.specs.Map.{MapState}
 use Rattle.std.proofs.Math.Bool.{and_comm}

@@ -1,13 +1,13 @@
 //! Entries of present keys.
 ghost use Rattle.std.specs.Prelude.{◌≡◌, ◌+◌, length, Some, None};
 ghost use Rattle.std.specs.Borrow.{sem};
-ghost use Rattle.intmap.specs.Bindings.{Updates};
+ghost use Rattle.intmap_table.specs.Bindings.{Updates};
 ghost use Rattle.intmap.specs.Entries.{Occupied, entry_reference, entry_map, entry_key, entry_value, map_with_value, entry_lends, occupied_lends, IsWritten};
 ghost use Rattle.intmap.specs.Map.{IsMap, without_key};
 
 use crate::entry::OccupiedEntry;
-use crate::key::IntKey;
 use crate::map::IntMap;
+use intmap_table::IntKey;
 use std::alloc::Allocator;
 use std::mem;
 

@@ -1,16 +1,16 @@
 //! Entries of absent keys.
 ghost use Rattle.std.specs.Prelude.{◌≡◌, ◌+◌, length, Some, IfOk, IfErr, OnOk};
 ghost use Rattle.std.specs.Borrow.{sem};
-ghost use Rattle.intmap.specs.Bindings.{Updates};
+ghost use Rattle.intmap_table.specs.Bindings.{Updates};
 ghost use Rattle.intmap.specs.Entries.{Vacant, entry_reference, entry_map, entry_key, entry_list, next_entry_capacity, map_with_value, entry_lends_ok};
 ghost use Rattle.intmap.specs.Growth.{IsNext};
 ghost use Rattle.intmap.specs.Map.{IsMap, InsertIsTooLarge};
 ghost use Rattle.intmap.specs.PlainLists.{RefusalIsDue};
 
 use crate::entry::VacantEntry;
-use crate::key::IntKey;
 use crate::map::IntMap;
 use crate::refusal::Refused;
+use intmap_table::IntKey;
 use std::alloc::Allocator;
 
 impl<'a, K: IntKey, V, A: Allocator + Copy> VacantEntry<'a, K, V, A> {

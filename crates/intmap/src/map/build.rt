@@ -1,17 +1,17 @@
 //! New maps, and maps that many pairs are inserted into.
 ghost use Rattle.std.specs.Prelude.{◌≡◌, ◌↔◌, ◌^◌, ◌<◌, max, IfOk, IfErr, Err, ℕ, ◌≤◌, OnOk, MatchResult};
-ghost use Rattle.intmap.specs.Classes.{IsCapacity};
+ghost use Rattle.intmap_table.specs.Classes.{IsCapacity};
 ghost use Rattle.intmap.specs.Growth.{IsLeastPower};
 ghost use Rattle.intmap.specs.Map.{IsMap, empty_map};
 ghost use Rattle.std.specs.Iterator.{IsFinite, size};
 ghost use Rattle.intmap.specs.Extending.{Extends, ExtendsUpTo, Collects, MayRefuseToCollect};
 
-use crate::key::IntKey;
 use crate::load::{GREATEST_CAPACITY, threshold_of};
 use crate::map::IntMap;
 use crate::refusal::{Cause, RefusedPair};
-use crate::steps::Steps;
-use crate::table::Table;
+use intmap_table::IntKey;
+use intmap_table::steps::Steps;
+use intmap_table::table::Table;
 use std::alloc::Allocator;
 
 /// The number of slots of a map that `new` makes.

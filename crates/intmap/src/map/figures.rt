@@ -1,13 +1,14 @@
 //! What a map says of its table: how full it is, and how its pairs lie in it.
 ghost use Rattle.std.specs.Prelude.{◌≡◌, ℕ, ◌-◌, ◌^◌, ◌<◌, true, Some, List, [], ◌∷◌, ◌++◌, IfOk, IfErr, OnOk, length};
-ghost use Rattle.intmap.specs.Bindings.{value_of};
+ghost use Rattle.intmap_table.specs.Bindings.{value_of};
 ghost use Rattle.intmap.specs.Extending.{IsMadeOf};
-ghost use Rattle.intmap.specs.Figures.{IsTally, load_of, rate_of, collisions_of};
+ghost use Rattle.intmap.specs.Extending.{IsTally};
+ghost use Rattle.intmap_table.specs.Figures.{load_of, rate_of, collisions_of};
 ghost use Rattle.intmap.specs.Map.{IsMap, IsOutOfRange};
 
-use crate::key::IntKey;
 use crate::map::IntMap;
 use crate::refusal::Cause;
+use intmap_table::IntKey;
 use std::alloc::Allocator;
 
 impl<K: IntKey, V, A: Allocator + Copy> IntMap<K, V, A> {

@@ -1,12 +1,12 @@
 //! Look-ups.
 ghost use Rattle.std.specs.Prelude.{◌≡◌, ◌+◌, Some, is_some, length, option_copied};
-ghost use Rattle.intmap.specs.Bindings.{value_of, write_value, IsBound, Updates};
-ghost use Rattle.intmap.specs.Reach.{reach};
+ghost use Rattle.intmap_table.specs.Bindings.{value_of, write_value, IsBound, Updates};
+ghost use Rattle.intmap_table.specs.Reach.{reach};
 ghost use Rattle.intmap.specs.Map.{IsMap, after_search, written};
 
-use crate::key::IntKey;
 use crate::map::IntMap;
-use crate::steps::Steps;
+use intmap_table::IntKey;
+use intmap_table::steps::Steps;
 use std::alloc::Allocator;
 
 impl<K: IntKey, V, A: Allocator + Copy> IntMap<K, V, A> {

@@ -1,13 +1,13 @@
 //! The number of slots and the load factor, as callers set them.
 ghost use Rattle.std.specs.Prelude.{◌≡◌, ◌↔◌, ℕ, ◌+◌, ◌^◌, ◌<◌, max, length, Err, OnOk, OnErr};
-ghost use Rattle.intmap.specs.Bindings.{value_of};
+ghost use Rattle.intmap_table.specs.Bindings.{value_of};
 ghost use Rattle.intmap.specs.Growth.{IsWanted, IsLeastPower, WantsTooMuch};
 ghost use Rattle.intmap.specs.Map.{IsMap, in_slots};
 
-use crate::key::IntKey;
 use crate::load::{GREATEST_CAPACITY, threshold_of, wanted_capacity};
 use crate::map::IntMap;
 use crate::refusal::Cause;
+use intmap_table::IntKey;
 use std::alloc::Allocator;
 
 impl<K: IntKey, V: Drop, A: Allocator + Copy> IntMap<K, V, A> {

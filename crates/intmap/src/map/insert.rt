@@ -1,15 +1,15 @@
 //! Insertions.
 ghost use Rattle.std.specs.Prelude.{◌≡◌, ◌↔◌, ◌+◌, ◌*◌, ◌/◌, ◌^◌, ◌<◌, length, IfOk, IfErr, OnOk, OnErr, IsErrAnd, IsNone, None, Some, true, cond, is_some, is_none, unwrap_or, MatchBool};
-ghost use Rattle.intmap.specs.Bindings.{value_of, Updates};
-ghost use Rattle.intmap.specs.Reach.{class_size};
+ghost use Rattle.intmap_table.specs.Bindings.{value_of, Updates};
+ghost use Rattle.intmap_table.specs.Reach.{class_size};
 ghost use Rattle.intmap.specs.Growth.{IsNext, is_due};
 ghost use Rattle.intmap.specs.Map.{IsMap, InsertIsTooLarge, IsOutOfRange, IsCapacityAfter, after_search, after_insert, with_pair};
 
-use crate::kept::Kept;
-use crate::key::IntKey;
 use crate::load::{has_outgrown, threshold_of, wanted_capacity};
 use crate::map::IntMap;
 use crate::refusal::{Cause, Refused};
+use intmap_table::IntKey;
+use intmap_table::kept::Kept;
 use std::alloc::Allocator;
 
 impl<K: IntKey, V: Drop, A: Allocator + Copy> IntMap<K, V, A> {

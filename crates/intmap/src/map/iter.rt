@@ -4,16 +4,16 @@ ghost use Rattle.std.specs.Iterator.{YieldsFirstBy, item_count, YieldsFirst};
 ghost use Rattle.std.specs.Prelude.{◌≡◌};
 ghost use Rattle.std.specs.Map.{keys_of, values_of};
 ghost use Rattle.intmap.specs.Map.{IsMap};
-ghost use Rattle.intmap.specs.Passing.{ArePassed};
+ghost use Rattle.intmap_table.specs.Walk.{ArePassed};
 
 mod drain;
 mod writing;
 
-use crate::kept::Kept;
-use crate::key::IntKey;
 use crate::map::IntMap;
-use crate::table::walk::Pairs;
 pub use drain::Drain;
+use intmap_table::IntKey;
+use intmap_table::kept::Kept;
+use intmap_table::table::walk::Pairs;
 use std::alloc::{Allocator, Global};
 use std::marker::Model;
 pub use writing::{IterMut, ValuesMut};
@@ -27,7 +27,7 @@ pub struct Iter<'a, K: IntKey, V, A: Allocator + Copy = Global> {
 
 impl<'a, K: IntKey, V, A: Allocator + Copy> Model for Iter<'a, K, V, A> {
     ghost use Rattle.std.specs.Prelude.{List};
-    ghost use Rattle.intmap.specs.Tables.Kept.{unkept};
+    ghost use Rattle.intmap_table.specs.Tables.Kept.{unkept};
 
     ghost Value = { List (K × V) };
 

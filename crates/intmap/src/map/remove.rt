@@ -1,14 +1,15 @@
 //! Removals.
 ghost use Rattle.std.specs.Prelude.{◌≡◌, ◌+◌, None, cond, is_some, length, ◌⊎◌, ◌≤◌};
 ghost use Rattle.std.specs.Iterator.{YieldsFirst};
-ghost use Rattle.intmap.specs.Bindings.{value_of, Updates};
+ghost use Rattle.intmap_table.specs.Bindings.{value_of, Updates};
 ghost use Rattle.intmap.specs.Map.{IsMap, after_remove, emptied};
-ghost use Rattle.intmap.specs.Passing.{ArePassed, with_walk};
-ghost use Rattle.intmap.specs.Retaining.{KeepsAt, Retains, TakesPair};
-ghost use Rattle.intmap.specs.Taking.{TakesEach};
+ghost use Rattle.intmap_table.specs.Walk.{ArePassed};
+ghost use Rattle.intmap.specs.Map.{with_walk};
+ghost use Rattle.intmap_table.specs.Retaining.{KeepsAt, Retains, TakesPair};
+ghost use Rattle.intmap_table.specs.Taking.{TakesEach};
 
-use crate::key::IntKey;
 use crate::map::IntMap;
+use intmap_table::IntKey;
 use std::alloc::Allocator;
 
 impl<K: IntKey, V, A: Allocator + Copy> IntMap<K, V, A> {

@@ -3,13 +3,14 @@ ghost use Rattle.intmap.specs.Equality.{maps_equal};
 ghost use Rattle.intmap.specs.Laws.EqualityLaws.{IsPartialEquivalence-maps_equal, IsEquivalence-maps_equal};
 ghost use Rattle.std.specs.Prelude.{◌≡◌, length, IfOk, IfErr};
 ghost use Rattle.std.specs.Map.{keys_of};
-ghost use Rattle.intmap.specs.Cloning.{IsClone, BindsClones};
+ghost use Rattle.intmap.specs.Cloning.{IsClone};
+ghost use Rattle.intmap_table.specs.Cloning.{BindsClones};
 ghost use Rattle.intmap.specs.Map.{IsMap};
 
-use crate::key::IntKey;
 use crate::map::IntMap;
 use crate::refusal::Cause;
-use crate::steps::Steps;
+use intmap_table::IntKey;
+use intmap_table::steps::Steps;
 use std::alloc::Allocator;
 use std::fmt;
 

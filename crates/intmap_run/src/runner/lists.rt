@@ -5,7 +5,7 @@ ghost use Rattle.std.specs.Map.{keys_of, values_of};
 ghost use Rattle.intmap.specs.Extending.{IsMadeOf};
 ghost use Rattle.intmap.specs.Figures.{collisions_of};
 ghost use Rattle.intmap.specs.Map.{MapState, IsMap};
-ghost use Rattle.intmap.specs.Passing.{with_walk};
+ghost use Rattle.intmap.specs.Map.{with_walk};
 ghost use Rattle.intmap.specs.declared.refusal.Cause.TheVariants.{Memory};
 ghost use Rattle.intmap_run.specs.declared.command.Command.TheVariants as command;
 ghost use Rattle.intmap_run.specs.Runs.{SeesPair};

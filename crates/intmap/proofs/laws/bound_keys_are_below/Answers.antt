@@ -1,4 +1,4 @@
-use Rattle.intmap.proofs.BindingLemmas.{All-unbound}
+use Rattle.intmap_table.proofs.BindingLemmas.{All-unbound}
 use Rattle.intmap.proofs.laws.bound_keys_are_below.Goals as goal
 
 pub returns : goal.returns

@@ -1,5 +1,5 @@
 use Rattle.std.proofs.Common.{◌+◌, length}
-use Rattle.intmap.specs.Bindings.{value_of}
+use Rattle.intmap_table.specs.Bindings.{value_of}
 use Rattle.intmap.proofs.CostLemmas.{capacity-not_less}
 use Rattle.intmap.proofs.laws.insertions_keep_capacity.Goals as goal
 

@@ -1,7 +1,7 @@
 use Rattle.std.proofs.Common.{◌≡◌, ℕ, ◌+◌, ◌<◌, ◌^◌, false, inl, inr, length, refl, arith}
-use Rattle.intmap.specs.Classes.{IsCapacity}
+use Rattle.intmap_table.specs.Classes.{IsCapacity}
 use Rattle.intmap.specs.Growth.{is_due}
-use Rattle.intmap.specs.Reach.{class_size}
+use Rattle.intmap_table.specs.Reach.{class_size}
 use Rattle.intmap.specs.PlainLists.{PlainList, RefusalIsDue}
 use Rattle.intmap.specs.declared.refusal.Cause.{Cause}
 use Rattle.intmap.specs.declared.refusal.Cause.TheVariants.{Memory, TooLarge}

@@ -1,6 +1,6 @@
 use Rattle.std.proofs.Common.{Some}
-use Rattle.intmap.specs.Bindings.{put_pair}
-use Rattle.intmap.proofs.BindingLemmas.{value_of-put_pair, Updates-from}
+use Rattle.intmap_table.specs.Bindings.{put_pair}
+use Rattle.intmap_table.proofs.BindingLemmas.{value_of-put_pair, Updates-from}
 use Rattle.intmap.proofs.laws.putting_binds.Goals as goal
 
 pub returns : goal.returns

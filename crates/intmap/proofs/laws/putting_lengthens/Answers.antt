@@ -1,4 +1,4 @@
-use Rattle.intmap.proofs.DistinctLemmas.{length-put_pair}
+use Rattle.intmap_table.proofs.DistinctLemmas.{length-put_pair}
 use Rattle.intmap.proofs.laws.putting_lengthens.Goals as goal
 
 pub returns : goal.returns

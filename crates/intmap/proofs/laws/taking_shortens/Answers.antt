@@ -1,4 +1,4 @@
-use Rattle.intmap.proofs.DistinctLemmas.{length-take_key}
+use Rattle.intmap_table.proofs.DistinctLemmas.{length-take_key}
 use Rattle.intmap.proofs.laws.taking_shortens.Goals as goal
 
 pub returns : goal.returns

@@ -1,6 +1,6 @@
 use Rattle.std.proofs.Common.{None}
-use Rattle.intmap.specs.Bindings.{take_key}
-use Rattle.intmap.proofs.BindingLemmas.{value_of-take_key, Updates-from}
+use Rattle.intmap_table.specs.Bindings.{take_key}
+use Rattle.intmap_table.proofs.BindingLemmas.{value_of-take_key, Updates-from}
 use Rattle.intmap.proofs.laws.taking_unbinds.Goals as goal
 
 pub returns : goal.returns

@@ -1,5 +1,5 @@
-use Rattle.intmap.proofs.BindingLemmas.{value_of-walk_of}
-use Rattle.intmap.proofs.SlotNumberLemmas.{slot_number-below}
+use Rattle.intmap_table.proofs.BindingLemmas.{value_of-walk_of}
+use Rattle.intmap_table.proofs.SlotNumberLemmas.{slot_number-below}
 use Rattle.intmap.proofs.laws.walks_bind_as_lists.Goals as goal
 
 pub returns : goal.returns

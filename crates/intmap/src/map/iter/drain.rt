@@ -1,11 +1,11 @@
 //! Removal of pairs from the front of the walk, one by one.
 ghost use Rattle.std.specs.Prelude.{◌≡◌};
 ghost use Rattle.std.specs.Iterator.{item_count};
-ghost use Rattle.intmap.specs.Passing.{ArePassed};
+ghost use Rattle.intmap_table.specs.Walk.{ArePassed};
 ghost use Rattle.intmap.specs.Map.{IsMap};
 
-use crate::key::IntKey;
 use crate::map::IntMap;
+use intmap_table::IntKey;
 use std::alloc::{Allocator, Global};
 
 /// Removes one pair of a map at each step and returns it, made by

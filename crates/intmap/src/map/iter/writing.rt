@@ -3,19 +3,20 @@ ghost use Rattle.std.specs.Iterator.{YieldsFirstBy, item_count};
 ghost use Rattle.std.specs.Prelude.{◌≡◌, List, length, ◌↔◌};
 ghost use Rattle.std.specs.Borrow.{sem};
 ghost use Rattle.std.specs.Map.{keys_of, values_of};
-ghost use Rattle.intmap.specs.Lending.Apart.{lent_pairs};
+ghost use Rattle.intmap_table.specs.Lending.Apart.{lent_pairs};
 ghost use Rattle.intmap.specs.Lending.{map_lends_values};
 ghost use Rattle.intmap.specs.Map.{IsMap};
-ghost use Rattle.intmap.specs.Values.{with_values, map_with_values};
-ghost use Rattle.intmap.specs.Bindings.{IsBound};
-ghost use Rattle.intmap.specs.Taking.{TakesEach};
-ghost use Rattle.intmap.specs.Writes.{Writes, WritesAt, TakesPairMut};
+ghost use Rattle.intmap_table.specs.Values.{with_values};
+ghost use Rattle.intmap.specs.Map.{map_with_values};
+ghost use Rattle.intmap_table.specs.Bindings.{IsBound};
+ghost use Rattle.intmap_table.specs.Taking.{TakesEach};
+ghost use Rattle.intmap_table.specs.Writes.{Writes, WritesAt, TakesPairMut};
 
-use crate::kept::{Hole, Lent};
-use crate::key::IntKey;
 use crate::map::IntMap;
-use crate::table::Table;
-use crate::table::walk::Pairs;
+use intmap_table::IntKey;
+use intmap_table::kept::{Hole, Lent};
+use intmap_table::table::Table;
+use intmap_table::table::walk::Pairs;
 use std::alloc::{Allocator, Global};
 use std::marker::{Model, PhantomData};
 
@@ -32,7 +33,7 @@ impl<'a, K: IntKey, V, A: Allocator + Copy> Model for IterMut<'a, K, V, A> {
     ghost use base.Fml.{GName};
     ghost use Rattle.std.specs.Prelude.{◌≡◌, List};
     ghost use Rattle.std.specs.Map.{values_of};
-    ghost use Rattle.intmap.specs.Lending.Apart.{lent_pairs};
+    ghost use Rattle.intmap_table.specs.Lending.Apart.{lent_pairs};
 
     ghost Value = { List (K × V) × GName };
 

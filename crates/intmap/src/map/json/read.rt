@@ -108,14 +108,15 @@ fn have_key_texts(members: &Map<String, Value>) -> bool
     true
 }
 
-/// The number below 2^64 whose decimal text this is, or `None` if there is none. It allocates
-/// nothing.
+/// The number below 2^64 whose decimal text this is, or `None` if there is none: digits with no sign
+/// and no leading zero. The keys of an object are read so by
+/// [`from_json`](crate::IntMap::from_json). It allocates nothing and never fails.
 ///
 /// ```text
 /// "18446744073709551615"    Some(18446744073709551615)
 /// "05", "+5", "" and " 5"   None
 /// ```
-pub(crate) fn key_of(text: &str) -> Option<u64>
+pub fn key_of(text: &str) -> Option<u64>
     ensures some { IfSome result (IsKeyText text.now) }
     ensures none { IfNone result ((k : ℕ) → ¬ IsKeyText text.now k) }
 {
@@ -137,7 +138,7 @@ fn begins_as_printed(bytes: &[u8]) -> bool
 }
 
 /// The number whose decimal text this is. The caller knows that there is one.
-pub(crate) fn known_key(text: &str) -> u64
+fn known_key(text: &str) -> u64
     requires printed { (k : ℕ) × IsKeyText text.now k }
     ensures value { IsKeyText text.now result }
 {

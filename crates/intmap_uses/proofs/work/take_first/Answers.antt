@@ -1,6 +1,6 @@
 use Rattle.std.proofs.Common.{◌++◌, refl, sym, ap, ◌∙◌, append_assoc, length, arith}
 use Rattle.intmap.specs.Draining.{drain_rest}
-use Rattle.intmap.specs.Passing.{with_walk}
+use Rattle.intmap.specs.Map.{with_walk}
 use Rattle.intmap_uses.proofs.work.take_first.Goals as goal
 
 pub loop-init : goal.loop-init

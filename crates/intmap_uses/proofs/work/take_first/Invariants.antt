@@ -1,6 +1,6 @@
 use Rattle.std.proofs.Common.{◌≡◌, ◌≤◌, ◌++◌, length, vec_len, vec_capacity}
 use Rattle.intmap.specs.Draining.{drain_rest, drained_map, drain_lender}
-use Rattle.intmap.specs.Passing.{with_walk}
+use Rattle.intmap.specs.Map.{with_walk}
 use Rattle.intmap_uses.proofs.work.take_first.Given as goal
 
 abbrev pub invariant-loop : goal.invariant-loop

@@ -1,6 +1,6 @@
 use Rattle.std.proofs.Common.{◌≡◌, ◌++◌, length}
 use Rattle.intmap.specs.Draining.{drain_rest, drained_map, drain_lender}
-use Rattle.intmap.specs.Passing.{with_walk}
+use Rattle.intmap.specs.Map.{with_walk}
 use Rattle.intmap_uses.proofs.work.work_off.Given as goal
 
 abbrev pub invariant-loop-left : goal.invariant-loop-left

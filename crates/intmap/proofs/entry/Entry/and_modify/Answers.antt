@@ -1,7 +1,7 @@
 use Rattle.std.proofs.Common.{◌≡◌, sym, ap, ◌∙◌, subst, refl}
 use Rattle.std.specs.Map.Calls.{MayWrite, ModifiesValue}
 use Rattle.intmap.specs.Entries.{entry_value, entry_key, occupied_with_value}
-use Rattle.intmap.specs.Bindings.{value_of}
+use Rattle.intmap_table.specs.Bindings.{value_of}
 use Rattle.intmap.proofs.EntryLemmas.{occupied_key-written}
 use Rattle.intmap.proofs.entry.Entry.and_modify.Goals as goal
 use Rattle.intmap.proofs.entry.Entry.and_modify.Goals.{After-f}

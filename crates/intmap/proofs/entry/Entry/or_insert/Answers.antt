@@ -1,5 +1,5 @@
 use Rattle.std.proofs.Common.{refl, arith}
-use Rattle.intmap.specs.Bindings.{value_of}
+use Rattle.intmap_table.specs.Bindings.{value_of}
 use Rattle.intmap.proofs.EntryLemmas.{OnOk-so}
 use Rattle.intmap.proofs.MapLemmas.{one_more}
 use Rattle.intmap.proofs.entry.Entry.or_insert.Goals as goal

@@ -1,8 +1,8 @@
 use Rattle.std.proofs.Common.{◌≡◌, Some, refl, ap, sym, ◌∙◌, arith}
-use Rattle.intmap.specs.Bindings.{value_of}
+use Rattle.intmap_table.specs.Bindings.{value_of}
 use Rattle.intmap.specs.Entries.{occupied_key}
 use Rattle.intmap.specs.Map.{without_key}
-use Rattle.intmap.specs.Laws.Written.{the_key-same}
+use Rattle.intmap_table.specs.Laws.Written.{the_key-same}
 use Rattle.intmap.proofs.AfterLemmas.{Updates-taken, length-taken}
 use Rattle.intmap.proofs.MapLemmas.{one_less}
 use Rattle.intmap.proofs.entry.OccupiedEntry.remove.Goals as goal

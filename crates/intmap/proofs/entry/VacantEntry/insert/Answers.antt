@@ -1,15 +1,15 @@
 use Rattle.std.proofs.Common.{◌≡◌, ◌+◌, Some, length, refl, sym, ap, ◌∙◌, subst, arith}
 use mathlib.Core.Logic.{inl, inr}
 use mathlib.Core.Path.{fun_ext}
-use Rattle.intmap.specs.Bindings.{value_of}
-use Rattle.intmap.specs.Classes.{IsCapacity}
+use Rattle.intmap_table.specs.Bindings.{value_of}
+use Rattle.intmap_table.specs.Classes.{IsCapacity}
 use Rattle.intmap.specs.Growth.{next_capacity}
-use Rattle.intmap.specs.Locations.{IsLast}
+use Rattle.intmap_table.specs.Locations.{IsLast}
 use Rattle.intmap.specs.Map.{MapState, IsMap, with_pair, written}
 use Rattle.intmap.proofs.AfterLemmas.{Updates-put, length-put}
 use Rattle.intmap.proofs.EntryLemmas.{IsNext-next_capacity, length-not_too_large, written-with_pair}
 use Rattle.intmap.proofs.LoadFactorLemmas.{IsNext-unique}
-use Rattle.intmap.proofs.LocationLemmas.{IsLast-put}
+use Rattle.intmap_table.proofs.LocationLemmas.{IsLast-put}
 use Rattle.intmap.proofs.MapLemmas.{one_more}
 use Rattle.intmap.proofs.WriteLemmas.{IsMapWalk-written}
 use Rattle.intmap.proofs.entry.VacantEntry.insert.Goals as goal

@@ -4,10 +4,10 @@ use Rattle.std.specs.Prelude.{◌&&◌, ◌==◌, nat_lt}
 use Rattle.std.proofs.lemmas.Bool.{eq-eqb}
 use Rattle.intmap.specs.Growth.{IsNext, is_due}
 use Rattle.intmap.specs.Map.{InsertIsTooLarge}
-use Rattle.intmap.specs.Tables.Kept.{unkept}
+use Rattle.intmap_table.specs.Tables.Kept.{unkept}
 use Rattle.intmap.proofs.LoadFactorLemmas.{IsNext-same, GrowsTooMuch-none}
 use Rattle.intmap.proofs.MapLemmas.{MapState-same, unkept-put, length-unkept, IsConsistent-added}
-use Rattle.intmap.proofs.MappedLemmas.{value_of-missing_values, class_size-map_values}
+use Rattle.intmap_table.proofs.MappedLemmas.{value_of-missing_values, class_size-map_values}
 use Rattle.intmap.proofs.map.IntMap.add.Goals as goal
 use Rattle.intmap.proofs.map.IntMap.add.Goals.{After-add}
 

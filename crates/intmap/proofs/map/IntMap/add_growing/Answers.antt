@@ -1,13 +1,14 @@
 use Rattle.std.proofs.Common.{◌≡◌, ◌≢◌, ◌+◌, ◌*◌, ◌/◌, ◌<◌, ℕ, None, inl, inr, length, cond, true, false, sym, ap, ◌∙◌, subst, arith, refl, rules}
 use Rattle.std.specs.Prelude.{◌==◌}
 use Rattle.std.proofs.lemmas.Bool.{ne_eqb}
-use Rattle.intmap.specs.Bindings.{value_of}
+use Rattle.intmap_table.specs.Bindings.{value_of}
 use Rattle.intmap.specs.Growth.{IsWanted, IsNext, WantsTooMuch, MeetsLoad, is_due}
 use Rattle.intmap.specs.Map.{InsertIsTooLarge}
-use Rattle.intmap.specs.Tables.Kept.{unkept, IsConsistent}
+use Rattle.intmap_table.specs.Tables.Kept.{unkept}
+use Rattle.intmap.specs.Consistency.{IsConsistent}
 use Rattle.intmap.proofs.LoadFactorLemmas.{IsNext-changes, IsNext-wanted, GrowsTooMuch-none, GrowsTooMuch-wants}
 use Rattle.intmap.proofs.MapLemmas.{MapState-same, unkept-put, length-unkept, IsConsistent-grown_with}
-use Rattle.intmap.proofs.MappedLemmas.{value_of-missing_values}
+use Rattle.intmap_table.proofs.MappedLemmas.{value_of-missing_values}
 use Rattle.intmap.proofs.map.IntMap.add_growing.Goals as goal
 use Rattle.intmap.proofs.map.IntMap.add_growing.Goals.{After-capacity, After-grow_with}
 

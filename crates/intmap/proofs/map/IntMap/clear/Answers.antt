@@ -1,5 +1,5 @@
 use Rattle.std.proofs.Common.{length, sym, ap}
-use Rattle.intmap.specs.Tables.Kept.{unkept}
+use Rattle.intmap_table.specs.Tables.Kept.{unkept}
 use Rattle.intmap.proofs.MapLemmas.{IsMapWalk-empty}
 use Rattle.intmap.proofs.map.IntMap.clear.Goals as goal
 

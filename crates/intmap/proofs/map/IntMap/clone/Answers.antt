@@ -1,8 +1,9 @@
 use Rattle.std.proofs.Common.{refl, sym, subst}
-use Rattle.intmap.specs.Tables.Kept.{unkept}
+use Rattle.intmap_table.specs.Tables.Kept.{unkept}
 use Rattle.intmap.specs.Map.{MapState}
-use Rattle.intmap.proofs.Tables.CloneLemmas.{AreClones, AreClones-unkept, keys_of-AreClones, BindsClones-AreClones}
-use Rattle.intmap.proofs.Tables.SameKeysLemmas.{length-same_keys, IsConsistent-same_keys}
+use Rattle.intmap_table.proofs.Tables.CloneLemmas.{AreClones, AreClones-unkept, keys_of-AreClones, BindsClones-AreClones}
+use Rattle.intmap_table.proofs.Tables.SameKeysLemmas.{length-same_keys}
+use Rattle.intmap.proofs.SameKeysLemmas.{IsConsistent-same_keys}
 use Rattle.intmap.proofs.map.IntMap.clone.Goals as goal
 use Rattle.intmap.proofs.map.IntMap.clone.Goals.{After-new-2}
 

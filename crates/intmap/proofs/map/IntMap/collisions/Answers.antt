@@ -1,18 +1,18 @@
 use Rattle.std.proofs.Common.{◌≡◌, ◌^◌, ◌<◌, ◌≤◌, ℕ, List, length, refl, sym, ap, ◌∙◌, subst, arith}
 use Rattle.std.specs.Prelude.{Result, Ok, Err, IsErrAnd, IfErr}
 use Rattle.std.proofs.lemmas.Bool.{lt-ltb, le-ltb}
-use Rattle.intmap.specs.Bindings.{value_of}
+use Rattle.intmap_table.specs.Bindings.{value_of}
 use Rattle.intmap.specs.Extending.{IsMadeOf}
-use Rattle.intmap.specs.Figures.{tally_of}
-use Rattle.intmap.specs.Tables.Kept.{unkept}
-use Rattle.intmap.specs.Walk.{slot_of, walk_of}
-use Rattle.intmap.specs.declared.kept.Kept.{Kept}
+use Rattle.intmap_table.specs.Figures.{tally_of}
+use Rattle.intmap_table.specs.Tables.Kept.{unkept}
+use Rattle.intmap_table.specs.Walk.{slot_of, walk_of}
+use Rattle.intmap_table.specs.declared.kept.Kept.{Kept}
 use Rattle.intmap.specs.declared.refusal.Cause.{Cause}
 use Rattle.intmap.specs.declared.refusal.Cause.TheVariants.{Memory, TooLarge}
 use Rattle.intmap.proofs.CollisionLemmas.{collision_sizes_below, collision_sizes_below-crowded, collision_sizes_below-alone, count-below, size-in_range}
-use Rattle.intmap.proofs.LoadFactorLemmas.{capacity-greatest}
+use Rattle.intmap_table.proofs.SlotNumberLemmas.{capacity-greatest}
 use Rattle.intmap.proofs.MapLemmas.{length-unkept}
-use Rattle.intmap.proofs.MappedLemmas.{slot_of-map_values, length-map_values}
+use Rattle.intmap_table.proofs.MappedLemmas.{slot_of-map_values, length-map_values}
 use Rattle.intmap.proofs.map.IntMap.collisions.Goals as goal
 use Rattle.intmap.proofs.map.IntMap.collisions.Goals.{After-loop-slot, After-slot_len-size, then-size-gt1+in_ok-count_once_more, else-size-gt1}
 

@@ -1,7 +1,7 @@
 use Rattle.std.proofs.Common.{◌^◌, ◌<◌}
-use Rattle.intmap.specs.Figures.{IsTally}
+use Rattle.intmap.specs.Extending.{IsTally}
 use Rattle.intmap.specs.Map.{IsMap}
-use Rattle.intmap.specs.Walk.{slot_of}
+use Rattle.intmap_table.specs.Walk.{slot_of}
 use Rattle.intmap.proofs.CollisionLemmas.{collision_sizes_below}
 use Rattle.intmap.proofs.map.IntMap.collisions.Given as goal
 

@@ -1,6 +1,6 @@
 use Rattle.std.proofs.Common.{Some, refl}
-use Rattle.intmap.specs.Laws.Written.{the_key-same}
-use Rattle.intmap.proofs.Tables.FoundLemmas.{IsFound-located}
+use Rattle.intmap_table.specs.Laws.Written.{the_key-same}
+use Rattle.intmap_table.proofs.Tables.FoundLemmas.{IsFound-located}
 use Rattle.intmap.proofs.map.IntMap.entry.Goals as goal
 
 pub invariant_of-result : goal.invariant_of-result

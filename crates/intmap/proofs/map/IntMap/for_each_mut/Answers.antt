@@ -1,9 +1,10 @@
 use Rattle.std.proofs.Common.{◌∙◌, sym, subst}
-use Rattle.intmap.specs.Tables.Kept.{unkept}
+use Rattle.intmap_table.specs.Tables.Kept.{unkept}
 use Rattle.intmap.specs.Map.{MapState}
-use Rattle.intmap.specs.Taking.{TakesEach}
-use Rattle.intmap.specs.Writes.{Writes, WritesAt, TakesPairMut}
-use Rattle.intmap.proofs.WritesLemmas.{keys_of-Writes, is_some-Writes, length-Writes, IsConsistent-Writes}
+use Rattle.intmap_table.specs.Taking.{TakesEach}
+use Rattle.intmap_table.specs.Writes.{Writes, WritesAt, TakesPairMut}
+use Rattle.intmap_table.proofs.WritesLemmas.{keys_of-Writes, is_some-Writes, length-Writes}
+use Rattle.intmap.proofs.WritesLemmas.{IsConsistent-Writes}
 use Rattle.intmap.proofs.map.IntMap.for_each_mut.Goals as goal
 
 pub invariant_of-self : goal.invariant_of-self

@@ -1,8 +1,8 @@
 use Rattle.std.proofs.Common.{◌≡◌, ◌+◌, sym, ap, ◌∙◌}
 use Rattle.std.specs.Option.{option_map}
-use Rattle.intmap.specs.Bindings.{value_of}
-use Rattle.intmap.specs.Reach.{reach}
-use Rattle.intmap.proofs.MappedLemmas.{value_of-map_values, reach-map_values}
+use Rattle.intmap_table.specs.Bindings.{value_of}
+use Rattle.intmap_table.specs.Reach.{reach}
+use Rattle.intmap_table.proofs.MappedLemmas.{value_of-map_values, reach-map_values}
 use Rattle.intmap.proofs.map.IntMap.get_counted.Goals as goal
 use Rattle.intmap.proofs.map.IntMap.get_counted.Goals.{After-locate}
 

@@ -1,7 +1,7 @@
 use Rattle.std.proofs.Common.{refl, sym, ap, ◌∙◌}
 use mathlib.Core.Logic.{inl, inr}
 use mathlib.Core.Path.{fun_ext}
-use Rattle.intmap.specs.Bindings.{value_of}
+use Rattle.intmap_table.specs.Bindings.{value_of}
 use Rattle.intmap.proofs.WriteLemmas.{Updates-bound, length-write_value, IsMapWalk-written}
 use Rattle.intmap.proofs.map.IntMap.get_mut.Goals as goal
 

@@ -1,8 +1,8 @@
 use Rattle.std.proofs.Common.{◌≡◌, ◌+◌, ◌<◌, ◌∙◌, Some, length, refl, sym, ap, subst}
-use Rattle.intmap.specs.Bindings.{value_of}
+use Rattle.intmap_table.specs.Bindings.{value_of}
 use Rattle.intmap.specs.Growth.{IsNext}
 use Rattle.intmap.specs.Map.{MapState, InsertIsTooLarge, after_insert, with_pair}
-use Rattle.intmap.specs.Reach.{class_size}
+use Rattle.intmap_table.specs.Reach.{class_size}
 use Rattle.intmap.proofs.AfterLemmas.{Updates-insert, length-insert}
 use Rattle.intmap.proofs.map.IntMap.insert.Goals as goal
 use Rattle.intmap.proofs.map.IntMap.insert.Goals.{After-replace_at}

@@ -1,11 +1,11 @@
 use Rattle.std.proofs.Common.{◌≡◌, ◌+◌, ◌<◌, ◌∙◌, true, false, Option, Some, None, length, refl, sym, ap, subst, arith}
 use Rattle.std.specs.Prelude.{is_some}
-use Rattle.intmap.specs.Bindings.{value_of}
+use Rattle.intmap_table.specs.Bindings.{value_of}
 use Rattle.intmap.specs.Growth.{IsNext}
 use Rattle.intmap.specs.Map.{MapState, InsertIsTooLarge, IsMap, with_pair}
-use Rattle.intmap.specs.Reach.{class_size}
+use Rattle.intmap_table.specs.Reach.{class_size}
 use Rattle.intmap.proofs.AfterLemmas.{Updates-insert, length-insert}
-use Rattle.intmap.proofs.BindingLemmas.{Updates-same}
+use Rattle.intmap_table.proofs.BindingLemmas.{Updates-same}
 use Rattle.intmap.proofs.map.IntMap.insert_checked.Goals as goal
 use Rattle.intmap.proofs.map.IntMap.insert_checked.Goals.{After-add, After-is_some}
 

@@ -1,7 +1,7 @@
 use Rattle.std.proofs.Common.{refl, sym, ap, ◌∙◌}
-use Rattle.intmap.specs.Lending.Apart.{lent_pairs}
-use Rattle.intmap.proofs.Tables.SameKeysLemmas.{IsMapWalk-same_keys}
-use Rattle.intmap.proofs.Lending.ValuesLemmas.{keys_of-refilled, length-refilled}
+use Rattle.intmap_table.specs.Lending.Apart.{lent_pairs}
+use Rattle.intmap.proofs.SameKeysLemmas.{IsMapWalk-same_keys}
+use Rattle.intmap_table.proofs.Lending.ValuesLemmas.{keys_of-refilled, length-refilled}
 use Rattle.intmap.proofs.map.IntMap.iter_mut.Goals as goal
 
 pub returns : goal.returns

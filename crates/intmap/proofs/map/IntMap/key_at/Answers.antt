@@ -1,5 +1,5 @@
 use Rattle.std.proofs.Common.{sym, ◌∙◌}
-use Rattle.intmap.proofs.Tables.FoundLemmas.{IsFound-without_values, key_at-slot_map_values}
+use Rattle.intmap_table.proofs.Tables.FoundLemmas.{IsFound-without_values, key_at-slot_map_values}
 use Rattle.intmap.proofs.map.IntMap.key_at.Goals as goal
 
 pub key_at-requires : goal.key_at-requires

@@ -1,5 +1,5 @@
 use Rattle.std.proofs.Common.{sym, ◌∙◌}
-use Rattle.intmap.proofs.MappedLemmas.{load_of-map_values}
+use Rattle.intmap_table.proofs.MappedLemmas.{load_of-map_values}
 use Rattle.intmap.proofs.map.IntMap.load.Goals as goal
 
 pub returns-clause-value : goal.returns-clause-value

@@ -1,10 +1,10 @@
 use Rattle.std.proofs.Common.{◌≡◌, ◌+◌, None, refl, sym, ap, ◌∙◌, subst}
 use Rattle.std.specs.Option.{option_map}
 use Rattle.std.specs.Prelude.{Option, Some, is_some, IfSome, IfNone}
-use Rattle.intmap.proofs.Tables.FoundLemmas.{key_at-located}
-use Rattle.intmap.proofs.LocationLemmas.{IsAt-map_values, is_some-located}
+use Rattle.intmap_table.proofs.Tables.FoundLemmas.{key_at-located}
+use Rattle.intmap_table.proofs.LocationLemmas.{IsAt-map_values, is_some-located}
 use Rattle.intmap.proofs.MapLemmas.{MapState-same}
-use Rattle.intmap.proofs.MappedLemmas.{value_of-map_values, reach-map_values}
+use Rattle.intmap_table.proofs.MappedLemmas.{value_of-map_values, reach-map_values}
 use Rattle.intmap.proofs.map.IntMap.locate.Goals as goal
 
 -- what holds of what was found, where that follows from what is known of it

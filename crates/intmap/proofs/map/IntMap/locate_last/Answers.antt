@@ -1,4 +1,4 @@
-use Rattle.intmap.proofs.LocationLemmas.{IsAt-map_values, IsLast-without_values}
+use Rattle.intmap_table.proofs.LocationLemmas.{IsAt-map_values, IsLast-without_values}
 use Rattle.intmap.proofs.map.IntMap.locate_last.Goals as goal
 
 pub locate_last-requires : goal.locate_last-requires

@@ -1,5 +1,5 @@
 use Rattle.std.proofs.Common.{◌≡◌, Some, sym, ◌∙◌, subst}
-use Rattle.intmap.specs.Bindings.{value_of}
+use Rattle.intmap_table.specs.Bindings.{value_of}
 use Rattle.intmap.specs.Map.{IsMap, after_remove, after_search, without_key}
 use Rattle.intmap.proofs.AfterLemmas.{Updates-remove, length-remove, without_missing}
 use Rattle.intmap.proofs.map.IntMap.remove.Goals as goal

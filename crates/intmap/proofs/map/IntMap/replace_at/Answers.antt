@@ -2,10 +2,10 @@ use Rattle.std.proofs.Common.{◌≡◌, ◌+◌, length, cond, true, add-zero, 
 use Rattle.std.specs.Prelude.{◌==◌}
 use Rattle.std.specs.Option.{option_map}
 use Rattle.std.proofs.lemmas.Bool.{eq-eqb}
-use Rattle.intmap.specs.Tables.Kept.{unkept}
-use Rattle.intmap.proofs.LocationLemmas.{IsAt-without_values}
+use Rattle.intmap_table.specs.Tables.Kept.{unkept}
+use Rattle.intmap_table.proofs.LocationLemmas.{IsAt-without_values}
 use Rattle.intmap.proofs.MapLemmas.{MapState-same, unkept-put, IsConsistent-replaced}
-use Rattle.intmap.proofs.MappedLemmas.{value_of-map_values}
+use Rattle.intmap_table.proofs.MappedLemmas.{value_of-map_values}
 use Rattle.intmap.proofs.map.IntMap.replace_at.Goals as goal
 
 pub replace_at-requires : goal.replace_at-requires

@@ -1,12 +1,13 @@
 use Rattle.std.proofs.Common.{◌≡◌, ◌+◌, ◌≤◌, max, inl, inr, length, sym, ap, ◌∙◌, subst, arith, refl, rules, tests}
 use Rattle.std.proofs.lemmas.Grind.{common_steps}
 use Rattle.std.proofs.lemmas.Bool.{cases_lt}
-use Rattle.intmap.specs.Bindings.{value_of}
-use Rattle.intmap.specs.Classes.{IsCapacity}
+use Rattle.intmap_table.specs.Bindings.{value_of}
+use Rattle.intmap_table.specs.Classes.{IsCapacity}
 use Rattle.intmap.specs.Growth.{IsLeastPower}
 use Rattle.intmap.specs.Map.{MapState}
 use Rattle.intmap.proofs.GrowthLemmas.{IsLeastPower-up, IsLeastPower-fits, IsCapacity-max}
-use Rattle.intmap.proofs.LoadFactorLemmas.{IsLoaded, IsLoaded-larger, capacity-positive}
+use Rattle.intmap.proofs.LoadFactorLemmas.{IsLoaded, IsLoaded-larger}
+use Rattle.intmap_table.proofs.SlotNumberLemmas.{capacity-positive}
 use Rattle.intmap.proofs.AfterLemmas.{value_of-in_slots, length-in_slots}
 use Rattle.intmap.proofs.MapLemmas.{MapState-same, unkept-grown, length-unkept, IsConsistent-grown, OnOk-at, IsOk-at_err}
 use Rattle.intmap.proofs.map.IntMap.reserve.Goals as goal

@@ -1,9 +1,10 @@
 use Rattle.std.proofs.Common.{length, refl, sym, subst}
-use Rattle.intmap.specs.Tables.Kept.{unkept}
+use Rattle.intmap_table.specs.Tables.Kept.{unkept}
 use Rattle.intmap.specs.Map.{MapState}
-use Rattle.intmap.specs.Retaining.{KeepsAt, Retains, TakesPair}
-use Rattle.intmap.specs.Taking.{TakesEach}
-use Rattle.intmap.proofs.RetainLemmas.{length-Retains, value_of-Retains, IsConsistent-Retains}
+use Rattle.intmap_table.specs.Retaining.{KeepsAt, Retains, TakesPair}
+use Rattle.intmap_table.specs.Taking.{TakesEach}
+use Rattle.intmap_table.proofs.RetainLemmas.{length-Retains}
+use Rattle.intmap.proofs.RetainLemmas.{value_of-Retains, IsConsistent-Retains}
 use Rattle.intmap.proofs.map.IntMap.retain.Goals as goal
 
 pub invariant_of-self : goal.invariant_of-self

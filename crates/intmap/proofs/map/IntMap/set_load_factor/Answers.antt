@@ -1,9 +1,10 @@
 use Rattle.std.proofs.Common.{◌≡◌, length, sym, ap, ◌∙◌, subst, arith, refl, rules, tests}
-use Rattle.intmap.specs.Bindings.{value_of}
+use Rattle.intmap_table.specs.Bindings.{value_of}
 use Rattle.intmap.specs.Growth.{IsWanted, WantsTooMuch}
 use Rattle.intmap.specs.Map.{MapState}
 use Rattle.intmap.proofs.GrowthLemmas.{IsWanted-unique}
-use Rattle.intmap.proofs.LoadFactorLemmas.{not_too_much, capacity-greatest, capacity-positive, IsLoaded-from}
+use Rattle.intmap.proofs.LoadFactorLemmas.{not_too_much, IsLoaded-from}
+use Rattle.intmap_table.proofs.SlotNumberLemmas.{capacity-greatest, capacity-positive}
 use Rattle.intmap.proofs.AfterLemmas.{value_of-in_slots, length-in_slots}
 use Rattle.intmap.proofs.MapLemmas.{MapState-same, unkept-grown, length-unkept, IsConsistent-grown, OnOk-at, IsOk-at_err}
 use Rattle.intmap.proofs.map.IntMap.set_load_factor.Goals as goal

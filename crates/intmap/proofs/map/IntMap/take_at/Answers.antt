@@ -1,9 +1,9 @@
 use Rattle.std.proofs.Common.{◌-◌, refl, ap, ◌∙◌, arith}
 use Rattle.std.specs.Option.{option_map}
-use Rattle.intmap.specs.Bindings.{value_of}
-use Rattle.intmap.proofs.LocationLemmas.{IsAt-without_values}
+use Rattle.intmap_table.specs.Bindings.{value_of}
+use Rattle.intmap_table.proofs.LocationLemmas.{IsAt-without_values}
 use Rattle.intmap.proofs.MapLemmas.{MapState-same, unkept-take, IsConsistent-taken, one_less}
-use Rattle.intmap.proofs.MappedLemmas.{value_of-map_values}
+use Rattle.intmap_table.proofs.MappedLemmas.{value_of-map_values}
 use Rattle.intmap.proofs.map.IntMap.take_at.Goals as goal
 
 pub take_at-kept-requires : goal.take_at-kept-requires

@@ -1,7 +1,7 @@
 use Rattle.std.proofs.Common.{ap, ◌∙◌}
 use Rattle.std.specs.Option.{option_map}
-use Rattle.intmap.proofs.LocationLemmas.{IsAt-without_values}
-use Rattle.intmap.proofs.MappedLemmas.{value_of-map_values}
+use Rattle.intmap_table.proofs.LocationLemmas.{IsAt-without_values}
+use Rattle.intmap_table.proofs.MappedLemmas.{value_of-map_values}
 use Rattle.intmap.proofs.map.IntMap.value_at.Goals as goal
 
 pub value_at-requires : goal.value_at-requires

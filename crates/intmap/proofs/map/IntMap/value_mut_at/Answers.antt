@@ -1,8 +1,8 @@
 use Rattle.std.proofs.Common.{refl, ap, sym, ◌∙◌}
 use Rattle.std.specs.Option.{option_map}
-use Rattle.intmap.proofs.LocationLemmas.{IsAt-without_values, HasDistinctKeys-without_values, write_value-map_values}
+use Rattle.intmap_table.proofs.LocationLemmas.{IsAt-without_values, HasDistinctKeys-without_values, write_value-map_values}
 use Rattle.intmap.proofs.MapLemmas.{MapState-same}
-use Rattle.intmap.proofs.MappedLemmas.{value_of-map_values}
+use Rattle.intmap_table.proofs.MappedLemmas.{value_of-map_values}
 use Rattle.intmap.proofs.WriteLemmas.{IsConsistent-written}
 use Rattle.intmap.proofs.map.IntMap.value_mut_at.Goals as goal
 

@@ -1,7 +1,7 @@
 use Rattle.std.proofs.Common.{sym, ap, subst, length, lit<}
-use Rattle.intmap.specs.Classes.{IsCapacity}
+use Rattle.intmap_table.specs.Classes.{IsCapacity}
 use Rattle.intmap.specs.Growth.{IsThreshold}
-use Rattle.intmap.specs.Tables.Kept.{unkept}
+use Rattle.intmap_table.specs.Tables.Kept.{unkept}
 use Rattle.intmap.proofs.MapLemmas.{IsMapWalk-empty}
 use Rattle.intmap.proofs.map.IntMap.with_slots.Goals as goal
 

@@ -1,6 +1,6 @@
 use Rattle.std.proofs.Common.{◌≡◌, ◌++◌, min, length, refl, sym, ap, ◌∙◌, append_assoc, arith, rules}
 use Rattle.intmap.specs.Draining.{drain_rest}
-use Rattle.intmap.specs.Passing.{with_walk}
+use Rattle.intmap.specs.Map.{with_walk}
 use Rattle.intmap_run.proofs.FrontLemmas.{take-joined, drop-joined}
 use Rattle.intmap_run.proofs.runner.lists.take_front.Goals as goal
 

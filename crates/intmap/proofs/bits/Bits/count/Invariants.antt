@@ -1,8 +1,0 @@
-use Rattle.std.proofs.Common.{◌≡◌, ◌*◌, ◌≤◌, take, sum_by, count_ones}
-use Rattle.intmap.proofs.bits.Bits.count.Given as goal
-
-abbrev pub invariant-loop-word : goal.invariant-loop-word
-invariant-loop-word g l = record {
-  total : l.marked ≡ sum_by count_ones (take l.word-index l.word-items);
-  small : l.marked ≤ 64 * l.word-index;
-}

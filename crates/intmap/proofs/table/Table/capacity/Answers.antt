@@ -1,5 +1,0 @@
-use Rattle.intmap.proofs.Tables.TableLemmas.{walk_of-joined}
-use Rattle.intmap.proofs.table.Table.capacity.Goals as goal
-
-pub returns-clause-own : goal.returns-clause-own
-returns-clause-own g c = rw (← c.self.view_is) (walk_of-joined g.K.IntKey.number_of c.self.inside.slots.items c.self.invariant.marked.table)

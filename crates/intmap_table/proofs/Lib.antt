@@ -1,0 +1,15 @@
+pub mod SlotNumberLemmas
+pub mod ClassLemmas
+pub mod WalkLemmas
+pub mod LocationLemmas
+pub mod PositionLemmas
+pub mod DistinctLemmas
+pub mod LoadLemmas
+pub mod LeadsLemmas
+pub mod TakingLemmas
+pub mod RetainLemmas
+pub mod WritesLemmas
+pub mod MappedLemmas
+pub mod BindingLemmas
+pub mod Tables
+pub mod Lending

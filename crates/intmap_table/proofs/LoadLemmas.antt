@@ -1,0 +1,170 @@
+-- How many residues the keys leave is how many slots hold a pair.
+use Rattle.std.proofs.Common.{◌≡◌, ◌≢◌, inl, inr, ℕ, zero, suc, ◌+◌, ◌<◌, ◌≤◌, Bool, true, false, not, cond, List, [], ◌∷◌, length, get_or, map, refl, sym, ap, ◌∙◌, subst, arith, zero-add, add-zero}
+use Rattle.std.specs.Prelude.{◌==◌, filter, count_by}
+use Rattle.std.specs.List.{list_any, range_with_len}
+use Rattle.std.proofs.lemmas.List.Sums.{sum_by-cons, length-filter}
+use Rattle.std.proofs.lemmas.List.Filters.{length-filter_both}
+use Rattle.std.proofs.lemmas.Bool.{eq-eqb, ne_eqb, cases_eq, cond-true, cond-false}
+use Rattle.intmap_table.specs.Classes.{residue, slot_number, agrees}
+use Rattle.intmap_table.specs.Walk.{slot_of}
+use Rattle.intmap_table.specs.Figures.{each_once, load_of}
+
+-- whether a list has an element
+abbrev pub is_filled : {X : Type 0} → List X → Bool
+is_filled [] = false
+is_filled (x ∷ xs) = true
+
+-- how often n stands in a list
+abbrev pub times : ℕ → List ℕ → ℕ
+times n ns = count_by (λ m. m == n) ns
+
+-- the number itself in front adds one
+times-cons_same : (n m : ℕ) (ns : List ℕ) → m ≡ n → times n (m ∷ ns) ≡ suc (times n ns)
+times-cons_same n m ns e =
+    let t = sum_by-cons (λ m. cond (m == n) 1 0) m ns in let c = cond-true {A = ℕ} (m == n) 1 0 (eq-eqb m n e) in omega (arith, t, c)
+
+-- another number in front adds nothing
+times-cons_other : (n m : ℕ) (ns : List ℕ) → m ≢ n → times n (m ∷ ns) ≡ times n ns
+times-cons_other n m ns ne =
+    let t = sum_by-cons (λ m. cond (m == n) 1 0) m ns in let c = cond-false {A = ℕ} (m == n) 1 0 (ne_eqb m n ne) in omega (arith, t, c)
+
+-- a number that is struck stands nowhere
+times-struck : (n : ℕ) (ns : List ℕ) → times n (filter (λ m. not (m == n)) ns) ≡ 0
+times-struck n [] = refl
+times-struck n (m ∷ ns) = elim (cases_eq m n) [
+  | inl e ↦ (let t = eq-eqb m n e in simp t (times-struck n ns))
+  | inr ne ↦ (let t = ne_eqb m n ne in simp t (times-struck n ns))
+]
+
+-- to strike another number changes nothing
+times-struck_other : (n a : ℕ) (ns : List ℕ) → a ≢ n → times n (filter (λ m. not (m == a)) ns) ≡ times n ns
+times-struck_other n a [] ne = refl
+times-struck_other n a (m ∷ ns) ne = elim (cases_eq m a) [
+  | inl e ↦ (let t = eq-eqb m a e in let o : m ≢ n = λ q. ne (sym e ∙ q) in simp t (times-struck_other n a ns ne ∙ sym (times-cons_other n m ns o)))
+  | inr other ↦
+      (let t = ne_eqb m a other in
+      let h = times-struck_other n a ns ne in
+      let k = sum_by-cons (λ m. cond (m == n) 1 0) m (filter (λ m. not (m == a)) ns) in
+      let l = sum_by-cons (λ m. cond (m == n) 1 0) m ns in
+      simp t (omega (arith, h, k, l)))
+]
+
+-- a number of the list stands once
+times-each_once : (n : ℕ) (ns : List ℕ) → times n (each_once ns) ≡ cond (list_any (λ m. m == n) ns) 1 0
+times-each_once n [] = refl
+times-each_once n (a ∷ ns) = elim (cases_eq a n) [
+  | inl e ↦
+      (let t : (a == n) ≡ true = eq-eqb a n e in
+      let s : times n (filter (λ m. not (m == a)) (each_once ns)) ≡ 0 = subst (λ b. times n (filter (λ m. not (m == b)) (each_once ns)) ≡ 0) (sym e) (times-struck n (each_once ns)) in
+      let k = times-cons_same n a (filter (λ m. not (m == a)) (each_once ns)) e in
+      k ∙ simp (s, t))
+  | inr ne ↦
+      (let t : (a == n) ≡ false = ne_eqb a n ne in
+      times-cons_other n a (filter (λ m. not (m == a)) (each_once ns)) ne ∙ times-struck_other n a (each_once ns) ne ∙ simp t (times-each_once n ns))
+]
+
+-- a number in front is new, or not
+pub length-each_once : (n : ℕ) (ns : List ℕ) → length (each_once (n ∷ ns)) + cond (list_any (λ m. m == n) ns) 1 0 ≡ suc (length (each_once ns))
+length-each_once n ns =
+    let t = times-each_once n ns in
+    let l = length-filter (λ m. m == n) (each_once ns) in
+    let b = length-filter_both (λ m. m == n) (λ m. not (m == n)) (λ _. refl) (each_once ns) in
+    omega (arith, t, l, b)
+
+-- tests that agree at each number count alike
+count_by-range_same : (g h : ℕ → Bool) (a n : ℕ) → ((i : ℕ) → i < n → g (a + i) ≡ h (a + i)) → count_by g (range_with_len a n) ≡ count_by h (range_with_len a n)
+count_by-range_same g h a zero e = refl
+count_by-range_same g h a (suc n) e =
+    let first : g a ≡ h a = let k = e 0 (omega arith) in rw add-zero at k in
+    let c = ap (λ (b : Bool). cond {A = ℕ} b 1 0) first in
+    let rest = count_by-range_same g h (a + 1) n (λ i lt. let q : a + 1 + i ≡ a + suc i = omega arith in rw q (e (suc i) (omega arith))) in
+    let l = sum_by-cons (λ i. cond (g i) 1 0) a (range_with_len (a + 1) n) in
+    let m = sum_by-cons (λ i. cond (h i) 1 0) a (range_with_len (a + 1) n) in
+    omega (arith, c, rest, l, m)
+
+-- a test that no number passes counts none
+count_by-range_none : (a n : ℕ) → count_by (λ (i : ℕ). false) (range_with_len a n) ≡ 0
+count_by-range_none a zero = refl
+count_by-range_none a (suc n) = let h = count_by-range_none (a + 1) n in let m = sum_by-cons (λ (i : ℕ). 0) a (range_with_len (a + 1) n) in omega (arith, h, m)
+
+module _ {X : Type 0} where
+  -- numbers that stand for the elements of a list count as these
+  pub count_by-range_list : (test : X → Bool) (g : ℕ → Bool) (d : X) (a : ℕ) (xs : List X) → ((i : ℕ) → i < length xs → g (a + i) ≡ test (get_or xs i d)) → count_by g (range_with_len a (length xs)) ≡ count_by test xs
+  count_by-range_list test g d a [] e = refl
+  count_by-range_list test g d a (x ∷ xs) e =
+      let first : g a ≡ test x = let k = e 0 (omega arith) in rw add-zero at k in
+      let c = ap (λ (b : Bool). cond {A = ℕ} b 1 0) first in
+      let rest = count_by-range_list test g d (a + 1) xs (λ i lt. let q : a + 1 + i ≡ a + suc i = omega arith in rw q (e (suc i) (omega arith))) in
+      let l = sum_by-cons (λ i. cond (g i) 1 0) a (range_with_len (a + 1) (length xs)) in
+      let m = sum_by-cons (λ x. cond (test x) 1 0) x xs in
+      omega (arith, c, rest, l, m)
+
+module _ {X : Type 0} (f : X → ℕ) (x : X) (xs : List X) where
+  -- whether class i has an element
+  abbrev has : List X → ℕ → Bool
+  has ys i = is_filled (filter (λ y. f y == i) ys)
+
+  -- an element of a class below these fills none of them
+  has-above : (a n : ℕ) → f x < a → count_by (has (x ∷ xs)) (range_with_len a n) ≡ count_by (has xs) (range_with_len a n)
+  has-above a n lt = count_by-range_same (has (x ∷ xs)) (has xs) a n (λ i _. let t = ne_eqb (f x) (a + i) (λ e. omega arith) in simp t)
+
+  -- the class of an element in front is new, or not
+  has-cons : (a n : ℕ) → a ≤ f x → f x < a + n → count_by (has (x ∷ xs)) (range_with_len a n) + cond (has xs (f x)) 1 0 ≡ suc (count_by (has xs) (range_with_len a n))
+  has-cons a zero le lt = absurd (omega arith)
+  has-cons a (suc n) le lt =
+      let l = sum_by-cons (λ i. cond (has (x ∷ xs) i) 1 0) a (range_with_len (a + 1) n) in
+      let m = sum_by-cons (λ i. cond (has xs i) 1 0) a (range_with_len (a + 1) n) in
+      elim (cases_eq (f x) a) [
+        | inl e ↦
+            (let t = eq-eqb (f x) a e in
+            let now : has (x ∷ xs) a ≡ true = simp t in
+            let c = cond-true {A = ℕ} (has (x ∷ xs) a) 1 0 now in
+            let same = ap (λ (i : ℕ). cond {A = ℕ} (has xs i) 1 0) e in
+            let rest = has-above (a + 1) n (omega arith) in
+            omega (arith, l, m, c, same, rest))
+        | inr ne ↦
+            (let t = ne_eqb (f x) a ne in
+            let now : has (x ∷ xs) a ≡ has xs a = simp t in
+            let c = ap (λ (b : Bool). cond {A = ℕ} b 1 0) now in
+            let rest = has-cons (a + 1) n (let w : a + 1 ≤ f x = omega (arith, le, ne) in w) (omega (arith, lt)) in
+            omega (arith, l, m, c, rest))
+      ]
+
+module _ {K V : Type 0} (number : K → ℕ) (C : ℕ) (spread : (a k : K) → agrees number C k a ≡ (slot_number number a C == slot_number number k C)) where
+  -- one more pair in front of those that `among` looks through
+  among_step : (k : K) (p : K × V) (L : List (K × V)) (b : Bool) → agrees number C k p.0 ≡ b → (slot_number number p.0 C == slot_number number k C) ≡ b
+      → list_any (λ m. m == residue number k C) (map (λ q. residue number q.0 C) L) ≡ is_filled (slot_of number L C (slot_number number k C))
+      → list_any (λ m. m == residue number k C) (map (λ q. residue number q.0 C) (p ∷ L)) ≡ is_filled (slot_of number (p ∷ L) C (slot_number number k C))
+  among_step k p L true e f h = simp (e, f)
+  among_step k p L false e f h = simp (e, f) h
+
+  -- a residue is among those left where its slot has a pair
+  among : (k : K) (L : List (K × V)) → list_any (λ m. m == residue number k C) (map (λ p. residue number p.0 C) L) ≡ is_filled (slot_of number L C (slot_number number k C))
+  among k [] = refl
+  among k (p ∷ L) = among_step k p L (agrees number C k p.0) refl (sym (spread p.0 k)) (among k L)
+
+  module _ (below : (k : K) → slot_number number k C < C) where
+    -- the load is the number of slots that have a pair
+    pub load_of-slots : (L : List (K × V)) → load_of number L C ≡ count_by (λ i. is_filled (slot_of number L C i)) (range_with_len 0 C)
+    load_of-slots [] = sym (count_by-range_none 0 C)
+    load_of-slots (p ∷ L) =
+        let h = load_of-slots L in
+        let b = below p.0 in
+        let once = length-each_once (residue number p.0 C) (map (λ q. residue number q.0 C) L) in
+        let slots = has-cons (λ q. slot_number number q.0 C) p L 0 C (omega arith) (omega (arith, b)) in
+        let same = ap (λ (b : Bool). cond {A = ℕ} b 1 0) (among p.0 L) in
+        omega (arith, h, once, slots, same)
+
+    -- lists with the same slots have the same load
+    pub load_of-same : (L M : List (K × V)) → ((i : ℕ) → i < C → slot_of number L C i ≡ slot_of number M C i) → load_of number L C ≡ load_of number M C
+    load_of-same L M e =
+        load_of-slots L
+        ∙ count_by-range_same (λ i. is_filled (slot_of number L C i)) (λ i. is_filled (slot_of number M C i)) 0 C (λ i lt. rw zero-add (ap is_filled (e i lt)))
+        ∙ sym (load_of-slots M)
+
+    -- the load is the number of rows that have a pair
+    pub load_of-rows : (S : List (List (K × V))) (L : List (K × V)) → C ≡ length S → ((i : ℕ) → i < C → slot_of number L C i ≡ get_or S i []) → load_of number L C ≡ count_by is_filled S
+    load_of-rows S L e rows =
+        load_of-slots L
+        ∙ ap (λ n. count_by (λ i. is_filled (slot_of number L C i)) (range_with_len 0 n)) e
+        ∙ count_by-range_list is_filled (λ i. is_filled (slot_of number L C i)) [] 0 S (λ i lt. rw zero-add (ap is_filled (rows i (let w : i < C = omega (arith, lt, e) in w))))

@@ -1,0 +1,253 @@
+-- Pairs that were located: what stands there, and what a table is once one was written or taken out.
+use Rattle.std.proofs.Common.{◌≡◌, ◌≢◌, ℕ, zero, suc, ◌+◌, ◌<◌, ◌≤◌, Bool, true, false, cond, List, [], ◌∷◌, ◌++◌, length, get_or, set, Option, Some, None, IsSome, is_some, refl, sym, ap, ◌∙◌, subst, arith, length-set}
+use Rattle.std.specs.Prelude.{◌==◌, All, IfSome, IfNone, count_by, filter, nat_lt, position}
+use Rattle.std.specs.List.{position_or_len, range_with_len}
+use Rattle.std.proofs.lemmas.Bool.{eqb-true, lt-ltb, eq-eqb, cond-true}
+use Rattle.std.proofs.lemmas.List.{length_push}
+use Rattle.std.proofs.lemmas.List.Elements.{All-cons, All-head, All-tail, filter-append}
+use Rattle.std.proofs.lemmas.List.Folds.{position_or_len_push}
+use Rattle.std.proofs.lemmas.List.Sums.{sum_by-cons}
+use Rattle.intmap_table.specs.Classes.{IsCapacity, slot_number, same_key}
+use Rattle.intmap_table.specs.Bindings.{value_of, IsBound, take_key, put_pair, write_value, HasDistinctKeys}
+use Rattle.intmap_table.specs.Locations.{IsAt, IsLast}
+use Rattle.intmap_table.specs.Tables.Slots.{Grid, Held, rows, joined, write_at, AreMarked, IsTable, IsMarkedTable}
+use Rattle.intmap_table.specs.Walk.{slot_of, walk_of}
+use Rattle.intmap_table.specs.Laws.Written.{slot_of-write_value}
+use Rattle.intmap_table.specs.declared.table.locate.Location.{Location}
+use Rattle.intmap_table.proofs.Tables.FilledLemmas.{marks-kept}
+use Rattle.intmap_table.proofs.BindingLemmas.{value_of-take_key}
+use Rattle.intmap_table.proofs.MappedLemmas.{flat_map-map, count_by-map, map_values, slot_of-map_values, length-map_values}
+use Rattle.intmap_table.proofs.PositionLemmas.{position-within, position_or_len-none, first_value-position, position-from_none}
+use Rattle.intmap_table.proofs.Tables.TableLemmas.{IsSlot, slot_of-here, value_of-here, walk_of-joined, joined-set, within, IsTable-set, Belong-here}
+use Rattle.intmap_table.proofs.SlotNumberLemmas.{slot_number-below}
+use Rattle.intmap_table.proofs.WalkLemmas.{same_key-slot, slot_of-walk_of, value_of-slot_of}
+
+-- no more elements pass a test once others were left out
+count_by-filter-le : {X : Type 0} (keep test : X → Bool) (xs : List X) → count_by test (filter keep xs) ≤ count_by test xs
+count_by-filter-le keep test [] = omega arith
+count_by-filter-le keep test (x ∷ xs) =
+    let more = sum_by-cons (λ y. cond (test y) 1 0) x xs in
+    let here = sum_by-cons (λ y. cond (test y) 1 0) x (filter keep xs) in
+    let rest = count_by-filter-le keep test xs in
+    grind (arith, more, here, rest)
+
+-- the one that a push adds is found where none was
+position-push : {X : Type 0} (test : X → Bool) (xs : List X) (x : X) → position test xs ≡ None → test x ≡ true → position test (xs ++ x ∷ []) ≡ Some (length xs)
+position-push test xs x none passes =
+    let all = position_or_len-none test xs none in
+    let same : (position_or_len test xs == length xs) ≡ true = eq-eqb (position_or_len test xs) (length xs) all in
+    let z : length xs + 0 ≡ length xs = omega arith in
+    let e : position_or_len test (xs ++ x ∷ []) ≡ length xs = position_or_len_push test xs x ∙ simp (same, passes) z in
+    let longer = length_push xs x in
+    simp (e, lt-ltb (length xs) (length (xs ++ x ∷ [])) (omega (arith, longer)))
+
+module _ {K X : Type 0} where
+  length-write_at : (ps : List (K × X)) (i : ℕ) (v : X) → length (write_at ps i v) ≡ length ps
+  length-write_at [] i v = refl
+  length-write_at (p ∷ ps) zero v = refl
+  length-write_at (p ∷ ps) (suc i) v = ap suc (length-write_at ps i v)
+
+  -- what holds of all keys holds of them after a write
+  All-write_at : (P : K → Type 0) (ps : List (K × X)) (i : ℕ) (v : X) → All (λ p. P p.0) ps → All (λ p. P p.0) (write_at ps i v)
+  All-write_at P [] i v all = all
+  All-write_at P (p ∷ ps) zero v all = All-cons (λ p. P p.0) (p.0, v) ps (All-head (λ p. P p.0) p ps all) (All-tail (λ p. P p.0) p ps all)
+  All-write_at P (p ∷ ps) (suc i) v all =
+      All-cons (λ p. P p.0) p (write_at ps i v) (All-head (λ p. P p.0) p ps all) (All-write_at P ps i v (All-tail (λ p. P p.0) p ps all))
+
+  Grid-same : (W W' : List (K × X)) (C C' : ℕ) → W ≡ W' → C ≡ C' → ◌≡◌ {A = Grid K X} (record { walk = W; capacity = C }) (record { walk = W'; capacity = C' })
+  Grid-same W W' C C' walk capacity = rw (walk, capacity) refl
+
+module _ {K X : Type 0} (number : K → ℕ) where
+  -- a key that isn't there is written for nothing
+  write_value-missing : (L : List (K × X)) (k : K) (v : X) → count_by (λ p. same_key number k p.0) L ≡ 0 → write_value number L k v ≡ L
+  write_value-missing [] k v none = refl
+  write_value-missing (p ∷ L) k v none =
+      let more = sum_by-cons (λ (q : K × X). cond (same_key number k q.0) 1 0) p L in
+      let rest = write_value-missing L k v in
+      grind (arith, more, rest, none)
+
+  write_at-found_step : (p : K × X) (L : List (K × X)) (k : K) (v : X) (t : Bool) → same_key number k p.0 ≡ t
+      → (position_or_len (λ q. same_key number k q.0) L < length L → count_by (λ q. same_key number k q.0) L ≤ 1 → write_at L (position_or_len (λ q. same_key number k q.0) L) v ≡ write_value number L k v)
+      → position_or_len (λ q. same_key number k q.0) (p ∷ L) < length (p ∷ L) → count_by (λ q. same_key number k q.0) (p ∷ L) ≤ 1
+      → write_at (p ∷ L) (position_or_len (λ q. same_key number k q.0) (p ∷ L)) v ≡ write_value number (p ∷ L) k v
+  write_at-found_step p L k v true e rest below once =
+      let more = sum_by-cons (λ (q : K × X). cond (same_key number k q.0) 1 0) p L in
+      let none : count_by (λ q. same_key number k q.0) L ≡ 0 = grind (arith, more, once, e) in
+      rw e (ap (λ M. (p.0, v) ∷ M) (sym (write_value-missing L k v none)))
+  write_at-found_step p L k v false e rest below once =
+      let more = sum_by-cons (λ (q : K × X). cond (same_key number k q.0) 1 0) p L in
+      let fewer : count_by (λ q. same_key number k q.0) L ≤ 1 = grind (arith, more, once, e) in
+      let n : ℕ = position_or_len (λ (q : K × X). same_key number k q.0) L in
+      let w : 1 + n < suc (length L) = rw e at below in
+      let o : 1 + n ≡ suc n = omega arith in
+      rw e (ap (λ i. write_at (p ∷ L) i v) o ∙ ap (λ M. p ∷ M) (rest (omega (arith, w)) fewer))
+
+  write_at-found : (L : List (K × X)) (k : K) (v : X) → position_or_len (λ q. same_key number k q.0) L < length L → count_by (λ q. same_key number k q.0) L ≤ 1
+      → write_at L (position_or_len (λ q. same_key number k q.0) L) v ≡ write_value number L k v
+  write_at-found [] k v below once = refl
+  write_at-found (p ∷ L) k v below once = write_at-found_step p L k v (same_key number k p.0) refl (write_at-found L k v) below once
+
+  -- where the key stands once, a write at its place is a write of its value
+  write_at-position : (L : List (K × X)) (k : K) (v : X) (i : ℕ) → position (λ q. same_key number k q.0) L ≡ Some i → count_by (λ q. same_key number k q.0) L ≤ 1 → write_at L i v ≡ write_value number L k v
+  write_at-position L k v i found once =
+      let p = position-within (λ (q : K × X). same_key number k q.0) L i found in
+      ap (λ n. write_at L n v) (sym p.0) ∙ write_at-found L k v (subst (λ n. n < length L) (sym p.0) p.1) once
+
+  slot_of-other_step : (p : K × X) (L : List (K × X)) (C : ℕ) (k : K) (v : X) (j : ℕ) (s t : Bool) → same_key number k p.0 ≡ s → (slot_number number p.0 C == j) ≡ t → slot_number number k C ≢ j
+      → slot_of number (write_value number L k v) C j ≡ slot_of number L C j → slot_of number (write_value number (p ∷ L) k v) C j ≡ slot_of number (p ∷ L) C j
+  slot_of-other_step p L C k v j true true e f apart rest = absurd (apart (sym (same_key-slot number C k p e) ∙ eqb-true (slot_number number p.0 C) j f))
+  slot_of-other_step p L C k v j true false e f apart rest = simp (e, f, rest)
+  slot_of-other_step p L C k v j false true e f apart rest = simp (e, f, rest)
+  slot_of-other_step p L C k v j false false e f apart rest = simp (e, f, rest)
+
+  -- another slot keeps its values
+  slot_of-write_value-other : (L : List (K × X)) (C : ℕ) (k : K) (v : X) (j : ℕ) → slot_number number k C ≢ j → slot_of number (write_value number L k v) C j ≡ slot_of number L C j
+  slot_of-write_value-other [] C k v j apart = refl
+  slot_of-write_value-other (p ∷ L) C k v j apart =
+      slot_of-other_step p L C k v j (same_key number k p.0) (slot_number number p.0 C == j) refl refl apart (slot_of-write_value-other L C k v j apart)
+
+  -- the walk of a list with a value written is the walk with it written
+  pub walk_of-write_value : (L : List (K × X)) (C : ℕ) (k : K) (v : X) → walk_of number (write_value number L k v) C ≡ write_value number (walk_of number L C) k v
+  walk_of-write_value L C k v =
+      flat_map-map (λ p. cond (same_key number k p.0) (p.0, v) p) (slot_of number L C) (slot_of number (write_value number L k v) C) (slot_of-write_value number L C k v) (range_with_len 0 C)
+
+module _ {K V : Type 0} (number : K → ℕ) where
+  bound_from : (W : List (K × V)) (C : ℕ) (k : K) (i place : ℕ) (o : Option V) → value_of number (slot_of number W C i) k ≡ o → position (λ p. same_key number k p.0) (slot_of number W C i) ≡ Some place → IsSome o
+  bound_from W C k i place None none is = let missed = position-from_none (same_key number k) (slot_of number W C i) none in cc
+  bound_from W C k i place (Some v) some is = refl
+
+  -- the key of a located pair is bound
+  pub IsBound-at : (W : List (K × V)) (C : ℕ) (at : Location K) → IsAt number W C at → IsBound number W at.key
+  IsBound-at W C at is =
+      bound_from W C at.key at.slot at.place (value_of number W at.key) (ap (λ i. value_of number (slot_of number W C i) at.key) is.slot ∙ value_of-slot_of number C W at.key) is.place
+
+  -- a key was located exactly where it is bound
+  pub is_some-located : (W : List (K × V)) (C : ℕ) (k : K) (o : Option (Location K)) → IfSome o (λ at. (at.key ≡ k) × IsAt number W C at) → IfNone o (value_of number W k ≡ None) → is_some o ≡ is_some (value_of number W k)
+  is_some-located W C k None found missing = rw missing refl
+  is_some-located W C k (Some at) found missing = sym (subst (IsBound number W) found.0 (IsBound-at W C at found.1))
+
+-- a pair of a table was located, and h is its slot
+module _ {K X : Type 0} (number : K → ℕ) (S : List (Held K X)) (h : Held K X) (l : Location K) (table : IsTable number S) (at : IsAt number (joined (rows S)) (length S) l) (here : h ≡ get_or S l.slot h) where
+  pub slot-at : IsSlot number S h l.slot l.key
+  slot-at = record { table = table; slot = at.slot; here = here }
+
+  pub place-at : position (λ p. same_key number l.key p.0) h.pairs ≡ Some l.place
+  place-at = ap (position (λ p. same_key number l.key p.0)) (sym (slot_of-here number S h l.slot l.key slot-at)) ∙ at.place
+
+  pub place-within : l.place < length h.pairs
+  place-within = (position-within (λ (p : K × X). same_key number l.key p.0) h.pairs l.place place-at).1
+
+  -- the value there is that of the key
+  pub value_of-at : (v : X) → ((p : K × X) → v ≡ (get_or h.pairs l.place p).1) → value_of number (joined (rows S)) l.key ≡ Some v
+  value_of-at v is =
+      value_of-here number S h l.slot l.key slot-at ∙ first_value-position (same_key number l.key) h.pairs l.place (l.key, v) place-at ∙ ap (λ v. Some v) (sym (is (l.key, v)))
+
+  module _ (v : X) (s : Held K X) (is : s.pairs ≡ write_at h.pairs l.place v) where
+    -- with the value written, the walk has it as that of the key
+    pub walk-written : HasDistinctKeys number (joined (rows S)) → joined (rows (set S l.slot s)) ≡ write_value number (joined (rows S)) l.key v
+    walk-written distinct =
+        let W : List (K × X) = joined (rows S) in
+        let in_slot = slot_of-here number S h l.slot l.key slot-at in
+        let fewer = count_by-filter-le (λ p. slot_number number p.0 (length S) == l.slot) (λ p. same_key number l.key p.0) W in
+        let one = distinct l.key in
+        let once : count_by (λ p. same_key number l.key p.0) h.pairs ≤ 1 = subst (λ ps. count_by (λ p. same_key number l.key p.0) ps ≤ 1) in_slot (omega (arith, fewer, one)) in
+        let row : slot_of number (write_value number W l.key v) (length S) l.slot ≡ s.pairs =
+        slot_of-write_value number W (length S) l.key v l.slot ∙ ap (λ ps. write_value number ps l.key v) in_slot ∙ sym (write_at-position number h.pairs l.key v l.place place-at once) ∙ sym is in
+        joined-set number S table l.slot s (write_value number W l.key v) (within number S h l.slot l.key slot-at) row (λ j apart. slot_of-write_value-other number W (length S) l.key v j (λ q. apart (at.slot ∙ q)))
+        ∙ walk_of-write_value number W (length S) l.key v ∙ ap (λ L. write_value number L l.key v) (walk_of-joined number S table)
+
+    pub Grid-written : HasDistinctKeys number (joined (rows S))
+        → ◌≡◌ {A = Grid K X} (record { walk = joined (rows (set S l.slot s)); capacity = length (set S l.slot s) }) (record { walk = write_value number (joined (rows S)) l.key v; capacity = length S })
+    Grid-written distinct = Grid-same _ _ _ _ (walk-written distinct) (length-set S l.slot s)
+
+    -- and the slots are a table as before
+    pub IsMarkedTable-written : (bits : List Bool) → AreMarked (rows S) bits → IsMarkedTable number (set S l.slot s) bits
+    IsMarkedTable-written bits marks = record {
+      table = IsTable-set number S h l.slot l.key slot-at s
+          (subst (λ ps. All (λ p. slot_number number p.0 (length S) ≡ l.slot) ps) (sym is)
+          (All-write_at (λ k. slot_number number k (length S) ≡ l.slot) h.pairs l.place v (Belong-here number S h l.slot l.key slot-at)));
+      marks = marks-kept number S h l.slot l.key slot-at bits marks s (ap (nat_lt 0) (sym (length-write_at h.pairs l.place v) ∙ ap length (sym is)));
+    }
+
+-- the pair of k stands last in its slot, which is h
+module _ {K X : Type 0} (number : K → ℕ) (S : List (Held K X)) (h : Held K X) (i : ℕ) (k : K) (at : IsSlot number S h i k) (last : IsLast number (joined (rows S)) (length S) k) where
+  slot-last : slot_of number (joined (rows S)) (length S) (slot_number number k (length S)) ≡ h.pairs
+  slot-last = ap (slot_of number (joined (rows S)) (length S)) (sym at.slot) ∙ slot_of-here number S h i k at
+
+  pub slot-some : 0 < length h.pairs
+  slot-some = let e = ap length slot-last in let n = last.last in omega (arith, e, n)
+
+  -- its place is the last
+  pub IsAt-last : (place : ℕ) → place + 1 ≡ length h.pairs → IsAt number (joined (rows S)) (length S) (record { key = k; slot = i; place = place })
+  IsAt-last place is =
+      let e = ap length slot-last in
+      let n = last.last in
+      let end : last.place ≡ place = omega (arith, is, e, n) in
+      record {
+        slot = at.slot;
+        place = ap (λ j. position (λ p. same_key number k p.0) (slot_of number (joined (rows S)) (length S) j)) at.slot ∙ last.stands ∙ ap (λ n. Some n) end;
+      }
+
+module _ {K V : Type 0} (number : K → ℕ) where
+  -- a pair that was put in stands last in its slot, in other slots too
+  pub IsLast-put : (L : List (K × V)) (C D : ℕ) (k : K) (v : V) → HasDistinctKeys number L → IsCapacity D → IsLast number (walk_of number (put_pair number L C k v) D) D k
+  IsLast-put L C D k v once cap =
+      let i : ℕ = slot_number number k D in
+      let T : List (K × V) = take_key number L C k in
+      let here : (slot_number number k D == i) ≡ true = eq-eqb (slot_number number k D) i refl in
+      let own : same_key number k k ≡ true = eq-eqb (number k) (number k) refl in
+      let gone : value_of number T k ≡ None = value_of-take_key number L C k k once ∙ cond-true (same_key number k k) None (value_of number L k) own in
+      let none = position-from_none (same_key number k) (slot_of number T D i) (value_of-slot_of number D T k ∙ gone) in
+      let row : slot_of number (walk_of number (put_pair number L C k v) D) D i ≡ slot_of number T D i ++ (k, v) ∷ [] =
+      slot_of-walk_of number D (put_pair number L C k v) i (slot_number-below number k D cap) ∙ filter-append (λ p. slot_number number p.0 D == i) T ((k, v) ∷ []) ∙ simp here refl in
+      record {
+        place = length (slot_of number T D i);
+        stands = ap (position (λ p. same_key number k p.0)) row ∙ position-push (λ p. same_key number k p.0) (slot_of number T D i) (k, v) none own;
+        last = sym (ap length row ∙ length_push (slot_of number T D i) (k, v));
+      }
+
+-- pairs with other values stand where they stood
+module _ {K X V : Type 0} (number : K → ℕ) (f : X → V) where
+  position_or_len-map_values : (test : K → Bool) (L : List (K × X)) → position_or_len (λ p. test p.0) (map_values number f L) ≡ position_or_len (λ p. test p.0) L
+  position_or_len-map_values test [] = refl
+  position_or_len-map_values test (p ∷ L) = let e = position_or_len-map_values test L in grind (arith, e)
+
+  position-map_values : (test : K → Bool) (L : List (K × X)) → position (λ p. test p.0) (map_values number f L) ≡ position (λ p. test p.0) L
+  position-map_values test L = rw (position_or_len-map_values test L, length-map_values number f L) refl
+
+  pub IsAt-map_values : (L : List (K × X)) (C : ℕ) (l : Location K) → IsAt number L C l → IsAt number (map_values number f L) C l
+  IsAt-map_values L C l at = record {
+    slot = at.slot;
+    place = ap (position (λ p. same_key number l.key p.0)) (slot_of-map_values number f L C l.slot) ∙ position-map_values (same_key number l.key) (slot_of number L C l.slot) ∙ at.place;
+  }
+
+  pub IsAt-without_values : (L : List (K × X)) (C : ℕ) (l : Location K) → IsAt number (map_values number f L) C l → IsAt number L C l
+  IsAt-without_values L C l at = record {
+    slot = at.slot;
+    place = sym (position-map_values (same_key number l.key) (slot_of number L C l.slot)) ∙ ap (position (λ p. same_key number l.key p.0)) (sym (slot_of-map_values number f L C l.slot)) ∙ at.place;
+  }
+
+  pub IsLast-without_values : (L : List (K × X)) (C : ℕ) (k : K) → IsLast number (map_values number f L) C k → IsLast number L C k
+  IsLast-without_values L C k last =
+      let i : ℕ = slot_number number k C in
+      let row = slot_of-map_values number f L C i in
+      record {
+        place = last.place;
+        stands = sym (position-map_values (same_key number k) (slot_of number L C i)) ∙ ap (position (λ p. same_key number k p.0)) (sym row) ∙ last.stands;
+        last = last.last ∙ ap length row ∙ length-map_values number f (slot_of number L C i);
+      }
+
+  pub HasDistinctKeys-without_values : (L : List (K × X)) → HasDistinctKeys number (map_values number f L) → HasDistinctKeys number L
+  HasDistinctKeys-without_values L once k =
+      let h = once k in let e = count_by-map {Y = K × V} (λ (p : K × X). (p.0, f p.1)) (λ p. same_key number k p.0) L in omega (arith, h, e)
+
+  write_value-map_values_step : (p : K × X) (k : K) (x : X) (t : Bool) → same_key number k p.0 ≡ t
+      → ◌≡◌ {A = K × V} (cond (same_key number k p.0) (p.0, f x) (p.0, f p.1)) ((cond (same_key number k p.0) (p.0, x) p).0, f (cond (same_key number k p.0) (p.0, x) p).1)
+  write_value-map_values_step p k x true e = rw e refl
+  write_value-map_values_step p k x false e = rw e refl
+
+  pub write_value-map_values : (L : List (K × X)) (k : K) (x : X) → write_value number (map_values number f L) k (f x) ≡ map_values number f (write_value number L k x)
+  write_value-map_values [] k x = refl
+  write_value-map_values (p ∷ L) k x =
+      ap (λ q. q ∷ write_value number (map_values number f L) k (f x)) (write_value-map_values_step p k x (same_key number k p.0) refl)
+      ∙ ap (λ M. ((cond (same_key number k p.0) (p.0, x) p).0, f (cond (same_key number k p.0) (p.0, x) p).1) ∷ M) (write_value-map_values L k x)

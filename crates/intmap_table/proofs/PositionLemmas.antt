@@ -1,0 +1,181 @@
+-- The place of the first element that passes a test, and what is found and left there.
+use Rattle.std.proofs.Common.{◌≡◌, ℕ, suc, ◌+◌, ◌-◌, ◌<◌, ◌≤◌, Bool, true, false, cond, List, [], ◌∷◌, length, get_or, set, take, Option, Some, None, refl, sym, ap, ◌∙◌, subst, arith}
+use Rattle.std.specs.Prelude.{position, swap_remove, nat_lt}
+use Rattle.std.specs.List.{position_or_len, list_any}
+use Rattle.std.proofs.lemmas.Bool.{lt-ltb, le-ltb, ltb-true}
+use Rattle.std.proofs.lemmas.Bool.Decides.{nat_tests}
+use Rattle.std.proofs.lemmas.Option.{cond_some}
+use Rattle.intmap_table.specs.Bindings.{last_passing, without_last, swap_out, first_value}
+use Rattle.intmap_table.specs.Reach.{through_first}
+use Rattle.intmap_table.proofs.Tables.SwapOutLemmas.{any}
+
+module _ {X : Type 0} (test : X → Bool) where
+  -- xs ends with ys, and none of the elements before passes
+  pub record ArePassed (xs ys : List X) : Type 0 where
+    pub left : length ys ≤ length xs
+    pub place : position_or_len test xs + length ys ≡ length xs + position_or_len test ys
+    pub reached : length (through_first test xs) + length ys ≡ length xs + length (through_first test ys)
+
+  pub ArePassed-none : (xs : List X) → ArePassed xs xs
+  ArePassed-none xs = record { left = omega arith; place = omega arith; reached = omega arith }
+
+  pub ArePassed-more : (xs ys : List X) (y : X) → test y ≡ false → ArePassed xs (y ∷ ys) → ArePassed xs ys
+  ArePassed-more xs ys y fails h =
+      let a : position_or_len test xs + suc (length ys) ≡ length xs + (1 + position_or_len test ys) = rw fails at h.place in
+      let b : length (through_first test xs) + suc (length ys) ≡ length xs + suc (length (through_first test ys)) = rw fails at h.reached in
+      record { left = omega (arith, h.left); place = omega (arith, a); reached = omega (arith, b) }
+
+  -- the first of ys passes, so it is found there
+  pub record IsFound (xs ys : List X) : Type 0 where
+    pub place : position test xs ≡ Some (length xs - length ys)
+    pub reached : length (through_first test xs) ≡ length xs - length ys + 1
+
+  pub IsFound-here : (xs ys : List X) (y : X) → test y ≡ true → ArePassed xs (y ∷ ys) → IsFound xs (y ∷ ys)
+  IsFound-here xs ys y passes h =
+      let a : position_or_len test xs + suc (length ys) ≡ length xs + 0 = rw passes at h.place in
+      let b : length (through_first test xs) + suc (length ys) ≡ length xs + 1 = rw passes at h.reached in
+      let e : position_or_len test xs ≡ length xs - suc (length ys) = omega (arith, a) in
+      record { place = simp (e, lt-ltb (length xs - suc (length ys)) (length xs) (omega (arith, h.left))); reached = omega (arith, b, h.left) }
+
+  -- none passes
+  pub record IsMissed (xs : List X) : Type 0 where
+    pub place : position test xs ≡ None
+    pub reached : length (through_first test xs) ≡ length xs
+
+  pub IsMissed-all : (xs : List X) → ArePassed xs [] → IsMissed xs
+  IsMissed-all xs h =
+      let e : position_or_len test xs ≡ length xs = omega (arith, h.place) in
+      record { place = simp (e, le-ltb (length xs) (length xs) (omega arith)); reached = omega (arith, h.reached) }
+
+  position_or_len-le : (xs : List X) → position_or_len test xs ≤ length xs
+  position_or_len-le [] = omega arith
+  position_or_len-le (x ∷ xs) = let h = position_or_len-le xs in grind (arith, h)
+
+  -- where none is found, the whole list is passed
+  pub position_or_len-none : (xs : List X) → position test xs ≡ None → position_or_len test xs ≡ length xs
+  position_or_len-none xs none = let l = position_or_len-le xs in grind (arith, nat_tests, none, l)
+
+  -- behind an element that fails
+  pub position-cons_none : (x : X) (xs : List X) → test x ≡ false → position test xs ≡ None → position test (x ∷ xs) ≡ None
+  position-cons_none x xs fails none =
+      let l : position_or_len test xs ≡ length xs = position_or_len-none xs none in
+      let e : position_or_len test (x ∷ xs) ≡ length (x ∷ xs) = rw fails (omega (arith, l)) in
+      simp (e, le-ltb (length (x ∷ xs)) (length (x ∷ xs)) (omega arith))
+
+  pub length-through_first-cons : (x : X) (xs : List X) → test x ≡ false → length (through_first test (x ∷ xs)) ≡ length (through_first test xs) + 1
+  length-through_first-cons x xs fails = rw fails (omega arith)
+
+module _ {X : Type 0} where
+  pub swap_remove-cons : (z : X) (zs : List X) (i : ℕ) (x : X) → swap_remove (z ∷ zs) i x ≡ take (length zs) (set (z ∷ zs) i (get_or (z ∷ zs) (length zs) x))
+  swap_remove-cons z zs i x =
+      let e : suc (length zs) - 1 ≡ length zs = omega arith in
+      ap (λ n. take n (set (z ∷ zs) i (get_or (z ∷ zs) n x))) e
+
+  last_passing-any : (d z : X) (zs : List X) (e : X) → last_passing any d (z ∷ zs) ≡ get_or (z ∷ zs) (length zs) e
+  last_passing-any d z [] e = refl
+  last_passing-any d z (y ∷ zs) e = last_passing-any z y zs e
+
+  without_last-any : (z : X) (zs : List X) → without_last any (z ∷ zs) ≡ take (length zs) (z ∷ zs)
+  without_last-any z [] = refl
+  without_last-any z (y ∷ zs) = ap (λ r. z ∷ r) (without_last-any y zs)
+
+  swap_remove-first : (y x : X) (ys : List X) → x ≡ y → swap_remove (y ∷ ys) 0 x ≡ cond (list_any any ys) (last_passing any y ys ∷ without_last any ys) ys
+  swap_remove-first y x [] e = refl
+  swap_remove-first y x (z ∷ zs) e =
+      swap_remove-cons y (z ∷ zs) 0 x ∙ simp (last_passing-any y z zs x, without_last-any z zs)
+
+module _ {X : Type 0} (test : X → Bool) where
+  swap_remove-step : (y x : X) (ys : List X) (t : Bool) → test y ≡ t
+      → (position_or_len test ys < length ys → x ≡ get_or ys (position_or_len test ys) x → swap_remove ys (position_or_len test ys) x ≡ swap_out test any ys)
+      → position_or_len test (y ∷ ys) < length (y ∷ ys) → x ≡ get_or (y ∷ ys) (position_or_len test (y ∷ ys)) x
+      → swap_remove (y ∷ ys) (position_or_len test (y ∷ ys)) x ≡ swap_out test any (y ∷ ys)
+  swap_remove-step y x ys true t h below is =
+      let q : x ≡ y = rw t at is in rw t (swap_remove-first y x ys q)
+  swap_remove-step y x [] false t h below is =
+      let w : 1 + 0 < 1 = rw t at below in absurd (omega arith)
+  swap_remove-step y x (z ∷ zs) false t h below is =
+      let n : ℕ = position_or_len test (z ∷ zs) in
+      let w : 1 + n < suc (length (z ∷ zs)) = rw t at below in
+      let o : 1 + n ≡ suc n = omega arith in
+      let i : x ≡ get_or (y ∷ z ∷ zs) (1 + n) x = rw t at is in
+      let j : x ≡ get_or (z ∷ zs) n x = rw o at i in
+      let r : swap_remove (z ∷ zs) n x ≡ swap_out test any (z ∷ zs) = h (omega arith) j in
+      rw t (ap (λ k. swap_remove (y ∷ z ∷ zs) k x) o ∙ swap_remove-cons y (z ∷ zs) (suc n) x ∙ ap (λ l. y ∷ l) (sym (swap_remove-cons z zs n x) ∙ r))
+
+  swap_remove-position_or_len : (x : X) (xs : List X) → position_or_len test xs < length xs → x ≡ get_or xs (position_or_len test xs) x → swap_remove xs (position_or_len test xs) x ≡ swap_out test any xs
+  swap_remove-position_or_len x [] below is = absurd (omega arith)
+  swap_remove-position_or_len x (y ∷ ys) below is = swap_remove-step y x ys (test y) refl (swap_remove-position_or_len x ys) below is
+
+  -- a place that was found is the first that passes, and within the list
+  pub position-within : (xs : List X) (i : ℕ) → position test xs ≡ Some i → (position_or_len test xs ≡ i) × (i < length xs)
+  position-within xs i e =
+      let c = cond_some (nat_lt (position_or_len test xs) (length xs)) (position_or_len test xs) i e in
+      let l : position_or_len test xs < length xs = ltb-true (position_or_len test xs) (length xs) c.0 in
+      (c.1, subst (λ n. n < length xs) c.1 l)
+
+  -- behind an element that fails, the place is one greater
+  pub position-cons_some : (x : X) (xs : List X) (i : ℕ) → test x ≡ false → position test xs ≡ Some i → position test (x ∷ xs) ≡ Some (i + 1)
+  position-cons_some x xs i fails found =
+      let p = position-within xs i found in
+      let e : position_or_len test (x ∷ xs) ≡ i + 1 = rw fails (let at = p.0 in omega (arith, at)) in
+      simp (e, lt-ltb (i + 1) (length (x ∷ xs)) (let below = p.1 in omega (arith, below)))
+
+  -- the last element fills the place that was found
+  pub swap_remove-position : (xs : List X) (i : ℕ) (x : X) → position test xs ≡ Some i → x ≡ get_or xs i x → swap_remove xs i x ≡ swap_out test any xs
+  swap_remove-position xs i x e is =
+      let p = position-within xs i e in
+      ap (λ n. swap_remove xs n x) (sym p.0) ∙ swap_remove-position_or_len x xs (subst (λ n. n < length xs) (sym p.0) p.1) (is ∙ ap (λ n. get_or xs n x) (sym p.0))
+
+  swap_out-none-step : (in_class : X → Bool) (ys : List X) (y : X) (t : Bool) → test y ≡ t → (position_or_len test ys ≡ length ys → swap_out test in_class ys ≡ ys) → position_or_len test (y ∷ ys) ≡ length (y ∷ ys) → swap_out test in_class (y ∷ ys) ≡ y ∷ ys
+  swap_out-none-step in_class ys y true t h e = let w : 0 ≡ suc (length ys) = rw t at e in absurd (omega arith)
+  swap_out-none-step in_class ys y false t h e = let w : 1 + position_or_len test ys ≡ suc (length ys) = rw t at e in simp (t, h (omega arith))
+
+  swap_out-position_or_len : (in_class : X → Bool) (xs : List X) → position_or_len test xs ≡ length xs → swap_out test in_class xs ≡ xs
+  swap_out-position_or_len in_class [] e = refl
+  swap_out-position_or_len in_class (y ∷ ys) e = swap_out-none-step in_class ys y (test y) refl (swap_out-position_or_len in_class ys) e
+
+  -- where none passes, none is taken
+  pub swap_out-none : (in_class : X → Bool) (xs : List X) → position test xs ≡ None → swap_out test in_class xs ≡ xs
+  swap_out-none in_class xs e = swap_out-position_or_len in_class xs (position_or_len-none test xs e)
+
+module _ {K V : Type 0} (test : K → Bool) where
+  first_value-step : (p : K × V) (L : List (K × V)) (d : K × V) (t : Bool) → test p.0 ≡ t
+      → (position_or_len (λ q. test q.0) L < length L → first_value test L ≡ Some (get_or L (position_or_len (λ q. test q.0) L) d).1)
+      → position_or_len (λ q. test q.0) (p ∷ L) < length (p ∷ L) → first_value test (p ∷ L) ≡ Some (get_or (p ∷ L) (position_or_len (λ q. test q.0) (p ∷ L)) d).1
+  first_value-step p L d true t h below = simp t
+  first_value-step p L d false t h below =
+      let n : ℕ = position_or_len (λ (q : K × V). test q.0) L in
+      let w : 1 + n < suc (length L) = rw t at below in
+      let o : 1 + n ≡ suc n = omega arith in
+      rw t (h (omega arith) ∙ ap (λ k. Some (get_or (p ∷ L) k d).1) (sym o))
+
+  first_value-position_or_len : (L : List (K × V)) (d : K × V) → position_or_len (λ q. test q.0) L < length L → first_value test L ≡ Some (get_or L (position_or_len (λ q. test q.0) L) d).1
+  first_value-position_or_len [] d below = absurd (omega arith)
+  first_value-position_or_len (p ∷ L) d below = first_value-step p L d (test p.0) refl (first_value-position_or_len L d) below
+
+  -- the value at the place that was found
+  pub first_value-position : (L : List (K × V)) (i : ℕ) (d : K × V) → position (λ q. test q.0) L ≡ Some i → first_value test L ≡ Some (get_or L i d).1
+  first_value-position L i d e =
+      let p = position-within (λ (q : K × V). test q.0) L i e in
+      first_value-position_or_len L d (subst (λ n. n < length L) (sym p.0) p.1) ∙ ap (λ n. Some (get_or L n d).1) p.0
+
+  first_value-none-step : (L : List (K × V)) (p : K × V) (t : Bool) → test p.0 ≡ t → (position_or_len (λ q. test q.0) L ≡ length L → first_value test L ≡ None) → position_or_len (λ q. test q.0) (p ∷ L) ≡ length (p ∷ L) → first_value test (p ∷ L) ≡ None
+  first_value-none-step L p true t h e = let w : 0 ≡ suc (length L) = rw t at e in absurd (omega arith)
+  first_value-none-step L p false t h e = let w : 1 + position_or_len (λ (q : K × V). test q.0) L ≡ suc (length L) = rw t at e in simp (t, h (omega arith))
+
+  first_value-all : (L : List (K × V)) → position_or_len (λ q. test q.0) L ≡ length L → first_value test L ≡ None
+  first_value-all [] e = refl
+  first_value-all (p ∷ L) e = first_value-none-step L p (test p.0) refl (first_value-all L) e
+
+  -- where none is found, there is no value
+  pub first_value-none : (L : List (K × V)) → position (λ q. test q.0) L ≡ None → first_value test L ≡ None
+  first_value-none L e = first_value-all L (position_or_len-none (λ (q : K × V). test q.0) L e)
+
+  none_from : (o : Option ℕ) (L : List (K × V)) → position (λ q. test q.0) L ≡ o → first_value test L ≡ None → o ≡ None
+  none_from None L e h = refl
+  none_from (Some i) [] e h = cc
+  none_from (Some i) (p ∷ L) e h = let v = first_value-position (p ∷ L) i p e in cc
+
+  -- where there is no value, none is found
+  pub position-from_none : (L : List (K × V)) → first_value test L ≡ None → position (λ q. test q.0) L ≡ None
+  position-from_none L h = none_from (position (λ (q : K × V). test q.0) L) L refl h

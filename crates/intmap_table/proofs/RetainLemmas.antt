@@ -1,0 +1,120 @@
+-- What a closure that is asked about each pair in turn leaves of lists, of slots and of tables.
+use Rattle.std.proofs.Common.{◌≡◌, inl, inr, ℕ, suc, ◌+◌, ◌<◌, ◌≤◌, Bool, true, false, cond, List, [], ◌∷◌, ◌++◌, length, map, get_or, set, take, drop, refl, sym, ap, ◌∙◌, subst, arith, append-nil}
+use Rattle.std.specs.Prelude.{All, count_by}
+use Rattle.std.specs.List.{swap, FoldsTo}
+use Rattle.std.proofs.lemmas.Bool.{cases_lt, cond_both}
+use Rattle.std.proofs.lemmas.List.{drop_more, take_more_set, take-set-le, drop-set-lt, set-set}
+use Rattle.std.proofs.lemmas.List.Edits.{swap_is}
+use Rattle.std.proofs.lemmas.List.Elements.{All-cons, All-head, All-tail}
+use Rattle.std.proofs.lemmas.List.Sums.{sum_by-cons}
+use Rattle.std.specs.Fn.{Mut}
+use Rattle.std.specs.Borrow.{Bor}
+use Rattle.intmap_table.specs.Tables.Kept.{unkept, KeepsStored, TakesStored}
+use Rattle.intmap_table.specs.Retaining.{KeepsAt, Retains, TakesPair}
+use Rattle.intmap_table.specs.Taking.{Passes, TakesEach}
+use Rattle.intmap_table.specs.declared.kept.Kept.{Kept}
+use Rattle.intmap_table.proofs.LeadsLemmas.{Leads, Leads-next}
+use Rattle.intmap_table.proofs.TakingLemmas.{TakesEach-map}
+
+module _ {F X : Type 0} (R : F → X → Bool → F → Type 0) where
+  -- first the one list, then the other
+  pub Retains-append : (f g h : F) (L L' M M' : List X) → Retains R f L M g → Retains R g L' M' h → Retains R f (L ++ L') (M ++ M') h
+  Retains-append f g h [] L' M M' first more = subst (λ Z. Retains R f L' (Z ++ M') h) (sym first.0) (subst (λ z. Retains R z L' M' h) (sym first.1) more)
+  Retains-append f g h (x ∷ L) L' M M' first more =
+      (first.0, first.1, first.2 ++ M', first.3, Retains-append first.1 g h L L' first.2 M' first.4 more, ap (λ Z. Z ++ M') first.5 ∙ cond-append first.0)
+    where
+      cond-append : (b : Bool) → cond b (x ∷ first.2) first.2 ++ M' ≡ cond b (x ∷ (first.2 ++ M')) (first.2 ++ M')
+      cond-append true = refl
+      cond-append false = refl
+
+  -- one element
+  pub Retains-one : (f g : F) (x : X) (b : Bool) → R f x b g → Retains R f (x ∷ []) (cond b (x ∷ []) []) g
+  Retains-one f g x b call = (b, g, [], call, (refl, refl), refl)
+
+  -- it passed each element
+  pub FoldsTo-Retains : (f g : F) (L M : List X) → Retains R f L M g → FoldsTo (Passes R) f L g
+  FoldsTo-Retains f g [] M r = r.1
+  FoldsTo-Retains f g (x ∷ L) M r = (r.1, (r.0, r.3), FoldsTo-Retains r.1 g L r.2 r.4)
+
+  -- no more elements stay than there were
+  pub length-Retains : (f g : F) (L M : List X) → Retains R f L M g → length M ≤ length L
+  length-Retains f g [] M r = let e = ap length r.0 in omega (arith, e)
+  length-Retains f g (x ∷ L) M r =
+      let rest = length-Retains r.1 g L r.2 r.4 in
+      let e = ap length r.5 in
+      let more : length (cond r.0 (x ∷ r.2) r.2) ≤ suc (length r.2) = either r.0 in
+      omega (arith, rest, e, more)
+    where
+      either : (b : Bool) → length (cond b (x ∷ r.2) r.2) ≤ suc (length r.2)
+      either true = omega arith
+      either false = omega arith
+
+  -- what holds of all holds of all that stay
+  pub All-Retains : (P : X → Type 0) (f g : F) (L M : List X) → Retains R f L M g → All P L → All P M
+  All-Retains P f g [] M r all = subst (All P) (sym r.0) all
+  All-Retains P f g (x ∷ L) M r all =
+      let rest = All-Retains P r.1 g L r.2 r.4 (All-tail P x L all) in
+      subst (All P) (sym r.5) (cond_both r.0 (x ∷ r.2) r.2 (All P) (λ _. All-cons P x r.2 (All-head P x L all) rest) (λ _. rest))
+
+  -- of those that stay, no more pass a test
+  pub count_by-Retains : (test : X → Bool) (f g : F) (L M : List X) → Retains R f L M g → count_by test M ≤ count_by test L
+  count_by-Retains test f g [] M r = let e = ap (count_by test) r.0 in omega (arith, e)
+  count_by-Retains test f g (x ∷ L) M r =
+      let rest = count_by-Retains test r.1 g L r.2 r.4 in
+      let e = ap (count_by test) r.5 in
+      let before = sum_by-cons (λ (y : X). cond (test y) 1 0) x L in
+      let more = either r.0 in
+      omega (arith, rest, e, before, more)
+    where
+      either : (b : Bool) → count_by test (cond b (x ∷ r.2) r.2) ≤ cond (test x) 1 0 + count_by test r.2
+      either true = let after = sum_by-cons (λ (y : X). cond (test y) 1 0) x r.2 in omega (arith, after)
+      either false = omega arith
+
+-- elements that are seen through h
+pub Retains-map : {F X Y : Type 0} (R : F → Y → Bool → F → Type 0) (h : X → Y) (f g : F) (L M : List X) → Retains (λ f x b g. R f (h x) b g) f L M g → Retains R f (map h L) (map h M) g
+Retains-map R h f g [] M r = (ap (map h) r.0, r.1)
+Retains-map {X = X} R h f g (x ∷ L) M r = (r.0, r.1, map h r.2, r.3, Retains-map R h r.1 g L r.2 r.4, ap (map h) r.5 ∙ map-cond r.0)
+  where
+    map-cond : (b : Bool) → map h (cond b (x ∷ r.2) r.2) ≡ cond b (h x ∷ map h r.2) (map h r.2)
+    map-cond true = refl
+    map-cond false = refl
+
+module _ {X : Type 0} (xs : List X) (k i : ℕ) (d : X) (before : k ≤ i) (below : i < length xs) where
+  swap-sets : swap xs k i ≡ set (set xs k (get_or xs i d)) i (get_or xs k d)
+  swap-sets = sym (swap_is xs k i d (omega (arith, before, below)) below)
+
+  -- an element that is swapped forward to place k
+  pub take-swap : take (k + 1) (swap xs k i) ≡ take k xs ++ get_or xs i d ∷ []
+  take-swap = ap (take (k + 1)) swap-sets ∙ (elim (cases_lt k i) as (λ _. take (k + 1) (set (set xs k (get_or xs i d)) i (get_or xs k d)) ≡ take k xs ++ get_or xs i d ∷ []) [
+    | inl apart ↦ take-set-le (k + 1) (set xs k (get_or xs i d)) i (get_or xs k d) (omega (arith, apart)) ∙ take_more_set xs k (get_or xs i d) (omega (arith, before, below))
+    | inr up ↦ (let same : k ≡ i = omega (arith, before, up) in rw (same, set-set) (take_more_set xs i (get_or xs i d) below))
+  ])
+
+  -- leaves those behind its old place
+  pub drop-swap : drop (i + 1) (swap xs k i) ≡ drop (i + 1) xs
+  drop-swap = ap (drop (i + 1)) swap-sets ∙ drop-set-lt (i + 1) (set xs k (get_or xs i d)) i (get_or xs k d) (omega arith) ∙ drop-set-lt (i + 1) xs k (get_or xs i d) (omega (arith, before))
+
+  module _ {F : Type 0} (R : F → X → Bool → F → Type 0) (f₀ f h : F) (L : List X) (leads : Leads (Retains R) f₀ L f (take k xs) (drop i xs)) where
+    asked : (b : Bool) → R f (get_or xs i d) b h → Leads (Retains R) f₀ L h (take k xs ++ cond b (get_or xs i d ∷ []) []) (drop (i + 1) xs)
+    asked b call =
+        let x = get_or xs i d in
+        Leads-next (Retains R) (Retains-append R) f₀ f h L (take k xs) (x ∷ []) (cond b (x ∷ []) []) (drop (i + 1) xs)
+        (subst (λ Z. Leads (Retains R) f₀ L f (take k xs) Z) (drop_more xs i d below) leads) (Retains-one R f h x b call)
+
+    -- the element at place i stays
+    pub Leads-stays : R f (get_or xs i d) true h → Leads (Retains R) f₀ L h (take (k + 1) (swap xs k i)) (drop (i + 1) (swap xs k i))
+    Leads-stays call =
+        subst (λ Z. Leads (Retains R) f₀ L h Z (drop (i + 1) (swap xs k i))) (sym take-swap) (subst (λ Z. Leads (Retains R) f₀ L h (take k xs ++ get_or xs i d ∷ []) Z) (sym drop-swap) (asked true call))
+
+    -- the element at place i goes
+    pub Leads-goes : R f (get_or xs i d) false h → Leads (Retains R) f₀ L h (take k xs) (drop (i + 1) xs)
+    Leads-goes call = subst (λ Z. Leads (Retains R) f₀ L h Z (drop (i + 1) xs)) (append-nil (take k xs)) (asked false call)
+
+module _ {K V : Type 0} where
+  -- the same with the values as callers see them
+  pub Retains-unkept : {F : Type 0} (m : Mut F (K × (Bor V × Unit {0})) Bool) (f g : F) (L M : List (K × Kept V)) → Retains (KeepsStored m) f L M g → Retains (KeepsAt m) f (unkept L) (unkept M) g
+  Retains-unkept m f g L M r = Retains-map (KeepsAt m) (λ p. (p.0, p.1.value)) f g L M r
+
+  -- and takes each pair as it is stored, if it does as callers see it
+  pub TakesEach-stored : {F : Type 0} (m : Mut F (K × (Bor V × Unit {0})) Bool) (f : F) (L : List (K × Kept V)) → TakesEach (KeepsAt m) (TakesPair m) f (unkept L) → TakesEach (KeepsStored m) (TakesStored m) f L
+  TakesEach-stored m f L takes = TakesEach-map (KeepsAt m) (TakesPair m) (λ p. (p.0, p.1.value)) (λ b. b) f L takes

@@ -1,0 +1,186 @@
+-- The marks of a table tell which of its slots hold a pair.
+use Rattle.std.proofs.Common.{◌≡◌, ◌≢◌, inl, inr, ℕ, zero, suc, ◌+◌, ◌*◌, ◌/◌, ◌<◌, ◌≤◌, Bool, true, false, Option, Some, None, List, [], ◌∷◌, ◌++◌, length, get_or, set, replicate, refl, sym, ap, ◌∙◌, arith, length-set, get_or-set_same, get_or-set_other}
+use Rattle.std.specs.Prelude.{◌==◌, filter, All, count_by, nat_lt}
+use Rattle.std.specs.List.{list_any, range_with_len}
+use Rattle.std.proofs.lemmas.Bool.{cases_Bool, cases_eq, cases_lt, eq-eqb, ne_eqb, lt-ltb, ltb-true}
+use Rattle.std.proofs.lemmas.List.{length-replicate, length_push, map-set, get_or_past}
+use Rattle.std.proofs.lemmas.List.Elements.{All-head, All-tail}
+use Rattle.intmap_table.specs.Tables.Bits.{marked, marked_places}
+use Rattle.intmap_table.specs.Tables.Slots.{Held, rows, joined, pairs_at, AreMarked, IsMarkedTable}
+use Rattle.intmap_table.specs.Bindings.{value_of}
+use Rattle.intmap_table.specs.Classes.{IsCapacity}
+use Rattle.intmap_table.specs.Tables.Moves.{IsReady}
+use Rattle.intmap_table.proofs.Tables.TableLemmas.{IsSlot, within, length-rows, get_or-rows, IsTable-empty}
+use Rattle.intmap_table.proofs.Tables.MarkedLemmas.{row-none, marked-replicate, All-marked_places, flat_map-marked_places, length-marked_places}
+
+module _ {P : Type 0} (R : List (List P)) (marks : List Bool) (are : AreMarked R marks) where
+  -- each row has a mark
+  pub marks-enough : length R ≤ length marks
+  marks-enough = omega (arith, are.words)
+
+  -- the rows at the marked places are all pairs
+  pub pairs_at-marked : pairs_at R (marked_places marks) ≡ joined R
+  pairs_at-marked = flat_map-marked_places R marks marks-enough are.own
+
+  -- as many places are marked as rows hold a pair
+  pub count-marked : length (marked_places marks) ≡ count_by (λ row. nat_lt 0 (length row)) R
+  count-marked = length-marked_places R marks marks-enough are.own
+
+  module _ (i : ℕ) (below : i < length R) where
+    -- with row i and its mark changed
+    pub AreMarked-set : (row : List P) (b : Bool) → b ≡ nat_lt 0 (length row) → AreMarked (set R i row) (set marks i b)
+    AreMarked-set row b is = record {
+      words = rw (length-set R i row) (length-set marks i b ∙ are.words);
+      own = λ j. elim (cases_eq i j) as (λ _. marked (set marks i b) j ≡ nat_lt 0 (length (get_or (set R i row) j []))) [
+        | inl q ↦ rw (← q) (get_or-set_same marks i b false (omega (arith, below, marks-enough)) ∙ is
+            ∙ ap (λ (ps : List P). nat_lt 0 (length ps)) (sym (get_or-set_same R i row [] below)))
+        | inr apart ↦ get_or-set_other marks i j b false (λ q. apart (sym q)) ∙ are.own j
+            ∙ ap (λ (ps : List P). nat_lt 0 (length ps)) (sym (get_or-set_other R i j row [] (λ q. apart (sym q))))
+      ];
+    }
+
+    -- with row i changed, but not whether it holds a pair
+    pub AreMarked-kept : (row : List P) → marked marks i ≡ nat_lt 0 (length row) → AreMarked (set R i row) marks
+    AreMarked-kept row is = record {
+      words = rw (length-set R i row) are.words;
+      own = λ j. elim (cases_eq i j) as (λ _. marked marks j ≡ nat_lt 0 (length (get_or (set R i row) j []))) [
+        | inl q ↦ rw (← q) (is ∙ ap (λ (ps : List P). nat_lt 0 (length ps)) (sym (get_or-set_same R i row [] below)))
+        | inr apart ↦ are.own j ∙ ap (λ (ps : List P). nat_lt 0 (length ps)) (sym (get_or-set_other R i j row [] (λ q. apart (sym q))))
+      ];
+    }
+
+-- rows without pairs, one by one
+pub get_or-no_pairs : {P : Type 0} (n i : ℕ) → get_or (replicate {A = List P} n []) i [] ≡ []
+get_or-no_pairs zero i = refl
+get_or-no_pairs (suc n) zero = refl
+get_or-no_pairs (suc n) (suc i) = get_or-no_pairs n i
+
+-- where no row holds a pair, none is marked
+pub AreMarked-none : {P : Type 0} (R : List (List P)) (C : ℕ) → length R ≡ C → ((i : ℕ) → get_or R i [] ≡ []) → AreMarked R (replicate (64 * ((C + 63) / 64)) false)
+AreMarked-none R C len empty = record {
+  words = rw len (length-replicate (64 * ((C + 63) / 64)) false);
+  own = λ i. marked-replicate (64 * ((C + 63) / 64)) i ∙ rw (empty i) refl;
+}
+
+-- a row at none of these places may change
+pub pairs_at-set : {P : Type 0} (R : List (List P)) (i : ℕ) (row : List P) (places : List ℕ) → All (λ j. i ≢ j) places → pairs_at (set R i row) places ≡ pairs_at R places
+pairs_at-set R i row [] apart = refl
+pairs_at-set R i row (j ∷ places) apart =
+    let other : i ≢ j = All-head (λ j. i ≢ j) j places apart in
+    let here = get_or-set_other R i j row [] (λ q. other (sym q)) in
+    let rest = pairs_at-set R i row places (All-tail (λ j. i ≢ j) j places apart) in
+    rw (here, rest) refl
+
+-- so does one with a pair at its end
+pub filled-pushed : {P : Type 0} (row : List P) (p : P) → nat_lt 0 (length (row ++ p ∷ [])) ≡ true
+filled-pushed row p = lt-ltb 0 (length (row ++ p ∷ [])) (let n = length_push row p in omega (arith, n))
+
+-- a slot with a bound key holds a pair
+pub filled-bound : {K X : Type 0} (number : K → ℕ) (L : List (K × X)) (k : K) (v : X) → value_of number L k ≡ Some v → nat_lt 0 (length L) ≡ true
+filled-bound {X = X} number [] k v bound = let no : ◌≡◌ {A = Option X} None (Some v) = bound in cc
+filled-bound number (p ∷ L) k v bound = lt-ltb 0 (length (p ∷ L)) (omega arith)
+
+module _ {K X : Type 0} (S : List (Held K X)) (bits : List Bool) (marks : AreMarked (rows S) bits) (i : ℕ) (below : i < length S) where
+  row-below : i < length (rows S)
+  row-below = omega (arith, below, length-rows S)
+
+  -- slot i has a mark
+  pub place-below : i < length bits
+  place-below = let e = marks-enough (rows S) bits marks in omega (arith, row-below, e)
+
+  -- it tells whether the slot holds a pair
+  pub marked-at : (h : Held K X) → h ≡ get_or S i h → marked bits i ≡ nat_lt 0 (length h.pairs)
+  marked-at h is = marks.own i ∙ ap (λ (ps : List (K × X)). nat_lt 0 (length ps)) (get_or-rows S i h below ∙ ap (λ (s : Held K X). s.pairs) (sym is))
+
+  -- with the slot and its mark changed
+  pub marks-set_at : (s : Held K X) (b : Bool) → b ≡ nat_lt 0 (length s.pairs) → AreMarked (rows (set S i s)) (set bits i b)
+  marks-set_at s b is = rw (map-set (λ (t : Held K X). t.pairs) S i s) (AreMarked-set (rows S) bits marks i row-below s.pairs b is)
+
+  -- with the slot changed, but not whether it holds a pair
+  pub marks-kept_at : (s : Held K X) → marked bits i ≡ nat_lt 0 (length s.pairs) → AreMarked (rows (set S i s)) bits
+  marks-kept_at s is = rw (map-set (λ (t : Held K X). t.pairs) S i s) (AreMarked-kept (rows S) bits marks i row-below s.pairs is)
+
+-- the same, of the slot of a key
+module _ {K X : Type 0} (number : K → ℕ) (S : List (Held K X)) (h : Held K X) (i : ℕ) (k : K) (at : IsSlot number S h i k) (bits : List Bool) (marks : AreMarked (rows S) bits) where
+  pub marked-here : marked bits i ≡ nat_lt 0 (length h.pairs)
+  marked-here = marked-at S bits marks i (within number S h i k at) h at.here
+
+  pub marks-set : (s : Held K X) (b : Bool) → b ≡ nat_lt 0 (length s.pairs) → AreMarked (rows (set S i s)) (set bits i b)
+  marks-set = marks-set_at S bits marks i (within number S h i k at)
+
+  pub marks-kept : (s : Held K X) → nat_lt 0 (length h.pairs) ≡ nat_lt 0 (length s.pairs) → AreMarked (rows (set S i s)) bits
+  marks-kept s is = marks-kept_at S bits marks i (within number S h i k at) s (marked-here ∙ is)
+
+  -- there is a mark for it
+  pub mark-below : i < length bits
+  mark-below = place-below S bits marks i (within number S h i k at)
+
+-- the marked places are places of slots
+pub places-within : {K X : Type 0} (S : List (Held K X)) (bits : List Bool) → AreMarked (rows S) bits → All (λ place. place < length S) (marked_places bits)
+places-within S bits marks = λ k d lt.
+    let place = get_or (marked_places bits) k d in
+    let is = (All-marked_places bits k d lt).1 in
+    let row = ltb-true 0 (length (get_or (rows S) place [])) (sym (marks.own place) ∙ is) in
+    elim (cases_lt place (length S)) as (λ _. place < length S) [
+      | inl below ↦ below
+      | inr past ↦ (let none = get_or_past (rows S) place [] (omega (arith, past, length-rows S)) in let e = ap length none in omega (arith, row, e))
+    ]
+
+-- a number that a run keeps is found among those that it keeps
+kept-found : (test : ℕ → Bool) (i a n : ℕ) → list_any (λ j. j == i) (filter test (range_with_len a n)) ≡ false → a ≤ i → i < a + n → test i ≡ false
+kept-found test i a zero missed from below = absurd (omega (arith, from, below))
+kept-found test i a (suc n) missed from below = elim (cases_eq a i) as (λ _. test i ≡ false) [
+  | inl q ↦ rw (← q) (elim (cases_Bool (test a)) as (λ _. test a ≡ false) [
+    | inl is ↦ (let hit : (a == i) ≡ true = eq-eqb a i q in let no : true ≡ false = simp (is, hit) at missed in cc)
+    | inr is ↦ is
+  ])
+  | inr apart ↦ (let other : (a == i) ≡ false = ne_eqb a i apart in
+      let rest : list_any (λ j. j == i) (filter test (range_with_len (a + 1) n)) ≡ false = elim (cases_Bool (test a)) as (λ _. list_any (λ j. j == i) (filter test (range_with_len (a + 1) n)) ≡ false) [
+        | inl is ↦ simp (is, other) at missed
+        | inr is ↦ simp is at missed
+      ] in
+      kept-found test i (a + 1) n rest (let ne = apart in grind (arith, from, ne)) (omega (arith, below)))
+]
+
+-- a row whose place isn't among the marked ones holds no pair
+pub row-unplaced : {P : Type 0} (R : List (List P)) (marks : List Bool) → AreMarked R marks → (i : ℕ) → list_any (λ j. j == i) (marked_places marks) ≡ false → get_or R i [] ≡ []
+row-unplaced R marks are i missed = row-none (get_or R i []) (elim (cases_lt i (length marks)) as (λ _. nat_lt 0 (length (get_or R i [])) ≡ false) [
+  | inl below ↦ sym (are.own i) ∙ kept-found (marked marks) i 0 (length marks) missed (omega arith) (omega (arith, below))
+  | inr past ↦ sym (are.own i) ∙ get_or_past marks i false past
+])
+
+-- empty slots, and as many places without a mark
+pub IsMarkedTable-empty : {K X : Type 0} (number : K → ℕ) (S : List (Held K X)) (C : ℕ) → IsCapacity C → rows S ≡ replicate C [] → IsMarkedTable number S (replicate (64 * ((C + 63) / 64)) false)
+IsMarkedTable-empty number S C capacity empty =
+    let rows-len : length (rows S) ≡ C = ap length empty ∙ length-replicate C [] in
+    let len : length S ≡ C = sym (length-rows S) ∙ rows-len in
+    let none : (i : ℕ) → get_or (rows S) i [] ≡ [] = λ i. rw empty (get_or-no_pairs C i) in
+    record {
+      table = IsTable-empty number S (rw len capacity) (λ i _. none i);
+      marks = AreMarked-none (rows S) C rows-len none;
+    }
+
+-- slots that are ready for keys hold no pair yet
+pub AreMarked-ready : {K X : Type 0} (number : K → ℕ) (ks : List K) (C : ℕ) (S : List (Held K X)) → IsReady number ks C S → AreMarked (rows S) (replicate (64 * ((C + 63) / 64)) false)
+AreMarked-ready number ks C S ready =
+    let long : length (rows S) ≡ C = length-rows S ∙ ready.len in
+    AreMarked-none (rows S) C long (λ i. elim (cases_lt i C) as (λ _. get_or (rows S) i [] ≡ []) [
+      | inl below ↦ ready.empty i below
+      | inr past ↦ get_or_past (rows S) i [] (omega (arith, past, long))
+    ])
+
+-- rows without pairs, joined
+pub joined-emptied : {P : Type 0} (R : List (List P)) → ((i : ℕ) → get_or R i [] ≡ []) → joined R ≡ []
+joined-emptied [] empty = refl
+joined-emptied (row ∷ R) empty = rw (empty 0) (joined-emptied R (λ i. empty (suc i)))
+
+-- a table whose slots were emptied, and whose marks were taken away
+pub IsMarkedTable-emptied : {K X : Type 0} (number : K → ℕ) (S T : List (Held K X)) (bits : List Bool) → IsMarkedTable number S bits → length T ≡ length S → ((i : ℕ) → get_or (rows T) i [] ≡ [])
+    → IsMarkedTable number T (replicate (length bits) false)
+IsMarkedTable-emptied number S T bits old len empty = record {
+  table = IsTable-empty number T (rw len old.table.capacity) (λ i _. empty i);
+  marks = record {
+    words = length-replicate (length bits) false ∙ old.marks.words ∙ ap (λ n. 64 * ((n + 63) / 64)) (length-rows S ∙ sym len ∙ sym (length-rows T));
+    own = λ i. marked-replicate (length bits) i ∙ rw (empty i) refl;
+  };
+}

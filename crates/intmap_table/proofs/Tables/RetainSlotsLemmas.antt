@@ -1,0 +1,178 @@
+-- What a closure that is asked about each pair in turn leaves of the slots of a table.
+use Rattle.std.proofs.Common.{◌≡◌, inl, inr, ℕ, zero, suc, ◌+◌, ◌-◌, ◌<◌, ◌≤◌, Bool, true, false, List, [], ◌∷◌, ◌++◌, length, get_or, set, take, drop, refl, sym, ap, ◌∙◌, subst, arith, add-zero, append-nil, append_assoc, length-append, length-set, get_or-set_same, get_or-set_other}
+use Rattle.std.specs.Prelude.{All, nat_lt}
+use Rattle.std.proofs.lemmas.Bool.{cases_eq, cases_lt, ltb-true}
+use Rattle.std.proofs.lemmas.List.{drop-set-lt, take-set, map-set, get_or_past, get_or-drop, take-append-drop}
+use Rattle.std.proofs.lemmas.Grind.{flat_map-append}
+use Rattle.intmap_table.specs.Tables.Bits.{marked}
+use Rattle.intmap_table.specs.Classes.{IsCapacity, slot_number}
+use Rattle.intmap_table.specs.Retaining.{Retains}
+use Rattle.intmap_table.specs.Tables.Slots.{Held, rows, joined, AreMarked, IsTable, IsMarkedTable}
+use Rattle.intmap_table.proofs.Tables.FilledLemmas.{marks-set_at, marks-kept_at, joined-emptied}
+use Rattle.intmap_table.proofs.Tables.MarkedLemmas.{row-none}
+use Rattle.intmap_table.proofs.Tables.PlacesLemmas.{IsNextMark}
+use Rattle.intmap_table.proofs.LeadsLemmas.{Leads, Leads-next, Leads-end}
+use Rattle.intmap_table.proofs.RetainLemmas.{Retains-append, length-Retains, All-Retains}
+use Rattle.intmap_table.proofs.Tables.TableLemmas.{length-rows}
+
+module _ {P : Type 0} where
+  pub joined-drop : (i : ℕ) (R : List (List P)) → joined (drop i R) ≡ get_or R i [] ++ joined (drop (suc i) R)
+  joined-drop zero [] = refl
+  joined-drop zero (row ∷ R) = refl
+  joined-drop (suc i) [] = refl
+  joined-drop (suc i) (row ∷ R) = joined-drop i R
+
+  joined-take : (i : ℕ) (R : List (List P)) → joined (take (suc i) R) ≡ joined (take i R) ++ get_or R i []
+  joined-take zero [] = refl
+  joined-take zero (row ∷ R) = append-nil row
+  joined-take (suc i) [] = refl
+  joined-take (suc i) (row ∷ R) = ap (λ Z. row ++ Z) (joined-take i R) ∙ sym (append_assoc row (joined (take i R)) (get_or R i []))
+
+  -- rows without pairs are passed over
+  pub joined-drop_past : (n i : ℕ) (R : List (List P)) → ((j : ℕ) → i ≤ j → j < i + n → get_or R j [] ≡ []) → joined (drop i R) ≡ joined (drop (i + n) R)
+  joined-drop_past zero i R empty = rw add-zero refl
+  joined-drop_past (suc n) i R empty =
+      let on : suc i + n ≡ i + suc n = omega arith in
+      joined-drop i R ∙ ap (λ row. row ++ joined (drop (suc i) R)) (empty i (omega arith) (omega arith))
+      ∙ joined-drop_past n (suc i) R (λ j le lt. empty j (omega (arith, le)) (omega (arith, lt))) ∙ ap (λ m. joined (drop m R)) on
+
+  -- the same of rows that were passed
+  pub joined-take_past : (n i : ℕ) (R : List (List P)) → ((j : ℕ) → i ≤ j → j < i + n → get_or R j [] ≡ []) → joined (take (i + n) R) ≡ joined (take i R)
+  joined-take_past zero i R empty = rw add-zero refl
+  joined-take_past (suc n) i R empty =
+      let on : i + suc n ≡ suc i + n = omega arith in
+      ap (λ m. joined (take m R)) on ∙ joined-take_past n (suc i) R (λ j le lt. empty j (omega (arith, le)) (omega (arith, lt)))
+      ∙ joined-take i R ∙ ap (λ row. joined (take i R) ++ row) (empty i (omega arith) (omega arith)) ∙ append-nil (joined (take i R))
+
+  -- the rows before a place, and those from there on
+  pub joined-cut : (i : ℕ) (R : List (List P)) → joined R ≡ joined (take i R) ++ joined (drop i R)
+  joined-cut i R = ap joined (sym (take-append-drop i R)) ∙ flat_map-append (λ row. row) (take i R) (drop i R)
+
+  -- where no row holds a pair from place i on
+  pub joined-none : (i : ℕ) (R : List (List P)) → ((j : ℕ) → i ≤ j → get_or R j [] ≡ []) → joined (drop i R) ≡ []
+  joined-none i R empty = joined-emptied (drop i R) (λ j. get_or-drop i R j [] ∙ empty (i + j) (omega arith))
+
+  pub joined-before : (i : ℕ) (R : List (List P)) → ((j : ℕ) → i ≤ j → get_or R j [] ≡ []) → joined (take i R) ≡ joined R
+  joined-before i R empty = sym (joined-cut i R ∙ ap (λ Z. joined (take i R) ++ Z) (joined-none i R empty) ∙ append-nil (joined (take i R)))
+
+-- a table with the pairs of slot i changed
+pub IsTable-set_at : {K X : Type 0} (number : K → ℕ) (S : List (Held K X)) (i : ℕ) (s : Held K X) → IsTable number S → i < length S → All (λ p. slot_number number p.0 (length S) ≡ i) s.pairs → IsTable number (set S i s)
+IsTable-set_at {K} {X} number S i s table below all =
+    let len : length (set S i s) ≡ length S = length-set S i s in
+    let within : i < length (rows S) = omega (arith, below, length-rows S) in
+    let Own : ℕ → ℕ → List (K × X) → Type 0 = λ n j ps. All (λ p. slot_number number p.0 n ≡ j) ps in
+    record {
+      capacity = subst IsCapacity (sym len) table.capacity;
+      in_place = λ j under.
+          let here : Own (length S) j (get_or (set (rows S) i s.pairs) j []) = elim (cases_eq i j) as (λ _. Own (length S) j (get_or (set (rows S) i s.pairs) j [])) [
+            | inl q ↦ subst (λ n. Own (length S) n (get_or (set (rows S) i s.pairs) n [])) q (subst (Own (length S) i) (sym (get_or-set_same (rows S) i s.pairs [] within)) all)
+            | inr apart ↦ subst (Own (length S) j) (sym (get_or-set_other (rows S) i j s.pairs [] (λ q. apart (sym q)))) (table.in_place j (omega (arith, under, len)))
+          ] in
+          subst (λ n. Own n j (get_or (rows (set S i s)) j [])) (sym len) (subst (λ R. Own (length S) j (get_or R j [])) (sym (map-set (λ (t : Held K X). t.pairs) S i s)) here);
+    }
+
+module _ {K X : Type 0} (S : List (Held K X)) (marks : List Bool) (are : AreMarked (rows S) marks) (from : ℕ) where
+  -- a slot without a mark holds no pair
+  pub empty-unmarked : (j : ℕ) → marked marks j ≡ false → get_or (rows S) j [] ≡ []
+  empty-unmarked j not_marked = row-none (get_or (rows S) j []) (sym (are.own j) ∙ not_marked)
+
+  -- the slot at the next mark is one of the slots
+  pub next-within : (place : ℕ) → IsNextMark marks from place → place < length S
+  next-within place next = elim (cases_lt place (length S)) as (λ _. place < length S) [
+    | inl below ↦ below
+    | inr past ↦
+        (let none = ap length (get_or_past (rows S) place [] (omega (arith, past, length-rows S))) in
+        let some = ltb-true 0 (length (get_or (rows S) place [])) (sym (are.own place) ∙ next.is) in absurd (omega (arith, none, some)))
+  ]
+
+  -- slots before the next mark hold no pair
+  pub empty-between : (place : ℕ) → IsNextMark marks from place → (j : ℕ) → from ≤ j → j < place → get_or (rows S) j [] ≡ []
+  empty-between place next j le lt = empty-unmarked j (next.between j le lt)
+
+  -- where there is no mark any more, R went over all
+  pub Leads-all : {F : Type 0} (R : F → K × X → Bool → F → Type 0) (f₀ f : F) (L : List (K × X)) → ((j : ℕ) → from ≤ j → marked marks j ≡ false)
+      → Leads (Retains R) f₀ L f (joined (take from (rows S))) (joined (drop from (rows S))) → Retains R f₀ L (joined (rows S)) f
+  Leads-all R f₀ f L none leads =
+      let empty = λ (j : ℕ) (le : from ≤ j). empty-unmarked j (none j le) in
+      subst (λ Z. Retains R f₀ L Z f) (joined-before from (rows S) empty)
+      (Leads-end (Retains R) f₀ f L (joined (take from (rows S))) (refl, refl) (subst (λ Z. Leads (Retains R) f₀ L f (joined (take from (rows S))) Z) (joined-none from (rows S) empty) leads))
+
+  pub count-all : ((j : ℕ) → from ≤ j → marked marks j ≡ false) → length (joined (take from (rows S))) ≡ length (joined (rows S))
+  count-all none = ap length (joined-before from (rows S) (λ j le. empty-unmarked j (none j le)))
+
+module _ {K X : Type 0} (number : K → ℕ) (S : List (Held K X)) (marks : List Bool) (old : IsMarkedTable number S marks) (from place : ℕ) (next : IsNextMark marks from place) (s : Held K X) where
+  below : place < length S
+  below = next-within S marks old.marks from place next
+
+  within : place < length (rows S)
+  within = omega (arith, below, length-rows S)
+
+  empty : (j : ℕ) → from ≤ j → j < place → get_or (rows S) j [] ≡ []
+  empty = empty-between S marks old.marks from place next
+
+  abbrev row : List (K × X)
+  row = get_or (rows S) place []
+
+  behind : from + (place - from) ≡ place
+  behind = let le = next.behind in omega (arith, le)
+
+  -- with the slot changed, what stood before it and what it holds now
+  pub joined-taken : joined (take (place + 1) (rows (set S place s))) ≡ joined (take from (rows S)) ++ s.pairs
+  joined-taken =
+      let one : place + 1 ≡ suc place = omega arith in
+      let past : joined (take place (rows S)) ≡ joined (take from (rows S)) =
+      rw behind at (joined-take_past (place - from) from (rows S) (λ j le lt. empty j le (omega (arith, lt, behind)))) in
+      (λ i. joined (take (one i) (map-set (λ (t : Held K X). t.pairs) S place s i)))
+      ∙ joined-take place (set (rows S) place s.pairs)
+      ∙ (λ i. joined (take-set (rows S) place s.pairs i) ++ get_or-set_same (rows S) place s.pairs [] within i)
+      ∙ ap (λ Z. Z ++ s.pairs) past
+
+  -- what was left are the pairs that the slot held and those behind it
+  pub joined-left : joined (drop from (rows S)) ≡ row ++ joined (drop (place + 1) (rows (set S place s)))
+  joined-left =
+      let one : suc place ≡ place + 1 = omega arith in
+      let past : joined (drop from (rows S)) ≡ joined (drop place (rows S)) =
+      rw behind at (joined-drop_past (place - from) from (rows S) (λ j le lt. empty j le (omega (arith, lt, behind)))) in
+      let same : drop (suc place) (rows S) ≡ drop (place + 1) (rows (set S place s)) =
+      sym (drop-set-lt (suc place) (rows S) place s.pairs (omega arith)) ∙ (λ i. drop (one i) (sym (map-set (λ (t : Held K X). t.pairs) S place s) i)) in
+      past ∙ joined-drop place (rows S) ∙ ap (λ R. row ++ joined R) same
+
+  module _ {F : Type 0} (R : F → K × X → Bool → F → Type 0) (f h : F) (run : Retains R f row s.pairs h) where
+    -- R goes over the pairs of the slot
+    pub Leads-slot : (f₀ : F) (L : List (K × X)) → Leads (Retains R) f₀ L f (joined (take from (rows S))) (joined (drop from (rows S)))
+        → Leads (Retains R) f₀ L h (joined (take (place + 1) (rows (set S place s)))) (joined (drop (place + 1) (rows (set S place s))))
+    Leads-slot f₀ L leads =
+        let left = joined (drop (place + 1) (rows (set S place s))) in
+        subst (λ Z. Leads (Retains R) f₀ L h Z left) (sym joined-taken)
+        (Leads-next (Retains R) (Retains-append R) f₀ f h L (joined (take from (rows S))) row s.pairs left (subst (λ Z. Leads (Retains R) f₀ L f (joined (take from (rows S))) Z) joined-left leads) run)
+
+    -- no more pairs are left
+    pub fewer : length (joined (rows (set S place s))) ≤ length (joined (rows S))
+    fewer =
+        let before = ap length (joined-cut from (rows S)) ∙ length-append (joined (take from (rows S))) (joined (drop from (rows S))) in
+        let after = ap length (joined-cut (place + 1) (rows (set S place s))) ∙ length-append (joined (take (place + 1) (rows (set S place s)))) (joined (drop (place + 1) (rows (set S place s)))) in
+        let taken = ap length joined-taken ∙ length-append (joined (take from (rows S))) s.pairs in
+        let left = ap length joined-left ∙ length-append row (joined (drop (place + 1) (rows (set S place s)))) in
+        let stay = length-Retains R f h row s.pairs run in
+        omega (arith, before, after, taken, left, stay)
+
+    -- so many pairs stay up to the slot
+    pub count-slot : (n : ℕ) → n ≡ length (joined (take from (rows S))) → n + length s.pairs ≡ length (joined (take (place + 1) (rows (set S place s))))
+    count-slot n count = let taken = ap length joined-taken ∙ length-append (joined (take from (rows S))) s.pairs in omega (arith, taken, count)
+
+    -- which are no more than there were
+    pub few-slot : length (joined (take (place + 1) (rows (set S place s)))) ≤ length (joined (rows S))
+    few-slot =
+        let after = ap length (joined-cut (place + 1) (rows (set S place s))) ∙ length-append (joined (take (place + 1) (rows (set S place s)))) (joined (drop (place + 1) (rows (set S place s)))) in
+        omega (arith, after, fewer)
+
+    table : IsTable number (set S place s)
+    table = IsTable-set_at number S place s old.table below (All-Retains R (λ p. slot_number number p.0 (length S) ≡ place) f h row s.pairs run (old.table.in_place place below))
+
+    -- the slot was emptied, and its mark taken away
+    pub IsMarkedTable-emptied_at : false ≡ nat_lt 0 (length s.pairs) → IsMarkedTable number (set S place s) (set marks place false)
+    IsMarkedTable-emptied_at none = record { table = table; marks = marks-set_at S marks old.marks place below s false none }
+
+    -- the slot holds a pair, as before
+    pub IsMarkedTable-kept_at : true ≡ nat_lt 0 (length s.pairs) → IsMarkedTable number (set S place s) marks
+    IsMarkedTable-kept_at some = record { table = table; marks = marks-kept_at S marks old.marks place below s (next.is ∙ some) }

@@ -1,0 +1,187 @@
+-- What calls of a table do to its slots, read as its walk.
+use Rattle.std.proofs.Common.{◌≡◌, ◌≢◌, inl, inr, ℕ, suc, ◌<◌, cond, List, [], ◌∷◌, ◌++◌, length, get_or, set, None, refl, sym, ap, ◌∙◌, subst, arith, zero-add, length-set, get_or-set_same, get_or-set_other}
+use Rattle.std.specs.Prelude.{All, count_by, nat_lt}
+use Rattle.std.specs.List.{flat_map, range_with_len}
+use Rattle.std.proofs.lemmas.List.{set-get_or, get_or-map, map-set, length-map}
+use Rattle.std.proofs.lemmas.List.Elements.{All-push, All-nil}
+use Rattle.std.proofs.lemmas.Bool.{cases_eq, lt-ltb}
+use Rattle.std.proofs.lemmas.List.Sums.{sum_by-cons}
+use Rattle.intmap_table.specs.Classes.{IsCapacity, slot_number, same_key}
+use Rattle.intmap_table.specs.Bindings.{swap_out, value_of, take_key, put_pair}
+use Rattle.intmap_table.specs.Walk.{slot_of, walk_of}
+use Rattle.intmap_table.specs.Reach.{through_first, class_size, reach}
+use Rattle.intmap_table.specs.Figures.{load_of}
+use Rattle.intmap_table.specs.Tables.Slots.{Held, rows, joined, IsTable}
+use Rattle.intmap_table.proofs.SlotNumberLemmas.{agrees-slot_number, slot_number-below}
+use Rattle.intmap_table.proofs.Tables.SwapOutLemmas.{any}
+use Rattle.intmap_table.proofs.ClassLemmas.{class-joined, flat_map-rows}
+use Rattle.intmap_table.proofs.DistinctLemmas.{All-swap_out}
+use Rattle.intmap_table.proofs.PositionLemmas.{swap_out-none, position-from_none}
+use Rattle.intmap_table.proofs.WalkLemmas.{slot_of-take_key, slot_of-take_key-other, slot_of-put_pair, slot_of-put_pair-other, value_of-slot_of, class_size-slot_of, reach-slot_of}
+use Rattle.intmap_table.proofs.LoadLemmas.{is_filled, load_of-rows}
+
+module _ {K X : Type 0} where
+  pub length-rows : (S : List (Held K X)) → length (rows S) ≡ length S
+  length-rows S = length-map S (λ h. h.pairs)
+
+  pub get_or-rows : (S : List (Held K X)) (i : ℕ) (d : Held K X) → i < length S → get_or (rows S) i [] ≡ (get_or S i d).pairs
+  get_or-rows S i d below = get_or-map (λ h. h.pairs) S i d [] below
+
+  nat_lt-length : (ps : List (K × X)) → nat_lt 0 (length ps) ≡ is_filled ps
+  nat_lt-length [] = refl
+  nat_lt-length (p ∷ ps) = lt-ltb 0 (suc (length ps)) (omega arith)
+
+  -- the rows that hold a pair
+  pub count_by-filled : (R : List (List (K × X))) → count_by (λ row. nat_lt 0 (length row)) R ≡ count_by is_filled R
+  count_by-filled [] = refl
+  count_by-filled (ps ∷ R) =
+      let first = sum_by-cons (λ (ps : List (K × X)). cond (nat_lt 0 (length ps)) 1 0) ps R in
+      let last = sum_by-cons (λ (ps : List (K × X)). cond (is_filled ps) 1 0) ps R in
+      let one : ◌≡◌ {A = ℕ} (cond (nat_lt 0 (length ps)) 1 0) (cond (is_filled ps) 1 0) = ap (λ b. cond b 1 0) (nat_lt-length ps) in
+      let rest = count_by-filled R in
+      omega (arith, first, last, one, rest)
+
+module _ {K X : Type 0} (number : K → ℕ) where
+  -- a list whose slots are these rows has them, joined, as its walk
+  pub walk_of-rows : (L : List (K × X)) (C : ℕ) (T : List (Held K X)) → C ≡ length T → ((i : ℕ) → i < C → slot_of number L C i ≡ get_or (rows T) i []) → walk_of number L C ≡ joined (rows T)
+  walk_of-rows L C T len same =
+      let n : C ≡ length (rows T) = len ∙ sym (length-rows T) in
+      ap (λ m. flat_map (slot_of number L C) (range_with_len 0 m)) n
+      ∙ flat_map-rows (slot_of number L C) 0 (rows T) (λ i below. let w : i < C = omega (arith, below, n) in rw zero-add (same i w))
+
+  -- a table of empty slots
+  pub IsTable-empty : (S : List (Held K X)) → IsCapacity (length S) → ((i : ℕ) → i < length S → get_or (rows S) i [] ≡ []) → IsTable number S
+  IsTable-empty S cap empty = record {
+    capacity = cap;
+    in_place = λ i below.
+        let P : List (K × X) → Type 0 = λ row. All (λ p. slot_number number p.0 (length S) ≡ i) row in
+        subst P (sym (empty i below)) (All-nil (λ p. slot_number number p.0 (length S) ≡ i));
+  }
+
+module _ {K X : Type 0} (number : K → ℕ) (S : List (Held K X)) (table : IsTable number S) where
+  -- a slot of the walk is its row
+  pub slot_of-joined : (i : ℕ) → slot_of number (joined (rows S)) (length S) i ≡ get_or (rows S) i []
+  slot_of-joined i =
+      rw zero-add at (class-joined (λ p. slot_number number p.0 (length S)) 0 i (rows S)
+      (λ j below. let w : j < length S = omega (arith, below, length-rows S) in rw zero-add (table.in_place j w)))
+
+  -- the walk of a table is its own walk
+  pub walk_of-joined : walk_of number (joined (rows S)) (length S) ≡ joined (rows S)
+  walk_of-joined = walk_of-rows number (joined (rows S)) (length S) S refl (λ i _. slot_of-joined i)
+
+  -- the slots that hold a pair are as many as the residues of the keys
+  pub load_of-joined : load_of number (joined (rows S)) (length S) ≡ count_by is_filled (rows S)
+  load_of-joined =
+      load_of-rows number (length S) (agrees-slot_number number (length S) table.capacity) (λ k. slot_number-below number k (length S) table.capacity)
+      (rows S) (joined (rows S)) (sym (length-rows S)) (λ i _. slot_of-joined i)
+
+  -- with slot i changed, the walk is that of a list that differs in slot i alone
+  pub joined-set : (i : ℕ) (h : Held K X) (L : List (K × X)) → i < length S
+      → slot_of number L (length S) i ≡ h.pairs → ((j : ℕ) → i ≢ j → slot_of number L (length S) j ≡ slot_of number (joined (rows S)) (length S) j)
+      → joined (rows (set S i h)) ≡ walk_of number L (length S)
+  joined-set i h L below here there =
+      let within : i < length (rows S) = omega (arith, below, length-rows S) in
+      let row : (j : ℕ) → slot_of number L (length S) j ≡ get_or (set (rows S) i h.pairs) j [] = λ j.
+      elim (cases_eq i j) as (λ _. slot_of number L (length S) j ≡ get_or (set (rows S) i h.pairs) j []) [
+        | inl q ↦ rw (← q) (here ∙ sym (get_or-set_same (rows S) i h.pairs [] within))
+        | inr apart ↦ there j apart ∙ slot_of-joined j ∙ sym (get_or-set_other (rows S) i j h.pairs [] (λ q. apart (sym q)))
+      ] in
+      sym (walk_of-rows number L (length S) (set S i h) (sym (length-set S i h)) (λ j _.
+      row j ∙ ap (λ R. get_or R j []) (sym (map-set (λ (s : Held K X). s.pairs) S i h))))
+
+-- h is slot i of the table, and k belongs there
+pub record IsSlot {K X : Type 0} (number : K → ℕ) (S : List (Held K X)) (h : Held K X) (i : ℕ) (k : K) : Type 0 where
+  pub table : IsTable number S
+  pub slot : i ≡ slot_number number k (length S)
+  pub here : h ≡ get_or S i h
+
+module _ {K X : Type 0} (number : K → ℕ) (S : List (Held K X)) (h : Held K X) (i : ℕ) (k : K) (at : IsSlot number S h i k) where
+  cap : IsCapacity (length S)
+  cap = at.table.capacity
+
+  pub within : i < length S
+  within = let b = slot_number-below number k (length S) cap in omega (arith, b, at.slot)
+
+  -- the row of the slot
+  pub row-here : h.pairs ≡ get_or (rows S) i []
+  row-here = ap (λ (s : Held K X). s.pairs) at.here ∙ sym (get_or-rows S i h within)
+
+  -- a slot that keeps its pairs keeps the rows
+  pub rows-set : (s : Held K X) → s.pairs ≡ h.pairs → rows (set S i s) ≡ rows S
+  rows-set s same =
+      map-set (λ (t : Held K X). t.pairs) S i s ∙ ap (λ ps. set (rows S) i ps) (same ∙ row-here) ∙ set-get_or (rows S) i []
+
+  pub slot_of-here : slot_of number (joined (rows S)) (length S) i ≡ h.pairs
+  slot_of-here = slot_of-joined number S at.table i ∙ sym row-here
+
+  pub reach-here : reach number (joined (rows S)) (length S) k ≡ length (through_first (λ p. same_key number k p.0) h.pairs)
+  reach-here =
+      reach-slot_of number (length S) cap (joined (rows S)) k i (sym at.slot)
+      ∙ ap (λ ps. length (through_first (λ p. same_key number k p.0) ps)) slot_of-here
+
+  pub class_size-here : class_size number (joined (rows S)) (length S) k ≡ length h.pairs
+  class_size-here = class_size-slot_of number (length S) cap (joined (rows S)) k i (sym at.slot) ∙ ap length slot_of-here
+
+  pub value_of-here : value_of number (joined (rows S)) k ≡ value_of number h.pairs k
+  value_of-here =
+      sym (value_of-slot_of number (length S) (joined (rows S)) k)
+      ∙ ap (λ n. value_of number (slot_of number (joined (rows S)) (length S) n) k) (sym at.slot)
+      ∙ ap (λ ps. value_of number ps k) slot_of-here
+
+  slot_of-taken : slot_of number (take_key number (joined (rows S)) (length S) k) (length S) i ≡ swap_out (λ p. same_key number k p.0) any h.pairs
+  slot_of-taken =
+      slot_of-take_key number (length S) cap (joined (rows S)) k i (sym at.slot) ∙ ap (swap_out (λ p. same_key number k p.0) any) slot_of-here
+
+  -- with the slot changed as a taken key changes it, the walk is that without the key
+  pub walk-taken : (s : Held K X) → s.pairs ≡ swap_out (λ p. same_key number k p.0) any h.pairs → joined (rows (set S i s)) ≡ walk_of number (take_key number (joined (rows S)) (length S) k) (length S)
+  walk-taken s is =
+      joined-set number S at.table i s (take_key number (joined (rows S)) (length S) k) within (slot_of-taken ∙ sym is)
+      (λ j apart. slot_of-take_key-other number (length S) cap (joined (rows S)) k j (λ q. apart (at.slot ∙ q)))
+
+  -- with the slot changed as a put pair changes it, the walk is that with the pair
+  pub walk-put : (s : Held K X) (v : X) → s.pairs ≡ swap_out (λ p. same_key number k p.0) any h.pairs ++ (k, v) ∷ [] → joined (rows (set S i s)) ≡ walk_of number (put_pair number (joined (rows S)) (length S) k v) (length S)
+  walk-put s v is =
+      joined-set number S at.table i s (put_pair number (joined (rows S)) (length S) k v) within
+      (slot_of-put_pair number (length S) cap (joined (rows S)) k v i (sym at.slot) ∙ ap (λ ps. swap_out (λ p. same_key number k p.0) any ps ++ (k, v) ∷ []) slot_of-here ∙ sym is)
+      (λ j apart. slot_of-put_pair-other number (length S) cap (joined (rows S)) k v j (λ q. apart (at.slot ∙ q)))
+
+  -- where the key isn't bound, no pair of the slot is taken
+  pub swap_out-missing : value_of number h.pairs k ≡ None → swap_out (λ p. same_key number k p.0) any h.pairs ≡ h.pairs
+  swap_out-missing none = swap_out-none (λ (p : K × X). same_key number k p.0) any h.pairs (position-from_none (same_key number k) h.pairs none)
+
+  -- with the pair of a new key at its end, the walk is that with the pair
+  pub walk-added : (s : Held K X) (v : X) → value_of number (joined (rows S)) k ≡ None → s.pairs ≡ h.pairs ++ (k, v) ∷ [] → joined (rows (set S i s)) ≡ walk_of number (put_pair number (joined (rows S)) (length S) k v) (length S)
+  walk-added s v none left =
+      walk-put s v (left ∙ ap (λ ps. ps ++ (k, v) ∷ []) (sym (swap_out-missing (sym value_of-here ∙ none))))
+
+  -- each pair belongs to the slot
+  abbrev pub Belong : List (K × X) → Type 0
+  Belong ps = All (λ p. slot_number number p.0 (length S) ≡ i) ps
+
+  pub Belong-here : Belong h.pairs
+  Belong-here = subst Belong (sym row-here) (at.table.in_place i within)
+
+  pub Belong-taken : Belong (swap_out (λ p. same_key number k p.0) any h.pairs)
+  Belong-taken = All-swap_out (λ p. slot_number number p.0 (length S) ≡ i) (λ p. same_key number k p.0) any h.pairs Belong-here
+
+  pub Belong-push : (ps : List (K × X)) (v : X) → Belong ps → Belong (ps ++ (k, v) ∷ [])
+  Belong-push ps v all = All-push (λ p. slot_number number p.0 (length S) ≡ i) ps (k, v) all (sym at.slot)
+
+  -- the table with the slot changed
+  pub IsTable-set : (s : Held K X) → Belong s.pairs → IsTable number (set S i s)
+  IsTable-set s all =
+      let len : length (set S i s) ≡ length S = length-set S i s in
+      let below : i < length (rows S) = omega (arith, within, length-rows S) in
+      record {
+        capacity = subst IsCapacity (sym len) cap;
+        in_place = λ j w.
+            let P : List (K × X) → Type 0 = λ ps. All (λ p. slot_number number p.0 (length S) ≡ j) ps in
+            let here : P (get_or (set (rows S) i s.pairs) j []) =
+            elim (cases_eq i j) [
+              | inl q ↦ (let Q : ℕ → Type 0 = λ n. All (λ p. slot_number number p.0 (length S) ≡ n) (get_or (set (rows S) i s.pairs) n []) in
+                  subst Q q (subst Belong (sym (get_or-set_same (rows S) i s.pairs [] below)) all))
+              | inr apart ↦ subst P (sym (get_or-set_other (rows S) i j s.pairs [] (λ q. apart (sym q)))) (at.table.in_place j (omega (arith, w, len)))
+            ] in
+            let R : ℕ → List (List (K × X)) → Type 0 = λ n T. All (λ p. slot_number number p.0 n ≡ j) (get_or T j []) in
+            subst (λ n. R n (rows (set S i s))) (sym len) (subst (R (length S)) (sym (map-set (λ (t : Held K X). t.pairs) S i s)) here);
+      }

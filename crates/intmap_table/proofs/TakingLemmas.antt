@@ -1,0 +1,43 @@
+-- What a closure takes that is called at each element of a list in turn.
+use Rattle.std.proofs.Common.{ℕ, ◌+◌, ◌<◌, List, [], ◌∷◌, ◌++◌, length, get_or, drop, map, refl, ap, ◌∙◌, subst, append_assoc}
+use Rattle.std.proofs.lemmas.List.{map-append, drop_more}
+use Rattle.std.specs.List.{FoldsTo}
+use Rattle.intmap_table.specs.Taking.{Passes, TakesEach}
+
+module _ {F X Y : Type 0} (R : F → X → Y → F → Type 0) (Q : F → X → Type 0) where
+  -- it takes the first one
+  pub TakesEach-first : (f : F) (x : X) (L : List X) → TakesEach R Q f (x ∷ L) → Q f x
+  TakesEach-first f x L takes = takes.at [] L x f refl refl
+
+  -- and behind the call there the others
+  pub TakesEach-next : (f g : F) (x : X) (y : Y) (L : List X) → TakesEach R Q f (x ∷ L) → R f x y g → TakesEach R Q g L
+  TakesEach-next f g x y L takes call = record { at = λ before after z h is passed. takes.at (x ∷ before) after z h (ap (λ Z. x ∷ Z) is) (g, (y, call), passed) }
+
+  -- it takes each of the front
+  pub TakesEach-front : (f : F) (L L' : List X) → TakesEach R Q f (L ++ L') → TakesEach R Q f L
+  TakesEach-front f L L' takes = record { at = λ before after x g is passed. takes.at before (after ++ L') x g (ap (λ Z. Z ++ L') is ∙ append_assoc before (x ∷ after) L') passed }
+
+  -- and behind the calls there each of the rest
+  pub TakesEach-behind : (f g : F) (L L' : List X) → TakesEach R Q f (L ++ L') → FoldsTo (Passes R) f L g → TakesEach R Q g L'
+  TakesEach-behind f g [] L' takes passed = subst (λ h. TakesEach R Q h L') passed takes
+  TakesEach-behind f g (x ∷ L) L' takes passed = TakesEach-behind passed.0 g L L' (TakesEach-next f passed.0 x passed.1.0 (L ++ L') takes passed.1.1) passed.2
+
+  -- behind the calls at the first i it takes the one at place i, and behind the call there the others
+  module _ (f : F) (L : List X) (i : ℕ) (d : X) (below : i < length L) (takes : TakesEach R Q f (drop i L)) where
+    cut : TakesEach R Q f (get_or L i d ∷ drop (i + 1) L)
+    cut = subst (TakesEach R Q f) (drop_more L i d below) takes
+
+    pub TakesEach-at : Q f (get_or L i d)
+    TakesEach-at = TakesEach-first f (get_or L i d) (drop (i + 1) L) cut
+
+    pub TakesEach-past : (g : F) (y : Y) → R f (get_or L i d) y g → TakesEach R Q g (drop (i + 1) L)
+    TakesEach-past g y call = TakesEach-next f g (get_or L i d) y (drop (i + 1) L) cut call
+
+-- elements that are seen through h, and answers that are seen through e
+module _ {F X Y X' Y' : Type 0} (R : F → X' → Y' → F → Type 0) (Q : F → X' → Type 0) (h : X → X') (e : Y → Y') where
+  FoldsTo-map : (f g : F) (L : List X) → FoldsTo (Passes (λ f x y g. R f (h x) (e y) g)) f L g → FoldsTo (Passes R) f (map h L) g
+  FoldsTo-map f g [] passed = passed
+  FoldsTo-map f g (x ∷ L) passed = (passed.0, (e passed.1.0, passed.1.1), FoldsTo-map passed.0 g L passed.2)
+
+  pub TakesEach-map : (f : F) (L : List X) → TakesEach R Q f (map h L) → TakesEach (λ f x y g. R f (h x) (e y) g) (λ f x. Q f (h x)) f L
+  TakesEach-map f L takes = record { at = λ before after x g is passed. takes.at (map h before) (map h after) (h x) g (ap (map h) is ∙ map-append h before (x ∷ after)) (FoldsTo-map f g before passed) }

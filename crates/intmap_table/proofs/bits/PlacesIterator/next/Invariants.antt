@@ -1,0 +1,12 @@
+use Rattle.std.proofs.Common.{◌≡◌, ◌∷◌, ◌+◌, ◌*◌, ◌^◌, ◌≤◌, length}
+use Rattle.intmap_table.specs.Tables.Bits.{places_from}
+use Rattle.intmap_table.proofs.bits.PlacesIterator.next.Given as goal
+
+abbrev pub invariant-loop-self : goal.invariant-loop-self
+invariant-loop-self l = record {
+  left : places_from l.self-inside.base (l.self-inside.word ∷ l.self-inside.words.now) ≡ l.fn.self;
+  few : l.self-inside.base + 64 * length l.self-inside.words.now ≤ 2 ^ 63;
+}
+
+abbrev pub decreases-loop-self : goal.decreases-loop-self
+decreases-loop-self l = length l.self-inside.words.now

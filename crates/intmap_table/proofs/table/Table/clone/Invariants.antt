@@ -1,0 +1,11 @@
+use Rattle.std.proofs.Common.{◌≡◌, length, take, vec_len, vec_capacity}
+use Rattle.std.specs.List.{AllZip}
+use Rattle.intmap_table.proofs.Tables.CloneLemmas.{IsSlotClone}
+use Rattle.intmap_table.proofs.table.Table.clone.Given as goal
+
+abbrev pub invariant-loop-slot : goal.invariant-loop-slot
+invariant-loop-slot g l = record {
+  pushed : vec_len l.slots ≡ l.slot-index;
+  room : vec_capacity l.slots ≡ length l.slot-items;
+  slots : AllZip (IsSlotClone g.X.Clone.is_clone) (take l.slot-index l.slot-items) l.slots.items;
+}

@@ -1,0 +1,44 @@
+use Rattle.std.proofs.Common.{◌≡◌, ◌<◌, ◌∙◌, inl, inr, [], false, length, get_or, set, refl, sym, arith, length-set, get_or-set_same, get_or-set_other}
+use Rattle.std.specs.Prelude.{◌==◌}
+use Rattle.std.proofs.lemmas.Bool.{cases_eq, ne_eqb}
+use Rattle.std.proofs.lemmas.List.{map-set}
+use Rattle.std.proofs.lemmas.List.Elements.{All-head, All-tail}
+use Rattle.intmap_table.specs.Tables.Slots.{rows}
+use Rattle.intmap_table.proofs.Tables.FilledLemmas.{places-within, row-unplaced}
+use Rattle.intmap_table.proofs.Tables.TableLemmas.{length-rows}
+use Rattle.intmap_table.proofs.table.clear_slots.Goals as goal
+use Rattle.intmap_table.proofs.table.clear_slots.Goals.{In-Some}
+
+pub loop-place-init : goal.loop-place-init
+loop-place-init g c =
+    rw (c.into_iter-place-iterator.ensures.into_iter_gives ∙ c.iter-place-items.ensures) (record {
+      len = refl;
+      within = places-within c.args.slots.now.items c.args.bits.now c.requires;
+      empty = row-unplaced (rows c.args.slots.now.items) c.args.bits.now c.requires;
+    })
+
+-- the place at hand is that of a slot
+here : (g : _) (c : In-Some g) → c.in-Some.place < length c.loop-place.slots.items
+here g c = All-head (λ place. place < length c.loop-place.slots.items) c.in-Some.place c.next.new.self (rw c.in-Some.ensures.steps at c.loop-place.invariant.within)
+
+pub index_mut-requires : goal.index_mut-requires
+index_mut-requires g c =
+    let below = here g (goal.at.index_mut-requires g c).In-Some in let len = c.loop-place.slots.ok.0 in omega (arith, below, len)
+
+pub loop-place-preserved : goal.loop-place-preserved
+loop-place-preserved g c =
+    let loop = c.loop-place.invariant in let slots = c.loop-place.slots.items in let place = c.in-Some.place in let s = c.clear.new.self in
+    let below = here g (goal.at.loop-place-preserved g c).In-Some in
+    let len = length-set slots place s in
+    record {
+      len = len ∙ loop.len;
+      within = rw len (All-tail (λ i. i < length slots) place c.next.new.self (rw c.in-Some.ensures.steps at loop.within));
+      empty = λ i missed. rw (map-set (λ h. h.pairs) slots place s) (elim (cases_eq place i) as (λ _. get_or (set (rows slots) place s.pairs) i [] ≡ []) [
+        | inl q ↦ (let within = length-rows slots in rw (← q) (get_or-set_same (rows slots) place s.pairs [] (omega (arith, below, within)) ∙ c.clear.ensures))
+        | inr apart ↦ (let other : (place == i) ≡ false = ne_eqb place i apart in
+            get_or-set_other (rows slots) place i s.pairs [] (λ q. apart (sym q)) ∙ loop.empty i (rw c.in-Some.ensures.steps (simp other missed)))
+      ]);
+    }
+
+pub returns-clause-empty : goal.returns-clause-empty
+returns-clause-empty g c i = c.loop-place.invariant.empty i (rw c.in-None.ensures.steps.0 refl)

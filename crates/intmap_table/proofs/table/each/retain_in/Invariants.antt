@@ -1,0 +1,14 @@
+use Rattle.std.proofs.Common.{◌≡◌, ◌≤◌, take, drop, vec_len}
+use Rattle.intmap_table.specs.Tables.Kept.{KeepsStored, TakesStored}
+use Rattle.intmap_table.specs.Retaining.{Retains}
+use Rattle.intmap_table.specs.Taking.{TakesEach}
+use Rattle.intmap_table.proofs.LeadsLemmas.{Leads}
+use Rattle.intmap_table.proofs.table.each.retain_in.Given as goal
+
+abbrev pub invariant-loop-i : goal.invariant-loop-i
+invariant-loop-i g l = record {
+  callable : TakesEach (KeepsStored g.F.FnMut) (TakesStored g.F.FnMut) l.f (drop l.i l.pairs.items);
+  len : vec_len l.pairs ≡ vec_len l.initial.pairs;
+  before : l.kept ≤ l.i;
+  leads : Leads (Retains (KeepsStored g.F.FnMut)) l.initial.f l.initial.pairs.items l.f (take l.kept l.pairs.items) (drop l.i l.pairs.items);
+}

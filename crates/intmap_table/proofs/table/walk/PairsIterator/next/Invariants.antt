@@ -1,0 +1,14 @@
+use Rattle.std.proofs.Common.{◌≡◌, ◌<◌, ◌++◌, length}
+use Rattle.std.specs.Prelude.{All}
+use Rattle.std.specs.Option.{option_copied}
+use Rattle.intmap_table.specs.Tables.Slots.{all_pairs, rows, pairs_at}
+use Rattle.intmap_table.proofs.table.walk.PairsIterator.next.Given as goal
+
+abbrev pub invariant-loop-pair : goal.invariant-loop-pair
+invariant-loop-pair g l = record {
+  pairs : all_pairs (option_copied l.self-inside.first) l.self-inside.rest.now ++ pairs_at (rows l.self-inside.slots.now) l.self-inside.places ≡ l.fn.self;
+  within : All (λ place. place < length l.self-inside.slots.now) l.self-inside.places;
+}
+
+abbrev pub decreases-loop-pair : goal.decreases-loop-pair
+decreases-loop-pair g l = length l.self-inside.places

@@ -1,0 +1,82 @@
+-- Where pairs stand once a value was written: each where it stood.
+use Rattle.std.proofs.Common.{◌≡◌, ℕ, Bool, true, false, cond, zero, suc, List, [], ◌∷◌, Option, Some, None, IsSome, refl, sym, ap, ◌∙◌, subst}
+use Rattle.std.specs.Prelude.{◌==◌, position}
+use Rattle.std.specs.List.{position_or_len}
+use Rattle.std.proofs.lemmas.List.{length-map}
+use Rattle.intmap_table.specs.Classes.{slot_number, same_key}
+use Rattle.intmap_table.specs.Bindings.{write_value}
+use Rattle.intmap_table.specs.Walk.{slot_of}
+use Rattle.intmap_table.specs.Locations.{IsAt, IsFound, key_at, the_key}
+use Rattle.intmap_table.specs.declared.table.locate.Location.{Location}
+
+module _ {K V : Type 0} (number : K → ℕ) where
+  slot_of-write_step : (p : K × V) (L : List (K × V)) (C : ℕ) (k : K) (v : V) (i : ℕ) (s t : Bool) → same_key number k p.0 ≡ s → (slot_number number p.0 C == i) ≡ t
+      → slot_of number (write_value number L k v) C i ≡ write_value number (slot_of number L C i) k v
+      → slot_of number (write_value number (p ∷ L) k v) C i ≡ write_value number (slot_of number (p ∷ L) C i) k v
+  slot_of-write_step p L C k v i true true e f rest = simp (e, f, rest)
+  slot_of-write_step p L C k v i true false e f rest = simp (e, f, rest)
+  slot_of-write_step p L C k v i false true e f rest = simp (e, f, rest)
+  slot_of-write_step p L C k v i false false e f rest = simp (e, f, rest)
+
+  -- a slot of a list with a value written is the slot with it written
+  pub slot_of-write_value : (L : List (K × V)) (C : ℕ) (k : K) (v : V) (i : ℕ) → slot_of number (write_value number L k v) C i ≡ write_value number (slot_of number L C i) k v
+  slot_of-write_value [] C k v i = refl
+  slot_of-write_value (p ∷ L) C k v i = slot_of-write_step p L C k v i (same_key number k p.0) (slot_number number p.0 C == i) refl refl (slot_of-write_value L C k v i)
+
+  position_or_len-write_step : (p : K × V) (L : List (K × V)) (k q : K) (v : V) (s t : Bool) → same_key number k p.0 ≡ s → same_key number q p.0 ≡ t
+      → position_or_len (λ p. same_key number q p.0) (write_value number L k v) ≡ position_or_len (λ p. same_key number q p.0) L
+      → position_or_len (λ p. same_key number q p.0) (write_value number (p ∷ L) k v) ≡ position_or_len (λ p. same_key number q p.0) (p ∷ L)
+  position_or_len-write_step p L k q v true true e f rest = simp (e, f)
+  position_or_len-write_step p L k q v true false e f rest = simp (e, f, rest)
+  position_or_len-write_step p L k q v false true e f rest = simp (e, f)
+  position_or_len-write_step p L k q v false false e f rest = simp (e, f, rest)
+
+  position_or_len-write_value : (L : List (K × V)) (k q : K) (v : V) → position_or_len (λ p. same_key number q p.0) (write_value number L k v) ≡ position_or_len (λ p. same_key number q p.0) L
+  position_or_len-write_value [] k q v = refl
+  position_or_len-write_value (p ∷ L) k q v =
+      position_or_len-write_step p L k q v (same_key number k p.0) (same_key number q p.0) refl refl (position_or_len-write_value L k q v)
+
+  -- each key stands where it stood
+  pub position-write_value : (L : List (K × V)) (k q : K) (v : V) → position (λ p. same_key number q p.0) (write_value number L k v) ≡ position (λ p. same_key number q p.0) L
+  position-write_value L k q v = rw (position_or_len-write_value L k q v, length-map L (λ p. cond (same_key number k p.0) (p.0, v) p)) refl
+
+  -- and so does the pair of a location
+  pub IsAt-write_value : (W : List (K × V)) (C : ℕ) (at : Location K) (k : K) (v : V) → IsAt number W C at → IsAt number (write_value number W k v) C at
+  IsAt-write_value W C at k v is = record {
+    slot = is.slot;
+    place = ap (position (λ p. same_key number at.key p.0)) (slot_of-write_value W C k v at.slot) ∙ position-write_value (slot_of number W C at.slot) k at.key v ∙ is.place;
+  }
+
+  first-written : (p : K × V) (v : V) (s : Bool) → (cond s (p.0, v) p).0 ≡ p.0
+  first-written p v true = refl
+  first-written p v false = refl
+
+  key_at-write_value : (L : List (K × V)) (k : K) (v : V) (i : ℕ) → key_at (write_value number L k v) i ≡ key_at L i
+  key_at-write_value [] k v i = refl
+  key_at-write_value (p ∷ L) k v zero = ap (λ q. Some q) (first-written p v (same_key number k p.0))
+  key_at-write_value (p ∷ L) k v (suc i) = key_at-write_value L k v i
+
+  -- each place has the key that it had
+  pub key_at-written : (W : List (K × V)) (C slot place : ℕ) (k : K) (v : V) → key_at (slot_of number (write_value number W k v) C slot) place ≡ key_at (slot_of number W C slot) place
+  key_at-written W C slot place k v = ap (λ L. key_at L place) (slot_of-write_value W C k v slot) ∙ key_at-write_value (slot_of number W C slot) k v place
+
+abbrev key_or : {K : Type 0} → Option K → K → K
+key_or (Some k) d = k
+key_or None d = d
+
+-- the keys of equal options are one
+pub the_key-same : {K : Type 0} (o p : Option K) (s : IsSome o) (t : IsSome p) → o ≡ p → the_key o s ≡ the_key p t
+the_key-same (Some x) (Some y) s t e = ap (λ o. key_or o x) e
+the_key-same (Some x) None s t e = absurd cc
+the_key-same None p s t e = absurd cc
+
+module _ {K V : Type 0} (number : K → ℕ) where
+  -- a pair that was found stands there still
+  pub IsFound-write_value : (W : List (K × V)) (C slot place : ℕ) (k : K) (v : V) → IsFound number W C slot place → IsFound number (write_value number W k v) C slot place
+  IsFound-write_value W C slot place k v is =
+      let same = key_at-written number W C slot place k v in
+      let some : IsSome (key_at (slot_of number (write_value number W k v) C slot) place) = subst IsSome (sym same) is.some in
+      record {
+        some = some;
+        at = subst (λ q. IsAt number (write_value number W k v) C (record { key = q; slot = slot; place = place })) (sym (the_key-same _ _ some is.some same)) (IsAt-write_value number W C _ k v is.at);
+      }

@@ -1,0 +1,21 @@
+-- What a slot and a table end as, once a value of theirs was lent and written.
+pub mod Apart
+use Rattle.std.specs.Prelude.{ℕ}
+use Rattle.std.specs.Borrow.{Lends, Fml, RattleType, MutBor}
+use Rattle.std.specs.declared.alloc.Allocator as allocator
+use Rattle.std.specs.declared.cmp.PartialEq as eq
+use Rattle.intmap_table.specs.declared.key.IntKey as key
+use Rattle.intmap_table.specs.Bindings.{write_value}
+use Rattle.intmap_table.specs.Tables.Slots.{Held, Grid, write_at}
+use Rattle.intmap_table.specs.contracts.slot.Slot.{the_row as slot_row}
+use Rattle.intmap_table.specs.contracts.table.Table.{the_row as table_row}
+
+-- once the loan named r ends, the slot behind s has the last value written through it at place i, and all else as it was
+abbrev pub slot_lends : (K X A : RattleType) → key.Ghosts K.Denot → eq.Ghosts K.Denot → allocator.Ghosts A.Denot
+    → MutBor (Held K.Denot X.Denot) → ℕ → MutBor X.Denot → Fml
+slot_lends K X A g e a s i r = Lends (slot_row K X A g e a) X s r (λ v. record s.now { pairs = write_at s.now.pairs i v })
+
+-- and the table behind t has it as the value of the key k
+abbrev pub table_lends : (K X A : RattleType) → (g : key.Ghosts K.Denot) → eq.Ghosts K.Denot → allocator.Ghosts A.Denot
+    → MutBor (Grid K.Denot X.Denot) → K.Denot → MutBor X.Denot → Fml
+table_lends K X A g e a t k r = Lends (table_row K X A g e a) X t r (λ v. record t.now { walk = write_value g.number_of t.now.walk k v })

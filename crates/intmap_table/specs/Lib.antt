@@ -1,0 +1,15 @@
+pub mod Keys
+pub mod Classes
+pub mod Bindings
+pub mod Walk
+pub mod Reach
+pub mod Figures
+pub mod Taking
+pub mod Retaining
+pub mod Writes
+pub mod Locations
+pub mod Laws
+pub mod Lending
+pub mod Values
+pub mod Cloning
+pub mod Tables

@@ -1,0 +1,63 @@
+-- How a table lays its pairs out. No public clause cites this module.
+use Rattle.std.specs.Prelude.{◌≡◌, ℕ, zero, suc, ◌+◌, ◌*◌, ◌/◌, ◌<◌, Bool, nat_lt, List, [], ◌∷◌, ◌++◌, length, map, slice_index_or, Option, Some, None}
+use Rattle.std.specs.Option.{option_to_list}
+use Rattle.std.specs.List.{All, flat_map}
+use Rattle.intmap_table.specs.Tables.Bits.{marked}
+use Rattle.intmap_table.specs.Classes.{IsCapacity, slot_number}
+
+-- what a slot holds, and how many pairs it has room for
+pub record Held (K X : Type 0) : Type 0 where
+  pub pairs : List (K × X)
+  pub room : ℕ
+
+-- the pairs of each slot
+abbrev pub rows : {K X : Type 0} → List (Held K X) → List (List (K × X))
+rows slots = map (λ h. h.pairs) slots
+
+-- the first pair, where there is one, and the rest
+abbrev pub all_pairs : {P : Type 0} → Option P → List P → List P
+all_pairs first rest = option_to_list first ++ rest
+
+-- nothing stands behind where there is no first pair
+abbrev pub HasFirst : {P : Type 0} → Option P → List P → Type 0
+HasFirst None rest = rest ≡ []
+HasFirst (Some first) rest = Unit {0}
+
+-- the pairs with v as the value of the one at place i
+abbrev pub write_at : {K X : Type 0} → List (K × X) → ℕ → X → List (K × X)
+write_at [] i v = []
+write_at (p ∷ ps) zero v = (p.0, v) ∷ ps
+write_at (p ∷ ps) (suc i) v = p ∷ write_at ps i v
+
+-- a table: its walk, and how many slots it has
+pub record Grid (K X : Type 0) : Type 0 where
+  pub walk : List (K × X)
+  pub capacity : ℕ
+
+-- the rows, one after another
+abbrev pub joined : {P : Type 0} → List (List P) → List P
+joined S = flat_map (λ s. s) S
+
+-- the rows at these places, one after another
+abbrev pub pairs_at : {P : Type 0} → List (List P) → List ℕ → List P
+pairs_at S places = flat_map (λ i. slice_index_or S i []) places
+
+-- marks in whole words of 64, with the place of a row marked exactly where the row has a pair, and no place behind the last row
+pub record AreMarked {P : Type 0} (S : List (List P)) (marks : List Bool) : Type 0 where
+  pub words : length marks ≡ 64 * ((length S + 63) / 64)
+  pub own : (i : ℕ) → marked marks i ≡ nat_lt 0 (length (slice_index_or S i []))
+
+-- the row of each slot has pairs of that slot alone, and there are as many slots as a table may have
+pub record IsTable {K X : Type 0} (number : K → ℕ) (slots : List (Held K X)) : Type 0 where
+  pub capacity : IsCapacity (length slots)
+  pub in_place : (i : ℕ) → i < length slots → All (λ p. slot_number number p.0 (length slots) ≡ i) (slice_index_or (rows slots) i [])
+
+-- a table of slots, and the marks of those that hold a pair
+pub record IsMarkedTable {K X : Type 0} (number : K → ℕ) (slots : List (Held K X)) (bits : List Bool) : Type 0 where
+  pub table : IsTable number slots
+  pub marks : AreMarked (rows slots) bits
+
+-- the same, and the mask that the numbers of its slots have: their number less one
+pub record IsMaskedTable {K X : Type 0} (number : K → ℕ) (slots : List (Held K X)) (bits : List Bool) (mask : ℕ) : Type 0 where
+  pub marked : IsMarkedTable number slots bits
+  pub count : mask + 1 ≡ length slots

@@ -1,0 +1,186 @@
+//! Pairs that are put into a slot, replaced and removed there, and values that are written.
+ghost use Rattle.std.specs.Prelude.{◌≡◌, ◌+◌, ◌<◌, [], ◌∷◌, ◌++◌, length, swap_remove, slice_index_or, is_some, true, Some, OnOk, OnErr, IfErr, IfSome, IfNone};
+ghost use Rattle.intmap_table.specs.Tables.Kept.{WritesStored, TakesStoredMut};
+ghost use Rattle.intmap_table.specs.Taking.{TakesEach};
+ghost use Rattle.intmap_table.specs.Writes.{Writes};
+
+use crate::kept::Kept;
+use crate::key::IntKey;
+use crate::slot::Slot;
+use crate::stored::Stored;
+use std::alloc::{AllocError, Allocator};
+use std::mem;
+
+/// Puts a pair in the place of the first one, where there is one, and returns that one.
+#[inline(always)]
+fn replace_first<P>(first: &mut Option<P>, pair: P) -> P
+    requires { is_some first.old ≡ true }
+    ensures value { first.old ≡ Some result }
+    ensures first { first.new ≡ Some pair }
+{
+    match first {
+        Some(place) => mem::replace(place, pair),
+        None => unreachable!(),
+    }
+}
+
+/// Puts an element in the place of the last one, and returns that one. If there is none, it returns
+/// the element.
+#[inline(always)]
+fn replace_last<P, A: Allocator>(items: &mut Vec<P, A>, item: P) -> P
+    ensures { (first : P) → result ∷ items.new.items
+        ≡ swap_remove (first ∷ items.old.items) 0 first ++ item ∷ [] }
+{
+    match items.last_mut() {
+        Some(last) => mem::replace(last, item),
+        None => item,
+    }
+}
+
+impl<K: IntKey, X: Drop, A: Allocator> Slot<K, X, A> {
+    /// Makes room for so many pairs behind the first, and allocates for exactly those. It fails if
+    /// the allocation does.
+    #[inline(never)]
+    pub(crate) fn reserve_behind(&mut self, count: usize) -> Result<(), AllocError>
+        ensures pairs { self.new.pairs ≡ self.old.pairs }
+        ensures room { OnOk result (count < self.new.room) }
+    {
+        self.rest.reserve_exact(count)
+    }
+
+    /// Puts the first pair into a slot without one. It allocates nothing.
+    #[inline(always)]
+    pub(crate) fn put_first(&mut self, pair: (Stored<K>, X))
+        requires { self.old.pairs ≡ [] }
+        ensures pairs { self.new.pairs ≡ pair ∷ [] }
+        ensures room { self.new.room ≡ self.old.room }
+    {
+        self.first = Some(pair);
+    }
+
+    /// Adds a pair behind others, where there is room for it.
+    #[inline(always)]
+    pub(crate) fn push_reserved(&mut self, pair: (Stored<K>, X))
+        requires filled { 0 < length self.old.pairs }
+        requires room { length self.old.pairs < self.old.room }
+        ensures pairs { self.new.pairs ≡ self.old.pairs ++ pair ∷ [] }
+        ensures room { self.new.room ≡ self.old.room }
+    {
+        self.rest.push_reserved(pair);
+    }
+
+    /// Adds a pair behind others. The second pair allocates room for itself alone. If the
+    /// allocation fails, the value is returned.
+    #[inline(never)]
+    pub(crate) fn push(&mut self, key: K, value: X) -> Result<(), X>
+        requires { 0 < length self.old.pairs }
+        ensures ok { OnOk result (self.new.pairs ≡ self.old.pairs ++ (key, value) ∷ []) }
+        ensures err { OnErr result (self.new.pairs ≡ self.old.pairs) }
+        ensures value_returned { IfErr result (λ returned. returned ≡ value) }
+    {
+        let room = if self.rest.is_empty() {
+            self.rest.reserve_exact(1)
+        } else {
+            self.rest.reserve(1)
+        };
+        if room.is_err() {
+            return Err(value);
+        }
+        self.rest.push_reserved((Stored::new(key), value));
+        Ok(())
+    }
+}
+
+impl<K: IntKey, X, A: Allocator> Slot<K, X, A> {
+    /// Removes the only pair, if there is exactly one.
+    #[inline(always)]
+    pub(crate) fn take_lone(&mut self) -> Option<(Stored<K>, X)>
+        ensures lone { IfSome result (λ pair. self.old.pairs ≡ pair ∷ []) }
+        ensures emptied { IfSome result (λ pair. self.new.pairs ≡ []) }
+        ensures not_lone { IfNone result (length self.old.pairs ≡ 1 → ⊥) }
+        ensures others { IfNone result (self.new.pairs ≡ self.old.pairs) }
+    {
+        if !self.rest.is_empty() {
+            return None;
+        }
+        self.first.take()
+    }
+
+    /// Removes the first of several pairs. The others move up by one place.
+    #[inline(always)]
+    pub(crate) fn take_front(&mut self) -> (Stored<K>, X)
+        requires { 1 < length self.old.pairs }
+        ensures pairs { self.old.pairs ≡ result ∷ self.new.pairs }
+        ensures left { 0 < length self.new.pairs }
+    {
+        let next = self.rest.remove(0);
+        replace_first(&mut self.first, next)
+    }
+
+    /// Removes the pair at a place of several. The last pair takes its place.
+    #[inline(always)]
+    pub(crate) fn take_at(&mut self, place: usize) -> (Stored<K>, X)
+        requires several { 1 < length self.old.pairs }
+        requires within { place < length self.old.pairs }
+        ensures value { result ≡ slice_index_or self.old.pairs place result }
+        ensures pairs { self.new.pairs ≡ swap_remove self.old.pairs place result }
+        ensures left { 0 < length self.new.pairs }
+    {
+        if place > 0 {
+            return self.rest.swap_remove(place - 1);
+        }
+        // a `pop` would check whether there is one
+        let last = self.rest.swap_remove(self.rest.len() - 1);
+        replace_first(&mut self.first, last)
+    }
+
+    /// Removes the pair at a place, which the last pair takes, and puts a new one at the end. It
+    /// allocates nothing.
+    #[inline(always)]
+    pub(crate) fn replace_at(&mut self, place: usize, new: (Stored<K>, X)) -> (Stored<K>, X)
+        requires { place < length self.old.pairs }
+        ensures value { result ≡ slice_index_or self.old.pairs place result }
+        ensures pairs { self.new.pairs ≡ swap_remove self.old.pairs place result ++ new ∷ [] }
+    {
+        if place > 0 {
+            let old = self.rest.swap_remove(place - 1);
+            self.rest.push_reserved(new);
+            return old;
+        }
+        let last = replace_last(&mut self.rest, new);
+        replace_first(&mut self.first, last)
+    }
+}
+
+/// Calls the closure at a pair, with a mutable reference to its value.
+#[inline(always)]
+fn write_pair<K: IntKey, V, F: FnMut(K, &mut V)>(pair: &mut (Stored<K>, Kept<V>), f: &mut F)
+    requires { TakesStoredMut F.FnMut f.old pair.old }
+    ensures key { pair.new.0 ≡ pair.old.0 }
+    ensures value { WritesStored F.FnMut f.old pair.old pair.new.1 f.new }
+{
+    f(*pair.0.key(), &mut pair.1.value);
+}
+
+/// Calls the closure at each pair in turn, with a mutable reference to its value.
+fn write_in<K: IntKey, V, F: FnMut(K, &mut V)>(pairs: &mut [(Stored<K>, Kept<V>)], f: &mut F)
+    requires { TakesEach (WritesStored F.FnMut) (TakesStoredMut F.FnMut) f.old pairs.old }
+    ensures { Writes (WritesStored F.FnMut) f.old pairs.old pairs.new f.new }
+{
+    for pair in pairs.iter_mut() {
+        write_pair(pair, f);
+    }
+}
+
+impl<K: IntKey, V, A: Allocator> Slot<K, Kept<V>, A> {
+    /// Calls the closure at each pair in turn, with a mutable reference to its value.
+    pub(crate) fn write_each<F: FnMut(K, &mut V)>(&mut self, f: &mut F)
+        requires { TakesEach (WritesStored F.FnMut) (TakesStoredMut F.FnMut) f.old self.old.pairs }
+        ensures { Writes (WritesStored F.FnMut) f.old self.old.pairs self.new.pairs f.new }
+    {
+        if let Some(pair) = &mut self.first {
+            write_pair(pair, f);
+        }
+        write_in(self.rest.as_mut_slice(), f);
+    }
+}

@@ -1,0 +1,200 @@
+//! A table of slots. Each key has one of them.
+//!
+//! What stands here looks at the slot of one key, or at the table as a whole. `locate` has the calls
+//! on a pair whose place is known, `walk` and `each` those that go through all pairs, and `grow` and
+//! `place` the growth.
+
+mod each;
+mod grow;
+pub mod locate;
+mod place;
+pub mod walk;
+
+ghost use Rattle.std.specs.Prelude.{◌≡◌, ℕ, ◌+◌, ◌^◌, ◌<◌, ◌≤◌, slice_index_or, [], OnOk, OnErr, IfOk, IfErr, Some, None, option_copied, length};
+ghost use Rattle.intmap_table.specs.Classes.{IsCapacity, slot_number};
+ghost use Rattle.intmap_table.specs.Bindings.{value_of, put_pair};
+ghost use Rattle.intmap_table.specs.Tables.Slots.{rows, AreMarked};
+ghost use Rattle.intmap_table.specs.Walk.{slot_of, walk_of};
+ghost use Rattle.intmap_table.specs.Reach.{class_size};
+ghost use Rattle.intmap_table.specs.Figures.{load_of};
+
+use crate::bits::Bits;
+use crate::key::IntKey;
+use crate::slot::Slot;
+use crate::steps::Steps;
+use crate::stored::Stored;
+use std::alloc::{AllocError, Allocator};
+use std::marker::Model;
+use walk::Pairs;
+
+/// The odd number that spreads keys over slots.
+const MULTIPLIER: u64 = 11400714819323198549;
+
+/// The slot of a key, of `mask + 1` slots.
+#[inline(always)]
+fn masked_index_of<K: IntKey>(key: &K, mask: usize) -> usize
+    requires { IsCapacity (mask + 1) }
+    ensures slot { result ≡ slot_number K.number_of key.now (mask + 1) }
+    ensures within { result ≤ mask }
+    ensures key { K.is_valid key.now }
+{
+    (key.number().wrapping_mul(MULTIPLIER) & mask as u64) as usize
+}
+
+/// The slot of a key, of so many slots.
+fn index_of<K: IntKey>(key: &K, slots: usize) -> usize
+    requires { IsCapacity slots }
+    ensures slot { result ≡ slot_number K.number_of key.now slots }
+    ensures within { result < slots }
+    ensures key { K.is_valid key.now }
+{
+    masked_index_of(key, slots - 1)
+}
+
+/// Drops the pairs of all slots. The bits tell which slots to look at.
+fn clear_slots<K: IntKey, X: Drop, A: Allocator>(bits: &Bits<A>, slots: &mut Vec<Slot<K, X, A>, A>)
+    requires { AreMarked (rows slots.old.items) bits.now }
+    ensures len { length slots.new.items ≡ length slots.old.items }
+    ensures empty { (i : ℕ) → slice_index_or (rows slots.new.items) i [] ≡ [] }
+{
+    for place in bits.iter() {
+        slots[place].clear();
+    }
+}
+
+/// What is known of the slots without looking at them.
+#[derive(Drop)]
+struct Directory<A: Allocator> {
+    /// Their number less one: a mask with exactly the bits that the number of a slot may have.
+    mask: usize,
+    /// Which of them hold a pair.
+    bits: Bits<A>,
+}
+
+/// Slots, whose number is a power of two. Each pair lies in the slot of its key, and a bit for each
+/// slot tells whether it holds a pair.
+#[derive(Drop)]
+pub struct Table<K: IntKey, X, A: Allocator> {
+    directory: Directory<A>,
+    slots: Vec<Slot<K, X, A>, A>,
+}
+
+impl<K: IntKey, X, A: Allocator> Model for Table<K, X, A> {
+    ghost use Rattle.std.specs.Prelude.{length};
+    ghost use Rattle.intmap_table.specs.Tables.Slots.{Grid, rows, joined, IsMaskedTable};
+
+    ghost Value = { Grid K X };
+
+    ghost view = { λ t. record {
+      walk = joined (rows t.slots.items);
+      capacity = length t.slots.items;
+    } };
+
+    ghost invariant = { λ t. IsMaskedTable K.number_of t.slots.items t.directory.bits t.directory.mask };
+}
+
+impl<K: IntKey, X, A: Allocator> Table<K, X, A> {
+    /// The number of slots.
+    pub fn capacity(&self) -> usize
+        ensures value { result ≡ self.now.capacity }
+        ensures range { IsCapacity result }
+        ensures own { walk_of K.number_of self.now.walk self.now.capacity ≡ self.now.walk }
+    {
+        self.slots.len()
+    }
+
+    /// The number of slots that hold a pair.
+    pub fn load(&self) -> usize
+        ensures { result ≡ load_of K.number_of self.now.walk self.now.capacity }
+    {
+        self.directory.bits.count()
+    }
+
+    /// The number of pairs that a slot holds.
+    pub fn slot_len(&self, slot: usize) -> usize
+        requires within { slot < self.now.capacity }
+        requires fits { length self.now.walk < 2 ^ 64 }
+        ensures { result ≡ length (slot_of K.number_of self.now.walk self.now.capacity slot) }
+    {
+        self.slots[slot].len()
+    }
+
+    /// The pairs, slot after slot.
+    pub fn pairs(&self) -> Pairs<'_, K, X, A>
+        ensures { result ≡ self.now.walk }
+    {
+        Pairs {
+            first: None,
+            rest: &[],
+            places: self.directory.bits.iter(),
+            slots: &self.slots,
+        }
+    }
+
+    /// The slot of a key.
+    fn index_of(&self, key: &K) -> usize
+        ensures slot { result ≡ slot_number K.number_of key.now self.now.capacity }
+        ensures within { result < self.now.capacity }
+        ensures key { K.is_valid key.now }
+    {
+        masked_index_of(key, self.directory.mask)
+    }
+}
+
+impl<K: IntKey, X: Drop, A: Allocator> Table<K, X, A> {
+    /// Drops all pairs, slot after slot, and keeps the slots and the memory that they have.
+    pub fn clear(&mut self)
+        ensures walk { self.new.walk ≡ [] }
+        ensures capacity { self.new.capacity ≡ self.old.capacity }
+    {
+        clear_slots(&self.directory.bits, &mut self.slots);
+        self.directory.bits.clear_all();
+    }
+
+    /// Puts the pair of an absent key last in its slot. If an allocation fails, it returns the
+    /// value and changes nothing. A slot without a pair needs no allocation.
+    #[inline(always)]
+    pub fn add(&mut self, key: K, value: X) -> Result<(), X>
+        requires { value_of K.number_of self.old.walk key ≡ None }
+        ensures walk { OnOk result (self.new.walk ≡ walk_of K.number_of
+            (put_pair K.number_of self.old.walk self.old.capacity key value) self.old.capacity) }
+        ensures err { OnErr result (self.new.walk ≡ self.old.walk) }
+        ensures value_returned { IfErr result (λ returned. returned ≡ value) }
+        ensures capacity { self.new.capacity ≡ self.old.capacity }
+        ensures memory { OnErr result
+            (0 < class_size K.number_of self.old.walk self.old.capacity key) }
+    {
+        let index = self.index_of(&key);
+        let slot = &mut self.slots[index];
+        if self.directory.bits.set(index) {
+            return slot.push(key, value);
+        }
+        slot.put_first((Stored::new(key), value));
+        Ok(())
+    }
+}
+
+impl<K: IntKey, X: Drop, A: Allocator + Copy> Table<K, X, A> {
+    /// The allocator of the slots.
+    pub fn allocator(&self) -> A {
+        *self.slots.allocator()
+    }
+
+    /// A table of so many empty slots. It allocates them and their bits.
+    pub fn new(alloc: A, capacity: usize) -> Result<Table<K, X, A>, AllocError>
+        requires { IsCapacity capacity }
+        ensures walk { IfOk result (λ table. table.walk ≡ []) }
+        ensures capacity { IfOk result (λ table. table.capacity ≡ capacity) }
+    {
+        let bits = Bits::new(alloc, capacity)?;
+        let mut slots = Vec::with_capacity(alloc, capacity)?;
+        for _ in 0..capacity {
+            slots.push_reserved(Slot::new(alloc));
+        }
+        let directory = Directory {
+            mask: capacity - 1,
+            bits,
+        };
+        Ok(Table { directory, slots })
+    }
+}

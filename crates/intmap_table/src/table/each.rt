@@ -1,0 +1,187 @@
+//! All pairs of a table in the order of the walk: removed from the front, kept or not, and written.
+ghost use Rattle.std.specs.Prelude.{◌≡◌, ◌+◌, ◌^◌, ◌<◌, ◌≤◌, length};
+ghost use Rattle.std.specs.Iterator.{YieldsFirst};
+ghost use Rattle.intmap_table.specs.Walk.{ArePassed};
+ghost use Rattle.intmap_table.specs.Walk.{walk_of};
+ghost use Rattle.intmap_table.specs.Tables.Slots.{rows, joined, IsMarkedTable};
+ghost use Rattle.intmap_table.specs.Tables.Kept.{unkept, KeepsStored, TakesStored, WritesStored, TakesStoredMut};
+ghost use Rattle.intmap_table.specs.Retaining.{Retains, KeepsAt, TakesPair};
+ghost use Rattle.intmap_table.specs.Taking.{TakesEach};
+ghost use Rattle.intmap_table.specs.Writes.{Writes, WritesAt, TakesPairMut};
+
+use crate::bits::Bits;
+use crate::kept::Kept;
+use crate::key::IntKey;
+use crate::slot::Slot;
+use crate::stored::Stored;
+use crate::table::Table;
+use std::alloc::Allocator;
+use std::mem;
+
+impl<K: IntKey, X, A: Allocator> Table<K, X, A> {
+    /// Removes the first pair of the walk. No slot before the place `from` holds a pair. The place
+    /// moves on to the slot that held the removed one.
+    pub fn take_front(&mut self, from: &mut usize) -> Option<(K, X)>
+        requires { ArePassed K.number_of self.old.walk self.old.capacity from.old }
+        ensures first { YieldsFirst (λ t. t.walk) self.old result self.new }
+        ensures capacity { self.new.capacity ≡ self.old.capacity }
+        ensures own { walk_of K.number_of self.new.walk self.new.capacity ≡ self.new.walk }
+        ensures passed { ArePassed K.number_of self.new.walk self.new.capacity from.new }
+    {
+        let Some(place) = self.directory.bits.iter_from(*from).next() else {
+            return None;
+        };
+        *from = place;
+        let slot = &mut self.slots[place];
+        if let Some((key, value)) = slot.take_lone() {
+            self.directory.bits.clear(place);
+            return Some((*key.key(), value));
+        }
+        let (key, value) = slot.take_front();
+        Some((*key.key(), value))
+    }
+}
+
+/// Whether the closure says that a pair stays.
+#[inline(always)]
+fn keeps_pair<K: IntKey, V, F: FnMut(K, &V) -> bool>(pair: &(Stored<K>, Kept<V>), f: &mut F) -> bool
+    requires { TakesStored F.FnMut f.old pair.now }
+    ensures { KeepsStored F.FnMut f.old pair.now result f.new }
+{
+    f(*pair.0.key(), &pair.1.value)
+}
+
+/// Keeps the pairs for which the closure returns true, in their order.
+fn retain_in<K: IntKey, V: Drop, A: Allocator, F: FnMut(K, &V) -> bool>(
+    pairs: &mut Vec<(Stored<K>, Kept<V>), A>,
+    f: &mut F,
+)
+    requires { TakesEach (KeepsStored F.FnMut) (TakesStored F.FnMut) f.old pairs.old.items }
+    ensures { Retains (KeepsStored F.FnMut) f.old pairs.old.items pairs.new.items f.new }
+{
+    let mut kept = 0;
+    for i in 0..pairs.len() {
+        if keeps_pair(&pairs[i], f) {
+            pairs.swap(kept, i);
+            kept += 1;
+        }
+    }
+    pairs.truncate(kept);
+}
+
+/// The slot of these pairs, of which the first moves to the slot's first place.
+fn slot_with<K: IntKey, X, A: Allocator>(mut pairs: Vec<(Stored<K>, X), A>) -> Slot<K, X, A>
+    ensures { result.pairs ≡ pairs.items }
+{
+    if pairs.is_empty() {
+        return Slot::from_parts(None, pairs);
+    }
+    let first = pairs.remove(0);
+    Slot::from_parts(Some(first), pairs)
+}
+
+/// The slot with the pairs for which the closure returns true, in their order and in the same
+/// memory.
+fn retain_slot<K: IntKey, V: Drop, A: Allocator, F: FnMut(K, &V) -> bool>(
+    slot: Slot<K, Kept<V>, A>,
+    f: &mut F,
+) -> Slot<K, Kept<V>, A>
+    requires { TakesEach (KeepsStored F.FnMut) (TakesStored F.FnMut) f.old slot.pairs }
+    ensures { Retains (KeepsStored F.FnMut) f.old slot.pairs result.pairs f.new }
+{
+    let (first, mut rest) = slot.into_parts();
+    let Some(pair) = first else {
+        return slot_with(rest);
+    };
+    let stays = keeps_pair(&pair, f);
+    retain_in(&mut rest, f);
+    if stays {
+        return Slot::from_parts(Some(pair), rest);
+    }
+    slot_with(rest)
+}
+
+/// Keeps the pairs for which the closure returns true, slot after slot, and returns their number.
+/// The bits tell which slots to look at, and a slot that is emptied loses its bit.
+fn retain_slots<K: IntKey, V: Drop, A: Allocator + Copy, F: FnMut(K, &V) -> bool>(
+    bits: &mut Bits<A>,
+    slots: &mut Vec<Slot<K, Kept<V>, A>, A>,
+    f: &mut F,
+) -> usize
+    requires callable { TakesEach (KeepsStored F.FnMut) (TakesStored F.FnMut) f.old
+        (joined (rows slots.old.items)) }
+    requires table { IsMarkedTable K.number_of slots.old.items bits.old }
+    requires count { length (joined (rows slots.old.items)) < 2 ^ 64 }
+    ensures pairs { Retains (KeepsStored F.FnMut) f.old (joined (rows slots.old.items))
+        (joined (rows slots.new.items)) f.new }
+    ensures table { IsMarkedTable K.number_of slots.new.items bits.new }
+    ensures len { length slots.new.items ≡ length slots.old.items }
+    ensures count { result ≡ length (joined (rows slots.new.items)) }
+{
+    let alloc = *slots.allocator();
+    let mut count = 0;
+    let mut from = 0;
+    while let Some(place) = bits.iter_from(from).next() {
+        let slot = mem::replace(&mut slots[place], Slot::new(alloc));
+        let slot = retain_slot(slot, f);
+        if !slot.is_filled() {
+            bits.clear(place);
+        }
+        count += slot.len();
+        slots[place] = slot;
+        from = place + 1;
+    }
+    count
+}
+
+impl<K: IntKey, V: Drop, A: Allocator + Copy> Table<K, Kept<V>, A> {
+    /// Keeps the pairs for which the closure returns true, in their order, and returns their
+    /// number. The closure is called once at each pair, in the order of the walk.
+    pub fn retain<F: FnMut(K, &V) -> bool>(&mut self, f: &mut F) -> usize
+        requires callable { TakesEach (KeepsAt F.FnMut) (TakesPair F.FnMut) f.old
+            (unkept self.old.walk) }
+        requires count { length self.old.walk < 2 ^ 64 }
+        ensures pairs { Retains (KeepsAt F.FnMut) f.old (unkept self.old.walk)
+            (unkept self.new.walk) f.new }
+        ensures capacity { self.new.capacity ≡ self.old.capacity }
+        ensures own { walk_of K.number_of self.new.walk self.new.capacity ≡ self.new.walk }
+        ensures count { result ≡ length self.new.walk }
+    {
+        retain_slots(&mut self.directory.bits, &mut self.slots, f)
+    }
+}
+
+/// Calls the closure at each pair in turn, slot after slot, with a mutable reference to its value.
+/// The bits tell which slots to look at.
+fn write_slots<K: IntKey, V, A: Allocator, F: FnMut(K, &mut V)>(
+    bits: &Bits<A>,
+    slots: &mut Vec<Slot<K, Kept<V>, A>, A>,
+    f: &mut F,
+)
+    requires callable { TakesEach (WritesStored F.FnMut) (TakesStoredMut F.FnMut) f.old
+        (joined (rows slots.old.items)) }
+    requires table { IsMarkedTable K.number_of slots.old.items bits.now }
+    ensures pairs { Writes (WritesStored F.FnMut) f.old (joined (rows slots.old.items))
+        (joined (rows slots.new.items)) f.new }
+    ensures table { IsMarkedTable K.number_of slots.new.items bits.now }
+    ensures len { length slots.new.items ≡ length slots.old.items }
+{
+    for place in bits.iter() {
+        slots[place].write_each(f);
+    }
+}
+
+impl<K: IntKey, V, A: Allocator> Table<K, Kept<V>, A> {
+    /// Calls the closure at each pair in the order of the walk, with a mutable reference to its
+    /// value.
+    pub fn write_each<F: FnMut(K, &mut V)>(&mut self, f: &mut F)
+        requires { TakesEach (WritesAt F.FnMut) (TakesPairMut F.FnMut) f.old
+            (unkept self.old.walk) }
+        ensures pairs { Writes (WritesAt F.FnMut) f.old (unkept self.old.walk)
+            (unkept self.new.walk) f.new }
+        ensures capacity { self.new.capacity ≡ self.old.capacity }
+        ensures own { walk_of K.number_of self.new.walk self.new.capacity ≡ self.new.walk }
+    {
+        write_slots(&self.directory.bits, &mut self.slots, f);
+    }
+}

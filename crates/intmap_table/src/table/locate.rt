@@ -1,0 +1,119 @@
+//! Where the pair of a key stands, and calls on a located pair, which compare no key.
+ghost use Rattle.std.specs.Prelude.{◌≡◌, ◌+◌, IfSome, IfNone, Some, None};
+ghost use Rattle.intmap_table.specs.Bindings.{HasDistinctKeys, value_of, take_key, put_pair};
+ghost use Rattle.intmap_table.specs.Locations.{IsAt, IsLast, IsFound, key_at};
+ghost use Rattle.intmap_table.specs.Reach.{reach};
+ghost use Rattle.intmap_table.specs.Walk.{walk_of, slot_of};
+
+use crate::key::IntKey;
+use crate::steps::Steps;
+use crate::stored::Stored;
+use crate::table::Table;
+use std::alloc::Allocator;
+
+/// Where the pair of a key stands: its slot, and its place there from the front.
+#[derive(Clone, Copy)]
+pub struct Location<K> {
+    pub key: K,
+    pub slot: usize,
+    pub place: usize,
+}
+
+impl<K: IntKey, X, A: Allocator> Table<K, X, A> {
+    ghost use Rattle.std.specs.Borrow.{sem};
+    ghost use Rattle.intmap_table.specs.Lending.{table_lends};
+
+    /// Where the pair of the key stands, if the key is present. The keys of its slot are compared
+    /// from the front up to it, each by one step.
+    #[inline(always)]
+    pub fn locate(&self, key: K, steps: &mut Steps) -> Option<Location<K>>
+        ensures found { IfSome result (λ at. (at.key ≡ key)
+            × IsAt K.number_of self.now.walk self.now.capacity at) }
+        ensures missing { IfNone result (value_of K.number_of self.now.walk key ≡ None) }
+        ensures counted { steps.new
+            ≡ steps.old + reach K.number_of self.now.walk self.now.capacity key }
+        ensures known { K.is_valid key }
+    {
+        let slot = self.index_of(&key);
+        let Some(place) = self.slots[slot].find(&key, steps) else {
+            return None;
+        };
+        Some(Location { key, slot, place })
+    }
+
+    /// Where the pair of a key stands that is the last of its slot.
+    pub fn locate_last(&self, key: K) -> Location<K>
+        requires { IsLast K.number_of self.now.walk self.now.capacity key }
+        ensures key { result.key ≡ key }
+        ensures at { IsAt K.number_of self.now.walk self.now.capacity result }
+    {
+        let slot = self.index_of(&key);
+        let place = self.slots[slot].last_place();
+        Location { key, slot, place }
+    }
+
+    /// The key of the pair at a place of a slot.
+    pub fn key_at(&self, slot: usize, place: usize) -> &K
+        requires { IsFound K.number_of self.now.walk self.now.capacity slot place }
+        ensures { Some result.now
+            ≡ key_at (slot_of K.number_of self.now.walk self.now.capacity slot) place }
+    {
+        self.slots[slot].key_at(place).key()
+    }
+
+    /// The value of a located pair.
+    #[inline(always)]
+    pub fn value_at(&self, at: Location<K>) -> &X
+        requires { IsAt K.number_of self.now.walk self.now.capacity at }
+        ensures { value_of K.number_of self.now.walk at.key ≡ Some result.now }
+    {
+        self.slots[at.slot].value_at(at.place)
+    }
+
+    /// A mutable reference to the value of a located pair.
+    pub fn value_mut_at(&mut self, at: Location<K>) -> &mut X
+        requires at { IsAt K.number_of self.old.walk self.old.capacity at }
+        requires once { HasDistinctKeys K.number_of self.old.walk }
+        ensures* writes_back { sem 𝓛 (table_lends K.row X.row A.row K.IntKey.own K.PartialEq
+            A.Allocator self.entry at.key result) }
+        ensures value { value_of K.number_of self.old.walk at.key ≡ Some result.now }
+    {
+        self.slots[at.slot].value_mut_at(at.place)
+    }
+
+    /// Removes a located pair. The last pair of its slot moves into its place.
+    #[inline(always)]
+    pub fn take_at(&mut self, at: Location<K>) -> X
+        requires { IsAt K.number_of self.old.walk self.old.capacity at }
+        ensures value { value_of K.number_of self.old.walk at.key ≡ Some result }
+        ensures walk { self.new.walk ≡ walk_of K.number_of
+            (take_key K.number_of self.old.walk self.old.capacity at.key) self.old.capacity }
+        ensures capacity { self.new.capacity ≡ self.old.capacity }
+    {
+        // read before the slot changes, so that a write there can't delay it
+        let word = self.directory.bits.word(at.slot);
+        let slot = &mut self.slots[at.slot];
+        if let Some((_, value)) = slot.take_lone() {
+            self.directory.bits.clear_in(word, at.slot);
+            return value;
+        }
+        let (_, value) = slot.take_at(at.place);
+        value
+    }
+
+    /// Removes a located pair, whose place the last pair of its slot takes, and puts the pair of its
+    /// key and this value at the end of the slot. It allocates nothing.
+    #[inline(always)]
+    pub fn replace_at(&mut self, at: Location<K>, value: X) -> X
+        requires { IsAt K.number_of self.old.walk self.old.capacity at }
+        ensures value { value_of K.number_of self.old.walk at.key ≡ Some result }
+        ensures walk { self.new.walk ≡ walk_of K.number_of
+            (put_pair K.number_of self.old.walk self.old.capacity at.key value) self.old.capacity }
+        ensures capacity { self.new.capacity ≡ self.old.capacity }
+        ensures key { K.is_valid at.key }
+    {
+        let pair = (Stored::new(at.key), value);
+        let (_, old) = self.slots[at.slot].replace_at(at.place, pair);
+        old
+    }
+}

@@ -1,0 +1,93 @@
+//! The pairs of a table by reference, slot after slot, and clones of a table.
+ghost use Rattle.std.specs.Prelude.{◌≡◌, ◌<◌, length, slice_index_or, IfOk};
+ghost use Rattle.std.specs.Iterator.{YieldsFirstBy, item_count};
+ghost use Rattle.std.specs.List.{AllZip};
+ghost use Rattle.intmap_table.specs.Cloning.{IsPairClone};
+ghost use Rattle.intmap_table.specs.Walk.{walk_of};
+
+use crate::bits::Places;
+use crate::key::IntKey;
+use crate::slot::Slot;
+use crate::stored::Stored;
+use crate::table::{Directory, Table};
+use std::alloc::{AllocError, Allocator};
+use std::marker::Model;
+
+/// The slot at a place.
+#[inline(always)]
+fn slot_at<K: IntKey, X, A: Allocator>(slots: &[Slot<K, X, A>], place: usize) -> &Slot<K, X, A>
+    requires { place < length slots.now }
+    ensures { result.now ≡ slice_index_or slots.now place result.now }
+{
+    &slots[place]
+}
+
+/// The pairs that are left: those of the current slot, and those of the slots at the places behind
+/// it, of which each holds a pair.
+#[derive(Drop)]
+pub struct Pairs<'a, K: IntKey, X, A: Allocator> {
+    pub(super) first: Option<&'a (Stored<K>, X)>,
+    pub(super) rest: &'a [(Stored<K>, X)],
+    pub(super) places: Places<'a>,
+    pub(super) slots: &'a [Slot<K, X, A>],
+}
+
+impl<'a, K: IntKey, X, A: Allocator> Model for Pairs<'a, K, X, A> {
+    ghost use Rattle.std.specs.Prelude.{List, All, ◌<◌, ◌++◌, length};
+    ghost use Rattle.std.specs.Option.{option_copied};
+    ghost use Rattle.intmap_table.specs.Tables.Slots.{all_pairs, rows, pairs_at};
+
+    ghost Value = { List (K × X) };
+
+    ghost view = { λ it.
+        all_pairs (option_copied it.first) it.rest.now ++ pairs_at (rows it.slots.now) it.places };
+
+    ghost invariant = { λ it. All (λ place. place < length it.slots.now) it.places };
+}
+
+impl<'a, K: IntKey, X, A: Allocator> Iterator for Pairs<'a, K, X, A> {
+    type Item = (&'a K, &'a X);
+
+    ghost next_gives = { YieldsFirstBy (λ item. (item.0.now, item.1.now)) (λ rest. rest) };
+
+    ghost remaining = { item_count (λ rest. rest) };
+
+    fn next(&mut self) -> Option<(&'a K, &'a X)> {
+        loop {
+            if let Some(pair) = self.first.take() {
+                return Some((pair.0.key(), &pair.1));
+            }
+            if let Some((pair, rest)) = self.rest.split_first() {
+                self.rest = rest;
+                return Some((pair.0.key(), &pair.1));
+            }
+            let Some(place) = self.places.next() else {
+                return None;
+            };
+            (self.first, self.rest) = slot_at(self.slots, place).parts();
+        }
+    }
+}
+
+impl<K: IntKey, X: Clone, A: Allocator + Copy> Table<K, X, A> {
+    /// The same keys in the same slots, with clones of their values. The bits and the slots are
+    /// allocated before the first value is cloned.
+    pub fn clone(&self) -> Result<Table<K, X, A>, AllocError>
+        ensures walk { IfOk result
+            (λ made. AllZip (IsPairClone X.is_clone) self.now.walk made.walk) }
+        ensures capacity { IfOk result (λ made. made.capacity ≡ self.now.capacity) }
+        ensures own { IfOk result
+            (λ made. walk_of K.number_of made.walk made.capacity ≡ made.walk) }
+    {
+        let bits = self.directory.bits.clone()?;
+        let mut slots = Vec::with_capacity(*self.slots.allocator(), self.slots.len())?;
+        for slot in &self.slots {
+            slots.push_reserved(slot.clone()?);
+        }
+        let directory = Directory {
+            mask: self.directory.mask,
+            bits,
+        };
+        Ok(Table { directory, slots })
+    }
+}
