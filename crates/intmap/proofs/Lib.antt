@@ -6,11 +6,11 @@ pub use Rattle.intmap_table.proofs.PositionLemmas
 pub use Rattle.intmap_table.proofs.DistinctLemmas
 pub use Rattle.intmap_table.proofs.LoadLemmas
 pub use Rattle.intmap_table.proofs.BindingLemmas
+pub use Rattle.intmap_table.proofs.RegroupLemmas
 pub mod RewrittenLemmas
 pub mod GrowthLemmas
 pub mod DrainLemmas
 pub mod KeepLemmas
-pub mod RegroupLemmas
 pub mod MapLemmas
 pub mod WriteLemmas
 pub mod EntryLemmas

@@ -1,6 +1,7 @@
 pub mod SlotNumberLemmas
 pub mod ClassLemmas
 pub mod WalkLemmas
+pub mod RegroupLemmas
 pub mod LocationLemmas
 pub mod PositionLemmas
 pub mod DistinctLemmas

@@ -7,7 +7,7 @@ use Rattle.std.proofs.lemmas.List.{length_push}
 use Rattle.std.proofs.lemmas.List.Elements.{All-cons, All-head, All-tail, filter-append}
 use Rattle.std.proofs.lemmas.List.Folds.{position_or_len_push}
 use Rattle.std.proofs.lemmas.List.Sums.{sum_by-cons}
-use Rattle.intmap_table.specs.Classes.{IsCapacity, slot_number, same_key}
+use Rattle.intmap_table.specs.Classes.{IsCapacity, slot_number, same_key, agrees}
 use Rattle.intmap_table.specs.Bindings.{value_of, IsBound, take_key, put_pair, write_value, HasDistinctKeys}
 use Rattle.intmap_table.specs.Locations.{IsAt, IsLast}
 use Rattle.intmap_table.specs.Tables.Slots.{Grid, Held, rows, joined, write_at, AreMarked, IsTable, IsMarkedTable}
@@ -17,7 +17,7 @@ use Rattle.intmap_table.specs.declared.table.locate.Location.{Location}
 use Rattle.intmap_table.proofs.Tables.FilledLemmas.{marks-kept}
 use Rattle.intmap_table.proofs.BindingLemmas.{value_of-take_key}
 use Rattle.intmap_table.proofs.MappedLemmas.{flat_map-map, count_by-map, map_values, slot_of-map_values, length-map_values}
-use Rattle.intmap_table.proofs.PositionLemmas.{position-within, position_or_len-none, first_value-position, position-from_none}
+use Rattle.intmap_table.proofs.PositionLemmas.{swap_out-none, position-within, position_or_len-none, first_value-position, position-from_none}
 use Rattle.intmap_table.proofs.Tables.TableLemmas.{IsSlot, slot_of-here, value_of-here, walk_of-joined, joined-set, within, IsTable-set, Belong-here}
 use Rattle.intmap_table.proofs.SlotNumberLemmas.{slot_number-below}
 use Rattle.intmap_table.proofs.WalkLemmas.{same_key-slot, slot_of-walk_of, value_of-slot_of}
@@ -189,22 +189,32 @@ module _ {K X : Type 0} (number : K → ℕ) (S : List (Held K X)) (h : Held K X
       }
 
 module _ {K V : Type 0} (number : K → ℕ) where
-  -- a pair that was put in stands last in its slot, in other slots too
-  pub IsLast-put : (L : List (K × V)) (C D : ℕ) (k : K) (v : V) → HasDistinctKeys number L → IsCapacity D → IsLast number (walk_of number (put_pair number L C k v) D) D k
-  IsLast-put L C D k v once cap =
+  -- a pair behind others, none of which has its key, stands last in its slot, however many slots there are
+  IsLast-behind : (T : List (K × V)) (D : ℕ) (k : K) (v : V) → value_of number T k ≡ None → IsCapacity D → IsLast number (walk_of number (T ++ (k, v) ∷ []) D) D k
+  IsLast-behind T D k v gone cap =
       let i : ℕ = slot_number number k D in
-      let T : List (K × V) = take_key number L C k in
       let here : (slot_number number k D == i) ≡ true = eq-eqb (slot_number number k D) i refl in
       let own : same_key number k k ≡ true = eq-eqb (number k) (number k) refl in
-      let gone : value_of number T k ≡ None = value_of-take_key number L C k k once ∙ cond-true (same_key number k k) None (value_of number L k) own in
       let none = position-from_none (same_key number k) (slot_of number T D i) (value_of-slot_of number D T k ∙ gone) in
-      let row : slot_of number (walk_of number (put_pair number L C k v) D) D i ≡ slot_of number T D i ++ (k, v) ∷ [] =
-      slot_of-walk_of number D (put_pair number L C k v) i (slot_number-below number k D cap) ∙ filter-append (λ p. slot_number number p.0 D == i) T ((k, v) ∷ []) ∙ simp here refl in
+      let row : slot_of number (walk_of number (T ++ (k, v) ∷ []) D) D i ≡ slot_of number T D i ++ (k, v) ∷ [] =
+      slot_of-walk_of number D (T ++ (k, v) ∷ []) i (slot_number-below number k D cap) ∙ filter-append (λ p. slot_number number p.0 D == i) T ((k, v) ∷ []) ∙ simp here refl in
       record {
         place = length (slot_of number T D i);
         stands = ap (position (λ p. same_key number k p.0)) row ∙ position-push (λ p. same_key number k p.0) (slot_of number T D i) (k, v) none own;
         last = sym (ap length row ∙ length_push (slot_of number T D i) (k, v));
       }
+
+  -- a pair that was put in stands last in its slot, in other slots too
+  pub IsLast-put : (L : List (K × V)) (C D : ℕ) (k : K) (v : V) → HasDistinctKeys number L → IsCapacity D → IsLast number (walk_of number (put_pair number L C k v) D) D k
+  IsLast-put L C D k v once cap =
+      let own : same_key number k k ≡ true = eq-eqb (number k) (number k) refl in
+      IsLast-behind (take_key number L C k) D k v (value_of-take_key number L C k k once ∙ cond-true (same_key number k k) None (value_of number L k) own) cap
+
+  -- so does that of a new key, whatever the others are
+  pub IsLast-new : (L : List (K × V)) (C D : ℕ) (k : K) (v : V) → value_of number L k ≡ None → IsCapacity D → IsLast number (walk_of number (put_pair number L C k v) D) D k
+  IsLast-new L C D k v missing cap =
+      let same = swap_out-none (λ (p : K × V). same_key number k p.0) (λ p. agrees number C k p.0) L (position-from_none (same_key number k) L missing) in
+      IsLast-behind (take_key number L C k) D k v (ap (λ M. value_of number M k) same ∙ missing) cap
 
 -- pairs with other values stand where they stood
 module _ {K X V : Type 0} (number : K → ℕ) (f : X → V) where

@@ -1,12 +1,18 @@
 -- Lemmas on bits, slots and tables.
+pub mod BackLemmas
 pub mod BitsLemmas
 pub mod CloneLemmas
+pub mod CountLemmas
 pub mod FilledLemmas
 pub mod FoundLemmas
 pub mod FrontLemmas
 pub mod MarkedLemmas
+pub mod MemoryLemmas
 pub mod MoveLemmas
-pub mod OldSlotsLemmas
+pub mod GrownLemmas
+pub mod RoomLemmas
+pub mod PutLemmas
+pub mod MovingLemmas
 pub mod PlacesLemmas
 pub mod RetainSlotsLemmas
 pub mod SameKeysLemmas

@@ -35,16 +35,6 @@ pub(crate) fn without(word: u64, place: usize) -> u64
     word & !(1 << (place % BITS))
 }
 
-/// The first place whose bit lies in a later word than that of this place.
-#[inline(always)]
-pub(crate) fn end_of_word(place: usize) -> usize
-    requires { place < 2 ^ 63 }
-    ensures behind { place < result }
-    ensures near { result ≤ place + 64 }
-{
-    (place / BITS + 1) * BITS
-}
-
 impl<A: Allocator> Bits<A> {
     /// Marks a place, and returns whether it was marked before. No other place changes.
     #[inline(always)]

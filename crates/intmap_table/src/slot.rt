@@ -1,5 +1,5 @@
 //! One slot of a table: the first pair in its place, the others behind it.
-ghost use Rattle.std.specs.Prelude.{◌≡◌, ◌+◌, ◌^◌, ◌<◌, [], ◌∷◌, length, position, slice_index_or, nat_lt, IfOk, IfErr, IfSome, IfNone, option_copied, ◌≤◌, vec_capacity};
+ghost use Rattle.std.specs.Prelude.{◌≡◌, ◌+◌, ◌^◌, ◌<◌, [], ◌∷◌, length, position, slice_index_or, nat_lt, IfOk, IfSome, IfNone, option_copied, ◌≤◌, vec_capacity};
 ghost use Rattle.intmap_table.specs.Classes.{same_key};
 ghost use Rattle.intmap_table.specs.Reach.{through_first};
 ghost use Rattle.intmap_table.specs.Tables.Slots.{all_pairs, HasFirst};
@@ -57,7 +57,7 @@ impl<K: IntKey, X, A: Allocator> Slot<K, X, A> {
     /// A slot with no pair. It allocates nothing.
     pub(crate) fn new(alloc: A) -> Slot<K, X, A>
         ensures pairs { result.pairs ≡ [] }
-        ensures room { 0 < result.room }
+        ensures room { result.room ≡ 1 }
     {
         Slot {
             first: None,
@@ -105,7 +105,8 @@ impl<K: IntKey, X, A: Allocator> Slot<K, X, A> {
     /// The place of the last pair.
     pub(crate) fn last_place(&self) -> usize
         requires { 0 < length self.now.pairs }
-        ensures { result + 1 ≡ length self.now.pairs }
+        ensures place { result + 1 ≡ length self.now.pairs }
+        ensures room { length self.now.pairs ≤ self.now.room }
     {
         self.rest.len()
     }
@@ -156,18 +157,6 @@ impl<K: IntKey, X, A: Allocator> Slot<K, X, A> {
         }
     }
 
-    /// The only pair, if there is exactly one.
-    #[inline(always)]
-    pub(crate) fn lone(&self) -> Option<&(Stored<K>, X)>
-        ensures lone { IfSome result (λ pair. self.now.pairs ≡ pair.now ∷ []) }
-        ensures not_lone { IfNone result (length self.now.pairs ≡ 1 → ⊥) }
-    {
-        if !self.rest.is_empty() {
-            return None;
-        }
-        self.first.as_ref()
-    }
-
     /// The first pair, if there is one, and the rest.
     pub(crate) fn parts(&self) -> (Option<&(Stored<K>, X)>, &[(Stored<K>, X)])
         ensures { self.now.pairs ≡ all_pairs (option_copied result.0) result.1.now }
@@ -203,19 +192,6 @@ impl<K: IntKey, X: Drop, A: Allocator> Slot<K, X, A> {
     {
         self.first = None;
         self.rest.clear();
-    }
-
-    /// The only pair, if there is exactly one. Otherwise the slot is returned as it was.
-    #[inline(always)]
-    pub(crate) fn into_lone(self) -> Result<(Stored<K>, X), Slot<K, X, A>>
-        ensures lone { IfOk result (λ pair. self.pairs ≡ pair ∷ []) }
-        ensures others { IfErr result (λ slot. slot ≡ self) }
-    {
-        let Slot { first, rest } = self;
-        match first {
-            Some(pair) if rest.is_empty() => Ok(pair),
-            first => Err(Slot { first, rest }),
-        }
     }
 }
 

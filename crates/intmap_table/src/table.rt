@@ -23,6 +23,7 @@ use crate::key::IntKey;
 use crate::slot::Slot;
 use crate::steps::Steps;
 use crate::stored::Stored;
+use grow::add_slots;
 use std::alloc::{AllocError, Allocator};
 use std::marker::Model;
 use walk::Pairs;
@@ -187,10 +188,8 @@ impl<K: IntKey, X: Drop, A: Allocator + Copy> Table<K, X, A> {
         ensures capacity { IfOk result (λ table. table.capacity ≡ capacity) }
     {
         let bits = Bits::new(alloc, capacity)?;
-        let mut slots = Vec::with_capacity(alloc, capacity)?;
-        for _ in 0..capacity {
-            slots.push_reserved(Slot::new(alloc));
-        }
+        let mut slots = Vec::new(alloc);
+        add_slots(&mut slots, capacity)?;
         let directory = Directory {
             mask: capacity - 1,
             bits,

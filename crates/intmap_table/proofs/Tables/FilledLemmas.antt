@@ -9,7 +9,6 @@ use Rattle.intmap_table.specs.Tables.Bits.{marked, marked_places}
 use Rattle.intmap_table.specs.Tables.Slots.{Held, rows, joined, pairs_at, AreMarked, IsMarkedTable}
 use Rattle.intmap_table.specs.Bindings.{value_of}
 use Rattle.intmap_table.specs.Classes.{IsCapacity}
-use Rattle.intmap_table.specs.Tables.Moves.{IsReady}
 use Rattle.intmap_table.proofs.Tables.TableLemmas.{IsSlot, within, length-rows, get_or-rows, IsTable-empty}
 use Rattle.intmap_table.proofs.Tables.MarkedLemmas.{row-none, marked-replicate, All-marked_places, flat_map-marked_places, length-marked_places}
 
@@ -159,15 +158,6 @@ IsMarkedTable-empty number S C capacity empty =
       table = IsTable-empty number S (rw len capacity) (λ i _. none i);
       marks = AreMarked-none (rows S) C rows-len none;
     }
-
--- slots that are ready for keys hold no pair yet
-pub AreMarked-ready : {K X : Type 0} (number : K → ℕ) (ks : List K) (C : ℕ) (S : List (Held K X)) → IsReady number ks C S → AreMarked (rows S) (replicate (64 * ((C + 63) / 64)) false)
-AreMarked-ready number ks C S ready =
-    let long : length (rows S) ≡ C = length-rows S ∙ ready.len in
-    AreMarked-none (rows S) C long (λ i. elim (cases_lt i C) as (λ _. get_or (rows S) i [] ≡ []) [
-      | inl below ↦ ready.empty i below
-      | inr past ↦ get_or_past (rows S) i [] (omega (arith, past, long))
-    ])
 
 -- rows without pairs, joined
 pub joined-emptied : {P : Type 0} (R : List (List P)) → ((i : ℕ) → get_or R i [] ≡ []) → joined R ≡ []

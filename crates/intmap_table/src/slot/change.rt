@@ -1,5 +1,6 @@
 //! Pairs that are put into a slot, replaced and removed there, and values that are written.
-ghost use Rattle.std.specs.Prelude.{◌≡◌, ◌+◌, ◌<◌, [], ◌∷◌, ◌++◌, length, swap_remove, slice_index_or, is_some, true, Some, OnOk, OnErr, IfErr, IfSome, IfNone};
+ghost use Rattle.std.specs.Prelude.{◌≡◌, ◌≢◌, ◌+◌, ◌<◌, ◌≤◌, [], ◌∷◌, ◌++◌, length, reverse, vec_capacity, swap_remove, slice_index_or, is_some, true, Some, OnOk, OnErr, IfErr, IfSome, IfNone};
+ghost use Rattle.intmap_table.specs.Tables.Moves.{emptied};
 ghost use Rattle.intmap_table.specs.Tables.Kept.{WritesStored, TakesStoredMut};
 ghost use Rattle.intmap_table.specs.Taking.{TakesEach};
 ghost use Rattle.intmap_table.specs.Writes.{Writes};
@@ -58,15 +59,41 @@ impl<K: IntKey, X: Drop, A: Allocator> Slot<K, X, A> {
         self.first = Some(pair);
     }
 
-    /// Adds a pair behind others, where there is room for it.
+    /// Adds a pair behind others. A slot without a block takes this one for it.
     #[inline(always)]
-    pub(crate) fn push_reserved(&mut self, pair: (Stored<K>, X))
+    pub(crate) fn push_with(&mut self, pair: (Stored<K>, X), block: &mut Vec<(Stored<K>, X), A>)
         requires filled { 0 < length self.old.pairs }
-        requires room { length self.old.pairs < self.old.room }
+        requires empty { block.old.items ≡ [] }
+        requires own { self.old.room ≢ 1 → length self.old.pairs < self.old.room }
+        requires lent { self.old.room ≡ 1 → length self.old.pairs < 1 + vec_capacity block.old }
         ensures pairs { self.new.pairs ≡ self.old.pairs ++ pair ∷ [] }
-        ensures room { self.new.room ≡ self.old.room }
+        ensures block { block.new.items ≡ [] }
+        ensures own { self.old.room ≢ 1 → (self.new.room ≡ self.old.room)
+            × (vec_capacity block.new ≡ vec_capacity block.old) }
+        ensures lent { self.old.room ≡ 1 → self.new.room ≡ 1 + vec_capacity block.old }
     {
+        if self.rest.capacity() == 0 {
+            mem::swap(&mut self.rest, block);
+        }
         self.rest.push_reserved(pair);
+    }
+
+    /// Makes room for one pair more, and allocates for exactly that. It returns whether it did.
+    pub(crate) fn reserve_one(&mut self) -> Result<bool, AllocError>
+        ensures { self.new.pairs ≡ self.old.pairs }
+    {
+        if self.first.is_none() || self.rest.len() < self.rest.capacity() {
+            return Ok(false);
+        }
+        self.rest.reserve_exact(1)?;
+        Ok(true)
+    }
+
+    /// Gives the room back that no pair needs.
+    pub(crate) fn shrink(&mut self)
+        ensures { self.new.pairs ≡ self.old.pairs }
+    {
+        self.rest.shrink_to_fit();
     }
 
     /// Adds a pair behind others. The second pair allocates room for itself alone. If the
@@ -98,6 +125,7 @@ impl<K: IntKey, X, A: Allocator> Slot<K, X, A> {
         ensures lone { IfSome result (λ pair. self.old.pairs ≡ pair ∷ []) }
         ensures emptied { IfSome result (λ pair. self.new.pairs ≡ []) }
         ensures not_lone { IfNone result (length self.old.pairs ≡ 1 → ⊥) }
+        ensures room { self.new.room ≡ self.old.room }
         ensures others { IfNone result (self.new.pairs ≡ self.old.pairs) }
     {
         if !self.rest.is_empty() {
@@ -149,6 +177,36 @@ impl<K: IntKey, X, A: Allocator> Slot<K, X, A> {
         }
         let last = replace_last(&mut self.rest, new);
         replace_first(&mut self.first, last)
+    }
+}
+
+impl<K: IntKey, X, A: Allocator + Copy> Slot<K, X, A> {
+    /// Takes all of several pairs out: the first, and the others into a buffer with room for them,
+    /// the last of them first. It returns the first and the block of the others.
+    #[inline(always)]
+    pub(crate) fn take_out(
+        &mut self,
+        buffer: &mut Vec<(Stored<K>, X), A>,
+    ) -> ((Stored<K>, X), Vec<(Stored<K>, X), A>)
+        requires several { 1 < length self.old.pairs }
+        requires empty { buffer.old.items ≡ [] }
+        requires enough { length self.old.pairs ≤ 1 + vec_capacity buffer.old }
+        ensures pairs { self.old.pairs ≡ result.0 ∷ reverse buffer.new.items }
+        ensures emptied { self.new ≡ emptied }
+        ensures block { result.1.items ≡ [] }
+        ensures block_room { 1 + vec_capacity result.1 ≡ self.old.room }
+        ensures buffer_room { vec_capacity buffer.old ≤ vec_capacity buffer.new }
+    {
+        let alloc = *self.rest.allocator();
+        let mut block = mem::replace(&mut self.rest, Vec::new(alloc));
+        if buffer.append(&mut block).is_err() {
+            unreachable!();
+        }
+        buffer.as_mut_slice().reverse();
+        match self.first.take() {
+            Some(first) => (first, block),
+            None => unreachable!(),
+        }
     }
 }
 

@@ -1,141 +1,272 @@
-//! Growth in one jump. All memory is allocated before the first pair moves.
-ghost use Rattle.std.specs.Prelude.{◌≡◌, ◌+◌, ◌^◌, ◌<◌, [], ◌∷◌, ◌++◌, length, OnOk, OnErr, IfOk, IfErr, IsOk, None};
-ghost use Rattle.std.specs.Option.{option_to_list};
-ghost use Rattle.intmap_table.specs.Classes.{IsCapacity};
-ghost use Rattle.intmap_table.specs.Bindings.{value_of, put_pair};
-ghost use Rattle.intmap_table.specs.Tables.Slots.{rows, joined, AreMarked};
-ghost use Rattle.intmap_table.specs.Walk.{walk_of};
-ghost use Rattle.std.specs.Map.{keys_of};
-ghost use Rattle.intmap_table.specs.Tables.Moves.{CanCount, IsCounted, IsRoomy, IsReady};
+//! Growth in one jump, in the table's own slots. All memory is allocated before the first pair moves.
+ghost use Rattle.std.specs.Prelude.{◌≡◌, ◌+◌, ◌-◌, ◌*◌, ◌/◌, ◌^◌, ◌<◌, ◌≤◌, ℕ, [], ◌∷◌, ◌++◌, length, get_or, set, take, replicate, All, OnOk, OnErr, IfOk, IfErr, IsOk, None, Some, vec_capacity};
+ghost use Rattle.intmap_table.specs.Classes.{IsCapacity, slot_number};
+ghost use Rattle.intmap_table.specs.Bindings.{value_of, put_pair, take_key};
+ghost use Rattle.intmap_table.specs.Tables.Slots.{rows, joined, AreMarked, IsMaskedTable};
+ghost use Rattle.intmap_table.specs.Walk.{slot_of, walk_of};
+ghost use Rattle.intmap_table.specs.Locations.{IsLast};
+ghost use Rattle.intmap_table.specs.Tables.Moves.{rooms, IsGrown, IsOldRows, HasParts, CanMoveOn, emptied, need};
 
 use crate::bits::Bits;
 use crate::key::IntKey;
 use crate::slot::Slot;
 use crate::steps::Steps;
 use crate::stored::Stored;
-use crate::table::place::{place, place_all};
+use crate::table::place::move_all;
 use crate::table::{Directory, Table, index_of};
 use std::alloc::{AllocError, Allocator};
-use std::mem;
 
-/// Adds one to the count of the key's slot.
-fn count_key<K: IntKey>(counts: &mut [usize], key: &K)
-    requires capacity { IsCapacity (length counts.old) }
-    requires fits { CanCount K.number_of counts.old (key.now ∷ []) }
-    ensures { IsCounted K.number_of counts.old (key.now ∷ []) counts.new }
+/// Adds one to the count of the part, of so many slots each, that the key goes to.
+#[inline(always)]
+fn count_key<K: IntKey>(counts: &mut [usize], key: &K, old: usize)
+    requires old { IsCapacity old }
+    requires all { IsCapacity (length counts.old * old) }
+    requires fits { (t : ℕ) → t < length counts.old → get_or counts.old t 0 + 1 < 2 ^ 64 }
+    ensures len { length counts.new ≡ length counts.old }
+    ensures here { (t : ℕ) → t < length counts.old
+        → slot_number K.number_of key.now (length counts.old * old) / old ≡ t
+        → get_or counts.new t 0 ≡ get_or counts.old t 0 + 1 }
+    ensures others { (t : ℕ) → t < length counts.old
+        → (slot_number K.number_of key.now (length counts.old * old) / old ≡ t → ⊥)
+        → get_or counts.new t 0 ≡ get_or counts.old t 0 }
 {
-    let index = index_of(key, counts.len());
-    counts[index] += 1;
+    let part = index_of(key, counts.len() * old) / old;
+    counts[part] += 1;
 }
 
-/// Adds to the count of each slot the number of these pairs that belong in it.
-fn count_each<K: IntKey, X>(counts: &mut [usize], pairs: &[(Stored<K>, X)])
-    requires capacity { IsCapacity (length counts.old) }
-    requires fits { CanCount K.number_of counts.old (keys_of pairs.now) }
-    ensures { IsCounted K.number_of counts.old (keys_of pairs.now) counts.new }
+/// Adds to the count of each part, of so many slots each, the number of these pairs of one old slot
+/// that go there.
+fn count_each<K: IntKey, X>(counts: &mut [usize], pairs: &[(Stored<K>, X)], old: usize)
+    requires old { IsCapacity old }
+    requires all { IsCapacity (length counts.old * old) }
+    requires fits { (t : ℕ) → t < length counts.old
+        → get_or counts.old t 0 + length pairs.now < 2 ^ 64 }
+    ensures len { length counts.new ≡ length counts.old }
+    ensures counts { (i t : ℕ) → i < old → t < length counts.old
+        → All (λ p. slot_number K.number_of p.0 old ≡ i) pairs.now → get_or counts.new t 0
+        ≡ get_or counts.old t 0 + need K.number_of pairs.now (length counts.old * old) (t * old + i) }
 {
     for pair in pairs {
-        count_key(counts, pair.0.key());
+        count_key(counts, pair.0.key(), old);
     }
 }
 
-/// Adds to the count of each slot the number of an old slot's pairs that belong in it.
-#[inline(always)]
-fn count_slot<K: IntKey, X, A: Allocator>(counts: &mut [usize], slot: &Slot<K, X, A>)
-    requires capacity { IsCapacity (length counts.old) }
-    requires fits { CanCount K.number_of counts.old (keys_of slot.now.pairs) }
-    ensures { IsCounted K.number_of counts.old (keys_of slot.now.pairs) counts.new }
+/// Counts the pairs of an old slot by the parts, of so many slots each, that they go to.
+fn count_parts<K: IntKey, X, A: Allocator>(counts: &mut [usize], slot: &Slot<K, X, A>, old: usize)
+    requires old { IsCapacity old }
+    requires all { IsCapacity (length counts.old * old) }
+    requires fits { length slot.now.pairs < 2 ^ 64 }
+    ensures len { length counts.new ≡ length counts.old }
+    ensures counts { (i t : ℕ) → i < old → t < length counts.old
+        → All (λ p. slot_number K.number_of p.0 old ≡ i) slot.now.pairs
+        → get_or counts.new t 0 ≡ need K.number_of slot.now.pairs (length counts.old * old) (t * old + i) }
 {
-    if let Some(lone) = slot.lone() {
-        count_key(counts, lone.0.key());
-        return;
-    }
+    counts.fill(0);
     let (first, rest) = slot.parts();
     if let Some(pair) = first {
-        count_key(counts, pair.0.key());
+        count_key(counts, pair.0.key(), old);
     }
-    count_each(counts, rest);
+    count_each(counts, rest, old);
 }
 
-/// Adds to the count of each slot the number of all old slots' pairs that belong in it. The bits of
-/// the old slots tell which of them to look at.
-fn count_all<K: IntKey, X, A: Allocator>(
-    counts: &mut [usize],
-    bits: &Bits<A>,
-    slots: &[Slot<K, X, A>],
-)
-    requires marks { AreMarked (rows slots.now) bits.now }
-    requires capacity { IsCapacity (length counts.old) }
-    requires fits { CanCount K.number_of counts.old (keys_of (joined (rows slots.now))) }
-    ensures { IsCounted K.number_of counts.old (keys_of (joined (rows slots.now))) counts.new }
-{
-    for index in bits.iter() {
-        count_slot(counts, &slots[index]);
-    }
-}
-
-/// Empty slots, each with room for as many pairs as its count. All their memory is allocated here.
-fn with_room<K: IntKey, X: Drop, A: Allocator + Copy>(
-    alloc: A,
+/// Makes room in each part of an old slot, of so many slots each, for as many pairs as are counted
+/// for it, but in the first of them that needs a block: that gets the block of the old slot.
+fn take_room<K: IntKey, X: Drop, A: Allocator>(
+    slots: &mut [Slot<K, X, A>],
+    index: usize,
+    old: usize,
     counts: &[usize],
-) -> Result<Vec<Slot<K, X, A>, A>, AllocError>
-    ensures { IfOk result (λ slots. IsRoomy counts.now slots.items) }
+) -> Result<(), AllocError>
+    requires within { index < old }
+    requires all { length slots.old ≡ length counts.now * old }
+    requires bare { (t : ℕ) → 0 < t → t < length counts.now
+        → get_or (rooms slots.old) (t * old + index) 0 ≡ 1 }
+    ensures rows { rows slots.new ≡ rows slots.old }
+    ensures own { get_or (rooms slots.new) index 0 ≡ get_or (rooms slots.old) index 0 }
+    ensures others { (j i t : ℕ) → i < old → (i ≡ index → ⊥) → j ≡ t * old + i
+        → get_or (rooms slots.new) j 0 ≡ get_or (rooms slots.old) j 0 }
+    ensures room { OnOk result ((x : ℕ)
+        × HasParts (set slots.new index emptied) old index counts.now x) }
 {
-    let mut slots = Vec::with_capacity(alloc, counts.len())?;
-    for index in 0..counts.len() {
-        slots.push_reserved(Slot::new(alloc));
-        let count = counts[index];
+    let mut spared = false;
+    for part in 0..counts.len() {
+        let count = counts[part];
         if count > 1 {
-            slots[index].reserve_behind(count - 1)?;
+            if spared {
+                slots[part * old + index].reserve_behind(count - 1)?;
+            }
+            spared = true;
         }
     }
-    Ok(slots)
+    Ok(())
+}
+
+/// Makes room in the new slots for the pairs of all old ones, and returns how many pairs stand behind
+/// the first one of an old slot at most. Old slots of up to three pairs need none: at most one of
+/// their new slots gets several pairs, and that one gets the old block.
+fn take_rooms<K: IntKey, X: Drop, A: Allocator>(
+    slots: &mut [Slot<K, X, A>],
+    old: &Directory<A>,
+    counts: &mut [usize],
+) -> Result<usize, AllocError>
+    requires grown { IsGrown (old.now.mask + 1) (length slots.old) }
+    requires all { length slots.old ≡ length counts.old * (old.now.mask + 1) }
+    requires rows { IsOldRows K.number_of (take (old.now.mask + 1) (rows slots.old))
+        (old.now.mask + 1) }
+    requires marks { AreMarked (take (old.now.mask + 1) (rows slots.old)) old.now.bits }
+    requires bare { (j : ℕ) → old.now.mask + 1 ≤ j → j < length slots.old
+        → get_or slots.old j emptied ≡ emptied }
+    requires fits { length (joined (rows slots.old)) < 2 ^ 64 }
+    ensures rows { rows slots.new ≡ rows slots.old }
+    ensures ready { IfOk result (λ longest. CanMoveOn K.number_of
+        (take (old.now.mask + 1) (rows slots.old)) (old.now.mask + 1) (length slots.old) 0 longest
+        slots.new) }
+{
+    let mut longest = 0;
+    for index in old.bits.iter() {
+        let behind = slots[index].last_place();
+        if behind > 2 {
+            count_parts(counts, &slots[index], old.mask + 1);
+            take_room(slots, index, old.mask + 1, counts)?;
+        }
+        if behind > longest {
+            longest = behind;
+        }
+    }
+    Ok(longest)
+}
+
+/// Adds empty slots, up to so many. It allocates them at once.
+pub(super) fn add_slots<K: IntKey, X: Drop, A: Allocator + Copy>(
+    slots: &mut Vec<Slot<K, X, A>, A>,
+    capacity: usize,
+) -> Result<(), AllocError>
+    requires { length slots.old.items ≤ capacity }
+    ensures slots { OnOk result (slots.new.items
+        ≡ slots.old.items ++ replicate (capacity - length slots.old.items) emptied) }
+    ensures err { OnErr result (slots.new.items ≡ slots.old.items) }
+{
+    let alloc = *slots.allocator();
+    let more = capacity - slots.len();
+    slots.reserve_exact(more)?;
+    for _ in 0..more {
+        slots.push_reserved(Slot::new(alloc));
+    }
+    Ok(())
+}
+
+/// Allocates all that a growth to so many slots needs: empty slots, room in them, and a buffer, which
+/// it returns. The old slots stay. If an allocation fails, further slots may be left.
+fn make_room<K: IntKey, X: Drop, A: Allocator + Copy>(
+    slots: &mut Vec<Slot<K, X, A>, A>,
+    old: &Directory<A>,
+    capacity: usize,
+) -> Result<Vec<(Stored<K>, X), A>, AllocError>
+    requires grown { IsGrown (length slots.old.items) capacity }
+    requires table { IsMaskedTable K.number_of slots.old.items old.now.bits old.now.mask }
+    requires fits { length (joined (rows slots.old.items)) < 2 ^ 64 }
+    ensures rows { take (length slots.old.items) (rows slots.new.items)
+        ≡ rows slots.old.items }
+    ensures len { IfOk result (λ _. length slots.new.items ≡ capacity) }
+    ensures buffer { IfOk result (λ buffer. buffer.items ≡ []) }
+    ensures ready { IfOk result (λ buffer. CanMoveOn K.number_of (rows slots.old.items)
+        (length slots.old.items) capacity 0 (vec_capacity buffer) slots.new.items) }
+{
+    let alloc = *slots.allocator();
+    let mut counts = vec![in alloc; 0usize; capacity / slots.len()]?;
+    add_slots(slots, capacity)?;
+    let longest = take_rooms(slots, old, &mut counts)?;
+    Vec::with_capacity(alloc, longest)
+}
+
+/// Allocates all that a growth to so many slots needs, and returns the buffer for it. If an
+/// allocation fails, the slots are as before, and so is their memory.
+fn take_memory<K: IntKey, X: Drop, A: Allocator + Copy>(
+    slots: &mut Vec<Slot<K, X, A>, A>,
+    old: &Directory<A>,
+    capacity: usize,
+) -> Result<Vec<(Stored<K>, X), A>, AllocError>
+    requires grown { IsGrown (length slots.old.items) capacity }
+    requires table { IsMaskedTable K.number_of slots.old.items old.now.bits old.now.mask }
+    requires fits { length (joined (rows slots.old.items)) < 2 ^ 64 }
+    ensures err { OnErr result (rows slots.new.items ≡ rows slots.old.items) }
+    ensures rows { OnOk result (take (length slots.old.items) (rows slots.new.items)
+        ≡ rows slots.old.items) }
+    ensures len { IfOk result (λ _. length slots.new.items ≡ capacity) }
+    ensures buffer { IfOk result (λ buffer. buffer.items ≡ []) }
+    ensures ready { IfOk result (λ buffer. CanMoveOn K.number_of (rows slots.old.items)
+        (length slots.old.items) capacity 0 (vec_capacity buffer) slots.new.items) }
+{
+    let len = slots.len();
+    let made = make_room(slots, old, capacity);
+    if made.is_err() {
+        slots.truncate(len);
+        slots.shrink_to_fit();
+    }
+    made
 }
 
 impl<K: IntKey, X: Drop, A: Allocator + Copy> Table<K, X, A> {
-    /// Adds to the count of each slot, of as many as there are counts, the number of the pairs that
-    /// belong in it.
-    fn count_pairs(&self, counts: &mut [usize])
-        requires capacity { IsCapacity (length counts.old) }
-        requires fits { CanCount K.number_of counts.old (keys_of self.now.walk) }
-        ensures { IsCounted K.number_of counts.old (keys_of self.now.walk) counts.new }
-    {
-        count_all(counts, &self.directory.bits, &self.slots);
-    }
-
-    /// So many empty slots and their bits. Each slot has exact room for the pairs that belong in
-    /// it, including that of a new key.
-    fn slots_for(
-        &self,
-        capacity: usize,
-        new: Option<K>,
-    ) -> Result<(Directory<A>, Vec<Slot<K, X, A>, A>), AllocError>
+    /// Moves all pairs, in the order of the walk, to their slots among so many. If an allocation
+    /// fails, nothing changes.
+    fn grow(&mut self, capacity: usize, placed: &mut Steps) -> Result<(), AllocError>
         requires capacity { IsCapacity capacity }
-        requires count { length self.now.walk + length (option_to_list new) < 2 ^ 64 }
-        ensures slots { IfOk result (λ made. IsReady K.number_of
-            (keys_of self.now.walk ++ option_to_list new) capacity made.1.items) }
-        ensures marks { IfOk result (λ made. AreMarked (rows made.1.items) made.0.bits) }
-        ensures mask { IfOk result (λ made. made.0.mask + 1 ≡ capacity) }
+        requires larger { self.old.capacity ≤ capacity }
+        requires fits { length self.old.walk < 2 ^ 64 }
+        ensures walk { OnOk result
+            (self.new.walk ≡ walk_of K.number_of self.old.walk capacity) }
+        ensures capacity { OnOk result (self.new.capacity ≡ capacity) }
+        ensures placed { OnOk result (placed.new ≡ placed.old + length self.old.walk) }
+        ensures err { OnErr result (self.new ≡ self.old) }
+        ensures none_placed { OnErr result (placed.new ≡ placed.old) }
     {
-        let alloc = *self.slots.allocator();
-        let mut zeros = vec![in alloc; 0usize; capacity]?;
-        let counts = zeros.as_mut_slice();
-        self.count_pairs(counts);
-        if let Some(key) = new {
-            count_key(counts, &key);
-        }
-        let bits = Bits::new(alloc, capacity)?;
-        let slots = with_room(alloc, counts)?;
-        let directory = Directory {
+        let mut bits = Bits::new(*self.slots.allocator(), capacity)?;
+        let mut buffer = take_memory(&mut self.slots, &self.directory, capacity)?;
+        move_all(
+            &mut bits,
+            &mut self.slots,
+            &self.directory,
+            &mut buffer,
+            placed,
+        );
+        self.directory = Directory {
             mask: capacity - 1,
             bits,
         };
-        Ok((directory, slots))
+        Ok(())
     }
 
-    /// Moves all pairs, in the order of the walk, to a table of so many slots, and puts the pair of
-    /// an absent key behind them. If an allocation fails, the value is returned and nothing
-    /// changes.
+    /// Makes room for the pair of a key in its slot, and allocates for exactly that. It returns
+    /// whether it did.
+    fn reserve_for(&mut self, key: &K) -> Result<bool, AllocError>
+        ensures same { self.new ≡ self.old }
+        ensures range { IsCapacity self.old.capacity }
+        ensures own { walk_of K.number_of self.old.walk self.old.capacity ≡ self.old.walk }
+    {
+        let index = self.index_of(key);
+        self.slots[index].reserve_one()
+    }
+
+    /// Takes the pair of a key out again that is the last of its slot, and gives back the room that
+    /// was made for it.
+    fn take_back(&mut self, key: K, is_made: bool) -> X
+        requires { IsLast K.number_of self.old.walk self.old.capacity key }
+        ensures value { value_of K.number_of self.old.walk key ≡ Some result }
+        ensures walk { self.new.walk ≡ walk_of K.number_of
+            (take_key K.number_of self.old.walk self.old.capacity key) self.old.capacity }
+        ensures capacity { self.new.capacity ≡ self.old.capacity }
+    {
+        let at = self.locate_last(key);
+        let value = self.take_at(at);
+        if is_made {
+            self.slots[at.slot].shrink();
+        }
+        value
+    }
+
+    /// Puts the pair of an absent key behind the pairs of its slot, and moves all pairs, in the order
+    /// of the walk, to their slots among so many. If an allocation fails, the value is returned and
+    /// nothing changes.
     pub fn grow_with(
         &mut self,
         capacity: usize,
@@ -144,6 +275,7 @@ impl<K: IntKey, X: Drop, A: Allocator + Copy> Table<K, X, A> {
         placed: &mut Steps,
     ) -> Result<(), X>
         requires capacity { IsCapacity capacity }
+        requires larger { self.old.capacity ≤ capacity }
         requires missing { value_of K.number_of self.old.walk key ≡ None }
         requires count { length self.old.walk + 1 < 2 ^ 64 }
         ensures walk { OnOk result (self.new.walk ≡ walk_of K.number_of
@@ -154,22 +286,21 @@ impl<K: IntKey, X: Drop, A: Allocator + Copy> Table<K, X, A> {
         ensures none_placed { OnErr result (placed.new ≡ placed.old) }
         ensures value_returned { IfErr result (λ returned. returned ≡ value) }
     {
-        let Ok((directory, slots)) = self.slots_for(capacity, Some(key)) else {
+        let Ok(is_made) = self.reserve_for(&key) else {
             return Err(value);
         };
-        let old_directory = mem::replace(&mut self.directory, directory);
-        let old = mem::replace(&mut self.slots, slots);
-        let bits = &mut self.directory.bits;
-        let slots = self.slots.as_mut_slice();
-        place_all(bits, slots, &old_directory.bits, old, placed);
-        place(bits, slots, (Stored::new(key), value), placed);
+        self.add(key, value)?;
+        if self.grow(capacity, placed).is_err() {
+            return Err(self.take_back(key, is_made));
+        }
         Ok(())
     }
 
-    /// Moves all pairs, in the order of the walk, to a table of so many slots. It does nothing if
+    /// Moves all pairs, in the order of the walk, to their slots among so many. It does nothing if
     /// there are so many already. If an allocation fails, nothing changes.
     pub fn grow_to(&mut self, capacity: usize) -> Result<(), AllocError>
         requires capacity { IsCapacity capacity }
+        requires larger { self.old.capacity ≤ capacity }
         requires count { length self.old.walk < 2 ^ 64 }
         ensures walk { OnOk result
             (self.new.walk ≡ walk_of K.number_of self.old.walk capacity) }
@@ -180,16 +311,6 @@ impl<K: IntKey, X: Drop, A: Allocator + Copy> Table<K, X, A> {
         if capacity == self.slots.len() {
             return Ok(());
         }
-        let (directory, slots) = self.slots_for(capacity, None)?;
-        let old_directory = mem::replace(&mut self.directory, directory);
-        let old = mem::replace(&mut self.slots, slots);
-        place_all(
-            &mut self.directory.bits,
-            &mut self.slots,
-            &old_directory.bits,
-            old,
-            &mut Steps::new(),
-        );
-        Ok(())
+        self.grow(capacity, &mut Steps::new())
     }
 }

@@ -1,140 +1,188 @@
-//! How pairs get to their slots in a larger table.
-ghost use Rattle.std.specs.Prelude.{◌≡◌, ◌+◌, [], ◌∷◌, length};
-ghost use Rattle.intmap_table.specs.Classes.{IsCapacity};
-ghost use Rattle.intmap_table.specs.Tables.Slots.{rows, joined, AreMarked};
-ghost use Rattle.intmap_table.specs.Tables.Moves.{HasRoom, IsPlaced};
+//! How pairs get to their slots in a table that has become longer.
+ghost use Rattle.std.specs.Prelude.{◌≡◌, ◌+◌, ◌*◌, ◌/◌, ◌<◌, ◌≤◌, [], ◌∷◌, length, get_or, set, slice_set, take, reverse, replicate, true, false, vec_capacity, ℕ};
+ghost use Rattle.intmap_table.specs.Classes.{IsCapacity, slot_number};
+ghost use Rattle.intmap_table.specs.Tables.Slots.{Held, rows, joined, AreMarked};
+ghost use Rattle.intmap_table.specs.Tables.Moves.{IsGrown, IsOldRows, IsMidway, IsPlaced, IsPut, Fits, HasRoom, CanLeave, CanMoveOn, AreSet, AreTold, AreFree, emptied};
 
-use crate::bits::{Bits, end_of_word};
+use crate::bits::Bits;
 use crate::key::IntKey;
 use crate::slot::Slot;
 use crate::steps::Steps;
 use crate::stored::Stored;
-use crate::table::index_of;
+use crate::table::{Directory, index_of};
 use std::alloc::Allocator;
 
-/// Puts a pair at the end of its slot, where there is room for it, and counts it. The slot's bit is
-/// set.
-pub(super) fn place<K: IntKey, X: Drop, A: Allocator>(
+/// Puts a pair at the end of its slot and counts it. The slot's bit is set. A slot that holds a pair
+/// and has no block takes this one.
+fn place<K: IntKey, X: Drop, A: Allocator>(
     bits: &mut Bits<A>,
     slots: &mut [Slot<K, X, A>],
     pair: (Stored<K>, X),
+    block: &mut Vec<(Stored<K>, X), A>,
     placed: &mut Steps,
 )
-    requires marks { AreMarked (rows slots.old) bits.old }
     requires capacity { IsCapacity (length slots.old) }
-    requires room { HasRoom K.number_of slots.old (pair ∷ []) }
-    ensures pairs { IsPlaced K.number_of slots.old (pair ∷ []) slots.new }
+    requires words { length slots.old ≤ length bits.old }
+    requires told { AreTold K.number_of slots.old (pair ∷ []) bits.old }
+    requires block { block.old.items ≡ [] }
+    requires room { Fits slots.old (slot_number K.number_of pair.0 (length slots.old))
+        (vec_capacity block.old) }
+    ensures put { IsPut slots.old (slot_number K.number_of pair.0 (length slots.old))
+        (vec_capacity block.old) pair slots.new (vec_capacity block.new) }
+    ensures marks { bits.new
+        ≡ slice_set bits.old (slot_number K.number_of pair.0 (length slots.old)) true }
+    ensures block { block.new.items ≡ [] }
     ensures placed { placed.new ≡ placed.old + 1 }
-    ensures marks { AreMarked (rows slots.new) bits.new }
 {
     let index = index_of(pair.0.key(), slots.len());
     let slot = &mut slots[index];
     if bits.set(index) {
-        slot.push_reserved(pair);
+        slot.push_with(pair, block);
     } else {
         slot.put_first(pair);
     }
     placed.tick();
 }
 
-/// Puts pairs, in order, at the ends of their slots, where there is room for them.
+/// Puts a pair into its slot, which holds none, and counts it. The slot's bit is set.
+#[inline(always)]
+fn place_first<K: IntKey, X: Drop, A: Allocator>(
+    bits: &mut Bits<A>,
+    slots: &mut [Slot<K, X, A>],
+    pair: (Stored<K>, X),
+    placed: &mut Steps,
+)
+    requires capacity { IsCapacity (length slots.old) }
+    requires words { length slots.old ≤ length bits.old }
+    requires free { AreFree K.number_of slots.old (pair ∷ []) bits.old }
+    ensures put { IsPut slots.old (slot_number K.number_of pair.0 (length slots.old))
+        0 pair slots.new 0 }
+    ensures marks { bits.new
+        ≡ slice_set bits.old (slot_number K.number_of pair.0 (length slots.old)) true }
+    ensures placed { placed.new ≡ placed.old + 1 }
+{
+    let index = index_of(pair.0.key(), slots.len());
+    bits.set(index);
+    slots[index].put_first(pair);
+    placed.tick();
+}
+
+/// Puts the pairs of the buffer, the last one first, at the ends of their slots. The first slot that
+/// holds a pair and has no block takes this one.
 fn place_each<K: IntKey, X: Drop, A: Allocator>(
     bits: &mut Bits<A>,
     slots: &mut [Slot<K, X, A>],
-    pairs: Vec<(Stored<K>, X), A>,
+    buffer: &mut Vec<(Stored<K>, X), A>,
+    block: &mut Vec<(Stored<K>, X), A>,
     placed: &mut Steps,
 )
-    requires marks { AreMarked (rows slots.old) bits.old }
     requires capacity { IsCapacity (length slots.old) }
-    requires room { HasRoom K.number_of slots.old pairs.items }
-    ensures pairs { IsPlaced K.number_of slots.old pairs.items slots.new }
-    ensures placed { placed.new ≡ placed.old + length pairs.items }
-    ensures marks { AreMarked (rows slots.new) bits.new }
+    requires words { length slots.old ≤ length bits.old }
+    requires told { AreTold K.number_of slots.old (reverse buffer.old.items) bits.old }
+    requires block { block.old.items ≡ [] }
+    requires room { (x : ℕ) × HasRoom K.number_of slots.old (reverse buffer.old.items)
+        (vec_capacity block.old) x }
+    ensures pairs { IsPlaced K.number_of slots.old (reverse buffer.old.items) slots.new }
+    ensures marks { AreSet K.number_of bits.old (reverse buffer.old.items) (length slots.old)
+        bits.new }
+    ensures placed { placed.new ≡ placed.old + length buffer.old.items }
+    ensures buffer { buffer.new.items ≡ [] }
+    ensures buffer_room { vec_capacity buffer.old ≤ vec_capacity buffer.new }
 {
-    for pair in pairs {
-        place(bits, slots, pair, placed);
+    while let Some(pair) = buffer.pop() {
+        place(bits, slots, pair, block, placed);
     }
 }
 
-/// Puts the pairs of an old slot of none or of several, in order, at the ends of their slots, where
-/// there is room for them.
+/// Moves the pairs of an old slot of several, in order, to the ends of their slots. The first of
+/// these that needs a block takes that of the old slot.
 #[inline(never)]
-fn place_several<K: IntKey, X: Drop, A: Allocator>(
+fn move_several<K: IntKey, X: Drop, A: Allocator + Copy>(
     bits: &mut Bits<A>,
     slots: &mut [Slot<K, X, A>],
-    old: Slot<K, X, A>,
+    index: usize,
+    buffer: &mut Vec<(Stored<K>, X), A>,
     placed: &mut Steps,
 )
-    requires marks { AreMarked (rows slots.old) bits.old }
     requires capacity { IsCapacity (length slots.old) }
-    requires room { HasRoom K.number_of slots.old old.pairs }
-    ensures pairs { IsPlaced K.number_of slots.old old.pairs slots.new }
-    ensures placed { placed.new ≡ placed.old + length old.pairs }
-    ensures marks { AreMarked (rows slots.new) bits.new }
+    requires words { length slots.old ≤ length bits.old }
+    requires within { index < length slots.old }
+    requires several { 1 < length (get_or (rows slots.old) index []) }
+    requires buffer { buffer.old.items ≡ [] }
+    requires enough { length (get_or (rows slots.old) index []) ≤ 1 + vec_capacity buffer.old }
+    requires leave { CanLeave K.number_of slots.old index }
+    requires free { AreFree K.number_of (set slots.old index emptied)
+        (get_or (rows slots.old) index []) bits.old }
+    ensures pairs { IsPlaced K.number_of (set slots.old index emptied)
+        (get_or (rows slots.old) index []) slots.new }
+    ensures marks { AreSet K.number_of bits.old (get_or (rows slots.old) index [])
+        (length slots.old) bits.new }
+    ensures placed { placed.new ≡ placed.old + length (get_or (rows slots.old) index []) }
+    ensures buffer { buffer.new.items ≡ [] }
+    ensures buffer_room { vec_capacity buffer.old ≤ vec_capacity buffer.new }
 {
-    let (first, rest) = old.into_parts();
-    let Some(pair) = first else {
-        return;
-    };
-    place(bits, slots, pair, placed);
-    place_each(bits, slots, rest, placed);
+    let (first, mut block) = slots[index].take_out(buffer);
+    place(bits, slots, first, &mut block, placed);
+    place_each(bits, slots, buffer, &mut block, placed);
 }
 
-/// Puts the pairs of an old slot, in order, at the ends of their slots, where there is room for
-/// them.
+/// Moves the pairs of an old slot, in order, to the ends of their slots. The slot may keep a block
+/// that it has for a single pair.
 #[inline(always)]
-fn place_slot<K: IntKey, X: Drop, A: Allocator>(
+fn move_slot<K: IntKey, X: Drop, A: Allocator + Copy>(
     bits: &mut Bits<A>,
     slots: &mut [Slot<K, X, A>],
-    old: Slot<K, X, A>,
+    index: usize,
+    buffer: &mut Vec<(Stored<K>, X), A>,
     placed: &mut Steps,
 )
-    requires marks { AreMarked (rows slots.old) bits.old }
     requires capacity { IsCapacity (length slots.old) }
-    requires room { HasRoom K.number_of slots.old old.pairs }
-    ensures pairs { IsPlaced K.number_of slots.old old.pairs slots.new }
-    ensures placed { placed.new ≡ placed.old + length old.pairs }
-    ensures marks { AreMarked (rows slots.new) bits.new }
+    requires words { length slots.old ≤ length bits.old }
+    requires within { index < length slots.old }
+    requires filled { 0 < length (get_or (rows slots.old) index []) }
+    requires buffer { buffer.old.items ≡ [] }
+    requires enough { length (get_or (rows slots.old) index []) ≤ 1 + vec_capacity buffer.old }
+    requires leave { CanLeave K.number_of slots.old index }
+    requires free { AreFree K.number_of (set slots.old index emptied)
+        (get_or (rows slots.old) index []) bits.old }
+    ensures pairs { (left : Held K X) × (left.pairs ≡ []) × IsPlaced K.number_of
+        (set slots.old index left) (get_or (rows slots.old) index []) slots.new }
+    ensures marks { AreSet K.number_of bits.old (get_or (rows slots.old) index [])
+        (length slots.old) bits.new }
+    ensures placed { placed.new ≡ placed.old + length (get_or (rows slots.old) index []) }
+    ensures buffer { buffer.new.items ≡ [] }
+    ensures buffer_room { vec_capacity buffer.old ≤ vec_capacity buffer.new }
 {
-    if !old.is_filled() {
+    if let Some(lone) = slots[index].take_lone() {
+        place_first(bits, slots, lone, placed);
         return;
     }
-    match old.into_lone() {
-        Ok(lone) => place(bits, slots, lone, placed),
-        Err(several) => place_several(bits, slots, several, placed),
-    }
+    move_several(bits, slots, index, buffer, placed);
 }
 
-/// Puts the pairs of all old slots, slot after slot, at the ends of their slots, where there is
-/// room for them. Old slots whose bits are zero words are dropped without being looked at.
-pub(super) fn place_all<K: IntKey, X: Drop, A: Allocator>(
+/// Moves the pairs of all old slots, slot after slot, to the ends of their slots.
+pub(super) fn move_all<K: IntKey, X: Drop, A: Allocator + Copy>(
     bits: &mut Bits<A>,
     slots: &mut [Slot<K, X, A>],
-    old_bits: &Bits<A>,
-    old: Vec<Slot<K, X, A>, A>,
+    old: &Directory<A>,
+    buffer: &mut Vec<(Stored<K>, X), A>,
     placed: &mut Steps,
 )
-    requires old_marks { AreMarked (rows old.items) old_bits.now }
-    requires marks { AreMarked (rows slots.old) bits.old }
-    requires capacity { IsCapacity (length slots.old) }
-    requires room { HasRoom K.number_of slots.old (joined (rows old.items)) }
-    ensures pairs { IsPlaced K.number_of slots.old (joined (rows old.items)) slots.new }
-    ensures placed { placed.new ≡ placed.old + length (joined (rows old.items)) }
+    requires grown { IsGrown (old.now.mask + 1) (length slots.old) }
+    requires rows { IsOldRows K.number_of (take (old.now.mask + 1) (rows slots.old))
+        (old.now.mask + 1) }
+    requires old_marks { AreMarked (take (old.now.mask + 1) (rows slots.old)) old.now.bits }
+    requires unmarked { bits.old ≡ replicate (64 * ((length slots.old + 63) / 64)) false }
+    requires buffer { buffer.old.items ≡ [] }
+    requires ready { CanMoveOn K.number_of (take (old.now.mask + 1) (rows slots.old))
+        (old.now.mask + 1) (length slots.old) 0 (vec_capacity buffer.old) slots.old }
+    ensures moved { IsMidway K.number_of (take (old.now.mask + 1) (rows slots.old))
+        (length slots.old) (old.now.mask + 1) slots.new }
     ensures marks { AreMarked (rows slots.new) bits.new }
+    ensures placed { placed.new
+        ≡ placed.old + length (joined (take (old.now.mask + 1) (rows slots.old))) }
 {
-    let len = old.len();
-    let mut left = old.into_iter();
-    let mut next = 0;
-    while let Some(marked) = old_bits.iter_from(next).next() {
-        for _ in next..marked {
-            left.next();
-        }
-        next = end_of_word(marked).min(len);
-        for _ in marked..next {
-            let Some(slot) = left.next() else {
-                unreachable!();
-            };
-            place_slot(bits, slots, slot, placed);
-        }
+    for index in old.bits.iter() {
+        move_slot(bits, slots, index, buffer, placed);
     }
 }

@@ -19,4 +19,4 @@ last_place-place-requires g c =
 
 pub returns-clause-at : goal.returns-clause-at
 returns-clause-at g c =
-    rw (← c.self.view_is) (IsAt-last _ _ _ _ _ (here g (goal.at.returns-clause-at g c).After-index) (rw (← c.self.view_is) at c.requires) c.last_place-place.result c.last_place-place.ensures)
+    rw (← c.self.view_is) (IsAt-last _ _ _ _ _ (here g (goal.at.returns-clause-at g c).After-index) (rw (← c.self.view_is) at c.requires) c.last_place-place.result c.last_place-place.ensures.place)

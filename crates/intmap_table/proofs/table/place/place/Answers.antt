@@ -1,60 +1,76 @@
-use Rattle.std.proofs.Common.{◌≡◌, ◌∙◌, get_or, [], ◌∷◌, ◌++◌, length, true, sym, ap, rules}
+use Rattle.std.proofs.Common.{◌≡◌, inl, inr, ◌<◌, ◌∙◌, get_or, [], ◌∷◌, ◌++◌, length, set, sym, ap, subst, arith, vec_capacity}
 use Rattle.std.specs.Prelude.{nat_lt}
-use Rattle.std.proofs.lemmas.Bool.{ltb-true}
+use Rattle.std.proofs.lemmas.Bool.{ltb-true, cases_eq}
 use Rattle.intmap_table.specs.Classes.{slot_number}
-use Rattle.intmap_table.proofs.Tables.FilledLemmas.{filled-pushed, place-below, marked-at, marks-set_at}
+use Rattle.intmap_table.specs.Walk.{slot_of}
+use Rattle.intmap_table.specs.Tables.Bits.{marked}
+use Rattle.intmap_table.specs.Tables.Slots.{rows}
+use Rattle.intmap_table.specs.Tables.Moves.{rooms, IsPut, Fits}
 use Rattle.intmap_table.proofs.Tables.MarkedLemmas.{row-none}
-use Rattle.intmap_table.proofs.Tables.MoveLemmas.{IsSlotOf, room-here, IsPlaced-one}
+use Rattle.intmap_table.proofs.Tables.PutLemmas.{IsPut-kept, IsPut-lent, row-before, room-before, need-own}
 use Rattle.intmap_table.proofs.table.place.place.Goals as goal
 use Rattle.intmap_table.proofs.table.place.place.Goals.{After-index-slots-index, After-set, then-set, else-set}
 
--- the slot that is indexed is that of the pair
-at : (g : _) (c : After-index-slots-index g) → IsSlotOf g.K.IntKey.number_of c.args.slots.now c.index_of-index.result c.args.pair
-at g c = record {
-  capacity = c.requires.capacity;
-  slot = c.index_of-index.ensures.slot ∙ ap (λ k. slot_number g.K.IntKey.number_of k (length c.args.slots.now)) c.key.ensures.value;
-}
+module _ (g : _) (c : After-index-slots-index g) where
+  -- the slot that is indexed is that of the pair
+  slot : slot_number g.K.IntKey.number_of c.args.pair.0 (length c.args.slots.now) ≡ c.index_of-index.result
+  slot = ap (λ k. slot_number g.K.IntKey.number_of k (length c.args.slots.now)) (sym c.key.ensures.value) ∙ sym c.index_of-index.ensures.slot
 
--- the slot holds a pair exactly where its place is marked
-filled : (g : _) (c : After-set g) → c.set.result ≡ nat_lt 0 (length (get_or c.args.slots.now c.index_of-index.result c.index-slots-index.result).pairs)
-filled g c =
-    c.set.ensures.before ∙ marked-at c.args.slots.now c.args.bits.now c.requires.marks c.index_of-index.result c.index_of-index.ensures.within c.index-slots-index.result c.index-slots-index.is
-    ∙ ap (λ s. nat_lt 0 (length s.pairs)) c.index-slots-index.is
+  -- there is room behind its pairs
+  fits : Fits c.args.slots.now c.index_of-index.result (vec_capacity c.args.block.now)
+  fits = subst (λ j. Fits c.args.slots.now j (vec_capacity c.args.block.now)) slot c.requires.room
 
-pub set-requires : goal.set-requires
-set-requires g c = place-below c.args.slots.now c.args.bits.now c.requires.marks c.index_of-index.result c.index_of-index.ensures.within
+  row : get_or (rows c.args.slots.now) c.index_of-index.result [] ≡ (get_or c.args.slots.now c.index_of-index.result c.index-slots-index.result).pairs
+  row = row-before c.args.slots.now c.index_of-index.result c.index-slots-index.result c.index_of-index.ensures.within
 
-pub push_reserved-requires : goal.push_reserved-requires
-push_reserved-requires g c = record {
-  filled = ltb-true 0 _ (sym (filled g (goal.at.push_reserved-requires g c).After-set) ∙ c.if-set.true);
-  room = room-here _ _ _ _ (at g (goal.at.push_reserved-requires g c).After-index-slots-index) c.index-slots-index.result c.requires.room;
-}
+  room : get_or (rooms c.args.slots.now) c.index_of-index.result 0 ≡ (get_or c.args.slots.now c.index_of-index.result c.index-slots-index.result).room
+  room = room-before c.args.slots.now c.index_of-index.result c.index-slots-index.result c.index_of-index.ensures.within
+
+  -- its place is marked exactly where it holds a pair
+  told : marked c.args.bits.now c.index_of-index.result ≡ nat_lt 0 (length (get_or c.args.slots.now c.index_of-index.result c.index-slots-index.result).pairs)
+  told =
+      let number = g.K.IntKey.number_of in let D = length c.args.slots.now in
+      let needs = subst (λ j. 0 < length (slot_of number (c.args.pair ∷ []) D j)) slot (need-own number c.args.pair D) in
+      c.requires.told.told c.index_of-index.result c.index_of-index.ensures.within needs ∙ ap (λ ps. nat_lt 0 (length ps)) row
+
+pub push_with-requires-clause-filled : goal.push_with-requires-clause-filled
+push_with-requires-clause-filled g c =
+    ltb-true 0 _ (sym (told g (goal.at.push_with-requires-clause-filled g c).After-index-slots-index) ∙ sym c.set.ensures.before ∙ c.if-set.true)
+
+pub push_with-requires-clause-own : goal.push_with-requires-clause-own
+push_with-requires-clause-own g c = λ other.
+    let at = (goal.at.push_with-requires-clause-own g c).After-index-slots-index in
+    let some = ltb-true 0 _ (sym (told g at) ∙ sym c.set.ensures.before ∙ c.if-set.true) in
+    let r = ap length (row g at) in let n = room g at in
+    let less = (fits g at).own (omega (arith, r, some)) (λ q. other (sym n ∙ q)) in
+    omega (arith, less, r, n)
+
+pub push_with-requires-clause-lent : goal.push_with-requires-clause-lent
+push_with-requires-clause-lent g c = λ bare.
+    let at = (goal.at.push_with-requires-clause-lent g c).After-index-slots-index in
+    let some = ltb-true 0 _ (sym (told g at) ∙ sym c.set.ensures.before ∙ c.if-set.true) in
+    let r = ap length (row g at) in let n = room g at in
+    let less = (fits g at).lent (omega (arith, r, some)) (n ∙ bare) in
+    omega (arith, less, r)
 
 pub put_first-requires : goal.put_first-requires
-put_first-requires g c = row-none _ (sym (filled g (goal.at.put_first-requires g c).After-set) ∙ c.if-set.false)
+put_first-requires g c = row-none _ (sym (told g (goal.at.put_first-requires g c).After-index-slots-index) ∙ sym c.set.ensures.before ∙ c.if-set.false)
 
-pub returns-clause-pairs : goal.returns-clause-pairs
-returns-clause-pairs g c =
-    let here = at g (goal.at.returns-clause-pairs g c).After-index-slots-index in let h = c.index-slots-index.result in
-    let full = filled g (goal.at.returns-clause-pairs g c).After-set in
-    elim c.if-set.branch [
-      | then-set w ↦ rw w.slots-is (IsPlaced-one _ _ _ _ here h w.push_reserved.new.self w.push_reserved.ensures.pairs w.push_reserved.ensures.room)
-      | else-set w ↦ (let none = row-none _ (sym full ∙ w.if-set.false) in
-          rw w.slots-is (IsPlaced-one _ _ _ _ here h w.put_first.new.self (w.put_first.ensures.pairs ∙ ap (λ ps. ps ++ c.args.pair ∷ []) (sym none)) w.put_first.ensures.room))
-    ]
-
-pub returns-clause-marks : goal.returns-clause-marks
-returns-clause-marks g c =
-    let slots = c.args.slots.now in let bits = c.args.bits.now in let i = c.index_of-index.result in let within = c.index_of-index.ensures.within in
-    elim c.if-set.branch [
-      | then-set w ↦ (let after = ap (λ ps. nat_lt 0 (length ps)) w.push_reserved.ensures.pairs ∙ filled-pushed _ c.args.pair in
-          rw (w.slots-is, c.set.ensures.marks) (marks-set_at slots bits c.requires.marks i within w.push_reserved.new.self true (sym after)))
-      | else-set w ↦ (let after = ap (λ ps. nat_lt 0 (length ps)) w.put_first.ensures.pairs ∙ filled-pushed [] c.args.pair in
-          rw (w.slots-is, c.set.ensures.marks) (marks-set_at slots bits c.requires.marks i within w.put_first.new.self true (sym after)))
-    ]
-
-pub returns-clause-placed : goal.returns-clause-placed
-returns-clause-placed g c = c.tick.ensures
-
-pub index_of-index-requires : goal.index_of-index-requires
-index_of-index-requires g c = search rules
+pub returns-clause-put : goal.returns-clause-put
+returns-clause-put g c =
+    let at = (goal.at.returns-clause-put g c).After-index-slots-index in
+    let S = c.args.slots.now in let j = c.index_of-index.result in let h = c.index-slots-index.result in let p = c.args.pair in
+    let block = vec_capacity c.args.block.now in let within = c.index_of-index.ensures.within in
+    subst (λ i. IsPut S i block p c.if-set.slots (vec_capacity c.if-set.block)) (sym (slot g at)) (elim c.if-set.branch as (λ _. IsPut S j block p c.if-set.slots (vec_capacity c.if-set.block)) [
+      | then-set w ↦ (
+          let some = ltb-true 0 _ (sym (told g at) ∙ sym c.set.ensures.before ∙ w.if-set.true) in
+          let s = w.push_with.new.self in let done = w.push_with.ensures in
+          rw (w.slots-is, w.block-is) (elim (cases_eq (get_or S j h).room 1) as (λ _. IsPut S j block p (set S j s) (vec_capacity w.push_with.new.block)) [
+            | inl bare ↦ IsPut-lent S j h s p within done.pairs block (vec_capacity w.push_with.new.block) some bare (done.lent bare)
+            | inr other ↦ subst (λ n. IsPut S j block p (set S j s) n) (sym (done.own other).1) (IsPut-kept S j h s p within done.pairs block (inr other) (done.own other).0)
+          ]))
+      | else-set w ↦ (
+          let none = row-none _ (sym (told g at) ∙ sym c.set.ensures.before ∙ w.if-set.false) in
+          let s = w.put_first.new.self in let done = w.put_first.ensures in
+          rw (w.slots-is, w.block-is) (IsPut-kept S j h s p within (done.pairs ∙ ap (λ ps. ps ++ p ∷ []) (sym none)) block (inl (ap length none)) done.room))
+    ])

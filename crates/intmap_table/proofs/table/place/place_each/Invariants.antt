@@ -1,13 +1,19 @@
-use Rattle.std.proofs.Common.{◌≡◌, ◌+◌, length}
-use Rattle.std.specs.Vec.Iter.{into_iter_items}
-use Rattle.intmap_table.specs.Tables.Slots.{rows, AreMarked}
-use Rattle.intmap_table.specs.Tables.Moves.{IsPlaced, HasRoom}
+use Rattle.std.proofs.Common.{◌≡◌, ◌+◌, ◌≤◌, List, [], ◌++◌, length, reverse, vec_capacity, ℕ}
+use Rattle.intmap_table.specs.Tables.Moves.{IsPlaced, HasRoom, AreSet, AreTold}
 use Rattle.intmap_table.proofs.table.place.place_each.Given as goal
 
 abbrev pub invariant-loop-pair : goal.invariant-loop-pair
 invariant-loop-pair g l = record {
-  room : HasRoom g.K.IntKey.number_of l.slots (into_iter_items l.pair-iterator);
-  pairs : IsPlaced g.K.IntKey.number_of l.fn.slots l.yielded l.slots;
-  marks : AreMarked (rows l.slots) l.bits;
-  placed : l.placed ≡ l.fn.placed + length l.yielded;
+  done : List (g.row.K.Denot × g.row.X.Denot);
+  all : done ++ reverse l.buffer.items ≡ reverse l.fn.buffer.items;
+  pairs : IsPlaced g.K.IntKey.number_of l.fn.slots done l.slots;
+  marks : AreSet g.K.IntKey.number_of l.fn.bits done (length l.fn.slots) l.bits;
+  told : AreTold g.K.IntKey.number_of l.slots (reverse l.buffer.items) l.bits;
+  block : l.block.items ≡ [];
+  room : (x : ℕ) × HasRoom g.K.IntKey.number_of l.slots (reverse l.buffer.items) (vec_capacity l.block) x;
+  placed : l.placed ≡ l.fn.placed + length done;
+  buffer_room : vec_capacity l.fn.buffer ≤ vec_capacity l.buffer;
 }
+
+abbrev pub decreases-loop-pair : goal.decreases-loop-pair
+decreases-loop-pair g l = goal.left-loop-pair g l

@@ -1,0 +1,113 @@
+-- A slot whose room changes alone, and a pair that is put into a table and taken back.
+use Rattle.std.proofs.Common.{◌≡◌, inl, inr, ℕ, ◌+◌, ◌<◌, List, [], ◌∷◌, ◌++◌, Bool, true, false, cond, length, get_or, set, Option, Some, None, Result, Ok, Err, OnOk, OnErr, refl, sym, ap, ◌∙◌, arith, length-set}
+use Rattle.std.specs.Prelude.{is_some, is_err}
+use Rattle.std.specs.Map.{keys_of}
+use Rattle.std.proofs.lemmas.List.{map-set, set-get_or, get_or-map}
+use Rattle.std.proofs.lemmas.Bool.{eq-eqb, cases_eq}
+use Rattle.intmap_table.specs.Classes.{IsCapacity, slot_number, same_key}
+use Rattle.intmap_table.specs.Bindings.{swap_out, value_of, take_key, put_pair}
+use Rattle.intmap_table.specs.Walk.{slot_of, walk_of}
+use Rattle.intmap_table.specs.Tables.Slots.{Held, Grid, rows, joined, IsMaskedTable}
+use Rattle.intmap_table.proofs.DistinctLemmas.{length-walk_of, length-put_pair}
+use Rattle.intmap_table.proofs.PositionLemmas.{swap_out-none, position-from_none}
+use Rattle.intmap_table.proofs.SlotNumberLemmas.{slot_number-below}
+use Rattle.intmap_table.proofs.WalkLemmas.{slot_of-walk_of, walk_of-same, value_of-slot_of, slot_of-take_key, slot_of-take_key-other, slot_of-put_pair, slot_of-put_pair-other}
+use Rattle.intmap_table.proofs.Tables.SwapOutLemmas.{any}
+use Rattle.intmap_table.proofs.Tables.SameKeysLemmas.{row_keys, IsMaskedTable-same_keys}
+use Rattle.intmap_table.proofs.Tables.TableLemmas.{get_or-rows}
+
+-- tables with the same walk and as many slots are seen alike
+pub Grid-same : {K X : Type 0} (s t : Grid K X) → s.walk ≡ t.walk → s.capacity ≡ t.capacity → s ≡ t
+Grid-same s t walk capacity = ap (λ W. record s { walk = W }) walk ∙ ap (λ n. record t { capacity = n }) capacity
+
+-- the table of these rows
+abbrev pub grid_of : {K X : Type 0} → List (List (K × X)) → ℕ → Grid K X
+grid_of R n = record { walk = joined R; capacity = n }
+
+module _ {K X : Type 0} (S : List (Held K X)) (i : ℕ) (h s : Held K X) (below : i < length S) (here : h ≡ get_or S i h) (same : s.pairs ≡ h.pairs) where
+  -- the rows stay
+  pub rows-room : rows (set S i s) ≡ rows S
+  rows-room =
+      map-set (λ (t : Held K X). t.pairs) S i s
+      ∙ ap (λ ps. set (rows S) i ps) (same ∙ ap (λ (t : Held K X). t.pairs) here ∙ sym (get_or-rows S i h below)) ∙ set-get_or (rows S) i []
+
+  keys-room : row_keys S ≡ row_keys (set S i s)
+  keys-room =
+      sym (map-set (λ (t : Held K X). keys_of t.pairs) S i s
+      ∙ ap (λ ks. set (row_keys S) i ks) (ap keys_of (same ∙ ap (λ (t : Held K X). t.pairs) here) ∙ sym (get_or-map (λ (t : Held K X). keys_of t.pairs) S i h [] below))
+      ∙ set-get_or (row_keys S) i [])
+
+  -- the table is one still
+  pub IsMaskedTable-room : (number : K → ℕ) (bits : List Bool) (mask : ℕ) → IsMaskedTable number S bits mask → IsMaskedTable number (set S i s) bits mask
+  IsMaskedTable-room number bits mask is = IsMaskedTable-same_keys S (set S i s) keys-room number bits mask is
+
+  -- and is seen as before
+  pub Grid-room : (t : Grid K X) → grid_of (rows S) (length S) ≡ t → grid_of (rows (set S i s)) (length (set S i s)) ≡ t
+  Grid-room t is = ap (λ R. grid_of R (length (set S i s))) rows-room ∙ ap (λ n. grid_of (rows S) n) (length-set S i s) ∙ is
+
+module _ {K X : Type 0} (number : K → ℕ) where
+  swap_out-step : (p : K × X) (R : List (K × X)) (k : K) (v : X) (t : Bool) → same_key number k p.0 ≡ t → value_of number (p ∷ R) k ≡ None
+      → (value_of number R k ≡ None → swap_out (λ p. same_key number k p.0) any (R ++ (k, v) ∷ []) ≡ R)
+      → swap_out (λ p. same_key number k p.0) any ((p ∷ R) ++ (k, v) ∷ []) ≡ p ∷ R
+  swap_out-step p R k v true e none rest = let w : Some p.1 ≡ None = rw e at none in absurd (cc)
+  swap_out-step p R k v false e none rest = let w : value_of number R k ≡ None = rw e at none in simp (e, rest w)
+
+  -- a pair that stands last, and is the only one of its key, leaves the others as they were
+  swap_out-last : (R : List (K × X)) (k : K) (v : X) → value_of number R k ≡ None → swap_out (λ p. same_key number k p.0) any (R ++ (k, v) ∷ []) ≡ R
+  swap_out-last [] k v none = let own : same_key number k k ≡ true = eq-eqb (number k) (number k) refl in simp own refl
+  swap_out-last (p ∷ R) k v none = swap_out-step p R k v (same_key number k p.0) refl none (λ w. swap_out-last R k v w)
+
+  value_of-step : (p : K × X) (R : List (K × X)) (k : K) (v : X) (t : Bool) → same_key number k p.0 ≡ t → value_of number (p ∷ R) k ≡ None
+      → (value_of number R k ≡ None → value_of number (R ++ (k, v) ∷ []) k ≡ Some v) → value_of number ((p ∷ R) ++ (k, v) ∷ []) k ≡ Some v
+  value_of-step p R k v true e none rest = let w : Some p.1 ≡ None = rw e at none in absurd (cc)
+  value_of-step p R k v false e none rest = let w : value_of number R k ≡ None = rw e at none in simp (e, rest w)
+
+  -- and it has the value of its key
+  value_of-last : (R : List (K × X)) (k : K) (v : X) → value_of number R k ≡ None → value_of number (R ++ (k, v) ∷ []) k ≡ Some v
+  value_of-last [] k v none = let own : same_key number k k ≡ true = eq-eqb (number k) (number k) refl in simp own refl
+  value_of-last (p ∷ R) k v none = value_of-step p R k v (same_key number k p.0) refl none (λ w. value_of-last R k v w)
+
+  module _ (W : List (K × X)) (C : ℕ) (cap : IsCapacity C) (k : K) (v : X) (missing : value_of number W k ≡ None) where
+    abbrev i : ℕ
+    i = slot_number number k C
+
+    abbrev L : List (K × X)
+    L = walk_of number (put_pair number W C k v) C
+
+    none : value_of number (slot_of number W C i) k ≡ None
+    none = value_of-slot_of number C W k ∙ missing
+
+    row : slot_of number L C i ≡ slot_of number W C i ++ (k, v) ∷ []
+    row =
+        slot_of-walk_of number C (put_pair number W C k v) i (slot_number-below number k C cap)
+        ∙ slot_of-put_pair number C cap W k v i refl ∙ ap (λ R. R ++ (k, v) ∷ []) (swap_out-none (λ (p : K × X). same_key number k p.0) any (slot_of number W C i) (position-from_none (same_key number k) (slot_of number W C i) none))
+
+    -- the pair of a new key, once it was put in, has its value
+    pub value_of-put_new : value_of number L k ≡ Some v
+    value_of-put_new =
+        sym (value_of-slot_of number C L k) ∙ ap (λ R. value_of number R k) row ∙ value_of-last (slot_of number W C i) k v none
+
+    -- and once it is taken out again, the walk is as before
+    pub walk_of-take_new : walk_of number (take_key number L C k) C ≡ walk_of number W C
+    walk_of-take_new = walk_of-same number C (take_key number L C k) W (λ j below. elim (cases_eq i j) as (λ _. slot_of number (take_key number L C k) C j ≡ slot_of number W C j) [
+      | inl q ↦ rw (← q) (slot_of-take_key number C cap L k i refl ∙ ap (λ R. swap_out (λ p. same_key number k p.0) any R) row ∙ swap_out-last (slot_of number W C i) k v none)
+      | inr apart ↦ slot_of-take_key-other number C cap L k j apart ∙ slot_of-walk_of number C (put_pair number W C k v) j below ∙ slot_of-put_pair-other number C cap W k v j apart
+    ])
+
+    -- there is one pair more
+    pub length-put_new : length L ≡ length W + 1
+    length-put_new =
+        let long = length-walk_of number (put_pair number W C k v) C (λ q. slot_number-below number q C cap) in
+        let more = length-put_pair number W C k v in
+        let one : ◌≡◌ {A = ℕ} (cond (is_some (value_of number W k)) 0 1) 1 = ap (λ (o : Option X). cond (is_some o) 0 1) missing in
+        omega (arith, long, more, one)
+
+-- what a refusal ensures holds where there is one
+pub OnErr-at : {T E : Type 0} (r : Result T E) (P : Type 0) → is_err r ≡ true → OnErr r P → P
+OnErr-at (Ok x) P is holds = absurd (cc)
+OnErr-at (Err e) P is holds = holds
+
+-- and what a success ensures where there is none
+pub OnOk-at : {T E : Type 0} (r : Result T E) (P : Type 0) → is_err r ≡ false → OnOk r P → P
+OnOk-at (Ok x) P is holds = holds
+OnOk-at (Err e) P is holds = absurd (cc)

@@ -1,0 +1,168 @@
+-- Slots that are added behind others, and taken away again.
+use Rattle.std.proofs.Common.{◌≡◌, ℕ, zero, suc, ◌+◌, ◌-◌, ◌*◌, ◌/◌, ◌^◌, ◌<◌, ◌≤◌, Bool, false, List, [], ◌∷◌, ◌++◌, length, get_or, take, replicate, refl, sym, ap, ◌∙◌, arith, take_all, append_assoc, append-nil, length-append, mul_comm}
+use Rattle.std.proofs.Math.Nat.{mul-div_cancel_left}
+use Rattle.std.proofs.Math.Seq.{take-append_seam}
+use Rattle.std.specs.Prelude.{Result, Ok, Err, OnErr}
+use Rattle.std.proofs.lemmas.Grind.{flat_map-append}
+use Rattle.std.proofs.lemmas.List.{replicate_more, length-replicate, get_or-replicate, get_or-append_right, map-append, take-map}
+use Rattle.intmap_table.specs.Classes.{IsCapacity}
+use Rattle.intmap_table.specs.Tables.Slots.{Held, rows, joined, AreMarked, Grid, IsMaskedTable}
+use Rattle.intmap_table.specs.Tables.Moves.{IsGrown, IsOldRows, IsMidway, CanMoveOn, emptied}
+use Rattle.intmap_table.proofs.SlotNumberLemmas.{capacity-positive}
+use Rattle.intmap_table.proofs.Tables.FilledLemmas.{IsMarkedTable-empty, joined-emptied, get_or-no_pairs}
+use Rattle.intmap_table.proofs.Tables.GrownLemmas.{grown-more, IsMoved-midway}
+use Rattle.intmap_table.proofs.Tables.MoveLemmas.{IsMoved, IsTable-moved}
+use Rattle.intmap_table.proofs.Tables.TableLemmas.{length-rows}
+
+module _ {K X : Type 0} where
+  -- one more empty slot behind the others
+  pub added-more : (S T U : List (Held K X)) (n : ℕ) (h : Held K X) → T ≡ S ++ replicate n emptied → U ≡ T ++ h ∷ [] → h.pairs ≡ [] → h.room ≡ 1 → U ≡ S ++ replicate (n + 1) emptied
+  added-more S T U n h before put none bare =
+      let is : h ≡ emptied = λ i. record { pairs = none i; room = bare i } in
+      put ∙ ap (λ Z. Z ++ h ∷ []) before ∙ ap (λ e. (S ++ replicate n emptied) ++ e ∷ []) is
+      ∙ append_assoc S (replicate n emptied) (emptied ∷ []) ∙ ap (λ Z. S ++ Z) (replicate_more n emptied)
+
+  -- empty slots have rows without pairs
+  rows-emptied : (n : ℕ) → rows {K = K} {X = X} (replicate n emptied) ≡ replicate n []
+  rows-emptied zero = refl
+  rows-emptied (suc n) = ap (λ R. [] ∷ R) (rows-emptied n)
+
+  module _ (S T : List (Held K X)) (C : ℕ) (none : S ≡ []) (is : T ≡ S ++ replicate (C - length S) emptied) where
+    alone : T ≡ replicate C emptied
+    alone = let all : C - 0 ≡ C = omega arith in is ∙ ap (λ Z. Z ++ replicate (C - length Z) emptied) none ∙ ap (λ n. replicate n emptied) all
+
+    rows-alone : rows T ≡ replicate C []
+    rows-alone = ap rows alone ∙ rows-emptied C
+
+    -- behind no slots, empty ones alone are added: no pair is in them
+    pub joined-alone : joined (rows T) ≡ []
+    joined-alone = ap joined rows-alone ∙ joined-emptied (replicate C []) (get_or-no_pairs C)
+
+    -- they are as many
+    pub length-alone : length T ≡ C
+    length-alone = ap length alone ∙ length-replicate C emptied
+
+    -- they are a table
+    pub IsMaskedTable-alone : (number : K → ℕ) → IsCapacity C → IsMaskedTable number T (replicate (64 * ((C + 63) / 64)) false) (C - 1)
+    IsMaskedTable-alone number capacity =
+        let some = capacity-positive C capacity in
+        record { marked = IsMarkedTable-empty number T C capacity rows-alone; count = omega (arith, some, length-alone) }
+
+-- what holds in any case holds if there is an error
+pub OnErr-always : {V E P : Type 0} (r : Result V E) → P → OnErr r P
+OnErr-always (Ok _) p = tt
+OnErr-always (Err _) p = p
+
+module _ {K X : Type 0} (S T : List (Held K X)) (same : rows T ≡ rows S) where
+  -- slots with the same rows are as many
+  pub length-same_rows : length T ≡ length S
+  length-same_rows = sym (length-rows T) ∙ ap length same ∙ length-rows S
+
+  -- they look the same
+  pub grid-same_rows : ◌≡◌ {A = Grid K X} (record { walk = joined (rows T); capacity = length T }) (record { walk = joined (rows S); capacity = length S })
+  grid-same_rows = λ i. record { walk = joined (same i); capacity = length-same_rows i }
+
+  -- they are a table where the others are
+  pub IsMaskedTable-same_rows : (number : K → ℕ) (bits : List Bool) (mask : ℕ) → IsMaskedTable number S bits mask → IsMaskedTable number T bits mask
+  IsMaskedTable-same_rows number bits mask table = record {
+    marked = record {
+      table = record { capacity = rw length-same_rows table.marked.table.capacity; in_place = rw (length-same_rows, same) table.marked.table.in_place };
+      marks = rw same table.marked.marks;
+    };
+    count = table.count ∙ sym length-same_rows;
+  }
+
+module _ {K X : Type 0} where
+  -- the rows of all slots are the rows
+  pub take-own : (S : List (Held K X)) → take (length S) (rows S) ≡ rows S
+  take-own S = take_all (length S) (rows S) (omega (arith, length-rows S))
+
+  -- slots cut back to the old ones have the old rows
+  pub rows-truncated : (S T U : List (Held K X)) (n : ℕ) → n ≡ length S → U ≡ take n T → take (length S) (rows T) ≡ rows S → rows U ≡ rows S
+  rows-truncated S T U n count cut old = ap rows cut ∙ sym (take-map (λ h. h.pairs) n T) ∙ ap (λ m. take m (rows T)) count ∙ old
+
+  -- behind slots that have become more, each is empty
+  emptied-behind : (S : List (Held K X)) (n j : ℕ) → length S ≤ j → j < length (S ++ replicate n emptied) → get_or (S ++ replicate n emptied) j emptied ≡ emptied
+  emptied-behind S n j past below =
+      let all : length (S ++ replicate n emptied) ≡ length S + n = length-append S (replicate n emptied) ∙ ap (λ m. length S + m) (length-replicate n emptied) in
+      get_or-append_right S (replicate n emptied) (length S) j emptied refl past ∙ get_or-replicate n (j - length S) emptied emptied (omega (arith, past, below, all))
+
+-- slots T of a table that has become longer, up to D: the rows of the first of them are those of S, the slots that it had
+pub record IsLonger {K X : Type 0} (number : K → ℕ) (S T : List (Held K X)) (bits : List Bool) (mask D : ℕ) : Type 0 where
+  pub grown : IsGrown (length S) D
+  pub table : IsMaskedTable number S bits mask
+  pub len : length T ≡ D
+  pub old : take (length S) (rows T) ≡ rows S
+
+module _ {K X : Type 0} (S T : List (Held K X)) (D : ℕ) (grown : IsGrown (length S) D) (added : T ≡ S ++ replicate (D - length S) emptied) where
+  rows-added : rows T ≡ rows S ++ replicate (D - length S) []
+  rows-added = ap rows added ∙ map-append (λ h. h.pairs) S (replicate (D - length S) emptied) ∙ ap (λ R. rows S ++ R) (rows-emptied (D - length S))
+
+  -- with empty ones behind them they are longer
+  pub IsLonger-added : (number : K → ℕ) (bits : List Bool) (mask : ℕ) → IsMaskedTable number S bits mask → IsLonger number S T bits mask D
+  IsLonger-added number bits mask table =
+      let more = grown-more (length S) D grown in
+      let n : length T ≡ length S + (D - length S) = ap length added ∙ length-append S (replicate (D - length S) emptied) ∙ ap (λ m. length S + m) (length-replicate (D - length S) emptied) in
+      record {
+        grown = grown;
+        table = table;
+        len = omega (arith, n, more);
+        old = ap (λ n. take n (rows T)) (sym (length-rows S)) ∙ ap (take (length (rows S))) rows-added ∙ take-append_seam (rows S) (replicate (D - length S) []);
+      }
+
+  -- those behind them are empty
+  pub bare-added : (mask : ℕ) → mask + 1 ≡ length S → (j : ℕ) → mask + 1 ≤ j → j < length T → get_or T j emptied ≡ emptied
+  bare-added mask count = rw (count, added) (emptied-behind S (D - length S))
+
+  -- there are no more pairs
+  pub joined-added : joined (rows T) ≡ joined (rows S)
+  joined-added =
+      ap joined rows-added ∙ flat_map-append (λ s. s) (rows S) (replicate (D - length S) [])
+      ∙ ap (λ L. joined (rows S) ++ L) (joined-emptied (replicate (D - length S) []) (get_or-no_pairs (D - length S))) ∙ append-nil (joined (rows S))
+
+module _ {K X : Type 0} {number : K → ℕ} {S T : List (Held K X)} {bits : List Bool} {mask D : ℕ} (is : IsLonger number S T bits mask D) where
+  -- the rows of the old slots are the old rows
+  pub take-longer : take (mask + 1) (rows T) ≡ rows S
+  take-longer = rw is.table.count is.old
+
+  -- they are grown
+  pub IsGrown-longer : IsGrown (mask + 1) (length T)
+  IsGrown-longer = rw (is.table.count, is.len) is.grown
+
+  -- there are whole numbers of old slots
+  pub parts-longer : (counts : List ℕ) → length counts ≡ D / length S → length T ≡ length counts * (mask + 1)
+  parts-longer counts count =
+      let a : ℕ = is.grown.times.0 in
+      let some = capacity-positive (length S) is.grown.old in
+      let whole : D / length S ≡ 2 ^ a = ap (λ d. d / length S) is.grown.times.1 ∙ mul-div_cancel_left (2 ^ a) some in
+      rw (is.table.count, count, whole, is.len) (is.grown.times.1 ∙ mul_comm (length S) (2 ^ a))
+
+  old_rows : IsOldRows number (rows S) (length S)
+  old_rows = record { len = length-rows S; own = is.table.marked.table.in_place }
+
+  -- their first rows have pairs of their slots alone
+  pub IsOldRows-longer : IsOldRows number (take (mask + 1) (rows T)) (mask + 1)
+  IsOldRows-longer = rw (take-longer, is.table.count) old_rows
+
+  -- the marks of the old slots tell of them
+  pub AreMarked-longer : AreMarked (take (mask + 1) (rows T)) bits
+  AreMarked-longer = rw take-longer is.table.marked.marks
+
+  -- slots with other room have the old rows too
+  pub take-kept : (U : List (Held K X)) → rows U ≡ rows T → take (length S) (rows U) ≡ rows S
+  take-kept U same = ap (take (length S)) same ∙ is.old
+
+  -- to move on, read of the longer slots and of the old ones
+  pub CanMoveOn-longer : (longest : ℕ) (U : List (Held K X)) → CanMoveOn number (take (mask + 1) (rows T)) (mask + 1) (length T) 0 longest U ≡ CanMoveOn number (rows S) (length S) D 0 longest U
+  CanMoveOn-longer longest U = rw (take-longer, is.table.count, is.len) refl
+
+  module _ (U : List (Held K X)) (end : IsMidway number (take (mask + 1) (rows T)) (length T) (mask + 1) U) where
+    -- behind the last move, all pairs are moved
+    pub IsMoved-longer : IsMoved number (joined (rows S)) D U
+    IsMoved-longer = IsMoved-midway number (rows S) (length S) D U is.grown old_rows (rw (take-longer, is.table.count, is.len) at end)
+
+    -- the slots are a table then
+    pub IsMaskedTable-longer : (marks : List Bool) → AreMarked (rows U) marks → IsMaskedTable number U marks (D - 1)
+    IsMaskedTable-longer marks are =
+        let some = capacity-positive D is.grown.new in let n = IsMoved-longer.len in
+        record { marked = record { table = IsTable-moved number (joined (rows S)) D U IsMoved-longer; marks = are }; count = omega (arith, some, n) }

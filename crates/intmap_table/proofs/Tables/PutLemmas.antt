@@ -1,0 +1,167 @@
+-- Pairs put at the ends of their slots, one after another, and the marks of these slots.
+use Rattle.std.proofs.Common.{◌≡◌, ◌≢◌, ◌⊎◌, inl, inr, ℕ, zero, suc, ◌+◌, ◌<◌, Bool, true, false, List, [], ◌∷◌, ◌++◌, length, get_or, set, refl, sym, ap, ◌∙◌, arith, append-nil, length-append, length-set, get_or-set_same, get_or-set_other}
+use Rattle.std.specs.Prelude.{nat_lt, ◌||◌, ◌==◌}
+use Rattle.std.proofs.lemmas.List.{map-set, length-map, get_or-map}
+use Rattle.std.proofs.lemmas.List.Elements.{filter-append}
+use Rattle.std.proofs.lemmas.Bool.{cases_eq, lt-ltb}
+use Rattle.intmap_table.specs.Classes.{slot_number}
+use Rattle.intmap_table.specs.Walk.{slot_of}
+use Rattle.intmap_table.specs.Tables.Bits.{marked}
+use Rattle.intmap_table.specs.Tables.Slots.{Held, rows}
+use Rattle.intmap_table.specs.Tables.Moves.{rooms, emptied, need, IsPlaced, IsPut, AreSet, AreTold, AreFree}
+use Rattle.intmap_table.proofs.Tables.TableLemmas.{length-rows, get_or-rows}
+use Rattle.intmap_table.proofs.Tables.FilledLemmas.{filled-pushed}
+use Rattle.intmap_table.proofs.Tables.RoomLemmas.{slot_of-not_first, length-first}
+
+module _ {K X : Type 0} (S : List (Held K X)) (j : ℕ) (d : Held K X) (within : j < length S) where
+  -- the row of a slot
+  pub row-before : get_or (rows S) j [] ≡ (get_or S j d).pairs
+  row-before = get_or-rows S j d within
+
+  -- and its room
+  pub room-before : get_or (rooms S) j 0 ≡ (get_or S j d).room
+  room-before = get_or-map (λ (h : Held K X). h.room) S j d 0 within
+
+module _ {K X : Type 0} (S : List (Held K X)) (j : ℕ) (d s : Held K X) (p : K × X) (within : j < length S) (pairs : s.pairs ≡ (get_or S j d).pairs ++ p ∷ []) where
+  row-after : get_or (rows (set S j s)) j [] ≡ get_or (rows S) j [] ++ p ∷ []
+  row-after =
+      let w : j < length (rows S) = (let l = length-rows S in omega (arith, within, l)) in
+      ap (λ R. get_or R j []) (map-set (λ (h : Held K X). h.pairs) S j s) ∙ get_or-set_same (rows S) j s.pairs [] w ∙ pairs ∙ ap (λ ps. ps ++ p ∷ []) (sym (row-before S j d within))
+
+  room-after : get_or (rooms (set S j s)) j 0 ≡ s.room
+  room-after =
+      let w : j < length (rooms S) = (let l = length-map S (λ (h : Held K X). h.room) in omega (arith, within, l)) in
+      ap (λ r. get_or r j 0) (map-set (λ (h : Held K X). h.room) S j s) ∙ get_or-set_same (rooms S) j s.room 0 w
+
+  row-elsewhere : (i : ℕ) → i ≢ j → get_or (rows (set S j s)) i [] ≡ get_or (rows S) i []
+  row-elsewhere i apart = ap (λ R. get_or R i []) (map-set (λ (h : Held K X). h.pairs) S j s) ∙ get_or-set_other (rows S) j i s.pairs [] apart
+
+  room-elsewhere : (i : ℕ) → i ≢ j → get_or (rooms (set S j s)) i 0 ≡ get_or (rooms S) i 0
+  room-elsewhere i apart = ap (λ r. get_or r i 0) (map-set (λ (h : Held K X). h.room) S j s) ∙ get_or-set_other (rooms S) j i s.room 0 apart
+
+  -- a pair that was put into a slot without others, or into its own room
+  pub IsPut-kept : (block : ℕ) → (length (get_or S j d).pairs ≡ 0) ⊎ ((get_or S j d).room ≢ 1) → s.room ≡ (get_or S j d).room → IsPut S j block p (set S j s) block
+  IsPut-kept block first same =
+      let how : (length (get_or (rows S) j []) ≡ 0) ⊎ (get_or (rooms S) j 0 ≢ 1) = rw (row-before S j d within, room-before S j d within) first in
+      record {
+        len = length-set S j s;
+        row = row-after;
+        others = row-elsewhere;
+        other_rooms = room-elsewhere;
+        how = inl (how, room-after ∙ same ∙ sym (room-before S j d within), refl);
+      }
+
+  -- a pair that was put behind others into the block at hand
+  pub IsPut-lent : (block left : ℕ) → 0 < length (get_or S j d).pairs → (get_or S j d).room ≡ 1 → s.room ≡ 1 + block → IsPut S j block p (set S j s) left
+  IsPut-lent block left some bare made =
+      let filled : 0 < length (get_or (rows S) j []) = rw (row-before S j d within) some in
+      record {
+        len = length-set S j s;
+        row = row-after;
+        others = row-elsewhere;
+        other_rooms = room-elsewhere;
+        how = inr (filled, room-before S j d within ∙ bare, room-after ∙ made);
+      }
+
+module _ {K X : Type 0} (number : K → ℕ) where
+  -- placing no pair leaves the slots
+  pub IsPlaced-none : (S : List (Held K X)) → IsPlaced number S [] S
+  IsPlaced-none S = record { len = refl; pairs = λ j _. sym (append-nil (get_or (rows S) j [])); rooms = λ j _ _. refl }
+
+  -- a pair goes to its own slot
+  pub need-own : (p : K × X) (D : ℕ) → 0 < need number (p ∷ []) D (slot_number number p.0 D)
+  need-own p D = let one = length-first number p [] D (slot_number number p.0 D) refl in omega (arith, one)
+
+  -- a further pair in front needs no less
+  need-more : (p : K × X) (M : List (K × X)) (D j : ℕ) → 0 < need number M D j → 0 < need number (p ∷ M) D j
+  need-more p M D j some = elim (cases_eq (slot_number number p.0 D) j) as (λ _. 0 < need number (p ∷ M) D j) [
+    | inl here ↦ (let one = length-first number p M D j here in omega (arith, one))
+    | inr apart ↦ (let same = ap length (slot_of-not_first number p M D j apart) in omega (arith, same, some))
+  ]
+
+  -- and others behind it neither
+  need-first : (p : K × X) (M : List (K × X)) (D j : ℕ) → 0 < need number (p ∷ []) D j → 0 < need number (p ∷ M) D j
+  need-first p M D j some = elim (cases_eq (slot_number number p.0 D) j) as (λ _. 0 < need number (p ∷ M) D j) [
+    | inl here ↦ (let one = length-first number p M D j here in omega (arith, one))
+    | inr apart ↦ (let same = ap length (slot_of-not_first number p [] D j apart) in absurd (omega (arith, same, some)))
+  ]
+
+  -- where no slot that they go to holds a pair, and none is marked, they are told
+  pub AreTold-free : (S : List (Held K X)) (L : List (K × X)) (bits : List Bool) → AreFree number S L bits → AreTold number S L bits
+  AreTold-free S L bits are = record { told = λ j below some. are.unmarked j below some ∙ sym (ap (λ ps. nat_lt 0 (length ps)) (are.empty j below some)) }
+
+  -- whatever room the slot has that the pairs were taken out of
+  pub AreFree-left : (S : List (Held K X)) (i : ℕ) (h : Held K X) (L : List (K × X)) (bits : List Bool) → h.pairs ≡ [] → AreFree number (set S i emptied) L bits → AreFree number (set S i h) L bits
+  AreFree-left S i h L bits none are =
+      let len : length (set S i h) ≡ length (set S i emptied) = length-set S i h ∙ sym (length-set S i emptied) in
+      let same : rows (set S i h) ≡ rows (set S i emptied) =
+      map-set (λ (s : Held K X). s.pairs) S i h ∙ ap (λ ps. set (rows S) i ps) none ∙ sym (map-set (λ (s : Held K X). s.pairs) S i emptied) in
+      record {
+        empty = rw (len, same) are.empty;
+        unmarked = rw len are.unmarked;
+      }
+
+  -- what is told of pairs is told of the first
+  pub AreTold-first : (S : List (Held K X)) (p : K × X) (M : List (K × X)) (bits : List Bool) → AreTold number S (p ∷ M) bits → AreTold number S (p ∷ []) bits
+  AreTold-first S p M bits are = record { told = λ j below some. are.told j below (need-first p M (length S) j some) }
+
+  -- and of the others once it is put and its slot marked
+  pub AreTold-put : (S T : List (Held K X)) (p : K × X) (M : List (K × X)) (bits : List Bool) (block left j : ℕ) → slot_number number p.0 (length S) ≡ j → j < length bits
+      → AreTold number S (p ∷ M) bits → IsPut S j block p T left → AreTold number T M (set bits j true)
+  AreTold-put S T p M bits block left j is below are put = record {
+    told = rw put.len (λ i lt some. elim (cases_eq i j) as (λ _. marked (set bits j true) i ≡ nat_lt 0 (length (get_or (rows T) i []))) [
+      | inl q ↦ rw q (get_or-set_same bits j true false below ∙ sym (ap (λ ps. nat_lt 0 (length ps)) put.row ∙ filled-pushed (get_or (rows S) j []) p))
+      | inr apart ↦ get_or-set_other bits j i true false apart ∙ are.told i lt (need-more p M (length S) i some) ∙ ap (λ ps. nat_lt 0 (length ps)) (sym (put.others i apart))
+    ]);
+  }
+
+-- slots with the same pairs and as much room are the same
+pub Held-same : {K X : Type 0} (s t : Held K X) → s.pairs ≡ t.pairs → s.room ≡ t.room → s ≡ t
+Held-same s t pairs room = ap (λ ps. record s { pairs = ps }) pairs ∙ ap (λ n. record t { room = n }) room
+
+or-false : (b : Bool) → (b || false) ≡ b
+or-false true = refl
+or-false false = refl
+
+or-true : (a b : Bool) → b ≡ true → (a || b) ≡ true
+or-true true b e = refl
+or-true false b e = e
+
+or-or : (a b c d : Bool) → (b || c) ≡ d → ((a || b) || c) ≡ (a || d)
+or-or true b c d e = refl
+or-or false b c d e = e
+
+-- one of two numbers is positive exactly where their sum is
+positive-sum : (m n : ℕ) → (nat_lt 0 m || nat_lt 0 n) ≡ nat_lt 0 (m + n)
+positive-sum zero zero = refl
+positive-sum zero (suc n) = lt-ltb 0 (suc n) (omega arith) ∙ sym (lt-ltb 0 (zero + suc n) (omega arith))
+positive-sum (suc m) n = ap (λ b. b || nat_lt 0 n) (lt-ltb 0 (suc m) (omega arith)) ∙ sym (lt-ltb 0 (suc m + n) (omega arith))
+
+module _ {K X : Type 0} (number : K → ℕ) (D : ℕ) where
+  -- no pair sets no mark
+  pub AreSet-none : (bits : List Bool) → AreSet {X = X} number bits [] D bits
+  AreSet-none bits = record { len = refl; set_at = λ j. sym (or-false (marked bits j)) }
+
+  -- marks set one after another are set together
+  pub AreSet-more : (bits bits' bits'' : List Bool) (L M : List (K × X)) → AreSet number bits L D bits' → AreSet number bits' M D bits'' → AreSet number bits (L ++ M) D bits''
+  AreSet-more bits bits' bits'' L M first more = record {
+    len = more.len ∙ first.len;
+    set_at = λ j.
+        let sum : need number (L ++ M) D j ≡ need number L D j + need number M D j =
+        ap length (filter-append (λ p. slot_number number p.0 D == j) L M) ∙ length-append (slot_of number L D j) (slot_of number M D j) in
+        more.set_at j ∙ ap (λ b. b || nat_lt 0 (need number M D j)) (first.set_at j)
+        ∙ or-or (marked bits j) (nat_lt 0 (need number L D j)) (nat_lt 0 (need number M D j)) (nat_lt 0 (need number (L ++ M) D j))
+        (positive-sum (need number L D j) (need number M D j) ∙ ap (λ n. nat_lt 0 n) (sym sum));
+  }
+
+  -- the mark of the slot of a pair
+  pub AreSet-put : (bits : List Bool) (p : K × X) (j : ℕ) → slot_number number p.0 D ≡ j → j < length bits → AreSet number bits (p ∷ []) D (set bits j true)
+  AreSet-put bits p j is below = record {
+    len = length-set bits j true;
+    set_at = λ i. elim (cases_eq i j) as (λ _. marked (set bits j true) i ≡ (marked bits i || nat_lt 0 (need number (p ∷ []) D i))) [
+      | inl q ↦ (let one = length-first number p [] D j is in
+          rw q (get_or-set_same bits j true false below ∙ sym (or-true (marked bits j) (nat_lt 0 (need number (p ∷ []) D j)) (lt-ltb 0 (need number (p ∷ []) D j) (omega (arith, one))))))
+      | inr apart ↦ (let none = ap (λ ps. nat_lt 0 (length ps)) (slot_of-not_first number p [] D i (λ q. apart (sym q ∙ is))) in
+          get_or-set_other bits j i true false apart ∙ sym (or-false (marked bits i)) ∙ ap (λ b. marked bits i || b) (sym none))
+    ];
+  }

@@ -1,0 +1,98 @@
+use Rattle.std.proofs.Common.{◌≡◌, ◌∙◌, length, ap}
+use Rattle.std.specs.Vec.{with_items}
+use Rattle.std.proofs.lemmas.List.{with_items_is}
+use Rattle.intmap_table.specs.Tables.Slots.{Grid, rows, joined}
+use Rattle.intmap_table.specs.Tables.Moves.{IsGrown}
+use Rattle.intmap_table.proofs.SlotNumberLemmas.{capacity-greatest}
+use Rattle.intmap_table.proofs.Tables.GrownLemmas.{IsGrown-from}
+use Rattle.intmap_table.proofs.Tables.MoveLemmas.{joined-moved}
+use Rattle.intmap_table.proofs.Tables.MemoryLemmas.{OnErr-always, grid-same_rows, IsMaskedTable-same_rows, IsLonger, take-longer, IsGrown-longer, IsOldRows-longer, AreMarked-longer, CanMoveOn-longer, IsMoved-longer, IsMaskedTable-longer}
+use Rattle.intmap_table.proofs.table.Table.grow.Goals as goal
+use Rattle.intmap_table.proofs.table.Table.grow.Goals.{In_ok-bits, After-deref_mut, After-move_all}
+
+module _ (g : _) (c : In_ok-bits g) where
+  walk : joined (rows c.self.inside.slots.items) ≡ c.args.self.now.walk
+  walk = ap (λ (t : Grid _ _). t.walk) c.self.view_is
+
+  grown : IsGrown (length c.self.inside.slots.items) c.args.capacity
+  grown =
+      let own : length c.self.inside.slots.items ≡ c.args.self.now.capacity = ap (λ (t : Grid _ _). t.capacity) c.self.view_is in
+      IsGrown-from _ _ c.self.invariant.marked.table.capacity c.requires.capacity (rw own c.requires.larger)
+
+pub take_memory-requires-clause-grown : goal.take_memory-requires-clause-grown
+take_memory-requires-clause-grown g c = grown g (goal.at.take_memory-requires-clause-grown g c).In_ok-bits
+
+pub take_memory-requires-clause-fits : goal.take_memory-requires-clause-fits
+take_memory-requires-clause-fits g c = rw (walk g (goal.at.take_memory-requires-clause-fits g c).In_ok-bits) c.requires.fits
+
+pub invariant_of-self : goal.invariant_of-self
+invariant_of-self g c = IsMaskedTable-same_rows _ _ c.in_err-buffer.ensures.err _ _ _ c.self.invariant
+
+pub returns-in_err-buffer-clause-err : goal.returns-in_err-buffer-clause-err
+returns-in_err-buffer-clause-err g c =
+    OnErr-always c.from_residual-in_err-buffer.result (grid-same_rows _ _ c.in_err-buffer.ensures.err ∙ c.self.view_is)
+
+-- the slots that pairs are moved in are longer
+longer : (g : _) (c : After-deref_mut g) → IsGrown (length c.self.inside.slots.items) c.args.capacity
+    → IsLonger g.K.IntKey.number_of c.self.inside.slots.items c.deref_mut.result.now c.self.inside.directory.bits c.self.inside.directory.mask c.args.capacity
+longer g c more = record {
+  grown = more;
+  table = c.self.invariant;
+  len = rw c.deref_mut.ensures.value c.in_ok-buffer.ensures.len;
+  old = rw c.deref_mut.ensures.value c.in_ok-buffer.ensures.rows;
+}
+
+pub move_all-requires-clause-grown : goal.move_all-requires-clause-grown
+move_all-requires-clause-grown g c =
+    let at = goal.at.move_all-requires-clause-grown g c in
+    IsGrown-longer (longer g at.After-deref_mut (grown g at.In_ok-bits))
+
+pub move_all-requires-clause-rows : goal.move_all-requires-clause-rows
+move_all-requires-clause-rows g c =
+    let at = goal.at.move_all-requires-clause-rows g c in
+    IsOldRows-longer (longer g at.After-deref_mut (grown g at.In_ok-bits))
+
+pub move_all-requires-clause-old_marks : goal.move_all-requires-clause-old_marks
+move_all-requires-clause-old_marks g c =
+    let at = goal.at.move_all-requires-clause-old_marks g c in
+    AreMarked-longer (longer g at.After-deref_mut (grown g at.In_ok-bits))
+
+pub move_all-requires-clause-ready : goal.move_all-requires-clause-ready
+move_all-requires-clause-ready g c =
+    let at = goal.at.move_all-requires-clause-ready g c in
+    rw (CanMoveOn-longer (longer g at.After-deref_mut (grown g at.In_ok-bits)) _ _, c.deref_mut.ensures.value) c.in_ok-buffer.ensures.ready
+
+-- the table's slots are those that pairs were moved in
+written : (g : _) (c : After-move_all g) → (with_items c.take_memory.new.slots c.move_all.new.slots).items ≡ c.move_all.new.slots
+written g c = with_items_is c.take_memory.new.slots c.move_all.new.slots (c.move_all.ensures.moved.len ∙ c.deref_mut.ensures.len)
+
+pub invariant_of-self-2 : goal.invariant_of-self-2
+invariant_of-self-2 g c =
+    let at = goal.at.invariant_of-self-2 g c in
+    rw (written g at.After-move_all) (IsMaskedTable-longer (longer g at.After-deref_mut (grown g at.In_ok-bits)) _ c.move_all.ensures.moved _ c.move_all.ensures.marks)
+
+pub returns-clause-walk : goal.returns-clause-walk
+returns-clause-walk g c =
+    let at = goal.at.returns-clause-walk g c in
+    rw (written g at.After-move_all, ← walk g at.In_ok-bits) (joined-moved _ _ _ _ (IsMoved-longer (longer g at.After-deref_mut (grown g at.In_ok-bits)) _ c.move_all.ensures.moved))
+
+pub returns-clause-capacity : goal.returns-clause-capacity
+returns-clause-capacity g c =
+    let at = goal.at.returns-clause-capacity g c in
+    rw (written g at.After-move_all) (IsMoved-longer (longer g at.After-deref_mut (grown g at.In_ok-bits)) _ c.move_all.ensures.moved).len
+
+pub returns-clause-placed : goal.returns-clause-placed
+returns-clause-placed g c =
+    let at = goal.at.returns-clause-placed g c in
+    rw (take-longer (longer g at.After-deref_mut (grown g at.In_ok-bits)), walk g at.In_ok-bits) at c.move_all.ensures.placed
+
+pub new-requires : goal.new-requires
+new-requires g c = capacity-greatest c.args.capacity c.requires.capacity
+
+pub take_memory-requires-clause-table : goal.take_memory-requires-clause-table
+take_memory-requires-clause-table g c = c.self.invariant
+
+pub move_all-requires-clause-unmarked : goal.move_all-requires-clause-unmarked
+move_all-requires-clause-unmarked g c =
+    let at = goal.at.move_all-requires-clause-unmarked g c in
+    rw (longer g at.After-deref_mut (grown g at.In_ok-bits)).len c.in_ok-bits.ensures

@@ -1,0 +1,13 @@
+use Rattle.std.proofs.Common.{◌≡◌, ℕ, ◌+◌, ◌*◌, ◌<◌, get_or}
+use Rattle.intmap_table.specs.Tables.Slots.{rows}
+use Rattle.intmap_table.specs.Tables.Moves.{rooms}
+use Rattle.intmap_table.proofs.Tables.CountLemmas.{IsShared, spare_rooms}
+use Rattle.intmap_table.proofs.table.grow.take_room.Given as goal
+
+abbrev pub invariant-loop-part : goal.invariant-loop-part
+invariant-loop-part g l = record {
+  rows : rows l.slots ≡ rows l.fn.slots;
+  own : get_or (rooms l.slots) l.index 0 ≡ get_or (rooms l.fn.slots) l.index 0;
+  others : (j i t : ℕ) → i < l.old → (i ≡ l.index → ⊥) → j ≡ t * l.old + i → get_or (rooms l.slots) j 0 ≡ get_or (rooms l.fn.slots) j 0;
+  shared : (x : ℕ) × IsShared (spare_rooms l.slots l.index) l.counts l.old l.index l.part l.spared x;
+}
