@@ -7,8 +7,8 @@ GREATEST = 2**64 - 1
 GREATEST_CAPACITY = 2**63
 # for the words of bits and the slots
 REQUESTS_OF_A_NEW_MAP = 2
-# added to a number of requests, it makes that unequal to any number, and to itself
-NOT_KNOWN = float("nan")
+# how many pairs behind the first of its slot the second block of a slot has room for
+LEAST_ROOM = 4
 
 
 class TooLarge(Exception):
@@ -31,33 +31,46 @@ class PlainList:
         self.asked = 0
         self.set_slots(slots)
 
-    def set_slots(self, slots):
-        """Each slot then has room for one pair, or for as many as it holds, and for no more."""
-        self.slots = slots
+    def slot_of(self, key):
+        return key * MULTIPLIER % self.slots
+
+    def sort_into_slots(self):
         self.classes = {}
         for place, (key, _) in self.pairs.items():
-            self.classes.setdefault(key % slots, []).append(place)
-        self.room = {slot: len(places) for slot, places in self.classes.items()}
-        self.may_have_more = set()
+            self.classes.setdefault(self.slot_of(key), []).append(place)
+
+    def set_slots(self, slots):
+        """Each slot then has room for the pairs behind its first one, and for no more."""
+        self.slots = slots
+        self.sort_into_slots()
+        self.room = {slot: len(places) - 1 for slot, places in self.classes.items()}
 
     def grow(self, slots):
-        """The counts are asked for, the words of bits, the slots, and a block for each slot that is
-        to hold two pairs or more."""
-        self.set_slots(slots)
-        self.asked += 3 + sum(room > 1 for room in self.room.values())
+        """The words of bits are asked for, the counts, the slots, a block for each further slot that
+        is to hold several pairs of an old one, and a buffer where an old slot holds several. The
+        first slot that is to hold several of them takes the block of the old slot."""
+        several = [(slot, places) for slot, places in self.classes.items() if len(places) > 1]
+        self.slots = slots
+        self.sort_into_slots()
+        self.asked += 3 + bool(several)
+        for old, places in several:
+            block = self.room.pop(old)
+            numbers = {self.slot_of(self.pairs[place][0]) for place in places}
+            needing = sorted(slot for slot in numbers if len(self.classes[slot]) > 1)
+            self.room.update((slot, len(self.classes[slot]) - 1) for slot in needing)
+            if needing:
+                self.room[needing[0]] = block
+                self.asked += len(needing) - 1
 
-    def make_room(self, key):
-        """A block is asked for where the slot holds a pair and is full. The first one has room for
-        one pair more; a larger one has at least that, and how much beyond isn't known. No call but
-        a growth takes room away from a slot."""
-        slot = key % self.slots
+    def make_room(self, key, grows):
+        """A block is asked for where the slot holds a pair and is full. It has room for one pair more
+        where it is the first one or the table is about to grow, and else for twice as many."""
+        slot = self.slot_of(key)
         held = len(self.classes.get(slot, []))
-        if held < self.room.get(slot, 1):
-            return
-        self.asked += NOT_KNOWN if slot in self.may_have_more else 1
-        self.room[slot] = held + 1
-        if held > 1:
-            self.may_have_more.add(slot)
+        room = self.room.get(slot, 0)
+        if held and held > room:
+            self.asked += 1
+            self.room[slot] = held if held == 1 or grows else max(2 * room, LEAST_ROOM)
 
     def get(self, key):
         return self.pairs[self.place_of[key]][1] if key in self.place_of else None
@@ -67,7 +80,7 @@ class PlainList:
         if key not in self.place_of:
             return None
         place, value = self.place_of.pop(key), self.get_at(key)
-        last = self.classes[key % self.slots].pop()
+        last = self.classes[self.slot_of(key)].pop()
         if last != place:
             self.pairs[place] = self.pairs[last]
             self.place_of[self.pairs[place][0]] = place
@@ -87,9 +100,7 @@ class PlainList:
         kept = [(key, value) for key, value in self.walk() if keeps(key, value)]
         self.place_of = {key: self.place_of[key] for key, _ in kept}
         self.pairs = {place: self.pairs[place] for place in sorted(self.place_of.values())}
-        self.classes = {}
-        for place, (key, _) in self.pairs.items():
-            self.classes.setdefault(key % self.slots, []).append(place)
+        self.sort_into_slots()
 
     def drain(self, count):
         """Takes so many pairs out of the front of the walk, or all where there are fewer."""
@@ -129,13 +140,13 @@ class PlainList:
         return dict(self.pairs.values())
 
     def get_at(self, key):
-        return next(v for k, v in [self.pairs[p] for p in self.classes[key % self.slots]] if k == key)
+        return next(v for k, v in [self.pairs[p] for p in self.classes[self.slot_of(key)]] if k == key)
 
     def append(self, key, value):
         place, self.next_place = self.next_place, self.next_place + 1
         self.pairs[place] = (key, value)
         self.place_of[key] = place
-        self.classes.setdefault(key % self.slots, []).append(place)
+        self.classes.setdefault(self.slot_of(key), []).append(place)
 
     def wanted(self, length, factor):
         slots = self.slots
@@ -185,10 +196,9 @@ class PlainList:
         """Adds the pair of a key that has none."""
         length = len(self.pairs) + 1
         slots = self.wanted(length, self.factor) if length // 4 % 2 else self.slots
-        if refuses and (slots > self.slots or self.classes.get(key % self.slots)):
+        if refuses and (slots > self.slots or self.classes.get(self.slot_of(key))):
             raise NoMemory
-        if slots == self.slots:
-            self.make_room(key)
+        self.make_room(key, slots > self.slots)
         self.append(key, value)
         if slots > self.slots:
             self.grow(slots)
@@ -221,10 +231,8 @@ class PlainList:
         return key
 
     def walk(self):
-        def slot(place):
-            return self.pairs[place][0] * MULTIPLIER % self.slots
-
-        return [self.pairs[place] for place in sorted(sorted(self.pairs), key=slot)]
+        places = sorted(sorted(self.pairs), key=lambda place: self.slot_of(self.pairs[place][0]))
+        return [self.pairs[place] for place in places]
 
 
 def option(value):
@@ -348,7 +356,7 @@ def collisions_of(it):
     """A list of each number of pairs above 1 that a slot has, by its first appearance, with the number
     of slots that have so many."""
     counts = {}
-    for slot in sorted(it.classes, key=lambda residue: residue * MULTIPLIER % it.slots):
+    for slot in sorted(it.classes):
         size = len(it.classes[slot])
         if size > 1:
             counts[size] = counts.get(size, 0) + 1
@@ -576,8 +584,6 @@ def requests_of(answers, it, call):
     tried = copy.deepcopy(it)
     tried.asked = 0
     answers(tried, call, False)
-    if tried.asked != tried.asked:
-        raise Unknown(f"{call}, of which it isn't known how many requests it makes")
     return tried.asked
 
 
