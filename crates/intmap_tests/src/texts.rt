@@ -208,7 +208,7 @@ const ROWS: [Row; 16] = [
     (
         (2, 0, &[0, 1, 2]),
         Call::Insert(3),
-        "3 times text 3: Memory; text 0, text 2, text 1, 2 slots, factor 0\n\
+        "5 times text 3: Memory; text 0, text 2, text 1, 2 slots, factor 0\n\
          then None; text 0, text 3, text 2, text 1, 4096 slots, factor 0",
     ),
     (
@@ -220,13 +220,13 @@ const ROWS: [Row; 16] = [
     (
         (2, 0, &[0, 1, 2]),
         Call::Reserve(4093),
-        "3 times Err(Memory); text 0, text 2, text 1, 2 slots, factor 0\n\
+        "4 times Err(Memory); text 0, text 2, text 1, 2 slots, factor 0\n\
          then Ok(()); text 0, text 2, text 1, 4096 slots, factor 0",
     ),
     (
         (2, 18446744073709551615, &[0, 1, 2, 3]),
         Call::SetLoadFactor(0),
-        "3 times Err(Memory); text 0, text 2, text 1, text 3, 2 slots, factor 18446744073709551615\n\
+        "4 times Err(Memory); text 0, text 2, text 1, text 3, 2 slots, factor 18446744073709551615\n\
          then Ok(()); text 0, text 3, text 2, text 1, 4096 slots, factor 0",
     ),
 ];
