@@ -90,10 +90,30 @@ impl<'a, K: IntKey, V, A: Allocator + Copy> OccupiedEntry<'a, K, V, A> {
             ≡ length (entry_map (Occupied self.entry)).walk }
         ensures valid_after { IsMap K.number_of K.is_valid self.exit.0.now }
     {
+        self.remove_entry().1
+    }
+
+    /// Takes the pair of the key out and answers it. It is [`remove`](OccupiedEntry::remove) with the
+    /// key beside the value.
+    ///
+    /// ```text
+    /// at 0 in {0: 'a', 4: 'b', 8: 'c'}: remove_entry()    (0, 'a'), and then {8: 'c', 4: 'b'}
+    /// ```
+    pub fn remove_entry(self) -> (K, V)
+        ensures key { result.0 ≡ entry_key (Occupied self.entry) }
+        ensures value { entry_value (Occupied self.entry) ≡ Some result.1 }
+        ensures state { self.exit.0.now ≡ without_key K.number_of (entry_map (Occupied self.entry))
+            (entry_key (Occupied self.entry)) }
+        ensures updates { Updates K.number_of (entry_map (Occupied self.entry)).walk
+            self.exit.0.now.walk (entry_key (Occupied self.entry)) None }
+        ensures len { length self.exit.0.now.walk + 1
+            ≡ length (entry_map (Occupied self.entry)).walk }
+        ensures valid_after { IsMap K.number_of K.is_valid self.exit.0.now }
+    {
         let slot = self.slot;
         let place = self.place;
         let at = self.map.location(slot, place);
-        self.map.take_at(at)
+        (at.key, self.map.take_at(at))
     }
 
     /// Ends the entry, and leaves the map as the calls on the entry left it. It removes no pair and

@@ -21,6 +21,19 @@ impl<'a, K: IntKey, V, A: Allocator + Copy> VacantEntry<'a, K, V, A> {
         &self.key
     }
 
+    /// The key that was looked up. This ends the entry and leaves the map with the key still absent.
+    ///
+    /// ```text
+    /// at 22 in {21: 'b'}: into_key()    22
+    /// ```
+    pub fn into_key(self) -> K
+        ensures value { result ≡ entry_key (Vacant self.entry) }
+        ensures state { self.exit.0.now ≡ entry_map (Vacant self.entry) }
+    {
+        let VacantEntry { map: _, key } = self;
+        key
+    }
+
     /// The map, with the key still absent, for as long as the map was borrowed. It compares no key.
     pub fn into_map(self) -> &'a mut IntMap<K, V, A>
         ensures same_reference { result.ghost_name

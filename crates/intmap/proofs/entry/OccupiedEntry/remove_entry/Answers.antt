@@ -5,8 +5,8 @@ use Rattle.intmap.specs.Map.{without_key}
 use Rattle.intmap_table.specs.Laws.Written.{the_key-same}
 use Rattle.intmap.proofs.AfterLemmas.{Updates-taken, length-taken}
 use Rattle.intmap.proofs.MapLemmas.{one_less}
-use Rattle.intmap.proofs.entry.OccupiedEntry.remove.Goals as goal
-use Rattle.intmap.proofs.entry.OccupiedEntry.remove.Goals.{After-take_at}
+use Rattle.intmap.proofs.entry.OccupiedEntry.remove_entry.Goals as goal
+use Rattle.intmap.proofs.entry.OccupiedEntry.remove_entry.Goals.{After-take_at}
 
 module _ (g : _) (c : After-take_at g) where
   same : c.location-at.result.key ≡ occupied_key c.args.self
