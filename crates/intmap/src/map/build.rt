@@ -72,6 +72,11 @@ impl<K: IntKey, V: Drop, A: Allocator + Copy> IntMap<K, V, A> {
             Err(_) => Err(Cause::Memory),
         }
     }
+
+    /// The allocator of the map.
+    pub(crate) fn allocator(&self) -> A {
+        self.table.allocator()
+    }
 }
 
 impl<K: IntKey, V: Drop, A: Allocator + Copy> IntMap<K, V, A> {

@@ -1,0 +1,152 @@
+//! Insertions of values that are made only where the key is absent.
+ghost use Rattle.std.specs.Prelude.{◌≡◌, ◌+◌, None, Some, cond, length, is_some, IfOk, IfErr, OnOk};
+ghost use Rattle.std.specs.Borrow.{sem};
+ghost use Rattle.std.specs.Option.{UnwrapsOrElse};
+ghost use Rattle.intmap_table.specs.Bindings.{Updates};
+ghost use Rattle.intmap.specs.Entries.{entry_map, entry_key, entry_value, entry_list, map_with_value, entry_lends_ok};
+ghost use Rattle.intmap.specs.Map.{IsMap, IsOutOfRange, IsCapacityAfter};
+ghost use Rattle.intmap.specs.PlainLists.{RefusalIsDue};
+
+use crate::entry::Entry;
+use crate::refusal::Refused;
+use intmap_table::IntKey;
+use std::alloc::Allocator;
+use std::default::MadeWith;
+
+impl<'a, K: IntKey, V: Drop, A: Allocator + Copy> Entry<'a, K, V, A> {
+    /// A mutable reference to the value of the key. If the key is absent, the closure is called
+    /// once with it, before any memory is allocated, and the value that it makes is inserted first.
+    /// This fails as [`VacantEntry::insert`](crate::entry::VacantEntry::insert) does, and then
+    /// returns the value that was made. If the key is present, the closure isn't called, and the
+    /// call never fails. The closure must be callable at an absent key.
+    ///
+    /// ```text
+    /// map.entry(21).or_insert_with_key(|key| key / 2)?
+    /// ```
+    pub fn or_insert_with_key<F: FnOnce(K) -> V>(self, f: F) -> Result<&'a mut V, Refused<V>>
+        requires { entry_value self ≡ None → F.pre f (entry_key self) }
+
+        // what is answered and left
+        ensures* writes_back { sem 𝓛 (entry_lends_ok K.row V.row A.row A.Allocator
+            self.entry result) }
+        ensures value { IfOk result (λ r. UnwrapsOrElse (entry_value self.entry)
+            (F.post f (entry_key self.entry)) r.now) }
+        ensures capacity { OnOk result ((v : V) → IsCapacityAfter K.number_of
+            (entry_list self.entry).pairs (entry_list self.entry).capacity
+            (entry_list self.entry).factor (entry_key self.entry)
+            (map_with_value self.entry v).capacity) }
+        ensures updates { OnOk result ((v : V) → Updates K.number_of (entry_map self.entry).walk
+            (map_with_value self.entry v).walk (entry_key self.entry) (Some v)) }
+        ensures len { OnOk result ((v : V) → length (map_with_value self.entry v).walk
+            ≡ length (entry_map self.entry).walk + cond (is_some (entry_value self.entry)) 0 1) }
+        ensures valid_after { OnOk result ((v : V)
+            → IsMap K.number_of K.is_valid (map_with_value self.entry v)) }
+
+        // what a refusal hands back
+        ensures value_returned { IfErr result
+            (λ refused. F.post f (entry_key self.entry) refused.value) }
+
+        // when it is refused
+        ensures in_range { OnOk result (IsOutOfRange K.number_of (entry_map self.entry).walk
+            (entry_map self.entry).capacity (entry_map self.entry).factor (entry_key self.entry)
+            → ⊥) }
+        ensures refused { IfErr result (λ refused. RefusalIsDue K.number_of (entry_list self.entry)
+            (entry_key self.entry) refused.cause) }
+    {
+        match self {
+            Entry::Occupied(entry) => Ok(entry.into_mut()),
+            Entry::Vacant(entry) => {
+                let value = f(*entry.key());
+                entry.insert(value)
+            }
+        }
+    }
+
+    /// A mutable reference to the value of the key, as
+    /// [`or_insert_with_key`](Entry::or_insert_with_key) answers it, by a closure that takes no
+    /// key.
+    ///
+    /// ```text
+    /// map.entry(21).or_insert_with(|| read_once())?
+    /// ```
+    pub fn or_insert_with<F: FnOnce() -> V>(self, f: F) -> Result<&'a mut V, Refused<V>>
+        requires { entry_value self ≡ None → F.pre f }
+
+        // what is answered and left
+        ensures* writes_back { sem 𝓛 (entry_lends_ok K.row V.row A.row A.Allocator
+            self.entry result) }
+        ensures value { IfOk result
+            (λ r. UnwrapsOrElse (entry_value self.entry) (F.post f) r.now) }
+        ensures capacity { OnOk result ((v : V) → IsCapacityAfter K.number_of
+            (entry_list self.entry).pairs (entry_list self.entry).capacity
+            (entry_list self.entry).factor (entry_key self.entry)
+            (map_with_value self.entry v).capacity) }
+        ensures updates { OnOk result ((v : V) → Updates K.number_of (entry_map self.entry).walk
+            (map_with_value self.entry v).walk (entry_key self.entry) (Some v)) }
+        ensures len { OnOk result ((v : V) → length (map_with_value self.entry v).walk
+            ≡ length (entry_map self.entry).walk + cond (is_some (entry_value self.entry)) 0 1) }
+        ensures valid_after { OnOk result ((v : V)
+            → IsMap K.number_of K.is_valid (map_with_value self.entry v)) }
+
+        // what a refusal hands back
+        ensures value_returned { IfErr result (λ refused. F.post f refused.value) }
+
+        // when it is refused
+        ensures in_range { OnOk result (IsOutOfRange K.number_of (entry_map self.entry).walk
+            (entry_map self.entry).capacity (entry_map self.entry).factor (entry_key self.entry)
+            → ⊥) }
+        ensures refused { IfErr result (λ refused. RefusalIsDue K.number_of (entry_list self.entry)
+            (entry_key self.entry) refused.cause) }
+    {
+        self.or_insert_with_key(|_key| f())
+    }
+
+    /// A mutable reference to the value of the key, as
+    /// [`or_insert_with_key`](Entry::or_insert_with_key) answers it, with the default value of the
+    /// type where the key is absent. For a collection that is an empty one over the allocator of
+    /// the map.
+    ///
+    /// ```text
+    /// *map.entry(word).or_default()? += 1
+    /// ```
+    pub fn or_default(self) -> Result<&'a mut V, Refused<V>>
+    where
+        V: MadeWith<A>,
+        // what is answered and left
+        ensures* writes_back { sem 𝓛 (entry_lends_ok K.row V.row A.row A.Allocator
+            self.entry result) }
+        ensures value { IfOk result
+            (λ r. UnwrapsOrElse (entry_value self.entry) V.is_made_with r.now) }
+        ensures capacity { OnOk result ((v : V) → IsCapacityAfter K.number_of
+            (entry_list self.entry).pairs (entry_list self.entry).capacity
+            (entry_list self.entry).factor (entry_key self.entry)
+            (map_with_value self.entry v).capacity) }
+        ensures updates { OnOk result ((v : V) → Updates K.number_of (entry_map self.entry).walk
+            (map_with_value self.entry v).walk (entry_key self.entry) (Some v)) }
+        ensures len { OnOk result ((v : V) → length (map_with_value self.entry v).walk
+            ≡ length (entry_map self.entry).walk + cond (is_some (entry_value self.entry)) 0 1) }
+        ensures valid_after { OnOk result ((v : V)
+            → IsMap K.number_of K.is_valid (map_with_value self.entry v)) }
+
+        // what a refusal hands back
+        ensures value_returned { IfErr result (λ refused. V.is_made_with refused.value) }
+
+        // when it is refused
+        ensures in_range { OnOk result (IsOutOfRange K.number_of (entry_map self.entry).walk
+            (entry_map self.entry).capacity (entry_map self.entry).factor (entry_key self.entry)
+            → ⊥) }
+        ensures refused { IfErr result (λ refused. RefusalIsDue K.number_of (entry_list self.entry)
+            (entry_key self.entry) refused.cause) }
+    {
+        let alloc = self.allocator();
+        self.or_insert_with(|| V::made_with(alloc))
+    }
+
+    /// The allocator of the map.
+    fn allocator(&self) -> A {
+        match self {
+            Entry::Occupied(entry) => entry.map.allocator(),
+            Entry::Vacant(entry) => entry.map.allocator(),
+        }
+    }
+}
