@@ -1,7 +1,7 @@
 -- What a contract sees of an entry: the map behind it and its key.
 pub use Rattle.intmap.specs.declared.entry.Entry.TheVariants.{Occupied, Vacant}
 use Rattle.std.specs.Prelude.{◌≡◌, ℕ, ◌+◌, [], length, Option, Result}
-use Rattle.std.specs.Borrow.{Fml, RattleType, MutBor, follows, follows_if, name_if_ok}
+use Rattle.std.specs.Borrow.{Fml, RattleType, MutBor, follows, follows_if, name_if_ok, RestsIfErr}
 use Rattle.std.specs.declared.alloc.Allocator as allocator
 use Rattle.std.specs.declared.cmp.PartialEq as eq
 use mir.Syntax.{named}
@@ -82,6 +82,10 @@ module _ (K V A : RattleType) {g : key.Ghosts K.Denot} {e : eq.Ghosts K.Denot} (
   -- the same of a call that may be refused, and then the map stays
   abbrev pub entry_lends_ok : {E : Type 0} → Entry K.Denot V.Denot A.Denot g e → Result (MutBor V.Denot) E → Fml
   entry_lends_ok x r = follows_if (map_row K V A g e a) V (entry_reference x).ghost_name (name_if_ok (λ r. r.ghost_name) r) (map_with_value x) (entry_map x)
+
+  -- where the call answers no entry, the map behind x stays
+  abbrev pub entry_rests : {E : Type 0} → Entry K.Denot V.Denot A.Denot g e → Result (OccupiedEntry K.Denot V.Denot A.Denot g e) E → Fml
+  entry_rests x r = RestsIfErr (map_row K V A g e a) (entry_reference x) (λ o. o.map.ghost_name) r (λ n. n ≡ entry_map x)
 
   -- the same of a loan of the entry behind o, after which the entry stands
   abbrev pub occupied_lends : MutBor (OccupiedEntry K.Denot V.Denot A.Denot g e) → MutBor V.Denot → Fml

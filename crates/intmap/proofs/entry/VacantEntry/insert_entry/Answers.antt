@@ -1,0 +1,60 @@
+use Rattle.std.proofs.Common.{◌≡◌, ◌+◌, Some, length, refl, sym, ap, ◌∙◌, subst, arith}
+use Rattle.intmap_table.specs.Bindings.{value_of}
+use Rattle.intmap.specs.Growth.{next_capacity}
+use Rattle.intmap_table.specs.Locations.{IsLast, key_at}
+use Rattle.intmap_table.specs.Walk.{slot_of}
+use Rattle.intmap.specs.Map.{MapState, with_pair}
+use Rattle.intmap_table.specs.Laws.Written.{the_key-same}
+use Rattle.intmap.proofs.AfterLemmas.{Updates-put, length-put}
+use Rattle.intmap.proofs.EntryLemmas.{IsNext-next_capacity, length-not_too_large}
+use Rattle.intmap.proofs.LoadFactorLemmas.{IsNext-unique}
+use Rattle.intmap_table.proofs.LocationLemmas.{IsLast-put}
+use Rattle.intmap_table.proofs.Tables.FoundLemmas.{IsFound-located, key_at-located}
+use Rattle.intmap.proofs.MapLemmas.{one_more}
+use Rattle.intmap.proofs.entry.VacantEntry.insert_entry.Goals as goal
+use Rattle.intmap.proofs.entry.VacantEntry.insert_entry.Goals.{After-locate_last-at}
+
+pub locate_last-at-requires : goal.locate_last-at-requires
+locate_last-at-requires g c =
+    subst (λ W. IsLast g.K.IntKey.number_of W c.add.new.self.capacity c.args.self.key) (sym (ap (λ m. m.walk) c.in_default.ensures.state))
+    (IsLast-put g.K.IntKey.number_of c.args.self.map.now.walk c.args.self.map.now.capacity c.add.new.self.capacity c.args.self.key c.args.value c.add.ensures.valid.distinct c.add.ensures.valid_after.capacity)
+
+-- the key at the place is the key that was put in
+here : (g : _) (c : After-locate_last-at g) → key_at (slot_of g.K.IntKey.number_of c.add.new.self.walk c.add.new.self.capacity c.locate_last-at.result.slot) c.locate_last-at.result.place ≡ Some c.args.self.key
+here g c =
+    key_at-located g.K.IntKey.number_of g.K.IntKey.is_valid g.met.K.IntKey.number_injective c.add.new.self.walk c.add.new.self.capacity c.locate_last-at.result c.add.ensures.valid_after.keys
+    (subst g.K.IntKey.is_valid (sym c.locate_last-at.ensures.key) c.number-number.ensures.key) c.locate_last-at.ensures.at ∙ ap (λ q. Some q) c.locate_last-at.ensures.key
+
+pub invariant_of-result : goal.invariant_of-result
+invariant_of-result g c = record {
+  found = IsFound-located g.K.IntKey.number_of c.add.new.self.walk c.add.new.self.capacity c.locate_last-at.result c.args.self.key c.locate_last-at.ensures.key c.locate_last-at.ensures.at
+      (here g (goal.at.invariant_of-result g c).After-locate_last-at);
+}
+
+pub returns : goal.returns
+returns g c =
+    let number = g.K.IntKey.number_of in
+    let m : MapState g.row.K.Denot g.row.V.Denot = c.args.self.map.now in
+    let k = c.args.self.key in
+    let D = next_capacity m.capacity (length m.walk + 1) m.factor in
+    let next = IsNext-next_capacity m.capacity (length m.walk + 1) m.factor c.add.ensures.valid.capacity (length-not_too_large m.walk m.capacity m.factor c.in_default.ensures.in_range) in
+    let same : c.add.new.self.capacity ≡ D = IsNext-unique m.capacity (length m.walk + 1) m.factor c.add.new.self.capacity D c.in_default.ensures.capacity next in
+    let walk = ap (λ n. n.walk) c.in_default.ensures.state in
+    let cap = c.add.ensures.valid_after.capacity in (
+      (refl, (λ w. refl), tt),
+      record {
+        written = record {
+          same_reference = refl;
+          map = c.in_default.ensures.state ∙ ap (with_pair number m k c.args.value) same;
+          key = the_key-same _ (Some k) _ refl (here g (goal.at.returns g c).After-locate_last-at);
+        };
+        capacity = next;
+        updates = Updates-put number g.K.IntKey.is_valid m c.add.new.self.walk c.add.new.self.capacity k c.args.value c.add.ensures.valid cap walk;
+        len = let long = length-put number g.K.IntKey.is_valid m c.add.new.self.walk c.add.new.self.capacity k c.args.value cap walk in let one = one_more (value_of number m.walk k) c.args.self.missing in omega (arith, long, one);
+        valid_after = c.add.ensures.valid_after;
+        stays = tt;
+        value_returned = tt;
+        in_range = c.in_default.ensures.in_range;
+        refused = tt;
+      },
+    )

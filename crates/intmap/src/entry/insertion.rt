@@ -1,0 +1,62 @@
+//! Insertions that return the entry of the key, which is then present.
+ghost use Rattle.std.specs.Prelude.{◌≡◌, ◌+◌, Some, cond, length, is_some, IfOk, IfErr, OnOk};
+ghost use Rattle.std.specs.Borrow.{sem};
+ghost use Rattle.intmap_table.specs.Bindings.{Updates};
+ghost use Rattle.intmap.specs.Entries.{Occupied, Vacant, entry_map, entry_key, entry_value, entry_list, next_entry_capacity, IsWritten, entry_rests};
+ghost use Rattle.intmap.specs.Growth.{IsNext};
+ghost use Rattle.intmap.specs.Map.{IsMap, IsOutOfRange, IsCapacityAfter, InsertIsTooLarge};
+ghost use Rattle.intmap.specs.PlainLists.{RefusalIsDue};
+
+use crate::entry::{Entry, OccupiedEntry, VacantEntry};
+use crate::refusal::Refused;
+use intmap_table::IntKey;
+use std::alloc::Allocator;
+
+impl<'a, K: IntKey, V: Drop, A: Allocator + Copy> VacantEntry<'a, K, V, A> {
+    /// Inserts the pair of the key and the value as [`insert`](VacantEntry::insert) does, and
+    /// returns the entry of the key, which is then present. It fails as that does.
+    ///
+    /// ```text
+    /// let entry = vacant.insert_entry('d')?;
+    /// entry.get()    &'d'
+    /// ```
+    pub fn insert_entry(self, value: V) -> Result<OccupiedEntry<'a, K, V, A>, Refused<V>>
+        // what is answered and left
+        ensures written { IfOk result (λ entry. IsWritten (Vacant self.entry) value
+            (Occupied entry)) }
+        ensures capacity { OnOk result (IsNext (entry_list (Vacant self.entry)).capacity
+            (length (entry_list (Vacant self.entry)).pairs + 1)
+            (entry_list (Vacant self.entry)).factor (next_entry_capacity (Vacant self.entry))) }
+        ensures updates { IfOk result (λ entry. Updates K.number_of
+            (entry_map (Vacant self.entry)).walk (entry_map (Occupied entry)).walk
+            (entry_key (Vacant self.entry)) (Some value)) }
+        ensures len { IfOk result (λ entry. length (entry_map (Occupied entry)).walk
+            ≡ length (entry_map (Vacant self.entry)).walk + 1) }
+        ensures valid_after { IfOk result
+            (λ entry. IsMap K.number_of K.is_valid (entry_map (Occupied entry))) }
+
+        // what a refusal hands back and leaves
+        ensures* stays { sem 𝓛 (entry_rests K.row V.row A.row A.Allocator (Vacant self.entry)
+            result) }
+        ensures value_returned { IfErr result (λ refused. refused.value ≡ value) }
+
+        // when it is refused
+        ensures in_range { OnOk result (InsertIsTooLarge (entry_map (Vacant self.entry)).walk
+            (entry_map (Vacant self.entry)).capacity (entry_map (Vacant self.entry)).factor → ⊥) }
+        ensures refused { IfErr result (λ refused. RefusalIsDue K.number_of
+            (entry_list (Vacant self.entry)) (entry_key (Vacant self.entry)) refused.cause) }
+    {
+        let VacantEntry { map, key } = self;
+        // tells the proof that the key satisfies `is_valid`
+        let _number = key.number();
+        if let Err(refused) = map.add(key, value) {
+            return Err(refused);
+        }
+        let at = map.locate_last(key);
+        Ok(OccupiedEntry {
+            map,
+            slot: at.slot,
+            place: at.place,
+        })
+    }
+}
