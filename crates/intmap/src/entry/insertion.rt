@@ -2,7 +2,7 @@
 ghost use Rattle.std.specs.Prelude.{◌≡◌, ◌+◌, Some, cond, length, is_some, IfOk, IfErr, OnOk};
 ghost use Rattle.std.specs.Borrow.{sem};
 ghost use Rattle.intmap_table.specs.Bindings.{Updates};
-ghost use Rattle.intmap.specs.Entries.{Occupied, Vacant, entry_map, entry_key, entry_value, entry_list, next_entry_capacity, IsWritten, entry_rests};
+ghost use Rattle.intmap.specs.Entries.{Occupied, Vacant, entry_map, entry_key, entry_value, entry_list, IsWritten, entry_rests};
 ghost use Rattle.intmap.specs.Growth.{IsNext};
 ghost use Rattle.intmap.specs.Map.{IsMap, IsOutOfRange, IsCapacityAfter, InsertIsTooLarge};
 ghost use Rattle.intmap.specs.PlainLists.{RefusalIsDue};
@@ -24,9 +24,9 @@ impl<'a, K: IntKey, V: Drop, A: Allocator + Copy> VacantEntry<'a, K, V, A> {
         // what is answered and left
         ensures written { IfOk result (λ entry. IsWritten (Vacant self.entry) value
             (Occupied entry)) }
-        ensures capacity { OnOk result (IsNext (entry_list (Vacant self.entry)).capacity
+        ensures capacity { IfOk result (λ entry. IsNext (entry_list (Vacant self.entry)).capacity
             (length (entry_list (Vacant self.entry)).pairs + 1)
-            (entry_list (Vacant self.entry)).factor (next_entry_capacity (Vacant self.entry))) }
+            (entry_list (Vacant self.entry)).factor (entry_map (Occupied entry)).capacity) }
         ensures updates { IfOk result (λ entry. Updates K.number_of
             (entry_map (Vacant self.entry)).walk (entry_map (Occupied entry)).walk
             (entry_key (Vacant self.entry)) (Some value)) }
@@ -36,7 +36,7 @@ impl<'a, K: IntKey, V: Drop, A: Allocator + Copy> VacantEntry<'a, K, V, A> {
             (λ entry. IsMap K.number_of K.is_valid (entry_map (Occupied entry))) }
 
         // what a refusal hands back and leaves
-        ensures* stays { sem 𝓛 (entry_rests K.row V.row A.row A.Allocator (Vacant self.entry)
+        ensures* err { sem 𝓛 (entry_rests K.row V.row A.row A.Allocator (Vacant self.entry)
             result) }
         ensures value_returned { IfErr result (λ refused. refused.value ≡ value) }
 
@@ -58,5 +58,51 @@ impl<'a, K: IntKey, V: Drop, A: Allocator + Copy> VacantEntry<'a, K, V, A> {
             slot: at.slot,
             place: at.place,
         })
+    }
+}
+
+impl<'a, K: IntKey, V: Drop, A: Allocator + Copy> Entry<'a, K, V, A> {
+    /// Sets the value of the key, and returns its entry. If the key is present, the value is set in
+    /// its place, the one before is dropped, and the call never fails. If the key is absent, the
+    /// pair is inserted, and this fails as [`VacantEntry::insert`] does.
+    ///
+    /// ```text
+    /// map.entry(21).insert_entry('c')?.remove_entry()    (21, 'c')
+    /// ```
+    pub fn insert_entry(self, value: V) -> Result<OccupiedEntry<'a, K, V, A>, Refused<V>>
+        // what is answered and left
+        ensures written { IfOk result (λ entry. IsWritten self.entry value (Occupied entry)) }
+        ensures capacity { IfOk result (λ entry. IsCapacityAfter K.number_of
+            (entry_list self.entry).pairs (entry_list self.entry).capacity
+            (entry_list self.entry).factor (entry_key self.entry)
+            (entry_map (Occupied entry)).capacity) }
+        ensures updates { IfOk result (λ entry. Updates K.number_of (entry_map self.entry).walk
+            (entry_map (Occupied entry)).walk (entry_key self.entry) (Some value)) }
+        ensures len { IfOk result (λ entry. length (entry_map (Occupied entry)).walk
+            ≡ length (entry_map self.entry).walk + cond (is_some (entry_value self.entry)) 0 1) }
+        ensures valid_after { IfOk result
+            (λ entry. IsMap K.number_of K.is_valid (entry_map (Occupied entry))) }
+
+        // what a refusal hands back and leaves
+        ensures* err { sem 𝓛 (entry_rests K.row V.row A.row A.Allocator self.entry result) }
+        ensures value_returned { IfErr result (λ refused. refused.value ≡ value) }
+
+        // when it is refused
+        ensures in_range { OnOk result (IsOutOfRange K.number_of (entry_map self.entry).walk
+            (entry_map self.entry).capacity (entry_map self.entry).factor (entry_key self.entry)
+            → ⊥) }
+        ensures refused { IfErr result (λ refused. RefusalIsDue K.number_of (entry_list self.entry)
+            (entry_key self.entry) refused.cause) }
+    {
+        match self {
+            Entry::Occupied(entry) => {
+                // taken apart before the write, so that the proof follows the map into the answer
+                let OccupiedEntry { map, slot, place } = entry;
+                let at = map.location(slot, place);
+                *map.value_mut_at(at) = value;
+                Ok(OccupiedEntry { map, slot, place })
+            }
+            Entry::Vacant(entry) => entry.insert_entry(value),
+        }
     }
 }

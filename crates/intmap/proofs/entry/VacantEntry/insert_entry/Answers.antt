@@ -48,11 +48,11 @@ returns g c =
           map = c.in_default.ensures.state ∙ ap (with_pair number m k c.args.value) same;
           key = the_key-same _ (Some k) _ refl (here g (goal.at.returns g c).After-locate_last-at);
         };
-        capacity = next;
+        capacity = c.in_default.ensures.capacity;
         updates = Updates-put number g.K.IntKey.is_valid m c.add.new.self.walk c.add.new.self.capacity k c.args.value c.add.ensures.valid cap walk;
         len = let long = length-put number g.K.IntKey.is_valid m c.add.new.self.walk c.add.new.self.capacity k c.args.value cap walk in let one = one_more (value_of number m.walk k) c.args.self.missing in omega (arith, long, one);
         valid_after = c.add.ensures.valid_after;
-        stays = tt;
+        err = tt;
         value_returned = tt;
         in_range = c.in_default.ensures.in_range;
         refused = tt;

@@ -1,0 +1,63 @@
+use Rattle.std.proofs.Common.{◌≡◌, true, false, Some, refl, sym, ap, ◌∙◌, subst, arith}
+use Rattle.std.proofs.lemmas.Result.{IfOk-weaker}
+use Rattle.intmap_table.specs.Bindings.{Updates, value_of}
+use Rattle.intmap.specs.Entries.{occupied_key}
+use Rattle.intmap.specs.Map.{written}
+use Rattle.intmap_table.specs.Laws.Written.{IsFound-write_value, key_at-written, the_key-same}
+use Rattle.intmap.proofs.EntryLemmas.{OnOk-so}
+use Rattle.intmap.proofs.MapLemmas.{one_more}
+use Rattle.intmap.proofs.WriteLemmas.{Updates-written, length-write_value, IsMapWalk-written}
+use Rattle.intmap.proofs.entry.Entry.insert_entry.Goals as goal
+
+pub invariant_of-self : goal.invariant_of-self
+invariant_of-self g c =
+    let o = c.in-Occupied.entry in
+    record { found = IsFound-write_value g.K.IntKey.number_of o.map.now.walk o.map.now.capacity o.slot o.place c.location-at.result.key c.args.value o.found }
+
+pub returns-in-Occupied : goal.returns-in-Occupied
+returns-in-Occupied g c =
+    let number = g.K.IntKey.number_of in
+    let o = c.in-Occupied.entry in
+    let walk = o.map.now.walk in
+    let v = c.args.value in
+    let k = c.location-at.result.key in
+    let same : k ≡ occupied_key o = the_key-same _ _ refl o.found.some c.location-at.ensures.key in
+    let value = ap (value_of number walk) (sym same) ∙ c.value_mut_at.ensures.value in
+    rw c.in-Occupied.is (
+      (refl, (λ w. refl), tt),
+      record {
+        written = record {
+          same_reference = refl;
+          map = ap (λ k. written number o.map.now k v) same;
+          key = the_key-same _ _ _ o.found.some (key_at-written number walk o.map.now.capacity o.slot o.place k v);
+        };
+        capacity = rw value refl;
+        updates = subst (λ q. Updates number walk (written number o.map.now k v).walk q (Some v)) same (Updates-written number walk k v _ c.value_mut_at.ensures.value);
+        len = let long = length-write_value number walk k v in rw value (omega (arith, long));
+        valid_after = IsMapWalk-written number g.K.IntKey.is_valid walk _ _ k v c.value_mut_at.ensures.valid;
+        err = tt;
+        value_returned = tt;
+        in_range = λ out. let w : true ≡ false = rw value at out.0 in cc;
+        refused = tt;
+      },
+    )
+
+pub returns-in-Vacant : goal.returns-in-Vacant
+returns-in-Vacant g c =
+    let e = c.in-Vacant.entry in
+    let told = c.insert_entry.ensures in
+    let one = one_more (value_of g.K.IntKey.number_of e.map.now.walk e.key) e.missing in
+    rw c.in-Vacant.is (
+      (refl, c.insert_entry.follows.holds, c.insert_entry.follows.holds-at-none),
+      record {
+        written = told.written;
+        capacity = IfOk-weaker c.insert_entry.result _ _ (λ entry next. rw e.missing next) told.capacity;
+        updates = told.updates;
+        len = IfOk-weaker c.insert_entry.result _ _ (λ entry len. omega (arith, len, one)) told.len;
+        valid_after = told.valid_after;
+        err = tt;
+        value_returned = told.value_returned;
+        in_range = OnOk-so _ _ (λ fits out. fits out.1) c.insert_entry.result told.in_range;
+        refused = told.refused;
+      },
+    )
