@@ -9,6 +9,7 @@ pub mod entries;
 pub mod equality;
 pub mod floors;
 pub mod id_table;
+pub mod made;
 pub mod prices;
 pub mod refusals;
 pub mod retained;
