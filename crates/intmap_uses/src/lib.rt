@@ -19,5 +19,6 @@ pub mod tally;
 pub mod totals;
 pub mod values;
 pub mod walks;
+pub mod whole;
 pub mod work;
 pub mod written;

@@ -1,5 +1,6 @@
 //! Look-ups.
-ghost use Rattle.std.specs.Prelude.{◌≡◌, ◌+◌, Some, is_some, length, option_copied};
+ghost use Rattle.std.specs.Prelude.{◌≡◌, ◌+◌, Some, IfSome, is_some, length, option_copied};
+ghost use Rattle.std.specs.Option.{option_map};
 ghost use Rattle.intmap_table.specs.Bindings.{value_of, write_value, IsBound, Updates};
 ghost use Rattle.intmap_table.specs.Reach.{reach};
 ghost use Rattle.intmap.specs.Map.{IsMap, after_search, written};
@@ -68,6 +69,25 @@ impl<K: IntKey, V, A: Allocator + Copy> IntMap<K, V, A> {
             Some(at) => Some(self.value_mut_at(at)),
             None => None,
         }
+    }
+
+    /// The key as the map holds it, with its value, or `None` if the key is absent. It never fails.
+    ///
+    /// ```text
+    /// map.get_key_value(21)    Some((&21, &'a')) after map.insert(21, 'a')?
+    /// ```
+    pub fn get_key_value(&self, key: K) -> Option<(&K, &V)>
+        ensures key { IfSome result (λ pair. pair.0.now ≡ key) }
+        ensures value { option_map (λ pair. pair.1.now) result
+            ≡ value_of K.number_of self.now.walk key }
+        ensures valid { IsMap K.number_of K.is_valid self.now }
+    {
+        let mut steps = Steps::new();
+        let Some(at) = self.table.locate(key, &mut steps) else {
+            return None;
+        };
+        let found = self.table.key_at(at.slot, at.place);
+        Some((found, &self.table.value_at(at).value))
     }
 
     /// Whether the key is present. It never fails.

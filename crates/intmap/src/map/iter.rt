@@ -1,12 +1,12 @@
 //! The iterators of a map. Each goes through the slots in turn, and through each slot from front to
 //! back.
-ghost use Rattle.std.specs.Iterator.{YieldsFirstBy, item_count, YieldsFirst};
+ghost use Rattle.std.specs.Iterator.{YieldsFirstBy, item_count};
 ghost use Rattle.std.specs.Prelude.{◌≡◌};
 ghost use Rattle.std.specs.Map.{keys_of, values_of};
 ghost use Rattle.intmap.specs.Map.{IsMap};
-ghost use Rattle.intmap_table.specs.Walk.{ArePassed};
 
 mod drain;
+mod owned;
 mod writing;
 
 use crate::map::IntMap;
@@ -14,6 +14,7 @@ pub use drain::Drain;
 use intmap_table::IntKey;
 use intmap_table::kept::Kept;
 use intmap_table::table::walk::Pairs;
+pub use owned::{IntoIter, IntoKeys, IntoValues};
 use std::alloc::{Allocator, Global};
 use std::marker::Model;
 pub use writing::{IterMut, ValuesMut};
@@ -113,35 +114,6 @@ impl<'a, K: IntKey, V, A: Allocator + Copy> Iterator for Values<'a, K, V, A> {
     }
 }
 
-/// The pairs of a map by value, made by [`IntMap::into_iter`](crate::IntMap::into_iter). Contracts
-/// see it as the list of the pairs that are left.
-#[derive(Drop)]
-pub struct IntoIter<K: IntKey, V, A: Allocator + Copy = Global> {
-    pub(crate) map: IntMap<K, V, A>,
-    pub(crate) from: usize,
-    ghost passed: { ArePassed K.number_of map.walk map.capacity from },
-}
-
-impl<K: IntKey, V, A: Allocator + Copy> Model for IntoIter<K, V, A> {
-    ghost use Rattle.std.specs.Prelude.{List};
-
-    ghost Value = { List (K × V) };
-
-    ghost view = { λ it. it.map.walk };
-}
-
-impl<K: IntKey, V: Drop, A: Allocator + Copy> Iterator for IntoIter<K, V, A> {
-    type Item = (K, V);
-
-    ghost next_gives = { YieldsFirst (λ rest. rest) };
-
-    ghost remaining = { item_count (λ rest. rest) };
-
-    fn next(&mut self) -> Option<(K, V)> {
-        self.map.take_front(&mut self.from)
-    }
-}
-
 impl<K: IntKey, V, A: Allocator + Copy> IntMap<K, V, A> {
     /// An iterator over the pairs by reference, in iteration order. Neither this call nor a step of
     /// the iterator fails.
@@ -187,20 +159,5 @@ impl<'a, K: IntKey, V, A: Allocator + Copy> IntoIterator for &'a IntMap<K, V, A>
 
     fn into_iter(self) -> Iter<'a, K, V, A> {
         self.iter()
-    }
-}
-
-impl<K: IntKey, V: Drop, A: Allocator + Copy> IntoIterator for IntMap<K, V, A> {
-    type Item = (K, V);
-
-    type IntoIter = IntoIter<K, V, A>;
-
-    ghost into_iter_gives = { λ map it. it ≡ map.walk };
-
-    /// An iterator over the pairs by value, in iteration order. Neither this call nor a step of the
-    /// iterator fails. Each step moves the other pairs of its slot up by one place. Dropping the
-    /// iterator drops the pairs that are left.
-    fn into_iter(self) -> IntoIter<K, V, A> {
-        IntoIter { map: self, from: 0 }
     }
 }

@@ -1,5 +1,6 @@
 //! Removals.
-ghost use Rattle.std.specs.Prelude.{◌≡◌, ◌+◌, None, cond, is_some, length, ◌⊎◌, ◌≤◌};
+ghost use Rattle.std.specs.Prelude.{◌≡◌, ◌+◌, None, IfSome, cond, is_some, length, ◌⊎◌, ◌≤◌};
+ghost use Rattle.std.specs.Option.{option_map};
 ghost use Rattle.std.specs.Iterator.{YieldsFirst};
 ghost use Rattle.intmap_table.specs.Bindings.{value_of, Updates};
 ghost use Rattle.intmap.specs.Map.{IsMap, after_remove, emptied};
@@ -34,6 +35,28 @@ impl<K: IntKey, V, A: Allocator + Copy> IntMap<K, V, A> {
             return None;
         };
         Some(self.take_at(at))
+    }
+
+    /// The same as [`remove`](IntMap::remove), but it returns the key beside its value. It never
+    /// fails.
+    ///
+    /// ```text
+    /// with 0: 10, 4: 14 and 8: 18, in this order, in 4 slots, where they share one:
+    /// remove_entry(0)    Some((0, 10)), and the walk is 8: 18, 4: 14
+    /// remove_entry(0)    None, and the same walk
+    /// ```
+    pub fn remove_entry(&mut self, key: K) -> Option<(K, V)>
+        ensures key { IfSome result (λ pair. pair.0 ≡ key) }
+        ensures value { option_map (λ pair. pair.1) result
+            ≡ value_of K.number_of self.old.walk key }
+        ensures state { self.new ≡ after_remove K.number_of self.old key }
+        ensures updates { Updates K.number_of self.old.walk self.new.walk key None }
+        ensures len { length self.new.walk + cond (is_some result) 1 0 ≡ length self.old.walk }
+        ensures valid { IsMap K.number_of K.is_valid self.old }
+        ensures valid_after { IsMap K.number_of K.is_valid self.new }
+    {
+        let value = self.remove(key)?;
+        Some((key, value))
     }
 
     /// Takes the first pair of the walk out. No slot before the place holds one; it moves on to the

@@ -1,0 +1,151 @@
+//! The iterators that own a map: they take its pairs out by value, from the front of the walk.
+ghost use Rattle.std.specs.Iterator.{YieldsFirst, item_count};
+ghost use Rattle.std.specs.Prelude.{◌≡◌};
+ghost use Rattle.std.specs.Map.{keys_of, values_of};
+ghost use Rattle.intmap.specs.Map.{IsMap};
+ghost use Rattle.intmap_table.specs.Walk.{ArePassed};
+
+use crate::map::IntMap;
+use intmap_table::IntKey;
+use std::alloc::{Allocator, Global};
+use std::marker::Model;
+
+/// The pairs of a map by value, made by [`IntMap::into_iter`](crate::IntMap::into_iter). Contracts
+/// see it as the list of the pairs that are left.
+#[derive(Drop)]
+pub struct IntoIter<K: IntKey, V, A: Allocator + Copy = Global> {
+    map: IntMap<K, V, A>,
+    from: usize,
+    ghost passed: { ArePassed K.number_of map.walk map.capacity from },
+}
+
+impl<K: IntKey, V, A: Allocator + Copy> Model for IntoIter<K, V, A> {
+    ghost use Rattle.std.specs.Prelude.{List};
+
+    ghost Value = { List (K × V) };
+
+    ghost view = { λ it. it.map.walk };
+}
+
+impl<K: IntKey, V: Drop, A: Allocator + Copy> Iterator for IntoIter<K, V, A> {
+    type Item = (K, V);
+
+    ghost next_gives = { YieldsFirst (λ rest. rest) };
+
+    ghost remaining = { item_count (λ rest. rest) };
+
+    fn next(&mut self) -> Option<(K, V)> {
+        self.map.take_front(&mut self.from)
+    }
+}
+
+/// The keys of a map by value, made by [`IntMap::into_keys`](crate::IntMap::into_keys). Contracts
+/// see it as the list of the keys that are left.
+#[derive(Drop)]
+pub struct IntoKeys<K: IntKey, V, A: Allocator + Copy = Global> {
+    pairs: IntoIter<K, V, A>,
+}
+
+impl<K: IntKey, V, A: Allocator + Copy> Model for IntoKeys<K, V, A> {
+    ghost use Rattle.std.specs.Prelude.{List};
+    ghost use Rattle.std.specs.Map.{keys_of};
+
+    ghost Value = { List K };
+
+    ghost view = { λ it. keys_of it.pairs };
+}
+
+impl<K: IntKey, V: Drop, A: Allocator + Copy> Iterator for IntoKeys<K, V, A> {
+    type Item = K;
+
+    ghost next_gives = { YieldsFirst (λ rest. rest) };
+
+    ghost remaining = { item_count (λ rest. rest) };
+
+    fn next(&mut self) -> Option<K> {
+        let (key, _) = self.pairs.next()?;
+        Some(key)
+    }
+}
+
+/// The values of a map by value, made by [`IntMap::into_values`](crate::IntMap::into_values). Contracts
+/// see it as the list of the values that are left.
+#[derive(Drop)]
+pub struct IntoValues<K: IntKey, V, A: Allocator + Copy = Global> {
+    pairs: IntoIter<K, V, A>,
+}
+
+impl<K: IntKey, V, A: Allocator + Copy> Model for IntoValues<K, V, A> {
+    ghost use Rattle.std.specs.Prelude.{List};
+    ghost use Rattle.std.specs.Map.{values_of};
+
+    ghost Value = { List V };
+
+    ghost view = { λ it. values_of it.pairs };
+}
+
+impl<K: IntKey, V: Drop, A: Allocator + Copy> Iterator for IntoValues<K, V, A> {
+    type Item = V;
+
+    ghost next_gives = { YieldsFirst (λ rest. rest) };
+
+    ghost remaining = { item_count (λ rest. rest) };
+
+    fn next(&mut self) -> Option<V> {
+        let (_, value) = self.pairs.next()?;
+        Some(value)
+    }
+}
+
+impl<K: IntKey, V: Drop, A: Allocator + Copy> IntoIterator for IntMap<K, V, A> {
+    type Item = (K, V);
+
+    type IntoIter = IntoIter<K, V, A>;
+
+    ghost into_iter_gives = { λ map it. it ≡ map.walk };
+
+    /// An iterator over the pairs by value, in iteration order. Neither this call nor a step of the
+    /// iterator fails. Each step moves the other pairs of its slot up by one place. Dropping the
+    /// iterator drops the pairs that are left.
+    fn into_iter(self) -> IntoIter<K, V, A> {
+        IntoIter { map: self, from: 0 }
+    }
+}
+
+impl<K: IntKey, V: Drop, A: Allocator + Copy> IntMap<K, V, A> {
+    /// An iterator over the keys by value, in iteration order, which consumes the map. Each step
+    /// drops the value of the key that it returns. Dropping the iterator drops the values that are
+    /// left. Neither this call nor a step of the iterator fails.
+    ///
+    /// ```text
+    /// after insert(0, 'a'), insert(1, 'b') and insert(4, 'c') into 4 slots:
+    /// for key in map.into_keys()    0, then 4, then 1
+    /// ```
+    pub fn into_keys(self) -> IntoKeys<K, V, A>
+        ensures walk { result ≡ keys_of self.walk }
+        ensures valid { IsMap K.number_of K.is_valid self }
+    {
+        self.known();
+        IntoKeys {
+            pairs: self.into_iter(),
+        }
+    }
+
+    /// An iterator over the values by value, in iteration order, which consumes the map. Dropping
+    /// the iterator drops the values that are left. Neither this call nor a step of the iterator
+    /// fails.
+    ///
+    /// ```text
+    /// after insert(0, 'a'), insert(1, 'b') and insert(4, 'c') into 4 slots:
+    /// for value in map.into_values()    'a', then 'c', then 'b'
+    /// ```
+    pub fn into_values(self) -> IntoValues<K, V, A>
+        ensures walk { result ≡ values_of self.walk }
+        ensures valid { IsMap K.number_of K.is_valid self }
+    {
+        self.known();
+        IntoValues {
+            pairs: self.into_iter(),
+        }
+    }
+}

@@ -1,0 +1,64 @@
+//! Whole pairs: a key with its value, looked up or taken out, and the keys or the values of a map
+//! that is used up.
+ghost use Rattle.std.specs.Prelude.{◌≡◌, IfOk, None, Some, false};
+ghost use Rattle.std.specs.Map.{keys_of, values_of};
+ghost use Rattle.std.specs.Option.{option_map};
+ghost use Rattle.intmap.specs.Bindings.{HasDistinctKeys, value_of};
+ghost use Rattle.intmap.specs.Classes.{same_key};
+
+use intmap::{IntKey, IntMap};
+use std::alloc::{AllocError, Allocator};
+
+/// A copy of the pair of the key: the key itself, with its value.
+pub fn copy_pair<K: IntKey, V: Copy, A: Allocator + Copy>(
+    map: &IntMap<K, V, A>,
+    key: K,
+) -> Option<(K, V)>
+    ensures { result ≡ option_map (λ value. (key, value)) (value_of K.number_of map.now.walk key) }
+{
+    let (key, value) = map.get_key_value(key)?;
+    Some((*key, *value))
+}
+
+/// Takes the pair of the key out: the key itself, with its value. Every other key keeps what it has.
+pub fn take_pair<K: IntKey, V, A: Allocator + Copy>(
+    map: &mut IntMap<K, V, A>,
+    key: K,
+) -> Option<(K, V)>
+    ensures pair { result
+        ≡ option_map (λ value. (key, value)) (value_of K.number_of map.old.walk key) }
+    ensures gone { value_of K.number_of map.new.walk key ≡ None }
+    ensures others { (q : K) → same_key K.number_of key q ≡ false
+        → value_of K.number_of map.new.walk q ≡ value_of K.number_of map.old.walk q }
+{
+    map.remove_entry(key)
+}
+
+/// The keys of the map, each once.
+///
+/// Err: there was no room for them.
+pub fn keys_alone<K: IntKey, V: Drop, A: Allocator + Copy>(
+    alloc: A,
+    map: IntMap<K, V, A>,
+) -> Result<Vec<K, A>, AllocError>
+    ensures keys { IfOk result (λ keys. keys.items ≡ keys_of map.walk) }
+    ensures once { HasDistinctKeys K.number_of map.walk }
+{
+    let mut keys = Vec::new(alloc);
+    for key in map.into_keys() {
+        keys.push(key)?;
+    }
+    Ok(keys)
+}
+
+/// The values of the map, in the order of its walk.
+///
+/// Err: there was no room for them.
+pub fn values_alone<K: IntKey, V: Drop, A: Allocator + Copy>(
+    alloc: A,
+    map: IntMap<K, V, A>,
+) -> Result<Vec<V, A>, AllocError>
+    ensures { IfOk result (λ values. values.items ≡ values_of map.walk) }
+{
+    map.into_values().collect(alloc)
+}
