@@ -1,5 +1,5 @@
 //! One bit for each place.
-ghost use Rattle.std.specs.Prelude.{◌≡◌, List, Bool, ◌+◌, ◌*◌, ◌/◌, ◌^◌, ◌<◌, ◌≤◌, true, false, filter, length, nat_le, replicate, slice_set, IfOk};
+ghost use Rattle.std.specs.Prelude.{◌≡◌, List, Bool, ◌+◌, ◌*◌, ◌/◌, ◌^◌, ◌<◌, ◌≤◌, true, false, filter, length, nat_le, replicate, slice_set, IfOk, ⊤};
 ghost use Rattle.std.specs.Iterator.{YieldsFirstBy, item_count};
 ghost use Rattle.intmap_table.specs.Tables.Bits.{marked, marked_places, IsWordOf};
 
@@ -172,6 +172,20 @@ impl<'a> Model for Places<'a> {
     ghost view = { λ it. places_from it.base (it.word ∷ it.words.now) };
 
     ghost invariant = { λ it. it.base + 64 * length it.words.now ≤ 2 ^ 63 };
+}
+
+impl<'a> Clone for Places<'a> {
+    ghost is_clone = { λ it made. made ≡ it };
+
+    ghost is_infallible = { λ _. ⊤ };
+
+    fn clone(&self) -> Result<Places<'a>, AllocError> {
+        Ok(Places {
+            word: self.word,
+            base: self.base,
+            words: self.words,
+        })
+    }
 }
 
 impl<'a> Iterator for Places<'a> {

@@ -1,11 +1,12 @@
-//! Whole pairs: a key with its value, looked up or taken out, and the keys or the values of a map
-//! that is used up.
-ghost use Rattle.std.specs.Prelude.{◌≡◌, IfOk, None, Some, false};
+//! Whole pairs: a key with its value, looked up or taken out; a value by `map[key]`; and the keys or
+//! the values of a map that is used up.
+ghost use Rattle.std.specs.Prelude.{◌≡◌, IfNone, IfOk, IfSome, List, [], ◌∷◌, None, Some, false};
 ghost use Rattle.std.specs.Map.{keys_of, values_of};
 ghost use Rattle.std.specs.Option.{option_map};
-ghost use Rattle.intmap.specs.Bindings.{HasDistinctKeys, value_of};
+ghost use Rattle.intmap.specs.Bindings.{HasDistinctKeys, IsBound, value_of};
 ghost use Rattle.intmap.specs.Classes.{same_key};
 
+use intmap::iter::Keys;
 use intmap::{IntKey, IntMap};
 use std::alloc::{AllocError, Allocator};
 
@@ -32,6 +33,22 @@ pub fn take_pair<K: IntKey, V, A: Allocator + Copy>(
         → value_of K.number_of map.new.walk q ≡ value_of K.number_of map.old.walk q }
 {
     map.remove_entry(key)
+}
+
+/// The value of a key that the caller knows to be present.
+pub fn known_value<K: IntKey, V: Copy, A: Allocator + Copy>(map: &IntMap<K, V, A>, key: K) -> V
+    requires { IsBound K.number_of map.now.walk key }
+    ensures { value_of K.number_of map.now.walk key ≡ Some result }
+{
+    map[key]
+}
+
+/// The key that comes next, by a clone: the iterator itself stays where it is.
+pub fn next_key<K: IntKey, V, A: Allocator + Copy>(keys: &Keys<'_, K, V, A>) -> Option<K>
+    ensures some { IfSome result (λ key. (rest : List K) × (keys.now ≡ key ∷ rest)) }
+    ensures none { IfNone result (keys.now ≡ []) }
+{
+    keys.clone().unwrap().next().copied()
 }
 
 /// The keys of the map, each once.

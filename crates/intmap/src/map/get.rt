@@ -9,6 +9,7 @@ use crate::map::IntMap;
 use intmap_table::IntKey;
 use intmap_table::steps::Steps;
 use std::alloc::Allocator;
+use std::ops::Index;
 
 impl<K: IntKey, V, A: Allocator + Copy> IntMap<K, V, A> {
     ghost use Rattle.std.specs.Borrow.{sem};
@@ -101,5 +102,23 @@ impl<K: IntKey, V, A: Allocator + Copy> IntMap<K, V, A> {
     {
         let mut steps = Steps::new();
         self.get_counted(key, &mut steps).is_some()
+    }
+}
+
+impl<K: IntKey, V, A: Allocator + Copy> Index<K> for IntMap<K, V, A> {
+    type Output = V;
+
+    ghost can_index = { λ map key. IsBound K.number_of map.walk key };
+
+    ghost index_gives = { λ map key value. value_of K.number_of map.walk key ≡ Some value };
+
+    /// The value of the key. The caller must know that it is present: no program is built in which
+    /// it may be absent.
+    ///
+    /// ```text
+    /// map[21]    'a' after map.insert(21, 'a')?
+    /// ```
+    fn index(&self, key: K) -> &V {
+        self.get(key).unwrap()
     }
 }

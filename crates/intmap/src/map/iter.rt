@@ -7,6 +7,7 @@ ghost use Rattle.intmap.specs.Map.{IsMap};
 
 mod drain;
 mod owned;
+mod traits;
 mod writing;
 
 use crate::map::IntMap;

@@ -1,5 +1,5 @@
 //! The pairs of a table by reference, slot after slot, and clones of a table.
-ghost use Rattle.std.specs.Prelude.{◌≡◌, ◌<◌, length, slice_index_or, IfOk};
+ghost use Rattle.std.specs.Prelude.{◌≡◌, ◌<◌, length, slice_index_or, IfOk, ⊤};
 ghost use Rattle.std.specs.Iterator.{YieldsFirstBy, item_count};
 ghost use Rattle.std.specs.List.{AllZip};
 ghost use Rattle.intmap_table.specs.Cloning.{IsPairClone};
@@ -43,6 +43,21 @@ impl<'a, K: IntKey, X, A: Allocator> Model for Pairs<'a, K, X, A> {
         all_pairs (option_copied it.first) it.rest.now ++ pairs_at (rows it.slots.now) it.places };
 
     ghost invariant = { λ it. All (λ place. place < length it.slots.now) it.places };
+}
+
+impl<'a, K: IntKey, X, A: Allocator> Clone for Pairs<'a, K, X, A> {
+    ghost is_clone = { λ it made. made ≡ it };
+
+    ghost is_infallible = { λ _. ⊤ };
+
+    fn clone(&self) -> Result<Pairs<'a, K, X, A>, AllocError> {
+        Ok(Pairs {
+            first: self.first,
+            rest: self.rest,
+            places: self.places.clone()?,
+            slots: self.slots,
+        })
+    }
 }
 
 impl<'a, K: IntKey, X, A: Allocator> Iterator for Pairs<'a, K, X, A> {
