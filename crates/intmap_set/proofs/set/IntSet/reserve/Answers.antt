@@ -1,0 +1,20 @@
+use Rattle.std.proofs.Common.{refl}
+use Rattle.intmap.proofs.EntryLemmas.{OnOk-so}
+use Rattle.intmap_set.proofs.MemberLemmas.{IsSet-seen, same-seen}
+use Rattle.intmap_set.proofs.CallLemmas.{in_slots-seen, reserved-seen}
+use Rattle.intmap_set.proofs.set.IntSet.reserve.Goals as goal
+
+pub returns-clause-capacity : goal.returns-clause-capacity
+returns-clause-capacity g c = OnOk-so _ _ (reserved-seen g.K.IntKey.number_of c.self.inside.map c.reserve.new.self _ c.self.view_is _) c.reserve.result c.reserve.ensures.capacity
+
+pub returns-clause-state : goal.returns-clause-state
+returns-clause-state g c = OnOk-so _ _ (in_slots-seen _ c.self.inside.map c.reserve.new.self _ c.self.view_is) c.reserve.result c.reserve.ensures.state
+
+pub returns-clause-same : goal.returns-clause-same
+returns-clause-same g c = same-seen _ c.self.inside.map c.reserve.new.self _ c.self.view_is c.reserve.ensures.updates
+
+pub returns-clause-valid : goal.returns-clause-valid
+returns-clause-valid g c = IsSet-seen _ _ c.self.inside.map _ c.self.view_is c.reserve.ensures.valid
+
+pub returns-clause-valid_after : goal.returns-clause-valid_after
+returns-clause-valid_after g c = IsSet-seen _ _ c.reserve.new.self _ refl c.reserve.ensures.valid_after

@@ -1,0 +1,61 @@
+-- A set of integers as contracts see it, its members, and what calls leave of it.
+use Rattle.std.specs.Prelude.{◌≡◌, false, ℕ, ◌≡◌, Bool, cond, List, [], map}
+use Rattle.std.specs.List.{list_any}
+use Rattle.std.specs.Map.{keys_of}
+use Rattle.intmap.specs.Classes.{same_key}
+use Rattle.intmap.specs.Map as of_map
+
+-- the members in the order of the walk, the number of slots, and the load factor in thousandths
+pub record SetState (K : Type 0) : Type 0 where
+  pub walk : List K
+  pub capacity : ℕ
+  pub factor : ℕ
+
+module _ {K : Type 0} where
+  -- each member with the value ()
+  abbrev pub paired : List K → List (K × Unit {0})
+  paired W = map (λ k. (k, tt)) W
+
+  -- the map from each member to (), its counts at zero
+  abbrev pub as_map : SetState K → of_map.MapState K (Unit {0})
+  as_map s = record { walk = paired s.walk; capacity = s.capacity; factor = s.factor; placed = 0; compared = 0 }
+
+  -- the set of the keys of a map
+  abbrev pub set_of : of_map.MapState K (Unit {0}) → SetState K
+  set_of m = record { walk = keys_of m.walk; capacity = m.capacity; factor = m.factor }
+
+  -- a set of C slots that was just made
+  abbrev pub empty_set : ℕ → SetState K
+  empty_set C = record { walk = []; capacity = C; factor = 909 }
+
+  -- the set without its members
+  abbrev pub emptied : SetState K → SetState K
+  emptied s = record s { walk = [] }
+
+module _ {K : Type 0} (number : K → ℕ) where
+  -- whether a key is a member
+  abbrev pub holds : List K → K → Bool
+  holds W k = list_any (same_key number k) W
+
+  -- W has k exactly if b is true, and each other key exactly if V has: so it is at every key, at k itself, and at any other
+  abbrev pub Updates : List K → List K → K → Bool → Type 0
+  Updates V W k b =
+      ((q : K) → holds W q ≡ cond (same_key number k q) b (holds V q))
+      × (holds W k ≡ b)
+      × ((q : K) → same_key number k q ≡ false → holds W q ≡ holds V q)
+
+  -- what every set is: its members are the keys of a map
+  abbrev pub IsSet : (K → Type 0) → SetState K → Type 0
+  IsSet is_valid s = of_map.IsMap number is_valid (as_map s)
+
+  -- the set with k at the end of its slot, in D slots
+  abbrev pub with_key : SetState K → K → ℕ → SetState K
+  with_key s k D = set_of (of_map.with_pair number (as_map s) k tt D)
+
+  -- the set with k taken out
+  abbrev pub without_key : SetState K → K → SetState K
+  without_key s k = set_of (of_map.without_key number (as_map s) k)
+
+  -- the set in D slots
+  abbrev pub in_slots : SetState K → ℕ → SetState K
+  in_slots s D = set_of (of_map.in_slots number (as_map s) D)

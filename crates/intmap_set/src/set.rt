@@ -1,0 +1,69 @@
+//! The set: a map from each member to `()`.
+ghost use Rattle.std.specs.Prelude.{◌≡◌, ◌==◌, length};
+ghost use Rattle.intmap_set.specs.Sets.{IsSet, holds};
+
+mod insert;
+mod remove;
+
+use intmap::{IntKey, IntMap};
+use std::alloc::{Allocator, Global};
+use std::marker::Model;
+
+/// A set of integers.
+///
+/// Its members lie in slots as the keys of an [`IntMap`] do: iteration goes through the slots in
+/// turn, and through each from front to back. The list of the members in this order is the walk. It
+/// depends on the calls alone: there is no random seed. No call makes the number of slots smaller.
+///
+/// Contracts see a set as a [`SetState`](../specs/Sets.antt): its walk, its number of slots and its
+/// load factor in thousandths. Whether a key is a member is `holds` of the walk.
+#[derive(Drop)]
+pub struct IntSet<K: IntKey, A: Allocator + Copy = Global> {
+    map: IntMap<K, (), A>,
+}
+
+impl<K: IntKey, A: Allocator + Copy> Model for IntSet<K, A> {
+    ghost use Rattle.intmap_set.specs.Sets.{SetState, set_of};
+
+    ghost Value = { SetState K };
+
+    ghost view = { λ set. set_of set.map };
+}
+
+impl<K: IntKey, A: Allocator + Copy> IntSet<K, A> {
+    /// Whether the key is a member. It never fails.
+    ///
+    /// ```text
+    /// set.contains(21)    true after set.insert(21)?
+    /// ```
+    pub fn contains(&self, key: K) -> bool
+        ensures value { result ≡ holds K.number_of self.now.walk key }
+        ensures valid { IsSet K.number_of K.is_valid self.now }
+    {
+        self.map.contains_key(key)
+    }
+
+    /// The number of members. It never fails.
+    pub fn len(&self) -> usize
+        ensures value { result ≡ length self.now.walk }
+        ensures valid { IsSet K.number_of K.is_valid self.now }
+    {
+        self.map.len()
+    }
+
+    /// Whether there is no member. It never fails.
+    pub fn is_empty(&self) -> bool
+        ensures value { result ≡ (length self.now.walk == 0) }
+        ensures valid { IsSet K.number_of K.is_valid self.now }
+    {
+        self.map.is_empty()
+    }
+
+    /// The number of slots, a power of two from 2 to 2^63. It never fails.
+    pub fn capacity(&self) -> usize
+        ensures value { result ≡ self.now.capacity }
+        ensures valid { IsSet K.number_of K.is_valid self.now }
+    {
+        self.map.capacity()
+    }
+}

@@ -1,0 +1,107 @@
+//! New sets, and the insertion of a key.
+ghost use Rattle.std.specs.Prelude.{◌≡◌, ◌↔◌, ℕ, ◌+◌, ◌^◌, ◌<◌, max, length, not, true, false, cond, Err, IfOk, IfErr, OnOk, OnErr, IsErrOf, MatchBool};
+ghost use Rattle.intmap.specs.Growth.{IsLeastPower, IsNext};
+ghost use Rattle.intmap.specs.Map.{IsOutOfRange, IsCapacityAfter};
+ghost use Rattle.intmap.specs.Reach.{class_size};
+ghost use Rattle.intmap_set.specs.Sets.{IsSet, Updates, empty_set, holds, paired, with_key, in_slots};
+
+use crate::set::IntSet;
+use intmap::{Cause, IntKey, IntMap};
+use std::alloc::Allocator;
+
+impl<K: IntKey, A: Allocator + Copy> IntSet<K, A> {
+    /// An empty set of 4 slots, with a load factor of 909 thousandths. It allocates the slots and
+    /// their bits. It fails only if an allocation fails, with [`Cause::Memory`].
+    pub fn new(alloc: A) -> Result<IntSet<K, A>, Cause>
+        ensures state { IfOk result (λ made. made ≡ empty_set 4) }
+        ensures memory { IfErr result (λ cause. cause ≡ Cause.Memory) }
+        ensures valid { IfOk result (IsSet K.number_of K.is_valid) }
+    {
+        Ok(IntSet {
+            map: IntMap::new(alloc)?,
+        })
+    }
+
+    /// An empty set with a load factor of 909 thousandths. Its number of slots is the least power
+    /// of two that is at least `capacity`, and at least 2. It fails with [`Cause::TooLarge`]
+    /// exactly if `capacity` is above 2^63, and otherwise with [`Cause::Memory`] if an allocation
+    /// fails.
+    pub fn with_capacity(alloc: A, capacity: usize) -> Result<IntSet<K, A>, Cause>
+        ensures state { IfOk result (λ made. made ≡ empty_set made.capacity) }
+        ensures capacity { IfOk result (λ made. IsLeastPower (max capacity 2) made.capacity) }
+        ensures too_large { (result ≡ Err Cause.TooLarge) ↔ (2 ^ 63 < capacity) }
+        ensures valid { IfOk result (IsSet K.number_of K.is_valid) }
+    {
+        Ok(IntSet {
+            map: IntMap::with_capacity(alloc, capacity)?,
+        })
+    }
+
+    /// Makes the key a member, and returns whether it was none before. A member stays where it is,
+    /// and the set as it was. A new one comes to the end of its slot, and the table grows as that of
+    /// a map does at a new key.
+    ///
+    /// The insertion of a member never fails. That of a new key fails with [`Cause::TooLarge`]
+    /// exactly if the set has 2^64 - 1 members or growth needs more than 2^63 slots, and otherwise
+    /// with [`Cause::Memory`] if an allocation fails. It allocates nothing if the capacity stays
+    /// and the slot holds no member. A failed call leaves the set as it was.
+    ///
+    /// ```text
+    /// with 0, 4 and 8, in this order, in 4 slots, where they share one:
+    /// insert(4)     Ok(false), and the same walk
+    /// insert(12)    Ok(true), and 8 slots: four members in four slots exceed 909 thousandths
+    /// ```
+    pub fn insert(&mut self, key: K) -> Result<bool, Cause>
+        // what is answered and left
+        ensures new { IfOk result (λ new. new ≡ not (holds K.number_of self.old.walk key)) }
+        ensures capacity { OnOk result (IsCapacityAfter K.number_of (paired self.old.walk)
+            self.old.capacity self.old.factor key self.new.capacity) }
+        ensures state { IfOk result (λ new. MatchBool new
+            (self.new ≡ with_key K.number_of self.old key self.new.capacity)
+            (self.new ≡ self.old)) }
+        ensures updates { OnOk result
+            (Updates K.number_of self.old.walk self.new.walk key true) }
+        ensures len { IfOk result (λ new. length self.new.walk
+            ≡ length self.old.walk + cond new 1 0) }
+        ensures err { OnErr result (self.new ≡ self.old) }
+
+        // when it is refused
+        ensures new_key { OnErr result (holds K.number_of self.old.walk key ≡ false) }
+        ensures too_large { IsErrOf result Cause.TooLarge
+            ↔ IsOutOfRange K.number_of (paired self.old.walk) self.old.capacity self.old.factor key }
+        ensures memory { IsErrOf result Cause.Memory
+            → IsNext self.old.capacity (length self.old.walk + 1) self.old.factor self.old.capacity
+            → 0 < class_size K.number_of (paired self.old.walk) self.old.capacity key }
+
+        ensures valid { IsSet K.number_of K.is_valid self.old }
+        ensures valid_after { IsSet K.number_of K.is_valid self.new }
+    {
+        Ok(self.map.insert_checked(key, ())?)
+    }
+
+    /// Makes the capacity at least the least power of two that is no less than the length plus
+    /// `additional`. A greater capacity stays. The load factor isn't considered, so later
+    /// insertions may still grow the table.
+    ///
+    /// It fails with [`Cause::TooLarge`] exactly if the length plus `additional` is above 2^63, and
+    /// otherwise with [`Cause::Memory`] if an allocation fails. It never fails if the capacity is
+    /// at least that sum. A failed call leaves the set as it was.
+    pub fn reserve(&mut self, additional: usize) -> Result<(), Cause>
+        ensures capacity { OnOk result ((p : ℕ) × IsLeastPower (length self.old.walk + additional) p
+            × (self.new.capacity ≡ max self.old.capacity p)) }
+        ensures state { OnOk result
+            (self.new ≡ in_slots K.number_of self.old self.new.capacity) }
+        ensures err { OnErr result (self.new ≡ self.old) }
+        ensures too_large { (result ≡ Err Cause.TooLarge)
+            ↔ (2 ^ 63 < length self.old.walk + additional) }
+        ensures memory { result ≡ Err Cause.Memory
+            → self.old.capacity < length self.old.walk + additional }
+        ensures same { (q : K)
+            → holds K.number_of self.new.walk q ≡ holds K.number_of self.old.walk q }
+        ensures len { length self.new.walk ≡ length self.old.walk }
+        ensures valid { IsSet K.number_of K.is_valid self.old }
+        ensures valid_after { IsSet K.number_of K.is_valid self.new }
+    {
+        self.map.reserve(additional)
+    }
+}
