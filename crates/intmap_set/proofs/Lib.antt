@@ -1,2 +1,4 @@
 pub mod MemberLemmas
 pub mod CallLemmas
+pub mod CombinedLemmas
+pub mod EqualLemmas

@@ -1,1 +1,3 @@
 pub mod Sets
+pub mod Combined
+pub mod EqualityLaws

@@ -4,4 +4,4 @@
 
 mod set;
 
-pub use set::IntSet;
+pub use set::{IntSet, iter};

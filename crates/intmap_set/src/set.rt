@@ -2,8 +2,11 @@
 ghost use Rattle.std.specs.Prelude.{◌≡◌, ◌==◌, length};
 ghost use Rattle.intmap_set.specs.Sets.{IsSet, holds};
 
+mod combine;
 mod insert;
+pub mod iter;
 mod remove;
+mod traits;
 
 use intmap::{IntKey, IntMap};
 use std::alloc::{Allocator, Global};

@@ -1,0 +1,127 @@
+//! Two sets: their union, their intersection, their differences, and whether one is within another.
+ghost use Rattle.std.specs.Prelude.{◌≡◌, ◌↔◌, IsTrue};
+ghost use Rattle.intmap_set.specs.Sets.{IsSet};
+ghost use Rattle.intmap_set.specs.Combined.{IsSubset, IsDisjoint, IsDifference, IsIntersection, IsUnion, IsSymmetricDifference, difference_of, intersection_of, union_of, symmetric_difference_of};
+
+use crate::set::IntSet;
+use crate::set::iter::{Difference, Intersection, SymmetricDifference, Union};
+use intmap::IntKey;
+use std::alloc::Allocator;
+
+impl<K: IntKey, A: Allocator + Copy> IntSet<K, A> {
+    /// An iterator over the members that this set has and `other` hasn't, in the order of this set.
+    /// A step looks up the next members of this set in `other`. Neither this call nor a step fails.
+    ///
+    /// It makes no set. A set of these members is made by [`IntSet::from_iter`], as below, which may
+    /// be refused. It is the same with the iterators of the other three calls.
+    ///
+    /// ```text
+    /// with the members 1, 2, 3 and 2, 3, 4:
+    /// for key in first.difference(&second)                                1
+    /// IntSet::from_iter(alloc, first.difference(&second).copied())?       a set with the member 1
+    /// ```
+    pub fn difference<'a>(&'a self, other: &'a IntSet<K, A>) -> Difference<'a, K, A>
+        ensures walk { result ≡ difference_of K.number_of self.now.walk other.now.walk }
+        ensures members { IsDifference K.number_of self.now.walk other.now.walk result }
+        ensures valid { IsSet K.number_of K.is_valid self.now }
+    {
+        Difference {
+            keys: self.iter(),
+            other,
+        }
+    }
+
+    /// An iterator over the members that both sets have, in the order of the one with fewer
+    /// members, or of this one if both have as many. A step looks up the next members of that set in
+    /// the other. Neither this call nor a step fails.
+    ///
+    /// ```text
+    /// with the members 1, 2, 3 and 2, 3, 4:
+    /// for key in first.intersection(&second)    2 and 3
+    /// ```
+    pub fn intersection<'a>(&'a self, other: &'a IntSet<K, A>) -> Intersection<'a, K, A>
+        ensures walk { result ≡ intersection_of K.number_of self.now.walk other.now.walk }
+        ensures members { IsIntersection K.number_of self.now.walk other.now.walk result }
+        ensures valid { IsSet K.number_of K.is_valid self.now }
+    {
+        if other.len() < self.len() {
+            return Intersection {
+                keys: other.iter(),
+                other: self,
+            };
+        }
+        Intersection {
+            keys: self.iter(),
+            other,
+        }
+    }
+
+    /// An iterator over the members of either set, each once: those of the set with more members, or
+    /// of this one if both have as many, and then those that the other has alone. Only the latter
+    /// are looked up. Neither this call nor a step fails.
+    ///
+    /// ```text
+    /// with the members 1, 2, 3 and 2, 3, 4:
+    /// for key in first.union(&second)    1, 2 and 3, and then 4
+    /// ```
+    pub fn union<'a>(&'a self, other: &'a IntSet<K, A>) -> Union<'a, K, A>
+        ensures walk { result ≡ union_of K.number_of self.now.walk other.now.walk }
+        ensures members { IsUnion K.number_of self.now.walk other.now.walk result }
+        ensures valid { IsSet K.number_of K.is_valid self.now }
+    {
+        if self.len() < other.len() {
+            return Union {
+                first: other.iter(),
+                second: self.difference(other),
+            };
+        }
+        Union {
+            first: self.iter(),
+            second: other.difference(self),
+        }
+    }
+
+    /// An iterator over the members that exactly one of the sets has: those that this set has alone,
+    /// and then those that `other` has alone. Neither this call nor a step fails.
+    ///
+    /// ```text
+    /// with the members 1, 2, 3 and 2, 3, 4:
+    /// for key in first.symmetric_difference(&second)    1, and then 4
+    /// ```
+    pub fn symmetric_difference<'a>(
+        &'a self,
+        other: &'a IntSet<K, A>,
+    ) -> SymmetricDifference<'a, K, A>
+        ensures walk { result ≡ symmetric_difference_of K.number_of self.now.walk other.now.walk }
+        ensures members { IsSymmetricDifference K.number_of self.now.walk other.now.walk result }
+        ensures valid { IsSet K.number_of K.is_valid self.now }
+    {
+        SymmetricDifference {
+            first: self.difference(other),
+            second: other.difference(self),
+        }
+    }
+
+    /// Whether each member of this set is one of `other`. It looks the members up in turn, up to the
+    /// first that `other` hasn't. It never fails.
+    pub fn is_subset(&self, other: &IntSet<K, A>) -> bool
+        ensures value { IsTrue result ↔ IsSubset K.number_of self.now.walk other.now.walk }
+    {
+        self.difference(other).next().is_none()
+    }
+
+    /// Whether each member of `other` is one of this set. It never fails.
+    pub fn is_superset(&self, other: &IntSet<K, A>) -> bool
+        ensures value { IsTrue result ↔ IsSubset K.number_of other.now.walk self.now.walk }
+    {
+        other.is_subset(self)
+    }
+
+    /// Whether no member of this set is one of `other`. It looks the members of the smaller set up
+    /// in the other, up to the first that both have. It never fails.
+    pub fn is_disjoint(&self, other: &IntSet<K, A>) -> bool
+        ensures value { IsTrue result ↔ IsDisjoint K.number_of self.now.walk other.now.walk }
+    {
+        self.intersection(other).next().is_none()
+    }
+}

@@ -1,0 +1,59 @@
+//! Equality of sets, their text, and clones.
+ghost use Rattle.std.specs.Prelude.{◌≡◌, IfOk, IfErr};
+ghost use Rattle.std.specs.Cmp.{partial_equiv_from_equiv};
+ghost use Rattle.intmap_set.specs.Sets.{IsSet};
+ghost use Rattle.intmap_set.specs.Combined.{sets_equal};
+ghost use Rattle.intmap_set.specs.EqualityLaws.{IsEquivalence-sets_equal};
+
+use crate::set::IntSet;
+use intmap::{Cause, IntKey};
+use std::alloc::Allocator;
+use std::fmt;
+
+impl<K: IntKey, A: Allocator + Copy> PartialEq for IntSet<K, A> {
+    ghost eq = { sets_equal K.number_of };
+
+    ghost laws = { partial_equiv_from_equiv (IsEquivalence-sets_equal K.number_of) };
+
+    /// Whether both sets have the same members. The order of the walks, the capacities and the load
+    /// factors don't matter. It never fails.
+    fn eq(&self, other: &IntSet<K, A>) -> bool {
+        self.map == other.map
+    }
+}
+
+impl<K: IntKey, A: Allocator + Copy> Eq for IntSet<K, A> {
+    ghost laws = { IsEquivalence-sets_equal K.number_of };
+}
+
+impl<K: IntKey + fmt::Debug, A: Allocator + Copy> fmt::Debug for IntSet<K, A> {
+    /// Writes the members in iteration order, as `{21, 3}`, or `{}` if there is none. It ignores
+    /// the flags of the format. It fails only if writing fails.
+    fn fmt<W: fmt::Write>(&self, f: &mut fmt::Formatter<W>) -> fmt::Result {
+        f.write_str("{")?;
+        let mut first = true;
+        for key in self {
+            if !first {
+                f.write_str(", ")?;
+            }
+            first = false;
+            write!(f, "{key:?}")?;
+        }
+        f.write_str("}")
+    }
+}
+
+impl<K: IntKey, A: Allocator + Copy> IntSet<K, A> {
+    /// A set with the same members in the same order, and with the same capacity and load factor.
+    /// This set stays as it is. No key is compared. Time and memory grow with the number of slots
+    /// and of members. It fails only with [`Cause::Memory`], if an allocation fails.
+    pub fn clone(&self) -> Result<IntSet<K, A>, Cause>
+        ensures same { IfOk result (λ made. made ≡ self.now) }
+        ensures memory { IfErr result (λ cause. cause ≡ Cause.Memory) }
+        ensures valid { IsSet K.number_of K.is_valid self.now }
+    {
+        Ok(IntSet {
+            map: self.map.clone()?,
+        })
+    }
+}
