@@ -17,6 +17,10 @@ IsErrOf-cause {T} {E} (Err e) cause d is = (λ of. sym is ∙ same of, λ here. 
     same : ◌≡◌ {A = Result T E} (Err e) (Err d) → e ≡ d
     same of = cc
 
+-- success is no error
+pub IsErrOf-ok : {T E : Type 0} (x : T) (d : E) → IsErrOf (Ok x) d → ⊥
+IsErrOf-ok x d err = subst (λ r. OnOk r ⊥ → ⊥) err (λ no. no) tt
+
 -- what holds of an error that came holds where none did
 pub on_error : {T E P : Type 0} (r : Result T E) → P → OnErr r P
 on_error (Ok x) p = tt
@@ -56,7 +60,7 @@ module _ {K : Type 0} (number : K → ℕ) (m n : MapState K (Unit {0})) (s : Se
   pub accepted-seen : (new : Bool) (d : Cause) → ⊥ ↔ IsOutOfRange number m.walk m.capacity m.factor k
       → IsErrOf {T = Bool} (Ok new) d ↔ IsOutOfRange number (paired s.walk) s.capacity s.factor k
   accepted-seen new d iff = (
-    λ err. absurd (subst (λ r. OnOk r ⊥ → ⊥) err (λ no. no) tt),
+    λ err. absurd (IsErrOf-ok new d err),
     λ beyond. absurd (iff.1 (subst (λ t. IsOutOfRange number t.0 t.1 t.2 k) (sym (paired-seen m s seen)) beyond)),
   )
 

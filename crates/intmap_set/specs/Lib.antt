@@ -1,3 +1,5 @@
 pub mod Sets
 pub mod Combined
 pub mod EqualityLaws
+pub mod Retaining
+pub mod Extending

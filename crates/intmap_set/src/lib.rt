@@ -2,6 +2,7 @@
 //! depend on their calls alone.
 #![tactic(auto)]
 
+pub mod laws;
 mod set;
 
 pub use set::{IntSet, iter};

@@ -2,6 +2,7 @@
 ghost use Rattle.std.specs.Prelude.{◌≡◌, ◌==◌, length};
 ghost use Rattle.intmap_set.specs.Sets.{IsSet, holds};
 
+mod build;
 mod combine;
 mod insert;
 pub mod iter;
@@ -68,5 +69,12 @@ impl<K: IntKey, A: Allocator + Copy> IntSet<K, A> {
         ensures valid { IsSet K.number_of K.is_valid self.now }
     {
         self.map.capacity()
+    }
+
+    /// Does nothing. Its contract says what holds of every set.
+    fn known(&self)
+        ensures valid { IsSet K.number_of K.is_valid self.now }
+    {
+        let _len = self.map.len();
     }
 }

@@ -1,6 +1,9 @@
 //! Removals.
-ghost use Rattle.std.specs.Prelude.{◌≡◌, ◌+◌, false, cond, length};
+ghost use Rattle.std.specs.Prelude.{◌≡◌, ◌+◌, ◌⊎◌, ◌≤◌, false, cond, length};
+ghost use Rattle.intmap.specs.Retaining.{Retains};
+ghost use Rattle.intmap.specs.Taking.{TakesEach};
 ghost use Rattle.intmap_set.specs.Sets.{IsSet, Updates, holds, without_key, emptied};
+ghost use Rattle.intmap_set.specs.Retaining.{KeepsKey, TakesKey};
 
 use crate::set::IntSet;
 use intmap::IntKey;
@@ -36,5 +39,39 @@ impl<K: IntKey, A: Allocator + Copy> IntSet<K, A> {
         ensures valid_after { IsSet K.number_of K.is_valid self.new }
     {
         self.map.clear();
+    }
+
+    /// Keeps the members for which the closure returns true, and removes the others. The closure is
+    /// called once for each member, in iteration order. What it changes of its own state is there at
+    /// the next call.
+    ///
+    /// The closure must be callable at these members in this order, each time in the state that the
+    /// call before left. Nothing is required of other keys and calls.
+    ///
+    /// The members that stay keep their order. The capacity and the load factor stay, and the slots
+    /// keep their memory for later members. It never fails and allocates nothing.
+    ///
+    /// ```text
+    /// after insert(0), insert(1) and insert(4) into 4 slots the walk is 0, 4, 1:
+    /// retain(|key| key != 0)    leaves 4 and 1
+    /// ```
+    pub fn retain<F: FnMut(K) -> bool>(&mut self, f: F)
+        requires { TakesEach (KeepsKey F.FnMut) (TakesKey F.FnMut) f self.old.walk }
+        ensures keys { (last : F) × Retains (KeepsKey F.FnMut) f self.old.walk self.new.walk last }
+        ensures state { self.new ≡ record self.old { walk = self.new.walk } }
+        ensures updates { (q : K)
+            → (holds K.number_of self.new.walk q ≡ holds K.number_of self.old.walk q)
+            ⊎ (holds K.number_of self.new.walk q ≡ false) }
+        ensures len { length self.new.walk ≤ length self.old.walk }
+        ensures valid { IsSet K.number_of K.is_valid self.old }
+        ensures valid_after { IsSet K.number_of K.is_valid self.new }
+    {
+        let mut f = f;
+        self.map.retain(
+            move |key, _|
+                requires { F.pre f key }
+                ensures { F.step f.entry key result f.exit }
+            { f(key) },
+        );
     }
 }

@@ -1,0 +1,144 @@
+-- What insertions in turn leave, one key after another.
+use Rattle.std.proofs.Common.{◌≡◌, inl, inr, ℕ, ◌+◌, Bool, true, false, cond, List, [], ◌∷◌, ◌++◌, length, refl, sym, ap, subst, ◌∙◌, add-zero, arith}
+use Rattle.std.proofs.lemmas.Bool.{cases_eq, eqb-true, eq-eqb, ne_eqb, true≢false}
+use Rattle.std.proofs.lemmas.List.Folds.{list_any-append}
+use Rattle.std.specs.Prelude.{◌||◌, ◌<◌, ◌↔◌, not, MatchBool, Result, Err}
+use Rattle.intmap.specs.declared.refusal.Cause.{Cause}
+use Rattle.intmap.specs.declared.refusal.Cause.TheVariants.{Memory, TooLarge}
+use Rattle.intmap.specs.Growth.{IsNext}
+use Rattle.intmap.specs.Map.{IsOutOfRange}
+use Rattle.intmap.specs.Reach.{class_size}
+use Rattle.intmap.specs.Bindings.{value_of}
+use Rattle.intmap.specs.Classes.{same_key}
+use Rattle.intmap.proofs.CostLemmas.{capacity-not_less}
+use Rattle.intmap_set.specs.Sets.{SetState, holds, paired, with_key}
+use Rattle.intmap_set.specs.EqualityLaws.{holds-same_number}
+use Rattle.intmap_set.specs.Extending.{new_keys, Inserts, InsertsAll, IsExtended, MayRefuse}
+
+-- a second of two that follows from the first adds nothing
+or-absorbed : (a b c : Bool) → (b ≡ true → a ≡ true) → (a || c) ≡ (a || (b || c))
+or-absorbed true b c follows = refl
+or-absorbed false true c follows = absurd (true≢false (sym (follows refl)))
+or-absorbed false false c follows = refl
+
+-- three in another order
+or-turned : (a b c : Bool) → ((b || a) || c) ≡ (a || (b || c))
+or-turned true true c = refl
+or-turned true false c = refl
+or-turned false true c = refl
+or-turned false false c = refl
+
+-- one more at the end
+or-last : (a b s : Bool) → cond s true (a || b) ≡ (a || (b || (s || false)))
+or-last true b true = refl
+or-last true b false = refl
+or-last false true true = refl
+or-last false true false = refl
+or-last false false true = refl
+or-last false false false = refl
+
+module _ {K : Type 0} (number : K → ℕ) where
+  -- keys are the same from either side
+  pub same_key-turned : (j k : K) → same_key number j k ≡ same_key number k j
+  same_key-turned j k = elim (cases_eq (number k) (number j)) [
+    | inl same ↦ eq-eqb (number k) (number j) same ∙ sym (eq-eqb (number j) (number k) (sym same))
+    | inr apart ↦ ne_eqb (number k) (number j) apart ∙ sym (ne_eqb (number j) (number k) (λ same. apart (sym same)))
+  ]
+
+  -- a key that is a member is one under each name
+  same_key-holds : (W : List K) (j k : K) → holds number W j ≡ true → same_key number k j ≡ true → holds number W k ≡ true
+  same_key-holds W j k here is = holds-same_number number W k j (sym (eqb-true (number j) (number k) is)) ∙ here
+
+  -- one key more is new where it neither was a member nor came before
+  pub length-new_keys-push : (W ks : List K) (k : K) → length (new_keys number W (ks ++ k ∷ [])) ≡ length (new_keys number W ks) + cond (holds number W k || holds number ks k) 0 1
+  length-new_keys-push W [] k = at (holds number W k)
+    where
+      at : (b : Bool) → length (cond b [] (k ∷ [])) ≡ 0 + cond {A = ℕ} (b || false) 0 1
+      at true = refl
+      at false = refl
+  length-new_keys-push W (j ∷ ks) k = at (holds number W j) refl (length-new_keys-push W ks k) (length-new_keys-push (j ∷ W) ks k)
+    where
+      at : (b : Bool) → holds number W j ≡ b
+          → length (new_keys number W (ks ++ k ∷ [])) ≡ length (new_keys number W ks) + cond (holds number W k || holds number ks k) 0 1
+          → length (new_keys number (j ∷ W) (ks ++ k ∷ [])) ≡ length (new_keys number (j ∷ W) ks) + cond (holds number (j ∷ W) k || holds number ks k) 0 1
+          → length (cond b (new_keys number W (ks ++ k ∷ [])) (j ∷ new_keys number (j ∷ W) (ks ++ k ∷ [])))
+          ≡ length (cond b (new_keys number W ks) (j ∷ new_keys number (j ∷ W) ks)) + cond (holds number W k || holds number (j ∷ ks) k) 0 1
+      at true here rest other =
+          rest ∙ ap (λ b. length (new_keys number W ks) + cond b 0 1) (or-absorbed (holds number W k) (same_key number k j) (holds number ks k) (same_key-holds W j k here))
+      at false here other rest =
+          let more = rest ∙ ap (λ b. length (new_keys number (j ∷ W) ks) + cond b 0 1) (or-turned (holds number W k) (same_key number k j) (holds number ks k)) in
+          omega (arith, more)
+
+-- one member more for a key that wasn't one
+cond-not : (b : Bool) → cond {A = ℕ} (not b) 1 0 ≡ cond b 0 1
+cond-not true = refl
+cond-not false = refl
+
+module _ {K : Type 0} (number : K → ℕ) (is_valid : K → Type 0) where
+  -- what an insertion leaves, by what it answers
+  pub inserted-state : (s t : SetState K) (k : K) (new : Bool) → new ≡ not (holds number s.walk k) → MatchBool new (t ≡ with_key number s k t.capacity) (t ≡ s)
+      → t ≡ cond (holds number s.walk k) s (with_key number s k t.capacity)
+  inserted-state s t k new is state = at (holds number s.walk k) (subst (λ b. MatchBool b (t ≡ with_key number s k t.capacity) (t ≡ s)) is state)
+    where
+      at : (b : Bool) → MatchBool (not b) (t ≡ with_key number s k t.capacity) (t ≡ s) → t ≡ cond b s (with_key number s k t.capacity)
+      at true same = same
+      at false added = added
+
+  -- one accepted insertion more
+  InsertsAll-push : (s u t : SetState K) (ks : List K) (k : K) → InsertsAll number is_valid s ks u → Inserts number is_valid u k t → InsertsAll number is_valid s (ks ++ k ∷ []) t
+  InsertsAll-push s u t [] k before last = (t, subst (λ x. Inserts number is_valid x k t) before last, refl)
+  InsertsAll-push s u t (j ∷ ks) k before last = (before.0, before.1, InsertsAll-push before.0 u t ks k before.2 last)
+
+  -- no insertion
+  pub IsExtended-nil : (s : SetState K) → IsExtended number is_valid s [] s
+  IsExtended-nil s = record { inserted = refl; members = λ q. or-none (holds number s.walk q); len = sym (add-zero (length s.walk)); factor = refl; capacity = omega arith }
+    where
+      or-none : (b : Bool) → b ≡ (b || false)
+      or-none true = refl
+      or-none false = refl
+
+  module _ (s u t : SetState K) (ks : List K) (k : K) (before : IsExtended number is_valid s ks u) (last : Inserts number is_valid u k t) where
+    -- the load factor stays
+    kept_factor : (b : Bool) → t ≡ cond b u (with_key number u k t.capacity) → t.factor ≡ u.factor
+    kept_factor true state = ap (λ x. x.factor) state
+    kept_factor false state = ap (λ x. x.factor) state
+
+    -- one insertion more, which answered so, by what it says of members and length
+    pub IsExtended-push : (new : Bool) → new ≡ not (holds number u.walk k) → ((q : K) → holds number t.walk q ≡ cond (same_key number k q) true (holds number u.walk q))
+        → length t.walk ≡ length u.walk + cond new 1 0 → IsExtended number is_valid s (ks ++ k ∷ []) t
+    IsExtended-push new is updates len = record {
+      inserted = InsertsAll-push s u t ks k before.inserted last;
+      members = λ q.
+          updates q ∙ (λ i. cond (same_key-turned number k q i) true (before.members q i))
+          ∙ or-last (holds number s.walk q) (holds number ks q) (same_key number q k)
+          ∙ ap (λ b. holds number s.walk q || b) (sym (list_any-append (same_key number q) ks (k ∷ [])));
+      len =
+          (let more = length-new_keys-push number s.walk ks k in
+          let counted : cond {A = ℕ} new 1 0 ≡ cond {A = ℕ} (holds number s.walk k || holds number ks k) 0 1 =
+          ap (λ b. cond b 1 0) is ∙ cond-not (holds number u.walk k) ∙ ap (λ b. cond b 0 1) (before.members k) in
+          let start = before.len in
+          omega (arith, len, more, counted, start));
+      factor = kept_factor (holds number u.walk k) last.state ∙ before.factor;
+      capacity =
+          (let kept = capacity-not_less (value_of number (paired u.walk) k) u.capacity (length (paired u.walk) + 1) u.factor t.capacity last.capacity in
+          let start = before.capacity in
+          omega (arith, kept, start));
+    }
+
+-- a refusal, in place of a T
+abbrev refusal_of : (T E : Type 0) → E → Result T E
+refusal_of T E e = Err e
+
+-- what a refused insertion says of the key
+pub may_refuse-err : {K : Type 0} (number : K → ℕ) (s : SetState K) (k : K) (cause : Cause) → holds number s.walk k ≡ false
+    → (refusal_of Bool Cause cause ≡ Err TooLarge) ↔ IsOutOfRange number (paired s.walk) s.capacity s.factor k
+    → (refusal_of Bool Cause cause ≡ Err Memory → IsNext s.capacity (length s.walk + 1) s.factor s.capacity → 0 < class_size number (paired s.walk) s.capacity k)
+    → MayRefuse number s k cause
+may_refuse-err number s k cause new_key too_large memory = record {
+  new_key = new_key;
+  too_large = (λ is. too_large.0 (ap Err is), λ beyond. same (too_large.1 beyond));
+  memory = λ is. memory (ap Err is);
+}
+  where
+    same : (refusal_of Bool Cause cause ≡ Err TooLarge) → cause ≡ TooLarge
+    same err = cc

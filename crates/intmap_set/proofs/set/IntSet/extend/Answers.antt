@@ -1,0 +1,41 @@
+-- The keys of an iterator come one after another, and an induction over them is beyond the search.
+use Rattle.std.proofs.Common.{sym, subst, rules}
+use Rattle.std.specs.Iterator.{Yields}
+use Rattle.intmap_set.specs.Extending.{Inserts, IsExtended, MayRefuse}
+use Rattle.intmap_set.proofs.CallLemmas.{IsErrOf-ok}
+use Rattle.intmap_set.proofs.ExtendLemmas.{IsExtended-push, inserted-state, may_refuse-err}
+use Rattle.intmap_set.proofs.set.IntSet.extend.Goals as goal
+
+pub loop-key-preserved : goal.loop-key-preserved
+loop-key-preserved g c =
+    let number = g.K.IntKey.number_of in let is_valid = g.K.IntKey.is_valid in
+    let before = c.loop-key.self in let after = c.insert.new.self in let key = c.in-Some.key in
+    let kept = c.loop-key.invariant in let e = c.in_default.ensures in
+    let last : Inserts number is_valid before key after = record {
+      in_range = λ beyond. IsErrOf-ok c.in_default.field-0 _ (e.too_large.1 beyond);
+      capacity = e.capacity;
+      state = inserted-state number is_valid before after key c.in_default.field-0 e.new e.state;
+      set = c.insert.ensures.valid_after;
+    } in (
+      search rules,
+      IsExtended-push number is_valid c.args.self.now before after c.loop-key.yielded key kept.1 last c.in_default.field-0 e.new e.updates.0 e.len,
+      c.insert.ensures.valid_after,
+      kept.3,
+    )
+
+pub returns-in-Err-clause-stops : goal.returns-in-Err-clause-stops
+returns-in-Err-clause-stops g c =
+    let gives = g.I.Iterator.next_gives in let keys = c.loop-key.yielded in let e = c.in-Err.ensures in
+    record {
+      keys = keys;
+      refused = c.in-Some.key;
+      rest = c.next.new.self;
+      came = (
+        c.loop-key.key-iterator,
+        subst (λ i. Yields gives i keys c.loop-key.key-iterator) c.into_iter-key-iterator.ensures.into_iter_gives c.loop-key.yielded_by,
+        c.in-Some.ensures.steps,
+      );
+      extended = subst (λ s. IsExtended g.K.IntKey.number_of g.K.IntKey.is_valid c.args.self.now keys s) (sym e.err) c.loop-key.invariant.1;
+      may_refuse = subst (λ s. MayRefuse g.K.IntKey.number_of s c.in-Some.key c.in-Err.cause) (sym e.err)
+          (may_refuse-err g.K.IntKey.number_of c.loop-key.self c.in-Some.key c.in-Err.cause e.new_key e.too_large e.memory);
+    }

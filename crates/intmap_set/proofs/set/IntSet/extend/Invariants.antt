@@ -1,0 +1,10 @@
+use Rattle.intmap_set.specs.Extending.{IsExtended}
+use Rattle.intmap_set.specs.Sets.{IsSet}
+use Rattle.intmap_set.proofs.set.IntSet.extend.Given as goal
+
+abbrev pub invariant-loop-key : goal.invariant-loop-key
+invariant-loop-key g l =
+    ((goal.iterator-loop-key g).can_next l.key-iterator × (goal.iterator-loop-key g).is_finite l.key-iterator)
+    × IsExtended g.K.IntKey.number_of g.K.IntKey.is_valid l.fn.self l.yielded l.self
+    × IsSet g.K.IntKey.number_of g.K.IntKey.is_valid l.self
+    × IsSet g.K.IntKey.number_of g.K.IntKey.is_valid l.fn.self

@@ -1,0 +1,53 @@
+//! Laws for callers: what follows about sets from the contracts of their calls. Each is the contract
+//! of a function that does nothing.
+//!
+//! A call such as `laws::union_holds::<u64>();` brings its law into the proof of the function that
+//! contains the call.
+ghost use Rattle.std.specs.Prelude.{◌≡◌, ◌+◌, ◌↔◌, List, IsTrue, length};
+ghost use Rattle.intmap.specs.Bindings.{HasDistinctKeys};
+ghost use Rattle.intmap_set.specs.Sets.{SetState, paired};
+ghost use Rattle.intmap_set.specs.Combined.{IsSubset, HaveSameMembers, IsDifference, IsIntersection, IsUnion, IsSymmetricDifference, sets_equal, difference_of, intersection_of, union_of, symmetric_difference_of};
+
+use intmap::IntKey;
+
+/// The difference has the members of the first set that the second one hasn't.
+pub fn difference_holds<K: IntKey>()
+    ensures { (V W : List K) → IsDifference K.number_of V W (difference_of K.number_of V W) }
+{}
+
+/// The intersection has the members that both sets have.
+pub fn intersection_holds<K: IntKey>()
+    ensures { (V W : List K) → IsIntersection K.number_of V W (intersection_of K.number_of V W) }
+{}
+
+/// The union has the members of either set.
+pub fn union_holds<K: IntKey>()
+    ensures { (V W : List K) → IsUnion K.number_of V W (union_of K.number_of V W) }
+{}
+
+/// The symmetric difference has the members that exactly one of the sets has.
+pub fn symmetric_difference_holds<K: IntKey>()
+    ensures { (V W : List K) → IsSymmetricDifference K.number_of V W
+        (symmetric_difference_of K.number_of V W) }
+{}
+
+/// Two sets are equal exactly if each is a subset of the other.
+pub fn equal_sets_are_mutual_subsets<K: IntKey>()
+    ensures { (s t : SetState K) → IsTrue (sets_equal K.number_of s t)
+        ↔ (IsSubset K.number_of s.walk t.walk × IsSubset K.number_of t.walk s.walk) }
+{}
+
+/// Two sets are equal exactly if they have the same members.
+pub fn equal_sets_have_the_same_members<K: IntKey>()
+    ensures { (s t : SetState K) → IsTrue (sets_equal K.number_of s t)
+        ↔ HaveSameMembers K.number_of s.walk t.walk }
+{}
+
+/// The union and the intersection of two sets have together as many members as both sets. That the
+/// keys of a set are distinct says `valid` of its calls.
+pub fn union_and_intersection_count_both<K: IntKey>()
+    ensures { (V W : List K) → HasDistinctKeys K.number_of (paired V)
+        → HasDistinctKeys K.number_of (paired W)
+        → length (union_of K.number_of V W) + length (intersection_of K.number_of V W)
+        ≡ length V + length W }
+{}

@@ -1,0 +1,63 @@
+//! Sets that many keys are inserted into.
+ghost use Rattle.std.specs.Prelude.{◌≡◌, ℕ, ◌≤◌, OnOk, IfOk, IfErr, MatchResult};
+ghost use Rattle.std.specs.Iterator.{IsFinite, size};
+ghost use Rattle.intmap_set.specs.Sets.{IsSet};
+ghost use Rattle.intmap_set.specs.Extending.{Extends, ExtendsUpTo, Collects, MayRefuseToCollect};
+
+use crate::set::IntSet;
+use intmap::{Cause, IntKey};
+use std::alloc::Allocator;
+
+impl<K: IntKey, A: Allocator + Copy> IntSet<K, A> {
+    /// Inserts the iterator's keys in turn, each as [`insert`](IntSet::insert) does. The table grows
+    /// only as these insertions make it grow: nothing is reserved ahead. The iterator must end.
+    ///
+    /// It stops at the first insertion that fails, and returns its cause. The keys before that one
+    /// stay members. The iterator is dropped, with the keys that it hasn't given.
+    ///
+    /// ```text
+    /// set.extend(other.iter().copied())?    this set has the members of both
+    /// ```
+    pub fn extend<I: Iterator<Item = K> + Drop>(&mut self, iter: I) -> Result<(), Cause>
+        requires can { I.can_next iter }
+        requires ends { IsFinite (I.remaining iter) }
+        ensures extends { OnOk result
+            (Extends K.number_of K.is_valid I.next_gives iter self.old self.new) }
+        ensures stops { IfErr result (λ cause.
+            ExtendsUpTo K.number_of K.is_valid I.next_gives iter self.old cause self.new) }
+        ensures valid { IsSet K.number_of K.is_valid self.old }
+        ensures valid_after { IsSet K.number_of K.is_valid self.new }
+    {
+        self.known();
+        for key in iter {
+            if let Err(cause) = self.insert(key) {
+                return Err(cause);
+            }
+        }
+        Ok(())
+    }
+
+    /// A set of the iterator's keys: [`with_capacity`](IntSet::with_capacity) of the lower bound of
+    /// its `size_hint`, and then [`extend`](IntSet::extend). The iterator must end.
+    ///
+    /// It fails if either call does, with the same cause, and then drops everything.
+    ///
+    /// ```text
+    /// IntSet::from_iter(alloc, first.union(&second).copied())?    a set of the members of both
+    /// ```
+    pub fn from_iter<I: Iterator<Item = K> + Drop>(alloc: A, iter: I) -> Result<IntSet<K, A>, Cause>
+        requires can { I.can_next iter }
+        requires ends { IsFinite (I.remaining iter) }
+        ensures collects { (b : ℕ) × (b ≤ size (I.remaining iter)) × MatchResult result
+            (λ made. Collects K.number_of K.is_valid I.next_gives iter b made)
+            (λ cause. MayRefuseToCollect K.number_of K.is_valid I.next_gives iter b cause) }
+        ensures valid { IfOk result (IsSet K.number_of K.is_valid) }
+    {
+        let (lower, _) = iter.size_hint();
+        let mut set = IntSet::with_capacity(alloc, lower)?;
+        match set.extend(iter) {
+            Ok(()) => Ok(set),
+            Err(cause) => Err(cause),
+        }
+    }
+}
