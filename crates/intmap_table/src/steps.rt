@@ -2,7 +2,7 @@
 ghost use Rattle.std.specs.Prelude.{◌≡◌, ◌+◌, ℕ};
 ghost use Rattle.std.specs.Borrow.{ftrue};
 
-use std::marker::Model;
+use std::marker::{Model, Send, Sync};
 
 /// The number behind a counter. It exists in proofs alone.
 #[derive(Drop)]
@@ -13,6 +13,11 @@ struct Tally {
 impl Model for Tally {
     ghost also_owns = { λ _. ftrue };
 }
+
+// A tally owns no memory, so any thread may have it.
+unsafe impl Send for Tally {}
+
+unsafe impl Sync for Tally {}
 
 impl Tally {
     /// A tally of zero.
