@@ -16,6 +16,7 @@ pub mod retained;
 pub mod session;
 pub mod settings;
 pub mod tally;
+pub mod threads;
 pub mod totals;
 pub mod values;
 pub mod walks;
