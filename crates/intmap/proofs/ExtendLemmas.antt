@@ -1,7 +1,10 @@
 -- What insertions in turn leave, one pair after another.
 use Rattle.std.proofs.Common.{◌≡◌, inl, inr, ℕ, ◌+◌, ◌≤◌, Bool, true, false, cond, List, [], ◌∷◌, ◌++◌, length, reverse, is_some, Option, Some, None, refl, sym, ap, subst, ◌∙◌, add-zero, arith}
 use Rattle.std.specs.Prelude.{◌↔◌, ◌⊎◌, ◌<◌, ◌^◌, Result, Ok, Err, IsErrAnd, MatchResult}
+use Rattle.std.specs.Iterator.{Yields, YieldsThen}
 use Rattle.std.specs.Option.{option_or}
+use Rattle.std.specs.Vec.Iter.{into_iter_items, into_iter_steps}
+use Rattle.std.specs.declared.vec.IntoIter.{IntoIter}
 use Rattle.std.proofs.lemmas.Bool.{cases_eq, cases_lt, eqb-true, eq-eqb, ne_eqb}
 use Rattle.std.proofs.lemmas.List.{reverse-append}
 use Rattle.intmap_table.specs.Bindings.{value_of}
@@ -142,3 +145,12 @@ cause-of_slots Memory b large = elim (cases_lt (2 ^ 63) b) [
   | inl more ↦ (let no = large.1 more in cc)
   | inr within ↦ inr (refl, within)
 ]
+
+-- what a list by value gave stands before what is left of it
+items-yielded : {X Z : Type 0} (s : IntoIter X Z) (xs : List X) (t : IntoIter X Z) → Yields into_iter_steps s xs t → into_iter_items s ≡ xs ++ into_iter_items t
+items-yielded s [] t h = ap into_iter_items h
+items-yielded s (x ∷ xs) t h = h.1.0 ∙ ap (λ ys. x ∷ ys) (items-yielded h.0 xs t h.2)
+
+-- and so it does with one more
+pub items-yielded_then : {X Z : Type 0} (s : IntoIter X Z) (xs : List X) (x : X) (t : IntoIter X Z) → YieldsThen into_iter_steps s xs (Some x) t → into_iter_items s ≡ xs ++ x ∷ into_iter_items t
+items-yielded_then s xs x t h = items-yielded s xs h.0 h.1 ∙ ap (λ ys. xs ++ ys) h.2.0

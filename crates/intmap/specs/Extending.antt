@@ -1,5 +1,5 @@
 -- What inserting pairs in turn answers and leaves.
-use Rattle.std.specs.Prelude.{◌≡◌, ℕ, ◌+◌, ◌-◌, ◌^◌, ◌<◌, ◌≤◌, cond, is_some, min, max, List, [], ◌∷◌, length, reverse, Option, Some, ◌⊎◌}
+use Rattle.std.specs.Prelude.{◌≡◌, ℕ, ◌+◌, ◌-◌, ◌^◌, ◌<◌, ◌≤◌, cond, is_some, min, max, List, [], ◌∷◌, ◌++◌, length, reverse, Option, Some, ◌⊎◌}
 use Rattle.std.specs.Iterator.{Drains, YieldsThen}
 use Rattle.std.specs.Option.{option_or}
 use Rattle.intmap_table.specs.Bindings.{value_of}
@@ -38,6 +38,22 @@ module _ {K V : Type 0} (number : K → ℕ) (is_valid : K → Type 0) where
     pub len : length n.walk ≡ length m.walk + length (new_keys number m.walk ps)
     pub factor : n.factor ≡ m.factor
     pub capacity : m.capacity ≤ n.capacity
+
+  -- the pairs were inserted in turn, all accepted, into an empty map with room for so many
+  pub record IsCollected (room : ℕ) (ps : List (K × V)) (m : MapState K V) : Type 0 where
+    pub slots : ℕ
+    pub power : IsLeastPower (max room 2) slots
+    pub extended : IsExtended (empty_map slots) ps m
+
+  -- the pairs were inserted in turn into an empty map with room for so many, up to one that is out of range
+  pub record LeavesRange (room : ℕ) (ps : List (K × V)) : Type 0 where
+    pub before : List (K × V)
+    pub next : K × V
+    pub rest : List (K × V)
+    pub are : ps ≡ before ++ next ∷ rest
+    pub filled : MapState K V
+    pub collected : IsCollected room before filled
+    pub out_of_range : IsOutOfRange number filled.walk filled.capacity filled.factor next.0
 
   -- the map is what is left where the pairs are inserted in turn into one of 4 slots that was just made, apart from both counts
   pub record IsMadeOf (ps : List (K × V)) (m : MapState K V) : Type 0 where

@@ -1,5 +1,5 @@
 -- JSON objects, and the lists of numbers and JSON values that they show.
-use Rattle.std.specs.Prelude.{◌≡◌, ◌⊎◌, ℕ, ◌^◌, ◌<◌, ◌≤◌, max, Bool, List, [], ◌∷◌, ◌++◌, Option, option_map, IsSomeAnd, ⊤}
+use Rattle.std.specs.Prelude.{◌≡◌, ◌⊎◌, ℕ, ◌^◌, ◌<◌, ◌≤◌, Bool, List, [], ◌∷◌, ◌++◌, Option, option_map, IsSomeAnd, ⊤}
 use Rattle.std.specs.Fmt.{decimal}
 use Rattle.std.specs.List.{list_any}
 use Rattle.serde_json.specs.Data.{Data, Members, no_members, member}
@@ -9,9 +9,8 @@ use Rattle.serde_json.specs.View.{view}
 use Rattle.serde_json.specs.Written.{has_float}
 use Rattle.serde_json.specs.declared.value.Value.{Value}
 use Rattle.intmap_table.specs.Bindings.{value_of}
-use Rattle.intmap.specs.Extending.{IsExtended}
-use Rattle.intmap.specs.Growth.{IsLeastPower}
-use Rattle.intmap.specs.Map.{MapState, IsOutOfRange, empty_map}
+use Rattle.intmap.specs.Extending.{IsCollected}
+use Rattle.intmap.specs.Map.{MapState, IsOutOfRange}
 use Rattle.intmap.specs.declared.map.json.JsonCause.{JsonCause}
 use Rattle.intmap.specs.declared.map.json.JsonCause.TheVariants as causes
 use Rattle.intmap.specs.declared.refusal.Cause.{Cause}
@@ -60,10 +59,8 @@ ArePairsOf (member text d ms) [] = ⊥
 ArePairsOf (member text d ms) (p ∷ ps) = IsKeyText text p.0 × (view p.1 ≡ d) × ArePairsOf ms ps
 
 -- the pairs were inserted in turn, all accepted, into an empty map with room for n pairs
-pub record AreCollected (n : ℕ) (pairs : List (ℕ × Value)) (made : MapState ℕ Value) : Type 0 where
-  pub slots : ℕ
-  pub power : IsLeastPower (max n 2) slots
-  pub extended : IsExtended (λ key. key) (λ key. key < 2 ^ 64) (empty_map slots) pairs made
+abbrev pub AreCollected : ℕ → List (ℕ × Value) → MapState ℕ Value → Type 0
+AreCollected n pairs made = IsCollected (λ key. key) (λ key. key < 2 ^ 64) n pairs made
 
 -- the pairs of the members were inserted in turn into an empty map with room for all of them
 pub record AreRead (ms : Members) (made : MapState ℕ Value) : Type 0 where

@@ -93,15 +93,6 @@ module _ {K V S A : Type 0} (number : K → ℕ) (is_valid : K → Type 0) (m : 
         }),
       )
 
--- what a list by value gave stands before what is left of it
-items-yielded : {X Z : Type 0} (s : IntoIter X Z) (xs : List X) (t : IntoIter X Z) → Yields into_iter_steps s xs t → into_iter_items s ≡ xs ++ into_iter_items t
-items-yielded s [] t h = ap into_iter_items h
-items-yielded s (x ∷ xs) t h = h.1.0 ∙ ap (λ ys. x ∷ ys) (items-yielded h.0 xs t h.2)
-
--- and so it does with one more
-pub items-yielded_then : {X Z : Type 0} (s : IntoIter X Z) (xs : List X) (x : X) (t : IntoIter X Z) → YieldsThen into_iter_steps s xs (Some x) t → into_iter_items s ≡ xs ++ x ∷ into_iter_items t
-items-yielded_then s xs x t h = items-yielded s xs h.0 h.1 ∙ ap (λ ys. xs ++ ys) h.2.0
-
 -- so many pairs before another one of a list of which a machine has room are counted as they are
 pub counted-all : {X : Type 0} (xs ys rest : List X) (x : X) (n len cap : ℕ) → ys ≡ xs ++ x ∷ rest → len ≡ length ys → len ≤ cap → cap < 2 ^ 63 → n ≡ min (length xs) (2 ^ 64 - 1) → n ≡ length xs
 counted-all xs ys rest x n len cap split is within small count = omega (arith, ap length split, is, within, small, count, length-append xs (x ∷ rest))

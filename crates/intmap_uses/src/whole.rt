@@ -1,13 +1,13 @@
-//! Whole pairs: a key with its value, looked up or taken out; a value by `map[key]`; and the keys or
-//! the values of a map that is used up.
-ghost use Rattle.std.specs.Prelude.{◌≡◌, IfNone, IfOk, IfSome, List, [], ◌∷◌, None, Some, false};
+//! Whole pairs: a key with its value, looked up, taken out, or listed in an array; a value by
+//! `map[key]`; and the keys or the values of a map that is used up.
+ghost use Rattle.std.specs.Prelude.{◌≡◌, IfNone, IfOk, IfSome, List, [], ◌∷◌, None, Some, false, reverse};
 ghost use Rattle.std.specs.Map.{keys_of, values_of};
 ghost use Rattle.std.specs.Option.{option_map};
 ghost use Rattle.intmap.specs.Bindings.{HasDistinctKeys, IsBound, value_of};
 ghost use Rattle.intmap.specs.Classes.{same_key};
 
 use intmap::iter::Keys;
-use intmap::{IntKey, IntMap};
+use intmap::{Cause, IntKey, IntMap};
 use std::alloc::{AllocError, Allocator};
 
 /// A copy of the pair of the key: the key itself, with its value.
@@ -78,4 +78,17 @@ pub fn values_alone<K: IntKey, V: Drop, A: Allocator + Copy>(
     ensures { IfOk result (λ values. values.items ≡ values_of map.walk) }
 {
     map.into_values().collect(alloc)
+}
+
+/// A map of the array's pairs, in which each key has its last value.
+///
+/// Err: the map or a pair was refused, and none is left.
+pub fn bind_all<K: IntKey, V: Drop, A: Allocator + Copy, const N: usize>(
+    alloc: A,
+    pairs: [(K, V); N],
+) -> Result<IntMap<K, V, A>, Cause>
+    ensures { IfOk result (λ made. (q : K) → value_of K.number_of made.walk q
+        ≡ value_of K.number_of (reverse pairs) q) }
+{
+    IntMap::from_array(alloc, pairs)
 }

@@ -1,10 +1,11 @@
 //! New maps, and maps that many pairs are inserted into.
-ghost use Rattle.std.specs.Prelude.{◌≡◌, ◌↔◌, ◌^◌, ◌<◌, max, IfOk, IfErr, Err, ℕ, ◌≤◌, OnOk, MatchResult};
+ghost use Rattle.std.specs.Prelude.{◌≡◌, ◌↔◌, ◌^◌, ◌<◌, ◌⊎◌, max, IfOk, IfErr, Err, ℕ, ◌≤◌, OnOk, MatchResult, reverse};
+ghost use Rattle.intmap_table.specs.Bindings.{value_of};
 ghost use Rattle.intmap_table.specs.Classes.{IsCapacity};
 ghost use Rattle.intmap.specs.Growth.{IsLeastPower};
 ghost use Rattle.intmap.specs.Map.{IsMap, empty_map};
 ghost use Rattle.std.specs.Iterator.{IsFinite, size};
-ghost use Rattle.intmap.specs.Extending.{Extends, ExtendsUpTo, Collects, MayRefuseToCollect};
+ghost use Rattle.intmap.specs.Extending.{Extends, ExtendsUpTo, Collects, MayRefuseToCollect, IsCollected, LeavesRange};
 
 use crate::load::{GREATEST_CAPACITY, threshold_of};
 use crate::map::IntMap;
@@ -146,6 +147,37 @@ impl<K: IntKey, V: Drop, A: Allocator + Copy> IntMap<K, V, A> {
         let (lower, _) = iter.size_hint();
         let mut map = IntMap::with_capacity(alloc, lower)?;
         match map.extend(iter) {
+            Ok(()) => Ok(map),
+            Err(refused) => Err(refused.cause),
+        }
+    }
+
+    /// A map of the array's pairs: [`with_capacity`](IntMap::with_capacity) of their number, and
+    /// then [`extend`](IntMap::extend). So a key keeps the last of its values.
+    ///
+    /// It first allocates a vector, into which the pairs move. It fails with [`Cause::Memory`] if
+    /// this fails, and as the two calls do, with the same cause. Then it drops everything.
+    ///
+    /// ```text
+    /// IntMap::from_array(alloc, [(4, 'a'), (0, 'b'), (4, 'c')])    4 slots, and the walk is 0, 4
+    /// IntMap::from_array(alloc, [])                                2 slots and no pair
+    /// ```
+    pub fn from_array<const N: usize>(
+        alloc: A,
+        pairs: [(K, V); N],
+    ) -> Result<IntMap<K, V, A>, Cause>
+        ensures collects { IfOk result (IsCollected K.number_of K.is_valid N pairs) }
+        ensures updates { IfOk result (λ made. (q : K) → value_of K.number_of made.walk q
+            ≡ value_of K.number_of (reverse pairs) q) }
+        ensures too_large { IfErr result (λ cause. cause ≡ Cause.TooLarge
+            → (2 ^ 63 < N) ⊎ LeavesRange K.number_of K.is_valid N pairs) }
+        ensures valid { IfOk result (IsMap K.number_of K.is_valid) }
+    {
+        let Ok(pairs) = Vec::from_array(alloc, pairs) else {
+            return Err(Cause::Memory);
+        };
+        let mut map = IntMap::with_capacity(alloc, N)?;
+        match map.extend(pairs.into_iter()) {
             Ok(()) => Ok(map),
             Err(refused) => Err(refused.cause),
         }

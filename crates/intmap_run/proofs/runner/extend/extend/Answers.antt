@@ -1,6 +1,7 @@
 use Rattle.std.proofs.Common.{sym, ◌∙◌}
 use Rattle.std.proofs.IntoIterSteps.{All-taken}
-use Rattle.intmap_run.proofs.ExtendStepLemmas.{StepsFrom-extend, StepsFrom-stopped, items-yielded_then, counted-all}
+use Rattle.intmap.proofs.ExtendLemmas.{items-yielded_then}
+use Rattle.intmap_run.proofs.ExtendStepLemmas.{StepsFrom-extend, StepsFrom-stopped, counted-all}
 use Rattle.intmap_run.proofs.runner.extend.extend.Goals as goal
 
 pub returns-in-Ok-clause-step : goal.returns-in-Ok-clause-step
