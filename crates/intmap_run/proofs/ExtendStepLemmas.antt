@@ -1,9 +1,6 @@
 -- Insertions of several pairs in turn are one step of every list that stands for the map.
-use Rattle.std.proofs.Common.{◌≡◌, inl, inr, ℕ, ◌+◌, ◌<◌, ◌≤◌, ◌-◌, ◌^◌, Bool, List, [], ◌∷◌, ◌++◌, length, Some, refl, sym, ap, ◌∙◌, add-zero, add_assoc, arith}
+use Rattle.std.proofs.Common.{◌≡◌, inl, inr, ℕ, ◌+◌, ◌<◌, ◌≤◌, ◌-◌, ◌^◌, Bool, List, [], ◌∷◌, ◌++◌, length, refl, sym, ap, ◌∙◌, add-zero, add_assoc, arith}
 use Rattle.std.specs.Prelude.{◌==◌, cond, min}
-use Rattle.std.specs.Iterator.{Yields, YieldsThen}
-use Rattle.std.specs.Vec.Iter.{into_iter_items, into_iter_steps}
-use Rattle.std.specs.declared.vec.IntoIter.{IntoIter}
 use Rattle.std.specs.declared.vec.Vec.{Vec}
 use Rattle.std.proofs.lemmas.List.{length-append}
 use Rattle.intmap.specs.Bindings.{put_pair}
