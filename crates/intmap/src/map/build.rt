@@ -179,7 +179,7 @@ impl<K: IntKey, V: Drop, A: Allocator + Copy> IntMap<K, V, A> {
         let mut map = IntMap::with_capacity(alloc, N)?;
         match map.extend(pairs.into_iter()) {
             Ok(()) => Ok(map),
-            Err(refused) => Err(refused.cause),
+            Err(failed) => Err(failed.cause),
         }
     }
 }

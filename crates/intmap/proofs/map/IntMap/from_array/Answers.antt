@@ -40,9 +40,9 @@ returns-in-Err-clause-too_large g c large =
     let stopped = c.in-Err.ensures.stops in
     inr (record {
       before = stopped.pairs;
-      next = (c.in-Err.refused.key, c.in-Err.refused.value);
+      next = (c.in-Err.failed.key, c.in-Err.failed.value);
       rest = into_iter_items stopped.rest;
-      are = sym (c.into_iter.ensures.rest ∙ c.in-Ok.ensures.items) ∙ items-yielded_then c.into_iter.result stopped.pairs (c.in-Err.refused.key, c.in-Err.refused.value) stopped.rest stopped.came;
+      are = sym (c.into_iter.ensures.rest ∙ c.in-Ok.ensures.items) ∙ items-yielded_then c.into_iter.result stopped.pairs (c.in-Err.failed.key, c.in-Err.failed.value) stopped.rest stopped.came;
       filled = stopped.before;
       collected = collected g (goal.at.returns-in-Err-clause-too_large g c).After-into_iter stopped.pairs stopped.before stopped.extended;
       out_of_range = stopped.may_refuse.too_large.0 large;
