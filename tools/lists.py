@@ -268,6 +268,20 @@ def entry(it, key):
     return f"occupied {shown}: {it.get(key)}" if key in it.place_of else f"vacant {shown}"
 
 
+def pair(it, key, value):
+    """A key beside its value, or that it has none."""
+    return option(None if value is None else f"{it.shown(key)}: {value}")
+
+
+def insert_entry(it, refuses, key, value):
+    it.entry_insert(key, value, refuses)
+    return entry(it, key)
+
+
+def vacant_insert_entry(it, refuses, key, value):
+    return f"back {value}" if key in it.place_of else insert_entry(it, refuses, key, value)
+
+
 def braces(pairs):
     return "{" + ", ".join(f"{k}: {v}" for k, v in pairs) + "}"
 
@@ -332,6 +346,12 @@ def for_each_add(it, more):
     return sum_of(asked)
 
 
+def rest(items, shown, count):
+    """The first items, the others by a clone of the iterator, and the text of the iterator then."""
+    left = items[count:]
+    return f"{shown(items[:count])} {shown(left)} {brackets(left)}"
+
+
 def size_hints(it, refuses):
     it.into_walk(refuses)
     return " ".join(["(0, None)"] * ITERATORS)
@@ -382,18 +402,28 @@ ITERATORS = 7
 CALLS = {
     ("get", 1): lambda it, _, k: option(it.get(k)),
     ("get_counted", 1): lambda it, _, k: option(it.get(k)),
+    ("get_key_value", 1): lambda it, _, k: pair(it, k, it.get(k)),
+    ("index", 1): lambda it, _, k: option(it.get(k)),
     ("contains_key", 1): lambda it, _, k: truth(k in it.place_of),
     ("remove", 1): lambda it, _, k: option(it.remove(k)),
+    ("remove_entry", 1): lambda it, _, k: pair(it, k, it.remove(k)),
     ("get_mut", 2): lambda it, _, k, v: written(it.write(k, v), v),
     ("entry", 1): lambda it, _, k: entry(it, k),
     ("entry_key", 1): lambda it, _, k: str(it.shown(k)),
     ("entry_forget", 1): lambda it, _, k: "done",
+    ("entry_into_key", 1): lambda it, _, k: option(None if k in it.place_of else it.shown(k)),
     ("entry_remove", 1): lambda it, _, k: option(it.remove(k)),
+    ("entry_remove_entry", 1): lambda it, _, k: pair(it, k, it.remove(k)),
     ("entry_get_mut", 2): lambda it, _, k, v: written(it.write(k, v), v),
     ("entry_insert", 2): lambda it, refuses, k, v: entered(it.entry_insert(k, v, refuses)),
     ("entry_add", 2): lambda it, refuses, k, v: str(it.add_to(k, v, refuses)),
     ("or_insert", 2): lambda it, refuses, k, v: str(it.or_insert(k, v, refuses)),
     ("or_insert_add", 2): lambda it, refuses, k, v: str(it.add_to(k, v, refuses)),
+    ("or_insert_with", 2): lambda it, refuses, k, v: str(it.or_insert(k, v, refuses)),
+    ("or_insert_with_key", 2): lambda it, refuses, k, n: str(it.or_insert(k, k + n & GREATEST, refuses)),
+    ("or_default_add", 2): lambda it, refuses, k, n: str(it.add_to(k, n, refuses)),
+    ("insert_entry", 2): lambda it, refuses, k, v: insert_entry(it, refuses, k, v),
+    ("vacant_insert_entry", 2): lambda it, refuses, k, v: vacant_insert_entry(it, refuses, k, v),
     ("and_modify", 2): lambda it, refuses, k, v: str(it.and_modify(k, v, refuses)),
     ("insert", 2): lambda it, refuses, k, v: option(it.insert(k, v, refuses)),
     ("insert_debug", 2): lambda it, refuses, k, v: insert_debug(it, refuses, k, v),
@@ -427,6 +457,9 @@ CALLS = {
     ("iter", 1): lambda it, _, n: braces(it.walk()[:n]),
     ("keys", 1): lambda it, _, n: brackets(k for k, _ in it.walk()[:n]),
     ("values", 1): lambda it, _, n: brackets(v for _, v in it.walk()[:n]),
+    ("iter_rest", 1): lambda it, _, n: rest(it.walk(), braces, n),
+    ("keys_rest", 1): lambda it, _, n: rest([k for k, _ in it.walk()], brackets, n),
+    ("values_rest", 1): lambda it, _, n: rest([v for _, v in it.walk()], brackets, n),
     ("drain", 1): lambda it, _, n: braces(it.drain(n)),
     ("drain_forget", 1): lambda it, _, n: braces(it.drain(n)),
     ("drain_sum", 0): lambda it, _: sum_of(it.drain(len(it.pairs))),
@@ -439,6 +472,8 @@ CALLS = {
     ("insert_checked_items", 1): lambda it, _, n: f"{n} new, {n} pairs",
     ("for_each_add", 1): lambda it, _, n: for_each_add(it, n),
     ("into_iter", 1): lambda it, refuses, n: braces(it.into_walk(refuses)[:n]),
+    ("into_keys", 1): lambda it, refuses, n: brackets(k for k, _ in it.into_walk(refuses)[:n]),
+    ("into_values", 1): lambda it, refuses, n: brackets(v for _, v in it.into_walk(refuses)[:n]),
     ("into_sum", 0): lambda it, refuses: sum_of(it.into_walk(refuses)),
     ("size_hints", 0): lambda it, refuses: size_hints(it, refuses),
     ("state", 0): lambda it, _: state(it),
@@ -451,6 +486,12 @@ CALLS = {
     ("contains_many", 3): lambda it, _, *numbers: str(sum(k in it.place_of for k in keys(*numbers))),
     ("entry_replace_many", 4): lambda it, _, *numbers: entry_replace_many(it, *numbers),
 }
+
+# those that leave a bound key, and those that write its value in its place
+for _name in ("or_insert_with", "or_insert_with_key", "vacant_insert_entry"):
+    CALLS[f"{_name}_many", 3] = CALLS["or_insert_many", 3]
+for _name in ("or_default", "insert_entry"):
+    CALLS[f"{_name}_many", 3] = CALLS["entry_insert_many", 3]
 
 # those that look for many keys, bound to ten more than themselves, or to a fourth number more
 for _count in (3, 4):
@@ -480,6 +521,8 @@ EXTENDING = {"extend": lambda *numbers: pairs_of(numbers), "extend_many": many_p
 COLLECTING = {
     "from_iter": lambda *numbers: pairs_of(numbers),
     "from_iter_many": many_pairs,
+    "from_array": lambda *numbers: pairs_of(numbers),
+    "from_array_many": many_pairs,
     "from_squares": squares,
     "from_squares_back": lambda count: squares(count)[::-1],
     "from_claimed": lambda claimed, *numbers: pairs_of(numbers)[:claimed],
@@ -543,9 +586,18 @@ def kind_answer(it, call, refuses):
     return answer(it, " ".join([name, *words]), refuses)
 
 
-# the calls that hand a value back where they are refused, the last number or 0
-HAND_BACK = ("insert", "insert_checked", "entry_insert", "or_insert", "and_modify")
-HAND_0_BACK = ("entry_add", "or_insert_add")
+# the calls that hand a value back where they are refused: the last number, 0, or the sum of both
+HAND_BACK = (
+    "insert",
+    "insert_checked",
+    "entry_insert",
+    "or_insert",
+    "or_insert_with",
+    "insert_entry",
+    "vacant_insert_entry",
+    "and_modify",
+)
+HAND_0_BACK = ("entry_add", "or_insert_add", "or_default_add")
 
 
 class Unknown(Exception):
@@ -559,6 +611,7 @@ def answer(it, call, refuses):
     if not called:
         raise Unknown(call)
     own = f" {numbers[-1]}" if name in HAND_BACK else " 0" if name in HAND_0_BACK else ""
+    own = f" {sum(numbers) & GREATEST}" if name == "or_insert_with_key" else own
     try:
         return called(it, refuses, *numbers)
     except TooLarge:

@@ -1,13 +1,17 @@
 //! One call, from its words to its answer.
 
 use crate::entries::{
-    add, insert, more_or, value_or_zero, write, write_by_entry, write_entry, write_old,
+    add, insert, more_or, number_and_more, value_or_zero, write, write_by_entry, write_entry,
+    write_old,
 };
 use crate::items::{insert_checked_items, insert_items};
 use crate::iterated::{
-    End, add_by_pairs, add_by_values, add_to_each, add_to_values, drained, size_hints, sum_of,
-    taken, written,
+    End, add_by_pairs, add_by_values, add_to_each, add_to_values, by_value, drained, size_hints,
+    sum_of, taken, written,
 };
+use crate::kept::{insert_entry, insert_vacant_entry, write_into_key};
+use crate::pairs::{index, look_up, remove_by_its_entry, write_pair};
+use crate::rest::{write_rest_of_keys, write_rest_of_pairs, write_rest_of_values};
 use crate::walks::{
     keys_sum, retain_all, retain_alternate, values_sum, walk_sum, write_keys, write_values,
 };
@@ -150,8 +154,8 @@ fn with_number(
         }
         "insert_items" => insert_items(out, maps.memory, number),
         "insert_checked_items" => insert_checked_items(out, maps.memory, number),
-        "into_iter" => match taken(maps) {
-            Ok(map) => write_pairs(out, map.into_iter().take(number as usize)),
+        "into_iter" | "into_keys" | "into_values" => match taken(maps) {
+            Ok(map) => by_value(out, map, name, number as usize),
             Err(cause) => write_refusal(out, cause, None),
         },
         _ => through_front(out, &mut maps.map, name, number),
@@ -172,6 +176,9 @@ fn through_front(
         }
         "keys" => write_list(out, map.keys().copied().take(count as usize)),
         "values" => write_list(out, map.values().copied().take(count as usize)),
+        "iter_rest" => write_rest_of_pairs(out, map, count as usize),
+        "keys_rest" => write_rest_of_keys(out, map, count as usize),
+        "values_rest" => write_rest_of_values(out, map, count as usize),
         "drain" => drained(out, map, count, End::Dropped),
         "drain_forget" => drained(out, map, count, End::Forgotten),
         "iter_mut" => written(out, map, count, End::Dropped),
@@ -197,12 +204,27 @@ pub fn with_key<K: IntKey + Display>(
             let found = map.get_counted(key, &mut Steps::new()).copied();
             write_option(out, found)
         }
+        "get_key_value" => write_pair(out, look_up(map, key)),
+        "index" => write_option(out, index(map, key)),
         "contains_key" => write_bool(out, map.contains_key(key)),
         "remove" => write_option(out, map.remove(key)),
+        "remove_entry" => write_pair(out, map.remove_entry(key)),
         "retain_except" => {
             map.retain(|other, _| other != key);
             write_done(out, Ok(()))
         }
+        _ => with_entry(out, map, name, key),
+    }
+}
+
+// writes the answer to a call with a key that goes by its entry
+fn with_entry<K: IntKey + Display>(
+    out: &mut String,
+    map: &mut MapOf<'_, K>,
+    name: &str,
+    key: K,
+) -> Result<(), AllocError> {
+    match name {
         "entry" => write_entry(out, &map.entry(key)),
         "entry_key" => {
             let key = *map.entry(key).key();
@@ -212,13 +234,15 @@ pub fn with_key<K: IntKey + Display>(
             mem::forget(map.entry(key));
             write_done(out, Ok(()))
         }
+        "entry_into_key" => write_into_key(out, map, key),
         "entry_remove" => write_option(out, remove_by_entry(map, key)),
+        "entry_remove_entry" => write_pair(out, remove_by_its_entry(map, key)),
         _ => no_call(out),
     }
 }
 
 /// Writes the answer to a call with a key and a value.
-pub fn with_pair<K: IntKey>(
+pub fn with_pair<K: IntKey + Display>(
     out: &mut String,
     map: &mut MapOf<'_, K>,
     name: &str,
@@ -239,11 +263,29 @@ pub fn with_pair<K: IntKey>(
             write!(out, "{called:?}")
         }
         "get_mut" => write_old(out, write(map, key, value), value),
+        _ => with_entry_and_value(out, map, name, key, value),
+    }
+}
+
+// writes the answer to a call with a key and a value that goes by the entry of the key
+fn with_entry_and_value<K: IntKey + Display>(
+    out: &mut String,
+    map: &mut MapOf<'_, K>,
+    name: &str,
+    key: K,
+    value: u64,
+) -> Result<(), AllocError> {
+    match name {
         "entry_get_mut" => write_old(out, write_by_entry(map, key, value), value),
         "entry_insert" => insert(out, map, key, value),
         "entry_add" => add(out, value_or_zero(map.entry(key)), value),
         "or_insert" => add(out, map.entry(key).or_insert(value), 0),
         "or_insert_add" => add(out, map.entry(key).or_insert(0), value),
+        "or_insert_with" => add(out, map.entry(key).or_insert_with(|| value), 0),
+        "or_insert_with_key" => add(out, number_and_more(map.entry(key), value), 0),
+        "or_default_add" => add(out, map.entry(key).or_default(), value),
+        "insert_entry" => insert_entry(out, map, key, value),
+        "vacant_insert_entry" => insert_vacant_entry(out, map, key, value),
         "and_modify" => add(out, more_or(map.entry(key), value), 0),
         _ => no_call(out),
     }

@@ -1,6 +1,6 @@
 //! Calls that write a value in its place, and calls by an entry.
 
-use intmap::entry::Entry;
+use intmap::entry::{Entry, OccupiedEntry};
 use intmap::{IntKey, Refused};
 use intmap_row_words::maps::MapOf;
 use intmap_row_words::text::{Told, print_answer, write_number, write_option, write_refusal};
@@ -12,22 +12,31 @@ use std::mem;
 /// An entry of a map whose requests for memory can be refused.
 pub type EntryOf<'m, 'a, K> = Entry<'m, K, u64, &'a Refuser<Global>>;
 
+/// Such an entry of a key that is present.
+pub type OccupiedOf<'m, 'a, K> = OccupiedEntry<'m, K, u64, &'a Refuser<Global>>;
+
 /// Writes which entry it is, with its key, and its value where there is one.
 pub fn write_entry<K: IntKey + Display>(
     out: &mut String,
     entry: &EntryOf<'_, '_, K>,
 ) -> Result<(), AllocError> {
     match entry {
-        Entry::Occupied(entry) => {
-            let key = entry.key();
-            let value = entry.get();
-            write!(out, "occupied {key}: {value}")
-        }
+        Entry::Occupied(entry) => write_occupied(out, entry),
         Entry::Vacant(entry) => {
             let key = entry.key();
             write!(out, "vacant {key}")
         }
     }
+}
+
+/// Writes an entry of a key that is present.
+pub fn write_occupied<K: IntKey + Display>(
+    out: &mut String,
+    entry: &OccupiedOf<'_, '_, K>,
+) -> Result<(), AllocError> {
+    let key = entry.key();
+    let value = entry.get();
+    write!(out, "occupied {key}: {value}")
 }
 
 /// Sets the value of the key by its entry, and writes the answer of the command.
@@ -64,6 +73,14 @@ pub fn more_or<'m, K: IntKey>(
     entry
         .and_modify(|value| *value = value.wrapping_add(more))
         .or_insert(more)
+}
+
+/// The value of the key, which is its number and so much more where it had none.
+pub fn number_and_more<'m, K: IntKey>(
+    entry: EntryOf<'m, '_, K>,
+    more: u64,
+) -> Result<&'m mut u64, Refused<u64>> {
+    entry.or_insert_with_key(|key| key.number().wrapping_add(more))
 }
 
 /// Sets the value of the key; answers the one before.

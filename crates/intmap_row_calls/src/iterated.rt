@@ -4,7 +4,7 @@ ghost use Rattle.std.specs.Iterator.{IsFinite};
 use crate::walks::WalkSum;
 use intmap::{Cause, IntMap};
 use intmap_row_words::maps::{Map, Maps};
-use intmap_row_words::text::write_pairs;
+use intmap_row_words::text::{write_list, write_pairs};
 use std::alloc::AllocError;
 use std::mem;
 
@@ -115,6 +115,20 @@ pub fn add_by_values(map: &mut Map<'_>, more: u64) -> u64 {
 pub fn taken<'a>(maps: &mut Maps<'a>) -> Result<Map<'a>, Cause> {
     let fresh = IntMap::new(maps.memory)?;
     Ok(mem::replace(&mut maps.map, fresh))
+}
+
+/// Writes the first pairs of a map by value, or its first keys or values, so many.
+pub fn by_value(
+    out: &mut String,
+    map: Map<'_>,
+    name: &str,
+    count: usize,
+) -> Result<(), AllocError> {
+    match name {
+        "into_keys" => write_list(out, map.into_keys().take(count)),
+        "into_values" => write_list(out, map.into_values().take(count)),
+        _ => write_pairs(out, map.into_iter().take(count)),
+    }
 }
 
 /// Writes how many items each kind of iterator says that it has at least, and at most.

@@ -97,7 +97,7 @@ fn with_number<K>(
     number: &str,
 ) -> Result<(), AllocError>
 where
-    K: IntKey + FromStr,
+    K: IntKey + Display + FromStr,
     K::Err: Drop,
 {
     if name == "insert_range" {

@@ -10,7 +10,10 @@ mod cell;
 mod entries;
 mod items;
 mod iterated;
+mod kept;
 pub mod kinds;
+mod pairs;
+mod rest;
 mod walks;
 
 pub use call::answer_to;

@@ -1,5 +1,6 @@
 //! One call with a list of numbers behind its name, or on both maps, from its words to its answer.
 
+use crate::arrays::{MANY, from_array, from_array_many};
 use crate::built::{Claimed, clone_lists, extended, made_of, pairs_of, squared, with_other};
 use crate::many::{Insertion, Keys, Search, contains_many, find_many, insert_many, replace_many};
 use crate::runs::run_many;
@@ -28,6 +29,7 @@ pub fn answer_to(
             let left = *claimed as usize;
             made_of(out, maps, Claimed { pairs, left })
         }
+        ("from_array", pairs) => return from_array(out, maps, pairs),
         ("from_squares", [count]) => made_of(out, maps, (0..*count).map(squared)),
         ("from_squares_back", [count]) => made_of(out, maps, (0..*count).rev().map(squared)),
         ("extend_other" | "from_other", []) => with_other(out, maps, name),
@@ -63,10 +65,20 @@ fn with_keys(
         ("insert_checked_many", None) => insert_many(out, map, Insertion::Checked, keys),
         ("entry_insert_many", None) => insert_many(out, map, Insertion::ByEntry, keys),
         ("or_insert_many", None) => insert_many(out, map, Insertion::OrInsert, keys),
+        ("or_insert_with_many", None) => insert_many(out, map, Insertion::OrInsertWith, keys),
+        ("or_insert_with_key_many", None) => {
+            insert_many(out, map, Insertion::OrInsertWithKey, keys)
+        }
+        ("or_default_many", None) => insert_many(out, map, Insertion::OrDefault, keys),
+        ("insert_entry_many", None) => insert_many(out, map, Insertion::InsertEntry, keys),
+        ("vacant_insert_entry_many", None) => {
+            insert_many(out, map, Insertion::VacantInsertEntry, keys)
+        }
         ("run_many", None) => run_many(out, maps.memory, map, Insertion::Over, keys),
         ("run_entries_many", None) => run_many(out, maps.memory, map, Insertion::ByEntry, keys),
         ("extend_many", None) => extended(out, map, pairs),
         ("from_iter_many", None) => made_of(out, maps, pairs),
+        ("from_array_many", None) if keys.count == MANY as u64 => from_array_many(out, maps, keys),
         ("contains_many", None) => write_number(out, contains_many(map, keys) as u128),
         ("get_many", _) => find_many(out, map, Search::Get, keys, distance),
         ("get_mut_many", _) => find_many(out, map, Search::GetMut, keys, distance),

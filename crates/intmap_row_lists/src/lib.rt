@@ -4,6 +4,7 @@
 //! handed over as lines. The other calls stand in `intmap_row_calls`.
 #![tactic(auto)]
 
+mod arrays;
 mod blocks;
 mod built;
 mod call;

@@ -29,7 +29,7 @@ impl Keys {
     }
 }
 
-/// Which of the two insertions is made.
+/// Which insertion is made.
 #[derive(Clone, Copy)]
 pub enum Insertion {
     /// That which also binds a key that is bound.
@@ -40,6 +40,16 @@ pub enum Insertion {
     ByEntry,
     /// That by an entry which leaves a bound key.
     OrInsert,
+    /// The same with a value that a closure makes.
+    OrInsertWith,
+    /// The same with a value that a closure makes of the key.
+    OrInsertWithKey,
+    /// That by an entry which inserts the default, in whose place the value is written.
+    OrDefault,
+    /// That by an entry which is kept, and writes the value of a bound key in its place.
+    InsertEntry,
+    /// That by the entry of a key that isn't bound, which is kept.
+    VacantInsertEntry,
 }
 
 impl Insertion {
@@ -49,8 +59,23 @@ impl Insertion {
             Insertion::Over => Ok(map.insert(key, value_of(key))?.is_none()),
             Insertion::Checked => map.insert_checked(key, value_of(key)),
             Insertion::ByEntry => insert_by_entry(map, key),
-            Insertion::OrInsert => or_insert(map, key),
+            Insertion::OrDefault => or_default(map, key),
+            Insertion::VacantInsertEntry => insert_vacant_entry(map, key),
+            _ => self.or_insert(map, key),
         }
+    }
+
+    // has the key bound by its entry; answers whether it was new
+    fn or_insert(self, map: &mut Map<'_>, key: u64) -> Result<bool, Refused<u64>> {
+        let before = map.len();
+        let entry = map.entry(key);
+        let _value = match self {
+            Insertion::OrInsertWith => entry.or_insert_with(|| value_of(key))?,
+            Insertion::OrInsertWithKey => entry.or_insert_with_key(value_of)?,
+            Insertion::InsertEntry => entry.insert_entry(value_of(key))?.into_mut(),
+            _ => entry.or_insert(value_of(key))?,
+        };
+        Ok(map.len() != before)
     }
 }
 
@@ -68,11 +93,22 @@ fn insert_by_entry(map: &mut Map<'_>, key: u64) -> Result<bool, Refused<u64>> {
     }
 }
 
-// has the key bound by its entry; answers whether it was new
-fn or_insert(map: &mut Map<'_>, key: u64) -> Result<bool, Refused<u64>> {
+// has the key bound to the default by its entry, and then writes its value; answers whether it was new
+fn or_default(map: &mut Map<'_>, key: u64) -> Result<bool, Refused<u64>> {
     let before = map.len();
-    let _value = map.entry(key).or_insert(value_of(key))?;
+    *map.entry(key).or_default()? = value_of(key);
     Ok(map.len() != before)
+}
+
+// has a key that isn't bound inserted by its entry, which is kept; answers whether it was new
+fn insert_vacant_entry(map: &mut Map<'_>, key: u64) -> Result<bool, Refused<u64>> {
+    match map.entry(key) {
+        Entry::Occupied(_entry) => Ok(false),
+        Entry::Vacant(entry) => {
+            entry.insert_entry(value_of(key))?.leave();
+            Ok(true)
+        }
+    }
 }
 
 /// Inserts each key with ten more. Writes how many were new, and behind each length at which the
