@@ -5,6 +5,7 @@ use Rattle.std.specs.Borrow.{Bor, MutBor}
 use Rattle.std.specs.Fn.{Mut, always_mut}
 use Rattle.intmap.specs.Map.{MapState, after_insert, after_remove}
 use Rattle.intmap_table.specs.Bindings.{take_key, put_pair}
+use Rattle.intmap_table.specs.Picking.{AsksAt}
 use Rattle.intmap_table.specs.Retaining.{KeepsAt, TakesPair}
 use Rattle.intmap_table.specs.Taking.{TakesEach, TakesEach-from}
 use Rattle.intmap_table.specs.Walk.{walk_of}
@@ -44,5 +45,15 @@ module _ {F K V : Type 0} where
       (λ g p rest own. (
         λ value is. (own.at ((p.0, (value, tt)) ∷ [])).0,
         λ w h call. record { at = λ xs. (own.at ((call.key, (call.value, tt)) ∷ xs)).1 (tt, (call.left, tt)) h call.called },
+      ))
+      f L callable
+
+  -- and can be asked about each, with its value to be written
+  pub extracts_each_callable : (m : Mut F (K × (MutBor V × Unit {0})) (Bool × (MutBor V × Unit {0}))) (f : F) (L : List (K × V)) → always_mut m f → TakesEach (AsksAt m) (TakesPairMut m) f L
+  extracts_each_callable m f L callable =
+      TakesEach-from (AsksAt m) (TakesPairMut m) (λ g rest. always_mut m g)
+      (λ g p rest own. (
+        λ value is. (own.at ((p.0, (value, tt)) ∷ [])).0,
+        λ a h call. record { at = λ xs. (own.at ((call.1.key, (call.1.value, tt)) ∷ xs)).1 (a.0, (call.1.left, tt)) h call.1.called },
       ))
       f L callable

@@ -1,15 +1,17 @@
 -- Entries once a value was written, and maps into which the pair of a new key was put.
-use Rattle.std.proofs.Common.{◌≡◌, inl, inr, ℕ, ◌+◌, ◌^◌, ◌<◌, Bool, true, false, cond, List, [], ◌∷◌, ◌++◌, length, Option, Some, None, refl, sym, ap, ◌∙◌, subst}
-use Rattle.std.specs.Prelude.{Result, Ok, Err, OnOk}
+use Rattle.std.proofs.Common.{◌≡◌, ◌⊎◌, inl, inr, ℕ, ◌+◌, ◌^◌, ◌<◌, Bool, true, false, cond, List, [], ◌∷◌, ◌++◌, length, Option, Some, None, refl, sym, ap, ◌∙◌, subst}
+use Rattle.std.specs.Prelude.{Result, Ok, Err, OnOk, OnErr}
 use Rattle.std.proofs.lemmas.Bool.{cases_Bool, cases_lt, eq-eqb}
 use Rattle.std.proofs.lemmas.List.{map-append}
 use Rattle.std.proofs.Props.{props}
 use Rattle.std.specs.declared.cmp.PartialEq as eq
 use Rattle.intmap_table.specs.declared.key.IntKey as key
 use Rattle.intmap.specs.declared.entry.OccupiedEntry.{OccupiedEntry}
+use Rattle.intmap.specs.declared.refusal.Cause.{Cause}
+use Rattle.intmap.specs.declared.refusal.Refused.{Refused}
 use Rattle.intmap_table.specs.Bindings.{value_of, take_key, put_pair, write_value}
 use Rattle.intmap_table.specs.Classes.{IsCapacity, same_key}
-use Rattle.intmap.specs.Entries.{occupied_with_value, occupied_key}
+use Rattle.intmap.specs.Entries.{occupied_with_value, occupied_key, IsMadeRefusal}
 use Rattle.intmap.specs.Growth.{IsNext, is_due, next_capacity}
 use Rattle.intmap_table.specs.Locations.{IsFound}
 use Rattle.intmap.specs.Map.{MapState, InsertIsTooLarge, with_pair, written}
@@ -24,6 +26,17 @@ use Rattle.intmap_table.specs.Laws.Written.{IsFound-write_value, key_at-written,
 pub OnOk-so : {T E : Type 0} (P Q : Type 0) → (P → Q) → (r : Result T E) → OnOk r P → OnOk r Q
 OnOk-so P Q so (Ok x) h = so h
 OnOk-so P Q so (Err x) h = h
+
+-- what holds whether a call answers an error or not
+pub on_error : {T E P : Type 0} (r : Result T E) → P → OnErr r P
+on_error (Ok x) p = tt
+on_error (Err e) p = p
+
+-- the error of what was made, or of its refusal, is one of what may be made
+pub made-so : {V E : Type 0} (Made : Result V E → Type 0) (from_gives : Refused V → E → Type 0) (is_due : Cause → Type 0) (made : Result V E) (e : E) → Made made
+    → (made ≡ Err e) ⊎ IsMadeRefusal (λ m. m ≡ made) from_gives is_due e → Made (Err e) ⊎ IsMadeRefusal Made from_gives is_due e
+made-so Made from_gives is_due made e may (inl is) = inl (subst Made is may)
+made-so Made from_gives is_due made e may (inr told) = inr (record { refused = told.refused; value = subst Made (sym told.value) may; due = told.due; error = told.error })
 
 -- the capacity that one more pair leaves is there
 pub IsNext-next_capacity : (C n F : ℕ) → IsCapacity C → n < 2 ^ 64 → IsNext C n F (next_capacity C n F)

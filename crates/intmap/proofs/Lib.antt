@@ -30,4 +30,5 @@ pub mod Examples
 pub mod SameKeysLemmas
 pub mod RetainLemmas
 pub mod WritesLemmas
+pub mod ExtractLemmas
 pub mod LendMapLemmas

@@ -1,6 +1,6 @@
 -- What a contract sees of an entry: the map behind it and its key.
 pub use Rattle.intmap.specs.declared.entry.Entry.TheVariants.{Occupied, Vacant}
-use Rattle.std.specs.Prelude.{◌≡◌, ℕ, ◌+◌, [], length, Option, Result}
+use Rattle.std.specs.Prelude.{◌≡◌, ℕ, ◌+◌, [], length, Option, Result, Ok}
 use Rattle.std.specs.Borrow.{Fml, RattleType, MutBor, follows, follows_if, name_if_ok, RestsIfErr}
 use Rattle.std.specs.declared.alloc.Allocator as allocator
 use Rattle.std.specs.declared.cmp.PartialEq as eq
@@ -8,6 +8,8 @@ use mir.Syntax.{named}
 use Rattle.intmap_table.specs.declared.key.IntKey as key
 use Rattle.intmap.specs.declared.entry.Entry.{Entry}
 use Rattle.intmap.specs.declared.entry.OccupiedEntry.{OccupiedEntry}
+use Rattle.intmap.specs.declared.refusal.Cause.{Cause}
+use Rattle.intmap.specs.declared.refusal.Refused.{Refused}
 use Rattle.intmap.specs.contracts.map.IntMap.{the_row as map_row}
 use Rattle.intmap.specs.contracts.entry.OccupiedEntry as occupied
 use Rattle.intmap_table.specs.Bindings.{value_of}
@@ -73,6 +75,13 @@ module _ {K V A : Type 0} {g : key.Ghosts K} {e : eq.Ghosts K} where
     place = o.place;
     found = IsFound-write_value g.number_of o.map.now.walk o.map.now.capacity o.slot o.place (occupied_key o) w o.found;
   }
+
+-- a value was made and refused for a cause that was due, and e is what is made of the refusal
+pub record IsMadeRefusal {V E : Type 0} (makes : Result V E → Type 0) (from_gives : Refused V → E → Type 0) (is_due : Cause → Type 0) (e : E) : Type 0 where
+  pub refused : Refused V
+  pub value : makes (Ok refused.value)
+  pub due : is_due refused.cause
+  pub error : from_gives refused e
 
 module _ (K V A : RattleType) {g : key.Ghosts K.Denot} {e : eq.Ghosts K.Denot} (a : allocator.Ghosts A.Denot) where
   -- once the loan named r ends, the map behind the entry has the last value written through it as that of the key

@@ -8,6 +8,7 @@ pub use Rattle.intmap_table.specs.Figures
 pub use Rattle.intmap_table.specs.Taking
 pub use Rattle.intmap_table.specs.Retaining
 pub use Rattle.intmap_table.specs.Writes
+pub use Rattle.intmap_table.specs.Picking
 pub use Rattle.intmap_table.specs.Locations
 pub use Rattle.intmap_table.specs.Values
 pub mod Growth
@@ -17,6 +18,7 @@ pub mod Laws
 pub mod Lending
 pub mod Entries
 pub mod Draining
+pub mod Extracting
 pub mod Extending
 pub mod Cloning
 pub mod Equality

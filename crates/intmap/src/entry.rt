@@ -7,6 +7,7 @@ ghost use Rattle.std.specs.Map.Calls.{ModifiesValue};
 ghost use Rattle.intmap.specs.Map.{IsMap, IsOutOfRange, IsCapacityAfter, after_search};
 ghost use Rattle.intmap.specs.PlainLists.{RefusalIsDue};
 
+mod attempt;
 mod insertion;
 mod made;
 mod occupied;

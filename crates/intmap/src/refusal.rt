@@ -1,6 +1,8 @@
 //! Why a call failed, and what it returns to the caller.
 ghost use Rattle.std.specs.Prelude.{◌≡◌};
 
+use std::alloc::AllocError;
+
 /// Why a call failed.
 #[derive(Clone, Copy, PartialEq, Eq, Debug)]
 pub enum Cause {
@@ -32,6 +34,17 @@ impl<V: Drop> From<Refused<V>> for Cause {
 
     fn from(refused: Refused<V>) -> Cause {
         refused.cause
+    }
+}
+
+/// A failed allocation. With `?`, a caller that allocates beside the map returns a `Cause` too.
+impl From<AllocError> for Cause {
+    ghost use Rattle.intmap.specs.declared.refusal.Cause.{Cause};
+
+    ghost from_gives = { λ _ cause. cause ≡ Cause.Memory };
+
+    fn from(_: AllocError) -> Cause {
+        Cause::Memory
     }
 }
 

@@ -10,6 +10,7 @@ pub mod LeadsLemmas
 pub mod TakingLemmas
 pub mod RetainLemmas
 pub mod WritesLemmas
+pub mod ExtractLemmas
 pub mod MappedLemmas
 pub mod BindingLemmas
 pub mod Tables

@@ -5,6 +5,7 @@ pub mod CloneLemmas
 pub mod CountLemmas
 pub mod FilledLemmas
 pub mod FoundLemmas
+pub mod ExtractSlotsLemmas
 pub mod FrontLemmas
 pub mod MarkedLemmas
 pub mod MemoryLemmas

@@ -7,6 +7,7 @@ pub mod Figures
 pub mod Taking
 pub mod Retaining
 pub mod Writes
+pub mod Picking
 pub mod Locations
 pub mod Laws
 pub mod Lending

@@ -5,17 +5,21 @@ use Rattle.std.specs.Fn.{Called, Mut, Takes}
 use Rattle.std.specs.Borrow.{MutBor}
 use Rattle.intmap_table.specs.Retaining.{state_after}
 
--- a call of f at the key of p and a `&mut` to its value left w there, and g of the closure
-pub record WritesAt {F K V : Type 0} (m : Mut F (K × (MutBor V × Unit {0})) (Unit {0} × (MutBor V × Unit {0}))) (f : F) (p : K × V) (w : V) (g : F) : Type 0 where
+-- a call of f at the key of p and a `&mut` to its value answered y, and left w there and g of the closure
+pub record CallsAt {F K V Y : Type 0} (m : Mut F (K × (MutBor V × Unit {0})) (Y × (MutBor V × Unit {0}))) (f : F) (p : K × V) (y : Y) (w : V) (g : F) : Type 0 where
   pub key : K
   pub value : MutBor V
   pub shows : (key ≡ p.0) × (value.now ≡ p.1)
   pub left : MutBor V
   pub leaves : left.now ≡ w
-  pub called : Called m f (key, (value, tt)) (tt, (left, tt)) g
+  pub called : Called m f (key, (value, tt)) (y, (left, tt)) g
+
+-- a call that answers nothing, of a closure that writes
+abbrev pub WritesAt : {F K V : Type 0} → Mut F (K × (MutBor V × Unit {0})) (Unit {0} × (MutBor V × Unit {0})) → F → K × V → V → F → Type 0
+WritesAt m f p w g = CallsAt m f p tt w g
 
 -- f may be called at the key of p and a `&mut` to its value
-abbrev pub TakesPairMut : {F K V : Type 0} → Mut F (K × (MutBor V × Unit {0})) (Unit {0} × (MutBor V × Unit {0})) → F → K × V → Type 0
+abbrev pub TakesPairMut : {F K V Y : Type 0} → Mut F (K × (MutBor V × Unit {0})) (Y × (MutBor V × Unit {0})) → F → K × V → Type 0
 TakesPairMut {V = V} m f p = (value : MutBor V) → value.now ≡ p.1 → Takes m f (p.0, (value, tt))
 
 module _ {F K V : Type 0} where

@@ -7,6 +7,7 @@ ghost use Rattle.std.specs.List.{AllZip};
 ghost use Rattle.intmap_table.specs.Cloning.{IsPairClone};
 
 mod change;
+mod extract;
 
 use crate::key::IntKey;
 use crate::steps::Steps;
@@ -157,14 +158,14 @@ impl<K: IntKey, X, A: Allocator> Slot<K, X, A> {
         }
     }
 
-    /// The first pair, if there is one, and the rest.
+    /// The first pair, if there is one, and the rest, by reference.
     pub(crate) fn parts(&self) -> (Option<&(Stored<K>, X)>, &[(Stored<K>, X)])
         ensures { self.now.pairs ≡ all_pairs (option_copied result.0) result.1.now }
     {
         (self.first.as_ref(), self.rest.as_slice())
     }
 
-    /// The first pair, if there is one, and the rest.
+    /// The first pair, if there is one, and the rest, by value.
     pub(crate) fn into_parts(self) -> (Option<(Stored<K>, X)>, Vec<(Stored<K>, X), A>)
         ensures pairs { self.pairs ≡ all_pairs result.0 result.1.items }
         ensures first { HasFirst result.0 result.1.items }

@@ -1,10 +1,11 @@
 //! A table of slots. Each key has one of them.
 //!
 //! What stands here looks at the slot of one key, or at the table as a whole. `locate` has the calls
-//! on a pair whose place is known, `walk` and `each` those that go through all pairs, and `grow` and
-//! `place` the growth.
+//! on a pair whose place is known, `walk`, `each` and `extract` those that go through the pairs, and
+//! `grow` and `place` the growth.
 
 mod each;
+pub mod extract;
 mod grow;
 pub mod locate;
 mod place;

@@ -6,12 +6,14 @@ ghost use Rattle.std.specs.Map.{keys_of, values_of};
 ghost use Rattle.intmap.specs.Map.{IsMap};
 
 mod drain;
+mod extract;
 mod owned;
 mod traits;
 mod writing;
 
 use crate::map::IntMap;
 pub use drain::Drain;
+pub use extract::ExtractIf;
 use intmap_table::IntKey;
 use intmap_table::kept::Kept;
 use intmap_table::table::walk::Pairs;

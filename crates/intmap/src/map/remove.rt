@@ -59,9 +59,20 @@ impl<K: IntKey, V, A: Allocator + Copy> IntMap<K, V, A> {
         Some((key, value))
     }
 
-    /// Takes the first pair of the walk out. No slot before the place holds one; it moves on to the
-    /// slot that held the pair.
-    pub(crate) fn take_front(&mut self, from: &mut usize) -> Option<(K, V)>
+    /// Removes the first pair of the walk and returns it, or `None` if there is none. The search
+    /// begins at the slot number `from`, before which no slot may hold a pair, as 0. It leaves the
+    /// number of the slot that held the pair there, so the next call goes on where this one ended.
+    /// The other pairs of the slot move up by one place. It allocates nothing and never fails.
+    ///
+    /// [`drain`](IntMap::drain) is an iterator of such calls. This one serves a type that holds a map
+    /// and has an iterator of its own.
+    ///
+    /// ```text
+    /// with 0: 10, 4: 14 and 1: 11 in 4 slots, and from = 0:
+    /// map.take_front(&mut from)    Some((0, 10)), and then Some((4, 14)); from stays 0
+    /// map.take_front(&mut from)    Some((1, 11)), and from is 1
+    /// ```
+    pub fn take_front(&mut self, from: &mut usize) -> Option<(K, V)>
         requires { ArePassed K.number_of self.old.walk self.old.capacity from.old }
         ensures first { YieldsFirst (λ m. m.walk) self.old result self.new }
         ensures state { self.new ≡ with_walk self.old self.new.walk }

@@ -22,7 +22,7 @@ module _ {P : Type 0} where
   joined-drop (suc i) [] = refl
   joined-drop (suc i) (row ∷ R) = joined-drop i R
 
-  joined-take : (i : ℕ) (R : List (List P)) → joined (take (suc i) R) ≡ joined (take i R) ++ get_or R i []
+  pub joined-take : (i : ℕ) (R : List (List P)) → joined (take (suc i) R) ≡ joined (take i R) ++ get_or R i []
   joined-take zero [] = refl
   joined-take zero (row ∷ R) = append-nil row
   joined-take (suc i) [] = refl

@@ -45,6 +45,19 @@ module _ {K X : Type 0} where
       let within : i - 1 < length rest = omega (arith, below, some) in
       ap (λ (q : K × X). q.1) (is ∙ get_or_default rest (i - 1) p d within ∙ ap (λ n. get_or (f ∷ rest) n d) (sym step))
 
+  -- the pair at a place behind the first
+  pub get_or-behind : (first : Option (K × X)) (rest : List (K × X)) (i : ℕ) (p d : K × X) → 0 < i → i < length (all_pairs first rest) → HasFirst first rest → p ≡ get_or rest (i - 1) p → p ≡ get_or (all_pairs first rest) i d
+  get_or-behind None rest i p d some below filled is = let none : length rest ≡ 0 = ap length filled in absurd (omega (arith, below, none, some))
+  get_or-behind (Some f) rest i p d some below filled is =
+      let step : i ≡ suc (i - 1) = omega (arith, some) in
+      let within : i - 1 < length rest = omega (arith, below, some) in
+      is ∙ get_or_default rest (i - 1) p d within ∙ ap (λ n. get_or (f ∷ rest) n d) (sym step)
+
+  -- and another one in its place
+  pub set-behind : (first : Option (K × X)) (rest : List (K × X)) (i : ℕ) (q : K × X) → 0 < i → i < length (all_pairs first rest) → HasFirst first rest → all_pairs first (set rest (i - 1) q) ≡ set (all_pairs first rest) i q
+  set-behind None rest i q some below filled = let none : length rest ≡ 0 = ap length filled in absurd (omega (arith, below, none, some))
+  set-behind (Some f) rest i q some below filled = let step : i ≡ suc (i - 1) = omega (arith, some) in ap (λ n. set (f ∷ rest) n q) (sym step)
+
 module _ {P : Type 0} where
   set-last : (z y : P) (zs : List P) → set (z ∷ zs) (length zs) y ≡ take (length zs) (z ∷ zs) ++ y ∷ []
   set-last z y [] = refl

@@ -4,6 +4,7 @@ use Rattle.std.specs.Fn.{Mut}
 use Rattle.std.specs.Borrow.{Bor, MutBor}
 use Rattle.intmap_table.specs.Retaining.{KeepsAt, TakesPair}
 use Rattle.intmap_table.specs.Writes.{WritesAt, TakesPairMut}
+use Rattle.intmap_table.specs.Picking.{PicksAt}
 use Rattle.intmap_table.specs.declared.kept.Kept.{Kept}
 
 module _ {K V : Type 0} where
@@ -24,5 +25,13 @@ module _ {K V : Type 0} where
   WritesStored m f p w g = WritesAt m f (p.0, p.1.value) w.value g
 
   -- f may be called at the key and a `&mut` to the value of a stored pair
-  abbrev pub TakesStoredMut : {F : Type 0} → Mut F (K × (MutBor V × Unit {0})) (Unit {0} × (MutBor V × Unit {0})) → F → K × Kept V → Type 0
+  abbrev pub TakesStoredMut : {F Y : Type 0} → Mut F (K × (MutBor V × Unit {0})) (Y × (MutBor V × Unit {0})) → F → K × Kept V → Type 0
   TakesStoredMut m f p = TakesPairMut m f (p.0, p.1.value)
+
+  -- a call of f at the key and the value of a stored pair answered b, and left the pair as q and g of the closure
+  abbrev pub PicksStored : {F : Type 0} → Mut F (K × (MutBor V × Unit {0})) (Bool × (MutBor V × Unit {0})) → F → K × Kept V → Bool → F → K × Kept V → Type 0
+  PicksStored m f p b g q = PicksAt m f (p.0, p.1.value) b g (q.0, q.1.value)
+
+  -- the same, with the answer and what was left of the pair as one
+  abbrev pub AsksStored : {F : Type 0} → Mut F (K × (MutBor V × Unit {0})) (Bool × (MutBor V × Unit {0})) → F → K × Kept V → Bool × (K × Kept V) → F → Type 0
+  AsksStored m f p a g = PicksStored m f p a.0 g a.1

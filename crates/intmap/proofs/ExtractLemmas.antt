@@ -1,0 +1,94 @@
+-- What a map is once a closure was asked about some of its pairs, of which it picked at most one.
+use Rattle.std.proofs.Common.{◌≡◌, ℕ, ◌+◌, ◌-◌, ◌<◌, ◌≤◌, Bool, cond, List, [], ◌∷◌, Option, Some, None, length, take, drop, refl, sym, ap, ◌∙◌, subst, arith, length-append}
+use Rattle.std.specs.Prelude.{All, count_by}
+use Rattle.std.specs.List.{flat_map, range_with_len}
+use Rattle.std.specs.Iterator.{MakesProgress, at_most}
+use Rattle.std.specs.List.Retain.{ExtractsNext}
+use Rattle.std.specs.Option.{option_len}
+use Rattle.intmap_table.specs.Classes.{same_key}
+use Rattle.intmap_table.specs.Picking.{ExtractsBehind, IsReached}
+use Rattle.intmap_table.specs.Tables.Kept.{unkept}
+use Rattle.intmap_table.specs.Taking.{TakesEach}
+use Rattle.intmap_table.specs.Walk.{slot_of, walk_of}
+use Rattle.intmap_table.specs.declared.kept.Kept.{Kept}
+use Rattle.intmap.specs.Consistency.{IsConsistent}
+use Rattle.intmap.specs.Growth.{IsThreshold}
+use Rattle.intmap.specs.Map.{IsMapWalk}
+use Rattle.intmap.proofs.LoadFactorLemmas.{IsLoaded-fewer}
+use Rattle.intmap.proofs.MapLemmas.{length-unkept}
+use Rattle.intmap_table.proofs.ExtractLemmas.{sum_by-ExtractsBehind, length-ExtractsNext, length-ExtractsBehind, All-ExtractsBehind, TakesEach-rest}
+use Rattle.intmap_table.proofs.MappedLemmas.{slot_of-map_values, walk_of-map_values}
+use Rattle.intmap_table.proofs.SlotNumberLemmas.{capacity-positive}
+
+module _ {K V : Type 0} (number : K → ℕ) (W : List (K × Kept V)) (C : ℕ) where
+  slot-len : (i : ℕ) → length (slot_of number (unkept W) C i) ≡ length (slot_of number W C i)
+  slot-len i = ap length (slot_of-map_values number (λ (x : Kept V). x.value) W C i) ∙ length-unkept number (slot_of number W C i)
+
+  slots-len : (ns : List ℕ) → length (flat_map (slot_of number (unkept W) C) ns) ≡ length (flat_map (slot_of number W C) ns)
+  slots-len [] = refl
+  slots-len (n ∷ ns) =
+      let seen = length-append (slot_of number (unkept W) C n) (flat_map (slot_of number (unkept W) C) ns) in
+      let stored = length-append (slot_of number W C n) (flat_map (slot_of number W C) ns) in
+      omega (arith, seen, stored, slot-len n, slots-len ns)
+
+  -- where a walk stands doesn't depend on the values
+  pub IsReached-unkept : (slot place passed : ℕ) → IsReached number W C slot place passed → IsReached number (unkept W) C slot place passed
+  IsReached-unkept slot place passed at = record {
+    within = omega (arith, at.within, slot-len slot);
+    count = omega (arith, at.count, slots-len (range_with_len 0 slot));
+    few = omega (arith, at.few, length-unkept number W);
+  }
+
+  pub IsReached-kept : (slot place passed : ℕ) → IsReached number (unkept W) C slot place passed → IsReached number W C slot place passed
+  IsReached-kept slot place passed at = record {
+    within = omega (arith, at.within, slot-len slot);
+    count = omega (arith, at.count, slots-len (range_with_len 0 slot));
+    few = omega (arith, at.few, length-unkept number W);
+  }
+
+-- at the start no pair was passed
+pub IsReached-start : {K V : Type 0} (number : K → ℕ) (W : List (K × V)) (C : ℕ) → IsReached number W C 0 0 0
+IsReached-start number W C = record { within = omega arith; count = refl; few = omega arith }
+
+module _ {F K V : Type 0} (number : K → ℕ) (is_valid : K → Type 0) (R : F → K × V → Bool → F → K × V → Type 0) (same : (f : F) (p : K × V) (b : Bool) (g : F) (q : K × V) → R f p b g q → q.0 ≡ p.0) where
+  -- what stays of a map's walk is the walk of a map
+  pub IsMapWalk-Extracts : (f g : F) (W M : List (K × V)) (i j : ℕ) (r : Option (K × V)) (C E : ℕ) → ExtractsBehind R f W i r g M j → walk_of number M C ≡ M → IsMapWalk number is_valid W C E → IsMapWalk number is_valid M C E
+  IsMapWalk-Extracts f g W M i j r C E step own old =
+      let len = length-ExtractsBehind R f g W M i j r step in
+      record {
+        capacity = old.capacity;
+        own = own;
+        distinct = λ k.
+            let count = sum_by-ExtractsBehind R (λ (p : K × V). cond (same_key number k p.0) 1 0) (λ f p b g q call. ap (λ h. cond (same_key number k h) 1 0) (same f p b g q call)) f g W M i j r step in
+            let once = old.distinct k in omega (arith, count, once);
+        keys = All-ExtractsBehind R (λ p. is_valid p.0) (λ f p b g q call is. subst is_valid (sym (same f p b g q call)) is) f g W M i j r step old.keys;
+        count = omega (arith, len, old.count);
+        factor = old.factor;
+        load = IsLoaded-fewer C (length W) (length M) E (capacity-positive C old.capacity) old.load (omega (arith, len));
+      }
+
+  -- and what a map keeps agrees
+  pub IsConsistent-Extracts : (f g : F) (W M : List (K × Kept V)) (i j : ℕ) (r : Option (K × V)) (C D E n n' most : ℕ) → ExtractsBehind R f (unkept W) i r g (unkept M) j → D ≡ C → walk_of number M D ≡ M
+      → n ≡ n' + option_len r → IsConsistent number is_valid W C E n most → IsConsistent number is_valid M D E n' most
+  IsConsistent-Extracts f g W M i j r C D E n n' most step same_size own count old = record {
+    map =
+        let own_seen : walk_of number (unkept M) D ≡ unkept M = walk_of-map_values number (λ (x : Kept V). x.value) M D ∙ ap unkept own in
+        IsMapWalk-Extracts f g (unkept W) (unkept M) i j r D E step own_seen (subst (λ m. IsMapWalk number is_valid (unkept W) m E) (sym same_size) old.map);
+    count =
+        let len = length-ExtractsBehind R f g (unkept W) (unkept M) i j r step in let before = length-unkept number W in let after = length-unkept number M in
+        omega (arith, count, old.count, len, before, after);
+    threshold = subst (λ m. IsThreshold m E most) (sym same_size) old.threshold;
+  }
+
+module _ {F X S : Type 0} (R : F → X → Bool → F → X → Type 0) (Q : F → X → Type 0) (test : S → F) (rest : S → List X) where
+  -- the closure may be called at each element that is left
+  abbrev Can : S → Type 0
+  Can s = TakesEach (λ f x (a : Bool × X) g. R f x a.0 g a.1) Q (test s) (rest s)
+
+  -- a step that removes an element leaves fewer, and the closure takes each of them
+  pub MakesProgress-ExtractsNext : (s t : S) (r : Option X) (kept : List X) → Can s → ExtractsNext R (test s) (rest s) r (test t) kept (rest t) → MakesProgress Can (λ s. at_most (length (rest s))) s r t
+  MakesProgress-ExtractsNext s t None kept takes step = record { on = λ _. tt; keeps = tt; rests = λ _. tt }
+  MakesProgress-ExtractsNext s t (Some x) kept takes step =
+      let next = TakesEach-rest R Q (test s) (test t) (rest s) kept (rest t) (Some x) takes step in
+      let len = length-ExtractsNext R (test s) (test t) (rest s) kept (rest t) (Some x) step in
+      record { on = λ _. (next, tt, omega (arith, len)); keeps = next; rests = λ _. tt }

@@ -1,0 +1,69 @@
+-- What a contract sees of pairs that a closure picks to be removed, one at a step, and of an `ExtractIf`.
+use Rattle.std.specs.Prelude.{◌≡◌, Bool, not, filter, List, [], ◌++◌, take, drop, Option, None}
+use Rattle.std.specs.Option.{option_to_list}
+use Rattle.std.proofs.Common.{◌∙◌, sym, ap, append-nil, append_assoc}
+use Rattle.std.proofs.lemmas.List.{take-append-drop}
+use Rattle.std.specs.Borrow.{GName, MutBor}
+use Rattle.std.specs.Fn.{Mut}
+use Rattle.std.specs.List.Retain.{ExtractsNext}
+use Rattle.std.specs.declared.cmp.PartialEq as eq
+use Rattle.intmap_table.specs.declared.key.IntKey as key
+use Rattle.intmap_table.specs.Picking.{AsksAt, ExtractsNext-end, ExtractsNext-filter, PicksAt}
+use Rattle.intmap_table.specs.Taking.{TakesEach}
+use Rattle.intmap_table.specs.Writes.{TakesPairMut}
+use Rattle.intmap.specs.declared.map.iter.extract.ExtractIf.{ExtractIf}
+use Rattle.intmap.specs.Map.{MapState, with_walk}
+
+module _ {K V F A : Type 0} {g : key.Ghosts K} {e : eq.Ghosts K} where
+  -- the map as it is at this moment
+  abbrev pub extracted_map : ExtractIf K V F A g e → MapState K V
+  extracted_map d = d.map.now
+
+  -- the pairs about which the closure was asked, and which stay, as it left them: the front of the map's walk
+  abbrev pub extract_kept : ExtractIf K V F A g e → List (K × V)
+  extract_kept d = take d.at.passed (extracted_map d).walk
+
+  -- the pairs about which it is still to be asked: the rest of the walk
+  abbrev pub extract_rest : ExtractIf K V F A g e → List (K × V)
+  extract_rest d = drop d.at.passed (extracted_map d).walk
+
+  -- the closure
+  abbrev pub extract_test : ExtractIf K V F A g e → F
+  extract_test d = d.test
+
+  -- the name of the reference to the map
+  abbrev pub extract_lender : ExtractIf K V F A g e → GName
+  extract_lender d = d.map.ghost_name
+
+  module _ (m : Mut F (K × (MutBor V × Unit {0})) (Bool × (MutBor V × Unit {0}))) where
+    -- the closure may be called at each pair that is left
+    abbrev pub CanExtract : ExtractIf K V F A g e → Type 0
+    CanExtract d = TakesEach (AsksAt m) (TakesPairMut m) (extract_test d) (extract_rest d)
+
+    -- `next` asked about the pairs that were left, up to the first that the closure picked, and took that out of the map, which is the same but for its walk
+    abbrev pub Extracts : ExtractIf K V F A g e → Option (K × V) → ExtractIf K V F A g e → Type 0
+    Extracts d r rest = ((kept : List (K × V)) × ExtractsNext (PicksAt m) (extract_test d) (extract_rest d) r (extract_test rest) kept (extract_rest rest)
+        × (extract_kept rest ≡ extract_kept d ++ kept))
+        × (extract_lender rest ≡ extract_lender d)
+        × (extracted_map rest ≡ with_walk (extracted_map d) (extracted_map rest).walk)
+
+    -- a step that removes none goes to the end of the walk, so all pairs that the map has were kept
+    pub Extracts-end : (d rest : ExtractIf K V F A g e) → Extracts d None rest → (extract_rest rest ≡ []) × (extract_kept rest ≡ (extracted_map rest).walk)
+    Extracts-end d rest step =
+        let none = ExtractsNext-end (PicksAt m) (extract_test d) (extract_test rest) (extract_rest d) step.0.0 (extract_rest rest) step.0.1 in
+        (none, sym (append-nil (extract_kept rest)) ∙ ap (λ Z. extract_kept rest ++ Z) (sym none) ∙ take-append-drop rest.at.passed (extracted_map rest).walk)
+
+    -- a step where each answer is that of a test of the pair alone, no value is written, and `Own` holds of the closure throughout: the removed pair is the first
+    -- of those left that pass, those that don't are the same before and behind it, and `Own` holds behind it
+    pub Extracts-filter : (Own : F → Type 0) (test : K × V → Bool) → ((f : F) (p : K × V) (b : Bool) (h : F) (q : K × V) → Own f → PicksAt m f p b h q → (b ≡ test p) × (q ≡ p) × Own h)
+        → (d rest : ExtractIf K V F A g e) (r : Option (K × V)) → Own (extract_test d) → Extracts d r rest
+        → (filter test (extract_rest d) ≡ option_to_list r ++ filter test (extract_rest rest))
+        × (extract_kept d ++ filter (λ p. not (test p)) (extract_rest d) ≡ extract_kept rest ++ filter (λ p. not (test p)) (extract_rest rest))
+        × Own (extract_test rest)
+    Extracts-filter Own test each d rest r own step =
+        let told = ExtractsNext-filter (PicksAt m) Own test each (extract_test d) (extract_test rest) (extract_rest d) step.0.0 (extract_rest rest) r own step.0.1 in (
+          told.0,
+          ap (λ Z. extract_kept d ++ Z) told.1 ∙ sym (append_assoc (extract_kept d) step.0.0 (filter (λ p. not (test p)) (extract_rest rest)))
+              ∙ ap (λ Z. Z ++ filter (λ p. not (test p)) (extract_rest rest)) (sym step.0.2),
+          told.2,
+        )

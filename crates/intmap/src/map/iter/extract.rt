@@ -1,0 +1,133 @@
+//! Removal of the pairs that a closure picks, one by one.
+ghost use Rattle.std.specs.Prelude.{◌≡◌, ◌+◌, ◌≤◌, [], length, drop};
+ghost use Rattle.std.specs.Iterator.{item_count};
+ghost use Rattle.intmap_table.specs.Picking.{AsksAt, ExtractsBehind, IsReached, PicksAt};
+ghost use Rattle.intmap_table.specs.Taking.{TakesEach};
+ghost use Rattle.intmap_table.specs.Writes.{TakesPairMut};
+ghost use Rattle.intmap.specs.Map.{IsMap, with_walk};
+
+use crate::map::IntMap;
+use intmap_table::IntKey;
+use intmap_table::table::extract::Cursor;
+use std::alloc::{Allocator, Global};
+
+impl<K: IntKey, V, A: Allocator + Copy> IntMap<K, V, A> {
+    /// Takes the first pair out that the closure picks, of those from the cursor on. It moves on
+    /// to the pair behind that one.
+    fn extract_next<F: FnMut(K, &mut V) -> bool>(
+        &mut self,
+        at: &mut Cursor,
+        f: &mut F,
+    ) -> Option<(K, V)>
+        requires reached { IsReached K.number_of self.old.walk self.old.capacity
+            at.old.slot at.old.place at.old.passed }
+        requires callable { TakesEach (AsksAt F.FnMut) (TakesPairMut F.FnMut) f.old
+            (drop at.old.passed self.old.walk) }
+        ensures step { ExtractsBehind (PicksAt F.FnMut) f.old self.old.walk at.old.passed result
+            f.new self.new.walk at.new.passed }
+        ensures state { self.new ≡ with_walk self.old self.new.walk }
+        ensures reached { IsReached K.number_of self.new.walk self.new.capacity
+            at.new.slot at.new.place at.new.passed }
+        ensures valid { IsMap K.number_of K.is_valid self.old }
+        ensures valid_after { IsMap K.number_of K.is_valid self.new }
+    {
+        let Some(pair) = self.table.extract_next(at, f) else {
+            return None;
+        };
+        self.len -= 1;
+        Some(pair)
+    }
+}
+
+/// Removes the pairs of a map that a closure picks, one at each step, made by
+/// [`IntMap::extract_if`](crate::IntMap::extract_if). At every moment the map has the pairs that
+/// were kept and those that are still to be asked about, and its length counts these. If the
+/// iterator is dropped early, they stay, in their order. They also stay if it is forgotten, but no
+/// clause says that.
+pub struct ExtractIf<'a, K: IntKey, V, F, A: Allocator + Copy = Global> {
+    map: &'a mut IntMap<K, V, A>,
+    at: Cursor,
+    test: F,
+    ghost reached: { IsReached K.number_of map.now.walk map.now.capacity at.slot at.place at.passed },
+}
+
+impl<'a, K: IntKey, V: Drop, F: FnMut(K, &mut V) -> bool, A: Allocator + Copy> Iterator
+    for ExtractIf<'a, K, V, F, A> {
+    ghost use Rattle.intmap.specs.Extracting.{CanExtract, Extracts, extract_rest};
+
+    type Item = (K, V);
+
+    ghost can_next = { CanExtract F.FnMut };
+
+    ghost next_gives = { Extracts F.FnMut };
+
+    ghost remaining = { item_count extract_rest };
+
+    fn next(&mut self) -> Option<(K, V)> {
+        self.map.extract_next(&mut self.at, &mut self.test)
+    }
+
+    /// No lower bound, and the number of the pairs that are still to be asked about.
+    fn size_hint(&self) -> (usize, Option<usize>) {
+        (0, Some(self.map.len() - self.at.passed))
+    }
+}
+
+impl<'a, K: IntKey, V, F: Drop, A: Allocator + Copy> Drop for ExtractIf<'a, K, V, F, A> {
+    ghost use Rattle.intmap.specs.Extracting.{extracted_map};
+    ghost use Rattle.intmap.specs.Map.{IsMap};
+
+    fn drop(self)
+        ensures state { self.exit.0.now ≡ extracted_map self.entry }
+        ensures valid_after { IsMap K.number_of K.is_valid self.exit.0.now }
+    {
+        let ExtractIf { map, at: _, test } = self;
+        map.known();
+        drop(test);
+    }
+}
+
+impl<K: IntKey, V, A: Allocator + Copy> IntMap<K, V, A> {
+    ghost use Rattle.intmap.specs.Extracting.{CanExtract, extracted_map, extract_kept, extract_lender, extract_rest, extract_test};
+
+    /// An iterator that removes the pairs for which the closure returns true, one at each step, and
+    /// returns them, in iteration order. The closure is called with the key and a mutable reference
+    /// to the value, and may write the value. Each step asks about the pairs that are left, up to
+    /// the first that the closure picks, and no pair is asked about twice.
+    ///
+    /// The closure must be callable at these pairs in this order, each time in the state that the
+    /// call before left. Nothing is required of other keys, values and calls.
+    ///
+    /// The pairs that stay keep their order: those that the closure didn't pick have the values
+    /// that it left, and those that weren't reached stay as they are. The capacity, the load factor
+    /// and both counts stay, and the slots keep their memory. Each step moves the pairs of one slot
+    /// that stand behind the removed one up by one place. It allocates nothing and never fails.
+    ///
+    /// ```text
+    /// after insert(0, 10), insert(4, 14) and insert(8, 18) into 4 slots, where they share one:
+    /// let mut large = map.extract_if(|_, value| { *value += 1; *value > 14 });
+    /// large.next()    the pair 4 and 15, and then the map has 0: 11 and 8: 18
+    /// ```
+    pub fn extract_if<F: FnMut(K, &mut V) -> bool>(&mut self, test: F) -> ExtractIf<'_, K, V, F, A>
+        requires { TakesEach (AsksAt F.FnMut) (TakesPairMut F.FnMut) test self.old.walk }
+        ensures lender { extract_lender result ≡ self.entry.ghost_name }
+        ensures state { extracted_map result ≡ self.old }
+        ensures test { extract_test result ≡ test }
+        ensures kept { extract_kept result ≡ [] }
+        ensures left { extract_rest result ≡ self.old.walk }
+        ensures callable { CanExtract F.FnMut result }
+        ensures valid { IsMap K.number_of K.is_valid self.old }
+    {
+        self.known();
+        let at = Cursor {
+            slot: 0,
+            place: 0,
+            passed: 0,
+        };
+        ExtractIf {
+            map: self,
+            at,
+            test,
+        }
+    }
+}

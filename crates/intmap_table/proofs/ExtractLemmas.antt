@@ -1,0 +1,255 @@
+-- What a closure that picks one element at a step leaves of lists.
+use Rattle.std.proofs.Common.{◌≡◌, ℕ, ◌+◌, ◌<◌, ◌≤◌, Bool, true, false, List, [], ◌∷◌, ◌++◌, Option, Some, None, length, map, get_or, set, take, drop, refl, sym, ap, ◌∙◌, subst, arith, append-nil, append_assoc, length-append, length-set, get_or-set_same}
+use Rattle.std.specs.Prelude.{All}
+use Rattle.std.specs.Bool.{MatchBool}
+use Rattle.std.specs.List.{sum_by}
+use Rattle.std.specs.Option.{option_len, option_map, option_to_list}
+use Rattle.std.specs.Fn.{Mut}
+use Rattle.std.specs.Borrow.{MutBor}
+use Rattle.std.specs.List.Retain.{ExtractsNext}
+use Rattle.std.proofs.lemmas.List.{drop_more, take_more_set, take-set-le, drop-set-lt, take_all, take-append-le, length-take-le}
+use Rattle.std.proofs.Math.Seq.{drop-append_seam}
+use Rattle.std.proofs.lemmas.List.{map-append, take-append-drop, take-map, drop-map}
+use Rattle.std.proofs.lemmas.List.Elements.{All-append, All-cons, All-head, All-nil, All-tail}
+use Rattle.std.proofs.lemmas.List.Sums.{sum_by-append, sum_by-cons, sum_by-take-drop}
+use Rattle.intmap_table.specs.Picking.{AsksAt, ExtractsBehind, PicksAt}
+use Rattle.intmap_table.specs.Tables.Kept.{unkept, AsksStored, PicksStored, TakesStoredMut}
+use Rattle.intmap_table.specs.Taking.{TakesEach}
+use Rattle.intmap_table.specs.Writes.{TakesPairMut}
+use Rattle.intmap_table.specs.declared.kept.Kept.{Kept}
+use Rattle.intmap_table.proofs.TakingLemmas.{TakesEach-map, TakesEach-next}
+
+module _ {X : Type 0} (i : ℕ) (xs ys : List X) (within : i ≤ length xs) where
+  -- the first i elements and others behind them
+  pub take-cut : take i (take i xs ++ ys) ≡ take i xs
+  take-cut = let n : length (take i xs) ≡ i = length-take-le i xs within in take-append-le i (take i xs) ys (omega (arith, n)) ∙ take_all i (take i xs) (omega (arith, n))
+
+  pub drop-cut : drop i (take i xs ++ ys) ≡ ys
+  drop-cut = let n : length (take i xs) ≡ i = length-take-le i xs within in subst (λ m. drop m (take i xs ++ ys) ≡ ys) n (drop-append_seam (take i xs) ys)
+
+module _ {X : Type 0} (ps qs : List X) (i : ℕ) (q : X) (left : qs ≡ set ps i q) where
+  -- an element that was written leaves those behind it
+  pub drop-written : drop (i + 1) qs ≡ drop (i + 1) ps
+  drop-written = ap (drop (i + 1)) left ∙ drop-set-lt (i + 1) ps i q (omega arith)
+
+  -- and their number
+  pub length-written : length qs ≡ length ps
+  length-written = ap length left ∙ length-set ps i q
+
+module _ {F X : Type 0} (R : F → X → Bool → F → X → Type 0) where
+  -- a step through L behind D is one through L₀ behind D₀
+  abbrev pub StepsTo : F → List X → List X → F → List X → List X → Type 0
+  StepsTo f₀ D₀ L₀ f D L = (r : Option X) (g : F) (kept rest : List X) → ExtractsNext R f L r g kept rest → (k₀ : List X) × ExtractsNext R f₀ L₀ r g k₀ rest × (D ++ kept ≡ D₀ ++ k₀)
+
+  pub StepsTo-start : (f : F) (D L : List X) → StepsTo f D L f D L
+  StepsTo-start f D L r g kept rest step = (kept, step, refl)
+
+  module _ (f₀ f h : F) (D₀ L₀ D L : List X) (x y : X) (leads : StepsTo f₀ D₀ L₀ f D (x ∷ L)) where
+    -- the first element isn't picked
+    pub StepsTo-keeps : R f x false h y → StepsTo f₀ D₀ L₀ h (D ++ y ∷ []) L
+    StepsTo-keeps call r g kept rest step =
+        let first = leads r g (y ∷ kept) rest (false, h, y, call, (kept, step, refl)) in
+        (first.0, first.1, append_assoc D (y ∷ []) kept ∙ first.2)
+
+    -- the first element is picked
+    pub StepsTo-picks : R f x true h y → (k₀ : List X) × ExtractsNext R f₀ L₀ (Some y) h k₀ L × (D ≡ D₀ ++ k₀)
+    StepsTo-picks call =
+        let last = leads (Some y) h [] L (true, h, y, call, (refl, refl, refl, refl)) in
+        (last.0, last.1, sym (append-nil D) ∙ last.2)
+
+  -- no element is left
+  pub StepsTo-end : (f₀ f : F) (D₀ L₀ D L : List X) → L ≡ [] → StepsTo f₀ D₀ L₀ f D L → (k₀ : List X) × ExtractsNext R f₀ L₀ None f k₀ L × (D ≡ D₀ ++ k₀)
+  StepsTo-end f₀ f D₀ L₀ D L none leads =
+      let last = leads None f [] L (subst (λ Z. ExtractsNext R f Z None f [] Z) (sym none) (refl, refl, refl, refl)) in
+      (last.0, last.1, sym (append-nil D) ∙ last.2)
+
+  -- the element at place i, which R left as q
+  module _ (f₀ f h : F) (D₀ L₀ ps qs : List X) (i : ℕ) (q : X) (below : i < length ps) (left : qs ≡ set ps i q) (leads : StepsTo f₀ D₀ L₀ f (take i ps) (drop i ps)) where
+    cut : StepsTo f₀ D₀ L₀ f (take i ps) (get_or ps i q ∷ drop (i + 1) ps)
+    cut = subst (λ Z. StepsTo f₀ D₀ L₀ f (take i ps) Z) (drop_more ps i q below) leads
+
+    behind : drop (i + 1) qs ≡ drop (i + 1) ps
+    behind = drop-written ps qs i q left
+
+    -- it isn't picked
+    pub StepsTo-stays : R f (get_or ps i q) false h q → StepsTo f₀ D₀ L₀ h (take (i + 1) qs) (drop (i + 1) qs)
+    StepsTo-stays call =
+        let on : take (i + 1) qs ≡ take i ps ++ q ∷ [] = ap (take (i + 1)) left ∙ take_more_set ps i q below in
+        subst (λ Z. StepsTo f₀ D₀ L₀ h Z (drop (i + 1) qs)) (sym on)
+        (subst (λ Z. StepsTo f₀ D₀ L₀ h (take i ps ++ q ∷ []) Z) (sym behind) (StepsTo-keeps f₀ f h D₀ L₀ (take i ps) (drop (i + 1) ps) (get_or ps i q) q cut call))
+
+    -- it is picked, and removed
+    pub StepsTo-goes : R f (get_or ps i q) true h q → (x : X) (M : List X) → x ≡ get_or qs i x → M ≡ take i qs ++ drop (i + 1) qs
+        → (k₀ : List X) × ExtractsNext R f₀ L₀ (Some x) h k₀ (drop i M) × (take i M ≡ D₀ ++ k₀)
+    StepsTo-goes call x M here removed =
+        let within : i ≤ length qs = omega (arith, below, length-written ps qs i q left) in
+        let same : x ≡ q = here ∙ ap (λ Z. get_or Z i x) left ∙ get_or-set_same ps i q x below in
+        let front : take i M ≡ take i ps = ap (take i) removed ∙ take-cut i qs (drop (i + 1) qs) within ∙ ap (take i) left ∙ take-set-le i ps i q (omega arith) in
+        let back : drop i M ≡ drop (i + 1) ps = ap (drop i) removed ∙ drop-cut i qs (drop (i + 1) qs) within ∙ behind in
+        let last = StepsTo-picks f₀ f h D₀ L₀ (take i ps) (drop (i + 1) ps) (get_or ps i q) q cut call in
+        (last.0, subst (λ z. ExtractsNext R f₀ L₀ (Some z) h last.0 (drop i M)) (sym same) (subst (λ Z. ExtractsNext R f₀ L₀ (Some q) h last.0 Z) (sym back) last.1), front ∙ last.2)
+
+  -- none of the front is picked, so the step goes on behind it
+  pub ExtractsNext-on : (f g h : F) (xs ys ks zs kept rest : List X) (r : Option X) → ExtractsNext R f xs None g ks zs → ExtractsNext R g ys r h kept rest → ExtractsNext R f (xs ++ ys) r h (ks ++ kept) rest
+  ExtractsNext-on f g h [] ys ks zs kept rest r first more = subst (λ Z. ExtractsNext R f ys r h (Z ++ kept) rest) (sym first.2) (subst (λ z. ExtractsNext R z ys r h kept rest) first.1 more)
+  ExtractsNext-on f g h (x ∷ xs) ys ks zs kept rest r first more =
+      (first.0, first.1, first.2, first.3, either first.0 first.4 (λ k step. ExtractsNext-on first.1 g h xs ys k zs kept rest r step more))
+    where
+      either : (b : Bool) → MatchBool b ((None ≡ Some first.2) × (g ≡ first.1) × (ks ≡ []) × (zs ≡ xs)) ((k : List X) × ExtractsNext R first.1 xs None g k zs × (ks ≡ first.2 ∷ k))
+          → ((k : List X) → ExtractsNext R first.1 xs None g k zs → ExtractsNext R first.1 (xs ++ ys) r h (k ++ kept) rest)
+          → MatchBool b ((r ≡ Some first.2) × (h ≡ first.1) × (ks ++ kept ≡ []) × (rest ≡ xs ++ ys)) ((k : List X) × ExtractsNext R first.1 (xs ++ ys) r h k rest × (ks ++ kept ≡ first.2 ∷ k))
+      either true m on = let no : ◌≡◌ {A = Option X} None (Some first.2) = m.0 in cc
+      either false m on = (m.0 ++ kept, on m.0 m.1, ap (λ Z. Z ++ kept) m.2)
+
+  -- one of the front is picked, so what stands behind the front stays
+  pub ExtractsNext-stop : (f g : F) (xs ys ks zs : List X) (z : X) → ExtractsNext R f xs (Some z) g ks zs → ExtractsNext R f (xs ++ ys) (Some z) g ks (zs ++ ys)
+  ExtractsNext-stop f g [] ys ks zs z first = let no : ◌≡◌ {A = Option X} (Some z) None = first.0 in cc
+  ExtractsNext-stop f g (x ∷ xs) ys ks zs z first =
+      (first.0, first.1, first.2, first.3, either first.0 first.4 (λ k step. ExtractsNext-stop first.1 g xs ys k zs z step))
+    where
+      either : (b : Bool) → MatchBool b ((Some z ≡ Some first.2) × (g ≡ first.1) × (ks ≡ []) × (zs ≡ xs)) ((k : List X) × ExtractsNext R first.1 xs (Some z) g k zs × (ks ≡ first.2 ∷ k))
+          → ((k : List X) → ExtractsNext R first.1 xs (Some z) g k zs → ExtractsNext R first.1 (xs ++ ys) (Some z) g k (zs ++ ys))
+          → MatchBool b ((Some z ≡ Some first.2) × (g ≡ first.1) × (ks ≡ []) × (zs ++ ys ≡ xs ++ ys)) ((k : List X) × ExtractsNext R first.1 (xs ++ ys) (Some z) g k (zs ++ ys) × (ks ≡ first.2 ∷ k))
+      either true m on = (m.0, m.1, m.2, ap (λ Z. Z ++ ys) m.3)
+      either false m on = (m.0, on m.0 m.1, m.2)
+
+  -- a step through the front of what is left, where it picks none
+  pub StepsTo-on : (f₀ f h : F) (D₀ L₀ D xs ys ks zs : List X) → StepsTo f₀ D₀ L₀ f D (xs ++ ys) → ExtractsNext R f xs None h ks zs → StepsTo f₀ D₀ L₀ h (D ++ ks) ys
+  StepsTo-on f₀ f h D₀ L₀ D xs ys ks zs leads first r g kept rest more =
+      let both = leads r g (ks ++ kept) rest (ExtractsNext-on f h g xs ys ks zs kept rest r first more) in
+      (both.0, both.1, append_assoc D ks kept ∙ both.2)
+
+  -- and where it picks one
+  pub StepsTo-stop : (f₀ f h : F) (D₀ L₀ D xs ys ks zs : List X) (z : X) → StepsTo f₀ D₀ L₀ f D (xs ++ ys) → ExtractsNext R f xs (Some z) h ks zs
+      → (k₀ : List X) × ExtractsNext R f₀ L₀ (Some z) h k₀ (zs ++ ys) × (D ++ ks ≡ D₀ ++ k₀)
+  StepsTo-stop f₀ f h D₀ L₀ D xs ys ks zs z leads first = leads (Some z) h ks (zs ++ ys) (ExtractsNext-stop f h xs ys ks zs z first)
+
+  -- what the closure takes of the elements before a step it takes of those that are left
+  pub TakesEach-rest : (Q : F → X → Type 0) (f g : F) (L kept rest : List X) (r : Option X) → TakesEach (λ f x (a : Bool × X) g. R f x a.0 g a.1) Q f L → ExtractsNext R f L r g kept rest
+      → TakesEach (λ f x (a : Bool × X) g. R f x a.0 g a.1) Q g rest
+  TakesEach-rest Q f g [] kept rest r takes e = subst (λ Z. TakesEach (λ f x (a : Bool × X) g. R f x a.0 g a.1) Q g Z) (sym e.3) (subst (λ h. TakesEach (λ f x (a : Bool × X) g. R f x a.0 g a.1) Q h []) (sym e.1) takes)
+  TakesEach-rest Q f g (x ∷ L) kept rest r takes e =
+      let next = TakesEach-next (λ f x (a : Bool × X) g. R f x a.0 g a.1) Q f e.1 x (e.0, e.2) L takes e.3 in
+      either e.0 e.4 next (λ k step. TakesEach-rest Q e.1 g L k rest r next step)
+    where
+      Takes : F → List X → Type 0
+      Takes = TakesEach (λ f x (a : Bool × X) g. R f x a.0 g a.1) Q
+
+      either : (b : Bool) → MatchBool b ((r ≡ Some e.2) × (g ≡ e.1) × (kept ≡ []) × (rest ≡ L)) ((k : List X) × ExtractsNext R e.1 L r g k rest × (kept ≡ e.2 ∷ k)) → Takes e.1 L
+          → ((k : List X) → ExtractsNext R e.1 L r g k rest → Takes g rest) → Takes g rest
+      either true m next on = subst (λ Z. Takes g Z) (sym m.3) (subst (λ h. Takes h L) (sym m.1) next)
+      either false m next on = on m.0 m.1
+
+  -- and where none is picked, of those behind
+  pub TakesEach-on : (Q : F → X → Type 0) (f g : F) (xs ys kept rest : List X) → TakesEach (λ f x (a : Bool × X) g. R f x a.0 g a.1) Q f (xs ++ ys) → ExtractsNext R f xs None g kept rest
+      → TakesEach (λ f x (a : Bool × X) g. R f x a.0 g a.1) Q g ys
+  TakesEach-on Q f g [] ys kept rest takes e = subst (λ h. TakesEach (λ f x (a : Bool × X) g. R f x a.0 g a.1) Q h ys) (sym e.1) takes
+  TakesEach-on Q f g (x ∷ xs) ys kept rest takes e =
+      let next = TakesEach-next (λ f x (a : Bool × X) g. R f x a.0 g a.1) Q f e.1 x (e.0, e.2) (xs ++ ys) takes e.3 in
+      either e.0 e.4 (λ k step. TakesEach-on Q e.1 g xs ys k rest next step)
+    where
+      Takes : F → List X → Type 0
+      Takes = TakesEach (λ f x (a : Bool × X) g. R f x a.0 g a.1) Q
+
+      either : (b : Bool) → MatchBool b ((None ≡ Some e.2) × (g ≡ e.1) × (kept ≡ []) × (rest ≡ xs)) ((k : List X) × ExtractsNext R e.1 xs None g k rest × (kept ≡ e.2 ∷ k))
+          → ((k : List X) → ExtractsNext R e.1 xs None g k rest → Takes g ys) → Takes g ys
+      either true m on = let no : ◌≡◌ {A = Option X} None (Some e.2) = m.0 in cc
+      either false m on = on m.0 m.1
+
+  -- a weight that R leaves alone is that of what stays and of what is removed
+  module _ (w : X → ℕ) (same : (f : F) (x : X) (b : Bool) (g : F) (y : X) → R f x b g y → w y ≡ w x) where
+    pub sum_by-ExtractsNext : (f g : F) (L kept rest : List X) (r : Option X) → ExtractsNext R f L r g kept rest → sum_by w L ≡ sum_by w kept + sum_by w (option_to_list r) + sum_by w rest
+    sum_by-ExtractsNext f g [] kept rest r e = (λ i. sum_by w (sym e.2 i) + sum_by w (option_to_list (sym e.0 i)) + sum_by w (sym e.3 i))
+    sum_by-ExtractsNext f g (x ∷ L) kept rest r e = either e.0 e.4 (λ k step. sum_by-ExtractsNext e.1 g L k rest r step)
+      where
+        here : sum_by w (x ∷ L) ≡ w e.2 + sum_by w L
+        here = let cons = sum_by-cons w x L in let is = same f x e.0 e.1 e.2 e.3 in omega (arith, cons, is)
+
+        either : (b : Bool) → MatchBool b ((r ≡ Some e.2) × (g ≡ e.1) × (kept ≡ []) × (rest ≡ L)) ((k : List X) × ExtractsNext R e.1 L r g k rest × (kept ≡ e.2 ∷ k))
+            → ((k : List X) → ExtractsNext R e.1 L r g k rest → sum_by w L ≡ sum_by w k + sum_by w (option_to_list r) + sum_by w rest) → sum_by w (x ∷ L) ≡ sum_by w kept + sum_by w (option_to_list r) + sum_by w rest
+        either true m on =
+            let none = ap (sum_by w) m.2 in let one = ap (λ o. sum_by w (option_to_list o)) m.0 in let cons = sum_by-cons w e.2 [] in let left = ap (sum_by w) m.3 in
+            omega (arith, here, none, one, cons, left)
+        either false m on = let more = on m.0 m.1 in let k = ap (sum_by w) m.2 in let cons = sum_by-cons w e.2 m.0 in omega (arith, here, more, k, cons)
+
+    pub sum_by-ExtractsBehind : (f g : F) (L M : List X) (i j : ℕ) (r : Option X) → ExtractsBehind R f L i r g M j → sum_by w L ≡ sum_by w M + sum_by w (option_to_list r)
+    sum_by-ExtractsBehind f g L M i j r e =
+        let old = sum_by-take-drop w L i in let new = sum_by-take-drop w M j in
+        let step = sum_by-ExtractsNext f g (drop i L) e.0 (drop j M) r e.1 in
+        let front = ap (sum_by w) e.2 ∙ sum_by-append w (take i L) e.0 in
+        omega (arith, old, new, step, front)
+
+  -- no element comes or goes but the removed one
+  pub length-ExtractsNext : (f g : F) (L kept rest : List X) (r : Option X) → ExtractsNext R f L r g kept rest → length L ≡ length kept + option_len r + length rest
+  length-ExtractsNext f g [] kept rest r e = (λ i. length (sym e.2 i) + option_len (sym e.0 i) + length (sym e.3 i))
+  length-ExtractsNext f g (x ∷ L) kept rest r e = either e.0 e.4 (λ k step. length-ExtractsNext e.1 g L k rest r step)
+    where
+      either : (b : Bool) → MatchBool b ((r ≡ Some e.2) × (g ≡ e.1) × (kept ≡ []) × (rest ≡ L)) ((k : List X) × ExtractsNext R e.1 L r g k rest × (kept ≡ e.2 ∷ k))
+          → ((k : List X) → ExtractsNext R e.1 L r g k rest → length L ≡ length k + option_len r + length rest) → length (x ∷ L) ≡ length kept + option_len r + length rest
+      either true m on = let none = ap length m.2 in let one = ap option_len m.0 in let left = ap length m.3 in omega (arith, none, one, left)
+      either false m on = let more = on m.0 m.1 in let k = ap length m.2 in omega (arith, more, k)
+
+  pub length-ExtractsBehind : (f g : F) (L M : List X) (i j : ℕ) (r : Option X) → ExtractsBehind R f L i r g M j → length L ≡ length M + option_len r
+  length-ExtractsBehind f g L M i j r e =
+      let old = ap length (take-append-drop i L) in let old_parts = length-append (take i L) (drop i L) in
+      let new = ap length (take-append-drop j M) in let new_parts = length-append (take j M) (drop j M) in
+      let step = length-ExtractsNext f g (drop i L) e.0 (drop j M) r e.1 in
+      let front = ap length e.2 in let front_parts = length-append (take i L) e.0 in
+      omega (arith, old, old_parts, new, new_parts, step, front, front_parts)
+
+  -- what holds of all elements, and R leaves, holds of those that stay
+  module _ (P : X → Type 0) (same : (f : F) (x : X) (b : Bool) (g : F) (y : X) → R f x b g y → P x → P y) where
+    All-ExtractsNext : (f g : F) (L kept rest : List X) (r : Option X) → ExtractsNext R f L r g kept rest → All P L → All P (kept ++ rest)
+    All-ExtractsNext f g [] kept rest r e all = subst (All P) (sym (λ i. e.2 i ++ e.3 i)) (All-nil P)
+    All-ExtractsNext f g (x ∷ L) kept rest r e all = either e.0 e.4 (λ k step. All-ExtractsNext e.1 g L k rest r step (All-tail P x L all))
+      where
+        either : (b : Bool) → MatchBool b ((r ≡ Some e.2) × (g ≡ e.1) × (kept ≡ []) × (rest ≡ L)) ((k : List X) × ExtractsNext R e.1 L r g k rest × (kept ≡ e.2 ∷ k))
+            → ((k : List X) → ExtractsNext R e.1 L r g k rest → All P (k ++ rest)) → All P (kept ++ rest)
+        either true m on = subst (All P) (sym (λ i. m.2 i ++ m.3 i)) (All-tail P x L all)
+        either false m on = subst (λ Z. All P (Z ++ rest)) (sym m.2) (All-cons P e.2 (m.0 ++ rest) (same f x e.0 e.1 e.2 e.3 (All-head P x L all)) (on m.0 m.1))
+
+    pub All-ExtractsBehind : (f g : F) (L M : List X) (i j : ℕ) (r : Option X) → ExtractsBehind R f L i r g M j → All P L → All P M
+    All-ExtractsBehind f g L M i j r e all =
+        let both : All P (take i L ++ drop i L) = subst (All P) (sym (take-append-drop i L)) all in
+        let stay = All-append P (take i L) (e.0 ++ drop j M) (All-front (take i L) (drop i L) both) (All-ExtractsNext f g (drop i L) e.0 (drop j M) r e.1 (All-back (take i L) (drop i L) both)) in
+        subst (All P) (sym (append_assoc (take i L) e.0 (drop j M)) ∙ ap (λ Z. Z ++ drop j M) (sym e.2) ∙ take-append-drop j M) stay
+      where
+        All-front : (xs ys : List X) → All P (xs ++ ys) → All P xs
+        All-front [] ys all = All-nil P
+        All-front (x ∷ xs) ys all = All-cons P x xs (All-head P x (xs ++ ys) all) (All-front xs ys (All-tail P x (xs ++ ys) all))
+
+        All-back : (xs ys : List X) → All P (xs ++ ys) → All P ys
+        All-back [] ys all = all
+        All-back (x ∷ xs) ys all = All-back xs ys (All-tail P x (xs ++ ys) all)
+
+-- elements that are seen through h
+module _ {F X Y : Type 0} (R : F → Y → Bool → F → Y → Type 0) (h : X → Y) where
+  pub ExtractsNext-map : (f g : F) (L kept rest : List X) (r : Option X) → ExtractsNext (λ f x b g y. R f (h x) b g (h y)) f L r g kept rest → ExtractsNext R f (map h L) (option_map h r) g (map h kept) (map h rest)
+  ExtractsNext-map f g [] kept rest r e = (ap (option_map h) e.0, e.1, ap (map h) e.2, ap (map h) e.3)
+  ExtractsNext-map f g (x ∷ L) kept rest r e = (e.0, e.1, h e.2, e.3, either e.0 e.4 (λ k step. ExtractsNext-map e.1 g L k rest r step))
+    where
+      either : (b : Bool) → MatchBool b ((r ≡ Some e.2) × (g ≡ e.1) × (kept ≡ []) × (rest ≡ L)) ((k : List X) × ExtractsNext (λ f x b g y. R f (h x) b g (h y)) e.1 L r g k rest × (kept ≡ e.2 ∷ k))
+          → ((k : List X) → ExtractsNext (λ f x b g y. R f (h x) b g (h y)) e.1 L r g k rest → ExtractsNext R e.1 (map h L) (option_map h r) g (map h k) (map h rest))
+          → MatchBool b ((option_map h r ≡ Some (h e.2)) × (g ≡ e.1) × (map h kept ≡ []) × (map h rest ≡ map h L)) ((k : List Y) × ExtractsNext R e.1 (map h L) (option_map h r) g k (map h rest) × (map h kept ≡ h e.2 ∷ k))
+      either true m on = (ap (option_map h) m.0, m.1, ap (map h) m.2, ap (map h) m.3)
+      either false m on = (map h m.0, on m.0 m.1, ap (map h) m.2)
+
+  pub ExtractsBehind-map : (f g : F) (L M : List X) (i j : ℕ) (r : Option X) → ExtractsBehind (λ f x b g y. R f (h x) b g (h y)) f L i r g M j → ExtractsBehind R f (map h L) i (option_map h r) g (map h M) j
+  ExtractsBehind-map f g L M i j r e =
+      let step = ExtractsNext-map f g (drop i L) e.0 (drop j M) r e.1 in (
+        map h e.0,
+        subst (λ Z. ExtractsNext R f Z (option_map h r) g (map h e.0) (drop j (map h M))) (sym (drop-map h i L)) (subst (λ Z. ExtractsNext R f (map h (drop i L)) (option_map h r) g (map h e.0) Z) (sym (drop-map h j M)) step),
+        take-map h j M ∙ ap (map h) e.2 ∙ map-append h (take i L) e.0 ∙ ap (λ Z. Z ++ map h e.0) (sym (take-map h i L)),
+      )
+
+module _ {K V : Type 0} {F : Type 0} (m : Mut F (K × (MutBor V × Unit {0})) (Bool × (MutBor V × Unit {0}))) where
+  -- the same with the values as callers see them
+  pub ExtractsBehind-unkept : (f g : F) (L M : List (K × Kept V)) (i j : ℕ) (r : Option (K × Kept V)) → ExtractsBehind (PicksStored m) f L i r g M j
+      → ExtractsBehind (PicksAt m) f (unkept L) i (option_map (λ p. (p.0, p.1.value)) r) g (unkept M) j
+  ExtractsBehind-unkept f g L M i j r e = ExtractsBehind-map (PicksAt m) (λ p. (p.0, p.1.value)) f g L M i j r e
+
+  -- and takes each pair behind the first i as it is stored, if it does as callers see it
+  pub TakesEach-stored_behind : (f : F) (L : List (K × Kept V)) (i : ℕ) → TakesEach (AsksAt m) (TakesPairMut m) f (drop i (unkept L)) → TakesEach (AsksStored m) (TakesStoredMut m) f (drop i L)
+  TakesEach-stored_behind f L i takes =
+      TakesEach-map (AsksAt m) (TakesPairMut m) (λ p. (p.0, p.1.value)) (λ a. (a.0, (a.1.0, a.1.1.value))) f (drop i L)
+      (subst (TakesEach (AsksAt m) (TakesPairMut m) f) (drop-map (λ p. (p.0, p.1.value)) i L) takes)
