@@ -14,7 +14,7 @@ use Rattle.intmap_set.proofs.ExtendLemmas.{same_key-turned}
 
 module _ {X : Type 0} where
   -- one element more is counted if it passes
-  count_by-cons : (p : X → Bool) (x : X) (xs : List X) → count_by p (x ∷ xs) ≡ cond (p x) 1 0 + count_by p xs
+  pub count_by-cons : (p : X → Bool) (x : X) (xs : List X) → count_by p (x ∷ xs) ≡ cond (p x) 1 0 + count_by p xs
   count_by-cons p x xs = sum_by-cons (λ y. cond (p y) 1 0) x xs
 
   -- of two tests of which no element passes both
@@ -32,7 +32,7 @@ module _ {X : Type 0} where
       each false false alone = refl
 
   -- where none is counted none passes
-  list_any-uncounted : (p : X → Bool) (xs : List X) → count_by p xs ≡ 0 → list_any p xs ≡ false
+  pub list_any-uncounted : (p : X → Bool) (xs : List X) → count_by p xs ≡ 0 → list_any p xs ≡ false
   list_any-uncounted p [] none = refl
   list_any-uncounted p (x ∷ xs) none = at (p x) (sym (count_by-cons p x xs) ∙ none) (list_any-uncounted p xs)
     where
@@ -52,17 +52,17 @@ module _ {X : Type 0} where
 
 module _ {K : Type 0} (number : K → ℕ) where
   -- no key comes twice
-  abbrev IsOnce : List K → Type 0
+  abbrev pub IsOnce : List K → Type 0
   IsOnce W = (k : K) → count_by (same_key number k) W ≤ 1
 
   -- counted along the pairs
-  count_by-paired : (k : K) (W : List K) → count_by (λ p. same_key number k p.0) (paired W) ≡ count_by (same_key number k) W
+  pub count_by-paired : (k : K) (W : List K) → count_by (λ p. same_key number k p.0) (paired W) ≡ count_by (same_key number k) W
   count_by-paired k [] = refl
   count_by-paired k (w ∷ W) =
       count_by-cons (λ p. same_key number k p.0) (w, tt) (paired W) ∙ ap (λ n. cond (same_key number k w) 1 0 + n) (count_by-paired k W) ∙ sym (count_by-cons (same_key number k) w W)
 
   -- distinct keys come once
-  IsOnce-distinct : (W : List K) → HasDistinctKeys number (paired W) → IsOnce W
+  pub IsOnce-distinct : (W : List K) → HasDistinctKeys number (paired W) → IsOnce W
   IsOnce-distinct W distinct k = let is = count_by-paired k W in let most = distinct k in omega (arith, is, most)
 
   -- the members of V that W has are as many as those of W that V has

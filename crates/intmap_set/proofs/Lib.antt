@@ -5,3 +5,5 @@ pub mod EqualLemmas
 pub mod RetainLemmas
 pub mod ExtendLemmas
 pub mod CountLemmas
+pub mod DistinctLemmas
+pub mod FrontLemmas

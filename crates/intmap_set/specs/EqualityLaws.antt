@@ -10,7 +10,7 @@ use Rattle.intmap_set.specs.Sets.{SetState, holds}
 use Rattle.intmap_set.specs.Combined.{IsSubset, HaveSameMembers, sets_equal}
 
 -- what holds of the second holds of either
-or-second : (b c : Bool) → c ≡ true → (b || c) ≡ true
+pub or-second : (b c : Bool) → c ≡ true → (b || c) ≡ true
 or-second true c is = refl
 or-second false c is = is
 

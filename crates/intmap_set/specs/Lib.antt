@@ -3,3 +3,4 @@ pub mod Combined
 pub mod EqualityLaws
 pub mod Retaining
 pub mod Extending
+pub mod Draining

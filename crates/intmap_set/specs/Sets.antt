@@ -4,6 +4,7 @@ use Rattle.std.specs.List.{list_any}
 use Rattle.std.specs.Map.{keys_of}
 use Rattle.intmap.specs.Classes.{same_key}
 use Rattle.intmap.specs.Map as of_map
+use Rattle.intmap.specs.Walk as of_walk
 
 -- the members in the order of the walk, the number of slots, and the load factor in thousandths
 pub record SetState (K : Type 0) : Type 0 where
@@ -59,3 +60,7 @@ module _ {K : Type 0} (number : K → ℕ) where
   -- the set in D slots
   abbrev pub in_slots : SetState K → ℕ → SetState K
   in_slots s D = set_of (of_map.in_slots number (as_map s) D)
+
+  -- no slot before slot n holds a member
+  abbrev pub ArePassed : SetState K → ℕ → Type 0
+  ArePassed s n = of_walk.ArePassed number (paired s.walk) s.capacity n

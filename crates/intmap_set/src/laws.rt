@@ -6,7 +6,8 @@
 ghost use Rattle.std.specs.Prelude.{◌≡◌, ◌+◌, ◌↔◌, List, IsTrue, length};
 ghost use Rattle.intmap.specs.Bindings.{HasDistinctKeys};
 ghost use Rattle.intmap_set.specs.Sets.{SetState, paired};
-ghost use Rattle.intmap_set.specs.Combined.{IsSubset, HaveSameMembers, IsDifference, IsIntersection, IsUnion, IsSymmetricDifference, sets_equal, difference_of, intersection_of, union_of, symmetric_difference_of};
+ghost use Rattle.intmap_set.specs.Combined.{IsSubset, IsDisjoint, HaveSameMembers, IsDifference, IsIntersection, IsUnion, IsSymmetricDifference, sets_equal, difference_of, intersection_of, union_of, symmetric_difference_of};
+ghost use Rattle.intmap_set.specs.Extending.{new_keys};
 
 use intmap::IntKey;
 
@@ -50,4 +51,29 @@ pub fn union_and_intersection_count_both<K: IntKey>()
         → HasDistinctKeys K.number_of (paired W)
         → length (union_of K.number_of V W) + length (intersection_of K.number_of V W)
         ≡ length V + length W }
+{}
+
+/// The difference, the intersection, the union and the symmetric difference of two sets have each key
+/// once, since each of the sets has.
+pub fn combined_keys_are_distinct<K: IntKey>()
+    ensures difference { (V W : List K) → HasDistinctKeys K.number_of (paired V)
+        → HasDistinctKeys K.number_of (paired W)
+        → HasDistinctKeys K.number_of (paired (difference_of K.number_of V W)) }
+    ensures intersection { (V W : List K) → HasDistinctKeys K.number_of (paired V)
+        → HasDistinctKeys K.number_of (paired W)
+        → HasDistinctKeys K.number_of (paired (intersection_of K.number_of V W)) }
+    ensures union { (V W : List K) → HasDistinctKeys K.number_of (paired V)
+        → HasDistinctKeys K.number_of (paired W)
+        → HasDistinctKeys K.number_of (paired (union_of K.number_of V W)) }
+    ensures symmetric_difference { (V W : List K) → HasDistinctKeys K.number_of (paired V)
+        → HasDistinctKeys K.number_of (paired W)
+        → HasDistinctKeys K.number_of (paired (symmetric_difference_of K.number_of V W)) }
+{}
+
+/// Where keys are distinct and none of them is a member, each is new. So a set that
+/// [`IntSet::from_iter`](crate::IntSet::from_iter) makes of a union has exactly as many members as the
+/// list of the union. It is the same with the other lists of two sets.
+pub fn distinct_keys_are_new<K: IntKey>()
+    ensures { (W ks : List K) → IsDisjoint K.number_of ks W
+        → HasDistinctKeys K.number_of (paired ks) → new_keys K.number_of W ks ≡ ks }
 {}

@@ -4,9 +4,11 @@ ghost use Rattle.std.specs.Prelude.{◌≡◌};
 ghost use Rattle.intmap_set.specs.Sets.{IsSet};
 
 mod combined;
+mod drain;
 
 use crate::set::IntSet;
 pub use combined::{Difference, Intersection, SymmetricDifference, Union};
+pub use drain::Drain;
 use intmap::IntKey;
 pub use intmap::iter::{IntoKeys, Keys};
 use std::alloc::Allocator;

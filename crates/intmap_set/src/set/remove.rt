@@ -2,7 +2,8 @@
 ghost use Rattle.std.specs.Prelude.{◌≡◌, ◌+◌, ◌⊎◌, ◌≤◌, false, cond, length};
 ghost use Rattle.intmap.specs.Retaining.{Retains};
 ghost use Rattle.intmap.specs.Taking.{TakesEach};
-ghost use Rattle.intmap_set.specs.Sets.{IsSet, Updates, holds, without_key, emptied};
+ghost use Rattle.std.specs.Iterator.{YieldsFirst};
+ghost use Rattle.intmap_set.specs.Sets.{ArePassed, IsSet, Updates, holds, without_key, emptied};
 ghost use Rattle.intmap_set.specs.Retaining.{KeepsKey, TakesKey};
 
 use crate::set::IntSet;
@@ -27,6 +28,20 @@ impl<K: IntKey, A: Allocator + Copy> IntSet<K, A> {
         ensures valid_after { IsSet K.number_of K.is_valid self.new }
     {
         self.map.remove(key).is_some()
+    }
+
+    /// Takes the first member of the walk out. No slot before the place holds one; it moves on to the
+    /// slot that held the member.
+    pub(crate) fn take_front(&mut self, from: &mut usize) -> Option<K>
+        requires { ArePassed K.number_of self.old from.old }
+        ensures first { YieldsFirst (λ s. s.walk) self.old result self.new }
+        ensures state { self.new ≡ record self.old { walk = self.new.walk } }
+        ensures passed { ArePassed K.number_of self.new from.new }
+        ensures valid { IsSet K.number_of K.is_valid self.old }
+        ensures valid_after { IsSet K.number_of K.is_valid self.new }
+    {
+        let (key, ()) = self.map.take_front(from)?;
+        Some(key)
     }
 
     /// Removes all members. The capacity and the load factor stay, and the slots keep their memory

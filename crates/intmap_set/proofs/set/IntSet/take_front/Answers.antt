@@ -1,0 +1,16 @@
+use Rattle.std.proofs.Common.{refl}
+use Rattle.intmap_set.proofs.MemberLemmas.{IsSet-seen}
+use Rattle.intmap_set.proofs.FrontLemmas.{passed-seen, seen-passed}
+use Rattle.intmap_set.proofs.set.IntSet.take_front.Goals as goal
+
+pub take_front-requires : goal.take_front-requires
+take_front-requires g c = passed-seen g.K.IntKey.number_of c.self.inside.map _ c.self.view_is c.args.from.now c.requires
+
+pub returns-clause-passed : goal.returns-clause-passed
+returns-clause-passed g c = seen-passed g.K.IntKey.number_of c.take_front.new.self _ refl c.take_front.new.from c.take_front.ensures.passed
+
+pub returns-clause-valid : goal.returns-clause-valid
+returns-clause-valid g c = IsSet-seen _ _ c.self.inside.map _ c.self.view_is c.take_front.ensures.valid
+
+pub returns-clause-valid_after : goal.returns-clause-valid_after
+returns-clause-valid_after g c = IsSet-seen _ _ c.take_front.new.self _ refl c.take_front.ensures.valid_after
