@@ -6,4 +6,6 @@ pub mod Dense
 pub mod Table
 pub mod Floors
 pub mod Retained
+pub mod Scopes
 pub mod Values
+pub mod Interned

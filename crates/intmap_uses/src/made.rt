@@ -53,7 +53,8 @@ pub fn value_or<K: IntKey, V: Copy, A: Allocator + Copy>(
     key: K,
     value: V,
 ) -> Result<V, Refused<V>>
-    ensures ok { IfOk result (λ now. now ≡ unwrap_or (value_of K.number_of map.old.walk key) value) }
+    ensures ok { IfOk result
+        (λ now. now ≡ unwrap_or (value_of K.number_of map.old.walk key) value) }
     ensures value_returned { IfErr result (λ refused. refused.value ≡ value) }
 {
     Ok(*map.entry(key).or_insert_with(|| value)?)
