@@ -109,6 +109,20 @@ class PlainList:
         self.retain(lambda key, _: key not in keys)
         return taken
 
+    def extract(self, more, count):
+        """Each pair in the order of the walk is asked about, and `more` is added to its value. Takes out
+        so many of those whose value is then a multiple of 3, and asks about none behind the last."""
+        taken = []
+        for key, value in self.walk():
+            if len(taken) == count:
+                break
+            self.write(key, (value + more) & GREATEST)
+            if self.get(key) % 3 == 0:
+                taken.append((key, self.get(key)))
+        keys = {key for key, _ in taken}
+        self.retain(lambda key, _: key not in keys)
+        return taken
+
     def add_places(self, count):
         """Adds one to the first value, two to the second, and so on, of so many pairs, or of all where
         there are fewer. Answers these pairs then."""
@@ -327,6 +341,16 @@ def sum_of(pairs):
     return f"{len(pairs)} pairs, sum {total}"
 
 
+def extract_hint(it, count):
+    """How many pairs are left to be asked about once so many were taken out."""
+    asked = it.walk()
+    taken = it.extract(0, count)
+    if len(taken) < count:
+        return "(0, Some(0))"
+    at = asked.index(taken[-1]) + 1 if taken else 0
+    return f"(0, Some({len(asked) - at}))"
+
+
 def retain_alternate(it):
     asked = []
     it.retain(lambda key, _: asked.append(key) or len(asked) % 2)
@@ -421,6 +445,8 @@ CALLS = {
     ("or_insert_add", 2): lambda it, refuses, k, v: str(it.add_to(k, v, refuses)),
     ("or_insert_with", 2): lambda it, refuses, k, v: str(it.or_insert(k, v, refuses)),
     ("or_insert_with_key", 2): lambda it, refuses, k, n: str(it.or_insert(k, k + n & GREATEST, refuses)),
+    ("or_try_insert_with", 2): lambda it, refuses, k, v: str(it.or_insert(k, v, refuses)),
+    ("or_try_insert_error", 2): lambda it, _, k, n: f"error {n}" if it.get(k) is None else str(it.get(k)),
     ("or_default_add", 2): lambda it, refuses, k, n: str(it.add_to(k, n, refuses)),
     ("insert_entry", 2): lambda it, refuses, k, v: insert_entry(it, refuses, k, v),
     ("vacant_insert_entry", 2): lambda it, refuses, k, v: vacant_insert_entry(it, refuses, k, v),
@@ -463,6 +489,9 @@ CALLS = {
     ("drain", 1): lambda it, _, n: braces(it.drain(n)),
     ("drain_forget", 1): lambda it, _, n: braces(it.drain(n)),
     ("drain_sum", 0): lambda it, _: sum_of(it.drain(len(it.pairs))),
+    ("extract", 2): lambda it, _, n, m: braces(it.extract(n, m)),
+    ("extract_sum", 1): lambda it, _, n: sum_of(it.extract(n, len(it.pairs))),
+    ("extract_hint", 1): lambda it, _, n: extract_hint(it, n),
     ("iter_mut", 1): lambda it, _, n: braces(it.add_places(n)),
     ("iter_mut_forget", 1): lambda it, _, n: braces(it.add_places(n)),
     ("values_mut", 1): lambda it, _, n: str(len(it.add_places(n))),
@@ -488,7 +517,7 @@ CALLS = {
 }
 
 # those that leave a bound key, and those that write its value in its place
-for _name in ("or_insert_with", "or_insert_with_key", "vacant_insert_entry"):
+for _name in ("or_insert_with", "or_insert_with_key", "or_try_insert_with", "vacant_insert_entry"):
     CALLS[f"{_name}_many", 3] = CALLS["or_insert_many", 3]
 for _name in ("or_default", "insert_entry"):
     CALLS[f"{_name}_many", 3] = CALLS["entry_insert_many", 3]
@@ -593,6 +622,7 @@ HAND_BACK = (
     "entry_insert",
     "or_insert",
     "or_insert_with",
+    "or_try_insert_with",
     "insert_entry",
     "vacant_insert_entry",
     "and_modify",

@@ -1,13 +1,18 @@
-"""What rows of JSON and rows of sparse vectors answer by plain lists."""
+"""What rows of JSON, of sparse vectors and of sets answer by plain lists."""
 import json
 import re
 
 from lists import (
+    GREATEST,
+    GREATEST_CAPACITY,
     NoMemory,
     PlainList,
     REQUESTS_OF_A_NEW_MAP,
+    TooLarge,
     Unknown,
     armed_answer,
+    brackets,
+    keys,
     made,
     requests_of,
     sum_of,
@@ -190,3 +195,180 @@ VECTOR_CALLS = {
     ("show", 0): lambda it, _: pairs_text(it, "{", ", ", "}"),
     ("iter", 0): lambda it, _: pairs_text(it, "", " ", ""),
 }
+
+
+class Sets:
+    """Two sets as plain lists of pairs with the value 0: the one that calls are made on, and another."""
+
+    def __init__(self):
+        self.set, self.other = PlainList(), PlainList()
+        self.armed = 0
+
+    @property
+    def asked(self):
+        return self.set.asked + self.other.asked
+
+    @asked.setter
+    def asked(self, count):
+        self.set.asked, self.other.asked = count, 0
+
+    def answer(self, call):
+        """The answer to the call of a row of sets."""
+        name, *words = call.split(" ")
+        if name == "refused":
+            return self.refused(call.removeprefix("refused "))
+        if name == "arm":
+            self.armed = int(words[0])
+            return "done"
+        if name == "left":
+            return str(self.armed)
+        if name in EACH:
+            return self.insert_each(name, EACH[name](self, [int(word) for word in words]))
+        found, self.armed = armed_answer(set_answer, self, call, self.armed)
+        return found
+
+    def refused(self, call):
+        """The answer where each request of the call is refused in turn, and then none."""
+        times = requests_of(lambda it, call, _: it.answer(call), self, call)
+        found = self.answer(call)
+        return f"{times} times refused: memory, then {found}" if times else f"{found} at once"
+
+    def insert_each(self, name, members):
+        """Inserts keys in turn. The first refusal ends it, and the keys before that one stay."""
+        new = 0
+        for key in members:
+            found, self.armed = armed_answer(set_answer, self, f"insert {key}", self.armed)
+            if found.startswith("refused"):
+                return found
+            new += found == "true"
+        return f"{new} new" if name == "insert_many" else "done"
+
+    def make(self, slots, members, refuses):
+        """Puts a set with so many slots at first, and with these members, in the place of the one."""
+        if slots > GREATEST_CAPACITY:
+            raise TooLarge
+        one = made(f"with_capacity {slots}")
+        if refuses or not one:
+            raise NoMemory
+        for key in members:
+            one.insert_checked(key, 0, False)
+        one.asked += REQUESTS_OF_A_NEW_MAP
+        self.set = one
+        return "done"
+
+    def clone(self, refuses):
+        if refuses:
+            raise NoMemory
+        self.other = self.set.cloned()
+        self.other.asked = self.set.requests_of_a_clone()
+        return "done"
+
+    def swap(self):
+        self.set, self.other = self.other, self.set
+        return "done"
+
+
+def members_of(one):
+    return [key for key, _ in one.walk()]
+
+
+def difference(one, other):
+    return [key for key in members_of(one) if key not in other.place_of]
+
+
+def intersection(one, other):
+    fewer, more = (other, one) if len(other.pairs) < len(one.pairs) else (one, other)
+    return [key for key in members_of(fewer) if key in more.place_of]
+
+
+def union(one, other):
+    more, fewer = (other, one) if len(one.pairs) < len(other.pairs) else (one, other)
+    return members_of(more) + difference(fewer, more)
+
+
+def symmetric_difference(one, other):
+    return difference(one, other) + difference(other, one)
+
+
+def members_sum(members):
+    total = 0
+    for key in members:
+        total = (total * 31 + key) & GREATEST
+    return f"{len(members)} members, sum {total}"
+
+
+def retain_alternate(one):
+    kept = set(members_of(one)[::2])
+    asked = len(one.pairs)
+    one.retain(lambda key, _: key in kept)
+    return str(asked)
+
+
+def set_answer(it, call, refuses):
+    name, *words = call.split(" ")
+    numbers = [int(word) for word in words]
+    called = SET_CALLS.get((name, len(numbers))) or SET_CALLS.get((name, None))
+    if not called:
+        raise Unknown(call)
+    try:
+        return called(it, refuses, *numbers)
+    except TooLarge:
+        return "refused: too large"
+    except NoMemory:
+        return "refused: memory"
+
+
+# the calls that insert keys in turn, and which
+EACH = {
+    "extend": lambda it, numbers: numbers,
+    "extend_many": lambda it, numbers: keys(*numbers),
+    "extend_other": lambda it, _: members_of(it.other),
+    "insert_many": lambda it, numbers: keys(*numbers),
+}
+
+# the members that iterators over one or two sets give
+WALKS = {
+    "iter": lambda one, _: members_of(one),
+    "difference": difference,
+    "intersection": intersection,
+    "union": union,
+    "symmetric_difference": symmetric_difference,
+}
+
+# each other call by its name and how many numbers follow, None for any number of them
+SET_CALLS = {
+    ("new", 0): lambda it, refuses: it.make(4, [], refuses),
+    ("with_capacity", 1): lambda it, refuses, slots: it.make(slots, [], refuses),
+    ("from_iter", None): lambda it, refuses, *numbers: it.make(len(numbers), numbers, refuses),
+    ("from_iter_many", 3): lambda it, refuses, *numbers: it.make(numbers[1], keys(*numbers), refuses),
+    ("from_union", 0): lambda it, refuses: it.make(0, union(it.set, it.other), refuses),
+    ("clone", 0): lambda it, refuses: it.clone(refuses),
+    ("other", 0): lambda it, _: it.swap(),
+    ("drain", 1): lambda it, _, n: brackets(k for k, _ in it.set.drain(n)),
+    ("into_iter", 1): lambda it, refuses, n: brackets(k for k, _ in it.set.into_walk(refuses)[:n]),
+    ("into_sum", 0): lambda it, refuses: members_sum([k for k, _ in it.set.into_walk(refuses)]),
+    ("insert", 1): lambda it, refuses, k: truth(it.set.insert_checked(k, 0, refuses)),
+    ("remove", 1): lambda it, _, k: truth(it.set.remove(k) is not None),
+    ("contains", 1): lambda it, _, k: truth(k in it.set.place_of),
+    ("reserve", 1): lambda it, refuses, n: it.set.reserve(n, refuses) or "done",
+    ("clear", 0): lambda it, _: it.set.clear() or "done",
+    ("retain_odd", 0): lambda it, _: it.set.retain(lambda key, _: key % 2) or "done",
+    ("retain_above", 1): lambda it, _, n: it.set.retain(lambda key, _: key > n) or "done",
+    ("retain_alternate", 0): lambda it, _: retain_alternate(it.set),
+    ("len", 0): lambda it, _: str(len(it.set.pairs)),
+    ("is_empty", 0): lambda it, _: truth(not it.set.pairs),
+    ("capacity", 0): lambda it, _: str(it.set.slots),
+    ("state", 0): lambda it, _: f"{brackets(members_of(it.set))}, {it.set.slots} slots",
+    ("debug", 0): lambda it, _: "{" + ", ".join(map(str, members_of(it.set))) + "}",
+    ("equal", 0): lambda it, _: " ".join([truth(it.set.bindings() == it.other.bindings())] * 2),
+    ("is_subset", 0): lambda it, _: truth(not difference(it.set, it.other)),
+    ("is_superset", 0): lambda it, _: truth(not difference(it.other, it.set)),
+    ("is_disjoint", 0): lambda it, _: truth(not intersection(it.set, it.other)),
+    ("contains_many", 3): lambda it, _, *numbers: str(sum(k in it.set.place_of for k in keys(*numbers))),
+    ("remove_many", 3): lambda it, _, *numbers: str(sum(it.set.remove(k) is not None for k in keys(*numbers))),
+}
+for _name, _walk in WALKS.items():
+    SET_CALLS |= {
+        (_name, 0): lambda it, _, walk=_walk: brackets(walk(it.set, it.other)),
+        (f"{_name}_sum", 0): lambda it, _, walk=_walk: members_sum(walk(it.set, it.other)),
+    }

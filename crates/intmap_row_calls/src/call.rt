@@ -1,9 +1,10 @@
 //! One call, from its words to its answer.
 
 use crate::entries::{
-    add, insert, more_or, number_and_more, value_or_zero, write, write_by_entry, write_entry,
-    write_old,
+    add, insert, more_or, number_and_more, value_or_made, value_or_zero, write, write_by_entry,
+    write_entry, write_old, write_tried,
 };
+use crate::extracted::{extract_hint, extract_sum, extracted};
 use crate::items::{insert_checked_items, insert_items};
 use crate::iterated::{
     End, add_by_pairs, add_by_values, add_to_each, add_to_values, by_value, drained, size_hints,
@@ -36,7 +37,7 @@ pub fn answer_to(
     match numbers {
         [] => bare(out, maps, name),
         [number] => with_number(out, maps, name, *number),
-        [key, value] => with_pair(out, &mut maps.map, name, *key, *value),
+        [first, second] => with_two(out, &mut maps.map, name, *first, *second),
         _ => no_call(out),
     }
 }
@@ -187,6 +188,8 @@ fn through_front(
         "iter_mut_add" => write_number(out, u128::from(add_by_pairs(map, count))),
         "values_mut_add" => write_number(out, u128::from(add_by_values(map, count))),
         "for_each_add" => add_to_each(map, count).write(out),
+        "extract_sum" => extract_sum(out, map, count),
+        "extract_hint" => extract_hint(out, map, count),
         _ => with_key(out, map, name, count),
     }
 }
@@ -241,6 +244,20 @@ fn with_entry<K: IntKey + Display>(
     }
 }
 
+// writes the answer to a call with two numbers
+fn with_two(
+    out: &mut String,
+    map: &mut Map<'_>,
+    name: &str,
+    first: u64,
+    second: u64,
+) -> Result<(), AllocError> {
+    match name {
+        "extract" => extracted(out, map, first, second),
+        _ => with_pair(out, map, name, first, second),
+    }
+}
+
 /// Writes the answer to a call with a key and a value.
 pub fn with_pair<K: IntKey + Display>(
     out: &mut String,
@@ -283,6 +300,8 @@ fn with_entry_and_value<K: IntKey + Display>(
         "or_insert_add" => add(out, map.entry(key).or_insert(0), value),
         "or_insert_with" => add(out, map.entry(key).or_insert_with(|| value), 0),
         "or_insert_with_key" => add(out, number_and_more(map.entry(key), value), 0),
+        "or_try_insert_with" => write_tried(out, value_or_made(map.entry(key), Ok(value))),
+        "or_try_insert_error" => write_tried(out, value_or_made(map.entry(key), Err(value))),
         "or_default_add" => add(out, map.entry(key).or_default(), value),
         "insert_entry" => insert_entry(out, map, key, value),
         "vacant_insert_entry" => insert_vacant_entry(out, map, key, value),

@@ -119,3 +119,35 @@ pub fn add(
         Err(refused) => write_refusal(out, refused.cause, Some(refused.value)),
     }
 }
+
+/// Why a value that was to be made didn't get to its place.
+#[derive(Drop)]
+pub enum Failure {
+    /// It wasn't made.
+    Unmade(u64),
+    /// It was made and refused.
+    Refused(Refused<u64>),
+}
+
+impl From<Refused<u64>> for Failure {
+    fn from(refused: Refused<u64>) -> Failure {
+        Failure::Refused(refused)
+    }
+}
+
+/// The value of the key, which is one that a closure may make where it had none.
+pub fn value_or_made<'m, K: IntKey>(
+    entry: EntryOf<'m, '_, K>,
+    made: Result<u64, u64>,
+) -> Result<&'m mut u64, Failure> {
+    entry.or_try_insert_with(|| made.map_err(Failure::Unmade))
+}
+
+/// Writes a value, or the error in the place of one, or that it was refused.
+pub fn write_tried(out: &mut String, place: Result<&mut u64, Failure>) -> Result<(), AllocError> {
+    match place {
+        Ok(value) => write_number(out, *value as u128),
+        Err(Failure::Unmade(error)) => write!(out, "error {error}"),
+        Err(Failure::Refused(refused)) => write_refusal(out, refused.cause, Some(refused.value)),
+    }
+}

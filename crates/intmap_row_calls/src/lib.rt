@@ -8,6 +8,7 @@
 mod call;
 mod cell;
 mod entries;
+mod extracted;
 mod items;
 mod iterated;
 mod kept;

@@ -16,19 +16,10 @@ pub fn answer_to(
     name: &str,
     numbers: &[u64],
 ) -> Result<bool, AllocError> {
-    let alloc = *out.allocator();
+    if with_pairs(out, maps, name, numbers)? {
+        return Ok(true);
+    }
     let written = match (name, numbers) {
-        ("extend", pairs) => extended(out, &mut maps.map, pairs_of(alloc, pairs)?.into_iter()),
-        ("extend_debug", pairs) => {
-            let called = maps.map.extend(pairs_of(alloc, pairs)?.into_iter());
-            write!(out, "{called:?}")
-        }
-        ("from_iter", pairs) => made_of(out, maps, pairs_of(alloc, pairs)?.into_iter()),
-        ("from_claimed", [claimed, pairs @ ..]) => {
-            let pairs = pairs_of(alloc, pairs)?.into_iter();
-            let left = *claimed as usize;
-            made_of(out, maps, Claimed { pairs, left })
-        }
         ("from_array", pairs) => return from_array(out, maps, pairs),
         ("from_squares", [count]) => made_of(out, maps, (0..*count).map(squared)),
         ("from_squares_back", [count]) => made_of(out, maps, (0..*count).rev().map(squared)),
@@ -49,6 +40,32 @@ pub fn answer_to(
     Ok(true)
 }
 
+// does the same with pairs that the words name
+fn with_pairs(
+    out: &mut String,
+    maps: &mut Maps<'_>,
+    name: &str,
+    numbers: &[u64],
+) -> Result<bool, AllocError> {
+    let alloc = *out.allocator();
+    let written = match (name, numbers) {
+        ("extend", pairs) => extended(out, &mut maps.map, pairs_of(alloc, pairs)?.into_iter()),
+        ("extend_debug", pairs) => {
+            let called = maps.map.extend(pairs_of(alloc, pairs)?.into_iter());
+            write!(out, "{called:?}")
+        }
+        ("from_iter", pairs) => made_of(out, maps, pairs_of(alloc, pairs)?.into_iter()),
+        ("from_claimed", [claimed, pairs @ ..]) => {
+            let pairs = pairs_of(alloc, pairs)?.into_iter();
+            let left = *claimed as usize;
+            made_of(out, maps, Claimed { pairs, left })
+        }
+        _ => return Ok(false),
+    };
+    written?;
+    Ok(true)
+}
+
 // does the same with many keys, and how much more than itself each is to be bound to, ten if not said
 fn with_keys(
     out: &mut String,
@@ -60,20 +77,11 @@ fn with_keys(
     let map = &mut maps.map;
     let pairs = (0..keys.count).map(move |place| (keys.at(place), value_of(keys.at(place))));
     let distance = more.unwrap_or(value_of(0));
+    if let (Some(insertion), None) = (Insertion::of(name), more) {
+        insert_many(out, map, insertion, keys)?;
+        return Ok(true);
+    }
     let written = match (name, more) {
-        ("insert_many", None) => insert_many(out, map, Insertion::Over, keys),
-        ("insert_checked_many", None) => insert_many(out, map, Insertion::Checked, keys),
-        ("entry_insert_many", None) => insert_many(out, map, Insertion::ByEntry, keys),
-        ("or_insert_many", None) => insert_many(out, map, Insertion::OrInsert, keys),
-        ("or_insert_with_many", None) => insert_many(out, map, Insertion::OrInsertWith, keys),
-        ("or_insert_with_key_many", None) => {
-            insert_many(out, map, Insertion::OrInsertWithKey, keys)
-        }
-        ("or_default_many", None) => insert_many(out, map, Insertion::OrDefault, keys),
-        ("insert_entry_many", None) => insert_many(out, map, Insertion::InsertEntry, keys),
-        ("vacant_insert_entry_many", None) => {
-            insert_many(out, map, Insertion::VacantInsertEntry, keys)
-        }
         ("run_many", None) => run_many(out, maps.memory, map, Insertion::Over, keys),
         ("run_entries_many", None) => run_many(out, maps.memory, map, Insertion::ByEntry, keys),
         ("extend_many", None) => extended(out, map, pairs),

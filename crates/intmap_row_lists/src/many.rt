@@ -44,6 +44,8 @@ pub enum Insertion {
     OrInsertWith,
     /// The same with a value that a closure makes of the key.
     OrInsertWithKey,
+    /// The same with a value that a closure may fail to make, but makes.
+    OrTryInsertWith,
     /// That by an entry which inserts the default, in whose place the value is written.
     OrDefault,
     /// That by an entry which is kept, and writes the value of a bound key in its place.
@@ -53,6 +55,23 @@ pub enum Insertion {
 }
 
 impl Insertion {
+    /// The insertion that a call with this name makes for each of many keys.
+    pub fn of(name: &str) -> Option<Insertion> {
+        match name {
+            "insert_many" => Some(Insertion::Over),
+            "insert_checked_many" => Some(Insertion::Checked),
+            "entry_insert_many" => Some(Insertion::ByEntry),
+            "or_insert_many" => Some(Insertion::OrInsert),
+            "or_insert_with_many" => Some(Insertion::OrInsertWith),
+            "or_insert_with_key_many" => Some(Insertion::OrInsertWithKey),
+            "or_try_insert_with_many" => Some(Insertion::OrTryInsertWith),
+            "or_default_many" => Some(Insertion::OrDefault),
+            "insert_entry_many" => Some(Insertion::InsertEntry),
+            "vacant_insert_entry_many" => Some(Insertion::VacantInsertEntry),
+            _ => None,
+        }
+    }
+
     // inserts the key with ten more; answers whether it was new
     fn insert(self, map: &mut Map<'_>, key: u64) -> Result<bool, Refused<u64>> {
         match self {
@@ -72,11 +91,17 @@ impl Insertion {
         let _value = match self {
             Insertion::OrInsertWith => entry.or_insert_with(|| value_of(key))?,
             Insertion::OrInsertWithKey => entry.or_insert_with_key(value_of)?,
+            Insertion::OrTryInsertWith => entry.or_try_insert_with(|| made(key))?,
             Insertion::InsertEntry => entry.insert_entry(value_of(key))?.into_mut(),
             _ => entry.or_insert(value_of(key))?,
         };
         Ok(map.len() != before)
     }
+}
+
+// ten more than the key, from a closure that may fail and doesn't
+fn made(key: u64) -> Result<u64, Refused<u64>> {
+    Ok(value_of(key))
 }
 
 // sets the value of the key by its entry; answers whether it was new

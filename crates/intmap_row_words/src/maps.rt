@@ -1,5 +1,6 @@
 //! The two maps that the rows of a group speak of.
 
+use crate::text::alive_text;
 use intmap::entry::Entry;
 use intmap::{Cause, IntKey, IntMap};
 use refuser::Refuser;
@@ -56,9 +57,7 @@ impl<'a> Maps<'a> {
 
     /// What is alive of the memory, as text.
     pub fn alive(&self, alloc: Global) -> Result<String, AllocError> {
-        let blocks = self.memory.live_blocks();
-        let bytes = self.memory.live_bytes();
-        format!(in alloc; "{blocks} blocks of {bytes} bytes alive")
+        alive_text(alloc, self.memory)
     }
 
     /// Has the two maps take each other's place.

@@ -8,6 +8,7 @@ use crate::maps::MapOf;
 use intmap::{Cause, IntKey};
 use intmap_run::Answer;
 pub use intmap_text::print_answer;
+use refuser::Refuser;
 use std::alloc::{AllocError, Global};
 use std::fmt::Display;
 
@@ -106,4 +107,11 @@ pub fn state_text(alloc: Global, map: &MapOf<'_, u64>) -> Result<String, AllocEr
     let mut text = String::new(alloc);
     write_state(&mut text, map)?;
     Ok(text)
+}
+
+/// What is alive of a memory, as text.
+pub fn alive_text(alloc: Global, memory: &Refuser<Global>) -> Result<String, AllocError> {
+    let blocks = memory.live_blocks();
+    let bytes = memory.live_bytes();
+    format!(in alloc; "{blocks} blocks of {bytes} bytes alive")
 }

@@ -1,174 +1,155 @@
 //! One call, from its words to its answer.
 
 use crate::vectors::Vectors;
+use intmap_row_words::text::{no_call, write_bool, write_done, write_number};
 use intmap_sparse::SparseVec;
-use std::alloc::{AllocError, Global};
+use std::alloc::AllocError;
+use std::fmt::Debug;
 
-/// The answer to a call, as text. Words that are no call answer so.
-pub fn answer_to(
-    alloc: Global,
-    vectors: &mut Vectors<'_>,
-    call: &str,
-) -> Result<String, AllocError> {
+/// Writes the answer to a call. Words that are no call answer so.
+pub fn named(out: &mut String, vectors: &mut Vectors<'_>, call: &str) -> Result<(), AllocError> {
     let mut words = call.split_whitespace();
     let name = words.next().unwrap_or("");
     let Some(place) = words.next() else {
-        return bare(alloc, vectors, name);
+        return bare(out, vectors, name);
     };
     let Ok(place) = place.parse::<u64>() else {
-        return no_call(alloc);
+        return no_call(out);
     };
     let Some(value) = words.next() else {
-        return with_place(alloc, vectors, name, place);
+        return with_place(out, vectors, name, place);
     };
     match value.parse::<i64>() {
-        Ok(value) => with_value(alloc, vectors, name, place, value),
-        Err(_) => no_call(alloc),
+        Ok(value) => with_value(out, vectors, name, place, value),
+        Err(_) => no_call(out),
     }
 }
 
-// what is answered to words that are no call
-fn no_call(alloc: Global) -> Result<String, AllocError> {
-    String::from_str(alloc, "not a call")
-}
-
-// what is answered where there is nothing to tell
-fn done(alloc: Global) -> Result<String, AllocError> {
-    String::from_str(alloc, "done")
-}
-
-// the answer to a call without a number
-fn bare(alloc: Global, vectors: &mut Vectors<'_>, name: &str) -> Result<String, AllocError> {
+// writes the answer to a call without a number
+fn bare(out: &mut String, vectors: &mut Vectors<'_>, name: &str) -> Result<(), AllocError> {
     match name {
-        "new" => renewed(alloc, vectors),
+        "new" => renew(out, vectors),
         "other" => {
             vectors.swap();
-            done(alloc)
+            write_done(out, Ok(()))
         }
-        "dot" => product_text(alloc, vectors.vector.dot(&vectors.other)),
-        "dot_self" => product_text(alloc, vectors.vector.dot(&vectors.vector)),
-        _ => shown(alloc, vectors, name),
+        "dot" => write_product(out, vectors.vector.dot(&vectors.other)),
+        "dot_self" => write_product(out, vectors.vector.dot(&vectors.vector)),
+        "len" => write_number(out, vectors.vector.len() as u128),
+        "is_empty" => write_bool(out, vectors.vector.is_empty()),
+        "equal" => write_bool(out, vectors.vector == vectors.other),
+        "show" => write!(out, "{:?}", vectors.vector),
+        "iter" => write_walk(out, vectors),
+        _ => no_call(out),
     }
 }
 
-// a call that shows a part of the vector
-fn shown(alloc: Global, vectors: &Vectors<'_>, name: &str) -> Result<String, AllocError> {
-    match name {
-        "len" => {
-            let len = vectors.vector.len();
-            format!(in alloc; "{len}")
-        }
-        "is_empty" => {
-            let is_empty = vectors.vector.is_empty();
-            format!(in alloc; "{is_empty}")
-        }
-        "equal" => {
-            let equal = vectors.vector == vectors.other;
-            format!(in alloc; "{equal}")
-        }
-        "show" => format!(in alloc; "{:?}", vectors.vector),
-        "iter" => walk_text(alloc, vectors),
-        _ => no_call(alloc),
-    }
-}
-
-// the places and values that the iterator gives
-fn walk_text(alloc: Global, vectors: &Vectors<'_>) -> Result<String, AllocError> {
-    let mut text = String::new(alloc);
+// writes the places and values that the iterator gives
+fn write_walk(out: &mut String, vectors: &Vectors<'_>) -> Result<(), AllocError> {
+    let mut is_first = true;
     for (place, value) in &vectors.vector {
-        write!(text, "{place}: {value} ")?;
+        if !is_first {
+            out.push(' ')?;
+        }
+        is_first = false;
+        write!(out, "{place}: {value}")?;
     }
-    String::from_str(alloc, text.as_str().trim())
+    Ok(())
 }
 
 // puts a new vector in the place of the one that calls are made on
-fn renewed(alloc: Global, vectors: &mut Vectors<'_>) -> Result<String, AllocError> {
+fn renew(out: &mut String, vectors: &mut Vectors<'_>) -> Result<(), AllocError> {
     match SparseVec::new(vectors.memory) {
         Ok(vector) => {
             vectors.vector = vector;
-            done(alloc)
+            write_done(out, Ok(()))
         }
-        Err(cause) => format!(in alloc; "{cause:?}"),
+        Err(cause) => write!(out, "{cause:?}"),
     }
 }
 
-// the answer to a call with a place, or with the number of a request
+// writes the answer to a call with a place, or with the number of a request
 fn with_place(
-    alloc: Global,
+    out: &mut String,
     vectors: &mut Vectors<'_>,
     name: &str,
     place: u64,
-) -> Result<String, AllocError> {
+) -> Result<(), AllocError> {
     match name {
         "get" => {
             let value = vectors.vector.get(place);
-            format!(in alloc; "{value}")
+            write!(out, "{value}")
         }
         "arm" => {
             vectors.memory.arm(place);
-            done(alloc)
+            write_done(out, Ok(()))
         }
-        _ => no_call(alloc),
+        _ => no_call(out),
     }
 }
 
-// the answer to a call with a place and a value
+// writes the answer to a call with a place and a value
 fn with_value(
-    alloc: Global,
+    out: &mut String,
     vectors: &mut Vectors<'_>,
     name: &str,
     place: u64,
     value: i64,
-) -> Result<String, AllocError> {
+) -> Result<(), AllocError> {
     match name {
-        "set" => match vectors.vector.set(place, value) {
-            Ok(old) => format!(in alloc; "{old}"),
-            Err(cause) => format!(in alloc; "{cause:?}"),
-        },
-        "add" => match vectors.vector.add(place, value) {
-            Ok(sum) => format!(in alloc; "{sum}"),
-            Err(cause) => format!(in alloc; "{cause:?}"),
-        },
-        "set_below" => set_below(alloc, vectors, place, value),
-        "add_below" => add_below(alloc, vectors, place, value),
-        _ => no_call(alloc),
+        "set" => write_value(out, vectors.vector.set(place, value)),
+        "add" => write_value(out, vectors.vector.add(place, value)),
+        "set_below" => set_below(out, vectors, place, value),
+        "add_below" => add_below(out, vectors, place, value),
+        _ => no_call(out),
+    }
+}
+
+// writes the value that a call answers, or why it is refused
+fn write_value<C: Copy + Debug>(
+    out: &mut String,
+    called: Result<i64, C>,
+) -> Result<(), AllocError> {
+    match called {
+        Ok(value) => write!(out, "{value}"),
+        Err(cause) => write!(out, "{cause:?}"),
     }
 }
 
 // sets the value at each place below a number
 fn set_below(
-    alloc: Global,
+    out: &mut String,
     vectors: &mut Vectors<'_>,
     count: u64,
     value: i64,
-) -> Result<String, AllocError> {
+) -> Result<(), AllocError> {
     for place in 0..count {
         if let Err(cause) = vectors.vector.set(place, value) {
-            return format!(in alloc; "{cause:?} at {place}");
+            return write!(out, "{cause:?} at {place}");
         }
     }
-    done(alloc)
+    write_done(out, Ok(()))
 }
 
 // adds to the value at each place below a number
 fn add_below(
-    alloc: Global,
+    out: &mut String,
     vectors: &mut Vectors<'_>,
     count: u64,
     delta: i64,
-) -> Result<String, AllocError> {
+) -> Result<(), AllocError> {
     for place in 0..count {
         if let Err(cause) = vectors.vector.add(place, delta) {
-            return format!(in alloc; "{cause:?} at {place}");
+            return write!(out, "{cause:?} at {place}");
         }
     }
-    done(alloc)
+    write_done(out, Ok(()))
 }
 
-// a product, or that there is none
-fn product_text(alloc: Global, product: Option<i128>) -> Result<String, AllocError> {
+// writes a product, or that there is none
+fn write_product(out: &mut String, product: Option<i128>) -> Result<(), AllocError> {
     match product {
-        Some(sum) => format!(in alloc; "{sum}"),
-        None => String::from_str(alloc, "none"),
+        Some(sum) => write!(out, "{sum}"),
+        None => out.push_str("none"),
     }
 }

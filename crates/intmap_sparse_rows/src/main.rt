@@ -5,21 +5,20 @@
 #![tactic(auto)]
 
 mod answer;
-mod refused;
-mod rows;
 mod vectors;
 
+use crate::vectors::Vectors;
+use intmap_row_words::subject;
 use refuser::Refuser;
 use std::{env, fs, io};
 
-/// Prints the number of rows of each file, and a line for each row that doesn't hold or where memory
-/// is lost.
+/// Prints one line a group of rows, and one for each row that doesn't hold or where memory is lost.
 fn main(rt: HostRuntime) -> io::Result<()> {
     let alloc = rt.alloc();
     for file in env::args(&rt)?.skip(1) {
         let rows = fs::read_to_string(&rt, file.as_str())?;
         let memory = Refuser::new(alloc, 0);
-        let report = rows::told_of(alloc, &memory, rows.as_str())?;
+        let report = subject::report(alloc, &memory, Vectors::new(&memory)?, rows.as_str())?;
         println!(rt; "{file}:")?;
         print!(rt; "{report}")?;
         let alive = memory.live_blocks();

@@ -1,5 +1,7 @@
-//! The two vectors that rows speak of.
+//! The two vectors that the rows of a group speak of.
 
+use crate::answer::named;
+use intmap_row_words::subject::Subject;
 use intmap_sparse::SparseVec;
 use refuser::Refuser;
 use std::alloc::{AllocError, Global};
@@ -19,16 +21,17 @@ pub struct Vectors<'a> {
     pub memory: &'a Refuser<Global>,
 }
 
+// a vector as `new` makes it
+fn new_vector(memory: &Refuser<Global>) -> Result<Vector<'_>, AllocError> {
+    SparseVec::new(memory).map_err(|_| AllocError)
+}
+
 impl<'a> Vectors<'a> {
-    /// Two new vectors, and no request that will be refused.
+    /// Two vectors as `new` makes them, and no request that will be refused.
     pub fn new(memory: &'a Refuser<Global>) -> Result<Vectors<'a>, AllocError> {
         memory.arm(0);
-        let Ok(vector) = SparseVec::new(memory) else {
-            return Err(AllocError);
-        };
-        let Ok(other) = SparseVec::new(memory) else {
-            return Err(AllocError);
-        };
+        let vector = new_vector(memory)?;
+        let other = new_vector(memory)?;
         Ok(Vectors {
             vector,
             other,
@@ -36,15 +39,25 @@ impl<'a> Vectors<'a> {
         })
     }
 
-    /// What is alive of the memory, as text.
-    pub fn alive(&self, alloc: Global) -> Result<String, AllocError> {
-        let blocks = self.memory.live_blocks();
-        let bytes = self.memory.live_bytes();
-        format!(in alloc; "{blocks} blocks of {bytes} bytes alive")
-    }
-
     /// Has the two vectors take each other's place.
     pub fn swap(&mut self) {
         mem::swap(&mut self.vector, &mut self.other);
+    }
+}
+
+impl<'a> Subject for Vectors<'a> {
+    fn renew(&mut self) -> Result<(), AllocError> {
+        self.memory.arm(0);
+        self.vector = new_vector(self.memory)?;
+        self.other = new_vector(self.memory)?;
+        Ok(())
+    }
+
+    fn write_state(&self, out: &mut String) -> Result<(), AllocError> {
+        write!(out, "{:?}", self.vector)
+    }
+
+    fn answer_to(&mut self, out: &mut String, call: &str) -> Result<(), AllocError> {
+        named(out, self, call)
     }
 }

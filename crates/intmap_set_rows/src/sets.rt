@@ -1,0 +1,83 @@
+//! The two sets that the rows of a group speak of.
+
+use crate::answer::{named, write_set};
+use intmap::Cause;
+use intmap_row_words::subject::Subject;
+use intmap_row_words::text::no_call;
+use intmap_row_words::word::words_of;
+use intmap_set::IntSet;
+use refuser::Refuser;
+use std::alloc::{AllocError, Global};
+use std::mem;
+
+/// A set whose requests for memory can be refused.
+pub type Set<'a> = IntSet<u64, &'a Refuser<Global>>;
+
+/// The set that calls are made on, another one, and the memory of both.
+#[derive(Drop)]
+pub struct Sets<'a> {
+    /// The set that calls are made on.
+    pub set: Set<'a>,
+    /// The one that takes its place at the call `other`.
+    pub other: Set<'a>,
+    /// What both ask for memory.
+    pub memory: &'a Refuser<Global>,
+}
+
+// a set as `new` makes it
+fn new_set(memory: &Refuser<Global>) -> Result<Set<'_>, AllocError> {
+    IntSet::new(memory).map_err(|_| AllocError)
+}
+
+impl<'a> Sets<'a> {
+    /// Two sets as `new` makes them, and no request that will be refused.
+    pub fn new(memory: &'a Refuser<Global>) -> Result<Sets<'a>, AllocError> {
+        memory.arm(0);
+        let set = new_set(memory)?;
+        let other = new_set(memory)?;
+        Ok(Sets { set, other, memory })
+    }
+
+    /// Has the two sets take each other's place.
+    pub fn swap(&mut self) {
+        mem::swap(&mut self.set, &mut self.other);
+    }
+
+    /// Puts a set in the place of the one that calls are made on, where it could be made.
+    pub fn put(&mut self, made: Result<Set<'a>, Cause>) -> Result<(), Cause> {
+        self.set = made?;
+        Ok(())
+    }
+
+    /// Puts a clone of the set that calls are made on in the place of the other one.
+    pub fn clone_to_other(&mut self) -> Result<(), Cause> {
+        self.other = self.set.clone()?;
+        Ok(())
+    }
+
+    /// Takes the set away, and leaves one as `new` makes it.
+    pub fn taken(&mut self) -> Result<Set<'a>, Cause> {
+        let fresh = IntSet::new(self.memory)?;
+        Ok(mem::replace(&mut self.set, fresh))
+    }
+}
+
+impl<'a> Subject for Sets<'a> {
+    fn renew(&mut self) -> Result<(), AllocError> {
+        self.memory.arm(0);
+        self.set = new_set(self.memory)?;
+        self.other = new_set(self.memory)?;
+        Ok(())
+    }
+
+    fn write_state(&self, out: &mut String) -> Result<(), AllocError> {
+        write_set(out, &self.set)
+    }
+
+    fn answer_to(&mut self, out: &mut String, call: &str) -> Result<(), AllocError> {
+        match words_of(*out.allocator(), call)? {
+            Some(words) => named(out, self, words.name, &words.numbers),
+            None => no_call(out),
+        }
+    }
+}
