@@ -1,0 +1,5 @@
+mod AnswerLemmas
+mod WalkLemmas
+mod Words
+mod UnboxedSteps
+mod HandleSteps

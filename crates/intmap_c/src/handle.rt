@@ -1,0 +1,72 @@
+//! One word that C holds: a map in memory, or null where there is none.
+ghost use Rattle.std.specs.Prelude.{◌≡◌, None, Some, MatchOption};
+ghost use Rattle.intmap_c.specs.Handles.{MaybeMap, owns_map};
+
+use crate::unboxed::Unboxed;
+use intmap::IntMap;
+use std::alloc::Global;
+use std::marker::Model;
+use std::mem::replace;
+use std::ptr::null_mut;
+
+/// A map, or none. It isn't dropped: a handle that is given up is first taken apart.
+#[repr(C)]
+pub struct Handle {
+    at: *mut u8,
+    ghost value: { MaybeMap.Denot } by { MaybeMap.coded },
+}
+
+impl Model for Handle {
+    ghost also_owns = { λ handle. owns_map handle.at handle.value };
+}
+
+impl Handle {
+    /// The handle of no map.
+    pub(crate) fn none() -> Handle
+        ensures { result.value ≡ None }
+    {
+        Handle { at: null_mut() }
+    }
+
+    /// The handle of a map.
+    pub(crate) fn of(map: Unboxed<IntMap<u64, u64>, Global>) -> Handle
+        ensures { result.value ≡ Some map.value }
+    {
+        let Unboxed { at, alloc: _ } = map;
+        Handle { at: at as *mut u8 }
+    }
+
+    /// The map of the handle, if it has one.
+    pub(crate) fn into_map(self, alloc: Global) -> Option<Unboxed<IntMap<u64, u64>, Global>>
+        ensures { MatchOption result (self.value ≡ None) (λ map. self.value ≡ Some map.value) }
+    {
+        let Handle { at } = self;
+        if at.is_null() {
+            return None;
+        }
+        let at = at as *mut IntMap<u64, u64>;
+        Some(Unboxed { at, alloc })
+    }
+}
+
+/// Takes the map out of the handle, which is left with none.
+pub(crate) fn take(handle: &mut Handle, alloc: Global) -> Option<Box<IntMap<u64, u64>>>
+    ensures left { handle.new.value ≡ None }
+    ensures taken { MatchOption result (handle.old.value ≡ None)
+        (λ map. handle.old.value ≡ Some map.value) }
+{
+    match replace(handle, Handle::none()).into_map(alloc) {
+        Some(map) => Some(map.into_box()),
+        None => None,
+    }
+}
+
+/// Puts the map into the handle. One that it had is freed.
+pub(crate) fn put(handle: &mut Handle, alloc: Global, map: Box<IntMap<u64, u64>>)
+    ensures { handle.new.value ≡ Some map.value }
+{
+    let old = replace(handle, Handle::of(Unboxed::of(map)));
+    if let Some(map) = old.into_map(alloc) {
+        drop(map.into_box());
+    }
+}

@@ -1,0 +1,77 @@
+//! Maps that are made and freed.
+ghost use Rattle.std.specs.Prelude.{◌≡◌, ◌⊎◌, ◌↔◌, ◌^◌, ◌<◌, ℕ, max, None, Some, MatchResult};
+ghost use Rattle.intmap.specs.Growth.{IsLeastPower};
+ghost use Rattle.intmap.specs.Map.{empty_map};
+ghost use Rattle.intmap_c.specs.Answers.{IsRefused};
+ghost use Rattle.intmap_c.specs.declared.answer.TheConstants.{TOO_LARGE};
+
+use crate::answer::{DONE, MEMORY, status_of};
+use crate::handle::{Handle, put, take};
+use intmap::{Cause, IntMap};
+use std::alloc::Global;
+
+/// Puts a map that was made into the handle. `DONE`, or why none was made or no block for it; then
+/// the handle stays.
+fn keep(alloc: Global, handle: &mut Handle, made: Result<IntMap<u64, u64>, Cause>) -> u32
+    ensures { MatchResult made
+        (λ map. ((result ≡ DONE) × (handle.new.value ≡ Some map))
+        ⊎ ((result ≡ MEMORY) × (handle.new.value ≡ handle.old.value)))
+        (λ cause. (handle.new.value ≡ handle.old.value) × IsRefused result
+        × ((result ≡ TOO_LARGE) ↔ (cause ≡ Cause.TooLarge))) }
+{
+    match made {
+        Ok(map) => match Box::new(alloc, map) {
+            Ok(map) => {
+                put(handle, alloc, map);
+                DONE
+            }
+            Err(_) => MEMORY,
+        },
+        Err(cause) => status_of(cause),
+    }
+}
+
+/// Makes an empty map of 4 slots, with a load factor of 909 thousandths. A map that the handle had
+/// is freed. It is refused if an allocation fails, and then the handle stays.
+///
+/// ```text
+/// intmap_new(&map)    INTMAP_DONE, and intmap_capacity(&map) is 4
+/// ```
+#[unsafe(no_mangle)]
+pub extern "C" fn intmap_new(alloc: Global, handle: &mut Handle) -> u32
+    ensures { ((result ≡ DONE) × (handle.new.value ≡ Some (empty_map 4)))
+        ⊎ ((result ≡ MEMORY) × (handle.new.value ≡ handle.old.value)) }
+{
+    keep(alloc, handle, IntMap::new(alloc))
+}
+
+/// Makes an empty map, with a load factor of 909 thousandths. Its number of slots is the least
+/// power of two that is at least `capacity`, and at least 2. A map that the handle had is freed. It
+/// is refused as too large exactly if `capacity` is above 2^63, and otherwise if an allocation
+/// fails. Then the handle stays.
+///
+/// ```text
+/// intmap_with_capacity(&map, 20)                     INTMAP_DONE, and 32 slots
+/// intmap_with_capacity(&map, 9223372036854775809)    INTMAP_TOO_LARGE
+/// ```
+#[unsafe(no_mangle)]
+pub extern "C" fn intmap_with_capacity(alloc: Global, handle: &mut Handle, capacity: usize) -> u32
+    ensures outcome { ((result ≡ DONE)
+        × ((D : ℕ) × IsLeastPower (max capacity 2) D × (handle.new.value ≡ Some (empty_map D))))
+        ⊎ (IsRefused result × (handle.new.value ≡ handle.old.value)) }
+    ensures too_large { (result ≡ TOO_LARGE) ↔ (2 ^ 63 < capacity) }
+{
+    keep(alloc, handle, IntMap::with_capacity(alloc, capacity))
+}
+
+/// Frees the map of the handle, which then has none. It does nothing where it has none.
+///
+/// ```text
+/// intmap_free(&map)    and again: nothing
+/// ```
+#[unsafe(no_mangle)]
+pub extern "C" fn intmap_free(alloc: Global, handle: &mut Handle)
+    ensures { handle.new.value ≡ None }
+{
+    drop(take(handle, alloc));
+}
