@@ -61,6 +61,8 @@ is_map!(std::collections::HashMap<u64, u64>, [&]);
 is_map!(hashbrown::HashMap<u64, u64>, [&]);
 #[cfg(feature = "intmap")]
 is_map!(intmap::IntMap<u64>, []);
+#[cfg(feature = "binding")]
+is_map!(binding::IntMap<u64>, []);
 
 /// The key of a kind at this place.
 fn key_at(kind: &str, place: u64) -> u64 {
@@ -161,6 +163,8 @@ fn main() {
         "hashbrown" => all::<hashbrown::HashMap<u64, u64>>,
         #[cfg(feature = "intmap")]
         "original" => all::<intmap::IntMap<u64>>,
+        #[cfg(feature = "binding")]
+        "binding" => all::<binding::IntMap<u64>>,
         _ => panic!("no such map: {map}"),
     };
     for _ in 0..times {
