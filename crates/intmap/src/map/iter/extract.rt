@@ -1,5 +1,5 @@
 //! Removal of the pairs that a closure picks, one by one.
-ghost use Rattle.std.specs.Prelude.{◌≡◌, ◌+◌, ◌≤◌, [], length, drop};
+ghost use Rattle.std.specs.Prelude.{◌≡◌, ◌+◌, ◌≤◌, Some, [], length, drop};
 ghost use Rattle.std.specs.Iterator.{item_count};
 ghost use Rattle.intmap_table.specs.Picking.{AsksAt, ExtractsBehind, IsReached, PicksAt};
 ghost use Rattle.intmap_table.specs.Taking.{TakesEach};
@@ -68,7 +68,9 @@ impl<'a, K: IntKey, V: Drop, F: FnMut(K, &mut V) -> bool, A: Allocator + Copy> I
     }
 
     /// No lower bound, and the number of the pairs that are still to be asked about.
-    fn size_hint(&self) -> (usize, Option<usize>) {
+    fn size_hint(&self) -> (usize, Option<usize>)
+        ensures bounds { result ≡ (0, Some (length (extract_rest self.now))) }
+    {
         (0, Some(self.map.len() - self.at.passed))
     }
 }
