@@ -1,5 +1,5 @@
 -- By hand, since what is handed on is a block of memory, and the borrow checker reads no clause that owns one.
-use Rattle.refuser.proofs.Steps.{Bool, ◌≡◌, ℕ, List, [], ◌∷◌, true, false, Ok, Err, refl, ap, w64, leaves, proved, after, Al, Answer, answer_val, Answer-typed, Answer-Ok, Answer-err, Takes, at_takes, Takes-goes, Takes-gives, Answered, answers, token, seen, ftrue, flft, froom, id⊢, ◌⊑◌, ⊑_trans, fact, tables, inst_fn, Fn, Val, vptr, align, capped, size, ‵, raw, ◌⊛◌, some, later, prop, at_ret, Sq, ◌$◌, ◌∵◌, !, qed, done, move, drop, frame, use0, use1, use2, split, split3, join, fjoin, feq_i, feq_l, pick, await, suffices, agg, addr, and_then, branches, enter, exec, first, fld, lit, no_more, returns, returns_within, skips, stop, alloc_all, env, free_all, get, lands_as, look_at, pass_all, sets, through, bool, usize, yes, uint_Tells, uint_vals, owns, block_ptr, shr_vals, plain, heard, nothing, only, calls_at, Ended, lasts, on_entry, triple_of, framed, Goes-dropped, Stays, stay_dropped, walk_of, After, any_q, keep, flt_i, fsep, vint, vunit, Wp, after_seq, at_return, switches_on, unit, get_in, get_tag, in_variant, vrt, whole, sets_last, of_opd, shr_dup, arm_body, front, ◌^◌}
+use Rattle.refuser.proofs.Steps.{Bool, ◌≡◌, ℕ, List, [], ◌∷◌, true, false, Ok, Err, refl, ap, w64, leaves, proved, after, Al, Answer, answer_val, Answer-typed, Answer-Ok, Answer-err, Takes, at_takes, Takes-goes, Takes-gives, Answered, answers, token, seen, ftrue, flft, froom, id⊢, ◌⊑◌, ⊑_trans, fact, tables, inst_fn, Fn, Val, vptr, align, capped, size, ‵, raw, ◌⊛◌, some, later, prop, at_ret, Sq, ◌$◌, ◌∵◌, !, qed, done, move, drop, frame, use0, use1, use2, split, split3, join, fjoin, feq_i, feq_l, pick, await, suffices, agg, addr, and_then, branches, enter, exec, first, fld, lit, no_more, returns, returns_within, skips, stop, alloc_all, env, free_all, get, lands_as, look_at, pass_all, sets, through, bool, usize, yes, uint_Tells, uint_vals, owns, block_ptr, shr_vals, plain, heard, nothing, only, calls_at, Ended, lasts, on_entry, triple_of, framed, Goes-dropped, Stays, stay_dropped, walk_of, After, any_q, keep, flt_i, vint, Wp, after_seq, at_return, switches_on, unit, get_in, get_tag, in_variant, vrt, whole, sets_last, of_opd, shr_dup, arm_body, front, ◌^◌}
 use Rattle.refuser.proofs.Handle.{passed, self, Counted, inner_at, counts_at, shared_counts, opened}
 use Rattle.refuser.specs.contracts.RefuserAllocator.allocate as f
 use Rattle.refuser.specs.contracts.RefuserAllocator.allocate.Key.{name}

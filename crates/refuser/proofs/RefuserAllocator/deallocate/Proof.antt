@@ -1,5 +1,5 @@
 -- By hand, since a block of memory is handed over, and the borrow checker reads no clause that owns one.
-use Rattle.refuser.proofs.Steps.{◌≡◌, List, [], ◌∷◌, refl, w64, leaves, proved, Al, Gives, at_gives, Gives-goes, Gives-Gives, token, seen, ftrue, fsep, flft, fst∗, never, ◌⊑◌, ⊑_trans, fact, tables, inst_fn, Fn, Val, vint, vptr, vunit, align, capped, size, WpFn, ‵, raw, ◌⊛◌, later, given, prop, ◌$◌, ◌∵◌, !, qed, done, move, drop, frame, use1, split, split3, join, fsplit, fjoin, feq_i, group, learn, await, regoal, suffices, sem, addr, and_then, enter, fld, no_more, of_opd, returns, stop, unit_lit, alloc_all, free_all, get, lands_as, look_at, pass_all, sets, through, usize, yes, uint_Tells, uint_vals, owns, Ptr, RawPtr, block_ptr, in_a_block, null_ptr, ptr_val, rawptr_Tells, rawptr_vals, room_for, shr_vals, plain, heard, nothing, calls_at, Ended, on_entry, framed, Goes-dropped, Stays, stay_dropped, walk_of, ap, some, keep, use2, pick, feq_l, flt_i, unit, lasts, only, triple_of, id⊢, ℕ, ◌^◌}
+use Rattle.refuser.proofs.Steps.{◌≡◌, List, [], ◌∷◌, refl, w64, leaves, proved, Al, Gives, at_gives, Gives-goes, Gives-Gives, token, seen, ftrue, fsep, flft, fst∗, never, ◌⊑◌, ⊑_trans, fact, tables, inst_fn, Fn, Val, vint, vptr, vunit, align, capped, size, WpFn, ‵, raw, ◌⊛◌, later, given, prop, ◌$◌, ◌∵◌, !, qed, done, move, drop, frame, use1, split, split3, join, fsplit, fjoin, feq_i, group, learn, await, regoal, suffices, sem, addr, and_then, enter, fld, no_more, of_opd, returns, stop, unit_lit, alloc_all, free_all, get, lands_as, look_at, pass_all, sets, through, usize, yes, uint_Tells, uint_vals, owns, Ptr, RawPtr, block_ptr, in_a_block, null_ptr, ptr_val, rawptr_Tells, rawptr_vals, room_for, shr_vals, plain, heard, nothing, calls_at, Ended, on_entry, framed, Goes-dropped, Stays, stay_dropped, walk_of, ap, some, use2, pick, feq_l, flt_i, unit, lasts, only, triple_of, id⊢, ◌^◌}
 use Rattle.refuser.proofs.Handle.{passed, self, inner_at, counts_at, shared_counts, opened}
 use Rattle.refuser.specs.contracts.RefuserAllocator.deallocate as f
 use Rattle.refuser.specs.contracts.RefuserAllocator.deallocate.Key.{name}
