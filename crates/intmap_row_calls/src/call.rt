@@ -114,15 +114,24 @@ fn seen<K: IntKey + Display + Debug>(
         "keys" => write_keys(out, map),
         "state" => write_state(out, map),
         "debug" => write!(out, "{map:?}"),
-        "collisions" | "collisions_debug" | "collisions_state" => match map.collisions() {
-            Ok(sizes) => write_sizes(out, &sizes, name),
-            Err(cause) => write_refusal(out, cause, None),
-        },
+        "collisions" | "collisions_debug" | "collisions_state" => write_collisions(out, map, name),
         _ => no_call(out),
     }
 }
 
-// writes what such a call shows of the map that it makes
+// writes the answer to a call that makes a map of the sizes of slots
+fn write_collisions<K: IntKey>(
+    out: &mut String,
+    map: &MapOf<'_, K>,
+    name: &str,
+) -> Result<(), AllocError> {
+    match map.collisions() {
+        Ok(sizes) => write_sizes(out, &sizes, name),
+        Err(cause) => write_refusal(out, cause, None),
+    }
+}
+
+// writes what it shows of that map
 fn write_sizes(out: &mut String, sizes: &MapOf<'_, u64>, name: &str) -> Result<(), AllocError> {
     match name {
         "collisions_debug" => write!(out, "{sizes:?}"),

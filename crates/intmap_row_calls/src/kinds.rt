@@ -44,16 +44,17 @@ impl<'a> Kinds<'a> {
     pub fn answer_to(&mut self, out: &mut String, text: &str) -> Result<bool, AllocError> {
         let (kind, call) = text.split_once(' ').unwrap_or((text, ""));
         let memory = self.memory;
-        match kind {
-            "u8" => answer(out, lend(memory, &mut self.u8_keys)?, call)?,
-            "u16" => answer(out, lend(memory, &mut self.u16_keys)?, call)?,
-            "u32" => answer(out, lend(memory, &mut self.u32_keys)?, call)?,
-            "usize" => answer(out, lend(memory, &mut self.usize_keys)?, call)?,
-            "i32" => answer(out, lend(memory, &mut self.i32_keys)?, call)?,
-            "i64" => answer(out, lend(memory, &mut self.i64_keys)?, call)?,
-            "cell" => answer(out, lend(memory, &mut self.cell_keys)?, call)?,
+        let written = match kind {
+            "u8" => answer(out, memory, &mut self.u8_keys, call),
+            "u16" => answer(out, memory, &mut self.u16_keys, call),
+            "u32" => answer(out, memory, &mut self.u32_keys, call),
+            "usize" => answer(out, memory, &mut self.usize_keys, call),
+            "i32" => answer(out, memory, &mut self.i32_keys, call),
+            "i64" => answer(out, memory, &mut self.i64_keys, call),
+            "cell" => answer(out, memory, &mut self.cell_keys, call),
             _ => return Ok(false),
-        }
+        };
+        written?;
         Ok(true)
     }
 }
@@ -69,12 +70,18 @@ fn lend<'k, 'a, K: IntKey>(
     kept.as_mut().ok_or(AllocError)
 }
 
-// writes the answer to a call on a map
-fn answer<K>(out: &mut String, map: &mut MapOf<'_, K>, call: &str) -> Result<(), AllocError>
+// writes the answer to a call on the map that is kept
+fn answer<'a, K>(
+    out: &mut String,
+    memory: &'a Refuser<Global>,
+    kept: &mut Option<MapOf<'a, K>>,
+    call: &str,
+) -> Result<(), AllocError>
 where
     K: IntKey + Display + Debug + FromStr,
     K::Err: Drop,
 {
+    let map = lend(memory, kept)?;
     let (name, rest) = call.split_once(' ').unwrap_or((call, ""));
     if rest.is_empty() {
         return without_key(out, map, name);
