@@ -18,7 +18,7 @@ module _ {K V : Type 0} (number : K → ℕ) (is_valid : K → Type 0) where
       ∙ value_of-walk_of number (put_pair number m.walk m.capacity k v) D q (slot_number-below number q D cap)
       ∙ value_of-put_pair number m.walk m.capacity k q v is_map.distinct)
 
-  -- and there is one pair more where the key was new
+  -- and there is one pair more if the key was new
   pub length-put : (m : MapState K V) (W : List (K × V)) (D : ℕ) (k : K) (v : V) → IsCapacity D → W ≡ walk_of number (put_pair number m.walk m.capacity k v) D → length W ≡ length m.walk + cond (is_some (value_of number m.walk k)) 0 1
   length-put m W D k v cap is =
       ap length is
@@ -32,7 +32,7 @@ module _ {K V : Type 0} (number : K → ℕ) (is_valid : K → Type 0) where
   pub length-insert : (m n : MapState K V) (k : K) (v : V) → IsCapacity n.capacity → n ≡ after_insert number m k v n.capacity → length n.walk ≡ length m.walk + cond (is_some (value_of number m.walk k)) 0 1
   length-insert m n k v cap state = length-put m n.walk n.capacity k v cap (ap (λ s. s.walk) state)
 
-  -- with a key taken out it has no value, and each other key its own
+  -- with a key removed it has no value, and each other key its own
   pub Updates-taken : (m : MapState K V) (W : List (K × V)) (k : K) → IsMap number is_valid m → W ≡ walk_of number (take_key number m.walk m.capacity k) m.capacity → Updates number m.walk W k None
   Updates-taken m W k is_map is =
       Updates-from number m.walk W k None (λ q.
@@ -40,7 +40,7 @@ module _ {K V : Type 0} (number : K → ℕ) (is_valid : K → Type 0) where
       ∙ value_of-walk_of number (take_key number m.walk m.capacity k) m.capacity q (slot_number-below number q m.capacity is_map.capacity)
       ∙ value_of-take_key number m.walk m.capacity k q is_map.distinct)
 
-  -- and there is one pair less where the key was bound
+  -- and there is one pair less if the key was present
   pub length-taken : (m : MapState K V) (W : List (K × V)) (k : K) → IsMap number is_valid m → W ≡ walk_of number (take_key number m.walk m.capacity k) m.capacity → length W + cond (is_some (value_of number m.walk k)) 1 0 ≡ length m.walk
   length-taken m W k is_map is =
       let walked : length W ≡ length (take_key number m.walk m.capacity k) = ap length is ∙ length-walk_of number (take_key number m.walk m.capacity k) m.capacity (λ q. slot_number-below number q m.capacity is_map.capacity) in
@@ -54,7 +54,7 @@ module _ {K V : Type 0} (number : K → ℕ) (is_valid : K → Type 0) where
   pub length-remove : (m n : MapState K V) (k : K) → IsMap number is_valid m → n ≡ after_remove number m k → length n.walk + cond (is_some (value_of number m.walk k)) 1 0 ≡ length m.walk
   length-remove m n k is_map state = length-taken m n.walk k is_map (ap (λ s. s.walk) state)
 
-  -- a key that is missing leaves the map where it is taken out
+  -- an absent key leaves the map as it is if it is removed
   pub without_missing : (m : MapState K V) (k : K) → IsMap number is_valid m → value_of number m.walk k ≡ None → without_key number m k ≡ m
   without_missing m k is_map none =
       let kept : take_key number m.walk m.capacity k ≡ m.walk = swap_out-none (λ p. same_key number k p.0) _ m.walk (position-from_none (same_key number k) m.walk none) in
@@ -65,6 +65,6 @@ module _ {K V : Type 0} (number : K → ℕ) (is_valid : K → Type 0) where
   pub value_of-in_slots : (W M : List (K × V)) (D : ℕ) (q : K) → IsCapacity D → M ≡ walk_of number W D → value_of number M q ≡ value_of number W q
   value_of-in_slots W M D q cap is = ap (λ L. value_of number L q) is ∙ value_of-walk_of number W D q (slot_number-below number q D cap)
 
-  -- and there are as many pairs
+  -- and the number of pairs is the same
   pub length-in_slots : (W M : List (K × V)) (D : ℕ) → IsCapacity D → M ≡ walk_of number W D → length M ≡ length W
   length-in_slots W M D cap is = ap length is ∙ length-walk_of number W D (λ q. slot_number-below number q D cap)

@@ -46,7 +46,7 @@ few_sizes (m ∷ sizes) = elim (cases_Bool (nat_lt 1 m)) [
   | inr alone ↦ (let h = few_sizes sizes in let more = sum_by-cons (λ n. n) m sizes in rw alone (omega (arith, h, more)))
 ]
 
--- a new map of so few pairs never wants more than 2^63 slots
+-- a new map with that few pairs never needs more than 2^63 slots
 GrowsTooMuch-few : (C n : ℕ) → IsCapacity C → 3 * n ≤ 2 ^ 64 → GrowsTooMuch C n 909 → ⊥
 GrowsTooMuch-few C n cap few much = elim (cases_Bool (is_due n)) [
   | inl due ↦

@@ -1,4 +1,4 @@
--- How few keys a look-up compares, and how many slots hold a pair, where keys share none.
+-- How few keys a look-up compares, and how many slots hold a pair, if no keys share one.
 use Rattle.std.proofs.Common.{◌≡◌, inl, inr, length, ℕ, ◌%◌, ◌<◌, ◌≤◌, Bool, true, cond, List, [], ◌∷◌, Option, Some, None, refl, sym, ap, ◌∙◌, arith}
 use Rattle.std.specs.Prelude.{◌==◌, count_by, MatchOption, All, map, filter, not}
 use Rattle.std.proofs.Math.Nat.{mod-eq_of_lt}
@@ -25,7 +25,7 @@ module _ {X : Type 0} (test stop : X → Bool) where
       let one = sum_by-cons (λ y. cond (test y) 1 0) x [] in
       grind (arith, rest, all, some, one)
 
--- where each that passes one test passes another, no more pass the one
+-- if each that passes one test passes another, no more pass the one
 count_by-within : {X : Type 0} (P : X → Type 0) (one other : X → Bool) → ((x : X) → P x → one x ≡ true → other x ≡ true) → (xs : List X) → All P xs → count_by one xs ≤ count_by other xs
 count_by-within P one other within [] all = omega arith
 count_by-within P one other within (x ∷ xs) all =
@@ -83,7 +83,7 @@ module _ {K V : Type 0} (number : K → ℕ) where
   pub class_size-below : (L : List (K × V)) (C : ℕ) (k : K) → HasDistinctKeys number L → All (λ p. number p.0 < C) L → class_size number L C k ≤ 1
   class_size-below L C k once below = residues-distinct L C (residue number k C) once below
 
-  -- and they fill as many slots as they are
+  -- and they fill as many slots as there are keys
   pub load_of-below : (L : List (K × V)) (C : ℕ) → HasDistinctKeys number L → All (λ p. number p.0 < C) L → load_of number L C ≡ length L
   load_of-below L C once below =
       ap length (each_once-distinct (map (λ p. residue number p.0 C) L)

@@ -1,4 +1,4 @@
--- What a map is once the first pair of its walk was taken out.
+-- What a map is once the first pair of its walk was removed.
 use Rattle.std.proofs.Common.{◌≡◌, ℕ, suc, ◌-◌, List, [], ◌∷◌, length, refl, sym, ap, ◌∙◌, subst, arith}
 use Rattle.std.specs.Prelude.{cond, map}
 use Rattle.std.proofs.lemmas.List.Sums.{sum_by-cons}
@@ -42,7 +42,7 @@ module _ {K V : Type 0} (number : K → ℕ) where
           load = IsLoaded-fewer C (suc (length W)) (length W) F (capacity-positive C m.capacity) m.load (omega arith);
         }
 
-    -- the same of what a map keeps, where the first pair of its table was taken out
+    -- the same of the parts of a map, if the first pair of its table was removed
     pub IsConsistent-rest : (p : K × Kept V) (W M : List (K × Kept V)) (C D F n most : ℕ) → W ≡ p ∷ M → D ≡ C → walk_of number M D ≡ M
         → IsConsistent number is_valid W C F n most → IsConsistent number is_valid M D F (n - 1) most
     IsConsistent-rest p W M C D F n most first same own old = record {

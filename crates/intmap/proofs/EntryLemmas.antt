@@ -22,17 +22,17 @@ use Rattle.intmap.proofs.MapLemmas.{MapState-same}
 use Rattle.intmap_table.proofs.PositionLemmas.{swap_out-none, position-from_none}
 use Rattle.intmap_table.specs.Laws.Written.{IsFound-write_value, key_at-written, the_key-same}
 
--- what an accepted call says, where that follows
+-- what a successful call says, if that follows
 pub OnOk-so : {T E : Type 0} (P Q : Type 0) → (P → Q) → (r : Result T E) → OnOk r P → OnOk r Q
 OnOk-so P Q so (Ok x) h = so h
 OnOk-so P Q so (Err x) h = h
 
--- what holds whether a call answers an error or not
+-- what holds whether a call returns an error or not
 pub on_error : {T E P : Type 0} (r : Result T E) → P → OnErr r P
 on_error (Ok x) p = tt
 on_error (Err e) p = p
 
--- the error of what was made, or of its refusal, is one of what may be made
+-- the error of what was made, or of its failed insertion, is one of what may be made
 pub made-so : {V E : Type 0} (Made : Result V E → Type 0) (from_gives : Refused V → E → Type 0) (is_due : Cause → Type 0) (made : Result V E) (e : E) → Made made
     → (made ≡ Err e) ⊎ IsMadeRefusal (λ m. m ≡ made) from_gives is_due e → Made (Err e) ⊎ IsMadeRefusal Made from_gives is_due e
 made-so Made from_gives is_due made e may (inl is) = inl (subst Made is may)
@@ -45,7 +45,7 @@ IsNext-next_capacity C n F cap fits = elim (cases_Bool (is_due n)) as (λ _. IsN
   | inr not ↦ rw not refl
 ]
 
--- where an insertion isn't too large, there is room for one more length
+-- if an insertion isn't too large, there is room for one more length
 pub length-not_too_large : {K V : Type 0} (W : List (K × V)) (C F : ℕ) → (InsertIsTooLarge W C F → ⊥) → length W + 1 < 2 ^ 64
 length-not_too_large W C F room = elim (cases_lt (length W + 1) (2 ^ 64)) [ inl fits ↦ fits | inr many ↦ absurd (room (inl many)) ]
 
@@ -55,7 +55,7 @@ module _ {K V : Type 0} (number : K → ℕ) where
   write_value-unbound_step p L k v true e rest none = let no : ◌≡◌ {A = Option V} (Some p.1) None = rw e at none in cc
   write_value-unbound_step p L k v false e rest none = let n : value_of number L k ≡ None = rw e at none in simp e (ap (λ M. p ∷ M) (rest n))
 
-  -- a key that isn't bound is written for nothing
+  -- writing the value of an absent key changes nothing
   pub write_value-unbound : (L : List (K × V)) (k : K) (v : V) → value_of number L k ≡ None → write_value number L k v ≡ L
   write_value-unbound [] k v none = refl
   write_value-unbound (p ∷ L) k v none = write_value-unbound_step p L k v (same_key number k p.0) refl (write_value-unbound L k v) none
@@ -84,7 +84,7 @@ module _ {K V A : Type 0} {g : key.Ghosts K} {e : eq.Ghosts K} where
       ap (λ z. let o : OccupiedEntry K V A g e = record { map = record o.map { now = written g.number_of o.map.now (occupied_key o) w }; slot = o.slot; place = o.place; found = z } in o)
       (IsFound-prop g.number_of _ _ o.slot o.place found (IsFound-write_value g.number_of o.map.now.walk o.map.now.capacity o.slot o.place (occupied_key o) w o.found))
 
-  -- an entry whose map was written is the entry with the value, however it is known where the key stands
+  -- an entry whose map was written is the entry with the value, however the place of the key is known
   pub occupied-rewritten : (o : OccupiedEntry K V A g e) (w : V) (k : K) → occupied_key o ≡ k → (found : IsFound g.number_of (written g.number_of o.map.now k w).walk (written g.number_of o.map.now k w).capacity o.slot o.place)
       → ◌≡◌ {A = OccupiedEntry K V A g e} (record { map = record o.map { now = written g.number_of o.map.now k w }; slot = o.slot; place = o.place; found = found }) (occupied_with_value o w)
   occupied-rewritten o w k same =

@@ -1,4 +1,4 @@
--- What the equality of maps comes to once their lengths are compared.
+-- What the equality of maps is once their lengths are compared.
 use Rattle.std.proofs.Common.{◌≡◌, inl, inr, ℕ, ◌≤◌, Bool, true, false, cond, ◌&&◌, List, [], ◌∷◌, length, Option, Some, None, refl, sym, ap, ◌∙◌, arith}
 use Rattle.std.specs.Prelude.{All}
 use Rattle.std.specs.Cmp.{IsPartialEquivalence, first_so, second_so}
@@ -10,15 +10,15 @@ use Rattle.std.proofs.lemmas.List.Elements.{All-nil, All-cons, All-head, All-tai
 use Rattle.std.proofs.lemmas.List.Sums.{sum_by-cons}
 use Rattle.intmap_table.specs.Classes.{same_key}
 use Rattle.intmap_table.specs.Bindings.{value_of, HasDistinctKeys, take_key, put_pair}
-use Rattle.intmap.specs.Equality.{are_bound_alike, maps_equal}
-use Rattle.intmap.specs.Laws.EqualityLaws.{value_of-same_number, unbound-or_alike, are_bound_alike-from_BindSame, option_eq-symm}
+use Rattle.intmap.specs.Equality.{are_present_alike, maps_equal}
+use Rattle.intmap.specs.Laws.EqualityLaws.{value_of-same_number, unbound-or_alike, are_present_alike-from_BindSame, option_eq-symm}
 use Rattle.intmap.specs.Map.{MapState}
 use Rattle.intmap_table.proofs.BindingLemmas.{first_value-none, value_of-take_key, value_of-put_pair}
 use Rattle.intmap_table.proofs.DistinctLemmas.{length-take_key, length-put_pair, HasDistinctKeys-take_key, HasDistinctKeys-put_pair}
 use Rattle.intmap.proofs.CostLemmas.{HasDistinctKeys-tail}
 
 module _ {K V : Type 0} (number : K → ℕ) where
-  -- M binds each key that L binds
+  -- M has each key that L has
   abbrev pub KeysWithin : List (K × V) → List (K × V) → Type 0
   KeysWithin L M = (q : K) → value_of number M q ≡ None → value_of number L q ≡ None
 
@@ -26,7 +26,7 @@ module _ {K V : Type 0} (number : K → ℕ) where
   value_of-first : (p : K × V) (L : List (K × V)) → value_of number (p ∷ L) p.0 ≡ Some p.1
   value_of-first p L = ap (λ b. cond b (Some p.1) (value_of number L p.0)) (eq-eqb (number p.0) (number p.0) refl)
 
-  -- the first pair's key isn't bound behind it
+  -- the first pair's key is absent behind it
   value_of-rest : (p : K × V) (L : List (K × V)) → HasDistinctKeys number (p ∷ L) → (q : K) → same_key number q p.0 ≡ true → value_of number L q ≡ None
   value_of-rest p L once q found =
       let more = sum_by-cons (λ (r : K × V). cond (same_key number q r.0) 1 0) p L in
@@ -34,7 +34,7 @@ module _ {K V : Type 0} (number : K → ℕ) where
       let few = once q in
       first_value-none (same_key number q) L (omega (arith, more, one, few))
 
-  -- with the first pair's key taken out of both, the one is within the other
+  -- with the first pair's key removed from both, the one is within the other
   KeysWithin-rest : (p : K × V) (L M : List (K × V)) → HasDistinctKeys number (p ∷ L) → HasDistinctKeys number M → KeysWithin (p ∷ L) M → KeysWithin L (take_key number M 2 p.0)
   KeysWithin-rest p L M once distinct within q none =
       let taken = value_of-take_key number M 2 p.0 q distinct in
@@ -46,7 +46,7 @@ module _ {K V : Type 0} (number : K → ℕ) where
             grind (arith, common_steps, gone))
       ]
 
-  -- where M binds each key that L binds, it is no shorter
+  -- if M has each key that L has, it is no shorter
   length-KeysWithin : (L M : List (K × V)) → HasDistinctKeys number L → HasDistinctKeys number M → KeysWithin L M → length L ≤ length M
   length-KeysWithin [] M once distinct within = omega arith
   length-KeysWithin (p ∷ L) M once distinct within =
@@ -56,7 +56,7 @@ module _ {K V : Type 0} (number : K → ℕ) where
       let found = within p.0 in
       grind (arith, common_steps, rest, less, first, found)
 
-  -- where M binds each key that L binds and is as long, L binds each key that M binds
+  -- if M has each key that L has and is as long, L has each key that M has
   KeysWithin-turned : (L M : List (K × V)) → HasDistinctKeys number L → HasDistinctKeys number M → length L ≡ length M → KeysWithin L M → KeysWithin M L
   KeysWithin-turned L M once distinct same within q none = at (value_of number M q) refl
     where
@@ -105,27 +105,27 @@ module _ {K V : Type 0} (number : K → ℕ) (equal : V → V → Bool) where
   abbrev pub are_found : List (K × V) → List (K × V) → Bool
   are_found P M = list_all (λ p. option_eq equal (Some p.1) (value_of number M p.0)) P
 
-  -- to look pairs up that are found in L is to compare what L and M bind
-  are_bound_alike-part : (L M P : List (K × V)) → All (λ p. value_of number L p.0 ≡ Some p.1) P → list_all (λ p. option_eq equal (value_of number L p.0) (value_of number M p.0)) P ≡ are_found P M
-  are_bound_alike-part L M [] found = refl
-  are_bound_alike-part L M (p ∷ P) found =
+  -- looking up the pairs that are found in L compares the values of L and M
+  are_present_alike-part : (L M P : List (K × V)) → All (λ p. value_of number L p.0 ≡ Some p.1) P → list_all (λ p. option_eq equal (value_of number L p.0) (value_of number M p.0)) P ≡ are_found P M
+  are_present_alike-part L M [] found = refl
+  are_present_alike-part L M (p ∷ P) found =
       let here = All-head (λ (q : K × V). value_of number L q.0 ≡ Some q.1) p P found in
-      let rest = are_bound_alike-part L M P (All-tail (λ (q : K × V). value_of number L q.0 ≡ Some q.1) p P found) in
+      let rest = are_present_alike-part L M P (All-tail (λ (q : K × V). value_of number L q.0 ≡ Some q.1) p P found) in
       λ i. option_eq equal (here i) (value_of number M p.0) && rest i
 
-  -- keys that are bound alike are bound
-  KeysWithin-alike : (L M : List (K × V)) → are_bound_alike number equal L M ≡ true → KeysWithin number L M
+  -- keys that have equal values are present
+  KeysWithin-alike : (L M : List (K × V)) → are_present_alike number equal L M ≡ true → KeysWithin number L M
   KeysWithin-alike L M all q none =
       elim (unbound-or_alike number equal L M q all) [
         | inl unbound ↦ unbound
         | inr alike ↦ option_eq-missing equal (value_of number L q) (ap (option_eq equal (value_of number L q)) (sym none) ∙ alike)
       ]
 
-  -- where each key of L is bound alike in M, which is as long, each key of M is in L
-  are_bound_alike-turned : IsPartialEquivalence equal → (L M : List (K × V)) → HasDistinctKeys number L → HasDistinctKeys number M → length L ≡ length M
-      → are_bound_alike number equal L M ≡ true → are_bound_alike number equal M L ≡ true
-  are_bound_alike-turned values L M once distinct same all =
-      are_bound_alike-from_BindSame number equal M L (λ q. elim (unbound-or_alike number equal L M q all) [
+  -- if each key of L has equal values in M, which is as long, each key of M is in L
+  are_present_alike-turned : IsPartialEquivalence equal → (L M : List (K × V)) → HasDistinctKeys number L → HasDistinctKeys number M → length L ≡ length M
+      → are_present_alike number equal L M ≡ true → are_present_alike number equal M L ≡ true
+  are_present_alike-turned values L M once distinct same all =
+      are_present_alike-from_BindSame number equal M L (λ q. elim (unbound-or_alike number equal L M q all) [
         | inl none ↦
             (let missing = KeysWithin-turned number L M once distinct same (KeysWithin-alike L M all) q none in
             λ i. option_eq equal (missing i) (none i))
@@ -136,8 +136,8 @@ module _ {K V : Type 0} (number : K → ℕ) (equal : V → V → Bool) where
   pub maps_equal-same_length : IsPartialEquivalence equal → (m n : MapState K V) → HasDistinctKeys number m.walk → HasDistinctKeys number n.walk → length m.walk ≡ length n.walk
       → maps_equal number equal m n ≡ are_found m.walk n.walk
   maps_equal-same_length values m n once distinct same =
-      and-implied (are_bound_alike number equal m.walk n.walk) (are_bound_alike number equal n.walk m.walk) (are_bound_alike-turned values m.walk n.walk once distinct same)
-      ∙ are_bound_alike-part m.walk n.walk m.walk (All-found number m.walk once)
+      and-implied (are_present_alike number equal m.walk n.walk) (are_present_alike number equal n.walk m.walk) (are_present_alike-turned values m.walk n.walk once distinct same)
+      ∙ are_present_alike-part m.walk n.walk m.walk (All-found number m.walk once)
 
   -- maps of other lengths aren't equal
   pub maps_equal-other_length : (m n : MapState K V) → HasDistinctKeys number m.walk → HasDistinctKeys number n.walk → (length m.walk ≡ length n.walk → ⊥)
@@ -145,8 +145,8 @@ module _ {K V : Type 0} (number : K → ℕ) (equal : V → V → Bool) where
   maps_equal-other_length m n once distinct other =
       elim (cases_Bool (maps_equal number equal m n)) [
         | inl both ↦
-            (let there = length-KeysWithin number m.walk n.walk once distinct (KeysWithin-alike m.walk n.walk (first_so (are_bound_alike number equal m.walk n.walk) _ both)) in
-            let back = length-KeysWithin number n.walk m.walk distinct once (KeysWithin-alike n.walk m.walk (second_so (are_bound_alike number equal m.walk n.walk) _ both)) in
+            (let there = length-KeysWithin number m.walk n.walk once distinct (KeysWithin-alike m.walk n.walk (first_so (are_present_alike number equal m.walk n.walk) _ both)) in
+            let back = length-KeysWithin number n.walk m.walk distinct once (KeysWithin-alike n.walk m.walk (second_so (are_present_alike number equal m.walk n.walk) _ both)) in
             absurd (other (omega (arith, there, back))))
         | inr differ ↦ differ
       ]

@@ -14,7 +14,7 @@ use Rattle.std.specs.Map.{keys_of}
 abbrev itself : ℕ → ℕ
 itself k = k
 
--- pairs that bind each key to ten more than itself
+-- pairs in which each key has ten more than itself
 abbrev pairs_of : List ℕ → List (ℕ × ℕ)
 pairs_of ks = map (λ k. (k, k + 10)) ks
 
@@ -30,7 +30,7 @@ number_of_signed-ends = (refl, refl, refl)
 slot_number-below : (slot_number number_of_signed (negsuc 0) 4 ≡ 3) × (slot_number itself 18446744073709551615 4 ≡ 3)
 slot_number-below = (refl, refl)
 
--- a key that is put twice is bound to the later value
+-- a key that is inserted twice has the later value
 put_twice : value_of {V = ℕ} itself (put_pair itself (put_pair itself [] 4 21 1) 4 21 2) 21 ≡ Some 2
 put_twice = refl
 
@@ -42,7 +42,7 @@ walk_of-eight = refl
 take_key-first : keys_of (walk_of itself (take_key itself crowd 4 0) 4) ≡ 8 ∷ 4 ∷ []
 take_key-first = refl
 
--- a key that is put again stands last
+-- a key that is inserted again is last
 put_pair-again : keys_of (walk_of itself (put_pair itself crowd 4 4 99) 4) ≡ 0 ∷ 8 ∷ 4 ∷ []
 put_pair-again = refl
 
@@ -105,7 +105,7 @@ keep_pairs-odd = refl
 first_of_walk-three : keys_of (first_of_walk itself 3 (pairs_of (range_with_len 0 8)) 8) ≡ 0 ∷ 5 ∷ 2 ∷ []
 first_of_walk-three = refl
 
--- a missing key is compared with its whole class, a bound one with those before it and itself
+-- an absent key is compared with its whole class, a present one with those before it and itself
 reach-crowd : (reach itself crowd 4 12 ≡ 3) × (reach itself crowd 4 4 ≡ 2) × (reach itself crowd 4 1 ≡ 0)
 reach-crowd = (refl, refl, refl)
 

@@ -27,21 +27,21 @@ module _ {K V : Type 0} (number : K → ℕ) where
       by_case true is rest = rw is refl
       by_case false is rest = rw is rest
 
-  -- the last pair comes first from the back
+  -- the last pair is the first from the back
   value_of-reverse_push : (ps : List (K × V)) (k q : K) (v : V) → value_of number (reverse (ps ++ (k, v) ∷ [])) q ≡ cond (same_key number q k) (Some v) (value_of number (reverse ps) q)
   value_of-reverse_push ps k q v = ap (λ L. value_of number L q) (reverse-append ps ((k, v) ∷ []))
 
-  -- where one is found of two, it is found with either in place of the other
+  -- if one is found of two, it is found with either in place of the other
   is_some-or : (o a b : Option V) → is_some a ≡ is_some b → is_some (option_or o a) ≡ is_some (option_or o b)
   is_some-or None a b same = same
   is_some-or (Some v) a b same = refl
 
-  -- two that stand in front of a third are found one after another
+  -- two that are in front of a third are found one after another
   option_or-assoc : (a b c : Option V) → option_or (option_or a b) c ≡ option_or a (option_or b c)
   option_or-assoc None b c = refl
   option_or-assoc (Some v) b c = refl
 
-  -- one key more is new where it is neither bound nor came before
+  -- one key more is new if it is neither present nor among those before
   length-new_keys-push : (L ps : List (K × V)) (k : K) (v : V)
       → length (new_keys number L (ps ++ (k, v) ∷ [])) ≡ length (new_keys number L ps) + cond (is_some (option_or (value_of number (reverse ps) k) (value_of number L k))) 0 1
   length-new_keys-push L [] k v = by_case (is_some (value_of number L k)) refl
@@ -99,7 +99,7 @@ module _ {K V : Type 0} (number : K → ℕ) (is_valid : K → Type 0) where
   IsExtended-nil m = record { inserted = refl; updates = λ q. refl; len = sym (add-zero (length m.walk)); factor = refl; capacity = omega arith }
 
   module _ (m l n : MapState K V) (ps : List (K × V)) (k : K) (v : V) (before : IsExtended number is_valid m ps l) (last : MapInserts number is_valid l k v n) where
-    -- one insertion more, which answered so, by what it says of keys and length
+    -- one insertion more that returned this, by what it says of keys and length
     pub IsExtended-push : (old : Option V) → old ≡ value_of number l.walk k → ((q : K) → value_of number n.walk q ≡ cond (same_key number k q) (Some v) (value_of number l.walk q))
         → length n.walk ≡ length l.walk + cond (is_some old) 0 1 → IsExtended number is_valid m (ps ++ (k, v) ∷ []) n
     IsExtended-push old was updates len = record {
@@ -129,16 +129,16 @@ module _ {K V : Type 0} (number : K → ℕ) (is_valid : K → Type 0) where
         by_case q true is = rw (is, value_of-reverse_push number ps k q v, turned q true is) refl
         by_case q false is = rw (is, value_of-reverse_push number ps k q v, turned q false is) (before.updates q)
 
--- a result that is refused with a cause that meets R is one whose cause meets what follows of R
+-- a result that fails with a cause that meets R fails with one that meets what follows of R
 pub MatchResult-refused : {T : Type 0} (r : Result T Cause) (R P : Cause → Type 0) (Q : T → Type 0) → IsErrAnd r R → ((cause : Cause) → R cause → P cause) → MatchResult r Q P
 MatchResult-refused (Ok t) R P Q refused follows = absurd refused
 MatchResult-refused (Err cause) R P Q refused follows = follows cause refused
 
--- a refusal, in place of a T
+-- a failure, in place of a T
 abbrev pub refusal_of : (T : Type 0) → Cause → Result T Cause
 refusal_of T cause = Err cause
 
--- the cause of a map that wasn't made for so many slots
+-- the cause of a map that could not be made with so many slots
 pub cause-of_slots : {T : Type 0} (cause : Cause) (b : ℕ) → ((refusal_of T cause) ≡ (refusal_of T TooLarge)) ↔ (2 ^ 63 < b) → ((cause ≡ TooLarge) × (2 ^ 63 < b)) ⊎ ((cause ≡ Memory) × (b ≤ 2 ^ 63))
 cause-of_slots TooLarge b large = inl (refl, large.0 refl)
 cause-of_slots Memory b large = elim (cases_lt (2 ^ 63) b) [
@@ -146,7 +146,7 @@ cause-of_slots Memory b large = elim (cases_lt (2 ^ 63) b) [
   | inr within ↦ inr (refl, within)
 ]
 
--- what a list by value gave stands before what is left of it
+-- what a list by value gave comes before what is left of it
 items-yielded : {X Z : Type 0} (s : IntoIter X Z) (xs : List X) (t : IntoIter X Z) → Yields into_iter_steps s xs t → into_iter_items s ≡ xs ++ into_iter_items t
 items-yielded s [] t h = ap into_iter_items h
 items-yielded s (x ∷ xs) t h = h.1.0 ∙ ap (λ ys. x ∷ ys) (items-yielded h.0 xs t h.2)

@@ -30,7 +30,7 @@ module _ {K V : Type 0} (number : K → ℕ) (W : List (K × Kept V)) (C : ℕ) 
       let stored = length-append (slot_of number W C n) (flat_map (slot_of number W C) ns) in
       omega (arith, seen, stored, slot-len n, slots-len ns)
 
-  -- where a walk stands doesn't depend on the values
+  -- the position of a walk doesn't depend on the values
   pub IsReached-unkept : (slot place passed : ℕ) → IsReached number W C slot place passed → IsReached number (unkept W) C slot place passed
   IsReached-unkept slot place passed at = record {
     within = omega (arith, at.within, slot-len slot);

@@ -21,7 +21,7 @@ record FirstHit (test : ℕ → Bool) (f : ℕ → ℕ) (m r : ℕ) : Type 0 whe
   hit : test (f place) ≡ true
   missed : (i : ℕ) → i < place → test (f i) ≡ false
 
--- where one of them passes, the search finds the first
+-- if one of them passes, the search finds the first
 first_hit : (test : ℕ → Bool) (f : ℕ → ℕ) (m k : ℕ) → k < m → test (f k) ≡ true → FirstHit test f m (unwrap_or (find test (map f (range_with_len 0 m))) 0)
 first_hit test f m k lt passes =
     let xs : List ℕ = map f (range_with_len 0 m) in
@@ -125,7 +125,7 @@ IsLeastPower-least_power n small =
       ]);
     }
 
--- what `next_power_of_two` answers, at 0 too
+-- what `next_power_of_two` returns, at 0 too
 pub IsLeastPower-up : (n p : ℕ) → IsPowerOfTwo p → n ≤ p → p / 2 < max 1 n → IsLeastPower n p
 IsLeastPower-up n p power enough below = elim (cases_lt 0 n) [
   | inl some ↦ IsLeastPower-from_next n p some power enough below
@@ -153,7 +153,7 @@ IsCapacity-max p C power below cap = elim (cases_lt C p) [
       rw e (k, some, top, is))
 ]
 
--- where so many fit, their least power of two fits
+-- if a number fits, its least power of two fits
 pub IsLeastPower-fits : (n p C : ℕ) → IsLeastPower n p → IsCapacity C → n ≤ C → p ≤ C
 IsLeastPower-fits n p C least cap fits =
     let q = cap.3 in let m = least.least cap.0 (subst (λ c. n ≤ c) q fits) in omega (arith, m, q)

@@ -14,7 +14,7 @@ use Rattle.intmap.specs.Json.{IsKeyText}
 decimal_digits : IsNumeralModel (AllDigits 10) (digits_value 10)
 decimal_digits = numerals_by_value (AllDigits 10) tells_digits
 
--- in front there is no plus, and no zero but one that stands alone
+-- in front there is no plus, and no zero except one that is all of it
 abbrev pub BeginsAsPrinted : List ℕ → Type 0
 BeginsAsPrinted text = (get_or text 0 0 ≢ 43) × (get_or text 0 0 ≡ 48 → length text ≡ 1)
 
@@ -39,7 +39,7 @@ IsKeyText-parsed {E} text (Ok n) begins parsed =
     (sym printed ∙ ap decimal (sym read.1), subst (λ m. m < 2 ^ 64) (sym read.1) read.0.2)
 IsKeyText-parsed {E} text (Err e) begins parsed = tt
 
--- where nothing is parsed, it is the text of no number
+-- if nothing is parsed, it is the text of no number
 pub IsKeyText-not_parsed : {E : Type 0} (text : List ℕ) (r : Result ℕ E) → ParsesUnsigned 64 10 text r → IfNone (result_ok r) ((k : ℕ) → ¬ IsKeyText text k)
 IsKeyText-not_parsed {E} text (Ok n) parsed = tt
 IsKeyText-not_parsed {E} text (Err e) parsed = λ k is.
@@ -49,7 +49,7 @@ IsKeyText-not_parsed {E} text (Err e) parsed = λ k is.
 abbrev pub Entry : Type 0
 Entry = String Global × Value
 
--- the values of members hold a float exactly where the members do
+-- the values of members hold a float exactly if the members do
 pub items_have_float-values : (es : List Entry) → items_have_float (items_view (map (λ e. e.1) es)) ≡ members_have_float (members_view es)
 items_have_float-values [] = refl
 items_have_float-values (e ∷ es) = ap (λ b. has_float (view e.1) || b) (items_have_float-values es)

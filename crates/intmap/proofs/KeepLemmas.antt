@@ -26,11 +26,11 @@ module _ {K V : Type 0} (number : K → ℕ) (keeps : K → V → Bool) where
       flat_map-same (slot_of number (keep_pairs keeps L) C) (λ i. keep_pairs keeps (slot_of number L C i)) 0 C (λ i _. slot_of-keep_pairs L C (0 + i))
       ∙ sym (filter-flat_map (λ p. keeps p.0 p.1) (slot_of number L C) (range_with_len 0 C))
 
-  -- a list that stands for a map stands for what is kept of it once as much is kept of the list
+  -- a list that stands for a map stands for what is kept of it once the same is kept of the list
   pub StandsFor-keep_pairs : (L W : List (K × V)) (C : ℕ) → StandsFor number L W C → StandsFor number (keep_pairs keeps L) (keep_pairs keeps W) C
   StandsFor-keep_pairs L W C stands = walk_of-keep_pairs L C ∙ ap (keep_pairs keeps) stands
 
 module _ {F K V : Type 0} (R : F → K × V → Bool → F → Type 0) (Own : F → Type 0) (keeps : K → V → Bool) (each : (f : F) (p : K × V) (b : Bool) (g : F) → Own f → R f p b g → (b ≡ keeps p.0 p.1) × Own g) where
-  -- what stays where each answer is that of a test of key and value, and `Own` holds of the closure throughout
+  -- what stays if each answer is a test of key and value, and `Own` holds of the closure throughout
   pub Retains-keep_pairs : (f g : F) (L M : List (K × V)) → Own f → Retains R f L M g → M ≡ keep_pairs keeps L
   Retains-keep_pairs f g L M own r = Retains-filter R Own (λ p. keeps p.0 p.1) each f g L M own r

@@ -74,7 +74,7 @@ IsNear-more C n F c cap near over apart =
       ];
     }
 
--- where 2^63 isn't enough, more is wanted
+-- if 2^63 isn't enough, more is needed
 pub IsNear-none : (C n F c : ℕ) → IsCapacity C → n < 2 ^ 64 → IsNear C n F c → (F + 1) * c ≤ n * 1000 → c ≡ 2 ^ 63 → WantsTooMuch C n F
 IsNear-none C n F c cap fits near over top =
     let D : ℕ = wanted_capacity C n F in
@@ -103,7 +103,7 @@ not_too_much C n F D wanted le much =
     let same : D ≡ much.0 = IsWanted-unique C n F D much.0 wanted much.1 in
     let above = much.2 in omega (arith, same, le, above)
 
--- the bit of value four tells whether growth is tested
+-- the bit of value four says whether growth is tested
 pub bit_and-four : (n : ℕ) → (bit_and n 4 == 4) ≡ is_due n
 bit_and-four n =
     let a : bit_and n 4 ≡ n / 4 % 2 * 4 = and_pow n 2 in
@@ -112,7 +112,7 @@ bit_and-four n =
       | inr apart ↦ ne_eqb (bit_and n 4) 4 (λ q. apart (omega (arith, a, q))) ∙ sym (ne_eqb (n / 4 % 2) 1 apart)
     ]
 
--- where C meets the load, it is what is wanted
+-- if C meets the load, it is what is wanted
 pub IsWanted-same : (C n F : ℕ) → IsCapacity C → MeetsLoad C n F → IsWanted C n F C
 IsWanted-same C n F cap meets = record {
   doubled = (0, omega arith);
@@ -144,7 +144,7 @@ IsNext-same C F n threshold cap fits lim test = elim (cases_Bool (is_due n)) [
   | inr not ↦ rw not refl
 ]
 
--- where growth is tested, what is wanted follows
+-- if growth is tested, what is wanted follows
 pub IsNext-wanted : (C F n D : ℕ) → is_due n ≡ true → IsWanted C n F D → IsNext C n F D
 IsNext-wanted C F n D due wanted = rw due wanted
 
@@ -180,7 +180,7 @@ below_next x C some = elim (cases_lt x ((x / C + 1) * C)) [
 abbrev pub IsLoaded : ℕ → ℕ → ℕ → Type 0
 IsLoaded C n F = 4 ≤ n → MeetsLoad C (last_due n) F
 
--- all lengths up to n meet the load where n does
+-- all lengths up to n meet the load if n does
 pub IsLoaded-from : (C n F : ℕ) → 0 < C → MeetsLoad C n F → IsLoaded C n F
 IsLoaded-from C n F some meets four = MeetsLoad-fewer C n (last_due n) F some meets (last_due-le n)
 
@@ -192,7 +192,7 @@ IsLoaded-fewer C n m F some loaded le four =
     last_due-most (last_due m) n (let a = last_due-le m in omega (arith, a, le)) (last_due-is_due m four) in
     MeetsLoad-fewer C (last_due n) (last_due m) F some (loaded many) less
 
--- one pair more, where growth isn't tested or the threshold isn't exceeded
+-- one pair more, if growth isn't tested or the threshold isn't exceeded
 pub IsLoaded-more : (C n F most : ℕ) → 0 < C → n + 1 < 2 ^ 64 → IsThreshold C F most → IsLoaded C n F → (is_due (n + 1) && nat_lt most (n + 1)) ≡ false → IsLoaded C (n + 1) F
 IsLoaded-more C n F most some fits lim loaded test four = elim (cases_Bool (is_due (n + 1))) [
   | inl due ↦
@@ -226,6 +226,6 @@ GrowsTooMuch-none C n F D cap next much =
     let same : D ≡ much.0 = IsNext-unique C n F D much.0 next much.1 in
     let top = capacity-greatest D cap in let above = much.2 in omega (arith, same, top, above)
 
--- where growth is tested, to want too much is to grow too much
+-- if growth is tested, needing too much is growing too much
 pub GrowsTooMuch-wants : (C n F : ℕ) → is_due n ≡ true → WantsTooMuch C n F → GrowsTooMuch C n F
 GrowsTooMuch-wants C n F due much = (much.0, IsNext-wanted C F n much.0 due much.1, much.2)

@@ -14,7 +14,7 @@ use Rattle.intmap_table.proofs.MappedLemmas.{swap_out-map}
 use Rattle.intmap.proofs.WriteLemmas.{length-write_value, value_of-write_value, IsMapWalk-written}
 
 module _ {K V : Type 0} (number : K → ℕ) (k : K) (v : V) where
-  -- the pair, with v as its value where its key is k
+  -- the pair, with v as its value if its key is k
   abbrev rewritten : K × V → K × V
   rewritten p = cond (same_key number k p.0) (p.0, v) p
 
@@ -26,7 +26,7 @@ module _ {K V : Type 0} (number : K → ℕ) (k : K) (v : V) where
   rewritten-pair : (q : K) (w : V) → rewritten (q, w) ≡ (q, cond (same_key number k q) v w)
   rewritten-pair q w = elim (same_key number k q) as (λ b. ◌≡◌ {A = K × V} (cond b (q, v) (q, w)) (q, cond b v w)) [ true ↦ refl | false ↦ refl ]
 
-  -- a key is taken out of pairs alike, once a value was written
+  -- a key is removed from pairs alike, once a value was written
   take_key-write_value : (L : List (K × V)) (C : ℕ) (q : K) → take_key number (write_value number L k v) C q ≡ write_value number (take_key number L C q) k v
   take_key-write_value L C q =
       swap_out-map rewritten (λ p. same_key number q p.0) (λ p. agrees number C q p.0) L
@@ -41,7 +41,7 @@ module _ {K V : Type 0} (number : K → ℕ) (k : K) (v : V) where
       ∙ ap (λ p. write_value number (take_key number L C q) k v ++ p ∷ []) (sym (rewritten-pair q w))
       ∙ sym (map-append rewritten (take_key number L C q) ((q, w) ∷ []))
 
-  -- the same keys are bound
+  -- the same keys are present
   is_some-write_value : (L : List (K × V)) (q : K) → is_some (value_of number (write_value number L k v) q) ≡ is_some (value_of number L q)
   is_some-write_value L q = ap is_some (value_of-write_value number L k q v) ∙ by_case (same_key number k q) (value_of number L q)
     where
@@ -74,7 +74,7 @@ module _ {K V : Type 0} (number : K → ℕ) (is_valid : K → Type 0) where
       capacity : n.capacity ≡ m.capacity
       factor : n.factor ≡ m.factor
 
-    -- what insertions leave of it, where they insert the same pairs with the value written
+    -- what insertions leave of it, if they insert the same pairs with the value written
     MapInsertsAll-written : (ps : List (K × V)) (m l n : MapState K V) → IsWrittenTo m n → MapInsertsAll number is_valid m ps l
         → (o : MapState K V) × MapInsertsAll number is_valid n (write_value number ps k v) o × IsWrittenTo l o
     MapInsertsAll-written [] m l n is same = (n, refl, rw same is)

@@ -85,7 +85,7 @@ pub one_more : {V : Type 0} (o : Option V) → o ≡ None → ◌≡◌ {A = ℕ
 one_more o e = ap (λ (o : Option _). cond (is_some o) 0 1) e
 
 module _ {K V : Type 0} (number : K → ℕ) where
-  -- what a put pair leaves in D slots, as callers see it
+  -- what an inserted pair leaves in D slots, as callers see it
   pub unkept-put : (W W' : List (K × Kept V)) (C D : ℕ) (k : K) (x : Kept V) → W' ≡ walk_of number (put_pair number W C k x) D → unkept W' ≡ walk_of number (put_pair number (unkept W) C k x.value) D
   unkept-put W W' C D k x is =
       ap unkept is ∙ sym (walk_of-map_values number (λ (x : Kept V). x.value) (put_pair number W C k x) D)
@@ -123,7 +123,7 @@ module _ {K V : Type 0} (number : K → ℕ) where
     fits-old : n < 2 ^ 64
     fits-old = let fits = old.map.count in omega (arith, fits, length-unkept W, old.count)
 
-    -- the pair of a bound key was replaced
+    -- the pair of a present key was replaced
     pub IsConsistent-replaced : (C' : ℕ) (k : K) (x y : Kept V) → C' ≡ C → is_valid k → value_of number W k ≡ Some y → W' ≡ walk_of number (put_pair number W C k x) C → IsConsistent number is_valid W' C' F n most
     IsConsistent-replaced C' k x y same key bound is =
         let len = length-put_pair number W C k x in
@@ -135,18 +135,18 @@ module _ {K V : Type 0} (number : K → ℕ) where
         let len = length-put_pair number W C k x in
         let more = one_more (value_of number W k) missing in omega (arith, len, more, old.count)
 
-    -- the pair of a key that wasn't bound was added, where the table needn't grow
+    -- the pair of an absent key was added, if the table needn't grow
     pub IsConsistent-added : (C' : ℕ) (k : K) (x : Kept V) → C' ≡ C → is_valid k → value_of number W k ≡ None → n + 1 < 2 ^ 64 → (is_due (n + 1) && nat_lt most (n + 1)) ≡ false → W' ≡ walk_of number (put_pair number W C k x) C → IsConsistent number is_valid W' C' F (n + 1) most
     IsConsistent-added C' k x same key missing fits test is =
         put C C' (n + 1) most k x same old.map.capacity key is (longer k x missing) fits
         (IsLoaded-more C n F most (capacity-positive C old.map.capacity) fits old.threshold loaded-old test) old.threshold
 
-    -- and where it grew to D slots
+    -- and if it grew to D slots
     pub IsConsistent-grown_with : (D D' most' : ℕ) (k : K) (x : Kept V) → D' ≡ D → IsCapacity D → is_valid k → value_of number W k ≡ None → n + 1 < 2 ^ 64 → MeetsLoad D (n + 1) F → IsThreshold D F most' → W' ≡ walk_of number (put_pair number W C k x) D → IsConsistent number is_valid W' D' F (n + 1) most'
     IsConsistent-grown_with D D' most' k x same cap key missing fits meets threshold is =
         put D D' (n + 1) most' k x same cap key is (longer k x missing) fits (IsLoaded-from D (n + 1) F (capacity-positive D cap) meets) threshold
 
-    -- a key was taken out
+    -- a key was removed
     pub IsConsistent-taken : (C' : ℕ) (k : K) (n' : ℕ) → C' ≡ C → W' ≡ walk_of number (take_key number W C k) C → n' ≡ n - cond (is_some (value_of number W k)) 1 0 → IsConsistent number is_valid W' C' F n' most
     IsConsistent-taken C' k n' same is len =
         let here : length (walk_of number (take_key number W C k) C) ≡ length (take_key number W C k) = length-walk_of number (take_key number W C k) C (λ k. slot_number-below number k C old.map.capacity) in
@@ -175,7 +175,7 @@ pub OnOk-at : {T E : Type 0} (r : Result T E) (P : Type 0) → is_err r ≡ fals
 OnOk-at (Ok x) P e h = h
 OnOk-at (Err x) P e h = cc
 
--- a refused call isn't accepted
+-- a failed call isn't a successful one
 pub IsOk-at_err : {T E : Type 0} (r : Result T E) → is_err r ≡ true → IsOk r → ⊥
 IsOk-at_err (Ok x) e h = cc
 IsOk-at_err (Err x) e h = cc

@@ -32,11 +32,11 @@ use Rattle.intmap.proofs.JsonLemmas.{Entry}
 abbrev pub Pairs : Type 0
 Pairs = List (ℕ × Value)
 
--- the value that a number is bound to
+-- the value of a number
 abbrev value_at : Pairs → ℕ → Option Value
 value_at L k = value_of (λ key. key) L k
 
--- no number of a pair is bound behind it
+-- no number of a pair is present behind it
 abbrev pub AreApart : Pairs → Type 0
 AreApart [] = ⊤
 AreApart (p ∷ ps) = (value_at ps p.0 ≡ None) × AreApart ps
@@ -71,7 +71,7 @@ HasKeyTexts-put (member text e ms) k d small texts = by_case (slice_cmp nat_cmp 
     by_case Equal rest = texts
     by_case Greater rest = (texts.0, rest)
 
--- at each number, the tree is that of the pairs that are left, or else the member that is there
+-- at each number, the tree is that of the pairs that are left, or else of the member that is there
 abbrev pub AreShownWith : Pairs → Members → Pairs → Type 0
 AreShownWith rest ms L = (q : ℕ) → q < 2 ^ 64 → option_or (tree_of rest q) (get_member (decimal q) ms) ≡ tree_of L q
 
@@ -97,14 +97,14 @@ AreShownWith-put rest L ms k v small apart shown q below = by_case (k == q) refl
         λ text. let wrong : false ≡ true = sym is ∙ eq-eqb k q (decimal_injective k q small below (sym text)) in cc in
         rw (get_member-put_other (decimal q) (decimal k) (view v) ms other) (rw is at before)
 
--- pairs of members are as many
+-- there are as many pairs as members
 pub length-ArePairsOf : (ms : Members) (ps : Pairs) → ArePairsOf ms ps → length ps ≡ members_len ms
 length-ArePairsOf no_members [] are = refl
 length-ArePairsOf no_members (p ∷ ps) are = absurd are
 length-ArePairsOf (member text d ms) [] are = absurd are
 length-ArePairsOf (member text d ms) (p ∷ ps) are = ap suc (length-ArePairsOf ms ps are.2)
 
--- the member at the text of a number is the tree that the pairs bind it to
+-- the member at the text of a number is the tree of its value in the pairs
 pub get_member-ArePairsOf : (es : List Entry) (ps : Pairs) (q : ℕ) → q < 2 ^ 64 → ArePairsOf (members_view es) ps → get_member (decimal q) (members_view es) ≡ tree_of ps q
 get_member-ArePairsOf [] [] q small are = refl
 get_member-ArePairsOf [] (p ∷ ps) q small are = absurd are
@@ -120,7 +120,7 @@ get_member-ArePairsOf (e ∷ es) (p ∷ ps) q small are = by_case (p.0 == q) ref
         λ text. let wrong : false ≡ true = sym is ∙ eq-eqb p.0 q (decimal_injective p.0 q are.0.1 small (sym (text ∙ are.0.0))) in cc in
         member_later (decimal q) e es other ∙ rest ∙ rw is refl
 
--- what stands behind a text that is below all others isn't at its number
+-- what comes behind a text that is below all others isn't at its number
 value_at-below : (text : List ℕ) (es : List Entry) (ps : Pairs) (k : ℕ) → IsKeyText text k → AllByRecursion (λ y. slice_cmp nat_cmp text (string_bytes y) ≡ Less) (keys_of es)
     → ArePairsOf (members_view es) ps → value_at ps k ≡ None
 value_at-below text [] [] k is below are = refl
@@ -143,7 +143,7 @@ AreApart-sorted [] (p ∷ ps) sorted are = absurd are
 AreApart-sorted (e ∷ es) [] sorted are = absurd are
 AreApart-sorted (e ∷ es) (p ∷ ps) sorted are = (value_at-below (string_bytes e.0) es ps p.0 are.0 sorted.0 are.2, AreApart-sorted es ps sorted.1 are.2)
 
--- pairs that are apart bind the same from the back
+-- separate pairs bind the same from the back
 pub value_at-reverse : (ps : Pairs) (q : ℕ) → AreApart ps → value_at (reverse ps) q ≡ value_at ps q
 value_at-reverse [] q apart = refl
 value_at-reverse (p ∷ ps) q apart = ap (λ L. value_at L q) (reverse-append (p ∷ []) ps) ∙ value_of-append (λ key. key) (reverse ps) (p ∷ []) q ∙ by_case (p.0 == q) refl (value_at-reverse ps q apart.1)
@@ -154,7 +154,7 @@ value_at-reverse (p ∷ ps) q apart = ap (λ L. value_at L q) (reverse-append (p
         rw (is, rest ∙ none) refl
     by_case false is rest = rw is (option_or-none (value_at (reverse ps) q) ∙ rest)
 
--- all of them are new where none is bound
+-- all of them are new if none is present
 length-new_keys : (L ps : Pairs) → AreApart ps → ((q : ℕ) → is_some (value_at ps q) ≡ true → value_at L q ≡ None) → length (new_keys (λ key. key) L ps) ≡ length ps
 length-new_keys L [] apart unbound = refl
 length-new_keys L (p ∷ ps) apart unbound =
@@ -168,14 +168,14 @@ length-new_keys L (p ∷ ps) apart unbound =
         let there : is_some (value_at (p ∷ ps) q) ≡ true = rw is bound in rw is (unbound q there)
 
 module _ (es : List Entry) (ps : Pairs) (made : MapState ℕ Value) (n : ℕ) (are : ArePairsOf (members_view es) ps) (apart : AreApart ps) (collected : AreCollected n ps made) where
-  -- a map of pairs that are apart has as many
+  -- a map of separate pairs has as many pairs
   pub length-collected : length made.walk ≡ members_len (members_view es)
   length-collected =
       let grown = collected.extended.len in
       let new : length (new_keys (λ key. key) [] ps) ≡ length ps = length-new_keys [] ps apart (λ q bound. refl) in
       let all = length-ArePairsOf (members_view es) ps are in omega (arith, grown, new, all)
 
-  -- and binds each number to the tree of its member
+  -- and has each number with the tree of its member
   pub ShowsBindings-collected : HasKeyTexts (members_view es) → ShowsBindings (members_view es) made.walk
   ShowsBindings-collected texts = record {
     texts = texts;
@@ -184,7 +184,7 @@ module _ (es : List Entry) (ps : Pairs) (made : MapState ℕ Value) (n : ℕ) (a
         ∙ sym (ap (option_map view) (collected.extended.updates k ∙ option_or-none (value_at (reverse ps) k) ∙ value_at-reverse ps k apart));
   }
 
--- what one tree shows is bound alike
+-- what one tree shows has the same values
 pub BindSameTrees-Shows : (o : Option Members) (L M : Pairs) → IsSomeAnd o (λ ms. ShowsBindings ms L) → IsSomeAnd o (λ ms. ShowsBindings ms M) → BindSameTrees L M
 BindSameTrees-Shows None L M left right = absurd left
 BindSameTrees-Shows (Some ms) L M left right = λ k small. sym (left.trees k small) ∙ right.trees k small
@@ -195,12 +195,12 @@ pairs_of [] texts = ([], tt)
 pairs_of (e ∷ es) texts =
     let rest = pairs_of es texts.1 in ((texts.0.0, e.1) ∷ rest.0, (texts.0.1, refl, rest.1))
 
--- a result that is refused with a cause that meets R is one whose cause meets what follows of R
+-- a result that fails with a cause that meets R fails with one that meets what follows of R
 pub IfErr-refused : {T E : Type 0} (r : Result T E) (R P : E → Type 0) → IsErrAnd r R → ((cause : E) → R cause → P cause) → IfErr r P
 IfErr-refused (Ok t) R P refused follows = absurd refused
 IfErr-refused (Err cause) R P refused follows = follows cause refused
 
--- a map of so many slots that was refused
+-- a map of so many slots that could not be made
 pub MayRefuseToRead-slots : {T : Type 0} (ms : Members) (cause : Cause) (b : ℕ) → b ≡ members_len ms → (refusal_of T cause ≡ refusal_of T TooLarge) ↔ (2 ^ 63 < b)
     → MayRefuseToRead ms (json_cause cause)
 MayRefuseToRead-slots {T} ms cause b count large = elim (cause-of_slots {T = T} cause b large) [
@@ -208,16 +208,16 @@ MayRefuseToRead-slots {T} ms cause b count large = elim (cause-of_slots {T = T} 
   | inr within ↦ inr (ap json_cause within.0, subst (λ n. n ≤ 2 ^ 63) count within.1)
 ]
 
--- an insertion that was refused
+-- an insertion that failed
 pub MayRefuseToRead-insertion : (ms : Members) (cause : Cause) → ((cause ≡ TooLarge) → LeavesRange ms) → members_len ms ≤ 2 ^ 63 → MayRefuseToRead ms (json_cause cause)
 MayRefuseToRead-insertion ms Memory leaves within = inr (refl, within)
 MayRefuseToRead-insertion ms TooLarge leaves within = inl (refl, inr (leaves refl))
 
--- a made T, in place of a refusal
+-- a made T, in place of a failure
 abbrev pub made_of : {T : Type 0} → T → Result T Cause
 made_of made = Ok made
 
--- a map was made for so many slots
+-- a map of so many slots that was made
 pub slots-within : {T : Type 0} (made : T) (b : ℕ) → (made_of made ≡ refusal_of T TooLarge) ↔ (2 ^ 63 < b) → b ≤ 2 ^ 63
 slots-within made b large = elim (cases_lt (2 ^ 63) b) [
   | inl more ↦ (let no = large.1 more in cc)

@@ -17,12 +17,12 @@ use Rattle.intmap_table.proofs.MappedLemmas.{walk_of-map_values}
 use Rattle.intmap_table.proofs.RetainLemmas.{length-Retains, All-Retains, count_by-Retains}
 
 module _ {F K V : Type 0} (number : K → ℕ) (R : F → K × V → Bool → F → Type 0) where
-  -- no key that stays is bound twice
+  -- no key that stays is present twice
   pub HasDistinctKeys-Retains : (f g : F) (L M : List (K × V)) → Retains R f L M g → HasDistinctKeys number L → HasDistinctKeys number M
   HasDistinctKeys-Retains f g L M r once k =
       let few = count_by-Retains R (λ p. same_key number k p.0) f g L M r in let one = once k in omega (arith, few, one)
 
-  -- a key that no pair has isn't bound
+  -- a key that no pair has is absent
   value_of-uncounted : (k : K) (L : List (K × V)) → count_by (λ p. same_key number k p.0) L ≡ 0 → value_of number L k ≡ None
   value_of-uncounted k [] none = refl
   value_of-uncounted k (p ∷ L) none =
@@ -39,7 +39,7 @@ module _ {F K V : Type 0} (number : K → ℕ) (R : F → K × V → Bool → F 
   value_step k p L N false true e none rest = inr (none refl)
   value_step k p L N false false e none rest = simp e rest
 
-  -- each key is bound to what it was bound to, or not any more
+  -- each key has the value that it had, or is absent
   pub value_of-Retains : (k : K) (f g : F) (L M : List (K × V)) → Retains R f L M g → HasDistinctKeys number L → (value_of number M k ≡ value_of number L k) ⊎ (value_of number M k ≡ None)
   value_of-Retains k f g [] M r once = inr (ap (λ Z. value_of number Z k) r.0)
   value_of-Retains k f g (p ∷ L) M r once =

@@ -1,4 +1,4 @@
--- How often numbers stand in a list that grows by one number, and what that makes of the pairs that tell it.
+-- How often numbers occur in a list that grows by one number, and what that makes of the pairs that count it.
 use Rattle.std.proofs.Common.{◌≡◌, ◌≢◌, inl, inr, ℕ, ◌+◌, ◌<◌, ◌^◌, ◌||◌, Bool, true, false, not, cond, List, [], ◌∷◌, ◌++◌, length, map, option_map, Option, Some, None, refl, sym, ap, ◌∙◌, arith}
 use Rattle.std.specs.Prelude.{◌==◌, ◌⊎◌, filter}
 use Rattle.std.specs.List.{list_any}
@@ -54,7 +54,7 @@ list_any-struck_other n a (m ∷ ns) apart = elim (cases_eq m a) [
   | inr other ↦ (let t = ne_eqb m a other in simp t (ap (λ b. (m == n) || b) (list_any-struck_other n a ns apart)))
 ]
 
--- each number of a list stands among those that stand once
+-- each number of a list is among those that occur once
 list_any-each_once : (n : ℕ) (ns : List ℕ) → list_any (λ m. m == n) (each_once ns) ≡ list_any (λ m. m == n) ns
 list_any-each_once n [] = refl
 list_any-each_once n (a ∷ ns) = elim (cases_eq a n) [
@@ -62,7 +62,7 @@ list_any-each_once n (a ∷ ns) = elim (cases_eq a n) [
   | inr apart ↦ (let t = ne_eqb a n apart in simp t (list_any-struck_other n a (each_once ns) apart ∙ list_any-each_once n ns))
 ]
 
--- a number that isn't there stands nowhere
+-- a number that isn't there occurs nowhere
 times-none : (n : ℕ) (ns : List ℕ) → list_any (λ m. m == n) ns ≡ false → times n ns ≡ 0
 times-none n [] none = refl
 times-none n (a ∷ ns) none = elim (cases_Bool (a == n)) [
@@ -88,7 +88,7 @@ module _ (g : ℕ → ℕ) where
     | inr apart ↦ (let t = ne_eqb e q apart in simp t (value_of-tabled es q))
   ]
 
--- a number is bound where it is in the list, to how often it stands there
+-- a number is present if it is in the list, with how often it occurs there
 pub value_of-tally_of : (ns : List ℕ) (q : ℕ) → value_of (λ n. n) (tally_of ns) q ≡ cond (list_any (λ m. m == q) ns) (Some (times q ns)) None
 value_of-tally_of ns q =
     value_of-tabled (λ m. times m ns) (each_once ns) q ∙ ap (λ (b : Bool). cond {A = Option ℕ} b (Some (times q ns)) None) (list_any-each_once q ns)
@@ -116,7 +116,7 @@ module _ (ns : List ℕ) (n : ℕ) where
       let same : each_once (ns ++ n ∷ []) ≡ each_once ns = each_once-push ns n ∙ rw there refl in
       ap (map (λ m. (m, times m (ns ++ n ∷ [])))) same ∙ tabled-push (each_once ns)
 
-  -- a new number stands last, and counts once
+  -- a new number is last, and counts once
   pub tally_of-push-new : list_any (λ m. m == n) ns ≡ false → tally_of (ns ++ n ∷ []) ≡ tally_of ns ++ (n, 1) ∷ []
   tally_of-push-new away =
       let longer : each_once (ns ++ n ∷ []) ≡ each_once ns ++ n ∷ [] = each_once-push ns n ∙ rw away refl in
@@ -128,7 +128,7 @@ module _ (ns : List ℕ) (n : ℕ) where
       ∙ ap (λ xs. xs ++ (n, times n (ns ++ n ∷ [])) ∷ []) (tabled-push (each_once ns) ∙ write_value-unbound (λ k. k) (tally_of ns) n (times n ns + 1) none)
       ∙ ap (λ k. tally_of ns ++ (n, k) ∷ []) count
 
--- what is bound is bound where the number is in the list
+-- what is present is in the list
 pub found : (b : Bool) (t v : ℕ) → ◌≡◌ {A = Option ℕ} (Some v) (cond b (Some t) None) → (b ≡ true) × (v ≡ t)
 found true t v is = (refl, cc)
 found false t v is = cc
@@ -138,7 +138,7 @@ missing true t is = cc
 missing false t is = refl
 
 module _ (ns : List ℕ) (n : ℕ) (m o : MapState ℕ ℕ) (tally : IsTally ns m) where
-  -- a map of counts, once that of a bound number was written as one more
+  -- a map of counts, once the count of a present number was written as one more
   pub IsTally-written : (v : ℕ) → Some v ≡ value_of (λ k. k) m.walk n → o.walk ≡ write_value (λ k. k) m.walk n (v + 1) → o.capacity ≡ m.capacity → o.factor ≡ m.factor → IsTally (ns ++ n ∷ []) o
   IsTally-written v bound walk capacity factor =
       let here = found (list_any (λ k. k == n) ns) (times n ns) v (bound ∙ tally.counts n ∙ value_of-tally_of ns n) in
@@ -155,7 +155,7 @@ module _ (ns : List ℕ) (n : ℕ) (m o : MapState ℕ ℕ) (tally : IsTally ns 
             ∙ sym (length-write_value (λ k. k) (tally_of ns) n (v + 1)) ∙ sym (ap length same);
       }
 
-  -- a map of counts, once a number that wasn't bound was inserted
+  -- a map of counts, once an absent number was inserted
   pub IsTally-inserted : None ≡ value_of (λ k. k) m.walk n → (IsOutOfRange (λ k. k) m.walk m.capacity m.factor n → ⊥)
       → IsCapacityAfter (λ k. k) m.walk m.capacity m.factor n o.capacity → o.walk ≡ walk_of (λ k. k) (put_pair (λ k. k) m.walk m.capacity n 1) o.capacity → o.factor ≡ m.factor
       → IsMap (λ k. k) (λ k. k < 2 ^ 64) o

@@ -6,7 +6,7 @@ use Rattle.std.proofs.lemmas.List.{length-map}
 use Rattle.std.proofs.lemmas.List.Elements.{All-cons, All-head, All-tail}
 use Rattle.std.proofs.lemmas.List.Sums.{sum_by-cons}
 use Rattle.intmap_table.specs.Classes.{same_key}
-use Rattle.intmap_table.specs.Bindings.{first_value, value_of, IsBound, write_value, HasDistinctKeys, Updates}
+use Rattle.intmap_table.specs.Bindings.{first_value, value_of, IsPresent, write_value, HasDistinctKeys, Updates}
 use Rattle.intmap_table.specs.Tables.Kept.{unkept}
 use Rattle.intmap.specs.Consistency.{IsConsistent}
 use Rattle.intmap.specs.Map.{IsMapWalk}
@@ -41,7 +41,7 @@ module _ {K V : Type 0} (number : K → ℕ) where
       let rest = count_by-write_value L k q v in
       omega (arith, more, after, here, rest)
 
-  -- each key is bound as often
+  -- each key is present equally often
   pub HasDistinctKeys-write_value : (L : List (K × V)) (k : K) (v : V) → HasDistinctKeys number L → HasDistinctKeys number (write_value number L k v)
   HasDistinctKeys-write_value L k v once q = let h = once q in let e = count_by-write_value L k q v in omega (arith, h, e)
 
@@ -73,12 +73,12 @@ module _ {K V : Type 0} (number : K → ℕ) where
   ] refl
   value_of-write_step p L k q v false false e f rest = simp (e, f) rest
 
-  -- a write gives its key the value, where it was bound, and leaves each other key with its own
+  -- a write gives its key the value, if it was present, and leaves each other key with its own
   pub value_of-write_value : (L : List (K × V)) (k q : K) (v : V) → value_of number (write_value number L k v) q ≡ cond (same_key number k q) (option_map (λ _. v) (value_of number L q)) (value_of number L q)
   value_of-write_value [] k q v = elim (same_key number k q) as (λ b. ◌≡◌ {A = Option V} None (cond b None None)) [ true ↦ refl | false ↦ refl ]
   value_of-write_value (p ∷ L) k q v = value_of-write_step p L k q v (same_key number k p.0) (same_key number q p.0) refl refl (value_of-write_value L k q v)
 
-  -- a write of a bound key binds it to the value, and leaves each other key with its own
+  -- a write of a present key gives it the value, and leaves each other key with its own
   pub Updates-written : (L : List (K × V)) (k : K) (v old : V) → value_of number L k ≡ Some old → Updates number L (write_value number L k v) k (Some v)
   Updates-written L k v old bound =
       Updates-from number L (write_value number L k v) k (Some v) (λ q. value_of-write_value L k q v ∙ elim (cases_Bool (same_key number k q)) as (λ _. cond (same_key number k q) (option_map (λ _. v) (value_of number L q)) (value_of number L q) ≡ cond (same_key number k q) (Some v) (value_of number L q)) [
@@ -92,7 +92,7 @@ module _ {K V : Type 0} (number : K → ℕ) where
   some_from None bound = let no : ◌≡◌ {A = Bool} false true = bound in cc
   some_from (Some v) bound = (v, refl)
 
-  pub Updates-bound : (L : List (K × V)) (k : K) (v : V) → IsBound number L k → Updates number L (write_value number L k v) k (Some v)
+  pub Updates-bound : (L : List (K × V)) (k : K) (v : V) → IsPresent number L k → Updates number L (write_value number L k v) k (Some v)
   Updates-bound L k v bound = let some = some_from (value_of number L k) bound in Updates-written L k v some.0 some.1
 
 module _ {K V : Type 0} (number : K → ℕ) (is_valid : K → Type 0) where

@@ -1,4 +1,4 @@
--- What a clone of a map is.
+-- The clone of a map.
 pub use Rattle.intmap_table.specs.Cloning.{BindsClones}
 use Rattle.std.specs.Prelude.{◌≡◌}
 use Rattle.std.specs.List.{AllZip}

@@ -6,7 +6,7 @@ use Rattle.intmap.specs.Growth.{IsThreshold}
 use Rattle.intmap.specs.Map.{IsMapWalk}
 
 module _ {K V : Type 0} where
-  -- what a map keeps agrees: its table's walk, the C slots, the load factor F, the number n of pairs and the greatest number that meets the load
+  -- the parts of a map agree: its table's walk, the C slots, the load factor F, the number n of pairs and the greatest number that meets the load
   pub record IsConsistent (number : K → ℕ) (is_valid : K → Type 0) (W : List (K × Kept V)) (C F n most : ℕ) : Type 0 where
     pub map : IsMapWalk number is_valid (unkept W) C F
     pub count : n ≡ length W

@@ -1,4 +1,4 @@
--- What a contract sees of pairs that are taken out from the front of the walk, and of a `Drain`.
+-- What a contract sees of pairs that are removed from the front of the walk, and of a `Drain`.
 use Rattle.std.specs.Prelude.{◌≡◌, List, Option}
 use Rattle.std.specs.Borrow.{GName}
 use Rattle.std.specs.Iterator.{YieldsFirst}
@@ -13,7 +13,7 @@ module _ {K V A : Type 0} {g : key.Ghosts K} {e : eq.Ghosts K} where
   abbrev pub drained_map : Drain K V A g e → MapState K V
   drained_map d = d.map.now
 
-  -- the pairs that are still to come, which are all that the map has
+  -- the pairs that are left, which are all that the map has
   abbrev pub drain_rest : Drain K V A g e → List (K × V)
   drain_rest d = (drained_map d).walk
 
@@ -21,7 +21,7 @@ module _ {K V A : Type 0} {g : key.Ghosts K} {e : eq.Ghosts K} where
   abbrev pub drain_lender : Drain K V A g e → GName
   drain_lender d = d.map.ghost_name
 
-  -- `next` took the first pair out of the map, which is the same but for that
+  -- `next` removed the first pair of the map, and changed nothing else
   abbrev pub DrainsFirst : Drain K V A g e → Option (K × V) → Drain K V A g e → Type 0
   DrainsFirst d r rest = YieldsFirst drain_rest d r rest
       × (drain_lender rest ≡ drain_lender d)

@@ -30,16 +30,16 @@ module _ {K V A : Type 0} {g : key.Ghosts K} {e : eq.Ghosts K} where
   abbrev pub entry_map : Entry K V A g e → MapState K V
   entry_map x = (entry_reference x).now
 
-  -- the key of an occupied one: that of the pair at its place
+  -- the key of an occupied entry: the key of the pair at its place
   abbrev pub occupied_key : OccupiedEntry K V A g e → K
   occupied_key o = the_key (key_at (slot_of g.number_of o.map.now.walk o.map.now.capacity o.slot) o.place) o.found.some
 
-  -- the key that was looked for
+  -- the key that was looked up
   abbrev pub entry_key : Entry K V A g e → K
   entry_key (Occupied o) = occupied_key o
   entry_key (Vacant v) = v.key
 
-  -- the value that it is bound to
+  -- the value of that key, if it is present
   abbrev pub entry_value : Entry K V A g e → Option V
   entry_value x = value_of g.number_of (entry_map x).walk (entry_key x)
 
@@ -47,16 +47,16 @@ module _ {K V A : Type 0} {g : key.Ghosts K} {e : eq.Ghosts K} where
   abbrev pub entry_list : Entry K V A g e → PlainList K V
   entry_list x = let m = entry_map x in record { pairs = m.walk; capacity = m.capacity; factor = m.factor }
 
-  -- the capacity that one more pair leaves
+  -- the capacity after one more pair
   abbrev pub next_entry_capacity : Entry K V A g e → ℕ
   next_entry_capacity x = let m = entry_map x in next_capacity m.capacity (length m.walk + 1) m.factor
 
-  -- P where the key is bound, and Q where it isn't
+  -- P if the key is present, and Q if it is absent
   abbrev pub MatchEntry : Entry K V A g e → Type 0 → Type 0 → Type 0
   MatchEntry (Occupied o) P Q = P
   MatchEntry (Vacant v) P Q = Q
 
-  -- the map once w is the value of the key: in its place where it is bound, and else by a new pair at the end of its slot
+  -- the map once w is the value of the key: in its place if it is present, and otherwise by a new pair at the end of its slot
   abbrev pub map_with_value : Entry K V A g e → V → MapState K V
   map_with_value (Occupied o) w = written g.number_of o.map.now (occupied_key o) w
   map_with_value (Vacant v) w = with_pair g.number_of v.map.now v.key w (next_entry_capacity (Vacant v))
@@ -76,7 +76,7 @@ module _ {K V A : Type 0} {g : key.Ghosts K} {e : eq.Ghosts K} where
     found = IsFound-write_value g.number_of o.map.now.walk o.map.now.capacity o.slot o.place (occupied_key o) w o.found;
   }
 
--- a value was made and refused for a cause that was due, and e is what is made of the refusal
+-- a value was made, its insertion failed with a cause that was due, and e is the error that is made of the failure
 pub record IsMadeRefusal {V E : Type 0} (makes : Result V E → Type 0) (from_gives : Refused V → E → Type 0) (is_due : Cause → Type 0) (e : E) : Type 0 where
   pub refused : Refused V
   pub value : makes (Ok refused.value)
@@ -84,18 +84,18 @@ pub record IsMadeRefusal {V E : Type 0} (makes : Result V E → Type 0) (from_gi
   pub error : from_gives refused e
 
 module _ (K V A : RattleType) {g : key.Ghosts K.Denot} {e : eq.Ghosts K.Denot} (a : allocator.Ghosts A.Denot) where
-  -- once the loan named r ends, the map behind the entry has the last value written through it as that of the key
+  -- once the loan named r ends, the map behind the entry has the last value written through it as the value of the key
   abbrev pub entry_lends : Entry K.Denot V.Denot A.Denot g e → MutBor V.Denot → Fml
   entry_lends x r = follows (map_row K V A g e a) V (entry_reference x).ghost_name r.ghost_name (map_with_value x)
 
-  -- the same of a call that may be refused, and then the map stays
+  -- the same of a call that may fail; if it does, the map stays
   abbrev pub entry_lends_ok : {E : Type 0} → Entry K.Denot V.Denot A.Denot g e → Result (MutBor V.Denot) E → Fml
   entry_lends_ok x r = follows_if (map_row K V A g e a) V (entry_reference x).ghost_name (name_if_ok (λ r. r.ghost_name) r) (map_with_value x) (entry_map x)
 
-  -- where the call answers no entry, the map behind x stays
+  -- if the call returns no entry, the map behind x stays
   abbrev pub entry_rests : {E : Type 0} → Entry K.Denot V.Denot A.Denot g e → Result (OccupiedEntry K.Denot V.Denot A.Denot g e) E → Fml
   entry_rests x r = RestsIfErr (map_row K V A g e a) (entry_reference x) (λ o. o.map.ghost_name) r (λ n. n ≡ entry_map x)
 
-  -- the same of a loan of the entry behind o, after which the entry stands
+  -- the same of a loan of the entry behind o, after which the entry is there again
   abbrev pub occupied_lends : MutBor (OccupiedEntry K.Denot V.Denot A.Denot g e) → MutBor V.Denot → Fml
   occupied_lends o r = follows (occupied.the_row (record { mir = named 1; lft = [] }) K V A g e a) V o.ghost_name r.ghost_name (occupied_with_value o.now)

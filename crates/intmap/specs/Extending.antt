@@ -1,4 +1,4 @@
--- What inserting pairs in turn answers and leaves.
+-- What inserting pairs in turn returns and leaves.
 use Rattle.std.specs.Prelude.{◌≡◌, ℕ, ◌+◌, ◌-◌, ◌^◌, ◌<◌, ◌≤◌, cond, is_some, min, max, List, [], ◌∷◌, ◌++◌, length, reverse, Option, Some, ◌⊎◌}
 use Rattle.std.specs.Iterator.{Drains, YieldsThen}
 use Rattle.std.specs.Option.{option_or}
@@ -12,25 +12,25 @@ use Rattle.intmap.specs.declared.refusal.Cause.TheVariants.{Memory, TooLarge}
 use Rattle.intmap.specs.declared.refusal.RefusedPair.{RefusedPair}
 
 module _ {K V : Type 0} (number : K → ℕ) where
-  -- the keys of the pairs that the list doesn't bind, each once
+  -- the keys of the pairs that are absent from the list, each once
   abbrev pub new_keys : List (K × V) → List (K × V) → List K
   new_keys L [] = []
   new_keys L (p ∷ ps) = cond (is_some (value_of number L p.0)) (new_keys L ps) (p.0 ∷ new_keys (p ∷ L) ps)
 
 module _ {K V : Type 0} (number : K → ℕ) (is_valid : K → Type 0) where
-  -- an accepted insertion of k bound to v took the map m to n
+  -- a successful insertion of the pair of k and v took the map m to n
   pub record MapInserts (m : MapState K V) (k : K) (v : V) (n : MapState K V) : Type 0 where
     pub in_range : IsOutOfRange number m.walk m.capacity m.factor k → ⊥
     pub capacity : IsCapacityAfter number m.walk m.capacity m.factor k n.capacity
     pub state : n ≡ after_insert number m k v n.capacity
     pub map : IsMap number is_valid n
 
-  -- the pairs were inserted in turn, all accepted
+  -- the pairs were inserted in turn, and none failed
   abbrev pub MapInsertsAll : MapState K V → List (K × V) → MapState K V → Type 0
   MapInsertsAll m [] n = n ≡ m
   MapInsertsAll m (p ∷ ps) n = (l : MapState K V) × MapInserts m p.0 p.1 l × MapInsertsAll l ps n
 
-  -- the pairs were inserted in turn, all accepted: each of their keys has its last value, each other key what it had, there is
+  -- the pairs were inserted in turn, and none failed: each of their keys has its last value, each other key what it had, there is
   -- one pair more for each new key, the load factor stays, and there are no fewer slots
   pub record IsExtended (m : MapState K V) (ps : List (K × V)) (n : MapState K V) : Type 0 where
     pub inserted : MapInsertsAll m ps n
@@ -39,13 +39,13 @@ module _ {K V : Type 0} (number : K → ℕ) (is_valid : K → Type 0) where
     pub factor : n.factor ≡ m.factor
     pub capacity : m.capacity ≤ n.capacity
 
-  -- the pairs were inserted in turn, all accepted, into an empty map with room for so many
+  -- the pairs were inserted in turn, and none failed, into an empty map with the given room
   pub record IsCollected (room : ℕ) (ps : List (K × V)) (m : MapState K V) : Type 0 where
     pub slots : ℕ
     pub power : IsLeastPower (max room 2) slots
     pub extended : IsExtended (empty_map slots) ps m
 
-  -- the pairs were inserted in turn into an empty map with room for so many, up to one that is out of range
+  -- the pairs were inserted in turn into an empty map with the given room, up to one that is out of range
   pub record LeavesRange (room : ℕ) (ps : List (K × V)) : Type 0 where
     pub before : List (K × V)
     pub next : K × V
@@ -55,21 +55,21 @@ module _ {K V : Type 0} (number : K → ℕ) (is_valid : K → Type 0) where
     pub collected : IsCollected room before filled
     pub out_of_range : IsOutOfRange number filled.walk filled.capacity filled.factor next.0
 
-  -- the map is what is left where the pairs are inserted in turn into one of 4 slots that was just made, apart from both counts
+  -- apart from both counts, the map is what insertions of the pairs in turn into a new map of 4 slots leave
   pub record IsMadeOf (ps : List (K × V)) (m : MapState K V) : Type 0 where
     pub filled : MapState K V
     pub inserted : MapInsertsAll (empty_map 4) ps filled
     pub state : m ≡ record filled { placed = m.placed; compared = m.compared }
 
 module _ {K V S : Type 0} (number : K → ℕ) (is_valid : K → Type 0) (steps : S → Option (K × V) → S → Type 0) where
-  -- all pairs that came from the iterator s were inserted in turn
+  -- all pairs that the iterator s gave were inserted in turn
   pub record Extends (s : S) (m n : MapState K V) : Type 0 where
     pub pairs : List (K × V)
     pub came : Drains steps s pairs
     pub extended : IsExtended number is_valid m pairs n
 
-  -- the pairs that came from the iterator s were inserted in turn up to the first that was refused, which comes back with the
-  -- cause and the number of those before it, or the greatest number there is where they were more; then its key was looked for
+  -- the pairs that the iterator s gave were inserted in turn up to the first that failed, which is returned with the
+  -- cause and the number of those before it, or the greatest number there is if they were more; then its key was looked up
   pub record ExtendsUpTo (s : S) (m : MapState K V) (refused : RefusedPair K V) (n : MapState K V) : Type 0 where
     pub pairs : List (K × V)
     pub rest : S
@@ -80,13 +80,13 @@ module _ {K V S : Type 0} (number : K → ℕ) (is_valid : K → Type 0) (steps 
     pub after : n ≡ after_search number before refused.key
     pub applied : refused.applied ≡ min (length pairs) (2 ^ 64 - 1)
 
-  -- an empty map with room for b slots was extended by all pairs that came from the iterator s
+  -- an empty map with room for b slots was extended by all pairs that the iterator s gave
   pub record Collects (s : S) (b : ℕ) (n : MapState K V) : Type 0 where
     pub slots : ℕ
     pub power : IsLeastPower (max b 2) slots
     pub extends : Extends s (empty_map slots) n
 
-  -- a map with room for b slots was refused, or the pairs that came from the iterator s up to a refused one were inserted into it
+  -- a map with room for b slots could not be made, or the pairs that the iterator s gave, up to one that failed, were inserted into it
   abbrev pub MayRefuseToCollect : S → ℕ → Cause → Type 0
   MayRefuseToCollect s b cause =
       ((cause ≡ TooLarge) × (2 ^ 63 < b))
@@ -94,7 +94,7 @@ module _ {K V S : Type 0} (number : K → ℕ) (is_valid : K → Type 0) (steps 
       ⊎ ((slots : ℕ) × IsLeastPower (max b 2) slots × (refused : RefusedPair K V) × (n : MapState K V)
       × ExtendsUpTo s (empty_map slots) refused n × (cause ≡ refused.cause))
 
--- the map binds each number of the list to how often it stands there, as insertions at the first places of these numbers leave it
+-- the map has each number of the list with how often it occurs there, as insertions at the first places of these numbers leave it
 pub record IsTally (ns : List ℕ) (m : MapState ℕ ℕ) : Type 0 where
   pub made : IsMadeOf (λ n. n) (λ n. n < 2 ^ 64) (tally_of ns) m
   pub counts : (q : ℕ) → value_of (λ n. n) m.walk q ≡ value_of (λ n. n) (tally_of ns) q

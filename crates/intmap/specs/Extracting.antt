@@ -19,11 +19,11 @@ module _ {K V F A : Type 0} {g : key.Ghosts K} {e : eq.Ghosts K} where
   abbrev pub extracted_map : ExtractIf K V F A g e → MapState K V
   extracted_map d = d.map.now
 
-  -- the pairs about which the closure was asked, and which stay, as it left them: the front of the map's walk
+  -- the pairs about which the closure was asked and which stay, as it left them: the front of the map's walk
   abbrev pub extract_kept : ExtractIf K V F A g e → List (K × V)
   extract_kept d = take d.at.passed (extracted_map d).walk
 
-  -- the pairs about which it is still to be asked: the rest of the walk
+  -- the pairs about which it wasn't asked yet: the rest of the walk
   abbrev pub extract_rest : ExtractIf K V F A g e → List (K × V)
   extract_rest d = drop d.at.passed (extracted_map d).walk
 
@@ -40,7 +40,7 @@ module _ {K V F A : Type 0} {g : key.Ghosts K} {e : eq.Ghosts K} where
     abbrev pub CanExtract : ExtractIf K V F A g e → Type 0
     CanExtract d = TakesEach (AsksAt m) (TakesPairMut m) (extract_test d) (extract_rest d)
 
-    -- `next` asked about the pairs that were left, up to the first that the closure picked, and took that out of the map, which is the same but for its walk
+    -- `next` asked about the pairs that were left, up to the first that the closure picked, and removed that one; only the walk of the map changed
     abbrev pub Extracts : ExtractIf K V F A g e → Option (K × V) → ExtractIf K V F A g e → Type 0
     Extracts d r rest = ((kept : List (K × V)) × ExtractsNext (PicksAt m) (extract_test d) (extract_rest d) r (extract_test rest) kept (extract_rest rest)
         × (extract_kept rest ≡ extract_kept d ++ kept))
@@ -53,7 +53,7 @@ module _ {K V F A : Type 0} {g : key.Ghosts K} {e : eq.Ghosts K} where
         let none = ExtractsNext-end (PicksAt m) (extract_test d) (extract_test rest) (extract_rest d) step.0.0 (extract_rest rest) step.0.1 in
         (none, sym (append-nil (extract_kept rest)) ∙ ap (λ Z. extract_kept rest ++ Z) (sym none) ∙ take-append-drop rest.at.passed (extracted_map rest).walk)
 
-    -- a step where each answer is that of a test of the pair alone, no value is written, and `Own` holds of the closure throughout: the removed pair is the first
+    -- a step if each answer is a test of the pair alone, no value is written, and `Own` holds of the closure throughout: the removed pair is the first
     -- of those left that pass, those that don't are the same before and behind it, and `Own` holds behind it
     pub Extracts-filter : (Own : F → Type 0) (test : K × V → Bool) → ((f : F) (p : K × V) (b : Bool) (h : F) (q : K × V) → Own f → PicksAt m f p b h q → (b ≡ test p) × (q ≡ p) × Own h)
         → (d rest : ExtractIf K V F A g e) (r : Option (K × V)) → Own (extract_test d) → Extracts d r rest

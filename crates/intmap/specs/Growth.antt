@@ -20,7 +20,7 @@ pub record IsWanted (C n F D : ℕ) : Type 0 where
   pub meets : MeetsLoad D n F
   pub least : (i : ℕ) → C * 2 ^ i < D → F < n * 1000 / (C * 2 ^ i)
 
--- n pairs want more than 2^63 slots
+-- n pairs need more than 2^63 slots
 abbrev pub WantsTooMuch : ℕ → ℕ → ℕ → Type 0
 WantsTooMuch C n F = (D : ℕ) × IsWanted C n F D × (2 ^ 63 < D)
 
@@ -28,15 +28,15 @@ WantsTooMuch C n F = (D : ℕ) × IsWanted C n F D × (2 ^ 63 < D)
 abbrev pub IsThreshold : ℕ → ℕ → ℕ → Type 0
 IsThreshold C F threshold = (n : ℕ) → n < 2 ^ 64 → (n ≤ threshold → MeetsLoad C n F) × (threshold < n → F < n * 1000 / C)
 
--- D is the capacity that is left once a new key made the length n
+-- D is the capacity after a new key made the length n
 abbrev pub IsNext : ℕ → ℕ → ℕ → ℕ → Type 0
 IsNext C n F D = MatchBool (is_due n) (IsWanted C n F D) (D ≡ C)
 
--- a new key that makes the length n asks for more than 2^63 slots
+-- a new key that makes the length n needs more than 2^63 slots
 abbrev pub GrowsTooMuch : ℕ → ℕ → ℕ → Type 0
 GrowsTooMuch C n F = (D : ℕ) × IsNext C n F D × (2 ^ 63 < D)
 
--- C, 2C, 4C, .., as many as any length below 2^64 may ask for
+-- C, 2C, 4C, .., up to the greatest one that a length below 2^64 may need
 abbrev pub doublings : ℕ → List ℕ
 doublings C = map (λ j. C * 2 ^ j) (range_with_len 0 76)
 
@@ -44,7 +44,7 @@ doublings C = map (λ j. C * 2 ^ j) (range_with_len 0 76)
 abbrev pub wanted_capacity : ℕ → ℕ → ℕ → ℕ
 wanted_capacity C n F = unwrap_or (find (λ D. nat_le (n * 1000 / D) F) (doublings C)) 0
 
--- the capacity that is left once a new key made the length n
+-- the capacity after a new key made the length n
 abbrev pub next_capacity : ℕ → ℕ → ℕ → ℕ
 next_capacity C n F = cond (is_due n) (wanted_capacity C n F) C
 

@@ -16,12 +16,12 @@ use Rattle.intmap.specs.declared.map.json.JsonCause.TheVariants as causes
 use Rattle.intmap.specs.declared.refusal.Cause.{Cause}
 use Rattle.intmap.specs.declared.refusal.Cause.TheVariants.{Memory, TooLarge}
 
--- the cause of a refused call, as one of JSON
+-- the cause of a failed call, as one of JSON
 abbrev pub json_cause : Cause → JsonCause
 json_cause Memory = causes.Memory
 json_cause TooLarge = causes.TooLarge
 
--- the text is the decimal one of k, which is below 2^64
+-- the text is the decimal text of k, which is below 2^64
 abbrev pub IsKeyText : List ℕ → ℕ → Type 0
 IsKeyText text k = (text ≡ decimal k) × (k < 2 ^ 64)
 
@@ -30,7 +30,7 @@ abbrev pub HasKeyTexts : Members → Type 0
 HasKeyTexts no_members = ⊤
 HasKeyTexts (member text d ms) = ((k : ℕ) × IsKeyText text k) × HasKeyTexts ms
 
--- the tree of the value that a number is bound to
+-- the tree of the value of a number, if the number is present
 abbrev pub tree_of : List (ℕ × Value) → ℕ → Option Data
 tree_of L k = option_map view (value_of (λ key. key) L k)
 
@@ -38,7 +38,7 @@ tree_of L k = option_map view (value_of (λ key. key) L k)
 abbrev pub holds_a_float : List (ℕ × Value) → Bool
 holds_a_float L = list_any (λ p. has_float (view p.1)) L
 
--- each member's key is the text of a number, and at the text of each number stands the tree of its value, or nothing where it isn't bound
+-- each member's key is the text of a number, and the member at the text of each number is the tree of its value, or absent if the number is
 pub record ShowsBindings (ms : Members) (L : List (ℕ × Value)) : Type 0 where
   pub texts : HasKeyTexts ms
   pub trees : (k : ℕ) → k < 2 ^ 64 → get_member (decimal k) ms ≡ tree_of L k
@@ -47,18 +47,18 @@ pub record ShowsBindings (ms : Members) (L : List (ℕ × Value)) : Type 0 where
 abbrev pub Shows : Data → List (ℕ × Value) → Type 0
 Shows d L = IsSomeAnd (as_object d) (λ ms. ShowsBindings ms L)
 
--- the same numbers are bound, and each to values with the same tree
+-- the same numbers are present, each with values of the same tree
 abbrev pub BindSameTrees : List (ℕ × Value) → List (ℕ × Value) → Type 0
 BindSameTrees L M = (k : ℕ) → k < 2 ^ 64 → tree_of L k ≡ tree_of M k
 
--- the pairs are those of the members, in their order: each member's key is the text of the number, its tree that of the value
+-- the pairs are the members, in their order: each member's key is the text of the number, its tree the tree of the value
 abbrev pub ArePairsOf : Members → List (ℕ × Value) → Type 0
 ArePairsOf no_members [] = ⊤
 ArePairsOf no_members (p ∷ ps) = ⊥
 ArePairsOf (member text d ms) [] = ⊥
 ArePairsOf (member text d ms) (p ∷ ps) = IsKeyText text p.0 × (view p.1 ≡ d) × ArePairsOf ms ps
 
--- the pairs were inserted in turn, all accepted, into an empty map with room for n pairs
+-- the pairs were inserted in turn, and none failed, into an empty map with room for n pairs
 abbrev pub AreCollected : ℕ → List (ℕ × Value) → MapState ℕ Value → Type 0
 AreCollected n pairs made = IsCollected (λ key. key) (λ key. key < 2 ^ 64) n pairs made
 
@@ -82,6 +82,6 @@ pub record LeavesRange (ms : Members) : Type 0 where
 abbrev pub AreTooMany : Members → Type 0
 AreTooMany ms = (2 ^ 63 < members_len ms) ⊎ LeavesRange ms
 
--- reading the members may be refused with this cause
+-- reading the members may fail with this cause
 abbrev pub MayRefuseToRead : Members → JsonCause → Type 0
 MayRefuseToRead ms cause = ((cause ≡ causes.TooLarge) × AreTooMany ms) ⊎ ((cause ≡ causes.Memory) × (members_len ms ≤ 2 ^ 63))

@@ -1,2 +1,2 @@
--- Proofs that stand among the definitions, since definitions are built on them.
+-- Proofs among the definitions, since definitions are built on them.
 pub mod EqualityLaws

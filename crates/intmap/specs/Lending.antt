@@ -1,4 +1,4 @@
--- What a map ends as, once values of it were lent and written.
+-- What a map is once values of it were lent and written.
 use Rattle.std.specs.Prelude.{Option}
 use Rattle.std.specs.Borrow.{Lends, LendsIf, follows, Fml, RattleType, MutBor, GName}
 use Rattle.std.specs.Map.{values_of}
@@ -10,14 +10,14 @@ use Rattle.intmap.specs.Map.{map_with_values}
 use Rattle.intmap.specs.contracts.map.IntMap.{the_row as map_row}
 
 module _ (K V A : RattleType) (g : key.Ghosts K.Denot) (e : eq.Ghosts K.Denot) (a : allocator.Ghosts A.Denot) (m : MutBor (MapState K.Denot V.Denot)) where
-  -- once the loan named r ends, the map behind m has it as the value of the key k
+  -- once the loan named r ends, the map behind m has its last value as the value of the key k
   abbrev pub map_lends : K.Denot → MutBor V.Denot → Fml
   map_lends k r = Lends (map_row K V A g e a) V m r (λ v. written g.number_of m.now k v)
 
-  -- the same once k was looked for; where it isn't bound, the map is as after the search
-  abbrev pub map_lends_bound : K.Denot → Option (MutBor V.Denot) → Fml
-  map_lends_bound k r = LendsIf (map_row K V A g e a) V m r (λ v. written g.number_of (after_search g.number_of m.now k) k v) (after_search g.number_of m.now k)
+  -- the same once k was looked up; if it is absent, the map is as after the search
+  abbrev pub map_lends_present : K.Denot → Option (MutBor V.Denot) → Fml
+  map_lends_present k r = LendsIf (map_row K V A g e a) V m r (λ v. written g.number_of (after_search g.number_of m.now k) k v) (after_search g.number_of m.now k)
 
-  -- once the loan named r ends, the map behind m is as it was, with the values of some map in the places of its own
+  -- once the loan named r ends, the map behind m is as it was, with the values of some map in place of its own
   abbrev pub map_lends_values : GName → Fml
   map_lends_values r = follows (map_row K V A g e a) (map_row K V A g e a) m.ghost_name r (λ last. map_with_values m.now (values_of last.walk))

@@ -1,4 +1,4 @@
--- What stands below, under the names of this crate.
+-- The modules below, under the names of this crate.
 pub use Rattle.intmap_table.specs.Keys
 pub use Rattle.intmap_table.specs.Classes
 pub use Rattle.intmap_table.specs.Bindings

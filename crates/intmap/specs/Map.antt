@@ -15,12 +15,12 @@ pub record MapState (K V : Type 0) : Type 0 where
   pub placed : ℕ
   pub compared : ℕ
 
--- a map of C slots that was just made
+-- a new map of C slots
 abbrev pub empty_map : {K V : Type 0} → ℕ → MapState K V
 empty_map C = record { walk = []; capacity = C; factor = 909; placed = 0; compared = 0 }
 
 module _ {K V : Type 0} where
-  -- no new key is in range: one more pair would be more than 2^64 - 1, or ask for more than 2^63 slots
+  -- no new key is in range: one more pair would be more than 2^64 - 1, or need more than 2^63 slots
   abbrev pub InsertIsTooLarge : List (K × V) → ℕ → ℕ → Type 0
   InsertIsTooLarge L C F = (2 ^ 64 ≤ length L + 1) ⊎ GrowsTooMuch C (length L + 1) F
 
@@ -38,7 +38,7 @@ module _ {K V : Type 0} where
   map_with_values m vs = record m { walk = with_values m.walk vs }
 
 module _ {K V : Type 0} (number : K → ℕ) where
-  -- W may be the walk of a map of C slots at the load factor F: it is its own walk, no key is bound twice, each key is a
+  -- W may be the walk of a map of C slots at the load factor F: it is its own walk, no key is present twice, each key is a
   -- value of its type, length and load factor are below 2^64, and the last length at which growth was tested meets the load
   pub record IsMapWalk (is_valid : K → Type 0) (W : List (K × V)) (C F : ℕ) : Type 0 where
     pub capacity : IsCapacity C
@@ -49,7 +49,7 @@ module _ {K V : Type 0} (number : K → ℕ) where
     pub factor : F < 2 ^ 64
     pub load : 4 ≤ length W → MeetsLoad C (last_due (length W)) F
 
-  -- what every map is
+  -- what holds of every map
   abbrev pub IsMap : (K → Type 0) → MapState K V → Type 0
   IsMap is_valid m = IsMapWalk is_valid m.walk m.capacity m.factor
 
@@ -57,15 +57,15 @@ module _ {K V : Type 0} (number : K → ℕ) where
   abbrev pub IsOutOfRange : List (K × V) → ℕ → ℕ → K → Type 0
   IsOutOfRange L C F k = IsNone (value_of number L k) × InsertIsTooLarge L C F
 
-  -- D is the capacity that is left once k was bound
+  -- D is the capacity after k was inserted
   abbrev pub IsCapacityAfter : List (K × V) → ℕ → ℕ → K → ℕ → Type 0
   IsCapacityAfter L C F k D = MatchOption (value_of number L k) (IsNext C (length L + 1) F D) (λ _. D ≡ C)
 
-  -- the map once k was looked for
+  -- the map once k was looked up
   abbrev pub after_search : MapState K V → K → MapState K V
   after_search m k = record m { compared = m.compared + reach number m.walk m.capacity k }
 
-  -- the map with k bound to v by a pair at the end of its slot, in D slots; pairs are put into a larger table where these are more
+  -- the map with the pair of k and v at the end of its slot, in D slots; pairs are put into a larger table if D is greater than the capacity
   abbrev pub with_pair : MapState K V → K → V → ℕ → MapState K V
   with_pair m k v D = record m {
     walk = walk_of number (put_pair number m.walk m.capacity k v) D;
@@ -73,7 +73,7 @@ module _ {K V : Type 0} (number : K → ℕ) where
     placed = m.placed + cond (D == m.capacity) 0 (length m.walk + 1);
   }
 
-  -- the map once k was looked for and bound to v, in D slots
+  -- the map once k was looked up and inserted with v, in D slots
   abbrev pub after_insert : MapState K V → K → V → ℕ → MapState K V
   after_insert m k v D = with_pair (after_search m k) k v D
 
@@ -81,11 +81,11 @@ module _ {K V : Type 0} (number : K → ℕ) where
   abbrev pub in_slots : MapState K V → ℕ → MapState K V
   in_slots m D = record m { walk = walk_of number m.walk D; capacity = D }
 
-  -- the map with k taken out
+  -- the map without k
   abbrev pub without_key : MapState K V → K → MapState K V
   without_key m k = record m { walk = walk_of number (take_key number m.walk m.capacity k) m.capacity }
 
-  -- the map once k was looked for and taken out
+  -- the map once k was looked up and removed
   abbrev pub after_remove : MapState K V → K → MapState K V
   after_remove m k = without_key (after_search m k) k
 

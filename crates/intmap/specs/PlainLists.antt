@@ -14,7 +14,7 @@ pub record PlainList (K V : Type 0) : Type 0 where
   pub capacity : ℕ
   pub factor : ℕ
 
--- no pairs in C slots, at the load factor of a map that was just made
+-- no pairs in C slots, at the load factor of a new map
 abbrev pub empty_list : {K V : Type 0} → ℕ → PlainList K V
 empty_list C = record { pairs = []; capacity = C; factor = 909 }
 
@@ -25,25 +25,25 @@ module _ {K V : Type 0} (number : K → ℕ) where
     pub capacity : s.capacity ≡ m.capacity
     pub factor : s.factor ≡ m.factor
 
-  -- an accepted insertion: the key is in range, the pair stands last, and growth changes the capacity alone
+  -- a successful insertion: the key is in range, the pair is last, and growth changes the capacity alone
   pub record ListInserts (s : PlainList K V) (k : K) (v : V) (t : PlainList K V) : Type 0 where
     pub in_range : IsOutOfRange number s.pairs s.capacity s.factor k → ⊥
     pub capacity : IsCapacityAfter number s.pairs s.capacity s.factor k t.capacity
     pub after : t ≡ record s { pairs = put_pair number s.pairs s.capacity k v; capacity = t.capacity }
 
-  -- an insertion may be refused for this cause: of a new key alone, as too large exactly where it is out of range, and
-  -- for want of memory never where the capacity stays and no bound key shares its slot
+  -- an insertion may fail with this cause: for a new key alone, as too large exactly if the key is out of range, and
+  -- for want of memory never if the capacity stays and no present key shares its slot
   pub record RefusalIsDue (s : PlainList K V) (k : K) (cause : Cause) : Type 0 where
     pub new_key : IsNone (value_of number s.pairs k)
     pub too_large : (cause ≡ TooLarge) ↔ IsOutOfRange number s.pairs s.capacity s.factor k
     pub memory : cause ≡ Memory → IsNext s.capacity (length s.pairs + 1) s.factor s.capacity → 0 < class_size number s.pairs s.capacity k
 
-  -- the pairs are inserted in turn, all accepted
+  -- the pairs are inserted in turn, and none fails
   abbrev pub ListInsertsAll : PlainList K V → List (K × V) → PlainList K V → Type 0
   ListInsertsAll s [] t = t ≡ s
   ListInsertsAll s (p ∷ ps) t = (m : PlainList K V) × ListInserts s p.0 p.1 m × ListInsertsAll m ps t
 
-  -- the pairs are inserted in turn up to the first that is refused: so many were, and that one with its cause, or none
+  -- the pairs are inserted in turn up to the first that fails: n is their number, with that one and its cause, or none
   abbrev pub ListInsertsUpTo : PlainList K V → List (K × V) → ℕ → Option ((K × V) × Cause) → PlainList K V → Type 0
   ListInsertsUpTo s ps n None t = (n ≡ length ps) × ListInsertsAll s ps t
   ListInsertsUpTo s ps n (Some refused) t =

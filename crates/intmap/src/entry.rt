@@ -62,9 +62,9 @@ impl<K: IntKey, V, A: Allocator + Copy> IntMap<K, V, A> {
     /// [`Vacant`](Entry::Vacant). The key is looked up as by [`get_counted`](IntMap::get_counted),
     /// and no call of the entry compares a key again. It never fails.
     ///
-    /// The entry borrows the map. Dropping it without another call leaves the map as it was, but
-    /// for the count of compared keys. A caller's proof knows this of an entry that is taken apart
-    /// by a `match`, and of any that is ended by [`OccupiedEntry::leave`] or [`Entry::into_map`].
+    /// The entry borrows the map. Dropping it without another call leaves the map as it was, except
+    /// for the count of compared keys. A caller's proof knows this of an entry that a `match` takes
+    /// apart, and of any entry that is ended by [`OccupiedEntry::leave`] or [`Entry::into_map`].
     ///
     /// ```text
     /// match map.entry(21) {
@@ -106,8 +106,8 @@ impl<'a, K: IntKey, V, A: Allocator + Copy> Entry<'a, K, V, A> {
     }
 
     /// A mutable reference to the value of the key. If the key is absent, `value` is inserted
-    /// first. This fails as [`VacantEntry::insert`] does, and then returns `value`. If the key is
-    /// present, `value` is dropped, and the call never fails.
+    /// first. If this insertion fails, it fails as [`VacantEntry::insert`] does, and the failure
+    /// returns `value`. If the key is present, `value` is dropped, and the call never fails.
     ///
     /// ```text
     /// *map.entry(word).or_insert(0)? += 1
@@ -115,7 +115,7 @@ impl<'a, K: IntKey, V, A: Allocator + Copy> Entry<'a, K, V, A> {
     pub fn or_insert(self, value: V) -> Result<&'a mut V, Refused<V>>
     where
         V: Drop,
-        // what is answered and left
+        // what is returned and left
         ensures* writes_back { sem 𝓛 (entry_lends_ok K.row V.row A.row A.Allocator
             self.entry result) }
         ensures value { IfOk result (λ r. r.now ≡ unwrap_or (entry_value self.entry) value) }
@@ -130,10 +130,10 @@ impl<'a, K: IntKey, V, A: Allocator + Copy> Entry<'a, K, V, A> {
         ensures valid_after { OnOk result ((v : V)
             → IsMap K.number_of K.is_valid (map_with_value self.entry v)) }
 
-        // what a refusal hands back
+        // what a failure returns
         ensures value_returned { IfErr result (λ refused. refused.value ≡ value) }
 
-        // when it is refused
+        // when it fails
         ensures in_range { OnOk result (IsOutOfRange K.number_of (entry_map self.entry).walk
             (entry_map self.entry).capacity (entry_map self.entry).factor (entry_key self.entry)
             → ⊥) }
@@ -146,8 +146,8 @@ impl<'a, K: IntKey, V, A: Allocator + Copy> Entry<'a, K, V, A> {
         }
     }
 
-    /// If the key is present, calls the closure with a mutable reference to its value. Returns the
-    /// entry. The closure must be callable at that value.
+    /// If the key is present, calls the closure with a mutable reference to its value. It returns
+    /// the entry. If the key is present, the closure must be callable at its value.
     ///
     /// ```text
     /// map.entry(word).and_modify(|count| *count += 1).or_insert(1)?

@@ -1,8 +1,8 @@
 //! Laws for callers: what follows about a map from the contracts of its calls. Each is the contract
 //! of a function that does nothing.
 //!
-//! A call such as `laws::small_keys_are_found_at_once::<u64, V>();` brings its law into the proof
-//! of the function that contains the call.
+//! A call such as `laws::small_keys_are_found_at_once::<u64, V>();` adds its law to the proof of
+//! the function that contains the call.
 ghost use Rattle.std.specs.Prelude.{◌≡◌, ◌+◌, ◌^◌, ◌<◌, ◌≤◌, ◌↔◌, ℕ, List, All, IsTrue, cond, is_some, length, Some, None, false};
 ghost use Rattle.intmap_table.specs.Classes.{IsCapacity};
 ghost use Rattle.intmap_table.specs.Bindings.{value_of, take_key, put_pair, HasDistinctKeys, Updates, BindSame};
@@ -20,7 +20,7 @@ ghost use Rattle.serde_json.specs.declared.value.Value.{Value};
 
 use intmap_table::IntKey;
 
-/// The walk of a list has the same value for each key as the list.
+/// In the walk of a list, each key has the value that it has in the list.
 pub fn walks_bind_as_lists<K: IntKey, V>()
     ensures { (L : List (K × V)) (C : ℕ) (q : K) → IsCapacity C
         → value_of K.number_of (walk_of K.number_of L C) q ≡ value_of K.number_of L q }
@@ -32,29 +32,30 @@ pub fn walks_are_as_long_as_lists<K: IntKey, V>()
         → length (walk_of K.number_of L C) ≡ length L }
 {}
 
-/// Once a key is taken out of a list with distinct keys, it is absent, and every other key is as
+/// Once a key is removed from a list with distinct keys, it is absent, and every other key is as
 /// before.
-pub fn taking_unbinds<K: IntKey, V>()
+pub fn removal_updates<K: IntKey, V>()
     ensures { (L : List (K × V)) (C : ℕ) (k : K) → HasDistinctKeys K.number_of L
         → Updates K.number_of L (take_key K.number_of L C k) k None }
 {}
 
-/// Once a pair is put into a list with distinct keys, its key has its value, and every other key is
-/// as before.
-pub fn putting_binds<K: IntKey, V>()
+/// Once a pair is inserted into a list with distinct keys, its key has its value, and every other
+/// key is as before.
+pub fn insertion_updates<K: IntKey, V>()
     ensures { (L : List (K × V)) (C : ℕ) (k : K) (v : V) → HasDistinctKeys K.number_of L
         → Updates K.number_of L (put_pair K.number_of L C k v) k (Some v) }
 {}
 
-/// Taking out a present key makes a list one pair shorter, an absent key no shorter.
-pub fn taking_shortens<K: IntKey, V>()
+/// Removing a present key makes a list one pair shorter. Removing an absent key leaves its length.
+pub fn removal_shortens<K: IntKey, V>()
     ensures { (L : List (K × V)) (C : ℕ) (k : K)
         → length (take_key K.number_of L C k) + cond (is_some (value_of K.number_of L k)) 1 0
         ≡ length L }
 {}
 
-/// Putting in a pair makes a list one pair longer if its key is new, and else no longer.
-pub fn putting_lengthens<K: IntKey, V>()
+/// Inserting a pair makes a list one pair longer if its key is new, and otherwise leaves its
+/// length.
+pub fn insertion_lengthens<K: IntKey, V>()
     ensures { (L : List (K × V)) (C : ℕ) (k : K) (v : V)
         → length (put_pair K.number_of L C k v)
         ≡ length L + cond (is_some (value_of K.number_of L k)) 0 1 }
@@ -87,14 +88,14 @@ pub fn lone_pairs_are_never_refused<K: IntKey, V>()
 {}
 
 /// If every key with a number of at least `n` is absent, the numbers of all keys are below `n`.
-pub fn bound_keys_are_below<K: IntKey, V>()
+pub fn present_keys_are_below<K: IntKey, V>()
     ensures { (L : List (K × V)) (n : ℕ)
         → ((q : K) → n ≤ K.number_of q → value_of K.number_of L q ≡ None)
         → All (λ p. K.number_of p.0 < n) L }
 {}
 
 /// If distinct keys all have numbers below the capacity, at most one of them agrees with any key.
-pub fn small_keys_stand_alone<K: IntKey, V>()
+pub fn small_keys_are_alone<K: IntKey, V>()
     ensures { (L : List (K × V)) (C : ℕ) (k : K) → HasDistinctKeys K.number_of L
         → All (λ p. K.number_of p.0 < C) L → class_size K.number_of L C k ≤ 1 }
 {}

@@ -1,4 +1,4 @@
-//! Whether a table has too few slots for its pairs, and how many slots they need.
+//! Whether a table has too few slots for its pairs, and how many slots it needs.
 ghost use Rattle.std.specs.Prelude.{◌≡◌, ◌^◌, ◌<◌, ◌&&◌, nat_lt, IfSome, IfNone};
 ghost use Rattle.intmap_table.specs.Classes.{IsCapacity};
 ghost use Rattle.intmap.specs.Growth.{IsWanted, IsThreshold, WantsTooMuch, is_due};
@@ -6,8 +6,8 @@ ghost use Rattle.intmap.specs.Growth.{IsWanted, IsThreshold, WantsTooMuch, is_du
 /// The greatest number of slots.
 pub(crate) const GREATEST_CAPACITY: usize = 9223372036854775808;
 
-/// The least of `capacity` and its doublings in which `len` pairs meet the load factor `factor`, in
-/// thousandths. It is `None` if no capacity up to 2^63 is enough.
+/// The least capacity, among `capacity` and its doublings, in which `len` pairs meet the load
+/// factor `factor`, in thousandths. It is `None` if no capacity up to 2^63 is enough.
 pub(crate) fn wanted_capacity(len: usize, capacity: usize, factor: usize) -> Option<usize>
     requires { IsCapacity capacity }
     ensures wanted { IfSome result (IsWanted capacity len factor) }
@@ -40,7 +40,7 @@ pub(crate) fn threshold_of(capacity: usize, factor: usize) -> usize
     }
 }
 
-/// Whether the load is checked at `len` pairs, and they are more than the threshold.
+/// Whether the load is checked at `len` pairs, and `len` is above the threshold.
 pub(crate) fn has_outgrown(len: usize, threshold: usize) -> bool
     ensures { result ≡ is_due len && nat_lt threshold len }
 {

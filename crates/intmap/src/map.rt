@@ -1,5 +1,5 @@
-//! The map: a table of slots, the number of its pairs and its load factor. Beside its figures stand
-//! the calls on a located pair, whose key was found before. These compare no key.
+//! The map: a table of slots, the number of its pairs and its load factor. This file has its
+//! figures, and the calls on a located pair, whose key was found before. These compare no key.
 ghost use Rattle.std.specs.Prelude.{◌≡◌, ◌==◌, length, is_some, IfSome, IfNone, Some, None};
 ghost use Rattle.intmap.specs.Map.{IsMap, after_search, with_pair, without_key};
 ghost use Rattle.intmap_table.specs.Bindings.{value_of};
@@ -27,13 +27,14 @@ use std::marker::Model;
 /// A hash map from integer keys to values.
 ///
 /// Its pairs lie in slots, whose number is a power of two. A key's slot is its number times an odd
-/// constant, modulo the number of slots. Iteration goes through the slots in turn, and through each
-/// from front to back. The list of the pairs in this order is the walk. It depends on the calls
-/// alone: there is no random seed. No call makes the number of slots smaller.
+/// constant, modulo the number of slots: two keys share a slot exactly if their numbers are equal
+/// modulo the number of slots. Iteration goes through the slots in turn, and through each from
+/// front to back. The list of the pairs in this order is the walk. It depends on the calls alone:
+/// there is no random seed. No call makes the number of slots smaller.
 ///
 /// Contracts see a map as a [`MapState`](../specs/Map.antt): its walk, its number of slots, its
-/// load factor in thousandths, and two counts. One is of the pairs that insertions put into larger
-/// tables, the other of the keys that calls by `&mut` compared. Only contracts see the counts: they
+/// load factor in thousandths, and two counts. One counts the pairs that insertions put into larger
+/// tables, the other the keys that calls by `&mut` compared. Only contracts see the counts: they
 /// take no memory.
 #[derive(Drop)]
 pub struct IntMap<K: IntKey, V, A: Allocator + Copy = Global> {
@@ -102,7 +103,7 @@ impl<K: IntKey, V, A: Allocator + Copy> IntMap<K, V, A> {
     ghost use Rattle.std.specs.Borrow.{sem};
     ghost use Rattle.intmap.specs.Lending.{map_lends};
 
-    /// Where the pair of the key stands, if the key is present. The map counts the comparisons.
+    /// Where the pair of the key is, if the key is present. The map counts the comparisons.
     #[inline(always)]
     pub(crate) fn locate(&mut self, key: K) -> Option<Location<K>>
         ensures found { IfSome result (λ at. (at.key ≡ key)
@@ -118,7 +119,7 @@ impl<K: IntKey, V, A: Allocator + Copy> IntMap<K, V, A> {
         self.table.locate(key, &mut self.compared)
     }
 
-    /// Where the pair of a key stands that is the last of its slot.
+    /// Where the pair of a key is that is the last of its slot.
     pub(crate) fn locate_last(&self, key: K) -> Location<K>
         requires { IsLast K.number_of self.now.walk self.now.capacity key }
         ensures key { result.key ≡ key }
@@ -136,7 +137,7 @@ impl<K: IntKey, V, A: Allocator + Copy> IntMap<K, V, A> {
         self.table.key_at(slot, place)
     }
 
-    /// Where the pair at a place of a slot stands, with its key.
+    /// Where the pair at a place of a slot is, with its key.
     pub(crate) fn location(&self, slot: usize, place: usize) -> Location<K>
         requires { IsFound K.number_of self.now.walk self.now.capacity slot place }
         ensures key { Some result.key

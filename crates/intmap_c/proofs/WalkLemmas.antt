@@ -11,7 +11,7 @@ module _ {X : Type 0} where
   drop-suc (suc n) [] {x} {rest} e = absurd (let w : [] ≡ x ∷ rest = e in cc)
   drop-suc (suc n) (y ∷ L) e = let t = drop-suc n L e in (t.0, omega (arith, t.1))
 
-  -- where one is left, the others are left behind it, and its place is in the list
+  -- if one is left, the others are left behind it, and its place is in the list
   pub drop-first : (n : ℕ) (L : List X) {x : X} {rest : List X} → drop n L ≡ x ∷ rest → (drop (n + 1) L ≡ rest) × (n < length L)
   drop-first n L {x} {rest} e = let t = drop-suc n L e in (subst (λ k. drop k L ≡ rest) (suc-eq-add-one n) t.0, t.1)
 

@@ -1,9 +1,9 @@
--- What C is told, and of which map.
+-- What calls return to C, and with which map.
 use Rattle.std.specs.Prelude.{◌≡◌, ◌⊎◌, ℕ, Option, None, Some}
 use Rattle.intmap_c.specs.declared.answer.TheConstants.{BOUND, NOT_BOUND, MEMORY, TOO_LARGE}
 use Rattle.intmap_c.specs.declared.answer.Answer.{Answer}
 
--- the value that a key was bound to, or that it was bound to none
+-- the value that a key had, or that it was absent
 abbrev pub value_told : Option ℕ → Answer
 value_told None = record { value = 0; status = NOT_BOUND }
 value_told (Some v) = record { value = v; status = BOUND }
@@ -12,12 +12,12 @@ value_told (Some v) = record { value = v; status = BOUND }
 abbrev pub no_value : ℕ → Answer
 no_value why = record { value = 0; status = why }
 
--- the call was refused: for want of memory, or since it asked for too much
+-- the call failed: for want of memory, or since the map would be too large
 abbrev pub IsRefused : ℕ → Type 0
 IsRefused status = (status ≡ MEMORY) ⊎ (status ≡ TOO_LARGE)
 
 module _ {S : Type 0} where
-  -- P of the map before and the map after; where there is no map, there is none after either, and N
+  -- P of the map before and the map after; if there is no map, there is none after either, and N
   abbrev pub OnMap : Option S → Option S → Type 0 → (S → S → Type 0) → Type 0
   OnMap None None N P = N
   OnMap None (Some n) N P = ⊥

@@ -1,6 +1,6 @@
--- What calls make of a map from 64-bit keys to 64-bit values, m before and n after, and what they tell.
+-- What calls make of a map from 64-bit keys to 64-bit values, m before and n after, and what they return.
 use Rattle.std.specs.Prelude.{◌≡◌, ◌↔◌, ◌⊎◌, ℕ, ◌+◌, ◌^◌, ◌<◌, max, cond, List, [], ◌∷◌, ◌++◌, map, take, drop, length, Option, None, Some, is_some}
-use Rattle.intmap.specs.Bindings.{value_of, IsBound, Updates}
+use Rattle.intmap.specs.Bindings.{value_of, IsPresent, Updates}
 use Rattle.intmap.specs.Reach.{class_size}
 use Rattle.intmap.specs.Growth.{IsNext, IsLeastPower, IsWanted, WantsTooMuch}
 use Rattle.intmap.specs.Map.{MapState, IsOutOfRange, IsCapacityAfter, after_search, after_insert, after_remove, written, in_slots, with_walk}
@@ -18,15 +18,15 @@ State = MapState ℕ ℕ
 abbrev pub itself : ℕ → ℕ
 itself = λ k. k
 
--- the value that the key is bound to
+-- the value of the key, if it is present
 abbrev pub bound_to : State → ℕ → Option ℕ
 bound_to m k = value_of itself m.walk k
 
--- the same keys are bound to the same values
+-- the same keys have the same values
 abbrev pub BindSame : State → State → Type 0
 BindSame m n = ((q : ℕ) → bound_to n q ≡ bound_to m q) × (length n.walk ≡ length m.walk)
 
--- k was bound to v, in as many slots as that asks for
+-- k was inserted with v, in the number of slots that this needs
 pub record Binds (m n : State) (k v : ℕ) : Type 0 where
   pub in_range : IsOutOfRange itself m.walk m.capacity m.factor k → ⊥
   pub capacity : IsCapacityAfter itself m.walk m.capacity m.factor k n.capacity
@@ -34,7 +34,7 @@ pub record Binds (m n : State) (k v : ℕ) : Type 0 where
   pub updates : Updates itself m.walk n.walk k (Some v)
   pub len : length n.walk ≡ length m.walk + cond (is_some (bound_to m k)) 0 1
 
--- the new key k was refused, and the map is as it was but for the count of comparisons
+-- the insertion of the new key k failed, and the map is as it was except for the count of comparisons
 pub record Refuses (m n : State) (k status : ℕ) : Type 0 where
   pub why : IsRefused status
   pub state : n ≡ after_search itself m k
@@ -42,35 +42,35 @@ pub record Refuses (m n : State) (k status : ℕ) : Type 0 where
   pub too_large : (status ≡ TOO_LARGE) ↔ IsOutOfRange itself m.walk m.capacity m.factor k
   pub memory : status ≡ MEMORY → IsNext m.capacity (length m.walk + 1) m.factor m.capacity → 0 < class_size itself m.walk m.capacity k
 
--- k was bound to v, and its value before is told; or it was refused
+-- k was inserted with v, and its value before is returned; or the insertion failed
 abbrev pub Inserts : State → State → ℕ → ℕ → Answer → Type 0
 Inserts m n k v answer =
     ((answer ≡ value_told (bound_to m k)) × Binds m n k v)
     ⊎ ((answer ≡ no_value answer.status) × Refuses m n k answer.status)
 
--- k had a value, which stays; or it had none, and was bound to v; or it was refused
+-- k had a value, which stays; or it was absent, and was inserted with v; or the insertion failed
 abbrev pub InsertsNew : State → State → ℕ → ℕ → ℕ → Type 0
 InsertsNew m n k v status =
-    ((status ≡ BOUND) × IsBound itself m.walk k × (n ≡ after_search itself m k))
+    ((status ≡ BOUND) × IsPresent itself m.walk k × (n ≡ after_search itself m k))
     ⊎ ((status ≡ NOT_BOUND) × (bound_to m k ≡ None) × Binds m n k v)
     ⊎ Refuses m n k status
 
--- v was written in the place of the value of k, which is told; nothing was where k has none
+-- v was written in the place of the value of k, which is returned; if k is absent, nothing was written
 pub record Writes (m n : State) (k v : ℕ) (answer : Answer) : Type 0 where
   pub told : answer ≡ value_told (bound_to m k)
-  pub bound : IsBound itself m.walk k → n ≡ written itself (after_search itself m k) k v
+  pub bound : IsPresent itself m.walk k → n ≡ written itself (after_search itself m k) k v
   pub missing : bound_to m k ≡ None → n ≡ after_search itself m k
-  pub updates : IsBound itself m.walk k → Updates itself m.walk n.walk k (Some v)
+  pub updates : IsPresent itself m.walk k → Updates itself m.walk n.walk k (Some v)
   pub len : length n.walk ≡ length m.walk
 
--- the pair of k was taken out, and its value is told
+-- the pair of k was removed, and its value is returned
 pub record Removes (m n : State) (k : ℕ) (answer : Answer) : Type 0 where
   pub told : answer ≡ value_told (bound_to m k)
   pub state : n ≡ after_remove itself m k
   pub updates : Updates itself m.walk n.walk k None
   pub len : length n.walk + cond (is_some (bound_to m k)) 1 0 ≡ length m.walk
 
--- there are slots for so many pairs more; or the map is as it was
+-- there are slots for this number of further pairs; or the map is as it was
 pub record Reserves (m n : State) (additional status : ℕ) : Type 0 where
   pub outcome :
       ((status ≡ DONE) × (n ≡ in_slots itself m n.capacity)
@@ -88,7 +88,7 @@ pub record SetsFactor (m n : State) (F status : ℕ) : Type 0 where
   pub too_large : (status ≡ TOO_LARGE) ↔ WantsTooMuch m.capacity (length m.walk) F
   pub memory : status ≡ MEMORY → IsWanted m.capacity (length m.walk) F m.capacity → ⊥
 
--- the first pair of the walk was taken out; or there was none
+-- the first pair of the walk was removed; or there was none
 abbrev pub Pops : State → State → Popped → Type 0
 Pops m n popped =
     ((popped.status ≡ BOUND) × (m.walk ≡ (popped.pair.key, popped.pair.value) ∷ n.walk) × (n ≡ with_walk m n.walk))
@@ -98,6 +98,6 @@ Pops m n popped =
 abbrev pub pair_of : ℕ × ℕ → Pair
 pair_of p = record { key = p.0; value = p.1 }
 
--- the pairs of the walk from a place on, so many of them, in the front of what was there
+-- the pairs of the walk from a position on, at most `count`, in the front of what was there
 abbrev pub copied : List (ℕ × ℕ) → ℕ → ℕ → List Pair → List Pair
 copied L from count pairs = map pair_of (take count (drop from L)) ++ drop count pairs

@@ -1,4 +1,4 @@
--- What a word of C owns that stands for a map or for none.
+-- What a word of C owns that holds a map or none.
 use base.Fml.{Fml, feq}
 use mir.Syntax.{Ty}
 use denote.RattleType.{RattleType}
@@ -31,7 +31,7 @@ the_heap = record { memory = record { seal = tt } }
 abbrev pub may_free : Ty → Ptr → Fml
 may_free = global_allocator.ghosts.dealloc_token the_heap
 
--- nothing at null, and else a map in a block that `free` may be given
+-- nothing if it is null, and otherwise a map in a block that `free` may be given
 abbrev pub owns_map : Ptr → Option Map.Denot → Fml
 owns_map p None = feq Ptr p null_ptr
 owns_map p (Some m) = box_owns may_free Map p m

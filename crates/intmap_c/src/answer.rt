@@ -1,4 +1,4 @@
-//! What C is told.
+//! What calls return to C.
 ghost use Rattle.std.specs.Prelude.{◌≡◌, ◌↔◌};
 ghost use Rattle.intmap_c.specs.Answers.{IsRefused, no_value, value_told};
 
@@ -9,28 +9,28 @@ use intmap::Cause;
 /// The call did what it says.
 pub const DONE: u32 = 0;
 
-/// The key was bound before the call.
+/// The key was present before the call.
 pub const BOUND: u32 = 1;
 
-/// The key wasn't bound before the call.
+/// The key was absent before the call.
 pub const NOT_BOUND: u32 = 2;
 
-/// Refused: an allocation failed.
+/// The call failed: an allocation failed.
 pub const MEMORY: u32 = 3;
 
-/// Refused: the map would be too large.
+/// The call failed: the map would be too large.
 pub const TOO_LARGE: u32 = 4;
 
-/// Refused: there is no map.
+/// The call failed: there is no map.
 pub const NO_MAP: u32 = 5;
 
-/// A value, where there is one.
+/// A value, if there is one.
 #[repr(C)]
 #[derive(Drop)]
 pub struct Answer {
-    /// The value where the status is `BOUND`, and else 0.
+    /// The value if the status is `BOUND`, and otherwise 0.
     pub value: u64,
-    /// `BOUND`, `NOT_BOUND` or why the call was refused.
+    /// `BOUND`, `NOT_BOUND`, or why the call failed.
     pub status: u32,
 }
 
@@ -44,11 +44,11 @@ pub struct Pair {
     pub value: u64,
 }
 
-/// A pair that was taken out, where there was one.
+/// The pair that was removed, if there was one.
 #[repr(C)]
 #[derive(Drop)]
 pub struct Popped {
-    /// The pair where the status is `BOUND`, and else zeros.
+    /// The pair if the status is `BOUND`, and otherwise zeros.
     pub pair: Pair,
     /// `BOUND`, `NOT_BOUND` or `NO_MAP`.
     pub status: u32,
@@ -88,7 +88,7 @@ impl Popped {
     }
 }
 
-/// The status of a refused call.
+/// The status of a failed call.
 pub(crate) fn status_of(cause: Cause) -> u32
     ensures refused { IsRefused result }
     ensures too_large { (result ≡ TOO_LARGE) ↔ (cause ≡ Cause.TooLarge) }

@@ -8,7 +8,7 @@ use crate::handle::{Handle, put, take};
 use intmap::IntMap;
 use std::alloc::Global;
 
-/// Makes slots, and answers as [`intmap_reserve`] does where there is a map.
+/// Makes slots, and returns what [`intmap_reserve`] returns if there is a map.
 fn reserve(map: &mut IntMap<u64, u64>, additional: usize) -> u32
     ensures { Reserves map.old map.new additional result }
 {
@@ -18,7 +18,7 @@ fn reserve(map: &mut IntMap<u64, u64>, additional: usize) -> u32
     }
 }
 
-/// Sets the load factor, and answers as [`intmap_set_load_factor`] does where there is a map.
+/// Sets the load factor, and returns what [`intmap_set_load_factor`] returns if there is a map.
 fn set_load_factor(map: &mut IntMap<u64, u64>, thousandths: usize) -> u32
     ensures { SetsFactor map.old map.new thousandths result }
 {
@@ -28,7 +28,7 @@ fn set_load_factor(map: &mut IntMap<u64, u64>, thousandths: usize) -> u32
     }
 }
 
-/// The number of pairs, and 0 where there is no map. The map stays.
+/// The number of pairs, or 0 if there is no map. The map stays.
 #[unsafe(no_mangle)]
 pub extern "C" fn intmap_len(alloc: Global, handle: &mut Handle) -> usize
     ensures kept { handle.new.value ≡ handle.old.value }
@@ -44,7 +44,7 @@ pub extern "C" fn intmap_len(alloc: Global, handle: &mut Handle) -> usize
     }
 }
 
-/// The number of slots, and 0 where there is no map. The map stays.
+/// The number of slots, or 0 if there is no map. The map stays.
 #[unsafe(no_mangle)]
 pub extern "C" fn intmap_capacity(alloc: Global, handle: &mut Handle) -> usize
     ensures kept { handle.new.value ≡ handle.old.value }
@@ -60,7 +60,7 @@ pub extern "C" fn intmap_capacity(alloc: Global, handle: &mut Handle) -> usize
     }
 }
 
-/// The load factor in thousandths, and 0 where there is no map. The map stays.
+/// The load factor in thousandths, or 0 if there is no map. The map stays.
 #[unsafe(no_mangle)]
 pub extern "C" fn intmap_load_factor(alloc: Global, handle: &mut Handle) -> usize
     ensures kept { handle.new.value ≡ handle.old.value }
@@ -77,8 +77,8 @@ pub extern "C" fn intmap_load_factor(alloc: Global, handle: &mut Handle) -> usiz
 }
 
 /// Makes the number of slots at least the least power of two that is no less than the number of
-/// pairs plus `additional`. It is refused as too large exactly if that sum is above 2^63, and
-/// otherwise if an allocation fails. Then the map stays.
+/// pairs plus `additional`. It fails with `TOO_LARGE` exactly if that sum is above 2^63, and
+/// otherwise with `MEMORY` if an allocation fails. A failed call leaves the map.
 ///
 /// ```text
 /// intmap_reserve(&map, 100)    INTMAP_DONE, and 128 slots in an empty map
@@ -99,8 +99,8 @@ pub extern "C" fn intmap_reserve(alloc: Global, handle: &mut Handle, additional:
 }
 
 /// Sets the load factor in thousandths, and makes the number of slots the least doubling that meets
-/// it. It is refused as too large exactly if no number up to 2^63 does, and otherwise if an
-/// allocation fails. Then the map stays, with its load factor.
+/// it. It fails with `TOO_LARGE` exactly if no number up to 2^63 meets it, and otherwise with
+/// `MEMORY` if an allocation fails. A failed call leaves the map and its load factor.
 ///
 /// ```text
 /// intmap_set_load_factor(&map, 100)    INTMAP_DONE, and 32 slots where 3 pairs were in 4

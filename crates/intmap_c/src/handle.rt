@@ -1,4 +1,4 @@
-//! One word that C holds: a map in memory, or null where there is none.
+//! One word that C holds: a map in memory, or null if there is none.
 ghost use Rattle.std.specs.Prelude.{◌≡◌, None, Some, MatchOption};
 ghost use Rattle.intmap_c.specs.Handles.{MaybeMap, owns_map};
 
@@ -9,7 +9,7 @@ use std::marker::Model;
 use std::mem::replace;
 use std::ptr::null_mut;
 
-/// A map, or none. It isn't dropped: a handle that is given up is first taken apart.
+/// A map, or none. It isn't dropped: before a handle is given up, its map is taken out.
 #[repr(C)]
 pub struct Handle {
     at: *mut u8,
@@ -49,7 +49,7 @@ impl Handle {
     }
 }
 
-/// Takes the map out of the handle, which is left with none.
+/// Takes the map out of the handle, which then has none.
 pub(crate) fn take(handle: &mut Handle, alloc: Global) -> Option<Box<IntMap<u64, u64>>>
     ensures left { handle.new.value ≡ None }
     ensures taken { MatchOption result (handle.old.value ≡ None)
@@ -61,7 +61,7 @@ pub(crate) fn take(handle: &mut Handle, alloc: Global) -> Option<Box<IntMap<u64,
     }
 }
 
-/// Puts the map into the handle. One that it had is freed.
+/// Puts the map into the handle. If the handle had a map, that map is freed.
 pub(crate) fn put(handle: &mut Handle, alloc: Global, map: Box<IntMap<u64, u64>>)
     ensures { handle.new.value ≡ Some map.value }
 {

@@ -1,8 +1,7 @@
-//! The map from 64-bit keys to 64-bit values as a library for C, which `bindings/c/intmap.h`
-//! declares.
+//! The map from 64-bit keys to 64-bit values as a library for C. `bindings/c/intmap.h` declares it.
 //!
-//! C holds a map as one word, a [`Handle`](handle::Handle), which is null where there is no map. A
-//! call takes the map out of the handle, has it do the work, and puts it back.
+//! C holds a map as one word, a [`Handle`](handle::Handle), which is null if there is no map. A
+//! call takes the map out of the handle, calls it, and puts it back.
 #![tactic(auto)]
 
 mod answer;

@@ -1,4 +1,4 @@
-//! Maps that are made and freed.
+//! Calls that make and free maps.
 ghost use Rattle.std.specs.Prelude.{◌≡◌, ◌⊎◌, ◌↔◌, ◌^◌, ◌<◌, ℕ, max, None, Some, MatchResult};
 ghost use Rattle.intmap.specs.Growth.{IsLeastPower};
 ghost use Rattle.intmap.specs.Map.{empty_map};
@@ -10,8 +10,8 @@ use crate::handle::{Handle, put, take};
 use intmap::{Cause, IntMap};
 use std::alloc::Global;
 
-/// Puts a map that was made into the handle. `DONE`, or why none was made or no block for it; then
-/// the handle stays.
+/// Puts a new map into the handle and returns `DONE`. If the map could not be made, or there is no
+/// memory for its block, it returns why, and the handle stays.
 fn keep(alloc: Global, handle: &mut Handle, made: Result<IntMap<u64, u64>, Cause>) -> u32
     ensures { MatchResult made
         (λ map. ((result ≡ DONE) × (handle.new.value ≡ Some map))
@@ -31,8 +31,8 @@ fn keep(alloc: Global, handle: &mut Handle, made: Result<IntMap<u64, u64>, Cause
     }
 }
 
-/// Makes an empty map of 4 slots, with a load factor of 909 thousandths. A map that the handle had
-/// is freed. It is refused if an allocation fails, and then the handle stays.
+/// Makes an empty map of 4 slots, with a load factor of 909 thousandths. If the handle had a map,
+/// that map is freed. It fails with `MEMORY` if an allocation fails, and then the handle stays.
 ///
 /// ```text
 /// intmap_new(&map)    INTMAP_DONE, and intmap_capacity(&map) is 4
@@ -46,9 +46,9 @@ pub extern "C" fn intmap_new(alloc: Global, handle: &mut Handle) -> u32
 }
 
 /// Makes an empty map, with a load factor of 909 thousandths. Its number of slots is the least
-/// power of two that is at least `capacity`, and at least 2. A map that the handle had is freed. It
-/// is refused as too large exactly if `capacity` is above 2^63, and otherwise if an allocation
-/// fails. Then the handle stays.
+/// power of two that is at least `capacity`, and at least 2. If the handle had a map, that map is
+/// freed. It fails with `TOO_LARGE` exactly if `capacity` is above 2^63, and otherwise with
+/// `MEMORY` if an allocation fails. A failed call leaves the handle.
 ///
 /// ```text
 /// intmap_with_capacity(&map, 20)                     INTMAP_DONE, and 32 slots
@@ -64,7 +64,8 @@ pub extern "C" fn intmap_with_capacity(alloc: Global, handle: &mut Handle, capac
     keep(alloc, handle, IntMap::with_capacity(alloc, capacity))
 }
 
-/// Frees the map of the handle, which then has none. It does nothing where it has none.
+/// Frees the map of the handle, which then has none. If the handle has no map, it does nothing.
+/// That the map's memory is freed is tested, not proved.
 ///
 /// ```text
 /// intmap_free(&map)    and again: nothing

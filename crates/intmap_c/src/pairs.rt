@@ -9,7 +9,7 @@ use intmap::IntMap;
 use std::alloc::Global;
 use std::mem::replace;
 
-/// Inserts the pair, and answers as [`intmap_insert`] does where there is a map.
+/// Inserts the pair, and returns what [`intmap_insert`] returns if there is a map.
 fn insert(map: &mut IntMap<u64, u64>, key: u64, value: u64) -> Answer
     ensures { Inserts map.old map.new key value result }
 {
@@ -19,7 +19,7 @@ fn insert(map: &mut IntMap<u64, u64>, key: u64, value: u64) -> Answer
     }
 }
 
-/// Inserts the pair of a new key, and answers as [`intmap_insert_checked`] does where there is a
+/// Inserts the pair of a new key, and returns what [`intmap_insert_checked`] returns if there is a
 /// map.
 fn insert_checked(map: &mut IntMap<u64, u64>, key: u64, value: u64) -> u32
     ensures { InsertsNew map.old map.new key value result }
@@ -31,7 +31,7 @@ fn insert_checked(map: &mut IntMap<u64, u64>, key: u64, value: u64) -> u32
     }
 }
 
-/// Writes the value of a bound key, and answers as [`intmap_set`] does where there is a map.
+/// Writes the value of a present key, and returns what [`intmap_set`] returns if there is a map.
 fn set(map: &mut IntMap<u64, u64>, key: u64, value: u64) -> Answer
     ensures { Writes map.old map.new key value result }
 {
@@ -41,7 +41,7 @@ fn set(map: &mut IntMap<u64, u64>, key: u64, value: u64) -> Answer
     }
 }
 
-/// Takes the pair of the key out, and answers as [`intmap_remove`] does where there is a map.
+/// Removes the pair of the key, and returns what [`intmap_remove`] returns if there is a map.
 fn remove(map: &mut IntMap<u64, u64>, key: u64) -> Answer
     ensures { Removes map.old map.new key result }
 {
@@ -70,7 +70,7 @@ pub extern "C" fn intmap_get(alloc: Global, handle: &mut Handle, key: u64) -> An
     }
 }
 
-/// Whether the key is bound; it isn't where there is no map. The map stays.
+/// Whether the key is present. If there is no map, it returns false. The map stays.
 ///
 /// ```text
 /// intmap_contains_key(&map, 21)    true after intmap_insert(&map, 21, 7)
@@ -91,10 +91,10 @@ pub extern "C" fn intmap_contains_key(alloc: Global, handle: &mut Handle, key: u
     }
 }
 
-/// Binds the key to the value by a pair at the end of its slot, and answers the value before. A
-/// bound key is never refused. A new one is refused as too large exactly if the map has 2^64 - 1
-/// pairs or would need more than 2^63 slots, and otherwise if an allocation fails. Then the map
-/// stays.
+/// Inserts the pair of the key and the value at the end of its slot, and returns the value before.
+/// The insertion of a present key never fails. The insertion of a new key fails with `TOO_LARGE`
+/// exactly if the map has 2^64 - 1 pairs or would need more than 2^63 slots, and otherwise with
+/// `MEMORY` if an allocation fails. A failed call leaves the map.
 ///
 /// ```text
 /// intmap_insert(&map, 21, 7)    {0, INTMAP_NOT_BOUND}
@@ -115,8 +115,8 @@ pub extern "C" fn intmap_insert(alloc: Global, handle: &mut Handle, key: u64, va
     }
 }
 
-/// Binds the key to the value if it isn't bound, and answers whether it was. A bound key keeps its
-/// value. A new one is refused as `intmap_insert` refuses it.
+/// Inserts the pair if the key is absent, and returns whether it was present. A present key keeps
+/// its value. The insertion of a new key fails as `intmap_insert` does.
 ///
 /// ```text
 /// intmap_insert_checked(&map, 21, 7)    INTMAP_NOT_BOUND: now it is
@@ -142,7 +142,7 @@ pub extern "C" fn intmap_insert_checked(
     }
 }
 
-/// Writes the value of a bound key in its place, and answers the value before. It allocates
+/// Writes the value of a present key in its place, and returns the value before. It allocates
 /// nothing.
 ///
 /// ```text
@@ -163,7 +163,7 @@ pub extern "C" fn intmap_set(alloc: Global, handle: &mut Handle, key: u64, value
     }
 }
 
-/// Takes the pair of the key out, and answers its value. The last pair of the slot takes its place.
+/// Removes the pair of the key, and returns its value. The last pair of the slot takes its place.
 ///
 /// ```text
 /// intmap_remove(&map, 21)    {7, INTMAP_BOUND} after intmap_insert(&map, 21, 7)

@@ -10,7 +10,7 @@ use intmap::IntMap;
 use intmap::iter::Iter;
 use std::alloc::Global;
 
-/// Takes the first pair out, and answers as [`intmap_pop`] does where there is a map.
+/// Removes the first pair, and returns what [`intmap_pop`] returns if there is a map.
 fn pop(map: &mut IntMap<u64, u64>) -> Popped
     ensures { Pops map.old map.new result }
 {
@@ -23,7 +23,7 @@ fn pop(map: &mut IntMap<u64, u64>) -> Popped
     }
 }
 
-/// The pairs of the walk from a place on.
+/// The pairs of the walk from a position on.
 fn pairs_from(map: &IntMap<u64, u64>, from: usize) -> Iter<'_, u64, u64>
     ensures { result ≡ drop from map.now.walk }
 {
@@ -38,7 +38,8 @@ fn pairs_from(map: &IntMap<u64, u64>, from: usize) -> Iter<'_, u64, u64>
     pairs
 }
 
-/// Copies pairs of the walk from a place on, as many as there is room for, and answers how many.
+/// Copies pairs of the walk from a position on, up to the length of `pairs`, and returns how many
+/// it copied.
 fn copy_pairs(map: &IntMap<u64, u64>, from: usize, pairs: &mut [Pair]) -> usize
     ensures count { result ≡ min (length map.now.walk - from) (length pairs.old) }
     ensures pairs { pairs.new ≡ copied map.now.walk from result pairs.old }
@@ -58,9 +59,9 @@ fn copy_pairs(map: &IntMap<u64, u64>, from: usize, pairs: &mut [Pair]) -> usize
     count
 }
 
-/// Copies the pairs of the walk from the place `from` on, counted from 0, as many as there is room
-/// for, and answers their number; 0 where there is no map. The map stays, and so do the places of
-/// `pairs` that aren't needed. It passes over the pairs before `from`.
+/// Copies the pairs of the walk from position `from` on, counted from 0, up to the length of
+/// `pairs`, and returns how many it copied; 0 if there is no map. The map stays. The part of
+/// `pairs` that isn't needed stays too. It passes over the pairs before `from`.
 ///
 /// ```text
 /// intmap_walk(&map, 0, pairs, 4)    3 where the map has 3 pairs, and pairs[3] is as it was
@@ -89,7 +90,7 @@ pub extern "C" fn intmap_walk(
     }
 }
 
-/// Takes the first pair of the walk out. The slots keep their memory.
+/// Removes the first pair of the walk and returns it. The slots keep their memory.
 ///
 /// ```text
 /// intmap_pop(&map)    {{21, 7}, INTMAP_BOUND} after intmap_insert(&map, 21, 7) into an empty map
@@ -111,8 +112,8 @@ pub extern "C" fn intmap_pop(alloc: Global, handle: &mut Handle) -> Popped
     }
 }
 
-/// Takes all pairs out. The slots, the load factor and the slots' memory stay. It does nothing
-/// where there is no map.
+/// Removes all pairs. The slots, the load factor and the slots' memory stay. If there is no map, it
+/// does nothing.
 ///
 /// ```text
 /// intmap_clear(&map)    and intmap_len(&map) is 0

@@ -1,4 +1,4 @@
-//! Reads commands on a map from standard input, runs them, and prints one line per answer.
+//! Reads commands on a map from standard input, runs them, and prints one line for each answer.
 #![tactic(auto)]
 
 use intmap_serve::serve;

@@ -40,24 +40,24 @@ IsLarger-wanted C n F D cap wanted in_range =
       more = IsWanted-more C n F D wanted;
     }
 
--- the capacity that follows a new key, where it isn't too much
+-- the capacity that follows a new key, if it isn't too much
 IsLarger-next : (C n F D : ℕ) → IsCapacity C → IsNext C n F D → (GrowsTooMuch C n F → ⊥) → IsLarger C D
 IsLarger-next C n F D cap next in_range = elim (cases_Bool (is_due n)) [
   | inl due ↦ IsLarger-wanted C n F D cap (rw due at next) (λ much. in_range (much.0, rw due much.1, much.2))
   | inr not ↦ IsLarger-same C D cap (rw not at next)
 ]
 
--- the capacity that is left once a key was bound, where that was in range
+-- the capacity after a key was inserted, if that was in range
 pub IsLarger-after : {V : Type 0} (o : Option V) (C n F D : ℕ) → IsCapacity C → MatchOption o (IsNext C n F D) (λ _. D ≡ C) → (IsNone o × ((2 ^ 64 ≤ n) ⊎ GrowsTooMuch C n F) → ⊥) → IsLarger C D
 IsLarger-after None C n F D cap next in_range = IsLarger-next C n F D cap next (λ much. in_range (refl, inr much))
 IsLarger-after (Some v) C n F D cap same in_range = IsLarger-same C D cap same
 
--- where it changed, the key was new
+-- if it changed, the key was new
 pub IsCapacityAfter-changed : {V : Type 0} (o : Option V) (C n F D : ℕ) → MatchOption o (IsNext C n F D) (λ _. D ≡ C) → D ≢ C → (o ≡ None) × IsNext C n F D
 IsCapacityAfter-changed None C n F D next apart = (refl, next)
 IsCapacityAfter-changed (Some v) C n F D same apart = absurd (apart same)
 
--- the capacity that a reservation of n slots leaves, where that was in range
+-- the capacity that a reservation of n slots leaves, if that was in range
 pub IsLarger-reserved : (C n p D : ℕ) → IsCapacity C → n ≤ 2 ^ 63 → IsLeastPower n p → D ≡ max C p → IsLarger C D
 IsLarger-reserved C n p D cap in_range least is =
     let le : p ≤ 2 ^ 63 = least.least 63 in_range in

@@ -14,7 +14,7 @@ use Rattle.intmap_run.specs.Steps.{StepsFrom}
 use Rattle.intmap_run.proofs.MapStandLemmas.{walk_of-strike_keys-stands}
 
 module _ {K V S A : Type 0} (number : K → ℕ) (is_valid : K → Type 0) (m : MapState K V) (is_map : IsMap number is_valid m) (sees : V → S → Type 0) (keeps : K → V → Bool) (count : ℕ) where
-  -- the first pairs were taken out
+  -- the first pairs were removed
   pub StepsFrom-drain : (n : MapState K V) (pairs : Vec (K × V) A) → IsMap number is_valid n → pairs.items ≡ take count m.walk → n ≡ with_walk m (drop count m.walk)
       → StepsFrom number sees keeps m (command.Drain count) (answer.Pairs pairs) n
   StepsFrom-drain n pairs is_after taken left s stands =

@@ -17,7 +17,7 @@ use Rattle.intmap_run.proofs.MapStandLemmas.{reach-stands}
 use Rattle.intmap_run.proofs.StepLemmas.{accepted, may}
 
 module _ {K V : Type 0} (number : K → ℕ) (is_valid : K → Type 0) where
-  -- what accepted insertions in turn leave of list and map
+  -- what successful insertions in turn leave of list and map
   pub record AllAccepted (m : MapState K V) (ps : List (K × V)) (n : MapState K V) (s t : PlainList K V) : Type 0 where
     pub inserts : ListInsertsAll number s ps t
     pub stands : Stands number t n
@@ -65,7 +65,7 @@ module _ {K V S A : Type 0} (number : K → ℕ) (is_valid : K → Type 0) (m : 
         },
       )
 
-  -- the pairs before a refused one were inserted
+  -- the pairs before a failed one were inserted
   pub StepsFrom-stopped : (pairs : Vec (K × V) A) (xs rest : List (K × V)) (before n : MapState K V) (refused : RefusedPair K V)
       → pairs.items ≡ xs ++ (refused.key, refused.value) ∷ rest → refused.applied ≡ length xs
       → MapInsertsAll number is_valid m xs before → n ≡ after_search number before refused.key
@@ -90,6 +90,6 @@ module _ {K V S A : Type 0} (number : K → ℕ) (is_valid : K → Type 0) (m : 
         }),
       )
 
--- so many pairs before another one of a list of which a machine has room are counted as they are
+-- if a machine has room for a list, the number of pairs before another one of it is counted as it is
 pub counted-all : {X : Type 0} (xs ys rest : List X) (x : X) (n len cap : ℕ) → ys ≡ xs ++ x ∷ rest → len ≡ length ys → len ≤ cap → cap < 2 ^ 63 → n ≡ min (length xs) (2 ^ 64 - 1) → n ≡ length xs
 counted-all xs ys rest x n len cap split is within small count = omega (arith, ap length split, is, within, small, count, length-append xs (x ∷ rest))

@@ -1,4 +1,4 @@
--- A list in two parts, of which the first is as long as was asked for, and the whole list where that is shorter.
+-- A list in two parts: the first is as long as requested, or is the whole list if that is shorter.
 use Rattle.std.proofs.Common.{◌≡◌, ℕ, min, List, ◌++◌, length, take, drop, sym, ap, ◌∙◌, take_at, drop_at}
 use Rattle.std.proofs.lemmas.List.{take_min, drop_min}
 

@@ -16,7 +16,7 @@ use Rattle.intmap_run.proofs.MapStandLemmas.{length-stands, walk_of-stands}
 use Rattle.intmap_run.proofs.StepLemmas.{Step-same}
 
 module _ {K V S A : Type 0} (number : K → ℕ) (is_valid : K → Type 0) (m : MapState K V) (is_map : IsMap number is_valid m) (sees : V → S → Type 0) (keeps : K → V → Bool) where
-  -- a reservation that is accepted
+  -- a reservation that succeeds
   StepsFrom-reserved : (additional : ℕ) (n : MapState K V) → length m.walk + additional ≤ 2 ^ 63
       → (p : ℕ) × IsLeastPower (length m.walk + additional) p × (n.capacity ≡ max m.capacity p) → n ≡ in_slots number m n.capacity
       → StepsFrom {A = A} number sees keeps m (command.Reserve additional) answer.Done n
@@ -42,7 +42,7 @@ module _ {K V S A : Type 0} (number : K → ℕ) (is_valid : K → Type 0) (m : 
         },
       )
 
-  -- a reservation that is refused
+  -- a reservation that fails
   StepsFrom-not_reserved : (additional : ℕ) (cause : Cause)
       → (cause ≡ TooLarge) ↔ (2 ^ 63 < length m.walk + additional) → (cause ≡ Memory → m.capacity < length m.walk + additional)
       → StepsFrom {A = A} number sees keeps m (command.Reserve additional) (answer.Refused cause None) m
@@ -69,7 +69,7 @@ module _ {K V S A : Type 0} (number : K → ℕ) (is_valid : K → Type 0) (m : 
   StepsFrom-reserve additional (Err cause) a n capacity state err too_large memory done =
       rw (done, err) (StepsFrom-not_reserved additional cause ((λ h. too_large.0 (ap (λ e. Err e) h)), (λ h. let e = too_large.1 h in cc)) (λ h. memory (ap (λ e. Err e) h)))
 
-  -- a load factor that is accepted
+  -- a load factor that is set
   StepsFrom-set_factor : (factor : ℕ) (n : MapState K V) → (WantsTooMuch m.capacity (length m.walk) factor → ⊥)
       → IsWanted m.capacity (length m.walk) factor n.capacity → n ≡ in_slots number (record m { factor = factor }) n.capacity
       → StepsFrom {A = A} number sees keeps m (command.SetLoadFactor factor) answer.Done n
@@ -95,7 +95,7 @@ module _ {K V S A : Type 0} (number : K → ℕ) (is_valid : K → Type 0) (m : 
         },
       )
 
-  -- a load factor that is refused
+  -- a load factor whose setting fails
   StepsFrom-not_set : (factor : ℕ) (cause : Cause)
       → (cause ≡ TooLarge) ↔ WantsTooMuch m.capacity (length m.walk) factor
       → (cause ≡ Memory → IsWanted m.capacity (length m.walk) factor m.capacity → ⊥)

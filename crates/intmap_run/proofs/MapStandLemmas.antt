@@ -1,4 +1,4 @@
--- What a list tells that stands for a map is what the map tells.
+-- What a list says that stands for a map is what the map says.
 use Rattle.std.proofs.Common.{◌≡◌, inl, inr, ℕ, ◌+◌, ◌≤◌, Bool, List, cond, length, is_some, refl, sym, ap, ◌∙◌, subst, arith}
 use Rattle.std.specs.Prelude.{◌↔◌, ◌==◌}
 use Rattle.std.proofs.lemmas.Bool.{cases_eq, eq-eqb, ne_eqb}
@@ -24,23 +24,23 @@ module _ {K V : Type 0} {number : K → ℕ} {is_valid : K → Type 0} {m : MapS
     walk = stands.walk ∙ rw stands.capacity (sym is_map.own);
   }
 
-  -- a key is bound to the same value
+  -- a key has the same value
   pub value_of-stands : (k : K) → value_of number s.pairs k ≡ value_of number m.walk k
   value_of-stands k = value_of-one StandForOne-stands k
 
-  -- there are as many pairs
+  -- the number of pairs is the same
   pub length-stands : length s.pairs ≡ length m.walk
   length-stands = length-one StandForOne-stands
 
-  -- as many slots hold a pair
+  -- the same number of slots hold a pair
   pub load_of-stands : load_of number s.pairs s.capacity ≡ load_of number m.walk m.capacity
   load_of-stands = load_of-one StandForOne-stands ∙ ap (load_of number m.walk) stands.capacity
 
-  -- as many keys agree with a key
+  -- the same number of keys agree with a key
   pub class_size-stands : (k : K) → class_size number s.pairs s.capacity k ≡ class_size number m.walk m.capacity k
   class_size-stands k = class_size-one StandForOne-stands k ∙ ap (λ C. class_size number m.walk C k) stands.capacity
 
-  -- a look-up compares as many keys
+  -- a look-up compares the same number of keys
   pub reach-stands : (k : K) → reach number s.pairs s.capacity k ≡ reach number m.walk m.capacity k
   reach-stands k = reach-one StandForOne-stands k ∙ ap (λ C. reach number m.walk C k) stands.capacity
 
@@ -51,7 +51,7 @@ module _ {K V : Type 0} {number : K → ℕ} {is_valid : K → Type 0} {m : MapS
     (λ out. rw (value_of-stands k, length-stands, stands.capacity, stands.factor) out),
   )
 
-  -- an insertion that leaves D slots places as many pairs
+  -- an insertion that leaves D slots places the same number of pairs
   pub placements-stands : (k : K) (v : V) (D : ℕ) → IsCapacityAfter number m.walk m.capacity m.factor k D
       → cond (D == m.capacity) 0 (length m.walk + 1) ≡ cond (D == s.capacity) 0 (length (put_pair number s.pairs s.capacity k v))
   placements-stands k v D capacity = rw stands.capacity (elim (cases_eq D m.capacity) [
@@ -63,19 +63,19 @@ module _ {K V : Type 0} {number : K → ℕ} {is_valid : K → Type 0} {m : MapS
         rw e (omega (arith, longer, length-stands)))
   ])
 
-  -- with a pair put in, the list has the walk of the map in at least as many slots
+  -- with a pair inserted, the list has the walk of the map in at least the same number of slots
   pub walk_of-put_pair-stands : (k : K) (v : V) (D : ℕ) → IsLarger m.capacity D → walk_of number (put_pair number s.pairs s.capacity k v) D ≡ walk_of number (put_pair number m.walk m.capacity k v) D
   walk_of-put_pair-stands k v D larger =
       let le : s.capacity ≤ D = (let more = larger.more in omega (arith, more, stands.capacity)) in
       (StandForOne-larger (StandForOne-put_pair StandForOne-stands k v) D larger.capacity le).walk ∙ ap (λ C. walk_of number (put_pair number m.walk C k v) D) stands.capacity
 
-  -- the list has the walk of the map in at least as many slots
+  -- the list has the walk of the map in at least the same number of slots
   pub walk_of-stands : (D : ℕ) → IsLarger m.capacity D → walk_of number s.pairs D ≡ walk_of number m.walk D
   walk_of-stands D larger =
       let le : s.capacity ≤ D = (let more = larger.more in omega (arith, more, stands.capacity)) in
       (StandForOne-larger StandForOne-stands D larger.capacity le).walk
 
-  -- with a key taken out, it has the walk of the map
+  -- with a key removed, it has the walk of the map
   pub walk_of-take_key-stands : (k : K) → walk_of number (take_key number s.pairs s.capacity k) s.capacity ≡ walk_of number (take_key number m.walk m.capacity k) m.capacity
   walk_of-take_key-stands k =
       (StandForOne-take_key StandForOne-stands k).walk ∙ ap (λ C. walk_of number (take_key number m.walk C k) C) stands.capacity

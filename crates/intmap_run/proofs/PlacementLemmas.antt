@@ -64,7 +64,7 @@ IsGrowth-from_next C n F D next apart = elim (cases_Bool (is_due n)) [
   | inr not ↦ absurd (apart (rw not at next))
 ]
 
--- where P pairs were placed before a growth, it keeps P and the pairs few for the capacity, and at most three times the pairs
+-- if P pairs were placed before a growth, it keeps P and the pairs few for the capacity, and at most three times the pairs
 growth_few : (C n f D P : ℕ) → IsGrowth C n f D → 1000 * P ≤ 2 * (f * C) → (1000 * (P + n) ≤ 2 * (f * D)) × (P + n ≤ 3 * n)
 growth_few C n f D P growth few =
     let half : ℕ = growth.half in
@@ -75,12 +75,12 @@ growth_few C n f D P growth few =
     (omega (arith, few, wide, after, whole), omega (arith, few, wide, before))
 
 module _ {K V : Type 0} where
-  -- so many placements are few for the capacity and the load factor
+  -- these placements are few for the capacity and the load factor
   abbrev AreFew : PlainList K V → ℕ → Type 0
   AreFew s P = 1000 * P ≤ 2 * ((s.factor + 1) * s.capacity)
 
-  -- insertions led from s to t and placed so many pairs: where there were few placements before them there are few after them,
-  -- and no more than three times the pairs where they placed any; the capacity stayed, or it is small for the pairs
+  -- insertions led from s to t and placed pairs: if there were few placements before them, there are few after them,
+  -- and no more than three times the pairs if they placed any; the capacity stayed, or it is small for the pairs
   record Grows (s t : PlainList K V) (placements : ℕ) : Type 0 where
     factor : t.factor ≡ s.factor
     longer : length s.pairs ≤ length t.pairs
@@ -115,7 +115,7 @@ module _ {K V S A : Type 0} where
   Keeps-same s c a t placements placed capacity factor = record { placed = placed; factor = factor; more = omega (arith, capacity); capacity = inl capacity }
 
 module _ {K V : Type 0} (number : K → ℕ) where
-  -- an accepted insertion
+  -- a successful insertion
   Grows-inserts : (s : PlainList K V) (k : K) (v : V) (t : PlainList K V) → ListInserts number s k v t → Grows s t (cond (t.capacity == s.capacity) 0 (length t.pairs))
   Grows-inserts s k v t inserts =
       let factor : t.factor ≡ s.factor = ap (λ x. x.factor) inserts.after in
@@ -178,7 +178,7 @@ module _ {K V : Type 0} (number : K → ℕ) where
         ];
       }
 
-  -- accepted insertions in turn
+  -- successful insertions in turn
   Grows-all : (s : PlainList K V) (ps : List (K × V)) (t : PlainList K V) (all : ListInsertsAll number s ps t) → Grows s t (insertion_placements number s ps t all)
   Grows-all s [] t all = rw all (Grows-none s)
   Grows-all s (p ∷ ps) t all =
@@ -249,7 +249,7 @@ module _ {K V S A : Type 0} (number : K → ℕ) (sees : V → S → Type 0) (ke
   greatest_length-start s (c ∷ cs) [] t run = omega arith
   greatest_length-start s (c ∷ cs) (a ∷ as') t run = omega arith
 
-  -- where P pairs were placed since the load factor was set, few for the capacity, the run keeps them few, H for each load factor
+  -- if P pairs were placed since the load factor was set, few for the capacity, the run keeps them few, H for each load factor
   few-from : (H P : ℕ) (s : PlainList K V) (cs : List (Command K V A)) (as' : List (Answer K V S A)) (t : PlainList K V) (run : Runs number sees keeps s cs as' t)
       → 1000 * P ≤ 2 * ((s.factor + 1) * s.capacity) → P ≤ H → 3 * greatest_length number sees keeps s cs as' t run ≤ H
       → P + run_placements number sees keeps s cs as' t run ≤ (factors_set cs as' + 1) * H

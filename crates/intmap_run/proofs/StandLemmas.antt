@@ -1,4 +1,4 @@
--- Lists that stand for one map: what they tell of it is the same, and they go on standing for one map.
+-- Lists that stand for one map: what they say of it is the same, and they go on standing for one map.
 use Rattle.std.proofs.Common.{◌≡◌, ℕ, ◌<◌, ◌≤◌, List, length, sym, ap, ◌∙◌}
 use Rattle.intmap.specs.Classes.{IsCapacity, slot_number}
 use Rattle.intmap.specs.Bindings.{value_of, take_key, put_pair, write_value, strike_keys}
@@ -18,27 +18,27 @@ module _ {K V : Type 0} {number : K → ℕ} {C : ℕ} {L M : List (K × V)} (on
   slot_number-one : (k : K) → slot_number number k C < C
   slot_number-one k = slot_number-below number k C one.capacity
 
-  -- a key is bound to one value, or in neither
+  -- a key has one value in both, or is absent in both
   pub value_of-one : (k : K) → value_of number L k ≡ value_of number M k
   value_of-one k = value_of-same number C one.capacity L M k one.walk
 
-  -- there are as many pairs
+  -- the number of pairs is the same
   pub length-one : length L ≡ length M
   length-one = sym (length-walk_of number L C slot_number-one) ∙ ap length one.walk ∙ length-walk_of number M C slot_number-one
 
-  -- as many slots hold a pair
+  -- the same number of slots hold a pair
   pub load_of-one : load_of number L C ≡ load_of number M C
   load_of-one = load_of-same number C (agrees-slot_number number C one.capacity) slot_number-one L M (SameSlots-from_walk_of number C L M one.walk)
 
-  -- as many keys agree with a key
+  -- the same number of keys agree with a key
   pub class_size-one : (k : K) → class_size number L C k ≡ class_size number M C k
   class_size-one k = class_size-same number C one.capacity L M k one.walk
 
-  -- a look-up compares as many keys
+  -- a look-up compares the same number of keys
   pub reach-one : (k : K) → reach number L C k ≡ reach number M C k
   reach-one k = reach-same number C one.capacity L M k one.walk
 
-  -- once a key was taken out
+  -- once a key was removed
   pub StandForOne-take_key : (k : K) → StandForOne number C (take_key number L C k) (take_key number M C k)
   StandForOne-take_key k = record { capacity = one.capacity; walk = walk_of-take_key-same number C one.capacity L M k one.walk }
 
@@ -54,7 +54,7 @@ module _ {K V : Type 0} {number : K → ℕ} {C : ℕ} {L M : List (K × V)} (on
   pub StandForOne-strike_keys : (ks : List K) → StandForOne number C (strike_keys number L ks) (strike_keys number M ks)
   StandForOne-strike_keys ks = record { capacity = one.capacity; walk = walk_of-strike_keys-same number C L M ks one.walk }
 
-  -- in at least as many slots
+  -- in at least the same number of slots
   pub StandForOne-larger : (D : ℕ) → IsCapacity D → C ≤ D → StandForOne number D L M
   StandForOne-larger D cap more = record {
     capacity = cap;

@@ -47,7 +47,7 @@ Step-same number sees keeps m s c a answers stands compares places = (
 )
 
 module _ {K V : Type 0} (number : K → ℕ) (is_valid : K → Type 0) (m : MapState K V) (is_map : IsMap number is_valid m) where
-  -- what an accepted insertion leaves of list and map
+  -- what a successful insertion leaves of list and map
   pub record Accepted (k : K) (v : V) (n : MapState K V) (s t : PlainList K V) : Type 0 where
     pub inserts : ListInserts number s k v t
     pub stands : Stands number t n
@@ -75,7 +75,7 @@ module _ {K V : Type 0} (number : K → ℕ) (is_valid : K → Type 0) (m : MapS
         placed = ap (λ x. x.placed) is ∙ ap (λ n. m.placed + n) (placements-stands is_map stands k v n.capacity capacity);
       }
 
-  -- an insertion may be refused of each list for the cause that the map tells
+  -- an insertion may fail at each list with the cause that the map has
   pub may : (k : K) (cause : Cause) → IsNone (value_of number m.walk k) → (cause ≡ TooLarge) ↔ IsOutOfRange number m.walk m.capacity m.factor k
       → (cause ≡ Memory → IsNext m.capacity (length m.walk + 1) m.factor m.capacity → 0 < class_size number m.walk m.capacity k)
       → (s : PlainList K V) → Stands number s m → RefusalIsDue number s k cause
@@ -88,7 +88,7 @@ module _ {K V : Type 0} (number : K → ℕ) (is_valid : K → Type 0) (m : MapS
       }
 
 module _ {K V S A : Type 0} (number : K → ℕ) (is_valid : K → Type 0) (m : MapState K V) (is_map : IsMap number is_valid m) (sees : V → S → Type 0) (keeps : K → V → Bool) where
-  -- an insertion that is accepted
+  -- an insertion that succeeds
   pub StepsFrom-insert : (k : K) (v : V) (n : MapState K V) → IsCapacityAfter number m.walk m.capacity m.factor k n.capacity
       → (IsOutOfRange number m.walk m.capacity m.factor k → ⊥) → n ≡ after_insert number m k v n.capacity
       → StepsFrom {A = A} number sees keeps m (command.Insert k v) (answer.Old (value_of number m.walk k)) n
@@ -103,7 +103,7 @@ module _ {K V S A : Type 0} (number : K → ℕ) (is_valid : K → Type 0) (m : 
         },
       )
 
-  -- a checked insertion of a new key that is accepted
+  -- a checked insertion of a new key that succeeds
   StepsFrom-insert_new : (k : K) (v : V) (n : MapState K V) → IsNone (value_of number m.walk k) → IsCapacityAfter number m.walk m.capacity m.factor k n.capacity
       → (IsOutOfRange number m.walk m.capacity m.factor k → ⊥) → n ≡ after_insert number m k v n.capacity
       → StepsFrom {A = A} number sees keeps m (command.InsertChecked k v) (answer.Flag true) n
@@ -132,7 +132,7 @@ module _ {K V S A : Type 0} (number : K → ℕ) (is_valid : K → Type 0) (m : 
     },
   )
 
-  -- an insertion that is refused
+  -- an insertion that fails
   pub StepsFrom-refused : (k : K) (v : V) (cause : Cause)
       → IsNone (value_of number m.walk k) → (cause ≡ TooLarge) ↔ IsOutOfRange number m.walk m.capacity m.factor k
       → (cause ≡ Memory → IsNext m.capacity (length m.walk + 1) m.factor m.capacity → 0 < class_size number m.walk m.capacity k)
@@ -140,7 +140,7 @@ module _ {K V S A : Type 0} (number : K → ℕ) (is_valid : K → Type 0) (m : 
   StepsFrom-refused k v cause new_key too_large memory s stands =
       StepsFrom-searched k (command.Insert k v) (answer.Refused cause (Some v)) s stands (inr (cause, refl, may number is_valid m is_map k cause new_key too_large memory s stands, refl)) refl (placements-kept s s refl)
 
-  -- a checked insertion that is refused
+  -- a checked insertion that fails
   pub StepsFrom-refused_checked : (k : K) (v : V) (cause : Cause)
       → IsNone (value_of number m.walk k) → (cause ≡ TooLarge) ↔ IsOutOfRange number m.walk m.capacity m.factor k
       → (cause ≡ Memory → IsNext m.capacity (length m.walk + 1) m.factor m.capacity → 0 < class_size number m.walk m.capacity k)
@@ -148,20 +148,20 @@ module _ {K V S A : Type 0} (number : K → ℕ) (is_valid : K → Type 0) (m : 
   StepsFrom-refused_checked k v cause new_key too_large memory s stands =
       StepsFrom-searched k (command.InsertChecked k v) (answer.Refused cause (Some v)) s stands (inr (inr (cause, refl, may number is_valid m is_map k cause new_key too_large memory s stands, refl))) refl (placements-kept s s refl)
 
-  -- a checked insertion over a bound key
+  -- a checked insertion of a present key
   StepsFrom-bound : (k : K) (v : V) → IsSome (value_of number m.walk k)
       → StepsFrom {A = A} number sees keeps m (command.InsertChecked k v) (answer.Flag false) (after_search number m k)
   StepsFrom-bound k v bound s stands =
       StepsFrom-searched k (command.InsertChecked k v) (answer.Flag false) s stands (inl (refl, rw (value_of-stands is_map stands k) bound, refl)) refl (placements-kept s s refl)
 
-  -- a checked insertion that is accepted, over a bound key or not
+  -- a checked insertion that succeeds, of a present key or not
   pub StepsFrom-insert_checked : (k : K) (v : V) (n : MapState K V) (new : Bool) → new ≡ is_none (value_of number m.walk k) → IsCapacityAfter number m.walk m.capacity m.factor k n.capacity
       → (IsOutOfRange number m.walk m.capacity m.factor k → ⊥) → MatchBool new (n ≡ after_insert number m k v n.capacity) (n ≡ after_search number m k)
       → StepsFrom {A = A} number sees keeps m (command.InsertChecked k v) (answer.Flag new) n
   StepsFrom-insert_checked k v n true new capacity in_range is = StepsFrom-insert_new k v n (none_of (value_of number m.walk k) new) capacity in_range is
   StepsFrom-insert_checked k v n false new capacity in_range is = rw is (StepsFrom-bound k v (some_of (value_of number m.walk k) new))
 
-  -- whether a key is bound
+  -- whether a key is present
   pub StepsFrom-contains_key : (k : K) → StepsFrom {A = A} number sees keeps m (command.ContainsKey k) (answer.Flag (is_some (value_of number m.walk k))) m
   StepsFrom-contains_key k s stands =
       Step-same number sees keeps m s (command.ContainsKey k) (answer.Flag (is_some (value_of number m.walk k))) (ap (λ o. answer.Flag (is_some o)) (sym (value_of-stands is_map stands k)), refl) stands refl refl
@@ -223,7 +223,7 @@ module _ {K V S A : Type 0} (number : K → ℕ) (is_valid : K → Type 0) (m : 
       (rw (length-stands is_map stands, stands.capacity) refl, refl) stands refl refl
 
 module _ {K V S A : Type 0} (number : K → ℕ) (sees : V → S → Type 0) (keeps : K → V → Bool) (m : MapState K V) where
-  -- whether the pairs are as many as their number says
+  -- whether the number of pairs is what the count says
   pub StepsFrom-assert_count : StepsFrom {A = A} number sees keeps m command.AssertCount (answer.Flag true) m
   StepsFrom-assert_count s stands = Step-same number sees keeps m s command.AssertCount (answer.Flag true) (refl, refl) stands refl refl
 

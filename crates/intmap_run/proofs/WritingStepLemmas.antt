@@ -19,12 +19,12 @@ use Rattle.intmap_run.proofs.MapStandLemmas.{value_of-stands, reach-stands, walk
 use Rattle.intmap_run.proofs.StepLemmas.{accepted, may, StepsFrom-searched, StepsFrom-remove}
 
 module _ {K V : Type 0} (number : K → ℕ) (m : MapState K V) where
-  -- the list with a value written stands for the map with it written
+  -- the list with a value written stands for the map with that value written
   Stands-written : (k : K) (v : V) (s : PlainList K V) → Stands number s m → Stands number (record s { pairs = write_value number s.pairs k v }) (written number (after_search number m k) k v)
   Stands-written k v s stands = record { walk = walk_of-write_value-stands stands k v; capacity = stands.capacity; factor = stands.factor }
 
 module _ {K V S A : Type 0} (number : K → ℕ) (is_valid : K → Type 0) (m : MapState K V) (is_map : IsMap number is_valid m) (sees : V → S → Type 0) (keeps : K → V → Bool) where
-  -- a value that is written answers the one before
+  -- the answer of a value that is written is the value before
   AnswersWrite-bound : (k : K) (v old : V) → value_of number m.walk k ≡ Some old → (s : PlainList K V) → Stands number s m
       → AnswersWrite {A = A} number sees keeps s k v (answer.Old (Some old)) (record s { pairs = write_value number s.pairs k v })
   AnswersWrite-bound k v old bound s stands =
@@ -116,7 +116,7 @@ module _ {K V S A : Type 0} (number : K → ℕ) (is_valid : K → Type 0) (m : 
         → StepsFrom {A = A} number sees keeps m (command.EntryInsert k v) (answer.Refused cause (Some v)) x
     StepsFrom-not_fresh v cause may_be = rw searched (StepsFrom-entry_refused k v cause (rw (searched, same_key) at may_be))
 
-    -- a pair taken out by an entry
+    -- a pair that an entry removed
     pub StepsFrom-entry_remove : (old : V) → value_of number x.walk q ≡ Some old
         → StepsFrom {A = A} number sees keeps m (command.EntryRemove k) (answer.Old (Some old)) (without_key number x q)
     StepsFrom-entry_remove old bound = rw (searched, same_key) (StepsFrom-taken k old (rw (searched, same_key) at bound))

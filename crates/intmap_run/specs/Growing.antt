@@ -6,26 +6,26 @@ use Rattle.intmap.specs.declared.refusal.Cause.{Cause}
 use Rattle.intmap.specs.declared.refusal.Cause.TheVariants.{Memory, TooLarge}
 
 module _ {K V : Type 0} where
-  -- an accepted reservation: the capacity becomes enough for so many pairs more, and nothing else changes
+  -- a successful reservation: the capacity becomes enough for this number of further pairs, and nothing else changes
   pub record Reserves (s : PlainList K V) (additional : ℕ) (t : PlainList K V) : Type 0 where
     pub in_range : length s.pairs + additional ≤ 2 ^ 63
     pub capacity : (p : ℕ) × IsLeastPower (length s.pairs + additional) p × (t.capacity ≡ max s.capacity p)
     pub after : t ≡ record s { capacity = t.capacity }
 
-  -- a reservation may be refused for this cause: as too large exactly where more than 2^63 slots would be enough, and for
-  -- want of memory only where the capacity isn't enough
+  -- a reservation may fail with this cause: as too large exactly if only more than 2^63 slots would be enough, and for
+  -- want of memory only if the capacity isn't enough
   pub record MayRefuseReserve (s : PlainList K V) (additional : ℕ) (cause : Cause) : Type 0 where
     pub too_large : (cause ≡ TooLarge) ↔ (2 ^ 63 < length s.pairs + additional)
     pub memory : cause ≡ Memory → s.capacity < length s.pairs + additional
 
-  -- an accepted load factor: it is set, the capacity becomes the least that meets it, and the pairs stay
+  -- a load factor that is set: the capacity becomes the least that meets it, and the pairs stay
   pub record SetsFactor (s : PlainList K V) (factor : ℕ) (t : PlainList K V) : Type 0 where
     pub in_range : WantsTooMuch s.capacity (length s.pairs) factor → ⊥
     pub capacity : IsWanted s.capacity (length s.pairs) factor t.capacity
     pub after : t ≡ record s { capacity = t.capacity; factor = factor }
 
-  -- a load factor may be refused for this cause: as too large exactly where the pairs want more than 2^63 slots, and for
-  -- want of memory only where the capacity doesn't meet it
+  -- setting a load factor may fail with this cause: as too large exactly if the pairs need more than 2^63 slots, and for
+  -- want of memory only if the capacity doesn't meet it
   pub record MayRefuseFactor (s : PlainList K V) (factor : ℕ) (cause : Cause) : Type 0 where
     pub too_large : (cause ≡ TooLarge) ↔ WantsTooMuch s.capacity (length s.pairs) factor
     pub memory : cause ≡ Memory → IsWanted s.capacity (length s.pairs) factor s.capacity → ⊥

@@ -19,7 +19,7 @@ use Rattle.intmap_run.specs.declared.answer.Answer.{Answer}
 use Rattle.intmap_run.specs.declared.answer.Answer.TheVariants as answer
 use Rattle.intmap_run.specs.Growing.{Reserves, MayRefuseReserve, SetsFactor, MayRefuseFactor}
 
--- what a judge sees of a value, where there is one
+-- what a judge sees of a value, if there is one
 abbrev pub SeesOption : {V S : Type 0} → (V → S → Type 0) → Option V → Option S → Type 0
 SeesOption sees None None = Unit {0}
 SeesOption sees (Some v) (Some s) = sees v s
@@ -30,17 +30,17 @@ abbrev pub SeesPair : {K V S : Type 0} → (V → S → Type 0) → K × V → K
 SeesPair sees p q = (q.0 ≡ p.0) × sees p.1 q.1
 
 module _ {K V S A : Type 0} where
-  -- how many load factors a command set that was answered so, one or none
+  -- how many load factors a command with this answer set: one or none
   abbrev pub factors_set_by : Command K V A → Answer K V S A → ℕ
   factors_set_by (command.SetLoadFactor f) answer.Done = 1
   factors_set_by other a = 0
 
-  -- how many load factors the commands set that were answered so
+  -- how many load factors the commands with these answers set
   abbrev pub factors_set : List (Command K V A) → List (Answer K V S A) → ℕ
   factors_set (c ∷ cs) (a ∷ as') = factors_set_by c a + factors_set cs as'
   factors_set cs as' = 0
 
-  -- the command, answered so, set the capacity: it is an accepted reservation or load factor
+  -- the command, with this answer, set the capacity: it is a successful reservation or load factor
   abbrev pub SetsCapacity : Command K V A → Answer K V S A → Type 0
   SetsCapacity (command.Reserve n) answer.Done = Unit {0}
   SetsCapacity (command.SetLoadFactor f) answer.Done = Unit {0}
@@ -52,92 +52,92 @@ module _ {K V : Type 0} (number : K → ℕ) where
   insertion_comparisons s [] t all = 0
   insertion_comparisons s (p ∷ ps) t all = reach number s.pairs s.capacity p.0 + insertion_comparisons all.0 ps t all.2
 
-  -- the pairs that insertions in turn place in larger tables: at each that changed the capacity, all that there are then
+  -- the pairs that insertions in turn place in larger tables: at each insertion that changed the capacity, all pairs after it
   abbrev pub insertion_placements : (s : PlainList K V) (ps : List (K × V)) (t : PlainList K V) → ListInsertsAll number s ps t → ℕ
   insertion_placements s [] t all = 0
   insertion_placements s (p ∷ ps) t all = cond (all.0.capacity == s.capacity) 0 (length all.0.pairs) + insertion_placements all.0 ps t all.2
 
 module _ {K V S A : Type 0} (number : K → ℕ) (sees : V → S → Type 0) (keeps : K → V → Bool) where
-  -- an insertion answers the old value, or is refused, hands its own value back and changes nothing
+  -- an insertion answers the old value, or fails, returns its own value and changes nothing
   abbrev pub AnswersInsert : PlainList K V → K → V → Answer K V S A → PlainList K V → Type 0
   AnswersInsert s k v a t =
       ((a ≡ answer.Old (value_of number s.pairs k)) × ListInserts number s k v t)
       ⊎ ((cause : Cause) × (a ≡ answer.Refused cause (Some v)) × RefusalIsDue number s k cause × (t ≡ s))
 
-  -- a checked insertion answers false over a bound key and changes nothing; that of a new key answers true and inserts, or is
-  -- refused as an insertion is
+  -- a checked insertion of a present key answers false and changes nothing; for a new key it answers true and inserts, or
+  -- fails as an insertion does
   abbrev pub AnswersInsertChecked : PlainList K V → K → V → Answer K V S A → PlainList K V → Type 0
   AnswersInsertChecked s k v a t =
       ((a ≡ answer.Flag false) × IsSome (value_of number s.pairs k) × (t ≡ s))
       ⊎ ((a ≡ answer.Flag true) × IsNone (value_of number s.pairs k) × ListInserts number s k v t)
       ⊎ ((cause : Cause) × (a ≡ answer.Refused cause (Some v)) × RefusalIsDue number s k cause × (t ≡ s))
 
-  -- the value goes in the place of the one that the key is bound to, which is answered
+  -- the value replaces the old value of the key in its place, and the old value is the answer
   abbrev pub AnswersWrite : PlainList K V → K → V → Answer K V S A → PlainList K V → Type 0
   AnswersWrite s k v a t =
       (a ≡ answer.Old (value_of number s.pairs k)) × IsSome (value_of number s.pairs k)
       × (t ≡ record s { pairs = write_value number s.pairs k v })
 
-  -- a value is written where the key is bound, and else comes back and changes nothing
+  -- a value is written if the key is present, and otherwise is returned, and nothing changes
   abbrev pub AnswersGetMut : PlainList K V → K → V → Answer K V S A → PlainList K V → Type 0
   AnswersGetMut s k v a t =
       AnswersWrite s k v a t
       ⊎ ((a ≡ answer.Back v) × IsNone (value_of number s.pairs k) × (t ≡ s))
 
-  -- an insertion by an entry writes the value where the key is bound; of a new key it answers that it inserts, or is refused
-  -- as an insertion is
+  -- an insertion by an entry writes the value if the key is present; for a new key it answers that it inserts, or fails
+  -- as an insertion does
   abbrev pub AnswersEntryInsert : PlainList K V → K → V → Answer K V S A → PlainList K V → Type 0
   AnswersEntryInsert s k v a t =
       AnswersWrite s k v a t
       ⊎ ((a ≡ answer.Fresh) × IsNone (value_of number s.pairs k) × ListInserts number s k v t)
       ⊎ ((cause : Cause) × (a ≡ answer.Refused cause (Some v)) × RefusalIsDue number s k cause × (t ≡ s))
 
-  -- the pairs are inserted in turn, and up to the first that is refused where one is, which is answered
+  -- the pairs are inserted in turn, all or up to the first that fails, which is then the answer
   abbrev pub AnswersExtend : PlainList K V → List (K × V) → Answer K V S A → PlainList K V → Type 0
   AnswersExtend s ps a t =
       ((a ≡ answer.Done) × ListInsertsUpTo number s ps (length ps) None t)
       ⊎ ((refused : RefusedPair K V) × (a ≡ answer.Stopped refused)
       × ListInsertsUpTo number s ps refused.applied (Some ((refused.key, refused.value), refused.cause)) t)
 
-  -- a reservation is done, or refused and changes nothing
+  -- a reservation is done, or it fails and changes nothing
   abbrev pub AnswersReserve : PlainList K V → ℕ → Answer K V S A → PlainList K V → Type 0
   AnswersReserve s additional a t =
       ((a ≡ answer.Done) × Reserves s additional t)
       ⊎ ((cause : Cause) × (a ≡ answer.Refused cause None) × MayRefuseReserve s additional cause × (t ≡ s))
 
-  -- a load factor is set, or refused and changes nothing
+  -- a load factor is set, or this fails and changes nothing
   abbrev pub AnswersSetLoadFactor : PlainList K V → ℕ → Answer K V S A → PlainList K V → Type 0
   AnswersSetLoadFactor s factor a t =
       ((a ≡ answer.Done) × SetsFactor s factor t)
       ⊎ ((cause : Cause) × (a ≡ answer.Refused cause None) × MayRefuseFactor s factor cause × (t ≡ s))
 
-  -- a walk is answered, or refused for want of room
+  -- the answer is the walk, or the command fails for want of memory
   abbrev pub AnswersWalk : PlainList K V → Answer K V S A → Type 0
   AnswersWalk s a =
       ((seen : Vec (K × S) A) × (a ≡ answer.Walk seen) × AllZip (SeesPair sees) (walk_of number s.pairs s.capacity) seen.items)
       ⊎ (a ≡ answer.Refused Memory None)
 
-  -- the keys of the walk are answered, or the command is refused for want of room
+  -- the answer is the keys of the walk, or the command fails for want of memory
   abbrev pub AnswersKeys : PlainList K V → Answer K V S A → Type 0
   AnswersKeys s a =
       ((keys : Vec K A) × (a ≡ answer.Keys keys) × (keys.items ≡ keys_of (walk_of number s.pairs s.capacity)))
       ⊎ (a ≡ answer.Refused Memory None)
 
-  -- what is seen of the values of the walk is answered, or the command is refused for want of room
+  -- the answer is what is seen of the values of the walk, or the command fails for want of memory
   abbrev pub AnswersValues : PlainList K V → Answer K V S A → Type 0
   AnswersValues s a =
       ((seen : Vec S A) × (a ≡ answer.Values seen) × AllZip sees (values_of (walk_of number s.pairs s.capacity)) seen.items)
       ⊎ (a ≡ answer.Refused Memory None)
 
-  -- the first m pairs of the walk are answered and their keys struck, or there is no room, and nothing changes
+  -- the answer is the first m pairs of the walk, and their keys are removed, or there is no memory, and nothing changes
   abbrev pub AnswersDrain : PlainList K V → ℕ → Answer K V S A → PlainList K V → Type 0
   AnswersDrain s m a t =
       ((pairs : Vec (K × V) A) × (a ≡ answer.Pairs pairs) × (pairs.items ≡ first_of_walk number m s.pairs s.capacity)
       × (t ≡ record s { pairs = strike_keys number s.pairs (keys_of pairs.items) }))
       ⊎ ((a ≡ answer.Refused Memory None) × (t ≡ s))
 
-  -- the sizes above 1 of slots are answered, as the walk of a list into which they were inserted in turn, from no pairs in 4
-  -- slots on, each with the number of slots that have it, or the command is refused for want of memory
+  -- the answer is the sizes above 1 of slots, each with the number of slots that have it: the walk of a list into which they were
+  -- inserted in turn, beginning with no pairs in 4 slots; or the command fails for want of memory
   abbrev pub AnswersCollisions : PlainList K V → Answer K V S A → Type 0
   AnswersCollisions s a =
       ((sizes : Vec (ℕ × ℕ) A) × (a ≡ answer.Sizes sizes)
@@ -189,8 +189,8 @@ module _ {K V S A : Type 0} (number : K → ℕ) (sees : V → S → Type 0) (ke
       insertion_comparisons number s stopped.2.0 t stopped.2.4 + reach number t.pairs t.capacity stopped.0.key
   comparisons_of s other a t step = 0
 
-  -- the pairs that a command places in larger tables in a step from the list s to the list t: all that there are then, where it
-  -- is an insertion that changed the capacity, so at each pair of several, and else none
+  -- the pairs that a command places in larger tables in a step from the list s to the list t: all pairs of t, if the command
+  -- is an insertion that changed the capacity (at each pair of several), and otherwise none
   abbrev pub placements_of : (s : PlainList K V) (c : Command K V A) (a : Answer K V S A) (t : PlainList K V) → Answers s c a t → ℕ
   placements_of s (command.Insert k v) a t step = cond (t.capacity == s.capacity) 0 (length t.pairs)
   placements_of s (command.InsertChecked k v) a t step = cond (t.capacity == s.capacity) 0 (length t.pairs)
@@ -199,7 +199,7 @@ module _ {K V S A : Type 0} (number : K → ℕ) (sees : V → S → Type 0) (ke
   placements_of s (command.Extend pairs) a t (inr stopped) = insertion_placements number s stopped.2.0 t stopped.2.4
   placements_of s other a t step = 0
 
-  -- the commands in order, each from the list that the one before left, with one answer a command
+  -- the commands in order, each from the list that the one before left, with one answer for each command
   abbrev pub Runs : PlainList K V → List (Command K V A) → List (Answer K V S A) → PlainList K V → Type 0
   Runs s [] [] t = t ≡ s
   Runs s (c ∷ cs) (a ∷ as') t = (m : PlainList K V) × Answers s c a m × Runs m cs as' t
@@ -215,19 +215,19 @@ module _ {K V S A : Type 0} (number : K → ℕ) (sees : V → S → Type 0) (ke
   run_placements s (c ∷ cs) (a ∷ as') t run = placements_of s c a run.0 run.1 + run_placements run.0 cs as' t run.2
   run_placements s cs as' t run = 0
 
-  -- the greatest number of pairs that there are at the start of a run or after one of its commands
+  -- the greatest number of pairs at the start of a run or after one of its commands
   abbrev pub greatest_length : (s : PlainList K V) (cs : List (Command K V A)) (as' : List (Answer K V S A)) (t : PlainList K V) → Runs s cs as' t → ℕ
   greatest_length s (c ∷ cs) (a ∷ as') t run = max (length s.pairs) (greatest_length run.0 cs as' t run.2)
   greatest_length s cs as' t run = length s.pairs
 
-  -- an accepted reservation or load factor of the run left this capacity
+  -- a successful reservation or load factor of the run left this capacity
   abbrev pub WasSet : ℕ → (s : PlainList K V) (cs : List (Command K V A)) (as' : List (Answer K V S A)) (t : PlainList K V) → Runs s cs as' t → Type 0
   WasSet C s (c ∷ cs) (a ∷ as') t run = (SetsCapacity c a × (run.0.capacity ≡ C)) ⊎ WasSet C run.0 cs as' t run.2
   WasSet C s cs as' t run = ⊥
 
   -- what a run from the list s, which stands for the map m, to the list t leaves of the map: t stands for it, it compared and
   -- placed what the run does, few placements for the lengths that the run went through and the load factors that it set, and
-  -- its capacity is the start's, or one that a caller set, or small for these lengths
+  -- its capacity is the one at the start, or one that a caller set, or small for these lengths
   pub record Leaves (m : MapState K V) (s : PlainList K V) (cs : List (Command K V A)) (as' : List (Answer K V S A)) (t : PlainList K V) (run : Runs s cs as' t) (n : MapState K V) : Type 0 where
     pub stands : Stands number t n
     pub compared : n.compared ≡ m.compared + run_comparisons s cs as' t run

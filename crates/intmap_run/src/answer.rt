@@ -3,7 +3,7 @@
 use intmap::{Cause, RefusedPair};
 use std::alloc::{Allocator, Global};
 
-/// The answer of one command, where `S` is what the judge sees of a value.
+/// The answer of one command. `S` is the type of what the judge sees of a value.
 #[derive(Drop)]
 pub enum Answer<K, V, S, A: Allocator = Global> {
     /// The value of the key before the command, or `None` if the key was absent.
@@ -14,12 +14,13 @@ pub enum Answer<K, V, S, A: Allocator = Global> {
     Back(V),
     /// The key was new, and its pair was inserted.
     Fresh,
-    /// The command is done, and there is nothing to return.
+    /// The command is done, and has nothing to return.
     Done,
     /// Whether the key is present, whether it was new, whether there is no pair, or whether the
-    /// pairs are as many as `len` says.
+    /// number of pairs is what `len` says.
     Flag(bool),
-    /// A number of pairs or slots, or a load factor or the pairs to a slot in thousandths.
+    /// A number of pairs or slots, a load factor in thousandths, or the number of pairs for each
+    /// slot in thousandths.
     Number(u128),
     /// Each key of the walk, in its order, with what the judge sees of its value.
     Walk(Vec<(K, S), A>),
@@ -29,7 +30,8 @@ pub enum Answer<K, V, S, A: Allocator = Global> {
     Values(Vec<S, A>),
     /// The pairs that were removed, in the order of the walk.
     Pairs(Vec<(K, V), A>),
-    /// Each number of pairs above 1 that a slot holds, with the number of slots that hold so many.
+    /// Each number of pairs above 1 that a slot holds, with the number of slots that hold exactly
+    /// that many.
     Sizes(Vec<(u64, u64), A>),
     /// The first of several pairs whose insertion failed, with the cause and the number of pairs
     /// that were inserted before it.

@@ -3,8 +3,8 @@ ghost use Rattle.std.specs.Prelude.{◌≡◌, Bool};
 
 /// Looks at values, and says which pairs stay.
 ///
-/// A run returns a value only when it leaves the map. Of the values that stay it shows what a judge
-/// sees: a copy, a number, a text, or nothing at all.
+/// A run returns a value only when the value leaves the map. Of the values that stay it shows what
+/// a judge sees: a copy, a number, a text, or nothing at all.
 ///
 /// ```text
 /// // sees each number as itself, and keeps all

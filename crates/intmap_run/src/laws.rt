@@ -1,5 +1,5 @@
 //! Laws of the definitions that describe a run, each as the contract of a function that does
-//! nothing. A call of one brings its law into the proof of the function that contains the call.
+//! nothing. A call of one adds its law to the proof of the function that contains the call.
 ghost use Rattle.std.specs.Prelude.{◌≡◌, ◌↔◌, ◌≤◌, ◌++◌, ℕ, List, length};
 ghost use Rattle.intmap.specs.Classes.{IsCapacity, residue, slot_number};
 ghost use Rattle.intmap.specs.Bindings.{value_of, take_key, put_pair, write_value, strike_keys};
@@ -23,7 +23,7 @@ pub fn no_pairs_stand_for_a_new_map<K: IntKey, V>()
         → Stands {V = V} K.number_of (empty_list C) (empty_map C) }
 {}
 
-/// A run, and another from the map that it left, are one run over the commands of both.
+/// A run, followed by another from the map that it left, is one run of the commands of both.
 pub fn runs_join<K: IntKey, V, J: Judge<K, V>, A: Allocator>()
     ensures { (judge : J) (m n o : MapState K V) (cs ds : List (Command K V A))
         (as' bs : List (Answer K V J.Seen A))
@@ -39,46 +39,47 @@ pub fn keys_share_slots_by_residue<K: IntKey>()
         ↔ (residue K.number_of a C ≡ residue K.number_of b C) }
 {}
 
-/// Lists that stand for one map still do once a key is taken out of both.
+/// If two lists stand for one map, they still do once a key is removed from both.
 pub fn removal_keeps_standing<K: IntKey, V>()
     ensures { (C : ℕ) (L M : List (K × V)) (k : K) → StandForOne K.number_of C L M
         → StandForOne K.number_of C (take_key K.number_of L C k) (take_key K.number_of M C k) }
 {}
 
-/// Lists that stand for one map still do once a pair is put into both.
+/// If two lists stand for one map, they still do once a pair is inserted into both.
 pub fn insertion_keeps_standing<K: IntKey, V>()
     ensures { (C : ℕ) (L M : List (K × V)) (k : K) (v : V) → StandForOne K.number_of C L M
         → StandForOne K.number_of C (put_pair K.number_of L C k v)
         (put_pair K.number_of M C k v) }
 {}
 
-/// Lists that stand for one map still do once a value is written in both.
+/// If two lists stand for one map, they still do once a value is written in both.
 pub fn writing_keeps_standing<K: IntKey, V>()
     ensures { (C : ℕ) (L M : List (K × V)) (k : K) (v : V) → StandForOne K.number_of C L M
         → StandForOne K.number_of C (write_value K.number_of L k v)
         (write_value K.number_of M k v) }
 {}
 
-/// Lists that stand for one map still do once keys are struck from both.
+/// If two lists stand for one map, they still do once the same keys are removed from both.
 pub fn striking_keeps_standing<K: IntKey, V>()
     ensures { (C : ℕ) (L M : List (K × V)) (ks : List K) → StandForOne K.number_of C L M
         → StandForOne K.number_of C (strike_keys K.number_of L ks)
         (strike_keys K.number_of M ks) }
 {}
 
-/// Lists that stand for one map still do after any growth.
+/// If two lists stand for one map, they still do after any growth.
 pub fn growth_keeps_standing<K: IntKey, V>()
     ensures { (C D : ℕ) (L M : List (K × V)) → StandForOne K.number_of C L M
         → IsCapacity D → C ≤ D → StandForOne K.number_of D L M }
 {}
 
-/// The walk of a walk, in at least as many slots, is the walk of the list.
+/// The walk of a walk, in at least the same number of slots, is the walk of the list.
 pub fn walks_grow_as_lists<K: IntKey, V>()
     ensures { (C D : ℕ) (L : List (K × V)) → IsCapacity C → IsCapacity D → C ≤ D
         → walk_of K.number_of (walk_of K.number_of L C) D ≡ walk_of K.number_of L D }
 {}
 
-/// Lists that stand for one map have the same value for each key, or none of them has one.
+/// Lists that stand for one map have the same value for each key, or none of them has a value for
+/// it.
 pub fn values_are_the_same<K: IntKey, V>()
     ensures { (C : ℕ) (L M : List (K × V)) (k : K) → StandForOne K.number_of C L M
         → value_of K.number_of L k ≡ value_of K.number_of M k }
@@ -90,7 +91,7 @@ pub fn loads_are_the_same<K: IntKey, V>()
         → load_of K.number_of L C ≡ load_of K.number_of M C }
 {}
 
-/// Lists that stand for one map have the same number of pairs to a slot on average.
+/// Lists that stand for one map have the same average number of pairs for each slot.
 pub fn rates_are_the_same<K: IntKey, V>()
     ensures { (C : ℕ) (L M : List (K × V)) → StandForOne K.number_of C L M
         → rate_of L C ≡ rate_of M C }

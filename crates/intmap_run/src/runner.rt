@@ -24,19 +24,20 @@ use std::mem;
 ///
 /// From every plain list of pairs that stands for the map, the commands and answers lead to one
 /// that stands for the map at the end. A failed command says so in its answer, and doesn't end the
-/// run. It leaves the walk, the capacity and the load factor, but an `Extend` that stops keeps the
+/// run. It leaves the walk, the capacity and the load factor. Only an `Extend` that stops keeps the
 /// pairs that it inserted before.
 ///
 /// The map's `compared` rises by the keys that `Insert`, `InsertChecked`, `GetMut`, `Remove`,
 /// `EntryInsert`, `EntryRemove` and the pairs of `Extend` compare, failed ones too. The other
 /// commands leave it. Its `placed` rises by the length after each `Insert`, `InsertChecked`,
-/// `EntryInsert` or pair of `Extend` that changed the capacity, and by nothing else. With n load
-/// factors set in the run, this is in all at most `3 * (n + 1)` times the greatest length of the
-/// run. At the end the capacity is that of the start, or one that a successful `Reserve` or
+/// `EntryInsert` or pair of `Extend` that changed the capacity, and by nothing else. If the run
+/// sets n load factors, this is in all at most `3 * (n + 1)` times the greatest length of the run.
+/// At the end the capacity is the same as at the start, or one that a successful `Reserve` or
 /// `SetLoadFactor` left, or a capacity C with `(F + 1) * C <= 2000 * length`. Here F is the load
 /// factor at the end, in thousandths, and length the greatest length.
 ///
-/// Err: out of memory for the answers. The commands are returned, and the map is as it was.
+/// It fails if there is no memory for the answers. It then returns the commands, and the map is as
+/// it was.
 ///
 /// ```text
 /// on an empty map, with ample memory:
@@ -58,7 +59,7 @@ pub fn run<K: IntKey, V: Drop, J: Judge<K, V>, A: Allocator + Copy>(
     ensures valid { IsMap K.number_of K.is_valid map.old }
     ensures valid_after { IsMap K.number_of K.is_valid map.new }
 {
-    // any call on the map tells the proof what holds of every map, also if there is no command
+    // any call on the map gives the proof what holds of every map, even if there is no command
     let _len = map.len();
     let Ok(mut answers) = Vec::with_capacity(alloc, commands.len()) else {
         return Err(commands);

@@ -9,7 +9,7 @@ use Rattle.intmap_run.specs.declared.command.Command.{Command}
 use Rattle.intmap_text.specs.Lines.{is_filled, lines_in, words_of, rows_of}
 use Rattle.intmap_text.specs.Commands.{Says, SpellsNone, IsUnknown, IsKnown, IsFirstUnknown}
 
--- the lines say these commands, one a line that has a word
+-- the lines say these commands, one for each line that has a word
 abbrev pub LinesSay : {A : Type 0} → List (List ℕ) → List (Command ℕ ℕ A) → Type 0
 LinesSay lines commands = AllZip Says (rows_of lines) commands
 
@@ -45,7 +45,7 @@ command_more lines line cs c h said =
     let all = ap rows_of (map-append (λ l. l.now) lines (line ∷ [])) ∙ rows in
     subst (λ r. AllZip Says r (cs ++ c ∷ [])) (sym all) both
 
--- where the first line has words that say none, the lines say no commands
+-- if the first line has words that say none, the lines say no commands
 none_here : {A : Type 0} (words : List (List ℕ)) (rows : List (List (List ℕ))) (cs : List (Command ℕ ℕ A))
     → words ≢ [] → ((c : Command ℕ ℕ A) → ¬ Says words c)
     → AllZip Says (cond (is_filled words) (words ∷ rows) rows) cs → ⊥
@@ -53,7 +53,7 @@ none_here [] rows cs filled none h = filled refl
 none_here (w ∷ ws) rows [] filled none h = h
 none_here (w ∷ ws) rows (c ∷ cs) filled none h = none c h.0
 
--- where the later lines say no commands, no line before them mends it
+-- if the later lines say no commands, no line before them changes that
 none_later : {A : Type 0} (words : List (List ℕ)) (rows : List (List (List ℕ))) (cs : List (Command ℕ ℕ A))
     → ((ds : List (Command ℕ ℕ A)) → ¬ AllZip Says rows ds)
     → AllZip Says (cond (is_filled words) (words ∷ rows) rows) cs → ⊥

@@ -12,14 +12,14 @@ status_of fault.Memory = 3
 status_of fault.Input = 4
 status_of fault.Output = 4
 
--- the line that tells of it, with the byte 10 at its end
+-- the line that says so, with the byte 10 at its end
 abbrev pub report_of : Fault → List ℕ
 report_of (fault.NotACommand n) = codes "line " ++ decimal n ++ codes ": not a command" ++ 10 ∷ []
 report_of fault.Memory = codes "no memory" ++ 10 ∷ []
 report_of fault.Input = codes "input failed" ++ 10 ∷ []
 report_of fault.Output = codes "output failed" ++ 10 ∷ []
 
--- a text may be refused so: as no list of commands, by the number of its first line that is none, or for want of memory
+-- how reading a text may fail: it is no list of commands, with the number of its first line that is none, or there is no memory
 abbrev pub IsRefused : Type 0 → List ℕ → Fault → Type 0
 IsRefused A text (fault.NotACommand n) = SpellsNone A text × IsFirstUnknown A text n
 IsRefused A text fault.Memory = ⊤

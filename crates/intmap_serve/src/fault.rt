@@ -11,7 +11,7 @@ use std::io::{self, Write};
 /// Why a session ends early.
 #[derive(Clone, Copy)]
 pub enum Fault {
-    /// The line of this number, counted from 1, is not a command.
+    /// The line with this number, counted from 1, is not a command.
     NotACommand(u128),
     /// An allocation failed.
     Memory,
@@ -33,7 +33,7 @@ impl Fault {
         }
     }
 
-    /// Writes a line that says what happened, and flushes.
+    /// Writes a line that says what happened, and flushes it.
     pub fn report<E: Write>(self, faults: &mut E) -> io::Result<()>
         ensures { OnOk result
             (Appends (E.contents faults.old) (E.contents faults.new) (report_of self)) }

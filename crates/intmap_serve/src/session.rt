@@ -16,15 +16,15 @@ use std::io::{self, ErrorKind, Read, Write};
 const DONE: u8 = 0;
 
 /// Reads the input to its end, runs the commands in its lines on an empty map, and writes one line
-/// per answer. All its memory comes from `alloc`. It returns the exit status:
+/// for each answer. All its memory is allocated from `alloc`. It returns the exit status:
 ///
 /// - 0: every line was a command or blank, and the answers are written;
 /// - 2: some line is not a command; no command was run, and nothing was written;
 /// - 3: an allocation failed outside a command; nothing was written;
 /// - 4: the input or the output failed; if it was the output, a part of the answers may be written.
 ///
-/// At every other status than 0, a line on `faults` says what happened. Whether that line could be
-/// written changes nothing.
+/// At every status except 0, it writes a line on `faults` that says what happened. Whether that
+/// line could be written changes nothing.
 pub fn serve<A: Allocator + Copy, R: Read, W: Write, E: Write>(
     alloc: A,
     input: &mut R,
@@ -47,7 +47,7 @@ pub fn serve<A: Allocator + Copy, R: Read, W: Write, E: Write>(
     }
 }
 
-/// Reads the input whole, and then writes the lines that answer it.
+/// Reads the whole input, and then writes the lines of its answers.
 fn exchange<A: Allocator + Copy, R: Read, W: Write>(
     alloc: A,
     input: &mut R,
@@ -65,7 +65,7 @@ fn exchange<A: Allocator + Copy, R: Read, W: Write>(
     send(output, lines.as_bytes()).map_err(|_error| Fault::Output)
 }
 
-/// The input to its end. An interrupted read is tried again.
+/// The whole input, up to its end. An interrupted read is tried again.
 fn read_text<A: Allocator, R: Read>(alloc: A, input: &mut R) -> Result<Vec<u8, A>, Fault>
     ensures ok { IfOk result (λ text. IfSome (R.remaining input.old) (λ all. text.items ≡ all)) }
     ensures err { IfErr result (λ fault. (fault ≡ Fault.Memory) ⊎ (fault ≡ Fault.Input)) }
@@ -78,7 +78,8 @@ fn read_text<A: Allocator, R: Read>(alloc: A, input: &mut R) -> Result<Vec<u8, A
     }
 }
 
-/// The lines that answer a text. No command is run before every line is known to be one.
+/// The lines of the answers to a text. It runs no command before it knows that every line is a
+/// command or blank.
 fn answer<A: Allocator + Copy>(alloc: A, text: &[u8]) -> Result<String<A>, Fault>
     ensures ok { IfOk result (λ lines. IsAnswered A text.now (string_bytes lines)) }
     ensures err { IfErr result (IsRefused A text.now) }
@@ -91,9 +92,9 @@ fn answer<A: Allocator + Copy>(alloc: A, text: &[u8]) -> Result<String<A>, Fault
     Ok(print_answers(alloc, answers.as_slice())?)
 }
 
-/// The commands that a text spells. Blank lines spell none, and are counted.
+/// The commands that a text spells. Blank lines spell none, but count as lines.
 ///
-/// Err: the first line that is no command, by its number, or out of memory.
+/// It fails with the number of the first line that is not a command, or if there is no memory.
 fn read_commands<A: Allocator + Copy>(
     alloc: A,
     text: &[u8],

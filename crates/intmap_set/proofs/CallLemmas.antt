@@ -1,4 +1,4 @@
--- What a call leaves of the map and answers, as the set shows it.
+-- What a call leaves of the map and returns, as the set shows it.
 use Rattle.std.proofs.Common.{◌≡◌, ◌∙◌, ℕ, ◌+◌, ◌<◌, Bool, true, false, sym, ap, subst, length, max}
 use Rattle.std.specs.Prelude.{◌↔◌, Result, Ok, Err, IsErrAnd, IsErrOf, OnOk, OnErr, MatchBool}
 use Rattle.intmap.specs.declared.refusal.Cause.{Cause}
@@ -21,7 +21,7 @@ IsErrOf-cause {T} {E} (Err e) cause d is = (λ of. sym is ∙ same of, λ here. 
 pub IsErrOf-ok : {T E : Type 0} (x : T) (d : E) → IsErrOf (Ok x) d → ⊥
 IsErrOf-ok x d err = subst (λ r. OnOk r ⊥ → ⊥) err (λ no. no) tt
 
--- what holds of an error that came holds where none did
+-- what holds of an error that was returned holds if there was none
 pub on_error : {T E P : Type 0} (r : Result T E) → P → OnErr r P
 on_error (Ok x) p = tt
 on_error (Err e) p = p
@@ -43,11 +43,11 @@ module _ {K : Type 0} (number : K → ℕ) (m n : MapState K (Unit {0})) (s : Se
   without_key-seen state =
       ap set_of state ∙ ap (λ L. set_of (of_map.without_key number (record m { walk = L }) k)) (sym (paired-keys_of m.walk)) ∙ ap (λ t. without_key number t k) seen
 
-  -- the capacity of the map is that of the set
+  -- the capacity of the map is the capacity of the set
   pub IsCapacityAfter-seen : IsCapacityAfter number m.walk m.capacity m.factor k n.capacity → IsCapacityAfter number (paired s.walk) s.capacity s.factor k n.capacity
   IsCapacityAfter-seen is = subst (λ t. IsCapacityAfter number t.0 t.1 t.2 k n.capacity) (paired-seen m s seen) is
 
-  -- a refusal by the map is one by the set
+  -- a failure by the map is one by the set
   pub refused-seen : (r : Result Bool Cause) (cause d : Cause) → IsErrAnd r (λ e. e ≡ cause) → (cause ≡ d) ↔ IsOutOfRange number m.walk m.capacity m.factor k
       → IsErrOf r d ↔ IsOutOfRange number (paired s.walk) s.capacity s.factor k
   refused-seen r cause d is iff =
@@ -56,7 +56,7 @@ module _ {K : Type 0} (number : K → ℕ) (m n : MapState K (Unit {0})) (s : Se
         λ beyond. of.1 (iff.1 (subst (λ t. IsOutOfRange number t.0 t.1 t.2 k) (sym pairs) beyond)),
       )
 
-  -- where nothing is refused no key is out of range
+  -- if nothing fails, no key is out of range
   pub accepted-seen : (new : Bool) (d : Cause) → ⊥ ↔ IsOutOfRange number m.walk m.capacity m.factor k
       → IsErrOf {T = Bool} (Ok new) d ↔ IsOutOfRange number (paired s.walk) s.capacity s.factor k
   accepted-seen new d iff = (
@@ -78,7 +78,7 @@ module _ {K : Type 0} (number : K → ℕ) (m n : MapState K (Unit {0})) (s : Se
   in_slots-seen state =
       ap set_of state ∙ ap (λ L. set_of (of_map.in_slots number (record m { walk = L }) n.capacity)) (sym (paired-keys_of m.walk)) ∙ ap (λ t. in_slots number t n.capacity) seen
 
-  -- room for so many members is room for so many pairs
+  -- room for n members is room for n pairs
   pub reserved-seen : (d : ℕ) → ((p : ℕ) × IsLeastPower (length m.walk + d) p × (n.capacity ≡ max m.capacity p))
       → (p : ℕ) × IsLeastPower (length s.walk + d) p × (n.capacity ≡ max s.capacity p)
   reserved-seen d made =

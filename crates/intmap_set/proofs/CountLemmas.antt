@@ -31,7 +31,7 @@ module _ {X : Type 0} where
       each false true alone = refl
       each false false alone = refl
 
-  -- where none is counted none passes
+  -- if none is counted, none passes
   pub list_any-uncounted : (p : X → Bool) (xs : List X) → count_by p xs ≡ 0 → list_any p xs ≡ false
   list_any-uncounted p [] none = refl
   list_any-uncounted p (x ∷ xs) none = at (p x) (sym (count_by-cons p x xs) ∙ none) (list_any-uncounted p xs)
@@ -40,7 +40,7 @@ module _ {X : Type 0} where
       at true is rest = absurd (omega (arith, is))
       at false is rest = rest (omega (arith, is))
 
-  -- where at most one is counted it is whether one passes
+  -- if at most one is counted, it is whether one passes
   count_by-once : (p : X → Bool) (xs : List X) → count_by p xs ≤ 1 → count_by p xs ≡ cond (list_any p xs) 1 0
   count_by-once p [] most = refl
   count_by-once p (x ∷ xs) most = count_by-cons p x xs ∙ at (p x) (count_by-cons p x xs) (count_by-once p xs)
@@ -51,7 +51,7 @@ module _ {X : Type 0} where
       at false is rest = let same = rest (omega (arith, is, most)) in omega (arith, same)
 
 module _ {K : Type 0} (number : K → ℕ) where
-  -- no key comes twice
+  -- no key occurs twice
   abbrev pub IsOnce : List K → Type 0
   IsOnce W = (k : K) → count_by (same_key number k) W ≤ 1
 
@@ -61,11 +61,11 @@ module _ {K : Type 0} (number : K → ℕ) where
   count_by-paired k (w ∷ W) =
       count_by-cons (λ p. same_key number k p.0) (w, tt) (paired W) ∙ ap (λ n. cond (same_key number k w) 1 0 + n) (count_by-paired k W) ∙ sym (count_by-cons (same_key number k) w W)
 
-  -- distinct keys come once
+  -- distinct keys occur once
   pub IsOnce-distinct : (W : List K) → HasDistinctKeys number (paired W) → IsOnce W
   IsOnce-distinct W distinct k = let is = count_by-paired k W in let most = distinct k in omega (arith, is, most)
 
-  -- the members of V that W has are as many as those of W that V has
+  -- the number of members of V that W has is the number of members of W that V has
   common-turned : (V W : List K) → IsOnce V → IsOnce W → count_by (holds number W) V ≡ count_by (holds number V) W
   common-turned [] W first second = sym (none W)
     where
@@ -95,7 +95,7 @@ module _ {K : Type 0} (number : K → ℕ) where
   length-parts : (V W : List K) → length (common_of number V W) + length (difference_of number V W) ≡ length V
   length-parts V W = length-filter_both (holds number W) (λ k. not (holds number W k)) (λ k. refl) V
 
-  -- union and intersection have as many members as both sets
+  -- union and intersection have together as many members as both sets
   pub length-union_of-intersection_of : (V W : List K) → HasDistinctKeys number (paired V) → HasDistinctKeys number (paired W)
       → length (union_of number V W) + length (intersection_of number V W) ≡ length V + length W
   length-union_of-intersection_of V W first second = at (nat_lt (length V) (length W)) (nat_lt (length W) (length V))

@@ -1,4 +1,4 @@
--- The lists of two sets have each key once, and so a set that is made of such a list has as many members.
+-- The lists of two sets have each key once, and so a set made of such a list has exactly its keys as members.
 use Rattle.std.proofs.Common.{◌≡◌, ◌∙◌, ℕ, ◌+◌, ◌≤◌, Bool, true, false, cond, List, [], ◌∷◌, ◌++◌, refl, sym, ap, filter, length, arith}
 use Rattle.std.proofs.lemmas.Bool.{eqb-true, true≢false}
 use Rattle.std.proofs.lemmas.List.Sums.{sum_by-append}
@@ -15,7 +15,7 @@ use Rattle.intmap_set.proofs.CombinedLemmas.{IsDifference-difference_of}
 use Rattle.intmap_set.proofs.CountLemmas.{IsOnce, IsOnce-distinct, count_by-cons, count_by-paired, list_any-uncounted}
 
 module _ {X : Type 0} where
-  -- where none passes none is counted
+  -- if none passes, none is counted
   count_by-none : (p : X → Bool) (xs : List X) → list_any p xs ≡ false → count_by p xs ≡ 0
   count_by-none p [] none = refl
   count_by-none p (x ∷ xs) none = count_by-cons p x xs ∙ at (p x) none (count_by-none p xs)
@@ -36,7 +36,7 @@ module _ {X : Type 0} where
       at false rest all kept = omega (arith, rest, all)
 
 module _ {K : Type 0} (number : K → ℕ) where
-  -- keys that come once are distinct
+  -- keys that occur once are distinct
   distinct-IsOnce : (W : List K) → IsOnce number W → HasDistinctKeys number (paired W)
   distinct-IsOnce W once k = let is = count_by-paired number k W in let most = once k in omega (arith, is, most)
 

@@ -1,4 +1,4 @@
--- Maps without values are equal exactly where their sets are.
+-- Maps without values are equal exactly if their sets are.
 use Rattle.std.proofs.Common.{◌≡◌, ◌∙◌, ℕ, Bool, true, refl, sym}
 use Rattle.std.proofs.lemmas.Bool.{true≢false}
 use Rattle.std.specs.Bool.{one_answer}
@@ -33,7 +33,7 @@ module _ (equal : Unit {0} → Unit {0} → Bool) (same : equal tt tt ≡ true) 
   laws = record { symm = λ x y. refl; trans = λ x y z first second. same }
 
   module _ {K : Type 0} (number : K → ℕ) where
-    -- the maps are equal exactly where the sets of their keys are
+    -- the maps are equal exactly if the sets of their keys are
     pub sets_equal-maps_equal : (m n : MapState K (Unit {0})) (s t : SetState K) → set_of m ≡ s → set_of n ≡ t
         → maps_equal number equal m n ≡ sets_equal number s t
     sets_equal-maps_equal m n s t seen other =

@@ -49,7 +49,7 @@ module _ {K : Type 0} (number : K → ℕ) where
   same_key-holds : (W : List K) (j k : K) → holds number W j ≡ true → same_key number k j ≡ true → holds number W k ≡ true
   same_key-holds W j k here is = holds-same_number number W k j (sym (eqb-true (number j) (number k) is)) ∙ here
 
-  -- one key more is new where it neither was a member nor came before
+  -- one key more is new if it is neither a member nor among those before
   pub length-new_keys-push : (W ks : List K) (k : K) → length (new_keys number W (ks ++ k ∷ [])) ≡ length (new_keys number W ks) + cond (holds number W k || holds number ks k) 0 1
   length-new_keys-push W [] k = at (holds number W k)
     where
@@ -75,7 +75,7 @@ cond-not true = refl
 cond-not false = refl
 
 module _ {K : Type 0} (number : K → ℕ) (is_valid : K → Type 0) where
-  -- what an insertion leaves, by what it answers
+  -- what an insertion leaves, by what it returns
   pub inserted-state : (s t : SetState K) (k : K) (new : Bool) → new ≡ not (holds number s.walk k) → MatchBool new (t ≡ with_key number s k t.capacity) (t ≡ s)
       → t ≡ cond (holds number s.walk k) s (with_key number s k t.capacity)
   inserted-state s t k new is state = at (holds number s.walk k) (subst (λ b. MatchBool b (t ≡ with_key number s k t.capacity) (t ≡ s)) is state)
@@ -84,7 +84,7 @@ module _ {K : Type 0} (number : K → ℕ) (is_valid : K → Type 0) where
       at true same = same
       at false added = added
 
-  -- one accepted insertion more
+  -- one successful insertion more
   InsertsAll-push : (s u t : SetState K) (ks : List K) (k : K) → InsertsAll number is_valid s ks u → Inserts number is_valid u k t → InsertsAll number is_valid s (ks ++ k ∷ []) t
   InsertsAll-push s u t [] k before last = (t, subst (λ x. Inserts number is_valid x k t) before last, refl)
   InsertsAll-push s u t (j ∷ ks) k before last = (before.0, before.1, InsertsAll-push before.0 u t ks k before.2 last)
@@ -103,7 +103,7 @@ module _ {K : Type 0} (number : K → ℕ) (is_valid : K → Type 0) where
     kept_factor true state = ap (λ x. x.factor) state
     kept_factor false state = ap (λ x. x.factor) state
 
-    -- one insertion more, which answered so, by what it says of members and length
+    -- one insertion more that returned this, by what it says of members and length
     pub IsExtended-push : (new : Bool) → new ≡ not (holds number u.walk k) → ((q : K) → holds number t.walk q ≡ cond (same_key number k q) true (holds number u.walk q))
         → length t.walk ≡ length u.walk + cond new 1 0 → IsExtended number is_valid s (ks ++ k ∷ []) t
     IsExtended-push new is updates len = record {
@@ -125,11 +125,11 @@ module _ {K : Type 0} (number : K → ℕ) (is_valid : K → Type 0) where
           omega (arith, kept, start));
     }
 
--- a refusal, in place of a T
+-- a failure, in place of a T
 abbrev refusal_of : (T E : Type 0) → E → Result T E
 refusal_of T E e = Err e
 
--- what a refused insertion says of the key
+-- what a failed insertion says of the key
 pub may_refuse-err : {K : Type 0} (number : K → ℕ) (s : SetState K) (k : K) (cause : Cause) → holds number s.walk k ≡ false
     → (refusal_of Bool Cause cause ≡ Err TooLarge) ↔ IsOutOfRange number (paired s.walk) s.capacity s.factor k
     → (refusal_of Bool Cause cause ≡ Err Memory → IsNext s.capacity (length s.walk + 1) s.factor s.capacity → 0 < class_size number (paired s.walk) s.capacity k)

@@ -1,4 +1,4 @@
--- Members of a set are the keys that its map binds.
+-- Members of a set are the keys of its map.
 use Rattle.std.proofs.Common.{◌≡◌, ◌∙◌, ℕ, suc, Bool, true, false, cond, List, [], ◌∷◌, refl, sym, ap, subst, length}
 use Rattle.std.proofs.lemmas.Map.Entries.{length-keys_of}
 use Rattle.std.specs.Prelude.{◌||◌, not, Option, Some, None, is_some, is_none}
@@ -20,12 +20,12 @@ module _ {K : Type 0} where
       → ◌≡◌ {A = List (K × Unit {0}) × ℕ × ℕ} (m.walk, m.capacity, m.factor) (paired s.walk, s.capacity, s.factor)
   paired-seen m s seen = ap (λ L. (L, m.capacity, m.factor)) (sym (paired-keys_of m.walk)) ∙ ap (λ t. (paired t.walk, t.capacity, t.factor)) seen
 
-  -- as many pairs as members
+  -- there is one pair for each member
   pub length-paired : (W : List K) → length (paired W) ≡ length W
   length-paired [] = refl
   length-paired (k ∷ W) = ap suc (length-paired W)
 
-  -- as many members as pairs
+  -- there is one member for each pair
   pub length-seen : (m : MapState K (Unit {0})) (s : SetState K) → set_of m ≡ s → length m.walk ≡ length s.walk
   length-seen m s seen = sym (length-keys_of m.walk) ∙ ap (λ t. length t.walk) seen
 
@@ -40,7 +40,7 @@ is_some-cond true o p = refl
 is_some-cond false o p = refl
 
 module _ {K : Type 0} (number : K → ℕ) where
-  -- a key is a member exactly where it is bound
+  -- a key is a member exactly if it is present
   pub holds-keys_of : (L : List (K × Unit {0})) (k : K) → holds number (keys_of L) k ≡ is_some (value_of number L k)
   holds-keys_of [] k = refl
   holds-keys_of (p ∷ L) k = at (same_key number k p.0) (holds-keys_of L k)

@@ -23,7 +23,7 @@ module _ {C F K V : Type 0} (R : C → K × V → Bool → C → Type 0) (S : F 
   Retains-inner c d (p ∷ L) M r =
       (r.0, inner r.1, keys_of r.2, each c p r.0 r.1 r.3, Retains-inner r.1 d L r.2 r.4, ap keys_of r.5 ∙ keys_of-cond r.0 p r.2)
 
-  -- it can be asked about each pair where the other one can about each key
+  -- it can be asked about each pair if the other one can about each key
   pub TakesEach-inner : (Q : F → K → Type 0) (P : C → K × V → Type 0) → ((c : C) (p : K × V) → Q (inner c) p.0 → P c p)
       → (c : C) (L : List (K × V)) → TakesEach S Q (inner c) (keys_of L) → TakesEach R P c L
   TakesEach-inner Q P asks c L takes =
@@ -35,7 +35,7 @@ module _ {C F K V : Type 0} (R : C → K × V → Bool → C → Type 0) (S : F 
       c L takes
 
 module _ {K : Type 0} (number : K → ℕ) where
-  -- a key that stays bound or goes stays a member or goes
+  -- a key that stays present or goes stays a member or goes
   pub kept-seen : (m n : MapState K (Unit {0})) (s : SetState K) → set_of m ≡ s
       → ((q : K) → (value_of number n.walk q ≡ value_of number m.walk q) ⊎ (value_of number n.walk q ≡ None))
       → (q : K) → (holds number (keys_of n.walk) q ≡ holds number s.walk q) ⊎ (holds number (keys_of n.walk) q ≡ false)

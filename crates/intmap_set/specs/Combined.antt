@@ -1,4 +1,4 @@
--- Two sets: which members both have, or one alone, and in which order.
+-- Two sets: which members both have, or only one, and in which order.
 use Rattle.std.specs.Prelude.{◌≡◌, false, ℕ, Bool, cond, not, ◌&&◌, ◌||◌, nat_lt, List, ◌++◌, filter, length, IsTrue}
 use Rattle.std.specs.List.{list_all}
 use Rattle.intmap_set.specs.Sets.{SetState, holds}
@@ -28,15 +28,15 @@ module _ {K : Type 0} (number : K → ℕ) where
   abbrev pub common_of : List K → List K → List K
   common_of V W = filter (holds number W) V
 
-  -- the same, in the order of the shorter one, and in that of V if both are as long
+  -- the same, in the order of the shorter one, or of V if both are as long
   abbrev pub intersection_of : List K → List K → List K
   intersection_of V W = cond (nat_lt (length W) (length V)) (common_of W V) (common_of V W)
 
-  -- the longer one, V if both are as long, and then the members that the other has alone
+  -- the longer one, or V if both are as long, and then the members that only the other has
   abbrev pub union_of : List K → List K → List K
   union_of V W = cond (nat_lt (length V) (length W)) (W ++ difference_of V W) (V ++ difference_of W V)
 
-  -- the members that V has alone, and then those that W has alone
+  -- the members that only V has, and then those that only W has
   abbrev pub symmetric_difference_of : List K → List K → List K
   symmetric_difference_of V W = difference_of V W ++ difference_of W V
 

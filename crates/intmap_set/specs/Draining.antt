@@ -1,4 +1,4 @@
--- What a contract sees of members that are taken out from the front of the walk, and of a `Drain`.
+-- What a contract sees of members that are removed from the front of the walk, and of a `Drain`.
 use Rattle.std.specs.Prelude.{◌≡◌, List, Option}
 use Rattle.std.specs.Borrow.{GName}
 use Rattle.std.specs.Iterator.{YieldsFirst}
@@ -10,7 +10,7 @@ module _ {K A : Type 0} {g : _} {e : _} where
   abbrev pub drained_set : Drain K A g e → SetState K
   drained_set d = d.set.now
 
-  -- the members that are still to come, which are all that the set has
+  -- the members that are left, which are all that the set has
   abbrev pub drain_rest : Drain K A g e → List K
   drain_rest d = (drained_set d).walk
 
@@ -18,7 +18,7 @@ module _ {K A : Type 0} {g : _} {e : _} where
   abbrev pub drain_lender : Drain K A g e → GName
   drain_lender d = d.set.ghost_name
 
-  -- `next` took the first member out of the set, which is the same but for that
+  -- `next` removed the first member of the set, and changed nothing else
   abbrev pub DrainsFirst : Drain K A g e → Option K → Drain K A g e → Type 0
   DrainsFirst d r rest = YieldsFirst drain_rest d r rest
       × (drain_lender rest ≡ drain_lender d)

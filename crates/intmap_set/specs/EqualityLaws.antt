@@ -1,4 +1,4 @@
--- The laws of subsets and of the equality of sets: equality is of members, and so an equivalence.
+-- The laws of subsets and of the equality of sets: equality compares members, and so is an equivalence.
 use Rattle.std.proofs.Common.{◌≡◌, ◌∙◌, ℕ, Bool, true, false, List, [], ◌∷◌, refl, sym, ap}
 use Rattle.std.proofs.lemmas.Bool.{eq-eqb, eqb-true, true≢false}
 use Rattle.std.specs.Prelude.{◌↔◌, ◌==◌, ◌&&◌, ◌||◌, IsTrue}
@@ -14,7 +14,7 @@ pub or-second : (b c : Bool) → c ≡ true → (b || c) ≡ true
 or-second true c is = refl
 or-second false c is = is
 
--- two tests that follow from each other answer alike
+-- two tests that follow from each other return the same
 both_ways : (b c : Bool) → (b ≡ true → c ≡ true) → (c ≡ true → b ≡ true) → b ≡ c
 both_ways true c there back = sym (there refl)
 both_ways false true there back = back refl
@@ -32,7 +32,7 @@ module _ {K : Type 0} (number : K → ℕ) where
   with_one k V W q here rest true is has = holds-same_number W q k (sym (eqb-true (number k) (number q) is)) ∙ here
   with_one k V W q here rest false is has = rest has
 
-  -- where each of V is tested to be in W, V is a subset
+  -- if each of V is tested to be in W, V is a subset
   pub IsSubset-from_all : (V W : List K) → list_all (holds number W) V ≡ true → IsSubset number V W
   IsSubset-from_all [] W all q has = absurd (true≢false (sym has))
   IsSubset-from_all (k ∷ V) W all q has =
@@ -49,7 +49,7 @@ module _ {K : Type 0} (number : K → ℕ) where
       ap (λ b. b && list_all (holds number W) V) (sub k (ap (λ b. b || holds number V k) (same_key-itself k)))
       ∙ all-from_IsSubset V W (λ q has. sub q (or-second (same_key number q k) (holds number V q) has))
 
-  -- sets are equal exactly where each is a subset of the other
+  -- sets are equal exactly if each is a subset of the other
   pub sets_equal-iff_subsets : (s t : SetState K) → IsTrue (sets_equal number s t) ↔ (IsSubset number s.walk t.walk × IsSubset number t.walk s.walk)
   sets_equal-iff_subsets s t = (
     λ both. (
@@ -59,7 +59,7 @@ module _ {K : Type 0} (number : K → ℕ) where
     λ subs i. all-from_IsSubset s.walk t.walk subs.0 i && all-from_IsSubset t.walk s.walk subs.1 i,
   )
 
-  -- and exactly where they have the same members
+  -- and exactly if they have the same members
   pub sets_equal-iff_members : (s t : SetState K) → Decides (sets_equal number s t) (HaveSameMembers number s.walk t.walk)
   sets_equal-iff_members s t = (
     λ both q. let subs = (sets_equal-iff_subsets s t).0 both in both_ways _ _ (subs.0 q) (subs.1 q),

@@ -1,4 +1,4 @@
--- What inserting keys in turn answers and leaves.
+-- What inserting keys in turn returns and leaves.
 use Rattle.std.specs.Prelude.{◌≡◌, false, ◌↔◌, ◌⊎◌, ℕ, ◌+◌, ◌^◌, ◌<◌, ◌≤◌, cond, max, List, [], ◌∷◌, length, Option, Some}
 use Rattle.std.specs.Iterator.{Drains, YieldsThen}
 use Rattle.intmap.specs.declared.refusal.Cause.{Cause}
@@ -15,27 +15,27 @@ module _ {K : Type 0} (number : K → ℕ) where
   new_keys W [] = []
   new_keys W (k ∷ ks) = cond (holds number W k) (new_keys W ks) (k ∷ new_keys (k ∷ W) ks)
 
-  -- an insertion of k may be refused for this cause: of a new key alone, as too large exactly where it is out of range, and
-  -- for want of memory never where the capacity stays and no member shares its slot
+  -- an insertion of k may fail with this cause: for a new key alone, as too large exactly if it is out of range, and
+  -- for want of memory never if the capacity stays and no member shares its slot
   pub record MayRefuse (s : SetState K) (k : K) (cause : Cause) : Type 0 where
     pub new_key : holds number s.walk k ≡ false
     pub too_large : (cause ≡ TooLarge) ↔ IsOutOfRange number (paired s.walk) s.capacity s.factor k
     pub memory : cause ≡ Memory → IsNext s.capacity (length s.walk + 1) s.factor s.capacity → 0 < class_size number (paired s.walk) s.capacity k
 
 module _ {K : Type 0} (number : K → ℕ) (is_valid : K → Type 0) where
-  -- an accepted insertion of k took the set s to t
+  -- a successful insertion of k took the set s to t
   pub record Inserts (s : SetState K) (k : K) (t : SetState K) : Type 0 where
     pub in_range : IsOutOfRange number (paired s.walk) s.capacity s.factor k → ⊥
     pub capacity : IsCapacityAfter number (paired s.walk) s.capacity s.factor k t.capacity
     pub state : t ≡ cond (holds number s.walk k) s (with_key number s k t.capacity)
     pub set : IsSet number is_valid t
 
-  -- the keys were inserted in turn, all accepted
+  -- the keys were inserted in turn, and none failed
   abbrev pub InsertsAll : SetState K → List K → SetState K → Type 0
   InsertsAll s [] t = t ≡ s
   InsertsAll s (k ∷ ks) t = (u : SetState K) × Inserts s k u × InsertsAll u ks t
 
-  -- the keys were inserted in turn, all accepted: they are members and so is what was one, there is one member more for each new
+  -- the keys were inserted in turn, and none failed: they are members, and so is each old member, there is one member more for each new
   -- key, the load factor stays, and there are no fewer slots
   pub record IsExtended (s : SetState K) (ks : List K) (t : SetState K) : Type 0 where
     pub inserted : InsertsAll s ks t
@@ -45,13 +45,13 @@ module _ {K : Type 0} (number : K → ℕ) (is_valid : K → Type 0) where
     pub capacity : s.capacity ≤ t.capacity
 
 module _ {K I : Type 0} (number : K → ℕ) (is_valid : K → Type 0) (steps : I → Option K → I → Type 0) where
-  -- all keys that came from the iterator i were inserted in turn
+  -- all keys that the iterator i gave were inserted in turn
   pub record Extends (i : I) (s t : SetState K) : Type 0 where
     pub keys : List K
     pub came : Drains steps i keys
     pub extended : IsExtended number is_valid s keys t
 
-  -- the keys that came from the iterator i were inserted in turn up to the first that was refused, for this cause
+  -- the keys that the iterator i gave were inserted in turn up to the first that failed, with this cause
   pub record ExtendsUpTo (i : I) (s : SetState K) (cause : Cause) (t : SetState K) : Type 0 where
     pub keys : List K
     pub refused : K
@@ -60,13 +60,13 @@ module _ {K I : Type 0} (number : K → ℕ) (is_valid : K → Type 0) (steps : 
     pub extended : IsExtended number is_valid s keys t
     pub may_refuse : MayRefuse number t refused cause
 
-  -- an empty set with room for b slots was extended by all keys that came from the iterator i
+  -- an empty set with room for b slots was extended by all keys that the iterator i gave
   pub record Collects (i : I) (b : ℕ) (t : SetState K) : Type 0 where
     pub slots : ℕ
     pub power : IsLeastPower (max b 2) slots
     pub extends : Extends i (empty_set slots) t
 
-  -- a set with room for b slots was refused, or the keys that came from the iterator i up to a refused one were inserted into it
+  -- a set with room for b slots could not be made, or the keys that the iterator i gave, up to one that failed, were inserted into it
   abbrev pub MayRefuseToCollect : I → ℕ → Cause → Type 0
   MayRefuseToCollect i b cause =
       ((cause ≡ TooLarge) × (2 ^ 63 < b))

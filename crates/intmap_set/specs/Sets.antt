@@ -25,7 +25,7 @@ module _ {K : Type 0} where
   abbrev pub set_of : of_map.MapState K (Unit {0}) → SetState K
   set_of m = record { walk = keys_of m.walk; capacity = m.capacity; factor = m.factor }
 
-  -- a set of C slots that was just made
+  -- a new set of C slots
   abbrev pub empty_set : ℕ → SetState K
   empty_set C = record { walk = []; capacity = C; factor = 909 }
 
@@ -45,7 +45,7 @@ module _ {K : Type 0} (number : K → ℕ) where
       × (holds W k ≡ b)
       × ((q : K) → same_key number k q ≡ false → holds W q ≡ holds V q)
 
-  -- what every set is: its members are the keys of a map
+  -- what holds of every set: its members are the keys of a map
   abbrev pub IsSet : (K → Type 0) → SetState K → Type 0
   IsSet is_valid s = of_map.IsMap number is_valid (as_map s)
 
@@ -53,7 +53,7 @@ module _ {K : Type 0} (number : K → ℕ) where
   abbrev pub with_key : SetState K → K → ℕ → SetState K
   with_key s k D = set_of (of_map.with_pair number (as_map s) k tt D)
 
-  -- the set with k taken out
+  -- the set without k
   abbrev pub without_key : SetState K → K → SetState K
   without_key s k = set_of (of_map.without_key number (as_map s) k)
 

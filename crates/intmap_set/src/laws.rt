@@ -1,7 +1,7 @@
 //! Laws for callers: what follows about sets from the contracts of their calls. Each is the contract
 //! of a function that does nothing.
 //!
-//! A call such as `laws::union_holds::<u64>();` brings its law into the proof of the function that
+//! A call such as `laws::union_holds::<u64>();` adds its law to the proof of the function that
 //! contains the call.
 ghost use Rattle.std.specs.Prelude.{◌≡◌, ◌+◌, ◌↔◌, List, IsTrue, length};
 ghost use Rattle.intmap.specs.Bindings.{HasDistinctKeys};
@@ -11,7 +11,7 @@ ghost use Rattle.intmap_set.specs.Extending.{new_keys};
 
 use intmap::IntKey;
 
-/// The difference has the members of the first set that the second one hasn't.
+/// The difference has the members of the first set that are absent from the second.
 pub fn difference_holds<K: IntKey>()
     ensures { (V W : List K) → IsDifference K.number_of V W (difference_of K.number_of V W) }
 {}
@@ -44,8 +44,8 @@ pub fn equal_sets_have_the_same_members<K: IntKey>()
         ↔ HaveSameMembers K.number_of s.walk t.walk }
 {}
 
-/// The union and the intersection of two sets have together as many members as both sets. That the
-/// keys of a set are distinct says `valid` of its calls.
+/// The union and the intersection of two sets together have as many members as the two sets. The
+/// clause `valid` of a set's calls says that its keys are distinct.
 pub fn union_and_intersection_count_both<K: IntKey>()
     ensures { (V W : List K) → HasDistinctKeys K.number_of (paired V)
         → HasDistinctKeys K.number_of (paired W)
@@ -53,8 +53,8 @@ pub fn union_and_intersection_count_both<K: IntKey>()
         ≡ length V + length W }
 {}
 
-/// The difference, the intersection, the union and the symmetric difference of two sets have each key
-/// once, since each of the sets has.
+/// The difference, the intersection, the union and the symmetric difference of two sets have each
+/// key once, since each of the sets has.
 pub fn combined_keys_are_distinct<K: IntKey>()
     ensures difference { (V W : List K) → HasDistinctKeys K.number_of (paired V)
         → HasDistinctKeys K.number_of (paired W)
@@ -70,9 +70,9 @@ pub fn combined_keys_are_distinct<K: IntKey>()
         → HasDistinctKeys K.number_of (paired (symmetric_difference_of K.number_of V W)) }
 {}
 
-/// Where keys are distinct and none of them is a member, each is new. So a set that
-/// [`IntSet::from_iter`](crate::IntSet::from_iter) makes of a union has exactly as many members as the
-/// list of the union. It is the same with the other lists of two sets.
+/// If keys are distinct and none of them is a member, each of them is new. So a set that
+/// [`IntSet::from_iter`](crate::IntSet::from_iter) makes of a union has exactly as many members as
+/// the list of the union. The same holds for the other lists of two sets.
 pub fn distinct_keys_are_new<K: IntKey>()
     ensures { (W ks : List K) → IsDisjoint K.number_of ks W
         → HasDistinctKeys K.number_of (paired ks) → new_keys K.number_of W ks ≡ ks }

@@ -19,8 +19,8 @@ use std::marker::Model;
 /// turn, and through each from front to back. The list of the members in this order is the walk. It
 /// depends on the calls alone: there is no random seed. No call makes the number of slots smaller.
 ///
-/// A member takes no byte beside those of an integer. A slot of an `IntSet<u64>` takes 40 bytes and
-/// a bit, and has room for one member; each further member of the slot takes 8 bytes elsewhere. A
+/// A member takes no more bytes than its integer. A slot of an `IntSet<u64>` takes 40 bytes and a
+/// bit, and has room for one member; each further member of the slot takes 8 bytes elsewhere. A
 /// slot of an `IntMap<u64, u64>` takes 48 bytes and a bit. With keys of at most 4 bytes a slot of a
 /// set takes 32 bytes and a bit.
 ///

@@ -1,4 +1,4 @@
--- What calls of a vector come to: a refusal of its map, and a product as the code takes it.
+-- What calls of a vector are: a failure of its map, and a product as the code computes it.
 use Rattle.std.proofs.Common.{◌≡◌, ℕ, ◌^◌, ◌≤◌, true, cond, refl, sym, ap, ◌∙◌, subst, arith}
 use Rattle.std.specs.Prelude.{◌≢◌, ◌↔◌, ℤ, pos, negsuc, ◌*ℤ◌, FitsSigned, unsigned_abs, Result, Ok, Err, IsErrAnd, IsErrOf}
 use Rattle.std.specs.Int.{w64, w128}
@@ -11,16 +11,16 @@ use Rattle.intmap.specs.Map.{MapState, IsOutOfRange, after_insert, after_remove}
 use Rattle.intmap.specs.Walk.{walk_of}
 use Rattle.intmap_sparse.specs.Vectors.{Vector, is_nonzero, with_value, IsBeyondRange, load_factor}
 
--- a result that is refused for a cause is that refusal
+-- a result that fails with a cause is that failure
 refused-as : (r : Result ℤ Cause) (cause : Cause) → IsErrAnd r (λ e. e ≡ cause) → r ≡ Err cause
 refused-as (Ok x) cause is = absurd is
 refused-as (Err e) cause is = ap Err is
 
--- causes of one refusal are one
+-- causes of one failure are equal
 same-cause : (d e : Cause) → ◌≡◌ {A = Result ℤ Cause} (Err d) (Err e) → d ≡ e
 same-cause d e same = cc
 
--- a refusal of the map as too large is one of the vector
+-- a failure of the map as too large is one of the vector
 pub refused-too_large : (r : Result ℤ Cause) (cause : Cause) (m : MapState ℕ ℤ) (v : Vector) (place : ℕ) (value : ℤ)
     → IsErrAnd r (λ e. e ≡ cause) → (cause ≡ TooLarge) ↔ IsOutOfRange (λ key. key) m.walk m.capacity m.factor place
     → record { walk = m.walk; capacity = m.capacity } ≡ v → m.factor ≡ load_factor → (value ≡ pos 0 → ⊥)

@@ -71,7 +71,7 @@ count_below-ext f g (suc n) same =
     let last = same n (omega arith) in
     (λ j. rest j + cond (last j) 1 0)
 
--- where no number passes none is counted
+-- if no number passes, none is counted
 pub count_below-none : (f : ℕ → Bool) (n : ℕ) → ((i : ℕ) → f i ≡ false) → count_below f n ≡ 0
 unfolding count_below
 count_below-none f zero none = refl
@@ -79,7 +79,7 @@ count_below-none f (suc n) none =
     let rest = count_below-none f n none in
     (λ j. rest j + cond (none n j) 1 0)
 
--- where one number more passes one more is counted
+-- if one number more passes, one more is counted
 pub count_below-more : (f g : ℕ → Bool) (k n : ℕ) → k < n → g k ≡ false → ((i : ℕ) → f i ≡ cond (k == i) true (g i)) → count_below f n ≡ 1 + count_below g n
 unfolding count_below
 count_below-more f g k zero within out more = absurd (omega (arith, within))
@@ -122,11 +122,11 @@ IsWideFrom-nil a fits wide = wide.1 (fits-nothing a wide.0 fits)
 pub IsWideFrom-now : (a : ℤ) (zs : List ℤ) → (FitsSigned w128 a → ⊥) → IsWideFrom a zs
 IsWideFrom-now a zs wide = (0, wide)
 
--- the sum that is too wide comes behind the first term
+-- the sum that is too wide is behind the first term
 wide-behind : (a z : ℤ) (zs : List ℤ) (i : ℕ) → FitsSigned w128 a → (FitsSigned w128 (fold ◌+ℤ◌ a (take i (z ∷ zs))) → ⊥) → IsWideFrom (a +ℤ z) zs
 wide-behind a z zs zero fits wide = absurd (wide fits)
 wide-behind a z zs (suc i) fits wide = (i, wide)
 
--- where a is an i128, some sum is too wide exactly where one behind the first term is
+-- if a is an i128, some sum is too wide exactly if one behind the first term is
 pub IsWideFrom-cons : (a z : ℤ) (zs : List ℤ) → FitsSigned w128 a → IsWideFrom a (z ∷ zs) ↔ IsWideFrom (a +ℤ z) zs
 IsWideFrom-cons a z zs fits = (λ wide. wide-behind a z zs wide.0 fits wide.1, λ wide. (suc wide.0, wide.1))

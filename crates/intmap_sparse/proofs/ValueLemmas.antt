@@ -1,4 +1,4 @@
--- Values at places: what the pairs of a walk come to over all places.
+-- Values at places: what the pairs of a walk give over all places.
 use Rattle.std.proofs.Common.{◌≡◌, inl, inr, ℕ, ◌^◌, ◌<◌, Bool, true, false, cond, List, [], ◌∷◌, length, Option, Some, None, refl, sym, ap, ◌∙◌, subst, arith}
 use Rattle.std.specs.Prelude.{◌==◌, ◌↔◌, All, not, ℤ, pos, ◌+ℤ◌, ◌*ℤ◌, unwrap_or, is_some, FitsSigned}
 use Rattle.std.specs.Int.{w128}
@@ -22,7 +22,7 @@ unwrap_or-cond : (b : Bool) (z : ℤ) (o : Option ℤ) → unwrap_or (cond b (So
 unwrap_or-cond true z o = refl
 unwrap_or-cond false z o = refl
 
--- the value at a place is that of the first pair, where it is the pair's place, or else what stands behind it
+-- the value at a place is the value of the first pair, if it is the pair's place, and otherwise what is behind it
 value_at-cons : (p : ℕ × ℤ) (V : List (ℕ × ℤ)) (place : ℕ) → value_at (p ∷ V) place ≡ cond (p.0 == place) p.1 (value_at V place)
 value_at-cons p V place = unwrap_or-cond (p.0 == place) p.1 (value_of (λ key. key) V place)
 
@@ -38,7 +38,7 @@ value_of-behind p V once place here =
 value_at-behind : (p : ℕ × ℤ) (V : List (ℕ × ℤ)) → HasDistinctKeys (λ key. key) (p ∷ V) → (place : ℕ) → (p.0 == place) ≡ true → value_at V place ≡ pos 0
 value_at-behind p V once place here = ap (λ o. unwrap_or o (pos 0)) (value_of-behind p V once place here)
 
--- a product at a place is the first pair's, where it is the pair's place, and that behind it
+-- a product at a place is the first pair's, if it is the pair's place, and the product behind it
 product-cons : (p : ℕ × ℤ) (V W : List (ℕ × ℤ)) → HasDistinctKeys (λ key. key) (p ∷ V) → (place : ℕ)
     → (value_at (p ∷ V) place *ℤ value_at W place) ≡ (cond (p.0 == place) (p.1 *ℤ value_at W p.0) (pos 0) +ℤ (value_at V place *ℤ value_at W place))
 product-cons p V W once place =
@@ -98,7 +98,7 @@ is_nonzero-cond : (b : Bool) (y z : ℤ) → is_nonzero y ≡ true → is_nonzer
 is_nonzero-cond true y z passes = passes
 is_nonzero-cond false y z passes = refl
 
--- as many places have a value other than 0 as are stored
+-- the number of places with a value other than 0 is the number of stored places
 pub count_below-length : (V : List (ℕ × ℤ)) (n : ℕ) → HasDistinctKeys (λ key. key) V → All (λ pair. pair.0 < n) V → HasNoZeros V
     → count_below (λ place. is_nonzero (value_at V place)) n ≡ length V
 count_below-length [] n once below none = count_below-none (λ place. is_nonzero (pos 0)) n (λ place. refl)
@@ -115,7 +115,7 @@ count_below-length (p ∷ V) n once below none =
 pub IsVector-map : (m : MapState ℕ ℤ) → IsMap (λ key. key) (λ key. key < 2 ^ 64) m → HasNoZeros m.walk → IsVector m.walk
 IsVector-map m map none = record { distinct = map.distinct; places = map.keys; no_zeros = none }
 
--- a place is stored exactly where its value isn't 0
+-- a place is stored exactly if its value isn't 0
 pub is_nonzero-value_at : (V : List (ℕ × ℤ)) (place : ℕ) → HasNoZeros V → is_nonzero (value_at V place) ≡ is_some (value_of (λ key. key) V place)
 is_nonzero-value_at V place none = at (value_of (λ key. key) V place) (none place)
   where
@@ -123,12 +123,12 @@ is_nonzero-value_at V place none = at (value_of (λ key. key) V place) (none pla
     at None other = refl
     at (Some z) other = is_nonzero-true z (λ zero. other (ap Some zero))
 
--- where nothing is stored every value is 0
+-- if nothing is stored, every value is 0
 pub HaveSameValues-empty : (V : List (ℕ × ℤ)) → (length V == 0) ≡ true → HaveSameValues V []
 HaveSameValues-empty [] none place = refl
 HaveSameValues-empty (p ∷ V) none place = absurd (let e = eqb-true (length (p ∷ V)) 0 none in omega (arith, e))
 
--- and where every value is 0 nothing is stored
+-- and if every value is 0, nothing is stored
 pub length-zeros : (V : List (ℕ × ℤ)) → HasNoZeros V → HaveSameValues V [] → (length V == 0) ≡ true
 length-zeros [] none zeros = refl
 length-zeros (p ∷ V) none zeros =
@@ -137,7 +137,7 @@ length-zeros (p ∷ V) none zeros =
 
 -- what is left to be summed once the first of the pairs that were left is
 module _ (R S W : List (ℕ × ℤ)) (p : ℕ × ℤ) (a b : ℤ) (steps : R ≡ p ∷ S) (adds : b ≡ (a +ℤ (p.1 *ℤ value_at W p.0))) where
-  -- the sum comes to the same
+  -- the sum is the same
   pub fold-rest : (total : ℤ) → fold ◌+ℤ◌ a (products_along R W) ≡ total → fold ◌+ℤ◌ b (products_along S W) ≡ total
   fold-rest total left =
       ap (λ s. fold ◌+ℤ◌ s (products_along S W)) adds ∙ sym (ap (λ V. fold ◌+ℤ◌ a (products_along V W)) steps) ∙ left
@@ -150,13 +150,13 @@ module _ (R S W : List (ℕ × ℤ)) (p : ℕ × ℤ) (a b : ℤ) (steps : R ≡
         λ q. subst (λ s. IsWideFrom s (products_along S W)) (sym adds) (behind.0 (subst (λ V. IsWideFrom a (products_along V W)) steps (wide.1 q))),
       )
 
--- where the next sum is too wide, some partial sum is
+-- if the next sum is too wide, some partial sum is
 pub wide-next : (R S W : List (ℕ × ℤ)) (p : ℕ × ℤ) (a : ℤ) (Q : Type 0) → R ≡ p ∷ S → FitsSigned w128 a
     → (FitsSigned w128 (a +ℤ (p.1 *ℤ value_at W p.0)) → ⊥) → IsWideFrom a (products_along R W) ↔ Q → Q
 wide-next R S W p a Q steps fits wider wide =
     let next = a +ℤ (p.1 *ℤ value_at W p.0) in
     (IsWideFrom-rest R S W p a next steps refl Q fits wide).0 (IsWideFrom-now next (products_along S W) wider)
 
--- where nothing is left none is
+-- if nothing is left, none is
 pub wide-none : (R W : List (ℕ × ℤ)) (a : ℤ) (Q : Type 0) → R ≡ [] → FitsSigned w128 a → IsWideFrom a (products_along R W) ↔ Q → Q → ⊥
 wide-none R W a Q ends fits wide q = IsWideFrom-nil a fits (subst (λ V. IsWideFrom a (products_along V W)) ends (wide.1 q))

@@ -1,4 +1,4 @@
--- The laws of the equality of vectors: it is of values at every place, and so an equivalence.
+-- The laws of the equality of vectors: it compares the values at every place, and so is an equivalence.
 use Rattle.std.specs.Prelude.{◌≡◌, ◌⊎◌, ℕ, ◌==◌, Bool, true, false, cond, ◌&&◌, List, [], ◌∷◌, Some, None, ℤ, pos, unwrap_or}
 use Rattle.std.proofs.Common.{refl, sym, ap, ◌∙◌, inl, inr}
 use Rattle.std.proofs.lemmas.Bool.{eqb-true}
@@ -27,7 +27,7 @@ unstored-or_passing test (p ∷ V) place all = at (p.0 == place) refl (unstored-
 int_eq-true : (x y : ℤ) → int_eq x y ≡ true → x ≡ y
 int_eq-true x y same = (Decides-int_eq x y).0 same
 
--- one integer is equal to itself
+-- an integer is equal to itself
 int_eq-same : (x y : ℤ) → x ≡ y → int_eq x y ≡ true
 int_eq-same x y same = (Decides-int_eq x y).1 same
 

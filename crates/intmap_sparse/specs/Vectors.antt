@@ -1,4 +1,4 @@
--- Sparse vectors of integers: what stands at a place, what two of them come to, and when they are the same.
+-- Sparse vectors of integers: the value at a place, the product of two vectors, and when two are the same.
 use Rattle.std.specs.Prelude.{◌≡◌, ◌≢◌, ℕ, zero, suc, ◌+◌, ◌^◌, ◌<◌, Bool, cond, not, ◌&&◌, nat_lt, List, length, map, take, Some, unwrap_or, ℤ, pos, ◌+ℤ◌, ◌*ℤ◌, FitsSigned, MatchBool}
 use Rattle.std.specs.List.{fold, list_all, All}
 use Rattle.std.specs.Ordering.{int_eq}
@@ -12,7 +12,7 @@ pub record Vector : Type 0 where
   pub walk : List (ℕ × ℤ)
   pub capacity : ℕ
 
--- the value at a place: the stored one, or else 0
+-- the value at a place: the stored one, or otherwise 0
 abbrev pub value_at : List (ℕ × ℤ) → ℕ → ℤ
 value_at W place = unwrap_or (value_of (λ key. key) W place) (pos 0)
 
@@ -68,7 +68,7 @@ count_of_nonzero W = count_below (λ place. is_nonzero (value_at W place)) (2 ^ 
 abbrev pub products_along : List (ℕ × ℤ) → List (ℕ × ℤ) → List ℤ
 products_along V W = map (λ pair. pair.1 *ℤ value_at W pair.0) V
 
--- the same along the vector with fewer stored places, along V where both have as many
+-- the same along the vector with fewer stored places, or along V if both have the same number
 abbrev pub products : List (ℕ × ℤ) → List (ℕ × ℤ) → List ℤ
 products V W = cond (nat_lt (length W) (length V)) (products_along W V) (products_along V W)
 
@@ -84,15 +84,15 @@ HasWideSum zs = (i : ℕ) × (FitsSigned w128 (partial_sum zs i) → ⊥)
 abbrev pub load_factor : ℕ
 load_factor = 909
 
--- the vector with z as the value of the place, in D slots: where z isn't 0 the place is stored with it as a map binds a key,
--- and else it is taken out as a map takes one
+-- the vector with z as the value of the place, in D slots: if z isn't 0, the place is stored with it as a map inserts a key,
+-- and otherwise it is removed as a map removes a key
 abbrev pub with_value : Vector → ℕ → ℤ → ℕ → Vector
 with_value v place z D = record {
   walk = walk_of (λ key. key) (cond (is_nonzero z) (put_pair (λ key. key) v.walk v.capacity place z) (take_key (λ key. key) v.walk v.capacity place)) D;
   capacity = D;
 }
 
--- D is the number of slots that is left once z became the value of the place
+-- D is the number of slots after z became the value of the place
 abbrev pub IsCapacityWith : Vector → ℕ → ℤ → ℕ → Type 0
 IsCapacityWith v place z D = MatchBool (is_nonzero z) (IsCapacityAfter (λ key. key) v.walk v.capacity load_factor place D) (D ≡ v.capacity)
 

@@ -1,7 +1,7 @@
 //! Laws for callers, each as the contract of a function that does nothing.
 //!
-//! A call such as `laws::products_agree();` brings its law into the proof of the function that
-//! contains the call.
+//! A call such as `laws::products_agree();` adds its law to the proof of the function that contains
+//! the call.
 ghost use Rattle.std.specs.Prelude.{◌≡◌, ◌↔◌, ℕ, ℤ, List, IsTrue};
 ghost use Rattle.intmap_sparse.specs.Vectors.{Vector, HaveSameValues, product, vectors_equal};
 

@@ -14,11 +14,11 @@ use std::alloc::{Allocator, Global};
 use std::fmt;
 use std::marker::Model;
 
-/// A vector of integers over places from 0 to 2^64 - 1, most of which have the value 0.
+/// A vector of integers over places from 0 to 2^64 - 1. Most places have the value 0.
 ///
-/// It stores the places whose value isn't 0, and no other. Contracts see it as a
-/// [`Vector`](../specs/Vectors.antt): its walk, these places with their values in iteration order,
-/// and its number of slots. The value at a place is `value_at` of the walk.
+/// It stores exactly the places whose value isn't 0. Contracts see it as a
+/// [`Vector`](../specs/Vectors.antt): its walk, which has these places with their values in
+/// iteration order, and its number of slots. The value at a place is `value_at` of the walk.
 #[derive(Drop)]
 pub struct SparseVec<A: Allocator + Copy = Global> {
     values: IntMap<u64, i64, A>,
@@ -59,7 +59,7 @@ impl<A: Allocator + Copy> SparseVec<A> {
         self.values.get(place).copied().unwrap_or(0)
     }
 
-    /// Sets the value at the place, and returns the value before. A 0 removes the place.
+    /// Sets the value at the place, and returns the old value. A 0 removes the place.
     ///
     /// It fails only if the place isn't stored and the value isn't 0: with [`Cause::TooLarge`]
     /// exactly if the vector already stores 2^64 - 1 places or growth needs more than 2^63 slots,
@@ -70,7 +70,7 @@ impl<A: Allocator + Copy> SparseVec<A> {
     /// set(3, 0)    Ok(5), and no place is stored
     /// ```
     pub fn set(&mut self, place: u64, value: i64) -> Result<i64, Cause>
-        // what is answered and left
+        // what is returned and left
         ensures old { IfOk result (λ old. old ≡ value_at self.old.walk place) }
         ensures capacity { OnOk result (IsCapacityWith self.old place value self.new.capacity) }
         ensures state { OnOk result
@@ -81,7 +81,7 @@ impl<A: Allocator + Copy> SparseVec<A> {
             ≡ length self.old.walk + cond (is_nonzero value) 1 0) }
         ensures err { OnErr result (self.new ≡ self.old) }
 
-        // when it is refused
+        // when it fails
         ensures new_place { OnErr result (value_at self.old.walk place ≡ pos 0) }
         ensures nonzero { OnErr result (value ≢ pos 0) }
         ensures too_large { IsErrOf result Cause.TooLarge
@@ -110,7 +110,7 @@ impl<A: Allocator + Copy> SparseVec<A> {
     /// add(7, -5)    Ok(0), and no place is stored
     /// ```
     pub fn add(&mut self, place: u64, delta: i64) -> Result<i64, SparseCause>
-        // what is answered and left
+        // what is returned and left
         ensures sum { IfOk result (λ sum. sum ≡ value_at self.old.walk place +ℤ delta) }
         ensures capacity { OnOk result (IsCapacityWith self.old place
             (value_at self.old.walk place +ℤ delta) self.new.capacity) }
@@ -124,7 +124,7 @@ impl<A: Allocator + Copy> SparseVec<A> {
             + cond (is_nonzero (value_at self.old.walk place +ℤ delta)) 1 0) }
         ensures err { OnErr result (self.new ≡ self.old) }
 
-        // when it is refused
+        // when it fails
         ensures overflow { IsErrOf result SparseCause.Overflow
             ↔ ¬ (FitsSigned w64 (value_at self.old.walk place +ℤ delta)) }
         ensures new_place { IsErrOf result SparseCause.Memory
@@ -146,8 +146,9 @@ impl<A: Allocator + Copy> SparseVec<A> {
     /// The sum of the products of the values of both vectors, over all places.
     ///
     /// The products are added along the walk of the vector with fewer stored places, or of `self`
-    /// if both have as many. The result is `None` exactly if a partial sum of that walk isn't an
-    /// `i128`. It allocates nothing, and costs a step and a look-up for each of those places.
+    /// if both have the same number. The result is `None` exactly if a partial sum of that walk
+    /// isn't an `i128`. It allocates nothing, and costs a step and a look-up for each of those
+    /// places.
     ///
     /// ```text
     /// {1: 2, 5: 3} and {5: 4, 7: 9}    Some(12)
@@ -179,7 +180,7 @@ impl<A: Allocator + Copy> SparseVec<A> {
         Some(sum)
     }
 
-    /// The number of stored places, which are those whose value isn't 0. It never fails.
+    /// The number of stored places, whose value isn't 0. It never fails.
     pub fn len(&self) -> usize
         ensures value { result ≡ length self.now.walk }
         ensures count { result ≡ count_of_nonzero self.now.walk }

@@ -1,4 +1,4 @@
--- What each key is bound to after a walk, a take and a put.
+-- The value of each key after a walk, a removal and an insertion.
 use Rattle.std.proofs.Common.{◌≡◌, inl, inr, ℕ, ◌<◌, ◌≤◌, Bool, true, false, cond, List, [], ◌∷◌, ◌++◌, Option, Some, None, refl, sym, ap, ◌∙◌, arith}
 use Rattle.std.specs.Prelude.{◌==◌, count_by, All}
 use Rattle.std.specs.List.{list_any}
@@ -14,7 +14,7 @@ use Rattle.intmap_table.proofs.DistinctLemmas.{last_passing-none}
 use Rattle.intmap_table.proofs.WalkLemmas.{slot_of-walk_of, value_of-slot_of}
 
 module _ {K V : Type 0} (test : K → Bool) where
-  -- where no key passes, nothing is found
+  -- if no key passes, nothing is found
   pub first_value-none : (L : List (K × V)) → count_by (λ p. test p.0) L ≡ 0 → first_value test L ≡ None
   first_value-none [] none = refl
   first_value-none (p ∷ L) none =
@@ -52,7 +52,7 @@ module _ {K V : Type 0} (test : K → Bool) where
       let none = first_value-none L in
       grind (arith, more, rest, last, none, once)
 
-  -- a pair behind pairs of which none is found is found where its key passes
+  -- a pair behind pairs in which nothing is found is found if its key passes
   first_value-behind_none : (L : List (K × V)) (p : K × V) → first_value test L ≡ None → first_value test (L ++ p ∷ []) ≡ cond (test p.0) (Some p.1) None
   first_value-behind_none [] p none = refl
   first_value-behind_none (q ∷ L) p none = let rest = first_value-behind_none L p in grind (arith, rest, none)
@@ -63,7 +63,7 @@ module _ {K V : Type 0} (test : K → Bool) where
   first_value-other_behind (q ∷ L) p other = let rest = first_value-other_behind L p in grind (arith, rest, other)
 
 module _ {K V : Type 0} (number : K → ℕ) where
-  -- where no key from n on is bound, the keys of all pairs are below n
+  -- if no key from n on is present, the keys of all pairs are below n
   pub All-unbound : (L : List (K × V)) (n : ℕ) → ((q : K) → n ≤ number q → value_of number L q ≡ None) → All (λ p. number p.0 < n) L
   All-unbound [] n none = All-nil (λ p. number p.0 < n)
   All-unbound (p ∷ L) n none =
@@ -71,13 +71,13 @@ module _ {K V : Type 0} (number : K → ℕ) where
       let below : number p.0 < n = grind (arith, common_steps, nat_tests, here) in
       All-cons (λ p. number p.0 < n) p L below (All-unbound L n (λ q above. let h = none q above in grind (arith, common_steps, nat_tests, h)))
 
-  -- a walk binds what its list binds
+  -- in a walk each key has the value that it has in the list
   pub value_of-walk_of : (L : List (K × V)) (C : ℕ) (q : K) → slot_number number q C < C → value_of number (walk_of number L C) q ≡ value_of number L q
   value_of-walk_of L C q below =
       sym (value_of-slot_of number C (walk_of number L C) q)
       ∙ ap (λ M. value_of number M q) (slot_of-walk_of number C L (slot_number number q C) below) ∙ value_of-slot_of number C L q
 
-  -- a take leaves its key without a value, and each other key with its own
+  -- a removal leaves its key without a value, and each other key with its own
   pub value_of-take_key : (L : List (K × V)) (C : ℕ) (k q : K) → HasDistinctKeys number L → value_of number (take_key number L C k) q ≡ cond (same_key number k q) None (value_of number L q)
   value_of-take_key L C k q once = elim (cases_Bool (same_key number k q)) [
     | inl same ↦
@@ -92,7 +92,7 @@ module _ {K V : Type 0} (number : K → ℕ) where
         rw apart (first_value-other_out (same_key number q) (λ p. same_key number k p.0) (λ p. agrees number C k p.0) other L (once q)))
   ]
 
-  -- a put leaves its key with the value, and each other key with its own
+  -- an insertion leaves its key with the value, and each other key with its own
   pub value_of-put_pair : (L : List (K × V)) (C : ℕ) (k q : K) (v : V) → HasDistinctKeys number L → value_of number (put_pair number L C k v) q ≡ cond (same_key number k q) (Some v) (value_of number L q)
   value_of-put_pair L C k q v once =
       let taken = value_of-take_key L C k q once in
@@ -107,7 +107,7 @@ module _ {K V : Type 0} (number : K → ℕ) where
             rw apart (first_value-other_behind (same_key number q) (take_key number L C k) (k, v) other ∙ kept))
       ]
 
-  -- where each key has its value, so have the key itself and any other
+  -- if each key has its value, so have the key itself and any other
   pub Updates-from : (L M : List (K × V)) (k : K) (w : Option V) → ((q : K) → value_of number M q ≡ cond (same_key number k q) w (value_of number L q)) → Updates number L M k w
   Updates-from L M k w each = (
     each,
@@ -115,7 +115,7 @@ module _ {K V : Type 0} (number : K → ℕ) where
     (λ q apart. each q ∙ cond-false (same_key number k q) w (value_of number L q) apart),
   )
 
-  -- where nothing changed, the key has the value that it had
+  -- if nothing changed, the key has the value that it had
   pub Updates-same : (L M : List (K × V)) (k : K) (w : Option V) → M ≡ L → w ≡ value_of number L k → Updates number L M k w
   Updates-same L M k w same had =
       Updates-from L M k w (λ q. ap (λ N. value_of number N q) same ∙ elim (cases_Bool (same_key number k q)) as (λ _. value_of number L q ≡ cond (same_key number k q) w (value_of number L q)) [

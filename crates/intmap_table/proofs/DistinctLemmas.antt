@@ -1,4 +1,4 @@
--- Each key once, counts and `All`, through a walk, a take and a put.
+-- Each key once, counts and `All`, through a walk, a removal and an insertion.
 use Rattle.std.proofs.Common.{◌≡◌, inl, inr, ℕ, zero, suc, ◌+◌, ◌<◌, ◌≤◌, Bool, true, false, cond, List, [], ◌∷◌, ◌++◌, length, refl, sym, ◌∙◌, subst, arith}
 use Rattle.std.specs.Prelude.{◌==◌, filter, All, sum_by, count_by, is_some}
 use Rattle.std.specs.List.{list_any, flat_map, range_with_len}
@@ -16,7 +16,7 @@ module _ {X : Type 0} (weight : X → ℕ) (is_it in_class : X → Bool) where
   taken [] = 0
   taken (x ∷ xs) = cond (is_it x) (weight x) (taken xs)
 
-  -- where none passes, the given element is the answer
+  -- if none passes, the given element is returned
   pub last_passing-none : (d : X) (xs : List X) → list_any in_class xs ≡ false → last_passing in_class d xs ≡ d
   last_passing-none d [] h = refl
   last_passing-none d (x ∷ xs) h = let k = last_passing-none d xs in let l = last_passing-none x xs in grind (arith, h, k, l)
@@ -168,21 +168,21 @@ module _ {K V : Type 0} (number : K → ℕ) where
   length-walk_of L C below =
       length-sum_by (walk_of number L C) ∙ sum_by-classes (λ _. 1) (λ p. slot_number number p.0 C) L C (λ p. below p.0) ∙ sym (length-sum_by L)
 
-  -- no key is bound in an empty list
+  -- no key is in an empty list
   pub HasDistinctKeys-nil : (L : List (K × V)) → L ≡ [] → HasDistinctKeys number L
   HasDistinctKeys-nil L e = subst (HasDistinctKeys number) (sym e) (λ k. omega arith)
 
-  -- keys bound once are bound once in the walk
+  -- if no key is twice in the list, none is twice in the walk
   pub HasDistinctKeys-walk_of : (L : List (K × V)) (C : ℕ) → ((k : K) → slot_number number k C < C) → HasDistinctKeys number L → HasDistinctKeys number (walk_of number L C)
   HasDistinctKeys-walk_of L C below h k =
       let s = sum_by-classes (λ p. cond (same_key number k p.0) 1 0) (λ p. slot_number number p.0 C) L C (λ p. below p.0) in let d = h k in omega (arith, s, d)
 
-  -- and after a take
+  -- and after a removal
   pub HasDistinctKeys-take_key : (L : List (K × V)) (C : ℕ) (k : K) → HasDistinctKeys number L → HasDistinctKeys number (take_key number L C k)
   HasDistinctKeys-take_key L C k h j =
       let s = sum_by-swap_out (λ p. cond (same_key number j p.0) 1 0) (λ p. same_key number k p.0) (λ p. agrees number C k p.0) L in let d = h j in omega (arith, s, d)
 
-  -- and after a put
+  -- and after an insertion
   pub HasDistinctKeys-put_pair : (L : List (K × V)) (C : ℕ) (k : K) (v : V) → HasDistinctKeys number L → HasDistinctKeys number (put_pair number L C k v)
   HasDistinctKeys-put_pair L C k v h j =
       let T : List (K × V) = take_key number L C k in
@@ -208,12 +208,12 @@ module _ {K V : Type 0} (number : K → ℕ) where
   taken-value_step C k p L true e h = simp e
   taken-value_step C k p L false e h = simp e h
 
-  -- a bound key weighs one
+  -- a present key weighs one
   taken-value_of : (L : List (K × V)) (C : ℕ) (k : K) → taken (λ _. 1) (λ p. same_key number k p.0) (λ p. agrees number C k p.0) L ≡ cond (is_some (value_of number L k)) 1 0
   taken-value_of [] C k = refl
   taken-value_of (p ∷ L) C k = taken-value_step C k p L (same_key number k p.0) refl (taken-value_of L C k)
 
-  -- a take leaves one pair less where the key was bound
+  -- a removal leaves one pair less if the key was present
   pub length-take_key : (L : List (K × V)) (C : ℕ) (k : K) → length (take_key number L C k) + cond (is_some (value_of number L k)) 1 0 ≡ length L
   length-take_key L C k =
       let s = sum_by-swap_out (λ _. 1) (λ p. same_key number k p.0) (λ p. agrees number C k p.0) L in
@@ -222,17 +222,17 @@ module _ {K V : Type 0} (number : K → ℕ) where
       let m = length-sum_by (take_key number L C k) in
       omega (arith, s, t, l, m)
 
-  -- a put leaves one pair more where the key was not bound
+  -- an insertion leaves one pair more if the key was absent
   pub length-put_pair : (L : List (K × V)) (C : ℕ) (k : K) (v : V) → length (put_pair number L C k v) ≡ length L + cond (is_some (value_of number L k)) 0 1
   length-put_pair L C k v =
       length_push (take_key number L C k) (k, v) ∙ one_more (is_some (value_of number L k)) (length (take_key number L C k)) (length L) (length-take_key L C k)
 
   module _ (P : K × V → Type 0) where
-    -- what holds of all pairs holds of all after a take
+    -- what holds of all pairs holds of all after a removal
     pub All-take_key : (L : List (K × V)) (C : ℕ) (k : K) → All P L → All P (take_key number L C k)
     All-take_key L C k h = All-swap_out P (λ p. same_key number k p.0) (λ p. agrees number C k p.0) L h
 
-    -- and after a put, where it holds of the pair put
+    -- and after an insertion, if it holds of the new pair
     pub All-put_pair : (L : List (K × V)) (C : ℕ) (k : K) (v : V) → All P L → P (k, v) → All P (put_pair number L C k v)
     All-put_pair L C k v h p = All-push P (take_key number L C k) (k, v) (All-take_key L C k h) p
 

@@ -101,7 +101,7 @@ module _ {F X : Type 0} (R : F → X → Bool → F → X → Type 0) where
       either true m on = let no : ◌≡◌ {A = Option X} None (Some first.2) = m.0 in cc
       either false m on = (m.0 ++ kept, on m.0 m.1, ap (λ Z. Z ++ kept) m.2)
 
-  -- one of the front is picked, so what stands behind the front stays
+  -- one of the front is picked, so what is behind the front stays
   pub ExtractsNext-stop : (f g : F) (xs ys ks zs : List X) (z : X) → ExtractsNext R f xs (Some z) g ks zs → ExtractsNext R f (xs ++ ys) (Some z) g ks (zs ++ ys)
   ExtractsNext-stop f g [] ys ks zs z first = let no : ◌≡◌ {A = Option X} (Some z) None = first.0 in cc
   ExtractsNext-stop f g (x ∷ xs) ys ks zs z first =
@@ -113,13 +113,13 @@ module _ {F X : Type 0} (R : F → X → Bool → F → X → Type 0) where
       either true m on = (m.0, m.1, m.2, ap (λ Z. Z ++ ys) m.3)
       either false m on = (m.0, on m.0 m.1, m.2)
 
-  -- a step through the front of what is left, where it picks none
+  -- a step through the front of what is left, if it picks none
   pub StepsTo-on : (f₀ f h : F) (D₀ L₀ D xs ys ks zs : List X) → StepsTo f₀ D₀ L₀ f D (xs ++ ys) → ExtractsNext R f xs None h ks zs → StepsTo f₀ D₀ L₀ h (D ++ ks) ys
   StepsTo-on f₀ f h D₀ L₀ D xs ys ks zs leads first r g kept rest more =
       let both = leads r g (ks ++ kept) rest (ExtractsNext-on f h g xs ys ks zs kept rest r first more) in
       (both.0, both.1, append_assoc D ks kept ∙ both.2)
 
-  -- and where it picks one
+  -- and if it picks one
   pub StepsTo-stop : (f₀ f h : F) (D₀ L₀ D xs ys ks zs : List X) (z : X) → StepsTo f₀ D₀ L₀ f D (xs ++ ys) → ExtractsNext R f xs (Some z) h ks zs
       → (k₀ : List X) × ExtractsNext R f₀ L₀ (Some z) h k₀ (zs ++ ys) × (D ++ ks ≡ D₀ ++ k₀)
   StepsTo-stop f₀ f h D₀ L₀ D xs ys ks zs z leads first = leads (Some z) h ks (zs ++ ys) (ExtractsNext-stop f h xs ys ks zs z first)
@@ -140,7 +140,7 @@ module _ {F X : Type 0} (R : F → X → Bool → F → X → Type 0) where
       either true m next on = subst (λ Z. Takes g Z) (sym m.3) (subst (λ h. Takes h L) (sym m.1) next)
       either false m next on = on m.0 m.1
 
-  -- and where none is picked, of those behind
+  -- and if none is picked, of those behind
   pub TakesEach-on : (Q : F → X → Type 0) (f g : F) (xs ys kept rest : List X) → TakesEach (λ f x (a : Bool × X) g. R f x a.0 g a.1) Q f (xs ++ ys) → ExtractsNext R f xs None g kept rest
       → TakesEach (λ f x (a : Bool × X) g. R f x a.0 g a.1) Q g ys
   TakesEach-on Q f g [] ys kept rest takes e = subst (λ h. TakesEach (λ f x (a : Bool × X) g. R f x a.0 g a.1) Q h ys) (sym e.1) takes
@@ -156,7 +156,7 @@ module _ {F X : Type 0} (R : F → X → Bool → F → X → Type 0) where
       either true m on = let no : ◌≡◌ {A = Option X} None (Some e.2) = m.0 in cc
       either false m on = on m.0 m.1
 
-  -- a weight that R leaves alone is that of what stays and of what is removed
+  -- a weight that R leaves alone is the weight of what stays and of what is removed
   module _ (w : X → ℕ) (same : (f : F) (x : X) (b : Bool) (g : F) (y : X) → R f x b g y → w y ≡ w x) where
     pub sum_by-ExtractsNext : (f g : F) (L kept rest : List X) (r : Option X) → ExtractsNext R f L r g kept rest → sum_by w L ≡ sum_by w kept + sum_by w (option_to_list r) + sum_by w rest
     sum_by-ExtractsNext f g [] kept rest r e = (λ i. sum_by w (sym e.2 i) + sum_by w (option_to_list (sym e.0 i)) + sum_by w (sym e.3 i))
@@ -179,7 +179,7 @@ module _ {F X : Type 0} (R : F → X → Bool → F → X → Type 0) where
         let front = ap (sum_by w) e.2 ∙ sum_by-append w (take i L) e.0 in
         omega (arith, old, new, step, front)
 
-  -- no element comes or goes but the removed one
+  -- no element is added, and only the removed one is lost
   pub length-ExtractsNext : (f g : F) (L kept rest : List X) (r : Option X) → ExtractsNext R f L r g kept rest → length L ≡ length kept + option_len r + length rest
   length-ExtractsNext f g [] kept rest r e = (λ i. length (sym e.2 i) + option_len (sym e.0 i) + length (sym e.3 i))
   length-ExtractsNext f g (x ∷ L) kept rest r e = either e.0 e.4 (λ k step. length-ExtractsNext e.1 g L k rest r step)

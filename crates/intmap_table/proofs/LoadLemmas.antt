@@ -14,7 +14,7 @@ abbrev pub is_filled : {X : Type 0} → List X → Bool
 is_filled [] = false
 is_filled (x ∷ xs) = true
 
--- how often n stands in a list
+-- how often n occurs in a list
 abbrev pub times : ℕ → List ℕ → ℕ
 times n ns = count_by (λ m. m == n) ns
 
@@ -28,7 +28,7 @@ times-cons_other : (n m : ℕ) (ns : List ℕ) → m ≢ n → times n (m ∷ ns
 times-cons_other n m ns ne =
     let t = sum_by-cons (λ m. cond (m == n) 1 0) m ns in let c = cond-false {A = ℕ} (m == n) 1 0 (ne_eqb m n ne) in omega (arith, t, c)
 
--- a number that is struck stands nowhere
+-- a number that is struck occurs nowhere
 times-struck : (n : ℕ) (ns : List ℕ) → times n (filter (λ m. not (m == n)) ns) ≡ 0
 times-struck n [] = refl
 times-struck n (m ∷ ns) = elim (cases_eq m n) [
@@ -49,7 +49,7 @@ times-struck_other n a (m ∷ ns) ne = elim (cases_eq m a) [
       simp t (omega (arith, h, k, l)))
 ]
 
--- a number of the list stands once
+-- a number of the list occurs once
 times-each_once : (n : ℕ) (ns : List ℕ) → times n (each_once ns) ≡ cond (list_any (λ m. m == n) ns) 1 0
 times-each_once n [] = refl
 times-each_once n (a ∷ ns) = elim (cases_eq a n) [
@@ -138,7 +138,7 @@ module _ {K V : Type 0} (number : K → ℕ) (C : ℕ) (spread : (a k : K) → a
   among_step k p L true e f h = simp (e, f)
   among_step k p L false e f h = simp (e, f) h
 
-  -- a residue is among those left where its slot has a pair
+  -- a residue is among those left if its slot has a pair
   among : (k : K) (L : List (K × V)) → list_any (λ m. m == residue number k C) (map (λ p. residue number p.0 C) L) ≡ is_filled (slot_of number L C (slot_number number k C))
   among k [] = refl
   among k (p ∷ L) = among_step k p L (agrees number C k p.0) refl (sym (spread p.0 k)) (among k L)

@@ -1,4 +1,4 @@
--- Pairs that were located: what stands there, and what a table is once one was written or taken out.
+-- Pairs that were located: what is there, and what a table is once one was written or removed.
 use Rattle.std.proofs.Common.{◌≡◌, ◌≢◌, ℕ, zero, suc, ◌+◌, ◌<◌, ◌≤◌, Bool, true, false, cond, List, [], ◌∷◌, ◌++◌, length, get_or, set, Option, Some, None, IsSome, is_some, refl, sym, ap, ◌∙◌, subst, arith, length-set}
 use Rattle.std.specs.Prelude.{◌==◌, All, IfSome, IfNone, count_by, filter, nat_lt, position}
 use Rattle.std.specs.List.{position_or_len, range_with_len}
@@ -8,7 +8,7 @@ use Rattle.std.proofs.lemmas.List.Elements.{All-cons, All-head, All-tail, filter
 use Rattle.std.proofs.lemmas.List.Folds.{position_or_len_push}
 use Rattle.std.proofs.lemmas.List.Sums.{sum_by-cons}
 use Rattle.intmap_table.specs.Classes.{IsCapacity, slot_number, same_key, agrees}
-use Rattle.intmap_table.specs.Bindings.{value_of, IsBound, take_key, put_pair, write_value, HasDistinctKeys}
+use Rattle.intmap_table.specs.Bindings.{value_of, IsPresent, take_key, put_pair, write_value, HasDistinctKeys}
 use Rattle.intmap_table.specs.Locations.{IsAt, IsLast}
 use Rattle.intmap_table.specs.Tables.Slots.{Grid, Held, rows, joined, write_at, AreMarked, IsTable, IsMarkedTable}
 use Rattle.intmap_table.specs.Walk.{slot_of, walk_of}
@@ -31,7 +31,7 @@ count_by-filter-le keep test (x ∷ xs) =
     let rest = count_by-filter-le keep test xs in
     grind (arith, more, here, rest)
 
--- the one that a push adds is found where none was
+-- the one that a push adds is found if none was found before
 position-push : {X : Type 0} (test : X → Bool) (xs : List X) (x : X) → position test xs ≡ None → test x ≡ true → position test (xs ++ x ∷ []) ≡ Some (length xs)
 position-push test xs x none passes =
     let all = position_or_len-none test xs none in
@@ -87,7 +87,7 @@ module _ {K X : Type 0} (number : K → ℕ) where
   write_at-found [] k v below once = refl
   write_at-found (p ∷ L) k v below once = write_at-found_step p L k v (same_key number k p.0) refl (write_at-found L k v) below once
 
-  -- where the key stands once, a write at its place is a write of its value
+  -- if the key occurs once, a write at its place is a write of its value
   write_at-position : (L : List (K × X)) (k : K) (v : X) (i : ℕ) → position (λ q. same_key number k q.0) L ≡ Some i → count_by (λ q. same_key number k q.0) L ≤ 1 → write_at L i v ≡ write_value number L k v
   write_at-position L k v i found once =
       let p = position-within (λ (q : K × X). same_key number k q.0) L i found in
@@ -116,15 +116,15 @@ module _ {K V : Type 0} (number : K → ℕ) where
   bound_from W C k i place None none is = let missed = position-from_none (same_key number k) (slot_of number W C i) none in cc
   bound_from W C k i place (Some v) some is = refl
 
-  -- the key of a located pair is bound
-  pub IsBound-at : (W : List (K × V)) (C : ℕ) (at : Location K) → IsAt number W C at → IsBound number W at.key
-  IsBound-at W C at is =
+  -- the key of a located pair is present
+  pub IsPresent-at : (W : List (K × V)) (C : ℕ) (at : Location K) → IsAt number W C at → IsPresent number W at.key
+  IsPresent-at W C at is =
       bound_from W C at.key at.slot at.place (value_of number W at.key) (ap (λ i. value_of number (slot_of number W C i) at.key) is.slot ∙ value_of-slot_of number C W at.key) is.place
 
-  -- a key was located exactly where it is bound
+  -- a key was located exactly if it is present
   pub is_some-located : (W : List (K × V)) (C : ℕ) (k : K) (o : Option (Location K)) → IfSome o (λ at. (at.key ≡ k) × IsAt number W C at) → IfNone o (value_of number W k ≡ None) → is_some o ≡ is_some (value_of number W k)
   is_some-located W C k None found missing = rw missing refl
-  is_some-located W C k (Some at) found missing = sym (subst (IsBound number W) found.0 (IsBound-at W C at found.1))
+  is_some-located W C k (Some at) found missing = sym (subst (IsPresent number W) found.0 (IsPresent-at W C at found.1))
 
 -- a pair of a table was located, and h is its slot
 module _ {K X : Type 0} (number : K → ℕ) (S : List (Held K X)) (h : Held K X) (l : Location K) (table : IsTable number S) (at : IsAt number (joined (rows S)) (length S) l) (here : h ≡ get_or S l.slot h) where
@@ -169,7 +169,7 @@ module _ {K X : Type 0} (number : K → ℕ) (S : List (Held K X)) (h : Held K X
       marks = marks-kept number S h l.slot l.key slot-at bits marks s (ap (nat_lt 0) (sym (length-write_at h.pairs l.place v) ∙ ap length (sym is)));
     }
 
--- the pair of k stands last in its slot, which is h
+-- the pair of k is last in its slot, which is h
 module _ {K X : Type 0} (number : K → ℕ) (S : List (Held K X)) (h : Held K X) (i : ℕ) (k : K) (at : IsSlot number S h i k) (last : IsLast number (joined (rows S)) (length S) k) where
   slot-last : slot_of number (joined (rows S)) (length S) (slot_number number k (length S)) ≡ h.pairs
   slot-last = ap (slot_of number (joined (rows S)) (length S)) (sym at.slot) ∙ slot_of-here number S h i k at
@@ -189,7 +189,7 @@ module _ {K X : Type 0} (number : K → ℕ) (S : List (Held K X)) (h : Held K X
       }
 
 module _ {K V : Type 0} (number : K → ℕ) where
-  -- a pair behind others, none of which has its key, stands last in its slot, however many slots there are
+  -- a pair behind others, none of which has its key, is last in its slot, however many slots there are
   IsLast-behind : (T : List (K × V)) (D : ℕ) (k : K) (v : V) → value_of number T k ≡ None → IsCapacity D → IsLast number (walk_of number (T ++ (k, v) ∷ []) D) D k
   IsLast-behind T D k v gone cap =
       let i : ℕ = slot_number number k D in
@@ -204,7 +204,7 @@ module _ {K V : Type 0} (number : K → ℕ) where
         last = sym (ap length row ∙ length_push (slot_of number T D i) (k, v));
       }
 
-  -- a pair that was put in stands last in its slot, in other slots too
+  -- a pair that was put in is last in its slot, in other slots too
   pub IsLast-put : (L : List (K × V)) (C D : ℕ) (k : K) (v : V) → HasDistinctKeys number L → IsCapacity D → IsLast number (walk_of number (put_pair number L C k v) D) D k
   IsLast-put L C D k v once cap =
       let own : same_key number k k ≡ true = eq-eqb (number k) (number k) refl in
@@ -216,7 +216,7 @@ module _ {K V : Type 0} (number : K → ℕ) where
       let same = swap_out-none (λ (p : K × V). same_key number k p.0) (λ p. agrees number C k p.0) L (position-from_none (same_key number k) L missing) in
       IsLast-behind (take_key number L C k) D k v (ap (λ M. value_of number M k) same ∙ missing) cap
 
--- pairs with other values stand where they stood
+-- pairs with other values are where they were
 module _ {K X V : Type 0} (number : K → ℕ) (f : X → V) where
   position_or_len-map_values : (test : K → Bool) (L : List (K × X)) → position_or_len (λ p. test p.0) (map_values number f L) ≡ position_or_len (λ p. test p.0) L
   position_or_len-map_values test [] = refl

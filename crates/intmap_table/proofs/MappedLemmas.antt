@@ -65,7 +65,7 @@ module _ {K X V : Type 0} (number : K → ℕ) (f : X → V) where
   none_from None e = refl
   none_from (Some x) e = cc
 
-  -- a key that isn't bound there isn't bound here
+  -- a key that is absent there is absent here
   pub value_of-missing_values : (L : List (K × X)) (k : K) → value_of number (map_values L) k ≡ None → value_of number L k ≡ None
   value_of-missing_values L k missing = none_from (value_of number L k) (sym (value_of-map_values L k) ∙ missing)
 

@@ -51,7 +51,7 @@ module _ {X : Type 0} (test : X → Bool) where
   position_or_len-le [] = omega arith
   position_or_len-le (x ∷ xs) = let h = position_or_len-le xs in grind (arith, h)
 
-  -- where none is found, the whole list is passed
+  -- if none is found, the whole list is passed
   pub position_or_len-none : (xs : List X) → position test xs ≡ None → position_or_len test xs ≡ length xs
   position_or_len-none xs none = let l = position_or_len-le xs in grind (arith, nat_tests, none, l)
 
@@ -134,7 +134,7 @@ module _ {X : Type 0} (test : X → Bool) where
   swap_out-position_or_len in_class [] e = refl
   swap_out-position_or_len in_class (y ∷ ys) e = swap_out-none-step in_class ys y (test y) refl (swap_out-position_or_len in_class ys) e
 
-  -- where none passes, none is taken
+  -- if none passes, none is taken
   pub swap_out-none : (in_class : X → Bool) (xs : List X) → position test xs ≡ None → swap_out test in_class xs ≡ xs
   swap_out-none in_class xs e = swap_out-position_or_len in_class xs (position_or_len-none test xs e)
 
@@ -167,7 +167,7 @@ module _ {K V : Type 0} (test : K → Bool) where
   first_value-all [] e = refl
   first_value-all (p ∷ L) e = first_value-none-step L p (test p.0) refl (first_value-all L) e
 
-  -- where none is found, there is no value
+  -- if none is found, there is no value
   pub first_value-none : (L : List (K × V)) → position (λ q. test q.0) L ≡ None → first_value test L ≡ None
   first_value-none L e = first_value-all L (position_or_len-none (λ (q : K × V). test q.0) L e)
 
@@ -176,6 +176,6 @@ module _ {K V : Type 0} (test : K → Bool) where
   none_from (Some i) [] e h = cc
   none_from (Some i) (p ∷ L) e h = let v = first_value-position (p ∷ L) i p e in cc
 
-  -- where there is no value, none is found
+  -- if there is no value, none is found
   pub position-from_none : (L : List (K × V)) → first_value test L ≡ None → position (λ q. test q.0) L ≡ None
   position-from_none L h = none_from (position (λ (q : K × V). test q.0) L) L refl h

@@ -1,4 +1,4 @@
--- The walk of a walk, in at least as many slots.
+-- The walk of a walk, in at least the same number of slots.
 use Rattle.std.proofs.Common.{◌≡◌, inl, inr, ℕ, ◌+◌, ◌-◌, ◌*◌, ◌%◌, ◌^◌, ◌<◌, ◌≤◌, Bool, true, List, [], ◌∷◌, refl, sym, ap, ◌∙◌, arith}
 use Rattle.std.specs.Prelude.{filter, ◌==◌}
 use Rattle.std.proofs.Math.Pow.{pow_pos, mod-mod-pow}
@@ -36,7 +36,7 @@ module _ {K V : Type 0} (number : K → ℕ) (C D : ℕ) (small : IsCapacity C) 
       (λ p here. eq-eqb (slot_number number p.0 C) (i % C)
       (sym (mod-mod-capacity (number p.0 * 11400714819323198549) C D small large le) ∙ ap (λ n. n % C) (eqb-true (slot_number number p.0 D) i here))) L
 
--- the walk of a walk, in at least as many slots, is that of the list
+-- the walk of a walk, in at least the same number of slots, is the walk of the list
 pub walk_of-larger : {K V : Type 0} (number : K → ℕ) (L : List (K × V)) (C D : ℕ) → IsCapacity C → IsCapacity D → C ≤ D → walk_of number (walk_of number L C) D ≡ walk_of number L D
 walk_of-larger number L C D small large le =
     walk_of-same number D (walk_of number L C) L (λ i _.

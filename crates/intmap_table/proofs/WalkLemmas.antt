@@ -48,7 +48,7 @@ module _ {K V : Type 0} (number : K → ℕ) (C : ℕ) where
   pub same_key-slot : (k : K) (p : K × V) → same_key number k p.0 ≡ true → slot_number number p.0 C ≡ slot_number number k C
   same_key-slot k p same = ap (λ n. (n * 11400714819323198549) % C) (eqb-true (number p.0) (number k) same)
 
-  -- a key is bound in its slot, if at all
+  -- if a key is present, it is in its slot
   pub value_of-slot_of : (L : List (K × V)) (k : K) → value_of number (slot_of number L C (slot_number number k C)) k ≡ value_of number L k
   value_of-slot_of L k =
       first_value-filter (same_key number k) (λ p. slot_number number p.0 C == slot_number number k C)
@@ -80,7 +80,7 @@ module _ {K V : Type 0} (number : K → ℕ) (C : ℕ) where
         let away : (slot_number number k C == i) ≡ false = ne_eqb (slot_number number k C) i apart in
         filter-append (λ p. slot_number number p.0 C == i) (take_key number L C k) ((k, v) ∷ []) ∙ simp (away, slot_of-take_key-other L k i apart, append-nil)
 
-    -- lists with one walk have one after a key was taken out
+    -- lists with one walk have one after a key was removed
     pub walk_of-take_key-same : (L M : List (K × V)) (k : K) → walk_of number L C ≡ walk_of number M C → walk_of number (take_key number L C k) C ≡ walk_of number (take_key number M C k) C
     walk_of-take_key-same L M k same =
         let slots = SameSlots-from_walk_of L M same in
@@ -100,7 +100,7 @@ module _ {K V : Type 0} (number : K → ℕ) (C : ℕ) where
           | inr apart ↦ slot_of-put_pair-other L k v i apart ∙ slots i below ∙ sym (slot_of-put_pair-other M k v i apart)
         ])
 
-    -- lists with one walk bind a key to one value
+    -- in lists with one walk a key has one value
     pub value_of-same : (L M : List (K × V)) (k : K) → walk_of number L C ≡ walk_of number M C → value_of number L k ≡ value_of number M k
     value_of-same L M k same =
         sym (value_of-slot_of L k) ∙ ap (λ xs. value_of number xs k) (SameSlots-from_walk_of L M same (slot_number number k C) (slot_number-below number k C cap)) ∙ value_of-slot_of M k
@@ -116,7 +116,7 @@ module _ {K V : Type 0} (number : K → ℕ) (C : ℕ) where
         class_size-slot_of (through_first (λ p. same_key number k p.0) L) k i at
         ∙ ap length (filter-through_first (λ p. slot_number number p.0 C == i) (λ p. same_key number k p.0) (λ p same. eq-eqb (slot_number number p.0 C) i (same_key-slot k p same ∙ at)) L)
 
-    -- lists with one walk have as many keys that agree with k
+    -- in lists with one walk the same number of keys agree with k
     pub class_size-same : (L M : List (K × V)) (k : K) → walk_of number L C ≡ walk_of number M C → class_size number L C k ≡ class_size number M C k
     class_size-same L M k same =
         let i : ℕ = slot_number number k C in

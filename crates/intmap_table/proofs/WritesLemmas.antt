@@ -34,7 +34,7 @@ module _ {F K V : Type 0} (R : F → K × V → V → F → Type 0) where
   keys_of-Writes f g [] M r = ap keys_of r.0
   keys_of-Writes f g (p ∷ L) M r = ap keys_of r.5 ∙ ap (λ ks. p.0 ∷ ks) (keys_of-Writes r.1 g L r.2 r.4)
 
-  -- so there are as many pairs
+  -- so the number of pairs is the same
   pub length-Writes : (f g : F) (L M : List (K × V)) → Writes R f L M g → length M ≡ length L
   length-Writes f g L M r = sym (length-keys_of M) ∙ ap length (keys_of-Writes f g L M r) ∙ length-keys_of L
 
@@ -45,7 +45,7 @@ module _ {F K V : Type 0} (R : F → K × V → V → F → Type 0) where
       let rest = All-Writes P r.1 g L r.2 r.4 (All-tail (λ q. P q.0) p L all) in
       subst (All (λ q. P q.0)) (sym r.5) (All-cons (λ q. P q.0) (p.0, r.0) r.2 (All-head (λ q. P q.0) p L all) rest)
 
-  -- a key is bound where it was, and nowhere else
+  -- a key is present if it was, and no other is
   pub is_some-Writes : (number : K → ℕ) (k : K) (f g : F) (L M : List (K × V)) → Writes R f L M g → is_some (value_of number M k) ≡ is_some (value_of number L k)
   is_some-Writes number k f g [] M r = ap (λ Z. is_some (value_of number Z k)) r.0
   is_some-Writes number k f g (p ∷ L) M r = ap (λ Z. is_some (value_of number Z k)) r.5 ∙ either (same_key number k p.0) (is_some-Writes number k r.1 g L r.2 r.4)

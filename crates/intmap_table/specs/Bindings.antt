@@ -5,7 +5,7 @@ use Rattle.std.specs.Option.{option_eq}
 use Rattle.intmap_table.specs.Classes.{same_key, agrees}
 
 module _ {X : Type 0} where
-  -- the last element that passes the test, or d where none does
+  -- the last element that passes the test, or d if none does
   abbrev pub last_passing : (X → Bool) → X → List X → X
   last_passing test d [] = d
   last_passing test d (x ∷ xs) = last_passing test (cond (test x) x d) xs
@@ -15,7 +15,7 @@ module _ {X : Type 0} where
   without_last test [] = []
   without_last test (x ∷ xs) = cond (list_any test xs) (x ∷ without_last test xs) (cond (test x) xs (x ∷ xs))
 
-  -- the list without its first element that is the one; the last of its class behind it, if there is one, fills the hole
+  -- the list without its first element that is the one; the last element of its class behind it, if there is one, fills the hole
   abbrev pub swap_out : (X → Bool) → (X → Bool) → List X → List X
   swap_out is_it in_class [] = []
   swap_out is_it in_class (x ∷ xs) =
@@ -35,27 +35,27 @@ module _ {K V : Type 0} where
   keep_pairs keeps L = filter (λ p. keeps p.0 p.1) L
 
 module _ {K V : Type 0} (number : K → ℕ) where
-  -- the value that a key is bound to
+  -- the value of a key, if the key is present
   abbrev pub value_of : List (K × V) → K → Option V
   value_of L k = first_value (same_key number k) L
 
-  -- a key is bound
-  abbrev pub IsBound : List (K × V) → K → Type 0
-  IsBound L k = IsSome (value_of L k)
+  -- a key is present
+  abbrev pub IsPresent : List (K × V) → K → Type 0
+  IsPresent L k = IsSome (value_of L k)
 
-  -- no key is bound twice
+  -- no key is present twice
   abbrev pub HasDistinctKeys : List (K × V) → Type 0
   HasDistinctKeys L = (k : K) → count_by (λ p. same_key number k p.0) L ≤ 1
 
-  -- the same keys are bound, and each to equal values
+  -- the same keys are present, each with equal values
   abbrev pub BindSame : (V → V → Bool) → List (K × V) → List (K × V) → Type 0
   BindSame equal L M = (k : K) → IsTrue (option_eq equal (value_of L k) (value_of M k))
 
-  -- without the pair of k, whose place the last pair of a key that agrees with k takes
+  -- without the pair of k; the last pair of a key that agrees with k takes its place
   abbrev pub take_key : List (K × V) → ℕ → K → List (K × V)
   take_key L C k = swap_out (λ p. same_key number k p.0) (λ p. agrees number C k p.0) L
 
-  -- with k bound to v by a pair at the end
+  -- without the old pair of k, if there is one, and with the pair of k and v at the end
   abbrev pub put_pair : List (K × V) → ℕ → K → V → List (K × V)
   put_pair L C k v = take_key L C k ++ (k, v) ∷ []
 
@@ -63,11 +63,11 @@ module _ {K V : Type 0} (number : K → ℕ) where
   abbrev pub write_value : List (K × V) → K → V → List (K × V)
   write_value L k v = map (λ p. cond (same_key number k p.0) (p.0, v) p) L
 
-  -- without the pairs of these keys, the rest in its order
+  -- without the pairs of these keys, the others in their order
   abbrev pub strike_keys : List (K × V) → List K → List (K × V)
   strike_keys L ks = filter (λ p. not (list_any (same_key number p.0) ks)) L
 
-  -- M binds k to w and each other key to what L does: so it is at every key, at k itself, and at any other
+  -- in M the key k has the value w, and each other key has the value that it has in L: so it is at every key, at k itself, and at any other
   abbrev pub Updates : List (K × V) → List (K × V) → K → Option V → Type 0
   Updates L M k w =
       ((q : K) → value_of M q ≡ cond (same_key number k q) w (value_of L q))

@@ -1,7 +1,7 @@
--- Keys by their numbers: which slot a key has, and which keys share one.
+-- Keys by their numbers: which slot a key has, and which keys share a slot.
 use Rattle.std.specs.Prelude.{◌≡◌, ℕ, ◌*◌, ◌%◌, ◌^◌, ◌<◌, ◌≤◌, Bool, ◌==◌}
 
--- the odd number that spreads keys over slots
+-- an odd number, by which the numbers of keys are multiplied: it permutes the slots, and makes no keys share one
 abbrev pub multiplier : ℕ
 multiplier = 11400714819323198549
 
@@ -10,7 +10,7 @@ abbrev pub IsCapacity : ℕ → Type 0
 IsCapacity C = (e : ℕ) × (1 ≤ e) × (e < 64) × (C ≡ 2 ^ e)
 
 module _ {K : Type 0} (number : K → ℕ) where
-  -- what the number of a key leaves modulo C
+  -- the number of a key modulo C
   abbrev pub residue : K → ℕ → ℕ
   residue k C = number k % C
 
@@ -22,6 +22,6 @@ module _ {K : Type 0} (number : K → ℕ) where
   abbrev pub same_key : K → K → Bool
   same_key k q = number q == number k
 
-  -- whether q leaves the residue of k modulo C
+  -- whether q has the residue of k modulo C
   abbrev pub agrees : ℕ → K → K → Bool
   agrees C k q = residue q C == residue k C

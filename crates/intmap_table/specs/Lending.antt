@@ -1,4 +1,4 @@
--- What a slot and a table end as, once a value of theirs was lent and written.
+-- What a slot and a table are once one of their values was lent and written.
 pub mod Apart
 use Rattle.std.specs.Prelude.{ℕ}
 use Rattle.std.specs.Borrow.{Lends, Fml, RattleType, MutBor}
@@ -10,12 +10,12 @@ use Rattle.intmap_table.specs.Tables.Slots.{Held, Grid, write_at}
 use Rattle.intmap_table.specs.contracts.slot.Slot.{the_row as slot_row}
 use Rattle.intmap_table.specs.contracts.table.Table.{the_row as table_row}
 
--- once the loan named r ends, the slot behind s has the last value written through it at place i, and all else as it was
+-- once the loan named r ends, the slot behind s has the last value written through it at place i, and all else is as it was
 abbrev pub slot_lends : (K X A : RattleType) → key.Ghosts K.Denot → eq.Ghosts K.Denot → allocator.Ghosts A.Denot
     → MutBor (Held K.Denot X.Denot) → ℕ → MutBor X.Denot → Fml
 slot_lends K X A g e a s i r = Lends (slot_row K X A g e a) X s r (λ v. record s.now { pairs = write_at s.now.pairs i v })
 
--- and the table behind t has it as the value of the key k
+-- once it ends, the table behind t has that value at the key k
 abbrev pub table_lends : (K X A : RattleType) → (g : key.Ghosts K.Denot) → eq.Ghosts K.Denot → allocator.Ghosts A.Denot
     → MutBor (Grid K.Denot X.Denot) → K.Denot → MutBor X.Denot → Fml
 table_lends K X A g e a t k r = Lends (table_row K X A g e a) X t r (λ v. record t.now { walk = write_value g.number_of t.now.walk k v })

@@ -1,4 +1,4 @@
--- Where the pair of a key stands in a table.
+-- Where the pair of a key is in a table.
 use Rattle.std.proofs.Common.{subst}
 use Rattle.std.specs.Prelude.{◌≡◌, ℕ, zero, suc, ◌+◌, List, [], ◌∷◌, length, cond, Option, Some, None, IsSome, position}
 use Rattle.intmap_table.specs.Classes.{slot_number, same_key}
@@ -11,24 +11,24 @@ key_at [] i = None
 key_at (p ∷ L) zero = Some p.0
 key_at (p ∷ L) (suc i) = key_at L i
 
--- the key that is there
+-- the key of the pair at the location
 abbrev pub the_key : {K : Type 0} → (o : Option K) → IsSome o → K
 the_key (Some k) is = k
 the_key None is = absurd (subst (λ b. cond b ⊥ (Unit {0})) is tt)
 
 module _ {K V : Type 0} (number : K → ℕ) where
-  -- the pair of the location's key stands there, in the walk through C slots
+  -- the pair of the location's key is there, in the walk through C slots
   pub record IsAt (W : List (K × V)) (C : ℕ) (at : Location K) : Type 0 where
     pub slot : at.slot ≡ slot_number number at.key C
     pub place : position (λ p. same_key number at.key p.0) (slot_of number W C at.slot) ≡ Some at.place
 
-  -- the pair of k stands last in its slot
+  -- the pair of k is the last of its slot
   pub record IsLast (W : List (K × V)) (C : ℕ) (k : K) : Type 0 where
     pub place : ℕ
     pub stands : position (λ p. same_key number k p.0) (slot_of number W C (slot_number number k C)) ≡ Some place
     pub last : place + 1 ≡ length (slot_of number W C (slot_number number k C))
 
-  -- a pair stands at the place of the slot, and its key is found there
+  -- a pair is at the place of the slot, and its key is found there
   pub record IsFound (W : List (K × V)) (C slot place : ℕ) : Type 0 where
     pub some : IsSome (key_at (slot_of number W C slot) place)
     pub at : IsAt W C (record { key = the_key (key_at (slot_of number W C slot) place) some; slot = slot; place = place })

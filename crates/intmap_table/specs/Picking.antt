@@ -1,4 +1,4 @@
--- What a closure that picks pairs to be removed, one at a step, leaves of them.
+-- What stays of pairs if a closure picks those to be removed, one at a step.
 use Rattle.std.specs.Prelude.{◌≡◌, ℕ, ◌+◌, ◌≤◌, Bool, true, false, not, cond, filter, List, [], ◌∷◌, ◌++◌, length, take, drop, Option, Some, None}
 use Rattle.std.proofs.Common.{◌∙◌, sym, subst}
 use Rattle.std.specs.Bool.{MatchBool}
@@ -10,16 +10,16 @@ use Rattle.std.specs.List.Retain.{ExtractsNext}
 use Rattle.intmap_table.specs.Walk.{slot_of}
 use Rattle.intmap_table.specs.Writes.{CallsAt}
 
--- a call of f at the key of p and a `&mut` to its value answered b, and left q of the pair and g of the closure
+-- a call of f at the key of p and a `&mut` to its value returned b, and left the pair as q and the closure as g
 abbrev pub PicksAt : {F K V : Type 0} → Mut F (K × (MutBor V × Unit {0})) (Bool × (MutBor V × Unit {0})) → F → K × V → Bool → F → K × V → Type 0
 PicksAt m f p b g q = (q.0 ≡ p.0) × CallsAt m f p b q.1 g
 
--- the same, with the answer and what was left of the pair as one
+-- the same, with what was returned and what was left of the pair as one
 abbrev pub AsksAt : {F K V : Type 0} → Mut F (K × (MutBor V × Unit {0})) (Bool × (MutBor V × Unit {0})) → F → K × V → Bool × (K × V) → F → Type 0
 AsksAt m f p a g = PicksAt m f p a.0 g a.1
 
 module _ {F X : Type 0} (R : F → X → Bool → F → X → Type 0) where
-  -- a step behind the first i elements of L, from f to g, which removed r where R picked one: it leaves M, and stands behind the first j of that.
+  -- a step behind the first i elements of L, from f to g, which removed r if R picked one: it leaves M, and ends behind the first j elements of M.
   -- These are the first i, and then those that R was asked about and didn't pick, as it left them
   abbrev pub ExtractsBehind : F → List X → ℕ → Option X → F → List X → ℕ → Type 0
   ExtractsBehind f L i r g M j = (kept : List X) × ExtractsNext R f (drop i L) r g kept (drop j M) × (take j M ≡ take i L ++ kept)
@@ -33,7 +33,7 @@ module _ {F X : Type 0} (R : F → X → Bool → F → X → Type 0) where
       either true m on = let no : ◌≡◌ {A = Option X} None (Some e.2) = m.0 in cc
       either false m on = on m.0 m.1
 
-  -- a step where each answer is that of a test of the element alone, no element is changed, and `Own` holds of the closure throughout: of the elements
+  -- a step if each answer is a test of the element alone, no element is changed, and `Own` holds of the closure throughout: of the elements
   -- that pass, the first is removed; the others stay as they are; and `Own` holds behind it
   pub ExtractsNext-filter : (Own : F → Type 0) (test : X → Bool) → ((f : F) (x : X) (b : Bool) (g : F) (y : X) → Own f → R f x b g y → (b ≡ test x) × (y ≡ x) × Own g)
       → (f g : F) (L kept rest : List X) (r : Option X) → Own f → ExtractsNext R f L r g kept rest
@@ -64,7 +64,7 @@ module _ {F X : Type 0} (R : F → X → Bool → F → X → Type 0) where
           (more.0, (λ i. x ∷ more.1 i) ∙ (λ i. sym here.1 i ∷ (m.0 ++ filter fails rest)) ∙ (λ i. sym m.2 i ++ filter fails rest), more.2)
 
 module _ {K V : Type 0} (number : K → ℕ) where
-  -- in a table of C slots with walk W, that many pairs were passed at this place of this slot
+  -- in a table of C slots with walk W, the number of pairs passed before this place of this slot
   pub record IsReached (W : List (K × V)) (C slot place passed : ℕ) : Type 0 where
     pub within : place ≤ length (slot_of number W C slot)
     pub count : passed ≡ length (flat_map (slot_of number W C) (range_with_len 0 slot)) + place

@@ -1,10 +1,10 @@
--- What a closure that is asked about each pair in turn leaves of them.
+-- What stays of pairs if a closure is asked about each in turn.
 use Rattle.std.specs.Prelude.{◌≡◌, Bool, cond, filter, List, [], ◌∷◌}
 use Rattle.std.proofs.Common.{◌∙◌, subst}
 use Rattle.std.specs.Fn.{Called, Mut, Takes}
 use Rattle.std.specs.Borrow.{Bor}
 
--- a call of f at the key of p and a `&` to its value answered b and left g
+-- a call of f at the key of p and a `&` to its value returned b and left g
 pub record KeepsAt {F K V : Type 0} (m : Mut F (K × (Bor V × Unit {0})) Bool) (f : F) (p : K × V) (b : Bool) (g : F) : Type 0 where
   pub key : K
   pub value : Bor V
@@ -16,7 +16,7 @@ abbrev pub TakesPair : {F K V : Type 0} → Mut F (K × (Bor V × Unit {0})) Boo
 TakesPair {V = V} m f p = (value : Bor V) → value.now ≡ p.1 → Takes m f (p.0, (value, tt))
 
 module _ {F X : Type 0} where
-  -- R went over the elements of L in turn from f to g, and M has those of which it said true, in their order
+  -- R went over the elements of L in turn from f to g, and M has those for which it returned true, in their order
   abbrev pub Retains : (F → X → Bool → F → Type 0) → F → List X → List X → F → Type 0
   Retains R f [] M g = (M ≡ []) × (f ≡ g)
   Retains R f (x ∷ L) M g = (b : Bool) × (h : F) × (N : List X) × R f x b h × Retains R h L N g × (M ≡ cond b (x ∷ N) N)
@@ -28,13 +28,13 @@ module _ {S X : Type 0} (next : S → X → S) where
   state_after s (x ∷ L) = state_after (next s x) L
 
 module _ {S X : Type 0} (says : S → X → Bool) (next : S → X → S) where
-  -- the elements of which a test says true that has a state, which each element changes
+  -- the elements for which a test with a state returns true; each element changes the state
   abbrev pub kept_from : S → List X → List X
   kept_from s [] = []
   kept_from s (x ∷ L) = cond (says s x) (x ∷ kept_from (next s x) L) (kept_from (next s x) L)
 
 module _ {F X : Type 0} (R : F → X → Bool → F → Type 0) where
-  -- what stays where each answer is that of a test of the element alone, and `Own` holds of the closure throughout
+  -- what stays if each answer is a test of the element alone, and `Own` holds of the closure throughout
   pub Retains-filter : (Own : F → Type 0) (test : X → Bool) → ((f : F) (x : X) (b : Bool) (g : F) → Own f → R f x b g → (b ≡ test x) × Own g)
       → (f g : F) (L M : List X) → Own f → Retains R f L M g → M ≡ filter test L
   Retains-filter Own test each f g [] M own r = r.0
@@ -43,7 +43,7 @@ module _ {F X : Type 0} (R : F → X → Bool → F → Type 0) where
       let rest = Retains-filter Own test each r.1 g L r.2 here.1 r.4 in
       r.5 ∙ (λ i. cond (here.0 i) (x ∷ rest i) (rest i))
 
-  -- what stays where each answer is that of a test with a state, and `Own` tells which state the closure is in; and that state
+  -- what stays if each answer is a test with a state, and `Own` says which state the closure is in; and that state
   pub Retains-kept_from : {S : Type 0} (Own : F → S → Type 0) (says : S → X → Bool) (next : S → X → S)
       → ((f : F) (x : X) (b : Bool) (g : F) (s : S) → Own f s → R f x b g → (b ≡ says s x) × Own g (next s x))
       → (s : S) (f g : F) (L M : List X) → Own f s → Retains R f L M g → (M ≡ kept_from says next s L) × Own g (state_after next s L)

@@ -12,11 +12,11 @@ module _ {K V : Type 0} (number : K → ℕ) where
   abbrev pub walk_of : List (K × V) → ℕ → List (K × V)
   walk_of L C = flat_map (slot_of L C) (range_with_len 0 C)
 
-  -- the list stands for a map with walk W and capacity C
+  -- the list stands for a map with walk W and capacity C: its walk is W
   abbrev pub StandsFor : List (K × V) → List (K × V) → ℕ → Type 0
   StandsFor L W C = walk_of L C ≡ W
 
-  -- the first m pairs of the walk, all where there are fewer
+  -- the first m pairs of the walk, or all if there are fewer
   abbrev pub first_of_walk : ℕ → List (K × V) → ℕ → List (K × V)
   first_of_walk m L C = take m (walk_of L C)
 

@@ -1,11 +1,11 @@
--- What a closure that is called at each pair in turn leaves of the values.
+-- What values are once a closure was called at each pair in turn.
 use Rattle.std.specs.Prelude.{◌≡◌, List, [], ◌∷◌, map}
 use Rattle.std.proofs.Common.{◌∙◌, subst}
 use Rattle.std.specs.Fn.{Called, Mut, Takes}
 use Rattle.std.specs.Borrow.{MutBor}
 use Rattle.intmap_table.specs.Retaining.{state_after}
 
--- a call of f at the key of p and a `&mut` to its value answered y, and left w there and g of the closure
+-- a call of f at the key of p and a `&mut` to its value returned y, and left w there and g of the closure
 pub record CallsAt {F K V Y : Type 0} (m : Mut F (K × (MutBor V × Unit {0})) (Y × (MutBor V × Unit {0}))) (f : F) (p : K × V) (y : Y) (w : V) (g : F) : Type 0 where
   pub key : K
   pub value : MutBor V
@@ -14,7 +14,7 @@ pub record CallsAt {F K V Y : Type 0} (m : Mut F (K × (MutBor V × Unit {0})) (
   pub leaves : left.now ≡ w
   pub called : Called m f (key, (value, tt)) (y, (left, tt)) g
 
--- a call that answers nothing, of a closure that writes
+-- a call that returns nothing, of a closure that writes
 abbrev pub WritesAt : {F K V : Type 0} → Mut F (K × (MutBor V × Unit {0})) (Unit {0} × (MutBor V × Unit {0})) → F → K × V → V → F → Type 0
 WritesAt m f p w g = CallsAt m f p tt w g
 
@@ -35,7 +35,7 @@ module _ {S K V : Type 0} (value : S → K × V → V) (next : S → K × V → 
   written_from s (p ∷ L) = (p.0, value s p) ∷ written_from (next s p) L
 
 module _ {F K V : Type 0} (R : F → K × V → V → F → Type 0) where
-  -- the values where each is made of its pair alone, and `Own` holds of the closure throughout
+  -- the values if each is made of its pair alone, and `Own` holds of the closure throughout
   pub Writes-map : (Own : F → Type 0) (value : K × V → V) → ((f : F) (p : K × V) (w : V) (g : F) → Own f → R f p w g → (w ≡ value p) × Own g)
       → (f g : F) (L M : List (K × V)) → Own f → Writes R f L M g → M ≡ map (λ p. (p.0, value p)) L
   Writes-map Own value each f g [] M own r = r.0
@@ -44,7 +44,7 @@ module _ {F K V : Type 0} (R : F → K × V → V → F → Type 0) where
       let rest = Writes-map Own value each r.1 g L r.2 here.1 r.4 in
       r.5 ∙ (λ i. (p.0, here.0 i) ∷ rest i)
 
-  -- the values where each is made of its pair and of a state, and `Own` tells which state the closure is in; and that state
+  -- the values if each is made of its pair and of a state, and `Own` says which state the closure is in; and that state
   pub Writes-written_from : {S : Type 0} (Own : F → S → Type 0) (value : S → K × V → V) (next : S → K × V → S)
       → ((f : F) (p : K × V) (w : V) (g : F) (s : S) → Own f s → R f p w g → (w ≡ value s p) × Own g (next s p))
       → (s : S) (f g : F) (L M : List (K × V)) → Own f s → Writes R f L M g → (M ≡ written_from value next s L) × Own g (state_after next s L)

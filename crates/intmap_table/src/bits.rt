@@ -135,8 +135,8 @@ impl<A: Allocator> Bits<A> {
 }
 
 impl<A: Allocator + Copy> Bits<A> {
-    /// So many places, rounded up to whole words, none of them marked. It allocates these words
-    /// alone.
+    /// Bits for `places` places, rounded up to whole words. No place is marked. It allocates these
+    /// words alone.
     pub(crate) fn new(alloc: A, places: usize) -> Result<Bits<A>, AllocError>
         requires { places ≤ 2 ^ 63 }
         ensures { IfOk result (λ bits. bits ≡ replicate (64 * ((places + 63) / 64)) false) }
@@ -145,7 +145,7 @@ impl<A: Allocator + Copy> Bits<A> {
         Ok(Bits { words })
     }
 
-    /// A copy of the marks. It allocates as many words.
+    /// A copy of the marks. It allocates the same number of words.
     pub(crate) fn clone(&self) -> Result<Bits<A>, AllocError>
         ensures { IfOk result (λ bits. bits ≡ self.now) }
     {
@@ -154,8 +154,8 @@ impl<A: Allocator + Copy> Bits<A> {
     }
 }
 
-/// The marked places that are left: those of the current word, which begins at the base, and those
-/// of the words behind it.
+/// The marked places that are left: those of the current word, whose first place is the base, and
+/// those of the words behind it.
 #[derive(Drop)]
 pub(crate) struct Places<'a> {
     word: u64,

@@ -24,8 +24,8 @@ impl<V: Clone> Clone for Kept<V> {
     }
 }
 
-/// What a `&` to a table shows in place of each stored value while that is lent: where it lies and
-/// what it was. It has the layout of a stored value, and none is ever made.
+/// What a `&` to a table shows in place of each stored value while that value is lent: where it
+/// lies and what it was. It has the layout of a stored value. No `Hole` is ever made.
 pub struct Hole<V> {
     value: V,
 }
@@ -42,7 +42,7 @@ impl<V> Move for Hole<V> {
     ghost own_val = { λ _ _. ffalse };
 }
 
-/// The right to write values that lie apart, each of which is taken once. Contracts see three
+/// The right to write values in separate places, each of which is taken once. Contracts see three
 /// things: the name of their loan, the name of the loan behind it, which the map follows, and the
 /// cells that are left. The cells say, in order, where each value lies and what it was.
 pub struct Lent<'a, V> {

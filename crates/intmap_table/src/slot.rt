@@ -15,7 +15,7 @@ use crate::stored::Stored;
 use std::alloc::{AllocError, Allocator};
 use std::marker::Model;
 
-/// Pairs in order, with the room that there is for them. A single pair needs no allocation.
+/// Pairs in order, with room for further ones. A single pair needs no allocation.
 #[derive(Drop)]
 pub(crate) struct Slot<K: IntKey, X, A: Allocator> {
     first: Option<(Stored<K>, X)>,
@@ -36,7 +36,7 @@ impl<K: IntKey, X, A: Allocator> Model for Slot<K, X, A> {
     ghost invariant = { λ s. HasFirst s.first s.rest.items };
 }
 
-/// The place of the key's pair. The pairs are compared from the front, each by one step.
+/// The place of the key's pair. The pairs are compared from the front. Each comparison is one step.
 #[inline(always)]
 fn find_in<K: IntKey, X>(pairs: &[(Stored<K>, X)], key: &K, steps: &mut Steps) -> Option<usize>
     ensures place { result ≡ position (λ p. same_key K.number_of key.now p.0) pairs.now }
@@ -84,7 +84,8 @@ impl<K: IntKey, X, A: Allocator> Slot<K, X, A> {
         }
     }
 
-    /// The place of the key's pair. The keys are compared from the front up to it, each by one step.
+    /// The place of the key's pair. The keys are compared from the front, up to the one sought.
+    /// Each comparison is one step.
     #[inline(always)]
     pub(crate) fn find(&self, key: &K, steps: &mut Steps) -> Option<usize>
         ensures place { result ≡ position (λ p. same_key K.number_of key.now p.0) self.now.pairs }
@@ -187,7 +188,7 @@ impl<K: IntKey, X, A: Allocator> Slot<K, X, A> {
 }
 
 impl<K: IntKey, X: Drop, A: Allocator> Slot<K, X, A> {
-    /// Drops all pairs, and keeps the room that there is.
+    /// Drops all pairs, and keeps the room for them.
     pub(crate) fn clear(&mut self)
         ensures { self.new.pairs ≡ [] }
     {
@@ -205,8 +206,8 @@ fn clone_pair<K: IntKey, X: Clone>(pair: &(Stored<K>, X)) -> Result<(Stored<K>, 
     Ok((pair.0.copied(), value))
 }
 
-/// The same keys with clones of their values, in the same order. It allocates room for as many
-/// pairs before the first value is cloned, and nothing if there is no pair.
+/// The same keys with clones of their values, in the same order. It allocates room for exactly
+/// these pairs before it clones the first value. If there is no pair, it allocates nothing.
 fn clone_in<K: IntKey, X: Clone, A: Allocator>(
     alloc: A,
     pairs: &[(Stored<K>, X)],
@@ -222,8 +223,8 @@ fn clone_in<K: IntKey, X: Clone, A: Allocator>(
 }
 
 impl<K: IntKey, X: Clone, A: Allocator + Copy> Slot<K, X, A> {
-    /// The same keys in the same order, with clones of their values. It allocates room for the pairs
-    /// behind the first one, and for no more than these.
+    /// The same keys in the same order, with clones of their values. It allocates room for exactly
+    /// the pairs behind the first one.
     pub(crate) fn clone(&self) -> Result<Slot<K, X, A>, AllocError>
         ensures pairs { IfOk result
             (λ made. AllZip (IsPairClone X.is_clone) self.now.pairs made.pairs) }

@@ -37,8 +37,8 @@ impl Tally {
     }
 }
 
-/// A counter of steps. Contracts see it as the number of steps that were counted so far. The
-/// running program has no trace of it: a counter takes no memory, and no method reads the number.
+/// A counter of steps. Contracts see it as the number of steps counted so far. The running program
+/// has no trace of it: a counter takes no memory, and no method reads the number.
 ///
 /// A caller makes a counter or has one by `&mut`, passes it to `IntMap::get_counted`, and mentions
 /// it in a contract of its own:

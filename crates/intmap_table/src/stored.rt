@@ -6,8 +6,8 @@ use crate::steps::Steps;
 use std::marker::Model;
 
 /// A stored key. It has no `==`, and its field is private: [`Stored::matches`] returns whether it
-/// is the sought key, and counts a step for it. [`Stored::key`] is for walks and closures, which
-/// hand keys out, and for the numbers of slots. No search of a slot calls it.
+/// is the sought key, and counts one step. [`Stored::key`] is for walks and closures, which hand
+/// keys out, and for the numbers of slots. No search of a slot calls it.
 #[derive(Drop)]
 pub struct Stored<K: IntKey> {
     key: K,

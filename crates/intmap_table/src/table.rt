@@ -1,8 +1,8 @@
 //! A table of slots. Each key has one of them.
 //!
-//! What stands here looks at the slot of one key, or at the table as a whole. `locate` has the calls
-//! on a pair whose place is known, `walk`, `each` and `extract` those that go through the pairs, and
-//! `grow` and `place` the growth.
+//! The calls here look at the slot of one key, or at the table as a whole. `locate` has the calls
+//! on a pair whose place is known, `walk`, `each` and `extract` those that go through the pairs,
+//! and `grow` and `place` the growth.
 
 mod each;
 pub mod extract;
@@ -29,10 +29,13 @@ use std::alloc::{AllocError, Allocator};
 use std::marker::Model;
 use walk::Pairs;
 
-/// The odd number that spreads keys over slots.
+/// An odd number. A key's number, times this one, modulo the number of slots is the key's slot.
+/// Only the low bits of the number count: two keys share a slot exactly if their numbers are equal
+/// modulo the number of slots. Since this number is odd, it permutes the slots and makes no keys
+/// share one.
 const MULTIPLIER: u64 = 11400714819323198549;
 
-/// The slot of a key, of `mask + 1` slots.
+/// The slot of a key in a table of `mask + 1` slots.
 #[inline(always)]
 fn masked_index_of<K: IntKey>(key: &K, mask: usize) -> usize
     requires { IsCapacity (mask + 1) }
@@ -43,7 +46,7 @@ fn masked_index_of<K: IntKey>(key: &K, mask: usize) -> usize
     (key.number().wrapping_mul(MULTIPLIER) & mask as u64) as usize
 }
 
-/// The slot of a key, of so many slots.
+/// The slot of a key in a table of `slots` slots.
 fn index_of<K: IntKey>(key: &K, slots: usize) -> usize
     requires { IsCapacity slots }
     ensures slot { result ≡ slot_number K.number_of key.now slots }
@@ -53,7 +56,7 @@ fn index_of<K: IntKey>(key: &K, slots: usize) -> usize
     masked_index_of(key, slots - 1)
 }
 
-/// Drops the pairs of all slots. The bits tell which slots to look at.
+/// Drops the pairs of all slots. The bits mark the slots that hold a pair.
 fn clear_slots<K: IntKey, X: Drop, A: Allocator>(bits: &Bits<A>, slots: &mut Vec<Slot<K, X, A>, A>)
     requires { AreMarked (rows slots.old.items) bits.now }
     ensures len { length slots.new.items ≡ length slots.old.items }
@@ -73,8 +76,8 @@ struct Directory<A: Allocator> {
     bits: Bits<A>,
 }
 
-/// Slots, whose number is a power of two. Each pair lies in the slot of its key, and a bit for each
-/// slot tells whether it holds a pair.
+/// Slots, whose number is a power of two. Each pair lies in the slot of its key, and one bit for
+/// each slot says whether it holds a pair.
 #[derive(Drop)]
 pub struct Table<K: IntKey, X, A: Allocator> {
     directory: Directory<A>,
@@ -182,7 +185,7 @@ impl<K: IntKey, X: Drop, A: Allocator + Copy> Table<K, X, A> {
         *self.slots.allocator()
     }
 
-    /// A table of so many empty slots. It allocates them and their bits.
+    /// A table of `capacity` empty slots. It allocates the slots and their bits.
     pub fn new(alloc: A, capacity: usize) -> Result<Table<K, X, A>, AllocError>
         requires { IsCapacity capacity }
         ensures walk { IfOk result (λ table. table.walk ≡ []) }

@@ -36,7 +36,7 @@ says_one (name ∷ words) c d one other =
     let names : name_of c ≡ name_of d = let n = one.0 in let m = other.0 in cc in
     same_command c d names (same_numbers words (numbers_of c) (numbers_of d) one.1 other.1)
 
--- where no command has this name and the numbers that the words write, they say none
+-- if no command has this name and the numbers that the words write, they say none
 pub says_none : {A : Type 0} (name : List ℕ) (words : List (List ℕ)) (ns : List ℕ) → AllZip Writes words ns
     → (found : Option (Command ℕ ℕ A)) → IfNone found (name ≢ codes "extend" → (c : Command ℕ ℕ A) → ¬ IsSpelled name ns c)
     → IfNone found (name ≢ codes "extend" → (c : Command ℕ ℕ A) → ¬ Says (name ∷ words) c)

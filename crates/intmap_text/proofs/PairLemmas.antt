@@ -45,13 +45,13 @@ pair_read words pairs left more rest key value pair read first second k v =
       written = pairs_more read.front pairs key value pair read.written k v;
     }
 
--- where no word is left, all words write the pairs
+-- if no word is left, all words write the pairs
 pub all_read : (words : List (List ℕ)) (pairs : List (ℕ × ℕ)) → HaveRead words pairs []
     → WritesPairs words pairs
 all_read words pairs read =
     subst (λ ws. WritesPairs ws pairs) (sym (read.split ∙ append-nil read.front)) read.written
 
--- where all words write pairs, and those at the front write some, the others write the rest
+-- if all words write pairs, and those at the front write some, the others write the rest
 left_pairs : (front left : List (List ℕ)) (some all : List (ℕ × ℕ)) → WritesPairs front some
     → WritesPairs (front ++ left) all → (rest : List (ℕ × ℕ)) × WritesPairs left rest
 left_pairs [] left [] all written h = (all, h)
@@ -73,7 +73,7 @@ no_pair : (key value : List ℕ) (rest : List (List ℕ)) (pairs : List (ℕ × 
 no_pair key value rest [] none h = h
 no_pair key value rest (p ∷ ps) none h = none p.0 p.1 h.0 h.1.0
 
--- where one word alone is left, the words write no pairs
+-- if only one word is left, the words write no pairs
 pub odd_words : (words : List (List ℕ)) (pairs : List (ℕ × ℕ)) (left more : List (List ℕ))
     (key : List ℕ) → HaveRead words pairs left → left ≡ key ∷ more → more ≡ []
     → (all : List (ℕ × ℕ)) → ¬ WritesPairs words all
@@ -84,7 +84,7 @@ odd_words words pairs left more key read first last all h =
     let rest = left_pairs read.front (key ∷ []) pairs all read.written whole in
     one_word key rest.0 rest.1
 
--- where the next two words don't write a pair, the words write no pairs
+-- if the next two words don't write a pair, the words write no pairs
 pub unread_words : (words : List (List ℕ)) (pairs : List (ℕ × ℕ)) (left more rest : List (List ℕ))
     (key value : List ℕ) → HaveRead words pairs left → left ≡ key ∷ more → more ≡ value ∷ rest
     → ((k v : ℕ) → Writes key k → ¬ Writes value v)

@@ -6,11 +6,11 @@ use Rattle.std.proofs.lemmas.Grind.{common_steps}
 use Rattle.intmap_text.specs.Lines.{is_filled, lines_in, words_in}
 
 module _ (p : ℕ → Bool) where
-  -- what stands before the first separator
+  -- what is before the first separator
   abbrev pub front : List ℕ → List ℕ
   front xs = take (position_or_len p xs) xs
 
-  -- the first separator, and what stands behind it
+  -- the first separator, and what is behind it
   abbrev pub back : List ℕ → List ℕ
   back xs = drop (position_or_len p xs) xs
 
@@ -67,7 +67,7 @@ module _ (text : List ℕ) (n : ℕ) (line rest : List ℕ) (len : n ≡ positio
       → lines_in text ≡ line ∷ lines_in (take (length rest - 1) (drop 1 rest))
   lines_in-ended h = lines_in-first ∙ ap (λ ls. line ∷ ls) (later_lines rest h)
 
--- whether a byte stands between words
+-- whether a byte is between words
 abbrev is_space : ℕ → Bool
 is_space b = eqb b 32
 
@@ -124,7 +124,7 @@ none_step : (x : ℕ) (xs : List ℕ) (b : Bool) → is_space x ≡ b
 none_step x xs true e h none = simp e (h (simp (e, one-add) at none))
 none_step x xs false e h none = absurd (not_empty _ (simp (e, one-add) at none))
 
--- where no word follows the spaces at the front, there is no word
+-- if no word follows the spaces at the front, there is no word
 words_in-spaces : (xs : List ℕ) → eqb (length (front is_space (skipped xs))) 0 ≡ true
     → words_in xs ≡ []
 words_in-spaces [] h = refl

@@ -1,4 +1,4 @@
--- Which commands a text spells, where the vectors of commands are made over A.
+-- Which commands a text spells. The vectors of commands are made over A.
 use Rattle.std.specs.Prelude.{◌≡◌, ◌≢◌, ◌⊎◌, ℕ, ◌+◌, ◌^◌, ◌<◌, List, [], ◌∷◌, ◌++◌, length, All}
 use Rattle.std.specs.List.{AllZip}
 use Rattle.std.specs.Fmt.{decimal}
@@ -15,11 +15,11 @@ abbrev pub Says : {A : Type 0} → List (List ℕ) → Command ℕ ℕ A → Typ
 Says [] c = ⊥
 Says (name ∷ words) c = (name ≡ name_of c) × AllZip Writes words (numbers_of c)
 
--- the lines of the text that have a word say these commands, one a line
+-- the lines of the text that have a word say these commands, one on each line
 abbrev pub Spells : {A : Type 0} → List ℕ → List (Command ℕ ℕ A) → Type 0
 Spells text commands = AllZip Says (rows_of (lines_in text)) commands
 
--- there are words, and they say no command
+-- there are words, but they say no command
 abbrev pub IsUnknown : Type 0 → List (List ℕ) → Type 0
 IsUnknown A words = (words ≢ []) × ((c : Command ℕ ℕ A) → ¬ Says words c)
 

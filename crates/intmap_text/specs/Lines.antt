@@ -18,11 +18,11 @@ abbrev pub lines_left : Option (Bor (List ℕ)) → List (List ℕ)
 lines_left None = []
 lines_left (Some rest) = lines_in rest.now
 
--- what stands between bytes 32, where that is not empty
+-- what is between bytes 32, if it isn't empty
 abbrev pub words_in : List ℕ → List (List ℕ)
 words_in text = filter is_filled (slice_split (λ b. b == 32) text)
 
--- the words of a line, of which one byte 13 at its end is no part
+-- the words of a line; a byte 13 at its end is part of none
 abbrev pub words_of : List ℕ → List (List ℕ)
 words_of line = words_in (strip_carriage_return line)
 

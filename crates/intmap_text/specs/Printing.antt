@@ -8,12 +8,12 @@ use Rattle.intmap.specs.declared.refusal.RefusedPair.{RefusedPair}
 use Rattle.intmap_run.specs.declared.answer.Answer.{Answer}
 use Rattle.intmap_run.specs.declared.answer.Answer.TheVariants as answer
 
--- the words for why a command was refused
+-- the words for the cause of a failed command
 abbrev pub cause_text : Cause → List ℕ
 cause_text cause.Memory = codes "memory"
 cause_text cause.TooLarge = codes "too large"
 
--- why a command was refused, behind the value that it hands back
+-- the cause of a failed command, behind the value that the command returns
 abbrev pub refusal_text : Cause → Option ℕ → List ℕ
 refusal_text cause None = codes "refused: " ++ cause_text cause
 refusal_text cause (Some v) = codes "refused " ++ decimal v ++ codes ": " ++ cause_text cause
@@ -30,7 +30,7 @@ pairs_text pairs = codes "{" ++ join_by pair_text (codes ", ") pairs ++ codes "}
 abbrev pub numbers_text : List ℕ → List ℕ
 numbers_text numbers = codes "[" ++ join_by decimal (codes ", ") numbers ++ codes "]"
 
--- the first of several pairs that was refused, behind how many, and why
+-- the first of several pairs that failed, behind the number of those before it, and why it failed
 abbrev pub stopped_text : RefusedPair ℕ ℕ → List ℕ
 stopped_text refused =
     codes "stopped at " ++ decimal refused.key ++ codes " " ++ decimal refused.value
@@ -56,6 +56,6 @@ answer_text (answer.Sizes sizes) = pairs_text sizes.items
 answer_text (answer.Stopped refused) = stopped_text refused
 answer_text (answer.Refused cause value) = refusal_text cause value
 
--- one line an answer, each ended by a byte 10
+-- one line for each answer, ended by a byte 10
 abbrev pub lines_of : {A : Type 0} → List (Answer ℕ ℕ ℕ A) → List ℕ
 lines_of answers = flat_map (λ a. answer_text a ++ 10 ∷ []) answers

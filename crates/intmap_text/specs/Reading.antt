@@ -12,7 +12,7 @@ list_of numbers.Empty = []
 list_of (numbers.One first) = first ∷ []
 list_of (numbers.Two first second) = first ∷ second ∷ []
 
--- a line of these words is blank, says this command, or has words that say none
+-- a line of these words is blank, says this command, or has words but says none
 abbrev pub Reads : {A : Type 0} → List (List ℕ) → Line A → Type 0
 Reads words line.Blank = words ≡ []
 Reads words (line.Command c) = Says words c

@@ -23,9 +23,8 @@ pub enum Numbers {
     Two(u64, u64),
 }
 
-/// The command that a line says by its name and the words behind it, or `None` if it says none.
-///
-/// Err: out of memory for the pairs of an `extend`. No other command allocates.
+/// The command that a line says by its name and the words behind it, or `None` if it says none. It
+/// fails if there is no memory for the pairs of an `extend`. No other command allocates.
 pub fn command<A: Allocator>(
     alloc: A,
     name: &[u8],
@@ -42,7 +41,7 @@ pub fn command<A: Allocator>(
     }
 }
 
-/// The command that a line says by its name and at most two words behind it, `extend` left out.
+/// The command that a line says by its name and at most two words behind it, except `extend`.
 fn short_command<A: Allocator>(name: &[u8], words: Words<'_>) -> Option<Command<u64, u64, A>>
     ensures some { IfSome result (Says (name.now ∷ words.entry)) }
     ensures none { IfNone result (name.now ≢ codes "extend"
@@ -61,7 +60,8 @@ fn words_say_one_command<A: Allocator>()
         → Says words c → Says words d → IsSame c d }
 {}
 
-/// The numbers that the words write, or `None` if there are more than two words or one writes none.
+/// The numbers that the words write, or `None` if there are more than two words or some word writes
+/// no number.
 fn read_numbers(mut words: Words<'_>) -> Option<Numbers>
     ensures some { IfSome result (λ found. AllZip Writes words.entry (list_of found)) }
     ensures none { IfNone result ((ns : List ℕ) → length ns ≤ 2 → ¬ AllZip Writes words.entry ns) }
@@ -83,7 +83,7 @@ fn read_numbers(mut words: Words<'_>) -> Option<Numbers>
 /// The pairs that the words write, each key before its value, or `None` if the number of words is
 /// odd or some word writes no number.
 ///
-/// Err: out of memory for the pairs.
+/// It fails if there is no memory for the pairs.
 fn read_pairs<A: Allocator>(
     alloc: A,
     mut words: Words<'_>,

@@ -1,8 +1,8 @@
 //! Commands and answers of a run as text.
 //!
-//! `Lines` splits a text, `read_line` says which command a line spells, and `print_answer` writes an
-//! answer. Keys and values are `u64`. Each contract goes from bytes to commands or from answers to
-//! bytes, so what is read or written is fixed to the byte.
+//! `Lines` splits a text, `read_line` says which command a line spells, and `print_answer` writes
+//! an answer. Keys and values are `u64`. Each contract relates bytes to commands, or answers to
+//! bytes, so it fixes each byte that is read or written.
 #![tactic(auto)]
 
 mod command;

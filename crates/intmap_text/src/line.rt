@@ -8,20 +8,20 @@ use crate::split::Words;
 use intmap_run::Command;
 use std::alloc::{AllocError, Allocator};
 
-/// What one line is. The vector of a command is made over `A`.
+/// What one line is. The vector of a command is made over the allocator `A`.
 #[derive(Drop)]
 pub enum Line<A: Allocator> {
     /// It has no word.
     Blank,
-    /// It says this command.
+    /// It says a command.
     Command(Command<u64, u64, A>),
-    /// It has words, and they say no command.
+    /// It has words, but they say no command.
     Unknown,
 }
 
 /// What the bytes of one line are, without the byte 10 that ends it.
 ///
-/// Err: out of memory for the pairs of a command.
+/// It fails if there is no memory for the pairs of a command.
 pub fn read_line<A: Allocator>(alloc: A, line: &[u8]) -> Result<Line<A>, AllocError>
     ensures { IfOk result (Reads (words_of line.now)) }
 {

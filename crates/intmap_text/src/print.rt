@@ -6,7 +6,7 @@ use intmap::{Cause, RefusedPair};
 use intmap_run::Answer;
 use std::alloc::{AllocError, Allocator};
 
-/// One line per answer, each ended by a byte 10. Err: out of memory.
+/// One line for each answer, each ended by a byte 10. It fails if there is no memory for them.
 pub fn print_answers<A: Allocator>(
     alloc: A,
     answers: &[Answer<u64, u64, u64, A>],
@@ -23,7 +23,7 @@ pub fn print_answers<A: Allocator>(
 
 /// Appends an answer to `out`, without the end of its line.
 ///
-/// Err: out of memory, and then a part of the answer may be written.
+/// It fails if there is no memory for the answer. A part of the answer may then be written.
 pub fn print_answer<A: Allocator, B: Allocator>(
     out: &mut String<A>,
     answer: &Answer<u64, u64, u64, B>,
@@ -64,8 +64,8 @@ fn print_refusal<A: Allocator>(
     }
 }
 
-/// Writes the first of several pairs that failed, how many were inserted before it, and why it
-/// failed.
+/// Writes the first of several pairs that failed, the number of pairs inserted before it, and why
+/// it failed.
 fn print_stopped<A: Allocator>(
     out: &mut String<A>,
     refused: &RefusedPair<u64, u64>,
@@ -112,7 +112,7 @@ fn print_numbers<A: Allocator>(out: &mut String<A>, numbers: &[u64]) -> Result<(
     out.push_str("]")
 }
 
-/// The words for why a command failed.
+/// The words for the cause of a failed command.
 fn cause_name(cause: Cause) -> &'static str
     ensures { result.now ≡ cause_text cause }
 {

@@ -6,7 +6,7 @@ ghost use Rattle.intmap_text.specs.Lines.{lines_in, words_in, words_of};
 
 use std::marker::Model;
 
-/// The lines that are left of a text. A byte 10 ends each but the last.
+/// The lines that are left of a text. A byte 10 ends each line except the last.
 #[derive(Drop)]
 pub struct Lines<'a> {
     rest: Option<&'a [u8]>,
@@ -56,7 +56,7 @@ fn first_line(text: &[u8]) -> (&[u8], Option<&[u8]>)
     }
 }
 
-/// How many bytes stand before the first byte 10.
+/// The number of bytes before the first byte 10.
 fn line_len(text: &[u8]) -> usize
     ensures { result ≡ position_or_len (λ b. b == 10) text.now }
 {
@@ -79,7 +79,7 @@ impl<'a> Model for Words<'a> {
 }
 
 impl<'a> Words<'a> {
-    /// The words of a line. One byte 13 at the end of the line belongs to none.
+    /// The words of a line. If the line ends with a byte 13, that byte is part of no word.
     pub fn new(line: &'a [u8]) -> Words<'a>
         ensures { result ≡ words_of line.now }
     {
@@ -118,14 +118,14 @@ fn first_word(text: &[u8]) -> Option<(&[u8], &[u8])>
     }
 }
 
-/// How many spaces stand at the front.
+/// The number of spaces at the front.
 fn space_count(text: &[u8]) -> usize
     ensures { result ≡ prefix_len (λ b. b == 32) text.now }
 {
     text.iter().take_while(|byte| **byte == b' ').count()
 }
 
-/// How many bytes stand before the first space.
+/// The number of bytes before the first space.
 fn letter_count(text: &[u8]) -> usize
     ensures { result ≡ position_or_len (λ b. b == 32) text.now }
 {

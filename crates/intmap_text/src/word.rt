@@ -1,4 +1,4 @@
-//! The table of the words that commands begin with, by how many numbers follow.
+//! The words that commands begin with, by the number of numbers behind them.
 ghost use Rattle.std.specs.Prelude.{◌≡◌, ◌≢◌, ◌↔◌, ℕ, [], ◌∷◌, IfSome, IfNone, IsTrue, codes};
 ghost use Rattle.intmap_run.specs.declared.command.Command.{Command};
 ghost use Rattle.intmap_text.specs.Words.{IsSpelled};
@@ -6,14 +6,14 @@ ghost use Rattle.intmap_text.specs.Words.{IsSpelled};
 use intmap_run::Command;
 use std::alloc::Allocator;
 
-/// Whether the name is `extend`, that of the command which any number of pairs follows.
+/// Whether the name is `extend`, the command that any number of pairs follows.
 pub fn is_extend(name: &[u8]) -> bool
     ensures { IsTrue result ↔ (name.now ≡ codes "extend") }
 {
     is(name, b"extend")
 }
 
-/// The command of this name without a number, `extend` left out.
+/// The command of this name without a number, except `extend`.
 pub fn bare<A: Allocator>(name: &[u8]) -> Option<Command<u64, u64, A>>
     ensures some { IfSome result (IsSpelled name.now []) }
     ensures none { IfNone result (name.now ≢ codes "extend"
@@ -75,7 +75,7 @@ pub fn with_number<A: Allocator>(name: &[u8], number: u64) -> Option<Command<u64
     }
 }
 
-/// The command of this name with a key and a value, `extend` left out.
+/// The command of this name with a key and a value, except `extend`.
 pub fn with_pair<A: Allocator>(name: &[u8], key: u64, value: u64) -> Option<Command<u64, u64, A>>
     ensures some { IfSome result (IsSpelled name.now (key ∷ value ∷ [])) }
     ensures none { IfNone result (name.now ≢ codes "extend"

@@ -1,4 +1,4 @@
-//! What an insertion does to the bindings, for keys of every kind.
+//! What an insertion changes of a map, for keys of every kind.
 ghost use Rattle.std.specs.Prelude.{◌≡◌, IfOk, IfErr, OnOk, OnErr, Some, false};
 ghost use Rattle.intmap.specs.Bindings.{value_of};
 ghost use Rattle.intmap.specs.Classes.{same_key};
@@ -6,10 +6,11 @@ ghost use Rattle.intmap.specs.Classes.{same_key};
 use intmap::{IntKey, IntMap, Refused};
 use std::alloc::Allocator;
 
-/// Binds the key to the value, and answers what the key was bound to before. Every other key keeps
-/// what it has.
+/// Inserts the pair of the key and the value, and returns the value that the key had before. Every
+/// other key keeps its value.
 ///
-/// Err: the pair of a new key was refused, and the value comes back; every key keeps what it has.
+/// It fails if the insertion of a new key fails, and returns the value. Every key then keeps its
+/// value.
 pub fn bind<K: IntKey, V: Drop, A: Allocator + Copy>(
     map: &mut IntMap<K, V, A>,
     key: K,

@@ -8,8 +8,8 @@ use intmap::{Cause, IntKey, IntMap, Refused};
 use std::alloc::{Allocator, Global};
 use std::marker::Model;
 
-/// Counts of keys. Contracts see them as a list of pairs and read that by `count_of`, which is 0 at
-/// a key that was never counted.
+/// Counts of keys. Contracts see them as a list of pairs and read that list by `count_of`, which is
+/// 0 at a key that was never counted.
 #[derive(Drop)]
 pub struct Counter<K: IntKey, A: Allocator + Copy = Global> {
     counts: IntMap<K, u64, A>,
@@ -29,9 +29,9 @@ impl<K: IntKey, A: Allocator + Copy> Model for Counter<K, A> {
 /// Why an occurrence was not counted.
 #[derive(Clone, Copy, PartialEq, Eq, Debug)]
 pub enum Uncounted {
-    /// The count stands at 2^64 - 1.
+    /// The count is 2^64 - 1.
     TooOften,
-    /// The count of a new key was refused.
+    /// The count of a new key could not be inserted.
     Refused(Cause),
 }
 
@@ -47,7 +47,7 @@ impl From<Refused<u64>> for Uncounted {
 }
 
 impl<K: IntKey, A: Allocator + Copy> Counter<K, A> {
-    /// A counter of nothing. It is refused where memory is.
+    /// A counter of no keys. It fails if an allocation fails.
     pub fn new(alloc: A) -> Result<Counter<K, A>, Cause>
         ensures none { IfOk result (λ counter. (q : K) → count_of K.number_of counter q ≡ 0) }
         ensures len { IfOk result (λ counter. length counter ≡ 0) }
@@ -71,9 +71,10 @@ impl<K: IntKey, A: Allocator + Copy> Counter<K, A> {
         self.counts.len()
     }
 
-    /// Counts one occurrence of the key, and answers its count then.
+    /// Counts one occurrence of the key, and returns its new count.
     ///
-    /// Err: the count stands at 2^64 - 1, or that of a new key was refused; all counts stay.
+    /// It fails with `TooOften` exactly if the count is 2^64 - 1, and with `Refused` if the
+    /// insertion of a new key fails. All counts then stay.
     pub fn count(&mut self, key: K) -> Result<u64, Uncounted>
         ensures count { IfOk result (λ count. count ≡ count_of K.number_of self.new key) }
         ensures here { OnOk result
@@ -98,7 +99,7 @@ impl<K: IntKey, A: Allocator + Copy> Counter<K, A> {
 
 /// How often each number occurs in the slice.
 ///
-/// Err: the count of a new number was refused.
+/// It fails if the insertion of a new number fails.
 pub fn count_all<A: Allocator + Copy>(alloc: A, numbers: &[u64]) -> Result<Counter<u64, A>, Cause>
     ensures { IfOk result (λ counter. (q : ℕ)
         → count_of (λ key. key) counter q ≡ count_by (λ number. number == q) numbers.now) }

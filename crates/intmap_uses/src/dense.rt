@@ -7,9 +7,9 @@ use intmap::{Cause, IntMap, Refused, laws};
 use std::alloc::{Allocator, Global};
 use std::marker::Model;
 
-/// A table that gives each value the next number, from 0 up. Each always has a slot of its own, so
-/// that a look-up compares at most one number. Contracts see it as a list of pairs and read that by
-/// `value_at`, which is `None` at a number that wasn't handed out.
+/// A table that gives each value the next number, from 0 up. Each number always has a slot to
+/// itself, so a look-up compares at most one number. Contracts see the table as a list of pairs and
+/// read that list by `value_at`, which is `None` at a number that wasn't handed out.
 #[derive(Drop)]
 pub struct Dense<V, A: Allocator + Copy = Global> {
     values: IntMap<u64, V, A>,
@@ -27,9 +27,9 @@ impl<V, A: Allocator + Copy> Model for Dense<V, A> {
 }
 
 impl<V: Drop, A: Allocator + Copy> Dense<V, A> {
-    /// A table without a value, with slots for so many.
+    /// A table without values, with slots for `capacity` values.
     ///
-    /// Err: memory for the slots was refused, or so many are above 2^63.
+    /// It fails if an allocation fails, or if `capacity` is above 2^63.
     pub fn with_capacity(alloc: A, capacity: usize) -> Result<Dense<V, A>, Cause>
         ensures { IfOk result (λ table. length table ≡ 0) }
     {
@@ -38,9 +38,9 @@ impl<V: Drop, A: Allocator + Copy> Dense<V, A> {
         })
     }
 
-    /// Gives the value the next number, and answers that.
+    /// Gives the value the next number, and returns that number.
     ///
-    /// Err: there was no room, and the value comes back; each number keeps what it has.
+    /// It fails if there is no memory, and returns the value. Each number then keeps its value.
     pub fn add(&mut self, value: V) -> Result<u64, Refused<V>>
         ensures next { IfOk result (λ number. number ≡ length self.old) }
         ensures len { OnOk result (length self.new ≡ length self.old + 1) }
@@ -61,23 +61,24 @@ impl<V: Drop, A: Allocator + Copy> Dense<V, A> {
         }
     }
 
-    /// The value of a number, looked for with at most one comparison, which is counted in `steps`.
+    /// The value of a number. It is looked up with at most one comparison, which is counted in
+    /// `steps`.
     pub fn find(&self, number: u64, steps: &mut Steps) -> Option<&V>
         ensures value { option_copied result ≡ value_at self.now number }
         ensures given { IsSome result ↔ (number < length self.now) }
         ensures counted { steps.new ≤ steps.old + 1 }
     {
-        laws::bound_keys_are_below::<u64, V>();
+        laws::present_keys_are_below::<u64, V>();
         laws::small_keys_are_found_at_once::<u64, V>();
         self.values.get_counted(number, steps)
     }
 
-    /// How many slots hold a value: as many as numbers were handed out, since each value has one of
-    /// its own.
+    /// The number of slots that hold a value. It is the number of values, since each value has a
+    /// slot to itself.
     pub fn slots_in_use(&self) -> u64
         ensures { result ≡ length self.now }
     {
-        laws::bound_keys_are_below::<u64, V>();
+        laws::present_keys_are_below::<u64, V>();
         laws::small_keys_fill_slots::<u64, V>();
         self.values.load()
     }

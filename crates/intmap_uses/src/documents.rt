@@ -9,7 +9,7 @@ use std::alloc::Global;
 /// The documents, once they were written as JSON and read again: the same numbers have documents,
 /// each the same one.
 ///
-/// Err: a document holds a float, or there was no room; the documents stay as they are.
+/// It fails if a document holds a float, or if there is no memory. The documents stay as they are.
 pub fn written_and_read(
     alloc: Global,
     documents: &IntMap<u64, Value>,

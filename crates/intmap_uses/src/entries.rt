@@ -25,8 +25,8 @@ pub fn read_by_entry<K: IntKey, V: Copy, A: Allocator + Copy>(
     }
 }
 
-/// Sets the value of the key in its place, where the key is bound, and answers the one before.
-/// Where it isn't, only the count of compared keys is changed.
+/// If the key is present, sets its value in its place, and returns the value before. If it is
+/// absent, only the count of compared keys is changed.
 pub fn replace_by_entry<K: IntKey, V: Drop, A: Allocator + Copy>(
     map: &mut IntMap<K, V, A>,
     key: K,
@@ -48,8 +48,8 @@ pub fn replace_by_entry<K: IntKey, V: Drop, A: Allocator + Copy>(
     }
 }
 
-/// Sets the value of the key in its place, where the key is bound. Where it isn't, only the count
-/// of compared keys is changed.
+/// If the key is present, sets its value in its place. If it is absent, only the count of compared
+/// keys is changed.
 pub fn write_by_entry<K: IntKey, V: Drop, A: Allocator + Copy>(
     map: &mut IntMap<K, V, A>,
     key: K,
@@ -69,15 +69,15 @@ pub fn write_by_entry<K: IntKey, V: Drop, A: Allocator + Copy>(
     }
 }
 
-/// Looks for the key, and changes nothing but the count of compared keys.
+/// Looks up the key, and changes only the count of compared keys.
 pub fn search_by_entry<K: IntKey, V: Drop, A: Allocator + Copy>(map: &mut IntMap<K, V, A>, key: K)
     ensures { map.new ≡ after_search K.number_of map.old key }
 {
     map.entry(key).into_map();
 }
 
-/// Sets the number of the key to 0, where the key is bound. Where it isn't, only the count of
-/// compared keys is changed.
+/// If the key is present, sets its number to 0. If it is absent, only the count of compared keys is
+/// changed.
 pub fn reset_by_entry<K: IntKey, A: Allocator + Copy>(map: &mut IntMap<K, u64, A>, key: K)
     ensures bound { (old : _) → value_of K.number_of map.old.walk key ≡ Some old
         → map.new ≡ written K.number_of (after_search K.number_of map.old key) key 0 }
@@ -94,7 +94,7 @@ pub fn reset_by_entry<K: IntKey, A: Allocator + Copy>(map: &mut IntMap<K, u64, A
     entry.into_map();
 }
 
-/// The value of the key, by an entry that is only let go.
+/// The value of the key, by an entry that is only dropped.
 pub fn read_and_let_go<K: IntKey, V: Copy, A: Allocator + Copy>(
     map: &mut IntMap<K, V, A>,
     key: K,
@@ -108,7 +108,7 @@ pub fn read_and_let_go<K: IntKey, V: Copy, A: Allocator + Copy>(
     }
 }
 
-/// Sets the value of the key in its place, where the key is bound, by an entry that is only let go.
+/// If the key is present, sets its value in its place, by an entry that is only dropped.
 pub fn write_and_let_go<K: IntKey, V: Drop, A: Allocator + Copy>(
     map: &mut IntMap<K, V, A>,
     key: K,
@@ -123,7 +123,7 @@ pub fn write_and_let_go<K: IntKey, V: Drop, A: Allocator + Copy>(
     }
 }
 
-/// The same by `insert` of the entry, whose answer is let go too.
+/// The same by `insert` of the entry, whose result is dropped too.
 pub fn insert_and_let_go<K: IntKey, V: Drop, A: Allocator + Copy>(
     map: &mut IntMap<K, V, A>,
     key: K,

@@ -5,10 +5,10 @@ ghost use Rattle.intmap.specs.Equality.{maps_equal};
 use intmap::{Cause, IntKey, IntMap, laws};
 use std::alloc::Allocator;
 
-/// Binds two keys in a new map, and in another one the other way round, and answers whether the maps
-/// are equal, which they are.
+/// Inserts two pairs into a new map, and into another one in the other order, and returns whether
+/// the maps are equal, which they are.
 ///
-/// Err: a map or a pair was refused.
+/// It fails if a map can't be made or an insertion fails.
 pub fn built_in_two_orders<A: Allocator + Copy>(
     alloc: A,
     first: (u64, u64),
@@ -27,9 +27,9 @@ pub fn built_in_two_orders<A: Allocator + Copy>(
     Ok(map == other)
 }
 
-/// Whether the map is equal to one that was just made: exactly where there is no pair.
+/// Whether the map is equal to a new one: exactly if there is no pair.
 ///
-/// Err: the new map was refused.
+/// It fails if the new map can't be made.
 pub fn is_like_new<K: IntKey, V: Eq + Drop, A: Allocator + Copy>(
     map: &IntMap<K, V, A>,
     alloc: A,
@@ -40,9 +40,9 @@ pub fn is_like_new<K: IntKey, V: Eq + Drop, A: Allocator + Copy>(
     Ok(*map == made)
 }
 
-/// Clones the map, and answers whether the clone is equal to it, which it is.
+/// Clones the map, and returns whether the clone is equal to it, which it is.
 ///
-/// Err: the clone was refused.
+/// It fails if the clone fails.
 pub fn cloned_and_compared<A: Allocator + Copy>(map: &IntMap<u64, u64, A>) -> Result<bool, Cause>
     ensures { IfOk result (λ equal. equal ≡ true) }
 {
@@ -51,10 +51,10 @@ pub fn cloned_and_compared<A: Allocator + Copy>(map: &IntMap<u64, u64, A>) -> Re
     Ok(clone == *map)
 }
 
-/// Clones the map, gives the clone more slots and another load factor, and answers whether it is
+/// Clones the map, gives the clone more slots and another load factor, and returns whether it is
 /// still equal to the map, which it is.
 ///
-/// Err: the clone was refused, or more slots were.
+/// It fails if the clone fails, or if growing it does.
 pub fn grown_and_compared<A: Allocator + Copy>(
     map: &IntMap<u64, u64, A>,
     additional: usize,
@@ -69,14 +69,15 @@ pub fn grown_and_compared<A: Allocator + Copy>(
     Ok(clone == *map)
 }
 
-/// Whether a map is equal to itself, as it is where each value is.
+/// Whether a map is equal to itself, which it is if each value is.
 pub fn is_equal_to_itself<K: IntKey, V: Eq, A: Allocator + Copy>(map: &IntMap<K, V, A>) -> bool
     ensures { result ≡ true }
 {
     are_one(map, map)
 }
 
-/// Whether the other map is equal to this one. The answer is that of this one about the other.
+/// Whether the other map is equal to this one. The result is the same as whether this one is equal
+/// to the other.
 pub fn is_equal_to_this<K: IntKey, V: PartialEq, A: Allocator + Copy>(
     map: &IntMap<K, V, A>,
     other: &IntMap<K, V, A>,

@@ -1,4 +1,4 @@
-//! Keys that may be negative: the floors of a house, of which those below the ground floor are.
+//! Keys that may be negative: the floors of a house, some of them below the ground floor.
 ghost use Rattle.std.specs.Prelude.{◌≡◌, ◌≢◌, ℤ, IfOk, OnOk, OnErr, Some, FitsSigned};
 ghost use Rattle.std.specs.Int.{w64};
 ghost use Rattle.intmap_uses.specs.Floors.{rooms_on};
@@ -6,16 +6,16 @@ ghost use Rattle.intmap_uses.specs.Floors.{rooms_on};
 use intmap::{Cause, IntMap};
 use std::alloc::{Allocator, Global};
 
-/// The number of rooms on a floor, where one is noted.
+/// The number of rooms on a floor, if one is noted.
 pub fn rooms<A: Allocator + Copy>(house: &IntMap<i64, u64, A>, floor: i64) -> Option<u64>
     ensures { result ≡ rooms_on house.now.walk floor }
 {
     house.get(floor).copied()
 }
 
-/// Notes the number of rooms on a floor, and answers the one noted before.
+/// Notes the number of rooms on a floor, and returns the number noted before.
 ///
-/// Err: there was no memory for it; each floor has what it had.
+/// It fails if there is no memory. Each floor then keeps its number.
 pub fn note_rooms<A: Allocator + Copy>(
     house: &mut IntMap<i64, u64, A>,
     floor: i64,
@@ -31,10 +31,10 @@ pub fn note_rooms<A: Allocator + Copy>(
     Ok(house.insert(floor, rooms)?)
 }
 
-/// What is noted for the floors -1 and 1, once two rooms were noted for the one and five for the
-/// other.
+/// The numbers noted for the floors -1 and 1, after two rooms were noted for floor -1 and five for
+/// floor 1.
 ///
-/// Err: there was no memory for it.
+/// It fails if there is no memory.
 pub fn cellar_and_storey(alloc: Global) -> Result<(Option<u64>, Option<u64>), Cause>
     ensures { IfOk result (λ rooms. (rooms.0 ≡ Some 2) × (rooms.1 ≡ Some 5)) }
 {

@@ -1,4 +1,4 @@
-//! Values by id, where an id is given once.
+//! Values by id. Each id is given once.
 ghost use Rattle.std.specs.Prelude.{◌≡◌, ◌↔◌, ℕ, ◌+◌, length, IfOk, IfErr, OnOk, OnErr, IsErrAnd, IsSome, Some, None, option_copied};
 ghost use Rattle.intmap_uses.specs.Numbered.{value_at, OthersStay, AllStay};
 ghost use Rattle.intmap_uses.specs.Table.{IsTaken, GivesBack};
@@ -7,8 +7,8 @@ use intmap::{Cause, IntMap, Refused};
 use std::alloc::{Allocator, Global};
 use std::marker::Model;
 
-/// A table of values by id. Contracts see it as a list of pairs and read that by `value_at`, which is
-/// `None` at an id without a value.
+/// A table of values by id. Contracts see it as a list of pairs and read that list by `value_at`,
+/// which is `None` at an id without a value.
 #[derive(Drop)]
 pub struct IdTable<V, A: Allocator + Copy = Global> {
     values: IntMap<u64, V, A>,
@@ -22,17 +22,17 @@ impl<V, A: Allocator + Copy> Model for IdTable<V, A> {
     ghost view = { λ table. table.values.walk };
 }
 
-/// Why a value was not added; it comes back.
+/// Why a value was not added, with the value.
 #[derive(Drop)]
 pub enum NotAdded<V> {
     /// The id has a value already.
     Taken(V),
-    /// The table refused the new id.
+    /// The insertion of the new id failed.
     Refused(Refused<V>),
 }
 
 impl<V: Drop, A: Allocator + Copy> IdTable<V, A> {
-    /// A table without a value. It is refused where memory is.
+    /// A table without values. It fails if an allocation fails.
     pub fn new(alloc: A) -> Result<IdTable<V, A>, Cause>
         ensures { IfOk result (λ table. (id : ℕ) → value_at table id ≡ None) }
     {
@@ -48,9 +48,10 @@ impl<V: Drop, A: Allocator + Copy> IdTable<V, A> {
         self.values.get(id)
     }
 
-    /// Gives a new id its value. An id that has one keeps it, and the other value comes back.
+    /// Gives a new id its value. If the id has a value, it keeps that value.
     ///
-    /// Err: the id has a value, or a new id was refused; every id keeps what it has.
+    /// It fails if the id has a value, or if the insertion of a new id fails, and returns the given
+    /// value. Every id then keeps its value.
     pub fn add(&mut self, id: u64, value: V) -> Result<(), NotAdded<V>>
         ensures here { OnOk result (value_at self.new id ≡ Some value) }
         ensures others { OthersStay self.old self.new id }
@@ -68,9 +69,9 @@ impl<V: Drop, A: Allocator + Copy> IdTable<V, A> {
         }
     }
 
-    /// Gives an id that has a value another one, and answers the one before.
+    /// Replaces the value of an id, and returns the value before.
     ///
-    /// Err: the id has no value, and this one comes back; every id keeps what it has.
+    /// It fails if the id has no value, and returns the given one. Every id then keeps its value.
     pub fn replace(&mut self, id: u64, value: V) -> Result<V, V>
         ensures before { IfOk result (λ before. value_at self.old id ≡ Some before) }
         ensures here { OnOk result (value_at self.new id ≡ Some value) }
@@ -89,7 +90,7 @@ impl<V: Drop, A: Allocator + Copy> IdTable<V, A> {
         }
     }
 
-    /// Takes an id out and answers its value.
+    /// Removes an id, and returns its value.
     pub fn forget(&mut self, id: u64) -> Option<V>
         ensures value { result ≡ value_at self.old id }
         ensures here { value_at self.new id ≡ None }

@@ -1,4 +1,4 @@
-//! Ids of codes, handed out from 0 up, over two maps: from codes to ids and back.
+//! Ids of codes, handed out from 0 up, over two maps: from codes to ids, and from ids to codes.
 ghost use Rattle.std.specs.Prelude.{◌≡◌, ℕ, ◌+◌, IfOk, IfSome, None, Ok, OnErr, OnOk, Some, length};
 ghost use Rattle.intmap.specs.Bindings.{Updates};
 ghost use Rattle.intmap_uses.specs.Interned.{AreInverse};
@@ -16,10 +16,10 @@ pub struct Interner<A: Allocator + Copy = Global> {
     ghost inverse: { AreInverse (value_at ids.walk) (value_at codes.walk) (length codes.walk) },
 }
 
-/// Binds a code without an id to the next id, and that id to the code. The first map is asked last,
-/// and where it refuses the code, the id is taken out of the second again.
+/// Gives a code without an id the next id, and inserts both ways. The map from codes to ids is
+/// changed last. If its insertion fails, the id is removed from the other map again.
 ///
-/// Err: a map refused the pair; both bind each number to what they did.
+/// It fails if an insertion fails. Both maps then have the same bindings as before.
 fn bind_both<A: Allocator + Copy>(
     ids: &mut IntMap<u64, u64, A>,
     codes: &mut IntMap<u64, u64, A>,
@@ -46,7 +46,7 @@ fn bind_both<A: Allocator + Copy>(
 }
 
 impl<A: Allocator + Copy> Interner<A> {
-    /// Codes of which none has an id yet. It is refused where memory is.
+    /// An interner without codes. It fails if an allocation fails.
     pub fn new(alloc: A) -> Result<Interner<A>, Cause>
         ensures { IfOk result (λ made. (code : ℕ) → value_at made.ids.walk code ≡ None) }
     {
@@ -56,9 +56,10 @@ impl<A: Allocator + Copy> Interner<A> {
         })
     }
 
-    /// The id of the code: the one that it was given before, or else the next.
+    /// The id of the code: the one that it has already, or otherwise the next.
     ///
-    /// Err: a new pair was refused; every code keeps its id, and every id its code.
+    /// It fails if the insertion of a new pair fails. Every code then keeps its id, and every id
+    /// its code.
     pub fn id_of(&mut self, code: u64) -> Result<u64, Cause>
         ensures here { IfOk result (λ id. value_at self.new.ids.walk code ≡ Some id) }
         ensures known { IfSome (value_at self.old.ids.walk code) (λ id. result ≡ Ok id) }

@@ -1,5 +1,5 @@
-//! Texts by number: a caller written for the kit's map. Of the text for a `HashMap<u64, String>`,
-//! only the types, the places of `?`, and keys that go by value are changed.
+//! Texts by number: a caller written for the kit's map. Compared with the source for a
+//! `HashMap<u64, String>`, only the types, the places of `?`, and keys passed by value are changed.
 ghost use Rattle.std.specs.Prelude.{◌≡◌, IfOk, IfSome, IsSome, None, Some, unwrap_or, string_len};
 ghost use Rattle.std.specs.Map.{keys_of, values_of};
 ghost use Rattle.intmap.specs.Bindings.{value_of, Updates};
@@ -24,7 +24,7 @@ fn copy_of(alloc: Global, word: &str) -> Result<String, Cause>
     Ok(String::from_str(alloc, word)?)
 }
 
-/// The length of the number's text, which becomes the given one where it has none.
+/// The length of the number's text. If the number has none, it gets the given one first.
 pub fn length_or(texts: &mut Texts, number: u64, text: String) -> Result<usize, Cause>
     ensures { IfOk result (λ len. len
         ≡ string_len (unwrap_or (value_of (λ key. key) texts.old.walk number) text)) }
@@ -45,7 +45,7 @@ pub fn length_by_parity(
     Ok(text.len())
 }
 
-/// The same with a copy of the word, which is made only where the number has no text.
+/// The same with a copy of the word, which is made only if the number has no text.
 pub fn length_or_copy(
     texts: &mut Texts,
     alloc: Global,
@@ -58,13 +58,13 @@ pub fn length_or_copy(
     Ok(text.len())
 }
 
-/// Puts the word behind the number's text, which begins as an empty one.
+/// Puts the word behind the number's text. If the number has no text, it gets an empty one first.
 pub fn append(texts: &mut Texts, number: u64, word: &str) -> Result<(), Cause> {
     texts.entry(number).or_default()?.push_str(word)?;
     Ok(())
 }
 
-/// Sets the text of the number, and answers its length.
+/// Sets the text of the number, and returns its length.
 pub fn set(texts: &mut Texts, number: u64, text: String) -> Result<usize, Cause>
     ensures { IfOk result (λ len. len ≡ string_len text) }
 {
@@ -72,7 +72,8 @@ pub fn set(texts: &mut Texts, number: u64, text: String) -> Result<usize, Cause>
     Ok(entry.get().len())
 }
 
-/// Takes the number out with its text, or gives it the text where it had none.
+/// If the number has a text, removes and returns the number with its text. Otherwise gives it the
+/// text.
 pub fn toggle(texts: &mut Texts, number: u64, text: String) -> Result<Option<(u64, String)>, Cause>
     ensures { IfOk result (λ taken. taken
         ≡ option_map (λ text. (number, text)) (value_of (λ key. key) texts.old.walk number)) }
@@ -86,7 +87,7 @@ pub fn toggle(texts: &mut Texts, number: u64, text: String) -> Result<Option<(u6
     }
 }
 
-/// The number, where it has no text.
+/// The number, if it has no text.
 pub fn missing(texts: &mut Texts, number: u64) -> Result<Option<u64>, Cause>
     ensures { IfOk result (λ missing. IfSome missing (λ missing. (missing ≡ number)
         × (value_of (λ key. key) texts.old.walk number ≡ None))) }
@@ -107,7 +108,7 @@ pub fn pair_of(texts: &Texts, number: u64) -> Option<(u64, usize)>
     Some((*number, text.len()))
 }
 
-/// Takes the number out with its text.
+/// Removes the number, and returns it with its text.
 pub fn take(texts: &mut Texts, number: u64) -> Option<(u64, String)>
     ensures pair { result
         ≡ option_map (λ text. (number, text)) (value_of (λ key. key) texts.old.walk number) }
@@ -125,7 +126,7 @@ pub fn known_length(texts: &Texts, number: u64) -> usize
     texts[number].len()
 }
 
-/// Takes the empty texts out, and answers how many they were.
+/// Removes the empty texts, and returns how many they were.
 pub fn drop_empty(texts: &mut Texts) -> usize {
     texts.extract_if(|_, text| text.is_empty()).count()
 }
@@ -145,7 +146,7 @@ pub fn texts_alone(alloc: Global, texts: Texts) -> Result<Vec<String>, Cause>
 }
 
 /// The first pair, the first number and the first text, each by a clone that goes ahead of its
-/// iterator: the length of that text where the three agree.
+/// iterator. If the three agree, it returns the length of that text.
 pub fn first_length(texts: &Texts) -> Result<Option<usize>, Cause> {
     let pairs = texts.iter();
     let numbers = texts.keys();

@@ -1,4 +1,4 @@
-//! Callers of a map from integer keys, each of which says in its own words what it does.
+//! Callers of a map from integer keys. The contract of each says in its own words what it does.
 #![tactic(auto)]
 
 pub mod bindings;

@@ -1,4 +1,4 @@
-//! Values that are made where a key is absent, and entries that are kept, removed or given up.
+//! Values that are made if a key is absent, and entries that are kept, removed or ended.
 ghost use Rattle.std.specs.Prelude.{◌≡◌, ◌+◌, ◌-◌, ◌*◌, ◌^◌, ◌<◌, None, Some, false, unwrap_or, IfOk, IfErr, IfSome, OnOk, OnErr};
 ghost use Rattle.intmap.specs.Bindings.{value_of, Updates};
 ghost use Rattle.intmap.specs.Classes.{same_key};
@@ -9,9 +9,9 @@ use intmap::entry::Entry;
 use intmap::{Cause, IntKey, IntMap, Refused};
 use std::alloc::Allocator;
 
-/// Counts one occurrence of the key, whose count begins at the default of a number.
+/// Counts one occurrence of the key. A new key's count begins at the default of a number.
 ///
-/// Err: the pair of a new key was refused; every key keeps what it has.
+/// It fails if the insertion of a new key fails. Every key then keeps its value.
 pub fn count_by_default<K: IntKey, A: Allocator + Copy>(
     counts: &mut IntMap<K, u64, A>,
     key: K,
@@ -25,9 +25,10 @@ pub fn count_by_default<K: IntKey, A: Allocator + Copy>(
     Ok(())
 }
 
-/// Squares that are kept once they were computed: the square of a number below 2^32.
+/// The value of a number below 2^32 in a map of squares. If the number is absent, its square is
+/// computed and inserted first.
 ///
-/// Err: the square that was computed, and why its pair was refused.
+/// It fails if that insertion fails, and returns the square with the cause.
 pub fn square<A: Allocator + Copy>(
     squares: &mut IntMap<u64, u64, A>,
     number: u64,
@@ -45,9 +46,9 @@ pub fn square<A: Allocator + Copy>(
     Ok(*square)
 }
 
-/// The value of the key, which is the given one where the key was absent.
+/// The value of the key. If the key was absent, that is the given value.
 ///
-/// Err: the value comes back.
+/// It fails if the insertion fails, and returns the value.
 pub fn value_or<K: IntKey, V: Copy, A: Allocator + Copy>(
     map: &mut IntMap<K, V, A>,
     key: K,
@@ -62,7 +63,8 @@ pub fn value_or<K: IntKey, V: Copy, A: Allocator + Copy>(
 
 /// Sets the value of the key, whether it is present or not.
 ///
-/// Err: the pair of a new key was refused, the value comes back, and every key keeps what it has.
+/// It fails if the insertion of a new key fails, and returns the value. Every key then keeps its
+/// value.
 pub fn set_by_entry<K: IntKey, V: Drop, A: Allocator + Copy>(
     map: &mut IntMap<K, V, A>,
     key: K,
@@ -76,7 +78,7 @@ pub fn set_by_entry<K: IntKey, V: Drop, A: Allocator + Copy>(
     Ok(())
 }
 
-/// Takes the pair of the key out, with its key.
+/// Removes the pair of the key, and returns it with its key.
 pub fn take_pair<K: IntKey, V, A: Allocator + Copy>(
     map: &mut IntMap<K, V, A>,
     key: K,
@@ -94,7 +96,7 @@ pub fn take_pair<K: IntKey, V, A: Allocator + Copy>(
     }
 }
 
-/// The key, where it is absent.
+/// The key, if it is absent.
 pub fn missing_key<K: IntKey, V, A: Allocator + Copy>(
     map: &mut IntMap<K, V, A>,
     key: K,

@@ -1,4 +1,4 @@
-//! Groups of ids as sets: who of one group is in another, and groups that are made of two.
+//! Groups of ids as sets: which members of one group are in another, and groups made of two.
 ghost use Rattle.std.specs.Prelude.{◌↔◌, IfOk, IsTrue};
 ghost use Rattle.intmap_set.specs.Combined.{IsDifference, IsIntersection, IsUnion};
 ghost use Rattle.intmap_set.specs.Sets.{holds};
@@ -7,9 +7,9 @@ use intmap::{Cause, IntKey};
 use intmap_set::{IntSet, laws};
 use std::alloc::Allocator;
 
-/// Who of one group is in the other as well.
+/// The members of one group that are in the other as well.
 ///
-/// Err: the set or a member of it was refused.
+/// It fails if the set can't be made or an insertion fails.
 pub fn members_of_both<K: IntKey, A: Allocator + Copy>(
     alloc: A,
     group: &IntSet<K, A>,
@@ -21,9 +21,9 @@ pub fn members_of_both<K: IntKey, A: Allocator + Copy>(
     IntSet::from_iter(alloc, group.intersection(other).copied())
 }
 
-/// Everyone who is in one of the groups.
+/// The members of either group.
 ///
-/// Err: the set or a member of it was refused.
+/// It fails if the set can't be made or an insertion fails.
 pub fn members_of_either<K: IntKey, A: Allocator + Copy>(
     alloc: A,
     group: &IntSet<K, A>,
@@ -35,7 +35,7 @@ pub fn members_of_either<K: IntKey, A: Allocator + Copy>(
     IntSet::from_iter(alloc, group.union(other).copied())
 }
 
-/// Whether everyone of one group is in the other.
+/// Whether every member of one group is in the other.
 pub fn are_all_in<K: IntKey, A: Allocator + Copy>(
     group: &IntSet<K, A>,
     other: &IntSet<K, A>,
@@ -46,7 +46,7 @@ pub fn are_all_in<K: IntKey, A: Allocator + Copy>(
     group.is_subset(other)
 }
 
-/// Takes those of a group who are in the other out of it.
+/// Removes from a group the members that are in the other.
 pub fn leave_together<K: IntKey, A: Allocator + Copy>(
     group: &mut IntSet<K, A>,
     other: &IntSet<K, A>,

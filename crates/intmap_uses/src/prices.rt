@@ -7,7 +7,7 @@ use std::alloc::Allocator;
 
 /// The price of an article after it was raised, in a price list of its own.
 ///
-/// Err: there was no room for the list or for a price in it.
+/// It fails if there is no memory for the list or for a price in it.
 pub fn raised_price<A: Allocator + Copy>(
     alloc: A,
     article: u64,
@@ -22,9 +22,8 @@ pub fn raised_price<A: Allocator + Copy>(
     Ok(prices.get(article).copied())
 }
 
-/// Raises the price of an article, to 2^64 - 1 where it would be above, and answers the price that
-/// it has then; or answers `None` where it has no price. It is never refused: an article that has
-/// a price needs no more room.
+/// Raises the price of an article, to at most 2^64 - 1, and returns the new price, or `None` if the
+/// article has none. It never fails: the insertion of a present key needs no memory.
 pub fn raise<A: Allocator + Copy>(
     prices: &mut IntMap<u64, u64, A>,
     article: u64,

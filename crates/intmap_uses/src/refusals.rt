@@ -1,26 +1,27 @@
-//! Pairs on their way into a map: what is refused waits, with its cause, and is tried again.
+//! Pairs on their way into a map: a pair whose insertion fails waits, with its cause, and is tried
+//! again.
 ghost use Rattle.std.specs.Prelude.{◌≡◌, ℕ, ◌+◌, ◌<◌, ◌≤◌, List, ◌∷◌, ◌++◌, [], OnOk, OnErr, length, vec_capacity};
 ghost use Rattle.intmap_uses.specs.Waiting.{Moves, pairs_of};
 
 use intmap::{Cause, IntMap};
 use std::alloc::{AllocError, Allocator};
 
-/// A pair that was refused, with the cause.
+/// A pair whose insertion failed, with the cause.
 #[derive(Drop)]
 pub struct Waiting<V> {
     /// The key.
     pub key: u64,
     /// The value.
     pub value: V,
-    /// Why it was refused the last time.
+    /// Why its insertion failed the last time.
     pub cause: Cause,
 }
 
-/// Moves the pairs into the map, the last first. What is refused waits with its cause, behind what
-/// waits already: each pair is bound, at least until a later one takes its key, or waits, and none
-/// is lost or doubled.
+/// Moves the pairs into the map, the last first. A pair whose insertion fails waits with its cause,
+/// behind those that wait already. So each pair is in the map, at least until a later one takes its
+/// key, or it waits. No pair is lost or doubled.
 ///
-/// Err: there was no room to let so many wait, and nothing was moved.
+/// It fails if there is no memory to let all of them wait, and then moves nothing.
 pub fn move_into<V: Drop, A: Allocator + Copy>(
     map: &mut IntMap<u64, V, A>,
     pairs: &mut Vec<(u64, V), A>,
@@ -40,10 +41,10 @@ pub fn move_into<V: Drop, A: Allocator + Copy>(
     Ok(())
 }
 
-/// Tries each waiting pair once more, the last first. What is refused again waits with its new
-/// cause.
+/// Tries each waiting pair once more, the last first. If its insertion fails again, it waits with
+/// its new cause.
 ///
-/// Err: there was no room for the new list, and nothing was moved.
+/// It fails if there is no memory for the new list, and then moves nothing.
 pub fn try_again<V: Drop, A: Allocator + Copy>(
     alloc: A,
     map: &mut IntMap<u64, V, A>,
@@ -63,8 +64,8 @@ pub fn try_again<V: Drop, A: Allocator + Copy>(
     Ok(())
 }
 
-/// Binds the key to the value, or lets the pair wait where that is refused; for that there is room.
-/// Where the pair was the last of those that were still to be moved, one fewer is.
+/// Inserts the pair, or lets it wait if the insertion fails. There is room for it to wait. If the
+/// pair was the last of those that were still to be moved, there is one fewer.
 fn bind<V: Drop, A: Allocator + Copy>(
     map: &mut IntMap<u64, V, A>,
     key: u64,

@@ -1,11 +1,11 @@
-//! Pairs that stay: by a test of the pair, and by a closure that counts along.
+//! Pairs that stay: by a test of the pair, and by a closure that counts its calls.
 ghost use Rattle.std.specs.Prelude.{◌≡◌, ◌+◌, ◌<◌, ◌^◌, ◌%◌, ◌==◌, All, false, filter, length, not, slice_index_or, take};
 ghost use Rattle.intmap_uses.specs.Retained.{every_other};
 
 use intmap::{IntKey, IntMap};
 use std::alloc::Allocator;
 
-/// Drops the pairs whose key is odd. The rest keeps its order and its slots.
+/// Drops the pairs whose key is odd. The others keep their order and their slots.
 pub fn drop_odd<V: Drop, A: Allocator + Copy>(map: &mut IntMap<u64, V, A>)
     ensures walk { map.new.walk ≡ filter (λ pair. pair.0 % 2 == 0) map.old.walk }
     ensures capacity { map.new.capacity ≡ map.old.capacity }
@@ -33,8 +33,8 @@ pub fn keep_every_other<K: IntKey, V: Drop, A: Allocator + Copy>(map: &mut IntMa
     });
 }
 
-/// Keeps the keys for which the table says true, and drops the others. All keys are places of the
-/// table, so each look into it is safe: the closure is called at no other key.
+/// Keeps the pairs for whose keys the table has true, and drops the others. All keys are indices of
+/// the table, so each look into it is safe: the closure is called at no other key.
 pub fn keep_listed<V: Drop, A: Allocator + Copy>(map: &mut IntMap<u64, V, A>, keeps: &[bool])
     requires { All (λ pair. pair.0 < length keeps.now) map.old.walk }
     ensures walk { map.new.walk
@@ -44,8 +44,8 @@ pub fn keep_listed<V: Drop, A: Allocator + Copy>(map: &mut IntMap<u64, V, A>, ke
     map.retain(|key, _| keeps[key as usize]);
 }
 
-/// Keeps the first so many pairs of the walk, or all where there are no more. The closure counts
-/// its calls, a sum that fits since it is called once a pair.
+/// Keeps the first `count` pairs of the walk, or all if there are fewer. The closure counts its
+/// calls. The count fits, since the closure is called once for each pair.
 pub fn keep_first<K: IntKey, V: Drop, A: Allocator + Copy>(map: &mut IntMap<K, V, A>, count: usize)
     ensures walk { map.new.walk ≡ take count map.old.walk }
     ensures capacity { map.new.capacity ≡ map.old.capacity }
@@ -64,7 +64,7 @@ pub fn keep_first<K: IntKey, V: Drop, A: Allocator + Copy>(map: &mut IntMap<K, V
     );
 }
 
-/// Keeps the pairs of which the caller's closure says true, and answers how many went.
+/// Keeps the pairs for which the caller's closure returns true, and returns how many were removed.
 pub fn retain_counted<K: IntKey, V: Drop, A: Allocator + Copy, F: FnMut(K, &V) -> bool>(
     map: &mut IntMap<K, V, A>,
     keeps: F,

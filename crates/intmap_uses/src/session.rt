@@ -1,4 +1,4 @@
-//! Runs of commands, told by one plain list of pairs.
+//! Runs of commands, described by one plain list of pairs.
 ghost use Rattle.std.specs.Prelude.{◌≡◌, ◌∷◌, [], IfOk, IfErr, Some, None};
 ghost use Rattle.intmap_uses.specs.Sessions.{RunsTwice, Stops};
 
@@ -28,21 +28,21 @@ impl Judge<u64, u64> for Plain {
     }
 }
 
-/// Where two runs stopped for want of room.
+/// The point at which two runs stopped for want of memory.
 #[derive(Drop)]
 pub enum Stopped<K, V, S, A: Allocator = Global> {
-    /// Before the first run; the commands of both come back.
+    /// Before the first run. It has the commands of both.
     First(Vec<Command<K, V, A>, A>, Vec<Command<K, V, A>, A>),
-    /// Before the second run; the answers of the first come back, and the commands of the second.
+    /// Before the second run. It has the answers of the first, and the commands of the second.
     Second(Vec<Answer<K, V, S, A>, A>, Vec<Command<K, V, A>, A>),
 }
 
-/// Runs two lists of commands on a map, one after the other. Every plain list of pairs that stands
-/// for the map is led by the first commands and answers to another, and that one by the second to
-/// one that stands for the map at the end.
+/// Runs two lists of commands on a map, one after the other. The first commands and answers lead
+/// from every plain list of pairs that stands for the map to another list. The second ones lead
+/// from that list to one that stands for the map at the end.
 ///
-/// Err: there was no room for the answers of a run. Before the first the map is as it was; before
-/// the second it is as the first left it.
+/// It fails if there is no memory for the answers of a run. Before the first run, the map is then
+/// as it was. Before the second, it is as the first left it.
 pub fn run_twice<K: IntKey, V: Drop, J: Judge<K, V>, A: Allocator + Copy>(
     alloc: A,
     map: &mut IntMap<K, V, A>,
@@ -72,10 +72,10 @@ pub fn run_twice<K: IntKey, V: Drop, J: Judge<K, V>, A: Allocator + Copy>(
     }
 }
 
-/// Binds 7 to 1 and then to 2, looks it up, takes it out and asks for the length, on a new map.
-/// None of it is refused once there is a map and room for the answers.
+/// On a new map, inserts 7 with 1 and then with 2, looks up 7, removes it, and reads the length. No
+/// command fails once there is a map and memory for the answers.
 ///
-/// Err: memory was refused.
+/// It fails if there is no memory.
 pub fn five_answers(alloc: Global) -> Result<Vec<Answer<u64, u64, u64>>, Cause>
     ensures ok { IfOk result (λ answers. answers.items ≡ Answer.Old None ∷ Answer.Old (Some 1)
         ∷ Answer.Seen (Some 2) ∷ Answer.Old (Some 2) ∷ Answer.Number 0 ∷ []) }

@@ -1,4 +1,4 @@
-//! Settings by number, of which the one that is given last counts.
+//! Settings by number. The last value of a setting counts.
 ghost use Rattle.std.specs.Prelude.{◌≡◌, ℕ, reverse, IfOk, OnOk};
 ghost use Rattle.std.specs.Option.{option_or};
 ghost use Rattle.intmap.specs.Bindings.{value_of};
@@ -6,10 +6,10 @@ ghost use Rattle.intmap.specs.Bindings.{value_of};
 use intmap::{Cause, IntMap, RefusedPair};
 use std::alloc::Allocator;
 
-/// Puts further settings over those that there are: each has its last value among the further ones,
-/// or, where they don't name it, the value that it had.
+/// Puts further settings over the present ones. Each setting then has its last value among the
+/// further ones, or, if they don't name it, the value that it had.
 ///
-/// Err: a setting was refused; those before it are in the table.
+/// It fails if an insertion fails. The settings before that one are then in the table.
 pub fn put_over<V: Drop, A: Allocator + Copy>(
     settings: &mut IntMap<u64, V, A>,
     further: Vec<(u64, V), A>,
@@ -23,7 +23,7 @@ pub fn put_over<V: Drop, A: Allocator + Copy>(
 
 /// A table of settings, each with its last value in the list.
 ///
-/// Err: the table or a setting was refused, and none is left.
+/// It fails if the table can't be made or an insertion fails, and then drops everything.
 pub fn table_of<V: Drop, A: Allocator + Copy>(
     alloc: A,
     settings: Vec<(u64, V), A>,

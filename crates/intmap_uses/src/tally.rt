@@ -1,4 +1,4 @@
-//! How often each number occurs: by entries, and by values that are written in their place.
+//! How often each number occurs: by entries, and by values that are written in place.
 ghost use Rattle.std.specs.Prelude.{◌≡◌, ◌+◌, ◌-◌, ◌^◌, ◌<◌, ◌==◌, ℕ, Some, IfOk, OnOk, count_by, unwrap_or};
 ghost use Rattle.intmap.specs.Bindings.{Updates};
 ghost use Rattle.intmap_uses.specs.Counts.{count_of};
@@ -6,9 +6,9 @@ ghost use Rattle.intmap_uses.specs.Counts.{count_of};
 use intmap::{Cause, IntMap};
 use std::alloc::Allocator;
 
-/// Counts one occurrence of the number, which is looked for once.
+/// Counts one occurrence of the number, which is looked up once.
 ///
-/// Err: the pair of a new number was refused.
+/// It fails if the insertion of a new number fails.
 fn count_by_entry<A: Allocator + Copy>(
     tally: &mut IntMap<u64, u64, A>,
     number: u64,
@@ -21,9 +21,9 @@ fn count_by_entry<A: Allocator + Copy>(
     Ok(())
 }
 
-/// Counts one occurrence of the number, whose count is written in its place.
+/// Counts one occurrence of the number, whose count is written in place.
 ///
-/// Err: the pair of a new number was refused.
+/// It fails if the insertion of a new number fails.
 fn count_by_get_mut<A: Allocator + Copy>(
     tally: &mut IntMap<u64, u64, A>,
     number: u64,
@@ -40,9 +40,9 @@ fn count_by_get_mut<A: Allocator + Copy>(
     Ok(())
 }
 
-/// Each number of the slice, bound to how often it occurs there.
+/// Each number of the slice, with how often it occurs there.
 ///
-/// Err: the pair of a new number was refused.
+/// It fails if the insertion of a new number fails.
 pub fn tally_by_entry<A: Allocator + Copy>(
     alloc: A,
     numbers: &[u64],
@@ -57,9 +57,9 @@ pub fn tally_by_entry<A: Allocator + Copy>(
     Ok(tally)
 }
 
-/// The same map, made by writing counts in their place.
+/// The same map, made by writing counts in place.
 ///
-/// Err: the pair of a new number was refused.
+/// It fails if the insertion of a new number fails.
 pub fn tally_by_get_mut<A: Allocator + Copy>(
     alloc: A,
     numbers: &[u64],

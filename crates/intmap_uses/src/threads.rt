@@ -1,5 +1,5 @@
-//! Maps that cross threads. No thread starts here: `run_apart` asks of a job and of its result what
-//! `std::thread::join` asks of them, and calls the job itself.
+//! Maps that cross threads. No thread starts here: `run_apart` requires of a job and of its result
+//! what `std::thread::join` requires of them, and calls the job itself.
 ghost use Rattle.std.specs.Prelude.{◌≡◌, ◌^◌, ◌≤◌, None, IfSome, option_copied};
 ghost use Rattle.std.specs.List.{sum};
 ghost use Rattle.std.specs.Map.{values_of};
@@ -18,7 +18,8 @@ pub fn run_apart<T: Send, J: FnOnce() -> T + Send>(job: J) -> T
     job()
 }
 
-/// The sum of all values, by a job that the map moves into; `None` exactly where it is above 2^64 - 1.
+/// The sum of all values, by a job that the map moves into. It is `None` exactly if the sum is
+/// above 2^64 - 1.
 pub fn total_apart(map: IntMap<u64, u64>) -> Option<u64>
     ensures some { IfSome result (λ total. total ≡ sum (values_of map.walk)) }
     ensures none { result ≡ None → 2 ^ 64 ≤ sum (values_of map.walk) }
@@ -26,8 +27,8 @@ pub fn total_apart(map: IntMap<u64, u64>) -> Option<u64>
     run_apart(move || total(&map))
 }
 
-/// The map, which moves into a job and comes back. Keys, values and allocator are of any types that
-/// cross threads.
+/// The map, which moves into a job and is returned by it. Keys, values and allocator are of any
+/// types that cross threads.
 pub fn there_and_back<K: IntKey + Send, V: Send + Drop, A: Allocator + Copy + Send>(
     map: IntMap<K, V, A>,
 ) -> IntMap<K, V, A>

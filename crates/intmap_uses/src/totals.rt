@@ -1,4 +1,4 @@
-//! What all values come to.
+//! The sum of all values.
 ghost use Rattle.std.specs.Prelude.{◌≡◌, ◌^◌, ◌≤◌, None, IfSome};
 ghost use Rattle.std.specs.List.{sum};
 ghost use Rattle.std.specs.Map.{values_of};
@@ -6,7 +6,7 @@ ghost use Rattle.std.specs.Map.{values_of};
 use intmap::{IntKey, IntMap};
 use std::alloc::Allocator;
 
-/// The sum of all values; `None` exactly where it is above 2^64 - 1.
+/// The sum of all values. It is `None` exactly if the sum is above 2^64 - 1.
 pub fn total<K: IntKey, A: Allocator + Copy>(map: &IntMap<K, u64, A>) -> Option<u64>
     ensures some { IfSome result (λ total. total ≡ sum (values_of map.now.walk)) }
     ensures none { result ≡ None → 2 ^ 64 ≤ sum (values_of map.now.walk) }

@@ -1,4 +1,4 @@
-//! All values written in one pass: each by itself, and by a closure that sums along.
+//! All values written in one pass: each by itself, or by a closure that sums along.
 ghost use Rattle.std.specs.Prelude.{◌≡◌, ◌+◌, ◌<◌, ◌^◌, All, length};
 ghost use Rattle.std.specs.Map.{keys_of};
 ghost use Rattle.intmap_uses.specs.Values.{more_by_keys, one_more, sums_from};
@@ -28,7 +28,7 @@ pub fn add_up<K: IntKey, A: Allocator + Copy>(map: &mut IntMap<K, u64, A>)
     });
 }
 
-/// Adds its key to each value. No sum is too large, and no pair's key meets another pair's value.
+/// Adds its key to each value. No sum is too large, since each value is added to its own key alone.
 pub fn add_keys<A: Allocator + Copy>(map: &mut IntMap<u64, u64, A>)
     requires { All (λ pair. pair.0 + pair.1 < 2 ^ 64) map.old.walk }
     ensures walk { map.new.walk ≡ more_by_keys map.old.walk }
@@ -38,7 +38,7 @@ pub fn add_keys<A: Allocator + Copy>(map: &mut IntMap<u64, u64, A>)
     map.for_each_mut(|key, value| *value += key);
 }
 
-/// Lets the caller's closure write each value, and answers how many it wrote.
+/// Lets the caller's closure write each value, and returns how many values it wrote.
 pub fn write_counted<K: IntKey, V, A: Allocator + Copy, F: FnMut(K, &mut V)>(
     map: &mut IntMap<K, V, A>,
     write: F,

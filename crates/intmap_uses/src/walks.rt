@@ -1,4 +1,5 @@
-//! The ways to go through a map: by its pairs, its keys or its values, and by pairs that it hands out.
+//! The ways to go through a map: by its pairs, its keys or its values by reference, and by its
+//! pairs by value.
 ghost use Rattle.std.specs.Prelude.{◌≡◌, IfOk};
 ghost use Rattle.std.specs.Map.{keys_of, values_of};
 ghost use Rattle.intmap.specs.Bindings.{HasDistinctKeys};
@@ -15,13 +16,14 @@ pub struct Walks<K, V, A: Allocator = Global> {
     pub keys: Vec<K, A>,
     /// What `values` gave.
     pub values: Vec<V, A>,
-    /// What `into_iter` handed out.
+    /// What `into_iter` gave.
     pub handed_out: Vec<(K, V), A>,
 }
 
-/// Goes through the map in each way to the end. All give the same walk, in which no key comes twice.
+/// Goes through the map in each way to the end. All give the same walk, in which no key occurs
+/// twice.
 ///
-/// Err: there was no room for what they give.
+/// It fails if there is no memory for what they give.
 pub fn walk_each_way<K: IntKey, V: Copy, A: Allocator + Copy>(
     alloc: A,
     map: IntMap<K, V, A>,
@@ -40,7 +42,7 @@ pub fn walk_each_way<K: IntKey, V: Copy, A: Allocator + Copy>(
     })
 }
 
-/// The pairs of the map. Err: there was no room for them.
+/// The pairs of the map. It fails if there is no memory for them.
 fn list_pairs<K: IntKey, V: Copy, A: Allocator + Copy>(
     alloc: A,
     map: &IntMap<K, V, A>,
@@ -55,7 +57,7 @@ fn list_pairs<K: IntKey, V: Copy, A: Allocator + Copy>(
     Ok(pairs)
 }
 
-/// The keys of the map. Err: there was no room for them.
+/// The keys of the map. It fails if there is no memory for them.
 fn list_keys<K: IntKey, V: Copy, A: Allocator + Copy>(
     alloc: A,
     map: &IntMap<K, V, A>,
@@ -65,7 +67,7 @@ fn list_keys<K: IntKey, V: Copy, A: Allocator + Copy>(
     map.keys().copied().collect(alloc)
 }
 
-/// The values of the map. Err: there was no room for them.
+/// The values of the map. It fails if there is no memory for them.
 fn list_values<K: IntKey, V: Copy, A: Allocator + Copy>(
     alloc: A,
     map: &IntMap<K, V, A>,
@@ -75,7 +77,7 @@ fn list_values<K: IntKey, V: Copy, A: Allocator + Copy>(
     map.values().copied().collect(alloc)
 }
 
-/// The pairs of the map by value. Err: there was no room for them.
+/// The pairs of the map by value. It fails if there is no memory for them.
 fn hand_out<K: IntKey, V: Copy, A: Allocator + Copy>(
     alloc: A,
     map: IntMap<K, V, A>,

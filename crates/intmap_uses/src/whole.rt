@@ -1,9 +1,9 @@
-//! Whole pairs: a key with its value, looked up, taken out, or listed in an array; a value by
-//! `map[key]`; and the keys or the values of a map that is used up.
+//! Whole pairs: a key with its value, looked up, removed, or listed in an array; a value by
+//! `map[key]`; and the keys or the values of a map that is consumed.
 ghost use Rattle.std.specs.Prelude.{◌≡◌, IfNone, IfOk, IfSome, List, [], ◌∷◌, None, Some, false, reverse};
 ghost use Rattle.std.specs.Map.{keys_of, values_of};
 ghost use Rattle.std.specs.Option.{option_map};
-ghost use Rattle.intmap.specs.Bindings.{HasDistinctKeys, IsBound, value_of};
+ghost use Rattle.intmap.specs.Bindings.{HasDistinctKeys, IsPresent, value_of};
 ghost use Rattle.intmap.specs.Classes.{same_key};
 
 use intmap::iter::Keys;
@@ -21,7 +21,8 @@ pub fn copy_pair<K: IntKey, V: Copy, A: Allocator + Copy>(
     Some((*key, *value))
 }
 
-/// Takes the pair of the key out: the key itself, with its value. Every other key keeps what it has.
+/// Removes the pair of the key, and returns it: the key itself, with its value. Every other key
+/// keeps its value.
 pub fn take_pair<K: IntKey, V, A: Allocator + Copy>(
     map: &mut IntMap<K, V, A>,
     key: K,
@@ -37,13 +38,13 @@ pub fn take_pair<K: IntKey, V, A: Allocator + Copy>(
 
 /// The value of a key that the caller knows to be present.
 pub fn known_value<K: IntKey, V: Copy, A: Allocator + Copy>(map: &IntMap<K, V, A>, key: K) -> V
-    requires { IsBound K.number_of map.now.walk key }
+    requires { IsPresent K.number_of map.now.walk key }
     ensures { value_of K.number_of map.now.walk key ≡ Some result }
 {
     map[key]
 }
 
-/// The key that comes next, by a clone: the iterator itself stays where it is.
+/// The next key, by a clone: the iterator itself stays as it is.
 pub fn next_key<K: IntKey, V, A: Allocator + Copy>(keys: &Keys<'_, K, V, A>) -> Option<K>
     ensures some { IfSome result (λ key. (rest : List K) × (keys.now ≡ key ∷ rest)) }
     ensures none { IfNone result (keys.now ≡ []) }
@@ -53,7 +54,7 @@ pub fn next_key<K: IntKey, V, A: Allocator + Copy>(keys: &Keys<'_, K, V, A>) -> 
 
 /// The keys of the map, each once.
 ///
-/// Err: there was no room for them.
+/// It fails if there is no memory for them.
 pub fn keys_alone<K: IntKey, V: Drop, A: Allocator + Copy>(
     alloc: A,
     map: IntMap<K, V, A>,
@@ -70,7 +71,7 @@ pub fn keys_alone<K: IntKey, V: Drop, A: Allocator + Copy>(
 
 /// The values of the map, in the order of its walk.
 ///
-/// Err: there was no room for them.
+/// It fails if there is no memory for them.
 pub fn values_alone<K: IntKey, V: Drop, A: Allocator + Copy>(
     alloc: A,
     map: IntMap<K, V, A>,
@@ -82,7 +83,7 @@ pub fn values_alone<K: IntKey, V: Drop, A: Allocator + Copy>(
 
 /// A map of the array's pairs, in which each key has its last value.
 ///
-/// Err: the map or a pair was refused, and none is left.
+/// It fails if the map can't be made or an insertion fails, and then drops everything.
 pub fn bind_all<K: IntKey, V: Drop, A: Allocator + Copy, const N: usize>(
     alloc: A,
     pairs: [(K, V); N],

@@ -1,13 +1,15 @@
-//! Work by number: a queue whose jobs are taken out from the front of the walk.
+//! Work by number: a queue whose jobs are removed from the front of the walk.
 ghost use Rattle.std.specs.Prelude.{◌≡◌, [], ◌++◌, IfOk, OnOk, OnErr, length, min};
 
 use intmap::IntMap;
 use std::alloc::{AllocError, Allocator};
 
-/// Takes one job after another off the queue, and puts it behind those that are done. No job is
-/// lost: those that are done, and then those in the queue, are the same as before, in one order.
+/// Removes one job after another from the queue, and puts it behind those that are done. No job is
+/// lost: the jobs that are done, followed by those in the queue, are the same as before, in the
+/// same order.
 ///
-/// Err: there was no room for one job more; it and those behind it stay in the queue.
+/// It fails if there is no memory for one more job. This job and those behind it then stay in the
+/// queue.
 pub fn work_off<V: Drop, A: Allocator + Copy>(
     queue: &mut IntMap<u64, V, A>,
     done: &mut Vec<(u64, V), A>,
@@ -29,10 +31,10 @@ pub fn work_off<V: Drop, A: Allocator + Copy>(
     Ok(())
 }
 
-/// Takes so many jobs off the front of the queue, or all where there are fewer. Those that are taken,
-/// and then those that stay, are the queue as it was.
+/// Removes `count` jobs from the front of the queue, or all if there are fewer. The jobs that are
+/// removed, followed by those that stay, are the queue as it was.
 ///
-/// Err: there was no room for them; the queue stays as it is.
+/// It fails if there is no memory for them, and the queue stays as it is.
 pub fn take_first<V: Drop, A: Allocator + Copy>(
     alloc: A,
     queue: &mut IntMap<u64, V, A>,

@@ -1,4 +1,4 @@
-//! Values that are written in one walk over a map, with the keys left as they are.
+//! Values that are written in one walk over a map, while its keys stay.
 ghost use Rattle.std.specs.Prelude.{◌≡◌, ◌<◌, ◌^◌, length};
 ghost use Rattle.std.specs.Map.{keys_of};
 ghost use Rattle.intmap.specs.Map.{IsMap};
@@ -7,8 +7,8 @@ use intmap::{IntKey, IntMap};
 use std::alloc::Allocator;
 use std::mem;
 
-/// Sets the first values of the walk to zero, so many or all where there are fewer, and goes no
-/// further. The keys keep their order, and the map its slots.
+/// Sets the first `count` values of the walk to zero, or all if there are fewer. The keys keep
+/// their order, and the map its slots.
 pub fn clear_first<K: IntKey, A: Allocator + Copy>(map: &mut IntMap<K, u64, A>, count: usize)
     ensures keys { keys_of map.new.walk ≡ keys_of map.old.walk }
     ensures len { length map.new.walk ≡ length map.old.walk }
@@ -26,8 +26,8 @@ pub fn clear_first<K: IntKey, A: Allocator + Copy>(map: &mut IntMap<K, u64, A>, 
     }
 }
 
-/// Adds to each value, modulo 2^64. The keys keep their order, nothing is compared, and no pair is
-/// put anew.
+/// Adds to each value, modulo 2^64. The keys keep their order, no key is compared, and no pair is
+/// moved.
 pub fn add_to_all<K: IntKey, A: Allocator + Copy>(map: &mut IntMap<K, u64, A>, more: u64)
     ensures keys { keys_of map.new.walk ≡ keys_of map.old.walk }
     ensures capacity { map.new.capacity ≡ map.old.capacity }
@@ -40,7 +40,7 @@ pub fn add_to_all<K: IntKey, A: Allocator + Copy>(map: &mut IntMap<K, u64, A>, m
     }
 }
 
-/// Binds each key to itself. The keys keep their order, and the map its slots.
+/// Sets each value to its key. The keys keep their order, and the map its slots.
 pub fn bind_to_themselves<A: Allocator + Copy>(map: &mut IntMap<u64, u64, A>)
     ensures keys { keys_of map.new.walk ≡ keys_of map.old.walk }
     ensures len { length map.new.walk ≡ length map.old.walk }
@@ -53,7 +53,7 @@ pub fn bind_to_themselves<A: Allocator + Copy>(map: &mut IntMap<u64, u64, A>)
     }
 }
 
-/// Sets the first value of the walk to zero, where there is one, and forgets the iterator. The keys
+/// Sets the first value of the walk to zero, if there is one, and forgets the iterator. The keys
 /// keep their order, and the map its slots.
 pub fn clear_one<K: IntKey, A: Allocator + Copy>(map: &mut IntMap<K, u64, A>)
     ensures keys { keys_of map.new.walk ≡ keys_of map.old.walk }

@@ -14,10 +14,11 @@ use intmap_table::IntKey;
 use std::alloc::Allocator;
 
 impl<'a, K: IntKey, V: Drop, A: Allocator + Copy> VacantEntry<'a, K, V, A> {
-    /// Inserts the value as [`insert`](VacantEntry::insert) does, where one was made. An error of
-    /// making one is answered as it is, and a refusal as the error that holds it.
+    /// Inserts the value as [`insert`](VacantEntry::insert) does, if one was made. If making one
+    /// failed, it returns that error as it is. If the insertion fails, it returns the error that is
+    /// made of the failure.
     fn insert_made<E: From<Refused<V>>>(self, made: Result<V, E>) -> Result<&'a mut V, E>
-        // what is answered and left
+        // what is returned and left
         ensures* writes_back { sem 𝓛 (entry_lends_ok K.row V.row A.row A.Allocator
             (Vacant self.entry) result) }
         ensures value { IfOk result (λ r. made ≡ Ok r.now) }
@@ -32,12 +33,12 @@ impl<'a, K: IntKey, V: Drop, A: Allocator + Copy> VacantEntry<'a, K, V, A> {
         ensures valid_after { OnOk result ((v : V)
             → IsMap K.number_of K.is_valid (map_with_value (Vacant self.entry) v)) }
 
-        // what is answered where no value is inserted
+        // what is returned if no value is inserted
         ensures err { IfErr result (λ e. (made ≡ Err e) ⊎ IsMadeRefusal (λ m. m ≡ made)
             E.from_gives (RefusalIsDue K.number_of (entry_list (Vacant self.entry))
             (entry_key (Vacant self.entry))) e) }
 
-        // when it is refused
+        // when it fails
         ensures in_range { OnOk result (InsertIsTooLarge (entry_map (Vacant self.entry)).walk
             (entry_map (Vacant self.entry)).capacity (entry_map (Vacant self.entry)).factor → ⊥) }
     {
@@ -57,13 +58,15 @@ impl<'a, K: IntKey, V: Drop, A: Allocator + Copy> VacantEntry<'a, K, V, A> {
 }
 
 impl<'a, K: IntKey, V: Drop, A: Allocator + Copy> Entry<'a, K, V, A> {
-    /// A mutable reference to the value of the key, where a value may fail to be made. If the key
-    /// is absent, the closure is called once, before any memory is allocated. A value that it makes
-    /// is inserted first, and an error is returned as it is. This fails too as
-    /// [`VacantEntry::insert`](crate::entry::VacantEntry::insert) does, and then returns what the
-    /// error's type makes of the refusal, which holds the value that was made. A failed call leaves
-    /// the map as it was. If the key is present, the closure isn't called, and the call never
-    /// fails. The closure must be callable if the key is absent.
+    /// A mutable reference to the value of the key, for a value that may fail to be made.
+    ///
+    /// If the key is present, the closure isn't called, and the call never fails. If the key is
+    /// absent, the closure is called once, before any memory is allocated. If it returns an error,
+    /// the call returns that error as it is. If it returns a value, that value is inserted first.
+    /// If this insertion fails, it fails as
+    /// [`VacantEntry::insert`](crate::entry::VacantEntry::insert) does. The call then returns the
+    /// error that `From` makes of the failure, which holds the value. A failed call leaves the map
+    /// as it was. The closure must be callable if the key is absent.
     ///
     /// ```text
     /// map.entry(21).or_try_insert_with(|| read_value(file))?
@@ -74,7 +77,7 @@ impl<'a, K: IntKey, V: Drop, A: Allocator + Copy> Entry<'a, K, V, A> {
     ) -> Result<&'a mut V, E>
         requires { entry_value self ≡ None → F.pre f }
 
-        // what is answered and left
+        // what is returned and left
         ensures* writes_back { sem 𝓛 (entry_lends_ok K.row V.row A.row A.Allocator
             self.entry result) }
         ensures value { IfOk result
@@ -90,12 +93,12 @@ impl<'a, K: IntKey, V: Drop, A: Allocator + Copy> Entry<'a, K, V, A> {
         ensures valid_after { OnOk result ((v : V)
             → IsMap K.number_of K.is_valid (map_with_value self.entry v)) }
 
-        // what is answered where no value is inserted
+        // what is returned if no value is inserted
         ensures absent { OnErr result (entry_value self.entry ≡ None) }
         ensures err { IfErr result (λ e. F.post f (Err e) ⊎ IsMadeRefusal (F.post f) E.from_gives
             (RefusalIsDue K.number_of (entry_list self.entry) (entry_key self.entry)) e) }
 
-        // when it is refused
+        // when it fails
         ensures in_range { OnOk result (IsOutOfRange K.number_of (entry_map self.entry).walk
             (entry_map self.entry).capacity (entry_map self.entry).factor (entry_key self.entry)
             → ⊥) }

@@ -21,7 +21,7 @@ impl<'a, K: IntKey, V: Drop, A: Allocator + Copy> VacantEntry<'a, K, V, A> {
     /// entry.get()    &'d'
     /// ```
     pub fn insert_entry(self, value: V) -> Result<OccupiedEntry<'a, K, V, A>, Refused<V>>
-        // what is answered and left
+        // what is returned and left
         ensures written { IfOk result (λ entry. IsWritten (Vacant self.entry) value
             (Occupied entry)) }
         ensures capacity { IfOk result (λ entry. IsNext (entry_list (Vacant self.entry)).capacity
@@ -35,12 +35,12 @@ impl<'a, K: IntKey, V: Drop, A: Allocator + Copy> VacantEntry<'a, K, V, A> {
         ensures valid_after { IfOk result
             (λ entry. IsMap K.number_of K.is_valid (entry_map (Occupied entry))) }
 
-        // what a refusal hands back and leaves
+        // what a failure returns and leaves
         ensures* err { sem 𝓛 (entry_rests K.row V.row A.row A.Allocator (Vacant self.entry)
             result) }
         ensures value_returned { IfErr result (λ refused. refused.value ≡ value) }
 
-        // when it is refused
+        // when it fails
         ensures in_range { OnOk result (InsertIsTooLarge (entry_map (Vacant self.entry)).walk
             (entry_map (Vacant self.entry)).capacity (entry_map (Vacant self.entry)).factor → ⊥) }
         ensures refused { IfErr result (λ refused. RefusalIsDue K.number_of
@@ -62,15 +62,15 @@ impl<'a, K: IntKey, V: Drop, A: Allocator + Copy> VacantEntry<'a, K, V, A> {
 }
 
 impl<'a, K: IntKey, V: Drop, A: Allocator + Copy> Entry<'a, K, V, A> {
-    /// Sets the value of the key, and returns its entry. If the key is present, the value is set in
-    /// its place, the one before is dropped, and the call never fails. If the key is absent, the
-    /// pair is inserted, and this fails as [`VacantEntry::insert`] does.
+    /// Sets the value of the key, and returns its entry. If the key is present, its value is
+    /// replaced in place, the old value is dropped, and the call never fails. If the key is absent,
+    /// the pair is inserted, and this fails as [`VacantEntry::insert`] does.
     ///
     /// ```text
     /// map.entry(21).insert_entry('c')?.remove_entry()    (21, 'c')
     /// ```
     pub fn insert_entry(self, value: V) -> Result<OccupiedEntry<'a, K, V, A>, Refused<V>>
-        // what is answered and left
+        // what is returned and left
         ensures written { IfOk result (λ entry. IsWritten self.entry value (Occupied entry)) }
         ensures capacity { IfOk result (λ entry. IsCapacityAfter K.number_of
             (entry_list self.entry).pairs (entry_list self.entry).capacity
@@ -83,11 +83,11 @@ impl<'a, K: IntKey, V: Drop, A: Allocator + Copy> Entry<'a, K, V, A> {
         ensures valid_after { IfOk result
             (λ entry. IsMap K.number_of K.is_valid (entry_map (Occupied entry))) }
 
-        // what a refusal hands back and leaves
+        // what a failure returns and leaves
         ensures* err { sem 𝓛 (entry_rests K.row V.row A.row A.Allocator self.entry result) }
         ensures value_returned { IfErr result (λ refused. refused.value ≡ value) }
 
-        // when it is refused
+        // when it fails
         ensures in_range { OnOk result (IsOutOfRange K.number_of (entry_map self.entry).walk
             (entry_map self.entry).capacity (entry_map self.entry).factor (entry_key self.entry)
             → ⊥) }
@@ -96,7 +96,7 @@ impl<'a, K: IntKey, V: Drop, A: Allocator + Copy> Entry<'a, K, V, A> {
     {
         match self {
             Entry::Occupied(entry) => {
-                // taken apart before the write, so that the proof follows the map into the answer
+                // taken apart before the write, so that the proof follows the map into the result
                 let OccupiedEntry { map, slot, place } = entry;
                 let at = map.location(slot, place);
                 *map.value_mut_at(at) = value;

@@ -1,4 +1,4 @@
-//! Insertions of values that are made only where the key is absent.
+//! Insertions of values that are made only if the key is absent.
 ghost use Rattle.std.specs.Prelude.{◌≡◌, ◌+◌, None, Some, cond, length, is_some, IfOk, IfErr, OnOk};
 ghost use Rattle.std.specs.Borrow.{sem};
 ghost use Rattle.std.specs.Option.{UnwrapsOrElse};
@@ -14,11 +14,13 @@ use std::alloc::Allocator;
 use std::default::MadeWith;
 
 impl<'a, K: IntKey, V: Drop, A: Allocator + Copy> Entry<'a, K, V, A> {
-    /// A mutable reference to the value of the key. If the key is absent, the closure is called
-    /// once with it, before any memory is allocated, and the value that it makes is inserted first.
-    /// This fails as [`VacantEntry::insert`](crate::entry::VacantEntry::insert) does, and then
-    /// returns the value that was made. If the key is present, the closure isn't called, and the
-    /// call never fails. The closure must be callable at an absent key.
+    /// A mutable reference to the value of the key.
+    ///
+    /// If the key is present, the closure isn't called, and the call never fails. If the key is
+    /// absent, the closure is called once with it, before any memory is allocated, and the value
+    /// that it makes is inserted first. If this insertion fails, it fails as
+    /// [`VacantEntry::insert`](crate::entry::VacantEntry::insert) does, and the failure returns the
+    /// value that was made. The closure must be callable at an absent key.
     ///
     /// ```text
     /// map.entry(21).or_insert_with_key(|key| key / 2)?
@@ -26,7 +28,7 @@ impl<'a, K: IntKey, V: Drop, A: Allocator + Copy> Entry<'a, K, V, A> {
     pub fn or_insert_with_key<F: FnOnce(K) -> V>(self, f: F) -> Result<&'a mut V, Refused<V>>
         requires { entry_value self ≡ None → F.pre f (entry_key self) }
 
-        // what is answered and left
+        // what is returned and left
         ensures* writes_back { sem 𝓛 (entry_lends_ok K.row V.row A.row A.Allocator
             self.entry result) }
         ensures value { IfOk result (λ r. UnwrapsOrElse (entry_value self.entry)
@@ -42,11 +44,11 @@ impl<'a, K: IntKey, V: Drop, A: Allocator + Copy> Entry<'a, K, V, A> {
         ensures valid_after { OnOk result ((v : V)
             → IsMap K.number_of K.is_valid (map_with_value self.entry v)) }
 
-        // what a refusal hands back
+        // what a failure returns
         ensures value_returned { IfErr result
             (λ refused. F.post f (entry_key self.entry) refused.value) }
 
-        // when it is refused
+        // when it fails
         ensures in_range { OnOk result (IsOutOfRange K.number_of (entry_map self.entry).walk
             (entry_map self.entry).capacity (entry_map self.entry).factor (entry_key self.entry)
             → ⊥) }
@@ -63,7 +65,7 @@ impl<'a, K: IntKey, V: Drop, A: Allocator + Copy> Entry<'a, K, V, A> {
     }
 
     /// A mutable reference to the value of the key, as
-    /// [`or_insert_with_key`](Entry::or_insert_with_key) answers it, by a closure that takes no
+    /// [`or_insert_with_key`](Entry::or_insert_with_key) returns it, by a closure that takes no
     /// key.
     ///
     /// ```text
@@ -72,7 +74,7 @@ impl<'a, K: IntKey, V: Drop, A: Allocator + Copy> Entry<'a, K, V, A> {
     pub fn or_insert_with<F: FnOnce() -> V>(self, f: F) -> Result<&'a mut V, Refused<V>>
         requires { entry_value self ≡ None → F.pre f }
 
-        // what is answered and left
+        // what is returned and left
         ensures* writes_back { sem 𝓛 (entry_lends_ok K.row V.row A.row A.Allocator
             self.entry result) }
         ensures value { IfOk result
@@ -88,10 +90,10 @@ impl<'a, K: IntKey, V: Drop, A: Allocator + Copy> Entry<'a, K, V, A> {
         ensures valid_after { OnOk result ((v : V)
             → IsMap K.number_of K.is_valid (map_with_value self.entry v)) }
 
-        // what a refusal hands back
+        // what a failure returns
         ensures value_returned { IfErr result (λ refused. F.post f refused.value) }
 
-        // when it is refused
+        // when it fails
         ensures in_range { OnOk result (IsOutOfRange K.number_of (entry_map self.entry).walk
             (entry_map self.entry).capacity (entry_map self.entry).factor (entry_key self.entry)
             → ⊥) }
@@ -102,9 +104,9 @@ impl<'a, K: IntKey, V: Drop, A: Allocator + Copy> Entry<'a, K, V, A> {
     }
 
     /// A mutable reference to the value of the key, as
-    /// [`or_insert_with_key`](Entry::or_insert_with_key) answers it, with the default value of the
-    /// type where the key is absent. For a collection that is an empty one over the allocator of
-    /// the map.
+    /// [`or_insert_with_key`](Entry::or_insert_with_key) returns it. If the key is absent, the
+    /// default value of the type is inserted. For a collection, that is an empty one over the
+    /// allocator of the map.
     ///
     /// ```text
     /// *map.entry(word).or_default()? += 1
@@ -112,7 +114,7 @@ impl<'a, K: IntKey, V: Drop, A: Allocator + Copy> Entry<'a, K, V, A> {
     pub fn or_default(self) -> Result<&'a mut V, Refused<V>>
     where
         V: MadeWith<A>,
-        // what is answered and left
+        // what is returned and left
         ensures* writes_back { sem 𝓛 (entry_lends_ok K.row V.row A.row A.Allocator
             self.entry result) }
         ensures value { IfOk result
@@ -128,10 +130,10 @@ impl<'a, K: IntKey, V: Drop, A: Allocator + Copy> Entry<'a, K, V, A> {
         ensures valid_after { OnOk result ((v : V)
             → IsMap K.number_of K.is_valid (map_with_value self.entry v)) }
 
-        // what a refusal hands back
+        // what a failure returns
         ensures value_returned { IfErr result (λ refused. V.is_made_with refused.value) }
 
-        // when it is refused
+        // when it fails
         ensures in_range { OnOk result (IsOutOfRange K.number_of (entry_map self.entry).walk
             (entry_map self.entry).capacity (entry_map self.entry).factor (entry_key self.entry)
             → ⊥) }

@@ -65,7 +65,7 @@ impl<'a, K: IntKey, V, A: Allocator + Copy> OccupiedEntry<'a, K, V, A> {
         map.value_mut_at(at)
     }
 
-    /// Sets the value of the key in its place, and answers the one before.
+    /// Sets the value of the key in its place, and returns the old value.
     pub fn insert(&mut self, value: V) -> V
         ensures old { entry_value (Occupied self.old) ≡ Some result }
         ensures written { IsWritten (Occupied self.old) value (Occupied self.new) }
@@ -78,7 +78,7 @@ impl<'a, K: IntKey, V, A: Allocator + Copy> OccupiedEntry<'a, K, V, A> {
         mem::replace(self.get_mut(), value)
     }
 
-    /// Takes the pair of the key out, as [`IntMap::remove`](crate::IntMap::remove) does, and answers
+    /// Removes the pair of the key, as [`IntMap::remove`](crate::IntMap::remove) does, and returns
     /// its value.
     pub fn remove(self) -> V
         ensures value { entry_value (Occupied self.entry) ≡ Some result }
@@ -93,8 +93,8 @@ impl<'a, K: IntKey, V, A: Allocator + Copy> OccupiedEntry<'a, K, V, A> {
         self.remove_entry().1
     }
 
-    /// Takes the pair of the key out and answers it. It is [`remove`](OccupiedEntry::remove) with the
-    /// key beside the value.
+    /// Removes the pair of the key and returns it. It does what [`remove`](OccupiedEntry::remove)
+    /// does, and returns the key beside the value.
     ///
     /// ```text
     /// at 0 in {0: 'a', 4: 'b', 8: 'c'}: remove_entry()    (0, 'a'), and then {8: 'c', 4: 'b'}

@@ -51,7 +51,7 @@ impl<'a, K: IntKey, V: Drop, A: Allocator + Copy> VacantEntry<'a, K, V, A> {
     /// [`IntMap::insert`](crate::IntMap::insert) of a new key does. A failed call returns the value
     /// and leaves the map as it was.
     pub fn insert(self, value: V) -> Result<&'a mut V, Refused<V>>
-        // what is answered and left
+        // what is returned and left
         ensures* writes_back { sem 𝓛 (entry_lends_ok K.row V.row A.row A.Allocator
             (Vacant self.entry) result) }
         ensures value { IfOk result (λ r. r.now ≡ value) }
@@ -66,10 +66,10 @@ impl<'a, K: IntKey, V: Drop, A: Allocator + Copy> VacantEntry<'a, K, V, A> {
         ensures valid_after { OnOk result ((v : V)
             → IsMap K.number_of K.is_valid (map_with_value (Vacant self.entry) v)) }
 
-        // what a refusal hands back
+        // what a failure returns
         ensures value_returned { IfErr result (λ refused. refused.value ≡ value) }
 
-        // when it is refused
+        // when it fails
         ensures in_range { OnOk result (InsertIsTooLarge (entry_map (Vacant self.entry)).walk
             (entry_map (Vacant self.entry)).capacity (entry_map (Vacant self.entry)).factor → ⊥) }
         ensures refused { IfErr result (λ refused. RefusalIsDue K.number_of

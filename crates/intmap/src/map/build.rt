@@ -1,4 +1,4 @@
-//! New maps, and maps that many pairs are inserted into.
+//! New maps, and insertion of many pairs.
 ghost use Rattle.std.specs.Prelude.{◌≡◌, ◌↔◌, ◌^◌, ◌<◌, ◌⊎◌, max, IfOk, IfErr, Err, ℕ, ◌≤◌, OnOk, MatchResult, reverse};
 ghost use Rattle.intmap_table.specs.Bindings.{value_of};
 ghost use Rattle.intmap_table.specs.Classes.{IsCapacity};
@@ -54,7 +54,7 @@ impl<K: IntKey, V: Drop, A: Allocator + Copy> IntMap<K, V, A> {
         IntMap::with_slots(alloc, capacity.max(2).next_power_of_two())
     }
 
-    /// An empty map of so many slots. It fails only if an allocation fails.
+    /// An empty map of `slots` slots. It fails only if an allocation fails.
     fn with_slots(alloc: A, slots: usize) -> Result<IntMap<K, V, A>, Cause>
         requires { IsCapacity slots }
         ensures state { IfOk result (λ made. made ≡ empty_map slots) }
@@ -128,7 +128,7 @@ impl<K: IntKey, V: Drop, A: Allocator + Copy> IntMap<K, V, A> {
     /// A map of the iterator's pairs: [`with_capacity`](IntMap::with_capacity) of the lower bound
     /// of its `size_hint`, and then [`extend`](IntMap::extend). The iterator must end.
     ///
-    /// It fails if either call does, with the same cause, and then drops everything.
+    /// It fails if either call fails, with the same cause, and then drops everything.
     ///
     /// ```text
     /// of the 20 pairs of a vector it has 32 slots, and of no pairs 2
@@ -155,8 +155,9 @@ impl<K: IntKey, V: Drop, A: Allocator + Copy> IntMap<K, V, A> {
     /// A map of the array's pairs: [`with_capacity`](IntMap::with_capacity) of their number, and
     /// then [`extend`](IntMap::extend). So a key keeps the last of its values.
     ///
-    /// It first allocates a vector, into which the pairs move. It fails with [`Cause::Memory`] if
-    /// this fails, and as the two calls do, with the same cause. Then it drops everything.
+    /// It first allocates a vector, and moves the pairs into it. If this allocation fails, it fails
+    /// with [`Cause::Memory`]. It also fails if either call fails, with the same cause. A failed
+    /// call drops everything.
     ///
     /// ```text
     /// IntMap::from_array(alloc, [(4, 'a'), (0, 'b'), (4, 'c')])    4 slots, and the walk is 0, 4

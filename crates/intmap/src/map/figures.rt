@@ -1,4 +1,4 @@
-//! What a map says of its table: how full it is, and how its pairs lie in it.
+//! The figures of a map's table: how full it is, and how its pairs lie in it.
 ghost use Rattle.std.specs.Prelude.{◌≡◌, ℕ, ◌-◌, ◌^◌, ◌<◌, true, Some, List, [], ◌∷◌, ◌++◌, IfOk, IfErr, OnOk, length};
 ghost use Rattle.intmap_table.specs.Bindings.{value_of};
 ghost use Rattle.intmap.specs.Extending.{IsMadeOf};
@@ -25,7 +25,7 @@ impl<K: IntKey, V, A: Allocator + Copy> IntMap<K, V, A> {
         self.table.load() as u64
     }
 
-    /// The number of pairs to a slot, in thousandths, rounded down. It never fails.
+    /// The number of pairs for each slot, in thousandths, rounded down. It never fails.
     ///
     /// ```text
     /// 12 pairs in 128 slots    93
@@ -50,12 +50,12 @@ impl<K: IntKey, V, A: Allocator + Copy> IntMap<K, V, A> {
 
 impl<K: IntKey, V: Drop, A: Allocator + Copy> IntMap<K, V, A> {
     /// How many slots hold two pairs, how many three, and so on: a map from each number of pairs
-    /// above 1 that a slot holds to the number of slots that hold so many. These sizes are inserted
-    /// into a new map as they are first met, slot after slot, which determines its walk and its
-    /// capacity.
+    /// above 1 that a slot holds to the number of slots that hold exactly that many. These sizes
+    /// are inserted into a new map as they are first met, slot after slot. This order determines
+    /// its walk and its capacity.
     ///
-    /// It fails only with [`Cause::Memory`], if an allocation for that map fails. No key of this
-    /// map is compared, and its time grows with the number of slots.
+    /// It fails only with [`Cause::Memory`], if an allocation for that map fails. It compares no
+    /// key of this map, and its time grows with the number of slots.
     ///
     /// ```text
     /// with the keys 0, 4, 8, 1, 2 and 6 in 4 slots it is {2: 1, 3: 1}

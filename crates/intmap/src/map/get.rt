@@ -1,7 +1,7 @@
 //! Look-ups.
 ghost use Rattle.std.specs.Prelude.{◌≡◌, ◌+◌, Some, IfSome, is_some, length, option_copied};
 ghost use Rattle.std.specs.Option.{option_map};
-ghost use Rattle.intmap_table.specs.Bindings.{value_of, write_value, IsBound, Updates};
+ghost use Rattle.intmap_table.specs.Bindings.{value_of, write_value, IsPresent, Updates};
 ghost use Rattle.intmap_table.specs.Reach.{reach};
 ghost use Rattle.intmap.specs.Map.{IsMap, after_search, written};
 
@@ -14,7 +14,7 @@ use std::ops::Index;
 impl<K: IntKey, V, A: Allocator + Copy> IntMap<K, V, A> {
     ghost use Rattle.std.specs.Borrow.{sem};
     ghost use Rattle.std.specs.Option.{option_copied_mut};
-    ghost use Rattle.intmap.specs.Lending.{map_lends_bound};
+    ghost use Rattle.intmap.specs.Lending.{map_lends_present};
 
     /// The value of the key, or `None` if the key is absent. It never fails.
     pub fn get(&self, key: K) -> Option<&V>
@@ -54,10 +54,10 @@ impl<K: IntKey, V, A: Allocator + Copy> IntMap<K, V, A> {
     /// if let Some(value) = map.get_mut(21) { *value += 1; }
     /// ```
     pub fn get_mut(&mut self, key: K) -> Option<&mut V>
-        ensures* writes_back { sem 𝓛 (map_lends_bound K.row V.row A.row K.IntKey.own K.PartialEq
+        ensures* writes_back { sem 𝓛 (map_lends_present K.row V.row A.row K.IntKey.own K.PartialEq
             A.Allocator self.entry key result) }
         ensures value { option_copied_mut result ≡ value_of K.number_of self.old.walk key }
-        ensures updates { IsBound K.number_of self.old.walk key → (v : V)
+        ensures updates { IsPresent K.number_of self.old.walk key → (v : V)
             → Updates K.number_of self.old.walk (write_value K.number_of self.old.walk key v) key
             (Some v) }
         ensures len { (v : V)
@@ -108,12 +108,12 @@ impl<K: IntKey, V, A: Allocator + Copy> IntMap<K, V, A> {
 impl<K: IntKey, V, A: Allocator + Copy> Index<K> for IntMap<K, V, A> {
     type Output = V;
 
-    ghost can_index = { λ map key. IsBound K.number_of map.walk key };
+    ghost can_index = { λ map key. IsPresent K.number_of map.walk key };
 
     ghost index_gives = { λ map key value. value_of K.number_of map.walk key ≡ Some value };
 
-    /// The value of the key. The caller must know that it is present: no program is built in which
-    /// it may be absent.
+    /// The value of the key. The caller must know that the key is present: no program is built in
+    /// which it may be absent.
     ///
     /// ```text
     /// map[21]    'a' after map.insert(21, 'a')?

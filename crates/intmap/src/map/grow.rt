@@ -1,4 +1,4 @@
-//! The number of slots and the load factor, as callers set them.
+//! The capacity and the load factor, as callers set them.
 ghost use Rattle.std.specs.Prelude.{◌≡◌, ◌↔◌, ℕ, ◌+◌, ◌^◌, ◌<◌, max, length, Err, OnOk, OnErr};
 ghost use Rattle.intmap_table.specs.Bindings.{value_of};
 ghost use Rattle.intmap.specs.Growth.{IsWanted, IsLeastPower, WantsTooMuch};
@@ -12,8 +12,8 @@ use std::alloc::Allocator;
 
 impl<K: IntKey, V: Drop, A: Allocator + Copy> IntMap<K, V, A> {
     /// Makes the capacity at least the least power of two that is no less than the length plus
-    /// `additional`. A greater capacity stays. The load factor isn't considered, so later
-    /// insertions may still grow the table.
+    /// `additional`. If the capacity is greater already, it stays. The load factor isn't
+    /// considered, so later insertions may still grow the table.
     ///
     /// It fails with [`Cause::TooLarge`] exactly if the length plus `additional` is above 2^63, and
     /// otherwise with [`Cause::Memory`] if an allocation fails. It never fails if the capacity is
@@ -53,8 +53,8 @@ impl<K: IntKey, V: Drop, A: Allocator + Copy> IntMap<K, V, A> {
         Ok(())
     }
 
-    /// Sets the load factor, in thousandths: how many pairs to a slot there may be at the lengths
-    /// at which insertions check the load. At once, and whatever the length is, the capacity
+    /// Sets the load factor, in thousandths: the greatest number of pairs for each slot at the
+    /// lengths at which insertions check the load. At once, whatever the length is, the capacity
     /// becomes the least of itself and its doublings that meets the load factor.
     ///
     /// It fails with [`Cause::TooLarge`] exactly if no capacity up to 2^63 meets the load factor,

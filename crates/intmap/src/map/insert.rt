@@ -22,11 +22,11 @@ impl<K: IntKey, V: Drop, A: Allocator + Copy> IntMap<K, V, A> {
     /// table of the least doubled capacity that meets it, in iteration order, with the new pair
     /// last.
     ///
-    /// The insertion of a present key never fails. That of a new key fails with [`Cause::TooLarge`]
-    /// exactly if the map holds 2^64 - 1 pairs or growth needs more than 2^63 slots, and otherwise
-    /// with [`Cause::Memory`] if an allocation fails. It allocates nothing if the capacity stays
-    /// and the slot holds no pair. A failed call returns the value and leaves the map as it was.
-    /// Only the count of compared keys, which takes no memory, changes.
+    /// The insertion of a present key never fails. The insertion of a new key fails with
+    /// [`Cause::TooLarge`] exactly if the map holds 2^64 - 1 pairs or growth needs more than 2^63
+    /// slots, and otherwise with [`Cause::Memory`] if an allocation fails. It allocates nothing if
+    /// the capacity stays and the slot holds no pair. A failed call returns the value and leaves
+    /// the map as it was. Only the count of compared keys, which takes no memory, changes.
     ///
     /// ```text
     /// with 0: 10, 4: 14 and 8: 18, in this order, in 4 slots, where they share one:
@@ -35,7 +35,7 @@ impl<K: IntKey, V: Drop, A: Allocator + Copy> IntMap<K, V, A> {
     /// ```
     #[inline(always)]
     pub fn insert(&mut self, key: K, value: V) -> Result<Option<V>, Refused<V>>
-        // what is answered and left
+        // what is returned and left
         ensures old { IfOk result (λ old. old ≡ value_of K.number_of self.old.walk key) }
         ensures capacity { OnOk result (IsCapacityAfter K.number_of self.old.walk self.old.capacity
             self.old.factor key self.new.capacity) }
@@ -46,11 +46,11 @@ impl<K: IntKey, V: Drop, A: Allocator + Copy> IntMap<K, V, A> {
         ensures len { IfOk result (λ old. length self.new.walk
             ≡ length self.old.walk + cond (is_some old) 0 1) }
 
-        // what a refusal hands back and leaves
+        // what a failure returns and leaves
         ensures err { OnErr result (self.new ≡ after_search K.number_of self.old key) }
         ensures value_returned { IfErr result (λ refused. refused.value ≡ value) }
 
-        // when it is refused
+        // when it fails
         ensures new_key { OnErr result (IsNone (value_of K.number_of self.old.walk key)) }
         ensures too_large { IsErrAnd result (λ refused. refused.cause ≡ Cause.TooLarge)
             ↔ IsOutOfRange K.number_of self.old.walk self.old.capacity self.old.factor key }
@@ -70,8 +70,8 @@ impl<K: IntKey, V: Drop, A: Allocator + Copy> IntMap<K, V, A> {
         Ok(None)
     }
 
-    /// Inserts the pair if the key is absent, and returns whether it did so. If the key is present,
-    /// the value is dropped, and only the count of compared keys changes.
+    /// Inserts the pair if the key is absent, and returns whether it inserted it. If the key is
+    /// present, the value is dropped, and only the count of compared keys changes.
     ///
     /// For a new key it does what [`insert`](IntMap::insert) does, and fails as that does.
     ///
@@ -80,7 +80,7 @@ impl<K: IntKey, V: Drop, A: Allocator + Copy> IntMap<K, V, A> {
     /// map.insert_checked(21, 'b')?    false, and 21 has 'a'
     /// ```
     pub fn insert_checked(&mut self, key: K, value: V) -> Result<bool, Refused<V>>
-        // what is answered and left
+        // what is returned and left
         ensures new { IfOk result (λ new. new ≡ is_none (value_of K.number_of self.old.walk key)) }
         ensures capacity { OnOk result (IsCapacityAfter K.number_of self.old.walk self.old.capacity
             self.old.factor key self.new.capacity) }
@@ -92,11 +92,11 @@ impl<K: IntKey, V: Drop, A: Allocator + Copy> IntMap<K, V, A> {
         ensures len { IfOk result (λ new. length self.new.walk
             ≡ length self.old.walk + cond new 1 0) }
 
-        // what a refusal hands back and leaves
+        // what a failure returns and leaves
         ensures err { OnErr result (self.new ≡ after_search K.number_of self.old key) }
         ensures value_returned { IfErr result (λ refused. refused.value ≡ value) }
 
-        // when it is refused
+        // when it fails
         ensures new_key { OnErr result (IsNone (value_of K.number_of self.old.walk key)) }
         ensures too_large { IsErrAnd result (λ refused. refused.cause ≡ Cause.TooLarge)
             ↔ IsOutOfRange K.number_of self.old.walk self.old.capacity self.old.factor key }
@@ -157,7 +157,7 @@ impl<K: IntKey, V: Drop, A: Allocator + Copy> IntMap<K, V, A> {
         Ok(())
     }
 
-    /// Adds the pair of an absent key, where so many pairs exceed the load factor. All memory is
+    /// Adds the pair of an absent key, if the new length exceeds the load factor. All memory is
     /// allocated before a pair moves.
     #[inline(never)]
     fn add_growing(&mut self, len: usize, key: K, value: V) -> Result<(), Refused<V>>

@@ -59,13 +59,15 @@ impl<K: IntKey, V, A: Allocator + Copy> IntMap<K, V, A> {
         Some((key, value))
     }
 
-    /// Removes the first pair of the walk and returns it, or `None` if there is none. The search
-    /// begins at the slot number `from`, before which no slot may hold a pair, as 0. It leaves the
-    /// number of the slot that held the pair there, so the next call goes on where this one ended.
-    /// The other pairs of the slot move up by one place. It allocates nothing and never fails.
+    /// Removes the first pair of the walk and returns it, or `None` if there is none. It serves a
+    /// type that holds a map and has an iterator of its own; [`drain`](IntMap::drain) is an
+    /// iterator of such calls.
     ///
-    /// [`drain`](IntMap::drain) is an iterator of such calls. This one serves a type that holds a map
-    /// and has an iterator of its own.
+    /// The search begins at the slot number `from`. No slot before it may hold a pair, so begin
+    /// with 0. The call sets `from` to the number of the slot that held the pair, so the next call
+    /// goes on from there. The contract says only that still no slot before `from` holds a pair.
+    ///
+    /// The other pairs of the slot move up by one place. It allocates nothing and never fails.
     ///
     /// ```text
     /// with 0: 10, 4: 14 and 1: 11 in 4 slots, and from = 0:
@@ -110,15 +112,15 @@ impl<K: IntKey, V: Drop, A: Allocator + Copy> IntMap<K, V, A> {
 impl<K: IntKey, V: Drop, A: Allocator + Copy> IntMap<K, V, A> {
     /// Keeps the pairs for which the closure returns true, and drops the others. The closure is
     /// called once for each pair, in iteration order, with the key and a reference to the value.
-    /// What it changes of its own state is there at the next call.
+    /// The next call sees what this one changed of the closure's state.
     ///
     /// The closure must be callable at these pairs in this order, each time in the state that the
     /// call before left. Nothing is required of other keys, values and calls.
     ///
     /// The pairs that stay keep their order. The capacity, the load factor and both counts stay,
     /// and the slots keep their memory for later pairs. It never fails and allocates nothing. Apart
-    /// from the calls, its time grows with the number of pairs and of slots, however many pairs
-    /// share a slot.
+    /// from the calls of the closure, its time grows with the numbers of pairs and slots, however
+    /// many pairs share a slot.
     ///
     /// ```text
     /// after insert(0, 10), insert(1, 11) and insert(4, 14) into 4 slots the walk is 0, 4, 1:

@@ -1,4 +1,4 @@
-//! What commands do by entries, and their answers.
+//! What commands by entries do, and their answers.
 ghost use Rattle.std.specs.Prelude.{◌≡◌};
 ghost use Rattle.intmap.specs.Map.{IsMap};
 ghost use Rattle.intmap_run.specs.declared.command.Command.TheVariants as command;

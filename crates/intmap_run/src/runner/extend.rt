@@ -1,4 +1,4 @@
-//! What the command of several pairs does, and its answer.
+//! What the command that inserts several pairs does, and its answer.
 ghost use Rattle.intmap.specs.Map.{IsMap};
 ghost use Rattle.intmap_run.specs.declared.command.Command.TheVariants as command;
 ghost use Rattle.intmap_run.specs.Steps.{StepsFrom};

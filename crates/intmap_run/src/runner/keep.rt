@@ -8,7 +8,7 @@ use intmap::{IntKey, IntMap};
 use std::alloc::Allocator;
 
 /// Says which pairs stay, as a judge does.
-// a closure that holds a judge gets no proof, since a judge names a type for what it sees
+// a closure that holds a judge gets no proof, since `Judge` has an associated type
 pub(crate) trait Keeps<K, V> {
     /// What `stays` returns for a key and its value.
     ghost stays_at: { Self → K → V → Bool };

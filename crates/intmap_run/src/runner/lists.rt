@@ -1,4 +1,4 @@
-//! Commands whose answer is a list. Its room is allocated before the map changes.
+//! Commands whose answer is a list. The list's memory is allocated before the map changes.
 ghost use Rattle.std.specs.Prelude.{◌≡◌, ℕ, ◌^◌, ◌<◌, take, drop, None, IfOk, OnErr};
 ghost use Rattle.std.specs.List.{AllZip};
 ghost use Rattle.std.specs.Map.{keys_of, values_of};
@@ -73,7 +73,7 @@ pub(crate) fn values<K: IntKey, V: Drop, J: Judge<K, V>, A: Allocator + Copy>(
     }
 }
 
-/// The answer of a drain of so many pairs, whatever the judge is.
+/// The answer of a drain of the given number of pairs, whatever the judge is.
 pub(crate) fn drain<K: IntKey, V: Drop, J: Judge<K, V>, A: Allocator + Copy>(
     alloc: A,
     map: &mut IntMap<K, V, A>,
@@ -89,7 +89,7 @@ pub(crate) fn drain<K: IntKey, V: Drop, J: Judge<K, V>, A: Allocator + Copy>(
     }
 }
 
-/// The answer of the sizes of slots, whatever the judge is.
+/// The answer with the sizes of slots, whatever the judge is.
 pub(crate) fn collisions<K: IntKey, V: Drop, J: Judge<K, V>, A: Allocator + Copy>(
     alloc: A,
     map: &IntMap<K, V, A>,
@@ -104,7 +104,8 @@ pub(crate) fn collisions<K: IntKey, V: Drop, J: Judge<K, V>, A: Allocator + Copy
     }
 }
 
-/// Each key of the walk with what the judge sees of its value. Err: out of memory.
+/// Each key of the walk, with what the judge sees of its value. It fails if there is no memory for
+/// the list.
 fn look_all<K: IntKey, V: Drop, J: Judge<K, V>, A: Allocator + Copy>(
     alloc: A,
     map: &IntMap<K, V, A>,
@@ -121,7 +122,7 @@ fn look_all<K: IntKey, V: Drop, J: Judge<K, V>, A: Allocator + Copy>(
     Ok(seen)
 }
 
-/// Each key of the walk. Err: out of memory.
+/// Each key of the walk. It fails if there is no memory for the list.
 fn all_keys<K: IntKey, V: Drop, A: Allocator + Copy>(
     alloc: A,
     map: &IntMap<K, V, A>,
@@ -136,7 +137,7 @@ fn all_keys<K: IntKey, V: Drop, A: Allocator + Copy>(
     Ok(keys)
 }
 
-/// What the judge sees of each value of the walk. Err: out of memory.
+/// What the judge sees of each value of the walk. It fails if there is no memory for the list.
 fn look_at_values<K: IntKey, V: Drop, J: Judge<K, V>, A: Allocator + Copy>(
     alloc: A,
     map: &IntMap<K, V, A>,
@@ -153,8 +154,8 @@ fn look_at_values<K: IntKey, V: Drop, J: Judge<K, V>, A: Allocator + Copy>(
     Ok(seen)
 }
 
-/// Removes so many pairs from the front of the walk, or all if there are fewer. Err: out of memory,
-/// and the map is as it was.
+/// Removes the given number of pairs from the front of the walk, or all if there are fewer, and
+/// returns them. It fails if there is no memory for the list, and the map is then as it was.
 fn take_front<K: IntKey, V: Drop, A: Allocator + Copy>(
     alloc: A,
     map: &mut IntMap<K, V, A>,
@@ -178,7 +179,8 @@ fn take_front<K: IntKey, V: Drop, A: Allocator + Copy>(
     Ok(pairs)
 }
 
-/// The walk of the sizes of slots. Err: out of memory for the map of them, or for its walk.
+/// The walk of the sizes of slots. It fails if there is no memory for the map of them, or for its
+/// walk.
 fn all_sizes<K: IntKey, V: Drop, A: Allocator + Copy>(
     alloc: A,
     map: &IntMap<K, V, A>,

@@ -1,4 +1,4 @@
-//! Sets that many keys are inserted into.
+//! Sets made of many keys.
 ghost use Rattle.std.specs.Prelude.{◌≡◌, ℕ, ◌≤◌, OnOk, IfOk, IfErr, MatchResult};
 ghost use Rattle.std.specs.Iterator.{IsFinite, size};
 ghost use Rattle.intmap_set.specs.Sets.{IsSet};
@@ -12,8 +12,9 @@ impl<K: IntKey, A: Allocator + Copy> IntSet<K, A> {
     /// Inserts the iterator's keys in turn, each as [`insert`](IntSet::insert) does. The table grows
     /// only as these insertions make it grow: nothing is reserved ahead. The iterator must end.
     ///
-    /// It stops at the first insertion that fails, and returns its cause. The keys before that one
-    /// stay members. The iterator is dropped, with the keys that it hasn't given.
+    /// It stops at the first insertion that fails, and returns its cause, without the key. The keys
+    /// inserted before it stay members. The iterator is dropped, with the keys that it hasn't
+    /// given.
     ///
     /// ```text
     /// set.extend(other.iter().copied())?    this set has the members of both
@@ -40,7 +41,7 @@ impl<K: IntKey, A: Allocator + Copy> IntSet<K, A> {
     /// A set of the iterator's keys: [`with_capacity`](IntSet::with_capacity) of the lower bound of
     /// its `size_hint`, and then [`extend`](IntSet::extend). The iterator must end.
     ///
-    /// It fails if either call does, with the same cause, and then drops everything.
+    /// It fails if either call fails, with the same cause, and then drops everything.
     ///
     /// ```text
     /// IntSet::from_iter(alloc, first.union(&second).copied())?    a set of the members of both

@@ -9,11 +9,12 @@ use intmap::IntKey;
 use std::alloc::Allocator;
 
 impl<K: IntKey, A: Allocator + Copy> IntSet<K, A> {
-    /// An iterator over the members that this set has and `other` hasn't, in the order of this set.
-    /// A step looks up the next members of this set in `other`. Neither this call nor a step fails.
+    /// An iterator over the members of this set that are absent from `other`, in the order of this
+    /// set. A step looks up the next members of this set in `other`. Neither this call nor a step
+    /// fails.
     ///
-    /// It makes no set. A set of these members is made by [`IntSet::from_iter`], as below, which may
-    /// be refused. It is the same with the iterators of the other three calls.
+    /// It makes no set. [`IntSet::from_iter`] makes a set of these members, as below, and may fail.
+    /// The same holds for the iterators of the other three calls.
     ///
     /// ```text
     /// with the members 1, 2, 3 and 2, 3, 4:
@@ -31,9 +32,9 @@ impl<K: IntKey, A: Allocator + Copy> IntSet<K, A> {
         }
     }
 
-    /// An iterator over the members that both sets have, in the order of the one with fewer
-    /// members, or of this one if both have as many. A step looks up the next members of that set in
-    /// the other. Neither this call nor a step fails.
+    /// An iterator over the members that both sets have, in the order of the set with fewer
+    /// members, or of this one if both have the same number. A step looks up the next members of
+    /// that set in the other. Neither this call nor a step fails.
     ///
     /// ```text
     /// with the members 1, 2, 3 and 2, 3, 4:
@@ -56,9 +57,9 @@ impl<K: IntKey, A: Allocator + Copy> IntSet<K, A> {
         }
     }
 
-    /// An iterator over the members of either set, each once: those of the set with more members, or
-    /// of this one if both have as many, and then those that the other has alone. Only the latter
-    /// are looked up. Neither this call nor a step fails.
+    /// An iterator over the members of either set, each once. It first gives the members of the set
+    /// with more members, or of this one if both have the same number, and then those that only the
+    /// other has. Only the latter are looked up. Neither this call nor a step fails.
     ///
     /// ```text
     /// with the members 1, 2, 3 and 2, 3, 4:
@@ -81,8 +82,8 @@ impl<K: IntKey, A: Allocator + Copy> IntSet<K, A> {
         }
     }
 
-    /// An iterator over the members that exactly one of the sets has: those that this set has alone,
-    /// and then those that `other` has alone. Neither this call nor a step fails.
+    /// An iterator over the members that exactly one of the sets has: first those that only this
+    /// set has, and then those that only `other` has. Neither this call nor a step fails.
     ///
     /// ```text
     /// with the members 1, 2, 3 and 2, 3, 4:
@@ -102,8 +103,8 @@ impl<K: IntKey, A: Allocator + Copy> IntSet<K, A> {
         }
     }
 
-    /// Whether each member of this set is one of `other`. It looks the members up in turn, up to the
-    /// first that `other` hasn't. It never fails.
+    /// Whether each member of this set is one of `other`. It looks up the members in turn, up to
+    /// the first that is absent from `other`. It never fails.
     pub fn is_subset(&self, other: &IntSet<K, A>) -> bool
         ensures value { IsTrue result ↔ IsSubset K.number_of self.now.walk other.now.walk }
     {
@@ -117,7 +118,7 @@ impl<K: IntKey, A: Allocator + Copy> IntSet<K, A> {
         other.is_subset(self)
     }
 
-    /// Whether no member of this set is one of `other`. It looks the members of the smaller set up
+    /// Whether no member of this set is one of `other`. It looks up the members of the smaller set
     /// in the other, up to the first that both have. It never fails.
     pub fn is_disjoint(&self, other: &IntSet<K, A>) -> bool
         ensures value { IsTrue result ↔ IsDisjoint K.number_of self.now.walk other.now.walk }

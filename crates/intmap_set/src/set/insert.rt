@@ -37,14 +37,14 @@ impl<K: IntKey, A: Allocator + Copy> IntSet<K, A> {
         })
     }
 
-    /// Makes the key a member, and returns whether it was none before. A member stays where it is,
-    /// and the set as it was. A new one comes to the end of its slot, and the table grows as that of
-    /// a map does at a new key.
+    /// Makes the key a member, and returns whether it is new. If it is a member already, the set
+    /// stays as it is. A new member is put at the end of its slot, and the table grows as the table
+    /// of a map does at a new key.
     ///
-    /// The insertion of a member never fails. That of a new key fails with [`Cause::TooLarge`]
-    /// exactly if the set has 2^64 - 1 members or growth needs more than 2^63 slots, and otherwise
-    /// with [`Cause::Memory`] if an allocation fails. It allocates nothing if the capacity stays
-    /// and the slot holds no member. A failed call leaves the set as it was.
+    /// The insertion of a member never fails. The insertion of a new key fails with
+    /// [`Cause::TooLarge`] exactly if the set has 2^64 - 1 members or growth needs more than 2^63
+    /// slots, and otherwise with [`Cause::Memory`] if an allocation fails. It allocates nothing if
+    /// the capacity stays and the slot holds no member. A failed call leaves the set as it was.
     ///
     /// ```text
     /// with 0, 4 and 8, in this order, in 4 slots, where they share one:
@@ -52,7 +52,7 @@ impl<K: IntKey, A: Allocator + Copy> IntSet<K, A> {
     /// insert(12)    Ok(true), and 8 slots: four members in four slots exceed 909 thousandths
     /// ```
     pub fn insert(&mut self, key: K) -> Result<bool, Cause>
-        // what is answered and left
+        // what is returned and left
         ensures new { IfOk result (λ new. new ≡ not (holds K.number_of self.old.walk key)) }
         ensures capacity { OnOk result (IsCapacityAfter K.number_of (paired self.old.walk)
             self.old.capacity self.old.factor key self.new.capacity) }
@@ -65,7 +65,7 @@ impl<K: IntKey, A: Allocator + Copy> IntSet<K, A> {
             ≡ length self.old.walk + cond new 1 0) }
         ensures err { OnErr result (self.new ≡ self.old) }
 
-        // when it is refused
+        // when it fails
         ensures new_key { OnErr result (holds K.number_of self.old.walk key ≡ false) }
         ensures too_large { IsErrOf result Cause.TooLarge
             ↔ IsOutOfRange K.number_of (paired self.old.walk) self.old.capacity self.old.factor key }
@@ -80,8 +80,8 @@ impl<K: IntKey, A: Allocator + Copy> IntSet<K, A> {
     }
 
     /// Makes the capacity at least the least power of two that is no less than the length plus
-    /// `additional`. A greater capacity stays. The load factor isn't considered, so later
-    /// insertions may still grow the table.
+    /// `additional`. If the capacity is greater already, it stays. The load factor isn't
+    /// considered, so later insertions may still grow the table.
     ///
     /// It fails with [`Cause::TooLarge`] exactly if the length plus `additional` is above 2^63, and
     /// otherwise with [`Cause::Memory`] if an allocation fails. It never fails if the capacity is

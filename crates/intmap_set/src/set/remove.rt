@@ -30,8 +30,8 @@ impl<K: IntKey, A: Allocator + Copy> IntSet<K, A> {
         self.map.remove(key).is_some()
     }
 
-    /// Takes the first member of the walk out. No slot before the place holds one; it moves on to the
-    /// slot that held the member.
+    /// Removes the first member of the walk and returns it. No slot before `from` holds a member;
+    /// `from` moves on to the slot that held the removed one.
     pub(crate) fn take_front(&mut self, from: &mut usize) -> Option<K>
         requires { ArePassed K.number_of self.old from.old }
         ensures first { YieldsFirst (λ s. s.walk) self.old result self.new }
@@ -57,8 +57,8 @@ impl<K: IntKey, A: Allocator + Copy> IntSet<K, A> {
     }
 
     /// Keeps the members for which the closure returns true, and removes the others. The closure is
-    /// called once for each member, in iteration order. What it changes of its own state is there at
-    /// the next call.
+    /// called once for each member, in iteration order. The next call sees what this one changed of
+    /// the closure's state.
     ///
     /// The closure must be callable at these members in this order, each time in the state that the
     /// call before left. Nothing is required of other keys and calls.

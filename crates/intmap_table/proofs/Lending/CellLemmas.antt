@@ -1,4 +1,4 @@
--- The first of values that are lent apart is taken out of their loan. Assumes `Logic`.
+-- The first of several lent values in separate places is taken out of their loan. Assumes `Logic`.
 use mathlib.Core.Path.{refl}
 use Prim.Native.Nat.{ℕ}
 use mathlib.Core.List.{List, [], ◌∷◌}

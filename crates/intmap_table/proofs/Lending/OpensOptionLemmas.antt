@@ -1,4 +1,4 @@
--- The first pair of a slot, where there is one, whose value is lent. Assumes `Logic`.
+-- The first pair of a slot, if there is one, whose value is lent. Assumes `Logic`.
 use mathlib.Core.Path.{◌≡◌, refl, ap}
 use Prim.Native.Nat.{ℕ, zero, ◌+◌}
 use lib.ListN.{length}

@@ -168,7 +168,7 @@ module _ (K' V' A' : RattleType) (g : key.Ghosts K'.Denot) (e : eq.Ghosts K'.Den
       pairs-cells None L = cells-is L
       pairs-cells (Some h) L = ap (λ M. h.1 ∷ M) (cells-is L)
 
-      -- with other values none stands behind no first pair either
+      -- with other values nothing is behind no first pair either
       first-put : (f : Option P) (L : List P) (vs ws : List V'.Denot) → HasFirst f L → HasFirst (put_first f vs) (puts L ws)
       first-put None L vs ws none = ap (λ M. puts M ws) none
       first-put (Some p) L vs ws none = tt

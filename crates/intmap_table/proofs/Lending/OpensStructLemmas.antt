@@ -137,7 +137,7 @@ module _ {M : Type 1} {𝓤 : Ura M} (𝓛 : Logic 𝓤) (V : RattleType) (l : L
       qed 𝓛 (‵ (fbor κ (Left b o)) ∷ raw (lfts 𝓛 ts) ∷ []) {P = H.⇛ (sep 𝓤 (sem 𝓛 (left_seen b o κ)) (lfts 𝓛 ts))} (
       updating ! $ bor_fracture ! tt (λ q. fleft q (ty_struct [] (raw_tys ms)) (raw_tys ms) b o) full_share $ at_once ! $ done !)
 
-  -- what a `&` to the struct of holes holds, where its fields are laid out as these
+  -- what a `&` to the struct of holes holds, if its fields are laid out as these
   abbrev pub seen : (h₁ : R₁'.Denot) (h₂ : R₂'.Denot) (b o : ℕ) → Lft → Fml
   seen h₁ h₂ b o = beside (beside (shared_of R₁' h₁ b (o + e₁)) (beside (shared_of R₂' h₂ b (o + e₂)) (λ κ. ftrue))) (left_seen b o)
 
@@ -199,7 +199,7 @@ module _ {M : Type 1} {𝓤 : Ura M} (𝓛 : Logic 𝓤) (V : RattleType) (l : L
       same = same;
     }
 
--- a type with a view, where its fields can be lent at holes
+-- a type with a view, if its fields can be lent at holes
 module _ {M : Type 1} {𝓤 : Ura M} (𝓛 : Logic 𝓤) (V F F' : RattleType) (l : Lft) (O : Opens 𝓛 V F F' l)
     (D D' : Type 0) (c : Coded D) (c' : Coded D') (view : F.Denot → D) (view' : F'.Denot → D') (good : F.Denot → Type 0) (good' : F'.Denot → Type 0)
     (put : D → List V.Denot → D) (count : D → ℕ) (fill : D' → D) (cells_in : D' → List (Ptr × V.Denot))
@@ -227,7 +227,7 @@ module _ {M : Type 1} {𝓤 : Ura M} (𝓛 : Logic 𝓤) (V F F' : RattleType) (
       use1 𝓛 (some (λ (i : O.Info x.0). ‵ (each_at V (places_of (O.cells x.0 i b o)) (contents_of (O.cells x.0 i b o))) ⊛ ‵ (O.frame x.0 i b o) ⊛ raw (O.Back x.0 i b o))) (O.out x.0 b o) $ pick ! (λ i. split3 ! $
       show ! (λ (k : Inner d). mean 𝓛 (of_inner d b o k)) (x, i) $ done !))
 
-  -- and put together, where the view and what is known of the fields follow from the values
+  -- and put together, if the view and what is known of the fields follow from the values
   pub view_back : (d : D) (k : Inner d) (b o : ℕ) (ws : List V.Denot)
       → ent 𝓤 (sep 𝓤 (sem 𝓛 (each_at V (places_of (O.cells k.0.0 k.1 b o)) ws)) (sep 𝓤 (sem 𝓛 (O.frame k.0.0 k.1 b o)) (O.Back k.0.0 k.1 b o))) (sem 𝓛 (part_at W full_share (put d ws) b o))
   view_back d k b o ws = let a = k.0.0 in let places = places_of (O.cells a k.1 b o) in

@@ -1,4 +1,4 @@
--- What is lent of a `Vec` at holes, where its elements can be. Assumes `Logic`.
+-- What is lent of a `Vec` at holes, if its elements can be. Assumes `Logic`.
 use mathlib.Core.Path.{◌≡◌, refl, sym, ◌∙◌, subst}
 use mathlib.Core.Bool.{Bool, true, false, not}
 use Prim.Native.Nat.{ℕ, zero, ◌-◌, ◌*◌, ◌≤◌, ◌^◌}
@@ -74,7 +74,7 @@ module _ {M : Type 1} {𝓤 : Ura M} (𝓛 : Logic 𝓤) (V R R' : RattleType) (
   puts = row_put 𝓛 V R R' l O
 
   module _ (Spare : Ptr → Fml) (n c : ℕ) where
-    -- the block of a `Vec`, where it has one: its elements, and the room behind them
+    -- the block of a `Vec`, if it has one: its elements, and the room behind them
     abbrev pub Blk : Ptr → Bool → List R.Denot → Fml
     Blk p y xs = in_block p (owns_if y (fsep (lies_at (Array R n) full_share p xs) (Spare p)))
 

@@ -16,7 +16,7 @@ use Rattle.intmap_table.proofs.Tables.SwapOutLemmas.{any}
 use Rattle.intmap_table.proofs.Tables.SameKeysLemmas.{row_keys, IsMaskedTable-same_keys}
 use Rattle.intmap_table.proofs.Tables.TableLemmas.{get_or-rows}
 
--- tables with the same walk and as many slots are seen alike
+-- tables with the same walk and the same number of slots are seen alike
 pub Grid-same : {K X : Type 0} (s t : Grid K X) → s.walk ≡ t.walk → s.capacity ≡ t.capacity → s ≡ t
 Grid-same s t walk capacity = ap (λ W. record s { walk = W }) walk ∙ ap (λ n. record t { capacity = n }) capacity
 
@@ -52,7 +52,7 @@ module _ {K X : Type 0} (number : K → ℕ) where
   swap_out-step p R k v true e none rest = let w : Some p.1 ≡ None = rw e at none in absurd (cc)
   swap_out-step p R k v false e none rest = let w : value_of number R k ≡ None = rw e at none in simp (e, rest w)
 
-  -- a pair that stands last, and is the only one of its key, leaves the others as they were
+  -- a pair that is last, and is the only one of its key, leaves the others as they were
   swap_out-last : (R : List (K × X)) (k : K) (v : X) → value_of number R k ≡ None → swap_out (λ p. same_key number k p.0) any (R ++ (k, v) ∷ []) ≡ R
   swap_out-last [] k v none = let own : same_key number k k ≡ true = eq-eqb (number k) (number k) refl in simp own refl
   swap_out-last (p ∷ R) k v none = swap_out-step p R k v (same_key number k p.0) refl none (λ w. swap_out-last R k v w)
@@ -87,7 +87,7 @@ module _ {K X : Type 0} (number : K → ℕ) where
     value_of-put_new =
         sym (value_of-slot_of number C L k) ∙ ap (λ R. value_of number R k) row ∙ value_of-last (slot_of number W C i) k v none
 
-    -- and once it is taken out again, the walk is as before
+    -- and once it is removed again, the walk is as before
     pub walk_of-take_new : walk_of number (take_key number L C k) C ≡ walk_of number W C
     walk_of-take_new = walk_of-same number C (take_key number L C k) W (λ j below. elim (cases_eq i j) as (λ _. slot_of number (take_key number L C k) C j ≡ slot_of number W C j) [
       | inl q ↦ rw (← q) (slot_of-take_key number C cap L k i refl ∙ ap (λ R. swap_out (λ p. same_key number k p.0) any R) row ∙ swap_out-last (slot_of number W C i) k v none)
@@ -102,12 +102,12 @@ module _ {K X : Type 0} (number : K → ℕ) where
         let one : ◌≡◌ {A = ℕ} (cond (is_some (value_of number W k)) 0 1) 1 = ap (λ (o : Option X). cond (is_some o) 0 1) missing in
         omega (arith, long, more, one)
 
--- what a refusal ensures holds where there is one
+-- what an error ensures holds if there is one
 pub OnErr-at : {T E : Type 0} (r : Result T E) (P : Type 0) → is_err r ≡ true → OnErr r P → P
 OnErr-at (Ok x) P is holds = absurd (cc)
 OnErr-at (Err e) P is holds = holds
 
--- and what a success ensures where there is none
+-- and what a success ensures holds if there is no error
 pub OnOk-at : {T E : Type 0} (r : Result T E) (P : Type 0) → is_err r ≡ false → OnOk r P → P
 OnOk-at (Ok x) P is holds = holds
 OnOk-at (Err e) P is holds = absurd (cc)

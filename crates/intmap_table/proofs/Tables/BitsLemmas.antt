@@ -1,4 +1,4 @@
--- What the bits of words tell of the places that they mark.
+-- What the bits of words say of the places that they mark.
 use Rattle.std.proofs.Common.{◌≡◌, ◌≢◌, inl, inr, ℕ, zero, suc, ◌+◌, ◌-◌, ◌*◌, ◌/◌, ◌%◌, ◌^◌, ◌<◌, Bool, true, false, List, [], ◌∷◌, ◌++◌, length, map, get_or, set, replicate, sum_by, refl, sym, ap, subst, ◌∙◌, arith, zero-add, bit_and, w64, length-set, get_or-set_same, get_or-set_other, length-append}
 use Rattle.std.specs.Prelude.{◌==◌, cond, filter, nat_eq}
 use Rattle.std.specs.Int.RustNames.{count_ones}
@@ -101,7 +101,7 @@ small_ones zero h = refl
 small_ones (suc zero) h = refl
 small_ones (suc (suc r)) h = absurd (omega arith)
 
--- a word has as many places as bits that are set
+-- the number of places of a word that are marked is the number of its set bits
 length-bits_of : (n word : ℕ) → word < 2 ^ n → length (bits_of n word) ≡ count_ones word
 unfolding bits_of
 length-bits_of zero word fits = let z : word ≡ 0 = omega arith in rw z (sym (small_ones 0 (omega arith)))
@@ -270,7 +270,7 @@ unfolding marks_of
 marked_places-none [] none = refl
 marked_places-none (w ∷ ws) none = absurd (omega arith)
 
--- places that count as many as there are bits that are set
+-- the number of places of these words that are marked is the number of their set bits
 pub length-marked_places-marks_of : (words : List ℕ) → ((k : ℕ) → get_or words k 0 < 2 ^ 64) → length (marked_places (marks_of words)) ≡ sum_by count_ones words
 length-marked_places-marks_of [] fits = ap length (marked_places-none [] refl)
 length-marked_places-marks_of (w ∷ ws) fits =

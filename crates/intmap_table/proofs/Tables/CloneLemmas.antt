@@ -61,7 +61,7 @@ module _ {K V : Type 0} (clones : V → V → Type 0) where
   value_of-clone : (number : K → ℕ) (k : K) (p q : K × V) (M : List (K × V)) (b : Bool) → same_key number k p.0 ≡ b → q.0 ≡ p.0 → value_of number (q ∷ M) k ≡ cond b (Some q.1) (value_of number M k)
   value_of-clone number k p q M b is key = ap (λ j. cond (same_key number k j) (Some q.1) (value_of number M k)) key ∙ ap (λ c. cond c (Some q.1) (value_of number M k)) is
 
-  -- where a key is bound to a clone by the rest, it is with clones of the first pair before it
+  -- if in the rest a key has a clone of its value, it has one too with the clone of the first pair in front
   binds_first : (number : K → ℕ) (k : K) (p q : K × V) (L M : List (K × V)) (b : Bool) → same_key number k p.0 ≡ b → IsPairClone clones p q
       → MatchOption (value_of number L k) (value_of number M k ≡ None) (λ v. (w : V) × (value_of number M k ≡ Some w) × clones v w)
       → MatchOption (cond b (Some p.1) (value_of number L k)) (value_of number (q ∷ M) k ≡ None) (λ v. (w : V) × (value_of number (q ∷ M) k ≡ Some w) × clones v w)
@@ -69,7 +69,7 @@ module _ {K V : Type 0} (clones : V → V → Type 0) where
   binds_first number k p q L M false is one rest =
       subst (λ o. MatchOption (value_of number L k) (o ≡ None) (λ v. (w : V) × (o ≡ Some w) × clones v w)) (sym (value_of-clone number k p q M false is one.0)) rest
 
-  -- so each key is bound to a clone
+  -- so each key has a clone of its value
   pub BindsClones-AreClones : (number : K → ℕ) (L M : List (K × V)) → AreClones clones L M → BindsClones number clones L M
   BindsClones-AreClones number [] [] all k = refl
   BindsClones-AreClones number [] (q ∷ M) all k = absurd all

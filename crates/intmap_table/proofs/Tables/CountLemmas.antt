@@ -21,7 +21,7 @@ use Rattle.intmap_table.proofs.Tables.FilledLemmas.{row-unplaced}
 use Rattle.intmap_table.proofs.Tables.GrownLemmas.{slot_number-parts, modulo-below, grown-more, IsGrown-from, IsMidway-start}
 use Rattle.intmap_table.proofs.Tables.RoomLemmas.{CanLeave-same, CanLeave-short, HasRoom-parts}
 
--- parts of so many slots each are no fewer slots
+-- several parts of C slots each are at least C slots
 pub one_part : (P C : ℕ) → 0 < P → C ≤ P * C
 one_part zero C some = absurd (omega (arith, some))
 one_part (suc P) C some = let e : suc P * C ≡ P * C + C = omega arith in omega (arith, e)
@@ -68,7 +68,7 @@ module _ {K X : Type 0} (number : K → ℕ) (P C : ℕ) where
         ∙ ap (λ b. cond b 1 0 + in_part L t) here ∙ ap (λ n. cond (slot_number number p.0 (P * C) == t * C + i) 1 0 + n) rest
         ∙ sym (sum_by-cons (λ (q : K × X). cond (slot_number number q.0 (P * C) == t * C + i) 1 0) p L)
 
-    -- as many as slot t C + i needs room for
+    -- the number of pairs that slot t C + i needs room for
     pub in_part-need : (L : List (K × X)) → All (λ p. slot_number number p.0 C ≡ i) L → in_part L t ≡ need number L (P * C) (t * C + i)
     in_part-need L own = count-same L own ∙ sym (length-filter (λ p. slot_number number p.0 (P * C) == t * C + i) L)
 
@@ -90,7 +90,7 @@ module _ {K X : Type 0} (number : K → ℕ) (P C : ℕ) where
 pub part-within : (P C t i : ℕ) → t < P → i < C → t * C + i < P * C
 part-within P C t i lt below = let w = mul-add-lt t C i P lt below in let e = mul_comm P C in omega (arith, w, e)
 
--- as many bytes as stand before a slot fit where all slots do
+-- the bytes before a slot fit if those of all slots do
 pub offset-fits : (i n size : ℕ) → i < n → n * size < 2 ^ 63 → i * size < 2 ^ 64
 offset-fits i n size below all = let le : i ≤ n = omega (arith, below) in let w = mul-le-mul_right size le in omega (arith, w, all)
 
@@ -98,7 +98,7 @@ offset-fits i n size below all = let le : i ≤ n = omega (arith, below) in let 
 pub part-past : (C t i : ℕ) → 0 < t → C ≤ t * C + i
 part-past C t i some = let more = one_part t C some in omega (arith, more)
 
--- of the parts of old slot i, those from a place on have no block, and those before it have room for as many pairs as are counted for them, but part x, which got none and has no block either
+-- of the parts of old slot i, those from a place on have no block, and those before it have room for the pairs that are counted for them, except part x, which got none and has no block either
 pub record IsShared (r counts : List ℕ) (C i part : ℕ) (spared : Bool) (x : ℕ) : Type 0 where
   pub ahead : (t : ℕ) → part ≤ t → t < length counts → get_or r (t * C + i) 0 ≡ 1
   pub room : (t : ℕ) → t < part → (get_or counts t 0 ≤ get_or r (t * C + i) 0) ⊎ ((t ≡ x) × (get_or r (t * C + i) 0 ≡ 1))
@@ -163,7 +163,7 @@ module _ {K X : Type 0} where
   pub room-other : (S : List (Held K X)) (j k : ℕ) (s : Held K X) → k ≢ j → get_or (rooms (set S j s)) k 0 ≡ get_or (rooms S) k 0
   room-other S j k s apart = ap (λ r. get_or r k 0) (map-set (λ (t : Held K X). t.room) S j s) ∙ get_or-set_other (rooms S) j k s.room 0 apart
 
-  -- the rooms of the parts of an old slot once its block is taken out
+  -- the rooms of the parts of an old slot once its block is removed
   abbrev pub spare_rooms : List (Held K X) → ℕ → List ℕ
   spare_rooms S i = set (rooms S) i 1
 
@@ -172,7 +172,7 @@ module _ {K X : Type 0} where
     part-apart : 0 < part → part * C + i ≢ i
     part-apart some e = let past = part-past C part i some in absurd (omega (arith, e, past, below))
 
-    -- so the old one keeps its room where that part changes
+    -- so the old one keeps its room if that part changes
     pub own-kept : 0 < part → get_or (rooms (set S (part * C + i) s)) i 0 ≡ get_or (rooms S) i 0
     own-kept some = room-other S (part * C + i) i s (λ e. part-apart some (sym e))
 
@@ -193,7 +193,7 @@ module _ {K X : Type 0} where
         rw q (IsShared-made (spare_rooms S i) counts C i part x here (set (spare_rooms S i) (part * C + i) s.room) below (omega (arith, made, at))
         (λ j other. get_or-set_other (spare_rooms S i) (part * C + i) j s.room 0 other) is)
 
-  -- where no part but the old slot has a block, none has one then
+  -- if no part but the old slot has a block, none has one then
   pub bare-parts : (S : List (Held K X)) (P C i : ℕ) → i < C → length S ≡ P * C → ((t : ℕ) → 0 < t → t < P → get_or (rooms S) (t * C + i) 0 ≡ 1)
       → (t : ℕ) → t < P → get_or (spare_rooms S i) (t * C + i) 0 ≡ 1
   bare-parts S P C i below len bare t lt =
@@ -309,11 +309,11 @@ module _ {K X : Type 0} (number : K → ℕ) where
     }
 
     module _ (place : ℕ) (rest : List ℕ) (left : AreLeft (take C (rows S₀)) (place ∷ rest)) (longest : ℕ) (S : List (Held K X)) (ready : AreReady number S₀ C (place ∷ rest) longest S) where
-      -- the place at hand is that of an old slot
+      -- the current place is that of an old slot
       pub place-old : place < C
       place-old = let w = All-head (λ i. i < length (take C (rows S₀))) place rest left.within in omega (arith, w, is.len)
 
-      -- there are as many slots as before
+      -- the number of slots is as before
       pub len-ready : length S ≡ length S₀
       len-ready = sym (length-rows S) ∙ ap length ready.kept ∙ length-rows S₀
 
@@ -321,7 +321,7 @@ module _ {K X : Type 0} (number : K → ℕ) where
       pub place-slot : place < length S₀
       place-slot = let more = grown-more C (length S₀) grown in let w = place-old in omega (arith, w, more)
 
-      -- its row stands as it stood
+      -- its row is as it was
       pub row-ready : (d : Held K X) → (get_or S place d).pairs ≡ get_or (rows S₀) place []
       row-ready d = sym (get_or-rows S place d (let w = place-slot in let l = len-ready in omega (arith, w, l))) ∙ ap (λ (R : List (List (K × X))). get_or R place []) ready.kept
 

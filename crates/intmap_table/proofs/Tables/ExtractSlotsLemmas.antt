@@ -92,7 +92,7 @@ module _ {K X : Type 0} (number : K → ℕ) (S : List (Held K X)) (table : IsTa
   }
 
 module _ {K X : Type 0} (S : List (Held K X)) (marks : List Bool) (are : AreMarked (rows S) marks) (from j n : ℕ) (at : IsAt (rows S) from j n) where
-  -- where there is no mark any more, no pair is left
+  -- if there is no mark any more, no pair is left
   pub drop-none : ((i : ℕ) → from ≤ i → marked marks i ≡ false) → drop n (joined (rows S)) ≡ []
   drop-none none =
       let empty = λ (i : ℕ) (le : from ≤ i). empty-unmarked S marks are from i (none i le) in
@@ -100,7 +100,7 @@ module _ {K X : Type 0} (S : List (Held K X)) (marks : List Bool) (are : AreMark
       drop_all n (joined (rows S)) (omega (arith, long, at.count))
 
   module _ (place : ℕ) (next : IsNextMark marks from place) where
-    -- the slot of the next mark is at hand: where that isn't this slot, this one is empty
+    -- the slot of the next mark is the current one: if that isn't this slot, this one is empty
     pub IsAt-next : IsAt (rows S) place j n
     IsAt-next = elim (cases_lt from place) as (λ _. IsAt (rows S) place j n) [
       | inl before ↦
@@ -200,7 +200,7 @@ module _ {K X F : Type 0} (number : K → ℕ) (R : F → K × X → Bool → F 
           let on = StepsTo-on R f₀ f g D₀ L₀ (take n (joined (rows S))) (drop j (get_or (rows S) i [])) (joined (drop (suc i) (rows S))) step.0 (drop k s.pairs) here first in
           subst (λ Z. StepsTo R f₀ D₀ L₀ g Z (drop m (joined (rows T)))) (sym taken-more) (subst (λ Z. StepsTo R f₀ D₀ L₀ g (take n (joined (rows S)) ++ step.0) Z) (sym rest) on)
 
-    -- where none was picked, what the closure takes of the pairs that were left it takes of those that are left now
+    -- if none was picked, what the closure takes of the pairs that were left it takes of those that are left now
     pub TakesEach-slot : r ≡ None → (Q : F → K × X → Type 0) → TakesEach (λ f p (a : Bool × (K × X)) g. R f p a.0 g a.1) Q f (drop n (joined (rows S)))
         → TakesEach (λ f p (a : Bool × (K × X)) g. R f p a.0 g a.1) Q g (drop m (joined (rows T)))
     TakesEach-slot is Q takes =
@@ -211,7 +211,7 @@ module _ {K X F : Type 0} (number : K → ℕ) (R : F → K × X → Bool → F 
         (TakesEach-on R Q f g (drop j (get_or (rows S) i [])) (joined (drop (suc i) (rows S))) step.0 (drop k s.pairs)
         (subst (TakesEach (λ f p (a : Bool × (K × X)) g. R f p a.0 g a.1) Q f) (drop-reached (rows S) i j n at) takes) first)
 
-    -- where none was picked, all pairs of the slot were passed
+    -- if none was picked, all pairs of the slot were passed
     pub IsAt-left : r ≡ None → IsAt (rows T) (i + 1) 0 m
     IsAt-left is =
         let first = subst (λ o. ExtractsNext R f (drop j (get_or (rows S) i [])) o g step.0 (drop k s.pairs)) is step.1 in

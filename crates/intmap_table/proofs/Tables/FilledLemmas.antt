@@ -1,4 +1,4 @@
--- The marks of a table tell which of its slots hold a pair.
+-- The marks of a table say which of its slots hold a pair.
 use Rattle.std.proofs.Common.{◌≡◌, ◌≢◌, inl, inr, ℕ, zero, suc, ◌+◌, ◌*◌, ◌/◌, ◌<◌, ◌≤◌, Bool, true, false, Option, Some, None, List, [], ◌∷◌, ◌++◌, length, get_or, set, replicate, refl, sym, ap, ◌∙◌, arith, length-set, get_or-set_same, get_or-set_other}
 use Rattle.std.specs.Prelude.{◌==◌, filter, All, count_by, nat_lt}
 use Rattle.std.specs.List.{list_any, range_with_len}
@@ -21,7 +21,7 @@ module _ {P : Type 0} (R : List (List P)) (marks : List Bool) (are : AreMarked R
   pub pairs_at-marked : pairs_at R (marked_places marks) ≡ joined R
   pairs_at-marked = flat_map-marked_places R marks marks-enough are.own
 
-  -- as many places are marked as rows hold a pair
+  -- the number of marked places is the number of rows that hold a pair
   pub count-marked : length (marked_places marks) ≡ count_by (λ row. nat_lt 0 (length row)) R
   count-marked = length-marked_places R marks marks-enough are.own
 
@@ -54,7 +54,7 @@ get_or-no_pairs zero i = refl
 get_or-no_pairs (suc n) zero = refl
 get_or-no_pairs (suc n) (suc i) = get_or-no_pairs n i
 
--- where no row holds a pair, none is marked
+-- if no row holds a pair, none is marked
 pub AreMarked-none : {P : Type 0} (R : List (List P)) (C : ℕ) → length R ≡ C → ((i : ℕ) → get_or R i [] ≡ []) → AreMarked R (replicate (64 * ((C + 63) / 64)) false)
 AreMarked-none R C len empty = record {
   words = rw len (length-replicate (64 * ((C + 63) / 64)) false);
@@ -74,7 +74,7 @@ pairs_at-set R i row (j ∷ places) apart =
 pub filled-pushed : {P : Type 0} (row : List P) (p : P) → nat_lt 0 (length (row ++ p ∷ [])) ≡ true
 filled-pushed row p = lt-ltb 0 (length (row ++ p ∷ [])) (let n = length_push row p in omega (arith, n))
 
--- a slot with a bound key holds a pair
+-- a slot with a present key holds a pair
 pub filled-bound : {K X : Type 0} (number : K → ℕ) (L : List (K × X)) (k : K) (v : X) → value_of number L k ≡ Some v → nat_lt 0 (length L) ≡ true
 filled-bound {X = X} number [] k v bound = let no : ◌≡◌ {A = Option X} None (Some v) = bound in cc
 filled-bound number (p ∷ L) k v bound = lt-ltb 0 (length (p ∷ L)) (omega arith)
@@ -87,7 +87,7 @@ module _ {K X : Type 0} (S : List (Held K X)) (bits : List Bool) (marks : AreMar
   pub place-below : i < length bits
   place-below = let e = marks-enough (rows S) bits marks in omega (arith, row-below, e)
 
-  -- it tells whether the slot holds a pair
+  -- it says whether the slot holds a pair
   pub marked-at : (h : Held K X) → h ≡ get_or S i h → marked bits i ≡ nat_lt 0 (length h.pairs)
   marked-at h is = marks.own i ∙ ap (λ (ps : List (K × X)). nat_lt 0 (length ps)) (get_or-rows S i h below ∙ ap (λ (s : Held K X). s.pairs) (sym is))
 
@@ -148,7 +148,7 @@ row-unplaced R marks are i missed = row-none (get_or R i []) (elim (cases_lt i (
   | inr past ↦ sym (are.own i) ∙ get_or_past marks i false past
 ])
 
--- empty slots, and as many places without a mark
+-- a table of empty slots, with no place marked
 pub IsMarkedTable-empty : {K X : Type 0} (number : K → ℕ) (S : List (Held K X)) (C : ℕ) → IsCapacity C → rows S ≡ replicate C [] → IsMarkedTable number S (replicate (64 * ((C + 63) / 64)) false)
 IsMarkedTable-empty number S C capacity empty =
     let rows-len : length (rows S) ≡ C = ap length empty ∙ length-replicate C [] in

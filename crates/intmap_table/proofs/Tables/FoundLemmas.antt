@@ -47,7 +47,7 @@ module _ {K V : Type 0} (test : K → Bool) (P : K → Type 0) where
       let p = position-within (λ (q : K × V). test q.0) L i e in subst (Passes L) p.0 (found L (subst (λ n. n < length L) (sym p.0) p.1))
 
 module _ {K V : Type 0} (number : K → ℕ) (is_valid : K → Type 0) where
-  -- the key at the place where a key was found is that key
+  -- at the place at which a key was found is that key
   pub key_at-located : ((x y : K) → is_valid x → is_valid y → number x ≡ number y → x ≡ y) → (W : List (K × V)) (C : ℕ) (at : Location K)
       → All (λ p. is_valid p.0) W → is_valid at.key → IsAt number W C at → key_at (slot_of number W C at.slot) at.place ≡ Some at.key
   key_at-located number_injective W C at keys known is =

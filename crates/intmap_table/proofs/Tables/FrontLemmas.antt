@@ -1,4 +1,4 @@
--- What the slots of a table hold once pairs were taken out from the front of its walk.
+-- What the slots of a table hold once pairs were removed from the front of its walk.
 use Rattle.std.proofs.Common.{◌≡◌, inl, inr, ℕ, suc, ◌+◌, ◌<◌, ◌≤◌, Bool, true, false, List, [], ◌∷◌, ◌++◌, length, get_or, set, take, drop, sym, ap, ◌∙◌, subst, arith, append_assoc, get_or-set_other}
 use Rattle.std.specs.Prelude.{All, nat_lt}
 use Rattle.std.proofs.lemmas.Bool.{cases_lt, ltb-true}
@@ -30,7 +30,7 @@ module _ {K X : Type 0} (number : K → ℕ) (S : List (Held K X)) (table : IsTa
 pub row-filled : {P : Type 0} (R : List (List P)) (marks : List Bool) → AreMarked R marks → (i : ℕ) (row : List P) → marked marks i ≡ true → get_or R i [] ≡ row → 0 < length row
 row-filled R marks are i row is q = ltb-true 0 (length row) (ap (λ (ps : List _). nat_lt 0 (length ps)) (sym q) ∙ sym (are.own i) ∙ is)
 
--- where no place has a mark from the first one on that wasn't passed, there is no pair
+-- if no place has a mark from the first one on that wasn't passed, there is no pair
 pub joined-passed : {K X : Type 0} (S : List (Held K X)) (marks : List Bool) → AreMarked (rows S) marks → (from : ℕ)
     → ((j : ℕ) → j < from → get_or (rows S) j [] ≡ []) → ((j : ℕ) → from ≤ j → marked marks j ≡ false) → joined (rows S) ≡ []
 joined-passed S marks are from passed none = joined-emptied (rows S) (λ j. elim (cases_lt j from) as (λ _. get_or (rows S) j [] ≡ []) [

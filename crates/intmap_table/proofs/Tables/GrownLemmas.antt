@@ -30,7 +30,7 @@ module _ {K : Type 0} (number : K → ℕ) where
   pub slot_number-modulo : (C a : ℕ) (k : K) → IsCapacity C → slot_number number k (C * 2 ^ a) % C ≡ slot_number number k C
   slot_number-modulo C a k cap = ap (λ m. m % C) (slot_number-split C a k cap) ∙ mod-mul-add (part C a k) C (slot_number number k C) (slot_number-below number k C cap)
 
-  -- it is fewer than there are times as many slots
+  -- so it is the old slot of one of the parts
   pub slot_number-parts : (C a : ℕ) (k : K) → IsCapacity C → (t : ℕ) × (t < 2 ^ a) × (slot_number number k (C * 2 ^ a) ≡ t * C + slot_number number k C)
   slot_number-parts C a k old = (part C a k, mod_below ((number k * 11400714819323198549) / C) (2 ^ a) (pow_pos a), slot_number-split C a k old)
 

@@ -1,4 +1,4 @@
--- What marked places tell of rows, of which each that holds something is marked.
+-- What marked places say of rows, if each row that holds something is marked.
 use Rattle.std.proofs.Common.{◌≡◌, inl, inr, ℕ, zero, suc, ◌+◌, ◌-◌, ◌<◌, ◌≤◌, Bool, true, false, List, [], ◌∷◌, ◌++◌, length, map, get_or, replicate, refl, sym, ap, ◌∙◌, arith, add-zero, zero-add, append-nil}
 use Rattle.std.specs.Prelude.{filter, All, AllPairs, count_by, nat_lt}
 use Rattle.std.specs.List.{flat_map, range_with_len}
@@ -123,7 +123,7 @@ module _ {P : Type 0} (S : List (List P)) (marks : List Bool) (enough : length S
       ∙ append-nil (flat_map row (range_with_len 0 (length S)))
       ∙ flat_map-rows row 0 S (λ i _. ap row (zero-add i))
 
-  -- as many places are marked as there are rows that hold something
+  -- the number of marked places is the number of rows that hold something
   pub length-marked_places : length (marked_places marks) ≡ count_by (λ s. nat_lt 0 (length s)) S
   length-marked_places =
       let more : ℕ = length marks - length S in

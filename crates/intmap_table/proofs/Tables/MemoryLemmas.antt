@@ -38,7 +38,7 @@ module _ {K X : Type 0} where
     pub joined-alone : joined (rows T) ≡ []
     joined-alone = ap joined rows-alone ∙ joined-emptied (replicate C []) (get_or-no_pairs C)
 
-    -- they are as many
+    -- their number is the same
     pub length-alone : length T ≡ C
     length-alone = ap length alone ∙ length-replicate C emptied
 
@@ -54,7 +54,7 @@ OnErr-always (Ok _) p = tt
 OnErr-always (Err _) p = p
 
 module _ {K X : Type 0} (S T : List (Held K X)) (same : rows T ≡ rows S) where
-  -- slots with the same rows are as many
+  -- the number of slots with the same rows is the same
   pub length-same_rows : length T ≡ length S
   length-same_rows = sym (length-rows T) ∙ ap length same ∙ length-rows S
 
@@ -62,7 +62,7 @@ module _ {K X : Type 0} (S T : List (Held K X)) (same : rows T ≡ rows S) where
   pub grid-same_rows : ◌≡◌ {A = Grid K X} (record { walk = joined (rows T); capacity = length T }) (record { walk = joined (rows S); capacity = length S })
   grid-same_rows = λ i. record { walk = joined (same i); capacity = length-same_rows i }
 
-  -- they are a table where the others are
+  -- they are a table if the others are
   pub IsMaskedTable-same_rows : (number : K → ℕ) (bits : List Bool) (mask : ℕ) → IsMaskedTable number S bits mask → IsMaskedTable number T bits mask
   IsMaskedTable-same_rows number bits mask table = record {
     marked = record {
@@ -144,7 +144,7 @@ module _ {K X : Type 0} {number : K → ℕ} {S T : List (Held K X)} {bits : Lis
   pub IsOldRows-longer : IsOldRows number (take (mask + 1) (rows T)) (mask + 1)
   IsOldRows-longer = rw (take-longer, is.table.count) old_rows
 
-  -- the marks of the old slots tell of them
+  -- the marks of the old slots say which of them hold a pair
   pub AreMarked-longer : AreMarked (take (mask + 1) (rows T)) bits
   AreMarked-longer = rw take-longer is.table.marked.marks
 

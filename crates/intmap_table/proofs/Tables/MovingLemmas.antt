@@ -70,7 +70,7 @@ module _ {K X : Type 0} (number : K → ℕ) (R : List (List (K × X))) (C D lon
     }
 
     module _ (bits : List Bool) (S : List (Held K X)) (i : ℕ) where
-      -- up to a place before which none of those that are left stands
+      -- up to a place before which none of the places that are left lies
       pub AreMoved-up : (places : List ℕ) (j : ℕ) → j ≤ C → i ≤ j → All (λ k. j ≤ k) places → AreMoved number R C D longest fresh places i bits S → AreMoved number R C D longest fresh places j bits S
       AreMoved-up places j top up all before =
           let n : ℕ = j - i in
@@ -123,7 +123,7 @@ module _ {K X : Type 0} (number : K → ℕ) (R : List (List (K × X))) (C D lon
         pub place-old : place < C
         place-old = let lt = All-head (λ j. j < length R) place rest before.left.within in omega (arith, lt, is.len)
 
-        -- its row stands as it stood
+        -- its row is as it was
         pub row-moved : get_or (rows S) place [] ≡ get_or R place []
         row-moved = before.can.midway.old place (omega arith) (let lt = place-old in omega (arith, lt, is.len))
 
@@ -183,7 +183,7 @@ module _ {K X : Type 0} (number : K → ℕ) (R : List (List (K × X))) (C D lon
               (AreSet-more number D fresh bits bits' (joined (take place R)) (get_or R place []) before.marks more);
         }
 
-        -- as many pairs more are moved
+        -- the number of moved pairs grows by those of the slot
         pub length-moved : length (joined (take (place + 1) R)) ≡ length (joined (take place R)) + length (get_or (rows S) place [])
         length-moved =
             let e : place + 1 ≡ suc place = omega arith in

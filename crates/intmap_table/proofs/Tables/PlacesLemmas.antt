@@ -139,7 +139,7 @@ first_kept test a (suc n) place rest is = elim (cases_Bool (test a)) [
       ))
 ]
 
--- where no number of a run passes
+-- if no number of a run passes
 none_kept : (test : ℕ → Bool) (a n : ℕ) → filter test (range_with_len a n) ≡ [] → (j : ℕ) → a ≤ j → j < a + n → test j ≡ false
 none_kept test a zero is j le lt = absurd (omega (arith, le, lt))
 none_kept test a (suc n) is j le lt = elim (cases_Bool (test a)) as (λ _. test j ≡ false) [
@@ -181,7 +181,7 @@ module _ (marks : List Bool) (from : ℕ) where
       both_true true b e = (refl, e)
       both_true false b e = absurd (false≢true e)
 
-  -- where there is none, no place is marked from there on
+  -- if there is none, no place is marked from there on
   pub unmarked-behind : filter (nat_le from) (marked_places marks) ≡ [] → (j : ℕ) → from ≤ j → marked marks j ≡ false
   unmarked-behind none j le = elim (cases_lt j (length marks)) as (λ _. marked marks j ≡ false) [
     | inl below ↦ unmarked j le (none_kept behind_from 0 (length marks) (sym both_places ∙ none) j (omega arith) (omega (arith, below)))

@@ -86,11 +86,11 @@ module _ {K X : Type 0} (number : K → ℕ) where
     | inr apart ↦ (let same = ap length (slot_of-not_first number p [] D j apart) in absurd (omega (arith, same, some)))
   ]
 
-  -- where no slot that they go to holds a pair, and none is marked, they are told
+  -- if no slot that they go to holds a pair, and none is marked, they are told
   pub AreTold-free : (S : List (Held K X)) (L : List (K × X)) (bits : List Bool) → AreFree number S L bits → AreTold number S L bits
   AreTold-free S L bits are = record { told = λ j below some. are.unmarked j below some ∙ sym (ap (λ ps. nat_lt 0 (length ps)) (are.empty j below some)) }
 
-  -- whatever room the slot has that the pairs were taken out of
+  -- whatever room the slot has that the pairs were removed from
   pub AreFree-left : (S : List (Held K X)) (i : ℕ) (h : Held K X) (L : List (K × X)) (bits : List Bool) → h.pairs ≡ [] → AreFree number (set S i emptied) L bits → AreFree number (set S i h) L bits
   AreFree-left S i h L bits none are =
       let len : length (set S i h) ≡ length (set S i emptied) = length-set S i h ∙ sym (length-set S i emptied) in
@@ -101,7 +101,7 @@ module _ {K X : Type 0} (number : K → ℕ) where
         unmarked = rw len are.unmarked;
       }
 
-  -- what is told of pairs is told of the first
+  -- if the marks agree for these pairs, they agree for the first of them
   pub AreTold-first : (S : List (Held K X)) (p : K × X) (M : List (K × X)) (bits : List Bool) → AreTold number S (p ∷ M) bits → AreTold number S (p ∷ []) bits
   AreTold-first S p M bits are = record { told = λ j below some. are.told j below (need-first p M (length S) j some) }
 
@@ -131,7 +131,7 @@ or-or : (a b c d : Bool) → (b || c) ≡ d → ((a || b) || c) ≡ (a || d)
 or-or true b c d e = refl
 or-or false b c d e = e
 
--- one of two numbers is positive exactly where their sum is
+-- one of two numbers is positive exactly if their sum is
 positive-sum : (m n : ℕ) → (nat_lt 0 m || nat_lt 0 n) ≡ nat_lt 0 (m + n)
 positive-sum zero zero = refl
 positive-sum zero (suc n) = lt-ltb 0 (suc n) (omega arith) ∙ sym (lt-ltb 0 (zero + suc n) (omega arith))

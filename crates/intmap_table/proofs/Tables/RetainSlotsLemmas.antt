@@ -48,7 +48,7 @@ module _ {P : Type 0} where
   pub joined-cut : (i : ℕ) (R : List (List P)) → joined R ≡ joined (take i R) ++ joined (drop i R)
   joined-cut i R = ap joined (sym (take-append-drop i R)) ∙ flat_map-append (λ row. row) (take i R) (drop i R)
 
-  -- where no row holds a pair from place i on
+  -- if no row holds a pair from place i on
   pub joined-none : (i : ℕ) (R : List (List P)) → ((j : ℕ) → i ≤ j → get_or R j [] ≡ []) → joined (drop i R) ≡ []
   joined-none i R empty = joined-emptied (drop i R) (λ j. get_or-drop i R j [] ∙ empty (i + j) (omega arith))
 
@@ -89,7 +89,7 @@ module _ {K X : Type 0} (S : List (Held K X)) (marks : List Bool) (are : AreMark
   pub empty-between : (place : ℕ) → IsNextMark marks from place → (j : ℕ) → from ≤ j → j < place → get_or (rows S) j [] ≡ []
   empty-between place next j le lt = empty-unmarked j (next.between j le lt)
 
-  -- where there is no mark any more, R went over all
+  -- if there is no mark any more, R went over all
   pub Leads-all : {F : Type 0} (R : F → K × X → Bool → F → Type 0) (f₀ f : F) (L : List (K × X)) → ((j : ℕ) → from ≤ j → marked marks j ≡ false)
       → Leads (Retains R) f₀ L f (joined (take from (rows S))) (joined (drop from (rows S))) → Retains R f₀ L (joined (rows S)) f
   Leads-all R f₀ f L none leads =
@@ -116,7 +116,7 @@ module _ {K X : Type 0} (number : K → ℕ) (S : List (Held K X)) (marks : List
   behind : from + (place - from) ≡ place
   behind = let le = next.behind in omega (arith, le)
 
-  -- with the slot changed, what stood before it and what it holds now
+  -- with the slot changed, what was before it and what it holds now
   pub joined-taken : joined (take (place + 1) (rows (set S place s))) ≡ joined (take from (rows S)) ++ s.pairs
   joined-taken =
       let one : place + 1 ≡ suc place = omega arith in
@@ -156,7 +156,7 @@ module _ {K X : Type 0} (number : K → ℕ) (S : List (Held K X)) (marks : List
         let stay = length-Retains R f h row s.pairs run in
         omega (arith, before, after, taken, left, stay)
 
-    -- so many pairs stay up to the slot
+    -- the number of pairs that stay up to the slot
     pub count-slot : (n : ℕ) → n ≡ length (joined (take from (rows S))) → n + length s.pairs ≡ length (joined (take (place + 1) (rows (set S place s))))
     count-slot n count = let taken = ap length joined-taken ∙ length-append (joined (take from (rows S))) s.pairs in omega (arith, taken, count)
 

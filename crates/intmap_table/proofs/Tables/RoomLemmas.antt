@@ -45,7 +45,7 @@ module _ {K X : Type 0} (number : K → ℕ) where
     After i = (length (get_or (rows T) i []) + length (slot_of number M (length S) i) ≤ get_or (rooms T) i 0)
         ⊎ ((i ≡ x) × (get_or (rooms T) i 0 ≡ 1) × (length (get_or (rows T) i []) + length (slot_of number M (length S) i) ≤ 1 + left))
 
-    -- where the block was taken, slot j was the one
+    -- if the block was taken, slot j was the one
     taken : 0 < length (get_or (rows S) j []) → get_or (rooms S) j 0 ≡ 1 → (j ≡ x) × (length (get_or (rows S) j []) + length (slot_of number (p ∷ M) (length S) j) ≤ 1 + block)
     taken some bare = elim (has.room j below (omega (arith, one))) [
       | inl fits ↦ absurd (omega (arith, fits, one, bare, some))
@@ -182,7 +182,7 @@ module _ {K X : Type 0} (number : K → ℕ) (S T : List (Held K X)) (h : Held K
   len-set : length (set S i h) ≡ length S
   len-set = length-set S i h
 
-  -- a slot that is k modulo C got nothing, and stands as it stood
+  -- a slot that is k modulo C got nothing, and is as it was
   got-none : (j : ℕ) → j % C ≡ k → slot_of number L (length S) j ≡ []
   got-none j is =
       slot_of-apart number C (length S) grown L j
@@ -216,7 +216,7 @@ module _ {K X : Type 0} (number : K → ℕ) where
       let q : K × X → Bool = λ p. slot_number number p.0 D == j in
       let same = length-filter q L in let most = count_by-le-length q L in omega (arith, same, most)
 
-  -- where the slots that get pairs are empty, and each has its room or is slot x without a block, the block at hand serves if it has room for all the pairs but one
+  -- if the slots that get pairs are empty, and each has its room or is slot x without a block, the current block serves if it has room for all the pairs except one
   pub HasRoom-ready : (S : List (Held K X)) (L : List (K × X)) (block x : ℕ) → length L ≤ 1 + block
       → ((j : ℕ) → j < length S → 0 < need number L (length S) j → get_or (rows S) j [] ≡ [])
       → ((j : ℕ) → j < length S → 0 < need number L (length S) j → (need number L (length S) j ≤ get_or (rooms S) j 0) ⊎ ((j ≡ x) × (get_or (rooms S) j 0 ≡ 1)))
@@ -292,7 +292,7 @@ module _ {K X : Type 0} (number : K → ℕ) where
   few_need_one (p ∷ q ∷ r ∷ []) D few = three p q r D
   few_need_one (p ∷ q ∷ r ∷ s ∷ L) D few = absurd (omega (arith, few))
 
-  -- where pairs of old slot i go is one of its parts
+  -- the slot that pairs of old slot i go to is one of its parts
   pub part-of : (L : List (K × X)) (C a i j : ℕ) → IsCapacity C → All (λ p. slot_number number p.0 C ≡ i) L → 0 < length (slot_of number L (C * 2 ^ a) j) → (t : ℕ) × (t < 2 ^ a) × (j ≡ t * C + i)
   part-of [] C a i j old own some = absurd (omega (arith, some))
   part-of (p ∷ L) C a i j old own some = elim (cases_eq (slot_number number p.0 (C * 2 ^ a)) j) [

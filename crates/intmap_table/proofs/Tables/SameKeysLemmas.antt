@@ -36,7 +36,7 @@ module _ {K X Y : Type 0} where
   cut [] M = []
   cut (s ∷ S) M = take (length s) M ∷ cut S (drop (length s) M)
 
-  -- as many pairs from the front as a first row has have its keys
+  -- the same number of pairs from the front as a first row has have its keys
   keys_of-take : (s L : List (K × X)) (M : List (K × Y)) → keys_of (s ++ L) ≡ keys_of M → keys_of s ≡ keys_of (take (length s) M)
   keys_of-take [] L M same = refl
   keys_of-take (p ∷ s) L [] same = absurd cc
@@ -50,7 +50,7 @@ module _ {K X Y : Type 0} where
   keys_of-drop (p ∷ s) L [] same = absurd cc
   keys_of-drop (p ∷ s) L (q ∷ M) same = let rest : keys_of (s ++ L) ≡ keys_of M = cc in keys_of-drop s L M rest
 
-  -- there are as many rows
+  -- the number of rows is the same
   length-cut : (S : List (List (K × X))) (M : List (K × Y)) → length (cut S M) ≡ length S
   length-cut [] M = refl
   length-cut (s ∷ S) M = ap suc (length-cut S (drop (length s) M))

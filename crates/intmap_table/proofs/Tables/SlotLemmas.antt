@@ -1,4 +1,4 @@
--- What a search finds in a slot, of which the first pair is looked at apart from the rest, and what stands at a place of it.
+-- What a search finds in a slot, whose first pair is looked at apart from the rest, and what is at a place of it.
 use Rattle.std.proofs.Common.{◌≡◌, ℕ, zero, suc, ◌+◌, ◌-◌, ◌<◌, Bool, false, List, [], ◌∷◌, ◌++◌, length, get_or, set, take, Option, Some, None, refl, sym, ap, ◌∙◌, arith}
 use Rattle.std.specs.Prelude.{position, swap_remove}
 use Rattle.std.proofs.lemmas.List.{get_or_default}
@@ -9,7 +9,7 @@ use Rattle.intmap_table.proofs.Tables.SwapOutLemmas.{any}
 use Rattle.intmap_table.proofs.PositionLemmas.{first_value-position, length-through_first-cons, position-within, swap_remove-cons, swap_remove-position}
 
 module _ {K X : Type 0} (test : K → Bool) (pairs : List (K × X)) (first : K × X) (rest : List (K × X)) (is : pairs ≡ first ∷ rest) where
-  -- the first pair fails: what is found, taken out and gone through is that of the rest
+  -- the first pair fails: what is found, removed and gone through is that of the rest
   pub record IsBehind : Type 0 where
     pub value : first_value test pairs ≡ first_value test rest
     pub taken : swap_out (λ p. test p.0) any pairs ≡ first ∷ swap_out (λ p. test p.0) any rest
@@ -73,7 +73,7 @@ module _ {P : Type 0} where
       ∙ sym (ap (λ ps. ps ++ y ∷ []) (swap_remove-cons first (z ∷ zs) 0 first))
 
 module _ {K X : Type 0} (test : K → Bool) where
-  -- what is found among one pair is that pair, and taken out it leaves none
+  -- what is found among one pair is that pair, and removed it leaves none
   pub lone-found : (pairs : List (K × X)) (p : K × X) (i : ℕ) → pairs ≡ p ∷ [] → position (λ q. test q.0) pairs ≡ Some i → (swap_out (λ q. test q.0) any pairs ≡ []) × (first_value test pairs ≡ Some p.1)
   lone-found pairs p i lone found =
       let one = ap length lone in

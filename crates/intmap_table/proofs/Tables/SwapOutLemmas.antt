@@ -18,7 +18,7 @@ module _ {X : Type 0} (keep : X → Bool) where
   list_any-filter [] = refl
   list_any-filter (x ∷ xs) = let h = list_any-filter xs in grind (arith, h)
 
-  -- where none passes, none is left out
+  -- if none passes, none is left out
   without_last-none : (xs : List X) → list_any keep xs ≡ false → without_last keep xs ≡ xs
   without_last-none [] none = refl
   without_last-none (x ∷ xs) none = let h = without_last-none xs in grind (arith, none, h)
@@ -42,7 +42,7 @@ module _ {X : Type 0} (keep : X → Bool) where
   filter-without_last-other other apart (x ∷ xs) =
       let h = filter-without_last-other other apart xs in let o = apart x in grind (arith, h, o)
 
-  -- the last that passes does pass, where the default does
+  -- the last that passes does pass, if the default does
   pub last_passing-passes : (d : X) (xs : List X) → keep d ≡ true → keep (last_passing keep d xs) ≡ true
   last_passing-passes d [] h = h
   last_passing-passes d (x ∷ xs) h =
@@ -59,7 +59,7 @@ module _ {X : Type 0} (keep : X → Bool) where
   filter-swap_out-step is_it x xs false true a e f g own h = simp (e, f, h)
   filter-swap_out-step is_it x xs false false a e f g own h = simp (e, f, h)
 
-  -- where the filter keeps the class, it sees a swap in a list of that class alone
+  -- if the filter keeps the class, it sees a swap in a list of that class alone
   pub filter-swap_out : (is_it : X → Bool) → ((x : X) → is_it x ≡ true → keep x ≡ true) → (xs : List X) → filter keep (swap_out is_it keep xs) ≡ swap_out is_it any (filter keep xs)
   filter-swap_out is_it own [] = refl
   filter-swap_out is_it own (x ∷ xs) =

@@ -69,7 +69,7 @@ module _ {K X : Type 0} (number : K → ℕ) (S : List (Held K X)) (table : IsTa
   pub walk_of-joined : walk_of number (joined (rows S)) (length S) ≡ joined (rows S)
   walk_of-joined = walk_of-rows number (joined (rows S)) (length S) S refl (λ i _. slot_of-joined i)
 
-  -- the slots that hold a pair are as many as the residues of the keys
+  -- the number of slots that hold a pair is the number of residues of the keys
   pub load_of-joined : load_of number (joined (rows S)) (length S) ≡ count_by is_filled (rows S)
   load_of-joined =
       load_of-rows number (length S) (agrees-slot_number number (length S) table.capacity) (λ k. slot_number-below number k (length S) table.capacity)
@@ -132,20 +132,20 @@ module _ {K X : Type 0} (number : K → ℕ) (S : List (Held K X)) (h : Held K X
   slot_of-taken =
       slot_of-take_key number (length S) cap (joined (rows S)) k i (sym at.slot) ∙ ap (swap_out (λ p. same_key number k p.0) any) slot_of-here
 
-  -- with the slot changed as a taken key changes it, the walk is that without the key
+  -- with the slot changed as a removal of the key changes it, the walk is that without the key
   pub walk-taken : (s : Held K X) → s.pairs ≡ swap_out (λ p. same_key number k p.0) any h.pairs → joined (rows (set S i s)) ≡ walk_of number (take_key number (joined (rows S)) (length S) k) (length S)
   walk-taken s is =
       joined-set number S at.table i s (take_key number (joined (rows S)) (length S) k) within (slot_of-taken ∙ sym is)
       (λ j apart. slot_of-take_key-other number (length S) cap (joined (rows S)) k j (λ q. apart (at.slot ∙ q)))
 
-  -- with the slot changed as a put pair changes it, the walk is that with the pair
+  -- with the slot changed as an insertion changes it, the walk is that with the pair
   pub walk-put : (s : Held K X) (v : X) → s.pairs ≡ swap_out (λ p. same_key number k p.0) any h.pairs ++ (k, v) ∷ [] → joined (rows (set S i s)) ≡ walk_of number (put_pair number (joined (rows S)) (length S) k v) (length S)
   walk-put s v is =
       joined-set number S at.table i s (put_pair number (joined (rows S)) (length S) k v) within
       (slot_of-put_pair number (length S) cap (joined (rows S)) k v i (sym at.slot) ∙ ap (λ ps. swap_out (λ p. same_key number k p.0) any ps ++ (k, v) ∷ []) slot_of-here ∙ sym is)
       (λ j apart. slot_of-put_pair-other number (length S) cap (joined (rows S)) k v j (λ q. apart (at.slot ∙ q)))
 
-  -- where the key isn't bound, no pair of the slot is taken
+  -- if the key is absent, no pair of the slot is taken
   pub swap_out-missing : value_of number h.pairs k ≡ None → swap_out (λ p. same_key number k p.0) any h.pairs ≡ h.pairs
   swap_out-missing none = swap_out-none (λ (p : K × X). same_key number k p.0) any h.pairs (position-from_none (same_key number k) h.pairs none)
 

@@ -83,7 +83,7 @@ module _ {K X : Type 0} (S : List (Held K X)) (marks : List Bool) (are : AreMark
         marks = marks-kept_at S marks are place place-within s (are.own place ∙ ap (nat_lt 0) (sym (length-Writes R f h (get_or (rows S) place []) s.pairs run)));
       }
 
--- where all marked places were passed, R went over all pairs
+-- if all marked places were passed, R went over all pairs
 pub Leads-places : {F K X : Type 0} (R : F → K × X → X → F → Type 0) (S : List (Held K X)) (marks : List Bool) (f₀ f : F) (L : List (K × X)) (before : List ℕ) → AreMarked (rows S) marks → before ++ [] ≡ marked_places marks
     → Leads (Writes R) f₀ L f (pairs_at (rows S) before) [] → Writes R f₀ L (joined (rows S)) f
 Leads-places R S marks f₀ f L before are is leads =

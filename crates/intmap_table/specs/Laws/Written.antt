@@ -1,4 +1,4 @@
--- Where pairs stand once a value was written: each where it stood.
+-- Where pairs are once a value was written: each where it was.
 use Rattle.std.proofs.Common.{◌≡◌, ℕ, Bool, true, false, cond, zero, suc, List, [], ◌∷◌, Option, Some, None, IsSome, refl, sym, ap, ◌∙◌, subst}
 use Rattle.std.specs.Prelude.{◌==◌, position}
 use Rattle.std.specs.List.{position_or_len}
@@ -36,11 +36,11 @@ module _ {K V : Type 0} (number : K → ℕ) where
   position_or_len-write_value (p ∷ L) k q v =
       position_or_len-write_step p L k q v (same_key number k p.0) (same_key number q p.0) refl refl (position_or_len-write_value L k q v)
 
-  -- each key stands where it stood
+  -- each key is where it was
   pub position-write_value : (L : List (K × V)) (k q : K) (v : V) → position (λ p. same_key number q p.0) (write_value number L k v) ≡ position (λ p. same_key number q p.0) L
   position-write_value L k q v = rw (position_or_len-write_value L k q v, length-map L (λ p. cond (same_key number k p.0) (p.0, v) p)) refl
 
-  -- and so does the pair of a location
+  -- and so is the pair of a location
   pub IsAt-write_value : (W : List (K × V)) (C : ℕ) (at : Location K) (k : K) (v : V) → IsAt number W C at → IsAt number (write_value number W k v) C at
   IsAt-write_value W C at k v is = record {
     slot = is.slot;
@@ -64,14 +64,14 @@ abbrev key_or : {K : Type 0} → Option K → K → K
 key_or (Some k) d = k
 key_or None d = d
 
--- the keys of equal options are one
+-- the keys of equal options are equal
 pub the_key-same : {K : Type 0} (o p : Option K) (s : IsSome o) (t : IsSome p) → o ≡ p → the_key o s ≡ the_key p t
 the_key-same (Some x) (Some y) s t e = ap (λ o. key_or o x) e
 the_key-same (Some x) None s t e = absurd cc
 the_key-same None p s t e = absurd cc
 
 module _ {K V : Type 0} (number : K → ℕ) where
-  -- a pair that was found stands there still
+  -- a pair that was found is still there
   pub IsFound-write_value : (W : List (K × V)) (C slot place : ℕ) (k : K) (v : V) → IsFound number W C slot place → IsFound number (write_value number W k v) C slot place
   IsFound-write_value W C slot place k v is =
       let same = key_at-written number W C slot place k v in

@@ -1,4 +1,4 @@
--- Values that lie apart, each in a place of its own, and the right to write them. No public clause cites this module.
+-- Values in separate places, and the right to write them. No public clause cites this module.
 use Rattle.std.specs.Prelude.{List, [], ◌∷◌, map}
 use base.Fml.{Lft, GName, Fml, ftrue, ffalse, fsep, fobs, fbor}
 use base.Fraction.{full_share}
@@ -8,7 +8,7 @@ use denote.RawPtr.{Ptr, lies_at}
 use types.SemTy.{SemTy, Body}
 
 module _ (V : RattleType) where
-  -- at each of the places lies its value: as many values as places
+  -- each place holds its value: there are as many values as places
   abbrev pub each_at : List Ptr → List V.Denot → Fml
   each_at (at ∷ places) (v ∷ vs) = fsep (lies_at V full_share at v) (each_at places vs)
   each_at (at ∷ places) [] = ffalse

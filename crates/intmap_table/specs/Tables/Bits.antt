@@ -3,7 +3,7 @@ use Rattle.std.specs.Prelude.{ℕ, Bool, false, ◌*◌, ◌/◌, ◌%◌, ◌+�
 use Rattle.std.specs.Int.{bit_at}
 use Rattle.std.specs.List.{range_with_len}
 
--- whether place i is marked: none past the last one is
+-- whether place i is marked; no place past the last one is
 abbrev pub marked : List Bool → ℕ → Bool
 marked marks i = slice_index_or marks i false
 
@@ -19,7 +19,7 @@ has_bit word i = bit_at word i == 1
 abbrev pub IsWordOf : List Bool → ℕ → ℕ → Type 0
 IsWordOf marks i word = (j : ℕ) → j < 64 → has_bit word j ≡ marked marks (64 * (i / 64) + j)
 
--- the marks with the bits of a word in place of those of the 64 places around place i
+-- the marks, with the bits of a word in place of the marks of the 64 places around place i
 abbrev pub with_word : List Bool → ℕ → ℕ → List Bool
 with_word marks i word = map (λ j. cond (j / 64 == i / 64) (has_bit word (j % 64)) (marked marks j)) (range_with_len 0 (length marks))
 

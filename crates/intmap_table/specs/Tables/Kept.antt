@@ -12,7 +12,7 @@ module _ {K V : Type 0} where
   abbrev pub unkept : List (K × Kept V) → List (K × V)
   unkept L = map (λ p. (p.0, p.1.value)) L
 
-  -- a call of f at the key and the value of a stored pair answered b and left g
+  -- a call of f at the key and the value of a stored pair returned b and left g
   abbrev pub KeepsStored : {F : Type 0} → Mut F (K × (Bor V × Unit {0})) Bool → F → K × Kept V → Bool → F → Type 0
   KeepsStored m f p b g = KeepsAt m f (p.0, p.1.value) b g
 
@@ -28,10 +28,10 @@ module _ {K V : Type 0} where
   abbrev pub TakesStoredMut : {F Y : Type 0} → Mut F (K × (MutBor V × Unit {0})) (Y × (MutBor V × Unit {0})) → F → K × Kept V → Type 0
   TakesStoredMut m f p = TakesPairMut m f (p.0, p.1.value)
 
-  -- a call of f at the key and the value of a stored pair answered b, and left the pair as q and g of the closure
+  -- a call of f at the key and the value of a stored pair returned b, and left the pair as q and the closure as g
   abbrev pub PicksStored : {F : Type 0} → Mut F (K × (MutBor V × Unit {0})) (Bool × (MutBor V × Unit {0})) → F → K × Kept V → Bool → F → K × Kept V → Type 0
   PicksStored m f p b g q = PicksAt m f (p.0, p.1.value) b g (q.0, q.1.value)
 
-  -- the same, with the answer and what was left of the pair as one
+  -- the same, with what was returned and what was left of the pair as one
   abbrev pub AsksStored : {F : Type 0} → Mut F (K × (MutBor V × Unit {0})) (Bool × (MutBor V × Unit {0})) → F → K × Kept V → Bool × (K × Kept V) → F → Type 0
   AsksStored m f p a g = PicksStored m f p a.0 g a.1

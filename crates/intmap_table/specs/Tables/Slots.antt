@@ -14,11 +14,11 @@ pub record Held (K X : Type 0) : Type 0 where
 abbrev pub rows : {K X : Type 0} → List (Held K X) → List (List (K × X))
 rows slots = map (λ h. h.pairs) slots
 
--- the first pair, where there is one, and the rest
+-- the first pair, if there is one, and the rest
 abbrev pub all_pairs : {P : Type 0} → Option P → List P → List P
 all_pairs first rest = option_to_list first ++ rest
 
--- nothing stands behind where there is no first pair
+-- nothing is behind if there is no first pair
 abbrev pub HasFirst : {P : Type 0} → Option P → List P → Type 0
 HasFirst None rest = rest ≡ []
 HasFirst (Some first) rest = Unit {0}
@@ -42,12 +42,12 @@ joined S = flat_map (λ s. s) S
 abbrev pub pairs_at : {P : Type 0} → List (List P) → List ℕ → List P
 pairs_at S places = flat_map (λ i. slice_index_or S i []) places
 
--- marks in whole words of 64, with the place of a row marked exactly where the row has a pair, and no place behind the last row
+-- marks in whole words of 64: the place of a row is marked exactly if the row has a pair, and no place behind the last row is marked
 pub record AreMarked {P : Type 0} (S : List (List P)) (marks : List Bool) : Type 0 where
   pub words : length marks ≡ 64 * ((length S + 63) / 64)
   pub own : (i : ℕ) → marked marks i ≡ nat_lt 0 (length (slice_index_or S i []))
 
--- the row of each slot has pairs of that slot alone, and there are as many slots as a table may have
+-- the row of each slot has pairs of that slot alone, and the number of slots is one that a table may have
 pub record IsTable {K X : Type 0} (number : K → ℕ) (slots : List (Held K X)) : Type 0 where
   pub capacity : IsCapacity (length slots)
   pub in_place : (i : ℕ) → i < length slots → All (λ p. slot_number number p.0 (length slots) ≡ i) (slice_index_or (rows slots) i [])

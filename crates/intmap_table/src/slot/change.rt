@@ -1,4 +1,4 @@
-//! Pairs that are put into a slot, replaced and removed there, and values that are written.
+//! Pairs are put into a slot, replaced and removed there, and their values are written.
 ghost use Rattle.std.specs.Prelude.{◌≡◌, ◌≢◌, ◌+◌, ◌<◌, ◌≤◌, [], ◌∷◌, ◌++◌, length, reverse, vec_capacity, swap_remove, slice_index_or, is_some, true, Some, OnOk, OnErr, IfErr, IfSome, IfNone};
 ghost use Rattle.intmap_table.specs.Tables.Moves.{emptied};
 ghost use Rattle.intmap_table.specs.Tables.Kept.{WritesStored, TakesStoredMut};
@@ -12,7 +12,7 @@ use crate::stored::Stored;
 use std::alloc::{AllocError, Allocator};
 use std::mem;
 
-/// Puts a pair in the place of the first one, where there is one, and returns that one.
+/// Puts a pair in the place of the first one. If there was a first one, it returns that one.
 #[inline(always)]
 fn replace_first<P>(first: &mut Option<P>, pair: P) -> P
     requires { is_some first.old ≡ true }
@@ -25,8 +25,8 @@ fn replace_first<P>(first: &mut Option<P>, pair: P) -> P
     }
 }
 
-/// Puts an element in the place of the last one, and returns that one. If there is none, it returns
-/// the element.
+/// Puts an element in the place of the last one, and returns the old one. If there is none, it
+/// returns the element.
 #[inline(always)]
 fn replace_last<P, A: Allocator>(items: &mut Vec<P, A>, item: P) -> P
     ensures { (first : P) → result ∷ items.new.items
@@ -39,8 +39,8 @@ fn replace_last<P, A: Allocator>(items: &mut Vec<P, A>, item: P) -> P
 }
 
 impl<K: IntKey, X: Drop, A: Allocator> Slot<K, X, A> {
-    /// Makes room for so many pairs behind the first, and allocates for exactly those. It fails if
-    /// the allocation does.
+    /// Makes room for `count` pairs behind the first one, and allocates for exactly those. It fails
+    /// if the allocation does.
     #[inline(never)]
     pub(crate) fn reserve_behind(&mut self, count: usize) -> Result<(), AllocError>
         ensures pairs { self.new.pairs ≡ self.old.pairs }
@@ -59,7 +59,7 @@ impl<K: IntKey, X: Drop, A: Allocator> Slot<K, X, A> {
         self.first = Some(pair);
     }
 
-    /// Adds a pair behind others. A slot without a block takes this one for it.
+    /// Adds a pair behind others. If the slot has no block, it takes this one.
     #[inline(always)]
     pub(crate) fn push_with(&mut self, pair: (Stored<K>, X), block: &mut Vec<(Stored<K>, X), A>)
         requires filled { 0 < length self.old.pairs }
@@ -78,7 +78,8 @@ impl<K: IntKey, X: Drop, A: Allocator> Slot<K, X, A> {
         self.rest.push_reserved(pair);
     }
 
-    /// Makes room for one pair more, and allocates for exactly that. It returns whether it did.
+    /// Makes room for one more pair, and allocates for exactly that. It returns whether it
+    /// allocated.
     pub(crate) fn reserve_one(&mut self) -> Result<bool, AllocError>
         ensures { self.new.pairs ≡ self.old.pairs }
     {
@@ -89,7 +90,7 @@ impl<K: IntKey, X: Drop, A: Allocator> Slot<K, X, A> {
         Ok(true)
     }
 
-    /// Gives the room back that no pair needs.
+    /// Gives back the room that no pair needs.
     pub(crate) fn shrink(&mut self)
         ensures { self.new.pairs ≡ self.old.pairs }
     {
@@ -162,8 +163,8 @@ impl<K: IntKey, X, A: Allocator> Slot<K, X, A> {
         replace_first(&mut self.first, last)
     }
 
-    /// Removes the pair at a place, which the last pair takes, and puts a new one at the end. It
-    /// allocates nothing.
+    /// Removes the pair at a place, moves the last pair into that place, and puts a new pair at the
+    /// end. It allocates nothing.
     #[inline(always)]
     pub(crate) fn replace_at(&mut self, place: usize, new: (Stored<K>, X)) -> (Stored<K>, X)
         requires { place < length self.old.pairs }
@@ -181,8 +182,8 @@ impl<K: IntKey, X, A: Allocator> Slot<K, X, A> {
 }
 
 impl<K: IntKey, X, A: Allocator + Copy> Slot<K, X, A> {
-    /// Takes all of several pairs out: the first, and the others into a buffer with room for them,
-    /// the last of them first. It returns the first and the block of the others.
+    /// Removes all of several pairs. The first one is returned. The others are moved into a buffer,
+    /// which has room for them, the last of them first. The block of the others is returned too.
     #[inline(always)]
     pub(crate) fn take_out(
         &mut self,

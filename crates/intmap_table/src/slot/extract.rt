@@ -1,4 +1,4 @@
-//! One step of a removal of the pairs of a slot that a closure picks.
+//! One step of `extract_if` in a slot: the removal of the next pair that a closure picks.
 ghost use Rattle.std.specs.Prelude.{◌≡◌, ◌+◌, ◌^◌, ◌<◌, ◌≤◌, ◌++◌, length, take, drop, set, slice_index_or};
 ghost use Rattle.intmap_table.specs.Tables.Kept.{AsksStored, PicksStored, TakesStoredMut};
 ghost use Rattle.intmap_table.specs.Picking.{ExtractsBehind};
@@ -58,8 +58,8 @@ impl<K: IntKey, V, A: Allocator> Slot<K, Kept<V>, A> {
         }
     }
 
-    /// Asks about the pairs from the place on, and removes the first that the closure picks. Those
-    /// behind it move up, and the place moves on to the first of them.
+    /// Asks the closure about each pair from the place on, and removes the first one that it picks.
+    /// Those behind it move up, and the place moves on to the first of them.
     pub(crate) fn extract_next<F: FnMut(K, &mut V) -> bool>(
         &mut self,
         place: &mut usize,

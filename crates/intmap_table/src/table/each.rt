@@ -1,4 +1,5 @@
-//! All pairs of a table in the order of the walk: removed from the front, kept or not, and written.
+//! Calls on all pairs of a table, in the order of the walk: removal from the front, `retain`, and
+//! writes to each value.
 ghost use Rattle.std.specs.Prelude.{◌≡◌, ◌+◌, ◌^◌, ◌<◌, ◌≤◌, length};
 ghost use Rattle.std.specs.Iterator.{YieldsFirst};
 ghost use Rattle.intmap_table.specs.Walk.{ArePassed};
@@ -19,8 +20,8 @@ use std::alloc::Allocator;
 use std::mem;
 
 impl<K: IntKey, X, A: Allocator> Table<K, X, A> {
-    /// Removes the first pair of the walk. No slot before the place `from` holds a pair. The place
-    /// moves on to the slot that held the removed one.
+    /// Removes the first pair of the walk and returns it. No slot before the place `from` holds a
+    /// pair. `from` moves on to the slot that held the removed pair.
     pub fn take_front(&mut self, from: &mut usize) -> Option<(K, X)>
         requires { ArePassed K.number_of self.old.walk self.old.capacity from.old }
         ensures first { YieldsFirst (λ t. t.walk) self.old result self.new }
@@ -42,7 +43,7 @@ impl<K: IntKey, X, A: Allocator> Table<K, X, A> {
     }
 }
 
-/// Whether the closure says that a pair stays.
+/// Whether the closure returns true for a pair.
 #[inline(always)]
 fn keeps_pair<K: IntKey, V, F: FnMut(K, &V) -> bool>(pair: &(Stored<K>, Kept<V>), f: &mut F) -> bool
     requires { TakesStored F.FnMut f.old pair.now }
@@ -51,7 +52,7 @@ fn keeps_pair<K: IntKey, V, F: FnMut(K, &V) -> bool>(pair: &(Stored<K>, Kept<V>)
     f(*pair.0.key(), &pair.1.value)
 }
 
-/// Keeps the pairs for which the closure returns true, in their order.
+/// Keeps the pairs for which the closure returns true, in their order, and removes the others.
 fn retain_in<K: IntKey, V: Drop, A: Allocator, F: FnMut(K, &V) -> bool>(
     pairs: &mut Vec<(Stored<K>, Kept<V>), A>,
     f: &mut F,
@@ -69,7 +70,7 @@ fn retain_in<K: IntKey, V: Drop, A: Allocator, F: FnMut(K, &V) -> bool>(
     pairs.truncate(kept);
 }
 
-/// The slot of these pairs, of which the first moves to the slot's first place.
+/// A slot of these pairs. The first of them moves to the slot's first place.
 fn slot_with<K: IntKey, X, A: Allocator>(mut pairs: Vec<(Stored<K>, X), A>) -> Slot<K, X, A>
     ensures { result.pairs ≡ pairs.items }
 {
@@ -102,7 +103,7 @@ fn retain_slot<K: IntKey, V: Drop, A: Allocator, F: FnMut(K, &V) -> bool>(
 }
 
 /// Keeps the pairs for which the closure returns true, slot after slot, and returns their number.
-/// The bits tell which slots to look at, and a slot that is emptied loses its bit.
+/// The bits mark the slots that hold a pair. A slot that is emptied loses its bit.
 fn retain_slots<K: IntKey, V: Drop, A: Allocator + Copy, F: FnMut(K, &V) -> bool>(
     bits: &mut Bits<A>,
     slots: &mut Vec<Slot<K, Kept<V>, A>, A>,
@@ -152,7 +153,7 @@ impl<K: IntKey, V: Drop, A: Allocator + Copy> Table<K, Kept<V>, A> {
 }
 
 /// Calls the closure at each pair in turn, slot after slot, with a mutable reference to its value.
-/// The bits tell which slots to look at.
+/// The bits mark the slots that hold a pair.
 fn write_slots<K: IntKey, V, A: Allocator, F: FnMut(K, &mut V)>(
     bits: &Bits<A>,
     slots: &mut Vec<Slot<K, Kept<V>, A>, A>,

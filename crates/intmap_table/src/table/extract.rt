@@ -1,4 +1,4 @@
-//! Removal of the pairs that a closure picks, one at a step.
+//! Removal of the pairs that a closure picks, one pair at a step.
 ghost use Rattle.std.specs.Prelude.{◌≡◌, ◌+◌, ◌^◌, ◌<◌, ◌≤◌, [], length, drop, set, slice_index_or};
 ghost use Rattle.intmap_table.specs.Picking.{AsksAt, ExtractsBehind, IsReached, PicksAt};
 ghost use Rattle.intmap_table.specs.Tables.Kept.{unkept, AsksStored, PicksStored, TakesStoredMut};
@@ -15,8 +15,8 @@ use crate::stored::Stored;
 use crate::table::Table;
 use std::alloc::Allocator;
 
-/// Where a walk stands that removes pairs on its way: at a place of a slot, with so many pairs of
-/// the walk before it.
+/// The position of a walk that removes pairs: a place in a slot, and the number of pairs of the
+/// walk before it.
 #[derive(Clone, Copy)]
 pub struct Cursor {
     pub slot: usize,
@@ -24,8 +24,8 @@ pub struct Cursor {
     pub passed: usize,
 }
 
-/// Asks about the pairs of the slot at hand, from the place on, and removes the first that the
-/// closure picks. A slot that is emptied loses its bit.
+/// Asks the closure about each pair of the current slot, from the place on, and removes the first
+/// one that it picks. A slot that is emptied loses its bit.
 fn extract_in<K: IntKey, V, A: Allocator, F: FnMut(K, &mut V) -> bool>(
     bits: &mut Bits<A>,
     slots: &mut Vec<Slot<K, Kept<V>, A>, A>,
@@ -58,8 +58,8 @@ fn extract_in<K: IntKey, V, A: Allocator, F: FnMut(K, &mut V) -> bool>(
     found
 }
 
-/// Asks about the pairs from the cursor on, slot after slot, and removes the first that the closure
-/// picks. The bits tell which slots to look at.
+/// Asks the closure about each pair from the cursor on, slot after slot, and removes the first one
+/// that it picks. The bits mark the slots that hold a pair.
 fn extract_slots<K: IntKey, V, A: Allocator, F: FnMut(K, &mut V) -> bool>(
     bits: &mut Bits<A>,
     slots: &mut Vec<Slot<K, Kept<V>, A>, A>,
@@ -91,9 +91,9 @@ fn extract_slots<K: IntKey, V, A: Allocator, F: FnMut(K, &mut V) -> bool>(
 }
 
 impl<K: IntKey, V, A: Allocator> Table<K, Kept<V>, A> {
-    /// Asks about the pairs from the cursor on, in the order of the walk, and removes the first
-    /// that the closure picks. The closure may write each value. The pairs that stay keep their
-    /// order, and the cursor moves on to the one behind the removed one.
+    /// Asks the closure about each pair from the cursor on, in the order of the walk, and removes
+    /// the first one that it picks. The closure may write each value. The pairs that stay keep
+    /// their order. The cursor moves on to the pair behind the removed one.
     pub fn extract_next<F: FnMut(K, &mut V) -> bool>(
         &mut self,
         at: &mut Cursor,

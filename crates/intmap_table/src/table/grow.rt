@@ -16,7 +16,7 @@ use crate::table::place::move_all;
 use crate::table::{Directory, Table, index_of};
 use std::alloc::{AllocError, Allocator};
 
-/// Adds one to the count of the part, of so many slots each, that the key goes to.
+/// Adds one to the count of the part that the key goes to. A part has `old` slots.
 #[inline(always)]
 fn count_key<K: IntKey>(counts: &mut [usize], key: &K, old: usize)
     requires old { IsCapacity old }
@@ -34,7 +34,7 @@ fn count_key<K: IntKey>(counts: &mut [usize], key: &K, old: usize)
     counts[part] += 1;
 }
 
-/// Adds to the count of each part, of so many slots each, the number of these pairs of one old slot
+/// Adds to the count of each part, which has `old` slots, the number of these pairs of one old slot
 /// that go there.
 fn count_each<K: IntKey, X>(counts: &mut [usize], pairs: &[(Stored<K>, X)], old: usize)
     requires old { IsCapacity old }
@@ -51,7 +51,7 @@ fn count_each<K: IntKey, X>(counts: &mut [usize], pairs: &[(Stored<K>, X)], old:
     }
 }
 
-/// Counts the pairs of an old slot by the parts, of so many slots each, that they go to.
+/// Counts the pairs of an old slot by the parts that they go to. A part has `old` slots.
 fn count_parts<K: IntKey, X, A: Allocator>(counts: &mut [usize], slot: &Slot<K, X, A>, old: usize)
     requires old { IsCapacity old }
     requires all { IsCapacity (length counts.old * old) }
@@ -69,8 +69,8 @@ fn count_parts<K: IntKey, X, A: Allocator>(counts: &mut [usize], slot: &Slot<K, 
     count_each(counts, rest, old);
 }
 
-/// Makes room in each part of an old slot, of so many slots each, for as many pairs as are counted
-/// for it, but in the first of them that needs a block: that gets the block of the old slot.
+/// Makes room in each part of an old slot for the pairs that are counted for it. A part has `old`
+/// slots. The first part that needs a block gets the block of the old slot instead.
 fn take_room<K: IntKey, X: Drop, A: Allocator>(
     slots: &mut [Slot<K, X, A>],
     index: usize,
@@ -101,9 +101,9 @@ fn take_room<K: IntKey, X: Drop, A: Allocator>(
     Ok(())
 }
 
-/// Makes room in the new slots for the pairs of all old ones, and returns how many pairs stand behind
-/// the first one of an old slot at most. Old slots of up to three pairs need none: at most one of
-/// their new slots gets several pairs, and that one gets the old block.
+/// Makes room in the new slots for the pairs of all old ones, and returns the greatest number of
+/// pairs behind the first one of an old slot. Old slots of up to three pairs need no room: at most
+/// one of their new slots gets several pairs, and that one gets the old block.
 fn take_rooms<K: IntKey, X: Drop, A: Allocator>(
     slots: &mut [Slot<K, X, A>],
     old: &Directory<A>,
@@ -136,7 +136,7 @@ fn take_rooms<K: IntKey, X: Drop, A: Allocator>(
     Ok(longest)
 }
 
-/// Adds empty slots, up to so many. It allocates them at once.
+/// Adds empty slots, up to `capacity` slots. It allocates them at once.
 pub(super) fn add_slots<K: IntKey, X: Drop, A: Allocator + Copy>(
     slots: &mut Vec<Slot<K, X, A>, A>,
     capacity: usize,
@@ -155,8 +155,8 @@ pub(super) fn add_slots<K: IntKey, X: Drop, A: Allocator + Copy>(
     Ok(())
 }
 
-/// Allocates all that a growth to so many slots needs: empty slots, room in them, and a buffer, which
-/// it returns. The old slots stay. If an allocation fails, further slots may be left.
+/// Allocates all that growth to `capacity` slots needs: empty slots, room in them, and a buffer,
+/// which it returns. The old slots stay. If an allocation fails, some further slots may stay.
 fn make_room<K: IntKey, X: Drop, A: Allocator + Copy>(
     slots: &mut Vec<Slot<K, X, A>, A>,
     old: &Directory<A>,
@@ -179,8 +179,8 @@ fn make_room<K: IntKey, X: Drop, A: Allocator + Copy>(
     Vec::with_capacity(alloc, longest)
 }
 
-/// Allocates all that a growth to so many slots needs, and returns the buffer for it. If an
-/// allocation fails, the slots are as before, and so is their memory.
+/// Allocates all that growth to `capacity` slots needs, and returns the buffer for it. If an
+/// allocation fails, the slots and their memory are as before.
 fn take_memory<K: IntKey, X: Drop, A: Allocator + Copy>(
     slots: &mut Vec<Slot<K, X, A>, A>,
     old: &Directory<A>,
@@ -207,8 +207,8 @@ fn take_memory<K: IntKey, X: Drop, A: Allocator + Copy>(
 }
 
 impl<K: IntKey, X: Drop, A: Allocator + Copy> Table<K, X, A> {
-    /// Moves all pairs, in the order of the walk, to their slots among so many. If an allocation
-    /// fails, nothing changes.
+    /// Moves all pairs, in the order of the walk, to their slots among `capacity` slots. If an
+    /// allocation fails, nothing changes.
     fn grow(&mut self, capacity: usize, placed: &mut Steps) -> Result<(), AllocError>
         requires capacity { IsCapacity capacity }
         requires larger { self.old.capacity ≤ capacity }
@@ -237,7 +237,7 @@ impl<K: IntKey, X: Drop, A: Allocator + Copy> Table<K, X, A> {
     }
 
     /// Makes room for the pair of a key in its slot, and allocates for exactly that. It returns
-    /// whether it did.
+    /// whether it allocated.
     fn reserve_for(&mut self, key: &K) -> Result<bool, AllocError>
         ensures same { self.new ≡ self.old }
         ensures range { IsCapacity self.old.capacity }
@@ -247,8 +247,8 @@ impl<K: IntKey, X: Drop, A: Allocator + Copy> Table<K, X, A> {
         self.slots[index].reserve_one()
     }
 
-    /// Takes the pair of a key out again that is the last of its slot, and gives back the room that
-    /// was made for it.
+    /// Removes the pair of a key, which is the last of its slot, and gives back the room that was
+    /// made for it.
     fn take_back(&mut self, key: K, is_made: bool) -> X
         requires { IsLast K.number_of self.old.walk self.old.capacity key }
         ensures value { value_of K.number_of self.old.walk key ≡ Some result }
@@ -264,9 +264,9 @@ impl<K: IntKey, X: Drop, A: Allocator + Copy> Table<K, X, A> {
         value
     }
 
-    /// Puts the pair of an absent key behind the pairs of its slot, and moves all pairs, in the order
-    /// of the walk, to their slots among so many. If an allocation fails, the value is returned and
-    /// nothing changes.
+    /// Puts the pair of an absent key behind the pairs of its slot, and moves all pairs, in the
+    /// order of the walk, to their slots among `capacity` slots. If an allocation fails, the value
+    /// is returned and nothing changes.
     pub fn grow_with(
         &mut self,
         capacity: usize,
@@ -296,8 +296,8 @@ impl<K: IntKey, X: Drop, A: Allocator + Copy> Table<K, X, A> {
         Ok(())
     }
 
-    /// Moves all pairs, in the order of the walk, to their slots among so many. It does nothing if
-    /// there are so many already. If an allocation fails, nothing changes.
+    /// Moves all pairs, in the order of the walk, to their slots among `capacity` slots. If the
+    /// table has that many already, it does nothing. If an allocation fails, nothing changes.
     pub fn grow_to(&mut self, capacity: usize) -> Result<(), AllocError>
         requires capacity { IsCapacity capacity }
         requires larger { self.old.capacity ≤ capacity }

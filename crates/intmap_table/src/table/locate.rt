@@ -1,4 +1,4 @@
-//! Where the pair of a key stands, and calls on a located pair, which compare no key.
+//! Where the pair of a key is, and calls on a located pair, which compare no key.
 ghost use Rattle.std.specs.Prelude.{◌≡◌, ◌+◌, IfSome, IfNone, Some, None};
 ghost use Rattle.intmap_table.specs.Bindings.{HasDistinctKeys, value_of, take_key, put_pair};
 ghost use Rattle.intmap_table.specs.Locations.{IsAt, IsLast, IsFound, key_at};
@@ -11,7 +11,7 @@ use crate::stored::Stored;
 use crate::table::Table;
 use std::alloc::Allocator;
 
-/// Where the pair of a key stands: its slot, and its place there from the front.
+/// Where the pair of a key is: its slot, and its place there from the front.
 #[derive(Clone, Copy)]
 pub struct Location<K> {
     pub key: K,
@@ -23,8 +23,8 @@ impl<K: IntKey, X, A: Allocator> Table<K, X, A> {
     ghost use Rattle.std.specs.Borrow.{sem};
     ghost use Rattle.intmap_table.specs.Lending.{table_lends};
 
-    /// Where the pair of the key stands, if the key is present. The keys of its slot are compared
-    /// from the front up to it, each by one step.
+    /// Where the pair of the key is, if the key is present. The keys of its slot are compared from
+    /// the front, up to the one sought. Each comparison is one step.
     #[inline(always)]
     pub fn locate(&self, key: K, steps: &mut Steps) -> Option<Location<K>>
         ensures found { IfSome result (λ at. (at.key ≡ key)
@@ -41,7 +41,7 @@ impl<K: IntKey, X, A: Allocator> Table<K, X, A> {
         Some(Location { key, slot, place })
     }
 
-    /// Where the pair of a key stands that is the last of its slot.
+    /// Where the pair of a key is that is the last of its slot.
     pub fn locate_last(&self, key: K) -> Location<K>
         requires { IsLast K.number_of self.now.walk self.now.capacity key }
         ensures key { result.key ≡ key }
@@ -101,8 +101,8 @@ impl<K: IntKey, X, A: Allocator> Table<K, X, A> {
         value
     }
 
-    /// Removes a located pair, whose place the last pair of its slot takes, and puts the pair of its
-    /// key and this value at the end of the slot. It allocates nothing.
+    /// Removes a located pair, moves the last pair of its slot into its place, and puts the pair of
+    /// its key and this value at the end of the slot. It allocates nothing.
     #[inline(always)]
     pub fn replace_at(&mut self, at: Location<K>, value: X) -> X
         requires { IsAt K.number_of self.old.walk self.old.capacity at }

@@ -1,4 +1,4 @@
-//! How pairs get to their slots in a table that has become longer.
+//! How pairs get to their slots in a table that has grown.
 ghost use Rattle.std.specs.Prelude.{◌≡◌, ◌+◌, ◌*◌, ◌/◌, ◌<◌, ◌≤◌, [], ◌∷◌, length, get_or, set, slice_set, take, reverse, replicate, true, false, vec_capacity, ℕ};
 ghost use Rattle.intmap_table.specs.Classes.{IsCapacity, slot_number};
 ghost use Rattle.intmap_table.specs.Tables.Slots.{Held, rows, joined, AreMarked};
@@ -12,8 +12,8 @@ use crate::stored::Stored;
 use crate::table::{Directory, index_of};
 use std::alloc::Allocator;
 
-/// Puts a pair at the end of its slot and counts it. The slot's bit is set. A slot that holds a pair
-/// and has no block takes this one.
+/// Puts a pair at the end of its slot and counts it. The slot's bit is set. If the slot holds a
+/// pair and has no block, it takes this one.
 fn place<K: IntKey, X: Drop, A: Allocator>(
     bits: &mut Bits<A>,
     slots: &mut [Slot<K, X, A>],
@@ -94,8 +94,8 @@ fn place_each<K: IntKey, X: Drop, A: Allocator>(
     }
 }
 
-/// Moves the pairs of an old slot of several, in order, to the ends of their slots. The first of
-/// these that needs a block takes that of the old slot.
+/// Moves the pairs of an old slot that holds several, in order, to the ends of their slots. The
+/// first of these slots that needs a block takes the block of the old slot.
 #[inline(never)]
 fn move_several<K: IntKey, X: Drop, A: Allocator + Copy>(
     bits: &mut Bits<A>,
@@ -126,8 +126,8 @@ fn move_several<K: IntKey, X: Drop, A: Allocator + Copy>(
     place_each(bits, slots, buffer, &mut block, placed);
 }
 
-/// Moves the pairs of an old slot, in order, to the ends of their slots. The slot may keep a block
-/// that it has for a single pair.
+/// Moves the pairs of an old slot, in order, to the ends of their slots. If the slot holds a single
+/// pair, it may keep its block.
 #[inline(always)]
 fn move_slot<K: IntKey, X: Drop, A: Allocator + Copy>(
     bits: &mut Bits<A>,

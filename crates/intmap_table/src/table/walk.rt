@@ -22,8 +22,8 @@ fn slot_at<K: IntKey, X, A: Allocator>(slots: &[Slot<K, X, A>], place: usize) ->
     &slots[place]
 }
 
-/// The pairs that are left: those of the current slot, and those of the slots at the places behind
-/// it, of which each holds a pair.
+/// The pairs that are left: those of the current slot, then those of the slots at the places behind
+/// it. Each of these slots holds a pair.
 #[derive(Drop)]
 pub struct Pairs<'a, K: IntKey, X, A: Allocator> {
     pub(super) first: Option<&'a (Stored<K>, X)>,

@@ -9,10 +9,10 @@ use intmap_table::IntKey;
 use std::alloc::{Allocator, Global};
 
 /// Removes one pair of a map at each step and returns it, made by
-/// [`IntMap::drain`](crate::IntMap::drain). At every moment the map has the pairs that are still to
-/// come, and its length counts these. If the iterator is dropped early, they stay, in their order.
-/// They also stay if it is forgotten, but no clause says that. Dropping it takes constant time,
-/// however many are left.
+/// [`IntMap::drain`](crate::IntMap::drain). At every moment the map has the pairs that are left,
+/// and its length counts these. If the iterator is dropped early, they stay, in their order. They
+/// also stay if it is forgotten, but no clause says that. Dropping it takes constant time, however
+/// many are left.
 pub struct Drain<'a, K: IntKey, V, A: Allocator + Copy = Global> {
     pub(crate) map: &'a mut IntMap<K, V, A>,
     pub(crate) from: usize,

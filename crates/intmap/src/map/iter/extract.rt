@@ -12,8 +12,8 @@ use intmap_table::table::extract::Cursor;
 use std::alloc::{Allocator, Global};
 
 impl<K: IntKey, V, A: Allocator + Copy> IntMap<K, V, A> {
-    /// Takes the first pair out that the closure picks, of those from the cursor on. It moves on
-    /// to the pair behind that one.
+    /// Removes the first pair that the closure picks, of those from the cursor on. The cursor moves
+    /// on to the pair behind that one.
     fn extract_next<F: FnMut(K, &mut V) -> bool>(
         &mut self,
         at: &mut Cursor,
@@ -41,9 +41,9 @@ impl<K: IntKey, V, A: Allocator + Copy> IntMap<K, V, A> {
 
 /// Removes the pairs of a map that a closure picks, one at each step, made by
 /// [`IntMap::extract_if`](crate::IntMap::extract_if). At every moment the map has the pairs that
-/// were kept and those that are still to be asked about, and its length counts these. If the
-/// iterator is dropped early, they stay, in their order. They also stay if it is forgotten, but no
-/// clause says that.
+/// were kept and the pairs that the closure wasn't asked about yet, and its length counts these. If
+/// the iterator is dropped early, they stay, in their order. They also stay if it is forgotten, but
+/// no clause says that.
 pub struct ExtractIf<'a, K: IntKey, V, F, A: Allocator + Copy = Global> {
     map: &'a mut IntMap<K, V, A>,
     at: Cursor,
@@ -67,7 +67,8 @@ impl<'a, K: IntKey, V: Drop, F: FnMut(K, &mut V) -> bool, A: Allocator + Copy> I
         self.map.extract_next(&mut self.at, &mut self.test)
     }
 
-    /// No lower bound, and the number of the pairs that are still to be asked about.
+    /// No lower bound. The upper bound is the number of pairs that the closure wasn't asked about
+    /// yet.
     fn size_hint(&self) -> (usize, Option<usize>)
         ensures bounds { result ≡ (0, Some (length (extract_rest self.now))) }
     {
@@ -94,16 +95,16 @@ impl<K: IntKey, V, A: Allocator + Copy> IntMap<K, V, A> {
 
     /// An iterator that removes the pairs for which the closure returns true, one at each step, and
     /// returns them, in iteration order. The closure is called with the key and a mutable reference
-    /// to the value, and may write the value. Each step asks about the pairs that are left, up to
-    /// the first that the closure picks, and no pair is asked about twice.
+    /// to the value, and may write the value. Each step asks the closure about the pairs that are
+    /// left, up to the first one that it picks. It is asked about no pair twice.
     ///
     /// The closure must be callable at these pairs in this order, each time in the state that the
     /// call before left. Nothing is required of other keys, values and calls.
     ///
     /// The pairs that stay keep their order: those that the closure didn't pick have the values
     /// that it left, and those that weren't reached stay as they are. The capacity, the load factor
-    /// and both counts stay, and the slots keep their memory. Each step moves the pairs of one slot
-    /// that stand behind the removed one up by one place. It allocates nothing and never fails.
+    /// and both counts stay, and the slots keep their memory. Each step moves the pairs behind the
+    /// removed one, in its slot, up by one place. It allocates nothing and never fails.
     ///
     /// ```text
     /// after insert(0, 10), insert(4, 14) and insert(8, 18) into 4 slots, where they share one:

@@ -1,4 +1,4 @@
-//! The iterators that own a map: they take its pairs out by value, from the front of the walk.
+//! The iterators that own a map: they remove its pairs by value, from the front of the walk.
 ghost use Rattle.std.specs.Iterator.{YieldsFirst, item_count};
 ghost use Rattle.std.specs.Prelude.{◌≡◌};
 ghost use Rattle.std.specs.Map.{keys_of, values_of};

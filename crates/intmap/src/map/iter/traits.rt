@@ -1,5 +1,5 @@
-//! Clones and text of the iterators by reference, and the mark of all iterators that, once they are
-//! at the end, stay there.
+//! Clones and text of the iterators by reference, and `FusedIterator` for all iterators: once they
+//! are at the end, they stay there.
 ghost use Rattle.std.specs.Prelude.{◌≡◌, ⊤};
 
 use crate::map::iter::{
@@ -56,24 +56,24 @@ impl<'a, K: IntKey, V, A: Allocator + Copy> Clone for Values<'a, K, V, A> {
 
 impl<'a, K: IntKey + fmt::Debug, V: fmt::Debug, A: Allocator + Copy> fmt::Debug
     for Iter<'a, K, V, A> {
-    /// Writes the pairs that are left, as `[(21, 'a'), (3, 'b')]`, and the iterator stays where it
-    /// is. It fails only if writing fails.
+    /// Writes the pairs that are left, as `[(21, 'a'), (3, 'b')]`. The iterator stays as it is. It
+    /// fails only if writing fails.
     fn fmt<W: fmt::Write>(&self, f: &mut fmt::Formatter<W>) -> fmt::Result {
         f.debug_list().entries(self.clone().unwrap()).finish()
     }
 }
 
 impl<'a, K: IntKey + fmt::Debug, V, A: Allocator + Copy> fmt::Debug for Keys<'a, K, V, A> {
-    /// Writes the keys that are left, as `[21, 3]`, and the iterator stays where it is. It fails
-    /// only if writing fails.
+    /// Writes the keys that are left, as `[21, 3]`. The iterator stays as it is. It fails only if
+    /// writing fails.
     fn fmt<W: fmt::Write>(&self, f: &mut fmt::Formatter<W>) -> fmt::Result {
         f.debug_list().entries(self.clone().unwrap()).finish()
     }
 }
 
 impl<'a, K: IntKey, V: fmt::Debug, A: Allocator + Copy> fmt::Debug for Values<'a, K, V, A> {
-    /// Writes the values that are left, as `['a', 'b']`, and the iterator stays where it is. It
-    /// fails only if writing fails.
+    /// Writes the values that are left, as `['a', 'b']`. The iterator stays as it is. It fails only
+    /// if writing fails.
     fn fmt<W: fmt::Write>(&self, f: &mut fmt::Formatter<W>) -> fmt::Result {
         f.debug_list().entries(self.clone().unwrap()).finish()
     }

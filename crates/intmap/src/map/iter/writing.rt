@@ -8,7 +8,7 @@ ghost use Rattle.intmap.specs.Lending.{map_lends_values};
 ghost use Rattle.intmap.specs.Map.{IsMap};
 ghost use Rattle.intmap_table.specs.Values.{with_values};
 ghost use Rattle.intmap.specs.Map.{map_with_values};
-ghost use Rattle.intmap_table.specs.Bindings.{IsBound};
+ghost use Rattle.intmap_table.specs.Bindings.{IsPresent};
 ghost use Rattle.intmap_table.specs.Taking.{TakesEach};
 ghost use Rattle.intmap_table.specs.Writes.{Writes, WritesAt, TakesPairMut};
 
@@ -112,7 +112,7 @@ impl<K: IntKey, V, A: Allocator + Copy> IntMap<K, V, A> {
     ///
     /// However far the iterator gets, and even if it is forgotten, the keys, their order, the
     /// length, the capacity, the load factor and both counts are what they were. No clause says
-    /// which values are left.
+    /// which values the map has then.
     ///
     /// ```text
     /// for (key, value) in map.iter_mut() { *value = *key; }    each value is now its key
@@ -136,8 +136,8 @@ impl<K: IntKey, V, A: Allocator + Copy> IntMap<K, V, A> {
     }
 
     /// An iterator over the values in iteration order, by mutable reference. It allocates nothing.
-    /// Neither this call nor a step of the iterator fails. What stays of the map is what
-    /// [`iter_mut`](IntMap::iter_mut) leaves of it.
+    /// Neither this call nor a step of the iterator fails. It leaves the map as
+    /// [`iter_mut`](IntMap::iter_mut) does.
     ///
     /// ```text
     /// for value in map.values_mut() { *value += 1; }    each value is one more
@@ -184,14 +184,15 @@ impl<'a, K: IntKey, V, A: Allocator + Copy> IntoIterator for &'a mut IntMap<K, V
 
 impl<K: IntKey, V, A: Allocator + Copy> IntMap<K, V, A> {
     /// Calls the closure once for each pair, in iteration order, with the key and a mutable
-    /// reference to the value. What the closure changes of its own state is there at the next call.
+    /// reference to the value. The next call sees what this one changed of the closure's state.
     ///
     /// The closure must be callable at these pairs in this order, each time in the state that the
     /// call before left. Nothing is required of other keys, values and calls.
     ///
     /// The keys, their order and their number stay, and so do the capacity, the load factor and
-    /// both counts. No key is compared. It never fails and allocates nothing. Apart from the calls,
-    /// its time grows with the number of pairs and, by one bit each, of slots.
+    /// both counts. No key is compared. It never fails and allocates nothing. Apart from the calls
+    /// of the closure, its time grows with the number of pairs and, by one bit for each, the number
+    /// of slots.
     ///
     /// ```text
     /// after insert(0, 10), insert(1, 11) and insert(4, 14) into 4 slots the walk is 0, 4, 1:
@@ -203,7 +204,7 @@ impl<K: IntKey, V, A: Allocator + Copy> IntMap<K, V, A> {
         ensures state { self.new ≡ record self.old { walk = self.new.walk } }
         ensures keys { keys_of self.new.walk ≡ keys_of self.old.walk }
         ensures updates { (q : K)
-            → IsBound K.number_of self.new.walk q ↔ IsBound K.number_of self.old.walk q }
+            → IsPresent K.number_of self.new.walk q ↔ IsPresent K.number_of self.old.walk q }
         ensures len { length self.new.walk ≡ length self.old.walk }
         ensures valid { IsMap K.number_of K.is_valid self.old }
         ensures valid_after { IsMap K.number_of K.is_valid self.new }

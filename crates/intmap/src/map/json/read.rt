@@ -21,8 +21,8 @@ impl IntMap<u64, Value> {
     /// Each key must be the canonical text of a number of at most 2^64 - 1: decimal digits with no
     /// sign and no leading zero.
     ///
-    /// It fails with [`JsonCause::NotAnObject`] exactly if the JSON value is no object; otherwise
-    /// with [`JsonCause::BadKey`] exactly if a key isn't canonical; otherwise with
+    /// It fails with [`JsonCause::NotAnObject`] exactly if the JSON value isn't an object;
+    /// otherwise with [`JsonCause::BadKey`] exactly if a key isn't canonical; otherwise with
     /// [`JsonCause::HoldsFloat`] exactly if a member's value holds, at any depth, a number that is
     /// neither a `u64` nor an `i64`. These are checked in this order, without allocating. After
     /// that it fails if `with_capacity` or an insertion does, with the same cause, or if a clone
@@ -48,7 +48,7 @@ impl IntMap<u64, Value> {
         ensures shows { IfOk result (λ made. Shows (view value.now) made.walk) }
         ensures valid { IfOk result (IsMap (λ key. key) (λ key. key < 2 ^ 64)) }
 
-        // when it is refused
+        // when it fails
         ensures not_an_object { IsErrOf result JsonCause.NotAnObject
             ↔ IsNone (as_object (view value.now)) }
         ensures bad_key { IsErrOf result JsonCause.BadKey
@@ -108,9 +108,9 @@ fn have_key_texts(members: &Map<String, Value>) -> bool
     true
 }
 
-/// The number below 2^64 whose decimal text this is, or `None` if there is none: digits with no sign
-/// and no leading zero. The keys of an object are read so by
-/// [`from_json`](crate::IntMap::from_json). It allocates nothing and never fails.
+/// The number below 2^64 whose decimal text this is, or `None` if there is none: digits with no
+/// sign and no leading zero. [`from_json`](crate::IntMap::from_json) reads the keys of an object
+/// this way. It allocates nothing and never fails.
 ///
 /// ```text
 /// "18446744073709551615"    Some(18446744073709551615)
@@ -126,7 +126,8 @@ pub fn key_of(text: &str) -> Option<u64>
     text.parse::<u64>().ok()
 }
 
-/// Whether the text begins with no plus, and with a zero only if that zero is all of it.
+/// Whether the text doesn't begin with a plus, and begins with a zero only if it is that zero
+/// alone.
 fn begins_as_printed(bytes: &[u8]) -> bool
     ensures { IsTrue result
         ↔ (slice_index bytes.now 0 ≢ 43) × (slice_index bytes.now 0 ≡ 48 → length bytes.now ≡ 1) }
@@ -137,7 +138,7 @@ fn begins_as_printed(bytes: &[u8]) -> bool
     }
 }
 
-/// The number whose decimal text this is. The caller knows that there is one.
+/// The number whose decimal text this is. The caller knows that the text is one.
 fn known_key(text: &str) -> u64
     requires printed { (k : ℕ) × IsKeyText text.now k }
     ensures value { IsKeyText text.now result }

@@ -2,7 +2,7 @@ use Rattle.std.proofs.Common.{◌≡◌, ◌≤◌, drop, length}
 use Rattle.intmap_c.specs.Calls.{copied}
 use Rattle.intmap_c.proofs.walk.copy_pairs.Given as goal
 
--- so many pairs are copied, and the others are left
+-- this number of pairs is copied, and the others are left
 abbrev pub invariant-loop-count : goal.invariant-loop-count
 invariant-loop-count l =
     let walk = drop l.fn.from l.fn.map.walk in

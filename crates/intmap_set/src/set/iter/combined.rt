@@ -1,4 +1,4 @@
-//! The iterators over two sets, which look the members of one up in the other as they go.
+//! The iterators over two sets. As they go, they look up the members of one in the other.
 ghost use Rattle.std.specs.Iterator.{YieldsFirstBy, item_count};
 
 use crate::set::IntSet;
@@ -7,9 +7,9 @@ use intmap::IntKey;
 use std::alloc::{Allocator, Global};
 use std::marker::Model;
 
-/// The members of one set that another hasn't, by reference, made by
-/// [`IntSet::difference`](crate::IntSet::difference). Contracts see it as the list of those that are
-/// left.
+/// The members of one set that are absent from another, by reference, made by
+/// [`IntSet::difference`](crate::IntSet::difference). Contracts see it as the list of those that
+/// are left.
 #[derive(Drop)]
 pub struct Difference<'a, K: IntKey, A: Allocator + Copy = Global> {
     pub(crate) keys: Keys<'a, K, (), A>,
@@ -42,9 +42,9 @@ impl<'a, K: IntKey, A: Allocator + Copy> Iterator for Difference<'a, K, A> {
     }
 }
 
-/// The members of one set that another has too, by reference, made by
-/// [`IntSet::intersection`](crate::IntSet::intersection). Contracts see it as the list of those that
-/// are left.
+/// The members that two sets have, by reference, made by
+/// [`IntSet::intersection`](crate::IntSet::intersection). Contracts see it as the list of those
+/// that are left.
 #[derive(Drop)]
 pub struct Intersection<'a, K: IntKey, A: Allocator + Copy = Global> {
     pub(crate) keys: Keys<'a, K, (), A>,

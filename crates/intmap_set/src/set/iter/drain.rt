@@ -9,10 +9,10 @@ use std::alloc::{Allocator, Global};
 use std::iter::FusedIterator;
 
 /// Removes one member of a set at each step and returns it, made by
-/// [`IntSet::drain`](crate::IntSet::drain). At every moment the set has the members that are still
-/// to come, and its length counts these. If the iterator is dropped early, they stay, in their
-/// order. They also stay if it is forgotten, but no clause says that. Dropping it takes constant
-/// time, however many are left.
+/// [`IntSet::drain`](crate::IntSet::drain). At every moment the set has the members that are left,
+/// and its length counts these. If the iterator is dropped early, they stay, in their order. They
+/// also stay if it is forgotten, but no clause says that. Dropping it takes constant time, however
+/// many are left.
 pub struct Drain<'a, K: IntKey, A: Allocator + Copy = Global> {
     set: &'a mut IntSet<K, A>,
     from: usize,

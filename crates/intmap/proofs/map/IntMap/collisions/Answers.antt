@@ -16,7 +16,7 @@ use Rattle.intmap_table.proofs.MappedLemmas.{slot_of-map_values, length-map_valu
 use Rattle.intmap.proofs.map.IntMap.collisions.Goals as goal
 use Rattle.intmap.proofs.map.IntMap.collisions.Goals.{After-loop-slot, After-slot_len-size, then-size-gt1+in_ok-count_once_more, else-size-gt1}
 
--- a slot has as many pairs, whatever their values are
+-- a slot has the same number of pairs, whatever their values are
 slot-len : {K V : Type 0} (number : K → ℕ) (T : List (K × Kept V)) (C i : ℕ) → length (slot_of number T C i) ≡ length (slot_of number (unkept T) C i)
 slot-len number T C i =
     sym (ap length (slot_of-map_values number (λ (kept : Kept _). kept.value) T C i) ∙ length-map_values number (λ (kept : Kept _). kept.value) (slot_of number T C i))

@@ -1,4 +1,4 @@
--- The pairs of an iterator come one after another, and an induction over them is beyond the search.
+-- The pairs of an iterator are inserted one after another, and an induction over them is beyond the search.
 use Rattle.std.proofs.Common.{Some, refl, sym, subst, arith, rules}
 use Rattle.std.specs.Iterator.{Yields}
 use Rattle.std.proofs.lemmas.List.{length_push}

@@ -26,7 +26,7 @@ all_collected g c =
 pub returns-in-Ok-extend-clause-collects : goal.returns-in-Ok-extend-clause-collects
 returns-in-Ok-extend-clause-collects g c = all_collected g c
 
--- nothing stands behind what is found
+-- nothing is behind what is found
 option_or-none : {T : Type 0} (o : Option T) → option_or o None ≡ o
 option_or-none None = refl
 option_or-none (Some t) = refl

@@ -1,4 +1,4 @@
--- The search does not tell which of the two calls was refused, and gives up on a map that was collected.
+-- The search does not see which of the two calls failed, and gives up on a map that was collected.
 use Rattle.std.proofs.Common.{inl, inr, refl, ◌∙◌, subst}
 use Rattle.intmap.specs.Extending.{Extends, ExtendsUpTo}
 use Rattle.intmap.specs.Map.{MapState}

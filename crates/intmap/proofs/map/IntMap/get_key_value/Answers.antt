@@ -13,7 +13,7 @@ pub returns-in_default-clause-value : goal.returns-in_default-clause-value
 returns-in_default-clause-value g c =
     rw (← c.self.view_is) (sym (value_of-map_values g.K.IntKey.number_of (λ kept. kept.value) c.self.inside.table.walk c.args.key ∙ ap (option_map (λ kept. kept.value)) c.in_default.ensures.missing))
 
--- the key that was looked for stands where it was found
+-- the key that was looked up is at the place at which it was found
 stands : (g : _) (c : In-Some g) → key_at (slot_of g.K.IntKey.number_of c.self.inside.table.walk c.self.inside.table.capacity c.in-Some.at.slot) c.in-Some.at.place ≡ Some c.args.key
 stands g c =
     let found = c.in-Some.ensures.found in

@@ -7,7 +7,7 @@ use Rattle.intmap.proofs.AfterLemmas.{Updates-insert, length-insert}
 use Rattle.intmap.proofs.map.IntMap.insert.Goals as goal
 use Rattle.intmap.proofs.map.IntMap.insert.Goals.{After-replace_at}
 
--- the key is bound, and its pair replaced
+-- the key is present, and its pair is replaced
 module _ (g : _) (c : After-replace_at g) where
   bound : value_of g.K.IntKey.number_of c.args.self.now.walk c.args.key ≡ Some c.replace_at.result
   bound = sym (λ i. value_of g.K.IntKey.number_of (c.in-Some.ensures.state i).walk (c.in-Some.ensures.found.0 i)) ∙ c.replace_at.ensures.value

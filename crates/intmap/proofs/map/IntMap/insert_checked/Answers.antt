@@ -17,7 +17,7 @@ some_of : {X : Type 0} (o : Option X) → is_some o ≡ true → (x : X) × (o �
 some_of None found = let w : false ≡ true = found in absurd (cc)
 some_of (Some x) found = (x, refl)
 
--- the key isn't bound
+-- the key is absent
 missing : (g : _) (c : After-add g) → value_of g.K.IntKey.number_of c.args.self.now.walk c.args.key ≡ None
 missing g c = none_of _ (sym c.locate.ensures.bound ∙ sym c.is_some.ensures ∙ c.if-is_some.false)
 
@@ -49,7 +49,7 @@ returns-clause-len g c =
     let none = missing g (goal.at.returns-clause-len g c).After-add in
     rw none at (length-insert g.K.IntKey.number_of g.K.IntKey.is_valid c.args.self.now _ c.args.key c.args.value c.add.ensures.valid_after.capacity (returns-clause-state g c))
 
--- the key is bound
+-- the key is present
 bound : (g : _) (c : After-is_some g) → c.is_some.result ≡ true → (x : g.row.V.Denot) × (value_of g.K.IntKey.number_of c.args.self.now.walk c.args.key ≡ Some x)
 bound g c found = some_of _ (sym c.locate.ensures.bound ∙ sym c.is_some.ensures ∙ found)
 

@@ -7,7 +7,7 @@ use Rattle.intmap.proofs.MapLemmas.{MapState-same}
 use Rattle.intmap_table.proofs.MappedLemmas.{value_of-map_values, reach-map_values}
 use Rattle.intmap.proofs.map.IntMap.locate.Goals as goal
 
--- what holds of what was found, where that follows from what is known of it
+-- what holds of what was found, if that follows from what is known of it
 found : {X : Type 0} (P Q : X → Type 0) → ((x : X) → P x → Q x) → (o : Option X) → IfSome o P → IfSome o Q
 found P Q each None all = all
 found P Q each (Some x) all = each x all
@@ -29,7 +29,7 @@ pub returns-clause-missing : goal.returns-clause-missing
 returns-clause-missing g c =
     missed _ _ (λ none. rw (← c.self.view_is) (value_of-map_values g.K.IntKey.number_of (λ kept. kept.value) c.self.inside.table.walk c.args.key ∙ ap (option_map (λ kept. kept.value)) none)) c.locate.result c.locate.ensures.missing
 
--- a value is there where another that is made of it is
+-- a value is there if another that is made of it is
 is_some-map : {X Y : Type 0} (f : X → Y) (o : Option X) → is_some (option_map f o) ≡ is_some o
 is_some-map f None = refl
 is_some-map f (Some x) = refl

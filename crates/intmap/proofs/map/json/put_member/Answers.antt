@@ -1,4 +1,4 @@
--- The members of a `Map` come from its entries by a recursion.
+-- The members of a `Map` are made of its entries by a recursion.
 use Rattle.std.proofs.Common.{ap, ◌∙◌}
 use Rattle.serde_json.specs.View.{members_view}
 use Rattle.serde_json.proofs.Views.{members_view-insert_entry}

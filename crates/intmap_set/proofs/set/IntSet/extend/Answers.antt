@@ -1,4 +1,4 @@
--- The keys of an iterator come one after another, and an induction over them is beyond the search.
+-- The keys of an iterator are inserted one after another, and an induction over them is beyond the search.
 use Rattle.std.proofs.Common.{sym, subst, rules}
 use Rattle.std.specs.Iterator.{Yields}
 use Rattle.intmap_set.specs.Extending.{Inserts, IsExtended, MayRefuse}

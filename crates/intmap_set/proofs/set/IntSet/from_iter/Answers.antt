@@ -1,4 +1,4 @@
--- The search does not tell which of the two calls was refused.
+-- The search does not see which of the two calls failed.
 use Rattle.std.proofs.Common.{inr, subst}
 use Rattle.intmap_set.specs.Extending.{Extends, ExtendsUpTo}
 use Rattle.intmap_set.specs.Sets.{SetState}

@@ -1,4 +1,4 @@
--- By hand, since the borrow checker follows no raw pointer: the value where the hole lies is taken out of the loan. Assumes `Logic`.
+-- By hand, since the borrow checker follows no raw pointer: the value at which the hole lies is taken out of the loan. Assumes `Logic`.
 use mathlib.Core.Path.{◌≡◌, refl, ◌∙◌}
 use Prim.Native.Nat.{ℕ}
 use mathlib.Core.List.{List, [], ◌∷◌}
@@ -83,7 +83,7 @@ module _ (V' : RattleType) {M : Type 1} {𝓤 : Ura M} (𝓛 : Logic 𝓤) (atm 
         ∷ ‵ (owns (MutRef (named 0) κs.0 Row ∷ ShrRef (named 1) κs.1.0 (H-type.the_row (V V')) ∷ []) bound.0.3 bound.0.4) ∷ []) ∵
         enter ! C Λ (function V') (vptr rb ro ∷ vptr block offset ∷ []) _ $ alloc_all ! (λ l. pass_all ! refl ((tt, tt), ((tt, tt), tt)) $
         let En : Env 𝓤 H = env (function V').locals l in
-        -- the reference to the hole tells where it lies
+        -- the reference to the hole says where it lies
         move ! (1 ∷ []) $ fsplit3 ! $ move ! (1 ∷ []) $ fsplit ! $ drop ! $ unhide ! $ feq_l ! (λ lies.
         let rest = asked.0 in
         let was : lent.cells ≡ (block_ptr block offset, hole.1) ∷ rest = asked.1 ∙ (λ i. (lies i, hole.1) ∷ rest) in

@@ -7,7 +7,7 @@ use Rattle.intmap_table.proofs.Tables.SlotLemmas.{IsBehind, behind}
 use Rattle.intmap_table.proofs.slot.Slot.find.Goals as goal
 use Rattle.intmap_table.proofs.slot.Slot.find.Goals.{After-find_in}
 
--- the first pair stands before the others
+-- the first pair is before the others
 pairs : (g : _) (c : After-find_in g) → c.args.self.now.pairs ≡ c.in-Some.first ∷ c.self.inside.rest.items
 pairs g c = sym (ap (λ h. h.pairs) c.self.view_is) ∙ ap (λ first. all_pairs first c.self.inside.rest.items) c.in-Some.is
 

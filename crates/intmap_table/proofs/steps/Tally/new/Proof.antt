@@ -1,4 +1,4 @@
--- By hand, since a tally's number stands only in proofs: here the new tally's is chosen to be 0.
+-- By hand, since a tally's number exists only in proofs: here the new tally's is chosen to be 0.
 use Rattle.std.proofs.Common.{[], ◌∷◌, refl}
 use Rattle.std.proofs.raw_atomic.Walks.{proved}
 use mir.Val.{vstruct, vnil}

@@ -31,7 +31,7 @@ put_first-requires g c =
     row-none _ (sym (c.set.ensures.before ∙ marked-here _ _ _ _ _ at c.self.inside.directory.bits c.self.invariant.marked.marks) ∙ c.if-set.false)
 
 module _ {K X : Type 0} (number : K → ℕ) (S : List (Held K X)) (h s : Held K X) (i : ℕ) (k : K) (v : X) (at : IsSlot number S h i k) (full : nat_lt 0 (length h.pairs) ≡ true) where
-  -- a slot that held a pair does so, with another behind it or without
+  -- a slot that held a pair still does, with another behind it or without
   filled : (r : Result (Unit {0}) X) → OnOk r (s.pairs ≡ h.pairs ++ (k, v) ∷ []) → OnErr r (s.pairs ≡ h.pairs) → true ≡ nat_lt 0 (length s.pairs)
   filled (Ok done) ok err = sym (ap (λ (ps : List (K × X)). nat_lt 0 (length ps)) ok ∙ filled-pushed h.pairs (k, v))
   filled (Err value) ok err = sym (ap (λ (ps : List (K × X)). nat_lt 0 (length ps)) err ∙ full)
@@ -68,7 +68,7 @@ returns-then-set-clause-memory g c =
     let some : 0 < length c.index_mut-slot.result.now.pairs = ltb-true 0 _ (sym (c.set.ensures.before ∙ marked-here _ _ _ _ _ at c.self.inside.directory.bits c.self.invariant.marked.marks) ∙ c.if-set.true) in
     on_err_weaker c.push.result (λ _. rw (← c.self.view_is) (rw (class_size-here _ _ _ _ _ at) some)) c.push.ensures.err
 
--- the first pair of its slot stands behind none
+-- the slot held no pair, so the new pair is its only one
 alone : (g : _) (c : After-put_first g) → IsSlot g.K.IntKey.number_of c.self.inside.slots.items c.index_mut-slot.result.now c.index_of-index.result c.args.key → c.put_first.new.self.pairs ≡ c.index_mut-slot.result.now.pairs ++ (c.args.key, c.args.value) ∷ []
 alone g c at =
     let none = row-none c.index_mut-slot.result.now.pairs (sym (c.set.ensures.before ∙ marked-here _ _ _ _ _ at c.self.inside.directory.bits c.self.invariant.marked.marks) ∙ c.if-set.false) in

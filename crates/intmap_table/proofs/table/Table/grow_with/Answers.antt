@@ -13,7 +13,7 @@ module _ (g : _) (c : After-add g) (added : c.add.new.self.walk ≡ walk_of g.K.
   walk : c.add.new.self.walk ≡ walk_of g.K.IntKey.number_of (put_pair g.K.IntKey.number_of c.args.self.now.walk c.args.self.now.capacity c.args.key c.args.value) c.args.self.now.capacity
   walk = rw c.reserve_for.ensures.same at added
 
-  -- in as many slots
+  -- in the same number of slots
   capacity : c.add.new.self.capacity ≡ c.args.self.now.capacity
   capacity = c.add.ensures.capacity ∙ ap (λ (t : Grid _ _). t.capacity) c.reserve_for.ensures.same
 

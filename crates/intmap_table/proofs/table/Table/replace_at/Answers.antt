@@ -19,14 +19,14 @@ module _ (g : _) (c : After-replace_at-old g) where
   slot : IsSlot g.K.IntKey.number_of c.self.inside.slots.items c.index_mut.result.now c.args.at.slot c.args.at.key
   slot = slot-at _ _ _ _ c.self.invariant.marked.table located c.index_mut.ensures.value
 
-  -- the slot is as one that the key was taken out of, with the new pair at its end
+  -- the slot is as one that the key was removed from, with the new pair at its end
   left : c.replace_at-old.new.self.pairs ≡ swap_out (λ p. same_key g.K.IntKey.number_of c.args.at.key p.0) any c.index_mut.result.now.pairs ++ (c.args.at.key, c.args.value) ∷ []
   left =
       let place = place-at _ _ _ _ c.self.invariant.marked.table located c.index_mut.ensures.value in
       let taken = swap_remove-position (λ p. same_key g.K.IntKey.number_of c.args.at.key p.0) c.index_mut.result.now.pairs c.args.at.place c.replace_at-old.result place c.replace_at-old.ensures.value in
       c.replace_at-old.ensures.pairs ∙ (λ i. taken i ++ (c.new.ensures.value i, c.args.value) ∷ [])
 
-  -- the key was bound to the value
+  -- the key had the value
   bound : value_of g.K.IntKey.number_of c.index_mut.result.now.pairs c.args.at.key ≡ Some c.replace_at-old.result.1
   bound =
       let place = place-at _ _ _ _ c.self.invariant.marked.table located c.index_mut.ensures.value in

@@ -13,7 +13,7 @@ use Rattle.intmap_table.proofs.table.Table.take_front.Goals as goal
 use Rattle.intmap_table.proofs.table.Table.take_front.Goals.{In-Some, In-Some-take_lone, After-take_front-key}
 
 module _ (g : _) (c : In-Some g) where
-  -- the slot in hand is that of the next mark
+  -- the current slot is that of the next mark
   next : IsNextMark c.self.inside.directory.bits c.args.from.now c.in-Some.place
   next = IsNextMark-first c.self.inside.directory.bits c.args.from.now c.in-Some.place c.next.new.self (sym c.iter_from.ensures ∙ c.in-Some.ensures.steps)
 
@@ -24,7 +24,7 @@ module _ (g : _) (c : In-Some g) where
   passed : (j : _) → j < c.args.from.now → get_or (rows c.self.inside.slots.items) j [] ≡ []
   passed = rows-passed g.K.IntKey.number_of c.self.inside.slots.items c.self.invariant.marked.table c.args.from.now (rw (← c.self.view_is) at c.requires)
 
--- the slot in hand lost its first pair
+-- the current slot lost its first pair
 module _ (g : _) (c : In-Some g) (p : g.row.K.Denot × g.row.X.Denot) (s : Held g.row.K.Denot g.row.X.Denot) (taken : get_or (rows c.self.inside.slots.items) c.in-Some.place [] ≡ p ∷ s.pairs) where
   -- the walk was the pair and the walk that is left
   front : joined (rows c.self.inside.slots.items) ≡ p ∷ joined (rows (set c.self.inside.slots.items c.in-Some.place s))

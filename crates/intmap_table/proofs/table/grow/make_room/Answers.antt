@@ -37,7 +37,7 @@ take_rooms-requires-clause-fits g c =
     rw (joined-added _ _ _ c.requires.grown (added g (goal.at.take_rooms-requires-clause-fits g c).After-deref_mut-2)) c.requires.fits
 
 module _ (g : _) (c : After-take_rooms g) where
-  -- they stay as many
+  -- their number stays
   same : length c.take_rooms.new.slots ≡ length c.deref_mut.result.now
   same = length-same_rows c.deref_mut.result.now c.take_rooms.new.slots c.take_rooms.ensures.rows
 

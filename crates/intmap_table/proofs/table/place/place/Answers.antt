@@ -26,7 +26,7 @@ module _ (g : _) (c : After-index-slots-index g) where
   room : get_or (rooms c.args.slots.now) c.index_of-index.result 0 ≡ (get_or c.args.slots.now c.index_of-index.result c.index-slots-index.result).room
   room = room-before c.args.slots.now c.index_of-index.result c.index-slots-index.result c.index_of-index.ensures.within
 
-  -- its place is marked exactly where it holds a pair
+  -- its place is marked exactly if it holds a pair
   told : marked c.args.bits.now c.index_of-index.result ≡ nat_lt 0 (length (get_or c.args.slots.now c.index_of-index.result c.index-slots-index.result).pairs)
   told =
       let number = g.K.IntKey.number_of in let D = length c.args.slots.now in

@@ -23,7 +23,7 @@ loop-pair-init g c = record {
 }
 
 module _ (g : _) (c : In-Some g) where
-  -- the pair that was taken out comes first of those that are left
+  -- the pair that was taken from the buffer is the first of those that are left
   next : reverse c.loop-pair.buffer.items ≡ c.in-Some.pair ∷ reverse c.pop.new.self.items
   next = ap reverse c.in-Some.ensures.items ∙ reverse-append c.pop.new.self.items (c.in-Some.pair ∷ [])
 
