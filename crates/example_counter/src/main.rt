@@ -1,5 +1,5 @@
-//! Prints the three numbers that come most often in a text of one number a line, with their counts.
-//! Of two numbers with equal counts the smaller comes first.
+//! Prints the three most frequent numbers of a text with one number a line, each with its count. Of
+//! two numbers with equal counts, the smaller is first.
 //!
 //! Run it by `rt run` in this folder; it reads the file `stdin` there.
 #![tactic(auto)]
@@ -25,7 +25,7 @@ fn count_one(counts: &mut IntMap<u64, u64>, number: u64) -> Result<(), Cause>
 
 /// Counts the numbers.
 ///
-/// Proved: every number has as its count how many elements of the slice are equal to it.
+/// Proved: the count of a number is how many elements of the slice are equal to it.
 fn count(alloc: Global, numbers: &[u64]) -> Result<IntMap<u64, u64>, Cause>
     ensures { IfOk result (λ counts. (number : ℕ)
         → count_of counts.walk number ≡ count_by (λ element. element == number) numbers.now) }
@@ -52,7 +52,7 @@ fn main(rt: HostRuntime) -> Result<()> {
     for line in rt.lines(rt.alloc()) {
         numbers.push(line?.as_str().trim().parse()?)?;
     }
-    let counts = count(rt.alloc(), numbers.as_slice()).map_err(|_| AllocError)?;
+    let counts = count(rt.alloc(), numbers.as_slice())?;
     for (number, count) in most_frequent(rt.alloc(), &counts)?.iter().take(3) {
         println!(rt; "{number}: {count}")?;
     }

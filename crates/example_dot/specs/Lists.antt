@@ -3,7 +3,7 @@ use Rattle.std.specs.Prelude.{ℕ, ◌^◌, ◌==◌, cond, List, ℤ, pos, ◌*
 use Rattle.std.specs.List.{fold}
 use Rattle.intmap_sparse.specs.Vectors.{sum_below}
 
--- the value of a place that the list has last, and 0 where it has none
+-- the last value that the list has of a place, or 0 if it has none
 abbrev pub last_value : List (ℕ × ℤ) → ℕ → ℤ
 last_value list place = fold (λ value pair. cond (pair.0 == place) pair.1 value) (pos 0) list
 

@@ -1,5 +1,5 @@
-//! Prints the dot product of two vectors. Each is a list of lines with a place and its value, and a
-//! blank line stands between the two.
+//! Prints the dot product of two vectors. Each is a list of lines with a place and its value. A blank
+//! line separates the two.
 //!
 //! Run it by `rt run` in this folder; it reads the file `stdin` there.
 #![tactic(auto)]
@@ -11,9 +11,9 @@ ghost use Rattle.example_dot.specs.Lists.{last_value, dot};
 use anyhow::{Context, Result};
 use intmap::Cause;
 use intmap_sparse::SparseVec;
-use std::alloc::{AllocError, Global};
+use std::alloc::Global;
 
-/// The vector with the value of each place that the list has last, and 0 at any other place.
+/// The vector that has at each place the list's last value of it, and 0 at any other place.
 fn vector_of(alloc: Global, list: &[(u64, i64)]) -> Result<SparseVec, Cause>
     ensures { IfOk result (λ vector. (place : ℕ)
         → value_at vector.walk place ≡ last_value list.now place) }
@@ -25,10 +25,9 @@ fn vector_of(alloc: Global, list: &[(u64, i64)]) -> Result<SparseVec, Cause>
     Ok(vector)
 }
 
-/// The dot product of the vectors of both lists, or `None` where it is too large on the way.
+/// The dot product of the vectors of both lists, or `None` if a sum on the way is too large.
 ///
-/// Proved: it is the sum over all 2^64 places of the products of the values that the lists have
-/// there last.
+/// Proved: it is the sum, over all 2^64 places, of the products of the lists' last values there.
 fn dot_product(
     alloc: Global,
     left: &[(u64, i64)],
@@ -58,8 +57,8 @@ fn main(rt: HostRuntime) -> Result<()> {
             right.push(pair)?;
         }
     }
-    let product = dot_product(rt.alloc(), left.as_slice(), right.as_slice());
-    let product = product.map_err(|_| AllocError)?.context("too large")?;
+    let product = dot_product(rt.alloc(), left.as_slice(), right.as_slice())?;
+    let product = product.context("too large")?;
     println!(rt; "{product}")?;
     Ok(())
 }

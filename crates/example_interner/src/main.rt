@@ -1,4 +1,4 @@
-//! Gives the words of a text the ids 0, 1, 2 and so on, in the order in which they first come. It
+//! Gives the words of a text the ids 0, 1, 2 and so on, in the order in which they first occur. It
 //! prints the ids of the words of each line, and then every id with its word.
 //!
 //! Run it by `rt run` in this folder; it reads the file `stdin` there.
@@ -10,10 +10,10 @@ ghost use Rattle.example_interner.specs.Words.{word_at, IsIndex};
 
 use anyhow::Result;
 use intmap::IntMap;
-use std::alloc::{AllocError, Global};
+use std::alloc::Global;
 use std::collections::HashMap;
 
-/// Words with ids, which are handed out from 0 up.
+/// Words with their ids, which are given from 0 up.
 #[derive(Drop)]
 struct Interner {
     ids: HashMap<String, u32>,
@@ -22,19 +22,19 @@ struct Interner {
 }
 
 impl Interner {
-    /// Words of which none has an id yet.
+    /// An interner in which no word has an id yet.
     fn new(alloc: Global) -> Result<Interner>
         ensures { IfOk result (λ interner. (id : ℕ) → word_at interner.words.walk id ≡ None) }
     {
         Ok(Interner {
             ids: HashMap::new(alloc),
-            words: IntMap::new(alloc).map_err(|_| AllocError)?,
+            words: IntMap::new(alloc)?,
         })
     }
 
-    /// The id of the word: the one that it was given before, or else the next.
+    /// The id of the word: the one that it has already, or else the next.
     ///
-    /// Proved: the word of this id is that word, and ids that were handed out before keep theirs.
+    /// Proved: the word of this id is that word, and every id that was given before keeps its word.
     fn id_of(&mut self, alloc: Global, word: &str) -> Result<u32>
         ensures here { IfOk result (λ id. word_at self.new.words.walk id ≡ Some word.now) }
         ensures kept { (id : ℕ) → IsSome (word_at self.old.words.walk id)
@@ -46,12 +46,12 @@ impl Interner {
         let id = u32::try_from(self.words.len())?;
         let key = String::from_str(alloc, word)?;
         let text = String::from_str(alloc, word)?;
-        self.words.insert(id, text).map_err(|_| AllocError)?;
+        self.words.insert(id, text)?;
         self.ids.insert(key, id)?;
         Ok(id)
     }
 
-    /// The word of the id, if it was handed out.
+    /// The word of the id, if a word has it.
     fn word_of(&self, id: u32) -> Option<&str>
         ensures { option_map (λ word. word.now) result ≡ word_at self.now.words.walk id }
     {

@@ -4,7 +4,7 @@ use Rattle.std.specs.Option.{option_or}
 use Rattle.intmap.specs.Bindings.{value_of}
 use Rattle.intmap.specs.Map.{MapState}
 
--- the value of a symbol in the innermost scope that defines it, or None where none does
+-- the value of a symbol in the innermost scope that defines it, or None if none does
 abbrev pub value_in : List (MapState ℕ ℤ) → ℕ → Option ℤ
 value_in scopes symbol = fold (λ value scope. option_or (value_of (λ key. key) scope.walk symbol) value) None scopes
 

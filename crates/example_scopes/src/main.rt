@@ -1,5 +1,5 @@
-//! A symbol table with scopes. It reads the lines `enter`, `leave`, `let SYMBOL VALUE` and
-//! `SYMBOL`, and prints the value of each symbol that it is asked for, or `undefined`.
+//! A symbol table with scopes. It reads the lines `enter`, `leave`, `let SYMBOL VALUE` and `SYMBOL`.
+//! For the last it prints the value of the symbol, or `undefined`.
 //!
 //! Run it by `rt run` in this folder; it reads the file `stdin` there.
 #![tactic(auto)]
@@ -9,22 +9,22 @@ ghost use Rattle.example_scopes.specs.Scopes.{value_in, outer_scopes};
 
 use anyhow::{Context, Result, bail};
 use intmap::IntMap;
-use std::alloc::{AllocError, Global};
+use std::alloc::Global;
 
 /// The values of the symbols that one scope defines. Open scopes are a list, the innermost last.
 type Scope = IntMap<u64, i64>;
 
-/// Enters a scope, in which nothing is defined yet.
+/// Enters a scope that defines no symbol yet.
 fn enter(alloc: Global, scopes: &mut Vec<Scope>) -> Result<()>
     ensures values { OnOk result ((q : ℕ)
         → value_in scopes.new.items q ≡ value_in scopes.old.items q) }
     ensures outer { OnOk result (outer_scopes scopes.new.items ≡ scopes.old.items) }
 {
-    scopes.push(IntMap::new(alloc).map_err(|_| AllocError)?)?;
+    scopes.push(IntMap::new(alloc)?)?;
     Ok(())
 }
 
-/// Leaves the innermost scope: every symbol has again what it had when the scope was entered.
+/// Leaves the innermost scope. Every symbol then has the value that it had before that scope.
 fn leave(scopes: &mut Vec<Scope>)
     ensures { scopes.new.items ≡ outer_scopes scopes.old.items }
 {
@@ -40,7 +40,7 @@ fn define(scopes: &mut Vec<Scope>, symbol: u64, value: i64) -> Result<()>
     let Some(scope) = scopes.last_mut() else {
         bail!("no scope is open");
     };
-    scope.insert(symbol, value).map_err(|_| AllocError)?;
+    scope.insert(symbol, value)?;
     Ok(())
 }
 

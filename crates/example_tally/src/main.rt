@@ -3,16 +3,15 @@
 
 use anyhow::Result;
 use intmap::IntMap;
-use std::alloc::AllocError;
 
 fn main(rt: HostRuntime) -> Result<()> {
-    let mut tally: IntMap<u64, u64> = IntMap::new(rt.alloc()).map_err(|_| AllocError)?;
+    let mut tally: IntMap<u64, u64> = IntMap::new(rt.alloc())?;
     for line in rt.lines(rt.alloc()) {
         let number: u64 = line?.as_str().trim().parse()?;
-        let count = tally.entry(number).or_insert(0).map_err(|_| AllocError)?;
+        let count = tally.entry(number).or_insert(0)?;
         *count = count.saturating_add(1);
     }
-    for (number, count) in tally.iter() {
+    for (number, count) in &tally {
         println!(rt; "{number}: {count}")?;
     }
     Ok(())

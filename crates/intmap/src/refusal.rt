@@ -2,6 +2,8 @@
 ghost use Rattle.std.specs.Prelude.{◌≡◌};
 
 use std::alloc::AllocError;
+use std::error::Error;
+use std::fmt;
 
 /// Why a call failed.
 #[derive(Clone, Copy, PartialEq, Eq, Debug)]
@@ -11,6 +13,17 @@ pub enum Cause {
     /// The map would need a length above 2^64 - 1, or a capacity above 2^63 slots.
     TooLarge,
 }
+
+impl fmt::Display for Cause {
+    fn fmt<W: fmt::Write>(&self, f: &mut fmt::Formatter<W>) -> fmt::Result {
+        match self {
+            Cause::Memory => write!(f, "out of memory"),
+            Cause::TooLarge => write!(f, "too large"),
+        }
+    }
+}
+
+impl Error for Cause {}
 
 /// A value that could not be put into a map, with the cause.
 ///
@@ -27,6 +40,14 @@ pub struct Refused<V> {
     /// Why the call failed.
     pub cause: Cause,
 }
+
+impl<V: Drop> fmt::Display for Refused<V> {
+    fn fmt<W: fmt::Write>(&self, f: &mut fmt::Formatter<W>) -> fmt::Result {
+        write!(f, "the value could not be inserted: {}", self.cause)
+    }
+}
+
+impl<V: fmt::Debug + Drop> Error for Refused<V> {}
 
 /// The cause alone. With `?`, a caller that returns a `Cause` drops the value.
 impl<V: Drop> From<Refused<V>> for Cause {
@@ -68,6 +89,18 @@ pub struct RefusedPair<K, V> {
     /// Why its insertion failed.
     pub cause: Cause,
 }
+
+impl<K: Drop, V: Drop> fmt::Display for RefusedPair<K, V> {
+    fn fmt<W: fmt::Write>(&self, f: &mut fmt::Formatter<W>) -> fmt::Result {
+        write!(
+            f,
+            "a pair could not be inserted, after {} others: {}",
+            self.applied, self.cause
+        )
+    }
+}
+
+impl<K: fmt::Debug + Drop, V: fmt::Debug + Drop> Error for RefusedPair<K, V> {}
 
 /// The cause alone. With `?`, a caller that returns a `Cause` drops the pair.
 impl<K: Drop, V: Drop> From<RefusedPair<K, V>> for Cause {

@@ -20,8 +20,10 @@ pub fn insert_items(
     memory: &Refuser<Global>,
     count: u64,
 ) -> Result<(), AllocError> {
-    let mut items = IntMap::new(memory).map_err(|_| AllocError)?;
-    insert_each(out, &mut items, count)
+    match IntMap::new(memory) {
+        Ok(mut items) => insert_each(out, &mut items, count),
+        Err(cause) => write_refusal(out, cause, None),
+    }
 }
 
 // the same in a map that the caller owns, so that it isn't let go at each way out
@@ -46,8 +48,10 @@ pub fn insert_checked_items(
     memory: &Refuser<Global>,
     count: u64,
 ) -> Result<(), AllocError> {
-    let mut items = IntMap::new(memory).map_err(|_| AllocError)?;
-    insert_checked_each(out, &mut items, count)
+    match IntMap::new(memory) {
+        Ok(mut items) => insert_checked_each(out, &mut items, count),
+        Err(cause) => write_refusal(out, cause, None),
+    }
 }
 
 // the same in a map that the caller owns

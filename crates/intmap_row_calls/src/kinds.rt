@@ -2,7 +2,7 @@
 
 use crate::call::{with_key, with_pair, without_key};
 use crate::cell::Cell;
-use intmap::IntKey;
+use intmap::{Cause, IntKey};
 use intmap_row_words::maps::{MapOf, new_map, value_of};
 use intmap_row_words::text::{no_call, write_refusal};
 use refuser::Refuser;
@@ -63,11 +63,11 @@ impl<'a> Kinds<'a> {
 fn lend<'k, 'a, K: IntKey>(
     memory: &'a Refuser<Global>,
     kept: &'k mut Option<MapOf<'a, K>>,
-) -> Result<&'k mut MapOf<'a, K>, AllocError> {
+) -> Result<&'k mut MapOf<'a, K>, Cause> {
     if kept.is_none() {
         *kept = Some(new_map(memory)?);
     }
-    kept.as_mut().ok_or(AllocError)
+    kept.as_mut().ok_or(Cause::Memory)
 }
 
 // writes the answer to a call on the map that is kept
@@ -81,7 +81,18 @@ where
     K: IntKey + Display + Debug + FromStr,
     K::Err: Drop,
 {
-    let map = lend(memory, kept)?;
+    match lend(memory, kept) {
+        Ok(map) => answer_on(out, map, call),
+        Err(cause) => write_refusal(out, cause, None),
+    }
+}
+
+// writes the answer to a call on a map
+fn answer_on<K>(out: &mut String, map: &mut MapOf<'_, K>, call: &str) -> Result<(), AllocError>
+where
+    K: IntKey + Display + Debug + FromStr,
+    K::Err: Drop,
+{
     let (name, rest) = call.split_once(' ').unwrap_or((call, ""));
     if rest.is_empty() {
         return without_key(out, map, name);

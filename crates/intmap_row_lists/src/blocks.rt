@@ -3,7 +3,7 @@
 use crate::runs::{AnswerOf, Commands, run_all, write_run};
 use intmap_row_words::maps::{Maps, new_map};
 use intmap_row_words::report::Report;
-use intmap_row_words::text::write_state;
+use intmap_row_words::text::{write_refusal, write_state};
 use intmap_row_words::word::parts_of;
 use intmap_text::{Line, print_answer, read_line};
 use refuser::Refuser;
@@ -131,10 +131,14 @@ fn replay_one<'a>(
     commands: Commands<'a>,
     number: u64,
 ) -> Result<(), AllocError> {
-    let mut map = new_map(memory)?;
-    memory.arm(number);
-    write_run(out, memory, &mut map, commands)?;
-    write_state(out, &map)
+    match new_map(memory) {
+        Ok(mut map) => {
+            memory.arm(number);
+            write_run(out, memory, &mut map, commands)?;
+            write_state(out, &map)
+        }
+        Err(cause) => write_refusal(out, cause, None),
+    }
 }
 
 // tells of a replay whose request of this number was refused, or that made fewer

@@ -1,5 +1,5 @@
-//! The words of rows: how a call is read, how an answer is written, which maps they speak of, and what is
-//! told of them; and files of rows on other subjects.
+//! The words of rows: how a call is read, how its result is written, which maps the rows use, and
+//! what is reported of them; and files of rows on other subjects.
 #![tactic(auto)]
 
 pub mod maps;

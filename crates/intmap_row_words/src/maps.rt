@@ -1,4 +1,4 @@
-//! The two maps that the rows of a group speak of.
+//! The two maps that the rows of a group use.
 
 use crate::text::alive_text;
 use intmap::entry::Entry;
@@ -7,27 +7,27 @@ use refuser::Refuser;
 use std::alloc::{AllocError, Global};
 use std::mem;
 
-/// A map whose requests for memory can be refused.
+/// A map whose allocations can be made to fail.
 pub type MapOf<'a, K> = IntMap<K, u64, &'a Refuser<Global>>;
 
 /// Such a map with `u64` keys.
 pub type Map<'a> = MapOf<'a, u64>;
 
-/// A map as `new` makes it. None of its requests is refused, and none counts for one that will be.
-pub fn new_map<K: IntKey>(memory: &Refuser<Global>) -> Result<MapOf<'_, K>, AllocError> {
+/// A map as `new` makes it. None of its allocations fails, and none counts for one that will fail.
+pub fn new_map<K: IntKey>(memory: &Refuser<Global>) -> Result<MapOf<'_, K>, Cause> {
     let refused = memory.left();
     memory.arm(0);
     let made = IntMap::new(memory);
     memory.arm(refused);
-    made.map_err(|_| AllocError)
+    made
 }
 
-/// The value that calls of many keys bind a key to.
+/// The value that calls of many keys insert with each key.
 pub fn value_of(key: u64) -> u64 {
     key.wrapping_add(10)
 }
 
-/// Takes the pair of the key out by its entry, where it has one.
+/// Removes the pair of the key by its entry, if it has one.
 pub fn remove_by_entry<K: IntKey>(map: &mut MapOf<'_, K>, key: K) -> Option<u64> {
     match map.entry(key) {
         Entry::Occupied(entry) => Some(entry.remove()),
@@ -40,38 +40,38 @@ pub fn remove_by_entry<K: IntKey>(map: &mut MapOf<'_, K>, key: K) -> Option<u64>
 pub struct Maps<'a> {
     /// The map that calls are made on.
     pub map: Map<'a>,
-    /// The one that takes its place at the call `other`.
+    /// The map that takes its place at the call `other`.
     other: Map<'a>,
-    /// What both ask for memory.
+    /// What both allocate.
     pub memory: &'a Refuser<Global>,
 }
 
 impl<'a> Maps<'a> {
-    /// Two maps as `new` makes them, and no request that will be refused.
-    pub fn new(memory: &'a Refuser<Global>) -> Result<Maps<'a>, AllocError> {
+    /// Two maps as `new` makes them. No allocation will fail.
+    pub fn new(memory: &'a Refuser<Global>) -> Result<Maps<'a>, Cause> {
         memory.arm(0);
         let map = new_map(memory)?;
         let other = new_map(memory)?;
         Ok(Maps { map, other, memory })
     }
 
-    /// What is alive of the memory, as text.
+    /// The memory that is allocated and not freed, as text.
     pub fn alive(&self, alloc: Global) -> Result<String, AllocError> {
         alive_text(alloc, self.memory)
     }
 
-    /// Has the two maps take each other's place.
+    /// Swaps the two maps.
     pub fn swap(&mut self) {
         mem::swap(&mut self.map, &mut self.other);
     }
 
-    /// Puts a map in the place of the one that calls are made on, where it could be made.
+    /// Puts a map in the place of the one that calls are made on, if it could be made.
     pub fn put(&mut self, made: Result<Map<'a>, Cause>) -> Result<(), Cause> {
         self.map = made?;
         Ok(())
     }
 
-    /// Takes the other map away, and leaves one as `new` makes it.
+    /// Removes the other map and returns it, and leaves one as `new` makes it.
     pub fn take_other(&mut self) -> Result<Map<'a>, Cause> {
         let fresh = IntMap::new(self.memory)?;
         Ok(mem::replace(&mut self.other, fresh))

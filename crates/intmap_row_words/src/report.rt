@@ -1,9 +1,10 @@
-//! What is told of rows.
+//! The report on rows.
 
 use std::alloc::{AllocError, Global};
 use std::mem;
 
-/// How many rows there are, how many of their answers were others, and what is told of them.
+/// How many rows there are, how many of them had another result than they name, and the text of the
+/// report.
 #[derive(Drop)]
 pub struct Report {
     alloc: Global,
@@ -29,7 +30,7 @@ impl Report {
         }
     }
 
-    /// Ends the group in hand, and begins one of this name.
+    /// Ends the current group, and begins one of this name.
     pub fn begin(&mut self, name: &str) -> Result<(), AllocError> {
         self.end_group()?;
         self.group = String::from_str(self.alloc, name)?;
@@ -43,7 +44,7 @@ impl Report {
         self.is_counted = false;
     }
 
-    /// Tells of a row whose answer is another than the one that it names.
+    /// Reports a row whose result is another than the one that it names.
     pub fn compare(&mut self, row: &str, wanted: &str, answer: &str) -> Result<(), AllocError> {
         if wanted == answer {
             return Ok(());
@@ -52,12 +53,12 @@ impl Report {
         writeln!(self.text, "DIFFERS: {row}: the answer is {answer}")
     }
 
-    /// Tells a line.
+    /// Reports a line.
     pub fn tell(&mut self, line: &str) -> Result<(), AllocError> {
         writeln!(self.text, "{line}")
     }
 
-    /// Tells how many rows there were, where a file says it of itself.
+    /// Reports how many rows there were, if a file says its number itself.
     pub fn count_is(&mut self, wanted: Option<u64>) -> Result<(), AllocError> {
         self.end_group()?;
         self.is_counted = wanted == Some(self.in_all);
@@ -70,7 +71,7 @@ impl Report {
         }
     }
 
-    /// All that was told.
+    /// The whole report.
     pub fn end(&mut self) -> Result<String, AllocError> {
         if !self.is_counted {
             self.tell("MISCOUNTED: the number of rows is not the last line")?;
@@ -78,7 +79,7 @@ impl Report {
         Ok(mem::replace(&mut self.text, String::new(self.alloc)))
     }
 
-    // tells how many rows the group in hand had
+    // reports how many rows the current group had
     fn end_group(&mut self) -> Result<(), AllocError> {
         if self.in_group == 0 {
             return Ok(());

@@ -3,31 +3,32 @@
 use crate::report::Report;
 use crate::text::alive_text;
 use crate::word::parts_of;
+use intmap::Cause;
 use refuser::Refuser;
 use std::alloc::{AllocError, Global};
 
-/// More requests than any call makes.
+/// More allocations than any call makes.
 const MANY: u64 = 1000;
 
-/// What the calls of rows are made on: one of two sets, say, which take each other's place.
+/// What the calls of rows are made on: for example one of two sets, which can be swapped.
 pub trait Subject: Drop {
-    /// Puts new ones in the place of those in hand, and has no request refused.
-    fn renew(&mut self) -> Result<(), AllocError>;
+    /// Puts new ones in the place of the current ones, and lets no allocation fail.
+    fn renew(&mut self) -> Result<(), Cause>;
 
-    /// Writes all that the one which calls are made on shows of itself.
+    /// Writes all that the current one shows of itself.
     fn write_state(&self, out: &mut String) -> Result<(), AllocError>;
 
-    /// Writes the answer to a call. Words that are no call answer so.
+    /// Writes the result of a call. For words that are no call it writes that.
     fn answer_to(&mut self, out: &mut String, call: &str) -> Result<(), AllocError>;
 }
 
-/// Goes through the lines of a file of rows, and tells what is to be told of them.
+/// Goes through the lines of a file of rows, and reports what differs.
 pub fn report<S: Subject>(
     alloc: Global,
     memory: &Refuser<Global>,
     subject: S,
     rows: &str,
-) -> Result<String, AllocError> {
+) -> Result<String, Cause> {
     let alive = alive_text(alloc, memory)?;
     let mut session = Session {
         alloc,
@@ -39,7 +40,7 @@ pub fn report<S: Subject>(
     for line in rows.lines() {
         session.line(line.trim())?;
     }
-    session.report.end()
+    Ok(session.report.end()?)
 }
 
 /// What lasts from line to line.
@@ -48,30 +49,30 @@ struct Session<'a, S: Subject> {
     alloc: Global,
     memory: &'a Refuser<Global>,
     subject: S,
-    // what was alive when the group in hand began
+    // the memory that was allocated when the current group began
     alive: String,
     report: Report,
 }
 
 impl<'a, S: Subject> Session<'a, S> {
-    // does what a line asks
-    fn line(&mut self, line: &str) -> Result<(), AllocError> {
+    // does what a line says
+    fn line(&mut self, line: &str) -> Result<(), Cause> {
         if line.is_empty() || line.starts_with('#') {
             return Ok(());
         }
         if let Some(name) = line.strip_prefix("= ") {
             self.renew()?;
-            return self.report.begin(name);
+            return Ok(self.report.begin(name)?);
         }
         if let Some(count) = line.strip_prefix("rows ") {
             self.renew()?;
-            return self.report.count_is(count.parse::<u64>().ok());
+            return Ok(self.report.count_is(count.parse::<u64>().ok())?);
         }
         self.report.count();
-        self.row(line)
+        Ok(self.row(line)?)
     }
 
-    // makes the call of a row, and compares the answers
+    // makes the call of a row, and compares the results
     fn row(&mut self, line: &str) -> Result<(), AllocError> {
         let (call, wanted) = parts_of(line);
         let mut answer = String::new(self.alloc);
@@ -82,8 +83,8 @@ impl<'a, S: Subject> Session<'a, S> {
         self.report.compare(line, wanted, answer.as_str())
     }
 
-    // begins anew, and tells where more is then alive than before the group
-    fn renew(&mut self) -> Result<(), AllocError> {
+    // begins anew, and reports it if more memory is then allocated than before the group
+    fn renew(&mut self) -> Result<(), Cause> {
         self.subject.renew()?;
         let alive = alive_text(self.alloc, self.memory)?;
         self.report
@@ -92,9 +93,9 @@ impl<'a, S: Subject> Session<'a, S> {
         Ok(())
     }
 
-    // makes a call with its first request refused, then with its second one, until none has so great a
-    // number and the call is accepted; writes how often it was refused, and with which answer, or that
-    // a refusal answered otherwise, or changed the state or what is alive of the memory
+    // makes a call with its first allocation failing, then with its second one, and so on, until
+    // the call has no such allocation and succeeds; writes how often it failed, and with which
+    // result, or that a failure had another result, or changed the state or the memory
     fn answer_to_refused(&mut self, out: &mut String, call: &str) -> Result<(), AllocError> {
         let before = self.held()?;
         let mut refusal = String::new(self.alloc);
@@ -119,7 +120,7 @@ impl<'a, S: Subject> Session<'a, S> {
         write!(out, "{refusal}, again and again")
     }
 
-    // the state of what calls are made on, and what is alive
+    // the state of what calls are made on, and the memory that is allocated
     fn held(&self) -> Result<String, AllocError> {
         let alive = alive_text(self.alloc, self.memory)?;
         let mut text = String::new(self.alloc);
@@ -129,7 +130,7 @@ impl<'a, S: Subject> Session<'a, S> {
     }
 }
 
-// what is said of a call that was accepted at last
+// what is written of a call that succeeded at last
 fn write_accepted(
     out: &mut String,
     answer: &str,

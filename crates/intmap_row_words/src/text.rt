@@ -1,7 +1,7 @@
-//! Answers as text, in the words of the program's lines.
+//! Results as text, in the words of the program's lines.
 //!
-//! Each is written behind what a text holds. The caller owns that text, so nothing has to be let go
-//! where there is no memory for more of it.
+//! Each is written behind what a text holds. The caller owns that text, so nothing has to be
+//! dropped if there is no memory for more of it.
 ghost use Rattle.std.specs.Iterator.{IsFinite};
 
 use crate::maps::MapOf;
@@ -12,10 +12,10 @@ use refuser::Refuser;
 use std::alloc::{AllocError, Global};
 use std::fmt::Display;
 
-/// The answer of a call that answers as a command does.
+/// The result of a call whose result is the answer of a command.
 pub type Told = Answer<u64, u64, u64>;
 
-/// What is answered to words that are no call.
+/// What is written for words that are no call.
 pub fn no_call(out: &mut String) -> Result<(), AllocError> {
     out.push_str("not a call")
 }
@@ -35,7 +35,7 @@ pub fn write_number(out: &mut String, number: u128) -> Result<(), AllocError> {
     print_answer(out, &Told::Number(number))
 }
 
-/// `done`, or that the call was refused.
+/// `done`, or that the call failed.
 pub fn write_done(out: &mut String, called: Result<(), Cause>) -> Result<(), AllocError> {
     match called {
         Ok(()) => print_answer(out, &Told::Done),
@@ -43,7 +43,7 @@ pub fn write_done(out: &mut String, called: Result<(), Cause>) -> Result<(), All
     }
 }
 
-/// That a call was refused, with the value that came back.
+/// That a call failed, with the value that it returned.
 pub fn write_refusal(out: &mut String, cause: Cause, value: Option<u64>) -> Result<(), AllocError> {
     print_answer(out, &Told::Refused { cause, value })
 }
@@ -109,7 +109,7 @@ pub fn state_text(alloc: Global, map: &MapOf<'_, u64>) -> Result<String, AllocEr
     Ok(text)
 }
 
-/// What is alive of a memory, as text.
+/// The allocated memory, as text.
 pub fn alive_text(alloc: Global, memory: &Refuser<Global>) -> Result<String, AllocError> {
     let blocks = memory.live_blocks();
     let bytes = memory.live_bytes();

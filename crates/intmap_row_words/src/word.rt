@@ -2,7 +2,7 @@
 
 use std::alloc::{AllocError, Global};
 
-/// What stands before the arrow of a line, and behind it.
+/// The parts of a line before and behind its arrow.
 pub fn parts_of(line: &str) -> (&str, &str) {
     line.split_once(" -> ").unwrap_or((line, ""))
 }
@@ -12,11 +12,11 @@ pub fn parts_of(line: &str) -> (&str, &str) {
 pub struct Words<'t> {
     /// The first word.
     pub name: &'t str,
-    /// The others.
+    /// The other words.
     pub numbers: Vec<u64>,
 }
 
-/// The words that a text spells; `None` where a word behind the first is no number.
+/// The words that a text spells, or `None` if a word behind the first is no number.
 pub fn words_of(alloc: Global, text: &str) -> Result<Option<Words<'_>>, AllocError> {
     let mut words = text.split_whitespace();
     let name = words.next().unwrap_or("");

@@ -2,6 +2,7 @@
 
 use crate::block::Block;
 use crate::row::compare_row;
+use intmap::Cause;
 use intmap_row_calls::kinds::Kinds;
 use intmap_row_words::maps::Maps;
 use intmap_row_words::report::Report;
@@ -10,7 +11,7 @@ use refuser::Refuser;
 use std::alloc::{AllocError, Global};
 
 /// Goes through the lines of a file of rows, and tells what is to be told of them.
-pub fn report(alloc: Global, memory: &Refuser<Global>, rows: &str) -> Result<String, AllocError> {
+pub fn report(alloc: Global, memory: &Refuser<Global>, rows: &str) -> Result<String, Cause> {
     let maps = Maps::new(memory)?;
     let alive = maps.alive(alloc)?;
     let mut session = Session {
@@ -38,15 +39,15 @@ struct Session<'a, 't> {
 
 impl<'a, 't> Session<'a, 't> {
     // goes through the lines; answers all that is to be told
-    fn all_lines(&mut self, rows: &'t str) -> Result<String, AllocError> {
+    fn all_lines(&mut self, rows: &'t str) -> Result<String, Cause> {
         for line in rows.lines() {
             self.line(line.trim())?;
         }
-        self.end()
+        Ok(self.end()?)
     }
 
     // does what a line asks
-    fn line(&mut self, line: &'t str) -> Result<(), AllocError> {
+    fn line(&mut self, line: &'t str) -> Result<(), Cause> {
         if line.is_empty() || line.starts_with('#') {
             return Ok(());
         }
@@ -55,20 +56,20 @@ impl<'a, 't> Session<'a, 't> {
         }
         if let Some(count) = line.strip_prefix("rows ") {
             self.renew()?;
-            return self.report.count_is(count.parse::<u64>().ok());
+            return Ok(self.report.count_is(count.parse::<u64>().ok())?);
         }
-        self.row_or_block(line)
+        Ok(self.row_or_block(line)?)
     }
 
     // begins a group with new maps
-    fn begin(&mut self, name: &str) -> Result<(), AllocError> {
+    fn begin(&mut self, name: &str) -> Result<(), Cause> {
         self.renew()?;
-        self.report.begin(name)
+        Ok(self.report.begin(name)?)
     }
 
     // puts new maps in the place of those of the group in hand, and tells where more is then alive than
     // before the group
-    fn renew(&mut self) -> Result<(), AllocError> {
+    fn renew(&mut self) -> Result<(), Cause> {
         let memory = self.maps.memory;
         self.maps = Maps::new(memory)?;
         self.kinds = Kinds::new(memory);

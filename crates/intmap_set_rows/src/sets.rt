@@ -24,17 +24,12 @@ pub struct Sets<'a> {
     pub memory: &'a Refuser<Global>,
 }
 
-// a set as `new` makes it
-fn new_set(memory: &Refuser<Global>) -> Result<Set<'_>, AllocError> {
-    IntSet::new(memory).map_err(|_| AllocError)
-}
-
 impl<'a> Sets<'a> {
     /// Two sets as `new` makes them, and no request that will be refused.
-    pub fn new(memory: &'a Refuser<Global>) -> Result<Sets<'a>, AllocError> {
+    pub fn new(memory: &'a Refuser<Global>) -> Result<Sets<'a>, Cause> {
         memory.arm(0);
-        let set = new_set(memory)?;
-        let other = new_set(memory)?;
+        let set = IntSet::new(memory)?;
+        let other = IntSet::new(memory)?;
         Ok(Sets { set, other, memory })
     }
 
@@ -63,10 +58,10 @@ impl<'a> Sets<'a> {
 }
 
 impl<'a> Subject for Sets<'a> {
-    fn renew(&mut self) -> Result<(), AllocError> {
+    fn renew(&mut self) -> Result<(), Cause> {
         self.memory.arm(0);
-        self.set = new_set(self.memory)?;
-        self.other = new_set(self.memory)?;
+        self.set = IntSet::new(self.memory)?;
+        self.other = IntSet::new(self.memory)?;
         Ok(())
     }
 

@@ -8,12 +8,13 @@ mod answer;
 mod vectors;
 
 use crate::vectors::Vectors;
+use anyhow::Result;
 use intmap_row_words::subject;
 use refuser::Refuser;
-use std::{env, fs, io};
+use std::{env, fs};
 
 /// Prints one line a group of rows, and one for each row that doesn't hold or where memory is lost.
-fn main(rt: HostRuntime) -> io::Result<()> {
+fn main(rt: HostRuntime) -> Result<()> {
     let alloc = rt.alloc();
     for file in env::args(&rt)?.skip(1) {
         let rows = fs::read_to_string(&rt, file.as_str())?;

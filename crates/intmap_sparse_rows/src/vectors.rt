@@ -1,6 +1,7 @@
 //! The two vectors that the rows of a group speak of.
 
 use crate::answer::named;
+use intmap::Cause;
 use intmap_row_words::subject::Subject;
 use intmap_sparse::SparseVec;
 use refuser::Refuser;
@@ -21,17 +22,12 @@ pub struct Vectors<'a> {
     pub memory: &'a Refuser<Global>,
 }
 
-// a vector as `new` makes it
-fn new_vector(memory: &Refuser<Global>) -> Result<Vector<'_>, AllocError> {
-    SparseVec::new(memory).map_err(|_| AllocError)
-}
-
 impl<'a> Vectors<'a> {
     /// Two vectors as `new` makes them, and no request that will be refused.
-    pub fn new(memory: &'a Refuser<Global>) -> Result<Vectors<'a>, AllocError> {
+    pub fn new(memory: &'a Refuser<Global>) -> Result<Vectors<'a>, Cause> {
         memory.arm(0);
-        let vector = new_vector(memory)?;
-        let other = new_vector(memory)?;
+        let vector = SparseVec::new(memory)?;
+        let other = SparseVec::new(memory)?;
         Ok(Vectors {
             vector,
             other,
@@ -46,10 +42,10 @@ impl<'a> Vectors<'a> {
 }
 
 impl<'a> Subject for Vectors<'a> {
-    fn renew(&mut self) -> Result<(), AllocError> {
+    fn renew(&mut self) -> Result<(), Cause> {
         self.memory.arm(0);
-        self.vector = new_vector(self.memory)?;
-        self.other = new_vector(self.memory)?;
+        self.vector = SparseVec::new(self.memory)?;
+        self.other = SparseVec::new(self.memory)?;
         Ok(())
     }
 

@@ -1,11 +1,13 @@
 //! Tests of the map of what rows of text can't say: values that own memory or count their drops,
-//! and keys of a type of one's own.
+//! keys of a type of one's own, and the texts of errors.
 #![tactic(auto)]
 
 #[cfg(test)]
 mod counted;
 #[cfg(test)]
 mod drops;
+#[cfg(test)]
+mod errors;
 #[cfg(test)]
 mod keys;
 #[cfg(test)]

@@ -13,6 +13,8 @@ use crate::map::IntMap;
 use crate::refusal::{Cause, Refused};
 use serde_json::{Map, Value};
 use std::alloc::{AllocError, Global};
+use std::error::Error;
+use std::fmt;
 
 /// Why a map could not be written as JSON, or read from it.
 #[derive(Clone, Copy, PartialEq, Eq, Debug)]
@@ -29,6 +31,20 @@ pub enum JsonCause {
     /// A value holds, at any depth, a number that is neither a `u64` nor an `i64`.
     HoldsFloat,
 }
+
+impl fmt::Display for JsonCause {
+    fn fmt<W: fmt::Write>(&self, f: &mut fmt::Formatter<W>) -> fmt::Result {
+        match self {
+            JsonCause::Memory => write!(f, "out of memory"),
+            JsonCause::TooLarge => write!(f, "too large"),
+            JsonCause::NotAnObject => write!(f, "not an object"),
+            JsonCause::BadKey => write!(f, "a key is not a number below 2^64 in decimal"),
+            JsonCause::HoldsFloat => write!(f, "a value holds a float"),
+        }
+    }
+}
+
+impl Error for JsonCause {}
 
 /// The cause of a failed call on a map.
 impl From<Cause> for JsonCause {
