@@ -1,11 +1,10 @@
--- Cells of a sheet as numbers.
+-- Cells of a sheet as numbers. A cell is the pair of its row and its column.
 use Rattle.std.specs.Prelude.{ℕ, ◌+◌, ◌*◌, ◌^◌, ◌<◌}
-use Rattle.intmap_cell.specs.declared.Cell.{Cell}
 
--- row and column are in their range
-abbrev pub IsCell : Cell → Type 0
-IsCell cell = (cell.row < 2 ^ 32) × (cell.column < 2 ^ 32)
+-- the row is in its range, and the sheet has the column
+abbrev pub IsCell : ℕ × ℕ → Type 0
+IsCell cell = (cell.0 < 2 ^ 32) × (cell.1 < 26)
 
--- the row in the upper half, the column in the lower
-abbrev pub cell_number : Cell → ℕ
-cell_number cell = cell.row * 2 ^ 32 + cell.column
+-- the place of the cell if the sheet is read row by row
+abbrev pub cell_number : ℕ × ℕ → ℕ
+cell_number cell = cell.0 * 26 + cell.1

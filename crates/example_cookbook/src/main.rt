@@ -1,0 +1,104 @@
+//! Small tasks with maps and sets: a function for each in a module, and here what it gives.
+//!
+//! Run it by `rt run` in this folder. It reads nothing.
+#![tactic(auto)]
+
+use crate::fixed::FixedMap;
+use anyhow::Result;
+use intmap::IntMap;
+use intmap_cell::Cell;
+use intmap_set::IntSet;
+use refuser::Refuser;
+use std::alloc::Global;
+
+mod fixed;
+mod group;
+mod join;
+mod json;
+mod keep;
+mod sets;
+
+fn main(rt: HostRuntime) -> Result<()> {
+    group_into_lists(&rt)?;
+    join_two_maps(&rt)?;
+    use_cells_as_keys(&rt)?;
+    keep_what_fails(&rt, &Refuser::new(rt.alloc(), 0))?;
+    unite_two_sets(&rt)?;
+    println!(rt; "{}", json::with_member(rt.alloc(), "{\"21\": [1, 2]}", 7)?)?;
+    fill_a_fixed_map(&rt)
+}
+
+/// Prints the orders of each customer.
+fn group_into_lists(rt: &HostRuntime) -> Result<()> {
+    let orders = [(3, 501), (8, 502), (3, 503)];
+    for (customer, orders) in &group::orders_by_customer(rt.alloc(), &orders)? {
+        println!(rt; "customer {customer}: {orders:?}")?;
+    }
+    Ok(())
+}
+
+/// Prints the articles that have a price and a stock.
+fn join_two_maps(rt: &HostRuntime) -> Result<()> {
+    let prices: IntMap<u64, u64> = IntMap::from_array(rt.alloc(), [(1, 250), (2, 40), (5, 999)])?;
+    let stock: IntMap<u64, u64> = IntMap::from_array(rt.alloc(), [(2, 12), (3, 7), (5, 1)])?;
+    for (article, price, count) in &join::price_and_stock(rt.alloc(), &prices, &stock)? {
+        println!(rt; "article {article}: price {price}, {count} in stock")?;
+    }
+    Ok(())
+}
+
+/// Writes into cells of a sheet, and prints the sheet.
+fn use_cells_as_keys(rt: &HostRuntime) -> Result<()> {
+    let mut sheet: IntMap<Cell, u64> = IntMap::new(rt.alloc())?;
+    for (row, column) in [(0, 0), (1, 0), (0, 26)] {
+        match Cell::new(row, column) {
+            Some(cell) => drop(intmap_cell::write(&mut sheet, cell, 5)?),
+            None => println!(rt; "there is no column {column}")?,
+        }
+    }
+    println!(rt; "{sheet:?}")?;
+    Ok(())
+}
+
+/// Inserts two pairs into a map, of which the second needs memory that it doesn't get.
+fn keep_what_fails(rt: &HostRuntime, memory: &Refuser<Global>) -> Result<()> {
+    let mut jobs: IntMap<u64, u64, &Refuser<Global>> = IntMap::new(memory)?;
+    memory.arm(1);
+    for (number, job) in [(4, 40), (8, 80)] {
+        match keep::insert_or_return(&mut jobs, number, job) {
+            Ok(()) => println!(rt; "job {job} was inserted")?,
+            Err(job) => println!(rt; "job {job} was returned")?,
+        }
+    }
+    Ok(())
+}
+
+/// Prints the union of two sets.
+fn unite_two_sets(rt: &HostRuntime) -> Result<()> {
+    let left: IntSet<u64> = IntSet::from_iter(rt.alloc(), [1, 2].iter().copied())?;
+    let right: IntSet<u64> = IntSet::from_iter(rt.alloc(), [2, 3].iter().copied())?;
+    println!(rt; "{:?}", sets::union(rt.alloc(), &left, &right)?)?;
+    Ok(())
+}
+
+/// Inserts into a map of 8 slots until it is full, and then more.
+fn fill_a_fixed_map(rt: &HostRuntime) -> Result<()> {
+    let mut fixed = FixedMap::with_capacity(rt.alloc(), 8)?;
+    for (key, value) in [
+        (0, 9),
+        (1, 8),
+        (2, 7),
+        (3, 6),
+        (4, 5),
+        (5, 4),
+        (6, 3),
+        (7, 2),
+        (0, 1),
+    ] {
+        if let Err(value) = fixed.insert(key, value) {
+            println!(rt; "{value} was returned")?;
+        }
+    }
+    println!(rt; "{} slots", fixed.capacity())?;
+    Ok(())
+}
