@@ -22,7 +22,12 @@ fn main() {
     println!("cargo:rerun-if-env-changed=RATTLE_C_DIR");
     let named = |name: &str| env::var_os(name).map(PathBuf::from);
     let own = Path::new(&env::var_os("CARGO_MANIFEST_DIR").unwrap()).to_path_buf();
-    let map = [named("INTMAP_C_DIR"), Some(own.join("../../crates/intmap_c/out"))];
+    // in the repository, and beside the libraries of a release
+    let map = [
+        named("INTMAP_C_DIR"),
+        Some(own.join("../../crates/intmap_c/out")),
+        Some(own.join("../../intmap_c/out")),
+    ];
     let heap = [named("RATTLE_C_DIR"), named("INTMAP_C_DIR"), kit()];
     let Some(map) = folder_of("libintmap_c.a", &map) else {
         panic!(
