@@ -474,6 +474,7 @@ CALLS = {
     ("collisions_debug", 0): lambda it, refuses: collisions(it, refuses, walk),
     ("collisions_state", 0): lambda it, refuses: collisions(it, refuses, state),
     ("walk", 0): lambda it, _: walk(it),
+    ("first_key_value", 0): lambda it, _: option(next((f"{it.shown(k)}: {v}" for k, v in it.walk()), None)),
     ("debug", 0): lambda it, _: debug(it),
     ("keys", 0): lambda it, _: brackets(it.shown(k) for k, _ in it.walk()),
     ("values", 0): lambda it, _: brackets(v for _, v in it.walk()),

@@ -11,7 +11,7 @@ use crate::iterated::{
     sum_of, taken, written,
 };
 use crate::kept::{insert_entry, insert_vacant_entry, write_into_key};
-use crate::pairs::{index, look_up, remove_by_its_entry, write_pair};
+use crate::pairs::{first_pair, index, look_up, remove_by_its_entry, write_pair};
 use crate::rest::{write_rest_of_keys, write_rest_of_pairs, write_rest_of_values};
 use crate::walks::{
     keys_sum, retain_all, retain_alternate, values_sum, walk_sum, write_keys, write_values,
@@ -111,6 +111,7 @@ fn seen<K: IntKey + Display + Debug>(
         "load_rate" => write_number(out, map.load_rate()),
         "assert_count" => write_bool(out, map.assert_count()),
         "walk" => write_walk(out, map),
+        "first_key_value" => write_pair(out, first_pair(map)),
         "keys" => write_keys(out, map),
         "state" => write_state(out, map),
         "debug" => write!(out, "{map:?}"),

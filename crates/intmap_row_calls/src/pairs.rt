@@ -24,6 +24,12 @@ pub fn look_up<K: IntKey>(map: &MapOf<'_, K>, key: K) -> Option<(K, u64)> {
     Some((*key, *value))
 }
 
+/// The first pair of the walk.
+pub fn first_pair<K: IntKey>(map: &MapOf<'_, K>) -> Option<(K, u64)> {
+    let (key, value) = map.first_key_value()?;
+    Some((*key, *value))
+}
+
 /// The value of the key by an index, which is asked for only where the key is present.
 pub fn index<K: IntKey>(map: &MapOf<'_, K>, key: K) -> Option<u64> {
     if map.contains_key(key) {

@@ -1,8 +1,18 @@
 //! Work by number: a queue whose jobs are removed from the front of the walk.
 ghost use Rattle.std.specs.Prelude.{◌≡◌, [], ◌++◌, IfOk, OnOk, OnErr, length, min};
+ghost use Rattle.std.specs.List.{slice_get};
+ghost use Rattle.std.specs.Option.{option_map};
 
 use intmap::IntMap;
 use std::alloc::{AllocError, Allocator};
+
+/// The number of the job at the front of the queue, if there is one.
+pub fn next_job<V, A: Allocator + Copy>(queue: &IntMap<u64, V, A>) -> Option<u64>
+    ensures { result ≡ option_map (λ job. job.0) (slice_get queue.now.walk 0) }
+{
+    let (number, _) = queue.first_key_value()?;
+    Some(*number)
+}
 
 /// Removes one job after another from the queue, and puts it behind those that are done. No job is
 /// lost: the jobs that are done, followed by those in the queue, are the same as before, in the

@@ -1,5 +1,6 @@
 //! Look-ups.
 ghost use Rattle.std.specs.Prelude.{◌≡◌, ◌+◌, Some, IfSome, is_some, length, option_copied};
+ghost use Rattle.std.specs.List.{slice_get};
 ghost use Rattle.std.specs.Option.{option_map};
 ghost use Rattle.intmap_table.specs.Bindings.{value_of, write_value, IsPresent, Updates};
 ghost use Rattle.intmap_table.specs.Reach.{reach};
@@ -23,6 +24,15 @@ impl<K: IntKey, V, A: Allocator + Copy> IntMap<K, V, A> {
     {
         let mut steps = Steps::new();
         self.get_counted(key, &mut steps)
+    }
+
+    /// The first pair of the walk, or `None` if the map is empty. It never fails.
+    pub fn first_key_value(&self) -> Option<(&K, &V)>
+        ensures value { option_map (λ pair. (pair.0.now, pair.1.now)) result
+            ≡ slice_get self.now.walk 0 }
+        ensures valid { IsMap K.number_of K.is_valid self.now }
+    {
+        self.iter().next()
     }
 
     /// The same as [`get`](IntMap::get), but each comparison of a stored key with the sought one is
