@@ -72,6 +72,7 @@ impl<K: IntKey, V, A: Allocator + Copy> IntMap<K, V, A> {
     ///     Entry::Vacant(entry) => *entry.insert(0)? += 1,
     /// }
     /// ```
+    #[inline]
     pub fn entry(&mut self, key: K) -> Entry<'_, K, V, A>
         ensures same_reference { (entry_reference result).ghost_name ≡ self.entry.ghost_name }
         ensures state { entry_map result ≡ after_search K.number_of self.old key }
@@ -112,6 +113,7 @@ impl<'a, K: IntKey, V, A: Allocator + Copy> Entry<'a, K, V, A> {
     /// ```text
     /// *map.entry(word).or_insert(0)? += 1
     /// ```
+    #[inline]
     pub fn or_insert(self, value: V) -> Result<&'a mut V, Refused<V>>
     where
         V: Drop,

@@ -2,12 +2,13 @@
 ghost use Rattle.std.specs.Prelude.{◌≡◌, ◌+◌, ◌^◌, ◌<◌, [], ◌∷◌, length, position, slice_index_or, nat_lt, IfOk, IfSome, IfNone, option_copied, ◌≤◌, vec_capacity};
 ghost use Rattle.intmap_table.specs.Classes.{same_key};
 ghost use Rattle.intmap_table.specs.Reach.{through_first};
-ghost use Rattle.intmap_table.specs.Tables.Slots.{all_pairs, HasFirst};
+ghost use Rattle.intmap_table.specs.Tables.Slots.{all_pairs};
 ghost use Rattle.std.specs.List.{AllZip};
 ghost use Rattle.intmap_table.specs.Cloning.{IsPairClone};
 
 mod change;
 mod extract;
+mod retain;
 
 use crate::key::IntKey;
 use crate::steps::Steps;
@@ -114,6 +115,7 @@ impl<K: IntKey, X, A: Allocator> Slot<K, X, A> {
     }
 
     /// The stored pair at a place.
+    #[inline]
     fn pair_at(&self, place: usize) -> &(Stored<K>, X)
         requires { place < length self.now.pairs }
         ensures { (p : K × X) → result.now ≡ slice_index_or self.now.pairs place p }
@@ -128,6 +130,7 @@ impl<K: IntKey, X, A: Allocator> Slot<K, X, A> {
     }
 
     /// The stored key of the pair at a place.
+    #[inline]
     pub(crate) fn key_at(&self, place: usize) -> &Stored<K>
         requires { place < length self.now.pairs }
         ensures { (p : K × X) → result.now ≡ (slice_index_or self.now.pairs place p).0 }
@@ -136,6 +139,7 @@ impl<K: IntKey, X, A: Allocator> Slot<K, X, A> {
     }
 
     /// The value of the pair at a place.
+    #[inline]
     pub(crate) fn value_at(&self, place: usize) -> &X
         requires { place < length self.now.pairs }
         ensures { (p : K × X) → result.now ≡ (slice_index_or self.now.pairs place p).1 }
@@ -144,6 +148,7 @@ impl<K: IntKey, X, A: Allocator> Slot<K, X, A> {
     }
 
     /// A mutable reference to the value of the pair at a place.
+    #[inline]
     pub(crate) fn value_mut_at(&mut self, place: usize) -> &mut X
         requires { place < length self.old.pairs }
         ensures* writes_back { sem 𝓛 (slot_lends K.row X.row A.row K.IntKey.own K.PartialEq
@@ -164,26 +169,6 @@ impl<K: IntKey, X, A: Allocator> Slot<K, X, A> {
         ensures { self.now.pairs ≡ all_pairs (option_copied result.0) result.1.now }
     {
         (self.first.as_ref(), self.rest.as_slice())
-    }
-
-    /// The first pair, if there is one, and the rest, by value.
-    pub(crate) fn into_parts(self) -> (Option<(Stored<K>, X)>, Vec<(Stored<K>, X), A>)
-        ensures pairs { self.pairs ≡ all_pairs result.0 result.1.items }
-        ensures first { HasFirst result.0 result.1.items }
-    {
-        let Slot { first, rest } = self;
-        (first, rest)
-    }
-
-    /// The slot of a first pair, if there is one, and the rest.
-    pub(crate) fn from_parts(
-        first: Option<(Stored<K>, X)>,
-        rest: Vec<(Stored<K>, X), A>,
-    ) -> Slot<K, X, A>
-        requires { HasFirst first rest.items }
-        ensures { result.pairs ≡ all_pairs first rest.items }
-    {
-        Slot { first, rest }
     }
 }
 

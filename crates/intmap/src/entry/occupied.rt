@@ -20,6 +20,7 @@ impl<'a, K: IntKey, V, A: Allocator + Copy> OccupiedEntry<'a, K, V, A> {
     }
 
     /// The value of the key.
+    #[inline]
     pub fn get(&self) -> &V
         ensures value { entry_value (Occupied self.now) ≡ Some result.now }
     {
@@ -29,6 +30,7 @@ impl<'a, K: IntKey, V, A: Allocator + Copy> OccupiedEntry<'a, K, V, A> {
 
     /// A mutable reference to the value of the key. It can't outlive the entry; `into_mut` returns
     /// one that lasts as long as the map is borrowed.
+    #[inline]
     pub fn get_mut(&mut self) -> &mut V
         ensures* writes_back { sem 𝓛 (occupied_lends K.row V.row A.row A.Allocator
             self.entry result) }
@@ -48,6 +50,7 @@ impl<'a, K: IntKey, V, A: Allocator + Copy> OccupiedEntry<'a, K, V, A> {
     }
 
     /// A mutable reference to the value of the key, for as long as the map is borrowed.
+    #[inline]
     pub fn into_mut(self) -> &'a mut V
         ensures* writes_back { sem 𝓛 (entry_lends K.row V.row A.row A.Allocator
             (Occupied self.entry) result) }
@@ -66,6 +69,7 @@ impl<'a, K: IntKey, V, A: Allocator + Copy> OccupiedEntry<'a, K, V, A> {
     }
 
     /// Sets the value of the key in its place, and returns the old value.
+    #[inline]
     pub fn insert(&mut self, value: V) -> V
         ensures old { entry_value (Occupied self.old) ≡ Some result }
         ensures written { IsWritten (Occupied self.old) value (Occupied self.new) }
@@ -80,6 +84,7 @@ impl<'a, K: IntKey, V, A: Allocator + Copy> OccupiedEntry<'a, K, V, A> {
 
     /// Removes the pair of the key, as [`IntMap::remove`](crate::IntMap::remove) does, and returns
     /// its value.
+    #[inline]
     pub fn remove(self) -> V
         ensures value { entry_value (Occupied self.entry) ≡ Some result }
         ensures state { self.exit.0.now ≡ without_key K.number_of (entry_map (Occupied self.entry))

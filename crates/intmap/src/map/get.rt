@@ -18,6 +18,7 @@ impl<K: IntKey, V, A: Allocator + Copy> IntMap<K, V, A> {
     ghost use Rattle.intmap.specs.Lending.{map_lends_present};
 
     /// The value of the key, or `None` if the key is absent. It never fails.
+    #[inline]
     pub fn get(&self, key: K) -> Option<&V>
         ensures value { option_copied result ≡ value_of K.number_of self.now.walk key }
         ensures valid { IsMap K.number_of K.is_valid self.now }
@@ -63,6 +64,7 @@ impl<K: IntKey, V, A: Allocator + Copy> IntMap<K, V, A> {
     /// ```text
     /// if let Some(value) = map.get_mut(21) { *value += 1; }
     /// ```
+    #[inline]
     pub fn get_mut(&mut self, key: K) -> Option<&mut V>
         ensures* writes_back { sem 𝓛 (map_lends_present K.row V.row A.row K.IntKey.own K.PartialEq
             A.Allocator self.entry key result) }
@@ -106,6 +108,7 @@ impl<K: IntKey, V, A: Allocator + Copy> IntMap<K, V, A> {
     /// ```text
     /// map.contains_key(21)    true after map.insert(21, 'a')?
     /// ```
+    #[inline]
     pub fn contains_key(&self, key: K) -> bool
         ensures value { result ≡ is_some (value_of K.number_of self.now.walk key) }
         ensures valid { IsMap K.number_of K.is_valid self.now }

@@ -10,6 +10,7 @@ mod extract;
 mod owned;
 mod traits;
 mod writing;
+mod written;
 
 use crate::map::IntMap;
 pub use drain::Drain;
@@ -20,7 +21,8 @@ use intmap_table::table::walk::Pairs;
 pub use owned::{IntoIter, IntoKeys, IntoValues};
 use std::alloc::{Allocator, Global};
 use std::marker::Model;
-pub use writing::{IterMut, ValuesMut};
+pub use writing::ValuesMut;
+pub use written::IterMut;
 
 /// The pairs of a map by reference, made by [`IntMap::iter`](crate::IntMap::iter). Contracts see
 /// it as the list of the pairs that are left.

@@ -28,7 +28,7 @@ use denote.Struct.Tuple.{Tuple, tuple_type, tuple_laws}
 use Rattle.std.specs.declared.cmp.PartialEq as eq
 use Rattle.intmap_table.specs.declared.key.IntKey as key
 use Rattle.intmap_table.specs.declared.kept.Kept.{Kept}
-use Rattle.intmap_table.specs.contracts.kept.Hole as H-type
+use Rattle.intmap_table.specs.contracts.lent.Hole as H-type
 use Rattle.intmap_table.specs.contracts.kept.Kept as K-type
 use Rattle.intmap_table.specs.contracts.stored.Stored as S-type
 use Rattle.intmap_table.proofs.stored.Stored.TheLaws as S-laws

@@ -161,10 +161,11 @@ module _ {K X : Type 0} (number : K → ℕ) (S : List (Held K X)) (marks : List
     count-slot n count = let taken = ap length joined-taken ∙ length-append (joined (take from (rows S))) s.pairs in omega (arith, taken, count)
 
     -- which are no more than there were
-    pub few-slot : length (joined (take (place + 1) (rows (set S place s)))) ≤ length (joined (rows S))
-    few-slot =
+    pub few-slot : (n : ℕ) → n ≡ length (joined (take from (rows S))) → n + length s.pairs ≤ length (joined (rows S))
+    few-slot n count =
         let after = ap length (joined-cut (place + 1) (rows (set S place s))) ∙ length-append (joined (take (place + 1) (rows (set S place s)))) (joined (drop (place + 1) (rows (set S place s)))) in
-        omega (arith, after, fewer)
+        let stay = count-slot n count in
+        omega (arith, after, fewer, stay)
 
     table : IsTable number (set S place s)
     table = IsTable-set_at number S place s old.table below (All-Retains R (λ p. slot_number number p.0 (length S) ≡ place) f h row s.pairs run (old.table.in_place place below))

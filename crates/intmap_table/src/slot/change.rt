@@ -141,6 +141,7 @@ impl<K: IntKey, X, A: Allocator> Slot<K, X, A> {
         requires { 1 < length self.old.pairs }
         ensures pairs { self.old.pairs ≡ result ∷ self.new.pairs }
         ensures left { 0 < length self.new.pairs }
+        ensures room { self.new.room ≡ self.old.room }
     {
         let next = self.rest.remove(0);
         replace_first(&mut self.first, next)

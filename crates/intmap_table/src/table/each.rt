@@ -14,10 +14,8 @@ use crate::bits::Bits;
 use crate::kept::Kept;
 use crate::key::IntKey;
 use crate::slot::Slot;
-use crate::stored::Stored;
 use crate::table::Table;
 use std::alloc::Allocator;
-use std::mem;
 
 impl<K: IntKey, X, A: Allocator> Table<K, X, A> {
     /// Removes the first pair of the walk and returns it. No slot before the place `from` holds a
@@ -43,68 +41,9 @@ impl<K: IntKey, X, A: Allocator> Table<K, X, A> {
     }
 }
 
-/// Whether the closure returns true for a pair.
-#[inline(always)]
-fn keeps_pair<K: IntKey, V, F: FnMut(K, &V) -> bool>(pair: &(Stored<K>, Kept<V>), f: &mut F) -> bool
-    requires { TakesStored F.FnMut f.old pair.now }
-    ensures { KeepsStored F.FnMut f.old pair.now result f.new }
-{
-    f(*pair.0.key(), &pair.1.value)
-}
-
-/// Keeps the pairs for which the closure returns true, in their order, and removes the others.
-fn retain_in<K: IntKey, V: Drop, A: Allocator, F: FnMut(K, &V) -> bool>(
-    pairs: &mut Vec<(Stored<K>, Kept<V>), A>,
-    f: &mut F,
-)
-    requires { TakesEach (KeepsStored F.FnMut) (TakesStored F.FnMut) f.old pairs.old.items }
-    ensures { Retains (KeepsStored F.FnMut) f.old pairs.old.items pairs.new.items f.new }
-{
-    let mut kept = 0;
-    for i in 0..pairs.len() {
-        if keeps_pair(&pairs[i], f) {
-            pairs.swap(kept, i);
-            kept += 1;
-        }
-    }
-    pairs.truncate(kept);
-}
-
-/// A slot of these pairs. The first of them moves to the slot's first place.
-fn slot_with<K: IntKey, X, A: Allocator>(mut pairs: Vec<(Stored<K>, X), A>) -> Slot<K, X, A>
-    ensures { result.pairs ≡ pairs.items }
-{
-    if pairs.is_empty() {
-        return Slot::from_parts(None, pairs);
-    }
-    let first = pairs.remove(0);
-    Slot::from_parts(Some(first), pairs)
-}
-
-/// The slot with the pairs for which the closure returns true, in their order and in the same
-/// memory.
-fn retain_slot<K: IntKey, V: Drop, A: Allocator, F: FnMut(K, &V) -> bool>(
-    slot: Slot<K, Kept<V>, A>,
-    f: &mut F,
-) -> Slot<K, Kept<V>, A>
-    requires { TakesEach (KeepsStored F.FnMut) (TakesStored F.FnMut) f.old slot.pairs }
-    ensures { Retains (KeepsStored F.FnMut) f.old slot.pairs result.pairs f.new }
-{
-    let (first, mut rest) = slot.into_parts();
-    let Some(pair) = first else {
-        return slot_with(rest);
-    };
-    let stays = keeps_pair(&pair, f);
-    retain_in(&mut rest, f);
-    if stays {
-        return Slot::from_parts(Some(pair), rest);
-    }
-    slot_with(rest)
-}
-
 /// Keeps the pairs for which the closure returns true, slot after slot, and returns their number.
 /// The bits mark the slots that hold a pair. A slot that is emptied loses its bit.
-fn retain_slots<K: IntKey, V: Drop, A: Allocator + Copy, F: FnMut(K, &V) -> bool>(
+fn retain_slots<K: IntKey, V: Drop, A: Allocator, F: FnMut(K, &V) -> bool>(
     bits: &mut Bits<A>,
     slots: &mut Vec<Slot<K, Kept<V>, A>, A>,
     f: &mut F,
@@ -119,23 +58,21 @@ fn retain_slots<K: IntKey, V: Drop, A: Allocator + Copy, F: FnMut(K, &V) -> bool
     ensures len { length slots.new.items ≡ length slots.old.items }
     ensures count { result ≡ length (joined (rows slots.new.items)) }
 {
-    let alloc = *slots.allocator();
     let mut count = 0;
     let mut from = 0;
     while let Some(place) = bits.iter_from(from).next() {
-        let slot = mem::replace(&mut slots[place], Slot::new(alloc));
-        let slot = retain_slot(slot, f);
+        let slot = &mut slots[place];
+        slot.retain(f);
         if !slot.is_filled() {
             bits.clear(place);
         }
         count += slot.len();
-        slots[place] = slot;
         from = place + 1;
     }
     count
 }
 
-impl<K: IntKey, V: Drop, A: Allocator + Copy> Table<K, Kept<V>, A> {
+impl<K: IntKey, V: Drop, A: Allocator> Table<K, Kept<V>, A> {
     /// Keeps the pairs for which the closure returns true, in their order, and returns their
     /// number. The closure is called once at each pair, in the order of the walk.
     pub fn retain<F: FnMut(K, &V) -> bool>(&mut self, f: &mut F) -> usize
