@@ -1,0 +1,120 @@
+//! A hash map and a set for integer keys, whose code is proved.
+//!
+//! ```
+//! use intmap_proved::IntMap;
+//!
+//! let mut map = IntMap::new();
+//! assert_eq!(map.insert(21u64, "half the truth"), None);
+//! assert_eq!(map.insert(42, "the truth"), None);
+//! assert_eq!(map.get(42), Some(&"the truth"));
+//! assert_eq!(map.remove(21), Some("half the truth"));
+//! assert_eq!(map.len(), 1);
+//! ```
+//!
+//! The calls are those of std's `HashMap` and `HashSet` where the map has them, and those of Rust's
+//! crate `intmap` 2.0.0; [`original`] has that crate's names. Keys are passed by value. Iteration
+//! order and capacity depend on the calls alone, so they are the same on every run.
+//!
+//! The crate is `no_std` with `alloc`, has no `unsafe` and no dependency, and is for targets that
+//! are 64 bits wide.
+//!
+//! # What is proved
+//!
+//! The code of [`IntMap`] and [`IntSet`] is written in Rattle, Rust with contracts that a prover
+//! checks. A tool erases the contracts, and what is left is the private module `proved` of this
+//! crate. Each call of the map is proved against its contract there: what it returns, which pairs
+//! the map then has and in which order, its capacity, when the call fails, and that a failed call
+//! leaves the map as it was. The README names what a reader trusts beside the proof.
+//!
+//! Not proved, but tested: mutable references to the values one by one, which [`IntMap::iter_mut`],
+//! [`IntMap::values_mut`] and `&mut map` hand out; what mends a map after a panic; and this crate's
+//! calls over the proved ones, a line or two each.
+//!
+//! # Failed allocations
+//!
+//! A call that may allocate has two forms. [`insert`](IntMap::insert) does what std's collections
+//! do: if an allocation fails, it calls `handle_alloc_error`, which ends the process, and if the
+//! map would need more than 2^63 slots, it panics. The message of the former names the size of one
+//! word, whatever was requested. [`try_insert`](IntMap::try_insert) returns the failure and hands
+//! the value back, and the map is as it was. All other calls allocate nothing: lookups, removals,
+//! `retain`, `clear`, and all iterators.
+//!
+//! ```
+//! use intmap_proved::{Cause, IntMap};
+//!
+//! fn count(map: &mut IntMap<u64, u32>, key: u64) -> Result<(), Cause> {
+//!     let count = map.entry(key).try_or_insert(0)?;
+//!     *count = count.saturating_add(1);
+//!     Ok(())
+//! }
+//! # count(&mut IntMap::new(), 21).unwrap();
+//! ```
+//!
+//! # Panics
+//!
+//! A closure, a `drop`, a `clone`, an iterator or a key's `number` may panic in the middle of a
+//! call. The map is then whole: each of its pairs is found, walked and counted once, and no value
+//! is dropped twice. What the call did before stays done, and the pairs that it had in hand are
+//! dropped.
+//!
+//! One case is left. If a key's `number` panics while an entry inserts, pairs may be lost and the
+//! length may be wrong, but no value is dropped twice. Such a map should be dropped. [`IntKey`]
+//! says what a type of keys owes.
+//!
+//! # Threads
+//!
+//! A map is `Send` and `Sync` if its keys and values are.
+//!
+//! ```
+//! use intmap_proved::IntMap;
+//! use std::thread;
+//!
+//! let map = IntMap::from([(1u64, 'a'), (2, 'b')]);
+//! thread::scope(|scope| {
+//!     scope.spawn(|| assert_eq!(map.get(1), Some(&'a')));
+//!     scope.spawn(|| assert_eq!(map.get(2), Some(&'b')));
+//! });
+//! ```
+//!
+//! ```compile_fail,E0277
+//! fn sends<T: Send>() {}
+//! sends::<intmap_proved::IntMap<u64, std::rc::Rc<u8>>>();
+//! ```
+//!
+//! ```compile_fail,E0277
+//! fn shares<T: Sync>() {}
+//! shares::<intmap_proved::IntMap<u64, std::cell::Cell<u8>>>();
+//! ```
+#![no_std]
+#![forbid(unsafe_code)]
+#![warn(missing_docs)]
+
+#[cfg(not(target_pointer_width = "64"))]
+compile_error!("intmap_proved is for targets that are 64 bits wide");
+
+extern crate alloc;
+
+mod entry;
+mod guard;
+pub mod iter;
+mod key;
+mod map;
+mod memory;
+pub mod original;
+#[rustfmt::skip]
+mod proved;
+mod refusal;
+pub mod set;
+mod traits;
+
+pub use entry::{Entry, OccupiedEntry, VacantEntry};
+pub use key::IntKey;
+pub use map::IntMap;
+pub use refusal::{Cause, Refused, RefusedPair};
+#[doc(inline)]
+pub use set::IntSet;
+
+/// The examples of the README, as tests.
+#[cfg(doctest)]
+#[doc = include_str!("../README.md")]
+struct Readme;

@@ -1,0 +1,244 @@
+//! The map, and its calls on one key.
+use crate::IntKey;
+use crate::memory::alloc::Global;
+use crate::proved::map::IntMap as Proved;
+use crate::refusal::{Cause, granted};
+
+mod insert;
+mod many;
+mod size;
+mod walk;
+
+/// A hash map from integer keys to values.
+///
+/// The pairs lie in slots, whose number, the capacity, is a power of two. The key alone decides the
+/// slot: two keys share one exactly if their numbers are equal modulo the capacity. Iteration goes
+/// through the slots in turn, and through each from front to back. So order and capacity depend on
+/// the calls alone: there is no random seed, and the same calls give the same order on every run.
+/// No call makes the capacity smaller.
+///
+/// # Cost
+///
+/// In what the calls say of their cost, *n* is the number of pairs, *c* the capacity, and *s* the
+/// number of pairs in the slot of the key. With the load factor of a new map, *s* is at most 2 for
+/// keys that count up, and small for random ones. Keys whose low bits are equal share a slot, and
+/// then *s* is large: see [`IntKey`]. Of the slots that have no pair, walks read one bit each, 64
+/// at a time.
+///
+/// # Examples
+///
+/// A new map has 4 slots, so the keys 0, 4 and 8 share one:
+///
+/// ```
+/// use intmap_proved::IntMap;
+///
+/// let mut map = IntMap::new();
+/// map.insert(0u64, 'a');
+/// map.insert(4, 'b');
+/// map.insert(8, 'c');
+/// assert_eq!(format!("{map:?}"), "{0: 'a', 4: 'b', 8: 'c'}");
+/// map.remove(0);
+/// assert_eq!(format!("{map:?}"), "{8: 'c', 4: 'b'}");
+/// ```
+pub struct IntMap<K: IntKey, V> {
+    pub(crate) map: Proved<K, V>,
+}
+
+impl<K: IntKey, V> IntMap<K, V> {
+    /// Returns an empty map of 4 slots, with a load factor of 0.909.
+    ///
+    /// Unlike std's, it allocates, so [`Default`] and `mem::take` do too. A failed allocation is
+    /// handled as std does; [`try_new`](IntMap::try_new) returns it. The cost is *O*(1).
+    ///
+    /// # Examples
+    ///
+    /// ```
+    /// use intmap_proved::IntMap;
+    ///
+    /// let map: IntMap<u64, &str> = IntMap::new();
+    /// assert_eq!((map.len(), map.capacity()), (0, 4));
+    /// ```
+    #[must_use]
+    pub fn new() -> IntMap<K, V> {
+        granted(IntMap::try_new())
+    }
+
+    /// The same as [`new`](IntMap::new), but it returns a failure.
+    ///
+    /// # Errors
+    ///
+    /// [`Cause::Memory`] if an allocation fails.
+    ///
+    /// # Examples
+    ///
+    /// ```
+    /// use intmap_proved::{Cause, IntMap};
+    ///
+    /// let map: IntMap<u64, &str> = IntMap::try_new()?;
+    /// assert!(map.is_empty());
+    /// # Ok::<(), Cause>(())
+    /// ```
+    pub fn try_new() -> Result<IntMap<K, V>, Cause> {
+        Ok(IntMap { map: Proved::new(Global)? })
+    }
+
+    /// Returns an empty map. Its capacity is the least power of two that is at least `capacity`,
+    /// and at least 2.
+    ///
+    /// The load factor isn't considered, so the insertion of `capacity` pairs may still double the
+    /// slots.
+    ///
+    /// A failed allocation is handled as std does; [`try_with_capacity`](IntMap::try_with_capacity)
+    /// returns it. The cost is *O*(*c*).
+    ///
+    /// # Panics
+    ///
+    /// If `capacity` is above 2^63.
+    ///
+    /// # Examples
+    ///
+    /// ```
+    /// use intmap_proved::IntMap;
+    ///
+    /// let map: IntMap<u64, &str> = IntMap::with_capacity(20);
+    /// assert_eq!(map.capacity(), 32);
+    /// ```
+    #[must_use]
+    pub fn with_capacity(capacity: usize) -> IntMap<K, V> {
+        granted(IntMap::try_with_capacity(capacity))
+    }
+
+    /// The same as [`with_capacity`](IntMap::with_capacity), but it returns a failure.
+    ///
+    /// # Errors
+    ///
+    /// [`Cause::TooLarge`] if `capacity` is above 2^63, and otherwise [`Cause::Memory`] if an
+    /// allocation fails.
+    ///
+    /// # Examples
+    ///
+    /// ```
+    /// use intmap_proved::{Cause, IntMap};
+    ///
+    /// let cause = |capacity| IntMap::<u64, u8>::try_with_capacity(capacity).err();
+    /// assert_eq!(cause(1 << 63), Some(Cause::Memory));
+    /// assert_eq!(cause((1 << 63) + 1), Some(Cause::TooLarge));
+    /// ```
+    pub fn try_with_capacity(capacity: usize) -> Result<IntMap<K, V>, Cause> {
+        Ok(IntMap { map: Proved::with_capacity(Global, capacity)? })
+    }
+
+    /// Returns a reference to the value of the key, or `None` if the key is absent. The cost is
+    /// *O*(*s*).
+    ///
+    /// # Examples
+    ///
+    /// ```
+    /// use intmap_proved::IntMap;
+    ///
+    /// let map = IntMap::from([(21u64, 'a')]);
+    /// assert_eq!((map.get(21), map.get(22)), (Some(&'a'), None));
+    /// ```
+    #[inline]
+    pub fn get(&self, key: K) -> Option<&V> {
+        self.map.get(key)
+    }
+
+    /// Returns a mutable reference to the value of the key, or `None` if the key is absent. The
+    /// cost is *O*(*s*).
+    ///
+    /// # Examples
+    ///
+    /// ```
+    /// use intmap_proved::IntMap;
+    ///
+    /// let mut map = IntMap::from([(21u64, 1)]);
+    /// if let Some(value) = map.get_mut(21) {
+    ///     *value += 1;
+    /// }
+    /// assert_eq!(map[21], 2);
+    /// ```
+    #[inline]
+    pub fn get_mut(&mut self, key: K) -> Option<&mut V> {
+        self.map.get_mut(key)
+    }
+
+    /// Returns references to the key in the map and to its value, or `None` if the key is absent.
+    /// The cost is *O*(*s*).
+    ///
+    /// # Examples
+    ///
+    /// ```
+    /// use intmap_proved::IntMap;
+    ///
+    /// let map = IntMap::from([(21u64, 'a')]);
+    /// assert_eq!(map.get_key_value(21), Some((&21, &'a')));
+    /// ```
+    #[inline]
+    pub fn get_key_value(&self, key: K) -> Option<(&K, &V)> {
+        self.map.get_key_value(key)
+    }
+
+    /// Returns references to the key and the value of the pair that iteration visits first, or
+    /// `None` if the map is empty. The cost is *O*(1 + *c*/64).
+    ///
+    /// # Examples
+    ///
+    /// ```
+    /// use intmap_proved::IntMap;
+    ///
+    /// let map = IntMap::from([(4u64, 'b'), (0, 'a')]);
+    /// assert_eq!(map.first_key_value(), map.iter().next());
+    /// ```
+    pub fn first_key_value(&self) -> Option<(&K, &V)> {
+        self.map.first_key_value()
+    }
+
+    /// Returns whether the key is present. The cost is *O*(*s*).
+    ///
+    /// # Examples
+    ///
+    /// ```
+    /// use intmap_proved::IntMap;
+    ///
+    /// let map = IntMap::from([(21u64, 'a')]);
+    /// assert!(map.contains_key(21) && !map.contains_key(22));
+    /// ```
+    #[inline]
+    pub fn contains_key(&self, key: K) -> bool {
+        self.map.contains_key(key)
+    }
+
+    /// Removes the pair of the key, and returns its value, or `None` if the key is absent.
+    ///
+    /// The last pair of the slot takes its place. The capacity stays. The cost is *O*(*s*).
+    ///
+    /// # Examples
+    ///
+    /// ```
+    /// use intmap_proved::IntMap;
+    ///
+    /// let mut map = IntMap::from([(21u64, 'a')]);
+    /// assert_eq!(map.remove(21), Some('a'));
+    /// assert_eq!(map.remove(21), None);
+    /// ```
+    #[inline]
+    pub fn remove(&mut self, key: K) -> Option<V> {
+        self.map.remove(key)
+    }
+
+    /// The same as [`remove`](IntMap::remove), but it returns the key beside its value.
+    ///
+    /// # Examples
+    ///
+    /// ```
+    /// use intmap_proved::IntMap;
+    ///
+    /// let mut map = IntMap::from([(21u64, 'a')]);
+    /// assert_eq!(map.remove_entry(21), Some((21, 'a')));
+    /// ```
+    #[inline]
+    pub fn remove_entry(&mut self, key: K) -> Option<(K, V)> {
+        self.map.remove_entry(key)
+    }
+}

@@ -1,0 +1,272 @@
+//! The sizes of a map, and the calls that make it larger.
+use super::IntMap;
+use crate::IntKey;
+use crate::guard::Mending;
+use crate::refusal::{Cause, granted};
+use core::mem;
+
+impl<K: IntKey, V> IntMap<K, V> {
+    /// Returns the number of pairs. The cost is *O*(1).
+    ///
+    /// # Examples
+    ///
+    /// ```
+    /// use intmap_proved::IntMap;
+    ///
+    /// assert_eq!(IntMap::from([(21u64, 'a')]).len(), 1);
+    /// ```
+    #[inline]
+    pub fn len(&self) -> usize {
+        self.map.len()
+    }
+
+    /// Returns whether there is no pair. The cost is *O*(1).
+    ///
+    /// # Examples
+    ///
+    /// ```
+    /// use intmap_proved::IntMap;
+    ///
+    /// assert!(IntMap::<u64, char>::new().is_empty());
+    /// ```
+    #[inline]
+    pub fn is_empty(&self) -> bool {
+        self.map.is_empty()
+    }
+
+    /// Returns the number of slots, a power of two. The cost is *O*(1).
+    ///
+    /// Unlike std's, it isn't the number of pairs for which there is room: it says which keys share
+    /// a slot.
+    ///
+    /// # Examples
+    ///
+    /// ```
+    /// use intmap_proved::IntMap;
+    ///
+    /// let mut map = IntMap::new();
+    /// map.extend((0u64..4).map(|key| (key, 'a')));
+    /// assert_eq!(map.capacity(), 8);
+    /// ```
+    #[inline]
+    pub fn capacity(&self) -> usize {
+        self.map.capacity()
+    }
+
+    /// Makes the capacity at least the number of pairs plus `additional`. A greater capacity stays.
+    ///
+    /// The load factor isn't considered, so later insertions may still double the slots. A failed
+    /// allocation is handled as std does; [`try_reserve`](IntMap::try_reserve) returns it. The cost
+    /// is *O*(*n* + *c*), or *O*(1) if the capacity stays.
+    ///
+    /// # Panics
+    ///
+    /// If the number of pairs plus `additional` is above 2^63.
+    ///
+    /// # Examples
+    ///
+    /// ```
+    /// use intmap_proved::IntMap;
+    ///
+    /// let mut map = IntMap::from([(21u64, 'a')]);
+    /// map.reserve(4);
+    /// assert_eq!(map.capacity(), 8);
+    /// ```
+    pub fn reserve(&mut self, additional: usize) {
+        granted(self.try_reserve(additional))
+    }
+
+    /// The same as [`reserve`](IntMap::reserve), but it returns a failure.
+    ///
+    /// # Errors
+    ///
+    /// [`Cause::TooLarge`] if the number of pairs plus `additional` is above 2^63, and otherwise
+    /// [`Cause::Memory`] if an allocation fails. The map stays as it was.
+    ///
+    /// # Examples
+    ///
+    /// ```
+    /// use intmap_proved::{Cause, IntMap};
+    ///
+    /// let mut map = IntMap::from([(21u64, 'a')]);
+    /// assert_eq!(map.try_reserve(1 << 63), Err(Cause::TooLarge));
+    /// assert_eq!(map.try_reserve(1 << 62), Err(Cause::Memory));
+    /// assert_eq!(map.capacity(), 2);
+    /// ```
+    pub fn try_reserve(&mut self, additional: usize) -> Result<(), Cause> {
+        let guard = Mending(&mut self.map);
+        let result = guard.0.reserve(additional);
+        mem::forget(guard);
+        result
+    }
+
+    /// Returns the load factor: how many pairs a slot may have on average before the slots are
+    /// doubled. It is 0.909 at first. The cost is *O*(1).
+    ///
+    /// # Examples
+    ///
+    /// ```
+    /// use intmap_proved::IntMap;
+    ///
+    /// assert_eq!(IntMap::<u64, char>::new().get_load_factor(), 0.909);
+    /// ```
+    pub fn get_load_factor(&self) -> f32 {
+        self.load_factor_thousandths() as f32 / 1000.
+    }
+
+    /// Returns the load factor in thousandths, as the map has it. The cost is *O*(1).
+    ///
+    /// # Examples
+    ///
+    /// ```
+    /// use intmap_proved::IntMap;
+    ///
+    /// assert_eq!(IntMap::<u64, char>::new().load_factor_thousandths(), 909);
+    /// ```
+    pub fn load_factor_thousandths(&self) -> usize {
+        self.map.get_load_factor()
+    }
+
+    /// Sets the load factor, cut to thousandths, and doubles the slots until the pairs meet it. A
+    /// negative number or a `NaN` is 0.
+    ///
+    /// A failed allocation is handled as std does;
+    /// [`try_set_load_factor`](IntMap::try_set_load_factor) returns it. The cost is *O*(*n* + *c*),
+    /// or *O*(1) if the capacity stays.
+    ///
+    /// # Panics
+    ///
+    /// If the pairs don't meet it in 2^63 slots.
+    ///
+    /// # Examples
+    ///
+    /// ```
+    /// use intmap_proved::IntMap;
+    ///
+    /// let mut map = IntMap::from([(21u64, 'a'), (22, 'b')]);
+    /// map.set_load_factor(0.25);
+    /// assert_eq!((map.get_load_factor(), map.capacity()), (0.25, 8));
+    /// ```
+    pub fn set_load_factor(&mut self, load_factor: f32) {
+        granted(self.try_set_load_factor(load_factor))
+    }
+
+    /// The same as [`set_load_factor`](IntMap::set_load_factor), but it returns a failure.
+    ///
+    /// # Errors
+    ///
+    /// [`Cause::TooLarge`] if the pairs don't meet it in 2^63 slots, and otherwise
+    /// [`Cause::Memory`] if an allocation fails. The map stays as it was, with its load factor.
+    ///
+    /// # Examples
+    ///
+    /// ```
+    /// use intmap_proved::IntMap;
+    ///
+    /// let mut map = IntMap::from([(21u64, 'a')]);
+    /// assert_eq!(map.try_set_load_factor(2.5), Ok(()));
+    /// assert_eq!(map.load_factor_thousandths(), 2500);
+    /// ```
+    pub fn try_set_load_factor(&mut self, load_factor: f32) -> Result<(), Cause> {
+        self.try_set_load_factor_thousandths((load_factor * 1000.) as usize)
+    }
+
+    /// The same as [`try_set_load_factor`](IntMap::try_set_load_factor), in whole thousandths.
+    ///
+    /// # Errors
+    ///
+    /// As for [`try_set_load_factor`](IntMap::try_set_load_factor).
+    ///
+    /// # Examples
+    ///
+    /// ```
+    /// use intmap_proved::IntMap;
+    ///
+    /// let mut map = IntMap::from([(0u64, 'a'), (1, 'b'), (2, 'c')]);
+    /// assert_eq!(map.try_set_load_factor_thousandths(100), Ok(()));
+    /// assert_eq!(map.capacity(), 32);
+    /// ```
+    pub fn try_set_load_factor_thousandths(&mut self, thousandths: usize) -> Result<(), Cause> {
+        let guard = Mending(&mut self.map);
+        let result = guard.0.set_load_factor(thousandths);
+        mem::forget(guard);
+        result
+    }
+
+    /// Returns the number of slots that have a pair. The cost is *O*(*c*), by 64 slots at a time.
+    ///
+    /// # Examples
+    ///
+    /// ```
+    /// use intmap_proved::IntMap;
+    ///
+    /// assert_eq!(IntMap::from([(0u64, 'a'), (4, 'b')]).load(), 1);
+    /// ```
+    pub fn load(&self) -> u64 {
+        self.map.load()
+    }
+
+    /// Returns how many pairs a slot has on average, in percent. The cost is *O*(1).
+    ///
+    /// # Examples
+    ///
+    /// ```
+    /// use intmap_proved::IntMap;
+    ///
+    /// assert_eq!(IntMap::from([(0u64, 'a'), (4, 'b'), (8, 'c')]).load_rate(), 75.);
+    /// ```
+    pub fn load_rate(&self) -> f64 {
+        self.len() as f64 / self.capacity() as f64 * 100.
+    }
+
+    /// Counts the pairs, and returns whether their number is [`len`](IntMap::len). It always is.
+    /// The cost is *O*(*n* + *c*).
+    ///
+    /// # Examples
+    ///
+    /// ```
+    /// use intmap_proved::IntMap;
+    ///
+    /// assert!(IntMap::from([(21u64, 'a')]).assert_count());
+    /// ```
+    pub fn assert_count(&self) -> bool {
+        self.map.assert_count()
+    }
+
+    /// Returns a map from each number of pairs above 1 that a slot has, to the number of slots that
+    /// have exactly that many.
+    ///
+    /// A failed allocation is handled as std does; [`try_collisions`](IntMap::try_collisions)
+    /// returns it. The cost is *O*(*c*).
+    ///
+    /// # Examples
+    ///
+    /// ```
+    /// use intmap_proved::IntMap;
+    ///
+    /// let map = IntMap::from([(0u64, 'a'), (4, 'b'), (1, 'c')]);
+    /// assert_eq!(format!("{:?}", map.collisions()), "{2: 1}");
+    /// ```
+    #[must_use]
+    pub fn collisions(&self) -> IntMap<u64, u64> {
+        granted(self.try_collisions())
+    }
+
+    /// The same as [`collisions`](IntMap::collisions), but it returns a failure.
+    ///
+    /// # Errors
+    ///
+    /// [`Cause::Memory`] if an allocation fails.
+    ///
+    /// # Examples
+    ///
+    /// ```
+    /// use intmap_proved::{Cause, IntMap};
+    ///
+    /// assert!(IntMap::from([(0u64, 'a'), (1, 'b')]).try_collisions()?.is_empty());
+    /// # Ok::<(), Cause>(())
+    /// ```
+    pub fn try_collisions(&self) -> Result<IntMap<u64, u64>, Cause> {
+        Ok(IntMap { map: self.map.collisions()? })
+    }
+}

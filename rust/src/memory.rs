@@ -1,0 +1,75 @@
+//! What the proved code takes from Rattle's std and Rust's doesn't have: allocations that may fail.
+//!
+//! Rust's `Vec` and `Clone` end the process if an allocation fails. Rattle's return an error. These
+//! stand in for them, over Rust's own.
+
+mod vec;
+
+pub use vec::Vec;
+
+/// `vec![in alloc; item; count]`, which returns a `Result`.
+macro_rules! filled {
+    (in $alloc:expr; $item:expr; $count:expr) => {
+        $crate::memory::Vec::filled($alloc, $item, $count)
+    };
+}
+
+pub(crate) use filled;
+
+/// Allocators, and failed allocations.
+pub mod alloc {
+    /// An allocation failed.
+    #[derive(Clone, Copy, PartialEq, Eq, Debug)]
+    pub struct AllocError;
+
+    /// The handle of an allocator. There is one, since stable Rust names no other.
+    pub trait Allocator {}
+
+    /// The handle of Rust's global allocator.
+    #[derive(Clone, Copy, Default, Debug)]
+    pub struct Global;
+
+    impl Allocator for Global {}
+}
+
+/// Clones that may fail.
+pub mod clone {
+    use crate::memory::alloc::AllocError;
+
+    /// A type whose values can be cloned.
+    pub trait Clone: Sized {
+        /// A second value, or an error if an allocation failed.
+        fn clone(&self) -> Result<Self, AllocError>;
+    }
+
+    /// Rust's `Clone` never fails: it ends the process instead.
+    impl<T: core::clone::Clone> Clone for T {
+        #[inline]
+        fn clone(&self) -> Result<T, AllocError> {
+            Ok(core::clone::Clone::clone(self))
+        }
+    }
+}
+
+/// Defaults.
+pub mod default {
+    /// A type with a default value over an allocator.
+    pub trait MadeWith<A> {
+        /// The default value.
+        fn made_with(alloc: A) -> Self;
+    }
+
+    impl<T: Default, A> MadeWith<A> for T {
+        #[inline]
+        fn made_with(_: A) -> T {
+            T::default()
+        }
+    }
+}
+
+/// What each file of the proved code names without a path.
+pub mod prelude {
+    pub use super::Vec;
+    pub use super::clone::Clone;
+    pub(crate) use super::filled as vec;
+}

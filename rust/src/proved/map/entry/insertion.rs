@@ -1,0 +1,44 @@
+//! Insertions that return the entry of the key, which is then present.
+
+use crate::memory::prelude::*;
+use crate::proved::map::entry::{Entry, OccupiedEntry, VacantEntry};
+use crate::proved::map::refusal::Refused;
+use crate::proved::table::IntKey;
+use crate::memory::alloc::Allocator;
+
+impl<'a, K: IntKey, V, A: Allocator + Copy> VacantEntry<'a, K, V, A> {
+    /// Inserts the pair of the key and the value as [`insert`](VacantEntry::insert) does, and
+    /// returns the entry of the key, which is then present. It fails as that does.
+    pub fn insert_entry(self, value: V) -> Result<OccupiedEntry<'a, K, V, A>, Refused<V>> {
+        let VacantEntry { map, key } = self;
+        // tells the proof that the key satisfies `is_valid`
+        let _number = key.number();
+        if let Err(refused) = map.add(key, value) {
+            return Err(refused);
+        }
+        let at = map.locate_last(key);
+        Ok(OccupiedEntry {
+            map,
+            slot: at.slot,
+            place: at.place,
+        })
+    }
+}
+
+impl<'a, K: IntKey, V, A: Allocator + Copy> Entry<'a, K, V, A> {
+    /// Sets the value of the key, and returns its entry. If the key is present, its value is
+    /// replaced in place, the old value is dropped, and the call never fails. If the key is absent,
+    /// the pair is inserted, and this fails as [`VacantEntry::insert`] does.
+    pub fn insert_entry(self, value: V) -> Result<OccupiedEntry<'a, K, V, A>, Refused<V>> {
+        match self {
+            Entry::Occupied(entry) => {
+                // taken apart before the write, so that the proof follows the map into the result
+                let OccupiedEntry { map, slot, place } = entry;
+                let at = map.location(slot, place);
+                *map.value_mut_at(at) = value;
+                Ok(OccupiedEntry { map, slot, place })
+            }
+            Entry::Vacant(entry) => entry.insert_entry(value),
+        }
+    }
+}

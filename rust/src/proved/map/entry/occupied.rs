@@ -1,0 +1,83 @@
+//! Entries of present keys.
+
+use crate::memory::prelude::*;
+use crate::proved::map::entry::OccupiedEntry;
+use crate::proved::map::map::IntMap;
+use crate::proved::table::IntKey;
+use crate::memory::alloc::Allocator;
+use core::mem;
+
+impl<'a, K: IntKey, V, A: Allocator + Copy> OccupiedEntry<'a, K, V, A> {
+    /// The key.
+    pub fn key(&self) -> &K {
+        self.map.key_at(self.slot, self.place)
+    }
+
+    /// The value of the key.
+    #[inline]
+    pub fn get(&self) -> &V {
+        let at = self.map.location(self.slot, self.place);
+        self.map.value_at(at)
+    }
+
+    /// A mutable reference to the value of the key. It can't outlive the entry; `into_mut` returns
+    /// one that lasts as long as the map is borrowed.
+    #[inline]
+    pub fn get_mut(&mut self) -> &mut V {
+        let slot = self.slot;
+        let place = self.place;
+        let at = self.map.location(slot, place);
+        self.map.value_mut_at(at)
+    }
+
+    /// A mutable reference to the value of the key, for as long as the map is borrowed.
+    #[inline]
+    pub fn into_mut(self) -> &'a mut V {
+        let OccupiedEntry { map, slot, place } = self;
+        let at = map.location(slot, place);
+        map.value_mut_at(at)
+    }
+
+    /// Sets the value of the key in its place, and returns the old value.
+    #[inline]
+    pub fn insert(&mut self, value: V) -> V {
+        mem::replace(self.get_mut(), value)
+    }
+
+    /// Removes the pair of the key, as [`IntMap::remove`](crate::proved::map::IntMap::remove) does, and returns
+    /// its value.
+    #[inline]
+    pub fn remove(self) -> V {
+        self.remove_entry().1
+    }
+
+    /// Removes the pair of the key and returns it. It does what [`remove`](OccupiedEntry::remove)
+    /// does, and returns the key beside the value.
+    pub fn remove_entry(self) -> (K, V) {
+        let slot = self.slot;
+        let place = self.place;
+        let at = self.map.location(slot, place);
+        (at.key, self.map.take_at(at))
+    }
+
+    /// Ends the entry, and leaves the map as the calls on the entry left it. It removes no pair and
+    /// compares no key.
+    pub fn leave(self) {
+        let OccupiedEntry {
+            map: _,
+            slot: _,
+            place: _,
+        } = self;
+    }
+
+    /// The map, as the calls on the entry left it, for as long as the map was borrowed. It removes
+    /// no pair and compares no key.
+    pub fn into_map(self) -> &'a mut IntMap<K, V, A> {
+        let OccupiedEntry {
+            map,
+            slot: _,
+            place: _,
+        } = self;
+        map
+    }
+}

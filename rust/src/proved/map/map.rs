@@ -1,0 +1,116 @@
+//! The map: a table of slots, the number of its pairs and its load factor. This file has its
+//! figures, and the calls on a located pair, whose key was found before. These compare no key.
+
+mod build;
+mod figures;
+mod get;
+mod grow;
+mod insert;
+pub mod iter;
+mod remove;
+mod traits;
+
+use crate::memory::prelude::*;
+use crate::proved::table::IntKey;
+use crate::proved::table::kept::Kept;
+use crate::proved::table::steps::Steps;
+use crate::proved::table::table::Table;
+use crate::proved::table::table::locate::Location;
+use crate::memory::alloc::{Allocator, Global};
+
+/// A hash map from integer keys to values.
+///
+/// Its pairs lie in slots, whose number is a power of two. A key's slot is its number times an odd
+/// constant, modulo the number of slots: two keys share a slot exactly if their numbers are equal
+/// modulo the number of slots. Iteration goes through the slots in turn, and through each from
+/// front to back. The list of the pairs in this order is the walk. It depends on the calls alone:
+/// there is no random seed. No call makes the number of slots smaller.
+///
+/// Contracts see a map as a [`MapState`](../specs/Map.antt): its walk, its number of slots, its
+/// load factor in thousandths, and two counts. One counts the pairs that insertions put into larger
+/// tables, the other the keys that calls by `&mut` compared. Only contracts see the counts: they
+/// take no memory.
+pub struct IntMap<K: IntKey, V, A: Allocator + Copy = Global> {
+    table: Table<K, Kept<V>, A>,
+    len: usize,
+    threshold: usize,
+    factor: usize,
+    placed: Steps,
+    compared: Steps,
+}
+
+impl<K: IntKey, V, A: Allocator + Copy> IntMap<K, V, A> {
+    /// The number of pairs. It never fails.
+    pub fn len(&self) -> usize {
+        self.len
+    }
+
+    /// Whether there is no pair. It never fails.
+    pub fn is_empty(&self) -> bool {
+        self.len == 0
+    }
+
+    /// The number of slots, a power of two from 2 to 2^63. It never fails.
+    pub fn capacity(&self) -> usize {
+        self.table.capacity()
+    }
+
+    /// Does nothing. Its contract says what holds of every map.
+    #[inline(always)]
+    pub(in crate::proved::map) fn known(&self) {
+        let _ = &self.table;
+    }
+}
+
+impl<K: IntKey, V, A: Allocator + Copy> IntMap<K, V, A> {
+    /// Where the pair of the key is, if the key is present. The map counts the comparisons.
+    #[inline(always)]
+    pub(in crate::proved::map) fn locate(&mut self, key: K) -> Option<Location<K>> {
+        self.table.locate(key, &mut self.compared)
+    }
+
+    /// Where the pair of a key is that is the last of its slot.
+    pub(in crate::proved::map) fn locate_last(&self, key: K) -> Location<K> {
+        self.table.locate_last(key)
+    }
+
+    /// The key of the pair at a place of a slot.
+    pub(in crate::proved::map) fn key_at(&self, slot: usize, place: usize) -> &K {
+        self.table.key_at(slot, place)
+    }
+
+    /// Where the pair at a place of a slot is, with its key.
+    pub(in crate::proved::map) fn location(&self, slot: usize, place: usize) -> Location<K> {
+        let key = *self.key_at(slot, place);
+        Location { key, slot, place }
+    }
+
+    /// The value of a located pair.
+    pub(in crate::proved::map) fn value_at(&self, at: Location<K>) -> &V {
+        &self.table.value_at(at).value
+    }
+
+    /// A mutable reference to the value of a located pair.
+    pub(in crate::proved::map) fn value_mut_at(&mut self, at: Location<K>) -> &mut V {
+        let kept = self.table.value_mut_at(at);
+        &mut kept.value
+    }
+
+    /// Removes a located pair. The last pair of its slot takes its place.
+    #[inline(always)]
+    pub(in crate::proved::map) fn take_at(&mut self, at: Location<K>) -> V {
+        let kept = self.table.take_at(at);
+        self.len -= 1;
+        kept.value
+    }
+
+    /// Removes a located pair and puts the pair of its key and this value at the end of the slot. The
+    /// last pair of the slot takes the place of the removed one. It allocates nothing.
+    #[inline(always)]
+    pub(in crate::proved::map) fn replace_at(&mut self, at: Location<K>, value: V) -> V {
+        self.table.replace_at(at, Kept { value }).value
+    }
+}
+
+// Only Rust has what follows. It is tested, not proved.
+mod mending;

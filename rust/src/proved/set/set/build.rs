@@ -1,0 +1,37 @@
+//! Sets made of many keys.
+
+use crate::memory::prelude::*;
+use crate::proved::set::set::IntSet;
+use crate::proved::map::{Cause, IntKey};
+use crate::memory::alloc::Allocator;
+
+impl<K: IntKey, A: Allocator + Copy> IntSet<K, A> {
+    /// Inserts the iterator's keys in turn, each as [`insert`](IntSet::insert) does. The table grows
+    /// only as these insertions make it grow: nothing is reserved ahead. The iterator must end.
+    ///
+    /// It stops at the first insertion that fails, and returns its cause, without the key. The keys
+    /// inserted before it stay members. The iterator is dropped, with the keys that it hasn't
+    /// given.
+    pub fn extend<I: Iterator<Item = K>>(&mut self, iter: I) -> Result<(), Cause> {
+        self.known();
+        for key in iter {
+            if let Err(cause) = self.insert(key) {
+                return Err(cause);
+            }
+        }
+        Ok(())
+    }
+
+    /// A set of the iterator's keys: [`with_capacity`](IntSet::with_capacity) of the lower bound of
+    /// its `size_hint`, and then [`extend`](IntSet::extend). The iterator must end.
+    ///
+    /// It fails if either call fails, with the same cause, and then drops everything.
+    pub fn from_iter<I: Iterator<Item = K>>(alloc: A, iter: I) -> Result<IntSet<K, A>, Cause> {
+        let (lower, _) = iter.size_hint();
+        let mut set = IntSet::with_capacity(alloc, lower)?;
+        match set.extend(iter) {
+            Ok(()) => Ok(set),
+            Err(cause) => Err(cause),
+        }
+    }
+}

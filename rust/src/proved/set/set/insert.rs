@@ -1,0 +1,49 @@
+//! New sets, and the insertion of a key.
+
+use crate::memory::prelude::*;
+use crate::proved::set::set::IntSet;
+use crate::proved::map::{Cause, IntKey, IntMap};
+use crate::memory::alloc::Allocator;
+
+impl<K: IntKey, A: Allocator + Copy> IntSet<K, A> {
+    /// An empty set of 4 slots, with a load factor of 909 thousandths. It allocates the slots and
+    /// their bits. It fails only if an allocation fails, with [`Cause::Memory`].
+    pub fn new(alloc: A) -> Result<IntSet<K, A>, Cause> {
+        Ok(IntSet {
+            map: IntMap::new(alloc)?,
+        })
+    }
+
+    /// An empty set with a load factor of 909 thousandths. Its number of slots is the least power
+    /// of two that is at least `capacity`, and at least 2. It fails with [`Cause::TooLarge`]
+    /// exactly if `capacity` is above 2^63, and otherwise with [`Cause::Memory`] if an allocation
+    /// fails.
+    pub fn with_capacity(alloc: A, capacity: usize) -> Result<IntSet<K, A>, Cause> {
+        Ok(IntSet {
+            map: IntMap::with_capacity(alloc, capacity)?,
+        })
+    }
+
+    /// Makes the key a member, and returns whether it is new. If it is a member already, the set
+    /// stays as it is. A new member is put at the end of its slot, and the table grows as the table
+    /// of a map does at a new key.
+    ///
+    /// The insertion of a member never fails. The insertion of a new key fails with
+    /// [`Cause::TooLarge`] exactly if the set has 2^64 - 1 members or growth needs more than 2^63
+    /// slots, and otherwise with [`Cause::Memory`] if an allocation fails. It allocates nothing if
+    /// the capacity stays and the slot holds no member. A failed call leaves the set as it was.
+    pub fn insert(&mut self, key: K) -> Result<bool, Cause> {
+        Ok(self.map.insert_checked(key, ())?)
+    }
+
+    /// Makes the capacity at least the least power of two that is no less than the length plus
+    /// `additional`. If the capacity is greater already, it stays. The load factor isn't
+    /// considered, so later insertions may still grow the table.
+    ///
+    /// It fails with [`Cause::TooLarge`] exactly if the length plus `additional` is above 2^63, and
+    /// otherwise with [`Cause::Memory`] if an allocation fails. It never fails if the capacity is
+    /// at least that sum. A failed call leaves the set as it was.
+    pub fn reserve(&mut self, additional: usize) -> Result<(), Cause> {
+        self.map.reserve(additional)
+    }
+}

@@ -1,0 +1,40 @@
+//! Stored keys. They are compared by one method, and that method counts the comparison.
+
+use crate::memory::prelude::*;
+use crate::proved::table::key::IntKey;
+use crate::proved::table::steps::Steps;
+
+/// A stored key. It has no `==`, and its field is private: [`Stored::matches`] returns whether it
+/// is the sought key, and counts one step. [`Stored::key`] is for walks and closures, which hand
+/// keys out, and for the numbers of slots. No search of a slot calls it.
+pub struct Stored<K: IntKey> {
+    key: K,
+}
+
+impl<K: IntKey> Stored<K> {
+    /// Stores a key.
+    #[inline(always)]
+    pub(in crate::proved::table) fn new(key: K) -> Stored<K> {
+        let _number = key.number();
+        Stored { key }
+    }
+
+    /// A copy of the stored key. It counts no step, since nothing is compared.
+    #[inline(always)]
+    pub(in crate::proved::table) fn copied(&self) -> Stored<K> {
+        Stored { key: self.key }
+    }
+
+    /// Whether this is the sought key. It counts one step.
+    #[inline(always)]
+    pub(in crate::proved::table) fn matches(&self, key: &K, steps: &mut Steps) -> bool {
+        steps.tick();
+        self.key.number() == key.number()
+    }
+
+    /// The key, to be returned or to compute its slot.
+    #[inline(always)]
+    pub(in crate::proved::table) fn key(&self) -> &K {
+        &self.key
+    }
+}

@@ -1,0 +1,137 @@
+//! A table of slots. Each key has one of them.
+//!
+//! The calls here look at the slot of one key, or at the table as a whole. `locate` has the calls
+//! on a pair whose place is known, `walk`, `each` and `extract` those that go through the pairs,
+//! and `grow` and `place` the growth.
+
+mod each;
+pub mod extract;
+mod grow;
+pub mod locate;
+mod place;
+pub mod walk;
+
+use crate::memory::prelude::*;
+use crate::proved::table::bits::Bits;
+use crate::proved::table::key::IntKey;
+use crate::proved::table::slot::Slot;
+use crate::proved::table::steps::Steps;
+use crate::proved::table::stored::Stored;
+use grow::add_slots;
+use crate::memory::alloc::{AllocError, Allocator};
+use walk::Pairs;
+
+/// An odd number. A key's number, times this one, modulo the number of slots is the key's slot.
+/// Only the low bits of the number count: two keys share a slot exactly if their numbers are equal
+/// modulo the number of slots. Since this number is odd, it permutes the slots and makes no keys
+/// share one.
+const MULTIPLIER: u64 = 11400714819323198549;
+
+/// The slot of a key in a table of `mask + 1` slots.
+#[inline(always)]
+fn masked_index_of<K: IntKey>(key: &K, mask: usize) -> usize {
+    (key.number().wrapping_mul(MULTIPLIER) & mask as u64) as usize
+}
+
+/// The slot of a key in a table of `slots` slots.
+fn index_of<K: IntKey>(key: &K, slots: usize) -> usize {
+    masked_index_of(key, slots - 1)
+}
+
+/// Drops the pairs of all slots. The bits mark the slots that hold a pair.
+fn clear_slots<K: IntKey, X, A: Allocator>(bits: &Bits<A>, slots: &mut Vec<Slot<K, X, A>, A>) {
+    for place in bits.iter() {
+        slots[place].clear();
+    }
+}
+
+/// What is known of the slots without looking at them.
+struct Directory<A: Allocator> {
+    /// Their number less one: a mask with exactly the bits that the number of a slot may have.
+    mask: usize,
+    /// Which of them hold a pair.
+    bits: Bits<A>,
+}
+
+/// Slots, whose number is a power of two. Each pair lies in the slot of its key, and one bit for
+/// each slot says whether it holds a pair.
+pub struct Table<K: IntKey, X, A: Allocator> {
+    directory: Directory<A>,
+    slots: Vec<Slot<K, X, A>, A>,
+}
+
+impl<K: IntKey, X, A: Allocator> Table<K, X, A> {
+    /// The number of slots.
+    pub fn capacity(&self) -> usize {
+        self.slots.len()
+    }
+
+    /// The number of slots that hold a pair.
+    pub fn load(&self) -> usize {
+        self.directory.bits.count()
+    }
+
+    /// The number of pairs that a slot holds.
+    pub fn slot_len(&self, slot: usize) -> usize {
+        self.slots[slot].len()
+    }
+
+    /// The pairs, slot after slot.
+    pub fn pairs(&self) -> Pairs<'_, K, X, A> {
+        Pairs {
+            first: None,
+            rest: &[],
+            places: self.directory.bits.iter(),
+            slots: &self.slots,
+        }
+    }
+
+    /// The slot of a key.
+    fn index_of(&self, key: &K) -> usize {
+        masked_index_of(key, self.directory.mask)
+    }
+}
+
+impl<K: IntKey, X, A: Allocator> Table<K, X, A> {
+    /// Drops all pairs, slot after slot, and keeps the slots and the memory that they have.
+    pub fn clear(&mut self) {
+        clear_slots(&self.directory.bits, &mut self.slots);
+        self.directory.bits.clear_all();
+    }
+
+    /// Puts the pair of an absent key last in its slot. If an allocation fails, it returns the
+    /// value and changes nothing. A slot without a pair needs no allocation.
+    #[inline(always)]
+    pub fn add(&mut self, key: K, value: X) -> Result<(), X> {
+        let index = self.index_of(&key);
+        let slot = &mut self.slots[index];
+        if self.directory.bits.set(index) {
+            return slot.push(key, value);
+        }
+        slot.put_first((Stored::new(key), value));
+        Ok(())
+    }
+}
+
+impl<K: IntKey, X, A: Allocator + Copy> Table<K, X, A> {
+    /// The allocator of the slots.
+    pub fn allocator(&self) -> A {
+        *self.slots.allocator()
+    }
+
+    /// A table of `capacity` empty slots. It allocates the slots and their bits.
+    pub fn new(alloc: A, capacity: usize) -> Result<Table<K, X, A>, AllocError> {
+        let bits = Bits::new(alloc, capacity)?;
+        let mut slots = Vec::new(alloc);
+        add_slots(&mut slots, capacity)?;
+        let directory = Directory {
+            mask: capacity - 1,
+            bits,
+        };
+        Ok(Table { directory, slots })
+    }
+}
+
+// Only Rust has what follows. It is tested, not proved.
+mod mending;
+pub mod written;

@@ -1,0 +1,191 @@
+//! Growth in one jump, in the table's own slots. All memory is allocated before the first pair moves.
+
+use crate::memory::prelude::*;
+use crate::proved::table::bits::Bits;
+use crate::proved::table::key::IntKey;
+use crate::proved::table::slot::Slot;
+use crate::proved::table::steps::Steps;
+use crate::proved::table::stored::Stored;
+use crate::proved::table::table::place::move_all;
+use crate::proved::table::table::{Directory, Table, index_of};
+use crate::memory::alloc::{AllocError, Allocator};
+
+/// Adds one to the count of the part that the key goes to. A part has `old` slots.
+#[inline(always)]
+fn count_key<K: IntKey>(counts: &mut [usize], key: &K, old: usize) {
+    let part = index_of(key, counts.len() * old) / old;
+    counts[part] += 1;
+}
+
+/// Adds to the count of each part, which has `old` slots, the number of these pairs of one old slot
+/// that go there.
+fn count_each<K: IntKey, X>(counts: &mut [usize], pairs: &[(Stored<K>, X)], old: usize) {
+    for pair in pairs {
+        count_key(counts, pair.0.key(), old);
+    }
+}
+
+/// Counts the pairs of an old slot by the parts that they go to. A part has `old` slots.
+fn count_parts<K: IntKey, X, A: Allocator>(counts: &mut [usize], slot: &Slot<K, X, A>, old: usize) {
+    counts.fill(0);
+    let (first, rest) = slot.parts();
+    if let Some(pair) = first {
+        count_key(counts, pair.0.key(), old);
+    }
+    count_each(counts, rest, old);
+}
+
+/// Makes room in each part of an old slot for the pairs that are counted for it. A part has `old`
+/// slots. The first part that needs a block gets the block of the old slot instead.
+fn take_room<K: IntKey, X, A: Allocator>(
+    slots: &mut [Slot<K, X, A>],
+    index: usize,
+    old: usize,
+    counts: &[usize],
+) -> Result<(), AllocError> {
+    let mut spared = false;
+    for part in 0..counts.len() {
+        let count = counts[part];
+        if count > 1 {
+            if spared {
+                slots[part * old + index].reserve_behind(count - 1)?;
+            }
+            spared = true;
+        }
+    }
+    Ok(())
+}
+
+/// Makes room in the new slots for the pairs of all old ones, and returns the greatest number of
+/// pairs behind the first one of an old slot. Old slots of up to three pairs need no room: at most
+/// one of their new slots gets several pairs, and that one gets the old block.
+fn take_rooms<K: IntKey, X, A: Allocator>(
+    slots: &mut [Slot<K, X, A>],
+    old: &Directory<A>,
+    counts: &mut [usize],
+) -> Result<usize, AllocError> {
+    let mut longest = 0;
+    for index in old.bits.iter() {
+        let behind = slots[index].last_place();
+        if behind > 2 {
+            count_parts(counts, &slots[index], old.mask + 1);
+            take_room(slots, index, old.mask + 1, counts)?;
+        }
+        if behind > longest {
+            longest = behind;
+        }
+    }
+    Ok(longest)
+}
+
+/// Adds empty slots, up to `capacity` slots. It allocates them at once.
+pub(super) fn add_slots<K: IntKey, X, A: Allocator + Copy>(
+    slots: &mut Vec<Slot<K, X, A>, A>,
+    capacity: usize,
+) -> Result<(), AllocError> {
+    let alloc = *slots.allocator();
+    let more = capacity - slots.len();
+    slots.reserve_exact(more)?;
+    for _ in 0..more {
+        slots.push_reserved(Slot::new(alloc));
+    }
+    Ok(())
+}
+
+/// Allocates all that growth to `capacity` slots needs: empty slots, room in them, and a buffer,
+/// which it returns. The old slots stay. If an allocation fails, some further slots may stay.
+fn make_room<K: IntKey, X, A: Allocator + Copy>(
+    slots: &mut Vec<Slot<K, X, A>, A>,
+    old: &Directory<A>,
+    capacity: usize,
+) -> Result<Vec<(Stored<K>, X), A>, AllocError> {
+    let alloc = *slots.allocator();
+    let mut counts = vec![in alloc; 0usize; capacity / slots.len()]?;
+    add_slots(slots, capacity)?;
+    let longest = take_rooms(slots, old, &mut counts)?;
+    Vec::with_capacity(alloc, longest)
+}
+
+/// Allocates all that growth to `capacity` slots needs, and returns the buffer for it. If an
+/// allocation fails, the slots and their memory are as before.
+fn take_memory<K: IntKey, X, A: Allocator + Copy>(
+    slots: &mut Vec<Slot<K, X, A>, A>,
+    old: &Directory<A>,
+    capacity: usize,
+) -> Result<Vec<(Stored<K>, X), A>, AllocError> {
+    let len = slots.len();
+    let made = make_room(slots, old, capacity);
+    if made.is_err() {
+        slots.truncate(len);
+        slots.shrink_to_fit();
+    }
+    made
+}
+
+impl<K: IntKey, X, A: Allocator + Copy> Table<K, X, A> {
+    /// Moves all pairs, in the order of the walk, to their slots among `capacity` slots. If an
+    /// allocation fails, nothing changes.
+    fn grow(&mut self, capacity: usize, placed: &mut Steps) -> Result<(), AllocError> {
+        let mut bits = Bits::new(*self.slots.allocator(), capacity)?;
+        let mut buffer = take_memory(&mut self.slots, &self.directory, capacity)?;
+        move_all(
+            &mut bits,
+            &mut self.slots,
+            &self.directory,
+            &mut buffer,
+            placed,
+        );
+        self.directory = Directory {
+            mask: capacity - 1,
+            bits,
+        };
+        Ok(())
+    }
+
+    /// Makes room for the pair of a key in its slot, and allocates for exactly that. It returns
+    /// whether it allocated.
+    fn reserve_for(&mut self, key: &K) -> Result<bool, AllocError> {
+        let index = self.index_of(key);
+        self.slots[index].reserve_one()
+    }
+
+    /// Removes the pair of a key, which is the last of its slot, and gives back the room that was
+    /// made for it.
+    fn take_back(&mut self, key: K, is_made: bool) -> X {
+        let at = self.locate_last(key);
+        let value = self.take_at(at);
+        if is_made {
+            self.slots[at.slot].shrink();
+        }
+        value
+    }
+
+    /// Puts the pair of an absent key behind the pairs of its slot, and moves all pairs, in the
+    /// order of the walk, to their slots among `capacity` slots. If an allocation fails, the value
+    /// is returned and nothing changes.
+    pub fn grow_with(
+        &mut self,
+        capacity: usize,
+        key: K,
+        value: X,
+        placed: &mut Steps,
+    ) -> Result<(), X> {
+        let Ok(is_made) = self.reserve_for(&key) else {
+            return Err(value);
+        };
+        self.add(key, value)?;
+        if self.grow(capacity, placed).is_err() {
+            return Err(self.take_back(key, is_made));
+        }
+        Ok(())
+    }
+
+    /// Moves all pairs, in the order of the walk, to their slots among `capacity` slots. If the
+    /// table has that many already, it does nothing. If an allocation fails, nothing changes.
+    pub fn grow_to(&mut self, capacity: usize) -> Result<(), AllocError> {
+        if capacity == self.slots.len() {
+            return Ok(());
+        }
+        self.grow(capacity, &mut Steps::new())
+    }
+}

@@ -1,0 +1,210 @@
+//! The iterators of a set.
+use super::IntSet;
+use crate::IntKey;
+use crate::iter::copied;
+use crate::proved::map::iter::{IntoKeys, Keys};
+use crate::proved::set::iter as proved;
+use core::fmt::{self, Debug, Formatter};
+use core::iter::FusedIterator;
+
+/// Writes an iterator that counts the members that are left.
+macro_rules! iterators {
+    ($least:expr; $(
+        $(#[$doc:meta])*
+        $name:ident [$($generics:tt)*] [$($args:tt)*] $inner:ty => $item:ty;
+    )*) => { $(
+        $(#[$doc])*
+        #[must_use = "iterators are lazy and do nothing unless consumed"]
+        pub struct $name<$($generics)*> {
+            pub(super) inner: $inner,
+            pub(super) left: usize,
+        }
+
+        impl<$($generics)*> Iterator for $name<$($args)*> {
+            type Item = $item;
+
+            #[inline]
+            fn next(&mut self) -> Option<$item> {
+                let item = self.inner.next()?;
+                self.left = self.left.saturating_sub(1);
+                Some(item)
+            }
+
+            #[inline]
+            fn size_hint(&self) -> (usize, Option<usize>) {
+                ($least(self.left), Some(self.left))
+            }
+        }
+
+        impl<$($generics)*> FusedIterator for $name<$($args)*> {}
+    )* };
+}
+
+iterators! { |left| left;
+    /// The members of a set, made by [`IntSet::iter`].
+    ///
+    /// ```
+    /// let set = intmap_proved::IntSet::from([0u64, 1]);
+    /// assert_eq!((set.iter().len(), format!("{:?}", set.iter())), (2, "[0, 1]".to_string()));
+    /// ```
+    Iter ['a, K: IntKey] ['a, K] Keys<'a, K, ()> => &'a K;
+
+    /// Removes one member of a set at each step and returns it, made by [`IntSet::drain`]. The
+    /// members that it didn't return stay in the set.
+    ///
+    /// ```
+    /// let mut set = intmap_proved::IntSet::from([0u64, 1]);
+    /// assert_eq!(set.drain().take(1).count(), 1);
+    /// assert_eq!(set.len(), 1);
+    /// ```
+    Drain ['a, K: IntKey] ['a, K] proved::Drain<'a, K> => K;
+}
+
+iterators! { |_| 0;
+    /// The members of a set by value, made by [`IntSet::into_iter`](IntoIterator::into_iter).
+    ///
+    /// ```
+    /// let set = intmap_proved::IntSet::from([0u64, 1]);
+    /// assert_eq!(set.into_iter().collect::<Vec<_>>(), [0, 1]);
+    /// ```
+    IntoIter [K: IntKey] [K] IntoKeys<K, ()> => K;
+}
+
+impl<K: IntKey> ExactSizeIterator for Iter<'_, K> {}
+
+impl<K: IntKey> ExactSizeIterator for Drain<'_, K> {}
+
+impl<K: IntKey> Clone for Iter<'_, K> {
+    #[inline]
+    fn clone(&self) -> Self {
+        Iter { inner: copied(&self.inner), left: self.left }
+    }
+}
+
+impl<K: IntKey + Debug> Debug for Iter<'_, K> {
+    fn fmt(&self, f: &mut Formatter<'_>) -> fmt::Result {
+        f.debug_list().entries(self.clone()).finish()
+    }
+}
+
+impl<K: IntKey> Debug for Drain<'_, K> {
+    fn fmt(&self, f: &mut Formatter<'_>) -> fmt::Result {
+        f.debug_struct("Drain").field("left", &self.left).finish()
+    }
+}
+
+impl<K: IntKey> Debug for IntoIter<K> {
+    fn fmt(&self, f: &mut Formatter<'_>) -> fmt::Result {
+        f.debug_struct("IntoIter").field("left", &self.left).finish()
+    }
+}
+
+/// Writes an iterator over two sets.
+macro_rules! combined {
+    ($($(#[$doc:meta])* $name:ident;)*) => { $(
+        $(#[$doc])*
+        #[must_use = "iterators are lazy and do nothing unless consumed"]
+        pub struct $name<'a, K: IntKey> {
+            pub(super) inner: proved::$name<'a, K>,
+        }
+
+        impl<'a, K: IntKey> Iterator for $name<'a, K> {
+            type Item = &'a K;
+
+            #[inline]
+            fn next(&mut self) -> Option<&'a K> {
+                self.inner.next()
+            }
+        }
+
+        impl<K: IntKey> FusedIterator for $name<'_, K> {}
+
+        impl<K: IntKey> Clone for $name<'_, K> {
+            fn clone(&self) -> Self {
+                $name { inner: copied(&self.inner) }
+            }
+        }
+
+        impl<K: IntKey + Debug> Debug for $name<'_, K> {
+            fn fmt(&self, f: &mut Formatter<'_>) -> fmt::Result {
+                f.debug_list().entries(self.clone()).finish()
+            }
+        }
+    )* };
+}
+
+combined! {
+    /// The members of one set that are absent from another, made by [`IntSet::difference`].
+    ///
+    /// ```
+    /// use intmap_proved::IntSet;
+    ///
+    /// let (first, second) = (IntSet::from([1u64, 2, 3]), IntSet::from([2, 3, 4]));
+    /// assert_eq!(format!("{:?}", first.difference(&second)), "[1]");
+    /// ```
+    Difference;
+
+    /// The members that two sets have, made by [`IntSet::intersection`].
+    ///
+    /// ```
+    /// use intmap_proved::IntSet;
+    ///
+    /// let (first, second) = (IntSet::from([1u64, 2, 3]), IntSet::from([2, 3, 4]));
+    /// assert_eq!(format!("{:?}", first.intersection(&second)), "[2, 3]");
+    /// ```
+    Intersection;
+
+    /// The members of either set, made by [`IntSet::union`].
+    ///
+    /// ```
+    /// use intmap_proved::IntSet;
+    ///
+    /// let (first, second) = (IntSet::from([1u64, 2, 3]), IntSet::from([2, 3, 4]));
+    /// assert_eq!(format!("{:?}", first.union(&second)), "[1, 2, 3, 4]");
+    /// ```
+    Union;
+
+    /// The members that exactly one of two sets has, made by [`IntSet::symmetric_difference`].
+    ///
+    /// ```
+    /// use intmap_proved::IntSet;
+    ///
+    /// let (first, second) = (IntSet::from([1u64, 2, 3]), IntSet::from([2, 3, 4]));
+    /// assert_eq!(format!("{:?}", first.symmetric_difference(&second)), "[1, 4]");
+    /// ```
+    SymmetricDifference;
+}
+
+/// The same as [`IntSet::iter`].
+///
+/// ```
+/// let set = intmap_proved::IntSet::from([21u64]);
+/// for key in &set {
+///     assert_eq!(key, &21);
+/// }
+/// ```
+impl<'a, K: IntKey> IntoIterator for &'a IntSet<K> {
+    type Item = &'a K;
+    type IntoIter = Iter<'a, K>;
+
+    #[inline]
+    fn into_iter(self) -> Iter<'a, K> {
+        self.iter()
+    }
+}
+
+/// Returns an iterator over the members by value, in iteration order.
+///
+/// ```
+/// let set = intmap_proved::IntSet::from([0u64, 1]);
+/// assert_eq!(set.into_iter().sum::<u64>(), 1);
+/// ```
+impl<K: IntKey> IntoIterator for IntSet<K> {
+    type Item = K;
+    type IntoIter = IntoIter<K>;
+
+    #[inline]
+    fn into_iter(self) -> IntoIter<K> {
+        IntoIter { left: self.len(), inner: self.set.into_iter() }
+    }
+}

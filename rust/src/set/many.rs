@@ -1,0 +1,129 @@
+//! Calls on many members.
+use super::{Cause, Drain, Global, IntKey, IntSet, Iter, Mending, Proved, mem};
+
+impl<K: IntKey> IntSet<K> {
+    /// Returns an iterator over the members, in iteration order. It doesn't allocate. All steps
+    /// together cost *O*(*n* + *c*).
+    ///
+    /// # Examples
+    ///
+    /// ```
+    /// let set = intmap_proved::IntSet::from([0u64, 1]);
+    /// assert_eq!(set.iter().collect::<Vec<_>>(), [&0, &1]);
+    /// ```
+    #[inline]
+    pub fn iter(&self) -> Iter<'_, K> {
+        Iter { left: self.len(), inner: self.set.iter() }
+    }
+
+    /// Calls `keep` once for each member, in iteration order, and removes the members for which it
+    /// returns `false`.
+    ///
+    /// The others keep their order, and the capacity stays. If `keep` panics, the set stays whole,
+    /// with the members that weren't reached. The cost is *O*(*n* + *c*).
+    ///
+    /// # Examples
+    ///
+    /// ```
+    /// let mut set = intmap_proved::IntSet::from([0u64, 1, 2]);
+    /// set.retain(|key| key > 0);
+    /// assert_eq!(set.len(), 2);
+    /// ```
+    pub fn retain<F: FnMut(K) -> bool>(&mut self, keep: F) {
+        let guard = Mending(&mut self.set);
+        guard.0.retain(keep);
+        mem::forget(guard);
+    }
+
+    /// Removes all members. The capacity and the memory stay. The cost is *O*(*n* + *c*).
+    ///
+    /// # Examples
+    ///
+    /// ```
+    /// let mut set = intmap_proved::IntSet::from([21u64]);
+    /// set.clear();
+    /// assert_eq!((set.len(), set.capacity()), (0, 2));
+    /// ```
+    pub fn clear(&mut self) {
+        self.set.clear();
+    }
+
+    /// Returns an iterator that removes one member at each step and returns it, in iteration order.
+    /// The members that it didn't return stay, in their order.
+    ///
+    /// A step costs *O*(*s*), all of them with the look for the next slots *O*(*n s* + *c*).
+    ///
+    /// # Examples
+    ///
+    /// ```
+    /// let mut set = intmap_proved::IntSet::from([0u64, 1]);
+    /// assert_eq!(set.drain().next(), Some(0));
+    /// assert_eq!(set.len(), 1);
+    /// ```
+    pub fn drain(&mut self) -> Drain<'_, K> {
+        Drain { left: self.len(), inner: self.set.drain() }
+    }
+
+    /// Inserts each key in turn, as [`insert`](IntSet::insert) does, up to the first one that
+    /// fails.
+    ///
+    /// # Errors
+    ///
+    /// Those of [`try_insert`](IntSet::try_insert). The keys before it stay members, and the rest
+    /// of the iterator is dropped.
+    ///
+    /// # Examples
+    ///
+    /// ```
+    /// use intmap_proved::{Cause, IntSet};
+    ///
+    /// let mut set = IntSet::new();
+    /// set.try_extend([21u64, 22])?;
+    /// assert_eq!(set.len(), 2);
+    /// # Ok::<(), Cause>(())
+    /// ```
+    pub fn try_extend<I: IntoIterator<Item = K>>(&mut self, keys: I) -> Result<(), Cause> {
+        let guard = Mending(&mut self.set);
+        let result = guard.0.extend(keys.into_iter());
+        mem::forget(guard);
+        result
+    }
+
+    /// The same as [`from_iter`](FromIterator::from_iter), but it returns a failure.
+    ///
+    /// # Errors
+    ///
+    /// Those of [`try_with_capacity`](IntSet::try_with_capacity) and
+    /// [`try_insert`](IntSet::try_insert).
+    ///
+    /// # Examples
+    ///
+    /// ```
+    /// use intmap_proved::{Cause, IntSet};
+    ///
+    /// assert_eq!(IntSet::try_from_iter([21u64, 22])?.len(), 2);
+    /// # Ok::<(), Cause>(())
+    /// ```
+    pub fn try_from_iter<I: IntoIterator<Item = K>>(keys: I) -> Result<IntSet<K>, Cause> {
+        Ok(IntSet { set: Proved::from_iter(Global, keys.into_iter())? })
+    }
+
+    /// The same as [`clone`](Clone::clone), but it returns a failure.
+    ///
+    /// # Errors
+    ///
+    /// [`Cause::Memory`] if an allocation fails.
+    ///
+    /// # Examples
+    ///
+    /// ```
+    /// use intmap_proved::{Cause, IntSet};
+    ///
+    /// let set = IntSet::from([21u64]);
+    /// assert_eq!(set.try_clone()?, set);
+    /// # Ok::<(), Cause>(())
+    /// ```
+    pub fn try_clone(&self) -> Result<IntSet<K>, Cause> {
+        Ok(IntSet { set: self.set.clone()? })
+    }
+}

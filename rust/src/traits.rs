@@ -1,0 +1,136 @@
+//! What a map is to other code: defaults, clones, equality, text, `map[key]`, and collecting.
+use crate::refusal::granted;
+use crate::{IntKey, IntMap};
+use core::fmt::{self, Debug, Formatter};
+use core::ops::Index;
+
+/// The same as [`IntMap::new`].
+///
+/// ```
+/// assert!(intmap_proved::IntMap::<u64, char>::default().is_empty());
+/// ```
+impl<K: IntKey, V> Default for IntMap<K, V> {
+    fn default() -> IntMap<K, V> {
+        IntMap::new()
+    }
+}
+
+/// Clones of the values, with the same order, capacity and load factor. The cost is *O*(*n* + *c*).
+/// A failed allocation is handled as std does; [`IntMap::try_clone`] returns it.
+///
+/// ```
+/// let map = intmap_proved::IntMap::from([(21u64, "a".to_string())]);
+/// assert_eq!(map.clone(), map);
+/// ```
+impl<K: IntKey, V: Clone> Clone for IntMap<K, V> {
+    fn clone(&self) -> IntMap<K, V> {
+        granted(self.try_clone())
+    }
+}
+
+/// Whether both maps have the same keys, each with equal values. Order, capacity and load factor
+/// don't matter. The cost is *O*(*n s* + *c*).
+///
+/// ```
+/// use intmap_proved::IntMap;
+///
+/// assert_eq!(IntMap::from([(0u64, 'a'), (4, 'b')]), IntMap::from([(4, 'b'), (0, 'a')]));
+/// ```
+impl<K: IntKey, V: PartialEq> PartialEq for IntMap<K, V> {
+    fn eq(&self, other: &IntMap<K, V>) -> bool {
+        self.map == other.map
+    }
+}
+
+impl<K: IntKey, V: Eq> Eq for IntMap<K, V> {}
+
+/// Writes the pairs in iteration order.
+///
+/// ```
+/// let map = intmap_proved::IntMap::from([(0u64, 'a'), (1, 'b')]);
+/// assert_eq!(format!("{map:?}"), "{0: 'a', 1: 'b'}");
+/// ```
+impl<K: IntKey + Debug, V: Debug> Debug for IntMap<K, V> {
+    fn fmt(&self, f: &mut Formatter<'_>) -> fmt::Result {
+        f.debug_map().entries(self).finish()
+    }
+}
+
+/// `map[key]`, the value of the key. It panics if the key is absent; [`IntMap::get`] doesn't.
+///
+/// ```
+/// let map = intmap_proved::IntMap::from([(21u64, 'a')]);
+/// assert_eq!(map[21], 'a');
+/// ```
+///
+/// ```should_panic
+/// let map = intmap_proved::IntMap::from([(21u64, 'a')]);
+/// let _ = map[22];
+/// ```
+impl<K: IntKey, V> Index<K> for IntMap<K, V> {
+    type Output = V;
+
+    #[inline]
+    fn index(&self, key: K) -> &V {
+        self.get(key).expect("no entry found for key")
+    }
+}
+
+/// Inserts each pair in turn, as [`IntMap::insert`] does; nothing is reserved ahead.
+/// [`IntMap::try_extend`] returns a failure.
+///
+/// ```
+/// let mut map = intmap_proved::IntMap::from([(21u64, 'a')]);
+/// map.extend([(21, 'b'), (22, 'c')]);
+/// assert_eq!((map[21], map[22]), ('b', 'c'));
+/// ```
+impl<K: IntKey, V> Extend<(K, V)> for IntMap<K, V> {
+    fn extend<I: IntoIterator<Item = (K, V)>>(&mut self, pairs: I) {
+        granted(self.try_extend(pairs))
+    }
+}
+
+/// The same for pairs of references, such as those of another map.
+///
+/// ```
+/// use intmap_proved::IntMap;
+///
+/// let mut map = IntMap::from([(21u64, 'a')]);
+/// map.extend(&IntMap::from([(22, 'b')]));
+/// assert_eq!(map.len(), 2);
+/// ```
+impl<'a, K: IntKey, V: Copy> Extend<(&'a K, &'a V)> for IntMap<K, V> {
+    fn extend<I: IntoIterator<Item = (&'a K, &'a V)>>(&mut self, pairs: I) {
+        self.extend(pairs.into_iter().map(|(key, value)| (*key, *value)))
+    }
+}
+
+/// A map with the capacity of as many pairs as the iterator has at least, and then the pairs, each
+/// as by [`IntMap::insert`]. So a key keeps its last value. [`IntMap::try_from_iter`] returns a
+/// failure.
+///
+/// ```
+/// use intmap_proved::IntMap;
+///
+/// let map: IntMap<u64, char> = (0..20).zip('a'..).collect();
+/// assert_eq!((map.len(), map.capacity()), (20, 32));
+/// ```
+impl<K: IntKey, V> FromIterator<(K, V)> for IntMap<K, V> {
+    fn from_iter<I: IntoIterator<Item = (K, V)>>(pairs: I) -> IntMap<K, V> {
+        granted(IntMap::try_from_iter(pairs))
+    }
+}
+
+/// The same for an array of pairs.
+///
+/// ```
+/// use intmap_proved::IntMap;
+///
+/// let map = IntMap::from([(21u64, 'a'), (21, 'b')]);
+/// assert_eq!((map.len(), map[21]), (1, 'b'));
+/// ```
+impl<K: IntKey, V, const N: usize> From<[(K, V); N]> for IntMap<K, V> {
+    fn from(pairs: [(K, V); N]) -> IntMap<K, V> {
+        pairs.into_iter().collect()
+    }
+}

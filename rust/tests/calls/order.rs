@@ -1,0 +1,200 @@
+//! The order of iteration after each call that changes it, and the order of drops.
+use intmap_proved::{Entry, IntMap};
+use std::cell::RefCell;
+use std::mem::ManuallyDrop;
+use std::rc::Rc;
+
+/// Pairs in a map of 2 slots, whose keys all share the first slot.
+fn crowded(keys: u64) -> IntMap<u64, u64> {
+    let mut map = IntMap::with_capacity(2);
+    map.set_load_factor(1000.0);
+    map.extend((0..keys).map(|key| (key * 2, key)));
+    assert_eq!(map.capacity(), 2, "{keys} keys share a slot");
+    map
+}
+
+fn keys_of<V>(map: &IntMap<u64, V>) -> Vec<u64> {
+    map.keys().copied().collect()
+}
+
+#[test]
+fn a_removal_moves_the_last_pair_of_the_slot() {
+    let mut map = crowded(5);
+    map.remove(2);
+    assert_eq!(keys_of(&map), [0, 8, 4, 6], "2 was removed");
+    map.insert(0, 7);
+    assert_eq!(keys_of(&map), [6, 8, 4, 0], "0 was inserted again");
+    map.remove_entry(8);
+    assert_eq!(keys_of(&map), [6, 0, 4], "8 was removed");
+}
+
+#[test]
+fn an_entry_leaves_a_pair_in_its_place() {
+    let mut map = crowded(3);
+    if let Entry::Occupied(mut entry) = map.entry(0) {
+        assert_eq!((entry.insert(9), *entry.key()), (0, 0));
+    }
+    assert!(map.iter().eq([(&0, &9), (&2, &1), (&4, &2)]), "{map:?}");
+    if let Entry::Occupied(entry) = map.entry(0) {
+        assert_eq!(entry.remove_entry(), (0, 9));
+    }
+    assert_eq!(keys_of(&map), [4, 2], "the last pair moved to the front");
+}
+
+#[test]
+fn pairs_that_are_kept_keep_their_order() {
+    for kept in 0_u64..128 {
+        let mut map = crowded(7);
+        let mut seen = Vec::new();
+        map.retain(|key, value| {
+            assert_eq!(key, value * 2);
+            seen.push(key);
+            kept >> value & 1 == 1
+        });
+        let wanted: Vec<u64> = (0..7).filter(|it| kept >> it & 1 == 1).map(|it| it * 2).collect();
+        assert_eq!(seen, [0, 2, 4, 6, 8, 10, 12], "each pair is seen once, of {kept:07b}");
+        assert_eq!(keys_of(&map), wanted, "of {kept:07b}");
+        assert!(map.iter().all(|(key, value)| *key == value * 2) && map.assert_count());
+    }
+}
+
+#[test]
+fn pairs_that_are_not_extracted_keep_their_order() {
+    for kept in 0_u64..128 {
+        let mut map = crowded(7);
+        let gone: Vec<u64> = map.extract_if(|_, it| kept >> *it & 1 == 0).map(|it| it.1).collect();
+        let (stay, go): (Vec<u64>, Vec<u64>) = (0..7).partition(|it| kept >> it & 1 == 1);
+        assert_eq!(gone, go, "of {kept:07b}");
+        assert!(map.values().copied().eq(stay), "of {kept:07b}: {map:?}");
+        assert!(map.assert_count());
+    }
+}
+
+#[test]
+fn an_extraction_that_ends_early_leaves_the_rest() {
+    let mut map = crowded(7);
+    let first = map.extract_if(|key, value| {
+        *value += 100;
+        key % 4 == 2
+    });
+    assert_eq!(first.take(2).collect::<Vec<_>>(), [(2, 101), (6, 103)]);
+    let left = [(0, 100), (4, 102), (8, 4), (10, 5), (12, 6)];
+    assert!(map.iter().map(|(key, value)| (*key, *value)).eq(left), "{map:?}");
+    assert_eq!(map.len(), 5);
+}
+
+#[test]
+fn a_drain_that_ends_early_leaves_the_rest_in_order() {
+    for taken in 0..=8 {
+        let mut map = crowded(7);
+        map.insert(1, 100);
+        let drained: Vec<u64> = map.drain().take(taken).map(|pair| pair.0).collect();
+        let all = [0, 2, 4, 6, 8, 10, 12, 1];
+        assert_eq!(drained, all[..taken], "{taken} are drained");
+        assert_eq!(keys_of(&map), all[taken..], "after {taken}");
+        assert_eq!((map.len(), map.capacity()), (8 - taken, 2));
+        assert!(map.assert_count());
+    }
+}
+
+#[test]
+fn a_forgotten_iterator_leaves_a_whole_map() {
+    let mut map = crowded(7);
+    let mut drain = ManuallyDrop::new(map.drain());
+    assert_eq!((drain.next(), drain.next()), (Some((0, 0)), Some((2, 1))));
+    let mut extracted = ManuallyDrop::new(map.extract_if(|key, _| key == 6));
+    assert_eq!(extracted.next(), Some((6, 3)));
+    assert!(ManuallyDrop::new(map.iter_mut()).next().is_some());
+    for key in [4, 5] {
+        assert_eq!(*ManuallyDrop::new(map.entry(key)).key(), key);
+    }
+    let mut left = keys_of(&map);
+    left.sort_unstable();
+    assert_eq!((left, map.len()), (vec![4, 8, 10, 12], 4));
+    assert!(map.assert_count());
+}
+
+#[test]
+fn iterators_have_one_order() {
+    let mut map: IntMap<u64, u64> = (0..50).map(|key| (key * 7, key * 7)).collect();
+    map.retain(|key, _| key % 3 > 0);
+    map.extend((0..20).map(|key| (key * 11, key * 11)));
+    let keys = keys_of(&map);
+    let pairs = || keys.iter().map(|it| (*it, *it));
+    assert!(!keys.is_sorted(), "an order that could be mistaken: {keys:?}");
+    assert!(map.iter().map(|pair| (*pair.0, *pair.1)).eq(pairs()), "iter");
+    assert!((&map).into_iter().map(|pair| *pair.0).eq(keys.clone()), "a loop");
+    assert!(map.values().copied().eq(keys.clone()), "values");
+    assert!(map.iter_mut().map(|pair| (*pair.0, *pair.1)).eq(pairs()), "iter_mut");
+    assert!((&mut map).into_iter().map(|pair| *pair.1).eq(keys.clone()), "a loop that writes");
+    assert!(map.values_mut().map(|it| *it).eq(keys.clone()), "values_mut");
+    assert!(map.clone().into_keys().eq(keys.clone()), "into_keys");
+    assert!(map.clone().into_values().eq(keys.clone()), "into_values");
+    assert!(map.clone().into_iter().eq(pairs()), "into_iter");
+    assert!(map.clone().extract_if(|_, _| true).eq(pairs()), "extract_if");
+    assert!(map.drain().eq(pairs()), "drain");
+}
+
+#[test]
+fn a_clone_has_order_slots_and_load_factor_of_its_source() {
+    let mut map = crowded(300);
+    map.remove(8);
+    map.remove(100);
+    let clone = map.clone();
+    assert_eq!((clone.capacity(), clone.load_factor_thousandths()), (2, 1_000_000));
+    assert!(clone.iter().eq(map.iter()));
+    map.clear();
+    assert_eq!((map.len(), clone.len()), (0, 298), "they are two maps");
+}
+
+/// A value that writes its number down when it is dropped.
+struct Logged(u64, Log);
+
+impl Drop for Logged {
+    fn drop(&mut self) {
+        self.1.borrow_mut().push(self.0);
+    }
+}
+
+type Log = Rc<RefCell<Vec<u64>>>;
+
+/// Values that are logged in a map whose keys partly share slots.
+fn logged() -> (IntMap<u64, Logged>, Log) {
+    let log = Log::default();
+    let keys = (0..200).map(|number| number * number * 7);
+    (keys.map(|key| (key, Logged(key, log.clone()))).collect(), log)
+}
+
+type Call = fn(IntMap<u64, Logged>);
+
+#[test]
+fn values_are_dropped_in_the_order_of_iteration() {
+    let calls: [(&str, Call); 7] = [
+        ("drop", drop),
+        ("clear", |mut map| map.clear()),
+        ("into_iter", |map| map.into_iter().for_each(drop)),
+        ("an into_iter that ends early", |map| drop(map.into_iter().next())),
+        ("into_keys", |map| map.into_keys().for_each(drop)),
+        ("drain", |mut map| map.drain().for_each(drop)),
+        ("extract_if", |mut map| map.extract_if(|_, _| true).for_each(drop)),
+    ];
+    for (name, call) in calls {
+        let (map, log) = logged();
+        let order = keys_of(&map);
+        assert!(!order.is_sorted(), "an order that could be mistaken: {order:?}");
+        call(map);
+        assert_eq!(*log.borrow(), order, "{name}");
+    }
+}
+
+#[test]
+fn retain_drops_slot_after_slot() {
+    let (mut map, log) = logged();
+    let slots = map.capacity() as u64;
+    let slots_of = |keys: &[u64]| keys.iter().map(|key| key % slots).collect::<Vec<_>>();
+    let order = keys_of(&map);
+    map.retain(|_, _| false);
+    // the first pair of a slot is dropped behind its others
+    assert_eq!(slots_of(&log.borrow()), slots_of(&order));
+    assert_eq!((map.len(), map.capacity() as u64), (0, slots));
+}

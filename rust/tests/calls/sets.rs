@@ -1,0 +1,116 @@
+//! Sets, beside those of std.
+use crate::random::Random;
+use intmap_proved::IntSet;
+use std::collections::HashSet;
+
+const CALLS: u32 = 40_000;
+
+/// Keys in ascending order, whatever iterator they come from.
+fn sorted<'a>(keys: impl Iterator<Item = &'a i64>) -> Vec<i64> {
+    let mut keys: Vec<i64> = keys.copied().collect();
+    keys.sort_unstable();
+    keys
+}
+
+/// A key near 0 or near 2^40 of either sign, so that some share a slot.
+fn key_of(random: &mut Random, keys: u64) -> i64 {
+    let near = (random.below(keys) << (random.below(2) * 40)) as i64;
+    if random.below(2) == 0 { near } else { -near }
+}
+
+fn call(set: &mut IntSet<i64>, plain: &mut HashSet<i64>, random: &mut Random, keys: u64) {
+    let key = key_of(random, keys);
+    match random.below(2000) {
+        0 => {
+            set.retain(|key| key % 3 != 0);
+            plain.retain(|key| key % 3 != 0);
+        }
+        1 => *set = set.clone(),
+        2 => *set = set.drain().collect(),
+        3 => set.reserve(random.below(500) as usize),
+        4 => {
+            let more: Vec<i64> = (0..20).map(|_| key_of(random, keys)).collect();
+            set.extend(more.clone());
+            plain.extend(more);
+        }
+        5..800 => assert_eq!(set.insert(key), plain.insert(key), "insert {key}"),
+        800..1400 => assert_eq!(set.remove(key), plain.remove(&key), "remove {key}"),
+        _ => assert_eq!(set.contains(key), plain.contains(&key), "contains {key}"),
+    }
+    assert_eq!((set.len(), set.is_empty()), (plain.len(), plain.is_empty()));
+}
+
+#[test]
+fn random_calls_return_what_those_of_std_return() {
+    for keys in [16, 300, 20_000] {
+        let (mut set, mut plain) = (IntSet::new(), HashSet::new());
+        let mut random = Random(keys);
+        for _ in 0..CALLS {
+            call(&mut set, &mut plain, &mut random, keys);
+        }
+        assert_eq!(sorted(set.iter()), sorted(plain.iter()), "of {keys}");
+    }
+}
+
+fn random_sets(random: &mut Random, keys: u64) -> (IntSet<i64>, HashSet<i64>) {
+    let members: Vec<i64> = (0..random.below(keys)).map(|_| key_of(random, keys)).collect();
+    (members.iter().copied().collect(), members.into_iter().collect())
+}
+
+#[test]
+fn sets_are_combined_as_those_of_std() {
+    let mut random = Random(7);
+    for _ in 0..300 {
+        let keys = 1 + random.below(60);
+        let (one, plain_one) = random_sets(&mut random, keys);
+        let (other, plain_other) = random_sets(&mut random, keys);
+        let text = format!("{one:?} and {other:?}");
+        assert_eq!(sorted(one.union(&other)), sorted(plain_one.union(&plain_other)), "{text}");
+        assert_eq!(
+            sorted(one.intersection(&other)),
+            sorted(plain_one.intersection(&plain_other)),
+            "{text}"
+        );
+        assert_eq!(
+            sorted(one.difference(&other)),
+            sorted(plain_one.difference(&plain_other)),
+            "{text}"
+        );
+        assert_eq!(
+            sorted(one.symmetric_difference(&other)),
+            sorted(plain_one.symmetric_difference(&plain_other)),
+            "{text}"
+        );
+        assert_eq!(one.is_subset(&other), plain_one.is_subset(&plain_other), "{text}");
+        assert_eq!(one.is_superset(&other), plain_one.is_superset(&plain_other), "{text}");
+        assert_eq!(one.is_disjoint(&other), plain_one.is_disjoint(&plain_other), "{text}");
+        assert_eq!(one == other, plain_one == plain_other, "{text}");
+        let both: IntSet<i64> = one.intersection(&other).copied().collect();
+        assert!(both.is_subset(&one) && both.is_superset(&both), "{text}");
+    }
+}
+
+#[test]
+fn sets_are_combined_by_operators() {
+    let (one, other) = (IntSet::from([1_u8, 2, 3]), IntSet::from([2, 3, 4]));
+    assert_eq!(&one | &other, IntSet::from([1, 2, 3, 4]));
+    assert_eq!(&one & &other, IntSet::from([2, 3]));
+    assert_eq!(&one - &other, IntSet::from([1]));
+    assert_eq!(&one ^ &other, IntSet::from([1, 4]));
+}
+
+#[test]
+fn a_set_iterates_in_one_order_and_gives_its_keys_away() {
+    let mut set: IntSet<u32> = (0..50).map(|key| key * 7).collect();
+    set.extend(&[1, 2, 3]);
+    let keys: Vec<u32> = set.iter().copied().collect();
+    assert!(!keys.is_sorted(), "an order that could be mistaken: {keys:?}");
+    assert!((&set).into_iter().eq(&keys), "a loop");
+    assert_eq!((set.iter().len(), set.iter().size_hint()), (53, (53, Some(53))));
+    assert!(set.clone().into_iter().eq(keys.clone()), "into_iter");
+    assert!(set.clone().drain().eq(keys.clone()), "drain");
+    assert_eq!((set.take(7), set.take(7)), (Some(7), None));
+    assert_eq!(set.len(), 52);
+    set.clear();
+    assert!(set.is_empty() && set.capacity() > 4, "the slots stay");
+}

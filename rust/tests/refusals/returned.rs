@@ -1,0 +1,63 @@
+//! What a failed call returns to its caller.
+use crate::allocator::failing_at;
+use intmap_proved::{Cause, Entry, IntMap, Refused, RefusedPair};
+
+fn texts() -> IntMap<u64, String> {
+    (0..4).map(|key| (key, key.to_string())).collect()
+}
+
+type Insertion = fn(&mut IntMap<u64, String>, String) -> Result<(), Refused<String>>;
+
+const INSERTIONS: [(&str, Insertion); 6] = [
+    ("insert", |map, value| map.try_insert(9, value).map(drop)),
+    ("insert_checked", |map, value| map.try_insert_checked(9, value).map(drop)),
+    ("entry", |map, value| map.entry(9).try_or_insert(value).map(drop)),
+    ("entry with", |map, value| map.entry(9).try_or_insert_with(|| value).map(drop)),
+    ("insert_entry", |map, value| map.entry(9).try_insert_entry(value).map(drop)),
+    ("vacant entry", |map, value| match map.entry(9) {
+        Entry::Vacant(entry) => entry.try_insert(value).map(drop),
+        Entry::Occupied(_) => panic!("9 is absent"),
+    }),
+];
+
+#[test]
+fn a_failed_insertion_returns_its_value() {
+    for (name, insert) in INSERTIONS {
+        let mut map = texts();
+        let value = String::from("nine");
+        let (returned, failed) = failing_at(1, || insert(&mut map, value));
+        assert!(failed, "{name}");
+        let Err(Refused { value, cause }) = returned else { panic!("{name} did not fail") };
+        assert_eq!((value.as_str(), cause), ("nine", Cause::Memory), "{name}");
+        assert!(insert(&mut map, value).is_ok(), "{name} once more");
+        assert_eq!(map.get(9).map(String::as_str), Some("nine"), "{name}");
+    }
+}
+
+#[test]
+fn a_failed_extension_returns_its_pair_and_how_many_were_inserted() {
+    for number in 1..20 {
+        let mut map: IntMap<u64, u64> = (0..6).map(|key| (key, key)).collect();
+        let pairs = (6..100).map(|key| (key, key + 1));
+        let (returned, failed) = failing_at(number, || map.try_extend(pairs));
+        let Err(RefusedPair { key, value, applied, cause }) = returned else {
+            assert!(!failed, "request {number}");
+            continue;
+        };
+        assert_eq!((key, value, cause), (6 + applied as u64, 7 + applied as u64, Cause::Memory));
+        assert_eq!(map.len(), 6 + applied, "request {number}");
+        assert!(map.contains_key(key - 1) && !map.contains_key(key), "request {number}");
+    }
+}
+
+#[test]
+fn a_present_key_gets_its_value_without_memory() {
+    let mut map = texts();
+    let before: Vec<u64> = map.keys().copied().collect();
+    let value = String::from("new");
+    let (returned, failed) = failing_at(1, || map.try_insert(0, value));
+    assert!(!failed, "no request was made");
+    assert_eq!(returned.expect("it did not fail").as_deref(), Some("0"));
+    assert_eq!((map.get(0).map(String::as_str), map.len()), (Some("new"), 4));
+    assert!(map.keys().copied().eq(before), "each key has a slot of its own");
+}

@@ -1,0 +1,138 @@
+//! Entries of present keys.
+use super::OccupiedEntry;
+use crate::IntKey;
+use core::fmt::{self, Debug, Formatter};
+
+impl<'a, K: IntKey, V> OccupiedEntry<'a, K, V> {
+    /// Returns a reference to the key in the map.
+    ///
+    /// # Examples
+    ///
+    /// ```
+    /// use intmap_proved::{Entry, IntMap};
+    ///
+    /// let mut map = IntMap::from([(21u64, 'a')]);
+    /// if let Entry::Occupied(entry) = map.entry(21) {
+    ///     assert_eq!(entry.key(), &21);
+    /// }
+    /// ```
+    pub fn key(&self) -> &K {
+        self.0.key()
+    }
+
+    /// Returns a reference to the value.
+    ///
+    /// # Examples
+    ///
+    /// ```
+    /// use intmap_proved::{Entry, IntMap};
+    ///
+    /// let mut map = IntMap::from([(21u64, 'a')]);
+    /// if let Entry::Occupied(entry) = map.entry(21) {
+    ///     assert_eq!(entry.get(), &'a');
+    /// }
+    /// ```
+    #[inline]
+    pub fn get(&self) -> &V {
+        self.0.get()
+    }
+
+    /// Returns a mutable reference to the value, which can't outlive the entry.
+    ///
+    /// # Examples
+    ///
+    /// ```
+    /// use intmap_proved::{Entry, IntMap};
+    ///
+    /// let mut map = IntMap::from([(21u64, 1)]);
+    /// if let Entry::Occupied(mut entry) = map.entry(21) {
+    ///     *entry.get_mut() += 1;
+    ///     assert_eq!(entry.get(), &2);
+    /// }
+    /// ```
+    #[inline]
+    pub fn get_mut(&mut self) -> &mut V {
+        self.0.get_mut()
+    }
+
+    /// Returns a mutable reference to the value, for as long as the map is borrowed.
+    ///
+    /// # Examples
+    ///
+    /// ```
+    /// use intmap_proved::{Entry, IntMap};
+    ///
+    /// let mut map = IntMap::from([(21u64, 1)]);
+    /// let value = match map.entry(21) {
+    ///     Entry::Occupied(entry) => entry.into_mut(),
+    ///     Entry::Vacant(entry) => entry.insert(0),
+    /// };
+    /// *value += 1;
+    /// assert_eq!(map[21], 2);
+    /// ```
+    #[inline]
+    pub fn into_mut(self) -> &'a mut V {
+        self.0.into_mut()
+    }
+
+    /// Sets the value, and returns the old one. The pair keeps its place.
+    ///
+    /// # Examples
+    ///
+    /// ```
+    /// use intmap_proved::{Entry, IntMap};
+    ///
+    /// let mut map = IntMap::from([(21u64, 'a')]);
+    /// if let Entry::Occupied(mut entry) = map.entry(21) {
+    ///     assert_eq!(entry.insert('b'), 'a');
+    /// }
+    /// assert_eq!(map[21], 'b');
+    /// ```
+    #[inline]
+    pub fn insert(&mut self, value: V) -> V {
+        self.0.insert(value)
+    }
+
+    /// Removes the pair as [`IntMap::remove`](crate::IntMap::remove) does, and returns the value.
+    /// The cost is *O*(1).
+    ///
+    /// # Examples
+    ///
+    /// ```
+    /// use intmap_proved::{Entry, IntMap};
+    ///
+    /// let mut map = IntMap::from([(21u64, 'a')]);
+    /// if let Entry::Occupied(entry) = map.entry(21) {
+    ///     assert_eq!(entry.remove(), 'a');
+    /// }
+    /// assert!(map.is_empty());
+    /// ```
+    #[inline]
+    pub fn remove(self) -> V {
+        self.0.remove()
+    }
+
+    /// The same as [`remove`](OccupiedEntry::remove), but it returns the key beside the value.
+    ///
+    /// # Examples
+    ///
+    /// ```
+    /// use intmap_proved::{Entry, IntMap};
+    ///
+    /// let mut map = IntMap::from([(21u64, 'a')]);
+    /// if let Entry::Occupied(entry) = map.entry(21) {
+    ///     assert_eq!(entry.remove_entry(), (21, 'a'));
+    /// }
+    /// ```
+    #[inline]
+    pub fn remove_entry(self) -> (K, V) {
+        self.0.remove_entry()
+    }
+}
+
+impl<K: IntKey + Debug, V: Debug> Debug for OccupiedEntry<'_, K, V> {
+    fn fmt(&self, f: &mut Formatter<'_>) -> fmt::Result {
+        let mut text = f.debug_struct("OccupiedEntry");
+        text.field("key", self.key()).field("value", self.get()).finish()
+    }
+}

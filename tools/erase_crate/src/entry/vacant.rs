@@ -1,0 +1,139 @@
+//! Entries of absent keys.
+use super::{OccupiedEntry, VacantEntry};
+use crate::IntKey;
+use crate::refusal::{Refused, granted};
+use core::fmt::{self, Debug, Formatter};
+
+impl<'a, K: IntKey, V> VacantEntry<'a, K, V> {
+    /// Returns a reference to the key.
+    ///
+    /// # Examples
+    ///
+    /// ```
+    /// use intmap_proved::{Entry, IntMap};
+    ///
+    /// let mut map: IntMap<u64, char> = IntMap::new();
+    /// if let Entry::Vacant(entry) = map.entry(21) {
+    ///     assert_eq!(entry.key(), &21);
+    /// }
+    /// ```
+    pub fn key(&self) -> &K {
+        self.0.key()
+    }
+
+    /// Returns the key, and leaves it absent.
+    ///
+    /// # Examples
+    ///
+    /// ```
+    /// use intmap_proved::{Entry, IntMap};
+    ///
+    /// let mut map: IntMap<u64, char> = IntMap::new();
+    /// if let Entry::Vacant(entry) = map.entry(21) {
+    ///     assert_eq!(entry.into_key(), 21);
+    /// }
+    /// ```
+    pub fn into_key(self) -> K {
+        self.0.into_key()
+    }
+
+    /// Inserts the pair at the end of its slot, and returns a mutable reference to the value.
+    ///
+    /// A failed allocation is handled as std does; [`try_insert`](VacantEntry::try_insert) returns
+    /// it. The cost is that of [`IntMap::insert`](crate::IntMap::insert).
+    ///
+    /// # Panics
+    ///
+    /// If the map needs more than 2^63 slots. If the key's `number` panics, the map should be
+    /// dropped: pairs may be lost, and the length may be wrong.
+    ///
+    /// # Examples
+    ///
+    /// ```
+    /// use intmap_proved::{Entry, IntMap};
+    ///
+    /// let mut map = IntMap::new();
+    /// if let Entry::Vacant(entry) = map.entry(21u64) {
+    ///     *entry.insert(1) += 1;
+    /// }
+    /// assert_eq!(map[21], 2);
+    /// ```
+    #[inline]
+    pub fn insert(self, value: V) -> &'a mut V {
+        granted(self.try_insert(value))
+    }
+
+    /// The same as [`insert`](VacantEntry::insert), but it returns a failure, with the value.
+    ///
+    /// # Errors
+    ///
+    /// As for [`IntMap::try_insert`](crate::IntMap::try_insert).
+    ///
+    /// # Examples
+    ///
+    /// ```
+    /// use intmap_proved::{Entry, IntMap, Refused};
+    ///
+    /// let mut map = IntMap::new();
+    /// if let Entry::Vacant(entry) = map.entry(21u64) {
+    ///     *entry.try_insert(1)? += 1;
+    /// }
+    /// assert_eq!(map[21], 2);
+    /// # Ok::<(), Refused<i32>>(())
+    /// ```
+    #[inline]
+    pub fn try_insert(self, value: V) -> Result<&'a mut V, Refused<V>> {
+        self.0.insert(value)
+    }
+
+    /// Inserts the pair as [`insert`](VacantEntry::insert) does, and returns the entry of the key,
+    /// which is then present.
+    ///
+    /// # Panics
+    ///
+    /// If the map needs more than 2^63 slots.
+    ///
+    /// # Examples
+    ///
+    /// ```
+    /// use intmap_proved::{Entry, IntMap};
+    ///
+    /// let mut map = IntMap::new();
+    /// if let Entry::Vacant(entry) = map.entry(21u64) {
+    ///     assert_eq!(entry.insert_entry('a').get(), &'a');
+    /// }
+    /// ```
+    #[inline]
+    pub fn insert_entry(self, value: V) -> OccupiedEntry<'a, K, V> {
+        granted(self.try_insert_entry(value))
+    }
+
+    /// The same as [`insert_entry`](VacantEntry::insert_entry), but it returns a failure, with the
+    /// value.
+    ///
+    /// # Errors
+    ///
+    /// As for [`IntMap::try_insert`](crate::IntMap::try_insert).
+    ///
+    /// # Examples
+    ///
+    /// ```
+    /// use intmap_proved::{Entry, IntMap, Refused};
+    ///
+    /// let mut map = IntMap::new();
+    /// if let Entry::Vacant(entry) = map.entry(21u64) {
+    ///     assert_eq!(entry.try_insert_entry('a')?.get(), &'a');
+    /// }
+    /// # Ok::<(), Refused<char>>(())
+    /// ```
+    #[inline]
+    pub fn try_insert_entry(self, value: V) -> Result<OccupiedEntry<'a, K, V>, Refused<V>> {
+        Ok(OccupiedEntry(self.0.insert_entry(value)?))
+    }
+}
+
+impl<K: IntKey + Debug, V> Debug for VacantEntry<'_, K, V> {
+    fn fmt(&self, f: &mut Formatter<'_>) -> fmt::Result {
+        f.debug_tuple("VacantEntry").field(self.key()).finish()
+    }
+}

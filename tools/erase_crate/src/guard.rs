@@ -1,0 +1,33 @@
+//! The guard of the calls that run a caller's code in the middle of a change: that of a closure, of
+//! a drop, or of a key's `number`.
+use crate::IntKey;
+use crate::proved::map::IntMap;
+use crate::proved::set::IntSet;
+
+/// What can be mended after a panic.
+pub(crate) trait Mend {
+    fn mend(&mut self);
+}
+
+impl<K: IntKey, V> Mend for IntMap<K, V> {
+    fn mend(&mut self) {
+        IntMap::mend(self);
+    }
+}
+
+impl<K: IntKey> Mend for IntSet<K> {
+    fn mend(&mut self) {
+        IntSet::mend(self);
+    }
+}
+
+/// Mends a map or a set as it is dropped, which only a panic does: a call that returns forgets it.
+pub(crate) struct Mending<'a, T: Mend>(pub(crate) &'a mut T);
+
+impl<T: Mend> Drop for Mending<'_, T> {
+    #[cold]
+    #[inline(never)]
+    fn drop(&mut self) {
+        self.0.mend();
+    }
+}

@@ -1,0 +1,234 @@
+//! The iterators of a map.
+//!
+//! All go through the slots in turn, and through each slot from front to back. All stay at their
+//! end. Those that borrow the map know how many items are left. Those that own it only say that
+//! there are at most that many, since a map that is collected from them then begins with the least
+//! capacity, as in Rust's `intmap`.
+//!
+//! The text of an iterator over references has the items that are left; that of the others says how
+//! many are.
+//!
+//! ```
+//! use intmap_proved::{iter::Iter, IntMap};
+//!
+//! fn first<'a>(mut pairs: Iter<'a, u64, char>) -> Option<(&'a u64, &'a char)> {
+//!     pairs.next()
+//! }
+//!
+//! let map = IntMap::from([(0, 'a'), (1, 'b')]);
+//! assert_eq!(first(map.iter()), Some((&0, &'a')));
+//! assert_eq!(map.iter().size_hint(), (2, Some(2)));
+//! assert_eq!(map.into_iter().size_hint(), (0, Some(2)));
+//! ```
+use crate::IntKey;
+use crate::memory::clone;
+use crate::proved::map::iter as proved;
+use core::fmt::{self, Debug, Formatter};
+use core::iter::FusedIterator;
+
+/// Writes an iterator that counts the items that are left.
+macro_rules! iterators {
+    ($least:expr; $(
+        $(#[$doc:meta])*
+        $name:ident [$($generics:tt)*] [$($args:tt)*] -> $item:ty;
+    )*) => { $(
+        $(#[$doc])*
+        #[must_use = "iterators are lazy and do nothing unless consumed"]
+        pub struct $name<$($generics)*> {
+            pub(crate) inner: proved::$name<$($args)*>,
+            pub(crate) left: usize,
+        }
+
+        impl<$($generics)*> Iterator for $name<$($args)*> {
+            type Item = $item;
+
+            #[inline]
+            fn next(&mut self) -> Option<$item> {
+                let item = self.inner.next()?;
+                self.left = self.left.saturating_sub(1);
+                Some(item)
+            }
+
+            #[inline]
+            fn size_hint(&self) -> (usize, Option<usize>) {
+                ($least(self.left), Some(self.left))
+            }
+        }
+
+        impl<$($generics)*> FusedIterator for $name<$($args)*> {}
+    )* };
+}
+
+iterators! { |left| left;
+    /// The pairs of a map, made by [`IntMap::iter`](crate::IntMap::iter).
+    ///
+    /// ```
+    /// let map = intmap_proved::IntMap::from([(0u64, 'a'), (1, 'b')]);
+    /// let mut pairs = map.iter();
+    /// assert_eq!((pairs.len(), pairs.next()), (2, Some((&0, &'a'))));
+    /// ```
+    Iter ['a, K: IntKey, V] ['a, K, V] -> (&'a K, &'a V);
+
+    /// The pairs of a map, whose values can be changed, made by
+    /// [`IntMap::iter_mut`](crate::IntMap::iter_mut).
+    ///
+    /// ```
+    /// let mut map = intmap_proved::IntMap::from([(0u64, 'a'), (1, 'b')]);
+    /// *map.iter_mut().next().unwrap().1 = 'z';
+    /// assert_eq!(map[0], 'z');
+    /// ```
+    IterMut ['a, K: IntKey, V] ['a, K, V] -> (&'a K, &'a mut V);
+
+    /// The keys of a map, made by [`IntMap::keys`](crate::IntMap::keys).
+    ///
+    /// ```
+    /// let map = intmap_proved::IntMap::from([(0u64, 'a'), (1, 'b')]);
+    /// assert_eq!(format!("{:?}", map.keys()), "[0, 1]");
+    /// ```
+    Keys ['a, K: IntKey, V] ['a, K, V] -> &'a K;
+
+    /// The values of a map, made by [`IntMap::values`](crate::IntMap::values).
+    ///
+    /// ```
+    /// let map = intmap_proved::IntMap::from([(0u64, 'a'), (1, 'b')]);
+    /// assert_eq!(format!("{:?}", map.values()), "['a', 'b']");
+    /// ```
+    Values ['a, K: IntKey, V] ['a, K, V] -> &'a V;
+
+    /// The values of a map, which can be changed, made by
+    /// [`IntMap::values_mut`](crate::IntMap::values_mut).
+    ///
+    /// ```
+    /// let mut map = intmap_proved::IntMap::from([(0u64, 'a'), (1, 'b')]);
+    /// assert_eq!(format!("{:?}", map.values_mut()), "ValuesMut { left: 2 }");
+    /// ```
+    ValuesMut ['a, K: IntKey, V] ['a, K, V] -> &'a mut V;
+
+    /// Removes one pair of a map at each step and returns it, made by
+    /// [`IntMap::drain`](crate::IntMap::drain). The pairs that it didn't return stay in the map.
+    ///
+    /// ```
+    /// let mut map = intmap_proved::IntMap::from([(0u64, 'a'), (1, 'b')]);
+    /// assert_eq!(map.drain().take(1).count(), 1);
+    /// assert_eq!(map.len(), 1);
+    /// ```
+    Drain ['a, K: IntKey, V] ['a, K, V] -> (K, V);
+}
+
+iterators! { |_| 0;
+    /// The pairs of a map by value, made by [`IntMap::into_iter`](IntoIterator::into_iter).
+    ///
+    /// ```
+    /// let map = intmap_proved::IntMap::from([(0u64, 'a'), (1, 'b')]);
+    /// assert_eq!(map.into_iter().size_hint(), (0, Some(2)));
+    /// ```
+    IntoIter [K: IntKey, V] [K, V] -> (K, V);
+
+    /// The keys of a map by value, made by [`IntMap::into_keys`](crate::IntMap::into_keys).
+    ///
+    /// ```
+    /// let map = intmap_proved::IntMap::from([(0u64, 'a'), (1, 'b')]);
+    /// assert_eq!(map.into_keys().last(), Some(1));
+    /// ```
+    IntoKeys [K: IntKey, V] [K, V] -> K;
+
+    /// The values of a map by value, made by [`IntMap::into_values`](crate::IntMap::into_values).
+    ///
+    /// ```
+    /// let map = intmap_proved::IntMap::from([(0u64, 'a'), (1, 'b')]);
+    /// assert_eq!(map.into_values().last(), Some('b'));
+    /// ```
+    IntoValues [K: IntKey, V] [K, V] -> V;
+}
+
+/// Removes the pairs of a map that a closure picks, one at each step, made by
+/// [`IntMap::extract_if`](crate::IntMap::extract_if).
+///
+/// ```
+/// let mut map = intmap_proved::IntMap::from([(0u64, 'a'), (1, 'b')]);
+/// assert_eq!(map.extract_if(|key, _| key > 0).next(), Some((1, 'b')));
+/// ```
+#[must_use = "iterators are lazy and do nothing unless consumed"]
+pub struct ExtractIf<'a, K: IntKey, V, F> {
+    pub(crate) inner: proved::ExtractIf<'a, K, V, F>,
+}
+
+impl<K: IntKey, V, F: FnMut(K, &mut V) -> bool> Iterator for ExtractIf<'_, K, V, F> {
+    type Item = (K, V);
+
+    #[inline]
+    fn next(&mut self) -> Option<(K, V)> {
+        self.inner.next()
+    }
+
+    #[inline]
+    fn size_hint(&self) -> (usize, Option<usize>) {
+        self.inner.size_hint()
+    }
+}
+
+impl<K: IntKey, V, F: FnMut(K, &mut V) -> bool> FusedIterator for ExtractIf<'_, K, V, F> {}
+
+impl<K: IntKey, V, F> Debug for ExtractIf<'_, K, V, F> {
+    fn fmt(&self, f: &mut Formatter<'_>) -> fmt::Result {
+        f.debug_struct("ExtractIf").finish_non_exhaustive()
+    }
+}
+
+/// Writes that an iterator knows how many items are left.
+macro_rules! counted {
+    ($($name:ident)*) => { $(
+        impl<K: IntKey, V> ExactSizeIterator for $name<'_, K, V> {}
+    )* };
+}
+
+counted!(Iter IterMut Keys Values ValuesMut Drain);
+
+/// Writes clones of an iterator, and the text of the items that are left.
+macro_rules! shared {
+    ($($name:ident [$($bound:tt)*])*) => { $(
+        impl<K: IntKey, V> Clone for $name<'_, K, V> {
+            #[inline]
+            fn clone(&self) -> Self {
+                $name { inner: copied(&self.inner), left: self.left }
+            }
+        }
+
+        impl<K: IntKey + Debug, V $($bound)*> Debug for $name<'_, K, V> {
+            fn fmt(&self, f: &mut Formatter<'_>) -> fmt::Result {
+                f.debug_list().entries(self.clone()).finish()
+            }
+        }
+    )* };
+}
+
+shared!(Iter [: Debug] Keys [] Values [: Debug]);
+
+/// Writes the text of an iterator that can't be cloned: how many items are left.
+macro_rules! owned {
+    ($($name:ident [$($args:tt)*])*) => { $(
+        impl<K: IntKey, V> Debug for $name<$($args)*> {
+            fn fmt(&self, f: &mut Formatter<'_>) -> fmt::Result {
+                f.debug_struct(stringify!($name)).field("left", &self.left).finish()
+            }
+        }
+    )* };
+}
+
+owned! {
+    IterMut ['_, K, V]
+    ValuesMut ['_, K, V]
+    Drain ['_, K, V]
+    IntoIter [K, V]
+    IntoKeys [K, V]
+    IntoValues [K, V]
+}
+
+/// A copy of an iterator that holds references alone. It doesn't allocate, so it doesn't fail.
+#[inline]
+pub(crate) fn copied<T: clone::Clone>(iterator: &T) -> T {
+    match clone::Clone::clone(iterator) {
+        Ok(copy) => copy,
+        Err(_) => unreachable!("a copy of references allocates nothing"),
+    }
+}

@@ -1,0 +1,117 @@
+//! Insertions.
+use super::IntMap;
+use crate::IntKey;
+use crate::guard::Mending;
+use crate::refusal::{Refused, granted};
+use core::mem;
+
+impl<K: IntKey, V> IntMap<K, V> {
+    /// Inserts the pair, and returns the value that the key had, if it was present.
+    ///
+    /// The new pair is the last one of its slot. The pair of a present key is removed first, and
+    /// the last pair of the slot takes its place.
+    ///
+    /// A failed allocation is handled as std does; [`try_insert`](IntMap::try_insert) returns it.
+    /// The cost is *O*(*s*), and *O*(*n* + *c*) for an insertion at which the slots are doubled.
+    /// That is *O*(*s*) amortized.
+    ///
+    /// # Panics
+    ///
+    /// If the map needs more than 2^63 slots.
+    ///
+    /// # Examples
+    ///
+    /// ```
+    /// use intmap_proved::IntMap;
+    ///
+    /// let mut map = IntMap::from([(0u64, 'a'), (4, 'b')]);
+    /// assert_eq!(map.insert(0, 'z'), Some('a'));
+    /// assert_eq!(format!("{map:?}"), "{4: 'b', 0: 'z'}");
+    /// ```
+    #[inline(always)]
+    pub fn insert(&mut self, key: K, value: V) -> Option<V> {
+        let guard = Mending(&mut self.map);
+        let result = guard.0.insert(key, value);
+        mem::forget(guard);
+        granted(result)
+    }
+
+    /// The same as [`insert`](IntMap::insert), but it returns a failure, with the value.
+    ///
+    /// Unlike std's unstable `try_insert`, it doesn't fail for a present key, but replaces its
+    /// value. [`try_insert_checked`](IntMap::try_insert_checked) keeps it.
+    ///
+    /// # Errors
+    ///
+    /// [`TooLarge`](crate::Cause::TooLarge) if the map needs more than 2^63 slots,
+    /// [`Memory`](crate::Cause::Memory) if an allocation fails. The map stays as it was. It never
+    /// fails if the key is present.
+    ///
+    /// # Examples
+    ///
+    /// ```
+    /// use intmap_proved::{IntMap, Refused};
+    ///
+    /// let mut map = IntMap::new();
+    /// assert_eq!(map.try_insert(21u64, 'a')?, None);
+    /// assert_eq!(map.try_insert(21, 'b')?, Some('a'));
+    /// # Ok::<(), Refused<char>>(())
+    /// ```
+    #[inline(always)]
+    pub fn try_insert(&mut self, key: K, value: V) -> Result<Option<V>, Refused<V>> {
+        let guard = Mending(&mut self.map);
+        let result = guard.0.insert(key, value);
+        mem::forget(guard);
+        result
+    }
+
+    /// Inserts the pair if the key is absent, and returns whether it was. A present key keeps its
+    /// value, and `value` is dropped.
+    ///
+    /// A failed allocation is handled as std does;
+    /// [`try_insert_checked`](IntMap::try_insert_checked) returns it. The cost is that of
+    /// [`insert`](IntMap::insert).
+    ///
+    /// # Panics
+    ///
+    /// If the map needs more than 2^63 slots.
+    ///
+    /// # Examples
+    ///
+    /// ```
+    /// use intmap_proved::IntMap;
+    ///
+    /// let mut map = IntMap::new();
+    /// assert!(map.insert_checked(21u64, 'a'));
+    /// assert!(!map.insert_checked(21, 'b'));
+    /// assert_eq!(map[21], 'a');
+    /// ```
+    #[inline]
+    pub fn insert_checked(&mut self, key: K, value: V) -> bool {
+        granted(self.try_insert_checked(key, value))
+    }
+
+    /// The same as [`insert_checked`](IntMap::insert_checked), but it returns a failure, with the
+    /// value.
+    ///
+    /// # Errors
+    ///
+    /// As for [`try_insert`](IntMap::try_insert).
+    ///
+    /// # Examples
+    ///
+    /// ```
+    /// use intmap_proved::{IntMap, Refused};
+    ///
+    /// let mut map = IntMap::new();
+    /// assert!(map.try_insert_checked(21u64, 'a')?);
+    /// # Ok::<(), Refused<char>>(())
+    /// ```
+    #[inline]
+    pub fn try_insert_checked(&mut self, key: K, value: V) -> Result<bool, Refused<V>> {
+        let guard = Mending(&mut self.map);
+        let result = guard.0.insert_checked(key, value);
+        mem::forget(guard);
+        result
+    }
+}

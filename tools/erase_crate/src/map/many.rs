@@ -1,0 +1,186 @@
+//! Calls on many pairs.
+use super::IntMap;
+use crate::IntKey;
+use crate::guard::Mending;
+use crate::iter::{Drain, ExtractIf};
+use crate::memory::alloc::Global;
+use crate::proved::map::IntMap as Proved;
+use crate::refusal::{Cause, RefusedPair};
+use core::mem;
+
+impl<K: IntKey, V> IntMap<K, V> {
+    /// Calls `keep` once for each pair, in iteration order, and removes the pairs for which it
+    /// returns `false`.
+    ///
+    /// The other pairs keep their order, and the capacity stays. Unlike std's, `keep` takes the key
+    /// by value and can't change the value: see [`extract_if`](IntMap::extract_if). It doesn't
+    /// allocate. The cost is *O*(*n* + *c*).
+    ///
+    /// If `keep` or the drop of a value panics, the map stays whole, and the pairs that weren't
+    /// reached stay in it.
+    ///
+    /// # Examples
+    ///
+    /// ```
+    /// use intmap_proved::IntMap;
+    ///
+    /// let mut map = IntMap::from([(0u64, 'a'), (4, 'b'), (8, 'c')]);
+    /// map.retain(|key, _| key > 0);
+    /// assert_eq!(format!("{map:?}"), "{4: 'b', 8: 'c'}");
+    /// ```
+    pub fn retain<F: FnMut(K, &V) -> bool>(&mut self, keep: F) {
+        let guard = Mending(&mut self.map);
+        guard.0.retain(keep);
+        mem::forget(guard);
+    }
+
+    /// Removes all pairs. The capacity, the load factor and the memory stay.
+    ///
+    /// If the drop of a value panics, the map stays whole. The cost is *O*(*n* + *c*).
+    ///
+    /// # Examples
+    ///
+    /// ```
+    /// use intmap_proved::IntMap;
+    ///
+    /// let mut map = IntMap::from([(21u64, 'a')]);
+    /// map.clear();
+    /// assert_eq!((map.len(), map.capacity()), (0, 2));
+    /// ```
+    pub fn clear(&mut self) {
+        let guard = Mending(&mut self.map);
+        guard.0.clear();
+        mem::forget(guard);
+    }
+
+    /// Returns an iterator that removes one pair at each step and returns it, in iteration order.
+    ///
+    /// Unlike std's, it leaves the pairs that it didn't return if it is dropped early: they stay in
+    /// the map, in their order. They also stay if it is forgotten. The capacity stays. A step costs
+    /// *O*(*s*), all of them with the look for the next slots *O*(*n s* + *c*).
+    ///
+    /// # Examples
+    ///
+    /// ```
+    /// use intmap_proved::IntMap;
+    ///
+    /// let mut map = IntMap::from([(0u64, 'a'), (4, 'b'), (8, 'c')]);
+    /// assert_eq!(map.drain().next(), Some((0, 'a')));
+    /// assert_eq!(format!("{map:?}"), "{4: 'b', 8: 'c'}");
+    /// ```
+    pub fn drain(&mut self) -> Drain<'_, K, V> {
+        Drain { left: self.len(), inner: self.map.drain() }
+    }
+
+    /// Returns an iterator that removes the pairs for which `pick` returns `true`, one at each
+    /// step, and returns them, in iteration order.
+    ///
+    /// `pick` may change each value that it sees. It is called once for each pair, and only as the
+    /// iterator goes on. If the iterator is dropped early or forgotten, the pairs that it didn't
+    /// reach stay as they are. All steps together cost *O*(*n s* + *c*) beside the calls of `pick`.
+    ///
+    /// # Examples
+    ///
+    /// ```
+    /// use intmap_proved::IntMap;
+    ///
+    /// let mut map = IntMap::from([(0u64, 10), (1, 20), (2, 30)]);
+    /// let large: Vec<_> = map.extract_if(|_, value| *value > 15).collect();
+    /// assert_eq!(large, [(1, 20), (2, 30)]);
+    /// assert_eq!(map.len(), 1);
+    /// ```
+    pub fn extract_if<F: FnMut(K, &mut V) -> bool>(&mut self, pick: F) -> ExtractIf<'_, K, V, F> {
+        ExtractIf { inner: self.map.extract_if(pick) }
+    }
+
+    /// Calls `change` once for each pair, in iteration order. The cost is *O*(*n* + *c*).
+    ///
+    /// It does what a loop over [`iter_mut`](IntMap::iter_mut) does, but its text is the proved
+    /// one.
+    ///
+    /// # Examples
+    ///
+    /// ```
+    /// use intmap_proved::IntMap;
+    ///
+    /// let mut map = IntMap::from([(0u64, 10), (1, 20)]);
+    /// map.for_each_mut(|key, value| *value += key);
+    /// assert_eq!((map[0], map[1]), (10, 21));
+    /// ```
+    pub fn for_each_mut<F: FnMut(K, &mut V)>(&mut self, change: F) {
+        self.map.for_each_mut(change);
+    }
+
+    /// Inserts each pair in turn, as [`insert`](IntMap::insert) does, up to the first one that
+    /// fails.
+    ///
+    /// # Errors
+    ///
+    /// Those of [`try_insert`](IntMap::try_insert), with the pair that failed and the number of
+    /// pairs before it. Those stay in the map, and the rest of the iterator is dropped.
+    ///
+    /// # Examples
+    ///
+    /// ```
+    /// use intmap_proved::{IntMap, RefusedPair};
+    ///
+    /// let mut map = IntMap::new();
+    /// map.try_extend([(21u64, 'a'), (22, 'b')])?;
+    /// assert_eq!(map.len(), 2);
+    /// # Ok::<(), RefusedPair<u64, char>>(())
+    /// ```
+    pub fn try_extend<I>(&mut self, pairs: I) -> Result<(), RefusedPair<K, V>>
+    where
+        I: IntoIterator<Item = (K, V)>,
+    {
+        let guard = Mending(&mut self.map);
+        let result = guard.0.extend(pairs.into_iter());
+        mem::forget(guard);
+        result
+    }
+
+    /// The same as [`from_iter`](FromIterator::from_iter), but it returns a failure.
+    ///
+    /// # Errors
+    ///
+    /// Those of [`try_with_capacity`](IntMap::try_with_capacity) and
+    /// [`try_insert`](IntMap::try_insert), without the pairs: they are dropped.
+    ///
+    /// # Examples
+    ///
+    /// ```
+    /// use intmap_proved::{Cause, IntMap};
+    ///
+    /// let map = IntMap::try_from_iter([(21u64, 'a'), (22, 'b')])?;
+    /// assert_eq!(map.len(), 2);
+    /// # Ok::<(), Cause>(())
+    /// ```
+    pub fn try_from_iter<I>(pairs: I) -> Result<IntMap<K, V>, Cause>
+    where
+        I: IntoIterator<Item = (K, V)>,
+    {
+        Ok(IntMap { map: Proved::from_iter(Global, pairs.into_iter())? })
+    }
+}
+
+impl<K: IntKey, V: Clone> IntMap<K, V> {
+    /// The same as [`clone`](Clone::clone), but it returns a failure to allocate the slots.
+    ///
+    /// # Errors
+    ///
+    /// [`Cause::Memory`] if an allocation of the map fails. What the clone of a value allocates is
+    /// handled by the value's type.
+    ///
+    /// # Examples
+    ///
+    /// ```
+    /// use intmap_proved::{Cause, IntMap};
+    ///
+    /// let map = IntMap::from([(21u64, 'a')]);
+    /// assert_eq!(map.try_clone()?, map);
+    /// # Ok::<(), Cause>(())
+    /// ```
+    pub fn try_clone(&self) -> Result<IntMap<K, V>, Cause> {
+        Ok(IntMap { map: self.map.clone()? })
+    }
+}

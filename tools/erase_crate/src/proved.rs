@@ -1,0 +1,12 @@
+//! The proved code: the project's Rattle sources without their contracts.
+//!
+//! `tools/erase` of the repository writes these modules. What is private to a crate there is private
+//! to a module here. A few short files among them are written by hand, and are tested, not proved:
+//! each `written` is for mutable references to the values, one by one, each `mending` for what a
+//! panic has left in the middle of a call, and `cloned` for clones of iterators over two sets. Code
+//! that no call reaches, and the style of the sources, are as the sources have them.
+#![allow(dead_code, unused_imports, clippy::all)]
+
+pub mod map;
+pub mod set;
+pub mod table;

@@ -1,0 +1,287 @@
+//! A set of integers, and its iterators.
+//!
+//! ```
+//! use intmap_proved::{set::Union, IntSet};
+//!
+//! fn count(members: Union<'_, u64>) -> usize {
+//!     members.count()
+//! }
+//!
+//! assert_eq!(count(IntSet::from([1, 2]).union(&IntSet::from([2, 3]))), 3);
+//! ```
+use crate::IntKey;
+use crate::guard::Mending;
+use crate::memory::alloc::Global;
+use crate::proved::set::IntSet as Proved;
+use crate::refusal::{Cause, granted};
+use core::mem;
+
+mod combine;
+mod iter;
+mod many;
+mod traits;
+
+pub use iter::{Difference, Drain, Intersection, IntoIter, Iter, SymmetricDifference, Union};
+
+/// A set of integers.
+///
+/// Its members lie in slots as the keys of an [`IntMap`](crate::IntMap) do, and iteration goes
+/// through them in the same way: order and capacity depend on the calls alone. In what the calls
+/// say of their cost, *n* is the number of members, *c* the capacity, and *s* the number of members
+/// in the slot of the key.
+///
+/// # Examples
+///
+/// ```
+/// use intmap_proved::IntSet;
+///
+/// let first = IntSet::from([1u64, 2, 3]);
+/// let second = IntSet::from([2, 3, 4]);
+/// assert_eq!(&first & &second, IntSet::from([2, 3]));
+/// assert!(first.contains(1) && !second.contains(1));
+/// ```
+pub struct IntSet<K: IntKey> {
+    set: Proved<K>,
+}
+
+impl<K: IntKey> IntSet<K> {
+    /// Returns an empty set of 4 slots, with a load factor of 0.909.
+    ///
+    /// Unlike std's, it allocates. A failed allocation is handled as std does;
+    /// [`try_new`](IntSet::try_new) returns it. The cost is *O*(1).
+    ///
+    /// # Examples
+    ///
+    /// ```
+    /// let set = intmap_proved::IntSet::<u64>::new();
+    /// assert_eq!((set.len(), set.capacity()), (0, 4));
+    /// ```
+    #[must_use]
+    pub fn new() -> IntSet<K> {
+        granted(IntSet::try_new())
+    }
+
+    /// The same as [`new`](IntSet::new), but it returns a failure.
+    ///
+    /// # Errors
+    ///
+    /// [`Cause::Memory`] if an allocation fails.
+    ///
+    /// # Examples
+    ///
+    /// ```
+    /// use intmap_proved::{Cause, IntSet};
+    ///
+    /// assert!(IntSet::<u64>::try_new()?.is_empty());
+    /// # Ok::<(), Cause>(())
+    /// ```
+    pub fn try_new() -> Result<IntSet<K>, Cause> {
+        Ok(IntSet { set: Proved::new(Global)? })
+    }
+
+    /// Returns an empty set. Its capacity is the least power of two that is at least `capacity`,
+    /// and at least 2.
+    ///
+    /// The load factor isn't considered, so the insertion of `capacity` keys may still double the
+    /// slots.
+    ///
+    /// A failed allocation is handled as std does; [`try_with_capacity`](IntSet::try_with_capacity)
+    /// returns it. The cost is *O*(*c*).
+    ///
+    /// # Panics
+    ///
+    /// If `capacity` is above 2^63.
+    ///
+    /// # Examples
+    ///
+    /// ```
+    /// assert_eq!(intmap_proved::IntSet::<u64>::with_capacity(20).capacity(), 32);
+    /// ```
+    #[must_use]
+    pub fn with_capacity(capacity: usize) -> IntSet<K> {
+        granted(IntSet::try_with_capacity(capacity))
+    }
+
+    /// The same as [`with_capacity`](IntSet::with_capacity), but it returns a failure.
+    ///
+    /// # Errors
+    ///
+    /// [`Cause::TooLarge`] if `capacity` is above 2^63, and otherwise [`Cause::Memory`] if an
+    /// allocation fails.
+    ///
+    /// # Examples
+    ///
+    /// ```
+    /// use intmap_proved::{Cause, IntSet};
+    ///
+    /// assert_eq!(IntSet::<u64>::try_with_capacity(usize::MAX).err(), Some(Cause::TooLarge));
+    /// ```
+    pub fn try_with_capacity(capacity: usize) -> Result<IntSet<K>, Cause> {
+        Ok(IntSet { set: Proved::with_capacity(Global, capacity)? })
+    }
+
+    /// Makes the key a member, and returns whether it is new. A new member is the last one of its
+    /// slot.
+    ///
+    /// A failed allocation is handled as std does; [`try_insert`](IntSet::try_insert) returns it.
+    /// The cost is *O*(*s*) amortized, and *O*(*n* + *c*) if the slots are doubled.
+    ///
+    /// # Panics
+    ///
+    /// If the set needs more than 2^63 slots.
+    ///
+    /// # Examples
+    ///
+    /// ```
+    /// let mut set = intmap_proved::IntSet::new();
+    /// assert!(set.insert(21u64));
+    /// assert!(!set.insert(21));
+    /// ```
+    #[inline]
+    pub fn insert(&mut self, key: K) -> bool {
+        granted(self.try_insert(key))
+    }
+
+    /// The same as [`insert`](IntSet::insert), but it returns a failure.
+    ///
+    /// # Errors
+    ///
+    /// [`Cause::TooLarge`] if the set needs more than 2^63 slots, [`Cause::Memory`] if an
+    /// allocation fails. The set stays as it was. It never fails if the key is a member.
+    ///
+    /// # Examples
+    ///
+    /// ```
+    /// use intmap_proved::{Cause, IntSet};
+    ///
+    /// assert!(IntSet::new().try_insert(21u64)?);
+    /// # Ok::<(), Cause>(())
+    /// ```
+    #[inline]
+    pub fn try_insert(&mut self, key: K) -> Result<bool, Cause> {
+        let guard = Mending(&mut self.set);
+        let result = guard.0.insert(key);
+        mem::forget(guard);
+        result
+    }
+
+    /// Returns whether the key is a member. The cost is *O*(*s*).
+    ///
+    /// # Examples
+    ///
+    /// ```
+    /// let set = intmap_proved::IntSet::from([21u64]);
+    /// assert!(set.contains(21) && !set.contains(22));
+    /// ```
+    #[inline]
+    pub fn contains(&self, key: K) -> bool {
+        self.set.contains(key)
+    }
+
+    /// Removes the key, and returns whether it was a member. The last member of its slot takes its
+    /// place. The cost is *O*(*s*).
+    ///
+    /// # Examples
+    ///
+    /// ```
+    /// let mut set = intmap_proved::IntSet::from([21u64]);
+    /// assert!(set.remove(21));
+    /// assert!(!set.remove(21));
+    /// ```
+    #[inline]
+    pub fn remove(&mut self, key: K) -> bool {
+        self.set.remove(key)
+    }
+
+    /// The same as [`remove`](IntSet::remove), but it returns the key if it was a member.
+    ///
+    /// # Examples
+    ///
+    /// ```
+    /// let mut set = intmap_proved::IntSet::from([21u64]);
+    /// assert_eq!((set.take(21), set.take(21)), (Some(21), None));
+    /// ```
+    #[inline]
+    pub fn take(&mut self, key: K) -> Option<K> {
+        self.remove(key).then_some(key)
+    }
+
+    /// Returns the number of members. The cost is *O*(1).
+    ///
+    /// # Examples
+    ///
+    /// ```
+    /// assert_eq!(intmap_proved::IntSet::from([21u64, 21]).len(), 1);
+    /// ```
+    #[inline]
+    pub fn len(&self) -> usize {
+        self.set.len()
+    }
+
+    /// Returns whether there is no member. The cost is *O*(1).
+    ///
+    /// # Examples
+    ///
+    /// ```
+    /// assert!(intmap_proved::IntSet::<u64>::new().is_empty());
+    /// ```
+    #[inline]
+    pub fn is_empty(&self) -> bool {
+        self.set.is_empty()
+    }
+
+    /// Returns the number of slots, a power of two. The cost is *O*(1).
+    ///
+    /// # Examples
+    ///
+    /// ```
+    /// assert_eq!(intmap_proved::IntSet::from([21u64]).capacity(), 2);
+    /// ```
+    #[inline]
+    pub fn capacity(&self) -> usize {
+        self.set.capacity()
+    }
+
+    /// Makes the capacity at least the number of members plus `additional`, as
+    /// [`IntMap::reserve`](crate::IntMap::reserve) does.
+    ///
+    /// A failed allocation is handled as std does; [`try_reserve`](IntSet::try_reserve) returns it.
+    /// The cost is *O*(*n* + *c*), or *O*(1) if the capacity stays.
+    ///
+    /// # Panics
+    ///
+    /// If the number of members plus `additional` is above 2^63.
+    ///
+    /// # Examples
+    ///
+    /// ```
+    /// let mut set = intmap_proved::IntSet::from([21u64]);
+    /// set.reserve(4);
+    /// assert_eq!(set.capacity(), 8);
+    /// ```
+    pub fn reserve(&mut self, additional: usize) {
+        granted(self.try_reserve(additional))
+    }
+
+    /// The same as [`reserve`](IntSet::reserve), but it returns a failure.
+    ///
+    /// # Errors
+    ///
+    /// [`Cause::TooLarge`] if the number of members plus `additional` is above 2^63, and otherwise
+    /// [`Cause::Memory`] if an allocation fails. The set stays as it was.
+    ///
+    /// # Examples
+    ///
+    /// ```
+    /// use intmap_proved::{Cause, IntSet};
+    ///
+    /// let mut set = IntSet::from([21u64]);
+    /// assert_eq!(set.try_reserve(usize::MAX), Err(Cause::TooLarge));
+    /// ```
+    pub fn try_reserve(&mut self, additional: usize) -> Result<(), Cause> {
+        let guard = Mending(&mut self.set);
+        let result = guard.0.reserve(additional);
+        mem::forget(guard);
+        result
+    }
+}

@@ -1,0 +1,17 @@
+//! What the calls of maps and sets return, and what they leave.
+#![forbid(unsafe_code)]
+
+mod against_std;
+mod carried;
+mod entries;
+mod figures;
+mod iterators;
+mod keys;
+mod order;
+#[path = "../shared/random.rs"]
+mod random;
+mod rows;
+mod sets;
+mod texts;
+mod threads;
+mod values;

@@ -1,0 +1,75 @@
+//! Keys that break the promise of their type: their number changes from call to call, or panics.
+//! Calls may then return anything, lose pairs or panic, but drop each value once.
+use crate::fuse::{burn, panics_at};
+use crate::random::Random;
+use intmap_proved::{Entry, IntKey, IntMap, IntSet};
+use std::cell::RefCell;
+use std::rc::Rc;
+
+const ROUNDS: u64 = 100;
+const CALLS: u64 = 300;
+
+thread_local!(static LIES: RefCell<Random> = const { RefCell::new(Random(1)) });
+
+#[derive(Clone, Copy, PartialEq, Eq)]
+struct Liar(u64);
+
+impl IntKey for Liar {
+    fn number(&self) -> u64 {
+        burn();
+        let lie = LIES.with_borrow_mut(Random::next);
+        match lie % 4 {
+            0 => lie >> 52,
+            _ => self.0,
+        }
+    }
+}
+
+fn call(map: &mut IntMap<Liar, Rc<()>>, call: u64, key: Liar, value: &Rc<()>) {
+    match call {
+        0..4 => drop(map.insert(key, value.clone())),
+        4 => drop(map.remove(key)),
+        5 => map.retain(|key, _| key.0 % 3 > 0),
+        6 => map.values_mut().for_each(|it| *it = value.clone()),
+        7 => match map.entry(key) {
+            Entry::Occupied(entry) => drop(entry.remove_entry()),
+            Entry::Vacant(entry) => drop(entry.insert(value.clone()).clone()),
+        },
+        8 => map.drain().take(3).for_each(drop),
+        9 => drop(map.clone()),
+        10 => drop(map.extract_if(|key, _| key.0 % 2 == 0).next()),
+        _ => map.extend((0..5).map(|number| (Liar(key.0 + number), value.clone()))),
+    }
+}
+
+#[test]
+fn keys_that_lie_drop_each_value_once() {
+    let (value, mut random, mut panics) = (Rc::new(()), Random(2), 0);
+    for round in 0..ROUNDS {
+        let mut map = IntMap::new();
+        for _ in 0..CALLS {
+            let (key, number) = (Liar(random.below(200)), random.below(12));
+            let place = if random.below(8) == 0 { random.below(20) } else { 0 };
+            panics += u64::from(panics_at(place, || call(&mut map, number, key, &value)));
+        }
+        assert!(Rc::strong_count(&value) > map.iter().count(), "values live, round {round}");
+        drop(map);
+        assert_eq!(Rc::strong_count(&value), 1, "values that live after round {round}");
+    }
+    assert!(panics > 1000, "only {panics} panics");
+}
+
+#[test]
+fn a_set_of_keys_that_lie_ends_each_call() {
+    let mut random = Random(3);
+    let mut set = IntSet::new();
+    for _ in 0..20_000 {
+        let (key, number) = (Liar(random.below(200)), random.below(4));
+        panics_at(random.below(8), || match number {
+            0..2 => _ = set.insert(key),
+            2 => _ = set.remove(key),
+            _ => set.retain(|key| key.0 % 3 > 0),
+        });
+        assert!(set.iter().count() <= 20_000);
+    }
+}

@@ -1,0 +1,74 @@
+//! The system's allocator, which fails at the request that a test chooses, and counts bytes.
+use std::alloc::{GlobalAlloc, Layout, System};
+use std::cell::Cell;
+use std::ptr::null_mut;
+
+struct Failing;
+
+thread_local! {
+    /// How many requests of this thread are left up to the one that fails, or 0.
+    static LEFT: Cell<u64> = const { Cell::new(0) };
+    static REQUESTS: Cell<u64> = const { Cell::new(0) };
+    static BYTES: Cell<isize> = const { Cell::new(0) };
+}
+
+fn fails() -> bool {
+    REQUESTS.set(REQUESTS.get() + 1);
+    let left = LEFT.get();
+    LEFT.set(left.saturating_sub(1));
+    left == 1
+}
+
+/// Counts the bytes of a block that is there in place of one of `before` bytes.
+fn counted(block: *mut u8, before: usize, after: usize) -> *mut u8 {
+    if !block.is_null() {
+        BYTES.set(BYTES.get() + after as isize - before as isize);
+    }
+    block
+}
+
+// SAFETY: each request goes to the system's allocator as it is, or returns null, which says that it
+// failed.
+unsafe impl GlobalAlloc for Failing {
+    unsafe fn alloc(&self, layout: Layout) -> *mut u8 {
+        if fails() {
+            return null_mut();
+        }
+        counted(unsafe { System.alloc(layout) }, 0, layout.size())
+    }
+
+    unsafe fn dealloc(&self, block: *mut u8, layout: Layout) {
+        counted(block, layout.size(), 0);
+        unsafe { System.dealloc(block, layout) }
+    }
+
+    unsafe fn realloc(&self, block: *mut u8, layout: Layout, size: usize) -> *mut u8 {
+        if fails() {
+            return null_mut();
+        }
+        counted(unsafe { System.realloc(block, layout, size) }, layout.size(), size)
+    }
+}
+
+#[global_allocator]
+static FAILING: Failing = Failing;
+
+/// Makes the call with its `number`-th request failing, or none at 0. Returns also whether there was
+/// such a request.
+pub fn failing_at<T>(number: u64, call: impl FnOnce() -> T) -> (T, bool) {
+    LEFT.set(number);
+    let returned = call();
+    (returned, LEFT.replace(0) == 0 && number > 0)
+}
+
+/// Returns how many requests the call makes.
+pub fn requests(call: impl FnOnce()) -> u64 {
+    let before = REQUESTS.get();
+    call();
+    REQUESTS.get() - before
+}
+
+/// Returns how many bytes this thread has requested and not given back.
+pub fn bytes() -> isize {
+    BYTES.get()
+}

@@ -1,0 +1,140 @@
+//! Each call with each of its requests failing in turn, and the calls that make none.
+use crate::allocator::{bytes, failing_at, requests};
+use intmap_proved::{Cause, Entry, IntMap, IntSet};
+
+/// So many keys, with as many zero bits behind each. Keys with six share one slot here.
+fn map_of(keys: u64, zeros: u32) -> IntMap<u64, u64> {
+    (0..keys).map(|key| (key << zeros, key + 100)).collect()
+}
+
+type MapCall = fn(&mut IntMap<u64, u64>) -> Result<(), Cause>;
+
+/// A name, how many keys there are before and how many bits of each are zero, how many requests the
+/// call makes, and the call.
+const MAP_CALLS: [(&str, u64, u32, u64, MapCall); 22] = [
+    ("insert into an empty slot", 4, 0, 0, |map| Ok(map.try_insert(5, 1).map(drop)?)),
+    ("insert into a slot of one", 4, 0, 1, |map| Ok(map.try_insert(9, 1).map(drop)?)),
+    ("insert and grow", 14, 0, 3, |map| Ok(map.try_insert(15, 1).map(drop)?)),
+    ("insert and grow a shared slot", 14, 6, 4, |map| Ok(map.try_insert(15, 1).map(drop)?)),
+    ("insert again", 11, 0, 0, |map| Ok(map.try_insert(3, 1).map(drop)?)),
+    ("insert_checked", 4, 0, 1, |map| Ok(map.try_insert_checked(9, 1).map(drop)?)),
+    ("insert_checked again", 4, 0, 0, |map| Ok(map.try_insert_checked(3, 1).map(drop)?)),
+    ("extend", 4, 0, 1, |map| Ok(map.try_extend([(9, 1)])?)),
+    ("reserve", 4, 0, 3, |map| map.try_reserve(100)),
+    ("reserve for a shared slot", 11, 6, 5, |map| map.try_reserve(100)),
+    ("reserve what is there", 4, 0, 0, |map| map.try_reserve(1)),
+    ("set_load_factor", 4, 0, 3, |map| map.try_set_load_factor(0.1)),
+    ("set_load_factor as before", 4, 0, 0, |map| map.try_set_load_factor(0.909)),
+    ("clone", 4, 0, 2, |map| map.try_clone().map(drop)),
+    ("clone a shared slot", 4, 6, 3, |map| map.try_clone().map(drop)),
+    ("collisions", 4, 0, 2, |map| map.try_collisions().map(drop)),
+    ("new", 0, 0, 2, |_| IntMap::<u64, u64>::try_new().map(drop)),
+    ("with_capacity", 0, 0, 2, |_| IntMap::<u64, u64>::try_with_capacity(100).map(drop)),
+    ("from_iter", 0, 0, 2, |_| IntMap::try_from_iter((0..3_u64).map(|it| (it, it))).map(drop)),
+    ("or_insert", 14, 0, 3, |map| Ok(map.entry(15).try_or_insert(1).map(drop)?)),
+    ("or_default", 4, 0, 1, |map| Ok(map.entry(9).try_or_default().map(drop)?)),
+    ("insert_entry", 4, 0, 1, |map| Ok(map.entry(9).try_insert_entry(1).map(drop)?)),
+];
+
+/// Makes the call with each of its requests failing in turn. Returns how many there were.
+fn failures<M, S: PartialEq + std::fmt::Debug>(
+    name: &str,
+    make: impl Fn() -> M,
+    state: impl Fn(&M) -> S,
+    call: impl Fn(&mut M) -> Result<(), Cause>,
+) -> u64 {
+    for number in 1.. {
+        let mut map = make();
+        let (before, held) = (state(&map), bytes());
+        let (returned, failed) = failing_at(number, || call(&mut map));
+        if !failed {
+            assert_eq!(returned, Ok(()), "{name}");
+            return number - 1;
+        }
+        assert_eq!(returned, Err(Cause::Memory), "{name}, request {number}");
+        assert_eq!(bytes(), held, "bytes after {name}, request {number}");
+        assert_eq!(state(&map), before, "{name}, request {number}");
+        assert_eq!(call(&mut map), Ok(()), "{name} once more, after request {number}");
+    }
+    unreachable!()
+}
+
+#[test]
+fn a_failed_call_leaves_the_map() {
+    for (name, keys, zeros, wanted, call) in MAP_CALLS {
+        let make = || map_of(keys, zeros);
+        let state = |map: &IntMap<u64, u64>| {
+            (format!("{map:?}"), map.capacity(), map.load_factor_thousandths(), map.len())
+        };
+        let before = bytes();
+        assert_eq!(failures(name, make, state, call), wanted, "requests of {name}");
+        assert_eq!(bytes(), before, "bytes left after {name}");
+    }
+}
+
+type SetCall = fn(&mut IntSet<u64>) -> Result<(), Cause>;
+
+const SET_CALLS: [(&str, u64, SetCall); 8] = [
+    ("insert", 1, |set| set.try_insert(9).map(drop)),
+    ("insert again", 0, |set| set.try_insert(3).map(drop)),
+    ("extend", 1, |set| set.try_extend([9])),
+    ("reserve", 3, |set| set.try_reserve(100)),
+    ("clone", 2, |set| set.try_clone().map(drop)),
+    ("new", 2, |_| IntSet::<u64>::try_new().map(drop)),
+    ("with_capacity", 2, |_| IntSet::<u64>::try_with_capacity(100).map(drop)),
+    ("from_iter", 2, |_| IntSet::try_from_iter(0..3_u64).map(drop)),
+];
+
+#[test]
+fn a_failed_call_leaves_the_set() {
+    for (name, wanted, call) in SET_CALLS {
+        let make = || (0..4).collect();
+        let state = |set: &IntSet<u64>| (format!("{set:?}"), set.capacity(), set.len());
+        assert_eq!(failures(name, make, state, call), wanted, "requests of {name}");
+    }
+}
+
+type Quiet = fn(&mut IntMap<u64, u64>);
+
+const QUIET: [(&str, Quiet); 14] = [
+    ("get", |map| assert!(map.get(3).is_some())),
+    ("get_mut", |map| assert!(map.get_mut(3).is_some())),
+    ("insert again", |map| assert!(map.insert(3, 1).is_some())),
+    ("entry", |map| *map.entry(3).or_insert(1) += 1),
+    ("iter", |map| assert_eq!(map.iter().count(), 1000)),
+    ("keys", |map| assert_eq!(map.keys().count(), 1000)),
+    ("values_mut", |map| map.values_mut().for_each(|value| *value += 1)),
+    ("remove", |map| assert!(map.remove(3).is_some())),
+    ("remove by an entry", |map| {
+        let Entry::Occupied(entry) = map.entry(3) else { panic!("3 is present") };
+        entry.remove();
+    }),
+    ("retain", |map| map.retain(|key, _| key % 2 == 0)),
+    ("extract_if", |map| assert_eq!(map.extract_if(|key, _| key % 2 == 0).count(), 500)),
+    ("drain", |map| assert_eq!(map.drain().count(), 1000)),
+    ("clear", |map| map.clear()),
+    ("==", |map| assert!(map.eq(&map))),
+];
+
+#[test]
+fn calls_that_need_no_memory_request_none() {
+    for (name, call) in QUIET {
+        // two keys a slot
+        let mut map: IntMap<u64, u64> = (0..500).chain(4096..4596).map(|key| (key, key)).collect();
+        assert_eq!(requests(|| call(&mut map)), 0, "{name}");
+    }
+}
+
+#[test]
+fn maps_give_their_memory_back() {
+    let before = bytes();
+    for keys in [0, 1, 100, 10_000] {
+        let mut map = map_of(keys, 0);
+        map.extend((0..keys).map(|key| (key << 20, key)));
+        assert!(bytes() > before, "{keys} keys");
+        drop(map.clone());
+        map.retain(|key, _| key % 3 == 0);
+        drop(map.into_iter().take(7).collect::<IntMap<u64, u64>>());
+        assert_eq!(bytes(), before, "{keys} keys");
+    }
+}
