@@ -57,12 +57,11 @@ macro_rules! is_map {
 }
 
 is_map!(std::collections::HashMap<u64, u64>, [&]);
+is_map!(intmap_proved::IntMap<u64, u64>, []);
 #[cfg(feature = "hashbrown")]
 is_map!(hashbrown::HashMap<u64, u64>, [&]);
 #[cfg(feature = "intmap")]
 is_map!(intmap::IntMap<u64>, []);
-#[cfg(feature = "binding")]
-is_map!(binding::IntMap<u64>, []);
 
 /// The key of a kind at this place.
 fn key_at(kind: &str, place: u64) -> u64 {
@@ -159,12 +158,11 @@ fn main() {
     let others: Vec<u64> = (count..2 * count).map(|at| key_at(kind, at)).collect();
     let all = match map.as_str() {
         "std" => all::<std::collections::HashMap<u64, u64>>,
+        "proved" => all::<intmap_proved::IntMap<u64, u64>>,
         #[cfg(feature = "hashbrown")]
         "hashbrown" => all::<hashbrown::HashMap<u64, u64>>,
         #[cfg(feature = "intmap")]
         "original" => all::<intmap::IntMap<u64>>,
-        #[cfg(feature = "binding")]
-        "binding" => all::<binding::IntMap<u64>>,
         _ => panic!("no such map: {map}"),
     };
     for _ in 0..times {
