@@ -7,8 +7,8 @@
 /// A type of keys is `Copy` and `Eq`, and gives each key a number. Two keys must be equal exactly
 /// if their numbers are, and a key's number must never change. If a type breaks this, then in its
 /// maps lookups may miss, pairs may be lost, lengths may be wrong, and calls may panic or find no
-/// memory. There is still no undefined behavior, and no value is dropped twice. `number` shouldn't
-/// panic: the page of the crate says what a map then is.
+/// memory. There is still no undefined behavior, and no value is dropped twice. If `number` panics,
+/// the map stays whole: the page of the crate says what that means.
 ///
 /// # Examples
 ///

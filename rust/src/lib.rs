@@ -28,7 +28,7 @@
 //!
 //! Not proved, but tested: mutable references to the values one by one, which [`IntMap::iter_mut`],
 //! [`IntMap::values_mut`] and `&mut map` hand out; what mends a map after a panic; and this crate's
-//! calls over the proved ones, a line or two each.
+//! calls over the proved ones, a few lines each.
 //!
 //! # Failed allocations
 //!
@@ -55,11 +55,7 @@
 //! A closure, a `drop`, a `clone`, an iterator or a key's `number` may panic in the middle of a
 //! call. The map is then whole: each of its pairs is found, walked and counted once, and no value
 //! is dropped twice. What the call did before stays done, and the pairs that it had in hand are
-//! dropped.
-//!
-//! One case is left. If a key's `number` panics while an entry inserts, pairs may be lost and the
-//! length may be wrong, but no value is dropped twice. Such a map should be dropped. [`IntKey`]
-//! says what a type of keys owes.
+//! dropped. [`IntKey`] says what a type of keys owes.
 //!
 //! # Threads
 //!

@@ -42,7 +42,7 @@ impl<'a, K: IntKey, V> Entry<'a, K, V> {
     /// ```
     #[inline]
     pub fn try_or_insert_with<F: FnOnce() -> V>(self, make: F) -> Result<&'a mut V, Refused<V>> {
-        self.proved().or_insert_with(make)
+        self.try_or_insert_with_key(|_| make())
     }
 
     /// The same as [`or_insert_with`](Entry::or_insert_with), but `make` takes the key.
@@ -85,7 +85,13 @@ impl<'a, K: IntKey, V> Entry<'a, K, V> {
         self,
         make: F,
     ) -> Result<&'a mut V, Refused<V>> {
-        self.proved().or_insert_with_key(|key| make(&key))
+        match self {
+            Entry::Occupied(entry) => Ok(entry.into_mut()),
+            Entry::Vacant(entry) => {
+                let value = make(entry.key());
+                entry.try_insert(value)
+            }
+        }
     }
 
     /// The same as [`try_or_insert_with`](Entry::try_or_insert_with), for a value that may fail to
@@ -111,7 +117,10 @@ impl<'a, K: IntKey, V> Entry<'a, K, V> {
         E: From<Refused<V>>,
         F: FnOnce() -> Result<V, E>,
     {
-        self.proved().or_try_insert_with(make)
+        match self {
+            Entry::Occupied(entry) => Ok(entry.into_mut()),
+            Entry::Vacant(entry) => Ok(entry.try_insert(make()?)?),
+        }
     }
 
     /// The same as [`or_insert`](Entry::or_insert), with the default value of the type.
@@ -159,6 +168,6 @@ impl<'a, K: IntKey, V> Entry<'a, K, V> {
     where
         V: Default,
     {
-        self.proved().or_default()
+        self.try_or_insert_with(V::default)
     }
 }

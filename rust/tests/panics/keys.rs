@@ -1,6 +1,6 @@
 //! A panic in each call of a key's number in turn, of keys that don't lie.
 use crate::fuse::{burn, panics_at};
-use intmap_proved::{Entry, IntKey, IntMap, IntSet};
+use intmap_proved::{Cause, Entry, IntKey, IntMap, IntSet, VacantEntry};
 use std::rc::Rc;
 
 /// A key whose number is a place that may panic.
@@ -17,9 +17,18 @@ impl IntKey for Key {
 type Map = IntMap<Key, Rc<()>>;
 type Call = fn(&mut Map, &Rc<()>);
 
+fn vacant(map: &mut Map, key: u64) -> VacantEntry<'_, Key, Rc<()>> {
+    match map.entry(Key(key)) {
+        Entry::Vacant(entry) => entry,
+        Entry::Occupied(_) => panic!("{key} is absent"),
+    }
+}
+
 /// How many keys there are before, and the call. At 14 keys the next insertion makes the map grow.
-const CALLS: [(&str, u64, Call); 16] = [
+/// The slot of 99 has a pair then, the slot of 12 has none.
+const CALLS: [(&str, u64, Call); 30] = [
     ("insert", 12, |map, value| drop(map.insert(Key(1 << 20), value.clone()))),
+    ("insert, empty slot", 12, |map, value| drop(map.insert(Key(12), value.clone()))),
     ("insert and grow", 14, |map, value| drop(map.insert(Key(1 << 20), value.clone()))),
     ("try_insert and grow", 14, |map, value| {
         assert!(map.try_insert(Key(99), value.clone()).is_ok());
@@ -38,7 +47,44 @@ const CALLS: [(&str, u64, Call); 16] = [
     ("set_load_factor", 14, |map, _| map.set_load_factor(0.1)),
     ("get", 12, |map, _| drop(map.get(Key(64)).cloned())),
     ("remove", 12, |map, _| drop(map.remove(Key(64)))),
-    ("entry", 12, |map, value| *map.entry(Key(99)).or_insert(value.clone()) = value.clone()),
+    ("an entry's or_insert", 12, |map, value| _ = map.entry(Key(99)).or_insert(value.clone())),
+    ("or_insert, empty slot", 12, |map, value| _ = map.entry(Key(12)).or_insert(value.clone())),
+    ("or_insert and grow", 14, |map, value| _ = map.entry(Key(99)).or_insert(value.clone())),
+    ("or_insert_with, empty slot", 12, |map, value| {
+        map.entry(Key(12)).or_insert_with(|| value.clone());
+    }),
+    ("or_insert_with and grow", 14, |map, value| {
+        map.entry(Key(99)).or_insert_with(|| value.clone());
+    }),
+    ("or_insert_with_key and grow", 14, |map, value| {
+        map.entry(Key(99)).or_insert_with_key(|key| {
+            key.number();
+            value.clone()
+        });
+    }),
+    ("or_default and grow", 14, |map, _| _ = map.entry(Key(99)).or_default()),
+    ("or_try_insert_with and grow", 14, |map, value| {
+        let made = map.entry(Key(99)).or_try_insert_with(|| Ok::<_, Cause>(value.clone()));
+        assert!(made.is_ok());
+    }),
+    ("insert_entry, empty slot", 12, |map, value| {
+        map.entry(Key(12)).insert_entry(value.clone());
+    }),
+    ("insert_entry and grow", 14, |map, value| {
+        map.entry(Key(99)).insert_entry(value.clone());
+    }),
+    ("insert_entry of a vacant entry, empty slot", 12, |map, value| {
+        vacant(map, 12).insert_entry(value.clone());
+    }),
+    ("insert_entry of a vacant entry and grow", 14, |map, value| {
+        vacant(map, 99).insert_entry(value.clone());
+    }),
+    ("insert of a vacant entry, empty slot", 12, |map, value| {
+        vacant(map, 12).insert(value.clone());
+    }),
+    ("insert of a vacant entry and grow", 14, |map, value| {
+        vacant(map, 99).insert(value.clone());
+    }),
     ("a removed entry", 12, |map, _| {
         if let Entry::Occupied(entry) = map.entry(Key(64)) {
             entry.remove();
@@ -60,7 +106,20 @@ fn is_whole(map: &Map, value: &Rc<()>, after: &str) {
     assert!(map.assert_count(), "the count {after}");
     assert_eq!(map.iter().count(), map.len(), "pairs {after}");
     assert!(map.keys().all(|key| map.contains_key(*key)), "keys {after}: {map:?}");
-    assert_eq!(Rc::strong_count(value), 1 + map.len(), "values {after}");
+    let shared: u64 = map.collisions().iter().map(|(pairs, slots)| (pairs - 1) * slots).sum();
+    assert_eq!(shared + map.load(), map.len() as u64, "slots {after}");
+    let held = map.values().filter(|it| Rc::ptr_eq(it, value)).count();
+    assert_eq!(Rc::strong_count(value), 1 + held, "values {after}");
+}
+
+/// Inserts keys of all slots, and finds each.
+#[track_caller]
+fn is_usable(mut map: Map, value: &Rc<()>, after: &str) {
+    for key in (0..64).map(Key) {
+        map.insert(key, value.clone());
+        assert!(map.contains_key(key), "{key:?} is present {after}");
+    }
+    is_whole(&map, value, after);
 }
 
 #[test]
@@ -73,10 +132,11 @@ fn a_panic_of_a_key_leaves_a_whole_map() {
             let panicked = panics_at(place, || call(&mut map, &value));
             let after = format!("after {name}, place {place}");
             is_whole(&map, &value, &after);
+            let lost = before.iter().filter(|key| !map.contains_key(**key)).count();
+            is_usable(map, &value, &after);
             if !panicked {
                 break;
             }
-            let lost = before.iter().filter(|key| !map.contains_key(**key)).count();
             assert!(lost as u64 <= keys / 2 + 1, "{lost} pairs lost {after}, more than a slot has");
             panics += 1;
         }
@@ -111,26 +171,4 @@ fn a_panic_of_a_key_leaves_a_whole_set() {
         }
     }
     assert!(panics > 100, "only {panics} panics");
-}
-
-#[test]
-fn a_panic_of_a_key_in_an_entry_that_grows_drops_each_value_once() {
-    let value = Rc::new(());
-    for place in 1..60 {
-        let mut map = map_of(14, &value);
-        let panicked = panics_at(place, || _ = map.entry(Key(99)).or_insert(value.clone()));
-        // a call that is guarded, and the panic of a closure in it
-        let again = panics_at(1, || {
-            map.retain(|_, _| {
-                burn();
-                true
-            });
-        });
-        assert!(again, "place {place}");
-        if panicked {
-            is_whole(&map, &value, &format!("place {place}"));
-        }
-        drop(map);
-        assert_eq!(Rc::strong_count(&value), 1, "values that live, place {place}");
-    }
 }

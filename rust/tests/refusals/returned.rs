@@ -2,35 +2,45 @@
 use crate::allocator::failing_at;
 use intmap_proved::{Cause, Entry, IntMap, Refused, RefusedPair};
 
-fn texts() -> IntMap<u64, String> {
-    (0..4).map(|key| (key, key.to_string())).collect()
+fn texts(keys: u64) -> IntMap<u64, String> {
+    (0..keys).map(|key| (key, key.to_string())).collect()
 }
 
 type Insertion = fn(&mut IntMap<u64, String>, String) -> Result<(), Refused<String>>;
 
-const INSERTIONS: [(&str, Insertion); 6] = [
-    ("insert", |map, value| map.try_insert(9, value).map(drop)),
-    ("insert_checked", |map, value| map.try_insert_checked(9, value).map(drop)),
-    ("entry", |map, value| map.entry(9).try_or_insert(value).map(drop)),
-    ("entry with", |map, value| map.entry(9).try_or_insert_with(|| value).map(drop)),
-    ("insert_entry", |map, value| map.entry(9).try_insert_entry(value).map(drop)),
-    ("vacant entry", |map, value| match map.entry(9) {
+/// Each inserts the key 25.
+const INSERTIONS: [(&str, Insertion); 8] = [
+    ("insert", |map, value| map.try_insert(25, value).map(drop)),
+    ("insert_checked", |map, value| map.try_insert_checked(25, value).map(drop)),
+    ("entry", |map, value| map.entry(25).try_or_insert(value).map(drop)),
+    ("entry with", |map, value| map.entry(25).try_or_insert_with(|| value).map(drop)),
+    ("entry with key", |map, value| map.entry(25).try_or_insert_with_key(|_| value).map(drop)),
+    ("entry with a result", |map, value| {
+        map.entry(25).or_try_insert_with(|| Ok::<String, Refused<String>>(value)).map(drop)
+    }),
+    ("insert_entry", |map, value| map.entry(25).try_insert_entry(value).map(drop)),
+    ("vacant entry", |map, value| match map.entry(25) {
         Entry::Vacant(entry) => entry.try_insert(value).map(drop),
-        Entry::Occupied(_) => panic!("9 is absent"),
+        Entry::Occupied(_) => panic!("25 is absent"),
     }),
 ];
 
 #[test]
 fn a_failed_insertion_returns_its_value() {
-    for (name, insert) in INSERTIONS {
-        let mut map = texts();
-        let value = String::from("nine");
+    // the insertion behind 4 keys puts a second pair into a slot, the one behind 14 keys grows the
+    // map
+    for ((name, insert), keys) in INSERTIONS.into_iter().flat_map(|it| [(it, 4), (it, 14)]) {
+        let mut map = texts(keys);
+        let (capacity, order) = (map.capacity(), format!("{map:?}"));
+        let value = String::from("a value");
         let (returned, failed) = failing_at(1, || insert(&mut map, value));
-        assert!(failed, "{name}");
+        assert!(failed, "{name}, {keys} keys");
         let Err(Refused { value, cause }) = returned else { panic!("{name} did not fail") };
-        assert_eq!((value.as_str(), cause), ("nine", Cause::Memory), "{name}");
-        assert!(insert(&mut map, value).is_ok(), "{name} once more");
-        assert_eq!(map.get(9).map(String::as_str), Some("nine"), "{name}");
+        assert_eq!((value.as_str(), cause), ("a value", Cause::Memory), "{name}, {keys} keys");
+        assert_eq!((map.capacity(), format!("{map:?}")), (capacity, order), "{name}, {keys} keys");
+        assert!(insert(&mut map, value).is_ok(), "{name} once more, {keys} keys");
+        assert_eq!(map.get(25).map(String::as_str), Some("a value"), "{name}, {keys} keys");
+        assert_eq!(map.capacity() > capacity, keys == 14, "{name}, {keys} keys");
     }
 }
 
@@ -52,7 +62,7 @@ fn a_failed_extension_returns_its_pair_and_how_many_were_inserted() {
 
 #[test]
 fn a_present_key_gets_its_value_without_memory() {
-    let mut map = texts();
+    let mut map = texts(4);
     let before: Vec<u64> = map.keys().copied().collect();
     let value = String::from("new");
     let (returned, failed) = failing_at(1, || map.try_insert(0, value));

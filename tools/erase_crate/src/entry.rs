@@ -171,7 +171,10 @@ impl<'a, K: IntKey, V> Entry<'a, K, V> {
     /// ```
     #[inline]
     pub fn try_or_insert(self, value: V) -> Result<&'a mut V, Refused<V>> {
-        self.proved().or_insert(value)
+        match self {
+            Entry::Occupied(entry) => Ok(entry.into_mut()),
+            Entry::Vacant(entry) => entry.try_insert(value),
+        }
     }
 
     /// Sets the value of the key, and returns its entry. A present key keeps its place, and its old
@@ -214,7 +217,13 @@ impl<'a, K: IntKey, V> Entry<'a, K, V> {
     /// ```
     #[inline]
     pub fn try_insert_entry(self, value: V) -> Result<OccupiedEntry<'a, K, V>, Refused<V>> {
-        Ok(OccupiedEntry(self.proved().insert_entry(value)?))
+        match self {
+            Entry::Occupied(mut entry) => {
+                entry.insert(value);
+                Ok(entry)
+            }
+            Entry::Vacant(entry) => entry.try_insert_entry(value),
+        }
     }
 }
 

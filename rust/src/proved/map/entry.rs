@@ -95,3 +95,6 @@ impl<'a, K: IntKey, V, A: Allocator + Copy> Entry<'a, K, V, A> {
         }
     }
 }
+
+// Only Rust has what follows. It is tested, not proved.
+mod mending;

@@ -1,8 +1,11 @@
 //! Entries of absent keys.
 use super::{OccupiedEntry, VacantEntry};
 use crate::IntKey;
+use crate::guard::Mending;
+use crate::proved::map::entry as proved;
 use crate::refusal::{Refused, granted};
 use core::fmt::{self, Debug, Formatter};
+use core::mem;
 
 impl<'a, K: IntKey, V> VacantEntry<'a, K, V> {
     /// Returns a reference to the key.
@@ -44,8 +47,7 @@ impl<'a, K: IntKey, V> VacantEntry<'a, K, V> {
     ///
     /// # Panics
     ///
-    /// If the map needs more than 2^63 slots. If the key's `number` panics, the map should be
-    /// dropped: pairs may be lost, and the length may be wrong.
+    /// If the map needs more than 2^63 slots.
     ///
     /// # Examples
     ///
@@ -83,7 +85,7 @@ impl<'a, K: IntKey, V> VacantEntry<'a, K, V> {
     /// ```
     #[inline]
     pub fn try_insert(self, value: V) -> Result<&'a mut V, Refused<V>> {
-        self.0.insert(value)
+        Ok(self.inserted(value)?.into_mut())
     }
 
     /// Inserts the pair as [`insert`](VacantEntry::insert) does, and returns the entry of the key,
@@ -128,7 +130,19 @@ impl<'a, K: IntKey, V> VacantEntry<'a, K, V> {
     /// ```
     #[inline]
     pub fn try_insert_entry(self, value: V) -> Result<OccupiedEntry<'a, K, V>, Refused<V>> {
-        Ok(OccupiedEntry(self.0.insert_entry(value)?))
+        Ok(OccupiedEntry(self.inserted(value)?))
+    }
+
+    /// The proved insertion, under a guard: a key's `number` may panic while the pair is put into
+    /// its slot, or while pairs move to more slots.
+    #[inline]
+    fn inserted(self, value: V) -> Result<proved::OccupiedEntry<'a, K, V>, Refused<V>> {
+        let key = *self.0.key();
+        let map = self.0.into_map();
+        let guard = Mending(&mut *map);
+        let result = guard.0.vacant_entry(key).insert_entry(value).map(|entry| entry.place());
+        mem::forget(guard);
+        Ok(map.entry_at(result?))
     }
 }
 

@@ -1,17 +1,24 @@
 //! Each call with each of its requests failing in turn, and the calls that make none.
 use crate::allocator::{bytes, failing_at, requests};
-use intmap_proved::{Cause, Entry, IntMap, IntSet};
+use intmap_proved::{Cause, Entry, IntMap, IntSet, VacantEntry};
 
 /// So many keys, with as many zero bits behind each. Keys with six share one slot here.
 fn map_of(keys: u64, zeros: u32) -> IntMap<u64, u64> {
     (0..keys).map(|key| (key << zeros, key + 100)).collect()
 }
 
+fn vacant(map: &mut IntMap<u64, u64>, key: u64) -> VacantEntry<'_, u64, u64> {
+    match map.entry(key) {
+        Entry::Vacant(entry) => entry,
+        Entry::Occupied(_) => panic!("{key} is absent"),
+    }
+}
+
 type MapCall = fn(&mut IntMap<u64, u64>) -> Result<(), Cause>;
 
 /// A name, how many keys there are before and how many bits of each are zero, how many requests the
 /// call makes, and the call.
-const MAP_CALLS: [(&str, u64, u32, u64, MapCall); 22] = [
+const MAP_CALLS: [(&str, u64, u32, u64, MapCall); 31] = [
     ("insert into an empty slot", 4, 0, 0, |map| Ok(map.try_insert(5, 1).map(drop)?)),
     ("insert into a slot of one", 4, 0, 1, |map| Ok(map.try_insert(9, 1).map(drop)?)),
     ("insert and grow", 14, 0, 3, |map| Ok(map.try_insert(15, 1).map(drop)?)),
@@ -31,9 +38,28 @@ const MAP_CALLS: [(&str, u64, u32, u64, MapCall); 22] = [
     ("new", 0, 0, 2, |_| IntMap::<u64, u64>::try_new().map(drop)),
     ("with_capacity", 0, 0, 2, |_| IntMap::<u64, u64>::try_with_capacity(100).map(drop)),
     ("from_iter", 0, 0, 2, |_| IntMap::try_from_iter((0..3_u64).map(|it| (it, it))).map(drop)),
-    ("or_insert", 14, 0, 3, |map| Ok(map.entry(15).try_or_insert(1).map(drop)?)),
+    ("or_insert", 4, 0, 1, |map| Ok(map.entry(9).try_or_insert(1).map(drop)?)),
+    ("or_insert and grow", 14, 0, 3, |map| Ok(map.entry(15).try_or_insert(1).map(drop)?)),
+    ("or_insert and grow a shared slot", 14, 6, 4, |map| {
+        Ok(map.entry(15).try_or_insert(1).map(drop)?)
+    }),
+    ("or_insert_with and grow", 14, 0, 3, |map| {
+        Ok(map.entry(15).try_or_insert_with(|| 1).map(drop)?)
+    }),
+    ("or_insert_with_key and grow", 14, 0, 3, |map| {
+        Ok(map.entry(15).try_or_insert_with_key(|key| *key).map(drop)?)
+    }),
+    ("or_try_insert_with and grow", 14, 0, 3, |map| {
+        map.entry(15).or_try_insert_with(|| Ok::<u64, Cause>(1)).map(drop)
+    }),
     ("or_default", 4, 0, 1, |map| Ok(map.entry(9).try_or_default().map(drop)?)),
+    ("or_default and grow", 14, 0, 3, |map| Ok(map.entry(15).try_or_default().map(drop)?)),
     ("insert_entry", 4, 0, 1, |map| Ok(map.entry(9).try_insert_entry(1).map(drop)?)),
+    ("insert_entry and grow", 14, 0, 3, |map| Ok(map.entry(15).try_insert_entry(1).map(drop)?)),
+    ("insert of a vacant entry", 14, 0, 3, |map| Ok(vacant(map, 15).try_insert(1).map(drop)?)),
+    ("insert_entry of a vacant entry", 14, 0, 3, |map| {
+        Ok(vacant(map, 15).try_insert_entry(1).map(drop)?)
+    }),
 ];
 
 /// Makes the call with each of its requests failing in turn. Returns how many there were.
