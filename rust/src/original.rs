@@ -23,7 +23,7 @@
 //!   begins with more slots.
 //! - A capacity above 2^63 is a panic at once, or a failed `try_` call; the original allocates
 //!   until that fails.
-//! - There is no `serde`.
+//! - For `serde` there is a crate of its own, `intmap_proved_serde`.
 //!
 //! The other calls of [`IntMap`](crate::IntMap) are there too.
 
