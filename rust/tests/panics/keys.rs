@@ -5,7 +5,7 @@ use std::rc::Rc;
 
 /// A key whose number is a place that may panic.
 #[derive(Clone, Copy, PartialEq, Eq, Debug)]
-struct Key(u64);
+pub struct Key(pub u64);
 
 impl IntKey for Key {
     fn number(&self) -> u64 {
@@ -14,7 +14,7 @@ impl IntKey for Key {
     }
 }
 
-type Map = IntMap<Key, Rc<()>>;
+pub type Map = IntMap<Key, Rc<()>>;
 type Call = fn(&mut Map, &Rc<()>);
 
 fn vacant(map: &mut Map, key: u64) -> VacantEntry<'_, Key, Rc<()>> {
@@ -102,7 +102,7 @@ fn map_of(keys: u64, value: &Rc<()>) -> Map {
 }
 
 #[track_caller]
-fn is_whole(map: &Map, value: &Rc<()>, after: &str) {
+pub fn is_whole(map: &Map, value: &Rc<()>, after: &str) {
     assert!(map.assert_count(), "the count {after}");
     assert_eq!(map.iter().count(), map.len(), "pairs {after}");
     assert!(map.keys().all(|key| map.contains_key(*key)), "keys {after}: {map:?}");

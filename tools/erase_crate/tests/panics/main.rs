@@ -6,6 +6,7 @@ mod aimed;
 mod anywhere;
 mod fuse;
 mod keys;
+mod keys_anywhere;
 mod lying_keys;
 #[path = "../shared/random.rs"]
 mod random;
