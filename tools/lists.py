@@ -104,7 +104,11 @@ class PlainList:
 
     def drain(self, count):
         """Takes so many pairs out of the front of the walk, or all where there are fewer."""
-        taken = self.walk()[:count]
+        return self.cut(0, count)
+
+    def cut(self, passed, count):
+        """Takes so many pairs out, behind so many at the front of the walk."""
+        taken = self.walk()[passed : passed + count]
         keys = {key for key, _ in taken}
         self.retain(lambda key, _: key not in keys)
         return taken
@@ -341,6 +345,14 @@ def sum_of(pairs):
     return f"{len(pairs)} pairs, sum {total}"
 
 
+def cut_alternate(it):
+    """Takes out the second pair, the fourth, and so on."""
+    taken = it.walk()[1::2]
+    keys = {key for key, _ in taken}
+    it.retain(lambda key, _: key not in keys)
+    return sum_of(taken)
+
+
 def extract_hint(it, count):
     """How many pairs are left to be asked about once so many were taken out."""
     asked = it.walk()
@@ -490,6 +502,11 @@ CALLS = {
     ("drain", 1): lambda it, _, n: braces(it.drain(n)),
     ("drain_forget", 1): lambda it, _, n: braces(it.drain(n)),
     ("drain_sum", 0): lambda it, _: sum_of(it.drain(len(it.pairs))),
+    ("step", 1): lambda it, _, n: braces(it.walk()[:n]),
+    ("step_sum", 0): lambda it, _: sum_of(it.walk()),
+    ("cut", 2): lambda it, _, n, m: braces(it.cut(n, m)),
+    ("cut_sum", 0): lambda it, _: sum_of(it.cut(0, len(it.pairs))),
+    ("cut_alternate", 0): lambda it, _: cut_alternate(it),
     ("extract", 2): lambda it, _, n, m: braces(it.extract(n, m)),
     ("extract_sum", 1): lambda it, _, n: sum_of(it.extract(n, len(it.pairs))),
     ("extract_hint", 1): lambda it, _, n: extract_hint(it, n),

@@ -31,4 +31,5 @@ pub mod SameKeysLemmas
 pub mod RetainLemmas
 pub mod WritesLemmas
 pub mod ExtractLemmas
+pub mod CursorLemmas
 pub mod LendMapLemmas

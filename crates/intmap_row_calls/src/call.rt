@@ -1,5 +1,6 @@
 //! One call, from its words to its answer.
 
+use crate::cursors::{cut, cut_alternate, cut_sum, step_sum, stepped};
 use crate::entries::{
     add, insert, more_or, number_and_more, value_or_made, value_or_zero, write, write_by_entry,
     write_entry, write_old, write_tried,
@@ -59,6 +60,9 @@ fn bare(out: &mut String, maps: &mut Maps<'_>, name: &str) -> Result<(), AllocEr
         "keys_sum" => keys_sum(out, &maps.map),
         "values_sum" => values_sum(out, &maps.map),
         "drain_sum" => sum_of(out, maps.map.drain()),
+        "step_sum" => step_sum(out, &maps.map),
+        "cut_sum" => cut_sum(out, &mut maps.map),
+        "cut_alternate" => cut_alternate(out, &mut maps.map),
         "into_sum" => match taken(maps) {
             Ok(map) => sum_of(out, map.into_iter()),
             Err(cause) => write_refusal(out, cause, None),
@@ -190,6 +194,7 @@ fn through_front(
         "iter_rest" => write_rest_of_pairs(out, map, count as usize),
         "keys_rest" => write_rest_of_keys(out, map, count as usize),
         "values_rest" => write_rest_of_values(out, map, count as usize),
+        "step" => stepped(out, map, count),
         "drain" => drained(out, map, count, End::Dropped),
         "drain_forget" => drained(out, map, count, End::Forgotten),
         "iter_mut" => written(out, map, count, End::Dropped),
@@ -263,6 +268,7 @@ fn with_two(
     second: u64,
 ) -> Result<(), AllocError> {
     match name {
+        "cut" => cut(out, map, first, second),
         "extract" => extracted(out, map, first, second),
         _ => with_pair(out, map, name, first, second),
     }

@@ -7,6 +7,7 @@
 
 mod call;
 mod cell;
+mod cursors;
 mod entries;
 mod extracted;
 mod items;

@@ -3,6 +3,7 @@ pub mod BackLemmas
 pub mod BitsLemmas
 pub mod CloneLemmas
 pub mod CountLemmas
+pub mod CursorLemmas
 pub mod FilledLemmas
 pub mod FoundLemmas
 pub mod ExtractSlotsLemmas

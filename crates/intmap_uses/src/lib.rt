@@ -13,6 +13,7 @@ pub mod interner;
 pub mod kit_map;
 pub mod made;
 pub mod member_ids;
+pub mod pages;
 pub mod prices;
 pub mod refusals;
 pub mod retained;

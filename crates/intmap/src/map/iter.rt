@@ -5,6 +5,7 @@ ghost use Rattle.std.specs.Prelude.{◌≡◌};
 ghost use Rattle.std.specs.Map.{keys_of, values_of};
 ghost use Rattle.intmap.specs.Map.{IsMap};
 
+mod cursor;
 mod drain;
 mod extract;
 mod owned;
@@ -13,6 +14,7 @@ mod writing;
 mod written;
 
 use crate::map::IntMap;
+pub use cursor::Cursor;
 pub use drain::Drain;
 pub use extract::ExtractIf;
 use intmap_table::IntKey;

@@ -15,13 +15,26 @@ use crate::stored::Stored;
 use crate::table::Table;
 use std::alloc::Allocator;
 
-/// The position of a walk that removes pairs: a place in a slot, and the number of pairs of the
-/// walk before it.
+/// The position of a walk: a place in a slot, and the number of pairs of the walk before it.
+#[repr(C)]
 #[derive(Clone, Copy)]
 pub struct Cursor {
     pub slot: usize,
     pub place: usize,
     pub passed: usize,
+}
+
+impl Cursor {
+    /// The start of every walk.
+    pub fn start() -> Cursor
+        ensures { result ≡ record { slot = 0; place = 0; passed = 0 } }
+    {
+        Cursor {
+            slot: 0,
+            place: 0,
+            passed: 0,
+        }
+    }
 }
 
 /// Asks the closure about each pair of the current slot, from the place on, and removes the first

@@ -1,14 +1,16 @@
 //! The pairs of a table by reference, slot after slot, and clones of a table.
-ghost use Rattle.std.specs.Prelude.{◌≡◌, ◌<◌, length, slice_index_or, IfOk, ⊤};
+ghost use Rattle.std.specs.Prelude.{◌≡◌, ◌+◌, ◌<◌, ◌^◌, [], ◌∷◌, cond, drop, is_some, length, slice_index_or, IfOk, MatchOption, ⊤};
 ghost use Rattle.std.specs.Iterator.{YieldsFirstBy, item_count};
 ghost use Rattle.std.specs.List.{AllZip};
 ghost use Rattle.intmap_table.specs.Cloning.{IsPairClone};
+ghost use Rattle.intmap_table.specs.Picking.{IsReached};
 ghost use Rattle.intmap_table.specs.Walk.{walk_of};
 
 use crate::bits::Places;
 use crate::key::IntKey;
 use crate::slot::Slot;
 use crate::stored::Stored;
+use crate::table::extract::Cursor;
 use crate::table::{Directory, Table};
 use std::alloc::{AllocError, Allocator};
 use std::marker::Model;
@@ -81,6 +83,36 @@ impl<'a, K: IntKey, X, A: Allocator> Iterator for Pairs<'a, K, X, A> {
             };
             (self.first, self.rest) = slot_at(self.slots, place).parts();
         }
+    }
+}
+
+impl<K: IntKey, X, A: Allocator> Table<K, X, A> {
+    /// The first pair from the cursor on, or `None` if no pair is left. The cursor moves on behind
+    /// that pair. The bits tell which slots to look at.
+    pub fn step(&self, at: &mut Cursor) -> Option<(&K, &X)>
+        requires reached { IsReached K.number_of self.now.walk self.now.capacity
+            at.old.slot at.old.place at.old.passed }
+        requires count { length self.now.walk < 2 ^ 64 }
+        ensures first { MatchOption result (drop at.old.passed self.now.walk ≡ [])
+            (λ pair. drop at.old.passed self.now.walk
+            ≡ (pair.0.now, pair.1.now) ∷ drop at.new.passed self.now.walk) }
+        ensures passed { at.new.passed ≡ at.old.passed + cond (is_some result) 1 0 }
+        ensures reached { IsReached K.number_of self.now.walk self.now.capacity
+            at.new.slot at.new.place at.new.passed }
+    {
+        while let Some(slot) = self.directory.bits.iter_from(at.slot).next() {
+            at.slot = slot;
+            let row = slot_at(&self.slots, slot);
+            let place = at.place;
+            if place < row.len() {
+                at.place += 1;
+                at.passed += 1;
+                return Some((row.key_at(place).key(), row.value_at(place)));
+            }
+            at.slot = slot + 1;
+            at.place = 0;
+        }
+        None
     }
 }
 

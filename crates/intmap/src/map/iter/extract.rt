@@ -14,7 +14,7 @@ use std::alloc::{Allocator, Global};
 impl<K: IntKey, V, A: Allocator + Copy> IntMap<K, V, A> {
     /// Removes the first pair that the closure picks, of those from the cursor on. The cursor moves
     /// on to the pair behind that one.
-    fn extract_next<F: FnMut(K, &mut V) -> bool>(
+    pub(super) fn extract_next<F: FnMut(K, &mut V) -> bool>(
         &mut self,
         at: &mut Cursor,
         f: &mut F,
@@ -122,14 +122,9 @@ impl<K: IntKey, V, A: Allocator + Copy> IntMap<K, V, A> {
         ensures valid { IsMap K.number_of K.is_valid self.old }
     {
         self.known();
-        let at = Cursor {
-            slot: 0,
-            place: 0,
-            passed: 0,
-        };
         ExtractIf {
             map: self,
-            at,
+            at: Cursor::start(),
             test,
         }
     }

@@ -1,6 +1,7 @@
 //! The iterators of a map. Each goes through the slots in turn, and through each slot from front to
 //! back.
 
+mod cursor;
 mod drain;
 mod extract;
 mod owned;
@@ -10,6 +11,7 @@ mod written;
 
 use crate::memory::prelude::*;
 use crate::proved::map::map::IntMap;
+pub use cursor::Cursor;
 pub use drain::Drain;
 pub use extract::ExtractIf;
 use crate::proved::table::IntKey;

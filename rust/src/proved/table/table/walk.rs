@@ -5,6 +5,7 @@ use crate::proved::table::bits::Places;
 use crate::proved::table::key::IntKey;
 use crate::proved::table::slot::Slot;
 use crate::proved::table::stored::Stored;
+use crate::proved::table::table::extract::Cursor;
 use crate::proved::table::table::{Directory, Table};
 use crate::memory::alloc::{AllocError, Allocator};
 
@@ -51,6 +52,26 @@ impl<'a, K: IntKey, X, A: Allocator> Iterator for Pairs<'a, K, X, A> {
             };
             (self.first, self.rest) = slot_at(self.slots, place).parts();
         }
+    }
+}
+
+impl<K: IntKey, X, A: Allocator> Table<K, X, A> {
+    /// The first pair from the cursor on, or `None` if no pair is left. The cursor moves on behind
+    /// that pair. The bits tell which slots to look at.
+    pub fn step(&self, at: &mut Cursor) -> Option<(&K, &X)> {
+        while let Some(slot) = self.directory.bits.iter_from(at.slot).next() {
+            at.slot = slot;
+            let row = slot_at(&self.slots, slot);
+            let place = at.place;
+            if place < row.len() {
+                at.place += 1;
+                at.passed += 1;
+                return Some((row.key_at(place).key(), row.value_at(place)));
+            }
+            at.slot = slot + 1;
+            at.place = 0;
+        }
+        None
     }
 }
 

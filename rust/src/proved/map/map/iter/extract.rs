@@ -9,7 +9,7 @@ use crate::memory::alloc::{Allocator, Global};
 impl<K: IntKey, V, A: Allocator + Copy> IntMap<K, V, A> {
     /// Removes the first pair that the closure picks, of those from the cursor on. The cursor moves
     /// on to the pair behind that one.
-    fn extract_next<F: FnMut(K, &mut V) -> bool>(
+    pub(super) fn extract_next<F: FnMut(K, &mut V) -> bool>(
         &mut self,
         at: &mut Cursor,
         f: &mut F,
@@ -63,14 +63,9 @@ impl<K: IntKey, V, A: Allocator + Copy> IntMap<K, V, A> {
     /// removed one, in its slot, up by one place. It allocates nothing and never fails.
     pub fn extract_if<F: FnMut(K, &mut V) -> bool>(&mut self, test: F) -> ExtractIf<'_, K, V, F, A> {
         self.known();
-        let at = Cursor {
-            slot: 0,
-            place: 0,
-            passed: 0,
-        };
         ExtractIf {
             map: self,
-            at,
+            at: Cursor::start(),
             test,
         }
     }

@@ -1,0 +1,78 @@
+//! Walks that are kept as a cursor, and not as an iterator that borrows the map.
+ghost use Rattle.std.specs.Prelude.{◌≡◌, ◌+◌, [], ◌∷◌, cond, drop, is_some, length, take, MatchOption, None};
+ghost use Rattle.intmap_table.specs.Bindings.{Updates};
+ghost use Rattle.intmap_table.specs.Picking.{IsReached};
+ghost use Rattle.intmap.specs.Map.{IsMap, with_walk};
+
+use crate::map::IntMap;
+use intmap_table::IntKey;
+pub use intmap_table::table::extract::Cursor;
+use std::alloc::Allocator;
+
+impl<K: IntKey, V, A: Allocator + Copy> IntMap<K, V, A> {
+    /// The first pair of the walk from the cursor on, or `None` if no pair is left. The cursor
+    /// moves on behind that pair.
+    ///
+    /// A walk begins with [`Cursor::start`]. The cursor must be as the last call on this map left
+    /// it, and since then only [`cut`](IntMap::cut) with this cursor may have changed the map. The
+    /// call allocates nothing and never fails. A whole walk looks once at each pair, and at one bit
+    /// a slot.
+    ///
+    /// ```text
+    /// after insert(0, 10), insert(1, 11) and insert(4, 14) into 4 slots:
+    /// let mut at = Cursor::start();
+    /// map.step(&mut at)    0 and 10, then 4 and 14, then 1 and 11, then None
+    /// ```
+    pub fn step(&self, at: &mut Cursor) -> Option<(&K, &V)>
+        requires { IsReached K.number_of self.now.walk self.now.capacity
+            at.old.slot at.old.place at.old.passed }
+        ensures first { MatchOption result (drop at.old.passed self.now.walk ≡ [])
+            (λ pair. drop at.old.passed self.now.walk
+            ≡ (pair.0.now, pair.1.now) ∷ drop at.new.passed self.now.walk) }
+        ensures passed { at.new.passed ≡ at.old.passed + cond (is_some result) 1 0 }
+        ensures reached { IsReached K.number_of self.now.walk self.now.capacity
+            at.new.slot at.new.place at.new.passed }
+        ensures valid { IsMap K.number_of K.is_valid self.now }
+    {
+        let Some((key, kept)) = self.table.step(at) else {
+            return None;
+        };
+        Some((key, &kept.value))
+    }
+
+    /// Removes the first pair of the walk from the cursor on and returns it, or returns `None` if no
+    /// pair is left. The cursor then is between the pairs that were before it and those that were
+    /// behind the removed one. Both keep their order. Of the cursor it requires what
+    /// [`step`](IntMap::step) does.
+    ///
+    /// The other pairs of the slot behind the removed one move up by one place. The capacity, the
+    /// load factor and both counts stay, and the slots keep their memory. It allocates nothing and
+    /// never fails.
+    ///
+    /// ```text
+    /// after insert(0, 10), insert(4, 14) and insert(8, 18) into 4 slots, where they share one:
+    /// let mut at = Cursor::start();
+    /// map.step(&mut at)    the pair 0 and 10
+    /// map.cut(&mut at)     the pair 4 and 14, and then the map has 0: 10 and 8: 18
+    /// map.step(&mut at)    the pair 8 and 18
+    /// ```
+    pub fn cut(&mut self, at: &mut Cursor) -> Option<(K, V)>
+        requires { IsReached K.number_of self.old.walk self.old.capacity
+            at.old.slot at.old.place at.old.passed }
+        ensures first { MatchOption result (drop at.old.passed self.old.walk ≡ [])
+            (λ pair. drop at.old.passed self.old.walk
+            ≡ pair ∷ drop at.new.passed self.new.walk) }
+        ensures before { take at.new.passed self.new.walk ≡ take at.old.passed self.old.walk }
+        ensures passed { at.new.passed ≡ at.old.passed }
+        ensures reached { IsReached K.number_of self.new.walk self.new.capacity
+            at.new.slot at.new.place at.new.passed }
+        ensures state { self.new ≡ with_walk self.old self.new.walk }
+        ensures updates { MatchOption result (self.new.walk ≡ self.old.walk)
+            (λ pair. Updates K.number_of self.old.walk self.new.walk pair.0 None) }
+        ensures len { length self.new.walk + cond (is_some result) 1 0 ≡ length self.old.walk }
+        ensures valid { IsMap K.number_of K.is_valid self.old }
+        ensures valid_after { IsMap K.number_of K.is_valid self.new }
+    {
+        self.extract_next(at, &mut |_, _| true)
+    }
+}

@@ -1,0 +1,13 @@
+use Rattle.std.proofs.Common.{◌≡◌, ◌-◌, length}
+use Rattle.intmap_table.specs.Tables.Slots.{rows}
+use Rattle.intmap_table.proofs.Tables.ExtractSlotsLemmas.{IsAt}
+use Rattle.intmap_table.proofs.table.Table.step.Given as goal
+
+abbrev pub invariant-loop-slot : goal.invariant-loop-slot
+invariant-loop-slot g l = record {
+  at : IsAt (rows l.self-inside.slots.items) l.at.slot l.at.place l.at.passed;
+  passed : l.at.passed ≡ l.initial.at.passed;
+}
+
+abbrev pub decreases-loop-slot : goal.decreases-loop-slot
+decreases-loop-slot g l = length l.self-inside.slots.items - l.at.slot
