@@ -1,48 +1,58 @@
-// A hash map from 64-bit keys to 64-bit values. Each call has a contract in crates/intmap_c, and
-// its code is proved to keep it. The words below are that contract, except what they say of memory
-// that is freed or isn't requested. That, and the declarations themselves, are only tested.
+// A hash map from 64-bit keys to 64-bit values, version 1.0.0. Each function that is declared here
+// has a contract in crates/intmap_c, and its code is proved to keep it. The functions that are
+// defined here, and that memory is given back, are tested.
 //
-// For C11 and C++11, on Linux with x86-64 processors that have SSE4.2 and POPCNT. A map is one
-// word. Start it as INTMAP_INIT, hand its address to the calls, and free it:
+// For C11 and C++11, on Linux with x86-64 or aarch64. Take this file and intmap.S:
+//
+//     cc program.c intmap.S
+//
+// A map is one word. Start it as INTMAP_INIT, hand its address to the calls, and free it:
 //
 //     intmap map = INTMAP_INIT;
-//     if (intmap_new(&map) == INTMAP_DONE) {
-//         intmap_insert(&map, 21, 7);
-//         printf("%llu\n", (unsigned long long)intmap_get(&map, 21).value);
+//     if (intmap_failed(intmap_new(&map)) || intmap_failed(intmap_insert(&map, 21, 7).status)) {
+//         fputs("out of memory\n", stderr);
 //     }
+//     printf("%" PRIu64 "\n", intmap_get_or(&map, 21, 0));
 //     intmap_free(&map);
-//
-// Build the library in crates/intmap_c by `rt lib`, and link the two archives in this order:
-//
-//     cc program.c -I bindings/c crates/intmap_c/out/libintmap_c.a KIT/c/liblibc_c.a
-//
-// KIT is the folder of the toolchain that proved the library; its liblibc_c.a hands requests for
-// memory on to malloc, realloc and free.
 //
 // WHAT THE CALLER OWES. Nothing checks these. If one is broken, anything may happen.
 //
-// - The address of a map isn't null. The word is INTMAP_INIT before the first call, and then only
-//   calls read or write it.
-// - The word isn't copied, since a copy is the same map. It may be moved, if its old place is then
-//   set to INTMAP_INIT.
-// - A map has one call at a time. If the next call is in another thread, it comes after the call
-//   before, for example by a lock or a join. Different maps are independent.
-// - No call is made in a signal handler, or in the forked child of a process with several
-//   threads.
+// - No address that is passed is null, and a word is INTMAP_INIT before the first call with it. Then
+//   only calls write it.
+// - A word isn't copied, since a copy is the same map. It may be moved, if its old place is then set
+//   to INTMAP_INIT.
+// - No signal handler makes a call, and neither does the forked child of a process with several
+//   threads. Nothing jumps out of a call: no longjmp, no exception, no cancellation of its thread.
 // - malloc, realloc and free belong to one allocator, make no call on a map, and align blocks like
 //   the C library.
-// - A buffer that a call writes to has the number of pairs that the call is told, each with some
-//   value. It isn't null even if that number is 0, and doesn't overlap the word of the map.
+// - A cursor is INTMAP_START, or what the last call left in it, and since then no call has changed
+//   the map but intmap_cut with this cursor.
+// - There is some stack: a call takes less than 1 KB.
 //
-// WHEN A CALL FAILS. A call that fails leaves the map as it was. It has one of three statuses:
+// THREADS. Any number of threads may call at once with `const intmap *`, as long as no other call
+// has the map. A call with `intmap *` has it alone: it comes after those before, for example by a
+// lock or a join. A map may be used in one thread and then in another. Different maps are
+// independent.
 //
-// - INTMAP_MEMORY: malloc or realloc returned NULL.
+// WHEN A CALL FAILS. Its status is negative, and the map is as it was:
+//
+// - INTMAP_NO_MEMORY: malloc or realloc returned NULL.
 // - INTMAP_TOO_LARGE: the map would have more than 2^63 slots or 2^64 - 1 pairs.
 // - INTMAP_NO_MAP: the word is null, since no map was made yet, or it was freed.
 //
-// THE WALK. The pairs of a map lie in slots, whose number is a power of two. The walk is the order
-// of the pairs: slot after slot, and each slot from front to back. It depends only on the calls
-// that were made.
+// ORDER. The pairs lie in slots, whose number is a power of two. The walk is the order of the pairs:
+// slot after slot, and each slot from front to back. It depends only on the calls that were made.
+//
+// COST. A call on one key takes time in the number of pairs that share its slot. That is about one,
+// unless many keys share their low bits: multiples of 4096, or row << 32 | column. Such keys should
+// be numbered anew. If strangers choose the keys, they can make each call linear. Then pass each key
+// through a bijection with a secret first, such as a round of splitmix64 on key ^ secret. An insertion
+// that adds slots moves all pairs, which is constant time a pair over all insertions.
+// intmap_filled_slots tells of shared slots.
+//
+// MEMORY. It comes from malloc, some 90 bytes a pair, 48 a slot at least. intmap_with_capacity writes
+// each slot, so on Linux too large a number may end the process where malloc doesn't fail. Memory is
+// given back by intmap_free alone.
 #ifndef INTMAP_H
 #define INTMAP_H
 
@@ -50,8 +60,22 @@
 #include <stddef.h>
 #include <stdint.h>
 
+// The version of this header. intmap_version() is that of the code.
+#define INTMAP_VERSION 10000
+
 #ifdef __cplusplus
+#define INTMAP_CALL noexcept
 extern "C" {
+#else
+#define INTMAP_CALL
+#endif
+
+#if defined(__GNUC__) || defined(__clang__)
+#define INTMAP_NONNULL __attribute__((nonnull))
+#define INTMAP_MUST_USE __attribute__((warn_unused_result))
+#else
+#define INTMAP_NONNULL
+#define INTMAP_MUST_USE
 #endif
 
 // A map, or none.
@@ -59,27 +83,32 @@ typedef struct intmap {
     void *at;
 } intmap;
 
-// No map. Every map starts as this.
+// No map, to begin with, and as a value to assign.
 #define INTMAP_INIT {NULL}
+#ifdef __cplusplus
+#define INTMAP_NONE (intmap{nullptr})
+#else
+#define INTMAP_NONE ((intmap)INTMAP_INIT)
+#endif
 
-// What a call returns: one of these.
-typedef uint32_t intmap_status;
+// What a call did. A later version may add positive ones, and negative ones for new failures.
+typedef int32_t intmap_status;
 
 enum {
-    INTMAP_DONE = 0,      // it did what it says
-    INTMAP_BOUND = 1,     // the key was present before the call
-    INTMAP_NOT_BOUND = 2, // the key was absent before the call
-    INTMAP_MEMORY = 3,    // failed: there was no memory
-    INTMAP_TOO_LARGE = 4, // failed: the map would be too large
-    INTMAP_NO_MAP = 5     // failed: there is no map
+    INTMAP_DONE = 0,       // it did what it says
+    INTMAP_PRESENT = 1,    // the key, or a pair, was present before the call
+    INTMAP_ABSENT = 2,     // it was absent before the call
+    INTMAP_NO_MEMORY = -1, // failed: an allocation failed
+    INTMAP_TOO_LARGE = -2, // failed: the map would be too large
+    INTMAP_NO_MAP = -3     // failed: there is no map
 };
 
 // Whether a call failed.
-static inline bool intmap_is_refused(intmap_status status) {
-    return status >= INTMAP_MEMORY;
+static inline bool intmap_failed(intmap_status status) INTMAP_CALL {
+    return status < 0;
 }
 
-// A value if the status is INTMAP_BOUND. With every other status the value is 0.
+// A value if the status is INTMAP_PRESENT. With every other status the value is 0.
 typedef struct intmap_answer {
     uint64_t value;
     intmap_status status;
@@ -91,93 +120,156 @@ typedef struct intmap_pair {
     uint64_t value;
 } intmap_pair;
 
-// A pair if the status is INTMAP_BOUND. With every other status its key and value are 0.
-typedef struct intmap_popped {
+// Where a walk is: a slot, a place in it, and how many pairs come before.
+typedef struct intmap_cursor {
+    size_t slot;
+    size_t place;
+    size_t passed;
+} intmap_cursor;
+
+// The start of a walk, to begin with, and as a value to assign.
+#define INTMAP_START {0, 0, 0}
+
+// A pair if the status is INTMAP_PRESENT. With every other status its key and value are 0.
+typedef struct intmap_found {
     intmap_pair pair;
     intmap_status status;
-} intmap_popped;
+} intmap_found;
+
+// Returns the version of the code: 10000 times the first number, 100 times the second, and the third.
+uint32_t intmap_version(void) INTMAP_CALL;
 
 // Makes an empty map of 4 slots, with a load factor of 909 thousandths. It frees a map that the
-// word had. It returns INTMAP_DONE, or INTMAP_MEMORY, which leaves the word as it was.
-intmap_status intmap_new(intmap *map);
+// word had. It returns INTMAP_DONE, or INTMAP_NO_MEMORY, which leaves the word as it was.
+INTMAP_NONNULL INTMAP_MUST_USE intmap_status intmap_new(intmap *map) INTMAP_CALL;
 
-// Makes an empty map, with a load factor of 909 thousandths. Its number of slots is the least
-// power of two that is at least `capacity`, and at least 2. It frees a map that the word had. It
-// returns INTMAP_DONE; INTMAP_TOO_LARGE exactly if `capacity` is above 2^63; or INTMAP_MEMORY. If
-// it fails, it leaves the word as it was.
-intmap_status intmap_with_capacity(intmap *map, size_t capacity);
+// Makes an empty map, with a load factor of 909 thousandths. Its number of slots is the least power
+// of two that is at least `capacity`, and at least 2. It frees a map that the word had. It returns
+// INTMAP_DONE; INTMAP_TOO_LARGE exactly if `capacity` is above 2^63; or INTMAP_NO_MEMORY. If it
+// fails, it leaves the word as it was.
+INTMAP_NONNULL INTMAP_MUST_USE intmap_status intmap_with_capacity(intmap *map, size_t capacity)
+    INTMAP_CALL;
 
-// Frees the map with all that it took from malloc. The word is then INTMAP_INIT. It does nothing
-// if there is no map.
-void intmap_free(intmap *map);
+// Makes a map in `to` with the same pairs in the same order, as many slots and the same load factor.
+// It frees a map that `to` had. It returns INTMAP_DONE; or INTMAP_NO_MEMORY or INTMAP_NO_MAP, which
+// leave `to` as it was. `to` is another word than `map`. It takes time in the pairs and slots.
+INTMAP_NONNULL INTMAP_MUST_USE intmap_status intmap_clone(const intmap *map, intmap *to) INTMAP_CALL;
 
-// Returns INTMAP_BOUND with the value of the key, INTMAP_NOT_BOUND or INTMAP_NO_MAP. The map
-// stays.
-intmap_answer intmap_get(intmap *map, uint64_t key);
+// Frees the map with all that it took from malloc. The word is then INTMAP_INIT. It does nothing if
+// there is no map. It takes time in the slots.
+INTMAP_NONNULL void intmap_free(intmap *map) INTMAP_CALL;
 
-// Returns whether the key is present, which is false if there is no map. The map stays.
-bool intmap_contains_key(intmap *map, uint64_t key);
+// Returns INTMAP_PRESENT with the value of the key, INTMAP_ABSENT or INTMAP_NO_MAP.
+INTMAP_NONNULL intmap_answer intmap_get(const intmap *map, uint64_t key) INTMAP_CALL;
 
-// Puts the pair at the end of its slot. It returns INTMAP_BOUND with the value before, in whose
-// place the last pair of the slot moves; or INTMAP_NOT_BOUND if the key was absent. If a new key
-// makes the pairs exceed the load factor, the slots are doubled until they don't. That is checked
-// at 4 to 7 pairs, at 12 to 15, at 20 to 23, and so on.
+// Returns the value of the key, or `otherwise` if the key is absent or there is no map.
+INTMAP_NONNULL static inline uint64_t intmap_get_or(const intmap *map, uint64_t key,
+                                                    uint64_t otherwise) INTMAP_CALL {
+    intmap_answer answer = intmap_get(map, key);
+    return answer.status == INTMAP_PRESENT ? answer.value : otherwise;
+}
+
+// Returns whether the key is present, which is false if there is no map.
+INTMAP_NONNULL bool intmap_contains_key(const intmap *map, uint64_t key) INTMAP_CALL;
+
+// Puts the pair at the end of its slot. It returns INTMAP_PRESENT with the value before, in whose
+// place the last pair of the slot moves; or INTMAP_ABSENT if the key was absent. If a new key makes
+// the pairs exceed the load factor, the slots are doubled until they don't. That is checked at 4 to
+// 7 pairs, at 12 to 15, at 20 to 23, and so on.
 //
 // For a present key it never fails, unless there is no map. For an absent key it returns
 // INTMAP_TOO_LARGE exactly if there are 2^64 - 1 pairs or growth needs more than 2^63 slots, and
-// otherwise INTMAP_MEMORY if malloc or realloc returns NULL. The key is then absent, and the map is
-// as it was. It requests no memory if no slots are added and the key's slot holds no pair.
-intmap_answer intmap_insert(intmap *map, uint64_t key, uint64_t value);
+// otherwise INTMAP_NO_MEMORY if an allocation fails. The key is then absent. It requests no memory
+// if no slots are added and the key's slot holds no pair.
+INTMAP_NONNULL INTMAP_MUST_USE intmap_answer intmap_insert(intmap *map, uint64_t key, uint64_t value)
+    INTMAP_CALL;
 
-// Inserts an absent key with the value. It returns INTMAP_BOUND if the key was present, which keeps
-// its value, and INTMAP_NOT_BOUND if it was absent. For an absent key it fails like intmap_insert.
-intmap_status intmap_insert_checked(intmap *map, uint64_t key, uint64_t value);
+// Inserts an absent key with the value. It returns INTMAP_PRESENT if the key was present, which
+// keeps its value, and INTMAP_ABSENT if it was absent. For an absent key it fails like intmap_insert.
+INTMAP_NONNULL INTMAP_MUST_USE intmap_status intmap_insert_checked(intmap *map, uint64_t key,
+                                                                   uint64_t value) INTMAP_CALL;
 
 // Replaces the value of a present key, whose pair keeps its place in the walk. It returns
-// INTMAP_BOUND with the value before; INTMAP_NOT_BOUND, and inserts nothing; or INTMAP_NO_MAP. It
+// INTMAP_PRESENT with the value before; INTMAP_ABSENT, and inserts nothing; or INTMAP_NO_MAP. It
 // requests no memory.
-intmap_answer intmap_set(intmap *map, uint64_t key, uint64_t value);
+INTMAP_NONNULL intmap_answer intmap_set(intmap *map, uint64_t key, uint64_t value) INTMAP_CALL;
 
-// Removes the pair of the key. It returns INTMAP_BOUND with its value, and the last pair of the
-// slot moves into its place; INTMAP_NOT_BOUND, and the map is as it was; or INTMAP_NO_MAP. It
-// requests no memory. The number of slots stays, and the slots keep their memory.
-intmap_answer intmap_remove(intmap *map, uint64_t key);
+// Adds to the value of a present key, modulo 2^64. It returns what intmap_set does, by one lookup.
+INTMAP_NONNULL intmap_answer intmap_add(intmap *map, uint64_t key, uint64_t more) INTMAP_CALL;
 
-// Returns the number of pairs, 0 if there is no map.
-size_t intmap_len(intmap *map);
+// Adds to the value of a present key, as intmap_add does, and inserts an absent key with `more`, by
+// one lookup. It returns INTMAP_PRESENT with the value before, or INTMAP_ABSENT if the key was absent.
+// For an absent key it fails like intmap_insert.
+INTMAP_NONNULL INTMAP_MUST_USE intmap_answer intmap_add_or_insert(intmap *map, uint64_t key,
+                                                                  uint64_t more) INTMAP_CALL;
+
+// Removes the pair of the key. It returns INTMAP_PRESENT with its value, and the last pair of the
+// slot moves into its place; INTMAP_ABSENT; or INTMAP_NO_MAP. It requests no memory. The number of
+// slots stays, and the slots keep their memory.
+INTMAP_NONNULL intmap_answer intmap_remove(intmap *map, uint64_t key) INTMAP_CALL;
+
+// Removes all pairs. The number of slots stays, and the slots keep their memory. It does nothing if
+// there is no map. It takes time in the pairs and, for each 64, in the slots.
+INTMAP_NONNULL void intmap_clear(intmap *map) INTMAP_CALL;
+
+// Returns the number of pairs, 0 if there is no map. Like the next two it takes constant time.
+INTMAP_NONNULL size_t intmap_len(const intmap *map) INTMAP_CALL;
 
 // Returns the number of slots, a power of two from 2 to 2^63; 0 if there is no map.
-size_t intmap_capacity(intmap *map);
+INTMAP_NONNULL size_t intmap_capacity(const intmap *map) INTMAP_CALL;
 
 // Returns the load factor in thousandths, 0 if there is no map.
-size_t intmap_load_factor(intmap *map);
+INTMAP_NONNULL size_t intmap_load_factor(const intmap *map) INTMAP_CALL;
 
-// Makes the number of slots at least the least power of two that is no less than the number of
-// pairs plus `additional`. It ignores the load factor, so the map may still grow before it has
-// that many pairs. It returns INTMAP_DONE; INTMAP_TOO_LARGE exactly if that sum is above 2^63;
-// INTMAP_MEMORY, but never if there are enough slots already; or INTMAP_NO_MAP. If it fails, it
-// leaves the map as it was.
-intmap_status intmap_reserve(intmap *map, size_t additional);
+// Returns the number of slots that hold a pair, 0 if there is no map. If it is far below the number of
+// pairs, many keys share slots. It takes time in the slots, for each 64.
+INTMAP_NONNULL size_t intmap_filled_slots(const intmap *map) INTMAP_CALL;
+
+// Makes the number of slots at least the least power of two that is no less than the number of pairs
+// plus `additional`. It ignores the load factor, so the map may still grow before it has that many
+// pairs. It returns INTMAP_DONE; INTMAP_TOO_LARGE exactly if that sum is above 2^63;
+// INTMAP_NO_MEMORY, but never if there are enough slots already; or INTMAP_NO_MAP.
+INTMAP_NONNULL INTMAP_MUST_USE intmap_status intmap_reserve(intmap *map, size_t additional)
+    INTMAP_CALL;
 
 // Sets the load factor, in thousandths: how many pairs per slot there may be when intmap_insert
 // checks it. The number of slots becomes the least of itself and its doublings that meets it. It
-// returns INTMAP_DONE; INTMAP_TOO_LARGE exactly if no number up to 2^63 meets it; INTMAP_MEMORY,
-// but never if the present number meets it; or INTMAP_NO_MAP. If it fails, it leaves the map as it
-// was, with its load factor.
-intmap_status intmap_set_load_factor(intmap *map, size_t thousandths);
+// returns INTMAP_DONE; INTMAP_TOO_LARGE exactly if no number up to 2^63 meets it; INTMAP_NO_MEMORY,
+// but never if the present number meets it; or INTMAP_NO_MAP. If it fails, the load factor stays.
+INTMAP_NONNULL INTMAP_MUST_USE intmap_status intmap_set_load_factor(intmap *map, size_t thousandths)
+    INTMAP_CALL;
 
-// Removes all pairs. The number of slots stays, and the slots keep their memory. It does nothing if
-// there is no map.
-void intmap_clear(intmap *map);
+// Returns INTMAP_PRESENT with the first pair of the walk from the cursor on, and moves the cursor
+// behind it; or INTMAP_ABSENT if none is left; or INTMAP_NO_MAP. A whole walk takes time in the pairs
+// and, for each 64, in the slots.
+INTMAP_NONNULL intmap_found intmap_step(const intmap *map, intmap_cursor *at) INTMAP_CALL;
 
-// Copies at most `room` pairs of the walk into `pairs`, from the place `from` on, counted from 0.
-// It returns the number of copied pairs, 0 if there is no map. The rest of `pairs` stays. Pairs
-// before `from` are passed over one by one.
-size_t intmap_walk(intmap *map, size_t from, intmap_pair *pairs, size_t room);
+// Copies pairs of the walk from the cursor on, at most `room`, and moves the cursor behind them. It
+// returns how many it copied: fewer than `room` only if none is left. The rest of `pairs` stays,
+// which needs no values before.
+INTMAP_NONNULL static inline size_t intmap_next(const intmap *map, intmap_cursor *at,
+                                                intmap_pair *pairs, size_t room) INTMAP_CALL {
+    size_t count = 0;
+    while (count < room) {
+        intmap_found found = intmap_step(map, at);
+        if (found.status != INTMAP_PRESENT) {
+            break;
+        }
+        pairs[count++] = found.pair;
+    }
+    return count;
+}
 
-// Removes the first pair of the walk. It returns INTMAP_BOUND with the pair; INTMAP_NOT_BOUND if
-// there is none; or INTMAP_NO_MAP. It requests no memory.
-intmap_popped intmap_pop(intmap *map);
+// Removes the first pair of the walk from the cursor on. It returns INTMAP_PRESENT with the pair;
+// INTMAP_ABSENT if none is left; or INTMAP_NO_MAP. The pairs before the cursor stay, and those behind
+// it come next, in the same order. It requests no memory, and takes time in the pairs that follow in
+// the slot.
+INTMAP_NONNULL intmap_found intmap_cut(intmap *map, intmap_cursor *at) INTMAP_CALL;
+
+// Returns whether the same keys have the same values in both maps, whatever their order, slots and
+// load factors. A word without a map is equal to another without one, and to no map. It takes time
+// in the pairs and slots.
+INTMAP_NONNULL bool intmap_equal(const intmap *map, const intmap *other) INTMAP_CALL;
 
 #ifdef __cplusplus
 }

@@ -1,8 +1,46 @@
 -- What a call did to the map of a handle.
-use Rattle.std.proofs.Common.{◌≡◌, Some, sym, subst, Option}
-use Rattle.intmap_c.specs.Answers.{OnMap}
+use Rattle.std.proofs.Common.{◌≡◌, ◌∙◌, ℕ, ℤ, ◌+◌, None, Some, Option, length, sym, ap, subst}
+use Rattle.std.specs.Prelude.{◌↔◌}
+use Rattle.intmap.specs.Growth.{IsNext}
+use Rattle.intmap.specs.Bindings.{Updates}
+use Rattle.intmap.specs.Map.{InsertIsTooLarge, after_search, with_pair}
+use Rattle.intmap.specs.PlainLists.{RefusalIsDue}
+use Rattle.intmap.specs.declared.refusal.Cause.{Cause}
+use Rattle.intmap.specs.declared.refusal.Cause.TheVariants.{TooLarge, Memory}
+use Rattle.intmap_c.specs.declared.answer.TheConstants.{NO_MEMORY, TOO_LARGE}
+use Rattle.intmap_c.specs.Answers.{IsFailed, OnMap}
+use Rattle.intmap_c.specs.Calls.{Binds, Fails, State, bound_to, itself}
 
 module _ {S : Type 0} (N : Type 0) (P : S → S → Type 0) where
   -- P, if there was a map and there is one
   pub OnMap-Some : {h k : Option S} {m n : S} → h ≡ Some m → k ≡ Some n → P m n → OnMap h k N P
   OnMap-Some {h} {k} {m} {n} e f p = subst (λ x. OnMap x k N P) (sym e) (subst (λ x. OnMap (Some m) x N P) (sym f) p)
+
+-- a call on an absent key k, where v is the map once k was looked up, and q is what was looked up
+module _ (m v : State) (k q : ℕ) (searched : v ≡ after_search itself m k) (same : q ≡ k) (none : bound_to m k ≡ None) where
+  said_before : (P : State → ℕ → Type 0) → P v q → P (after_search itself m k) k
+  said_before P p = subst (λ s. P s k) searched (subst (P v) same p)
+
+  -- a refusal that is due is told by the status of its cause
+  pub Fails-due : (n : State) (status : ℤ) (cause : Cause) → n ≡ v → RefusalIsDue itself (record { pairs = v.walk; capacity = v.capacity; factor = v.factor }) q cause
+      → IsFailed status → ((status ≡ TOO_LARGE) ↔ (cause ≡ TooLarge)) → ((status ≡ NO_MEMORY) ↔ (cause ≡ Memory)) → Fails m n k status
+  Fails-due n status cause stayed due failed large memory =
+      let was = said_before (λ s key. RefusalIsDue itself (record { pairs = s.walk; capacity = s.capacity; factor = s.factor }) key cause) due in
+      record {
+        why = failed;
+        state = stayed ∙ searched;
+        new_key = none;
+        too_large = ((λ e. was.too_large.0 (large.0 e)), (λ far. large.1 (was.too_large.1 far)));
+        memory = (λ e next. was.memory (memory.0 e) next);
+      }
+
+  -- an insertion, into the number of slots that it needs
+  pub Binds-new : (n : State) (x D : ℕ) → n ≡ with_pair itself v q x D → IsNext v.capacity (length v.walk + 1) v.factor n.capacity → Updates itself v.walk n.walk q (Some x)
+      → length n.walk ≡ length v.walk + 1 → (InsertIsTooLarge v.walk v.capacity v.factor → ⊥) → Binds m n k x
+  Binds-new n x D made next updates len in_range = record {
+    in_range = (λ far. said_before (λ s key. InsertIsTooLarge s.walk s.capacity s.factor → ⊥) in_range far.1);
+    capacity = rw none (said_before (λ s key. IsNext s.capacity (length s.walk + 1) s.factor n.capacity) next);
+    state = said_before (λ s key. n ≡ with_pair itself s key x n.capacity) (made ∙ ap (λ C. with_pair itself v q x C) (sym (ap (λ s. s.capacity) made)));
+    updates = said_before (λ s key. Updates itself s.walk n.walk key (Some x)) updates;
+    len = rw none (said_before (λ s key. length n.walk ≡ length s.walk + 1) len);
+  }

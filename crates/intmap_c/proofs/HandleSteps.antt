@@ -1,7 +1,8 @@
 -- A `Handle` as what it owns: nothing at null, and else a map and the right to free its block. Assumes `Logic`.
 use Rattle.intmap_c.proofs.Words.{◌≡◌, ℕ, List, [], ◌∷◌, refl, lit<, Ura, bare, Val, vstruct, vcons, vnil, ent, guard, guard_i, never, via, fst∗, snd∗, fact_use, Logic, sem, Item, Goal, Seq, Step, step, ‵, ◌$◌, fjoin, fjoin3, fpack, feq_i, feq_l, given, use1, learn, RattleType, Valss, RawPtr, lone, layout, Ptr, block_ptr, null_ptr, ptr_val, in_a_block, Testable, lies_at, nothing, shape, to, within, box_owns, Option, None, Some, Good}
 use base.Fraction.{full_share}
-use Rattle.std.proofs.Handle.{handle as global}
+use Rattle.std.specs.contracts.alloc.Global.{the_row as Global}
+use Rattle.std.proofs.Handle.{handle as global, heap_val}
 use Rattle.std.proofs.GlobalToken.{dealloc_token-Testable}
 use Rattle.intmap_c.specs.contracts.handle.Handle as handle
 use Rattle.intmap_c.specs.Handles.{Map, may_free, owns_map}
@@ -9,6 +10,10 @@ use Rattle.intmap_c.proofs.handle.Handle.TheLaws.{lowered}
 
 abbrev pub Word : RattleType
 Word = handle.the_row
+
+-- the one machine value of an allocator has its type
+pub heap_fits : Good (layout Global) heap_val
+heap_fits = (tt, ((tt, tt), tt))
 
 -- the machine value of any handle has its type
 pub word_fits : (p : Ptr) → Good (layout Word) (vstruct (vcons (ptr_val p) vnil))

@@ -1,5 +1,8 @@
 mod AnswerLemmas
-mod WalkLemmas
 mod Words
+mod ReaderWords
 mod UnboxedSteps
 mod HandleSteps
+mod LentSteps
+mod LoanLaws
+mod SendLemmas

@@ -1,20 +1,35 @@
 -- What calls return to C, and with which map.
-use Rattle.std.specs.Prelude.{◌≡◌, ◌⊎◌, ℕ, Option, None, Some}
-use Rattle.intmap_c.specs.declared.answer.TheConstants.{BOUND, NOT_BOUND, MEMORY, TOO_LARGE}
+use Rattle.std.specs.Prelude.{◌≡◌, ◌⊎◌, ℕ, ℤ, Option, None, Some}
+use Rattle.intmap_c.specs.declared.answer.TheConstants.{PRESENT, ABSENT, NO_MEMORY, TOO_LARGE}
 use Rattle.intmap_c.specs.declared.answer.Answer.{Answer}
-
--- the value that a key had, or that it was absent
-abbrev pub value_told : Option ℕ → Answer
-value_told None = record { value = 0; status = NOT_BOUND }
-value_told (Some v) = record { value = v; status = BOUND }
+use Rattle.intmap_c.specs.declared.answer.Found.{Found}
+use Rattle.intmap_c.specs.declared.answer.Pair.{Pair}
 
 -- no value, and why
-abbrev pub no_value : ℕ → Answer
+abbrev pub no_value : ℤ → Answer
 no_value why = record { value = 0; status = why }
 
+-- the value that a key had, or that it was absent
+abbrev pub value_found : Option ℕ → Answer
+value_found None = no_value ABSENT
+value_found (Some v) = record { value = v; status = PRESENT }
+
+-- a pair as C has it
+abbrev pub pair_of : ℕ × ℕ → Pair
+pair_of p = record { key = p.0; value = p.1 }
+
+-- no pair, and why
+abbrev pub no_pair : ℤ → Found
+no_pair why = record { pair = pair_of (0, 0); status = why }
+
+-- the pair that was found, or that there was none
+abbrev pub pair_found : Option (ℕ × ℕ) → Found
+pair_found None = no_pair ABSENT
+pair_found (Some p) = record { pair = pair_of p; status = PRESENT }
+
 -- the call failed: for want of memory, or since the map would be too large
-abbrev pub IsRefused : ℕ → Type 0
-IsRefused status = (status ≡ MEMORY) ⊎ (status ≡ TOO_LARGE)
+abbrev pub IsFailed : ℤ → Type 0
+IsFailed status = (status ≡ NO_MEMORY) ⊎ (status ≡ TOO_LARGE)
 
 module _ {S : Type 0} where
   -- P of the map before and the map after; if there is no map, there is none after either, and N

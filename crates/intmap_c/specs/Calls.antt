@@ -1,14 +1,13 @@
 -- What calls make of a map from 64-bit keys to 64-bit values, m before and n after, and what they return.
-use Rattle.std.specs.Prelude.{◌≡◌, ◌↔◌, ◌⊎◌, ℕ, ◌+◌, ◌^◌, ◌<◌, max, cond, List, [], ◌∷◌, ◌++◌, map, take, drop, length, Option, None, Some, is_some}
+use Rattle.std.specs.Prelude.{◌≡◌, ◌↔◌, ◌⊎◌, ℕ, ℤ, ◌+◌, ◌^◌, ◌<◌, ◌%◌, max, cond, Bool, true, false, length, Option, None, Some, is_some}
 use Rattle.intmap.specs.Bindings.{value_of, IsPresent, Updates}
+use Rattle.intmap.specs.Cloning.{IsClone}
 use Rattle.intmap.specs.Reach.{class_size}
 use Rattle.intmap.specs.Growth.{IsNext, IsLeastPower, IsWanted, WantsTooMuch}
-use Rattle.intmap.specs.Map.{MapState, IsOutOfRange, IsCapacityAfter, after_search, after_insert, after_remove, written, in_slots, with_walk}
-use Rattle.intmap_c.specs.declared.answer.TheConstants.{DONE, BOUND, NOT_BOUND, MEMORY, TOO_LARGE}
+use Rattle.intmap.specs.Map.{MapState, IsOutOfRange, IsCapacityAfter, after_search, after_insert, after_remove, written, in_slots}
+use Rattle.intmap_c.specs.declared.answer.TheConstants.{DONE, PRESENT, ABSENT, NO_MEMORY, TOO_LARGE, NO_MAP}
 use Rattle.intmap_c.specs.declared.answer.Answer.{Answer}
-use Rattle.intmap_c.specs.declared.answer.Pair.{Pair}
-use Rattle.intmap_c.specs.declared.answer.Popped.{Popped}
-use Rattle.intmap_c.specs.Answers.{value_told, no_value, IsRefused}
+use Rattle.intmap_c.specs.Answers.{value_found, no_value, IsFailed}
 
 -- such a map, as contracts see it
 abbrev pub State : Type 0
@@ -26,6 +25,20 @@ bound_to m k = value_of itself m.walk k
 abbrev pub BindSame : State → State → Type 0
 BindSame m n = ((q : ℕ) → bound_to n q ≡ bound_to m q) × (length n.walk ≡ length m.walk)
 
+-- two words are equal: neither has a map, or the same keys have the same values in both maps
+abbrev pub AreEqual : Option State → Option State → Bool → Type 0
+AreEqual None None same = same ≡ true
+AreEqual None (Some n) same = same ≡ false
+AreEqual (Some m) None same = same ≡ false
+AreEqual (Some m) (Some n) same = (same ≡ true) ↔ ((k : ℕ) → bound_to m k ≡ bound_to n k)
+
+-- a map with the same pairs in the same order was made in a word that had `old` and has `new`; or it could not be made, and the word is as it was
+abbrev pub Clones : Option State → Option State → Option State → ℤ → Type 0
+Clones None old new status = (status ≡ NO_MAP) × (new ≡ old)
+Clones (Some m) old new status =
+    ((status ≡ DONE) × ((n : State) × (new ≡ Some n) × IsClone (λ v w. w ≡ v) m n))
+    ⊎ ((status ≡ NO_MEMORY) × (new ≡ old))
+
 -- k was inserted with v, in the number of slots that this needs
 pub record Binds (m n : State) (k v : ℕ) : Type 0 where
   pub in_range : IsOutOfRange itself m.walk m.capacity m.factor k → ⊥
@@ -35,69 +48,66 @@ pub record Binds (m n : State) (k v : ℕ) : Type 0 where
   pub len : length n.walk ≡ length m.walk + cond (is_some (bound_to m k)) 0 1
 
 -- the insertion of the new key k failed, and the map is as it was except for the count of comparisons
-pub record Refuses (m n : State) (k status : ℕ) : Type 0 where
-  pub why : IsRefused status
+pub record Fails (m n : State) (k : ℕ) (status : ℤ) : Type 0 where
+  pub why : IsFailed status
   pub state : n ≡ after_search itself m k
   pub new_key : bound_to m k ≡ None
   pub too_large : (status ≡ TOO_LARGE) ↔ IsOutOfRange itself m.walk m.capacity m.factor k
-  pub memory : status ≡ MEMORY → IsNext m.capacity (length m.walk + 1) m.factor m.capacity → 0 < class_size itself m.walk m.capacity k
+  pub memory : status ≡ NO_MEMORY → IsNext m.capacity (length m.walk + 1) m.factor m.capacity → 0 < class_size itself m.walk m.capacity k
 
 -- k was inserted with v, and its value before is returned; or the insertion failed
 abbrev pub Inserts : State → State → ℕ → ℕ → Answer → Type 0
 Inserts m n k v answer =
-    ((answer ≡ value_told (bound_to m k)) × Binds m n k v)
-    ⊎ ((answer ≡ no_value answer.status) × Refuses m n k answer.status)
+    ((answer ≡ value_found (bound_to m k)) × Binds m n k v)
+    ⊎ ((answer ≡ no_value answer.status) × Fails m n k answer.status)
 
 -- k had a value, which stays; or it was absent, and was inserted with v; or the insertion failed
-abbrev pub InsertsNew : State → State → ℕ → ℕ → ℕ → Type 0
+abbrev pub InsertsNew : State → State → ℕ → ℕ → ℤ → Type 0
 InsertsNew m n k v status =
-    ((status ≡ BOUND) × IsPresent itself m.walk k × (n ≡ after_search itself m k))
-    ⊎ ((status ≡ NOT_BOUND) × (bound_to m k ≡ None) × Binds m n k v)
-    ⊎ Refuses m n k status
+    ((status ≡ PRESENT) × IsPresent itself m.walk k × (n ≡ after_search itself m k))
+    ⊎ ((status ≡ ABSENT) × (bound_to m k ≡ None) × Binds m n k v)
+    ⊎ Fails m n k status
 
 -- v was written in the place of the value of k, which is returned; if k is absent, nothing was written
 pub record Writes (m n : State) (k v : ℕ) (answer : Answer) : Type 0 where
-  pub told : answer ≡ value_told (bound_to m k)
+  pub told : answer ≡ value_found (bound_to m k)
   pub bound : IsPresent itself m.walk k → n ≡ written itself (after_search itself m k) k v
   pub missing : bound_to m k ≡ None → n ≡ after_search itself m k
   pub updates : IsPresent itself m.walk k → Updates itself m.walk n.walk k (Some v)
   pub len : length n.walk ≡ length m.walk
 
+-- `more` was added to the value of k, modulo 2^64, and the value before is returned; if k is absent, nothing was written
+abbrev pub Adds : State → State → ℕ → ℕ → Answer → Type 0
+Adds m n k more answer = Writes m n k ((answer.value + more) % 2 ^ 64) answer
+
+-- `more` was added to the value of k; or k was absent, and was inserted with `more`; or the insertion failed
+abbrev pub AddsOrInserts : State → State → ℕ → ℕ → Answer → Type 0
+AddsOrInserts m n k more answer =
+    (IsPresent itself m.walk k × Adds m n k more answer)
+    ⊎ ((answer ≡ value_found None) × (bound_to m k ≡ None) × Binds m n k more)
+    ⊎ ((answer ≡ no_value answer.status) × Fails m n k answer.status)
+
 -- the pair of k was removed, and its value is returned
 pub record Removes (m n : State) (k : ℕ) (answer : Answer) : Type 0 where
-  pub told : answer ≡ value_told (bound_to m k)
+  pub told : answer ≡ value_found (bound_to m k)
   pub state : n ≡ after_remove itself m k
   pub updates : Updates itself m.walk n.walk k None
   pub len : length n.walk + cond (is_some (bound_to m k)) 1 0 ≡ length m.walk
 
 -- there are slots for this number of further pairs; or the map is as it was
-pub record Reserves (m n : State) (additional status : ℕ) : Type 0 where
+pub record Reserves (m n : State) (additional : ℕ) (status : ℤ) : Type 0 where
   pub outcome :
       ((status ≡ DONE) × (n ≡ in_slots itself m n.capacity)
       × ((p : ℕ) × IsLeastPower (length m.walk + additional) p × (n.capacity ≡ max m.capacity p)) × BindSame m n)
-      ⊎ (IsRefused status × (n ≡ m))
+      ⊎ (IsFailed status × (n ≡ m))
   pub too_large : (status ≡ TOO_LARGE) ↔ (2 ^ 63 < length m.walk + additional)
-  pub memory : status ≡ MEMORY → m.capacity < length m.walk + additional
+  pub memory : status ≡ NO_MEMORY → m.capacity < length m.walk + additional
 
 -- the load factor is F, and met; or the map is as it was
-pub record SetsFactor (m n : State) (F status : ℕ) : Type 0 where
+pub record SetsFactor (m n : State) (F : ℕ) (status : ℤ) : Type 0 where
   pub outcome :
       ((status ≡ DONE) × (n ≡ in_slots itself (record m { factor = F }) n.capacity)
       × IsWanted m.capacity (length m.walk) F n.capacity × BindSame m n)
-      ⊎ (IsRefused status × (n ≡ m))
+      ⊎ (IsFailed status × (n ≡ m))
   pub too_large : (status ≡ TOO_LARGE) ↔ WantsTooMuch m.capacity (length m.walk) F
-  pub memory : status ≡ MEMORY → IsWanted m.capacity (length m.walk) F m.capacity → ⊥
-
--- the first pair of the walk was removed; or there was none
-abbrev pub Pops : State → State → Popped → Type 0
-Pops m n popped =
-    ((popped.status ≡ BOUND) × (m.walk ≡ (popped.pair.key, popped.pair.value) ∷ n.walk) × (n ≡ with_walk m n.walk))
-    ⊎ ((popped ≡ record { pair = record { key = 0; value = 0 }; status = NOT_BOUND }) × (m.walk ≡ []) × (n ≡ m))
-
--- a pair as C has it
-abbrev pub pair_of : ℕ × ℕ → Pair
-pair_of p = record { key = p.0; value = p.1 }
-
--- the pairs of the walk from a position on, at most `count`, in the front of what was there
-abbrev pub copied : List (ℕ × ℕ) → ℕ → ℕ → List Pair → List Pair
-copied L from count pairs = map pair_of (take count (drop from L)) ++ drop count pairs
+  pub memory : status ≡ NO_MEMORY → IsWanted m.capacity (length m.walk) F m.capacity → ⊥

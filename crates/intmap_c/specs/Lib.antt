@@ -1,3 +1,5 @@
 pub mod Answers
 pub mod Calls
 pub mod Handles
+pub mod Loans
+pub mod Walks

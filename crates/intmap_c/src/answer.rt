@@ -1,37 +1,37 @@
 //! What calls return to C.
 ghost use Rattle.std.specs.Prelude.{◌≡◌, ◌↔◌};
-ghost use Rattle.intmap_c.specs.Answers.{IsRefused, no_value, value_told};
+ghost use Rattle.intmap_c.specs.Answers.{IsFailed, no_pair, no_value, pair_found, value_found};
 
 use intmap::Cause;
 
 // These are the statuses of intmap.h.
 
 /// The call did what it says.
-pub const DONE: u32 = 0;
+pub const DONE: i32 = 0;
 
-/// The key was present before the call.
-pub const BOUND: u32 = 1;
+/// The key, or a pair, was present before the call.
+pub const PRESENT: i32 = 1;
 
-/// The key was absent before the call.
-pub const NOT_BOUND: u32 = 2;
+/// The key, or a pair, was absent before the call.
+pub const ABSENT: i32 = 2;
 
 /// The call failed: an allocation failed.
-pub const MEMORY: u32 = 3;
+pub const NO_MEMORY: i32 = -1;
 
 /// The call failed: the map would be too large.
-pub const TOO_LARGE: u32 = 4;
+pub const TOO_LARGE: i32 = -2;
 
 /// The call failed: there is no map.
-pub const NO_MAP: u32 = 5;
+pub const NO_MAP: i32 = -3;
 
 /// A value, if there is one.
 #[repr(C)]
 #[derive(Drop)]
 pub struct Answer {
-    /// The value if the status is `BOUND`, and otherwise 0.
+    /// The value if the status is `PRESENT`, and otherwise 0.
     pub value: u64,
-    /// `BOUND`, `NOT_BOUND`, or why the call failed.
-    pub status: u32,
+    /// `PRESENT`, `ABSENT`, or why the call failed.
+    pub status: i32,
 }
 
 /// A key with its value.
@@ -44,44 +44,57 @@ pub struct Pair {
     pub value: u64,
 }
 
-/// The pair that was removed, if there was one.
+/// A pair, if there is one.
 #[repr(C)]
 #[derive(Drop)]
-pub struct Popped {
-    /// The pair if the status is `BOUND`, and otherwise zeros.
+pub struct Found {
+    /// The pair if the status is `PRESENT`, and otherwise zeros.
     pub pair: Pair,
-    /// `BOUND`, `NOT_BOUND` or `NO_MAP`.
-    pub status: u32,
+    /// `PRESENT`, `ABSENT` or `NO_MAP`.
+    pub status: i32,
 }
 
 impl Answer {
     /// The answer of a call that found a value or none.
     pub(crate) fn of(found: Option<u64>) -> Answer
-        ensures { result ≡ value_told found }
+        ensures { result ≡ value_found found }
     {
         match found {
             Some(value) => Answer {
                 value,
-                status: BOUND,
+                status: PRESENT,
             },
-            None => Answer::none(NOT_BOUND),
+            None => Answer::none(ABSENT),
         }
     }
 
     /// The answer of a call that has no value.
-    pub(crate) fn none(status: u32) -> Answer
+    pub(crate) fn none(status: i32) -> Answer
         ensures { result ≡ no_value status }
     {
         Answer { value: 0, status }
     }
 }
 
-impl Popped {
-    /// No pair.
-    pub(crate) fn none(status: u32) -> Popped
-        ensures { result ≡ record { pair = record { key = 0; value = 0 }; status = status } }
+impl Found {
+    /// The answer of a call that found a pair or none.
+    pub(crate) fn of(found: Option<(u64, u64)>) -> Found
+        ensures { result ≡ pair_found found }
     {
-        Popped {
+        match found {
+            Some((key, value)) => Found {
+                pair: Pair { key, value },
+                status: PRESENT,
+            },
+            None => Found::none(ABSENT),
+        }
+    }
+
+    /// The answer of a call that has no pair.
+    pub(crate) fn none(status: i32) -> Found
+        ensures { result ≡ no_pair status }
+    {
+        Found {
             pair: Pair { key: 0, value: 0 },
             status,
         }
@@ -89,13 +102,13 @@ impl Popped {
 }
 
 /// The status of a failed call.
-pub(crate) fn status_of(cause: Cause) -> u32
-    ensures refused { IsRefused result }
+pub(crate) fn status_of(cause: Cause) -> i32
+    ensures failed { IsFailed result }
     ensures too_large { (result ≡ TOO_LARGE) ↔ (cause ≡ Cause.TooLarge) }
-    ensures memory { (result ≡ MEMORY) ↔ (cause ≡ Cause.Memory) }
+    ensures memory { (result ≡ NO_MEMORY) ↔ (cause ≡ Cause.Memory) }
 {
     match cause {
-        Cause::Memory => MEMORY,
+        Cause::Memory => NO_MEMORY,
         Cause::TooLarge => TOO_LARGE,
     }
 }

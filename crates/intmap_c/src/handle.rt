@@ -20,6 +20,9 @@ impl Model for Handle {
     ghost also_owns = { λ handle. owns_map handle.at handle.value };
 }
 
+// A map may be used in another thread, and any thread may free its block.
+unsafe impl Send for Handle {}
+
 impl Handle {
     /// The handle of no map.
     pub(crate) fn none() -> Handle

@@ -2,21 +2,21 @@
 ghost use Rattle.std.specs.Prelude.{◌≡◌, ◌⊎◌, ◌↔◌, ◌^◌, ◌<◌, ℕ, max, None, Some, MatchResult};
 ghost use Rattle.intmap.specs.Growth.{IsLeastPower};
 ghost use Rattle.intmap.specs.Map.{empty_map};
-ghost use Rattle.intmap_c.specs.Answers.{IsRefused};
+ghost use Rattle.intmap_c.specs.Answers.{IsFailed};
 ghost use Rattle.intmap_c.specs.declared.answer.TheConstants.{TOO_LARGE};
 
-use crate::answer::{DONE, MEMORY, status_of};
+use crate::answer::{DONE, NO_MEMORY, status_of};
 use crate::handle::{Handle, put, take};
 use intmap::{Cause, IntMap};
 use std::alloc::Global;
 
 /// Puts a new map into the handle and returns `DONE`. If the map could not be made, or there is no
 /// memory for its block, it returns why, and the handle stays.
-fn keep(alloc: Global, handle: &mut Handle, made: Result<IntMap<u64, u64>, Cause>) -> u32
+pub(crate) fn keep(alloc: Global, handle: &mut Handle, made: Result<IntMap<u64, u64>, Cause>) -> i32
     ensures { MatchResult made
         (λ map. ((result ≡ DONE) × (handle.new.value ≡ Some map))
-        ⊎ ((result ≡ MEMORY) × (handle.new.value ≡ handle.old.value)))
-        (λ cause. (handle.new.value ≡ handle.old.value) × IsRefused result
+        ⊎ ((result ≡ NO_MEMORY) × (handle.new.value ≡ handle.old.value)))
+        (λ cause. (handle.new.value ≡ handle.old.value) × IsFailed result
         × ((result ≡ TOO_LARGE) ↔ (cause ≡ Cause.TooLarge))) }
 {
     match made {
@@ -25,22 +25,22 @@ fn keep(alloc: Global, handle: &mut Handle, made: Result<IntMap<u64, u64>, Cause
                 put(handle, alloc, map);
                 DONE
             }
-            Err(_) => MEMORY,
+            Err(_) => NO_MEMORY,
         },
         Err(cause) => status_of(cause),
     }
 }
 
 /// Makes an empty map of 4 slots, with a load factor of 909 thousandths. If the handle had a map,
-/// that map is freed. It fails with `MEMORY` if an allocation fails, and then the handle stays.
+/// that map is freed. It fails with `NO_MEMORY` if an allocation fails, and then the handle stays.
 ///
 /// ```text
 /// intmap_new(&map)    INTMAP_DONE, and intmap_capacity(&map) is 4
 /// ```
 #[unsafe(no_mangle)]
-pub extern "C" fn intmap_new(alloc: Global, handle: &mut Handle) -> u32
+pub extern "C" fn intmap_new(alloc: Global, handle: &mut Handle) -> i32
     ensures { ((result ≡ DONE) × (handle.new.value ≡ Some (empty_map 4)))
-        ⊎ ((result ≡ MEMORY) × (handle.new.value ≡ handle.old.value)) }
+        ⊎ ((result ≡ NO_MEMORY) × (handle.new.value ≡ handle.old.value)) }
 {
     keep(alloc, handle, IntMap::new(alloc))
 }
@@ -48,17 +48,17 @@ pub extern "C" fn intmap_new(alloc: Global, handle: &mut Handle) -> u32
 /// Makes an empty map, with a load factor of 909 thousandths. Its number of slots is the least
 /// power of two that is at least `capacity`, and at least 2. If the handle had a map, that map is
 /// freed. It fails with `TOO_LARGE` exactly if `capacity` is above 2^63, and otherwise with
-/// `MEMORY` if an allocation fails. A failed call leaves the handle.
+/// `NO_MEMORY` if an allocation fails. A failed call leaves the handle.
 ///
 /// ```text
 /// intmap_with_capacity(&map, 20)                     INTMAP_DONE, and 32 slots
 /// intmap_with_capacity(&map, 9223372036854775809)    INTMAP_TOO_LARGE
 /// ```
 #[unsafe(no_mangle)]
-pub extern "C" fn intmap_with_capacity(alloc: Global, handle: &mut Handle, capacity: usize) -> u32
+pub extern "C" fn intmap_with_capacity(alloc: Global, handle: &mut Handle, capacity: usize) -> i32
     ensures outcome { ((result ≡ DONE)
         × ((D : ℕ) × IsLeastPower (max capacity 2) D × (handle.new.value ≡ Some (empty_map D))))
-        ⊎ (IsRefused result × (handle.new.value ≡ handle.old.value)) }
+        ⊎ (IsFailed result × (handle.new.value ≡ handle.old.value)) }
     ensures too_large { (result ≡ TOO_LARGE) ↔ (2 ^ 63 < capacity) }
 {
     keep(alloc, handle, IntMap::with_capacity(alloc, capacity))

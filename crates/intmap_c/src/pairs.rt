@@ -1,11 +1,12 @@
-//! Calls on one key.
-ghost use Rattle.std.specs.Prelude.{◌≡◌, MatchOption, false, is_some};
-ghost use Rattle.intmap_c.specs.Answers.{OnMap, no_value, value_told};
-ghost use Rattle.intmap_c.specs.Calls.{Inserts, InsertsNew, Removes, Writes, bound_to};
+//! Calls that write one key.
+ghost use Rattle.std.specs.Prelude.{◌≡◌};
+ghost use Rattle.intmap_c.specs.Answers.{OnMap, no_value};
+ghost use Rattle.intmap_c.specs.Calls.{Adds, AddsOrInserts, Inserts, InsertsNew, Removes, Writes};
 
-use crate::answer::{Answer, BOUND, NO_MAP, NOT_BOUND, status_of};
+use crate::answer::{ABSENT, Answer, NO_MAP, PRESENT, status_of};
 use crate::handle::{Handle, put, take};
 use intmap::IntMap;
+use intmap::entry::Entry;
 use std::alloc::Global;
 use std::mem::replace;
 
@@ -21,12 +22,12 @@ fn insert(map: &mut IntMap<u64, u64>, key: u64, value: u64) -> Answer
 
 /// Inserts the pair of a new key, and returns what [`intmap_insert_checked`] returns if there is a
 /// map.
-fn insert_checked(map: &mut IntMap<u64, u64>, key: u64, value: u64) -> u32
+fn insert_checked(map: &mut IntMap<u64, u64>, key: u64, value: u64) -> i32
     ensures { InsertsNew map.old map.new key value result }
 {
     match map.insert_checked(key, value) {
-        Ok(true) => NOT_BOUND,
-        Ok(false) => BOUND,
+        Ok(true) => ABSENT,
+        Ok(false) => PRESENT,
         Err(refused) => status_of(refused.cause),
     }
 }
@@ -41,6 +42,42 @@ fn set(map: &mut IntMap<u64, u64>, key: u64, value: u64) -> Answer
     }
 }
 
+/// Adds to the value of a present key, and returns what [`intmap_add`] returns if there is a map.
+fn add(map: &mut IntMap<u64, u64>, key: u64, more: u64) -> Answer
+    ensures { Adds map.old map.new key more result }
+{
+    match map.get_mut(key) {
+        Some(place) => {
+            let old = *place;
+            *place = old.wrapping_add(more);
+            Answer::of(Some(old))
+        }
+        None => Answer::of(None),
+    }
+}
+
+/// Adds to the value of a key, or inserts the key, and returns what [`intmap_add_or_insert`] returns
+/// if there is a map.
+fn add_or_insert(map: &mut IntMap<u64, u64>, key: u64, more: u64) -> Answer
+    ensures { AddsOrInserts map.old map.new key more result }
+{
+    match map.entry(key) {
+        Entry::Occupied(mut entry) => {
+            let old = *entry.get();
+            let _ = entry.insert(old.wrapping_add(more));
+            entry.leave();
+            Answer::of(Some(old))
+        }
+        Entry::Vacant(entry) => match entry.insert_entry(more) {
+            Ok(entry) => {
+                entry.leave();
+                Answer::of(None)
+            }
+            Err(refused) => Answer::none(status_of(refused.cause)),
+        },
+    }
+}
+
 /// Removes the pair of the key, and returns what [`intmap_remove`] returns if there is a map.
 fn remove(map: &mut IntMap<u64, u64>, key: u64) -> Answer
     ensures { Removes map.old map.new key result }
@@ -48,57 +85,14 @@ fn remove(map: &mut IntMap<u64, u64>, key: u64) -> Answer
     Answer::of(map.remove(key))
 }
 
-/// The value of the key. The map stays.
-///
-/// ```text
-/// intmap_get(&map, 21)    {7, INTMAP_BOUND} after intmap_insert(&map, 21, 7)
-/// intmap_get(&map, 22)    {0, INTMAP_NOT_BOUND}
-/// ```
-#[unsafe(no_mangle)]
-pub extern "C" fn intmap_get(alloc: Global, handle: &mut Handle, key: u64) -> Answer
-    ensures kept { handle.new.value ≡ handle.old.value }
-    ensures value { MatchOption handle.old.value (result ≡ no_value NO_MAP)
-        (λ m. result ≡ value_told (bound_to m key)) }
-{
-    match take(handle, alloc) {
-        None => Answer::none(NO_MAP),
-        Some(map) => {
-            let answer = Answer::of(map.get(key).copied());
-            put(handle, alloc, map);
-            answer
-        }
-    }
-}
-
-/// Whether the key is present. If there is no map, it returns false. The map stays.
-///
-/// ```text
-/// intmap_contains_key(&map, 21)    true after intmap_insert(&map, 21, 7)
-/// ```
-#[unsafe(no_mangle)]
-pub extern "C" fn intmap_contains_key(alloc: Global, handle: &mut Handle, key: u64) -> bool
-    ensures kept { handle.new.value ≡ handle.old.value }
-    ensures value { MatchOption handle.old.value (result ≡ false)
-        (λ m. result ≡ is_some (bound_to m key)) }
-{
-    match take(handle, alloc) {
-        None => false,
-        Some(map) => {
-            let bound = map.contains_key(key);
-            put(handle, alloc, map);
-            bound
-        }
-    }
-}
-
 /// Inserts the pair of the key and the value at the end of its slot, and returns the value before.
 /// The insertion of a present key never fails. The insertion of a new key fails with `TOO_LARGE`
 /// exactly if the map has 2^64 - 1 pairs or would need more than 2^63 slots, and otherwise with
-/// `MEMORY` if an allocation fails. A failed call leaves the map.
+/// `NO_MEMORY` if an allocation fails. A failed call leaves the map.
 ///
 /// ```text
-/// intmap_insert(&map, 21, 7)    {0, INTMAP_NOT_BOUND}
-/// intmap_insert(&map, 21, 8)    {7, INTMAP_BOUND}
+/// intmap_insert(&map, 21, 7)    {0, INTMAP_ABSENT}
+/// intmap_insert(&map, 21, 8)    {7, INTMAP_PRESENT}
 /// ```
 #[unsafe(no_mangle)]
 pub extern "C" fn intmap_insert(alloc: Global, handle: &mut Handle, key: u64, value: u64) -> Answer
@@ -119,8 +113,8 @@ pub extern "C" fn intmap_insert(alloc: Global, handle: &mut Handle, key: u64, va
 /// its value. The insertion of a new key fails as `intmap_insert` does.
 ///
 /// ```text
-/// intmap_insert_checked(&map, 21, 7)    INTMAP_NOT_BOUND: now it is
-/// intmap_insert_checked(&map, 21, 8)    INTMAP_BOUND: to 7
+/// intmap_insert_checked(&map, 21, 7)    INTMAP_ABSENT: now it is
+/// intmap_insert_checked(&map, 21, 8)    INTMAP_PRESENT: to 7
 /// ```
 #[unsafe(no_mangle)]
 pub extern "C" fn intmap_insert_checked(
@@ -128,7 +122,7 @@ pub extern "C" fn intmap_insert_checked(
     handle: &mut Handle,
     key: u64,
     value: u64,
-) -> u32
+) -> i32
     ensures { OnMap handle.old.value handle.new.value (result ≡ NO_MAP)
         (λ m n. InsertsNew m n key value result) }
 {
@@ -146,7 +140,7 @@ pub extern "C" fn intmap_insert_checked(
 /// nothing.
 ///
 /// ```text
-/// intmap_set(&map, 21, 8)    {7, INTMAP_BOUND} after intmap_insert(&map, 21, 7)
+/// intmap_set(&map, 21, 8)    {7, INTMAP_PRESENT} after intmap_insert(&map, 21, 7)
 /// ```
 #[unsafe(no_mangle)]
 pub extern "C" fn intmap_set(alloc: Global, handle: &mut Handle, key: u64, value: u64) -> Answer
@@ -163,11 +157,58 @@ pub extern "C" fn intmap_set(alloc: Global, handle: &mut Handle, key: u64, value
     }
 }
 
+/// Adds to the value of a present key in its place, modulo 2^64, and returns the value before. It
+/// looks the key up once, and allocates nothing.
+///
+/// ```text
+/// intmap_add(&map, 21, 1)    {7, INTMAP_PRESENT} after intmap_insert(&map, 21, 7)
+/// ```
+#[unsafe(no_mangle)]
+pub extern "C" fn intmap_add(alloc: Global, handle: &mut Handle, key: u64, more: u64) -> Answer
+    ensures { OnMap handle.old.value handle.new.value (result ≡ no_value NO_MAP)
+        (λ m n. Adds m n key more result) }
+{
+    match take(handle, alloc) {
+        None => Answer::none(NO_MAP),
+        Some(mut map) => {
+            let answer = add(&mut map, key, more);
+            put(handle, alloc, map);
+            answer
+        }
+    }
+}
+
+/// Adds to the value of a present key as [`intmap_add`] does, or inserts an absent key with `more`.
+/// It looks the key up once. The insertion of a new key fails as [`intmap_insert`] does.
+///
+/// ```text
+/// intmap_add_or_insert(&map, 21, 1)    {0, INTMAP_ABSENT}, and then {1, INTMAP_PRESENT}
+/// ```
+#[unsafe(no_mangle)]
+pub extern "C" fn intmap_add_or_insert(
+    alloc: Global,
+    handle: &mut Handle,
+    key: u64,
+    more: u64,
+) -> Answer
+    ensures { OnMap handle.old.value handle.new.value (result ≡ no_value NO_MAP)
+        (λ m n. AddsOrInserts m n key more result) }
+{
+    match take(handle, alloc) {
+        None => Answer::none(NO_MAP),
+        Some(mut map) => {
+            let answer = add_or_insert(&mut map, key, more);
+            put(handle, alloc, map);
+            answer
+        }
+    }
+}
+
 /// Removes the pair of the key, and returns its value. The last pair of the slot takes its place.
 ///
 /// ```text
-/// intmap_remove(&map, 21)    {7, INTMAP_BOUND} after intmap_insert(&map, 21, 7)
-/// intmap_remove(&map, 21)    {0, INTMAP_NOT_BOUND}
+/// intmap_remove(&map, 21)    {7, INTMAP_PRESENT} after intmap_insert(&map, 21, 7)
+/// intmap_remove(&map, 21)    {0, INTMAP_ABSENT}
 /// ```
 #[unsafe(no_mangle)]
 pub extern "C" fn intmap_remove(alloc: Global, handle: &mut Handle, key: u64) -> Answer

@@ -6,7 +6,7 @@ use Rattle.std.proofs.alloc.Global.TheLaws.{the_row_laws}
 use Rattle.std.proofs.Handle.{heap_val, heap_Tells}
 use Rattle.intmap_c.specs.Handles.{Map}
 use Rattle.intmap_c.proofs.UnboxedSteps.{parted, parted_fits, Parts, parts_in}
-use Rattle.intmap_c.proofs.HandleSteps.{Word, word_fits, by_map}
+use Rattle.intmap_c.proofs.HandleSteps.{Word, heap_fits, word_fits, by_map}
 use Rattle.intmap_c.proofs.handle.Handle.TheLaws.{lowered, lowers}
 use Rattle.intmap_c.specs.contracts.handle.Handle.into_map as f
 use Rattle.intmap_c.proofs.handle.Handle.into_map.Statement.{statement}
@@ -14,10 +14,6 @@ use Rattle.intmap_c.proofs.handle.Handle.into_map.Code as code
 
 abbrev stayed : Stays f.ended.signature.params f.ended.kept
 stayed = (stay_dropped _ yes, (stay_dropped _ yes, tt))
-
--- the one machine value of an allocator has its type
-heap_fits : Good (layout Global) heap_val
-heap_fits = (tt, ((tt, tt), tt))
 
 abbrev Box : RattleType
 Box = Parts Map Global the_row_laws ghosts

@@ -1,0 +1,25 @@
+use Rattle.std.proofs.Common.{rules, inl, inr, sym, subst, ap, ◌∙◌}
+use Rattle.std.proofs.Math.Facts.{to_z-of_z}
+use Rattle.intmap_c.specs.Calls.{Binds, Fails}
+use Rattle.intmap_c.proofs.AnswerLemmas.{Binds-new, Fails-due}
+use Rattle.intmap_c.proofs.pairs.add_or_insert.Goals as goal
+
+pub returns-in-Occupied : goal.returns-in-Occupied
+returns-in-Occupied c = inl (search rules, record { told = search rules; bound = search rules; missing = search rules; updates = search rules; len = search rules })
+
+pub returns-in-Ok : goal.returns-in-Ok
+returns-in-Ok c =
+    let v = c.in-Vacant.ensures in let made = c.in-Ok.ensures in
+    let name = sym v.same_reference ∙ sym made.written.same_reference in let left = c.leave-in-Ok.ensures.state in
+    inr (inl (
+      c.of-in-Ok.ensures,
+      v.occupied,
+      subst (λ n. Binds c.args.map.now n c.args.key c.args.more) (sym (c.map-in-Ok-1.given.1 name ∙ left))
+          (Binds-new c.args.map.now _ c.args.key _ v.state v.key v.occupied _ c.args.more _ made.written.map made.capacity made.updates made.len made.in_range),
+    ))
+
+pub returns-in-Err : goal.returns-in-Err
+returns-in-Err c =
+    let v = c.in-Vacant.ensures in let told = rw (to_z-of_z (record { sfits = c.status_of.type_inv })) at c.none.ensures in let status = ap (λ a. a.status) told in let why = c.status_of.ensures in
+    let due = Fails-due c.args.map.now _ c.args.key _ v.state v.key v.occupied _ _ _ (search rules) c.in-Err.ensures.refused why.failed why.too_large why.memory in
+    inr (inr (told ∙ ap (λ s. record { value = 0; status = s }) (sym status), subst (Fails c.args.map.now _ c.args.key) (sym status) due))

@@ -1,0 +1,295 @@
+//! Calls that only read. Any number of them may run at once while a map is lent.
+//!
+//! C lends the map of a word, as [`is_lent`] says, and has the loan back from each call. It ends the
+//! loan before it next passes the word to a call that may write.
+ghost use Rattle.std.specs.Prelude.{◌≡◌, MatchOption, false, is_some, length};
+ghost use Rattle.std.specs.Borrow.{sem};
+ghost use Rattle.intmap_table.specs.Figures.{load_of};
+ghost use Rattle.intmap_c.specs.Answers.{no_value, value_found};
+ghost use Rattle.intmap_c.specs.Calls.{AreEqual, Clones, bound_to, itself};
+ghost use Rattle.intmap_c.specs.Loans.{Loan, is_lent};
+ghost use Rattle.intmap_c.specs.Walks.{MayStep, StepsIfMap};
+
+use crate::answer::{Answer, Found, NO_MAP};
+use crate::handle::Handle;
+use crate::lent::{Lent, Word};
+use crate::make::keep;
+use intmap::iter::Cursor;
+use intmap::laws;
+use std::alloc::Global;
+use std::marker::PhantomData;
+
+/// Returns what [`intmap_len`] returns.
+fn len(lent: Lent<'_>) -> usize
+    ensures { MatchOption lent.entry.value (result ≡ 0)
+        (λ m. result ≡ length m.walk) }
+{
+    match lent.map() {
+        None => 0,
+        Some(map) => map.len(),
+    }
+}
+
+/// The number of pairs, or 0 if there is no map.
+#[unsafe(no_mangle)]
+pub unsafe extern "C" fn intmap_len(word: &Word) -> usize
+    ghost loan: { Loan }
+    requires* { sem 𝓛 (is_lent loan word.now.at) }
+    ensures* kept { sem 𝓛 (is_lent loan word.now.at) }
+    ensures value { MatchOption loan.value (result ≡ 0)
+        (λ m. result ≡ length m.walk) }
+{
+    let lent = Lent {
+        at: word.at,
+        life: PhantomData,
+    };
+    len(lent)
+}
+
+/// Returns what [`intmap_capacity`] returns.
+fn capacity(lent: Lent<'_>) -> usize
+    ensures { MatchOption lent.entry.value (result ≡ 0)
+        (λ m. result ≡ m.capacity) }
+{
+    match lent.map() {
+        None => 0,
+        Some(map) => map.capacity(),
+    }
+}
+
+/// The number of slots, or 0 if there is no map.
+#[unsafe(no_mangle)]
+pub unsafe extern "C" fn intmap_capacity(word: &Word) -> usize
+    ghost loan: { Loan }
+    requires* { sem 𝓛 (is_lent loan word.now.at) }
+    ensures* kept { sem 𝓛 (is_lent loan word.now.at) }
+    ensures value { MatchOption loan.value (result ≡ 0)
+        (λ m. result ≡ m.capacity) }
+{
+    let lent = Lent {
+        at: word.at,
+        life: PhantomData,
+    };
+    capacity(lent)
+}
+
+/// Returns what [`intmap_load_factor`] returns.
+fn load_factor(lent: Lent<'_>) -> usize
+    ensures { MatchOption lent.entry.value (result ≡ 0)
+        (λ m. result ≡ m.factor) }
+{
+    match lent.map() {
+        None => 0,
+        Some(map) => map.get_load_factor(),
+    }
+}
+
+/// The load factor in thousandths, or 0 if there is no map.
+#[unsafe(no_mangle)]
+pub unsafe extern "C" fn intmap_load_factor(word: &Word) -> usize
+    ghost loan: { Loan }
+    requires* { sem 𝓛 (is_lent loan word.now.at) }
+    ensures* kept { sem 𝓛 (is_lent loan word.now.at) }
+    ensures value { MatchOption loan.value (result ≡ 0)
+        (λ m. result ≡ m.factor) }
+{
+    let lent = Lent {
+        at: word.at,
+        life: PhantomData,
+    };
+    load_factor(lent)
+}
+
+/// Returns what [`intmap_filled_slots`] returns.
+fn filled_slots(lent: Lent<'_>) -> usize
+    ensures { MatchOption lent.entry.value (result ≡ 0)
+        (λ m. result ≡ load_of itself m.walk m.capacity) }
+{
+    match lent.map() {
+        None => 0,
+        Some(map) => map.load() as usize,
+    }
+}
+
+/// The number of slots that hold a pair, or 0 if there is no map.
+#[unsafe(no_mangle)]
+pub unsafe extern "C" fn intmap_filled_slots(word: &Word) -> usize
+    ghost loan: { Loan }
+    requires* { sem 𝓛 (is_lent loan word.now.at) }
+    ensures* kept { sem 𝓛 (is_lent loan word.now.at) }
+    ensures value { MatchOption loan.value (result ≡ 0)
+        (λ m. result ≡ load_of itself m.walk m.capacity) }
+{
+    let lent = Lent {
+        at: word.at,
+        life: PhantomData,
+    };
+    filled_slots(lent)
+}
+
+/// Returns what [`intmap_get`] returns.
+fn get(lent: Lent<'_>, key: u64) -> Answer
+    ensures { MatchOption lent.entry.value (result ≡ no_value NO_MAP)
+        (λ m. result ≡ value_found (bound_to m key)) }
+{
+    match lent.map() {
+        None => Answer::none(NO_MAP),
+        Some(map) => Answer::of(map.get(key).copied()),
+    }
+}
+
+/// The value of the key.
+///
+/// ```text
+/// intmap_get(&map, 21)    {7, INTMAP_PRESENT} after intmap_insert(&map, 21, 7)
+/// intmap_get(&map, 22)    {0, INTMAP_ABSENT}
+/// ```
+#[unsafe(no_mangle)]
+pub unsafe extern "C" fn intmap_get(word: &Word, key: u64) -> Answer
+    ghost loan: { Loan }
+    requires* { sem 𝓛 (is_lent loan word.now.at) }
+    ensures* kept { sem 𝓛 (is_lent loan word.now.at) }
+    ensures value { MatchOption loan.value (result ≡ no_value NO_MAP)
+        (λ m. result ≡ value_found (bound_to m key)) }
+{
+    let lent = Lent {
+        at: word.at,
+        life: PhantomData,
+    };
+    get(lent, key)
+}
+
+/// Returns what [`intmap_contains_key`] returns.
+fn contains_key(lent: Lent<'_>, key: u64) -> bool
+    ensures { MatchOption lent.entry.value (result ≡ false)
+        (λ m. result ≡ is_some (bound_to m key)) }
+{
+    match lent.map() {
+        None => false,
+        Some(map) => map.contains_key(key),
+    }
+}
+
+/// Whether the key is present. If there is no map, it returns false.
+///
+/// ```text
+/// intmap_contains_key(&map, 21)    true after intmap_insert(&map, 21, 7)
+/// ```
+#[unsafe(no_mangle)]
+pub unsafe extern "C" fn intmap_contains_key(word: &Word, key: u64) -> bool
+    ghost loan: { Loan }
+    requires* { sem 𝓛 (is_lent loan word.now.at) }
+    ensures* kept { sem 𝓛 (is_lent loan word.now.at) }
+    ensures value { MatchOption loan.value (result ≡ false)
+        (λ m. result ≡ is_some (bound_to m key)) }
+{
+    let lent = Lent {
+        at: word.at,
+        life: PhantomData,
+    };
+    contains_key(lent, key)
+}
+
+/// Returns what [`intmap_step`] returns.
+fn step(lent: Lent<'_>, at: &mut Cursor) -> Found
+    requires { MayStep lent.value at.old }
+    ensures { StepsIfMap lent.entry.value at.old at.new result }
+{
+    match lent.map() {
+        None => Found::none(NO_MAP),
+        Some(map) => match map.step(at) {
+            Some((key, value)) => Found::of(Some((*key, *value))),
+            None => Found::of(None),
+        },
+    }
+}
+
+/// The first pair of the walk from the cursor on, behind which the cursor moves. A walk begins with
+/// a cursor of zeros, and goes on with what the last call left.
+///
+/// ```text
+/// intmap_step(&map, &at)    {{21, 7}, INTMAP_PRESENT} after intmap_insert(&map, 21, 7)
+/// intmap_step(&map, &at)    {{0, 0}, INTMAP_ABSENT}
+/// ```
+#[unsafe(no_mangle)]
+pub unsafe extern "C" fn intmap_step(word: &Word, at: &mut Cursor) -> Found
+    ghost loan: { Loan }
+    requires on { MayStep loan.value at.old }
+    requires* lent { sem 𝓛 (is_lent loan word.now.at) }
+    ensures* kept { sem 𝓛 (is_lent loan word.now.at) }
+    ensures step { StepsIfMap loan.value at.old at.new result }
+{
+    let lent = Lent {
+        at: word.at,
+        life: PhantomData,
+    };
+    step(lent, at)
+}
+
+/// Returns what [`intmap_equal`] returns.
+fn equal(lent: Lent<'_>, other: Lent<'_>) -> bool
+    ensures { AreEqual lent.entry.value other.entry.value result }
+{
+    laws::equal_maps_bind_the_same::<u64, u64>();
+    match (lent.map(), other.map()) {
+        (Some(map), Some(other)) => map == other,
+        (None, None) => true,
+        _ => false,
+    }
+}
+
+/// Whether the same keys have the same values in both maps. A word without a map is equal to
+/// another without one, and to no map.
+///
+/// ```text
+/// intmap_equal(&map, &other)    true after intmap_clone(&map, &other)
+/// ```
+#[unsafe(no_mangle)]
+pub unsafe extern "C" fn intmap_equal(word: &Word, other: &Word) -> bool
+    ghost loans: { Loan × Loan }
+    requires* first { sem 𝓛 (is_lent loans.0 word.now.at) }
+    requires* second { sem 𝓛 (is_lent loans.1 other.now.at) }
+    ensures* first { sem 𝓛 (is_lent loans.0 word.now.at) }
+    ensures* second { sem 𝓛 (is_lent loans.1 other.now.at) }
+    ensures value { AreEqual loans.0.value loans.1.value result }
+{
+    let lent = Lent {
+        at: word.at,
+        life: PhantomData,
+    };
+    let other = Lent {
+        at: other.at,
+        life: PhantomData,
+    };
+    equal(lent, other)
+}
+
+/// Makes a map, and returns what [`intmap_clone`] returns.
+fn clone(alloc: Global, lent: Lent<'_>, to: &mut Handle) -> i32
+    ensures { Clones lent.entry.value to.old.value to.new.value result }
+{
+    match lent.map() {
+        None => NO_MAP,
+        Some(map) => keep(alloc, to, map.clone()),
+    }
+}
+
+/// Makes a map in `to` with the same pairs in the same order, as many slots and the same load
+/// factor. If `to` had a map, that map is freed. If an allocation fails, `to` stays.
+///
+/// ```text
+/// intmap_clone(&map, &other)    INTMAP_DONE, and each key has the same value in both
+/// ```
+#[unsafe(no_mangle)]
+pub unsafe extern "C" fn intmap_clone(alloc: Global, word: &Word, to: &mut Handle) -> i32
+    ghost loan: { Loan }
+    requires* { sem 𝓛 (is_lent loan word.now.at) }
+    ensures* kept { sem 𝓛 (is_lent loan word.now.at) }
+    ensures outcome { Clones loan.value to.old.value to.new.value result }
+{
+    let lent = Lent {
+        at: word.at,
+        life: PhantomData,
+    };
+    clone(alloc, lent, to)
+}
