@@ -1,34 +1,45 @@
-// Random calls against an array, with requests for memory that are refused. It ends with one line
-// of counts, and status 0 where every answer was the array's and all memory was freed.
+// Random calls beside a plain model that knows the order, with requests for memory that are refused.
+//
+//     cc test.c intmap.s -Wl,--wrap=malloc,--wrap=realloc,--wrap=free -o test
+//     ./test CALLS SEED
+//
+// It compares each answer, the figures and the walk with the model's. A failed call must change
+// nothing. It counts requests and blocks, so it sees memory that isn't given back. It ends with one
+// line of counts, and with status 0 if nothing was wrong.
 #include "intmap.h"
 #include <inttypes.h>
 #include <stdio.h>
 #include <stdlib.h>
 #include <string.h>
 
-// The library's requests come here, since the linker is told to wrap malloc, realloc and free.
+// Memory. The library's requests come here, since the linker is told to wrap these three.
+
 void *__real_malloc(size_t size);
 void *__real_realloc(void *block, size_t size);
 void __real_free(void *block);
 
 // Requests until the refused one; with 0, none is refused.
 static uint64_t until_refused;
-static uint64_t refused_requests, live_blocks;
+static uint64_t requests, refused, live_blocks;
 
-static bool is_refused(void) {
-    bool is_now = until_refused > 0 && --until_refused == 0;
-    refused_requests += is_now;
+// Larger requests are refused too, so that a map of 2^32 slots costs nothing.
+static const size_t LARGEST_REQUEST = (size_t)1 << 28;
+
+static bool is_refused(size_t size) {
+    bool is_now = size > LARGEST_REQUEST || (until_refused > 0 && --until_refused == 0);
+    requests++;
+    refused += is_now;
     return is_now;
 }
 
 void *__wrap_malloc(size_t size) {
-    void *block = is_refused() ? NULL : __real_malloc(size);
+    void *block = is_refused(size) ? NULL : __real_malloc(size);
     live_blocks += block != NULL;
     return block;
 }
 
 void *__wrap_realloc(void *block, size_t size) {
-    void *moved = is_refused() ? NULL : __real_realloc(block, size);
+    void *moved = is_refused(size) ? NULL : __real_realloc(block, size);
     live_blocks += block == NULL && moved != NULL;
     return moved;
 }
@@ -38,7 +49,20 @@ void __wrap_free(void *block) {
     __real_free(block);
 }
 
-// Numbers without end, by Marsaglia's xorshift.
+// What isn't so is counted, and the first few are told.
+
+static uint64_t step, wrong;
+
+static bool expect(bool is_so, const char *what, int line) {
+    if (!is_so && wrong++ < 10) {
+        printf("call %" PRIu64 ", line %d: %s\n", step, line, what);
+    }
+    return is_so;
+}
+
+#define EXPECT(fact) expect(fact, #fact, __LINE__)
+
+// Numbers without end, by Marsaglia's xorshift. The seed isn't 0.
 static uint64_t seed = 88172645463325252u;
 
 static uint64_t number(void) {
@@ -48,274 +72,835 @@ static uint64_t number(void) {
     return seed;
 }
 
-static uint64_t step, wrong;
+// The model: the pairs in the order of the walk, in an array that is sorted by slots.
 
-// Counts what isn't so, and tells of the first few.
-static void expect(bool is_so, const char *what) {
-    if (!is_so && wrong++ < 10) {
-        printf("call %" PRIu64 ": %s\n", step, what);
+enum { MOST = 4096 };
+
+typedef struct model {
+    intmap_pair pairs[MOST];
+    size_t len, capacity, factor;
+} model;
+
+// A map, and what it has to be.
+typedef struct side {
+    intmap map;
+    model plain;
+} side;
+
+static side sides[2];
+static side *it = &sides[0], *other = &sides[1];
+
+// An odd factor, so the low bits of a key decide.
+static size_t slot_of(const model *plain, uint64_t key) {
+    return key * 0x9E3779B97F4A7C55u & (plain->capacity - 1);
+}
+
+// The place of the first pair whose slot is this one or a later one.
+static size_t start_of(const model *plain, size_t slot) {
+    size_t low = 0, high = plain->len;
+    while (low < high) {
+        size_t middle = (low + high) / 2;
+        if (slot_of(plain, plain->pairs[middle].key) < slot) {
+            low = middle + 1;
+        } else {
+            high = middle;
+        }
+    }
+    return low;
+}
+
+// The place behind the last pair of the key's slot.
+static size_t end_of(const model *plain, uint64_t key) {
+    return start_of(plain, slot_of(plain, key) + 1);
+}
+
+// Whether the key's slot holds a pair.
+static bool shares(const model *plain, uint64_t key) {
+    return start_of(plain, slot_of(plain, key)) < end_of(plain, key);
+}
+
+// The place of the key; the number of pairs if it is absent.
+static size_t place_of(const model *plain, uint64_t key) {
+    for (size_t at = start_of(plain, slot_of(plain, key)); at < end_of(plain, key); at++) {
+        if (plain->pairs[at].key == key) {
+            return at;
+        }
+    }
+    return plain->len;
+}
+
+static void take_at(model *plain, size_t place) {
+    plain->len--;
+    memmove(&plain->pairs[place], &plain->pairs[place + 1],
+            (plain->len - place) * sizeof plain->pairs[0]);
+}
+
+static void put_last_in_slot(model *plain, intmap_pair pair) {
+    size_t place = end_of(plain, pair.key);
+    memmove(&plain->pairs[place + 1], &plain->pairs[place],
+            (plain->len - place) * sizeof plain->pairs[0]);
+    plain->pairs[place] = pair;
+    plain->len++;
+}
+
+// The last pair of the slot moves into the place.
+static void swap_out(model *plain, size_t place) {
+    size_t last = end_of(plain, plain->pairs[place].key) - 1;
+    plain->pairs[place] = plain->pairs[last];
+    take_at(plain, last);
+}
+
+static void set_slots(model *plain, size_t capacity) {
+    static model before;
+    if (capacity != plain->capacity) {
+        before = *plain;
+        plain->capacity = capacity;
+        plain->len = 0;
+        for (size_t at = 0; at < before.len; at++) {
+            put_last_in_slot(plain, before.pairs[at]);
+        }
     }
 }
 
-#define EXPECT(fact) expect(fact, #fact)
-
-// What the map has to hold: key_of(place) is bound to values[place] where bound[place].
-enum { KEYS = 3000 };
-
-static bool bound[KEYS];
-static uint64_t values[KEYS];
-static size_t len;
-static intmap map = INTMAP_INIT;
-
-// Spread over all numbers, so that some share a slot. An odd factor loses none.
-static uint64_t key_of(uint64_t place) {
-    return place * 0x9E3779B97F4A7C15u;
+// The least number of slots, doubled from `capacity`, in which the pairs meet the load factor.
+static size_t enough_slots(size_t len, size_t capacity, size_t factor) {
+    while (len * 1000 / capacity > factor) {
+        capacity *= 2;
+    }
+    return capacity;
 }
 
-// The place of a key of a pair; its factor times that of key_of is 1.
-static uint64_t place_of(uint64_t key) {
-    return key * 0xF1DE83E19937733Du;
+static size_t least_power(size_t least, size_t power) {
+    while (power < least) {
+        power *= 2;
+    }
+    return power;
 }
 
-static void bind(size_t place, uint64_t value) {
-    len += !bound[place];
-    bound[place] = true;
-    values[place] = value;
+// The slots when one more key was inserted.
+static size_t slots_with_one_more(const model *plain) {
+    bool is_checked = (plain->len + 1) % 8 >= 4;
+    return is_checked ? enough_slots(plain->len + 1, plain->capacity, plain->factor)
+                      : plain->capacity;
 }
 
-static void unbind(size_t place) {
-    len -= bound[place];
-    bound[place] = false;
+static void make_plain(model *plain, size_t capacity) {
+    plain->len = 0;
+    plain->capacity = capacity;
+    plain->factor = 909;
 }
 
-// Whether an answer tells what was bound before.
-static bool tells(intmap_answer answer, bool was_bound, uint64_t value) {
-    return was_bound ? answer.status == INTMAP_BOUND && answer.value == value
-                     : answer.status == INTMAP_NOT_BOUND && answer.value == 0;
+// A map is compared with its model.
+
+static const intmap_pair NO_PAIR = {0, 0};
+
+static bool same_pair(intmap_pair one, intmap_pair two) {
+    return one.key == two.key && one.value == two.value;
 }
 
-static void call_insert(size_t place, uint64_t value) {
-    uint64_t before = refused_requests;
-    bool was_bound = bound[place];
-    intmap_answer answer = intmap_insert(&map, key_of(place), value);
-    if (answer.status == INTMAP_MEMORY) {
-        EXPECT(refused_requests > before && !was_bound && answer.value == 0);
+static bool is(intmap_answer answer, intmap_status status, uint64_t value) {
+    return answer.status == status && answer.value == value;
+}
+
+static size_t filled_of(const model *plain) {
+    size_t filled = 0;
+    for (size_t at = 0; at < plain->len; at = end_of(plain, plain->pairs[at].key)) {
+        filled++;
+    }
+    return filled;
+}
+
+enum { LARGEST_ROOM = 1000 };
+
+// The whole walk, so many pairs at a time. The buffer has no values before.
+static void check_walk(const side *one, size_t room) {
+    intmap_pair pairs[LARGEST_ROOM];
+    intmap_cursor at = INTMAP_START;
+    const model *plain = &one->plain;
+    size_t passed = 0, copied;
+    do {
+        size_t left = plain->len - passed;
+        copied = intmap_next(&one->map, &at, pairs, room);
+        if (!EXPECT(copied == (left < room ? left : room))) {
+            return;
+        }
+        EXPECT(memcmp(pairs, &plain->pairs[passed], copied * sizeof pairs[0]) == 0);
+        passed += copied;
+        EXPECT(at.passed == passed);
+    } while (copied > 0);
+    intmap_stepped end = intmap_step(&one->map, at.slot, at.place, at.passed);
+    EXPECT(end.status == (one->map.at ? INTMAP_ABSENT : INTMAP_NO_MAP) && same_pair(end.pair, NO_PAIR));
+}
+
+static void check_figures(const side *one) {
+    EXPECT(intmap_len(&one->map) == one->plain.len);
+    EXPECT(intmap_capacity(&one->map) == one->plain.capacity);
+    EXPECT(intmap_load_factor(&one->map) == one->plain.factor);
+}
+
+static void check(const side *one) {
+    uint64_t before = requests;
+    check_figures(one);
+    EXPECT(intmap_filled_slots(&one->map) == filled_of(&one->plain));
+    check_walk(one, 64);
+    EXPECT(requests == before);
+}
+
+// Calls on both, each behind begin().
+
+static uint64_t requests_before, refused_before, blocks_before;
+
+static void begin(void) {
+    blocks_before = live_blocks;
+    requests_before = requests;
+    refused_before = refused;
+}
+
+static bool was_refused(void) {
+    return refused > refused_before;
+}
+
+static bool requested(void) {
+    return requests > requests_before;
+}
+
+// Whether a call failed, which it has to exactly if a request was refused. Then nothing changes.
+static bool fails(intmap_status status, side *changed) {
+    EXPECT(was_refused() == (status == INTMAP_NO_MEMORY));
+    EXPECT(intmap_failed(status) == was_refused());
+    if (was_refused()) {
+        EXPECT(live_blocks == blocks_before);
+        check(changed);
+    }
+    return was_refused();
+}
+
+enum { INSERT, INSERT_CHECKED, ADD_OR_INSERT, INSERTIONS };
+
+static intmap_answer insertion(unsigned kind, uint64_t key, uint64_t value) {
+    if (kind == INSERT) {
+        return intmap_insert(&it->map, key, value);
+    }
+    if (kind == ADD_OR_INSERT) {
+        return intmap_add_or_insert(&it->map, key, value);
+    }
+    return (intmap_answer){0, intmap_insert_checked(&it->map, key, value)};
+}
+
+// What an insertion does to a present key.
+static void insert_present(unsigned kind, size_t place, uint64_t value) {
+    intmap_pair *pair = &it->plain.pairs[place];
+    intmap_pair again = {pair->key, value};
+    if (kind == INSERT) {
+        swap_out(&it->plain, place);
+        put_last_in_slot(&it->plain, again);
+    } else if (kind == ADD_OR_INSERT) {
+        pair->value += value;
+    }
+}
+
+static void call_insertion(unsigned kind, uint64_t key, uint64_t value) {
+    model *plain = &it->plain;
+    size_t place = place_of(plain, key), slots = slots_with_one_more(plain);
+    bool is_new = place == plain->len;
+    begin();
+    intmap_answer answer = insertion(kind, key, value);
+    EXPECT(!requested() || (is_new && (slots > plain->capacity || shares(plain, key))));
+    if (!is_new) {
+        EXPECT(is(answer, INTMAP_PRESENT, kind == INSERT_CHECKED ? 0 : plain->pairs[place].value));
+        insert_present(kind, place, value);
+    } else if (fails(answer.status, it)) {
+        EXPECT(answer.value == 0);
     } else {
-        EXPECT(tells(answer, was_bound, values[place]));
-        bind(place, value);
+        EXPECT(is(answer, INTMAP_ABSENT, 0));
+        set_slots(plain, slots);
+        put_last_in_slot(plain, (intmap_pair){key, value});
     }
 }
 
-static void call_insert_checked(size_t place, uint64_t value) {
-    uint64_t before = refused_requests;
-    bool was_bound = bound[place];
-    intmap_status status = intmap_insert_checked(&map, key_of(place), value);
-    if (status == INTMAP_MEMORY) {
-        EXPECT(refused_requests > before && !was_bound);
+static void call_set_or_add(bool adds, uint64_t key, uint64_t value) {
+    size_t place = place_of(&it->plain, key);
+    bool is_present = place < it->plain.len;
+    uint64_t *old = &it->plain.pairs[is_present ? place : 0].value;
+    begin();
+    intmap_answer answer =
+        adds ? intmap_add(&it->map, key, value) : intmap_set(&it->map, key, value);
+    EXPECT(!requested());
+    if (is_present) {
+        EXPECT(is(answer, INTMAP_PRESENT, *old));
+        *old = adds ? *old + value : value;
     } else {
-        EXPECT(status == (was_bound ? INTMAP_BOUND : INTMAP_NOT_BOUND));
-        bind(place, was_bound ? values[place] : value);
+        EXPECT(is(answer, INTMAP_ABSENT, 0));
     }
 }
 
-static void call_set(size_t place, uint64_t value) {
-    EXPECT(tells(intmap_set(&map, key_of(place), value), bound[place], values[place]));
-    values[place] = bound[place] ? value : values[place];
+static void call_remove(uint64_t key) {
+    size_t place = place_of(&it->plain, key);
+    begin();
+    intmap_answer answer = intmap_remove(&it->map, key);
+    EXPECT(!requested());
+    if (place < it->plain.len) {
+        EXPECT(is(answer, INTMAP_PRESENT, it->plain.pairs[place].value));
+        swap_out(&it->plain, place);
+    } else {
+        EXPECT(is(answer, INTMAP_ABSENT, 0));
+    }
 }
 
-static void call_remove(size_t place) {
-    EXPECT(tells(intmap_remove(&map, key_of(place)), bound[place], values[place]));
-    unbind(place);
-}
-
-static void call_get(size_t place) {
-    EXPECT(tells(intmap_get(&map, key_of(place)), bound[place], values[place]));
-    EXPECT(intmap_contains_key(&map, key_of(place)) == bound[place]);
+static void call_get(uint64_t key, uint64_t otherwise) {
+    size_t place = place_of(&it->plain, key);
+    bool is_present = place < it->plain.len;
+    uint64_t value = is_present ? it->plain.pairs[place].value : 0;
+    begin();
+    EXPECT(is(intmap_get(&it->map, key), is_present ? INTMAP_PRESENT : INTMAP_ABSENT, value));
+    EXPECT(intmap_contains_key(&it->map, key) == is_present);
+    EXPECT(intmap_get_or(&it->map, key, otherwise) == (is_present ? value : otherwise));
+    EXPECT(!requested());
 }
 
 static void call_reserve(size_t additional) {
-    uint64_t before = refused_requests;
-    size_t capacity = intmap_capacity(&map);
-    intmap_status status = intmap_reserve(&map, additional);
-    if (status == INTMAP_MEMORY) {
-        EXPECT(refused_requests > before && intmap_capacity(&map) == capacity);
-    } else {
-        EXPECT(status == INTMAP_DONE && intmap_capacity(&map) >= len + additional);
+    size_t slots = least_power(it->plain.len + additional, it->plain.capacity);
+    begin();
+    intmap_status status = intmap_reserve(&it->map, additional);
+    EXPECT(!requested() || slots > it->plain.capacity);
+    if (!fails(status, it)) {
+        EXPECT(status == INTMAP_DONE);
+        set_slots(&it->plain, slots);
     }
 }
 
 static void call_set_load_factor(size_t thousandths) {
-    uint64_t before = refused_requests;
-    size_t factor = intmap_load_factor(&map);
-    intmap_status status = intmap_set_load_factor(&map, thousandths);
-    if (status == INTMAP_MEMORY) {
-        EXPECT(refused_requests > before && intmap_load_factor(&map) == factor);
-    } else {
-        EXPECT(status == INTMAP_DONE && intmap_load_factor(&map) == thousandths);
+    size_t slots = enough_slots(it->plain.len, it->plain.capacity, thousandths);
+    begin();
+    intmap_status status = intmap_set_load_factor(&it->map, thousandths);
+    EXPECT(!requested() || slots > it->plain.capacity);
+    if (!fails(status, it)) {
+        EXPECT(status == INTMAP_DONE);
+        it->plain.factor = thousandths;
+        set_slots(&it->plain, slots);
     }
 }
 
-// All pairs, a few at a time: each key that is bound, once, with its value.
-static void call_walk(size_t room) {
-    static bool seen[KEYS];
-    memset(seen, 0, sizeof seen);
-    intmap_pair pairs[64];
-    size_t from = 0, copied;
-    do {
-        memset(pairs, 0xFF, sizeof pairs);
-        copied = intmap_walk(&map, from, pairs, room);
-        EXPECT(copied == (len - from < room ? len - from : room));
-        EXPECT(pairs[room].key == UINT64_MAX && pairs[copied].value == UINT64_MAX);
-        for (size_t at = 0; at < copied; at++) {
-            uint64_t place = place_of(pairs[at].key);
-            EXPECT(place < KEYS && bound[place] && !seen[place]);
-            EXPECT(place < KEYS && values[place] == pairs[at].value);
-            seen[place < KEYS ? place : 0] = true;
+// Passes so many pairs, then cuts so many.
+static void call_cut(size_t passed, size_t count) {
+    intmap_pair pairs[LARGEST_ROOM];
+    intmap_cursor at = INTMAP_START;
+    model *plain = &it->plain;
+    passed = intmap_next(&it->map, &at, pairs, passed);
+    begin();
+    for (; count > 0; count--) {
+        bool is_left = passed < plain->len;
+        intmap_pair wanted = is_left ? plain->pairs[passed] : NO_PAIR;
+        intmap_stepped cut = intmap_cut(&it->map, &at);
+        EXPECT(cut.status == (is_left ? INTMAP_PRESENT : INTMAP_ABSENT));
+        EXPECT(same_pair(cut.pair, wanted) && at.passed == passed);
+        EXPECT(memcmp(&at, &cut.at, sizeof at) == 0);
+        if (is_left) {
+            take_at(plain, passed);
         }
-        from += copied;
-    } while (copied > 0);
-    EXPECT(from == len && intmap_walk(&map, SIZE_MAX, pairs, room) == 0);
-}
-
-// The first pair of the walk is taken out.
-static void call_pop(void) {
-    intmap_pair first = {0, 0};
-    size_t copied = intmap_walk(&map, 0, &first, 1);
-    intmap_popped popped = intmap_pop(&map);
-    EXPECT(popped.status == (copied ? INTMAP_BOUND : INTMAP_NOT_BOUND));
-    EXPECT(popped.pair.key == first.key && popped.pair.value == first.value);
-    if (copied && place_of(first.key) < KEYS) {
-        unbind(place_of(first.key));
     }
+    intmap_stepped next = intmap_step(&it->map, at.slot, at.place, at.passed);
+    EXPECT(next.status == (passed < plain->len ? INTMAP_PRESENT : INTMAP_ABSENT));
+    EXPECT(passed == plain->len || same_pair(next.pair, plain->pairs[passed]));
+    EXPECT(!requested());
 }
 
-static void unbind_all(void) {
-    memset(bound, 0, sizeof bound);
-    len = 0;
+// Keeps the pairs whose values have no bit of the mask.
+static void call_retain(uint64_t mask) {
+    intmap_cursor at = INTMAP_START;
+    model *plain = &it->plain;
+    size_t passed = 0;
+    while (passed < plain->len) {
+        intmap_stepped seen = intmap_step(&it->map, at.slot, at.place, at.passed);
+        if (!EXPECT(seen.status == INTMAP_PRESENT && same_pair(seen.pair, plain->pairs[passed]))) {
+            return;
+        }
+        if (seen.pair.value & mask) {
+            intmap_stepped cut = intmap_cut(&it->map, &at);
+            EXPECT(cut.status == INTMAP_PRESENT && same_pair(cut.pair, seen.pair));
+            take_at(plain, passed);
+        } else {
+            at = seen.at;
+            EXPECT(at.passed == ++passed);
+        }
+    }
+    EXPECT(intmap_step(&it->map, at.slot, at.place, at.passed).status == INTMAP_ABSENT);
 }
 
 static void call_clear(void) {
-    size_t capacity = intmap_capacity(&map);
-    intmap_clear(&map);
-    unbind_all();
-    EXPECT(intmap_len(&map) == 0 && intmap_capacity(&map) == capacity);
+    begin();
+    intmap_clear(&it->map);
+    EXPECT(!requested());
+    it->plain.len = 0;
 }
 
 // Another map in place of this one, which is freed.
-static void call_with_capacity(size_t capacity) {
-    EXPECT(intmap_with_capacity(&map, capacity) == INTMAP_DONE);
-    unbind_all();
-    EXPECT(intmap_len(&map) == 0 && intmap_capacity(&map) >= capacity);
+static void call_make(bool is_new, size_t capacity) {
+    begin();
+    intmap_status status =
+        is_new ? intmap_new(&it->map) : intmap_with_capacity(&it->map, capacity);
+    if (!fails(status, it)) {
+        EXPECT(status == INTMAP_DONE);
+        make_plain(&it->plain, is_new ? 4 : least_power(capacity, 2));
+    }
 }
 
-// Each call where there is no map.
-static void call_without_map(void) {
+static void call_clone(void) {
+    begin();
+    intmap_status status = intmap_clone(&it->map, &other->map);
+    if (!fails(status, other)) {
+        EXPECT(status == INTMAP_DONE);
+        other->plain = it->plain;
+        check(other);
+    }
+    check(it);
+}
+
+static bool have_same_values(const model *one, const model *two) {
+    for (size_t at = 0; at < one->len; at++) {
+        size_t place = place_of(two, one->pairs[at].key);
+        if (place == two->len || two->pairs[place].value != one->pairs[at].value) {
+            return false;
+        }
+    }
+    return one->len == two->len;
+}
+
+static void call_equal(void) {
+    bool is_so = have_same_values(&it->plain, &other->plain);
+    begin();
+    EXPECT(intmap_equal(&it->map, &other->map) == is_so);
+    EXPECT(intmap_equal(&other->map, &it->map) == is_so);
+    EXPECT(intmap_equal(&it->map, &it->map));
+    EXPECT(!requested());
+}
+
+// Tests of one thing each. Each begins and ends without a map, and without a block.
+
+static void make_none(side *one) {
+    intmap_free(&one->map);
+    EXPECT(one->map.at == NULL);
+    memset(&one->plain, 0, sizeof one->plain);
+}
+
+static void end_test(void) {
+    make_none(it);
+    make_none(other);
+    EXPECT(live_blocks == 0 && until_refused == 0);
+}
+
+// Arms the first request, then the second, and so on, until a call was done in spite of it.
+static bool refuse_in_turn(void) {
+    static uint64_t in_turn;
+    bool was_done = in_turn > 0 && until_refused > 0;
+    in_turn = was_done ? 0 : in_turn + 1;
+    until_refused = in_turn;
+    return !was_done;
+}
+
+static void test_statuses(void) {
+    EXPECT(!intmap_failed(INTMAP_DONE) && !intmap_failed(INTMAP_PRESENT));
+    EXPECT(!intmap_failed(INTMAP_ABSENT) && intmap_failed(INTMAP_NO_MEMORY));
+    EXPECT(intmap_failed(INTMAP_TOO_LARGE) && intmap_failed(INTMAP_NO_MAP));
+    EXPECT(intmap_version() == INTMAP_VERSION);
+}
+
+static void test_changes_without_map(void) {
     intmap none = INTMAP_INIT;
-    intmap_pair pair = {1, 2};
-    EXPECT(intmap_get(&none, 3).status == INTMAP_NO_MAP && !intmap_contains_key(&none, 3));
-    EXPECT(intmap_insert(&none, 3, 3).status == INTMAP_NO_MAP);
-    EXPECT(intmap_insert_checked(&none, 3, 3) == INTMAP_NO_MAP);
-    EXPECT(intmap_set(&none, 3, 3).status == INTMAP_NO_MAP);
-    EXPECT(intmap_remove(&none, 3).status == INTMAP_NO_MAP);
-    EXPECT(intmap_len(&none) + intmap_capacity(&none) + intmap_load_factor(&none) == 0);
+    intmap_cursor at = INTMAP_START;
+    begin();
+    EXPECT(is(intmap_insert(&none, 3, 4), INTMAP_NO_MAP, 0));
+    EXPECT(intmap_insert_checked(&none, 3, 4) == INTMAP_NO_MAP);
+    EXPECT(is(intmap_add_or_insert(&none, 3, 4), INTMAP_NO_MAP, 0));
+    EXPECT(is(intmap_set(&none, 3, 4), INTMAP_NO_MAP, 0));
+    EXPECT(is(intmap_add(&none, 3, 4), INTMAP_NO_MAP, 0));
+    EXPECT(is(intmap_remove(&none, 3), INTMAP_NO_MAP, 0));
     EXPECT(intmap_reserve(&none, 1) == INTMAP_NO_MAP);
+    EXPECT(intmap_reserve(&none, SIZE_MAX) == INTMAP_NO_MAP);
     EXPECT(intmap_set_load_factor(&none, 1) == INTMAP_NO_MAP);
-    EXPECT(intmap_walk(&none, 0, &pair, 1) == 0 && pair.key == 1 && pair.value == 2);
-    EXPECT(intmap_pop(&none).status == INTMAP_NO_MAP);
+    intmap_stepped cut = intmap_cut(&none, &at);
+    EXPECT(cut.status == INTMAP_NO_MAP && same_pair(cut.pair, NO_PAIR));
     intmap_clear(&none);
     intmap_free(&none);
-    EXPECT(none.at == NULL && live_blocks == 0);
+    EXPECT(none.at == NULL && !requested());
 }
 
-// Maps that are made: with each request refused in turn, and in place of another one.
-static void call_makers(void) {
-    EXPECT(intmap_with_capacity(&map, ((size_t)1 << 63) + 1) == INTMAP_TOO_LARGE);
-    EXPECT(map.at == NULL);
-    for (uint64_t refused = 1;; refused++) {
-        until_refused = refused;
-        intmap_status status = intmap_with_capacity(&map, 20);
-        if (status == INTMAP_DONE) {
-            break;
-        }
-        EXPECT(status == INTMAP_MEMORY && map.at == NULL && live_blocks == 0);
+static void test_reads_without_map(void) {
+    intmap none = INTMAP_NONE, to = INTMAP_NONE;
+    intmap_cursor at = INTMAP_START;
+    intmap_pair pair = {1, 2};
+    begin();
+    EXPECT(is(intmap_get(&none, 3), INTMAP_NO_MAP, 0) && intmap_get_or(&none, 3, 9) == 9);
+    EXPECT(!intmap_contains_key(&none, 3) && intmap_filled_slots(&none) == 0);
+    EXPECT(intmap_len(&none) == 0 && intmap_capacity(&none) == 0);
+    EXPECT(intmap_load_factor(&none) == 0);
+    EXPECT(intmap_next(&none, &at, &pair, 1) == 0 && pair.key == 1 && pair.value == 2);
+    intmap_stepped seen = intmap_step(&none, 0, 0, 0);
+    EXPECT(seen.status == INTMAP_NO_MAP && same_pair(seen.pair, NO_PAIR));
+    EXPECT(intmap_equal(&none, &to) && intmap_equal(&none, &none));
+    EXPECT(intmap_clone(&none, &to) == INTMAP_NO_MAP && to.at == NULL && !requested());
+}
+
+// A map beside none. A clone of none leaves the map.
+static void test_one_without_map(void) {
+    call_make(true, 0);
+    call_equal();
+    call_insertion(INSERT, 3, 0);
+    call_equal();
+    EXPECT(intmap_clone(&other->map, &it->map) == INTMAP_NO_MAP);
+    check(it);
+    end_test();
+}
+
+static void insert_some(size_t count, uint64_t factor) {
+    for (size_t at = 0; at < count; at++) {
+        call_insertion(at % INSERTIONS, at * factor, number());
     }
-    EXPECT(intmap_capacity(&map) == 32 && intmap_load_factor(&map) == 909);
-    until_refused = 1;
-    EXPECT(intmap_new(&map) == INTMAP_MEMORY && intmap_capacity(&map) == 32);
+}
+
+// Each request of a call that makes a map is refused, where the word has none and where it has one.
+// The map before is freed.
+static void test_makers(bool is_new, size_t capacity) {
+    while (refuse_in_turn()) {
+        call_make(is_new, capacity);
+    }
     uint64_t blocks = live_blocks;
-    EXPECT(intmap_new(&map) == INTMAP_DONE && intmap_capacity(&map) == 4 && live_blocks <= blocks);
-    EXPECT(intmap_reserve(&map, SIZE_MAX) == INTMAP_TOO_LARGE && intmap_capacity(&map) == 4);
+    check(it);
+    insert_some(100, 1 << 6);
+    while (refuse_in_turn()) {
+        call_make(is_new, capacity);
+    }
+    EXPECT(live_blocks == blocks);
+    check(it);
+    end_test();
 }
 
-// New keys, each with every request refused in turn: then nothing is bound, and no block more is
-// alive. Some share a slot, and some make the map grow.
-static void call_insert_in_turn(size_t count) {
-    for (size_t place = 0; place < count; place++) {
-        uint64_t blocks = live_blocks;
-        size_t capacity = intmap_capacity(&map);
-        for (uint64_t refused = 1;; refused++) {
-            until_refused = refused;
-            intmap_answer answer = intmap_insert(&map, key_of(place), place);
-            until_refused = 0;
-            if (answer.status != INTMAP_MEMORY) {
-                EXPECT(answer.status == INTMAP_NOT_BOUND);
-                break;
-            }
-            EXPECT(live_blocks == blocks && intmap_capacity(&map) == capacity);
-            EXPECT(intmap_len(&map) == len && !intmap_contains_key(&map, key_of(place)));
+// The same of a clone. It is then another map.
+static void test_clone(size_t count, uint64_t factor) {
+    call_make(false, 64);
+    call_set_load_factor(1500);
+    insert_some(count, factor);
+    while (refuse_in_turn()) {
+        call_clone();
+    }
+    uint64_t blocks = live_blocks;
+    while (refuse_in_turn()) {
+        call_clone();
+    }
+    EXPECT(live_blocks == blocks);
+    call_equal();
+    call_insertion(INSERT, 5 * factor, 1);
+    call_equal();
+    call_remove(7 * factor);
+    check(it);
+    check(other);
+    end_test();
+}
+
+// Each request of an insertion is refused. Some keys share a slot, and some make the map grow.
+static void test_insertions(unsigned kind, uint64_t factor) {
+    call_make(true, 0);
+    for (uint64_t key = 0; key < 300; key++) {
+        while (refuse_in_turn()) {
+            call_insertion(kind, key * factor, key);
         }
-        bind(place, place);
+        check_figures(it);
+    }
+    check(it);
+    end_test();
+}
+
+// Slots are added to a map whose slots hold several pairs.
+static void test_growth(void) {
+    call_make(true, 0);
+    call_set_load_factor(5000);
+    insert_some(200, 1);
+    while (refuse_in_turn()) {
+        call_reserve(100);
+    }
+    check(it);
+    while (refuse_in_turn()) {
+        call_set_load_factor(70);
+    }
+    check(it);
+    end_test();
+}
+
+// Numbers that don't fit into 32 bits, or lie at a limit.
+static void test_limits(void) {
+    const size_t half = (size_t)1 << 63, above_32_bits = (size_t)1 << 32;
+    EXPECT(intmap_with_capacity(&it->map, half + 1) == INTMAP_TOO_LARGE && it->map.at == NULL);
+    for (size_t capacity = 0; capacity < 70; capacity++) {
+        call_make(false, capacity);
+        check_figures(it);
+    }
+    insert_some(3, UINT64_MAX);
+    EXPECT(intmap_with_capacity(&it->map, SIZE_MAX) == INTMAP_TOO_LARGE);
+    EXPECT(intmap_with_capacity(&it->map, half) == INTMAP_NO_MEMORY);
+    EXPECT(intmap_with_capacity(&it->map, above_32_bits) == INTMAP_NO_MEMORY);
+    EXPECT(intmap_reserve(&it->map, SIZE_MAX) == INTMAP_TOO_LARGE);
+    EXPECT(intmap_reserve(&it->map, half - 2) == INTMAP_TOO_LARGE);
+    EXPECT(intmap_reserve(&it->map, half - 3) == INTMAP_NO_MEMORY);
+    EXPECT(intmap_reserve(&it->map, above_32_bits) == INTMAP_NO_MEMORY);
+    check(it);
+    call_set_load_factor(above_32_bits + 7);
+    call_set_load_factor(SIZE_MAX);
+    check(it);
+    call_set_load_factor(0);
+    check(it);
+    end_test();
+}
+
+// Sums wrap, and the greatest key and value are as others.
+static void test_great_numbers(void) {
+    call_make(true, 0);
+    call_insertion(INSERT, UINT64_MAX, UINT64_MAX);
+    call_insertion(ADD_OR_INSERT, UINT64_MAX, 2);
+    call_set_or_add(true, UINT64_MAX, UINT64_MAX);
+    call_insertion(ADD_OR_INSERT, 0, UINT64_MAX);
+    call_insertion(INSERT, (uint64_t)1 << 32, (uint64_t)1 << 63);
+    call_get(UINT64_MAX, 5);
+    call_get((uint64_t)1 << 63, (uint64_t)1 << 32);
+    check(it);
+    end_test();
+}
+
+// Maps with the same pairs in another order, other slots and another load factor.
+static void test_equal(void) {
+    call_make(true, 0);
+    insert_some(50, 64);
+    call_clone();
+    for (uint64_t key = 0; key < 20; key++) {
+        call_insertion(INSERT, key * 64, it->plain.pairs[place_of(&it->plain, key * 64)].value);
+    }
+    call_equal();
+    call_reserve(400);
+    call_set_load_factor(400);
+    call_equal();
+    call_set_or_add(true, 64, 1);
+    call_equal();
+    call_set_or_add(true, 64, UINT64_MAX);
+    call_equal();
+    call_remove(0);
+    call_equal();
+    call_insertion(INSERT, 1, 0);
+    call_equal();
+    end_test();
+}
+
+// Walks by pieces of several sizes. What lies behind the copied pairs stays.
+static void test_walks(void) {
+    const size_t rooms[] = {1, 2, 3, 5, 7, 63, 64, 65, 333, LARGEST_ROOM};
+    intmap_pair pairs[LARGEST_ROOM], before[LARGEST_ROOM];
+    memset(pairs, 0x5A, sizeof pairs);
+    memcpy(before, pairs, sizeof before);
+    call_make(true, 0);
+    insert_some(700, 1 << 4);
+    for (size_t at = 0; at < sizeof rooms / sizeof rooms[0]; at++) {
+        check_walk(it, rooms[at]);
+    }
+    intmap_cursor at = INTMAP_START;
+    EXPECT(intmap_next(&it->map, &at, pairs, 0) == 0);
+    EXPECT(intmap_next(&it->map, &at, pairs + 1, 9) == 9 && at.passed == 9);
+    EXPECT(memcmp(pairs, before, sizeof pairs[0]) == 0);
+    EXPECT(memcmp(pairs + 10, before + 10, 10 * sizeof pairs[0]) == 0);
+    EXPECT(intmap_next(&it->map, &at, pairs, LARGEST_ROOM) == 691);
+    EXPECT(memcmp(pairs + 691, before + 691, 100 * sizeof pairs[0]) == 0);
+    end_test();
+}
+
+// Some thousand keys of one slot. Removals keep its memory.
+static void test_one_slot(void) {
+    const uint64_t factor = (uint64_t)1 << 40;
+    call_make(true, 0);
+    insert_some(MOST - 1, factor);
+    EXPECT(intmap_filled_slots(&it->map) == 1);
+    call_clone();
+    for (uint64_t key = 0; key < MOST; key += 97) {
+        call_get(key * factor, key);
+        call_remove(key * factor);
+        call_set_or_add(key % 2, key * factor + factor, key);
+        call_insertion(INSERT, key * factor + 2 * factor, key);
+    }
+    call_cut(100, 50);
+    call_cut(0, 50);
+    check(it);
+    call_equal();
+    call_retain(3);
+    check(it);
+    call_cut(0, MOST);
+    EXPECT(it->plain.len == 0);
+    check(other);
+    end_test();
+}
+
+// Retains, then drains, as a program does that frees what the values point to.
+static void test_cuts(void) {
+    call_make(true, 0);
+    insert_some(1000, 3);
+    call_retain(1);
+    check(it);
+    call_cut(LARGEST_ROOM, 3);
+    call_cut(0, 1000);
+    EXPECT(it->plain.len == 0);
+    check(it);
+    insert_some(10, 1);
+    check(it);
+    call_clear();
+    check(it);
+    end_test();
+}
+
+// Slots that lost their pairs keep their memory, so the same pairs come back without a request.
+static void test_kept_memory(void) {
+    call_make(true, 0);
+    insert_some(300, 1 << 5);
+    call_clear();
+    until_refused = 1;
+    insert_some(300, 1 << 5);
+    for (uint64_t key = 0; key < 300; key++) {
+        call_remove(key << 5);
+    }
+    EXPECT(it->plain.len == 0);
+    insert_some(300, 1 << 5);
+    EXPECT(until_refused == 1);
+    until_refused = 0;
+    check(it);
+    end_test();
+}
+
+// A word is moved.
+static void test_move(void) {
+    call_make(true, 0);
+    insert_some(10, 1);
+    other->map = it->map;
+    other->plain = it->plain;
+    it->map = INTMAP_NONE;
+    memset(&it->plain, 0, sizeof it->plain);
+    check(it);
+    check(other);
+    end_test();
+}
+
+static void test_each(void) {
+    test_statuses();
+    test_changes_without_map();
+    test_reads_without_map();
+    test_one_without_map();
+    test_makers(true, 0);
+    test_makers(false, 20);
+    test_clone(40, 1);
+    test_clone(200, 16);
+    for (unsigned kind = 0; kind < INSERTIONS; kind++) {
+        test_insertions(kind, 1);
+        test_insertions(kind, 1 << 6);
+    }
+    test_growth();
+    test_limits();
+    test_great_numbers();
+    test_equal();
+    test_walks();
+    test_one_slot();
+    test_cuts();
+    test_kept_memory();
+    test_move();
+}
+
+// Random calls, on keys of one kind at a time: multiples of a factor.
+
+static const struct {
+    uint64_t factor;
+    size_t count;
+} kinds[] = {
+    {1, 40}, {1, 700}, {0x9E3779B97F4A7C15u, 3000}, {UINT64_MAX, 900}, {1 << 12, 600},
+    {(uint64_t)1 << 32, 300}, {(uint64_t)1 << 60, 16},
+};
+
+static void call_on_key(uint64_t key, uint64_t value, unsigned which) {
+    if (which < 40) {
+        call_insertion(which % INSERTIONS, key, value);
+    } else if (which < 60) {
+        call_remove(key);
+    } else if (which < 80) {
+        call_set_or_add(which % 2, key, value);
+    } else {
+        call_get(key, value);
     }
 }
 
-static void call_some(void) {
-    size_t place = number() % KEYS;
-    uint64_t value = number(), kind = number() % 1000;
-    if (kind < 400) {
-        call_insert(place, value);
-    } else if (kind < 500) {
-        call_insert_checked(place, value);
-    } else if (kind < 700) {
-        call_remove(place);
-    } else if (kind < 800) {
-        call_set(place, value);
-    } else if (kind < 980) {
-        call_get(place);
-    } else if (kind < 990) {
-        call_pop();
-    } else if (kind < 995) {
+static void call_on_all(uint64_t value, unsigned which) {
+    if (which < 40) {
+        call_cut(value % 60, value % 5);
+    } else if (which < 50) {
+        check_walk(it, 1 + value % LARGEST_ROOM);
+    } else if (which < 60) {
         call_reserve(value % 100);
+    } else if (which < 70) {
+        call_set_load_factor(200 + value % 3000);
+    } else if (which < 80) {
+        call_equal();
+    } else if (which < 85) {
+        call_clone();
+    } else if (which < 96) {
+        side *before = it;
+        it = other;
+        other = before;
+    } else if (which < 98) {
+        call_retain(15);
     } else {
-        call_set_load_factor(300 + value % 2000);
+        call_clear();
     }
-    EXPECT(intmap_len(&map) == len);
+}
+
+// Without a map, a map is made.
+static void call_some(size_t kind) {
+    uint64_t key = number() % kinds[kind].count * kinds[kind].factor, value = number();
+    if (it->map.at == NULL) {
+        call_make(value % 2, value % 64);
+    } else if (number() % 20 > 0) {
+        call_on_key(key, value, number() % 100);
+    } else {
+        call_on_all(value, number() % 100);
+    }
+    check_figures(it);
+}
+
+// Other keys, and for one of the maps none, or another one in its place.
+static size_t begin_kind(void) {
+    size_t kind = number() % (sizeof kinds / sizeof kinds[0]);
+    if (number() % 2) {
+        make_none(it);
+    } else if (it->map.at != NULL) {
+        call_make(number() % 2, number() % 64);
+    }
+    make_none(other);
+    return kind;
+}
+
+static void call_at_random(uint64_t calls) {
+    size_t kind = 0;
+    for (step = 1; step <= calls; step++) {
+        if (step % 4000 == 0) {
+            check(it);
+            check(other);
+            kind = begin_kind();
+        }
+        // In half of the calls one of the next requests is refused.
+        until_refused = step % 1000 < 500 ? 1 + number() % 4 : 0;
+        call_some(kind);
+        until_refused = 0;
+    }
+    check(it);
+    check(other);
+    end_test();
 }
 
 int main(int count, char **words) {
     uint64_t calls = count > 1 ? strtoull(words[1], NULL, 10) : 200000;
-    call_without_map();
-    call_makers();
-    call_insert_in_turn(500);
-    call_walk(63);
-    for (step = 1; step <= calls; step++) {
-        // In five hundred of each thousand calls one of the next three requests is refused.
-        until_refused = step % 1000 < 500 ? 1 + number() % 3 : 0;
-        call_some();
-        until_refused = 0;
-        if (step % 1000 == 0) {
-            call_walk(1 + number() % 63);
-        }
-        if (step % 5000 == 0) {
-            call_clear();
-        }
-        if (step % 2000 == 0) {
-            call_with_capacity(number() % 64);
-        }
-    }
-    intmap_free(&map);
-    intmap_free(&map);
-    EXPECT(map.at == NULL && live_blocks == 0);
-    printf("%" PRIu64 " calls, %" PRIu64 " requests refused, ", calls, refused_requests);
+    seed = count > 2 ? strtoull(words[2], NULL, 10) | 1 : seed;
+    test_each();
+    call_at_random(calls);
+    printf("%" PRIu64 " calls, %" PRIu64 " requests refused, ", calls, refused);
     printf("%" PRIu64 " blocks left, %" PRIu64 " wrong\n", live_blocks, wrong);
     return wrong == 0 ? 0 : 1;
 }
