@@ -3,8 +3,8 @@
 //     cc -pthread race.c intmap.s -o race
 //     ./race ROUNDS THREADS
 //
-// Each answer is compared with what the map holds, since nobody changes it. It ends with one line of
-// counts, and with status 0 if no answer was wrong.
+// Each answer is compared with what the map holds, since nobody changes it. It ends with one line
+// of counts, and with status 0 if no answer was wrong.
 #include "intmap.h"
 #include <inttypes.h>
 #include <pthread.h>

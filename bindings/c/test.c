@@ -1,4 +1,4 @@
-// Random calls beside a plain model that knows the order, with requests for memory that are refused.
+// Calls beside a plain model that knows the order, with requests for memory that are refused.
 //
 //     cc test.c intmap.s -Wl,--wrap=malloc,--wrap=realloc,--wrap=free -o test
 //     ./test CALLS SEED
@@ -229,7 +229,8 @@ static void check_walk(const side *one, size_t room) {
         EXPECT(at.passed == passed);
     } while (copied > 0);
     intmap_stepped end = intmap_step(&one->map, at.slot, at.place, at.passed);
-    EXPECT(end.status == (one->map.at ? INTMAP_ABSENT : INTMAP_NO_MAP) && same_pair(end.pair, NO_PAIR));
+    EXPECT(end.status == (one->map.at == NULL ? INTMAP_NO_MAP : INTMAP_ABSENT));
+    EXPECT(same_pair(end.pair, NO_PAIR));
 }
 
 static void check_figures(const side *one) {

@@ -1,0 +1,52 @@
+// Makes every call once from C++, and ends with status 0 if each answered as intmap.h says.
+#include "intmap.h"
+
+static intmap none = INTMAP_INIT;
+static_assert(noexcept(intmap_get(&none, 0)) && noexcept(intmap_failed(0)), "calls throw nothing");
+static_assert(sizeof(intmap) == sizeof(void *), "a map is one word");
+
+static bool is(intmap_answer answer, intmap_status status, uint64_t value) {
+    return answer.status == status && answer.value == value;
+}
+
+static bool makes_and_reads(intmap *map) {
+    return intmap_version() == INTMAP_VERSION && intmap_new(map) == INTMAP_DONE
+           && intmap_with_capacity(map, 20) == INTMAP_DONE && intmap_capacity(map) == 32
+           && is(intmap_insert(map, 21, 7), INTMAP_ABSENT, 0)
+           && intmap_insert_checked(map, 21, 8) == INTMAP_PRESENT
+           && is(intmap_get(map, 21), INTMAP_PRESENT, 7) && intmap_get_or(map, 22, 9) == 9
+           && intmap_contains_key(map, 21) && intmap_len(map) == 1
+           && intmap_load_factor(map) == 909 && intmap_filled_slots(map) == 1;
+}
+
+static bool changes(intmap *map) {
+    return is(intmap_set(map, 21, 1), INTMAP_PRESENT, 7)
+           && is(intmap_add(map, 21, 2), INTMAP_PRESENT, 1)
+           && is(intmap_add_or_insert(map, 5, 3), INTMAP_ABSENT, 0)
+           && is(intmap_remove(map, 6), INTMAP_ABSENT, 0)
+           && intmap_reserve(map, 100) == INTMAP_DONE
+           && intmap_set_load_factor(map, 500) == INTMAP_DONE;
+}
+
+static bool clones_and_walks(intmap *map) {
+    intmap other = INTMAP_INIT;
+    intmap_cursor at = INTMAP_START;
+    intmap_pair pairs[4];
+    bool is_good = intmap_clone(map, &other) == INTMAP_DONE && intmap_equal(map, &other)
+                   && intmap_next(map, &at, pairs, 4) == 2;
+    at = INTMAP_START;
+    intmap_stepped first = intmap_step(map, at.slot, at.place, at.passed);
+    intmap_stepped cut = intmap_cut(map, &at);
+    is_good = is_good && first.pair.key == pairs[0].key && cut.pair.key == pairs[0].key;
+    intmap_clear(map);
+    intmap_free(&other);
+    return is_good && intmap_len(map) == 0 && intmap_equal(map, &none);
+}
+
+int main() {
+    intmap map = INTMAP_INIT;
+    bool is_good = makes_and_reads(&map) && changes(&map) && clones_and_walks(&map);
+    intmap_free(&map);
+    map = INTMAP_NONE;
+    return is_good && !intmap_failed(INTMAP_DONE) && intmap_failed(INTMAP_NO_MAP) ? 0 : 1;
+}

@@ -1,0 +1,456 @@
+// Times of the calls, in nanoseconds a key, beside GLib's GHashTable and uthash if they are there.
+//
+//     cc -O2 times.c intmap.s $(pkg-config --cflags --libs glib-2.0) -o times
+//     ./times KEYS
+//
+// Each figure is the least of many runs, each on a new map, until KEYS keys were inserted. Fewer keys
+// leave out the larger maps. Random keys are looked up in another order than they were inserted. GLib
+// has keys and values in its pointers, uthash a block for each pair.
+//
+// A walk, a cut of each second pair and a drain of 1,000,000 pairs must take less than a second each,
+// or it ends with status 1.
+#define _GNU_SOURCE
+#include "intmap.h"
+#include <inttypes.h>
+#include <malloc.h>
+#include <stdio.h>
+#include <stdlib.h>
+#include <string.h>
+#include <time.h>
+
+#if defined(__has_include)
+#if __has_include(<glib.h>)
+#include <glib.h>
+#define HAS_GLIB 1
+#endif
+#if __has_include(<uthash.h>)
+#include <uthash.h>
+#define HAS_UTHASH 1
+#endif
+#endif
+
+static void end(const char *why) {
+    fprintf(stderr, "%s\n", why);
+    exit(1);
+}
+
+static double seconds(void) {
+    struct timespec now;
+    clock_gettime(CLOCK_MONOTONIC, &now);
+    return (double)now.tv_sec + (double)now.tv_nsec / 1e9;
+}
+
+// What malloc has handed out.
+static size_t bytes_in_use(void) {
+    struct mallinfo2 now = mallinfo2();
+    return now.uordblks + now.hblkhd;
+}
+
+// The keys of a run, in the order of insertion and in that of the other calls, and absent ones.
+static uint64_t *keys, *others, *absent;
+static size_t count;
+
+static uint64_t state;
+
+// Marsaglia's xorshift: no number comes twice.
+static uint64_t number(void) {
+    state ^= state << 13;
+    state ^= state >> 7;
+    state ^= state << 17;
+    return state;
+}
+
+static void shuffle(uint64_t *numbers) {
+    for (size_t left = count; left > 1; left--) {
+        size_t at = number() % left;
+        uint64_t last = numbers[left - 1];
+        numbers[left - 1] = numbers[at];
+        numbers[at] = last;
+    }
+}
+
+static void choose_keys(bool is_random) {
+    state = 88172645463325252u;
+    for (size_t at = 0; at < count; at++) {
+        keys[at] = is_random ? number() : at;
+        absent[at] = is_random ? number() : count + at;
+    }
+    memcpy(others, keys, count * sizeof *keys);
+    if (is_random) {
+        shuffle(others);
+    }
+}
+
+// What is measured, in this order.
+enum { INSERT, HIT, MISS, ADD, ITERATE, REMOVE, INSERT_WITH_CAPACITY, BYTES, FIGURES };
+
+static const char *const names[FIGURES] = {
+    "insert", "get, present", "get, absent", "+= 1", "iterate", "remove", "insert, with capacity",
+    "bytes a pair",
+};
+
+// A map under measurement. `with_room` may be none.
+typedef struct subject {
+    const char *name;
+    void (*make)(void), (*with_room)(void), (*insert)(void), (*drop)(void);
+    uint64_t (*find)(const uint64_t *wanted), (*add)(void), (*iterate)(void), (*remove)(void);
+} subject;
+
+static intmap map = INTMAP_INIT;
+
+static void make_intmap(void) {
+    if (intmap_failed(intmap_new(&map))) {
+        end("out of memory");
+    }
+}
+
+// Room for all keys at the load factor of 909 thousandths.
+static void make_intmap_with_room(void) {
+    if (intmap_failed(intmap_with_capacity(&map, count + count / 10 + 1))) {
+        end("out of memory");
+    }
+}
+
+static void insert_intmap(void) {
+    for (size_t at = 0; at < count; at++) {
+        if (intmap_failed(intmap_insert(&map, keys[at], 1).status)) {
+            end("out of memory");
+        }
+    }
+}
+
+static uint64_t find_intmap(const uint64_t *wanted) {
+    uint64_t sum = 0;
+    for (size_t at = 0; at < count; at++) {
+        sum += intmap_get(&map, wanted[at]).value;
+    }
+    return sum;
+}
+
+static uint64_t add_intmap(void) {
+    uint64_t sum = 0;
+    for (size_t at = 0; at < count; at++) {
+        sum += intmap_add(&map, others[at], 1).value;
+    }
+    return sum;
+}
+
+static uint64_t iterate_intmap(void) {
+    intmap_pair pairs[64];
+    intmap_cursor from = INTMAP_START;
+    uint64_t sum = 0;
+    size_t copied;
+    while ((copied = intmap_next(&map, &from, pairs, 64)) > 0) {
+        for (size_t at = 0; at < copied; at++) {
+            sum += pairs[at].value;
+        }
+    }
+    return sum;
+}
+
+static uint64_t remove_intmap(void) {
+    uint64_t sum = 0;
+    for (size_t at = 0; at < count; at++) {
+        sum += intmap_remove(&map, others[at]).value;
+    }
+    return sum;
+}
+
+static void drop_intmap(void) {
+    intmap_free(&map);
+}
+
+#ifdef HAS_GLIB
+static GHashTable *table;
+
+static void make_glib(void) {
+    table = g_hash_table_new(g_direct_hash, NULL);
+}
+
+static void insert_glib(void) {
+    for (size_t at = 0; at < count; at++) {
+        g_hash_table_insert(table, GSIZE_TO_POINTER(keys[at]), GSIZE_TO_POINTER(1));
+    }
+}
+
+static uint64_t find_glib(const uint64_t *wanted) {
+    uint64_t sum = 0;
+    for (size_t at = 0; at < count; at++) {
+        sum += GPOINTER_TO_SIZE(g_hash_table_lookup(table, GSIZE_TO_POINTER(wanted[at])));
+    }
+    return sum;
+}
+
+static uint64_t add_glib(void) {
+    uint64_t sum = 0;
+    for (size_t at = 0; at < count; at++) {
+        gpointer key = GSIZE_TO_POINTER(others[at]);
+        uint64_t value = GPOINTER_TO_SIZE(g_hash_table_lookup(table, key));
+        g_hash_table_insert(table, key, GSIZE_TO_POINTER(value + 1));
+        sum += value;
+    }
+    return sum;
+}
+
+static uint64_t iterate_glib(void) {
+    GHashTableIter from;
+    gpointer value;
+    uint64_t sum = 0;
+    g_hash_table_iter_init(&from, table);
+    while (g_hash_table_iter_next(&from, NULL, &value)) {
+        sum += GPOINTER_TO_SIZE(value);
+    }
+    return sum;
+}
+
+static uint64_t remove_glib(void) {
+    uint64_t sum = 0;
+    for (size_t at = 0; at < count; at++) {
+        sum += 2 * (uint64_t)g_hash_table_remove(table, GSIZE_TO_POINTER(others[at]));
+    }
+    return sum;
+}
+
+static void drop_glib(void) {
+    g_hash_table_destroy(table);
+}
+#endif
+
+#ifdef HAS_UTHASH
+typedef struct item {
+    uint64_t key, value;
+    UT_hash_handle hh;
+} item;
+
+static item *items;
+
+static void make_uthash(void) {
+    items = NULL;
+}
+
+static item *item_of(uint64_t key) {
+    item *found;
+    HASH_FIND(hh, items, &key, sizeof key, found);
+    return found;
+}
+
+static void insert_uthash(void) {
+    for (size_t at = 0; at < count; at++) {
+        item *one = item_of(keys[at]);
+        if (one == NULL) {
+            one = malloc(sizeof *one);
+            if (one == NULL) {
+                end("out of memory");
+            }
+            one->key = keys[at];
+            HASH_ADD(hh, items, key, sizeof one->key, one);
+        }
+        one->value = 1;
+    }
+}
+
+static uint64_t find_uthash(const uint64_t *wanted) {
+    uint64_t sum = 0;
+    for (size_t at = 0; at < count; at++) {
+        item *one = item_of(wanted[at]);
+        sum += one == NULL ? 0 : one->value;
+    }
+    return sum;
+}
+
+static uint64_t add_uthash(void) {
+    uint64_t sum = 0;
+    for (size_t at = 0; at < count; at++) {
+        sum += item_of(others[at])->value++;
+    }
+    return sum;
+}
+
+static uint64_t iterate_uthash(void) {
+    uint64_t sum = 0;
+    for (item *one = items; one != NULL; one = one->hh.next) {
+        sum += one->value;
+    }
+    return sum;
+}
+
+static uint64_t remove_uthash(void) {
+    uint64_t sum = 0;
+    for (size_t at = 0; at < count; at++) {
+        item *one = item_of(others[at]);
+        sum += one->value;
+        HASH_DEL(items, one);
+        free(one);
+    }
+    return sum;
+}
+
+static void drop_uthash(void) {
+    item *one, *next;
+    HASH_ITER(hh, items, one, next) {
+        HASH_DEL(items, one);
+        free(one);
+    }
+}
+#endif
+
+static const subject subjects[] = {
+    {"intmap", make_intmap, make_intmap_with_room, insert_intmap, drop_intmap, find_intmap,
+     add_intmap, iterate_intmap, remove_intmap},
+#ifdef HAS_GLIB
+    {"GHashTable", make_glib, NULL, insert_glib, drop_glib, find_glib, add_glib, iterate_glib,
+     remove_glib},
+#endif
+#ifdef HAS_UTHASH
+    {"uthash", make_uthash, NULL, insert_uthash, drop_uthash, find_uthash, add_uthash,
+     iterate_uthash, remove_uthash},
+#endif
+};
+
+enum { SUBJECTS = sizeof subjects / sizeof subjects[0] };
+
+static double figures[SUBJECTS][2][FIGURES];
+
+static double begun;
+
+// Keeps the least time of a figure, and begins the next one.
+static void note(double *least, size_t figure, uint64_t sum, uint64_t wanted) {
+    double took = (seconds() - begun) * 1e9 / (double)count;
+    if (sum != wanted) {
+        end("a map returned a wrong answer");
+    }
+    if (least[figure] == 0 || took < least[figure]) {
+        least[figure] = took;
+    }
+    begun = seconds();
+}
+
+// One run on a new map. After the additions each value is 2.
+static void run(const subject *one, double *least) {
+    size_t before = bytes_in_use();
+    begun = seconds();
+    one->make();
+    one->insert();
+    note(least, INSERT, 0, 0);
+    least[BYTES] = (double)(bytes_in_use() - before) / (double)count;
+    begun = seconds();
+    note(least, HIT, one->find(others), count);
+    note(least, MISS, one->find(absent), 0);
+    note(least, ADD, one->add(), count);
+    note(least, ITERATE, one->iterate(), 2 * count);
+    note(least, REMOVE, one->remove(), 2 * count);
+    one->drop();
+    if (one->with_room != NULL) {
+        begun = seconds();
+        one->with_room();
+        one->insert();
+        note(least, INSERT_WITH_CAPACITY, 0, 0);
+        one->drop();
+    }
+}
+
+static void print_figure(double random, double dense) {
+    if (random > 0) {
+        printf("%.*f/%.*f|", random < 10, random, dense < 10, dense);
+    } else {
+        printf("-|");
+    }
+}
+
+static void print_figures(void) {
+    printf("|%zu keys, random/dense|", count);
+    for (size_t at = 0; at < SUBJECTS; at++) {
+        printf("%s|", subjects[at].name);
+    }
+    printf("\n");
+    for (size_t figure = 0; figure < FIGURES; figure++) {
+        printf("|%s|", names[figure]);
+        for (size_t at = 0; at < SUBJECTS; at++) {
+            print_figure(figures[at][0][figure], figures[at][1][figure]);
+        }
+        printf("\n");
+    }
+}
+
+static void measure(size_t size, size_t handled) {
+    count = size;
+    memset(figures, 0, sizeof figures);
+    for (size_t is_dense = 0; is_dense < 2; is_dense++) {
+        choose_keys(!is_dense);
+        for (size_t runs = handled / size; runs > 0; runs--) {
+            for (size_t at = 0; at < SUBJECTS; at++) {
+                run(&subjects[at], figures[at][is_dense]);
+            }
+        }
+    }
+    print_figures();
+}
+
+// Linear time. Each of these would take minutes if a step began at the first pair.
+
+static bool is_quick(const char *what, double from) {
+    double took = seconds() - from;
+    printf("%zu pairs %s in %.3f s\n", count, what, took);
+    return took < 1;
+}
+
+// Cuts each second pair, as a program does that keeps some.
+static bool cut_half(void) {
+    double from = seconds();
+    intmap_cursor at = INTMAP_START;
+    size_t left = count;
+    for (size_t seen = 0; seen < count; seen++) {
+        if (seen % 2) {
+            left -= intmap_cut(&map, &at).status == INTMAP_PRESENT;
+        } else {
+            at = intmap_step(&map, at.slot, at.place, at.passed).at;
+        }
+    }
+    return left == count - count / 2 && intmap_len(&map) == left && is_quick("passed or cut", from);
+}
+
+static bool drain(void) {
+    double from = seconds();
+    intmap_cursor at = INTMAP_START;
+    while (intmap_cut(&map, &at).status == INTMAP_PRESENT) {
+    }
+    return intmap_len(&map) == 0 && is_quick("drained", from);
+}
+
+static bool is_linear(void) {
+    make_intmap();
+    insert_intmap();
+    double from = seconds();
+    bool is_so = iterate_intmap() == count && is_quick("walked by 64", from);
+    is_so &= cut_half();
+    intmap_free(&map);
+    make_intmap();
+    insert_intmap();
+    is_so &= drain();
+    intmap_free(&map);
+    return is_so;
+}
+
+int main(int words, char **word) {
+    const size_t most = 1000000;
+    size_t handled = words > 1 ? strtoull(word[1], NULL, 10) : 20 * most;
+    keys = malloc(most * sizeof *keys);
+    others = malloc(most * sizeof *others);
+    absent = malloc(most * sizeof *absent);
+    if (keys == NULL || others == NULL || absent == NULL) {
+        end("out of memory");
+    }
+    for (size_t size = 1000; size <= handled && size <= most; size *= size == 1000 ? 20 : 50) {
+        measure(size, handled);
+    }
+    count = most;
+    bool is_so = true;
+    for (size_t is_dense = 0; is_dense < 2; is_dense++) {
+        choose_keys(!is_dense);
+        is_so &= is_linear();
+    }
+    free(keys);
+    free(others);
+    free(absent);
+    return is_so ? 0 : 1;
+}
