@@ -17,22 +17,22 @@
 //
 // WHAT THE CALLER OWES. Nothing checks these. If one is broken, anything may happen.
 //
-// - No address that is passed is null, and a word is INTMAP_INIT before the first call with it. Then
-//   only calls write it.
-// - A word isn't copied, since a copy is the same map. It may be moved, if its old place is then set
-//   to INTMAP_INIT.
+// - No address that is passed is null. A word is INTMAP_INIT before the first call with it, and
+//   then only calls write it.
+// - A word isn't copied, since a copy is the same map. It may be moved, if its old place is then
+//   set to INTMAP_NONE.
 // - No signal handler makes a call, and neither does the forked child of a process with several
 //   threads. Nothing jumps out of a call: no longjmp, no exception, no cancellation of its thread.
 // - malloc, realloc and free belong to one allocator, make no call on a map, and align blocks like
 //   the C library.
-// - A cursor is INTMAP_START, or what the last call left in it, and since then no call has changed
-//   the map but intmap_cut with this cursor.
+// - A cursor is INTMAP_START, or what the last call left in it. Since then no call has changed the
+//   map, except intmap_cut with this cursor, intmap_set and intmap_add.
 // - There is some stack: a call takes less than 1 KB.
 //
-// THREADS. Any number of threads may call at once with `const intmap *`, as long as no other call
-// has the map. A call with `intmap *` has it alone: it comes after those before, for example by a
-// lock or a join. A map may be used in one thread and then in another. Different maps are
-// independent.
+// THREADS. Any number of threads may make calls with `const intmap *` at once, as long as no other
+// call has the map. A call with `intmap *` has it alone: the calls before it have ended, and the
+// next ones come after it, for example by a lock or a join. A map may be used in one thread and
+// then in another. Different maps are independent.
 //
 // WHEN A CALL FAILS. Its status is negative, and the map is as it was:
 //
@@ -40,19 +40,20 @@
 // - INTMAP_TOO_LARGE: the map would have more than 2^63 slots or 2^64 - 1 pairs.
 // - INTMAP_NO_MAP: the word is null, since no map was made yet, or it was freed.
 //
-// ORDER. The pairs lie in slots, whose number is a power of two. The walk is the order of the pairs:
-// slot after slot, and each slot from front to back. It depends only on the calls that were made.
+// ORDER. The pairs lie in slots, whose number is a power of two. The walk is the order of the
+// pairs: slot after slot, and each slot from front to back. It depends only on the calls that were
+// made.
 //
 // COST. A call on one key takes time in the number of pairs that share its slot. That is about one,
-// unless many keys share their low bits: multiples of 4096, or row << 32 | column. Such keys should
-// be numbered anew. If strangers choose the keys, they can make each call linear. Then pass each key
-// through a bijection with a secret first, such as a round of splitmix64 on key ^ secret. An insertion
-// that adds slots moves all pairs, which is constant time a pair over all insertions.
-// intmap_filled_slots tells of shared slots.
+// unless many keys share their low bits: multiples of 4096, or row << 32 | column. Number such keys
+// anew. If strangers choose the keys, they can make each call linear. Then pass each key through a
+// bijection with a secret first, such as a round of splitmix64 on key ^ secret. intmap_filled_slots
+// tells of shared slots. An insertion that adds slots moves all pairs, which is constant time a
+// pair over all insertions.
 //
-// MEMORY. It comes from malloc, some 90 bytes a pair, 48 a slot at least. intmap_with_capacity writes
-// each slot, so on Linux too large a number may end the process where malloc doesn't fail. Memory is
-// given back by intmap_free alone.
+// MEMORY. It comes from malloc, some 90 bytes a pair, and at least 48 a slot. intmap_with_capacity
+// writes each slot. So on Linux, where malloc may not fail, too large a number may end the process.
+// Only intmap_free gives memory back, and a call that replaces a map or adds slots.
 #ifndef INTMAP_H
 #define INTMAP_H
 
@@ -127,7 +128,7 @@ typedef struct intmap_cursor {
     size_t passed;
 } intmap_cursor;
 
-// The start of a walk, to begin with, and as a value to assign.
+// The start of a walk, to begin with. To assign it: at = (intmap_cursor)INTMAP_START;
 #define INTMAP_START {0, 0, 0}
 
 // A pair if the status is INTMAP_PRESENT. With every other status its key and value are 0.
@@ -136,7 +137,8 @@ typedef struct intmap_found {
     intmap_status status;
 } intmap_found;
 
-// Returns the version of the code: 10000 times the first number, 100 times the second, and the third.
+// Returns the version of the code: 10000 times the first number, 100 times the second, plus the
+// third.
 uint32_t intmap_version(void) INTMAP_CALL;
 
 // Makes an empty map of 4 slots, with a load factor of 909 thousandths. It frees a map that the
@@ -150,10 +152,11 @@ INTMAP_NONNULL INTMAP_MUST_USE intmap_status intmap_new(intmap *map) INTMAP_CALL
 INTMAP_NONNULL INTMAP_MUST_USE intmap_status intmap_with_capacity(intmap *map, size_t capacity)
     INTMAP_CALL;
 
-// Makes a map in `to` with the same pairs in the same order, as many slots and the same load factor.
-// It frees a map that `to` had. It returns INTMAP_DONE; or INTMAP_NO_MEMORY or INTMAP_NO_MAP, which
-// leave `to` as it was. `to` is another word than `map`. It takes time in the pairs and slots.
-INTMAP_NONNULL INTMAP_MUST_USE intmap_status intmap_clone(const intmap *map, intmap *to) INTMAP_CALL;
+// Makes a map in `to`, which is another word: the same pairs in the same order, as many slots, the
+// same load factor. It frees a map that `to` had. It returns INTMAP_DONE; or INTMAP_NO_MEMORY or
+// INTMAP_NO_MAP, which leave `to` as it was. It takes time in the pairs and slots.
+INTMAP_NONNULL INTMAP_MUST_USE intmap_status intmap_clone(const intmap *map, intmap *to)
+    INTMAP_CALL;
 
 // Frees the map with all that it took from malloc. The word is then INTMAP_INIT. It does nothing if
 // there is no map. It takes time in the slots.
@@ -177,15 +180,16 @@ INTMAP_NONNULL bool intmap_contains_key(const intmap *map, uint64_t key) INTMAP_
 // the pairs exceed the load factor, the slots are doubled until they don't. That is checked at 4 to
 // 7 pairs, at 12 to 15, at 20 to 23, and so on.
 //
-// For a present key it never fails, unless there is no map. For an absent key it returns
-// INTMAP_TOO_LARGE exactly if there are 2^64 - 1 pairs or growth needs more than 2^63 slots, and
-// otherwise INTMAP_NO_MEMORY if an allocation fails. The key is then absent. It requests no memory
-// if no slots are added and the key's slot holds no pair.
-INTMAP_NONNULL INTMAP_MUST_USE intmap_answer intmap_insert(intmap *map, uint64_t key, uint64_t value)
-    INTMAP_CALL;
+// For a present key it never fails, unless there is no map, and requests no memory. For an absent
+// key it returns INTMAP_TOO_LARGE exactly if there are 2^64 - 1 pairs or growth needs more than
+// 2^63 slots, and otherwise INTMAP_NO_MEMORY if an allocation fails. The key is then absent. It
+// requests no memory if no slots are added and the key's slot holds no pair.
+INTMAP_NONNULL INTMAP_MUST_USE intmap_answer intmap_insert(intmap *map, uint64_t key,
+                                                           uint64_t value) INTMAP_CALL;
 
 // Inserts an absent key with the value. It returns INTMAP_PRESENT if the key was present, which
-// keeps its value, and INTMAP_ABSENT if it was absent. For an absent key it fails like intmap_insert.
+// keeps its value, and INTMAP_ABSENT if it was absent. For an absent key it fails like
+// intmap_insert.
 INTMAP_NONNULL INTMAP_MUST_USE intmap_status intmap_insert_checked(intmap *map, uint64_t key,
                                                                    uint64_t value) INTMAP_CALL;
 
@@ -198,8 +202,8 @@ INTMAP_NONNULL intmap_answer intmap_set(intmap *map, uint64_t key, uint64_t valu
 INTMAP_NONNULL intmap_answer intmap_add(intmap *map, uint64_t key, uint64_t more) INTMAP_CALL;
 
 // Adds to the value of a present key, as intmap_add does, and inserts an absent key with `more`, by
-// one lookup. It returns INTMAP_PRESENT with the value before, or INTMAP_ABSENT if the key was absent.
-// For an absent key it fails like intmap_insert.
+// one lookup. It returns INTMAP_PRESENT with the value before, or INTMAP_ABSENT if the key was
+// absent. For an absent key it fails like intmap_insert.
 INTMAP_NONNULL INTMAP_MUST_USE intmap_answer intmap_add_or_insert(intmap *map, uint64_t key,
                                                                   uint64_t more) INTMAP_CALL;
 
@@ -221,13 +225,13 @@ INTMAP_NONNULL size_t intmap_capacity(const intmap *map) INTMAP_CALL;
 // Returns the load factor in thousandths, 0 if there is no map.
 INTMAP_NONNULL size_t intmap_load_factor(const intmap *map) INTMAP_CALL;
 
-// Returns the number of slots that hold a pair, 0 if there is no map. If it is far below the number of
-// pairs, many keys share slots. It takes time in the slots, for each 64.
+// Returns the number of slots that hold a pair, 0 if there is no map. If it is far below the number
+// of pairs, many keys share slots. It takes time in the slots, for each 64.
 INTMAP_NONNULL size_t intmap_filled_slots(const intmap *map) INTMAP_CALL;
 
-// Makes the number of slots at least the least power of two that is no less than the number of pairs
-// plus `additional`. It ignores the load factor, so the map may still grow before it has that many
-// pairs. It returns INTMAP_DONE; INTMAP_TOO_LARGE exactly if that sum is above 2^63;
+// Makes the number of slots at least the least power of two that is no less than the number of
+// pairs plus `additional`. It ignores the load factor, so the map may still grow before it has that
+// many pairs. It returns INTMAP_DONE; INTMAP_TOO_LARGE exactly if that sum is above 2^63;
 // INTMAP_NO_MEMORY, but never if there are enough slots already; or INTMAP_NO_MAP.
 INTMAP_NONNULL INTMAP_MUST_USE intmap_status intmap_reserve(intmap *map, size_t additional)
     INTMAP_CALL;
@@ -239,14 +243,15 @@ INTMAP_NONNULL INTMAP_MUST_USE intmap_status intmap_reserve(intmap *map, size_t 
 INTMAP_NONNULL INTMAP_MUST_USE intmap_status intmap_set_load_factor(intmap *map, size_t thousandths)
     INTMAP_CALL;
 
-// Returns INTMAP_PRESENT with the first pair of the walk from the cursor on, and moves the cursor
-// behind it; or INTMAP_ABSENT if none is left; or INTMAP_NO_MAP. A whole walk takes time in the pairs
-// and, for each 64, in the slots.
-INTMAP_NONNULL intmap_found intmap_step(const intmap *map, intmap_cursor *at) INTMAP_CALL;
+// Returns INTMAP_PRESENT with the first pair of the walk from the cursor on, and the cursor behind
+// it; INTMAP_ABSENT if none is left; or INTMAP_NO_MAP. A whole walk takes time in the pairs and,
+// for each 64, in the slots.
+INTMAP_NONNULL intmap_stepped intmap_step(const intmap *map, size_t slot, size_t place,
+                                          size_t passed) INTMAP_CALL;
 
 // Copies pairs of the walk from the cursor on, at most `room`, and moves the cursor behind them. It
-// returns how many it copied: fewer than `room` only if none is left. The rest of `pairs` stays,
-// which needs no values before.
+// returns how many it copied: fewer than `room` only if none is left, or there is no map. `pairs`
+// needs no values before. The rest of it stays.
 INTMAP_NONNULL static inline size_t intmap_next(const intmap *map, intmap_cursor *at,
                                                 intmap_pair *pairs, size_t room) INTMAP_CALL {
     size_t count = 0;
@@ -261,10 +266,10 @@ INTMAP_NONNULL static inline size_t intmap_next(const intmap *map, intmap_cursor
 }
 
 // Removes the first pair of the walk from the cursor on. It returns INTMAP_PRESENT with the pair;
-// INTMAP_ABSENT if none is left; or INTMAP_NO_MAP. The pairs before the cursor stay, and those behind
-// it come next, in the same order. It requests no memory, and takes time in the pairs that follow in
-// the slot.
-INTMAP_NONNULL intmap_found intmap_cut(intmap *map, intmap_cursor *at) INTMAP_CALL;
+// INTMAP_ABSENT if none is left; or INTMAP_NO_MAP. The pairs before the cursor stay, and those
+// behind it come next, in the same order. The number of slots stays. It requests no memory, and
+// takes time in the pairs that follow in the slot, and in what intmap_step would pass.
+INTMAP_NONNULL intmap_stepped intmap_cut(intmap *map, intmap_cursor *at) INTMAP_CALL;
 
 // Returns whether the same keys have the same values in both maps, whatever their order, slots and
 // load factors. A word without a map is equal to another without one, and to no map. It takes time

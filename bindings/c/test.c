@@ -770,6 +770,95 @@ static void test_kept_memory(void) {
     end_test();
 }
 
+// Values change along a walk, and no pair's place does.
+static void test_writes_in_walk(void) {
+    call_make(true, 0);
+    insert_some(200, 1 << 3);
+    intmap_cursor at = INTMAP_START;
+    for (size_t passed = 0; passed < it->plain.len; passed++) {
+        intmap_stepped seen = intmap_step(&it->map, at.slot, at.place, at.passed);
+        EXPECT(seen.status == INTMAP_PRESENT && same_pair(seen.pair, it->plain.pairs[passed]));
+        call_set_or_add(passed % 2, seen.pair.key, number());
+        at = seen.at;
+    }
+    check(it);
+    end_test();
+}
+
+// Values that are addresses of blocks, as docs/C.md frees them.
+
+static void free_value(uint64_t value) {
+    free((void *)(uintptr_t)value);
+}
+
+// Removes the pairs with odd keys, and frees what their values point to.
+static void keep_even(intmap *map) {
+    intmap_cursor at = INTMAP_START;
+    intmap_stepped seen;
+    while ((seen = intmap_step(map, at.slot, at.place, at.passed)).status == INTMAP_PRESENT) {
+        if (seen.pair.key % 2 == 0) {
+            at = seen.at;
+        } else {
+            free_value(intmap_cut(map, &at).pair.value);
+        }
+    }
+}
+
+// Frees what all values point to, and then the map.
+static void free_all(intmap *map) {
+    intmap_cursor at = INTMAP_START;
+    intmap_stepped cut;
+    while ((cut = intmap_cut(map, &at)).status == INTMAP_PRESENT) {
+        free_value(cut.pair.value);
+    }
+    intmap_free(map);
+}
+
+static void test_addresses(void) {
+    intmap map = INTMAP_INIT;
+    EXPECT(intmap_new(&map) == INTMAP_DONE);
+    uint64_t blocks = live_blocks;
+    for (uint64_t key = 0; key < 100; key++) {
+        EXPECT(!intmap_failed(intmap_insert(&map, key, (uintptr_t)malloc(1)).status));
+    }
+    EXPECT(live_blocks >= blocks + 100);
+    blocks = live_blocks;
+    keep_even(&map);
+    EXPECT(intmap_len(&map) == 50 && live_blocks == blocks - 50);
+    EXPECT(intmap_contains_key(&map, 98) && !intmap_contains_key(&map, 99));
+    free_all(&map);
+    EXPECT(map.at == NULL && live_blocks == 0);
+}
+
+// Keys that share a slot, until they are mixed with a secret.
+
+// Mixes a key with a secret, so that its low bits can't be chosen.
+static uint64_t mixed(uint64_t key, uint64_t secret) {
+    key ^= secret;
+    key = (key ^ key >> 30) * 0xBF58476D1CE4E5B9u;
+    key = (key ^ key >> 27) * 0x94D049BB133111EBu;
+    return key ^ key >> 31;
+}
+
+// The key again.
+static uint64_t unmixed(uint64_t key, uint64_t secret) {
+    key = (key ^ key >> 31 ^ key >> 62) * 0x319642B2D24D8EC3u;
+    key = (key ^ key >> 27 ^ key >> 54) * 0x96DE1B173F119089u;
+    return key ^ key >> 30 ^ key >> 60 ^ secret;
+}
+
+static void test_mixed_keys(void) {
+    uint64_t secret = number();
+    call_make(true, 0);
+    for (uint64_t key = 0; key < 1000; key++) {
+        EXPECT(unmixed(mixed(key << 40, secret), secret) == key << 40);
+        call_insertion(INSERT, mixed(key << 40, secret), key);
+    }
+    EXPECT(intmap_filled_slots(&it->map) > 500);
+    check(it);
+    end_test();
+}
+
 // A word is moved.
 static void test_move(void) {
     call_make(true, 0);
@@ -805,6 +894,9 @@ static void test_each(void) {
     test_cuts();
     test_kept_memory();
     test_move();
+    test_writes_in_walk();
+    test_addresses();
+    test_mixed_keys();
 }
 
 // Random calls, on keys of one kind at a time: multiples of a factor.

@@ -3,12 +3,12 @@
 //     cc -O2 times.c intmap.s $(pkg-config --cflags --libs glib-2.0) -o times
 //     ./times KEYS
 //
-// Each figure is the least of many runs, each on a new map, until KEYS keys were inserted. Fewer keys
-// leave out the larger maps. Random keys are looked up in another order than they were inserted. GLib
-// has keys and values in its pointers, uthash a block for each pair.
+// Each figure is the least of many runs, each on a new map, until KEYS keys were inserted. Fewer
+// keys leave out the larger maps. Random keys are looked up in another order than they were
+// inserted. GLib has keys and values in its pointers, uthash a block for each pair.
 //
-// A walk, a cut of each second pair and a drain of 1,000,000 pairs must take less than a second each,
-// or it ends with status 1.
+// A walk, a cut of each second pair and a drain of 1,000,000 pairs must take less than a second
+// each, or it ends with status 1.
 #define _GNU_SOURCE
 #include "intmap.h"
 #include <inttypes.h>
