@@ -960,11 +960,11 @@ static void call_some(size_t kind) {
 
 // Other keys, and for one of the maps none, or another one in its place.
 static size_t begin_kind(void) {
-    size_t kind = number() % (sizeof kinds / sizeof kinds[0]);
+    size_t kind = number() % (sizeof kinds / sizeof kinds[0]), capacity = number() % 64;
     if (number() % 2) {
         make_none(it);
     } else if (it->map.at != NULL) {
-        call_make(number() % 2, number() % 64);
+        call_make(capacity % 2, capacity);
     }
     make_none(other);
     return kind;
