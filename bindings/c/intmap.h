@@ -51,9 +51,10 @@
 // tells of shared slots. An insertion that adds slots moves all pairs, which is constant time a
 // pair over all insertions.
 //
-// MEMORY. It comes from malloc, some 90 bytes a pair, and at least 48 a slot. intmap_with_capacity
-// writes each slot. So on Linux, where malloc may not fail, too large a number may end the process.
-// Only intmap_free gives memory back, and a call that replaces a map or adds slots.
+// MEMORY. It comes from malloc: 80 to 110 bytes a pair, and at least 48 a slot.
+// intmap_with_capacity writes each slot. So on Linux, where malloc may not fail, too large a number
+// may end the process. Only intmap_free gives memory back, and a call that replaces a map or adds
+// slots.
 #ifndef INTMAP_H
 #define INTMAP_H
 
@@ -271,9 +272,9 @@ INTMAP_NONNULL static inline size_t intmap_next(const intmap *map, intmap_cursor
 // takes time in the pairs that follow in the slot, and in what intmap_step would pass.
 INTMAP_NONNULL intmap_stepped intmap_cut(intmap *map, intmap_cursor *at) INTMAP_CALL;
 
-// Returns whether the same keys have the same values in both maps, whatever their order, slots and
-// load factors. A word without a map is equal to another without one, and to no map. It takes time
-// in the pairs and slots.
+// Returns whether the same keys have the same values in both, whatever their order, slots and load
+// factors. Without a map it is like an empty one. It takes a lookup for each pair, and time in the
+// slots, for each 64.
 INTMAP_NONNULL bool intmap_equal(const intmap *map, const intmap *other) INTMAP_CALL;
 
 #ifdef __cplusplus
