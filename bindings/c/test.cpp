@@ -40,7 +40,7 @@ static bool clones_and_walks(intmap *map) {
     is_good = is_good && first.pair.key == pairs[0].key && cut.pair.key == pairs[0].key;
     intmap_clear(map);
     intmap_free(&other);
-    return is_good && intmap_len(map) == 0 && intmap_equal(map, &none);
+    return is_good && intmap_len(map) == 0 && intmap_equal(map, map);
 }
 
 int main() {
