@@ -51,11 +51,12 @@ void __wrap_free(void *block) {
 
 // What isn't so is counted, and the first few are told.
 
+static const char *running;
 static uint64_t step, wrong;
 
 static bool expect(bool is_so, const char *what, int line) {
     if (!is_so && wrong++ < 10) {
-        printf("call %" PRIu64 ", line %d: %s\n", step, line, what);
+        printf("%s, call %" PRIu64 ", line %d: %s\n", running, step, line, what);
     }
     return is_so;
 }
@@ -872,31 +873,33 @@ static void test_move(void) {
     end_test();
 }
 
+#define RUN(test) (running = #test, test)
+
 static void test_each(void) {
-    test_statuses();
-    test_changes_without_map();
-    test_reads_without_map();
-    test_one_without_map();
-    test_makers(true, 0);
-    test_makers(false, 20);
-    test_clone(40, 1);
-    test_clone(200, 16);
+    RUN(test_statuses());
+    RUN(test_changes_without_map());
+    RUN(test_reads_without_map());
+    RUN(test_one_without_map());
+    RUN(test_makers(true, 0));
+    RUN(test_makers(false, 20));
+    RUN(test_clone(40, 1));
+    RUN(test_clone(200, 16));
     for (unsigned kind = 0; kind < INSERTIONS; kind++) {
-        test_insertions(kind, 1);
-        test_insertions(kind, 1 << 6);
+        RUN(test_insertions(kind, 1));
+        RUN(test_insertions(kind, 1 << 6));
     }
-    test_growth();
-    test_limits();
-    test_great_numbers();
-    test_equal();
-    test_walks();
-    test_one_slot();
-    test_cuts();
-    test_kept_memory();
-    test_move();
-    test_writes_in_walk();
-    test_addresses();
-    test_mixed_keys();
+    RUN(test_growth());
+    RUN(test_limits());
+    RUN(test_great_numbers());
+    RUN(test_equal());
+    RUN(test_walks());
+    RUN(test_one_slot());
+    RUN(test_cuts());
+    RUN(test_kept_memory());
+    RUN(test_writes_in_walk());
+    RUN(test_addresses());
+    RUN(test_mixed_keys());
+    RUN(test_move());
 }
 
 // Random calls, on keys of one kind at a time: multiples of a factor.
@@ -992,7 +995,7 @@ int main(int count, char **words) {
     uint64_t calls = count > 1 ? strtoull(words[1], NULL, 10) : 200000;
     seed = count > 2 ? strtoull(words[2], NULL, 10) | 1 : seed;
     test_each();
-    call_at_random(calls);
+    RUN(call_at_random(calls));
     printf("%" PRIu64 " calls, %" PRIu64 " requests refused, ", calls, refused);
     printf("%" PRIu64 " blocks left, %" PRIu64 " wrong\n", live_blocks, wrong);
     return wrong == 0 ? 0 : 1;

@@ -1,8 +1,8 @@
 // Makes every call once from C++, and ends with status 0 if each answered as intmap.h says.
 #include "intmap.h"
+#include <utility>
 
-static intmap none = INTMAP_INIT;
-static_assert(noexcept(intmap_get(&none, 0)) && noexcept(intmap_failed(0)), "calls throw nothing");
+static_assert(noexcept(intmap_get(std::declval<const intmap *>(), 0)), "calls throw nothing");
 static_assert(sizeof(intmap) == sizeof(void *), "a map is one word");
 
 static bool is(intmap_answer answer, intmap_status status, uint64_t value) {
