@@ -951,6 +951,8 @@ static void call_on_all(uint64_t value, unsigned which) {
 // Without a map, a map is made.
 static void call_some(size_t kind) {
     uint64_t key = number() % kinds[kind].count * kinds[kind].factor, value = number();
+    // Small values too, of which 0 is one.
+    value = number() % 4 > 0 ? value : value % 3;
     if (it->map.at == NULL) {
         call_make(value % 2, value % 64);
     } else if (number() % 20 > 0) {
