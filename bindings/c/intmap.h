@@ -132,7 +132,7 @@ typedef struct intmap_cursor {
 // The start of a walk, to begin with. To assign it: at = (intmap_cursor)INTMAP_START;
 #define INTMAP_START {0, 0, 0}
 
-// A pair if the status is INTMAP_PRESENT. With every other status its key and value are 0.
+// A pair if the status is INTMAP_PRESENT, and otherwise zeros.
 typedef struct intmap_found {
     intmap_pair pair;
     intmap_status status;
@@ -244,11 +244,10 @@ INTMAP_NONNULL INTMAP_MUST_USE intmap_status intmap_reserve(intmap *map, size_t 
 INTMAP_NONNULL INTMAP_MUST_USE intmap_status intmap_set_load_factor(intmap *map, size_t thousandths)
     INTMAP_CALL;
 
-// Returns INTMAP_PRESENT with the first pair of the walk from the cursor on, and the cursor behind
-// it; INTMAP_ABSENT if none is left; or INTMAP_NO_MAP. A whole walk takes time in the pairs and,
-// for each 64, in the slots.
-INTMAP_NONNULL intmap_stepped intmap_step(const intmap *map, size_t slot, size_t place,
-                                          size_t passed) INTMAP_CALL;
+// Returns INTMAP_PRESENT with the first pair of the walk from the cursor on, and moves the cursor
+// behind it; INTMAP_ABSENT if none is left; or INTMAP_NO_MAP. A whole walk takes time in the pairs
+// and, for each 64, in the slots.
+INTMAP_NONNULL intmap_found intmap_step(const intmap *map, intmap_cursor *at) INTMAP_CALL;
 
 // Copies pairs of the walk from the cursor on, at most `room`, and moves the cursor behind them. It
 // returns how many it copied: fewer than `room` only if none is left, or there is no map. `pairs`
@@ -270,7 +269,7 @@ INTMAP_NONNULL static inline size_t intmap_next(const intmap *map, intmap_cursor
 // INTMAP_ABSENT if none is left; or INTMAP_NO_MAP. The pairs before the cursor stay, and those
 // behind it come next, in the same order. The number of slots stays. It requests no memory, and
 // takes time in the pairs that follow in the slot, and in what intmap_step would pass.
-INTMAP_NONNULL intmap_stepped intmap_cut(intmap *map, intmap_cursor *at) INTMAP_CALL;
+INTMAP_NONNULL intmap_found intmap_cut(intmap *map, intmap_cursor *at) INTMAP_CALL;
 
 // Returns whether the same keys have the same values in both, whatever their order, slots and load
 // factors. Without a map it is like an empty one. It takes a lookup for each pair, and time in the

@@ -55,8 +55,7 @@ static void read_walk(reader *one) {
     intmap_pair pairs[64];
     intmap_cursor at = INTMAP_START, next = INTMAP_START;
     for (size_t passed = 0; passed < KEYS; passed++) {
-        intmap_stepped seen = intmap_step(&map, at.slot, at.place, at.passed);
-        at = seen.at;
+        intmap_found seen = intmap_step(&map, &at);
         expect(one, seen.status == INTMAP_PRESENT
                         && memcmp(&seen.pair, &walk[passed], sizeof seen.pair) == 0);
     }

@@ -229,9 +229,9 @@ static void check_walk(const side *one, size_t room) {
         passed += copied;
         EXPECT(at.passed == passed);
     } while (copied > 0);
-    intmap_stepped end = intmap_step(&one->map, at.slot, at.place, at.passed);
+    intmap_found end = intmap_step(&one->map, &at);
     EXPECT(end.status == (one->map.at == NULL ? INTMAP_NO_MAP : INTMAP_ABSENT));
-    EXPECT(same_pair(end.pair, NO_PAIR));
+    EXPECT(same_pair(end.pair, NO_PAIR) && at.passed == plain->len);
 }
 
 static void check_figures(const side *one) {
@@ -393,15 +393,14 @@ static void call_cut(size_t passed, size_t count) {
     for (; count > 0; count--) {
         bool is_left = passed < plain->len;
         intmap_pair wanted = is_left ? plain->pairs[passed] : NO_PAIR;
-        intmap_stepped cut = intmap_cut(&it->map, &at);
+        intmap_found cut = intmap_cut(&it->map, &at);
         EXPECT(cut.status == (is_left ? INTMAP_PRESENT : INTMAP_ABSENT));
         EXPECT(same_pair(cut.pair, wanted) && at.passed == passed);
-        EXPECT(memcmp(&at, &cut.at, sizeof at) == 0);
         if (is_left) {
             take_at(plain, passed);
         }
     }
-    intmap_stepped next = intmap_step(&it->map, at.slot, at.place, at.passed);
+    intmap_found next = intmap_step(&it->map, &at);
     EXPECT(next.status == (passed < plain->len ? INTMAP_PRESENT : INTMAP_ABSENT));
     EXPECT(passed == plain->len || same_pair(next.pair, plain->pairs[passed]));
     EXPECT(!requested());
@@ -409,24 +408,25 @@ static void call_cut(size_t passed, size_t count) {
 
 // Keeps the pairs whose values have no bit of the mask.
 static void call_retain(uint64_t mask) {
-    intmap_cursor at = INTMAP_START;
+    intmap_cursor at = INTMAP_START, next = INTMAP_START;
     model *plain = &it->plain;
-    size_t passed = 0;
-    while (passed < plain->len) {
-        intmap_stepped seen = intmap_step(&it->map, at.slot, at.place, at.passed);
-        if (!EXPECT(seen.status == INTMAP_PRESENT && same_pair(seen.pair, plain->pairs[passed]))) {
+    while (at.passed < plain->len) {
+        intmap_found seen = intmap_step(&it->map, &next);
+        intmap_pair wanted = plain->pairs[at.passed];
+        if (!EXPECT(seen.status == INTMAP_PRESENT && same_pair(seen.pair, wanted))) {
             return;
         }
+        EXPECT(next.passed == at.passed + 1);
         if (seen.pair.value & mask) {
-            intmap_stepped cut = intmap_cut(&it->map, &at);
-            EXPECT(cut.status == INTMAP_PRESENT && same_pair(cut.pair, seen.pair));
-            take_at(plain, passed);
+            take_at(plain, at.passed);
+            intmap_found cut = intmap_cut(&it->map, &at);
+            EXPECT(cut.status == INTMAP_PRESENT && same_pair(cut.pair, wanted));
+            next = at;
         } else {
-            at = seen.at;
-            EXPECT(at.passed == ++passed);
+            at = next;
         }
     }
-    EXPECT(intmap_step(&it->map, at.slot, at.place, at.passed).status == INTMAP_ABSENT);
+    EXPECT(intmap_step(&it->map, &at).status == INTMAP_ABSENT);
 }
 
 static void call_clear(void) {
@@ -520,7 +520,7 @@ static void test_changes_without_map(void) {
     EXPECT(intmap_reserve(&none, 1) == INTMAP_NO_MAP);
     EXPECT(intmap_reserve(&none, SIZE_MAX) == INTMAP_NO_MAP);
     EXPECT(intmap_set_load_factor(&none, 1) == INTMAP_NO_MAP);
-    intmap_stepped cut = intmap_cut(&none, &at);
+    intmap_found cut = intmap_cut(&none, &at);
     EXPECT(cut.status == INTMAP_NO_MAP && same_pair(cut.pair, NO_PAIR));
     intmap_clear(&none);
     intmap_free(&none);
@@ -537,7 +537,7 @@ static void test_reads_without_map(void) {
     EXPECT(intmap_len(&none) == 0 && intmap_capacity(&none) == 0);
     EXPECT(intmap_load_factor(&none) == 0);
     EXPECT(intmap_next(&none, &at, &pair, 1) == 0 && pair.key == 1 && pair.value == 2);
-    intmap_stepped seen = intmap_step(&none, 0, 0, 0);
+    intmap_found seen = intmap_step(&none, &at);
     EXPECT(seen.status == INTMAP_NO_MAP && same_pair(seen.pair, NO_PAIR));
     EXPECT(intmap_equal(&none, &to) && intmap_equal(&none, &none));
     EXPECT(intmap_clone(&none, &to) == INTMAP_NO_MAP && to.at == NULL && !requested());
@@ -777,10 +777,9 @@ static void test_writes_in_walk(void) {
     insert_some(200, 1 << 3);
     intmap_cursor at = INTMAP_START;
     for (size_t passed = 0; passed < it->plain.len; passed++) {
-        intmap_stepped seen = intmap_step(&it->map, at.slot, at.place, at.passed);
+        intmap_found seen = intmap_step(&it->map, &at);
         EXPECT(seen.status == INTMAP_PRESENT && same_pair(seen.pair, it->plain.pairs[passed]));
         call_set_or_add(passed % 2, seen.pair.key, number());
-        at = seen.at;
     }
     check(it);
     end_test();
@@ -794,13 +793,14 @@ static void free_value(uint64_t value) {
 
 // Removes the pairs with odd keys, and frees what their values point to.
 static void keep_even(intmap *map) {
-    intmap_cursor at = INTMAP_START;
-    intmap_stepped seen;
-    while ((seen = intmap_step(map, at.slot, at.place, at.passed)).status == INTMAP_PRESENT) {
+    intmap_cursor at = INTMAP_START, next = INTMAP_START;
+    intmap_found seen;
+    while ((seen = intmap_step(map, &next)).status == INTMAP_PRESENT) {
         if (seen.pair.key % 2 == 0) {
-            at = seen.at;
+            at = next;
         } else {
             free_value(intmap_cut(map, &at).pair.value);
+            next = at;
         }
     }
 }
@@ -808,7 +808,7 @@ static void keep_even(intmap *map) {
 // Frees what all values point to, and then the map.
 static void free_all(intmap *map) {
     intmap_cursor at = INTMAP_START;
-    intmap_stepped cut;
+    intmap_found cut;
     while ((cut = intmap_cut(map, &at)).status == INTMAP_PRESENT) {
         free_value(cut.pair.value);
     }

@@ -35,9 +35,9 @@ static bool clones_and_walks(intmap *map) {
     bool is_good = intmap_clone(map, &other) == INTMAP_DONE && intmap_equal(map, &other)
                    && intmap_next(map, &at, pairs, 4) == 2;
     at = INTMAP_START;
-    intmap_stepped first = intmap_step(map, at.slot, at.place, at.passed);
-    intmap_stepped cut = intmap_cut(map, &at);
-    is_good = is_good && first.pair.key == pairs[0].key && cut.pair.key == pairs[0].key;
+    intmap_found first = intmap_step(map, &at);
+    intmap_found second = intmap_cut(map, &at);
+    is_good = is_good && first.pair.key == pairs[0].key && second.pair.key == pairs[1].key;
     intmap_clear(map);
     intmap_free(&other);
     return is_good && intmap_len(map) == 0 && intmap_equal(map, map);

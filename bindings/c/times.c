@@ -403,7 +403,7 @@ static bool cut_half(void) {
         if (seen % 2) {
             left -= intmap_cut(&map, &at).status == INTMAP_PRESENT;
         } else {
-            at = intmap_step(&map, at.slot, at.place, at.passed).at;
+            intmap_step(&map, &at);
         }
     }
     return left == count - count / 2 && intmap_len(&map) == left && is_quick("passed or cut", from);
