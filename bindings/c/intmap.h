@@ -132,7 +132,7 @@ typedef struct intmap_cursor {
 // The start of a walk, to begin with. To assign it: at = (intmap_cursor)INTMAP_START;
 #define INTMAP_START {0, 0, 0}
 
-// A pair if the status is INTMAP_PRESENT, and otherwise zeros.
+// A pair if the status is INTMAP_PRESENT. With every other status its key and value are 0.
 typedef struct intmap_found {
     intmap_pair pair;
     intmap_status status;
@@ -271,9 +271,9 @@ INTMAP_NONNULL static inline size_t intmap_next(const intmap *map, intmap_cursor
 // takes time in the pairs that follow in the slot, and in what intmap_step would pass.
 INTMAP_NONNULL intmap_found intmap_cut(intmap *map, intmap_cursor *at) INTMAP_CALL;
 
-// Returns whether the same keys have the same values in both, whatever their order, slots and load
-// factors. Without a map it is like an empty one. It takes a lookup for each pair, and time in the
-// slots, for each 64.
+// Returns whether the same keys have the same values in both maps, whatever their order, slots and
+// load factors. A word without a map is equal to another without one, and to no map. It takes a
+// lookup for each pair, and time in the slots, for each 64.
 INTMAP_NONNULL bool intmap_equal(const intmap *map, const intmap *other) INTMAP_CALL;
 
 #ifdef __cplusplus
