@@ -32,4 +32,5 @@ pub mod RetainLemmas
 pub mod WritesLemmas
 pub mod ExtractLemmas
 pub mod CursorLemmas
+pub mod RefusalLemmas
 pub mod LendMapLemmas

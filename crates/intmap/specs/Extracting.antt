@@ -1,5 +1,5 @@
 -- What a contract sees of pairs that a closure picks to be removed, one at a step, and of an `ExtractIf`.
-use Rattle.std.specs.Prelude.{◌≡◌, Bool, not, filter, List, [], ◌++◌, take, drop, Option, None}
+use Rattle.std.specs.Prelude.{◌≡◌, ◌+◌, Bool, cond, not, filter, List, [], ◌++◌, length, take, drop, Option, None, IfSome, is_some}
 use Rattle.std.specs.Option.{option_to_list}
 use Rattle.std.proofs.Common.{◌∙◌, sym, ap, append-nil, append_assoc}
 use Rattle.std.proofs.lemmas.List.{take-append-drop}
@@ -8,6 +8,7 @@ use Rattle.std.specs.Fn.{Mut}
 use Rattle.std.specs.List.Retain.{ExtractsNext}
 use Rattle.std.specs.declared.cmp.PartialEq as eq
 use Rattle.intmap_table.specs.declared.key.IntKey as key
+use Rattle.intmap_table.specs.Bindings.{IsPresent}
 use Rattle.intmap_table.specs.Picking.{AsksAt, ExtractsNext-end, ExtractsNext-filter, PicksAt}
 use Rattle.intmap_table.specs.Taking.{TakesEach}
 use Rattle.intmap_table.specs.Writes.{TakesPairMut}
@@ -40,12 +41,15 @@ module _ {K V F A : Type 0} {g : key.Ghosts K} {e : eq.Ghosts K} where
     abbrev pub CanExtract : ExtractIf K V F A g e → Type 0
     CanExtract d = TakesEach (AsksAt m) (TakesPairMut m) (extract_test d) (extract_rest d)
 
-    -- `next` asked about the pairs that were left, up to the first that the closure picked, and removed that one; only the walk of the map changed
+    -- `next` asked about the pairs that were left, up to the first that the closure picked, and removed that one; only the walk of the map changed.
+    -- So the key was present, and the map is one pair shorter
     abbrev pub Extracts : ExtractIf K V F A g e → Option (K × V) → ExtractIf K V F A g e → Type 0
     Extracts d r rest = ((kept : List (K × V)) × ExtractsNext (PicksAt m) (extract_test d) (extract_rest d) r (extract_test rest) kept (extract_rest rest)
         × (extract_kept rest ≡ extract_kept d ++ kept))
         × (extract_lender rest ≡ extract_lender d)
         × (extracted_map rest ≡ with_walk (extracted_map d) (extracted_map rest).walk)
+        × IfSome r (λ pair. IsPresent g.number_of (extracted_map d).walk pair.0)
+        × (length (extracted_map rest).walk + cond (is_some r) 1 0 ≡ length (extracted_map d).walk)
 
     -- a step that removes none goes to the end of the walk, so all pairs that the map has were kept
     pub Extracts-end : (d rest : ExtractIf K V F A g e) → Extracts d None rest → (extract_rest rest ≡ []) × (extract_kept rest ≡ (extracted_map rest).walk)

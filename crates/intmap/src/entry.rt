@@ -162,13 +162,21 @@ impl<'a, K: IntKey, V, A: Allocator + Copy> Entry<'a, K, V, A> {
         ensures value { ModifiesValue F.FnOnce f (entry_value self.entry) (entry_value result) }
         ensures state { MatchOption (entry_value result) (entry_map result ≡ entry_map self.entry)
             (λ v. entry_map result ≡ map_with_value self.entry v) }
+        ensures updates { MatchOption (entry_value result) (entry_map result ≡ entry_map self.entry)
+            (λ v. Updates K.number_of (entry_map self.entry).walk (entry_map result).walk
+            (entry_key self.entry) (Some v)) }
+        ensures len { length (entry_map result).walk ≡ length (entry_map self.entry).walk }
+        ensures valid_after { IsMap K.number_of K.is_valid (entry_map result) }
     {
         match self {
             Entry::Occupied(mut entry) => {
                 f(entry.get_mut());
                 Entry::Occupied(entry)
             }
-            Entry::Vacant(entry) => Entry::Vacant(entry),
+            Entry::Vacant(entry) => {
+                entry.map.known();
+                Entry::Vacant(entry)
+            }
         }
     }
 

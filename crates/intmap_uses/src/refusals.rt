@@ -1,6 +1,6 @@
 //! Pairs on their way into a map: a pair whose insertion fails waits, with its cause, and is tried
 //! again.
-ghost use Rattle.std.specs.Prelude.{◌≡◌, ℕ, ◌+◌, ◌<◌, ◌≤◌, List, ◌∷◌, ◌++◌, [], OnOk, OnErr, length, vec_capacity};
+ghost use Rattle.std.specs.Prelude.{◌≡◌, ℕ, ◌+◌, ◌<◌, ◌≤◌, List, ◌∷◌, ◌++◌, [], IfOk, OnOk, OnErr, true, length, vec_capacity};
 ghost use Rattle.intmap_uses.specs.Waiting.{Moves, pairs_of};
 
 use intmap::{Cause, IntMap};
@@ -15,6 +15,22 @@ pub struct Waiting<V> {
     pub value: V,
     /// Why its insertion failed the last time.
     pub cause: Cause,
+}
+
+/// A new map with one pair, and whether its insertion succeeded, which it does: the pair is alone
+/// in its slot.
+///
+/// It fails if the map can't be made.
+pub fn made_of_one<V: Drop, A: Allocator + Copy>(
+    alloc: A,
+    key: u64,
+    value: V,
+) -> Result<(IntMap<u64, V, A>, bool), Cause>
+    ensures { IfOk result (λ made. made.1 ≡ true) }
+{
+    let mut map = IntMap::new(alloc)?;
+    let is_in = map.insert(key, value).is_ok();
+    Ok((map, is_in))
 }
 
 /// Moves the pairs into the map, the last first. A pair whose insertion fails waits with its cause,

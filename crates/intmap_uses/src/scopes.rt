@@ -1,5 +1,5 @@
 //! A table of symbols with scopes: names are numbers, each declared at the depth of its scope.
-ghost use Rattle.std.specs.Prelude.{◌≡◌, ◌==◌, ℕ, count_by, filter, not};
+ghost use Rattle.std.specs.Prelude.{◌≡◌, ◌==◌, ◌+◌, ℕ, IfSome, IsSome, cond, count_by, filter, is_some, length, not};
 ghost use Rattle.intmap_uses.specs.Numbered.{value_at};
 ghost use Rattle.intmap_uses.specs.Scopes.{outside_of};
 
@@ -10,6 +10,17 @@ use intmap::IntMap;
 pub struct Symbol {
     pub depth: u64,
     pub value: u64,
+}
+
+/// Removes the first name of this depth, if there is one, and returns it. It was declared, and no
+/// other name is removed.
+pub fn forget_one(names: &mut IntMap<u64, Symbol>, depth: u64) -> Option<(u64, Symbol)>
+    ensures declared { IfSome result (λ name. IsSome (value_at names.old.walk name.0)) }
+    ensures count { length names.new.walk + cond (is_some result) 1 0 ≡ length names.old.walk }
+    ensures capacity { names.new.capacity ≡ names.old.capacity }
+{
+    let mut left = names.extract_if(move |_, symbol| symbol.depth == depth);
+    left.next()
 }
 
 /// Leaves the scopes of this depth: removes the names that they declared, and returns their number.

@@ -21,6 +21,29 @@ fn count_by_entry<A: Allocator + Copy>(
     Ok(())
 }
 
+/// Counts one occurrence of the number: a closure changes its count, or the count begins with 1.
+///
+/// It fails if the insertion of a new number fails.
+pub fn count_by_closure<A: Allocator + Copy>(
+    tally: &mut IntMap<u64, u64, A>,
+    number: u64,
+) -> Result<(), Cause>
+    requires { count_of (λ key. key) tally.old.walk number < 2 ^ 64 - 1 }
+    ensures { OnOk result (Updates (λ key. key) tally.old.walk tally.new.walk number
+        (Some (count_of (λ key. key) tally.old.walk number + 1))) }
+{
+    let entry = tally.entry(number).and_modify(
+        |count: &mut u64|
+            requires { count.old < 2 ^ 64 - 1 }
+            ensures { count.new ≡ count.old + 1 }
+        {
+            *count += 1;
+        },
+    );
+    entry.or_insert(1)?;
+    Ok(())
+}
+
 /// Counts one occurrence of the number, whose count is written in place.
 ///
 /// It fails if the insertion of a new number fails.

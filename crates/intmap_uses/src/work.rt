@@ -1,7 +1,8 @@
 //! Work by number: a queue whose jobs are removed from the front of the walk.
-ghost use Rattle.std.specs.Prelude.{◌≡◌, [], ◌++◌, IfOk, OnOk, OnErr, length, min};
+ghost use Rattle.std.specs.Prelude.{◌≡◌, ◌+◌, None, [], ◌++◌, IfOk, IfSome, OnOk, OnErr, cond, is_some, length, min};
 ghost use Rattle.std.specs.List.{slice_get};
 ghost use Rattle.std.specs.Option.{option_map};
+ghost use Rattle.intmap.specs.Bindings.{Updates};
 
 use intmap::IntMap;
 use std::alloc::{AllocError, Allocator};
@@ -12,6 +13,15 @@ pub fn next_job<V, A: Allocator + Copy>(queue: &IntMap<u64, V, A>) -> Option<u64
 {
     let (number, _) = queue.first_key_value()?;
     Some(*number)
+}
+
+/// Removes the job at the front of the queue and returns it. No other job is lost.
+pub fn pop<V: Drop, A: Allocator + Copy>(queue: &mut IntMap<u64, V, A>) -> Option<(u64, V)>
+    ensures updates { IfSome result (λ job. Updates (λ key. key) queue.old.walk queue.new.walk
+        job.0 None) }
+    ensures len { length queue.new.walk + cond (is_some result) 1 0 ≡ length queue.old.walk }
+{
+    queue.take_front(&mut 0)
 }
 
 /// Removes one job after another from the queue, and puts it behind those that are done. No job is

@@ -1,9 +1,9 @@
 //! Insertions.
-ghost use Rattle.std.specs.Prelude.{◌≡◌, ◌↔◌, ◌+◌, ◌*◌, ◌/◌, ◌^◌, ◌<◌, length, IfOk, IfErr, OnOk, OnErr, IsErrAnd, IsNone, None, Some, true, cond, is_some, is_none, unwrap_or, MatchBool};
+ghost use Rattle.std.specs.Prelude.{◌≡◌, ◌↔◌, ◌+◌, ◌*◌, ◌/◌, ◌^◌, ◌<◌, length, IfOk, IfErr, IsOk, OnOk, OnErr, IsErrAnd, IsNone, None, Some, true, cond, is_some, is_none, unwrap_or, MatchBool};
 ghost use Rattle.intmap_table.specs.Bindings.{value_of, Updates};
 ghost use Rattle.intmap_table.specs.Reach.{class_size};
 ghost use Rattle.intmap.specs.Growth.{IsNext, is_due};
-ghost use Rattle.intmap.specs.Map.{IsMap, InsertIsTooLarge, IsOutOfRange, IsCapacityAfter, after_search, after_insert, with_pair};
+ghost use Rattle.intmap.specs.Map.{IsLone, IsMap, InsertIsTooLarge, IsOutOfRange, IsCapacityAfter, after_search, after_insert, with_pair};
 
 use crate::load::{has_outgrown, threshold_of, wanted_capacity};
 use crate::map::IntMap;
@@ -57,6 +57,7 @@ impl<K: IntKey, V: Drop, A: Allocator + Copy> IntMap<K, V, A> {
         ensures memory { IfErr result (λ refused. refused.cause ≡ Cause.Memory
             → IsNext self.old.capacity (length self.old.walk + 1) self.old.factor self.old.capacity
             → 0 < class_size K.number_of self.old.walk self.old.capacity key) }
+        ensures lone { IsLone K.number_of self.old.walk self.old.capacity key → IsOk result }
 
         ensures valid { IsMap K.number_of K.is_valid self.old }
         ensures valid_after { IsMap K.number_of K.is_valid self.new }
@@ -103,6 +104,7 @@ impl<K: IntKey, V: Drop, A: Allocator + Copy> IntMap<K, V, A> {
         ensures memory { IfErr result (λ refused. refused.cause ≡ Cause.Memory
             → IsNext self.old.capacity (length self.old.walk + 1) self.old.factor self.old.capacity
             → 0 < class_size K.number_of self.old.walk self.old.capacity key) }
+        ensures lone { IsLone K.number_of self.old.walk self.old.capacity key → IsOk result }
 
         ensures valid { IsMap K.number_of K.is_valid self.old }
         ensures valid_after { IsMap K.number_of K.is_valid self.new }

@@ -1,8 +1,9 @@
 //! Removals.
-ghost use Rattle.std.specs.Prelude.{◌≡◌, ◌+◌, None, IfSome, cond, is_some, length, ◌⊎◌, ◌≤◌};
+ghost use Rattle.std.specs.Prelude.{◌≡◌, ◌+◌, None, IfSome, MatchOption, cond, is_some, length, ◌⊎◌, ◌≤◌};
 ghost use Rattle.std.specs.Option.{option_map};
 ghost use Rattle.std.specs.Iterator.{YieldsFirst};
 ghost use Rattle.intmap_table.specs.Bindings.{value_of, Updates};
+ghost use Rattle.intmap_table.specs.Classes.{slot_number};
 ghost use Rattle.intmap.specs.Map.{IsMap, after_remove, emptied};
 ghost use Rattle.intmap_table.specs.Walk.{ArePassed};
 ghost use Rattle.intmap.specs.Map.{with_walk};
@@ -65,7 +66,7 @@ impl<K: IntKey, V, A: Allocator + Copy> IntMap<K, V, A> {
     ///
     /// The search begins at the slot number `from`. No slot before it may hold a pair, so begin
     /// with 0. The call sets `from` to the number of the slot that held the pair, so the next call
-    /// goes on from there. The contract says only that still no slot before `from` holds a pair.
+    /// goes on from there.
     ///
     /// The other pairs of the slot move up by one place. It allocates nothing and never fails.
     ///
@@ -78,7 +79,12 @@ impl<K: IntKey, V, A: Allocator + Copy> IntMap<K, V, A> {
         requires { ArePassed K.number_of self.old.walk self.old.capacity from.old }
         ensures first { YieldsFirst (λ m. m.walk) self.old result self.new }
         ensures state { self.new ≡ with_walk self.old self.new.walk }
+        ensures updates { MatchOption result (self.new.walk ≡ self.old.walk)
+            (λ pair. Updates K.number_of self.old.walk self.new.walk pair.0 None) }
+        ensures len { length self.new.walk + cond (is_some result) 1 0 ≡ length self.old.walk }
         ensures passed { ArePassed K.number_of self.new.walk self.new.capacity from.new }
+        ensures slot { IfSome result
+            (λ pair. from.new ≡ slot_number K.number_of pair.0 self.old.capacity) }
         ensures valid { IsMap K.number_of K.is_valid self.old }
         ensures valid_after { IsMap K.number_of K.is_valid self.new }
     {

@@ -1,9 +1,9 @@
 //! Calls on all pairs of a table, in the order of the walk: removal from the front, `retain`, and
 //! writes to each value.
-ghost use Rattle.std.specs.Prelude.{◌≡◌, ◌+◌, ◌^◌, ◌<◌, ◌≤◌, length};
+ghost use Rattle.std.specs.Prelude.{◌≡◌, ◌+◌, ◌^◌, ◌<◌, ◌≤◌, IfSome, length};
 ghost use Rattle.std.specs.Iterator.{YieldsFirst};
-ghost use Rattle.intmap_table.specs.Walk.{ArePassed};
-ghost use Rattle.intmap_table.specs.Walk.{walk_of};
+ghost use Rattle.intmap_table.specs.Classes.{slot_number};
+ghost use Rattle.intmap_table.specs.Walk.{ArePassed, walk_of};
 ghost use Rattle.intmap_table.specs.Tables.Slots.{rows, joined, IsMarkedTable};
 ghost use Rattle.intmap_table.specs.Tables.Kept.{unkept, KeepsStored, TakesStored, WritesStored, TakesStoredMut};
 ghost use Rattle.intmap_table.specs.Retaining.{Retains, KeepsAt, TakesPair};
@@ -26,6 +26,8 @@ impl<K: IntKey, X, A: Allocator> Table<K, X, A> {
         ensures capacity { self.new.capacity ≡ self.old.capacity }
         ensures own { walk_of K.number_of self.new.walk self.new.capacity ≡ self.new.walk }
         ensures passed { ArePassed K.number_of self.new.walk self.new.capacity from.new }
+        ensures slot { IfSome result
+            (λ pair. from.new ≡ slot_number K.number_of pair.0 self.old.capacity) }
     {
         let Some(place) = self.directory.bits.iter_from(*from).next() else {
             return None;

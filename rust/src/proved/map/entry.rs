@@ -82,7 +82,10 @@ impl<'a, K: IntKey, V, A: Allocator + Copy> Entry<'a, K, V, A> {
                 f(entry.get_mut());
                 Entry::Occupied(entry)
             }
-            Entry::Vacant(entry) => Entry::Vacant(entry),
+            Entry::Vacant(entry) => {
+                entry.map.known();
+                Entry::Vacant(entry)
+            }
         }
     }
 

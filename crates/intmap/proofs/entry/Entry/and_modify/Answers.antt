@@ -27,3 +27,9 @@ returns-in-Occupied-clause-state g c =
     let left = c.f.new.arg2 in
     let here = ap (value_of g.K.IntKey.number_of (occupied_with_value c.in-Occupied.entry left).map.now.walk) (occupied_key-written c.in-Occupied.entry left) ∙ (c.get_mut.ensures.updates left).1 in
     rw (here, c.in-Occupied.is) refl
+
+pub returns-in-Occupied-clause-updates : goal.returns-in-Occupied-clause-updates
+returns-in-Occupied-clause-updates g c =
+    let left = c.f.new.arg2 in
+    let here = ap (value_of g.K.IntKey.number_of (occupied_with_value c.in-Occupied.entry left).map.now.walk) (occupied_key-written c.in-Occupied.entry left) ∙ (c.get_mut.ensures.updates left).1 in
+    rw (here, c.in-Occupied.is) (c.get_mut.ensures.updates left)

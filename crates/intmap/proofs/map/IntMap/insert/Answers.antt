@@ -3,9 +3,11 @@ use Rattle.intmap_table.specs.Bindings.{value_of}
 use Rattle.intmap.specs.Growth.{IsNext}
 use Rattle.intmap.specs.Map.{MapState, InsertIsTooLarge, after_insert, with_pair}
 use Rattle.intmap_table.specs.Reach.{class_size}
+use Rattle.intmap.specs.PlainLists.{PlainList, RefusalIsDue}
 use Rattle.intmap.proofs.AfterLemmas.{Updates-insert, length-insert}
+use Rattle.intmap.proofs.RefusalLemmas.{lone-never_refused}
 use Rattle.intmap.proofs.map.IntMap.insert.Goals as goal
-use Rattle.intmap.proofs.map.IntMap.insert.Goals.{After-replace_at}
+use Rattle.intmap.proofs.map.IntMap.insert.Goals.{After-replace_at, In-Err}
 
 -- the key is present, and its pair is replaced
 module _ (g : _) (c : After-replace_at g) where
@@ -46,19 +48,35 @@ returns-in-Some-clause-too_large g c = (absurd, λ out. let none = rw (bound g (
 pub returns-in-Err-clause-err : goal.returns-in-Err-clause-err
 returns-in-Err-clause-err g c = c.in-Err.ensures.err ∙ c.in_default.ensures.state
 
+-- the key is absent, and its insertion failed
+module _ (g : _) (c : In-Err g) where
+  abbrev before : PlainList g.row.K.Denot g.row.V.Denot
+  before = record { pairs = c.args.self.now.walk; capacity = c.args.self.now.capacity; factor = c.args.self.now.factor }
+
+  due : RefusalIsDue g.K.IntKey.number_of before c.args.key c.in-Err.refused.cause
+  due =
+      let IsTooLarge : MapState g.row.K.Denot g.row.V.Denot → Type 0 = λ m. InsertIsTooLarge m.walk m.capacity m.factor in
+      let IsShared : MapState g.row.K.Denot g.row.V.Denot → Type 0 = λ m. IsNext m.capacity (length m.walk + 1) m.factor m.capacity → 0 < class_size g.K.IntKey.number_of m.walk m.capacity c.args.key in
+      let large = c.in-Err.ensures.too_large in let searched = c.in_default.ensures.state in
+      record {
+        new_key = rw c.in_default.ensures.missing refl;
+        too_large = (λ e. (rw c.in_default.ensures.missing refl, subst IsTooLarge searched (large.0 e)), λ out. large.1 (subst IsTooLarge (sym searched) out.1));
+        memory = λ e. subst IsShared searched (c.in-Err.ensures.memory e);
+      }
+
 pub returns-in-Err-clause-new_key : goal.returns-in-Err-clause-new_key
-returns-in-Err-clause-new_key g c = rw c.in_default.ensures.missing refl
+returns-in-Err-clause-new_key g c = (due g (goal.at.returns-in-Err-clause-new_key g c).In-Err).new_key
 
 pub returns-in-Err-clause-too_large : goal.returns-in-Err-clause-too_large
-returns-in-Err-clause-too_large g c =
-    let IsTooLarge : MapState g.row.K.Denot g.row.V.Denot → Type 0 = λ m. InsertIsTooLarge m.walk m.capacity m.factor in
-    let large = c.in-Err.ensures.too_large in
-    (λ e. (rw c.in_default.ensures.missing refl, subst IsTooLarge c.in_default.ensures.state (large.0 e)), λ out. large.1 (subst IsTooLarge (sym c.in_default.ensures.state) out.1))
+returns-in-Err-clause-too_large g c = (due g (goal.at.returns-in-Err-clause-too_large g c).In-Err).too_large
 
 pub returns-in-Err-clause-memory : goal.returns-in-Err-clause-memory
-returns-in-Err-clause-memory g c =
-    let Free : MapState g.row.K.Denot g.row.V.Denot → Type 0 = λ m. IsNext m.capacity (length m.walk + 1) m.factor m.capacity → 0 < class_size g.K.IntKey.number_of m.walk m.capacity c.args.key in
-    λ e. subst Free c.in_default.ensures.state (c.in-Err.ensures.memory e)
+returns-in-Err-clause-memory g c = (due g (goal.at.returns-in-Err-clause-memory g c).In-Err).memory
+
+pub returns-in-Err-clause-lone : goal.returns-in-Err-clause-lone
+returns-in-Err-clause-lone g c lone =
+    let at = (goal.at.returns-in-Err-clause-lone g c).In-Err in
+    absurd (lone-never_refused g.K.IntKey.number_of (before g at) c.args.key c.in_default.ensures.valid.capacity lone c.in-Err.refused.cause (due g at))
 
 pub returns-clause-old : goal.returns-clause-old
 returns-clause-old g c = sym c.in_default.ensures.missing

@@ -4,10 +4,12 @@ use Rattle.intmap_table.specs.Bindings.{value_of}
 use Rattle.intmap.specs.Growth.{IsNext}
 use Rattle.intmap.specs.Map.{MapState, InsertIsTooLarge, IsMap, with_pair}
 use Rattle.intmap_table.specs.Reach.{class_size}
+use Rattle.intmap.specs.PlainLists.{PlainList, RefusalIsDue}
 use Rattle.intmap.proofs.AfterLemmas.{Updates-insert, length-insert}
+use Rattle.intmap.proofs.RefusalLemmas.{lone-never_refused}
 use Rattle.intmap_table.proofs.BindingLemmas.{Updates-same}
 use Rattle.intmap.proofs.map.IntMap.insert_checked.Goals as goal
-use Rattle.intmap.proofs.map.IntMap.insert_checked.Goals.{After-add, After-is_some}
+use Rattle.intmap.proofs.map.IntMap.insert_checked.Goals.{After-add, After-is_some, In-Err}
 
 none_of : {X : Type 0} (o : Option X) → is_some o ≡ false → o ≡ None
 none_of None missed = refl
@@ -21,17 +23,32 @@ some_of (Some x) found = (x, refl)
 missing : (g : _) (c : After-add g) → value_of g.K.IntKey.number_of c.args.self.now.walk c.args.key ≡ None
 missing g c = none_of _ (sym c.locate.ensures.bound ∙ sym c.is_some.ensures ∙ c.if-is_some.false)
 
+-- the key is absent, and its insertion failed
+module _ (g : _) (c : In-Err g) (none : value_of g.K.IntKey.number_of c.args.self.now.walk c.args.key ≡ None) where
+  abbrev before : PlainList g.row.K.Denot g.row.V.Denot
+  before = record { pairs = c.args.self.now.walk; capacity = c.args.self.now.capacity; factor = c.args.self.now.factor }
+
+  due : RefusalIsDue g.K.IntKey.number_of before c.args.key c.in-Err.refused.cause
+  due =
+      let IsTooLarge : MapState g.row.K.Denot g.row.V.Denot → Type 0 = λ m. InsertIsTooLarge m.walk m.capacity m.factor in
+      let IsShared : MapState g.row.K.Denot g.row.V.Denot → Type 0 = λ m. IsNext m.capacity (length m.walk + 1) m.factor m.capacity → 0 < class_size g.K.IntKey.number_of m.walk m.capacity c.args.key in
+      let large = c.in-Err.ensures.too_large in let searched = c.locate.ensures.state in
+      record {
+        new_key = rw none refl;
+        too_large = (λ e. (rw none refl, subst IsTooLarge searched (large.0 e)), λ out. large.1 (subst IsTooLarge (sym searched) out.1));
+        memory = λ e. subst IsShared searched (c.in-Err.ensures.memory e);
+      }
+
 pub returns-in-Err-clause-too_large : goal.returns-in-Err-clause-too_large
-returns-in-Err-clause-too_large g c =
-    let none = missing g (goal.at.returns-in-Err-clause-too_large g c).After-add in
-    let IsTooLarge : MapState g.row.K.Denot g.row.V.Denot → Type 0 = λ m. InsertIsTooLarge m.walk m.capacity m.factor in
-    let large = c.in-Err.ensures.too_large in
-    (λ e. (rw none refl, subst IsTooLarge c.locate.ensures.state (large.0 e)), λ out. large.1 (subst IsTooLarge (sym c.locate.ensures.state) out.1))
+returns-in-Err-clause-too_large g c = let at = goal.at.returns-in-Err-clause-too_large g c in (due g at.In-Err (missing g at.After-add)).too_large
 
 pub returns-in-Err-clause-memory : goal.returns-in-Err-clause-memory
-returns-in-Err-clause-memory g c =
-    let Free : MapState g.row.K.Denot g.row.V.Denot → Type 0 = λ m. IsNext m.capacity (length m.walk + 1) m.factor m.capacity → 0 < class_size g.K.IntKey.number_of m.walk m.capacity c.args.key in
-    λ e. subst Free c.locate.ensures.state (c.in-Err.ensures.memory e)
+returns-in-Err-clause-memory g c = let at = goal.at.returns-in-Err-clause-memory g c in (due g at.In-Err (missing g at.After-add)).memory
+
+pub returns-in-Err-clause-lone : goal.returns-in-Err-clause-lone
+returns-in-Err-clause-lone g c lone =
+    let at = goal.at.returns-in-Err-clause-lone g c in let none = missing g at.After-add in
+    absurd (lone-never_refused g.K.IntKey.number_of (before g at.In-Err none) c.args.key c.locate.ensures.valid.capacity lone c.in-Err.refused.cause (due g at.In-Err none))
 
 pub returns-clause-state : goal.returns-clause-state
 returns-clause-state g c =
@@ -86,7 +103,7 @@ pub returns-in-Err-clause-value_returned : goal.returns-in-Err-clause-value_retu
 returns-in-Err-clause-value_returned g c = c.in-Err.ensures.value_returned
 
 pub returns-in-Err-clause-new_key : goal.returns-in-Err-clause-new_key
-returns-in-Err-clause-new_key g c = rw (missing g (goal.at.returns-in-Err-clause-new_key g c).After-add) refl
+returns-in-Err-clause-new_key g c = let at = goal.at.returns-in-Err-clause-new_key g c in (due g at.In-Err (missing g at.After-add)).new_key
 
 pub returns-in-Err-clause-valid : goal.returns-in-Err-clause-valid
 returns-in-Err-clause-valid g c = c.locate.ensures.valid

@@ -1,4 +1,8 @@
+use Rattle.std.proofs.Common.{rules, [], None, ap, refl, subst}
+use Rattle.intmap_table.specs.Bindings.{Updates}
+use Rattle.intmap_table.specs.Tables.Kept.{unkept}
 use Rattle.intmap.proofs.DrainLemmas.{ArePassed-kept, ArePassed-unkept, IsConsistent-rest}
+use Rattle.intmap.proofs.CursorLemmas.{Updates-cut}
 use Rattle.intmap.proofs.map.IntMap.take_front.Goals as goal
 
 pub take_front-requires : goal.take_front-requires
@@ -17,3 +21,9 @@ returns-clause-passed g c =
 
 pub returns-clause-valid_after : goal.returns-clause-valid_after
 returns-clause-valid_after g c = (invariant_of-self-2 g c).map
+
+pub returns-clause-updates : goal.returns-clause-updates
+returns-clause-updates g c =
+    let L = unkept c.self.inside.table.walk in let M = unkept c.take_front.new.self.walk in
+    let told = Updates-cut g.K.IntKey.number_of L M [] M _ (ap unkept c.in-Some.ensures'.first) refl c.self.invariant.map.distinct in
+    rw (← c.self.view_is) (subst (λ k. Updates g.K.IntKey.number_of L M k None) (search rules) told)

@@ -1,5 +1,7 @@
-use Rattle.std.proofs.Common.{◌≡◌, ◌<◌, ◌∷◌, length, set, length-set, get_or, [], sym, ap, arith, ◌∙◌}
-use Rattle.std.specs.Prelude.{nat_lt}
+use Rattle.std.proofs.Common.{◌≡◌, ◌<◌, ◌∷◌, length, set, length-set, get_or, [], sym, ap, arith, ◌∙◌, subst}
+use Rattle.std.specs.Prelude.{All, nat_lt}
+use Rattle.std.proofs.lemmas.List.Elements.{All-head}
+use Rattle.intmap_table.specs.Classes.{slot_number}
 use Rattle.std.proofs.lemmas.Bool.{lt-ltb}
 use Rattle.intmap_table.specs.Walk.{ArePassed}
 use Rattle.intmap_table.specs.Tables.Slots.{Held, rows, joined}
@@ -35,6 +37,12 @@ module _ (g : _) (c : In-Some g) (p : g.row.K.Denot × g.row.X.Denot) (s : Held 
   own =
       walk_of-joined g.K.IntKey.number_of (set c.self.inside.slots.items c.in-Some.place s)
       (IsTable-front g.K.IntKey.number_of c.self.inside.slots.items c.self.inside.directory.bits c.self.invariant.marked c.args.from.now c.in-Some.place (next g c) (passed g c) (p ∷ []) s taken)
+
+  -- the slot is that of the pair
+  slot : slot_number g.K.IntKey.number_of p.0 (length c.self.inside.slots.items) ≡ c.in-Some.place
+  slot =
+      All-head (λ q. slot_number g.K.IntKey.number_of q.0 (length c.self.inside.slots.items) ≡ c.in-Some.place) p s.pairs
+      (subst (All (λ q. slot_number g.K.IntKey.number_of q.0 (length c.self.inside.slots.items) ≡ c.in-Some.place)) taken (c.self.invariant.marked.table.in_place c.in-Some.place (within g c)))
 
   -- those before it hold no pair
   empty : ArePassed g.K.IntKey.number_of (joined (rows (set c.self.inside.slots.items c.in-Some.place s))) (length (set c.self.inside.slots.items c.in-Some.place s)) c.in-Some.place
@@ -115,6 +123,11 @@ returns-in-Some-take_lone-clause-passed g c =
     let at = (goal.at.returns-in-Some-take_lone-clause-passed g c).In-Some in
     empty g at _ c.take_lone.new.self (lone g (goal.at.returns-in-Some-take_lone-clause-passed g c).In-Some-take_lone (within g at))
 
+pub returns-in-Some-take_lone-clause-slot : goal.returns-in-Some-take_lone-clause-slot
+returns-in-Some-take_lone-clause-slot g c =
+    let at = (goal.at.returns-in-Some-take_lone-clause-slot g c).In-Some in
+    rw (← c.self.view_is, c.key.ensures.value) (sym (slot g at _ c.take_lone.new.self (lone g (goal.at.returns-in-Some-take_lone-clause-slot g c).In-Some-take_lone (within g at))))
+
 pub returns-clause-first : goal.returns-clause-first
 returns-clause-first g c =
     let at = (goal.at.returns-clause-first g c).In-Some in
@@ -129,3 +142,8 @@ pub returns-clause-passed : goal.returns-clause-passed
 returns-clause-passed g c =
     let at = (goal.at.returns-clause-passed g c).In-Some in
     empty g at _ c.take_front-key.new.self (first g (goal.at.returns-clause-passed g c).After-take_front-key (within g at))
+
+pub returns-clause-slot : goal.returns-clause-slot
+returns-clause-slot g c =
+    let at = (goal.at.returns-clause-slot g c).In-Some in
+    rw (← c.self.view_is, c.key-2.ensures.value) (sym (slot g at _ c.take_front-key.new.self (first g (goal.at.returns-clause-slot g c).After-take_front-key (within g at))))

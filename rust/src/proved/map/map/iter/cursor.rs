@@ -10,10 +10,10 @@ impl<K: IntKey, V, A: Allocator + Copy> IntMap<K, V, A> {
     /// The first pair of the walk from the cursor on, or `None` if no pair is left. The cursor
     /// moves on behind that pair.
     ///
-    /// A walk begins with [`Cursor::start`]. The cursor must be as the last call on this map left
-    /// it, and since then only [`cut`](IntMap::cut) with this cursor may have changed the map. The
-    /// call allocates nothing and never fails. A whole walk looks once at each pair, and at one bit
-    /// a slot.
+    /// A walk begins with [`Cursor::start`]. The cursor must be as the last call left it. Since then
+    /// only [`cut`](IntMap::cut) with this cursor may have changed the map, and calls that write
+    /// values in their places. The call allocates nothing and never fails. A whole walk looks once
+    /// at each pair, and at one bit a slot.
     pub fn step(&self, at: &mut Cursor) -> Option<(&K, &V)> {
         let Some((key, kept)) = self.table.step(at) else {
             return None;
