@@ -9,7 +9,7 @@
  *
  * Written by tools/assembly of the repository, and not to be edited.
  * Compilers: rattle-kit-13f logic dac8208d650f15bf; clang version 22.1.8
- * Sources: 423dc87210709160fa3a1830a527dd94f98d669ff1c413e7542a3fba060e0be4
+ * Sources: ada10fdd798676d9477959cbcacf4bd988629f5c068c8b65639e4996d05696e0
  *     cat $(find crates/intmap_table/src crates/intmap/src crates/intmap_c/src -name '*.rt' | LC_ALL=C sort) | sha256sum
  *
  * MIT License
