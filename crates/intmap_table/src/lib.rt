@@ -8,7 +8,6 @@ mod key;
 pub mod lent;
 mod slot;
 pub mod steps;
-mod stored;
 pub mod table;
 
 pub use key::IntKey;

@@ -12,7 +12,7 @@ mod retain;
 
 use crate::key::IntKey;
 use crate::steps::Steps;
-use crate::stored::Stored;
+use crate::table::stored::Stored;
 use std::alloc::{AllocError, Allocator};
 use std::marker::Model;
 

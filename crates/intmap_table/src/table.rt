@@ -4,11 +4,13 @@
 //! on a pair whose place is known, `walk`, `each` and `extract` those that go through the pairs,
 //! and `grow` and `place` the growth.
 
+pub(crate) mod asked;
 mod each;
 pub mod extract;
 mod grow;
 pub mod locate;
 mod place;
+pub(crate) mod stored;
 pub mod walk;
 
 ghost use Rattle.std.specs.Prelude.{◌≡◌, ℕ, ◌+◌, ◌^◌, ◌<◌, ◌≤◌, slice_index_or, [], OnOk, OnErr, IfOk, IfErr, Some, None, option_copied, length};
@@ -23,7 +25,7 @@ use crate::bits::Bits;
 use crate::key::IntKey;
 use crate::slot::Slot;
 use crate::steps::Steps;
-use crate::stored::Stored;
+use crate::table::stored::Stored;
 use grow::add_slots;
 use std::alloc::{AllocError, Allocator};
 use std::marker::Model;

@@ -6,7 +6,6 @@ pub mod kept;
 mod key;
 mod slot;
 pub mod steps;
-mod stored;
 pub mod table;
 
 pub use key::IntKey;

@@ -38,7 +38,7 @@ use Rattle.std.specs.declared.option.Option.{Option}
 use Rattle.std.specs.declared.option.Option.TheVariants.{None, Some}
 use Rattle.std.specs.contracts.option.Option as O-type
 use Rattle.std.proofs.option.Option.TheLaws as O-laws
-use Rattle.intmap_table.proofs.stored.Stored.TheLaws as S-laws
+use Rattle.intmap_table.proofs.table.stored.Stored.TheLaws as S-laws
 use Rattle.intmap_table.proofs.kept.Kept.TheLaws as K-laws
 use Rattle.intmap_table.specs.Lending.Apart.{each_at, places_of, contents_of}
 use Rattle.intmap_table.proofs.Lending.OpensLemmas.{Opens}

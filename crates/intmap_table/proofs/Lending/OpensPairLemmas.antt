@@ -30,8 +30,8 @@ use Rattle.intmap_table.specs.declared.key.IntKey as key
 use Rattle.intmap_table.specs.declared.kept.Kept.{Kept}
 use Rattle.intmap_table.specs.contracts.lent.Hole as H-type
 use Rattle.intmap_table.specs.contracts.kept.Kept as K-type
-use Rattle.intmap_table.specs.contracts.stored.Stored as S-type
-use Rattle.intmap_table.proofs.stored.Stored.TheLaws as S-laws
+use Rattle.intmap_table.specs.contracts.table.stored.Stored as S-type
+use Rattle.intmap_table.proofs.table.stored.Stored.TheLaws as S-laws
 use Rattle.intmap_table.proofs.kept.Kept.TheLaws as K-laws
 use Rattle.intmap_table.specs.Lending.Apart.{each_at}
 use Rattle.intmap_table.proofs.Lending.OpensLemmas.{Opens}

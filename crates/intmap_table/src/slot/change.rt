@@ -8,7 +8,8 @@ ghost use Rattle.intmap_table.specs.Writes.{Writes};
 use crate::kept::Kept;
 use crate::key::IntKey;
 use crate::slot::Slot;
-use crate::stored::Stored;
+use crate::table::asked::write_pair;
+use crate::table::stored::Stored;
 use std::alloc::{AllocError, Allocator};
 use std::mem;
 
@@ -210,16 +211,6 @@ impl<K: IntKey, X, A: Allocator + Copy> Slot<K, X, A> {
             None => unreachable!(),
         }
     }
-}
-
-/// Calls the closure at a pair, with a mutable reference to its value.
-#[inline(always)]
-fn write_pair<K: IntKey, V, F: FnMut(K, &mut V)>(pair: &mut (Stored<K>, Kept<V>), f: &mut F)
-    requires { TakesStoredMut F.FnMut f.old pair.old }
-    ensures key { pair.new.0 ≡ pair.old.0 }
-    ensures value { WritesStored F.FnMut f.old pair.old pair.new.1 f.new }
-{
-    f(*pair.0.key(), &mut pair.1.value);
 }
 
 /// Calls the closure at each pair in turn, with a mutable reference to its value.

@@ -7,20 +7,9 @@ ghost use Rattle.intmap_table.specs.Taking.{TakesEach};
 use crate::kept::Kept;
 use crate::key::IntKey;
 use crate::slot::Slot;
-use crate::stored::Stored;
+use crate::table::asked::picks_pair;
+use crate::table::stored::Stored;
 use std::alloc::Allocator;
-
-/// Whether the closure picks a pair. It may write the value.
-#[inline(always)]
-fn picks_pair<K: IntKey, V, F: FnMut(K, &mut V) -> bool>(
-    pair: &mut (Stored<K>, Kept<V>),
-    f: &mut F,
-) -> bool
-    requires { TakesStoredMut F.FnMut f.old pair.old }
-    ensures { PicksStored F.FnMut f.old pair.old result f.new pair.new }
-{
-    f(*pair.0.key(), &mut pair.1.value)
-}
 
 impl<K: IntKey, X, A: Allocator> Slot<K, X, A> {
     /// Removes the pair at a place. Those behind it move up by one place.

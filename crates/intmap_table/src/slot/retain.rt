@@ -7,17 +7,9 @@ ghost use Rattle.intmap_table.specs.Taking.{TakesEach};
 use crate::kept::Kept;
 use crate::key::IntKey;
 use crate::slot::Slot;
-use crate::stored::Stored;
+use crate::table::asked::keeps_pair;
+use crate::table::stored::Stored;
 use std::alloc::Allocator;
-
-/// Whether the closure returns true for a pair.
-#[inline(always)]
-fn keeps_pair<K: IntKey, V, F: FnMut(K, &V) -> bool>(pair: &(Stored<K>, Kept<V>), f: &mut F) -> bool
-    requires { TakesStored F.FnMut f.old pair.now }
-    ensures { KeepsStored F.FnMut f.old pair.now result f.new }
-{
-    f(*pair.0.key(), &pair.1.value)
-}
 
 /// Moves the pairs for which the closure returns true to the front, in their order, and returns
 /// their number.

@@ -11,8 +11,8 @@ use crate::bits::Bits;
 use crate::kept::Kept;
 use crate::key::IntKey;
 use crate::slot::Slot;
-use crate::stored::Stored;
 use crate::table::Table;
+use crate::table::stored::Stored;
 use std::alloc::Allocator;
 
 /// The position of a walk: a place in a slot, and the number of pairs of the walk before it.

@@ -11,8 +11,8 @@ use crate::bits::Bits;
 use crate::key::IntKey;
 use crate::slot::Slot;
 use crate::steps::Steps;
-use crate::stored::Stored;
 use crate::table::place::move_all;
+use crate::table::stored::Stored;
 use crate::table::{Directory, Table, index_of};
 use std::alloc::{AllocError, Allocator};
 

@@ -7,8 +7,8 @@ ghost use Rattle.intmap_table.specs.Walk.{walk_of, slot_of};
 
 use crate::key::IntKey;
 use crate::steps::Steps;
-use crate::stored::Stored;
 use crate::table::Table;
+use crate::table::stored::Stored;
 use std::alloc::Allocator;
 
 /// Where the pair of a key is: its slot, and its place there from the front.

@@ -8,7 +8,7 @@ use crate::bits::Bits;
 use crate::key::IntKey;
 use crate::slot::Slot;
 use crate::steps::Steps;
-use crate::stored::Stored;
+use crate::table::stored::Stored;
 use crate::table::{Directory, index_of};
 use std::alloc::Allocator;
 

@@ -7,7 +7,7 @@ mod retain;
 use crate::memory::prelude::*;
 use crate::proved::table::key::IntKey;
 use crate::proved::table::steps::Steps;
-use crate::proved::table::stored::Stored;
+use crate::proved::table::table::stored::Stored;
 use crate::memory::alloc::{AllocError, Allocator};
 
 /// Pairs in order, with room for further ones. A single pair needs no allocation.

@@ -4,11 +4,13 @@
 //! on a pair whose place is known, `walk`, `each` and `extract` those that go through the pairs,
 //! and `grow` and `place` the growth.
 
+pub(in crate::proved::table) mod asked;
 mod each;
 pub mod extract;
 mod grow;
 pub mod locate;
 mod place;
+pub(in crate::proved::table) mod stored;
 pub mod walk;
 
 use crate::memory::prelude::*;
@@ -16,7 +18,7 @@ use crate::proved::table::bits::Bits;
 use crate::proved::table::key::IntKey;
 use crate::proved::table::slot::Slot;
 use crate::proved::table::steps::Steps;
-use crate::proved::table::stored::Stored;
+use crate::proved::table::table::stored::Stored;
 use grow::add_slots;
 use crate::memory::alloc::{AllocError, Allocator};
 use walk::Pairs;

@@ -4,7 +4,8 @@ use crate::memory::prelude::*;
 use crate::proved::table::kept::Kept;
 use crate::proved::table::key::IntKey;
 use crate::proved::table::slot::Slot;
-use crate::proved::table::stored::Stored;
+use crate::proved::table::table::asked::write_pair;
+use crate::proved::table::table::stored::Stored;
 use crate::memory::alloc::{AllocError, Allocator};
 use core::mem;
 
@@ -143,12 +144,6 @@ impl<K: IntKey, X, A: Allocator + Copy> Slot<K, X, A> {
             None => unreachable!(),
         }
     }
-}
-
-/// Calls the closure at a pair, with a mutable reference to its value.
-#[inline(always)]
-fn write_pair<K: IntKey, V, F: FnMut(K, &mut V)>(pair: &mut (Stored<K>, Kept<V>), f: &mut F) {
-    f(*pair.0.key(), &mut pair.1.value);
 }
 
 /// Calls the closure at each pair in turn, with a mutable reference to its value.

@@ -4,17 +4,9 @@ use crate::memory::prelude::*;
 use crate::proved::table::kept::Kept;
 use crate::proved::table::key::IntKey;
 use crate::proved::table::slot::Slot;
-use crate::proved::table::stored::Stored;
+use crate::proved::table::table::asked::picks_pair;
+use crate::proved::table::table::stored::Stored;
 use crate::memory::alloc::Allocator;
-
-/// Whether the closure picks a pair. It may write the value.
-#[inline(always)]
-fn picks_pair<K: IntKey, V, F: FnMut(K, &mut V) -> bool>(
-    pair: &mut (Stored<K>, Kept<V>),
-    f: &mut F,
-) -> bool {
-    f(*pair.0.key(), &mut pair.1.value)
-}
 
 impl<K: IntKey, X, A: Allocator> Slot<K, X, A> {
     /// Removes the pair at a place. Those behind it move up by one place.

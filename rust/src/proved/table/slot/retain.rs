@@ -4,14 +4,9 @@ use crate::memory::prelude::*;
 use crate::proved::table::kept::Kept;
 use crate::proved::table::key::IntKey;
 use crate::proved::table::slot::Slot;
-use crate::proved::table::stored::Stored;
+use crate::proved::table::table::asked::keeps_pair;
+use crate::proved::table::table::stored::Stored;
 use crate::memory::alloc::Allocator;
-
-/// Whether the closure returns true for a pair.
-#[inline(always)]
-fn keeps_pair<K: IntKey, V, F: FnMut(K, &V) -> bool>(pair: &(Stored<K>, Kept<V>), f: &mut F) -> bool {
-    f(*pair.0.key(), &pair.1.value)
-}
 
 /// Moves the pairs for which the closure returns true to the front, in their order, and returns
 /// their number.

@@ -5,8 +5,8 @@ use crate::proved::table::bits::Bits;
 use crate::proved::table::kept::Kept;
 use crate::proved::table::key::IntKey;
 use crate::proved::table::slot::Slot;
-use crate::proved::table::stored::Stored;
 use crate::proved::table::table::Table;
+use crate::proved::table::table::stored::Stored;
 use crate::memory::alloc::Allocator;
 
 /// The position of a walk: a place in a slot, and the number of pairs of the walk before it.

@@ -5,8 +5,8 @@ use crate::proved::table::bits::Bits;
 use crate::proved::table::key::IntKey;
 use crate::proved::table::slot::Slot;
 use crate::proved::table::steps::Steps;
-use crate::proved::table::stored::Stored;
 use crate::proved::table::table::place::move_all;
+use crate::proved::table::table::stored::Stored;
 use crate::proved::table::table::{Directory, Table, index_of};
 use crate::memory::alloc::{AllocError, Allocator};
 

@@ -3,8 +3,8 @@
 use crate::memory::prelude::*;
 use crate::proved::table::key::IntKey;
 use crate::proved::table::steps::Steps;
-use crate::proved::table::stored::Stored;
 use crate::proved::table::table::Table;
+use crate::proved::table::table::stored::Stored;
 use crate::memory::alloc::Allocator;
 
 /// Where the pair of a key is: its slot, and its place there from the front.

@@ -5,7 +5,7 @@ use crate::proved::table::bits::Bits;
 use crate::proved::table::key::IntKey;
 use crate::proved::table::slot::Slot;
 use crate::proved::table::steps::Steps;
-use crate::proved::table::stored::Stored;
+use crate::proved::table::table::stored::Stored;
 use crate::proved::table::table::{Directory, index_of};
 use crate::memory::alloc::Allocator;
 

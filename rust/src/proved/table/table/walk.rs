@@ -4,8 +4,8 @@ use crate::memory::prelude::*;
 use crate::proved::table::bits::Places;
 use crate::proved::table::key::IntKey;
 use crate::proved::table::slot::Slot;
-use crate::proved::table::stored::Stored;
 use crate::proved::table::table::extract::Cursor;
+use crate::proved::table::table::stored::Stored;
 use crate::proved::table::table::{Directory, Table};
 use crate::memory::alloc::{AllocError, Allocator};
 

@@ -3,7 +3,7 @@ use super::Table;
 use crate::memory::alloc::Allocator;
 use crate::proved::table::bits::Places;
 use crate::proved::table::slot::Slot;
-use crate::proved::table::stored::Stored;
+use crate::proved::table::table::stored::Stored;
 use crate::proved::table::IntKey;
 use core::slice::IterMut;
 

@@ -7,7 +7,7 @@ use std::marker::Model;
 
 /// A stored key. It has no `==`, and its field is private: [`Stored::matches`] returns whether it
 /// is the sought key, and counts one step. [`Stored::key`] is for walks and closures, which hand
-/// keys out, and for the numbers of slots. No search of a slot calls it.
+/// keys out, and for the numbers of slots. A search of a slot can't call it.
 #[derive(Drop)]
 pub struct Stored<K: IntKey> {
     key: K,
@@ -51,7 +51,7 @@ impl<K: IntKey> Stored<K> {
 
     /// The key, to be returned or to compute its slot.
     #[inline(always)]
-    pub(crate) fn key(&self) -> &K
+    pub(in crate::table) fn key(&self) -> &K
         ensures value { result.now ≡ self.now }
         ensures known { K.is_valid self.now }
     {

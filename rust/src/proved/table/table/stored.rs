@@ -6,7 +6,7 @@ use crate::proved::table::steps::Steps;
 
 /// A stored key. It has no `==`, and its field is private: [`Stored::matches`] returns whether it
 /// is the sought key, and counts one step. [`Stored::key`] is for walks and closures, which hand
-/// keys out, and for the numbers of slots. No search of a slot calls it.
+/// keys out, and for the numbers of slots. A search of a slot can't call it.
 pub struct Stored<K: IntKey> {
     key: K,
 }
@@ -34,7 +34,7 @@ impl<K: IntKey> Stored<K> {
 
     /// The key, to be returned or to compute its slot.
     #[inline(always)]
-    pub(in crate::proved::table) fn key(&self) -> &K {
+    pub(in crate::proved::table::table) fn key(&self) -> &K {
         &self.key
     }
 }

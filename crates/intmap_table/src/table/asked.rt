@@ -1,0 +1,44 @@
+//! Closures that are asked about a pair. They get its key, which no search of a slot can read.
+ghost use Rattle.std.specs.Prelude.{◌≡◌};
+ghost use Rattle.intmap_table.specs.Tables.Kept.{KeepsStored, PicksStored, TakesStored, TakesStoredMut, WritesStored};
+
+use crate::kept::Kept;
+use crate::key::IntKey;
+use crate::table::stored::Stored;
+
+/// Whether the closure returns true for a pair.
+#[inline(always)]
+pub(crate) fn keeps_pair<K: IntKey, V, F: FnMut(K, &V) -> bool>(
+    pair: &(Stored<K>, Kept<V>),
+    f: &mut F,
+) -> bool
+    requires { TakesStored F.FnMut f.old pair.now }
+    ensures { KeepsStored F.FnMut f.old pair.now result f.new }
+{
+    f(*pair.0.key(), &pair.1.value)
+}
+
+/// Whether the closure picks a pair. It may write the value.
+#[inline(always)]
+pub(crate) fn picks_pair<K: IntKey, V, F: FnMut(K, &mut V) -> bool>(
+    pair: &mut (Stored<K>, Kept<V>),
+    f: &mut F,
+) -> bool
+    requires { TakesStoredMut F.FnMut f.old pair.old }
+    ensures { PicksStored F.FnMut f.old pair.old result f.new pair.new }
+{
+    f(*pair.0.key(), &mut pair.1.value)
+}
+
+/// Calls the closure at a pair, with a mutable reference to its value.
+#[inline(always)]
+pub(crate) fn write_pair<K: IntKey, V, F: FnMut(K, &mut V)>(
+    pair: &mut (Stored<K>, Kept<V>),
+    f: &mut F,
+)
+    requires { TakesStoredMut F.FnMut f.old pair.old }
+    ensures key { pair.new.0 ≡ pair.old.0 }
+    ensures value { WritesStored F.FnMut f.old pair.old pair.new.1 f.new }
+{
+    f(*pair.0.key(), &mut pair.1.value);
+}

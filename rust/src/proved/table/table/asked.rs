@@ -1,0 +1,33 @@
+//! Closures that are asked about a pair. They get its key, which no search of a slot can read.
+
+use crate::memory::prelude::*;
+use crate::proved::table::kept::Kept;
+use crate::proved::table::key::IntKey;
+use crate::proved::table::table::stored::Stored;
+
+/// Whether the closure returns true for a pair.
+#[inline(always)]
+pub(in crate::proved::table) fn keeps_pair<K: IntKey, V, F: FnMut(K, &V) -> bool>(
+    pair: &(Stored<K>, Kept<V>),
+    f: &mut F,
+) -> bool {
+    f(*pair.0.key(), &pair.1.value)
+}
+
+/// Whether the closure picks a pair. It may write the value.
+#[inline(always)]
+pub(in crate::proved::table) fn picks_pair<K: IntKey, V, F: FnMut(K, &mut V) -> bool>(
+    pair: &mut (Stored<K>, Kept<V>),
+    f: &mut F,
+) -> bool {
+    f(*pair.0.key(), &mut pair.1.value)
+}
+
+/// Calls the closure at a pair, with a mutable reference to its value.
+#[inline(always)]
+pub(in crate::proved::table) fn write_pair<K: IntKey, V, F: FnMut(K, &mut V)>(
+    pair: &mut (Stored<K>, Kept<V>),
+    f: &mut F,
+) {
+    f(*pair.0.key(), &mut pair.1.value);
+}
