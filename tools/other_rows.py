@@ -236,10 +236,10 @@ class Sets:
     def insert_each(self, name, members):
         """Inserts keys in turn. The first refusal ends it, and the keys before that one stay."""
         new = 0
-        for key in members:
+        for place, key in enumerate(members):
             found, self.armed = armed_answer(set_answer, self, f"insert {key}", self.armed)
             if found.startswith("refused"):
-                return found
+                return found if name == "insert_many" else f"stopped at {key} after {place}: {found.split(': ')[1]}"
             new += found == "true"
         return f"{new} new" if name == "insert_many" else "done"
 

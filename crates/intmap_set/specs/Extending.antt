@@ -1,8 +1,9 @@
 -- What inserting keys in turn returns and leaves.
-use Rattle.std.specs.Prelude.{◌≡◌, false, ◌↔◌, ◌⊎◌, ℕ, ◌+◌, ◌^◌, ◌<◌, ◌≤◌, cond, max, List, [], ◌∷◌, length, Option, Some}
+use Rattle.std.specs.Prelude.{◌≡◌, false, ◌↔◌, ◌⊎◌, ℕ, ◌+◌, ◌-◌, ◌^◌, ◌<◌, ◌≤◌, cond, min, max, List, [], ◌∷◌, length, Option, Some}
 use Rattle.std.specs.Iterator.{Drains, YieldsThen}
 use Rattle.intmap.specs.declared.refusal.Cause.{Cause}
 use Rattle.intmap.specs.declared.refusal.Cause.TheVariants.{Memory, TooLarge}
+use Rattle.intmap.specs.declared.refusal.RefusedPair.{RefusedPair}
 use Rattle.intmap.specs.Growth.{IsLeastPower, IsNext}
 use Rattle.intmap.specs.Map.{IsOutOfRange, IsCapacityAfter}
 use Rattle.intmap.specs.Reach.{class_size}
@@ -51,14 +52,15 @@ module _ {K I : Type 0} (number : K → ℕ) (is_valid : K → Type 0) (steps : 
     pub came : Drains steps i keys
     pub extended : IsExtended number is_valid s keys t
 
-  -- the keys that the iterator i gave were inserted in turn up to the first that failed, with this cause
-  pub record ExtendsUpTo (i : I) (s : SetState K) (cause : Cause) (t : SetState K) : Type 0 where
+  -- the keys that the iterator i gave were inserted in turn up to the first that failed, which is returned with the
+  -- cause and the number of those before it, or the greatest number there is if they were more
+  pub record ExtendsUpTo (i : I) (s : SetState K) (refused : RefusedPair K (Unit {0})) (t : SetState K) : Type 0 where
     pub keys : List K
-    pub refused : K
     pub rest : I
-    pub came : YieldsThen steps i keys (Some refused) rest
+    pub came : YieldsThen steps i keys (Some refused.key) rest
     pub extended : IsExtended number is_valid s keys t
-    pub may_refuse : MayRefuse number t refused cause
+    pub may_refuse : MayRefuse number t refused.key refused.cause
+    pub applied : refused.applied ≡ min (length keys) (2 ^ 64 - 1)
 
   -- an empty set with room for b slots was extended by all keys that the iterator i gave
   pub record Collects (i : I) (b : ℕ) (t : SetState K) : Type 0 where
@@ -71,4 +73,5 @@ module _ {K I : Type 0} (number : K → ℕ) (is_valid : K → Type 0) (steps : 
   MayRefuseToCollect i b cause =
       ((cause ≡ TooLarge) × (2 ^ 63 < b))
       ⊎ ((cause ≡ Memory) × (b ≤ 2 ^ 63))
-      ⊎ ((slots : ℕ) × IsLeastPower (max b 2) slots × (t : SetState K) × ExtendsUpTo i (empty_set slots) cause t)
+      ⊎ ((slots : ℕ) × IsLeastPower (max b 2) slots × (refused : RefusedPair K (Unit {0})) × (t : SetState K)
+      × ExtendsUpTo i (empty_set slots) refused t × (cause ≡ refused.cause))

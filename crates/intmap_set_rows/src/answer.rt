@@ -1,6 +1,6 @@
 //! One call, from its name and its numbers to its answer.
 
-use crate::many::{keys_of, with_keys, write_members};
+use crate::many::{keys_of, with_keys, write_extended, write_members};
 use crate::sets::{Set, Sets};
 use intmap::Cause;
 use intmap_row_words::text::{
@@ -40,7 +40,10 @@ fn bare(out: &mut String, sets: &mut Sets<'_>, name: &str) -> Result<(), AllocEr
             write_done(out, Ok(()))
         }
         "clone" => write_done(out, sets.clone_to_other()),
-        "extend_other" => write_done(out, sets.set.extend(sets.other.iter().copied())),
+        "extend_other" => {
+            let called = sets.set.extend(sets.other.iter().copied());
+            write_extended(out, called)
+        }
         "from_union" => {
             let made = IntSet::from_iter(sets.memory, sets.set.union(&sets.other).copied());
             write_done(out, sets.put(made))

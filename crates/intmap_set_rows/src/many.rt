@@ -2,6 +2,7 @@
 ghost use Rattle.std.specs.Iterator.{IsFinite};
 
 use crate::sets::{Set, Sets};
+use intmap::{Cause, RefusedPair};
 use intmap_row_words::text::{no_call, write_done, write_list, write_number, write_refusal};
 use intmap_set::IntSet;
 use std::alloc::{AllocError, Global};
@@ -23,7 +24,7 @@ pub fn with_keys(
     keys: &[u64],
 ) -> Result<(), AllocError> {
     match name {
-        "extend" | "extend_many" => write_done(out, sets.set.extend(keys.iter().copied())),
+        "extend" | "extend_many" => write_extended(out, sets.set.extend(keys.iter().copied())),
         "from_iter" | "from_iter_many" => {
             let made = IntSet::from_iter(sets.memory, keys.iter().copied());
             write_done(out, sets.put(made))
@@ -33,6 +34,28 @@ pub fn with_keys(
         "contains_many" => write_number(out, contains_many(&sets.set, keys) as u128),
         _ => no_call(out),
     }
+}
+
+/// That each key was inserted, or the one at which an insertion failed, how many came before it, and
+/// why.
+pub fn write_extended(
+    out: &mut String,
+    called: Result<(), RefusedPair<u64, ()>>,
+) -> Result<(), AllocError> {
+    let Err(refused) = called else {
+        return write_done(out, Ok(()));
+    };
+    let RefusedPair {
+        key,
+        value: (),
+        applied,
+        cause,
+    } = refused;
+    let cause = match cause {
+        Cause::Memory => "memory",
+        Cause::TooLarge => "too large",
+    };
+    write!(out, "stopped at {key} after {applied}: {cause}")
 }
 
 // inserts each key, and writes how many were new; a refusal ends it

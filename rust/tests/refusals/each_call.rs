@@ -103,7 +103,7 @@ type SetCall = fn(&mut IntSet<u64>) -> Result<(), Cause>;
 const SET_CALLS: [(&str, u64, SetCall); 8] = [
     ("insert", 1, |set| set.try_insert(9).map(drop)),
     ("insert again", 0, |set| set.try_insert(3).map(drop)),
-    ("extend", 1, |set| set.try_extend([9])),
+    ("extend", 1, |set| Ok(set.try_extend([9])?)),
     ("reserve", 3, |set| set.try_reserve(100)),
     ("clone", 2, |set| set.try_clone().map(drop)),
     ("new", 2, |_| IntSet::<u64>::try_new().map(drop)),

@@ -42,7 +42,8 @@ pub use crate::proved::map::Cause;
 ///
 pub use crate::proved::map::Refused;
 
-/// What a failed [`IntMap::try_extend`](crate::IntMap::try_extend) returns.
+/// What a failed [`IntMap::try_extend`](crate::IntMap::try_extend) or
+/// [`IntSet::try_extend`](crate::IntSet::try_extend) returns.
 ///
 /// # Examples
 ///

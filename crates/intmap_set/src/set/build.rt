@@ -5,35 +5,45 @@ ghost use Rattle.intmap_set.specs.Sets.{IsSet};
 ghost use Rattle.intmap_set.specs.Extending.{Extends, ExtendsUpTo, Collects, MayRefuseToCollect};
 
 use crate::set::IntSet;
-use intmap::{Cause, IntKey};
+use intmap::{Cause, IntKey, RefusedPair};
 use std::alloc::Allocator;
 
 impl<K: IntKey, A: Allocator + Copy> IntSet<K, A> {
     /// Inserts the iterator's keys in turn, each as [`insert`](IntSet::insert) does. The table grows
     /// only as these insertions make it grow: nothing is reserved ahead. The iterator must end.
     ///
-    /// It stops at the first insertion that fails, and returns its cause, without the key. The keys
-    /// inserted before it stay members. The iterator is dropped, with the keys that it hasn't
-    /// given.
+    /// It stops at the first insertion that fails, and returns that key with the cause and the
+    /// number of keys before it. Those keys stay members. The iterator is dropped, with the keys
+    /// that it hasn't given. With `?`, a caller that returns a [`Cause`] drops the key.
     ///
     /// ```text
     /// set.extend(other.iter().copied())?    this set has the members of both
     /// ```
-    pub fn extend<I: Iterator<Item = K> + Drop>(&mut self, iter: I) -> Result<(), Cause>
+    pub fn extend<I: Iterator<Item = K> + Drop>(
+        &mut self,
+        iter: I,
+    ) -> Result<(), RefusedPair<K, ()>>
         requires can { I.can_next iter }
         requires ends { IsFinite (I.remaining iter) }
         ensures extends { OnOk result
             (Extends K.number_of K.is_valid I.next_gives iter self.old self.new) }
-        ensures stops { IfErr result (λ cause.
-            ExtendsUpTo K.number_of K.is_valid I.next_gives iter self.old cause self.new) }
+        ensures stops { IfErr result (λ refused.
+            ExtendsUpTo K.number_of K.is_valid I.next_gives iter self.old refused self.new) }
         ensures valid { IsSet K.number_of K.is_valid self.old }
         ensures valid_after { IsSet K.number_of K.is_valid self.new }
     {
         self.known();
+        let mut applied: usize = 0;
         for key in iter {
             if let Err(cause) = self.insert(key) {
-                return Err(cause);
+                return Err(RefusedPair {
+                    key,
+                    value: (),
+                    applied,
+                    cause,
+                });
             }
+            applied = applied.saturating_add(1);
         }
         Ok(())
     }
@@ -41,7 +51,7 @@ impl<K: IntKey, A: Allocator + Copy> IntSet<K, A> {
     /// A set of the iterator's keys: [`with_capacity`](IntSet::with_capacity) of the lower bound of
     /// its `size_hint`, and then [`extend`](IntSet::extend). The iterator must end.
     ///
-    /// It fails if either call fails, with the same cause, and then drops everything.
+    /// It fails if either call fails and for the same cause. Then it drops everything.
     ///
     /// ```text
     /// IntSet::from_iter(alloc, first.union(&second).copied())?    a set of the members of both
@@ -58,7 +68,7 @@ impl<K: IntKey, A: Allocator + Copy> IntSet<K, A> {
         let mut set = IntSet::with_capacity(alloc, lower)?;
         match set.extend(iter) {
             Ok(()) => Ok(set),
-            Err(cause) => Err(cause),
+            Err(refused) => Err(refused.cause),
         }
     }
 }

@@ -1,5 +1,6 @@
 //! Calls on many members.
 use super::{Cause, Drain, Global, IntKey, IntSet, Iter, Mending, Proved, mem};
+use crate::refusal::RefusedPair;
 
 impl<K: IntKey> IntSet<K> {
     /// Returns an iterator over the members, in iteration order. It doesn't allocate. All steps
@@ -69,20 +70,23 @@ impl<K: IntKey> IntSet<K> {
     ///
     /// # Errors
     ///
-    /// Those of [`try_insert`](IntSet::try_insert). The keys before it stay members, and the rest
-    /// of the iterator is dropped.
+    /// Those of [`try_insert`](IntSet::try_insert), with the key that failed, `()` as its value, and
+    /// the number of keys before it. Those stay members, and the rest of the iterator is dropped.
     ///
     /// # Examples
     ///
     /// ```
-    /// use intmap_proved::{Cause, IntSet};
+    /// use intmap_proved::{IntSet, RefusedPair};
     ///
     /// let mut set = IntSet::new();
     /// set.try_extend([21u64, 22])?;
     /// assert_eq!(set.len(), 2);
-    /// # Ok::<(), Cause>(())
+    /// # Ok::<(), RefusedPair<u64, ()>>(())
     /// ```
-    pub fn try_extend<I: IntoIterator<Item = K>>(&mut self, keys: I) -> Result<(), Cause> {
+    pub fn try_extend<I>(&mut self, keys: I) -> Result<(), RefusedPair<K, ()>>
+    where
+        I: IntoIterator<Item = K>,
+    {
         let guard = Mending(&mut self.set);
         let result = guard.0.extend(keys.into_iter());
         mem::forget(guard);

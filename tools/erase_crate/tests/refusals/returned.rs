@@ -1,6 +1,6 @@
 //! What a failed call returns to its caller.
 use crate::allocator::failing_at;
-use intmap_proved::{Cause, Entry, IntMap, Refused, RefusedPair};
+use intmap_proved::{Cause, Entry, IntMap, IntSet, Refused, RefusedPair};
 
 fn texts(keys: u64) -> IntMap<u64, String> {
     (0..keys).map(|key| (key, key.to_string())).collect()
@@ -57,6 +57,21 @@ fn a_failed_extension_returns_its_pair_and_how_many_were_inserted() {
         assert_eq!((key, value, cause), (6 + applied as u64, 7 + applied as u64, Cause::Memory));
         assert_eq!(map.len(), 6 + applied, "request {number}");
         assert!(map.contains_key(key - 1) && !map.contains_key(key), "request {number}");
+    }
+}
+
+#[test]
+fn a_failed_extension_of_a_set_returns_its_key_and_how_many_were_inserted() {
+    for number in 1..20 {
+        let mut set: IntSet<u64> = (0..6).collect();
+        let (returned, failed) = failing_at(number, || set.try_extend(6..100));
+        let Err(RefusedPair { key, value: (), applied, cause }) = returned else {
+            assert!(!failed, "request {number}");
+            continue;
+        };
+        assert_eq!((key, cause), (6 + applied as u64, Cause::Memory));
+        assert_eq!(set.len(), 6 + applied, "request {number}");
+        assert!(set.contains(key - 1) && !set.contains(key), "request {number}");
     }
 }
 

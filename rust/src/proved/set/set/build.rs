@@ -2,22 +2,32 @@
 
 use crate::memory::prelude::*;
 use crate::proved::set::set::IntSet;
-use crate::proved::map::{Cause, IntKey};
+use crate::proved::map::{Cause, IntKey, RefusedPair};
 use crate::memory::alloc::Allocator;
 
 impl<K: IntKey, A: Allocator + Copy> IntSet<K, A> {
     /// Inserts the iterator's keys in turn, each as [`insert`](IntSet::insert) does. The table grows
     /// only as these insertions make it grow: nothing is reserved ahead. The iterator must end.
     ///
-    /// It stops at the first insertion that fails, and returns its cause, without the key. The keys
-    /// inserted before it stay members. The iterator is dropped, with the keys that it hasn't
-    /// given.
-    pub fn extend<I: Iterator<Item = K>>(&mut self, iter: I) -> Result<(), Cause> {
+    /// It stops at the first insertion that fails, and returns that key with the cause and the
+    /// number of keys before it. Those keys stay members. The iterator is dropped, with the keys
+    /// that it hasn't given. With `?`, a caller that returns a [`Cause`] drops the key.
+    pub fn extend<I: Iterator<Item = K>>(
+        &mut self,
+        iter: I,
+    ) -> Result<(), RefusedPair<K, ()>> {
         self.known();
+        let mut applied: usize = 0;
         for key in iter {
             if let Err(cause) = self.insert(key) {
-                return Err(cause);
+                return Err(RefusedPair {
+                    key,
+                    value: (),
+                    applied,
+                    cause,
+                });
             }
+            applied = applied.saturating_add(1);
         }
         Ok(())
     }
@@ -25,13 +35,13 @@ impl<K: IntKey, A: Allocator + Copy> IntSet<K, A> {
     /// A set of the iterator's keys: [`with_capacity`](IntSet::with_capacity) of the lower bound of
     /// its `size_hint`, and then [`extend`](IntSet::extend). The iterator must end.
     ///
-    /// It fails if either call fails, with the same cause, and then drops everything.
+    /// It fails if either call fails and for the same cause. Then it drops everything.
     pub fn from_iter<I: Iterator<Item = K>>(alloc: A, iter: I) -> Result<IntSet<K, A>, Cause> {
         let (lower, _) = iter.size_hint();
         let mut set = IntSet::with_capacity(alloc, lower)?;
         match set.extend(iter) {
             Ok(()) => Ok(set),
-            Err(cause) => Err(cause),
+            Err(refused) => Err(refused.cause),
         }
     }
 }

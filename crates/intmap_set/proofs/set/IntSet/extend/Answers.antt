@@ -1,6 +1,7 @@
 -- The keys of an iterator are inserted one after another, and an induction over them is beyond the search.
-use Rattle.std.proofs.Common.{sym, subst, rules}
+use Rattle.std.proofs.Common.{sym, subst, arith, rules}
 use Rattle.std.specs.Iterator.{Yields}
+use Rattle.std.proofs.lemmas.List.{length_push}
 use Rattle.intmap_set.specs.Extending.{Inserts, IsExtended, MayRefuse}
 use Rattle.intmap_set.proofs.CallLemmas.{IsErrOf-ok}
 use Rattle.intmap_set.proofs.ExtendLemmas.{IsExtended-push, inserted-state, may_refuse-err}
@@ -19,8 +20,9 @@ loop-key-preserved g c =
     } in (
       search rules,
       IsExtended-push number is_valid c.args.self.now before after c.loop-key.yielded key kept.1 last c.in_default.field-0 e.new e.updates.0 e.len,
+      omega (arith, c.saturating_add-applied.ensures, kept.2, length_push c.loop-key.yielded key),
       c.insert.ensures.valid_after,
-      kept.3,
+      kept.4,
     )
 
 pub returns-in-Err-clause-stops : goal.returns-in-Err-clause-stops
@@ -28,7 +30,6 @@ returns-in-Err-clause-stops g c =
     let gives = g.I.Iterator.next_gives in let keys = c.loop-key.yielded in let e = c.in-Err.ensures in
     record {
       keys = keys;
-      refused = c.in-Some.key;
       rest = c.next.new.self;
       came = (
         c.loop-key.key-iterator,
@@ -38,4 +39,5 @@ returns-in-Err-clause-stops g c =
       extended = subst (λ s. IsExtended g.K.IntKey.number_of g.K.IntKey.is_valid c.args.self.now keys s) (sym e.err) c.loop-key.invariant.1;
       may_refuse = subst (λ s. MayRefuse g.K.IntKey.number_of s c.in-Some.key c.in-Err.cause) (sym e.err)
           (may_refuse-err g.K.IntKey.number_of c.loop-key.self c.in-Some.key c.in-Err.cause e.new_key e.too_large e.memory);
+      applied = c.loop-key.invariant.2;
     }
