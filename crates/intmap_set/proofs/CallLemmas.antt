@@ -6,8 +6,8 @@ use Rattle.intmap.specs.Growth.{IsNext, IsLeastPower}
 use Rattle.intmap.specs.Map.{MapState, IsOutOfRange, IsCapacityAfter, after_search, after_insert, after_remove}
 use Rattle.intmap.specs.Map as of_map
 use Rattle.intmap.specs.Reach.{class_size}
-use Rattle.intmap_set.specs.Sets.{SetState, paired, set_of, with_key, without_key, in_slots}
-use Rattle.intmap_set.proofs.MemberLemmas.{length-paired, length-seen, paired-keys_of, paired-seen}
+use Rattle.intmap_set.specs.Sets.{SetState, load_factor, paired, set_of, with_key, without_key, in_slots}
+use Rattle.intmap_set.proofs.MemberLemmas.{factor-seen, length-paired, length-seen, paired-keys_of}
 
 -- an error is of its own cause alone
 IsErrOf-cause : {T E : Type 0} (r : Result T E) (cause d : E) → IsErrAnd r (λ e. e ≡ cause) → IsErrOf r d ↔ (cause ≡ d)
@@ -44,33 +44,33 @@ module _ {K : Type 0} (number : K → ℕ) (m n : MapState K (Unit {0})) (s : Se
       ap set_of state ∙ ap (λ L. set_of (of_map.without_key number (record m { walk = L }) k)) (sym (paired-keys_of m.walk)) ∙ ap (λ t. without_key number t k) seen
 
   -- the capacity of the map is the capacity of the set
-  pub IsCapacityAfter-seen : IsCapacityAfter number m.walk m.capacity m.factor k n.capacity → IsCapacityAfter number (paired s.walk) s.capacity s.factor k n.capacity
-  IsCapacityAfter-seen is = subst (λ t. IsCapacityAfter number t.0 t.1 t.2 k n.capacity) (paired-seen m s seen) is
+  pub IsCapacityAfter-seen : m.factor ≡ load_factor → IsCapacityAfter number m.walk m.capacity m.factor k n.capacity → IsCapacityAfter number (paired s.walk) s.capacity load_factor k n.capacity
+  IsCapacityAfter-seen kept is = subst (λ t. IsCapacityAfter number t.0 t.1 t.2 k n.capacity) (factor-seen m s seen kept) is
 
   -- a failure by the map is one by the set
-  pub refused-seen : (r : Result Bool Cause) (cause d : Cause) → IsErrAnd r (λ e. e ≡ cause) → (cause ≡ d) ↔ IsOutOfRange number m.walk m.capacity m.factor k
-      → IsErrOf r d ↔ IsOutOfRange number (paired s.walk) s.capacity s.factor k
-  refused-seen r cause d is iff =
-      let of = IsErrOf-cause r cause d is in let pairs = paired-seen m s seen in (
+  pub refused-seen : m.factor ≡ load_factor → (r : Result Bool Cause) (cause d : Cause) → IsErrAnd r (λ e. e ≡ cause) → (cause ≡ d) ↔ IsOutOfRange number m.walk m.capacity m.factor k
+      → IsErrOf r d ↔ IsOutOfRange number (paired s.walk) s.capacity load_factor k
+  refused-seen kept r cause d is iff =
+      let of = IsErrOf-cause r cause d is in let pairs = factor-seen m s seen kept in (
         λ err. subst (λ t. IsOutOfRange number t.0 t.1 t.2 k) pairs (iff.0 (of.0 err)),
         λ beyond. of.1 (iff.1 (subst (λ t. IsOutOfRange number t.0 t.1 t.2 k) (sym pairs) beyond)),
       )
 
   -- if nothing fails, no key is out of range
-  pub accepted-seen : (new : Bool) (d : Cause) → ⊥ ↔ IsOutOfRange number m.walk m.capacity m.factor k
-      → IsErrOf {T = Bool} (Ok new) d ↔ IsOutOfRange number (paired s.walk) s.capacity s.factor k
-  accepted-seen new d iff = (
+  pub accepted-seen : m.factor ≡ load_factor → (new : Bool) (d : Cause) → ⊥ ↔ IsOutOfRange number m.walk m.capacity m.factor k
+      → IsErrOf {T = Bool} (Ok new) d ↔ IsOutOfRange number (paired s.walk) s.capacity load_factor k
+  accepted-seen kept new d iff = (
     λ err. absurd (IsErrOf-ok new d err),
-    λ beyond. absurd (iff.1 (subst (λ t. IsOutOfRange number t.0 t.1 t.2 k) (sym (paired-seen m s seen)) beyond)),
+    λ beyond. absurd (iff.1 (subst (λ t. IsOutOfRange number t.0 t.1 t.2 k) (sym (factor-seen m s seen kept)) beyond)),
   )
 
   -- want of memory has one cause in both
-  pub memory-seen : (r : Result Bool Cause) (cause d : Cause) → IsErrAnd r (λ e. e ≡ cause)
+  pub memory-seen : m.factor ≡ load_factor → (r : Result Bool Cause) (cause d : Cause) → IsErrAnd r (λ e. e ≡ cause)
       → (cause ≡ d → IsNext m.capacity (length m.walk + 1) m.factor m.capacity → 0 < class_size number m.walk m.capacity k)
-      → IsErrOf r d → IsNext s.capacity (length s.walk + 1) s.factor s.capacity → 0 < class_size number (paired s.walk) s.capacity k
-  memory-seen r cause d is memory err next =
-      subst (λ t. IsNext t.1 (length t.0 + 1) t.2 t.1 → 0 < class_size number t.0 t.1 k) (paired-seen m s seen) (memory ((IsErrOf-cause r cause d is).0 err))
-      (subst (λ l. IsNext s.capacity (l + 1) s.factor s.capacity) (sym (length-paired s.walk)) next)
+      → IsErrOf r d → IsNext s.capacity (length s.walk + 1) load_factor s.capacity → 0 < class_size number (paired s.walk) s.capacity k
+  memory-seen kept r cause d is memory err next =
+      subst (λ t. IsNext t.1 (length t.0 + 1) t.2 t.1 → 0 < class_size number t.0 t.1 k) (factor-seen m s seen kept) (memory ((IsErrOf-cause r cause d is).0 err))
+      (subst (λ l. IsNext s.capacity (l + 1) load_factor s.capacity) (sym (length-paired s.walk)) next)
 
 module _ {K : Type 0} (number : K → ℕ) (m n : MapState K (Unit {0})) (s : SetState K) (seen : set_of m ≡ s) where
   -- growth of the map is growth of the set

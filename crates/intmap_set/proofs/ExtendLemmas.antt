@@ -11,7 +11,7 @@ use Rattle.intmap.specs.Reach.{class_size}
 use Rattle.intmap.specs.Bindings.{value_of}
 use Rattle.intmap.specs.Classes.{same_key}
 use Rattle.intmap.proofs.CostLemmas.{capacity-not_less}
-use Rattle.intmap_set.specs.Sets.{SetState, holds, paired, with_key}
+use Rattle.intmap_set.specs.Sets.{SetState, holds, load_factor, paired, with_key}
 use Rattle.intmap_set.specs.EqualityLaws.{holds-same_number}
 use Rattle.intmap_set.specs.Extending.{new_keys, Inserts, InsertsAll, IsExtended, MayRefuse}
 
@@ -91,18 +91,13 @@ module _ {K : Type 0} (number : K → ℕ) (is_valid : K → Type 0) where
 
   -- no insertion
   pub IsExtended-nil : (s : SetState K) → IsExtended number is_valid s [] s
-  IsExtended-nil s = record { inserted = refl; members = λ q. or-none (holds number s.walk q); len = sym (add-zero (length s.walk)); factor = refl; capacity = omega arith }
+  IsExtended-nil s = record { inserted = refl; members = λ q. or-none (holds number s.walk q); len = sym (add-zero (length s.walk)); capacity = omega arith }
     where
       or-none : (b : Bool) → b ≡ (b || false)
       or-none true = refl
       or-none false = refl
 
   module _ (s u t : SetState K) (ks : List K) (k : K) (before : IsExtended number is_valid s ks u) (last : Inserts number is_valid u k t) where
-    -- the load factor stays
-    kept_factor : (b : Bool) → t ≡ cond b u (with_key number u k t.capacity) → t.factor ≡ u.factor
-    kept_factor true state = ap (λ x. x.factor) state
-    kept_factor false state = ap (λ x. x.factor) state
-
     -- one insertion more that returned this, by what it says of members and length
     pub IsExtended-push : (new : Bool) → new ≡ not (holds number u.walk k) → ((q : K) → holds number t.walk q ≡ cond (same_key number k q) true (holds number u.walk q))
         → length t.walk ≡ length u.walk + cond new 1 0 → IsExtended number is_valid s (ks ++ k ∷ []) t
@@ -118,9 +113,8 @@ module _ {K : Type 0} (number : K → ℕ) (is_valid : K → Type 0) where
           ap (λ b. cond b 1 0) is ∙ cond-not (holds number u.walk k) ∙ ap (λ b. cond b 0 1) (before.members k) in
           let start = before.len in
           omega (arith, len, more, counted, start));
-      factor = kept_factor (holds number u.walk k) last.state ∙ before.factor;
       capacity =
-          (let kept = capacity-not_less (value_of number (paired u.walk) k) u.capacity (length (paired u.walk) + 1) u.factor t.capacity last.capacity in
+          (let kept = capacity-not_less (value_of number (paired u.walk) k) u.capacity (length (paired u.walk) + 1) load_factor t.capacity last.capacity in
           let start = before.capacity in
           omega (arith, kept, start));
     }
@@ -131,8 +125,8 @@ refusal_of T E e = Err e
 
 -- what a failed insertion says of the key
 pub may_refuse-err : {K : Type 0} (number : K → ℕ) (s : SetState K) (k : K) (cause : Cause) → holds number s.walk k ≡ false
-    → (refusal_of Bool Cause cause ≡ Err TooLarge) ↔ IsOutOfRange number (paired s.walk) s.capacity s.factor k
-    → (refusal_of Bool Cause cause ≡ Err Memory → IsNext s.capacity (length s.walk + 1) s.factor s.capacity → 0 < class_size number (paired s.walk) s.capacity k)
+    → (refusal_of Bool Cause cause ≡ Err TooLarge) ↔ IsOutOfRange number (paired s.walk) s.capacity load_factor k
+    → (refusal_of Bool Cause cause ≡ Err Memory → IsNext s.capacity (length s.walk + 1) load_factor s.capacity → 0 < class_size number (paired s.walk) s.capacity k)
     → MayRefuse number s k cause
 may_refuse-err number s k cause new_key too_large memory = record {
   new_key = new_key;

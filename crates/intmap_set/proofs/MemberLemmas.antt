@@ -6,7 +6,7 @@ use Rattle.std.specs.Map.{keys_of}
 use Rattle.intmap.specs.Classes.{same_key}
 use Rattle.intmap.specs.Bindings.{value_of}
 use Rattle.intmap.specs.Map.{MapState, IsMap, IsMapWalk}
-use Rattle.intmap_set.specs.Sets.{SetState, paired, holds, set_of, Updates, IsSet}
+use Rattle.intmap_set.specs.Sets.{SetState, load_factor, paired, holds, set_of, Updates, IsSet}
 use Rattle.intmap.specs.Bindings as of_map
 
 module _ {K : Type 0} where
@@ -17,8 +17,13 @@ module _ {K : Type 0} where
 
   -- and so are the members of the set of a map
   pub paired-seen : (m : MapState K (Unit {0})) (s : SetState K) → set_of m ≡ s
-      → ◌≡◌ {A = List (K × Unit {0}) × ℕ × ℕ} (m.walk, m.capacity, m.factor) (paired s.walk, s.capacity, s.factor)
-  paired-seen m s seen = ap (λ L. (L, m.capacity, m.factor)) (sym (paired-keys_of m.walk)) ∙ ap (λ t. (paired t.walk, t.capacity, t.factor)) seen
+      → ◌≡◌ {A = List (K × Unit {0}) × ℕ} (m.walk, m.capacity) (paired s.walk, s.capacity)
+  paired-seen m s seen = ap (λ L. (L, m.capacity)) (sym (paired-keys_of m.walk)) ∙ ap (λ t. (paired t.walk, t.capacity)) seen
+
+  -- with the load factor of every set
+  pub factor-seen : (m : MapState K (Unit {0})) (s : SetState K) → set_of m ≡ s → m.factor ≡ load_factor
+      → ◌≡◌ {A = List (K × Unit {0}) × ℕ × ℕ} (m.walk, m.capacity, m.factor) (paired s.walk, s.capacity, load_factor)
+  factor-seen m s seen kept i = let pairs = paired-seen m s seen i in (pairs.0, pairs.1, kept i)
 
   -- there is one pair for each member
   pub length-paired : (W : List K) → length (paired W) ≡ length W
@@ -69,5 +74,6 @@ module _ {K : Type 0} (number : K → ℕ) where
   same-seen m n s seen same q = holds-keys_of n.walk q ∙ ap is_some (same q) ∙ sym (holds-seen m s q seen)
 
   -- the keys of a map are a set
-  pub IsSet-seen : (is_valid : K → Type 0) (m : MapState K (Unit {0})) (s : SetState K) → set_of m ≡ s → IsMap number is_valid m → IsSet number is_valid s
-  IsSet-seen is_valid m s seen is = subst (λ t. IsMapWalk number is_valid t.0 t.1 t.2) (paired-seen m s seen) is
+  pub IsSet-seen : (is_valid : K → Type 0) (m : MapState K (Unit {0})) (s : SetState K) → set_of m ≡ s → m.factor ≡ load_factor
+      → IsMap number is_valid m → IsSet number is_valid s
+  IsSet-seen is_valid m s seen kept is = subst (λ t. IsMapWalk number is_valid t.0 t.1 t.2) (factor-seen m s seen kept) is

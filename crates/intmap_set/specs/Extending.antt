@@ -7,7 +7,7 @@ use Rattle.intmap.specs.declared.refusal.RefusedPair.{RefusedPair}
 use Rattle.intmap.specs.Growth.{IsLeastPower, IsNext}
 use Rattle.intmap.specs.Map.{IsOutOfRange, IsCapacityAfter}
 use Rattle.intmap.specs.Reach.{class_size}
-use Rattle.intmap_set.specs.Sets.{SetState, IsSet, empty_set, holds, paired, with_key}
+use Rattle.intmap_set.specs.Sets.{SetState, IsSet, empty_set, holds, load_factor, paired, with_key}
 use Rattle.intmap_set.specs.Combined.{IsUnion}
 
 module _ {K : Type 0} (number : K → ℕ) where
@@ -20,14 +20,14 @@ module _ {K : Type 0} (number : K → ℕ) where
   -- for want of memory never if the capacity stays and no member shares its slot
   pub record MayRefuse (s : SetState K) (k : K) (cause : Cause) : Type 0 where
     pub new_key : holds number s.walk k ≡ false
-    pub too_large : (cause ≡ TooLarge) ↔ IsOutOfRange number (paired s.walk) s.capacity s.factor k
-    pub memory : cause ≡ Memory → IsNext s.capacity (length s.walk + 1) s.factor s.capacity → 0 < class_size number (paired s.walk) s.capacity k
+    pub too_large : (cause ≡ TooLarge) ↔ IsOutOfRange number (paired s.walk) s.capacity load_factor k
+    pub memory : cause ≡ Memory → IsNext s.capacity (length s.walk + 1) load_factor s.capacity → 0 < class_size number (paired s.walk) s.capacity k
 
 module _ {K : Type 0} (number : K → ℕ) (is_valid : K → Type 0) where
   -- a successful insertion of k took the set s to t
   pub record Inserts (s : SetState K) (k : K) (t : SetState K) : Type 0 where
-    pub in_range : IsOutOfRange number (paired s.walk) s.capacity s.factor k → ⊥
-    pub capacity : IsCapacityAfter number (paired s.walk) s.capacity s.factor k t.capacity
+    pub in_range : IsOutOfRange number (paired s.walk) s.capacity load_factor k → ⊥
+    pub capacity : IsCapacityAfter number (paired s.walk) s.capacity load_factor k t.capacity
     pub state : t ≡ cond (holds number s.walk k) s (with_key number s k t.capacity)
     pub set : IsSet number is_valid t
 
@@ -37,12 +37,11 @@ module _ {K : Type 0} (number : K → ℕ) (is_valid : K → Type 0) where
   InsertsAll s (k ∷ ks) t = (u : SetState K) × Inserts s k u × InsertsAll u ks t
 
   -- the keys were inserted in turn, and none failed: they are members, and so is each old member, there is one member more for each new
-  -- key, the load factor stays, and there are no fewer slots
+  -- key, and there are no fewer slots
   pub record IsExtended (s : SetState K) (ks : List K) (t : SetState K) : Type 0 where
     pub inserted : InsertsAll s ks t
     pub members : IsUnion number s.walk ks t.walk
     pub len : length t.walk ≡ length s.walk + length (new_keys number s.walk ks)
-    pub factor : t.factor ≡ s.factor
     pub capacity : s.capacity ≤ t.capacity
 
 module _ {K I : Type 0} (number : K → ℕ) (is_valid : K → Type 0) (steps : I → Option K → I → Type 0) where

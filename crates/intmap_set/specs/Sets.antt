@@ -6,11 +6,14 @@ use Rattle.intmap.specs.Classes.{same_key}
 use Rattle.intmap.specs.Map as of_map
 use Rattle.intmap.specs.Walk as of_walk
 
--- the members in the order of the walk, the number of slots, and the load factor in thousandths
+-- the members in the order of the walk, and the number of slots
 pub record SetState (K : Type 0) : Type 0 where
   pub walk : List K
   pub capacity : ℕ
-  pub factor : ℕ
+
+-- the load factor of every set, in thousandths
+abbrev pub load_factor : ℕ
+load_factor = 909
 
 module _ {K : Type 0} where
   -- each member with the value ()
@@ -19,15 +22,15 @@ module _ {K : Type 0} where
 
   -- the map from each member to (), its counts at zero
   abbrev pub as_map : SetState K → of_map.MapState K (Unit {0})
-  as_map s = record { walk = paired s.walk; capacity = s.capacity; factor = s.factor; placed = 0; compared = 0 }
+  as_map s = record { walk = paired s.walk; capacity = s.capacity; factor = load_factor; placed = 0; compared = 0 }
 
   -- the set of the keys of a map
   abbrev pub set_of : of_map.MapState K (Unit {0}) → SetState K
-  set_of m = record { walk = keys_of m.walk; capacity = m.capacity; factor = m.factor }
+  set_of m = record { walk = keys_of m.walk; capacity = m.capacity }
 
   -- a new set of C slots
   abbrev pub empty_set : ℕ → SetState K
-  empty_set C = record { walk = []; capacity = C; factor = 909 }
+  empty_set C = record { walk = []; capacity = C }
 
   -- the set without its members
   abbrev pub emptied : SetState K → SetState K

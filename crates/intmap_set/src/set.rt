@@ -24,19 +24,23 @@ use std::marker::Model;
 /// slot of an `IntMap<u64, u64>` takes 48 bytes and a bit. With keys of at most 4 bytes a slot of a
 /// set takes 32 bytes and a bit.
 ///
-/// Contracts see a set as a [`SetState`](../specs/Sets.antt): its walk, its number of slots and its
-/// load factor in thousandths. Whether a key is a member is `holds` of the walk.
+/// Contracts see a set as a [`SetState`](../specs/Sets.antt): its walk and its number of slots. The
+/// load factor of every set is `load_factor`, 909 thousandths. Whether a key is a member is `holds`
+/// of the walk.
 #[derive(Drop)]
 pub struct IntSet<K: IntKey, A: Allocator + Copy = Global> {
     map: IntMap<K, (), A>,
 }
 
 impl<K: IntKey, A: Allocator + Copy> Model for IntSet<K, A> {
-    ghost use Rattle.intmap_set.specs.Sets.{SetState, set_of};
+    ghost use Rattle.std.specs.Prelude.{◌≡◌};
+    ghost use Rattle.intmap_set.specs.Sets.{SetState, load_factor, set_of};
 
     ghost Value = { SetState K };
 
     ghost view = { λ set. set_of set.map };
+
+    ghost invariant = { λ set. set.map.factor ≡ load_factor };
 }
 
 impl<K: IntKey, A: Allocator + Copy> IntSet<K, A> {

@@ -19,6 +19,7 @@ pub mod refusals;
 pub mod retained;
 pub mod scopes;
 pub mod session;
+pub mod sets;
 pub mod settings;
 pub mod tally;
 pub mod threads;

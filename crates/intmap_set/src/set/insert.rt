@@ -3,7 +3,7 @@ ghost use Rattle.std.specs.Prelude.{◌≡◌, ◌↔◌, ℕ, ◌+◌, ◌^◌,
 ghost use Rattle.intmap.specs.Growth.{IsLeastPower, IsNext};
 ghost use Rattle.intmap.specs.Map.{IsOutOfRange, IsCapacityAfter};
 ghost use Rattle.intmap.specs.Reach.{class_size};
-ghost use Rattle.intmap_set.specs.Sets.{IsSet, Updates, empty_set, holds, paired, with_key, in_slots};
+ghost use Rattle.intmap_set.specs.Sets.{IsSet, Updates, empty_set, holds, load_factor, paired, with_key, in_slots};
 
 use crate::set::IntSet;
 use intmap::{Cause, IntKey, IntMap};
@@ -55,7 +55,7 @@ impl<K: IntKey, A: Allocator + Copy> IntSet<K, A> {
         // what is returned and left
         ensures new { IfOk result (λ new. new ≡ not (holds K.number_of self.old.walk key)) }
         ensures capacity { OnOk result (IsCapacityAfter K.number_of (paired self.old.walk)
-            self.old.capacity self.old.factor key self.new.capacity) }
+            self.old.capacity load_factor key self.new.capacity) }
         ensures state { IfOk result (λ new. MatchBool new
             (self.new ≡ with_key K.number_of self.old key self.new.capacity)
             (self.new ≡ self.old)) }
@@ -68,9 +68,9 @@ impl<K: IntKey, A: Allocator + Copy> IntSet<K, A> {
         // when it fails
         ensures new_key { OnErr result (holds K.number_of self.old.walk key ≡ false) }
         ensures too_large { IsErrOf result Cause.TooLarge
-            ↔ IsOutOfRange K.number_of (paired self.old.walk) self.old.capacity self.old.factor key }
+            ↔ IsOutOfRange K.number_of (paired self.old.walk) self.old.capacity load_factor key }
         ensures memory { IsErrOf result Cause.Memory
-            → IsNext self.old.capacity (length self.old.walk + 1) self.old.factor self.old.capacity
+            → IsNext self.old.capacity (length self.old.walk + 1) load_factor self.old.capacity
             → 0 < class_size K.number_of (paired self.old.walk) self.old.capacity key }
 
         ensures valid { IsSet K.number_of K.is_valid self.old }

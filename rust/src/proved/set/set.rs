@@ -22,8 +22,9 @@ use crate::memory::alloc::{Allocator, Global};
 /// slot of an `IntMap<u64, u64>` takes 48 bytes and a bit. With keys of at most 4 bytes a slot of a
 /// set takes 32 bytes and a bit.
 ///
-/// Contracts see a set as a [`SetState`](../specs/Sets.antt): its walk, its number of slots and its
-/// load factor in thousandths. Whether a key is a member is `holds` of the walk.
+/// Contracts see a set as a [`SetState`](../specs/Sets.antt): its walk and its number of slots. The
+/// load factor of every set is `load_factor`, 909 thousandths. Whether a key is a member is `holds`
+/// of the walk.
 pub struct IntSet<K: IntKey, A: Allocator + Copy = Global> {
     map: IntMap<K, (), A>,
 }

@@ -2,4 +2,4 @@ use Rattle.intmap_set.proofs.MemberLemmas.{IsSet-seen}
 use Rattle.intmap_set.proofs.set.IntSet.len.Goals as goal
 
 pub returns-clause-valid : goal.returns-clause-valid
-returns-clause-valid g c = IsSet-seen _ _ c.self.inside.map _ c.self.view_is c.len.ensures.valid
+returns-clause-valid g c = IsSet-seen _ _ c.self.inside.map _ c.self.view_is c.self.invariant c.len.ensures.valid

@@ -1,4 +1,4 @@
-use Rattle.std.proofs.Common.{refl}
+use Rattle.std.proofs.Common.{refl, rules}
 use Rattle.intmap.proofs.EntryLemmas.{OnOk-so}
 use Rattle.intmap_set.proofs.MemberLemmas.{IsSet-seen, same-seen}
 use Rattle.intmap_set.proofs.CallLemmas.{in_slots-seen, reserved-seen}
@@ -14,7 +14,7 @@ pub returns-clause-same : goal.returns-clause-same
 returns-clause-same g c = same-seen _ c.self.inside.map c.reserve.new.self _ c.self.view_is c.reserve.ensures.updates
 
 pub returns-clause-valid : goal.returns-clause-valid
-returns-clause-valid g c = IsSet-seen _ _ c.self.inside.map _ c.self.view_is c.reserve.ensures.valid
+returns-clause-valid g c = IsSet-seen _ _ c.self.inside.map _ c.self.view_is c.self.invariant c.reserve.ensures.valid
 
 pub returns-clause-valid_after : goal.returns-clause-valid_after
-returns-clause-valid_after g c = IsSet-seen _ _ c.reserve.new.self _ refl c.reserve.ensures.valid_after
+returns-clause-valid_after g c = IsSet-seen _ _ c.reserve.new.self _ refl (search rules) c.reserve.ensures.valid_after

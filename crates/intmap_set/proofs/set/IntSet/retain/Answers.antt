@@ -25,7 +25,7 @@ pub returns-clause-updates : goal.returns-clause-updates
 returns-clause-updates g c = kept-seen g.K.IntKey.number_of c.self.inside.map c.retain.new.self _ c.self.view_is c.retain.ensures.updates
 
 pub returns-clause-valid : goal.returns-clause-valid
-returns-clause-valid g c = IsSet-seen _ _ c.self.inside.map _ c.self.view_is c.retain.ensures.valid
+returns-clause-valid g c = IsSet-seen _ _ c.self.inside.map _ c.self.view_is c.self.invariant c.retain.ensures.valid
 
 pub returns-clause-valid_after : goal.returns-clause-valid_after
-returns-clause-valid_after g c = IsSet-seen _ _ c.retain.new.self _ refl c.retain.ensures.valid_after
+returns-clause-valid_after g c = IsSet-seen _ _ c.retain.new.self _ refl (search rules) c.retain.ensures.valid_after

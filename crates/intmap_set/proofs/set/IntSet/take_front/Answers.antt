@@ -1,4 +1,4 @@
-use Rattle.std.proofs.Common.{refl}
+use Rattle.std.proofs.Common.{refl, rules}
 use Rattle.intmap_set.proofs.MemberLemmas.{IsSet-seen}
 use Rattle.intmap_set.proofs.FrontLemmas.{passed-seen, seen-passed}
 use Rattle.intmap_set.proofs.set.IntSet.take_front.Goals as goal
@@ -10,7 +10,7 @@ pub returns-clause-passed : goal.returns-clause-passed
 returns-clause-passed g c = seen-passed g.K.IntKey.number_of c.take_front.new.self _ refl c.take_front.new.from c.take_front.ensures.passed
 
 pub returns-clause-valid : goal.returns-clause-valid
-returns-clause-valid g c = IsSet-seen _ _ c.self.inside.map _ c.self.view_is c.take_front.ensures.valid
+returns-clause-valid g c = IsSet-seen _ _ c.self.inside.map _ c.self.view_is c.self.invariant c.take_front.ensures.valid
 
 pub returns-clause-valid_after : goal.returns-clause-valid_after
-returns-clause-valid_after g c = IsSet-seen _ _ c.take_front.new.self _ refl c.take_front.ensures.valid_after
+returns-clause-valid_after g c = IsSet-seen _ _ c.take_front.new.self _ refl (search rules) c.take_front.ensures.valid_after
