@@ -92,8 +92,13 @@ module _ {K : Type 0} (number : K → ℕ) where
       apart w is = holds-same_number number V w k (eqb-true (number w) (number k) is) ∙ alone
 
   -- a set has those that it shares and those that it has alone
-  length-parts : (V W : List K) → length (common_of number V W) + length (difference_of number V W) ≡ length V
+  pub length-parts : (V W : List K) → length (common_of number V W) + length (difference_of number V W) ≡ length V
   length-parts V W = length-filter_both (holds number W) (λ k. not (holds number W k)) (λ k. refl) V
+
+  -- from either side two sets share as many members
+  pub length-common_of : (V W : List K) → HasDistinctKeys number (paired V) → HasDistinctKeys number (paired W) → length (common_of number V W) ≡ length (common_of number W V)
+  length-common_of V W first second =
+      length-filter (holds number W) V ∙ common-turned V W (IsOnce-distinct V first) (IsOnce-distinct W second) ∙ sym (length-filter (holds number V) W)
 
   -- union and intersection have together as many members as both sets
   pub length-union_of-intersection_of : (V W : List K) → HasDistinctKeys number (paired V) → HasDistinctKeys number (paired W)
@@ -101,7 +106,7 @@ module _ {K : Type 0} (number : K → ℕ) where
   length-union_of-intersection_of V W first second = at (nat_lt (length V) (length W)) (nat_lt (length W) (length V))
     where
       turned : length (common_of number V W) ≡ length (common_of number W V)
-      turned = length-filter (holds number W) V ∙ common-turned V W (IsOnce-distinct V first) (IsOnce-distinct W second) ∙ sym (length-filter (holds number V) W)
+      turned = length-common_of V W first second
 
       longer : (b : Bool) → length (cond b (W ++ difference_of number V W) (V ++ difference_of number W V)) + length (common_of number V W) ≡ length V + length W
       longer true = let joined = length-append W (difference_of number V W) in let parts = length-parts V W in omega (arith, joined, parts)

@@ -6,4 +6,5 @@ pub mod RetainLemmas
 pub mod ExtendLemmas
 pub mod CountLemmas
 pub mod DistinctLemmas
+pub mod SizeLemmas
 pub mod FrontLemmas

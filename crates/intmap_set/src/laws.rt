@@ -3,7 +3,7 @@
 //!
 //! A call such as `laws::union_holds::<u64>();` adds its law to the proof of the function that
 //! contains the call.
-ghost use Rattle.std.specs.Prelude.{◌≡◌, ◌+◌, ◌↔◌, List, IsTrue, length};
+ghost use Rattle.std.specs.Prelude.{◌≡◌, ◌+◌, ◌*◌, ◌≤◌, ◌↔◌, List, IsTrue, length};
 ghost use Rattle.intmap.specs.Bindings.{HasDistinctKeys};
 ghost use Rattle.intmap_set.specs.Sets.{SetState, paired};
 ghost use Rattle.intmap_set.specs.Combined.{IsSubset, IsDisjoint, HaveSameMembers, IsDifference, IsIntersection, IsUnion, IsSymmetricDifference, sets_equal, difference_of, intersection_of, union_of, symmetric_difference_of};
@@ -51,6 +51,38 @@ pub fn union_and_intersection_count_both<K: IntKey>()
         → HasDistinctKeys K.number_of (paired W)
         → length (union_of K.number_of V W) + length (intersection_of K.number_of V W)
         ≡ length V + length W }
+{}
+
+/// Equal sets have the same number of members. As in the next three laws, the clause `valid` of a
+/// set's calls says that its keys are distinct.
+pub fn equal_sets_are_as_long<K: IntKey>()
+    ensures { (s t : SetState K) → HasDistinctKeys K.number_of (paired s.walk)
+        → HasDistinctKeys K.number_of (paired t.walk)
+        → IsTrue (sets_equal K.number_of s t) → length s.walk ≡ length t.walk }
+{}
+
+/// A subset has no more members than the set.
+pub fn subsets_are_no_longer<K: IntKey>()
+    ensures { (V W : List K) → HasDistinctKeys K.number_of (paired V)
+        → HasDistinctKeys K.number_of (paired W)
+        → IsSubset K.number_of V W → length V ≤ length W }
+{}
+
+/// The difference and the intersection together have as many members as the first set.
+pub fn difference_and_intersection_count_first<K: IntKey>()
+    ensures { (V W : List K) → HasDistinctKeys K.number_of (paired V)
+        → HasDistinctKeys K.number_of (paired W)
+        → length (difference_of K.number_of V W) + length (intersection_of K.number_of V W)
+        ≡ length V }
+{}
+
+/// The symmetric difference and twice the intersection together have as many members as the two
+/// sets.
+pub fn symmetric_difference_counts_apart<K: IntKey>()
+    ensures { (V W : List K) → HasDistinctKeys K.number_of (paired V)
+        → HasDistinctKeys K.number_of (paired W)
+        → length (symmetric_difference_of K.number_of V W)
+        + 2 * length (intersection_of K.number_of V W) ≡ length V + length W }
 {}
 
 /// The difference, the intersection, the union and the symmetric difference of two sets have each
