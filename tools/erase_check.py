@@ -52,7 +52,7 @@ OTHERWISE = [
 ]
 PRELUDE = "use crate::memory::prelude::*;"
 NOTE = "// Only Rust has what follows. It is tested, not proved."
-NOTED = re.compile(r"(pub )?mod (cloned|mending|written);")
+NOTED = re.compile(r"(pub )?mod (mending|written);")
 
 CONTRACT = re.compile(r"(pub )?ghost |requires |ensures\*? ")
 FENCE = "```"

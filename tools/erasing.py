@@ -52,7 +52,6 @@ ADDED = {
     "intmap/entry": ["mod mending;"],
     "intmap/map": ["mod mending;"],
     "intmap_set/set": ["mod mending;"],
-    "intmap_set/set/iter": ["mod cloned;"],
 }
 
 RATTLE = ["ghost", "requires", "ensures", "tactic", "unsafe"]

@@ -25,7 +25,9 @@ impl<K: IntKey, A: Allocator + Copy> IntSet<K, A> {
         ensures walk { result ≡ difference_of K.number_of self.now.walk other.now.walk }
         ensures members { IsDifference K.number_of self.now.walk other.now.walk result }
         ensures valid { IsSet K.number_of K.is_valid self.now }
+        ensures valid_other { IsSet K.number_of K.is_valid other.now }
     {
+        other.known();
         Difference {
             keys: self.iter(),
             other,
@@ -44,6 +46,7 @@ impl<K: IntKey, A: Allocator + Copy> IntSet<K, A> {
         ensures walk { result ≡ intersection_of K.number_of self.now.walk other.now.walk }
         ensures members { IsIntersection K.number_of self.now.walk other.now.walk result }
         ensures valid { IsSet K.number_of K.is_valid self.now }
+        ensures valid_other { IsSet K.number_of K.is_valid other.now }
     {
         if other.len() < self.len() {
             return Intersection {
@@ -69,6 +72,7 @@ impl<K: IntKey, A: Allocator + Copy> IntSet<K, A> {
         ensures walk { result ≡ union_of K.number_of self.now.walk other.now.walk }
         ensures members { IsUnion K.number_of self.now.walk other.now.walk result }
         ensures valid { IsSet K.number_of K.is_valid self.now }
+        ensures valid_other { IsSet K.number_of K.is_valid other.now }
     {
         if self.len() < other.len() {
             return Union {
@@ -96,6 +100,7 @@ impl<K: IntKey, A: Allocator + Copy> IntSet<K, A> {
         ensures walk { result ≡ symmetric_difference_of K.number_of self.now.walk other.now.walk }
         ensures members { IsSymmetricDifference K.number_of self.now.walk other.now.walk result }
         ensures valid { IsSet K.number_of K.is_valid self.now }
+        ensures valid_other { IsSet K.number_of K.is_valid other.now }
     {
         SymmetricDifference {
             first: self.difference(other),
@@ -107,6 +112,8 @@ impl<K: IntKey, A: Allocator + Copy> IntSet<K, A> {
     /// the first that is absent from `other`. It never fails.
     pub fn is_subset(&self, other: &IntSet<K, A>) -> bool
         ensures value { IsTrue result ↔ IsSubset K.number_of self.now.walk other.now.walk }
+        ensures valid { IsSet K.number_of K.is_valid self.now }
+        ensures valid_other { IsSet K.number_of K.is_valid other.now }
     {
         self.difference(other).next().is_none()
     }
@@ -114,6 +121,8 @@ impl<K: IntKey, A: Allocator + Copy> IntSet<K, A> {
     /// Whether each member of `other` is one of this set. It never fails.
     pub fn is_superset(&self, other: &IntSet<K, A>) -> bool
         ensures value { IsTrue result ↔ IsSubset K.number_of other.now.walk self.now.walk }
+        ensures valid { IsSet K.number_of K.is_valid self.now }
+        ensures valid_other { IsSet K.number_of K.is_valid other.now }
     {
         other.is_subset(self)
     }
@@ -122,6 +131,8 @@ impl<K: IntKey, A: Allocator + Copy> IntSet<K, A> {
     /// in the other, up to the first that both have. It never fails.
     pub fn is_disjoint(&self, other: &IntSet<K, A>) -> bool
         ensures value { IsTrue result ↔ IsDisjoint K.number_of self.now.walk other.now.walk }
+        ensures valid { IsSet K.number_of K.is_valid self.now }
+        ensures valid_other { IsSet K.number_of K.is_valid other.now }
     {
         self.intersection(other).next().is_none()
     }

@@ -5,6 +5,7 @@ ghost use Rattle.intmap_set.specs.Sets.{IsSet};
 
 mod combined;
 mod drain;
+mod traits;
 
 use crate::set::IntSet;
 pub use combined::{Difference, Intersection, SymmetricDifference, Union};

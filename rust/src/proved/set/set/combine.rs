@@ -14,6 +14,7 @@ impl<K: IntKey, A: Allocator + Copy> IntSet<K, A> {
     /// It makes no set. [`IntSet::from_iter`] makes a set of these members, as below, and may fail.
     /// The same holds for the iterators of the other three calls.
     pub fn difference<'a>(&'a self, other: &'a IntSet<K, A>) -> Difference<'a, K, A> {
+        other.known();
         Difference {
             keys: self.iter(),
             other,

@@ -3,6 +3,7 @@
 
 mod combined;
 mod drain;
+mod traits;
 
 use crate::memory::prelude::*;
 use crate::proved::set::set::IntSet;
@@ -41,6 +42,3 @@ impl<K: IntKey, A: Allocator + Copy> IntoIterator for IntSet<K, A> {
         self.map.into_keys()
     }
 }
-
-// Only Rust has what follows. It is tested, not proved.
-mod cloned;
