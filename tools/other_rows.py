@@ -323,6 +323,7 @@ EACH = {
     "extend": lambda it, numbers: numbers,
     "extend_many": lambda it, numbers: keys(*numbers),
     "extend_other": lambda it, _: members_of(it.other),
+    "extend_from_set": lambda it, _: members_of(it.other),
     "insert_many": lambda it, numbers: keys(*numbers),
 }
 
@@ -369,6 +370,8 @@ SET_CALLS = {
 }
 for _name, _walk in WALKS.items():
     SET_CALLS |= {
+        (f"to_{_name}", 0): lambda it, refuses, walk=_walk: it.make(4, walk(it.set, it.other), refuses),
         (_name, 0): lambda it, _, walk=_walk: brackets(walk(it.set, it.other)),
+        (f"{_name}_debug", 0): lambda it, _, walk=_walk: brackets(walk(it.set, it.other)),
         (f"{_name}_sum", 0): lambda it, _, walk=_walk: members_sum(walk(it.set, it.other)),
     }

@@ -7,4 +7,5 @@ pub mod ExtendLemmas
 pub mod CountLemmas
 pub mod DistinctLemmas
 pub mod SizeLemmas
+pub mod OwnedLemmas
 pub mod FrontLemmas

@@ -4,7 +4,7 @@ use Rattle.std.proofs.lemmas.Bool.{true≢false}
 use Rattle.std.specs.Prelude.{◌||◌, nat_lt, IsTrue}
 use Rattle.intmap.specs.Bindings.{HasDistinctKeys}
 use Rattle.intmap_set.specs.Sets.{SetState, holds, paired}
-use Rattle.intmap_set.specs.Combined.{IsSubset, common_of, difference_of, intersection_of, sets_equal, symmetric_difference_of}
+use Rattle.intmap_set.specs.Combined.{HaveSameMembers, IsSubset, common_of, difference_of, intersection_of, sets_equal, symmetric_difference_of}
 use Rattle.intmap_set.specs.EqualityLaws.{same_key-itself, sets_equal-iff_subsets}
 use Rattle.intmap_set.proofs.CombinedLemmas.{IsDifference-difference_of, without-other}
 use Rattle.intmap_set.proofs.CountLemmas.{length-common_of, length-parts}
@@ -48,6 +48,12 @@ module _ {K : Type 0} (number : K → ℕ) where
         let joined = length-append (difference_of number V W) (difference_of number W V) in let both = length-intersection_of in
         let here = length-parts number V W in let there = length-parts number W V in let turned = length-common_of number V W first second in
         omega (arith, joined, both, here, there, turned)
+
+  -- sets with the same members are as long
+  pub length-same_members : (V W : List K) → HasDistinctKeys number (paired V) → HasDistinctKeys number (paired W) → HaveSameMembers number V W → length V ≡ length W
+  length-same_members V W first second same =
+      let up = length-subset V W first second (λ q has. sym (same q) ∙ has) in let down = length-subset W V second first (λ q has. same q ∙ has) in
+      omega (arith, up, down)
 
   -- equal sets are as long
   pub length-sets_equal : (s t : SetState K) → HasDistinctKeys number (paired s.walk) → HasDistinctKeys number (paired t.walk)

@@ -1,6 +1,7 @@
 -- What inserting keys in turn returns and leaves.
-use Rattle.std.specs.Prelude.{◌≡◌, false, ◌↔◌, ◌⊎◌, ℕ, ◌+◌, ◌-◌, ◌^◌, ◌<◌, ◌≤◌, cond, min, max, List, [], ◌∷◌, length, Option, Some}
+use Rattle.std.specs.Prelude.{◌≡◌, false, ◌↔◌, ◌⊎◌, ℕ, ◌+◌, ◌-◌, ◌^◌, ◌<◌, ◌≤◌, cond, min, max, List, [], ◌∷◌, length, take, Option, Some}
 use Rattle.std.specs.Iterator.{Drains, YieldsThen}
+use Rattle.std.specs.List.{slice_get}
 use Rattle.intmap.specs.declared.refusal.Cause.{Cause}
 use Rattle.intmap.specs.declared.refusal.Cause.TheVariants.{Memory, TooLarge}
 use Rattle.intmap.specs.declared.refusal.RefusedPair.{RefusedPair}
@@ -44,6 +45,13 @@ module _ {K : Type 0} (number : K → ℕ) (is_valid : K → Type 0) where
     pub len : length t.walk ≡ length s.walk + length (new_keys number s.walk ks)
     pub capacity : s.capacity ≤ t.capacity
 
+  -- the keys were inserted in turn up to the first that failed, which is returned with the cause and the number of those
+  -- before it
+  pub record StopsAmong (s : SetState K) (ks : List K) (refused : RefusedPair K (Unit {0})) (t : SetState K) : Type 0 where
+    pub next : slice_get ks refused.applied ≡ Some refused.key
+    pub extended : IsExtended s (take refused.applied ks) t
+    pub may_refuse : MayRefuse number t refused.key refused.cause
+
 module _ {K I : Type 0} (number : K → ℕ) (is_valid : K → Type 0) (steps : I → Option K → I → Type 0) where
   -- all keys that the iterator i gave were inserted in turn
   pub record Extends (i : I) (s t : SetState K) : Type 0 where
@@ -60,6 +68,10 @@ module _ {K I : Type 0} (number : K → ℕ) (is_valid : K → Type 0) (steps : 
     pub extended : IsExtended number is_valid s keys t
     pub may_refuse : MayRefuse number t refused.key refused.cause
     pub applied : refused.applied ≡ min (length keys) (2 ^ 64 - 1)
+
+  -- there was no memory for a set, or an insertion into s of a key that the iterator i gave failed with this cause
+  abbrev pub MayStop : I → SetState K → Cause → Type 0
+  MayStop i s cause = (cause ≡ Memory) ⊎ ((refused : RefusedPair K (Unit {0})) × (t : SetState K) × ExtendsUpTo i s refused t × IsSet number is_valid t × (cause ≡ refused.cause))
 
   -- an empty set with room for b slots was extended by all keys that the iterator i gave
   pub record Collects (i : I) (b : ℕ) (t : SetState K) : Type 0 where

@@ -6,6 +6,7 @@ mod build;
 mod combine;
 mod insert;
 pub mod iter;
+mod owned;
 mod remove;
 mod traits;
 

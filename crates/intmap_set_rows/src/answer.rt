@@ -48,6 +48,10 @@ fn bare(out: &mut String, sets: &mut Sets<'_>, name: &str) -> Result<(), AllocEr
             let made = IntSet::from_iter(sets.memory, sets.set.union(&sets.other).copied());
             write_done(out, sets.put(made))
         }
+        "extend_from_set" => write_extended(out, sets.set.extend_from_set(&sets.other)),
+        "to_union" | "to_intersection" | "to_difference" | "to_symmetric_difference" => {
+            made_of_two(out, sets, name)
+        }
         "into_sum" => match sets.taken() {
             Ok(set) => write_members(out, set.into_iter(), true),
             Err(cause) => write_refusal(out, cause, None),
@@ -56,6 +60,19 @@ fn bare(out: &mut String, sets: &mut Sets<'_>, name: &str) -> Result<(), AllocEr
         "clear" | "retain_odd" | "retain_alternate" => kept(out, &mut sets.set, name),
         _ => seen(out, sets, name),
     }
+}
+
+// puts a new set that is made of both in the place of the one that calls are made on
+fn made_of_two(out: &mut String, sets: &mut Sets<'_>, name: &str) -> Result<(), AllocError> {
+    let set = &sets.set;
+    let other = &sets.other;
+    let made = match name {
+        "to_union" => set.to_union(sets.memory, other),
+        "to_intersection" => set.to_intersection(sets.memory, other),
+        "to_difference" => set.to_difference(sets.memory, other),
+        _ => set.to_symmetric_difference(sets.memory, other),
+    };
+    write_done(out, sets.put(made))
 }
 
 // writes the answer to a call that takes members out
@@ -93,10 +110,24 @@ fn seen(out: &mut String, sets: &Sets<'_>, name: &str) -> Result<(), AllocError>
         "is_subset" => write_bool(out, set.is_subset(other)),
         "is_superset" => write_bool(out, set.is_superset(other)),
         "is_disjoint" => write_bool(out, set.is_disjoint(other)),
-        _ => match name.strip_suffix("_sum") {
-            Some(name) => walked(out, sets, name, true),
-            None => walked(out, sets, name, false),
+        _ => match (name.strip_suffix("_sum"), name.strip_suffix("_debug")) {
+            (Some(name), _) => walked(out, sets, name, true),
+            (_, Some(name)) => shown(out, sets, name),
+            _ => walked(out, sets, name, false),
         },
+    }
+}
+
+// writes the text of an iterator over both sets
+fn shown(out: &mut String, sets: &Sets<'_>, name: &str) -> Result<(), AllocError> {
+    let set = &sets.set;
+    let other = &sets.other;
+    match name {
+        "difference" => write!(out, "{:?}", set.difference(other)),
+        "intersection" => write!(out, "{:?}", set.intersection(other)),
+        "union" => write!(out, "{:?}", set.union(other)),
+        "symmetric_difference" => write!(out, "{:?}", set.symmetric_difference(other)),
+        _ => no_call(out),
     }
 }
 

@@ -1,5 +1,5 @@
 //! Groups of ids as sets: which members of one group are in another, and groups made of two.
-ghost use Rattle.std.specs.Prelude.{◌↔◌, IfOk, IsTrue};
+ghost use Rattle.std.specs.Prelude.{◌≡◌, ◌↔◌, IfOk, IfErr, IsTrue};
 ghost use Rattle.intmap_set.specs.Combined.{IsDifference, IsIntersection, IsUnion};
 ghost use Rattle.intmap_set.specs.Sets.{holds};
 
@@ -9,19 +9,21 @@ use std::alloc::Allocator;
 
 /// The members of one group that are in the other as well.
 ///
-/// It fails if the set can't be made or an insertion fails.
+/// It fails only if an allocation fails.
 pub fn members_of_both<K: IntKey, A: Allocator + Copy>(
     alloc: A,
     group: &IntSet<K, A>,
     other: &IntSet<K, A>,
 ) -> Result<IntSet<K, A>, Cause>
-    ensures { IfOk result (λ both. IsIntersection K.number_of group.now.walk other.now.walk
+    ensures members { IfOk result (λ both. IsIntersection K.number_of group.now.walk other.now.walk
         both.walk) }
+    ensures memory { IfErr result (λ cause. cause ≡ Cause.Memory) }
 {
-    IntSet::from_iter(alloc, group.intersection(other).copied())
+    group.to_intersection(alloc, other)
 }
 
-/// The members of either group.
+/// The members of either group, by the iterator over them. `to_union` makes the same set, with a
+/// contract that needs no lemma.
 ///
 /// It fails if the set can't be made or an insertion fails.
 pub fn members_of_either<K: IntKey, A: Allocator + Copy>(

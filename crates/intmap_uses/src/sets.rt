@@ -1,11 +1,11 @@
 //! Facts of sets that a caller draws from their clauses and laws: when the next member grows the
 //! table, and how many members two sets have together, in common and apart.
-ghost use Rattle.std.specs.Prelude.{◌≡◌, ◌↔◌, ◌+◌, ◌<◌, IfOk, IfSome, IsErrOf, IsTrue, length};
+ghost use Rattle.std.specs.Prelude.{◌≡◌, ◌↔◌, ◌+◌, ◌<◌, ◌≤◌, ◌||◌, IfOk, IfErr, IfSome, OnOk, IsErrOf, IsTrue, length};
 ghost use Rattle.intmap.specs.Growth.{IsNext};
 ghost use Rattle.intmap.specs.Map.{IsCapacityAfter, IsOutOfRange};
 ghost use Rattle.intmap.specs.Reach.{class_size};
-ghost use Rattle.intmap_set.specs.Combined.{difference_of, symmetric_difference_of};
-ghost use Rattle.intmap_set.specs.Sets.{paired};
+ghost use Rattle.intmap_set.specs.Combined.{IsUnion, difference_of, symmetric_difference_of};
+ghost use Rattle.intmap_set.specs.Sets.{holds, paired};
 
 use intmap::{Cause, IntKey};
 use intmap_set::{IntSet, laws};
@@ -81,4 +81,60 @@ pub fn count_unshared<K: IntKey, A: Allocator + Copy>(
     laws::symmetric_difference_counts_apart::<K>();
     let all = first.len() as u128 + second.len() as u128;
     all - 2 * first.intersection(second).count() as u128
+}
+
+/// A new set of the members of either set, and how many members both have.
+///
+/// It fails if one of the two sets that it makes can't be made.
+pub fn merged<K: IntKey, A: Allocator + Copy>(
+    alloc: A,
+    first: &IntSet<K, A>,
+    second: &IntSet<K, A>,
+) -> Result<(IntSet<K, A>, usize), Cause>
+    ensures members { IfOk result (λ made.
+        IsUnion K.number_of first.now.walk second.now.walk made.0.walk) }
+    ensures count { IfOk result (λ made.
+        length made.0.walk + made.1 ≡ length first.now.walk + length second.now.walk) }
+{
+    laws::union_and_intersection_count_both::<K>();
+    let either = first.to_union(alloc, second)?;
+    let both = first.to_intersection(alloc, second)?;
+    Ok((either, both.len()))
+}
+
+/// How many members each of two sets has alone, by two new sets.
+///
+/// It fails only if an allocation fails.
+pub fn count_each_alone<K: IntKey, A: Allocator + Copy>(
+    alloc: A,
+    first: &IntSet<K, A>,
+    second: &IntSet<K, A>,
+) -> Result<(usize, usize), Cause>
+    ensures first { IfOk result (λ alone. alone.0
+        ≡ length (difference_of K.number_of first.now.walk second.now.walk)) }
+    ensures second { IfOk result (λ alone. alone.1
+        ≡ length (difference_of K.number_of second.now.walk first.now.walk)) }
+    ensures memory { IfErr result (λ cause. cause ≡ Cause.Memory) }
+{
+    let left = first.to_difference(alloc, second)?;
+    let right = second.to_difference(alloc, first)?;
+    Ok((left.len(), right.len()))
+}
+
+/// Inserts the members of another set. Each key is a member afterwards exactly if it was one of
+/// either, and there are no fewer slots.
+///
+/// It fails if an insertion fails.
+pub fn take_in<K: IntKey, A: Allocator + Copy>(
+    set: &mut IntSet<K, A>,
+    other: &IntSet<K, A>,
+) -> Result<(), Cause>
+    ensures members { OnOk result ((q : K) → holds K.number_of set.new.walk q
+        ≡ (holds K.number_of set.old.walk q || holds K.number_of other.now.walk q)) }
+    ensures len { OnOk result (length set.new.walk ≤ length set.old.walk + length other.now.walk) }
+    ensures capacity { OnOk result (set.old.capacity ≤ set.new.capacity) }
+{
+    laws::union_and_intersection_count_both::<K>();
+    set.extend_from_set(other)?;
+    Ok(())
 }
