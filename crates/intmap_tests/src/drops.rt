@@ -232,3 +232,137 @@ fn what_was_built_is_dropped_once_where_memory_is_refused(rt: HostRuntime) -> Re
     assert_eq!(rt; end, (0x100012001334311, 0), "the map was let go");
     Ok(())
 }
+
+const BY_ENTRIES: [Row; 10] = [
+    (Step::Insert(0, 0), None, 0x000, 0x000, 1, 4),
+    (Step::Insert(4, 1), None, 0x000, 0x000, 2, 4),
+    (Step::Insert(8, 2), None, 0x000, 0x000, 3, 4),
+    (Step::RemoveEntry(4), Some(1), 0x000, 0x010, 2, 4),
+    (Step::EntryRemoveEntry(0), Some(0), 0x010, 0x011, 1, 4),
+    (Step::RemoveEntry(0), None, 0x011, 0x011, 1, 4),
+    // Value 3 takes the place of value 2.
+    (Step::InsertEntry(8, 3), Some(3), 0x111, 0x111, 1, 4),
+    (Step::InsertEntry(0, 4), Some(4), 0x111, 0x111, 2, 4),
+    // Key 0 is bound, so value 5 is let go with the closure that owns it.
+    (Step::OrInsertWith(0, 5), Some(4), 0x100111, 0x100111, 2, 4),
+    (Step::OrInsertWith(4, 6), Some(6), 0x100111, 0x100111, 3, 4),
+];
+
+#[test]
+fn a_value_is_dropped_once_where_its_entry_removes_or_binds_it(
+    rt: HostRuntime,
+) -> Result<(), Fail> {
+    let end = end_of(rt.alloc(), &BY_ENTRIES)?;
+    assert_eq!(rt; end, (0x1111111, 0), "the map was let go");
+    Ok(())
+}
+
+const PICKED: [Row; 13] = [
+    (Step::Insert(0, 0), None, 0x000, 0x000, 1, 4),
+    (Step::Insert(8, 2), None, 0x000, 0x000, 2, 4),
+    (Step::Insert(4, 1), None, 0x000, 0x000, 3, 4),
+    (Step::Insert(12, 3), None, 0x000, 0x000, 4, 8),
+    (Step::Extract(1, 1), Some(1), 0x0000, 0x0010, 3, 8),
+    // Values 0 and 2 are handed out.
+    (Step::Extract(0, 9), Some(2), 0x0011, 0x0111, 1, 8),
+    (Step::Insert(0, 4), None, 0x0111, 0x0111, 2, 8),
+    (Step::Insert(8, 6), None, 0x0111, 0x0111, 3, 8),
+    // Values 6 and 3 stay in the map.
+    (Step::Extract(0, 1), Some(4), 0x00111, 0x10111, 2, 8),
+    (Step::Insert(0, 5), None, 0x10111, 0x10111, 3, 8),
+    // The pair of value 6 is passed.
+    (Step::Cut(1, 1), Some(5), 0x010111, 0x110111, 2, 8),
+    (Step::Cut(1, 9), Some(3), 0x110111, 0x111111, 1, 8),
+    (Step::Cut(1, 1), None, 0x111111, 0x111111, 1, 8),
+];
+
+#[test]
+fn a_value_is_dropped_once_where_a_closure_or_a_cursor_takes_it_out(
+    rt: HostRuntime,
+) -> Result<(), Fail> {
+    let end = end_of(rt.alloc(), &PICKED)?;
+    assert_eq!(rt; end, (0x1111111, 0), "the map was let go");
+    Ok(())
+}
+
+const OF_ALL_KEYS: [Row; 12] = [
+    (Step::Insert(0, 0), None, 0x000, 0x000, 1, 4),
+    (Step::Insert(4, 1), None, 0x000, 0x000, 2, 4),
+    (Step::Insert(8, 2), None, 0x000, 0x000, 3, 4),
+    // Value 0 goes with its key, and the others with the iterator.
+    (Step::IntoKeys(1), None, 0x111, 0x111, 0, 4),
+    (Step::Insert(0, 3), None, 0x111, 0x111, 1, 4),
+    (Step::Insert(4, 4), None, 0x111, 0x111, 2, 4),
+    (Step::IntoValues(1), Some(3), 0x10111, 0x11111, 0, 4),
+    (Step::Insert(0, 5), None, 0x11111, 0x11111, 1, 4),
+    // There are fewer keys than steps, and fewer values.
+    (Step::IntoKeys(9), None, 0x111111, 0x111111, 0, 4),
+    (Step::Insert(0, 6), None, 0x111111, 0x111111, 1, 4),
+    (Step::Insert(1, 7), None, 0x111111, 0x111111, 2, 4),
+    (Step::IntoValues(9), Some(7), 0x1111111, 0x11111111, 0, 4),
+];
+
+#[test]
+fn a_value_is_dropped_once_where_its_map_is_taken_for_keys_or_values(
+    rt: HostRuntime,
+) -> Result<(), Fail> {
+    let end = end_of(rt.alloc(), &OF_ALL_KEYS)?;
+    assert_eq!(rt; end, (0x11111111, 0), "the map was let go");
+    Ok(())
+}
+
+const OF_AN_ARRAY: [Row; 4] = [
+    (Step::Insert(1, 0), None, 0x000, 0x000, 1, 4),
+    // The map with value 0 goes, and value 3 takes the place of value 1.
+    (
+        Step::FromArray([(0, 1), (4, 2), (0, 3)]),
+        None,
+        0x011,
+        0x011,
+        2,
+        4,
+    ),
+    // No map is made, so the three values go.
+    (Step::Arm(1), None, 0x011, 0x011, 2, 4),
+    (
+        Step::FromArray([(0, 4), (4, 5), (8, 6)]),
+        None,
+        0x1110011,
+        0x1110011,
+        2,
+        4,
+    ),
+];
+
+#[test]
+fn a_value_is_dropped_once_where_a_map_is_made_of_an_array(rt: HostRuntime) -> Result<(), Fail> {
+    let end = end_of(rt.alloc(), &OF_AN_ARRAY)?;
+    assert_eq!(rt; end, (0x1111111, 0), "the map was let go");
+    Ok(())
+}
+
+const CAUSES_ALONE: [Row; 8] = [
+    (Step::Insert(0, 0), None, 0x0, 0x0, 1, 4),
+    (Step::Arm(1), None, 0x0, 0x0, 1, 4),
+    (Step::InsertOrCause(4, 1), None, 0x10, 0x10, 1, 4),
+    (Step::Arm(1), None, 0x10, 0x10, 1, 4),
+    (Step::InsertOrJsonCause(4, 2), None, 0x110, 0x110, 1, 4),
+    (Step::Arm(1), None, 0x110, 0x110, 1, 4),
+    // Value 3 takes the place of value 0, value 4 is refused, and value 5 is left.
+    (
+        Step::ExtendOrCause(&[(0, 3), (4, 4), (8, 5)]),
+        None,
+        0x110111,
+        0x110111,
+        1,
+        4,
+    ),
+    (Step::InsertOrCause(4, 6), None, 0x110111, 0x110111, 2, 4),
+];
+
+#[test]
+fn a_value_is_dropped_once_where_its_cause_alone_is_told(rt: HostRuntime) -> Result<(), Fail> {
+    let end = end_of(rt.alloc(), &CAUSES_ALONE)?;
+    assert_eq!(rt; end, (0x1111111, 0), "the map was let go");
+    Ok(())
+}

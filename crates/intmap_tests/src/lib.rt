@@ -13,6 +13,8 @@ mod keys;
 #[cfg(test)]
 mod steps;
 #[cfg(test)]
+mod taken;
+#[cfg(test)]
 mod texts;
 #[cfg(test)]
 mod written;

@@ -1,6 +1,7 @@
 //! Calls on a map of values that count their drops, as data.
 
 use crate::counted::{Counted, CountedMap, Ground};
+use crate::taken;
 use intmap::entry::Entry;
 use intmap::{Cause, IntMap};
 use std::mem;
@@ -25,8 +26,20 @@ pub enum Step {
     Modify(u64, u32),
     /// A write by `for_each_mut` over each value, of one whose number is so much greater.
     WriteEach(u32),
+    /// `insert_entry` by the entry of the key.
+    InsertEntry(u64, u32),
+    /// `or_insert_with` by the entry of the key, of a closure that owns the value.
+    OrInsertWith(u64, u32),
+    /// `insert`, of which a `?` leaves the cause alone where it is refused.
+    InsertOrCause(u64, u32),
+    /// The same with the cause of a call on JSON.
+    InsertOrJsonCause(u64, u32),
     /// `remove`.
     Remove(u64),
+    /// `remove_entry`.
+    RemoveEntry(u64),
+    /// `remove_entry` by the entry of the key, if it is bound.
+    EntryRemoveEntry(u64),
     /// `retain` of the key and of the value.
     Retain(u64, u32),
     /// `retain` of the key.
@@ -39,14 +52,27 @@ pub enum Step {
     Clear,
     /// `extend` by these pairs.
     Extend(Numbers),
+    /// `extend` by these pairs, of which a `?` leaves the cause alone where one is refused.
+    ExtendOrCause(Numbers),
+    /// `from_array` of these pairs. The map that is made takes the place of the one in hand.
+    FromArray([(u64, u32); 3]),
     /// `from_iter` of these pairs. The map that is made takes the place of the one in hand.
     FromIter(Numbers),
     /// `clone`. The clone is let go.
     Clone,
     /// So many steps of a `drain`, which is then let go.
     Drain(usize),
+    /// So many steps of `extract_if`, whose closure picks the values with numbers that are odd or even
+    /// as this one is. The iterator is forgotten.
+    Extract(u32, usize),
+    /// So many steps of a cursor, and then so many pairs are cut out.
+    Cut(usize, usize),
     /// So many steps of the map by value, in whose place a new one stands.
     IntoIter(usize),
+    /// The same of its keys.
+    IntoKeys(usize),
+    /// The same of its values.
+    IntoValues(usize),
     /// The request of this number is refused from here, none at 0.
     Arm(u64),
 }
@@ -84,10 +110,21 @@ pub fn take<'a>(
         Step::EntryInsert(key, number) => {
             Answer::Back(Some(insert_by_entry(map, key, ground.value(number))))
         }
+        Step::InsertEntry(key, number) => {
+            Answer::Lent(taken::insert_entry(map, key, ground.value(number))?)
+        }
+        Step::OrInsertWith(key, number) => {
+            Answer::Lent(taken::or_insert_with(map, key, ground.value(number))?)
+        }
         Step::Remove(key) => Answer::Back(map.remove(key)),
+        Step::RemoveEntry(key) => Answer::Back(taken::remove_entry(map, key)),
+        Step::EntryRemoveEntry(key) => Answer::Back(taken::remove_by_entry(map, key)),
         Step::Extend(numbers) => Answer::Back(extend(map, numbers, ground)?),
         Step::Drain(count) => Answer::Back(drain(map, count)),
+        Step::Extract(number, count) => Answer::Back(taken::extract(map, number, count)),
+        Step::Cut(passed, count) => Answer::Back(taken::cut(map, passed, count)),
         Step::IntoIter(count) => Answer::Back(go_through(map, count, ground)?),
+        Step::IntoValues(count) => Answer::Back(taken::values(map, count, ground)?),
         _ => {
             change(map, step, ground)?;
             Answer::Back(None)
@@ -109,6 +146,17 @@ fn change<'a>(map: &mut CountedMap<'a>, step: Step, ground: Ground<'a>) -> Resul
         Step::Reserve(additional) => map.reserve(additional)?,
         Step::SetLoadFactor(thousandths) => map.set_load_factor(thousandths)?,
         Step::FromIter(numbers) => make(map, numbers, ground)?,
+        Step::FromArray(numbers) => taken::make_of_array(map, numbers, ground),
+        Step::IntoKeys(count) => taken::keys(map, count, ground)?,
+        Step::InsertOrCause(key, number) => {
+            let _ = taken::insert_or_cause(map, key, ground.value(number));
+        }
+        Step::InsertOrJsonCause(key, number) => {
+            let _ = taken::insert_or_json_cause(map, key, ground.value(number));
+        }
+        Step::ExtendOrCause(numbers) => {
+            let _ = taken::extend_or_cause(map, numbers, ground);
+        }
         Step::Clone => drop(map.clone()),
         Step::Arm(number) => ground.memory.arm(number),
         _ => map.clear(),

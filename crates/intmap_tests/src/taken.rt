@@ -1,0 +1,159 @@
+//! Steps that take pairs out one by one, that make a map of an array, and that a `?` ends.
+ghost use Rattle.intmap.specs.Picking.{IsReached};
+
+use crate::counted::{Counted, CountedMap, Ground};
+use crate::steps::Numbers;
+use intmap::entry::Entry;
+use intmap::iter::Cursor;
+use intmap::{Cause, IntMap, JsonCause};
+use std::mem;
+
+/// The number of the value that the key then has.
+pub fn insert_entry<'a>(
+    map: &mut CountedMap<'a>,
+    key: u64,
+    value: Counted<'a>,
+) -> Result<u32, Cause> {
+    let entry = map.entry(key).insert_entry(value)?;
+    Ok(entry.get().number)
+}
+
+/// The same by a closure that owns the value, and that isn't called if the key is bound.
+pub fn or_insert_with<'a>(
+    map: &mut CountedMap<'a>,
+    key: u64,
+    value: Counted<'a>,
+) -> Result<u32, Cause> {
+    Ok(map.entry(key).or_insert_with(move || value)?.number)
+}
+
+/// The value that was taken out with its key.
+pub fn remove_entry<'a>(map: &mut CountedMap<'a>, key: u64) -> Option<Counted<'a>> {
+    let (_, value) = map.remove_entry(key)?;
+    Some(value)
+}
+
+/// The same by an entry.
+pub fn remove_by_entry<'a>(map: &mut CountedMap<'a>, key: u64) -> Option<Counted<'a>> {
+    match map.entry(key) {
+        Entry::Occupied(entry) => Some(entry.remove_entry().1),
+        Entry::Vacant(_entry) => None,
+    }
+}
+
+/// The last value that is taken out of those that are odd or even as this number is. The iterator is
+/// forgotten.
+pub fn extract<'a>(map: &mut CountedMap<'a>, number: u32, count: usize) -> Option<Counted<'a>> {
+    let mut last = None;
+    let mut pairs = map.extract_if(move |_, value| value.number % 2 == number % 2);
+    for _ in 0..count {
+        if let Some((_, value)) = pairs.next() {
+            last = Some(value);
+        }
+    }
+    mem::forget(pairs);
+    last
+}
+
+/// A cursor in a map.
+#[derive(Drop)]
+struct Cuts<'m, 'a> {
+    map: &'m mut CountedMap<'a>,
+    at: Cursor,
+    ghost reached: { IsReached (λ key. key) map.now.walk map.now.capacity at.slot at.place at.passed },
+}
+
+impl<'a> Cuts<'_, 'a> {
+    // steps over a pair
+    fn pass(&mut self) {
+        let _ = self.map.step(&mut self.at);
+    }
+
+    // the value of the pair that is cut out
+    fn cut(&mut self) -> Option<Counted<'a>> {
+        let (_, value) = self.map.cut(&mut self.at)?;
+        Some(value)
+    }
+}
+
+/// The last value that is cut out behind so many.
+pub fn cut<'a>(map: &mut CountedMap<'a>, passed: usize, count: usize) -> Option<Counted<'a>> {
+    let mut cuts = Cuts {
+        map,
+        at: Cursor::start(),
+    };
+    for _ in 0..passed {
+        cuts.pass();
+    }
+    let mut last = None;
+    for _ in 0..count {
+        if let Some(value) = cuts.cut() {
+            last = Some(value);
+        }
+    }
+    last
+}
+
+/// Goes through so many keys of the map by value, in whose place a new one stands.
+pub fn keys<'a>(map: &mut CountedMap<'a>, count: usize, ground: Ground<'a>) -> Result<(), Cause> {
+    let fresh = IntMap::new(ground.memory)?;
+    for _ in mem::replace(map, fresh).into_keys().take(count) {}
+    Ok(())
+}
+
+/// The last of so many values of the map by value, in whose place a new one stands.
+pub fn values<'a>(
+    map: &mut CountedMap<'a>,
+    count: usize,
+    ground: Ground<'a>,
+) -> Result<Option<Counted<'a>>, Cause> {
+    let fresh = IntMap::new(ground.memory)?;
+    let mut last = None;
+    for value in mem::replace(map, fresh).into_values().take(count) {
+        last = Some(value);
+    }
+    Ok(last)
+}
+
+/// Makes a map of an array, which takes the place of the other one where it could be made.
+pub fn make_of_array<'a>(map: &mut CountedMap<'a>, numbers: [(u64, u32); 3], ground: Ground<'a>) {
+    let [first, second, third] = numbers;
+    let pairs = [
+        (first.0, ground.value(first.1)),
+        (second.0, ground.value(second.1)),
+        (third.0, ground.value(third.1)),
+    ];
+    if let Ok(made) = IntMap::from_array(ground.memory, pairs) {
+        *map = made;
+    }
+}
+
+/// Drops the value that is refused, if it is.
+pub fn insert_or_cause<'a>(
+    map: &mut CountedMap<'a>,
+    key: u64,
+    value: Counted<'a>,
+) -> Result<(), Cause> {
+    drop(map.insert(key, value)?);
+    Ok(())
+}
+
+/// The same where the cause is one of JSON.
+pub fn insert_or_json_cause<'a>(
+    map: &mut CountedMap<'a>,
+    key: u64,
+    value: Counted<'a>,
+) -> Result<(), JsonCause> {
+    drop(map.insert(key, value)?);
+    Ok(())
+}
+
+/// Drops the pair that is refused, if one is.
+pub fn extend_or_cause<'a>(
+    map: &mut CountedMap<'a>,
+    numbers: Numbers,
+    ground: Ground<'a>,
+) -> Result<(), Cause> {
+    map.extend(ground.pairs(numbers)?.into_iter())?;
+    Ok(())
+}
