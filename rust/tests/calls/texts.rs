@@ -13,6 +13,17 @@ fn maps_and_sets_have_the_texts_of_std() {
 }
 
 #[test]
+fn texts_have_each_of_many_pairs() {
+    let map: IntMap<u64, u64> = (0..1000).map(|key| (key, key + 10)).collect();
+    let pairs: Vec<_> = map.iter().map(|(key, value)| format!("{key}: {value}")).collect();
+    assert_eq!(format!("{map:?}"), format!("{{{}}}", pairs.join(", ")));
+    let set: IntSet<u64> = (0..1000).collect();
+    let members: Vec<_> = set.iter().map(|key| key.to_string()).collect();
+    assert_eq!(format!("{set:?}"), format!("{{{}}}", members.join(", ")));
+    assert_eq!(format!("{:?}", map.values()), format!("{:?}", map.values().collect::<Vec<_>>()));
+}
+
+#[test]
 fn entries_have_texts() {
     let mut map = IntMap::from([(21_u64, 'a')]);
     let text = format!("{:?}", map.entry(21));

@@ -44,6 +44,8 @@ fn a_load_factor_is_cut_to_thousandths() {
     let mut map = IntMap::<u64, ()>::new();
     for (factor, thousandths) in [
         (0.9, 900),
+        (0.9999, 999),
+        (0.0019, 1),
         (1.2345, 1234),
         (-1.0, 0),
         (f32::NAN, 0),
