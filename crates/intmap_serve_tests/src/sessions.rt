@@ -1,8 +1,9 @@
 //! Sessions over readers and writers in memory, some of which fail.
 
-use crate::ended::{Row, end, end_of, expect, expect_all};
+use crate::ended::{Ended, Row, end, end_of, expect, expect_all};
 use crate::refusals::OF_ALL_KINDS;
 use crate::streams::{Limited, MOST, Slow};
+use refuser::Refuser;
 use std::alloc::Global;
 use std::process::Abort;
 
@@ -184,6 +185,27 @@ fn a_failing_flush_is_a_failing_output(rt: HostRuntime) {
         Limited::new(MOST, true),
     );
     expect(&rt, 0, &ended, (INPUT, 4, OUTPUT, b"output failed\n"));
+}
+
+// expects the session to have flushed its answers, or the text for standard error
+fn expect_flushed(rt: &impl Abort, ended: &Ended, answers: &[u8], told: &[u8]) {
+    let is_right = ended.output.flushed() == answers && ended.faults.flushed() == told;
+    assert!(rt; is_right, "{answers:?} and {told:?} are flushed");
+}
+
+#[test]
+fn answers_and_each_fault_are_flushed(rt: HostRuntime) {
+    let alloc = rt.alloc();
+    let ample = Limited::new(MOST, true);
+    for row in &SESSIONS {
+        expect_flushed(&rt, &end_of(alloc, row.0), row.2, row.3);
+    }
+    let ended = end_of(&Refuser::new(alloc, 1), INPUT);
+    expect_flushed(&rt, &ended, b"", b"no memory\n");
+    let ended = end(alloc, &mut Slow::new(INPUT, false), ample, ample);
+    expect_flushed(&rt, &ended, b"", b"input failed\n");
+    let ended = end(alloc, &mut { INPUT }, Limited::new(3, true), ample);
+    expect_flushed(&rt, &ended, b"", b"output failed\n");
 }
 
 #[test]

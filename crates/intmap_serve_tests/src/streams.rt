@@ -45,14 +45,15 @@ impl<'a> Slow<'a> {
 /// More bytes than any session here writes.
 pub const MOST: usize = 1024;
 
-/// Takes so many bytes, at most `MOST`, then fails; it may also fail when it is flushed. It holds
-/// them in itself, so nothing is to be let go where a test ends.
+/// Takes so many bytes, at most `MOST`, then fails; it may also fail when it is flushed, and keeps how
+/// many it held when it was. It holds them in itself, so nothing is to be let go where a test ends.
 #[derive(Clone, Copy)]
 pub struct Limited {
     held: [u8; MOST],
     len: usize,
     room: usize,
     flushes: bool,
+    flushed: usize,
 }
 
 impl Write for Limited {
@@ -71,6 +72,7 @@ impl Write for Limited {
 
     fn flush(&mut self) -> io::Result<()> {
         if self.flushes {
+            self.flushed = self.len;
             Ok(())
         } else {
             Err(io::Error::from(ErrorKind::ConnectionReset))
@@ -86,12 +88,18 @@ impl Limited {
             len: 0,
             room,
             flushes,
+            flushed: 0,
         }
     }
 
     /// What it took.
     pub fn bytes(&self) -> &[u8] {
         self.held.get(..self.len).unwrap_or(&self.held)
+    }
+
+    /// What it took before it was flushed last.
+    pub fn flushed(&self) -> &[u8] {
+        self.held.get(..self.flushed).unwrap_or(&self.held)
     }
 }
 
