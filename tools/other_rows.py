@@ -346,6 +346,7 @@ SET_CALLS = {
     ("clone", 0): lambda it, refuses: it.clone(refuses),
     ("other", 0): lambda it, _: it.swap(),
     ("drain", 1): lambda it, _, n: brackets(k for k, _ in it.set.drain(n)),
+    ("drain_forget", 1): lambda it, _, n: brackets(k for k, _ in it.set.drain(n)),
     ("into_iter", 1): lambda it, refuses, n: brackets(k for k, _ in it.set.into_walk(refuses)[:n]),
     ("into_sum", 0): lambda it, refuses: members_sum([k for k, _ in it.set.into_walk(refuses)]),
     ("insert", 1): lambda it, refuses, k: truth(it.set.insert_checked(k, 0, refuses)),

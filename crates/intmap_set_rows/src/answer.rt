@@ -8,6 +8,7 @@ use intmap_row_words::text::{
 };
 use intmap_set::IntSet;
 use std::alloc::AllocError;
+use std::mem;
 
 /// Writes the answer to the call of this name with these numbers.
 pub fn named(
@@ -176,12 +177,25 @@ fn with_number(
             write_done(out, Ok(()))
         }
         "drain" => write_list(out, sets.set.drain().take(number as usize)),
+        "drain_forget" => drained_and_forgotten(out, &mut sets.set, number),
         "into_iter" => match sets.taken() {
             Ok(set) => write_list(out, set.into_iter().take(number as usize)),
             Err(cause) => write_refusal(out, cause, None),
         },
         _ => with_key(out, &mut sets.set, name, number),
     }
+}
+
+// takes so many members out, writes them, and forgets the iterator
+fn drained_and_forgotten(
+    out: &mut String,
+    set: &mut Set<'_>,
+    count: u64,
+) -> Result<(), AllocError> {
+    let mut left = set.drain();
+    let told = write_list(out, left.by_ref().take(count as usize));
+    mem::forget(left);
+    told
 }
 
 // writes the answer to a call with a key
