@@ -366,3 +366,31 @@ fn a_value_is_dropped_once_where_its_cause_alone_is_told(rt: HostRuntime) -> Res
     assert_eq!(rt; end, (0x1111111, 0), "the map was let go");
     Ok(())
 }
+
+const BY_CLOSURES: [Row; 9] = [
+    (Step::Insert(0, 0), None, 0x000, 0x000, 1, 4),
+    // Key 0 is bound, so the values are let go with the closures that own them.
+    (Step::OrInsertWithKey(0, 1), Some(0), 0x010, 0x010, 1, 4),
+    (Step::OrTryInsertWith(0, 2), Some(0), 0x110, 0x110, 1, 4),
+    (Step::OrInsertWithKey(4, 3), Some(3), 0x110, 0x110, 2, 4),
+    (Step::OrTryInsertWith(8, 4), Some(4), 0x110, 0x110, 3, 4),
+    // Value 5 is written over value 3, and value 6 goes with its closure.
+    (Step::ModifyBy(4, 5), None, 0x1110, 0x1110, 3, 4),
+    (Step::ModifyBy(1, 6), None, 0x1001110, 0x1001110, 3, 4),
+    (Step::RetainBy(8), None, 0x101101110, 0x101101110, 2, 4),
+    (
+        Step::VisitEach(10),
+        None,
+        0x10101101110,
+        0x10101101110,
+        2,
+        4,
+    ),
+];
+
+#[test]
+fn a_closure_is_dropped_with_the_value_that_it_owns(rt: HostRuntime) -> Result<(), Fail> {
+    let end = end_of(rt.alloc(), &BY_CLOSURES)?;
+    assert_eq!(rt; end, (0x10101111111, 0), "the map was let go");
+    Ok(())
+}

@@ -30,6 +30,16 @@ pub enum Step {
     InsertEntry(u64, u32),
     /// `or_insert_with` by the entry of the key, of a closure that owns the value.
     OrInsertWith(u64, u32),
+    /// The same of `or_insert_with_key`.
+    OrInsertWithKey(u64, u32),
+    /// The same of `or_try_insert_with`.
+    OrTryInsertWith(u64, u32),
+    /// A write by `and_modify`, if the key is bound, of a closure that owns the value.
+    ModifyBy(u64, u32),
+    /// `retain` of the values with numbers that are odd or even as that of the closure's own value is.
+    RetainBy(u32),
+    /// `for_each_mut` of a closure that owns a value, and changes none.
+    VisitEach(u32),
     /// `insert`, of which a `?` leaves the cause alone where it is refused.
     InsertOrCause(u64, u32),
     /// The same with the cause of a call on JSON.
@@ -116,6 +126,12 @@ pub fn take<'a>(
         Step::OrInsertWith(key, number) => {
             Answer::Lent(taken::or_insert_with(map, key, ground.value(number))?)
         }
+        Step::OrInsertWithKey(key, number) => {
+            Answer::Lent(taken::or_insert_with_key(map, key, ground.value(number))?)
+        }
+        Step::OrTryInsertWith(key, number) => {
+            Answer::Lent(taken::or_try_insert_with(map, key, ground.value(number))?)
+        }
         Step::Remove(key) => Answer::Back(map.remove(key)),
         Step::RemoveEntry(key) => Answer::Back(taken::remove_entry(map, key)),
         Step::EntryRemoveEntry(key) => Answer::Back(taken::remove_by_entry(map, key)),
@@ -140,6 +156,9 @@ fn change<'a>(map: &mut CountedMap<'a>, step: Step, ground: Ground<'a>) -> Resul
         }
         Step::Write(key, number) => write(map, key, ground.value(number)),
         Step::Modify(key, number) => modify(map, key, number, ground),
+        Step::ModifyBy(key, number) => taken::modify(map, key, ground.value(number)),
+        Step::RetainBy(number) => taken::retain(map, ground.value(number)),
+        Step::VisitEach(number) => taken::visit_each(map, ground.value(number)),
         Step::WriteEach(more) => write_each(map, more, ground),
         Step::Retain(key, number) => map.retain(|k, value| k == key || value.number == number),
         Step::RetainKey(key) => map.retain(|k, _| k == key),

@@ -27,6 +27,47 @@ pub fn or_insert_with<'a>(
     Ok(map.entry(key).or_insert_with(move || value)?.number)
 }
 
+/// The same by a closure that takes the key.
+pub fn or_insert_with_key<'a>(
+    map: &mut CountedMap<'a>,
+    key: u64,
+    value: Counted<'a>,
+) -> Result<u32, Cause> {
+    Ok(map.entry(key).or_insert_with_key(move |_| value)?.number)
+}
+
+/// The same by a closure that could fail.
+pub fn or_try_insert_with<'a>(
+    map: &mut CountedMap<'a>,
+    key: u64,
+    value: Counted<'a>,
+) -> Result<u32, Cause> {
+    let made: Result<Counted<'a>, Cause> = Ok(value);
+    Ok(map.entry(key).or_try_insert_with(move || made)?.number)
+}
+
+/// Writes a value that a closure owns over that of the key, if it is bound.
+pub fn modify<'a>(map: &mut CountedMap<'a>, key: u64, value: Counted<'a>) {
+    let _entry = map.entry(key).and_modify(move |place| *place = value);
+}
+
+// whether both numbers are odd, or both even
+fn are_alike(left: &Counted<'_>, right: &Counted<'_>) -> bool {
+    left.number % 2 == right.number % 2
+}
+
+/// Keeps the values that are odd or even as that of the closure is.
+pub fn retain<'a>(map: &mut CountedMap<'a>, owned: Counted<'a>) {
+    map.retain(move |_, value| are_alike(&owned, value));
+}
+
+/// Goes through all values by a closure that owns one.
+pub fn visit_each<'a>(map: &mut CountedMap<'a>, owned: Counted<'a>) {
+    map.for_each_mut(move |_, value| {
+        let _ = are_alike(&owned, value);
+    });
+}
+
 /// The value that was taken out with its key.
 pub fn remove_entry<'a>(map: &mut CountedMap<'a>, key: u64) -> Option<Counted<'a>> {
     let (_, value) = map.remove_entry(key)?;
