@@ -9,7 +9,7 @@
  *
  * Written by tools/assembly of the repository, and not to be edited.
  * Compilers: rattle-kit-13f logic dac8208d650f15bf; clang version 22.1.8
- * Sources: ada10fdd798676d9477959cbcacf4bd988629f5c068c8b65639e4996d05696e0
+ * Sources: 6abf164d5b188863a01a90b3befc54dbf73852a01c44e32ddeef24ba6860ba13
  *     cat $(find crates/intmap_table/src crates/intmap/src crates/intmap_c/src -name '*.rt' | LC_ALL=C sort) | sha256sum
  *
  * MIT License
@@ -447,7 +447,7 @@ intmap_table.slot.Slot.push.c8b028771b2330bd:
 	movq	%rdi, %r14
 	movq	%rax, %rdi
 	movq	%rdx, %r15
-	callq	std_alloc.vec.Vec.grow_amortized.60c4befc1c5893ce
+	callq	std_alloc.vec.Vec.grow_amortized.6b1b7beff0dd3ad4
 	movq	%rbx, %rsi
 	movq	%r14, %rdi
 	movq	%r15, %rdx
@@ -499,10 +499,10 @@ intmap_table.slot.Slot.push.c8b028771b2330bd:
 .Lfunc_end2:
 	.size	intmap_table.slot.Slot.push.c8b028771b2330bd, .Lfunc_end2-intmap_table.slot.Slot.push.c8b028771b2330bd
 
-	.section	.text.unlikely.std_alloc.vec.Vec.grow_amortized.60c4befc1c5893ce,"ax",@progbits
+	.section	.text.unlikely.std_alloc.vec.Vec.grow_amortized.6b1b7beff0dd3ad4,"ax",@progbits
 	.p2align	4
-	.type	std_alloc.vec.Vec.grow_amortized.60c4befc1c5893ce,@function
-std_alloc.vec.Vec.grow_amortized.60c4befc1c5893ce:
+	.type	std_alloc.vec.Vec.grow_amortized.6b1b7beff0dd3ad4,@function
+std_alloc.vec.Vec.grow_amortized.6b1b7beff0dd3ad4:
 	movq	%rsi, %rax
 	movq	8(%rdi), %rsi
 	addq	%rsi, %rax
@@ -561,7 +561,7 @@ std_alloc.vec.Vec.grow_amortized.60c4befc1c5893ce:
 	popq	%r14
 	retq
 .Lfunc_end3:
-	.size	std_alloc.vec.Vec.grow_amortized.60c4befc1c5893ce, .Lfunc_end3-std_alloc.vec.Vec.grow_amortized.60c4befc1c5893ce
+	.size	std_alloc.vec.Vec.grow_amortized.6b1b7beff0dd3ad4, .Lfunc_end3-std_alloc.vec.Vec.grow_amortized.6b1b7beff0dd3ad4
 
 	.section	.text.intmap_table.table.Table.grow.8c24c32d6e201e8c,"ax",@progbits
 	.p2align	4
@@ -1385,7 +1385,7 @@ intmap_table.table.place.move_several.8c24c32d6e201e8c:
 	subq	%rdx, %rsi
 	shlq	$4, %rsi
 	addq	%rdi, %rsi
-	callq	core.slice.edits.mirror.24.e7d2d12f4820b165
+	callq	core.slice.edits.mirror.24.edcbad3f61a03657
 	jmp	.LBB6_48
 .LBB6_15:
 	cmpq	$2, %rsi
@@ -1443,7 +1443,7 @@ intmap_table.table.place.move_several.8c24c32d6e201e8c:
 	movq	%r14, %rdi
 	movq	%r8, %rsi
 	movq	%r8, 16(%rsp)
-	callq	std_alloc.vec.Vec.grow_amortized.60c4befc1c5893ce
+	callq	std_alloc.vec.Vec.grow_amortized.6b1b7beff0dd3ad4
 	movq	16(%rsp), %r8
 	movq	8(%r14), %rsi
 	testb	%al, %al
@@ -1690,10 +1690,10 @@ intmap_table.table.place.move_several.8c24c32d6e201e8c:
 .Lfunc_end6:
 	.size	intmap_table.table.place.move_several.8c24c32d6e201e8c, .Lfunc_end6-intmap_table.table.place.move_several.8c24c32d6e201e8c
 
-	.section	.text.core.slice.edits.mirror.24.e7d2d12f4820b165,"ax",@progbits
+	.section	.text.core.slice.edits.mirror.24.edcbad3f61a03657,"ax",@progbits
 	.p2align	4
-	.type	core.slice.edits.mirror.24.e7d2d12f4820b165,@function
-core.slice.edits.mirror.24.e7d2d12f4820b165:
+	.type	core.slice.edits.mirror.24.edcbad3f61a03657,@function
+core.slice.edits.mirror.24.edcbad3f61a03657:
 	movq	%rdx, %rax
 	shlq	$4, %rax
 	addq	%rsi, %rax
@@ -1712,7 +1712,7 @@ core.slice.edits.mirror.24.e7d2d12f4820b165:
 	jne	.LBB7_1
 	retq
 .Lfunc_end7:
-	.size	core.slice.edits.mirror.24.e7d2d12f4820b165, .Lfunc_end7-core.slice.edits.mirror.24.e7d2d12f4820b165
+	.size	core.slice.edits.mirror.24.edcbad3f61a03657, .Lfunc_end7-core.slice.edits.mirror.24.edcbad3f61a03657
 
 	.section	.text.intmap_table.slot.Slot.push.57eeeff9ae3185cd,"ax",@progbits
 	.p2align	4
@@ -1732,7 +1732,7 @@ intmap_table.slot.Slot.push.57eeeff9ae3185cd:
 	movq	%rax, %rdi
 	movq	%rdx, %r14
 	movq	%rsi, %r15
-	callq	std_alloc.vec.Vec.grow_amortized.5e33078b701b7bfa
+	callq	std_alloc.vec.Vec.grow_amortized.b4a90cc5b7ce7e78
 	movq	%r15, %rsi
 	movq	%r14, %rdx
 	movq	%rbx, %rdi
@@ -1778,10 +1778,10 @@ intmap_table.slot.Slot.push.57eeeff9ae3185cd:
 .Lfunc_end8:
 	.size	intmap_table.slot.Slot.push.57eeeff9ae3185cd, .Lfunc_end8-intmap_table.slot.Slot.push.57eeeff9ae3185cd
 
-	.section	.text.unlikely.std_alloc.vec.Vec.grow_amortized.5e33078b701b7bfa,"ax",@progbits
+	.section	.text.unlikely.std_alloc.vec.Vec.grow_amortized.b4a90cc5b7ce7e78,"ax",@progbits
 	.p2align	4
-	.type	std_alloc.vec.Vec.grow_amortized.5e33078b701b7bfa,@function
-std_alloc.vec.Vec.grow_amortized.5e33078b701b7bfa:
+	.type	std_alloc.vec.Vec.grow_amortized.b4a90cc5b7ce7e78,@function
+std_alloc.vec.Vec.grow_amortized.b4a90cc5b7ce7e78:
 	movq	8(%rdi), %rsi
 	cmpq	$-1, %rsi
 	je	.LBB9_5
@@ -1840,7 +1840,7 @@ std_alloc.vec.Vec.grow_amortized.5e33078b701b7bfa:
 	popq	%r14
 	retq
 .Lfunc_end9:
-	.size	std_alloc.vec.Vec.grow_amortized.5e33078b701b7bfa, .Lfunc_end9-std_alloc.vec.Vec.grow_amortized.5e33078b701b7bfa
+	.size	std_alloc.vec.Vec.grow_amortized.b4a90cc5b7ce7e78, .Lfunc_end9-std_alloc.vec.Vec.grow_amortized.b4a90cc5b7ce7e78
 
 	.section	.text.intmap_version,"ax",@progbits
 	.globl	intmap_version
@@ -5083,7 +5083,7 @@ intmap_table.slot.Slot.push.c8b028771b2330bd:
 	add	x0, x0, #24
 	mov	x21, x1
 	mov	w1, #1
-	bl	std_alloc.vec.Vec.grow_amortized.60c4befc1c5893ce
+	bl	std_alloc.vec.Vec.grow_amortized.6b1b7beff0dd3ad4
 	mov	x1, x21
 	mov	w8, w0
 	mov	x0, x20
@@ -5127,10 +5127,10 @@ intmap_table.slot.Slot.push.c8b028771b2330bd:
 .Lfunc_end2:
 	.size	intmap_table.slot.Slot.push.c8b028771b2330bd, .Lfunc_end2-intmap_table.slot.Slot.push.c8b028771b2330bd
 
-	.section	.text.unlikely.std_alloc.vec.Vec.grow_amortized.60c4befc1c5893ce,"ax",@progbits
+	.section	.text.unlikely.std_alloc.vec.Vec.grow_amortized.6b1b7beff0dd3ad4,"ax",@progbits
 	.p2align	2
-	.type	std_alloc.vec.Vec.grow_amortized.60c4befc1c5893ce,@function
-std_alloc.vec.Vec.grow_amortized.60c4befc1c5893ce:
+	.type	std_alloc.vec.Vec.grow_amortized.6b1b7beff0dd3ad4,@function
+std_alloc.vec.Vec.grow_amortized.6b1b7beff0dd3ad4:
 	ldr	x8, [x0, #8]
 	cmn	x8, x1
 	b.lo	.LBB3_2
@@ -5180,7 +5180,7 @@ std_alloc.vec.Vec.grow_amortized.60c4befc1c5893ce:
 	ldp	x29, x30, [sp], #32
 	ret
 .Lfunc_end3:
-	.size	std_alloc.vec.Vec.grow_amortized.60c4befc1c5893ce, .Lfunc_end3-std_alloc.vec.Vec.grow_amortized.60c4befc1c5893ce
+	.size	std_alloc.vec.Vec.grow_amortized.6b1b7beff0dd3ad4, .Lfunc_end3-std_alloc.vec.Vec.grow_amortized.6b1b7beff0dd3ad4
 
 	.section	.text.intmap_table.table.Table.grow.8c24c32d6e201e8c,"ax",@progbits
 	.p2align	2
@@ -5761,7 +5761,7 @@ intmap_table.table.place.move_several.8c24c32d6e201e8c:
 	lsr	x2, x8, #1
 	sub	x8, x8, x2
 	add	x1, x0, x8, lsl #4
-	bl	core.slice.edits.mirror.24.e7d2d12f4820b165
+	bl	core.slice.edits.mirror.24.edcbad3f61a03657
 	b	.LBB6_43
 .LBB6_9:
 	subs	x10, x8, #2
@@ -5803,7 +5803,7 @@ intmap_table.table.place.move_several.8c24c32d6e201e8c:
 .LBB6_20:
 	mov	x0, x19
 	mov	x1, x23
-	bl	std_alloc.vec.Vec.grow_amortized.60c4befc1c5893ce
+	bl	std_alloc.vec.Vec.grow_amortized.6b1b7beff0dd3ad4
 	ldr	x8, [x19, #8]
 	tbnz	w0, #0, .LBB6_2
 	b	.LBB6_7
@@ -5982,10 +5982,10 @@ intmap_table.table.place.move_several.8c24c32d6e201e8c:
 .Lfunc_end6:
 	.size	intmap_table.table.place.move_several.8c24c32d6e201e8c, .Lfunc_end6-intmap_table.table.place.move_several.8c24c32d6e201e8c
 
-	.section	.text.core.slice.edits.mirror.24.e7d2d12f4820b165,"ax",@progbits
+	.section	.text.core.slice.edits.mirror.24.edcbad3f61a03657,"ax",@progbits
 	.p2align	2
-	.type	core.slice.edits.mirror.24.e7d2d12f4820b165,@function
-core.slice.edits.mirror.24.e7d2d12f4820b165:
+	.type	core.slice.edits.mirror.24.edcbad3f61a03657,@function
+core.slice.edits.mirror.24.edcbad3f61a03657:
 	sub	sp, sp, #16
 	add	x8, x1, x2, lsl #4
 	sub	x8, x8, #16
@@ -5999,7 +5999,7 @@ core.slice.edits.mirror.24.e7d2d12f4820b165:
 	add	sp, sp, #16
 	ret
 .Lfunc_end7:
-	.size	core.slice.edits.mirror.24.e7d2d12f4820b165, .Lfunc_end7-core.slice.edits.mirror.24.e7d2d12f4820b165
+	.size	core.slice.edits.mirror.24.edcbad3f61a03657, .Lfunc_end7-core.slice.edits.mirror.24.edcbad3f61a03657
 
 	.section	.text.intmap_table.slot.Slot.push.57eeeff9ae3185cd,"ax",@progbits
 	.p2align	2
@@ -6017,7 +6017,7 @@ intmap_table.slot.Slot.push.57eeeff9ae3185cd:
 	add	x0, x0, #24
 	mov	x20, x2
 	mov	x21, x1
-	bl	std_alloc.vec.Vec.grow_amortized.5e33078b701b7bfa
+	bl	std_alloc.vec.Vec.grow_amortized.b4a90cc5b7ce7e78
 	mov	x1, x21
 	mov	x2, x20
 	mov	w8, w0
@@ -6061,10 +6061,10 @@ intmap_table.slot.Slot.push.57eeeff9ae3185cd:
 .Lfunc_end8:
 	.size	intmap_table.slot.Slot.push.57eeeff9ae3185cd, .Lfunc_end8-intmap_table.slot.Slot.push.57eeeff9ae3185cd
 
-	.section	.text.unlikely.std_alloc.vec.Vec.grow_amortized.5e33078b701b7bfa,"ax",@progbits
+	.section	.text.unlikely.std_alloc.vec.Vec.grow_amortized.b4a90cc5b7ce7e78,"ax",@progbits
 	.p2align	2
-	.type	std_alloc.vec.Vec.grow_amortized.5e33078b701b7bfa,@function
-std_alloc.vec.Vec.grow_amortized.5e33078b701b7bfa:
+	.type	std_alloc.vec.Vec.grow_amortized.b4a90cc5b7ce7e78,@function
+std_alloc.vec.Vec.grow_amortized.b4a90cc5b7ce7e78:
 	ldr	x8, [x0, #8]
 	cmn	x8, #1
 	b.eq	.LBB9_5
@@ -6114,7 +6114,7 @@ std_alloc.vec.Vec.grow_amortized.5e33078b701b7bfa:
 	ldp	x29, x30, [sp], #32
 	ret
 .Lfunc_end9:
-	.size	std_alloc.vec.Vec.grow_amortized.5e33078b701b7bfa, .Lfunc_end9-std_alloc.vec.Vec.grow_amortized.5e33078b701b7bfa
+	.size	std_alloc.vec.Vec.grow_amortized.b4a90cc5b7ce7e78, .Lfunc_end9-std_alloc.vec.Vec.grow_amortized.b4a90cc5b7ce7e78
 
 	.section	.text.intmap_version,"ax",@progbits
 	.globl	intmap_version
