@@ -34,3 +34,4 @@ pub mod ExtractLemmas
 pub mod CursorLemmas
 pub mod RefusalLemmas
 pub mod LendMapLemmas
+pub mod EqualLengthLemmas

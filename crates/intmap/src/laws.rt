@@ -118,6 +118,14 @@ pub fn equal_maps_bind_the_same<K: IntKey, V: PartialEq>()
         ↔ BindSame K.number_of V.eq m.walk n.walk }
 {}
 
+/// Equal maps have the same number of pairs. The clause `valid` of a map's calls says that its keys
+/// are distinct.
+pub fn equal_maps_are_as_long<K: IntKey, V: PartialEq>()
+    ensures { (m n : MapState K V) → HasDistinctKeys K.number_of m.walk
+        → HasDistinctKeys K.number_of n.walk
+        → IsTrue (maps_equal K.number_of V.eq m n) → length m.walk ≡ length n.walk }
+{}
+
 /// If one JSON value shows two lists of pairs, they have the same numbers, each with the same tree.
 pub fn shown_bindings_are_the_same()
     ensures { (tree : Data) (L M : List (ℕ × Value)) → Shows tree L → Shows tree M
