@@ -9,7 +9,7 @@
  *
  * Written by tools/assembly of the repository, and not to be edited.
  * Compilers: rattle-kit-13f logic dac8208d650f15bf; clang version 22.1.8
- * Sources: 6abf164d5b188863a01a90b3befc54dbf73852a01c44e32ddeef24ba6860ba13
+ * Sources: 0f2090efc6f23f79d82af4dfa08fd1347a13e1107604dfcaecfa170159eeea49
  *     cat $(find crates/intmap_table/src crates/intmap/src crates/intmap_c/src -name '*.rt' | LC_ALL=C sort) | sha256sum
  *
  * MIT License

@@ -87,6 +87,18 @@ pub fn is_equal_to_this<K: IntKey, V: PartialEq, A: Allocator + Copy>(
     are_one_turned(map, other)
 }
 
+/// Whether two maps are equal. If they are, they have the same number of pairs.
+pub fn are_equal<K: IntKey, V: PartialEq, A: Allocator + Copy>(
+    first: &IntMap<K, V, A>,
+    second: &IntMap<K, V, A>,
+) -> bool
+    ensures { IsTrue result → length first.now.walk ≡ length second.now.walk }
+{
+    laws::equal_maps_are_as_long::<K, V>();
+    let (_first, _second) = (first.len(), second.len());
+    *first == *second
+}
+
 /// Whether three maps are equal, each to each other, by two comparisons.
 pub fn are_all_equal<K: IntKey, V: PartialEq, A: Allocator + Copy>(
     first: &IntMap<K, V, A>,
