@@ -1,10 +1,10 @@
 //! Entries: a map with a key that was looked up once, to read, write, remove or insert its pair.
-ghost use Rattle.std.specs.Prelude.{◌≡◌, None, ◌+◌, cond, length, is_some, IsSome, Some, IfOk, IfErr, OnOk, unwrap_or, MatchOption};
+ghost use Rattle.std.specs.Prelude.{◌≡◌, None, ◌+◌, cond, length, is_some, IsSome, Some, IfOk, IfErr, OnOk, IsOk, unwrap_or, MatchOption};
 ghost use Rattle.intmap_table.specs.Bindings.{value_of, Updates};
 ghost use Rattle.intmap_table.specs.Locations.{IsFound};
 ghost use Rattle.std.specs.Borrow.{sem, MutBor};
 ghost use Rattle.std.specs.Map.Calls.{ModifiesValue};
-ghost use Rattle.intmap.specs.Map.{IsMap, IsOutOfRange, IsCapacityAfter, after_search};
+ghost use Rattle.intmap.specs.Map.{IsLone, IsMap, IsOutOfRange, IsCapacityAfter, after_search};
 ghost use Rattle.intmap.specs.PlainLists.{RefusalIsDue};
 
 mod attempt;
@@ -141,6 +141,8 @@ impl<'a, K: IntKey, V, A: Allocator + Copy> Entry<'a, K, V, A> {
             → ⊥) }
         ensures refused { IfErr result (λ refused. RefusalIsDue K.number_of (entry_list self.entry)
             (entry_key self.entry) refused.cause) }
+        ensures lone { IsLone K.number_of (entry_map self.entry).walk
+            (entry_map self.entry).capacity (entry_key self.entry) → IsOk result }
     {
         match self {
             Entry::Occupied(entry) => Ok(entry.into_mut()),

@@ -3,7 +3,7 @@ use Rattle.std.proofs.Common.{◌≡◌, ◌∙◌, ℕ, ◌+◌, ◌<◌, Bool,
 use Rattle.std.specs.Prelude.{◌↔◌, Result, Ok, Err, IsErrAnd, IsErrOf, OnOk, OnErr, MatchBool}
 use Rattle.intmap.specs.declared.refusal.Cause.{Cause}
 use Rattle.intmap.specs.Growth.{IsNext, IsLeastPower}
-use Rattle.intmap.specs.Map.{MapState, IsOutOfRange, IsCapacityAfter, after_search, after_insert, after_remove}
+use Rattle.intmap.specs.Map.{MapState, IsLone, IsOutOfRange, IsCapacityAfter, after_search, after_insert, after_remove}
 use Rattle.intmap.specs.Map as of_map
 use Rattle.intmap.specs.Reach.{class_size}
 use Rattle.intmap_set.specs.Sets.{SetState, load_factor, paired, set_of, with_key, without_key, in_slots}
@@ -55,6 +55,10 @@ module _ {K : Type 0} (number : K → ℕ) (m n : MapState K (Unit {0})) (s : Se
         λ err. subst (λ t. IsOutOfRange number t.0 t.1 t.2 k) pairs (iff.0 (of.0 err)),
         λ beyond. of.1 (iff.1 (subst (λ t. IsOutOfRange number t.0 t.1 t.2 k) (sym pairs) beyond)),
       )
+
+  -- a lone key of the set is one of the map
+  pub IsLone-seen : m.factor ≡ load_factor → IsLone number (paired s.walk) s.capacity k → IsLone number m.walk m.capacity k
+  IsLone-seen kept lone = subst (λ t. IsLone number t.0 t.1 k) (sym (factor-seen m s seen kept)) lone
 
   -- if nothing fails, no key is out of range
   pub accepted-seen : m.factor ≡ load_factor → (new : Bool) (d : Cause) → ⊥ ↔ IsOutOfRange number m.walk m.capacity m.factor k

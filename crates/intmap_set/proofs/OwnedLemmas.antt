@@ -9,7 +9,7 @@ use Rattle.std.proofs.Math.Pow.{pow_mono, pow_pos}
 use Rattle.std.proofs.lemmas.Option.{slice_get_within}
 use Rattle.std.specs.Iterator.{YieldsThen}
 use Rattle.std.specs.List.{slice_get}
-use Rattle.std.specs.Prelude.{◌⊎◌, ◌||◌, min, Option, Result, Ok, Err, IfOk, IfErr, MatchResult}
+use Rattle.std.specs.Prelude.{◌⊎◌, min, Option, Result, Ok, Err, IfOk, IfErr, MatchResult}
 use Rattle.intmap.specs.declared.refusal.Cause.{Cause}
 use Rattle.intmap.specs.declared.refusal.Cause.TheVariants.{Memory, TooLarge}
 use Rattle.intmap.specs.declared.refusal.RefusedPair.{RefusedPair}
@@ -114,17 +114,19 @@ module _ {K : Type 0} (number : K → ℕ) (is_valid : K → Type 0) where
           due-four m n due le = let one : m / 4 % 2 ≡ 1 = eqb-true (m / 4 % 2) 1 due in omega (arith, one, le)
 
   module _ {I : Type 0} {steps : I → Option K → I → Type 0} {i : I} {all : List K} (yields : YieldsList steps (λ k. k) i all) where
-    -- the set has the keys that came, and no others
-    pub members-made : (t : SetState K) → Extends number is_valid steps i (empty_set 4) t → HaveSameMembers number t.walk all
-    members-made t told q =
-        told.extended.members q
-        ∙ ap (λ ks. holds number ks q) (sym (map-id told.keys) ∙ items_from_drains told.keys (told.came.1.0, told.came.1.1, λ _. (told.came.0, told.came.1.2)) yields)
+    -- the keys that came were inserted
+    pub extended-all : (s t : SetState K) → Extends number is_valid steps i s t → IsExtended number is_valid s all t
+    extended-all s t told =
+        subst (λ ks. IsExtended number is_valid s ks t)
+        (sym (map-id told.keys) ∙ items_from_drains told.keys (told.came.1.0, told.came.1.1, λ _. (told.came.0, told.came.1.2)) yields) told.extended
 
     -- an extended set has its members and the keys
     pub members-extended : (s t : SetState K) → Extends number is_valid steps i s t → IsUnion number s.walk all t.walk
-    members-extended s t told q =
-        told.extended.members q
-        ∙ ap (λ ks. holds number s.walk q || holds number ks q) (sym (map-id told.keys) ∙ items_from_drains told.keys (told.came.1.0, told.came.1.1, λ _. (told.came.0, told.came.1.2)) yields)
+    members-extended s t told = (extended-all s t told).members
+
+    -- a new set has the keys, and no others
+    pub members-made : (t : SetState K) → Extends number is_valid steps i (empty_set 4) t → HaveSameMembers number t.walk all
+    members-made t told = members-extended (empty_set 4) t told
 
     -- and as many
     pub length-made : HasDistinctKeys number (paired all) → (t : SetState K) → Extends number is_valid steps i (empty_set 4) t → IsSet number is_valid t → length t.walk ≡ length all

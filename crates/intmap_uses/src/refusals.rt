@@ -4,6 +4,7 @@ ghost use Rattle.std.specs.Prelude.{◌≡◌, ℕ, ◌+◌, ◌<◌, ◌≤◌,
 ghost use Rattle.intmap_uses.specs.Waiting.{Moves, pairs_of};
 
 use intmap::{Cause, IntMap};
+use intmap_set::IntSet;
 use std::alloc::{AllocError, Allocator};
 
 /// A pair whose insertion failed, with the cause.
@@ -31,6 +32,35 @@ pub fn made_of_one<V: Drop, A: Allocator + Copy>(
     let mut map = IntMap::new(alloc)?;
     let is_in = map.insert(key, value).is_ok();
     Ok((map, is_in))
+}
+
+/// A new map that counts the key once, and whether its insertion by an entry succeeded, which it
+/// does.
+///
+/// It fails if the map can't be made.
+pub fn made_of_one_count<A: Allocator + Copy>(
+    alloc: A,
+    key: u64,
+) -> Result<(IntMap<u64, u64, A>, bool), Cause>
+    ensures { IfOk result (λ made. made.1 ≡ true) }
+{
+    let mut map = IntMap::new(alloc)?;
+    let is_in = map.entry(key).or_insert(1).is_ok();
+    Ok((map, is_in))
+}
+
+/// A new set with one member, and whether its insertion succeeded, which it does.
+///
+/// It fails if the set can't be made.
+pub fn made_of_one_member<A: Allocator + Copy>(
+    alloc: A,
+    key: u64,
+) -> Result<(IntSet<u64, A>, bool), Cause>
+    ensures { IfOk result (λ made. made.1 ≡ true) }
+{
+    let mut set = IntSet::new(alloc)?;
+    let is_in = set.insert(key).is_ok();
+    Ok((set, is_in))
 }
 
 /// Moves the pairs into the map, the last first. A pair whose insertion fails waits with its cause,

@@ -1,10 +1,10 @@
 //! Insertions that return the entry of the key, which is then present.
-ghost use Rattle.std.specs.Prelude.{◌≡◌, ◌+◌, Some, cond, length, is_some, IfOk, IfErr, OnOk};
+ghost use Rattle.std.specs.Prelude.{◌≡◌, ◌+◌, Some, cond, length, is_some, IfOk, IfErr, OnOk, IsOk};
 ghost use Rattle.std.specs.Borrow.{sem};
 ghost use Rattle.intmap_table.specs.Bindings.{Updates};
 ghost use Rattle.intmap.specs.Entries.{Occupied, Vacant, entry_map, entry_key, entry_value, entry_list, IsWritten, entry_rests};
 ghost use Rattle.intmap.specs.Growth.{IsNext};
-ghost use Rattle.intmap.specs.Map.{IsMap, IsOutOfRange, IsCapacityAfter, InsertIsTooLarge};
+ghost use Rattle.intmap.specs.Map.{IsLone, IsMap, IsOutOfRange, IsCapacityAfter, InsertIsTooLarge};
 ghost use Rattle.intmap.specs.PlainLists.{RefusalIsDue};
 
 use crate::entry::{Entry, OccupiedEntry, VacantEntry};
@@ -45,6 +45,9 @@ impl<'a, K: IntKey, V: Drop, A: Allocator + Copy> VacantEntry<'a, K, V, A> {
             (entry_map (Vacant self.entry)).capacity (entry_map (Vacant self.entry)).factor → ⊥) }
         ensures refused { IfErr result (λ refused. RefusalIsDue K.number_of
             (entry_list (Vacant self.entry)) (entry_key (Vacant self.entry)) refused.cause) }
+        ensures lone { IsLone K.number_of (entry_map (Vacant self.entry)).walk
+            (entry_map (Vacant self.entry)).capacity (entry_key (Vacant self.entry))
+            → IsOk result }
     {
         let VacantEntry { map, key } = self;
         // tells the proof that the key satisfies `is_valid`
@@ -93,6 +96,8 @@ impl<'a, K: IntKey, V: Drop, A: Allocator + Copy> Entry<'a, K, V, A> {
             → ⊥) }
         ensures refused { IfErr result (λ refused. RefusalIsDue K.number_of (entry_list self.entry)
             (entry_key self.entry) refused.cause) }
+        ensures lone { IsLone K.number_of (entry_map self.entry).walk
+            (entry_map self.entry).capacity (entry_key self.entry) → IsOk result }
     {
         match self {
             Entry::Occupied(entry) => {

@@ -1,10 +1,10 @@
 //! Insertions of values that are made only if the key is absent.
-ghost use Rattle.std.specs.Prelude.{◌≡◌, ◌+◌, None, Some, cond, length, is_some, IfOk, IfErr, OnOk};
+ghost use Rattle.std.specs.Prelude.{◌≡◌, ◌+◌, None, Some, cond, length, is_some, IfOk, IfErr, OnOk, IsOk};
 ghost use Rattle.std.specs.Borrow.{sem};
 ghost use Rattle.std.specs.Option.{UnwrapsOrElse};
 ghost use Rattle.intmap_table.specs.Bindings.{Updates};
 ghost use Rattle.intmap.specs.Entries.{entry_map, entry_key, entry_value, entry_list, map_with_value, entry_lends_ok};
-ghost use Rattle.intmap.specs.Map.{IsMap, IsOutOfRange, IsCapacityAfter};
+ghost use Rattle.intmap.specs.Map.{IsLone, IsMap, IsOutOfRange, IsCapacityAfter};
 ghost use Rattle.intmap.specs.PlainLists.{RefusalIsDue};
 
 use crate::entry::Entry;
@@ -54,6 +54,8 @@ impl<'a, K: IntKey, V: Drop, A: Allocator + Copy> Entry<'a, K, V, A> {
             → ⊥) }
         ensures refused { IfErr result (λ refused. RefusalIsDue K.number_of (entry_list self.entry)
             (entry_key self.entry) refused.cause) }
+        ensures lone { IsLone K.number_of (entry_map self.entry).walk
+            (entry_map self.entry).capacity (entry_key self.entry) → IsOk result }
     {
         match self {
             Entry::Occupied(entry) => Ok(entry.into_mut()),
@@ -99,6 +101,8 @@ impl<'a, K: IntKey, V: Drop, A: Allocator + Copy> Entry<'a, K, V, A> {
             → ⊥) }
         ensures refused { IfErr result (λ refused. RefusalIsDue K.number_of (entry_list self.entry)
             (entry_key self.entry) refused.cause) }
+        ensures lone { IsLone K.number_of (entry_map self.entry).walk
+            (entry_map self.entry).capacity (entry_key self.entry) → IsOk result }
     {
         self.or_insert_with_key(|_key| f())
     }
@@ -139,6 +143,8 @@ impl<'a, K: IntKey, V: Drop, A: Allocator + Copy> Entry<'a, K, V, A> {
             → ⊥) }
         ensures refused { IfErr result (λ refused. RefusalIsDue K.number_of (entry_list self.entry)
             (entry_key self.entry) refused.cause) }
+        ensures lone { IsLone K.number_of (entry_map self.entry).walk
+            (entry_map self.entry).capacity (entry_key self.entry) → IsOk result }
     {
         let alloc = self.allocator();
         self.or_insert_with(|| V::made_with(alloc))

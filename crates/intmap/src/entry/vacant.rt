@@ -1,10 +1,10 @@
 //! Entries of absent keys.
-ghost use Rattle.std.specs.Prelude.{◌≡◌, ◌+◌, length, Some, IfOk, IfErr, OnOk};
+ghost use Rattle.std.specs.Prelude.{◌≡◌, ◌+◌, length, Some, IfOk, IfErr, OnOk, IsOk};
 ghost use Rattle.std.specs.Borrow.{sem};
 ghost use Rattle.intmap_table.specs.Bindings.{Updates};
 ghost use Rattle.intmap.specs.Entries.{Vacant, entry_reference, entry_map, entry_key, entry_list, next_entry_capacity, map_with_value, entry_lends_ok};
 ghost use Rattle.intmap.specs.Growth.{IsNext};
-ghost use Rattle.intmap.specs.Map.{IsMap, InsertIsTooLarge};
+ghost use Rattle.intmap.specs.Map.{IsLone, IsMap, InsertIsTooLarge};
 ghost use Rattle.intmap.specs.PlainLists.{RefusalIsDue};
 
 use crate::entry::VacantEntry;
@@ -74,6 +74,9 @@ impl<'a, K: IntKey, V: Drop, A: Allocator + Copy> VacantEntry<'a, K, V, A> {
             (entry_map (Vacant self.entry)).capacity (entry_map (Vacant self.entry)).factor → ⊥) }
         ensures refused { IfErr result (λ refused. RefusalIsDue K.number_of
             (entry_list (Vacant self.entry)) (entry_key (Vacant self.entry)) refused.cause) }
+        ensures lone { IsLone K.number_of (entry_map (Vacant self.entry)).walk
+            (entry_map (Vacant self.entry)).capacity (entry_key (Vacant self.entry))
+            → IsOk result }
     {
         let VacantEntry { map, key } = self;
         // tells the proof that the key satisfies `is_valid`

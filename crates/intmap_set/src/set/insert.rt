@@ -1,7 +1,7 @@
 //! New sets, and the insertion of a key.
-ghost use Rattle.std.specs.Prelude.{◌≡◌, ◌↔◌, ℕ, ◌+◌, ◌^◌, ◌<◌, max, length, not, true, false, cond, Err, IfOk, IfErr, OnOk, OnErr, IsErrOf, MatchBool};
+ghost use Rattle.std.specs.Prelude.{◌≡◌, ◌↔◌, ℕ, ◌+◌, ◌^◌, ◌<◌, max, length, not, true, false, cond, Err, IfOk, IfErr, OnOk, OnErr, IsOk, IsErrOf, MatchBool};
 ghost use Rattle.intmap.specs.Growth.{IsLeastPower, IsNext};
-ghost use Rattle.intmap.specs.Map.{IsOutOfRange, IsCapacityAfter};
+ghost use Rattle.intmap.specs.Map.{IsLone, IsOutOfRange, IsCapacityAfter};
 ghost use Rattle.intmap.specs.Reach.{class_size};
 ghost use Rattle.intmap_set.specs.Sets.{IsSet, Updates, empty_set, holds, load_factor, paired, with_key, in_slots};
 
@@ -72,6 +72,8 @@ impl<K: IntKey, A: Allocator + Copy> IntSet<K, A> {
         ensures memory { IsErrOf result Cause.Memory
             → IsNext self.old.capacity (length self.old.walk + 1) load_factor self.old.capacity
             → 0 < class_size K.number_of (paired self.old.walk) self.old.capacity key }
+        ensures lone { IsLone K.number_of (paired self.old.walk) self.old.capacity key
+            → IsOk result }
 
         ensures valid { IsSet K.number_of K.is_valid self.old }
         ensures valid_after { IsSet K.number_of K.is_valid self.new }

@@ -3,7 +3,7 @@ ghost use Rattle.std.specs.Prelude.{◌≡◌, ◌⊎◌, ◌*◌, ◌/◌, ◌^
 ghost use Rattle.std.specs.Iterator.{IsFinite};
 ghost use Rattle.intmap_set.specs.Sets.{IsSet, empty_set, load_factor};
 ghost use Rattle.intmap_set.specs.Combined.{IsDifference, IsIntersection, IsUnion, IsSymmetricDifference, difference_of, intersection_of, union_of, symmetric_difference_of};
-ghost use Rattle.intmap_set.specs.Extending.{Extends, MayStop, StopsAmong};
+ghost use Rattle.intmap_set.specs.Extending.{Extends, IsExtended, MayStop, StopsAmong};
 
 use crate::set::IntSet;
 use intmap::{Cause, IntKey, RefusedPair};
@@ -26,6 +26,8 @@ impl<K: IntKey, A: Allocator + Copy> IntSet<K, A> {
     pub fn to_union(&self, alloc: A, other: &IntSet<K, A>) -> Result<IntSet<K, A>, Cause>
         ensures members { IfOk result (λ made.
             IsUnion K.number_of self.now.walk other.now.walk made.walk) }
+        ensures inserted { IfOk result (IsExtended K.number_of K.is_valid (empty_set 4)
+            (union_of K.number_of self.now.walk other.now.walk)) }
         ensures len { IfOk result (λ made. length made.walk
             ≡ length (union_of K.number_of self.now.walk other.now.walk)) }
         ensures too_large { IfErr result (λ cause. cause ≡ Cause.TooLarge → load_factor
@@ -48,6 +50,8 @@ impl<K: IntKey, A: Allocator + Copy> IntSet<K, A> {
     pub fn to_intersection(&self, alloc: A, other: &IntSet<K, A>) -> Result<IntSet<K, A>, Cause>
         ensures members { IfOk result (λ made.
             IsIntersection K.number_of self.now.walk other.now.walk made.walk) }
+        ensures inserted { IfOk result (IsExtended K.number_of K.is_valid (empty_set 4)
+            (intersection_of K.number_of self.now.walk other.now.walk)) }
         ensures len { IfOk result (λ made. length made.walk
             ≡ length (intersection_of K.number_of self.now.walk other.now.walk)) }
         ensures memory { IfErr result (λ cause. cause ≡ Cause.Memory) }
@@ -69,6 +73,8 @@ impl<K: IntKey, A: Allocator + Copy> IntSet<K, A> {
     pub fn to_difference(&self, alloc: A, other: &IntSet<K, A>) -> Result<IntSet<K, A>, Cause>
         ensures members { IfOk result (λ made.
             IsDifference K.number_of self.now.walk other.now.walk made.walk) }
+        ensures inserted { IfOk result (IsExtended K.number_of K.is_valid (empty_set 4)
+            (difference_of K.number_of self.now.walk other.now.walk)) }
         ensures len { IfOk result (λ made. length made.walk
             ≡ length (difference_of K.number_of self.now.walk other.now.walk)) }
         ensures memory { IfErr result (λ cause. cause ≡ Cause.Memory) }
@@ -94,6 +100,8 @@ impl<K: IntKey, A: Allocator + Copy> IntSet<K, A> {
     ) -> Result<IntSet<K, A>, Cause>
         ensures members { IfOk result (λ made.
             IsSymmetricDifference K.number_of self.now.walk other.now.walk made.walk) }
+        ensures inserted { IfOk result (IsExtended K.number_of K.is_valid (empty_set 4)
+            (symmetric_difference_of K.number_of self.now.walk other.now.walk)) }
         ensures len { IfOk result (λ made. length made.walk
             ≡ length (symmetric_difference_of K.number_of self.now.walk other.now.walk)) }
         ensures too_large { IfErr result (λ cause. cause ≡ Cause.TooLarge → load_factor
@@ -122,6 +130,8 @@ impl<K: IntKey, A: Allocator + Copy> IntSet<K, A> {
             (IsUnion K.number_of self.old.walk other.now.walk self.new.walk) }
         ensures len { OnOk result (length self.new.walk
             ≡ length (union_of K.number_of self.old.walk other.now.walk)) }
+        ensures inserted { OnOk result (IsExtended K.number_of K.is_valid self.old
+            other.now.walk self.new) }
         ensures capacity { OnOk result (self.old.capacity ≤ self.new.capacity) }
         ensures stops { IfErr result (λ refused. StopsAmong K.number_of K.is_valid self.old
             other.now.walk refused self.new) }

@@ -39,6 +39,7 @@ returns-in-Occupied g c =
         value_returned = tt;
         in_range = λ out. let w : true ≡ false = rw value at out.0 in cc;
         refused = tt;
+        lone = λ lone. refl;
       },
     )
 
@@ -59,5 +60,6 @@ returns-in-Vacant g c =
         value_returned = told.value_returned;
         in_range = OnOk-so _ _ (λ fits out. fits out.1) c.insert_entry.result told.in_range;
         refused = told.refused;
+        lone = told.lone;
       },
     )

@@ -21,5 +21,6 @@ returns-in-Vacant g c =
         value_returned = told.value_returned;
         in_range = OnOk-so _ _ (λ fits out. fits out.1) c.insert.result told.in_range;
         refused = told.refused;
+        lone = told.lone;
       },
     )

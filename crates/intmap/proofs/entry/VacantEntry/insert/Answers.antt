@@ -3,6 +3,7 @@ use mathlib.Core.Logic.{inl, inr}
 use mathlib.Core.Path.{fun_ext}
 use Rattle.intmap_table.specs.Bindings.{value_of}
 use Rattle.intmap_table.specs.Classes.{IsCapacity}
+use Rattle.intmap.specs.Entries.{Vacant, entry_list}
 use Rattle.intmap.specs.Growth.{next_capacity}
 use Rattle.intmap_table.specs.Locations.{IsLast}
 use Rattle.intmap.specs.Map.{MapState, IsMap, with_pair, written}
@@ -11,13 +12,14 @@ use Rattle.intmap.proofs.EntryLemmas.{IsNext-next_capacity, length-not_too_large
 use Rattle.intmap.proofs.LoadFactorLemmas.{IsNext-unique}
 use Rattle.intmap_table.proofs.LocationLemmas.{IsLast-put}
 use Rattle.intmap.proofs.MapLemmas.{one_more}
+use Rattle.intmap.proofs.RefusalLemmas.{RefusalIsDue-absent, lone-never_refused}
 use Rattle.intmap.proofs.WriteLemmas.{IsMapWalk-written}
 use Rattle.intmap.proofs.entry.VacantEntry.insert.Goals as goal
 use Rattle.intmap.proofs.entry.VacantEntry.insert.Goals.{After-value_mut_at}
 
 pub returns-in-Err : goal.returns-in-Err
 returns-in-Err g c =
-    let large = c.in-Err.ensures.too_large in (
+    let due = RefusalIsDue-absent g.K.IntKey.number_of (entry_list (Vacant c.args.self)) c.args.self.key c.args.self.missing c.in-Err.refused.cause c.in-Err.ensures.too_large c.in-Err.ensures.memory in (
       ap (λ m. inr m) c.in-Err.ensures.err,
       record {
         writes_back = tt;
@@ -28,11 +30,8 @@ returns-in-Err g c =
         valid_after = tt;
         value_returned = c.in-Err.ensures.value_returned;
         in_range = tt;
-        refused = record {
-          new_key = rw c.args.self.missing refl;
-          too_large = ((λ e. (rw c.args.self.missing refl, large.0 e)), (λ out. large.1 out.1));
-          memory = c.in-Err.ensures.memory;
-        };
+        refused = due;
+        lone = λ lone. absurd (lone-never_refused g.K.IntKey.number_of (entry_list (Vacant c.args.self)) c.args.self.key c.add.ensures.valid.capacity lone c.in-Err.refused.cause due);
       },
     )
 
@@ -65,5 +64,6 @@ returns g c =
         value_returned = tt;
         in_range = c.in_default.ensures.in_range;
         refused = tt;
+        lone = λ lone. refl;
       },
     )

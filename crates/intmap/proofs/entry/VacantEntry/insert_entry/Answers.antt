@@ -1,5 +1,6 @@
 use Rattle.std.proofs.Common.{◌≡◌, ◌+◌, Some, length, refl, sym, ap, ◌∙◌, subst, arith}
 use Rattle.intmap_table.specs.Bindings.{value_of}
+use Rattle.intmap.specs.Entries.{Vacant, entry_list}
 use Rattle.intmap.specs.Growth.{next_capacity}
 use Rattle.intmap_table.specs.Locations.{IsLast, key_at}
 use Rattle.intmap_table.specs.Walk.{slot_of}
@@ -11,8 +12,27 @@ use Rattle.intmap.proofs.LoadFactorLemmas.{IsNext-unique}
 use Rattle.intmap_table.proofs.LocationLemmas.{IsLast-put}
 use Rattle.intmap_table.proofs.Tables.FoundLemmas.{IsFound-located, key_at-located}
 use Rattle.intmap.proofs.MapLemmas.{one_more}
+use Rattle.intmap.proofs.RefusalLemmas.{RefusalIsDue-absent, lone-never_refused}
 use Rattle.intmap.proofs.entry.VacantEntry.insert_entry.Goals as goal
 use Rattle.intmap.proofs.entry.VacantEntry.insert_entry.Goals.{After-locate_last-at}
+
+pub returns-in-Err : goal.returns-in-Err
+returns-in-Err g c =
+    let due = RefusalIsDue-absent g.K.IntKey.number_of (entry_list (Vacant c.args.self)) c.args.self.key c.args.self.missing c.in-Err.refused.cause c.in-Err.ensures.too_large c.in-Err.ensures.memory in (
+      (refl, (λ w. tt), c.in-Err.ensures.err),
+      record {
+        written = tt;
+        capacity = tt;
+        updates = tt;
+        len = tt;
+        valid_after = tt;
+        err = tt;
+        value_returned = c.in-Err.ensures.value_returned;
+        in_range = tt;
+        refused = due;
+        lone = λ lone. absurd (lone-never_refused g.K.IntKey.number_of (entry_list (Vacant c.args.self)) c.args.self.key c.add.ensures.valid.capacity lone c.in-Err.refused.cause due);
+      },
+    )
 
 pub locate_last-at-requires : goal.locate_last-at-requires
 locate_last-at-requires g c =
@@ -56,5 +76,6 @@ returns g c =
         value_returned = tt;
         in_range = c.in_default.ensures.in_range;
         refused = tt;
+        lone = λ lone. refl;
       },
     )

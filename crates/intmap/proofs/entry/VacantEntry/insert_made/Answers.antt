@@ -3,6 +3,7 @@ use mathlib.Core.Logic.{inl, inr}
 use mathlib.Core.Path.{fun_ext}
 use Rattle.intmap_table.specs.Bindings.{value_of}
 use Rattle.intmap_table.specs.Classes.{IsCapacity}
+use Rattle.intmap.specs.Entries.{Vacant, entry_list}
 use Rattle.intmap.specs.Growth.{next_capacity}
 use Rattle.intmap_table.specs.Locations.{IsLast}
 use Rattle.intmap.specs.Map.{MapState, IsMap, with_pair, written}
@@ -11,6 +12,7 @@ use Rattle.intmap.proofs.EntryLemmas.{IsNext-next_capacity, length-not_too_large
 use Rattle.intmap.proofs.LoadFactorLemmas.{IsNext-unique}
 use Rattle.intmap_table.proofs.LocationLemmas.{IsLast-put}
 use Rattle.intmap.proofs.MapLemmas.{one_more}
+use Rattle.intmap.proofs.RefusalLemmas.{RefusalIsDue-absent}
 use Rattle.intmap.proofs.WriteLemmas.{IsMapWalk-written}
 use Rattle.intmap.proofs.entry.VacantEntry.insert_made.Goals as goal
 use Rattle.intmap.proofs.entry.VacantEntry.insert_made.Goals.{After-value_mut_at}
@@ -29,11 +31,7 @@ returns-in-Err-add g c =
         err = inr (record {
           refused = c.in-Err-add.refused;
           value = ap Ok told.value_returned ∙ sym c.in-Ok.is;
-          due = record {
-            new_key = rw c.args.self.missing refl;
-            too_large = ((λ e. (rw c.args.self.missing refl, told.too_large.0 e)), (λ out. told.too_large.1 out.1));
-            memory = told.memory;
-          };
+          due = RefusalIsDue-absent g.K.IntKey.number_of (entry_list (Vacant c.args.self)) c.args.self.key c.args.self.missing c.in-Err-add.refused.cause told.too_large told.memory;
           error = c.from.ensures;
         });
         in_range = tt;

@@ -5,7 +5,7 @@ use Rattle.intmap_set.specs.Combined.{union_of}
 use Rattle.intmap_set.proofs.CombinedLemmas.{IsUnion-union_of}
 use Rattle.intmap_set.proofs.DistinctLemmas.{HasDistinctKeys-union_of}
 use Rattle.intmap_set.proofs.MemberLemmas.{length-paired}
-use Rattle.intmap_set.proofs.OwnedLemmas.{err_so, members-extended, stops-among}
+use Rattle.intmap_set.proofs.OwnedLemmas.{err_so, extended-all, members-extended, stops-among}
 use Rattle.intmap_set.proofs.SizeLemmas.{length-same_members}
 use Rattle.intmap_set.proofs.set.IntSet.extend_from_set.Goals as goal
 
@@ -26,3 +26,7 @@ returns-clause-stops g c =
     let count : length c.args.other.now.walk < 2 ^ 64 = (let few = c.known.ensures.valid.count in let same = length-paired c.args.other.now.walk in omega (arith, few, same)) in
     err_so c.extend.result c.extend.ensures.stops
     (λ refused told. stops-among g.K.IntKey.number_of g.K.IntKey.is_valid (YieldsList-from_copied {s = c.copied.result} (YieldsList-from_first (λ key. key.now) (λ rest. rest) c.args.other.now.walk (c.copied.ensures.source ∙ c.iter.ensures.walk))) c.args.self.now refused c.extend.new.self count told)
+
+pub returns-clause-inserted : goal.returns-clause-inserted
+returns-clause-inserted g c =
+    OnOk-so _ _ (extended-all g.K.IntKey.number_of g.K.IntKey.is_valid (YieldsList-from_copied {s = c.copied.result} (YieldsList-from_first (λ key. key.now) (λ rest. rest) c.args.other.now.walk (c.copied.ensures.source ∙ c.iter.ensures.walk))) c.args.self.now c.extend.new.self) c.extend.result c.extend.ensures.extends

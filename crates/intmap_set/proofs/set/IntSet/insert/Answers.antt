@@ -1,7 +1,7 @@
 use Rattle.std.proofs.Common.{◌∙◌, sym, ap, refl, rules}
 use Rattle.std.specs.Prelude.{not}
 use Rattle.intmap_set.proofs.MemberLemmas.{IsSet-seen, holds-seen, Updates-seen, not-is_some}
-use Rattle.intmap_set.proofs.CallLemmas.{inserted-seen, IsCapacityAfter-seen, refused-seen, accepted-seen, on_error, memory-seen}
+use Rattle.intmap_set.proofs.CallLemmas.{IsLone-seen, inserted-seen, IsCapacityAfter-seen, refused-seen, accepted-seen, on_error, memory-seen}
 use Rattle.intmap_set.proofs.set.IntSet.insert.Goals as goal
 
 pub returns-in_err-insert_checked-clause-new_key : goal.returns-in_err-insert_checked-clause-new_key
@@ -15,6 +15,10 @@ returns-in_err-insert_checked-clause-too_large g c =
 pub returns-in_err-insert_checked-clause-memory : goal.returns-in_err-insert_checked-clause-memory
 returns-in_err-insert_checked-clause-memory g c =
     memory-seen _ c.self.inside.map c.insert_checked.new.self _ _ c.self.view_is c.self.invariant c.from_residual.result _ _ c.from_residual.ensures.1 c.in_err-insert_checked.ensures.memory
+
+pub returns-in_err-insert_checked-clause-lone : goal.returns-in_err-insert_checked-clause-lone
+returns-in_err-insert_checked-clause-lone g c lone =
+    let ok = c.in_err-insert_checked.ensures.lone (IsLone-seen _ c.self.inside.map c.insert_checked.new.self _ _ c.self.view_is c.self.invariant lone) in cc
 
 pub returns-in_err-insert_checked-clause-valid : goal.returns-in_err-insert_checked-clause-valid
 returns-in_err-insert_checked-clause-valid g c = IsSet-seen _ _ c.self.inside.map _ c.self.view_is c.self.invariant c.insert_checked.ensures.valid

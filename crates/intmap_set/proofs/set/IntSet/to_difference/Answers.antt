@@ -1,9 +1,10 @@
 use Rattle.std.proofs.Common.{ap, length, ◌∙◌, sym, subst, ◌≤◌, arith}
 use Rattle.std.proofs.lemmas.Iterator.Consumers.{YieldsList-from_copied, YieldsList-from_first}
 use Rattle.intmap.specs.Bindings.{HasDistinctKeys}
-use Rattle.intmap_set.specs.Sets.{paired}
+use Rattle.intmap_set.specs.Extending.{IsExtended}
+use Rattle.intmap_set.specs.Sets.{empty_set, paired}
 use Rattle.intmap_set.proofs.DistinctLemmas.{HasDistinctKeys-difference_of}
-use Rattle.intmap_set.proofs.OwnedLemmas.{if_err, if_ok, if_ok_both, length-made, members-made, memory-made}
+use Rattle.intmap_set.proofs.OwnedLemmas.{extended-all, if_err, if_ok, if_ok_both, length-made, members-made, memory-made}
 use Rattle.intmap_set.proofs.SizeLemmas.{length-difference_of-intersection_of}
 use Rattle.intmap_set.proofs.set.IntSet.to_difference.Goals as goal
 
@@ -28,3 +29,10 @@ returns-clause-memory g c =
     (let parts = length-difference_of-intersection_of number V W e.valid.distinct e.valid_other.distinct in let same = ap length e.walk in omega (arith, parts, same)) in
     if_err _ c.collected.result c.collected.ensures.collects
     (memory-made number g.K.IntKey.is_valid (YieldsList-from_copied {s = c.copied.result} (YieldsList-from_first (λ key. key.now) (λ rest. rest) _ c.copied.ensures.source)) c.args.self.now e.valid fewer)
+
+pub returns-clause-inserted : goal.returns-clause-inserted
+returns-clause-inserted g c =
+    let number = g.K.IntKey.number_of in let is_valid = g.K.IntKey.is_valid in
+    if_ok _ c.collected.result c.collected.ensures.collects
+    (λ made told. subst (λ L. IsExtended number is_valid (empty_set 4) L made) c.difference.ensures.walk
+    (extended-all number is_valid (YieldsList-from_copied {s = c.copied.result} (YieldsList-from_first (λ key. key.now) (λ rest. rest) _ c.copied.ensures.source)) (empty_set 4) made told))

@@ -1,9 +1,10 @@
 use Rattle.std.proofs.Common.{ap, length, ◌∙◌, sym, subst, ◌*◌, ◌/◌, ◌^◌, ◌<◌}
 use Rattle.std.proofs.lemmas.Iterator.Consumers.{YieldsList-from_copied, YieldsList-from_first}
 use Rattle.intmap.specs.Bindings.{HasDistinctKeys}
-use Rattle.intmap_set.specs.Sets.{load_factor, paired}
+use Rattle.intmap_set.specs.Extending.{IsExtended}
+use Rattle.intmap_set.specs.Sets.{empty_set, load_factor, paired}
 use Rattle.intmap_set.proofs.DistinctLemmas.{HasDistinctKeys-symmetric_difference_of}
-use Rattle.intmap_set.proofs.OwnedLemmas.{if_err, if_ok, if_ok_both, length-made, members-made, too_large-made}
+use Rattle.intmap_set.proofs.OwnedLemmas.{extended-all, if_err, if_ok, if_ok_both, length-made, members-made, too_large-made}
 use Rattle.intmap_set.proofs.set.IntSet.to_symmetric_difference.Goals as goal
 
 pub returns-clause-members : goal.returns-clause-members
@@ -24,3 +25,10 @@ returns-clause-too_large g c =
     if_err _ c.collected.result c.collected.ensures.collects
     (λ cause may is. subst (λ L. load_factor < length L * 1000 / 2 ^ 63) c.symmetric_difference.ensures.walk
     (too_large-made g.K.IntKey.number_of g.K.IntKey.is_valid (YieldsList-from_copied {s = c.copied.result} (YieldsList-from_first (λ key. key.now) (λ rest. rest) _ c.copied.ensures.source)) cause may is))
+
+pub returns-clause-inserted : goal.returns-clause-inserted
+returns-clause-inserted g c =
+    let number = g.K.IntKey.number_of in let is_valid = g.K.IntKey.is_valid in
+    if_ok _ c.collected.result c.collected.ensures.collects
+    (λ made told. subst (λ L. IsExtended number is_valid (empty_set 4) L made) c.symmetric_difference.ensures.walk
+    (extended-all number is_valid (YieldsList-from_copied {s = c.copied.result} (YieldsList-from_first (λ key. key.now) (λ rest. rest) _ c.copied.ensures.source)) (empty_set 4) made told))
