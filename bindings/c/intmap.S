@@ -9,7 +9,7 @@
  *
  * Written by tools/assembly of the repository, and not to be edited.
  * Compilers: rattle-kit-13f logic dac8208d650f15bf; clang version 22.1.8
- * Sources: 0f2090efc6f23f79d82af4dfa08fd1347a13e1107604dfcaecfa170159eeea49
+ * Sources: a60f1f14c9b3d17961a612043f893fa62ecebd313385c581988343af1da679ae
  *     cat $(find crates/intmap_table/src crates/intmap/src crates/intmap_c/src -name '*.rt' | LC_ALL=C sort) | sha256sum
  *
  * MIT License

@@ -36,7 +36,8 @@ impl<K: IntKey, V, A: Allocator> Slot<K, Kept<V>, A> {
         requires callable { (pair : K × Kept V) → TakesStoredMut F.FnMut f.old
             (slice_index_or self.old.pairs place pair) }
         ensures { (pair : K × Kept V) × (self.new.pairs ≡ set self.old.pairs place pair)
-            × PicksStored F.FnMut f.old (slice_index_or self.old.pairs place pair) result f.new pair }
+            × PicksStored F.FnMut f.old (slice_index_or self.old.pairs place pair) result
+            f.new pair }
     {
         if place > 0 {
             return picks_pair(&mut self.rest[place - 1], f);

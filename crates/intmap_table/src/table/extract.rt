@@ -54,7 +54,8 @@ fn extract_in<K: IntKey, V, A: Allocator, F: FnMut(K, &mut V) -> bool>(
         (drop at.old.place (slice_index_or (rows slots.old.items) at.old.slot [])) }
     ensures slot { at.new.slot ≡ at.old.slot }
     ensures passed { at.new.passed + at.old.place ≡ at.old.passed + at.new.place }
-    ensures step { (slot : Held K (Kept V)) × (slots.new.items ≡ set slots.old.items at.old.slot slot)
+    ensures step { (slot : Held K (Kept V))
+        × (slots.new.items ≡ set slots.old.items at.old.slot slot)
         × ExtractsBehind (PicksStored F.FnMut) f.old
         (slice_index_or (rows slots.old.items) at.old.slot []) at.old.place result
         f.new slot.pairs at.new.place
