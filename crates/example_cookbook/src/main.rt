@@ -5,8 +5,8 @@
 
 use crate::fixed::FixedMap;
 use anyhow::Result;
+use callers::cells::{self, Cell};
 use intmap::IntMap;
-use intmap_cell::Cell;
 use intmap_set::IntSet;
 use refuser::Refuser;
 use std::alloc::Global;
@@ -52,7 +52,7 @@ fn use_cells_as_keys(rt: &HostRuntime) -> Result<()> {
     let mut sheet: IntMap<Cell, u64> = IntMap::new(rt.alloc())?;
     for (row, column) in [(0, 0), (1, 0), (0, 26)] {
         match Cell::new(row, column) {
-            Some(cell) => drop(intmap_cell::write(&mut sheet, cell, 5)?),
+            Some(cell) => drop(cells::write(&mut sheet, cell, 5)?),
             None => println!(rt; "there is no column {column}")?,
         }
     }

@@ -1,0 +1,10 @@
+use Rattle.std.proofs.Common.{◌≡◌, ◌≤◌, ℕ, take}
+use Rattle.std.specs.Prelude.{◌==◌, count_by}
+use Rattle.callers.specs.Counts.{count_of}
+use Rattle.callers.proofs.tally.tally_by_get_mut.Given as goal
+
+abbrev pub invariant-loop-number : goal.invariant-loop-number
+invariant-loop-number g l = record {
+  counted : (q : ℕ) → count_of (λ key. key) l.tally.walk q ≡ count_by (λ number. number == q) (take l.number-index l.numbers);
+  few : (q : ℕ) → count_of (λ key. key) l.tally.walk q ≤ l.number-index;
+}

@@ -1,0 +1,12 @@
+pub mod Numbered
+pub mod Cells
+pub mod Counts
+pub mod Sessions
+pub mod Waiting
+pub mod Dense
+pub mod Table
+pub mod Floors
+pub mod Retained
+pub mod Scopes
+pub mod Values
+pub mod Interned

@@ -1,0 +1,99 @@
+//! Runs of commands, described by one plain list of pairs.
+ghost use Rattle.std.specs.Prelude.{◌≡◌, ◌∷◌, [], IfOk, IfErr, Some, None};
+ghost use Rattle.callers.specs.Sessions.{RunsTwice, Stops};
+
+use intmap::{Cause, IntKey, IntMap, laws};
+use intmap_run::{Answer, Command, Judge, run};
+use std::alloc::{Allocator, Global};
+
+/// Sees each number as itself, and keeps all.
+#[derive(Clone, Copy)]
+pub struct Plain;
+
+impl Judge<u64, u64> for Plain {
+    type Seen = u64;
+
+    ghost use Rattle.std.specs.Prelude.{◌≡◌, true};
+
+    ghost sees = { λ _ value seen. seen ≡ value };
+
+    ghost keeps = { λ _ key value. true };
+
+    fn look(&self, value: &u64) -> u64 {
+        *value
+    }
+
+    fn keep(&self, _key: u64, _value: &u64) -> bool {
+        true
+    }
+}
+
+/// The point at which two runs stopped for want of memory.
+#[derive(Drop)]
+pub enum Stopped<K, V, S, A: Allocator = Global> {
+    /// Before the first run. It has the commands of both.
+    First(Vec<Command<K, V, A>, A>, Vec<Command<K, V, A>, A>),
+    /// Before the second run. It has the answers of the first, and the commands of the second.
+    Second(Vec<Answer<K, V, S, A>, A>, Vec<Command<K, V, A>, A>),
+}
+
+/// Runs two lists of commands on a map, one after the other. The first commands and answers lead
+/// from every plain list of pairs that stands for the map to another list. The second ones lead
+/// from that list to one that stands for the map at the end.
+///
+/// It fails if there is no memory for the answers of a run. Before the first run, the map is then
+/// as it was. Before the second, it is as the first left it.
+pub fn run_twice<K: IntKey, V: Drop, J: Judge<K, V>, A: Allocator + Copy>(
+    alloc: A,
+    map: &mut IntMap<K, V, A>,
+    first: Vec<Command<K, V, A>, A>,
+    second: Vec<Command<K, V, A>, A>,
+    judge: &J,
+) -> Result<
+    (
+        Vec<Answer<K, V, J::Seen, A>, A>,
+        Vec<Answer<K, V, J::Seen, A>, A>,
+    ),
+    Stopped<K, V, J::Seen, A>,
+>
+    ensures ok { IfOk result (λ answers. RunsTwice K.number_of (J.sees judge.now)
+        (J.keeps judge.now) map.old first.items answers.0.items second.items answers.1.items
+        map.new) }
+    ensures err { IfErr result (Stops K.number_of (J.sees judge.now) (J.keeps judge.now)
+        map.old first second map.new) }
+{
+    let early = match run(alloc, map, first, judge) {
+        Ok(early) => early,
+        Err(first) => return Err(Stopped::First(first, second)),
+    };
+    match run(alloc, map, second, judge) {
+        Ok(late) => Ok((early, late)),
+        Err(second) => Err(Stopped::Second(early, second)),
+    }
+}
+
+/// On a new map, inserts 7 with 1 and then with 2, looks up 7, removes it, and reads the length. No
+/// command fails once there is a map and memory for the answers.
+///
+/// It fails if there is no memory.
+pub fn five_answers(alloc: Global) -> Result<Vec<Answer<u64, u64, u64>>, Cause>
+    ensures ok { IfOk result (λ answers. answers.items ≡ Answer.Old None ∷ Answer.Old (Some 1)
+        ∷ Answer.Seen (Some 2) ∷ Answer.Old (Some 2) ∷ Answer.Number 0 ∷ []) }
+    ensures err { IfErr result (λ cause. cause ≡ Cause.Memory) }
+{
+    laws::lone_pairs_are_never_refused::<u64, u64>();
+    let mut map: IntMap<u64, u64> = IntMap::new(alloc)?;
+    let Ok(commands) = vec![in alloc;
+        Command::Insert(7, 1),
+        Command::Insert(7, 2),
+        Command::Get(7),
+        Command::Remove(7),
+        Command::Len,
+    ] else {
+        return Err(Cause::Memory);
+    };
+    match run(alloc, &mut map, commands, &Plain) {
+        Ok(answers) => Ok(answers),
+        Err(_) => Err(Cause::Memory),
+    }
+}
