@@ -1,9 +1,8 @@
 //! Rows of commands, all of which are run by one call.
 
-use crate::runs::{AnswerOf, Commands, run_all, write_run};
-use intmap_row_words::maps::{Maps, new_map};
+use crate::runs::{AnswerOf, Commands, run_all};
+use intmap_row_words::maps::Maps;
 use intmap_row_words::report::Report;
-use intmap_row_words::text::{write_refusal, write_state};
 use intmap_row_words::word::parts_of;
 use intmap_text::{Line, print_answer, read_line};
 use refuser::Refuser;
@@ -26,18 +25,31 @@ fn commands_of<'a>(
     Ok(commands)
 }
 
-/// Runs the commands of rows by one call, and compares each answer. The request of this number is refused,
-/// none at 0. Commands that come back are run again on a clone of the map.
+/// Whether a line is the head of rows that one call runs.
+pub fn is_run(line: &str) -> bool {
+    failing_of(line).is_some()
+}
+
+// which allocation of such a run fails, none at 0; `None` if the line is no such head
+fn failing_of(line: &str) -> Option<u64> {
+    match parts_of(line).0.split_once(' ') {
+        Some(("run", number)) => number.parse::<u64>().ok(),
+        None if parts_of(line).0 == "run" => Some(0),
+        _ => None,
+    }
+}
+
+/// Runs the commands of rows by one call, and compares each answer. The head may say which
+/// allocation fails. Commands that the call returns are run again on a clone of the map.
 pub fn run_rows(
     alloc: Global,
     maps: &mut Maps<'_>,
     report: &mut Report,
     head: &str,
     lines: &[&str],
-    number: u64,
 ) -> Result<(), AllocError> {
     let commands = commands_of(maps.memory, report, lines)?;
-    maps.memory.arm(number);
+    maps.memory.arm(failing_of(head).unwrap_or(0));
     let ran = run_all(maps.memory, &mut maps.map, commands);
     maps.memory.arm(0);
     match ran {
@@ -96,63 +108,4 @@ fn compare_head(
     let (_, wanted) = parts_of(head);
     let answer = format!(in alloc; "{count} {what}")?;
     report.compare(head, wanted, answer.as_str())
-}
-
-/// More requests than any run of rows makes.
-const MANY: u64 = 1000;
-
-/// Runs commands on a new map with the first request refused, on another with the second one, until none
-/// is left. Tells the answers and the map each time.
-pub fn replay(
-    alloc: Global,
-    memory: &Refuser<Global>,
-    report: &mut Report,
-    lines: &[&str],
-) -> Result<(), AllocError> {
-    memory.arm(0);
-    for number in 1..MANY {
-        let commands = commands_of(memory, report, lines)?;
-        let mut told = String::new(alloc);
-        replay_one(&mut told, memory, commands, number)?;
-        let is_refused = memory.left() == 0;
-        memory.arm(0);
-        tell_replay(alloc, report, number, is_refused, told.as_str())?;
-        if !is_refused {
-            return Ok(());
-        }
-    }
-    Ok(())
-}
-
-// runs commands on a new map with the request of this number refused; writes the answers and the map
-fn replay_one<'a>(
-    out: &mut String,
-    memory: &'a Refuser<Global>,
-    commands: Commands<'a>,
-    number: u64,
-) -> Result<(), AllocError> {
-    match new_map(memory) {
-        Ok(mut map) => {
-            memory.arm(number);
-            write_run(out, memory, &mut map, commands)?;
-            write_state(out, &map)
-        }
-        Err(cause) => write_refusal(out, cause, None),
-    }
-}
-
-// tells of a replay whose request of this number was refused, or that made fewer
-fn tell_replay(
-    alloc: Global,
-    report: &mut Report,
-    number: u64,
-    is_refused: bool,
-    told: &str,
-) -> Result<(), AllocError> {
-    let line = if is_refused {
-        format!(in alloc; "request {number} refused: {told}")?
-    } else {
-        format!(in alloc; "no request refused: {told}")?
-    };
-    report.tell(line.as_str())
 }

@@ -11,5 +11,5 @@ mod call;
 mod many;
 mod runs;
 
-pub use blocks::{replay, run_rows};
+pub use blocks::{is_run, run_rows};
 pub use call::answer_to;

@@ -3,7 +3,7 @@
 use crate::many::{Insertion, Keys};
 use intmap_row_words::maps::{Map, value_of};
 use intmap_run::{Answer, Command, run};
-use intmap_text::{OddJudge, print_answer};
+use intmap_text::OddJudge;
 use refuser::Refuser;
 use std::alloc::{AllocError, Global};
 
@@ -71,26 +71,4 @@ fn write_counts(out: &mut String, answers: &[AnswerOf<'_>]) -> Result<(), AllocE
         }
     }
     write!(out, "{new} new, {walked} walked")
-}
-
-/// Runs commands on a map. Writes the answers in a row, or how many commands came back.
-pub fn write_run<'a>(
-    out: &mut String,
-    memory: &'a Refuser<Global>,
-    map: &mut Map<'a>,
-    commands: Commands<'a>,
-) -> Result<(), AllocError> {
-    match run_all(memory, map, commands) {
-        Ok(answers) => write_answers(out, answers.as_slice()),
-        Err(commands) => write!(out, "{} commands back; ", commands.len()),
-    }
-}
-
-// writes answers in a row
-fn write_answers(out: &mut String, answers: &[AnswerOf<'_>]) -> Result<(), AllocError> {
-    for answer in answers {
-        print_answer(out, answer)?;
-        out.push_str("; ")?;
-    }
-    Ok(())
 }

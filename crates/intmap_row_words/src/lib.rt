@@ -2,8 +2,13 @@
 //! what is reported of them; and files of rows on other subjects.
 #![tactic(auto)]
 
+mod block;
+mod file;
 pub mod maps;
+pub mod program;
+mod refused;
 pub mod report;
+mod row;
 pub mod subject;
 pub mod text;
 pub mod word;

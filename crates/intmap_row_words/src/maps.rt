@@ -1,10 +1,9 @@
 //! The two maps that the rows of a group use.
 
-use crate::text::alive_text;
 use intmap::entry::Entry;
 use intmap::{Cause, IntKey, IntMap};
 use refuser::Refuser;
-use std::alloc::{AllocError, Global};
+use std::alloc::Global;
 use std::mem;
 
 /// A map whose allocations can be made to fail.
@@ -47,17 +46,11 @@ pub struct Maps<'a> {
 }
 
 impl<'a> Maps<'a> {
-    /// Two maps as `new` makes them. No allocation will fail.
+    /// Two maps as `new` makes them.
     pub fn new(memory: &'a Refuser<Global>) -> Result<Maps<'a>, Cause> {
-        memory.arm(0);
         let map = new_map(memory)?;
         let other = new_map(memory)?;
         Ok(Maps { map, other, memory })
-    }
-
-    /// The memory that is allocated and not freed, as text.
-    pub fn alive(&self, alloc: Global) -> Result<String, AllocError> {
-        alive_text(alloc, self.memory)
     }
 
     /// Swaps the two maps.

@@ -102,13 +102,6 @@ pub fn write_state<K: IntKey + Display>(
     write!(out, ", {pairs} pairs, {slots} slots, factor {factor}")
 }
 
-/// The same as a text of its own.
-pub fn state_text(alloc: Global, map: &MapOf<'_, u64>) -> Result<String, AllocError> {
-    let mut text = String::new(alloc);
-    write_state(&mut text, map)?;
-    Ok(text)
-}
-
 /// The allocated memory, as text.
 pub fn alive_text(alloc: Global, memory: &Refuser<Global>) -> Result<String, AllocError> {
     let blocks = memory.live_blocks();

@@ -1,32 +1,17 @@
-//! Makes the calls that rows of text ask for, and tells of each answer that is another than its
-//! row names.
+//! Makes the calls on maps that rows of text ask for, and reports each answer that is another than
+//! its row names.
 //!
 //! Each argument is the name of a file of rows. `docs/ROWS.md` says what a row may be.
 #![tactic(auto)]
 
-mod block;
-mod call;
-mod refused;
-mod row;
-mod session;
+mod maps;
 
-use anyhow::Result;
+use crate::maps::AllMaps;
+use intmap_row_words::program::report_files;
 use refuser::Refuser;
-use std::{env, fs};
+use std::io;
 
-/// Prints one line a group of rows, and one for each row that doesn't hold or where memory is lost.
-fn main(rt: HostRuntime) -> Result<()> {
-    let alloc = rt.alloc();
-    for file in env::args(&rt)?.skip(1) {
-        let rows = fs::read_to_string(&rt, file.as_str())?;
-        let memory = Refuser::new(alloc, 0);
-        let report = session::report(alloc, &memory, rows.as_str())?;
-        println!(rt; "{file}:")?;
-        print!(rt; "{report}")?;
-        let alive = memory.live_blocks();
-        if alive > 0 {
-            println!(rt; "DIFFERS: {alive} blocks are alive behind the file")?;
-        }
-    }
-    Ok(())
+fn main(rt: HostRuntime) -> io::Result<()> {
+    let memory = Refuser::new(rt.alloc(), 0);
+    report_files::<AllMaps<'_>>(&rt, &memory)
 }

@@ -2,7 +2,7 @@
 
 use crate::answer::{named, write_set};
 use intmap::Cause;
-use intmap_row_words::subject::Subject;
+use intmap_row_words::subject::{NewIn, Subject};
 use intmap_row_words::text::no_call;
 use intmap_row_words::word::words_of;
 use intmap_set::IntSet;
@@ -25,14 +25,6 @@ pub struct Sets<'a> {
 }
 
 impl<'a> Sets<'a> {
-    /// Two sets as `new` makes them, and no request that will be refused.
-    pub fn new(memory: &'a Refuser<Global>) -> Result<Sets<'a>, Cause> {
-        memory.arm(0);
-        let set = IntSet::new(memory)?;
-        let other = IntSet::new(memory)?;
-        Ok(Sets { set, other, memory })
-    }
-
     /// Has the two sets take each other's place.
     pub fn swap(&mut self) {
         mem::swap(&mut self.set, &mut self.other);
@@ -57,14 +49,15 @@ impl<'a> Sets<'a> {
     }
 }
 
-impl<'a> Subject for Sets<'a> {
-    fn renew(&mut self) -> Result<(), Cause> {
-        self.memory.arm(0);
-        self.set = IntSet::new(self.memory)?;
-        self.other = IntSet::new(self.memory)?;
-        Ok(())
+impl<'a> NewIn<'a> for Sets<'a> {
+    fn new_in(memory: &'a Refuser<Global>) -> Result<Sets<'a>, Cause> {
+        let set = IntSet::new(memory)?;
+        let other = IntSet::new(memory)?;
+        Ok(Sets { set, other, memory })
     }
+}
 
+impl<'a> Subject for Sets<'a> {
     fn write_state(&self, out: &mut String) -> Result<(), AllocError> {
         write_set(out, &self.set)
     }

@@ -1,5 +1,5 @@
-//! Makes the calls on sparse vectors that rows of text ask for, and tells of each answer that is
-//! another than its row names.
+//! Makes the calls on sparse vectors that rows of text ask for, and reports each answer that is another
+//! than its row names.
 //!
 //! Each argument is the name of a file of rows. `docs/ROWS.md` says what a row may be.
 #![tactic(auto)]
@@ -8,24 +8,11 @@ mod answer;
 mod vectors;
 
 use crate::vectors::Vectors;
-use anyhow::Result;
-use intmap_row_words::subject;
+use intmap_row_words::program::report_files;
 use refuser::Refuser;
-use std::{env, fs};
+use std::io;
 
-/// Prints one line a group of rows, and one for each row that doesn't hold or where memory is lost.
-fn main(rt: HostRuntime) -> Result<()> {
-    let alloc = rt.alloc();
-    for file in env::args(&rt)?.skip(1) {
-        let rows = fs::read_to_string(&rt, file.as_str())?;
-        let memory = Refuser::new(alloc, 0);
-        let report = subject::report(alloc, &memory, Vectors::new(&memory)?, rows.as_str())?;
-        println!(rt; "{file}:")?;
-        print!(rt; "{report}")?;
-        let alive = memory.live_blocks();
-        if alive > 0 {
-            println!(rt; "DIFFERS: {alive} blocks are alive behind the file")?;
-        }
-    }
-    Ok(())
+fn main(rt: HostRuntime) -> io::Result<()> {
+    let memory = Refuser::new(rt.alloc(), 0);
+    report_files::<Vectors<'_>>(&rt, &memory)
 }

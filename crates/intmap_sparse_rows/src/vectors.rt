@@ -2,7 +2,7 @@
 
 use crate::answer::named;
 use intmap::Cause;
-use intmap_row_words::subject::Subject;
+use intmap_row_words::subject::{NewIn, Subject};
 use intmap_sparse::SparseVec;
 use refuser::Refuser;
 use std::alloc::{AllocError, Global};
@@ -23,9 +23,14 @@ pub struct Vectors<'a> {
 }
 
 impl<'a> Vectors<'a> {
-    /// Two vectors as `new` makes them, and no request that will be refused.
-    pub fn new(memory: &'a Refuser<Global>) -> Result<Vectors<'a>, Cause> {
-        memory.arm(0);
+    /// Has the two vectors take each other's place.
+    pub fn swap(&mut self) {
+        mem::swap(&mut self.vector, &mut self.other);
+    }
+}
+
+impl<'a> NewIn<'a> for Vectors<'a> {
+    fn new_in(memory: &'a Refuser<Global>) -> Result<Vectors<'a>, Cause> {
         let vector = SparseVec::new(memory)?;
         let other = SparseVec::new(memory)?;
         Ok(Vectors {
@@ -34,21 +39,9 @@ impl<'a> Vectors<'a> {
             memory,
         })
     }
-
-    /// Has the two vectors take each other's place.
-    pub fn swap(&mut self) {
-        mem::swap(&mut self.vector, &mut self.other);
-    }
 }
 
 impl<'a> Subject for Vectors<'a> {
-    fn renew(&mut self) -> Result<(), Cause> {
-        self.memory.arm(0);
-        self.vector = SparseVec::new(self.memory)?;
-        self.other = SparseVec::new(self.memory)?;
-        Ok(())
-    }
-
     fn write_state(&self, out: &mut String) -> Result<(), AllocError> {
         write!(out, "{:?}", self.vector)
     }

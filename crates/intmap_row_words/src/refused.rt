@@ -1,0 +1,68 @@
+//! Calls with each of their allocations failing in turn.
+
+use crate::subject::Subject;
+use crate::text::alive_text;
+use refuser::Refuser;
+use std::alloc::{AllocError, Global};
+
+/// More allocations than any call makes.
+const MANY: u64 = 1000;
+
+/// Makes a call with its first allocation failing, then with its second one, and so on, until the
+/// call has no such allocation and succeeds. Writes how often it failed, and with which result, or
+/// that a failure had another result, or changed the state or the memory.
+pub fn answer_to_refused<S: Subject>(
+    out: &mut String,
+    memory: &Refuser<Global>,
+    subject: &mut S,
+    call: &str,
+) -> Result<(), AllocError> {
+    let alloc = *out.allocator();
+    let before = held(alloc, memory, subject)?;
+    let mut refusal = String::new(alloc);
+    for times in 0..MANY {
+        memory.arm(times.wrapping_add(1));
+        let mut answer = String::new(alloc);
+        subject.answer_to(&mut answer, call)?;
+        if memory.left() > 0 {
+            memory.arm(0);
+            return write_accepted(out, answer.as_str(), times, refusal.as_str());
+        }
+        if times == 0 {
+            refusal = answer;
+        } else if answer.as_str() != refusal.as_str() {
+            return write!(out, "{refusal}, and then {answer}");
+        }
+        let after = held(alloc, memory, subject)?;
+        if after.as_str() != before.as_str() {
+            return write!(out, "{refusal}, and it changed to {after}");
+        }
+    }
+    write!(out, "{refusal}, again and again")
+}
+
+// the state of what calls are made on, and the memory that is allocated
+fn held<S: Subject>(
+    alloc: Global,
+    memory: &Refuser<Global>,
+    subject: &S,
+) -> Result<String, AllocError> {
+    let alive = alive_text(alloc, memory)?;
+    let mut text = String::new(alloc);
+    subject.write_state(&mut text)?;
+    write!(text, ", {alive}")?;
+    Ok(text)
+}
+
+// what is written of a call that succeeded at last
+fn write_accepted(
+    out: &mut String,
+    answer: &str,
+    times: u64,
+    refusal: &str,
+) -> Result<(), AllocError> {
+    if times == 0 {
+        return write!(out, "{answer} at once");
+    }
+    write!(out, "{times} times {refusal}, then {answer}")
+}

@@ -1,0 +1,70 @@
+//! The maps that the rows of a group use.
+
+use intmap::Cause;
+use intmap_row_calls::kinds::Kinds;
+use intmap_row_lists::{is_run, run_rows};
+use intmap_row_words::maps::Maps;
+use intmap_row_words::report::Report;
+use intmap_row_words::subject::{NewIn, Subject};
+use intmap_row_words::text::{no_call, write_state};
+use intmap_row_words::word::words_of;
+use refuser::Refuser;
+use std::alloc::{AllocError, Global};
+
+/// Two maps with `u64` keys, and a map of each other kind of key.
+#[derive(Drop)]
+pub struct AllMaps<'a> {
+    maps: Maps<'a>,
+    kinds: Kinds<'a>,
+}
+
+impl<'a> NewIn<'a> for AllMaps<'a> {
+    fn new_in(memory: &'a Refuser<Global>) -> Result<AllMaps<'a>, Cause> {
+        let maps = Maps::new(memory)?;
+        let kinds = Kinds::new(memory);
+        Ok(AllMaps { maps, kinds })
+    }
+}
+
+impl<'a> Subject for AllMaps<'a> {
+    fn write_state(&self, out: &mut String) -> Result<(), AllocError> {
+        write_state(out, &self.maps.map)
+    }
+
+    fn answer_to(&mut self, out: &mut String, call: &str) -> Result<(), AllocError> {
+        if self.kinds.answer_to(out, call)? {
+            return Ok(());
+        }
+        match words_of(*out.allocator(), call)? {
+            Some(words) => named(out, &mut self.maps, words.name, &words.numbers),
+            None => no_call(out),
+        }
+    }
+
+    fn is_head(line: &str) -> bool {
+        is_run(line)
+    }
+
+    fn compare_block(
+        &mut self,
+        alloc: Global,
+        report: &mut Report,
+        head: &str,
+        lines: &[&str],
+    ) -> Result<(), AllocError> {
+        run_rows(alloc, &mut self.maps, report, head, lines)
+    }
+}
+
+// writes the answer to the call of this name with these numbers
+fn named(
+    out: &mut String,
+    maps: &mut Maps<'_>,
+    name: &str,
+    numbers: &[u64],
+) -> Result<(), AllocError> {
+    if intmap_row_lists::answer_to(out, maps, name, numbers)? {
+        return Ok(());
+    }
+    intmap_row_calls::answer_to(out, maps, name, numbers)
+}
