@@ -1,0 +1,89 @@
+//! Results as text, in the words of the program's lines.
+//!
+//! Each is written behind what a text holds. The caller owns that text, so nothing has to be
+//! dropped if there is no memory for more of it.
+ghost use Rattle.std.specs.Iterator.{IsFinite};
+
+use intmap::Cause;
+use intmap_run::Answer;
+pub use intmap_text::print_answer;
+use refuser::Refuser;
+use std::alloc::{AllocError, Global};
+use std::fmt::Display;
+
+/// The result of a call whose result is the answer of a command.
+pub type Told = Answer<u64, u64, u64>;
+
+/// What is written for words that are no call.
+pub fn no_call(out: &mut String) -> Result<(), AllocError> {
+    out.push_str("not a call")
+}
+
+/// `none`, or `some` and the value.
+pub fn write_option(out: &mut String, value: Option<u64>) -> Result<(), AllocError> {
+    print_answer(out, &Told::Old(value))
+}
+
+/// `true` or `false`.
+pub fn write_bool(out: &mut String, value: bool) -> Result<(), AllocError> {
+    print_answer(out, &Told::Flag(value))
+}
+
+/// A number alone.
+pub fn write_number(out: &mut String, number: u128) -> Result<(), AllocError> {
+    print_answer(out, &Told::Number(number))
+}
+
+/// `done`, or that the call failed.
+pub fn write_done(out: &mut String, called: Result<(), Cause>) -> Result<(), AllocError> {
+    match called {
+        Ok(()) => print_answer(out, &Told::Done),
+        Err(cause) => write_refusal(out, cause, None),
+    }
+}
+
+/// That a call failed, with the value that it returned.
+pub fn write_refusal(out: &mut String, cause: Cause, value: Option<u64>) -> Result<(), AllocError> {
+    print_answer(out, &Told::Refused { cause, value })
+}
+
+/// Pairs in braces, in their order.
+pub fn write_pairs<K: Copy + Display, I: Iterator<Item = (K, u64)>>(
+    out: &mut String,
+    pairs: I,
+) -> Result<(), AllocError>
+    requires { I.can_next pairs × IsFinite (I.remaining pairs) }
+{
+    out.push('{')?;
+    let mut is_first = true;
+    for (key, value) in pairs {
+        let before = if is_first { "" } else { ", " };
+        write!(out, "{before}{key}: {value}")?;
+        is_first = false;
+    }
+    out.push('}')
+}
+
+/// Keys or values in brackets, in their order.
+pub fn write_list<T: Copy + Display, I: Iterator<Item = T>>(
+    out: &mut String,
+    items: I,
+) -> Result<(), AllocError>
+    requires { I.can_next items × IsFinite (I.remaining items) }
+{
+    out.push('[')?;
+    let mut is_first = true;
+    for item in items {
+        let before = if is_first { "" } else { ", " };
+        write!(out, "{before}{item}")?;
+        is_first = false;
+    }
+    out.push(']')
+}
+
+/// The allocated memory, as text.
+pub fn alive_text(alloc: Global, memory: &Refuser<Global>) -> Result<String, AllocError> {
+    let blocks = memory.live_blocks();
+    let bytes = memory.live_bytes();
+    format!(in alloc; "{blocks} blocks of {bytes} bytes alive")
+}

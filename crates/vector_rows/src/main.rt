@@ -1,0 +1,17 @@
+//! Makes the calls of rows on sparse vectors, and reports each result that differs.
+//!
+//! Each argument is the name of a file of rows. `docs/ROWS.md` says what a row may be.
+#![tactic(auto)]
+
+mod answer;
+mod vectors;
+
+use crate::vectors::Vectors;
+use refuser::Refuser;
+use row_files::program::report_files;
+use std::io;
+
+fn main(rt: HostRuntime) -> io::Result<()> {
+    let memory = Refuser::new(rt.alloc(), 0);
+    report_files::<Vectors<'_>>(&rt, &memory)
+}
