@@ -1,5 +1,5 @@
-//! The phases of the program beside this one, over maps of Rust. Takes the same arguments and prints the
-//! same lines.
+//! The phases of the program beside this one, over maps of Rust. It takes the same arguments, except `own`,
+//! and prints the same lines.
 use std::env;
 use std::time::Instant;
 
