@@ -55,7 +55,6 @@ NOTE = "// Only Rust has what follows. It is tested, not proved."
 NOTED = re.compile(r"(pub )?mod (mending|written);")
 
 CONTRACT = re.compile(r"(pub )?ghost |requires |ensures\*? ")
-FENCE = "```"
 
 
 def read(path):
