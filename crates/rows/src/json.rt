@@ -1,11 +1,14 @@
 //! The calls on JSON. None needs anything of the one before.
 
-use crate::answer::{answer_to_read, answer_to_write};
-use crate::members::answer_to_members;
+use crate::json::answer::{answer_to_read, answer_to_write};
+use crate::json::members::answer_to_members;
 use intmap::Cause;
 use refuser::Refuser;
 use row_files::subject::{NewIn, Subject};
 use std::alloc::{AllocError, Global};
+
+mod answer;
+mod members;
 
 /// Calls that hold nothing, so that there is no state to write.
 #[derive(Clone, Copy)]

@@ -1,6 +1,6 @@
 //! The two sets that the rows of a group use.
 
-use crate::answer::{named, write_set};
+use crate::sets::answer::{named, write_set};
 use intmap::Cause;
 use intmap_set::IntSet;
 use refuser::Refuser;
@@ -9,6 +9,9 @@ use row_files::text::no_call;
 use row_files::word::words_of;
 use std::alloc::{AllocError, Global};
 use std::mem;
+
+mod answer;
+mod many;
 
 /// A set whose allocations can be made to fail.
 pub type Set<'a> = IntSet<u64, &'a Refuser<Global>>;

@@ -1,6 +1,6 @@
 //! Objects that are made from the number of their members, read and written.
 
-use crate::answer::{cause_text, parse};
+use crate::json::answer::{cause_text, parse};
 use intmap::IntMap;
 use serde_json::Value;
 use std::alloc::{AllocError, Global};

@@ -1,12 +1,14 @@
 //! The two vectors that the rows of a group use.
 
-use crate::answer::named;
+use crate::vectors::answer::named;
 use intmap::Cause;
 use intmap_sparse::SparseVec;
 use refuser::Refuser;
 use row_files::subject::{NewIn, Subject};
 use std::alloc::{AllocError, Global};
 use std::mem;
+
+mod answer;
 
 /// A vector whose allocations can be made to fail.
 pub type Vector<'a> = SparseVec<&'a Refuser<Global>>;

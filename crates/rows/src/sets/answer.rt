@@ -1,6 +1,6 @@
 //! One call, from its name and its numbers to its answer.
 
-use crate::many::{keys_of, with_keys, write_extended, write_members};
+use crate::sets::many::{keys_of, with_keys, write_extended, write_members};
 use crate::sets::{Set, Sets};
 use intmap::Cause;
 use intmap_set::IntSet;

@@ -1,0 +1,43 @@
+//! Makes the calls of rows on maps, sets, sparse vectors and JSON, and reports each result that
+//! differs.
+//!
+//! Each argument is the name of a file of rows, which begins with what they are about: `sets`,
+//! `vectors` or `json`. All other files are about maps. `docs/ROWS.md` says what a row may be.
+#![tactic(auto)]
+
+mod json;
+mod maps;
+mod sets;
+mod vectors;
+
+use crate::json::Json;
+use crate::maps::AllMaps;
+use crate::sets::Sets;
+use crate::vectors::Vectors;
+use refuser::Refuser;
+use row_files::program::report_file;
+use std::alloc::Global;
+use std::{env, io};
+
+/// Prints a line for each group of rows, and one for each row that differs or loses memory.
+fn main(rt: HostRuntime) -> io::Result<()> {
+    let memory = Refuser::new(rt.alloc(), 0);
+    for file in env::args(&rt)?.skip(1) {
+        report_rows(&rt, &memory, file.as_str())?;
+    }
+    Ok(())
+}
+
+// makes the calls of a file on what its name begins with
+fn report_rows(rt: &HostRuntime, memory: &Refuser<Global>, file: &str) -> io::Result<()> {
+    if file.starts_with("sets") {
+        return report_file::<Sets<'_>>(rt, memory, file);
+    }
+    if file.starts_with("vectors") {
+        return report_file::<Vectors<'_>>(rt, memory, file);
+    }
+    if file.starts_with("json") {
+        return report_file::<Json>(rt, memory, file);
+    }
+    report_file::<AllMaps<'_>>(rt, memory, file)
+}
