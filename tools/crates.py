@@ -69,7 +69,7 @@ def crates_below(name):
 def is_built(path, name):
     """Whether a file that is built from a crate is there, and no older than a source."""
     folders = [f"crates/{crate}/{part}" for crate in crates_below(name) for part in ("src", "specs", "proofs")]
-    sources = [it for folder in folders for it in glob.glob(f"{folder}/**", recursive=True)]
+    sources = [it for folder in folders if os.path.isdir(folder) for it in glob.glob(f"{folder}/**", recursive=True)]
     return os.path.exists(path) and all(os.path.getmtime(it) <= os.path.getmtime(path) for it in ["crates.txt", *sources])
 
 
