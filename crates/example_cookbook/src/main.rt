@@ -6,9 +6,9 @@
 use crate::fixed::FixedMap;
 use anyhow::Result;
 use callers::cells::{self, Cell};
+use failing_alloc::FailingAlloc;
 use intmap::IntMap;
 use intmap_set::IntSet;
-use refuser::Refuser;
 use std::alloc::Global;
 
 mod fixed;
@@ -22,7 +22,7 @@ fn main(rt: HostRuntime) -> Result<()> {
     group_into_lists(&rt)?;
     join_two_maps(&rt)?;
     use_cells_as_keys(&rt)?;
-    keep_what_fails(&rt, &Refuser::new(rt.alloc(), 0))?;
+    keep_what_fails(&rt, &FailingAlloc::new(rt.alloc(), 0))?;
     unite_two_sets(&rt)?;
     println!(rt; "{}", json::with_member(rt.alloc(), "{\"21\": [1, 2]}", 7)?)?;
     fill_a_fixed_map(&rt)
@@ -61,8 +61,8 @@ fn use_cells_as_keys(rt: &HostRuntime) -> Result<()> {
 }
 
 /// Inserts two pairs into a map, of which the second needs memory that it doesn't get.
-fn keep_what_fails(rt: &HostRuntime, memory: &Refuser<Global>) -> Result<()> {
-    let mut jobs: IntMap<u64, u64, &Refuser<Global>> = IntMap::new(memory)?;
+fn keep_what_fails(rt: &HostRuntime, memory: &FailingAlloc<Global>) -> Result<()> {
+    let mut jobs: IntMap<u64, u64, &FailingAlloc<Global>> = IntMap::new(memory)?;
     memory.arm(1);
     for (number, job) in [(4, 40), (8, 80)] {
         match keep::insert_or_return(&mut jobs, number, job) {

@@ -1,7 +1,7 @@
 //! Values that count how often they are dropped.
 
+use failing_alloc::FailingAlloc;
 use intmap::{Cause, IntMap};
-use refuser::Refuser;
 use std::alloc::{AllocError, Global};
 use std::cell::Cell;
 
@@ -37,13 +37,13 @@ impl<'a> Clone for Counted<'a> {
 }
 
 /// A map of such values, whose requests for memory can be refused.
-pub type CountedMap<'a> = IntMap<u64, Counted<'a>, &'a Refuser<Global>>;
+pub type CountedMap<'a> = IntMap<u64, Counted<'a>, &'a FailingAlloc<Global>>;
 
 /// What steps are taken with: the memory of the values in hand, that of the map, and the drops.
 #[derive(Clone, Copy)]
 pub struct Ground<'a> {
     pub alloc: Global,
-    pub memory: &'a Refuser<Global>,
+    pub memory: &'a FailingAlloc<Global>,
     pub drops: &'a Cell<u64>,
 }
 

@@ -5,8 +5,8 @@
 
 use crate::counted::{CountedMap, Ground};
 use crate::steps::{Step, take};
+use failing_alloc::FailingAlloc;
 use intmap::{Cause, IntMap};
-use refuser::Refuser;
 use std::alloc::Global;
 use std::cell::Cell;
 use std::test::Fail;
@@ -68,7 +68,7 @@ fn follow_whole(ground: Ground<'_>, rows: &[Row]) -> Result<(), Fail> {
 
 // the same in memory of its own; answers the drops, and the blocks that are then alive
 fn end_of(alloc: Global, rows: &[Row]) -> Result<(u64, u64), Fail> {
-    let memory = Refuser::new(alloc, 0);
+    let memory = FailingAlloc::new(alloc, 0);
     let drops = Cell::new(0);
     follow_whole(
         Ground {

@@ -1,12 +1,12 @@
 //! Texts as values: they own memory, which no call may lose.
 
+use failing_alloc::FailingAlloc;
 use intmap::{Cause, IntMap, Refused};
-use refuser::Refuser;
 use std::alloc::{AllocError, Global};
 use std::process::Abort;
 use std::test::Fail;
 
-type Texts<'a> = IntMap<u64, String, &'a Refuser<Global>>;
+type Texts<'a> = IntMap<u64, String, &'a FailingAlloc<Global>>;
 
 /// What a map is before a call: made with so many slots, given a load factor, and then bound keys.
 #[derive(Clone, Copy, Debug)]
@@ -81,7 +81,7 @@ fn line(alloc: Global, map: &mut Texts<'_>, call: Call) -> Result<String, AllocE
 // it was refused, with what was said and shown, and then what was at last
 fn refusals(
     alloc: Global,
-    memory: &Refuser<Global>,
+    memory: &FailingAlloc<Global>,
     map: &mut Texts<'_>,
     call: Call,
 ) -> Result<String, AllocError> {
@@ -104,7 +104,7 @@ fn refusals(
 // the same of a map that has its slots alone
 fn begun(
     alloc: Global,
-    memory: &Refuser<Global>,
+    memory: &FailingAlloc<Global>,
     map: &mut Texts<'_>,
     start: Start,
     call: Call,
@@ -115,14 +115,19 @@ fn begun(
 }
 
 // the same of a new map
-fn told(alloc: Global, memory: &Refuser<Global>, start: Start, call: Call) -> Result<String, Fail> {
+fn told(
+    alloc: Global,
+    memory: &FailingAlloc<Global>,
+    start: Start,
+    call: Call,
+) -> Result<String, Fail> {
     let mut map = IntMap::with_capacity(memory, start.slots)?;
     begun(alloc, memory, &mut map, start, call)
 }
 
 // the same in memory of its own, of which nothing is alive behind it
 fn told_alone(rt: &impl Abort, alloc: Global, start: Start, call: Call) -> Result<String, Fail> {
-    let memory = Refuser::new(alloc, 0);
+    let memory = FailingAlloc::new(alloc, 0);
     let told = told(alloc, &memory, start, call)?;
     let alive = memory.live_blocks();
     assert_eq!(rt; alive, 0, "blocks are alive behind {call:?} of {start:?}");
@@ -268,14 +273,14 @@ fn handed_back(alloc: Global, map: &mut Texts<'_>) -> Result<String, Fail> {
 }
 
 // the same of a new map
-fn all_handed_back(alloc: Global, memory: &Refuser<Global>) -> Result<String, Fail> {
+fn all_handed_back(alloc: Global, memory: &FailingAlloc<Global>) -> Result<String, Fail> {
     let mut map = IntMap::with_capacity(memory, 4)?;
     handed_back(alloc, &mut map)
 }
 
 #[test]
 fn texts_are_bound_and_handed_back(rt: HostRuntime) -> Result<(), Fail> {
-    let memory = Refuser::new(rt.alloc(), 0);
+    let memory = FailingAlloc::new(rt.alloc(), 0);
     assert_eq!(rt;
         all_handed_back(rt.alloc(), &memory)?.as_str(),
         "inserted over Some(\"text 4\"), removed Some(\"text 0\"); text 99, text 8, 4 slots, \

@@ -2,7 +2,7 @@
 
 use crate::session::report;
 use crate::subject::NewIn;
-use refuser::Refuser;
+use failing_alloc::FailingAlloc;
 use std::alloc::{AllocError, Global};
 use std::{fs, io};
 
@@ -10,7 +10,7 @@ use std::{fs, io};
 /// each row that differs or loses memory.
 pub fn report_file<'a, S: NewIn<'a>>(
     rt: &HostRuntime,
-    memory: &'a Refuser<Global>,
+    memory: &'a FailingAlloc<Global>,
     file: &str,
 ) -> io::Result<()> {
     let rows = fs::read_to_string(rt, file)?;

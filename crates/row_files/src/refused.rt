@@ -2,7 +2,7 @@
 
 use crate::subject::Subject;
 use crate::text::alive_text;
-use refuser::Refuser;
+use failing_alloc::FailingAlloc;
 use std::alloc::{AllocError, Global};
 
 /// More allocations than any call makes.
@@ -13,7 +13,7 @@ const MANY: u64 = 1000;
 /// that a failure had another result, or changed the state or the memory.
 pub fn answer_to_refused<S: Subject>(
     out: &mut String,
-    memory: &Refuser<Global>,
+    memory: &FailingAlloc<Global>,
     subject: &mut S,
     call: &str,
 ) -> Result<(), AllocError> {
@@ -44,7 +44,7 @@ pub fn answer_to_refused<S: Subject>(
 // the state of what calls are made on, and the memory that is allocated
 fn held<S: Subject>(
     alloc: Global,
-    memory: &Refuser<Global>,
+    memory: &FailingAlloc<Global>,
     subject: &S,
 ) -> Result<String, AllocError> {
     let alive = alive_text(alloc, memory)?;

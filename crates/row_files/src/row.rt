@@ -4,14 +4,14 @@ use crate::refused::answer_to_refused;
 use crate::report::Report;
 use crate::subject::Subject;
 use crate::word::parts_of;
-use refuser::Refuser;
+use failing_alloc::FailingAlloc;
 use std::alloc::{AllocError, Global};
 
 /// Makes the call of a row, and compares the results. Behind `refused` each allocation of the call
 /// fails in turn.
 pub fn compare_row<S: Subject>(
     alloc: Global,
-    memory: &Refuser<Global>,
+    memory: &FailingAlloc<Global>,
     subject: &mut S,
     report: &mut Report,
     line: &str,
@@ -28,7 +28,7 @@ pub fn compare_row<S: Subject>(
 /// Makes the calls of rows so many times.
 pub fn repeat_rows<S: Subject>(
     alloc: Global,
-    memory: &Refuser<Global>,
+    memory: &FailingAlloc<Global>,
     subject: &mut S,
     report: &mut Report,
     lines: &[&str],

@@ -5,14 +5,14 @@ use crate::report::Report;
 use crate::row::{compare_row, repeat_rows};
 use crate::subject::NewIn;
 use crate::text::alive_text;
+use failing_alloc::FailingAlloc;
 use intmap::Cause;
-use refuser::Refuser;
 use std::alloc::{AllocError, Global};
 
 /// Goes through the lines of a file of rows, and reports what differs.
 pub fn report<'a, S: NewIn<'a>>(
     alloc: Global,
-    memory: &'a Refuser<Global>,
+    memory: &'a FailingAlloc<Global>,
     rows: &str,
 ) -> Result<String, Cause> {
     memory.arm(0);
@@ -33,7 +33,7 @@ pub fn report<'a, S: NewIn<'a>>(
 #[derive(Drop)]
 struct Session<'a, 't, S: NewIn<'a>> {
     alloc: Global,
-    memory: &'a Refuser<Global>,
+    memory: &'a FailingAlloc<Global>,
     subject: S,
     // the memory that was allocated when the current group began
     alive: String,

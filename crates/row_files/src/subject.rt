@@ -1,8 +1,8 @@
 //! What the calls of rows are made on.
 
 use crate::report::Report;
+use failing_alloc::FailingAlloc;
 use intmap::Cause;
-use refuser::Refuser;
 use std::alloc::{AllocError, Global};
 
 /// What the calls of a group of rows are made on: for example one of two sets, which can be swapped.
@@ -33,5 +33,5 @@ pub trait Subject: Drop {
 /// A subject that the machine makes, anew for each group.
 pub trait NewIn<'a>: Subject + Sized {
     /// Returns a new one, which allocates from `memory`.
-    fn new_in(memory: &'a Refuser<Global>) -> Result<Self, Cause>;
+    fn new_in(memory: &'a FailingAlloc<Global>) -> Result<Self, Cause>;
 }

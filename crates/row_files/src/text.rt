@@ -4,10 +4,10 @@
 //! dropped if there is no memory for more of it.
 ghost use Rattle.std.specs.Iterator.{IsFinite};
 
+use failing_alloc::FailingAlloc;
 use intmap::Cause;
 use intmap_run::Answer;
 pub use intmap_text::print_answer;
-use refuser::Refuser;
 use std::alloc::{AllocError, Global};
 use std::fmt::Display;
 
@@ -82,7 +82,7 @@ pub fn write_list<T: Copy + Display, I: Iterator<Item = T>>(
 }
 
 /// The allocated memory, as text.
-pub fn alive_text(alloc: Global, memory: &Refuser<Global>) -> Result<String, AllocError> {
+pub fn alive_text(alloc: Global, memory: &FailingAlloc<Global>) -> Result<String, AllocError> {
     let blocks = memory.live_blocks();
     let bytes = memory.live_bytes();
     format!(in alloc; "{blocks} blocks of {bytes} bytes alive")

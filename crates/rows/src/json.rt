@@ -2,8 +2,8 @@
 
 use crate::json::answer::{answer_to_read, answer_to_write};
 use crate::json::members::answer_to_members;
+use failing_alloc::FailingAlloc;
 use intmap::Cause;
-use refuser::Refuser;
 use row_files::subject::{NewIn, Subject};
 use std::alloc::{AllocError, Global};
 
@@ -15,7 +15,7 @@ mod members;
 pub struct Json;
 
 impl<'a> NewIn<'a> for Json {
-    fn new_in(_memory: &'a Refuser<Global>) -> Result<Json, Cause> {
+    fn new_in(_memory: &'a FailingAlloc<Global>) -> Result<Json, Cause> {
         Ok(Json)
     }
 }

@@ -14,14 +14,14 @@ use crate::json::Json;
 use crate::maps::AllMaps;
 use crate::sets::Sets;
 use crate::vectors::Vectors;
-use refuser::Refuser;
+use failing_alloc::FailingAlloc;
 use row_files::program::report_file;
 use std::alloc::Global;
 use std::{env, io};
 
 /// Prints a line for each group of rows, and one for each row that differs or loses memory.
 fn main(rt: HostRuntime) -> io::Result<()> {
-    let memory = Refuser::new(rt.alloc(), 0);
+    let memory = FailingAlloc::new(rt.alloc(), 0);
     for file in env::args(&rt)?.skip(1) {
         report_rows(&rt, &memory, file.as_str())?;
     }
@@ -29,7 +29,7 @@ fn main(rt: HostRuntime) -> io::Result<()> {
 }
 
 // makes the calls of a file on what its name begins with
-fn report_rows(rt: &HostRuntime, memory: &Refuser<Global>, file: &str) -> io::Result<()> {
+fn report_rows(rt: &HostRuntime, memory: &FailingAlloc<Global>, file: &str) -> io::Result<()> {
     if file.starts_with("sets") {
         return report_file::<Sets<'_>>(rt, memory, file);
     }

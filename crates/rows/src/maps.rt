@@ -1,11 +1,22 @@
 //! The maps that the rows of a group use.
+//!
+//! A call is its name and the numbers behind it. `single` has those with two numbers at most, `many`
+//! those with many keys or pairs, or on both maps. `kinds` has the calls on maps with other keys, and
+//! `run_block` the commands that one `run` makes.
 
+mod cell;
+mod kinds;
+mod many;
+mod run_block;
+mod runs;
+mod single;
+mod two;
+
+use crate::maps::kinds::Kinds;
+use crate::maps::run_block::{is_run, run_rows};
+use crate::maps::two::{Maps, write_state};
+use failing_alloc::FailingAlloc;
 use intmap::Cause;
-use map_row_calls::answer_to;
-use map_row_calls::kinds::Kinds;
-use map_row_calls::maps::{Maps, write_state};
-use map_row_calls::run_block::{is_run, run_rows};
-use refuser::Refuser;
 use row_files::report::Report;
 use row_files::subject::{NewIn, Subject};
 use row_files::text::no_call;
@@ -20,7 +31,7 @@ pub struct AllMaps<'a> {
 }
 
 impl<'a> NewIn<'a> for AllMaps<'a> {
-    fn new_in(memory: &'a Refuser<Global>) -> Result<AllMaps<'a>, Cause> {
+    fn new_in(memory: &'a FailingAlloc<Global>) -> Result<AllMaps<'a>, Cause> {
         let maps = Maps::new(memory)?;
         let kinds = Kinds::new(memory);
         Ok(AllMaps { maps, kinds })
@@ -37,7 +48,7 @@ impl<'a> Subject for AllMaps<'a> {
             return Ok(());
         }
         match words_of(*out.allocator(), call)? {
-            Some(words) => answer_to(out, &mut self.maps, words.name, &words.numbers),
+            Some(words) => named(out, &mut self.maps, words.name, &words.numbers),
             None => no_call(out),
         }
     }
@@ -55,4 +66,17 @@ impl<'a> Subject for AllMaps<'a> {
     ) -> Result<(), AllocError> {
         run_rows(alloc, &mut self.maps, report, head, lines)
     }
+}
+
+// writes the result of the call of this name with these numbers
+fn named(
+    out: &mut String,
+    maps: &mut Maps<'_>,
+    name: &str,
+    numbers: &[u64],
+) -> Result<(), AllocError> {
+    if many::answer_to(out, maps, name, numbers)? {
+        return Ok(());
+    }
+    single::answer_to(out, maps, name, numbers)
 }

@@ -1,9 +1,9 @@
 //! The two sets that the rows of a group use.
 
 use crate::sets::answer::{named, write_set};
+use failing_alloc::FailingAlloc;
 use intmap::Cause;
 use intmap_set::IntSet;
-use refuser::Refuser;
 use row_files::subject::{NewIn, Subject};
 use row_files::text::no_call;
 use row_files::word::words_of;
@@ -14,7 +14,7 @@ mod answer;
 mod many;
 
 /// A set whose allocations can be made to fail.
-pub type Set<'a> = IntSet<u64, &'a Refuser<Global>>;
+pub type Set<'a> = IntSet<u64, &'a FailingAlloc<Global>>;
 
 /// The set that calls are made on, another one, and the memory of both.
 #[derive(Drop)]
@@ -24,7 +24,7 @@ pub struct Sets<'a> {
     /// The one that takes its place at the call `other`.
     pub other: Set<'a>,
     /// What both allocate from.
-    pub memory: &'a Refuser<Global>,
+    pub memory: &'a FailingAlloc<Global>,
 }
 
 impl<'a> Sets<'a> {
@@ -53,7 +53,7 @@ impl<'a> Sets<'a> {
 }
 
 impl<'a> NewIn<'a> for Sets<'a> {
-    fn new_in(memory: &'a Refuser<Global>) -> Result<Sets<'a>, Cause> {
+    fn new_in(memory: &'a FailingAlloc<Global>) -> Result<Sets<'a>, Cause> {
         let set = IntSet::new(memory)?;
         let other = IntSet::new(memory)?;
         Ok(Sets { set, other, memory })

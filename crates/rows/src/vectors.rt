@@ -1,9 +1,9 @@
 //! The two vectors that the rows of a group use.
 
 use crate::vectors::answer::named;
+use failing_alloc::FailingAlloc;
 use intmap::Cause;
 use intmap_sparse::SparseVec;
-use refuser::Refuser;
 use row_files::subject::{NewIn, Subject};
 use std::alloc::{AllocError, Global};
 use std::mem;
@@ -11,7 +11,7 @@ use std::mem;
 mod answer;
 
 /// A vector whose allocations can be made to fail.
-pub type Vector<'a> = SparseVec<&'a Refuser<Global>>;
+pub type Vector<'a> = SparseVec<&'a FailingAlloc<Global>>;
 
 /// The vector that calls are made on, another one, and the memory of both.
 #[derive(Drop)]
@@ -21,7 +21,7 @@ pub struct Vectors<'a> {
     /// The one that takes its place at the call `other`.
     pub other: Vector<'a>,
     /// What both allocate from.
-    pub memory: &'a Refuser<Global>,
+    pub memory: &'a FailingAlloc<Global>,
 }
 
 impl<'a> Vectors<'a> {
@@ -32,7 +32,7 @@ impl<'a> Vectors<'a> {
 }
 
 impl<'a> NewIn<'a> for Vectors<'a> {
-    fn new_in(memory: &'a Refuser<Global>) -> Result<Vectors<'a>, Cause> {
+    fn new_in(memory: &'a FailingAlloc<Global>) -> Result<Vectors<'a>, Cause> {
         let vector = SparseVec::new(memory)?;
         let other = SparseVec::new(memory)?;
         Ok(Vectors {

@@ -3,7 +3,7 @@
 
 use crate::ended::{Ended, end, end_of, expect};
 use crate::streams::{Limited, MOST};
-use refuser::Refuser;
+use failing_alloc::FailingAlloc;
 use std::alloc::{AllocError, Global};
 use std::process::Abort;
 use std::test::Fail;
@@ -22,7 +22,7 @@ fn expect_untold(rt: &impl Abort, alloc: Global, session: &[u8], number: usize) 
     let ample = Limited::new(MOST, true);
     let told = b"no memory\n";
     for room in 0..told.len() {
-        let memory = Refuser::new(alloc, number as u64);
+        let memory = FailingAlloc::new(alloc, number as u64);
         let ended = end(&memory, &mut { session }, ample, Limited::new(room, true));
         expect(rt, number, &ended, (session, 3, b"", &told[..room]));
     }
@@ -42,7 +42,7 @@ enum Outcome {
 // a session whose allocation of this number fails, how many allocations away that still was, and how
 // many blocks are alive behind the session
 fn end_refused_at(alloc: Global, session: &[u8], number: usize) -> (Ended, u64, u64) {
-    let memory = Refuser::new(alloc, number as u64);
+    let memory = FailingAlloc::new(alloc, number as u64);
     let ended = end_of(&memory, session);
     (ended, memory.left(), memory.live_blocks())
 }

@@ -1,9 +1,9 @@
 //! Runs over texts: a judge that sees something else than values, and values that come back.
 ghost use Rattle.std.specs.Prelude.{◌≡◌, ◌%◌, ◌==◌, string_len};
 
+use failing_alloc::FailingAlloc;
 use intmap::IntMap;
 use intmap_run::{Answer, Command, Judge, run};
-use refuser::Refuser;
 use std::alloc::{AllocError, Global};
 use std::test::Fail;
 
@@ -26,9 +26,9 @@ impl Judge<u64, String> for Lengths {
     }
 }
 
-type CommandOf<'a> = Command<u64, String, &'a Refuser<Global>>;
+type CommandOf<'a> = Command<u64, String, &'a FailingAlloc<Global>>;
 
-type Commands<'a> = Vec<CommandOf<'a>, &'a Refuser<Global>>;
+type Commands<'a> = Vec<CommandOf<'a>, &'a FailingAlloc<Global>>;
 
 // what the runs of this module are asked: a command by its name, with a key and a text
 const ASKED: [(&str, u64, &str); 18] = [
@@ -75,7 +75,10 @@ fn command_of<'a>(
 }
 
 // these commands
-fn commands<'a>(alloc: Global, memory: &'a Refuser<Global>) -> Result<Commands<'a>, AllocError> {
+fn commands<'a>(
+    alloc: Global,
+    memory: &'a FailingAlloc<Global>,
+) -> Result<Commands<'a>, AllocError> {
     let mut commands = Vec::new(memory);
     for (name, key, text) in ASKED {
         commands.push(command_of(alloc, name, key, text)?)?;
@@ -95,7 +98,7 @@ fn pair_of(command: CommandOf<'_>) -> Option<(u64, String)> {
 // an answer as text
 fn said(
     alloc: Global,
-    answer: &Answer<u64, String, usize, &Refuser<Global>>,
+    answer: &Answer<u64, String, usize, &FailingAlloc<Global>>,
 ) -> Result<String, AllocError> {
     match answer {
         Answer::Old(old) => format!(in alloc; "old {old:?}"),
@@ -115,7 +118,7 @@ fn said(
 }
 
 // what a new map answers to the commands with the request of this number refused, and what comes back
-fn told(alloc: Global, memory: &Refuser<Global>, number: u64) -> Result<String, Fail> {
+fn told(alloc: Global, memory: &FailingAlloc<Global>, number: u64) -> Result<String, Fail> {
     let mut map = IntMap::new(memory)?;
     let asked = commands(alloc, memory)?;
     memory.arm(number);
@@ -204,7 +207,7 @@ pairs [(4, \"op\")]
 
 #[test]
 fn texts_come_back_and_a_judge_sees_their_lengths(rt: HostRuntime) -> Result<(), Fail> {
-    let memory = Refuser::new(rt.alloc(), 0);
+    let memory = FailingAlloc::new(rt.alloc(), 0);
     let mut all = String::new(rt.alloc());
     for number in [1, 2, 5, 0] {
         memory.arm(0);

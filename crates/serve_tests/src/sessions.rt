@@ -3,7 +3,7 @@
 use crate::ended::{Ended, Row, end, end_of, expect, expect_all};
 use crate::refusals::OF_ALL_KINDS;
 use crate::streams::{Limited, MOST, Slow};
-use refuser::Refuser;
+use failing_alloc::FailingAlloc;
 use std::alloc::Global;
 use std::process::Abort;
 
@@ -200,7 +200,7 @@ fn answers_and_each_fault_are_flushed(rt: HostRuntime) {
     for row in &SESSIONS {
         expect_flushed(&rt, &end_of(alloc, row.0), row.2, row.3);
     }
-    let ended = end_of(&Refuser::new(alloc, 1), INPUT);
+    let ended = end_of(&FailingAlloc::new(alloc, 1), INPUT);
     expect_flushed(&rt, &ended, b"", b"no memory\n");
     let ended = end(alloc, &mut Slow::new(INPUT, false), ample, ample);
     expect_flushed(&rt, &ended, b"", b"input failed\n");

@@ -1,0 +1,128 @@
+//! An allocator for tests: it fails one allocation, counts the allocations up to that one, and
+//! counts the blocks that are alive.
+//!
+//! Lend it to a collection as `&FailingAlloc<B>`, which is an allocator that is `Copy`. `arm` then
+//! says which allocation fails, also while the collection holds memory, and `left` says how far
+//! away that allocation is. So a test can make each allocation of a call fail in turn, and look at
+//! what the call leaves behind. `live_blocks` and `live_bytes` are 0 again once nothing holds
+//! memory of it. If they aren't, a call has lost a block.
+//!
+//! Proved: a block that it returns is one of `inner`'s, as large as was requested. Only tested:
+//! which allocation fails and what the counts are, since no contract says what a cell holds.
+//! Neither: that a block passed to `deallocate` is freed, since an allocator may keep it.
+#![tactic(auto)]
+
+use std::alloc::{AllocError, Allocator};
+use std::cell::Cell;
+
+#[cfg(test)]
+mod tests;
+
+/// Passes each allocation on to `inner`, except the one that is to fail.
+///
+/// It is not `Copy`, since a copy would have counts of its own.
+pub struct FailingAlloc<B: Allocator> {
+    inner: B,
+    counts: Counts,
+}
+
+/// What a `FailingAlloc` counts.
+#[derive(Drop)]
+struct Counts {
+    /// How many allocations away the failing one is, 0 if none will fail.
+    left: Cell<u64>,
+    /// The blocks that were returned and not handed back.
+    blocks: Cell<u64>,
+    /// Their bytes.
+    bytes: Cell<u64>,
+}
+
+impl<B: Allocator> FailingAlloc<B> {
+    /// Returns an allocator over `inner` whose allocation number `failing` fails, counted from 1. At
+    /// 0 none fails.
+    pub fn new(inner: B, failing: u64) -> FailingAlloc<B> {
+        FailingAlloc {
+            inner,
+            counts: Counts {
+                left: Cell::new(failing),
+                blocks: Cell::new(0),
+                bytes: Cell::new(0),
+            },
+        }
+    }
+
+    /// Starts the count again: from here on, allocation number `failing` fails, counted from 1. At 0
+    /// none fails.
+    pub fn arm(&self, failing: u64) {
+        self.counts.left.set(failing);
+    }
+
+    /// Returns how many allocations away the failing one is: 1 if the next one fails. It is 0 if none
+    /// will fail, because one has failed already or none was to fail.
+    pub fn left(&self) -> u64 {
+        self.counts.left.get()
+    }
+
+    /// Returns how many of its blocks weren't handed back. `arm` leaves this count.
+    pub fn live_blocks(&self) -> u64 {
+        self.counts.blocks.get()
+    }
+
+    /// Returns how many bytes were asked for these blocks.
+    pub fn live_bytes(&self) -> u64 {
+        self.counts.bytes.get()
+    }
+}
+
+impl<B: Allocator> Drop for FailingAlloc<B> {
+    fn drop(self) {
+        let Self {
+            inner: _,
+            counts: _,
+        } = self;
+    }
+}
+
+impl Counts {
+    // counts one allocation, and returns whether it is the one that fails
+    fn request(&self) -> bool {
+        let before = self.left.get();
+        self.left.set(before.saturating_sub(1));
+        before == 1
+    }
+
+    // counts a block that it returns
+    fn grant(&self, size: usize) {
+        self.blocks.set(self.blocks.get().wrapping_add(1));
+        self.bytes.set(self.bytes.get().wrapping_add(size as u64));
+    }
+
+    // counts a block that is handed back
+    fn hand_back(&self, size: usize) {
+        self.blocks.set(self.blocks.get().wrapping_sub(1));
+        self.bytes.set(self.bytes.get().wrapping_sub(size as u64));
+    }
+}
+
+unsafe impl<B: Allocator> Allocator for FailingAlloc<B> {
+    // A block is `inner`'s, and so is the right to free it.
+    ghost dealloc_token = { λ alloc ty ptr. B.dealloc_token alloc.inner ty ptr };
+
+    fn allocate(&self, size: usize, align: usize) -> Result<*mut u8, AllocError> {
+        if self.counts.request() {
+            return Err(AllocError);
+        }
+        match self.inner.allocate(size, align) {
+            Ok(block) => {
+                self.counts.grant(size);
+                Ok(block)
+            }
+            Err(_) => Err(AllocError),
+        }
+    }
+
+    unsafe fn deallocate(&self, ptr: *mut u8, size: usize, align: usize) {
+        self.counts.hand_back(size);
+        self.inner.deallocate(ptr, size, align);
+    }
+}

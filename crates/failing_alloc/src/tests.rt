@@ -1,0 +1,100 @@
+//! What a `Vec` sees when its memory is refused, and what is alive meanwhile.
+use super::*;
+use std::alloc::Global;
+use std::test::Fail;
+
+#[test]
+fn first_request_is_refused_once(rt: HostRuntime) -> Result<(), Fail> {
+    let memory = FailingAlloc::new(rt.alloc(), 1);
+    let mut values = Vec::new(&memory);
+    assert!(rt; values.push(7u8).is_err());
+    assert!(rt; values.is_empty());
+
+    values.push(7)?;
+    assert_eq!(rt; values.as_slice(), [7].as_slice());
+    Ok(())
+}
+
+#[test]
+fn second_request_is_refused_once(rt: HostRuntime) -> Result<(), Fail> {
+    let memory = FailingAlloc::new(rt.alloc(), 0);
+    memory.arm(2);
+    let mut values = Vec::with_capacity(&memory, 1)?;
+    values.push(7u8)?;
+    assert!(rt; values.push(8).is_err());
+    assert_eq!(rt; values.as_slice(), [7].as_slice());
+
+    values.push(8)?;
+    assert_eq!(rt; values.as_slice(), [7, 8].as_slice());
+    Ok(())
+}
+
+#[test]
+fn left_counts_down_to_the_refused_request(rt: HostRuntime) -> Result<(), Fail> {
+    let memory = FailingAlloc::new(rt.alloc(), 2);
+    assert_eq!(rt; memory.left(), 2);
+    let mut values = Vec::with_capacity(&memory, 1)?;
+    assert_eq!(rt; memory.left(), 1);
+    values.push(0u64)?;
+    assert_eq!(rt;
+        memory.left(),
+        1,
+        "a push into room that is there asks for none"
+    );
+    assert!(rt; values.push(1).is_err());
+    assert_eq!(rt; memory.left(), 0);
+
+    // At 0 none is refused.
+    for value in 1..100u64 {
+        values.push(value)?;
+        assert_eq!(rt; memory.left(), 0);
+    }
+    assert_eq!(rt; values.len(), 100);
+    Ok(())
+}
+
+// the blocks and the bytes that are alive
+fn alive<B: Allocator>(memory: &FailingAlloc<B>) -> (u64, u64) {
+    (memory.live_blocks(), memory.live_bytes())
+}
+
+// what is alive with one list, with two, where the first is to grow and is refused, where it has grown,
+// and once the second is let go
+fn lists(memory: &FailingAlloc<Global>) -> Result<[(u64, u64); 5], AllocError> {
+    let mut values = Vec::with_capacity(memory, 3)?;
+    let first = alive(memory);
+    let other = Vec::<u8, _>::with_capacity(memory, 5)?;
+    let second = alive(memory);
+    memory.arm(1);
+    let is_refused = values.reserve(100).is_err();
+    let refused = if is_refused { alive(memory) } else { (0, 0) };
+    values.reserve_exact(100)?;
+    let grown = alive(memory);
+    values.push(7u64)?;
+    drop(other);
+    Ok([first, second, refused, grown, alive(memory)])
+}
+
+#[test]
+fn what_is_granted_is_alive_until_it_is_handed_back(rt: HostRuntime) -> Result<(), Fail> {
+    let memory = FailingAlloc::new(rt.alloc(), 0);
+    let counts = lists(&memory)?;
+    let wanted = [(1, 24), (2, 29), (2, 29), (2, 805), (1, 800)];
+    assert_eq!(rt; counts, wanted);
+    assert_eq!(rt; alive(&memory), (0, 0), "each list is let go");
+    Ok(())
+}
+
+// what is alive of an allocator over another one that refuses
+fn refused_inside(inner: &FailingAlloc<Global>) -> (bool, (u64, u64)) {
+    let memory = FailingAlloc::new(inner, 0);
+    inner.arm(1);
+    let is_refused = Vec::<u8, _>::with_capacity(&memory, 5).is_err();
+    (is_refused, alive(&memory))
+}
+
+#[test]
+fn what_the_allocator_inside_refuses_is_not_alive(rt: HostRuntime) {
+    let inner = FailingAlloc::new(rt.alloc(), 0);
+    assert_eq!(rt; refused_inside(&inner), (true, (0, 0)));
+}
