@@ -1,5 +1,5 @@
-//! Tests of the map of what rows of text can't say: values that own memory or count their drops,
-//! keys of a type of one's own, and the texts of errors.
+//! Tests of the map of what rows of text can't say: values that own memory or count their drops, and
+//! the texts of errors.
 #![tactic(auto)]
 
 #[cfg(test)]
@@ -8,8 +8,6 @@ mod counted;
 mod drops;
 #[cfg(test)]
 mod errors;
-#[cfg(test)]
-mod keys;
 #[cfg(test)]
 mod steps;
 #[cfg(test)]

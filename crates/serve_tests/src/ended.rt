@@ -2,7 +2,7 @@
 
 use crate::streams::{Limited, MOST};
 use intmap_serve::serve;
-use std::alloc::{Allocator, Global};
+use std::alloc::Allocator;
 use std::io::Read;
 use std::process::Abort;
 
@@ -50,11 +50,4 @@ pub fn expect(rt: &impl Abort, number: usize, ended: &Ended, row: Row<'_>) {
         is_right,
         "session {number} of {text:?}: {status}, {written:?}, {told:?}"
     );
-}
-
-/// Expects the session of each text to end as its row says.
-pub fn expect_all(rt: &impl Abort, alloc: Global, rows: &[Row<'_>]) {
-    for row in rows {
-        expect(rt, 0, &end_of(alloc, row.0), *row);
-    }
 }
