@@ -21,8 +21,8 @@ use std::{env, io};
 
 /// Prints a line for each group of rows, and one for each row that differs or loses memory.
 fn main(rt: HostRuntime) -> io::Result<()> {
-    let memory = FailingAlloc::new(rt.alloc(), 0);
     for file in env::args(&rt)?.skip(1) {
+        let memory = FailingAlloc::new(rt.alloc(), 0);
         report_rows(&rt, &memory, file.as_str())?;
     }
     Ok(())
