@@ -1,5 +1,6 @@
-//! What a `Vec` sees when its memory is refused, and what is alive meanwhile.
+//! What a `Vec` and a map see when an allocation fails, and what is alive meanwhile.
 use super::*;
+use intmap::IntMap;
 use std::alloc::Global;
 use std::test::Fail;
 
@@ -26,6 +27,30 @@ fn second_request_is_refused_once(rt: HostRuntime) -> Result<(), Fail> {
 
     values.push(8)?;
     assert_eq!(rt; values.as_slice(), [7, 8].as_slice());
+    Ok(())
+}
+
+// inserts two keys that share a slot, while the allocation for the second one fails, and then succeeds
+fn crowd<'a>(
+    memory: &'a FailingAlloc<Global>,
+    map: &mut IntMap<u64, u64, &'a FailingAlloc<Global>>,
+) -> Result<[usize; 3], Fail> {
+    map.insert(0, 10)?;
+    memory.arm(1);
+    let has_failed = map.insert(4, 14).is_err();
+    let before = map.len();
+    map.insert(4, 14)?;
+    Ok([usize::from(has_failed), before, map.len()])
+}
+
+#[test]
+fn a_map_loses_nothing_if_an_allocation_fails(rt: HostRuntime) -> Result<(), Fail> {
+    let memory = FailingAlloc::new(rt.alloc(), 0);
+    let mut map = IntMap::new(&memory)?;
+    let counts = crowd(&memory, &mut map)?;
+    drop(map);
+    assert_eq!(rt; counts, [1, 1, 2]);
+    assert_eq!(rt; alive(&memory), (0, 0), "the map is let go");
     Ok(())
 }
 
