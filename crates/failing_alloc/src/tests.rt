@@ -4,32 +4,6 @@ use intmap::IntMap;
 use std::alloc::Global;
 use std::test::Fail;
 
-#[test]
-fn first_request_is_refused_once(rt: HostRuntime) -> Result<(), Fail> {
-    let memory = FailingAlloc::new(rt.alloc(), 1);
-    let mut values = Vec::new(&memory);
-    assert!(rt; values.push(7u8).is_err());
-    assert!(rt; values.is_empty());
-
-    values.push(7)?;
-    assert_eq!(rt; values.as_slice(), [7].as_slice());
-    Ok(())
-}
-
-#[test]
-fn second_request_is_refused_once(rt: HostRuntime) -> Result<(), Fail> {
-    let memory = FailingAlloc::new(rt.alloc(), 0);
-    memory.arm(2);
-    let mut values = Vec::with_capacity(&memory, 1)?;
-    values.push(7u8)?;
-    assert!(rt; values.push(8).is_err());
-    assert_eq!(rt; values.as_slice(), [7].as_slice());
-
-    values.push(8)?;
-    assert_eq!(rt; values.as_slice(), [7, 8].as_slice());
-    Ok(())
-}
-
 // inserts two keys that share a slot, while the allocation for the second one fails, and then succeeds
 fn crowd<'a>(
     memory: &'a FailingAlloc<Global>,
