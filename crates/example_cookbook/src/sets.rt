@@ -6,5 +6,5 @@ use std::alloc::Global;
 
 /// The members of either set.
 pub fn union(alloc: Global, left: &IntSet<u64>, right: &IntSet<u64>) -> Result<IntSet<u64>, Cause> {
-    IntSet::from_iter(alloc, left.union(right).copied())
+    left.to_union(alloc, right)
 }
