@@ -1,54 +1,23 @@
 -- What a map is once a closure was asked about some of its pairs, of which it picked at most one.
-use Rattle.std.proofs.Common.{◌≡◌, inl, inr, ℕ, ◌+◌, Bool, true, false, cond, List, [], ◌∷◌, ◌++◌, Option, Some, None, length, take, drop, refl, sym, ap, ◌∙◌, subst, arith, length-append}
+use Rattle.std.proofs.Common.{◌≡◌, inl, inr, ℕ, ◌+◌, Bool, true, false, cond, List, [], ◌∷◌, ◌++◌, Option, Some, None, length, take, drop, refl, sym, ap, ◌∙◌, subst, arith}
 use Rattle.std.specs.Prelude.{IfSome, unwrap_or}
 use Rattle.std.specs.Bool.{MatchBool}
 use Rattle.std.proofs.lemmas.Bool.{cases_Bool, eq-eqb}
 use Rattle.std.proofs.lemmas.List.{take-append-drop}
-use Rattle.std.specs.List.{flat_map, range_with_len}
 use Rattle.std.specs.Iterator.{MakesProgress, at_most}
 use Rattle.std.specs.List.Retain.{ExtractsNext}
 use Rattle.std.specs.Option.{option_len}
 use Rattle.intmap_table.specs.Bindings.{IsPresent}
 use Rattle.intmap_table.specs.Classes.{same_key}
 use Rattle.intmap_table.specs.Picking.{ExtractsBehind, IsReached}
-use Rattle.intmap_table.specs.Tables.Kept.{unkept}
 use Rattle.intmap_table.specs.Taking.{TakesEach}
-use Rattle.intmap_table.specs.Walk.{slot_of, walk_of}
-use Rattle.intmap_table.specs.declared.kept.Kept.{Kept}
+use Rattle.intmap_table.specs.Walk.{walk_of}
 use Rattle.intmap.specs.Consistency.{IsConsistent}
 use Rattle.intmap.specs.Growth.{IsThreshold}
 use Rattle.intmap.specs.Map.{IsMapWalk}
 use Rattle.intmap.proofs.LoadFactorLemmas.{IsLoaded-fewer}
-use Rattle.intmap.proofs.MapLemmas.{length-unkept}
 use Rattle.intmap_table.proofs.ExtractLemmas.{sum_by-ExtractsBehind, length-ExtractsNext, length-ExtractsBehind, All-ExtractsBehind, TakesEach-rest}
-use Rattle.intmap_table.proofs.MappedLemmas.{slot_of-map_values, walk_of-map_values}
 use Rattle.intmap_table.proofs.SlotNumberLemmas.{capacity-positive}
-
-module _ {K V : Type 0} (number : K → ℕ) (W : List (K × Kept V)) (C : ℕ) where
-  slot-len : (i : ℕ) → length (slot_of number (unkept W) C i) ≡ length (slot_of number W C i)
-  slot-len i = ap length (slot_of-map_values number (λ (x : Kept V). x.value) W C i) ∙ length-unkept number (slot_of number W C i)
-
-  slots-len : (ns : List ℕ) → length (flat_map (slot_of number (unkept W) C) ns) ≡ length (flat_map (slot_of number W C) ns)
-  slots-len [] = refl
-  slots-len (n ∷ ns) =
-      let seen = length-append (slot_of number (unkept W) C n) (flat_map (slot_of number (unkept W) C) ns) in
-      let stored = length-append (slot_of number W C n) (flat_map (slot_of number W C) ns) in
-      omega (arith, seen, stored, slot-len n, slots-len ns)
-
-  -- the position of a walk doesn't depend on the values
-  pub IsReached-unkept : (slot place passed : ℕ) → IsReached number W C slot place passed → IsReached number (unkept W) C slot place passed
-  IsReached-unkept slot place passed at = record {
-    within = omega (arith, at.within, slot-len slot);
-    count = omega (arith, at.count, slots-len (range_with_len 0 slot));
-    few = omega (arith, at.few, length-unkept number W);
-  }
-
-  pub IsReached-kept : (slot place passed : ℕ) → IsReached number (unkept W) C slot place passed → IsReached number W C slot place passed
-  IsReached-kept slot place passed at = record {
-    within = omega (arith, at.within, slot-len slot);
-    count = omega (arith, at.count, slots-len (range_with_len 0 slot));
-    few = omega (arith, at.few, length-unkept number W);
-  }
 
 -- at the start no pair was passed
 pub IsReached-start : {K V : Type 0} (number : K → ℕ) (W : List (K × V)) (C : ℕ) → IsReached number W C 0 0 0
@@ -72,15 +41,11 @@ module _ {F K V : Type 0} (number : K → ℕ) (is_valid : K → Type 0) (R : F 
       }
 
   -- and what a map keeps agrees
-  pub IsConsistent-Extracts : (f g : F) (W M : List (K × Kept V)) (i j : ℕ) (r : Option (K × V)) (C D E n n' most : ℕ) → ExtractsBehind R f (unkept W) i r g (unkept M) j → D ≡ C → walk_of number M D ≡ M
+  pub IsConsistent-Extracts : (f g : F) (W M : List (K × V)) (i j : ℕ) (r : Option (K × V)) (C D E n n' most : ℕ) → ExtractsBehind R f W i r g M j → D ≡ C → walk_of number M D ≡ M
       → n ≡ n' + option_len r → IsConsistent number is_valid W C E n most → IsConsistent number is_valid M D E n' most
   IsConsistent-Extracts f g W M i j r C D E n n' most step same_size own count old = record {
-    map =
-        let own_seen : walk_of number (unkept M) D ≡ unkept M = walk_of-map_values number (λ (x : Kept V). x.value) M D ∙ ap unkept own in
-        IsMapWalk-Extracts f g (unkept W) (unkept M) i j r D E step own_seen (subst (λ m. IsMapWalk number is_valid (unkept W) m E) (sym same_size) old.map);
-    count =
-        let len = length-ExtractsBehind R f g (unkept W) (unkept M) i j r step in let before = length-unkept number W in let after = length-unkept number M in
-        omega (arith, count, old.count, len, before, after);
+    map = IsMapWalk-Extracts f g W M i j r D E step own (subst (λ m. IsMapWalk number is_valid W m E) (sym same_size) old.map);
+    count = let len = length-ExtractsBehind R f g W M i j r step in omega (arith, count, old.count, len);
     threshold = subst (λ m. IsThreshold m E most) (sym same_size) old.threshold;
   }
 

@@ -2,7 +2,7 @@
 use mathlib.Core.Path.{◌≡◌, refl, sym, ap, subst, ◌∙◌}
 use Prim.Native.Nat.{ℕ, ◌+◌}
 use mathlib.Core.List.{List, [], ◌∷◌}
-use lib.ListN.{length, length-map}
+use lib.ListN.{length}
 use seplogic.Ra.Ura.{Ura}
 use base.Fml.{Lft, GName, Share, Incl, flft, fobs, fauth, fobor}
 use base.Fraction.{full_share}
@@ -27,9 +27,8 @@ use Rattle.std.specs.Map.{values_of}
 use Rattle.std.specs.declared.alloc.Allocator as allocator
 use Rattle.std.specs.declared.cmp.PartialEq as eq
 use Rattle.intmap_table.specs.Lending.Apart.{lent_cells, lent_pairs}
-use Rattle.intmap_table.specs.Tables.Kept.{unkept}
 use Rattle.intmap.specs.Map.{MapState, IsMap}
-use Rattle.intmap_table.specs.Values.{refilled}
+use Rattle.intmap_table.specs.Values.{with_values}
 use Rattle.intmap.specs.Map.{map_with_values}
 use Rattle.intmap_table.specs.declared.key.IntKey as key
 use Rattle.intmap.specs.contracts.map.IntMap as M-type
@@ -42,7 +41,7 @@ use Rattle.intmap_table.proofs.Lending.OpensPairLemmas.{V, K}
 use Rattle.intmap_table.proofs.Lending.OpensSlotLemmas.{A}
 use Rattle.intmap_table.proofs.Lending.OpensTableLemmas.{Tr, THr, table_opens}
 use Rattle.intmap.proofs.SameKeysLemmas.{IsConsistent-same_keys}
-use Rattle.intmap_table.proofs.Lending.ValuesLemmas.{kept, values_of-with_values, unkept-refilled, unkept-kept_pairs, keys_of-refilled}
+use Rattle.intmap_table.proofs.Lending.ValuesLemmas.{values_of-with_values, keys_of-with_values}
 
 module _ (K' V' A' : RattleType) (g : key.Ghosts K'.Denot) (e : eq.Ghosts K'.Denot) (a : allocator.Ghosts A'.Denot) where
   abbrev Ki : RattleType
@@ -119,7 +118,7 @@ module _ (K' V' A' : RattleType) (g : key.Ghosts K'.Denot) (e : eq.Ghosts K'.Den
       module _ (m : Inside.Denot) (seen : view m ≡ d) (ok : good m) where
         stays : (ws : List V'.Denot) → length ws ≡ length m.table.walk → values_of (map_with_values d ws).walk ≡ ws
         stays ws long =
-            values_of-with_values d.walk ws (long ∙ sym (length-map m.table.walk (λ p. (p.0, p.1.value))) ∙ ap (λ (s : State). length s.walk) seen)
+            values_of-with_values d.walk ws (long ∙ ap (λ (s : State). length s.walk) seen)
 
         -- with other values in its table, the map is what it was but for these
         back : O.Info m.table → (ws : List V'.Denot) → length ws ≡ length m.table.walk
@@ -127,8 +126,8 @@ module _ (K' V' A' : RattleType) (g : key.Ghosts K'.Denot) (e : eq.Ghosts K'.Den
         back i ws long =
             let n : Inside.Denot = record m { table = O.put m.table ws } in
             let W = m.table.walk in
-            let same : view n ≡ map_with_values d ws = (λ j. record (view m) { walk = unkept-refilled W ws j }) ∙ ap (λ (s : State). map_with_values s ws) seen in
-            let is : good n = IsConsistent-same_keys g.number_of g.is_valid W (refilled kept W ws) m.table.capacity m.factor m.len m.threshold (sym (keys_of-refilled kept W ws)) ok in
+            let same : view n ≡ map_with_values d ws = ap (λ (s : State). map_with_values s ws) seen in
+            let is : good n = IsConsistent-same_keys g.number_of g.is_valid W (with_values W ws) m.table.capacity m.factor m.len m.threshold (sym (keys_of-with_values W ws)) ok in
             via 𝓤 _ (table_in m (O.put m.table ws))
             (Plain-in Mr Inside (view_owns Inside State Mr.coded view good) 𝓛 full_share (map_with_values d ws) n
             (view_made Inside State Mr.coded view good 𝓛 (map_with_values d ws) n (same, is)) b o)
@@ -138,7 +137,7 @@ module _ (K' V' A' : RattleType) (g : key.Ghosts K'.Denot) (e : eq.Ghosts K'.Den
             let h = O.holed m.table i b (table_place o) in
             record {
               holes = h;
-              pairs = sym (unkept-kept_pairs h.walk) ∙ ap (λ (t : Table.Denot). unkept t.walk) (O.filled m.table i b (table_place o)) ∙ ap (λ (s : State). s.walk) seen;
+              pairs = ap (λ (t : Table.Denot). t.walk) (O.filled m.table i b (table_place o)) ∙ ap (λ (s : State). s.walk) seen;
               map = subst (λ (s : State). IsMap g.number_of g.is_valid s) seen ok.map;
               behind = behind;
               loan = loan;

@@ -8,15 +8,12 @@ use Rattle.intmap_table.specs.Bindings.{HasDistinctKeys, value_of, take_key, put
 use Rattle.intmap_table.specs.Walk.{walk_of}
 use Rattle.intmap.specs.Growth.{IsThreshold, MeetsLoad, is_due}
 use Rattle.intmap.specs.Map.{MapState, IsMapWalk}
-use Rattle.intmap_table.specs.Tables.Kept.{unkept}
 use Rattle.intmap.specs.Consistency.{IsConsistent}
-use Rattle.intmap_table.specs.declared.kept.Kept.{Kept}
 use Rattle.intmap_table.proofs.SlotNumberLemmas.{slot_number-below}
 use Rattle.intmap.proofs.LoadFactorLemmas.{IsLoaded, IsLoaded-from, IsLoaded-fewer, IsLoaded-more}
 use Rattle.intmap_table.proofs.SlotNumberLemmas.{capacity-positive}
 use Rattle.intmap_table.proofs.WalkLemmas.{walk_of-walk_of}
 use Rattle.intmap_table.proofs.DistinctLemmas.{length-walk_of, length-take_key, length-put_pair, HasDistinctKeys-nil, HasDistinctKeys-walk_of, HasDistinctKeys-take_key, HasDistinctKeys-put_pair, All-walk_of, All-take_key, All-put_pair}
-use Rattle.intmap_table.proofs.MappedLemmas.{walk_of-map_values, take_key-map_values, put_pair-map_values, length-map_values}
 
 -- maps whose changed parts are the same are the same
 pub MapState-same : {K V : Type 0} (W W' : List (K × V)) (C C' F p p' c c' : ℕ) → W ≡ W' → C ≡ C' → p ≡ p' → c ≡ c'
@@ -85,64 +82,43 @@ pub one_more : {V : Type 0} (o : Option V) → o ≡ None → ◌≡◌ {A = ℕ
 one_more o e = ap (λ (o : Option _). cond (is_some o) 0 1) e
 
 module _ {K V : Type 0} (number : K → ℕ) where
-  -- what an inserted pair leaves in D slots, as callers see it
-  pub unkept-put : (W W' : List (K × Kept V)) (C D : ℕ) (k : K) (x : Kept V) → W' ≡ walk_of number (put_pair number W C k x) D → unkept W' ≡ walk_of number (put_pair number (unkept W) C k x.value) D
-  unkept-put W W' C D k x is =
-      ap unkept is ∙ sym (walk_of-map_values number (λ (x : Kept V). x.value) (put_pair number W C k x) D)
-      ∙ ap (λ L. walk_of number L D) (sym (put_pair-map_values number (λ (x : Kept V). x.value) W C k x))
-
-  -- what a taken key leaves, as callers see it
-  pub unkept-take : (W W' : List (K × Kept V)) (C : ℕ) (k : K) → W' ≡ walk_of number (take_key number W C k) C → unkept W' ≡ walk_of number (take_key number (unkept W) C k) C
-  unkept-take W W' C k is =
-      ap unkept is ∙ sym (walk_of-map_values number (λ (x : Kept V). x.value) (take_key number W C k) C)
-      ∙ ap (λ L. walk_of number L C) (sym (take_key-map_values number (λ (x : Kept V). x.value) W C k))
-
-  -- what the pairs in D slots are, as callers see them
-  pub unkept-grown : (W W' : List (K × Kept V)) (D : ℕ) → W' ≡ walk_of number W D → unkept W' ≡ walk_of number (unkept W) D
-  unkept-grown W W' D is = ap unkept is ∙ sym (walk_of-map_values number (λ (x : Kept V). x.value) W D)
-
-  pub length-unkept : (W : List (K × Kept V)) → length (unkept W) ≡ length W
-  length-unkept W = length-map_values number (λ (x : Kept V). x.value) W
-
-  module _ (is_valid : K → Type 0) (W W' : List (K × Kept V)) (C F n most : ℕ) (old : IsConsistent number is_valid W C F n most) where
+  module _ (is_valid : K → Type 0) (W W' : List (K × V)) (C F n most : ℕ) (old : IsConsistent number is_valid W C F n most) where
     -- a pair was put in, in D slots
-    put : (D D' n' most' : ℕ) (k : K) (x : Kept V) → D' ≡ D → IsCapacity D → is_valid k → W' ≡ walk_of number (put_pair number W C k x) D → length (put_pair number W C k x) ≡ n' → n' < 2 ^ 64 → IsLoaded D n' F → IsThreshold D F most' → IsConsistent number is_valid W' D' F n' most'
+    put : (D D' n' most' : ℕ) (k : K) (x : V) → D' ≡ D → IsCapacity D → is_valid k → W' ≡ walk_of number (put_pair number W C k x) D → length (put_pair number W C k x) ≡ n' → n' < 2 ^ 64 → IsLoaded D n' F → IsThreshold D F most' → IsConsistent number is_valid W' D' F n' most'
     put D D' n' most' k x same cap key is len fits loaded threshold =
         let here : length (walk_of number (put_pair number W C k x) D) ≡ n' = length-walk_of number (put_pair number W C k x) D (λ k. slot_number-below number k D cap) ∙ len in
-        let seen : length (put_pair number (unkept W) C k x.value) ≡ n' =
-        ap length (put_pair-map_values number (λ (x : Kept V). x.value) W C k x) ∙ length-map_values number (λ (x : Kept V). x.value) (put_pair number W C k x) ∙ len in
         record {
-          map = rw (same, unkept-put W W' C D k x is) (IsMapWalk-put number is_valid (unkept W) C F D k x.value old.map cap key (omega (arith, seen, fits)) (subst (λ m. IsLoaded D m F) (sym seen) loaded));
+          map = rw (same, is) (IsMapWalk-put number is_valid W C F D k x old.map cap key (omega (arith, len, fits)) (subst (λ m. IsLoaded D m F) (sym len) loaded));
           count = sym (ap length is ∙ here);
           threshold = rw same threshold;
         }
 
     loaded-old : IsLoaded C n F
-    loaded-old = subst (λ m. IsLoaded C m F) (length-unkept W ∙ sym old.count) old.map.load
+    loaded-old = subst (λ m. IsLoaded C m F) (sym old.count) old.map.load
 
     fits-old : n < 2 ^ 64
-    fits-old = let fits = old.map.count in omega (arith, fits, length-unkept W, old.count)
+    fits-old = let fits = old.map.count in omega (arith, fits, old.count)
 
     -- the pair of a present key was replaced
-    pub IsConsistent-replaced : (C' : ℕ) (k : K) (x y : Kept V) → C' ≡ C → is_valid k → value_of number W k ≡ Some y → W' ≡ walk_of number (put_pair number W C k x) C → IsConsistent number is_valid W' C' F n most
+    pub IsConsistent-replaced : (C' : ℕ) (k : K) (x y : V) → C' ≡ C → is_valid k → value_of number W k ≡ Some y → W' ≡ walk_of number (put_pair number W C k x) C → IsConsistent number is_valid W' C' F n most
     IsConsistent-replaced C' k x y same key bound is =
         let len = length-put_pair number W C k x in
         let more = none_more (value_of number W k) y bound in
         put C C' n most k x same old.map.capacity key is (omega (arith, len, more, old.count)) fits-old loaded-old old.threshold
 
-    longer : (k : K) (x : Kept V) → value_of number W k ≡ None → length (put_pair number W C k x) ≡ n + 1
+    longer : (k : K) (x : V) → value_of number W k ≡ None → length (put_pair number W C k x) ≡ n + 1
     longer k x missing =
         let len = length-put_pair number W C k x in
         let more = one_more (value_of number W k) missing in omega (arith, len, more, old.count)
 
     -- the pair of an absent key was added, if the table needn't grow
-    pub IsConsistent-added : (C' : ℕ) (k : K) (x : Kept V) → C' ≡ C → is_valid k → value_of number W k ≡ None → n + 1 < 2 ^ 64 → (is_due (n + 1) && nat_lt most (n + 1)) ≡ false → W' ≡ walk_of number (put_pair number W C k x) C → IsConsistent number is_valid W' C' F (n + 1) most
+    pub IsConsistent-added : (C' : ℕ) (k : K) (x : V) → C' ≡ C → is_valid k → value_of number W k ≡ None → n + 1 < 2 ^ 64 → (is_due (n + 1) && nat_lt most (n + 1)) ≡ false → W' ≡ walk_of number (put_pair number W C k x) C → IsConsistent number is_valid W' C' F (n + 1) most
     IsConsistent-added C' k x same key missing fits test is =
         put C C' (n + 1) most k x same old.map.capacity key is (longer k x missing) fits
         (IsLoaded-more C n F most (capacity-positive C old.map.capacity) fits old.threshold loaded-old test) old.threshold
 
     -- and if it grew to D slots
-    pub IsConsistent-grown_with : (D D' most' : ℕ) (k : K) (x : Kept V) → D' ≡ D → IsCapacity D → is_valid k → value_of number W k ≡ None → n + 1 < 2 ^ 64 → MeetsLoad D (n + 1) F → IsThreshold D F most' → W' ≡ walk_of number (put_pair number W C k x) D → IsConsistent number is_valid W' D' F (n + 1) most'
+    pub IsConsistent-grown_with : (D D' most' : ℕ) (k : K) (x : V) → D' ≡ D → IsCapacity D → is_valid k → value_of number W k ≡ None → n + 1 < 2 ^ 64 → MeetsLoad D (n + 1) F → IsThreshold D F most' → W' ≡ walk_of number (put_pair number W C k x) D → IsConsistent number is_valid W' D' F (n + 1) most'
     IsConsistent-grown_with D D' most' k x same cap key missing fits meets threshold is =
         put D D' (n + 1) most' k x same cap key is (longer k x missing) fits (IsLoaded-from D (n + 1) F (capacity-positive D cap) meets) threshold
 
@@ -153,7 +129,7 @@ module _ {K V : Type 0} (number : K → ℕ) where
         let left = length-take_key number W C k in
         let same_len : length W' ≡ length (take_key number W C k) = ap length is ∙ here in
         record {
-          map = rw (same, unkept-take W W' C k is) (IsMapWalk-take number is_valid (unkept W) C F k old.map);
+          map = rw (same, is) (IsMapWalk-take number is_valid W C F k old.map);
           count = omega (arith, same_len, left, len, old.count);
           threshold = rw same old.threshold;
         }
@@ -162,10 +138,9 @@ module _ {K V : Type 0} (number : K → ℕ) where
     pub IsConsistent-grown : (D D' G most' : ℕ) → D' ≡ D → IsCapacity D → G < 2 ^ 64 → IsLoaded D n G → IsThreshold D G most' → W' ≡ walk_of number W D → IsConsistent number is_valid W' D' G n most'
     IsConsistent-grown D D' G most' same cap factor loaded threshold is =
         let here : length (walk_of number W D) ≡ length W = length-walk_of number W D (λ k. slot_number-below number k D cap) in
-        let seen : n ≡ length (unkept W) = old.count ∙ sym (length-unkept W) in
         let all : length W' ≡ length W = ap length is ∙ here in
         record {
-          map = rw (same, unkept-grown W W' D is) (IsMapWalk-grown number is_valid (unkept W) C F D G old.map cap factor (subst (λ m. IsLoaded D m G) seen loaded));
+          map = rw (same, is) (IsMapWalk-grown number is_valid W C F D G old.map cap factor (subst (λ m. IsLoaded D m G) old.count loaded));
           count = omega (arith, all, old.count);
           threshold = rw same threshold;
         }

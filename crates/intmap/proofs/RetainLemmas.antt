@@ -1,19 +1,16 @@
 -- What a map is once pairs were let go.
-use Rattle.std.proofs.Common.{◌≡◌, inl, inr, ℕ, Bool, true, false, cond, List, [], ◌∷◌, length, None, refl, sym, ap, ◌∙◌, subst, arith}
+use Rattle.std.proofs.Common.{◌≡◌, inl, inr, ℕ, Bool, true, false, cond, List, [], ◌∷◌, length, None, refl, sym, ap, subst, arith}
 use Rattle.std.specs.Prelude.{◌⊎◌, count_by}
 use Rattle.std.proofs.lemmas.List.Sums.{sum_by-cons}
 use Rattle.intmap_table.specs.Bindings.{HasDistinctKeys, value_of}
 use Rattle.intmap_table.specs.Classes.{same_key}
 use Rattle.intmap.specs.Growth.{IsThreshold}
-use Rattle.intmap_table.specs.Tables.Kept.{unkept}
 use Rattle.intmap.specs.Consistency.{IsConsistent}
 use Rattle.intmap.specs.Map.{IsMapWalk}
 use Rattle.intmap_table.specs.Retaining.{Retains}
 use Rattle.intmap_table.specs.Walk.{walk_of}
-use Rattle.intmap_table.specs.declared.kept.Kept.{Kept}
 use Rattle.intmap.proofs.LoadFactorLemmas.{IsLoaded-fewer}
 use Rattle.intmap_table.proofs.SlotNumberLemmas.{capacity-positive}
-use Rattle.intmap_table.proofs.MappedLemmas.{walk_of-map_values}
 use Rattle.intmap_table.proofs.RetainLemmas.{length-Retains, All-Retains, count_by-Retains}
 
 module _ {F K V : Type 0} (number : K → ℕ) (R : F → K × V → Bool → F → Type 0) where
@@ -67,12 +64,10 @@ module _ {F K V : Type 0} (number : K → ℕ) (R : F → K × V → Bool → F 
       }
 
 -- and what a map keeps agrees
-pub IsConsistent-Retains : {F K V : Type 0} (number : K → ℕ) (is_valid : K → Type 0) (R : F → K × V → Bool → F → Type 0) (f g : F) (W M : List (K × Kept V)) (C D E n n' most : ℕ)
-    → Retains R f (unkept W) (unkept M) g → D ≡ C → walk_of number M D ≡ M → n' ≡ length M → IsConsistent number is_valid W C E n most → IsConsistent number is_valid M D E n' most
-IsConsistent-Retains {V = V} number is_valid R f g W M C D E n n' most r same own count old = record {
-  map =
-      let own_seen : walk_of number (unkept M) D ≡ unkept M = walk_of-map_values number (λ (x : Kept V). x.value) M D ∙ ap unkept own in
-      IsMapWalk-Retains number R is_valid f g (unkept W) (unkept M) D E r own_seen (subst (λ m. IsMapWalk number is_valid (unkept W) m E) (sym same) old.map);
+pub IsConsistent-Retains : {F K V : Type 0} (number : K → ℕ) (is_valid : K → Type 0) (R : F → K × V → Bool → F → Type 0) (f g : F) (W M : List (K × V)) (C D E n n' most : ℕ)
+    → Retains R f W M g → D ≡ C → walk_of number M D ≡ M → n' ≡ length M → IsConsistent number is_valid W C E n most → IsConsistent number is_valid M D E n' most
+IsConsistent-Retains number is_valid R f g W M C D E n n' most r same own count old = record {
+  map = IsMapWalk-Retains number R is_valid f g W M D E r own (subst (λ m. IsMapWalk number is_valid W m E) (sym same) old.map);
   count = count;
   threshold = subst (λ m. IsThreshold m E most) (sym same) old.threshold;
 }

@@ -2,12 +2,9 @@
 use Rattle.std.proofs.Common.{◌≡◌, ℕ, ◌<◌, ◌≤◌, ◌^◌, List, sym, ap, ◌∙◌, subst}
 use Rattle.std.specs.Prelude.{count_by}
 use Rattle.std.specs.Map.{keys_of}
-use Rattle.std.proofs.lemmas.Map.Made.{keys_of-map_values}
 use Rattle.intmap_table.specs.Classes.{same_key}
-use Rattle.intmap_table.specs.Tables.Kept.{unkept}
 use Rattle.intmap.specs.Consistency.{IsConsistent}
 use Rattle.intmap.specs.Map.{IsMapWalk}
-use Rattle.intmap_table.specs.declared.kept.Kept.{Kept}
 use Rattle.intmap.proofs.LoadFactorLemmas.{IsLoaded}
 use Rattle.intmap_table.proofs.MappedLemmas.{count_by-map}
 use Rattle.intmap_table.proofs.Tables.SameKeysLemmas.{length-same_keys, All-same_keys, walk_of-same_keys}
@@ -29,11 +26,9 @@ module _ {K V : Type 0} (number : K → ℕ) (is_valid : K → Type 0) where
       }
 
   -- the same of what a map keeps
-  pub IsConsistent-same_keys : (W M : List (K × Kept V)) (C F n most : ℕ) → keys_of W ≡ keys_of M → IsConsistent number is_valid W C F n most → IsConsistent number is_valid M C F n most
-  IsConsistent-same_keys W M C F n most same old =
-      let value : Kept V → V = λ kept. kept.value in
-      record {
-        map = IsMapWalk-same_keys (unkept W) (unkept M) C F (keys_of-map_values value W ∙ same ∙ sym (keys_of-map_values value M)) old.map;
-        count = old.count ∙ length-same_keys W M same;
-        threshold = old.threshold;
-      }
+  pub IsConsistent-same_keys : (W M : List (K × V)) (C F n most : ℕ) → keys_of W ≡ keys_of M → IsConsistent number is_valid W C F n most → IsConsistent number is_valid M C F n most
+  IsConsistent-same_keys W M C F n most same old = record {
+    map = IsMapWalk-same_keys W M C F same old.map;
+    count = old.count ∙ length-same_keys W M same;
+    threshold = old.threshold;
+  }

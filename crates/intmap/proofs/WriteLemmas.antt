@@ -7,13 +7,11 @@ use Rattle.std.proofs.lemmas.List.Elements.{All-cons, All-head, All-tail}
 use Rattle.std.proofs.lemmas.List.Sums.{sum_by-cons}
 use Rattle.intmap_table.specs.Classes.{same_key}
 use Rattle.intmap_table.specs.Bindings.{first_value, value_of, IsPresent, write_value, HasDistinctKeys, Updates}
-use Rattle.intmap_table.specs.Tables.Kept.{unkept}
 use Rattle.intmap.specs.Consistency.{IsConsistent}
 use Rattle.intmap.specs.Map.{IsMapWalk}
-use Rattle.intmap_table.specs.declared.kept.Kept.{Kept}
 use Rattle.intmap_table.proofs.BindingLemmas.{Updates-from}
 use Rattle.intmap.proofs.LoadFactorLemmas.{IsLoaded}
-use Rattle.intmap_table.proofs.LocationLemmas.{walk_of-write_value, write_value-map_values}
+use Rattle.intmap_table.proofs.LocationLemmas.{walk_of-write_value}
 
 module _ {K V : Type 0} (number : K → ℕ) where
   pub length-write_value : (L : List (K × V)) (k : K) (v : V) → length (write_value number L k v) ≡ length L
@@ -97,9 +95,9 @@ module _ {K V : Type 0} (number : K → ℕ) where
 
 module _ {K V : Type 0} (number : K → ℕ) (is_valid : K → Type 0) where
   -- the values of a map as its table stores them, after a write
-  pub IsConsistent-written : (W : List (K × Kept V)) (C F n most : ℕ) (k : K) (x : Kept V) → IsConsistent number is_valid W C F n most → IsConsistent number is_valid (write_value number W k x) C F n most
+  pub IsConsistent-written : (W : List (K × V)) (C F n most : ℕ) (k : K) (x : V) → IsConsistent number is_valid W C F n most → IsConsistent number is_valid (write_value number W k x) C F n most
   IsConsistent-written W C F n most k x old = record {
-    map = rw (← write_value-map_values number (λ (x : Kept V). x.value) W k x) (IsMapWalk-written number is_valid (unkept W) C F k x.value old.map);
+    map = IsMapWalk-written number is_valid W C F k x old.map;
     count = old.count ∙ sym (length-write_value number W k x);
     threshold = old.threshold;
   }

@@ -5,15 +5,12 @@ use Rattle.std.specs.Map.{keys_of}
 use Rattle.std.proofs.lemmas.Map.Entries.{length-keys_of}
 use Rattle.intmap_table.specs.Classes.{same_key}
 use Rattle.intmap.specs.Growth.{IsThreshold}
-use Rattle.intmap_table.specs.Tables.Kept.{unkept}
 use Rattle.intmap.specs.Consistency.{IsConsistent}
 use Rattle.intmap.specs.Map.{IsMapWalk}
 use Rattle.intmap_table.specs.Walk.{walk_of}
 use Rattle.intmap_table.specs.Writes.{Writes}
-use Rattle.intmap_table.specs.declared.kept.Kept.{Kept}
 use Rattle.intmap.proofs.LoadFactorLemmas.{IsLoaded}
-use Rattle.intmap.proofs.MapLemmas.{length-unkept}
-use Rattle.intmap_table.proofs.MappedLemmas.{count_by-map, walk_of-map_values}
+use Rattle.intmap_table.proofs.MappedLemmas.{count_by-map}
 use Rattle.intmap_table.proofs.WritesLemmas.{keys_of-Writes, length-Writes, All-Writes}
 
 module _ {K V : Type 0} (number : K → ℕ) (is_valid : K → Type 0) where
@@ -34,14 +31,10 @@ module _ {K V : Type 0} (number : K → ℕ) (is_valid : K → Type 0) where
       }
 
   -- and what a map keeps agrees
-  pub IsConsistent-Writes : {F : Type 0} (R : F → K × V → V → F → Type 0) (f g : F) (W M : List (K × Kept V)) (C D E n most : ℕ)
-      → Writes R f (unkept W) (unkept M) g → D ≡ C → walk_of number M D ≡ M → IsConsistent number is_valid W C E n most → IsConsistent number is_valid M D E n most
-  IsConsistent-Writes R f g W M C D E n most r same own old =
-      let own_seen : walk_of number (unkept M) D ≡ unkept M = walk_of-map_values number (λ (x : Kept V). x.value) M D ∙ ap unkept own in
-      record {
-        map =
-            IsMapWalk-keys_of (unkept W) (unkept M) D E (keys_of-Writes R f g (unkept W) (unkept M) r) (All-Writes R is_valid f g (unkept W) (unkept M) r old.map.keys) own_seen
-            (subst (λ m. IsMapWalk number is_valid (unkept W) m E) (sym same) old.map);
-        count = old.count ∙ sym (length-unkept number W) ∙ sym (length-Writes R f g (unkept W) (unkept M) r) ∙ length-unkept number M;
-        threshold = subst (λ m. IsThreshold m E most) (sym same) old.threshold;
-      }
+  pub IsConsistent-Writes : {F : Type 0} (R : F → K × V → V → F → Type 0) (f g : F) (W M : List (K × V)) (C D E n most : ℕ)
+      → Writes R f W M g → D ≡ C → walk_of number M D ≡ M → IsConsistent number is_valid W C E n most → IsConsistent number is_valid M D E n most
+  IsConsistent-Writes R f g W M C D E n most r same own old = record {
+    map = IsMapWalk-keys_of W M D E (keys_of-Writes R f g W M r) (All-Writes R is_valid f g W M r old.map.keys) own (subst (λ m. IsMapWalk number is_valid W m E) (sym same) old.map);
+    count = old.count ∙ sym (length-Writes R f g W M r);
+    threshold = subst (λ m. IsThreshold m E most) (sym same) old.threshold;
+  }

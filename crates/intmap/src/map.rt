@@ -48,13 +48,12 @@ pub struct IntMap<K: IntKey, V, A: Allocator + Copy = Global> {
 
 impl<K: IntKey, V, A: Allocator + Copy> Model for IntMap<K, V, A> {
     ghost use Rattle.intmap.specs.Map.{MapState};
-    ghost use Rattle.intmap_table.specs.Tables.Kept.{unkept};
     ghost use Rattle.intmap.specs.Consistency.{IsConsistent};
 
     ghost Value = { MapState K V };
 
     ghost view = { λ m. record {
-      walk = unkept m.table.walk;
+      walk = m.table.walk;
       capacity = m.table.capacity;
       factor = m.factor;
       placed = m.placed;
@@ -153,7 +152,7 @@ impl<K: IntKey, V, A: Allocator + Copy> IntMap<K, V, A> {
         requires { IsAt K.number_of self.now.walk self.now.capacity at }
         ensures value { value_of K.number_of self.now.walk at.key ≡ Some result.now }
     {
-        &self.table.value_at(at).value
+        self.table.value_at(at).get()
     }
 
     /// A mutable reference to the value of a located pair.
@@ -164,8 +163,7 @@ impl<K: IntKey, V, A: Allocator + Copy> IntMap<K, V, A> {
         ensures value { value_of K.number_of self.old.walk at.key ≡ Some result.now }
         ensures valid { IsMap K.number_of K.is_valid self.old }
     {
-        let kept = self.table.value_mut_at(at);
-        &mut kept.value
+        self.table.value_mut_at(at).get_mut()
     }
 
     /// Removes a located pair. The last pair of its slot takes its place.
@@ -179,7 +177,7 @@ impl<K: IntKey, V, A: Allocator + Copy> IntMap<K, V, A> {
     {
         let kept = self.table.take_at(at);
         self.len -= 1;
-        kept.value
+        kept.into_value()
     }
 
     /// Removes a located pair and puts the pair of its key and this value at the end of the slot. The
@@ -191,6 +189,6 @@ impl<K: IntKey, V, A: Allocator + Copy> IntMap<K, V, A> {
         ensures state { self.new ≡ with_pair K.number_of self.old at.key value self.old.capacity }
         ensures valid_after { IsMap K.number_of K.is_valid self.new }
     {
-        self.table.replace_at(at, Kept { value }).value
+        self.table.replace_at(at, Kept::new(value)).into_value()
     }
 }

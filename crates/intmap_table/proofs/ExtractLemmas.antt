@@ -1,23 +1,18 @@
 -- What a closure that picks one element at a step leaves of lists.
-use Rattle.std.proofs.Common.{◌≡◌, ℕ, ◌+◌, ◌<◌, ◌≤◌, Bool, true, false, List, [], ◌∷◌, ◌++◌, Option, Some, None, length, map, get_or, set, take, drop, refl, sym, ap, ◌∙◌, subst, arith, append-nil, append_assoc, length-append, length-set, get_or-set_same}
+use Rattle.std.proofs.Common.{◌≡◌, ℕ, ◌+◌, ◌<◌, ◌≤◌, Bool, true, false, List, [], ◌∷◌, ◌++◌, Option, Some, None, length, get_or, set, take, drop, refl, sym, ap, ◌∙◌, subst, arith, append-nil, append_assoc, length-append, length-set, get_or-set_same}
 use Rattle.std.specs.Prelude.{All}
 use Rattle.std.specs.Bool.{MatchBool}
 use Rattle.std.specs.List.{sum_by}
-use Rattle.std.specs.Option.{option_len, option_map, option_to_list}
-use Rattle.std.specs.Fn.{Mut}
-use Rattle.std.specs.Borrow.{MutBor}
+use Rattle.std.specs.Option.{option_len, option_to_list}
 use Rattle.std.specs.List.Retain.{ExtractsNext}
 use Rattle.std.proofs.lemmas.List.{drop_more, take_more_set, take-set-le, drop-set-lt, take_all, take-append-le, length-take-le}
 use Rattle.std.proofs.Math.Seq.{drop-append_seam}
-use Rattle.std.proofs.lemmas.List.{map-append, take-append-drop, take-map, drop-map}
+use Rattle.std.proofs.lemmas.List.{take-append-drop}
 use Rattle.std.proofs.lemmas.List.Elements.{All-append, All-cons, All-head, All-nil, All-tail}
 use Rattle.std.proofs.lemmas.List.Sums.{sum_by-append, sum_by-cons, sum_by-take-drop}
-use Rattle.intmap_table.specs.Picking.{AsksAt, ExtractsBehind, PicksAt}
-use Rattle.intmap_table.specs.Tables.Kept.{unkept, AsksStored, PicksStored, TakesStoredMut}
+use Rattle.intmap_table.specs.Picking.{ExtractsBehind}
 use Rattle.intmap_table.specs.Taking.{TakesEach}
-use Rattle.intmap_table.specs.Writes.{TakesPairMut}
-use Rattle.intmap_table.specs.declared.kept.Kept.{Kept}
-use Rattle.intmap_table.proofs.TakingLemmas.{TakesEach-map, TakesEach-next}
+use Rattle.intmap_table.proofs.TakingLemmas.{TakesEach-next}
 
 module _ {X : Type 0} (i : ℕ) (xs ys : List X) (within : i ≤ length xs) where
   -- the first i elements and others behind them
@@ -221,35 +216,3 @@ module _ {F X : Type 0} (R : F → X → Bool → F → X → Type 0) where
         All-back : (xs ys : List X) → All P (xs ++ ys) → All P ys
         All-back [] ys all = all
         All-back (x ∷ xs) ys all = All-back xs ys (All-tail P x (xs ++ ys) all)
-
--- elements that are seen through h
-module _ {F X Y : Type 0} (R : F → Y → Bool → F → Y → Type 0) (h : X → Y) where
-  pub ExtractsNext-map : (f g : F) (L kept rest : List X) (r : Option X) → ExtractsNext (λ f x b g y. R f (h x) b g (h y)) f L r g kept rest → ExtractsNext R f (map h L) (option_map h r) g (map h kept) (map h rest)
-  ExtractsNext-map f g [] kept rest r e = (ap (option_map h) e.0, e.1, ap (map h) e.2, ap (map h) e.3)
-  ExtractsNext-map f g (x ∷ L) kept rest r e = (e.0, e.1, h e.2, e.3, either e.0 e.4 (λ k step. ExtractsNext-map e.1 g L k rest r step))
-    where
-      either : (b : Bool) → MatchBool b ((r ≡ Some e.2) × (g ≡ e.1) × (kept ≡ []) × (rest ≡ L)) ((k : List X) × ExtractsNext (λ f x b g y. R f (h x) b g (h y)) e.1 L r g k rest × (kept ≡ e.2 ∷ k))
-          → ((k : List X) → ExtractsNext (λ f x b g y. R f (h x) b g (h y)) e.1 L r g k rest → ExtractsNext R e.1 (map h L) (option_map h r) g (map h k) (map h rest))
-          → MatchBool b ((option_map h r ≡ Some (h e.2)) × (g ≡ e.1) × (map h kept ≡ []) × (map h rest ≡ map h L)) ((k : List Y) × ExtractsNext R e.1 (map h L) (option_map h r) g k (map h rest) × (map h kept ≡ h e.2 ∷ k))
-      either true m on = (ap (option_map h) m.0, m.1, ap (map h) m.2, ap (map h) m.3)
-      either false m on = (map h m.0, on m.0 m.1, ap (map h) m.2)
-
-  pub ExtractsBehind-map : (f g : F) (L M : List X) (i j : ℕ) (r : Option X) → ExtractsBehind (λ f x b g y. R f (h x) b g (h y)) f L i r g M j → ExtractsBehind R f (map h L) i (option_map h r) g (map h M) j
-  ExtractsBehind-map f g L M i j r e =
-      let step = ExtractsNext-map f g (drop i L) e.0 (drop j M) r e.1 in (
-        map h e.0,
-        subst (λ Z. ExtractsNext R f Z (option_map h r) g (map h e.0) (drop j (map h M))) (sym (drop-map h i L)) (subst (λ Z. ExtractsNext R f (map h (drop i L)) (option_map h r) g (map h e.0) Z) (sym (drop-map h j M)) step),
-        take-map h j M ∙ ap (map h) e.2 ∙ map-append h (take i L) e.0 ∙ ap (λ Z. Z ++ map h e.0) (sym (take-map h i L)),
-      )
-
-module _ {K V : Type 0} {F : Type 0} (m : Mut F (K × (MutBor V × Unit {0})) (Bool × (MutBor V × Unit {0}))) where
-  -- the same with the values as callers see them
-  pub ExtractsBehind-unkept : (f g : F) (L M : List (K × Kept V)) (i j : ℕ) (r : Option (K × Kept V)) → ExtractsBehind (PicksStored m) f L i r g M j
-      → ExtractsBehind (PicksAt m) f (unkept L) i (option_map (λ p. (p.0, p.1.value)) r) g (unkept M) j
-  ExtractsBehind-unkept f g L M i j r e = ExtractsBehind-map (PicksAt m) (λ p. (p.0, p.1.value)) f g L M i j r e
-
-  -- and takes each pair behind the first i as it is stored, if it does as callers see it
-  pub TakesEach-stored_behind : (f : F) (L : List (K × Kept V)) (i : ℕ) → TakesEach (AsksAt m) (TakesPairMut m) f (drop i (unkept L)) → TakesEach (AsksStored m) (TakesStoredMut m) f (drop i L)
-  TakesEach-stored_behind f L i takes =
-      TakesEach-map (AsksAt m) (TakesPairMut m) (λ p. (p.0, p.1.value)) (λ a. (a.0, (a.1.0, a.1.1.value))) f (drop i L)
-      (subst (TakesEach (AsksAt m) (TakesPairMut m) f) (drop-map (λ p. (p.0, p.1.value)) i L) takes)

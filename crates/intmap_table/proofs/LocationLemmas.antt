@@ -16,7 +16,7 @@ use Rattle.intmap_table.specs.Laws.Written.{slot_of-write_value}
 use Rattle.intmap_table.specs.declared.table.locate.Location.{Location}
 use Rattle.intmap_table.proofs.Tables.FilledLemmas.{marks-kept}
 use Rattle.intmap_table.proofs.BindingLemmas.{value_of-take_key}
-use Rattle.intmap_table.proofs.MappedLemmas.{flat_map-map, count_by-map, map_values, slot_of-map_values, length-map_values}
+use Rattle.intmap_table.proofs.MappedLemmas.{flat_map-map}
 use Rattle.intmap_table.proofs.PositionLemmas.{swap_out-none, position-within, position_or_len-none, first_value-position, position-from_none}
 use Rattle.intmap_table.proofs.Tables.TableLemmas.{IsSlot, slot_of-here, value_of-here, walk_of-joined, joined-set, within, IsTable-set, Belong-here}
 use Rattle.intmap_table.proofs.SlotNumberLemmas.{slot_number-below}
@@ -215,49 +215,3 @@ module _ {K V : Type 0} (number : K → ℕ) where
   IsLast-new L C D k v missing cap =
       let same = swap_out-none (λ (p : K × V). same_key number k p.0) (λ p. agrees number C k p.0) L (position-from_none (same_key number k) L missing) in
       IsLast-behind (take_key number L C k) D k v (ap (λ M. value_of number M k) same ∙ missing) cap
-
--- pairs with other values are where they were
-module _ {K X V : Type 0} (number : K → ℕ) (f : X → V) where
-  position_or_len-map_values : (test : K → Bool) (L : List (K × X)) → position_or_len (λ p. test p.0) (map_values number f L) ≡ position_or_len (λ p. test p.0) L
-  position_or_len-map_values test [] = refl
-  position_or_len-map_values test (p ∷ L) = let e = position_or_len-map_values test L in grind (arith, e)
-
-  position-map_values : (test : K → Bool) (L : List (K × X)) → position (λ p. test p.0) (map_values number f L) ≡ position (λ p. test p.0) L
-  position-map_values test L = rw (position_or_len-map_values test L, length-map_values number f L) refl
-
-  pub IsAt-map_values : (L : List (K × X)) (C : ℕ) (l : Location K) → IsAt number L C l → IsAt number (map_values number f L) C l
-  IsAt-map_values L C l at = record {
-    slot = at.slot;
-    place = ap (position (λ p. same_key number l.key p.0)) (slot_of-map_values number f L C l.slot) ∙ position-map_values (same_key number l.key) (slot_of number L C l.slot) ∙ at.place;
-  }
-
-  pub IsAt-without_values : (L : List (K × X)) (C : ℕ) (l : Location K) → IsAt number (map_values number f L) C l → IsAt number L C l
-  IsAt-without_values L C l at = record {
-    slot = at.slot;
-    place = sym (position-map_values (same_key number l.key) (slot_of number L C l.slot)) ∙ ap (position (λ p. same_key number l.key p.0)) (sym (slot_of-map_values number f L C l.slot)) ∙ at.place;
-  }
-
-  pub IsLast-without_values : (L : List (K × X)) (C : ℕ) (k : K) → IsLast number (map_values number f L) C k → IsLast number L C k
-  IsLast-without_values L C k last =
-      let i : ℕ = slot_number number k C in
-      let row = slot_of-map_values number f L C i in
-      record {
-        place = last.place;
-        stands = sym (position-map_values (same_key number k) (slot_of number L C i)) ∙ ap (position (λ p. same_key number k p.0)) (sym row) ∙ last.stands;
-        last = last.last ∙ ap length row ∙ length-map_values number f (slot_of number L C i);
-      }
-
-  pub HasDistinctKeys-without_values : (L : List (K × X)) → HasDistinctKeys number (map_values number f L) → HasDistinctKeys number L
-  HasDistinctKeys-without_values L once k =
-      let h = once k in let e = count_by-map {Y = K × V} (λ (p : K × X). (p.0, f p.1)) (λ p. same_key number k p.0) L in omega (arith, h, e)
-
-  write_value-map_values_step : (p : K × X) (k : K) (x : X) (t : Bool) → same_key number k p.0 ≡ t
-      → ◌≡◌ {A = K × V} (cond (same_key number k p.0) (p.0, f x) (p.0, f p.1)) ((cond (same_key number k p.0) (p.0, x) p).0, f (cond (same_key number k p.0) (p.0, x) p).1)
-  write_value-map_values_step p k x true e = rw e refl
-  write_value-map_values_step p k x false e = rw e refl
-
-  pub write_value-map_values : (L : List (K × X)) (k : K) (x : X) → write_value number (map_values number f L) k (f x) ≡ map_values number f (write_value number L k x)
-  write_value-map_values [] k x = refl
-  write_value-map_values (p ∷ L) k x =
-      ap (λ q. q ∷ write_value number (map_values number f L) k (f x)) (write_value-map_values_step p k x (same_key number k p.0) refl)
-      ∙ ap (λ M. ((cond (same_key number k p.0) (p.0, x) p).0, f (cond (same_key number k p.0) (p.0, x) p).1) ∷ M) (write_value-map_values L k x)

@@ -1,5 +1,5 @@
 -- What a closure that is asked about each pair in turn leaves of lists, of slots and of tables.
-use Rattle.std.proofs.Common.{◌≡◌, inl, inr, ℕ, suc, ◌+◌, ◌<◌, ◌≤◌, Bool, true, false, cond, List, [], ◌∷◌, ◌++◌, length, map, get_or, set, take, drop, refl, sym, ap, ◌∙◌, subst, arith, append-nil}
+use Rattle.std.proofs.Common.{◌≡◌, inl, inr, ℕ, suc, ◌+◌, ◌<◌, ◌≤◌, Bool, true, false, cond, List, [], ◌∷◌, ◌++◌, length, get_or, set, take, drop, refl, sym, ap, ◌∙◌, subst, arith, append-nil}
 use Rattle.std.specs.Prelude.{All, count_by}
 use Rattle.std.specs.List.{swap, FoldsTo}
 use Rattle.std.proofs.lemmas.Bool.{cases_lt, cond_both}
@@ -7,14 +7,9 @@ use Rattle.std.proofs.lemmas.List.{drop_more, take_more_set, take-set-le, drop-s
 use Rattle.std.proofs.lemmas.List.Edits.{swap_is}
 use Rattle.std.proofs.lemmas.List.Elements.{All-cons, All-head, All-tail}
 use Rattle.std.proofs.lemmas.List.Sums.{sum_by-cons}
-use Rattle.std.specs.Fn.{Mut}
-use Rattle.std.specs.Borrow.{Bor}
-use Rattle.intmap_table.specs.Tables.Kept.{unkept, KeepsStored, TakesStored}
-use Rattle.intmap_table.specs.Retaining.{KeepsAt, Retains, TakesPair}
-use Rattle.intmap_table.specs.Taking.{Passes, TakesEach}
-use Rattle.intmap_table.specs.declared.kept.Kept.{Kept}
+use Rattle.intmap_table.specs.Retaining.{Retains}
+use Rattle.intmap_table.specs.Taking.{Passes}
 use Rattle.intmap_table.proofs.LeadsLemmas.{Leads, Leads-next}
-use Rattle.intmap_table.proofs.TakingLemmas.{TakesEach-map}
 
 module _ {F X : Type 0} (R : F → X → Bool → F → Type 0) where
   -- first the one list, then the other
@@ -70,15 +65,6 @@ module _ {F X : Type 0} (R : F → X → Bool → F → Type 0) where
       either true = let after = sum_by-cons (λ (y : X). cond (test y) 1 0) x r.2 in omega (arith, after)
       either false = omega arith
 
--- elements that are seen through h
-pub Retains-map : {F X Y : Type 0} (R : F → Y → Bool → F → Type 0) (h : X → Y) (f g : F) (L M : List X) → Retains (λ f x b g. R f (h x) b g) f L M g → Retains R f (map h L) (map h M) g
-Retains-map R h f g [] M r = (ap (map h) r.0, r.1)
-Retains-map {X = X} R h f g (x ∷ L) M r = (r.0, r.1, map h r.2, r.3, Retains-map R h r.1 g L r.2 r.4, ap (map h) r.5 ∙ map-cond r.0)
-  where
-    map-cond : (b : Bool) → map h (cond b (x ∷ r.2) r.2) ≡ cond b (h x ∷ map h r.2) (map h r.2)
-    map-cond true = refl
-    map-cond false = refl
-
 module _ {X : Type 0} (xs : List X) (k i : ℕ) (d : X) (before : k ≤ i) (below : i < length xs) where
   swap-sets : swap xs k i ≡ set (set xs k (get_or xs i d)) i (get_or xs k d)
   swap-sets = sym (swap_is xs k i d (omega (arith, before, below)) below)
@@ -109,12 +95,3 @@ module _ {X : Type 0} (xs : List X) (k i : ℕ) (d : X) (before : k ≤ i) (belo
     -- the element at place i goes
     pub Leads-goes : R f (get_or xs i d) false h → Leads (Retains R) f₀ L h (take k xs) (drop (i + 1) xs)
     Leads-goes call = subst (λ Z. Leads (Retains R) f₀ L h Z (drop (i + 1) xs)) (append-nil (take k xs)) (asked false call)
-
-module _ {K V : Type 0} where
-  -- the same with the values as callers see them
-  pub Retains-unkept : {F : Type 0} (m : Mut F (K × (Bor V × Unit {0})) Bool) (f g : F) (L M : List (K × Kept V)) → Retains (KeepsStored m) f L M g → Retains (KeepsAt m) f (unkept L) (unkept M) g
-  Retains-unkept m f g L M r = Retains-map (KeepsAt m) (λ p. (p.0, p.1.value)) f g L M r
-
-  -- and takes each pair as it is stored, if it does as callers see it
-  pub TakesEach-stored : {F : Type 0} (m : Mut F (K × (Bor V × Unit {0})) Bool) (f : F) (L : List (K × Kept V)) → TakesEach (KeepsAt m) (TakesPair m) f (unkept L) → TakesEach (KeepsStored m) (TakesStored m) f L
-  TakesEach-stored m f L takes = TakesEach-map (KeepsAt m) (TakesPair m) (λ p. (p.0, p.1.value)) (λ b. b) f L takes

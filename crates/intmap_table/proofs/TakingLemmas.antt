@@ -1,6 +1,6 @@
 -- What a closure takes that is called at each element of a list in turn.
-use Rattle.std.proofs.Common.{ℕ, ◌+◌, ◌<◌, List, [], ◌∷◌, ◌++◌, length, get_or, drop, map, refl, ap, ◌∙◌, subst, append_assoc}
-use Rattle.std.proofs.lemmas.List.{map-append, drop_more}
+use Rattle.std.proofs.Common.{ℕ, ◌+◌, ◌<◌, List, [], ◌∷◌, ◌++◌, length, get_or, drop, refl, ap, ◌∙◌, subst, append_assoc}
+use Rattle.std.proofs.lemmas.List.{drop_more}
 use Rattle.std.specs.List.{FoldsTo}
 use Rattle.intmap_table.specs.Taking.{Passes, TakesEach}
 
@@ -32,12 +32,3 @@ module _ {F X Y : Type 0} (R : F → X → Y → F → Type 0) (Q : F → X → 
 
     pub TakesEach-past : (g : F) (y : Y) → R f (get_or L i d) y g → TakesEach R Q g (drop (i + 1) L)
     TakesEach-past g y call = TakesEach-next f g (get_or L i d) y (drop (i + 1) L) cut call
-
--- elements that are seen through h, and answers that are seen through e
-module _ {F X Y X' Y' : Type 0} (R : F → X' → Y' → F → Type 0) (Q : F → X' → Type 0) (h : X → X') (e : Y → Y') where
-  FoldsTo-map : (f g : F) (L : List X) → FoldsTo (Passes (λ f x y g. R f (h x) (e y) g)) f L g → FoldsTo (Passes R) f (map h L) g
-  FoldsTo-map f g [] passed = passed
-  FoldsTo-map f g (x ∷ L) passed = (passed.0, (e passed.1.0, passed.1.1), FoldsTo-map passed.0 g L passed.2)
-
-  pub TakesEach-map : (f : F) (L : List X) → TakesEach R Q f (map h L) → TakesEach (λ f x y g. R f (h x) (e y) g) (λ f x. Q f (h x)) f L
-  TakesEach-map f L takes = record { at = λ before after x g is passed. takes.at (map h before) (map h after) (h x) g (ap (map h) is ∙ map-append h before (x ∷ after)) (FoldsTo-map f g before passed) }

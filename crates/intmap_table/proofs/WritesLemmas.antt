@@ -3,19 +3,14 @@ use Rattle.std.proofs.Common.{Bool, true, false, cond, Some, is_some, ◌≡◌,
 use Rattle.std.specs.Prelude.{All}
 use Rattle.std.specs.List.{FoldsTo}
 use Rattle.std.specs.Map.{keys_of}
-use Rattle.std.specs.Fn.{Mut}
-use Rattle.std.specs.Borrow.{MutBor}
 use Rattle.std.proofs.lemmas.List.{drop_more, take_more_set, drop-set-lt}
 use Rattle.std.proofs.lemmas.List.Elements.{All-cons, All-head, All-tail}
 use Rattle.std.proofs.lemmas.Map.Entries.{length-keys_of}
 use Rattle.intmap_table.specs.Bindings.{value_of}
 use Rattle.intmap_table.specs.Classes.{same_key}
-use Rattle.intmap_table.specs.Tables.Kept.{unkept, WritesStored, TakesStoredMut}
-use Rattle.intmap_table.specs.Taking.{Passes, TakesEach}
-use Rattle.intmap_table.specs.Writes.{Writes, WritesAt, TakesPairMut}
-use Rattle.intmap_table.specs.declared.kept.Kept.{Kept}
+use Rattle.intmap_table.specs.Taking.{Passes}
+use Rattle.intmap_table.specs.Writes.{Writes}
 use Rattle.intmap_table.proofs.LeadsLemmas.{Leads, Leads-next}
-use Rattle.intmap_table.proofs.TakingLemmas.{TakesEach-map}
 
 module _ {F K V : Type 0} (R : F → K × V → V → F → Type 0) where
   -- first the one list, then the other
@@ -64,13 +59,3 @@ module _ {F K V : Type 0} (R : F → K × V → V → F → Type 0) where
       let next = Leads-next (Writes R) Writes-append f₀ f h L (take i ps) (x ∷ []) (p ∷ []) (drop (i + 1) ps) (subst (λ Z. Leads (Writes R) f₀ L f (take i ps) Z) (drop_more ps i d below) leads) one in
       subst (λ Z. Leads (Writes R) f₀ L h Z (drop (i + 1) (set ps i p))) (sym (take_more_set ps i p below))
       (subst (λ Z. Leads (Writes R) f₀ L h (take i ps ++ p ∷ []) Z) (sym left) next)
-
-module _ {K V : Type 0} where
-  -- the same with the values as callers see them
-  pub Writes-unkept : {F : Type 0} (m : Mut F (K × (MutBor V × Unit {0})) (Unit {0} × (MutBor V × Unit {0}))) (f g : F) (L M : List (K × Kept V)) → Writes (WritesStored m) f L M g → Writes (WritesAt m) f (unkept L) (unkept M) g
-  Writes-unkept m f g [] M r = (ap unkept r.0, r.1)
-  Writes-unkept m f g (p ∷ L) M r = (r.0.value, r.1, unkept r.2, r.3, Writes-unkept m r.1 g L r.2 r.4, ap unkept r.5)
-
-  -- and takes each pair as it is stored, if it does as callers see it
-  pub TakesEach-stored_mut : {F : Type 0} (m : Mut F (K × (MutBor V × Unit {0})) (Unit {0} × (MutBor V × Unit {0}))) (f : F) (L : List (K × Kept V)) → TakesEach (WritesAt m) (TakesPairMut m) f (unkept L) → TakesEach (WritesStored m) (TakesStoredMut m) f L
-  TakesEach-stored_mut m f L takes = TakesEach-map (WritesAt m) (TakesPairMut m) (λ p. (p.0, p.1.value)) (λ w. w.value) f L takes

@@ -1,4 +1,4 @@
--- What a slot and a table are once one of their values was lent and written.
+-- What a stored value, a slot and a table end as, once a value of theirs was lent and written.
 pub mod Apart
 use Rattle.std.specs.Prelude.{ℕ}
 use Rattle.std.specs.Borrow.{Lends, Fml, RattleType, MutBor}
@@ -7,8 +7,13 @@ use Rattle.std.specs.declared.cmp.PartialEq as eq
 use Rattle.intmap_table.specs.declared.key.IntKey as key
 use Rattle.intmap_table.specs.Bindings.{write_value}
 use Rattle.intmap_table.specs.Tables.Slots.{Held, Grid, write_at}
+use Rattle.intmap_table.specs.contracts.kept.Kept.{the_row as kept_row}
 use Rattle.intmap_table.specs.contracts.slot.Slot.{the_row as slot_row}
 use Rattle.intmap_table.specs.contracts.table.Table.{the_row as table_row}
+
+-- once the loan named r ends, the stored value is the last one written through it
+abbrev pub kept_lends : (V : RattleType) → MutBor V.Denot → MutBor V.Denot → Fml
+kept_lends V k r = Lends (kept_row V) V k r (λ v. v)
 
 -- once the loan named r ends, the slot behind s has the last value written through it at place i, and all else is as it was
 abbrev pub slot_lends : (K X A : RattleType) → key.Ghosts K.Denot → eq.Ghosts K.Denot → allocator.Ghosts A.Denot

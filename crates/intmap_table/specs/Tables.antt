@@ -1,5 +1,4 @@
 -- The words of the contracts inside the table. No public clause cites these modules, except through what a map shows of stored pairs.
 pub mod Bits
-pub mod Kept
 pub mod Moves
 pub mod Slots

@@ -55,7 +55,7 @@ impl<K: IntKey, V, A: Allocator + Copy> IntMap<K, V, A> {
         let Some(at) = self.table.locate(key, steps) else {
             return None;
         };
-        Some(&self.table.value_at(at).value)
+        Some(self.table.value_at(at).get())
     }
 
     /// A mutable reference to the value of the key, or `None` if the key is absent. Only the count
@@ -100,7 +100,7 @@ impl<K: IntKey, V, A: Allocator + Copy> IntMap<K, V, A> {
             return None;
         };
         let found = self.table.key_at(at.slot, at.place);
-        Some((found, &self.table.value_at(at).value))
+        Some((found, self.table.value_at(at).get()))
     }
 
     /// Whether the key is present. It never fails.

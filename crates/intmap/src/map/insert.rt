@@ -149,9 +149,9 @@ impl<K: IntKey, V: Drop, A: Allocator + Copy> IntMap<K, V, A> {
         if has_outgrown(len, self.threshold) {
             return self.add_growing(len, key, value);
         }
-        if let Err(kept) = self.table.add(key, Kept { value }) {
+        if let Err(kept) = self.table.add(key, Kept::new(value)) {
             return Err(Refused {
-                value: kept.value,
+                value: kept.into_value(),
                 cause: Cause::Memory,
             });
         }
@@ -189,10 +189,10 @@ impl<K: IntKey, V: Drop, A: Allocator + Copy> IntMap<K, V, A> {
         let threshold = threshold_of(capacity, self.factor);
         if let Err(kept) = self
             .table
-            .grow_with(capacity, key, Kept { value }, &mut self.placed)
+            .grow_with(capacity, key, Kept::new(value), &mut self.placed)
         {
             return Err(Refused {
-                value: kept.value,
+                value: kept.into_value(),
                 cause: Cause::Memory,
             });
         }

@@ -35,11 +35,10 @@ pub struct Iter<'a, K: IntKey, V, A: Allocator + Copy = Global> {
 
 impl<'a, K: IntKey, V, A: Allocator + Copy> Model for Iter<'a, K, V, A> {
     ghost use Rattle.std.specs.Prelude.{List};
-    ghost use Rattle.intmap_table.specs.Tables.Kept.{unkept};
 
     ghost Value = { List (K × V) };
 
-    ghost view = { λ it. unkept it.pairs };
+    ghost view = { λ it. it.pairs };
 }
 
 impl<'a, K: IntKey, V, A: Allocator + Copy> Iterator for Iter<'a, K, V, A> {
@@ -51,7 +50,7 @@ impl<'a, K: IntKey, V, A: Allocator + Copy> Iterator for Iter<'a, K, V, A> {
 
     fn next(&mut self) -> Option<(&'a K, &'a V)> {
         let (key, kept) = self.pairs.next()?;
-        Some((key, &kept.value))
+        Some((key, kept.get()))
     }
 }
 

@@ -92,7 +92,7 @@ impl<K: IntKey, V, A: Allocator + Copy> IntMap<K, V, A> {
             return None;
         };
         self.len -= 1;
-        Some((key, kept.value))
+        Some((key, kept.into_value()))
     }
 }
 

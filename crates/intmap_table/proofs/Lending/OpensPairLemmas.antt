@@ -1,5 +1,5 @@
 -- A pair at rest, whose value is lent apart from its key. Assumes `Logic`.
-use mathlib.Core.Path.{refl, sym}
+use mathlib.Core.Path.{◌≡◌, refl, sym}
 use Prim.Native.Nat.{ℕ, zero, ◌+◌}
 use mathlib.Core.List.{List, [], ◌∷◌}
 use seplogic.Ra.Ura.{Ura}
@@ -9,11 +9,12 @@ use base.Fml.{Lft, Incl, ftrue, ffalse, fsep, fbor}
 use mir.Syntax.{Sym}
 use prog.Memory.{align, up}
 use types.Logic.{Logic, sem, lfts}
-use types.Kit.{Item, ‵, raw, ◌⊛◌, some, show, mean, ◌$◌, ◌∵◌, !, qed, by, move, keep, drop, use1, split, split3, fsplit, fjoin, feq_i, rewrite, updating, done}
+use types.Kit.{Item, ‵, raw, ◌⊛◌, some, pick, show, mean, ◌$◌, ◌∵◌, !, qed, by, move, keep, drop, use1, use3, split, split3, fsplit, fjoin, feq_i, rewrite, updating, done}
 use types.Kit.{now as at_once}
 use denote.RattleType.{RattleType}
 use denote.RawPtr.{Ptr, block_ptr, lies_at}
 use denote.Steps.{nothing}
+use denote.Model.Fields.{view_owns, view_made, plain_out, Plain-in}
 use denote.Memory.{part_at, part_of, shared_of, lone}
 use denote.Param.{param, copied}
 use denote.Param.Laws.{Laws, param_laws, copied_laws}
@@ -27,9 +28,9 @@ use denote.Struct.Pick.{record_field_out, record_field_back}
 use denote.Struct.Tuple.{Tuple, tuple_type, tuple_laws}
 use Rattle.std.specs.declared.cmp.PartialEq as eq
 use Rattle.intmap_table.specs.declared.key.IntKey as key
-use Rattle.intmap_table.specs.declared.kept.Kept.{Kept}
 use Rattle.intmap_table.specs.contracts.lent.Hole as H-type
 use Rattle.intmap_table.specs.contracts.kept.Kept as K-type
+use Rattle.intmap_table.specs.contracts.kept.Kept.TheInside as I-type
 use Rattle.intmap_table.specs.contracts.table.stored.Stored as S-type
 use Rattle.intmap_table.proofs.table.stored.Stored.TheLaws as S-laws
 use Rattle.intmap_table.proofs.kept.Kept.TheLaws as K-laws
@@ -50,48 +51,58 @@ module _ (V' : RattleType) where
   abbrev ks : List Member
   ks = record { row = V; ty = lone V.mir } ∷ []
 
-  abbrev hole_at : Kept V.Denot → ℕ → ℕ → Ptr × V.Denot
-  hole_at x b o = (block_ptr b o, x.value)
+  abbrev hole_at : V.Denot → ℕ → ℕ → Ptr × V.Denot
+  hole_at x b o = (block_ptr b o, x)
 
-  abbrev pub kept_put : Kept V.Denot → List V.Denot → Kept V.Denot
+  abbrev Inside : RattleType
+  Inside = I-type.the_row V
+
+  abbrev view : Inside.Denot → V.Denot
+  view = K-type.the_view V
+
+  abbrev good : Inside.Denot → Type 0
+  good = K-type.the_invariant V
+
+  abbrev pub kept_put : V.Denot → List V.Denot → V.Denot
   kept_put x [] = x
-  kept_put x (w ∷ ws) = record { value = w }
-
-  abbrev pub kept_fill : Ptr × V.Denot → Kept V.Denot
-  kept_fill h = record { value = h.1 }
+  kept_put x (w ∷ ws) = w
 
   module _ (L : Laws V') {M : Type 1} {𝓤 : Ura M} (𝓛 : Logic 𝓤) where
     open 𝓛 use {H, A}
 
     abbrev pub KeptBack : ℕ → ℕ → SProp 𝓤
-    KeptBack b o = PartsBack 𝓛 full_share (K-type.the_type V).name ks b o
+    KeptBack b o = PartsBack 𝓛 full_share (I-type.the_type V).name ks b o
 
     -- the value is taken out of its wrapper
-    kept_out : (x : Kept V.Denot) (b o : ℕ) → ent 𝓤 (sem 𝓛 (part_at Kr full_share x b o)) (sep 𝓤 (sem 𝓛 (lies_at V full_share (block_ptr b o) x.value)) (KeptBack b o))
+    kept_out : (x : V.Denot) (b o : ℕ) → ent 𝓤 (sem 𝓛 (part_at Kr full_share x b o)) (sep 𝓤 (sem 𝓛 (lies_at V full_share (block_ptr b o) x)) (KeptBack b o))
     unfolding part_of
-    kept_out x b o = let T = K-type.the_type V in
+    kept_out x b o = let T = I-type.the_type V in
         qed 𝓛 (‵ (part_at Kr full_share x b o) ∷ []) ∵
-        use1 𝓛 (‵ (part_at V full_share x.value b (o + up (align (lone V.mir)) zero)) ⊛ ‵ ftrue ⊛ raw (KeptBack b o))
-        (record_field_out 𝓛 full_share T.name ks T.D T.to T.to_one ((param_laws 1 V' L).lawful 𝓛, tt) x b o 0) $ split3 ! $
-        rewrite ! 0 (λ (k : ℕ). ‵ (part_at V full_share x.value b k)) (first_at (align (lone V.mir)) o) refl $ keep ! (0 ∷ 2 ∷ []) $ done !
+        use1 𝓛 (some (λ (k : (a : Inside.Denot) × ((view a ≡ x) × good a)). ‵ (part_at Inside full_share k.0 b o)))
+        (plain_out Kr Inside (view_owns Inside V.Denot Kr.coded view good) 𝓛 full_share x b o) $ pick ! (λ k.
+        use1 𝓛 (‵ (part_at V full_share k.0.value b (o + up (align (lone V.mir)) zero)) ⊛ ‵ ftrue ⊛ raw (KeptBack b o))
+        (record_field_out 𝓛 full_share T.name ks T.D T.to T.to_one ((param_laws 1 V' L).lawful 𝓛, tt) k.0 b o 0) $ split3 ! $
+        rewrite ! 0 (λ (w : V.Denot). ‵ (part_at V full_share w b (o + up (align (lone V.mir)) zero))) k.1.0 refl $
+        rewrite ! 0 (λ (n : ℕ). ‵ (part_at V full_share x b n)) (first_at (align (lone V.mir)) o) refl $ keep ! (0 ∷ 2 ∷ []) $ done !)
 
     -- and put in again
-    kept_in : (w : V.Denot) (b o : ℕ) → ent 𝓤 (sep 𝓤 (sem 𝓛 (lies_at V full_share (block_ptr b o) w)) (KeptBack b o)) (sem 𝓛 (part_at Kr full_share (record { value = w }) b o))
+    kept_in : (w : V.Denot) (b o : ℕ) → ent 𝓤 (sep 𝓤 (sem 𝓛 (lies_at V full_share (block_ptr b o) w)) (KeptBack b o)) (sem 𝓛 (part_at Kr full_share w b o))
     unfolding part_of
-    kept_in w b o = let T = K-type.the_type V in let x : Kept V.Denot = record { value = w } in
+    kept_in w b o = let T = I-type.the_type V in let x : Inside.Denot = record { value = w } in
         qed 𝓛 (‵ (lies_at V full_share (block_ptr b o) w) ∷ raw (KeptBack b o) ∷ []) ∵
         rewrite ! 0 (λ (k : ℕ). ‵ (part_at V full_share w b k)) (sym (first_at (align (lone V.mir)) o)) refl $ nothing ! $ move ! (1 ∷ 0 ∷ 2 ∷ []) $
-        by ! (record_field_back 𝓛 full_share T.name ks T.D T.to T.to_one x b o 0)
+        use3 𝓛 (‵ (part_at Inside full_share x b o)) (record_field_back 𝓛 full_share T.name ks T.D T.to T.to_one x b o 0) $
+        by ! (Plain-in Kr Inside (view_owns Inside V.Denot Kr.coded view good) 𝓛 full_share w x (view_made Inside V.Denot Kr.coded view good 𝓛 w x (refl, tt)) b o)
 
-    abbrev KeptOpen : (x : Kept V.Denot) (b o : ℕ) → Unit {0} → Item 𝓤
-    KeptOpen x b o i = ‵ (each_at V (block_ptr b o ∷ []) (x.value ∷ [])) ⊛ ‵ ftrue ⊛ raw (KeptBack b o)
+    abbrev KeptOpen : (x : V.Denot) (b o : ℕ) → Unit {0} → Item 𝓤
+    KeptOpen x b o i = ‵ (each_at V (block_ptr b o ∷ []) (x ∷ [])) ⊛ ‵ ftrue ⊛ raw (KeptBack b o)
 
-    pub out : (x : Kept V.Denot) (b o : ℕ) → ent 𝓤 (sem 𝓛 (part_at Kr full_share x b o)) (mean 𝓛 (some (KeptOpen x b o)))
+    pub out : (x : V.Denot) (b o : ℕ) → ent 𝓤 (sem 𝓛 (part_at Kr full_share x b o)) (mean 𝓛 (some (KeptOpen x b o)))
     out x b o = qed 𝓛 (‵ (part_at Kr full_share x b o) ∷ []) ∵
-        use1 𝓛 (‵ (lies_at V full_share (block_ptr b o) x.value) ⊛ raw (KeptBack b o)) (kept_out x b o) $ split ! $
+        use1 𝓛 (‵ (lies_at V full_share (block_ptr b o) x) ⊛ raw (KeptBack b o)) (kept_out x b o) $ split ! $
         nothing ! $ move ! (1 ∷ 0 ∷ []) $ fjoin ! $ nothing ! $ show ! (λ (k : Unit {0}). mean 𝓛 (KeptOpen x b o k)) tt $ move ! (1 ∷ 0 ∷ 2 ∷ []) $ done !
 
-    pub back : (x : Kept V.Denot) (i : Unit {0}) (b o : ℕ) (ws : List V.Denot)
+    pub back : (x : V.Denot) (i : Unit {0}) (b o : ℕ) (ws : List V.Denot)
         → ent 𝓤 (sep 𝓤 (sem 𝓛 (each_at V (block_ptr b o ∷ []) ws)) (sep 𝓤 (sem 𝓛 ftrue) (KeptBack b o))) (sem 𝓛 (part_at Kr full_share (kept_put x ws) b o))
     back x i b o [] = qed 𝓛 (‵ ffalse ∷ ‵ ftrue ∷ raw (KeptBack b o) ∷ []) ∵ keep ! (0 ∷ []) $ by ! (never_e 𝓤 _)
     back x i b o (w ∷ []) = qed 𝓛 (‵ (fsep (lies_at V full_share (block_ptr b o) w) ftrue) ∷ ‵ ftrue ∷ raw (KeptBack b o) ∷ []) ∵
@@ -100,7 +111,7 @@ module _ (V' : RattleType) where
         fsplit ! $ keep ! (1 ∷ []) $ by ! (never_e 𝓤 _)
 
     module _ (l : Lft) where
-      pub lends : (x : Kept V.Denot) (b o : ℕ) → Lends 𝓛 ftrue (shared_of Hr (hole_at x b o) b o) l
+      pub lends : (x : V.Denot) (b o : ℕ) → Lends 𝓛 ftrue (shared_of Hr (hole_at x b o) b o) l
       lends x b o κ ts inc sp =
           qed 𝓛 (‵ (fbor κ ftrue) ∷ raw (lfts 𝓛 ts) ∷ []) {P = H.⇛ (sep 𝓤 (sem 𝓛 (shared_of Hr (hole_at x b o) b o κ)) (lfts 𝓛 ts))} (
           updating ! $ drop ! $ feq_i ! Ptr (block_ptr b o) (block_ptr b o) refl $ at_once ! $ done !)
@@ -110,11 +121,11 @@ module _ (V' : RattleType) where
       kept_opens = record {
         Info = λ x. Unit {0};
         holed = λ x i b o. hole_at x b o;
-        cells = λ x i b o. (block_ptr b o, x.value) ∷ [];
+        cells = λ x i b o. (block_ptr b o, x) ∷ [];
         count = λ x. 1;
         counts = λ x i b o. refl;
         put = kept_put;
-        fill = kept_fill;
+        fill = λ h. h.1;
         filled = λ x i b o. refl;
         cells_in = λ h. h ∷ [];
         celled = λ x i b o. refl;

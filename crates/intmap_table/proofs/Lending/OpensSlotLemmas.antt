@@ -25,7 +25,6 @@ use Rattle.std.proofs.vec.Vec.TheLaws as V-laws
 use Rattle.std.specs.declared.alloc.Allocator as allocator
 use Rattle.std.specs.declared.cmp.PartialEq as eq
 use Rattle.intmap_table.specs.declared.key.IntKey as key
-use Rattle.intmap_table.specs.declared.kept.Kept.{Kept}
 use denote.RawPtr.{Ptr}
 use Rattle.std.specs.Map.{values_of}
 use Rattle.intmap_table.specs.declared.slot.Slot as declared
@@ -34,9 +33,10 @@ use Rattle.std.specs.declared.option.Option.TheVariants.{None, Some}
 use Rattle.intmap_table.specs.contracts.slot.Slot as L-type
 use Rattle.intmap_table.specs.contracts.slot.Slot.TheInside as I-type
 use Rattle.intmap_table.specs.Tables.Slots.{Held, all_pairs, HasFirst}
-use Rattle.intmap_table.specs.Values.{refilled}
+use Rattle.intmap_table.specs.Lending.Apart.{lent_pairs}
+use Rattle.intmap_table.specs.Values.{with_values}
 use Rattle.std.proofs.option.Option.TheLaws as O-laws
-use Rattle.intmap_table.proofs.Lending.ValuesLemmas.{kept, kept_pairs, refilled_slot, kept_slot}
+use Rattle.intmap_table.proofs.Lending.ValuesLemmas.{refilled_slot, lent_slot}
 use Rattle.intmap_table.proofs.Lending.OpensLemmas.{Opens, row_put, row_count, row_cells_in, row_fill}
 use Rattle.intmap_table.proofs.Lending.OpensVecLemmas.{vec_opens}
 use Rattle.intmap_table.proofs.Lending.OpensStructLemmas.{two_opens, view_opens}
@@ -112,7 +112,7 @@ module _ (K' V' A' : RattleType) (g : key.Ghosts K'.Denot) (e : eq.Ghosts K'.Den
           Ir IHr to_two of_two (λ s. refl) slot_apart slot_whole (λ f r. record { first = f; rest = r }) (λ s. s.first) (λ s. s.rest) (λ f r. refl) (λ f r. refl) (λ f r b o κ. id⊢ 𝓤 _) refl
 
       abbrev P : Type 0
-      P = K'.Denot × Kept V'.Denot
+      P = K'.Denot × V'.Denot
 
       abbrev puts : List P → List V'.Denot → List P
       puts = row_put 𝓛 (V V') (Pr K' V' g e) (PHr K' V' g e) l PO
@@ -121,19 +121,19 @@ module _ (K' V' A' : RattleType) (g : key.Ghosts K'.Denot) (e : eq.Ghosts K'.Den
       puts-none [] = refl
       puts-none (p ∷ L) = ap (λ M. p ∷ M) (puts-none L)
 
-      puts-is : (L : List P) (ws : List V'.Denot) → puts L ws ≡ refilled kept L ws
-      unfolding refilled
+      puts-is : (L : List P) (ws : List V'.Denot) → puts L ws ≡ with_values L ws
+      unfolding with_values
       puts-is [] ws = refl
       puts-is (p ∷ L) [] = ap (λ M. p ∷ M) (puts-none L)
-      puts-is (p ∷ L) (w ∷ ws) = ap (λ M. (p.0, kept w) ∷ M) (puts-is L ws)
+      puts-is (p ∷ L) (w ∷ ws) = ap (λ M. (p.0, w) ∷ M) (puts-is L ws)
 
       count-is : (L : List P) → row_count 𝓛 (V V') (Pr K' V' g e) (PHr K' V' g e) l PO L ≡ length L
       count-is [] = refl
       count-is (p ∷ L) = let n = count-is L in omega (arith, n)
 
-      fill-is : (L : List (K'.Denot × (Ptr × V'.Denot))) → row_fill 𝓛 (V V') (Pr K' V' g e) (PHr K' V' g e) l PO L ≡ kept_pairs L
+      fill-is : (L : List (K'.Denot × (Ptr × V'.Denot))) → row_fill 𝓛 (V V') (Pr K' V' g e) (PHr K' V' g e) l PO L ≡ lent_pairs L
       fill-is [] = refl
-      fill-is (p ∷ L) = ap (λ M. (p.0, kept p.1.1) ∷ M) (fill-is L)
+      fill-is (p ∷ L) = ap (λ M. (p.0, p.1.1) ∷ M) (fill-is L)
 
       cells-is : (L : List (K'.Denot × (Ptr × V'.Denot))) → row_cells_in 𝓛 (V V') (Pr K' V' g e) (PHr K' V' g e) l PO L ≡ values_of L
       cells-is [] = refl
@@ -149,19 +149,19 @@ module _ (K' V' A' : RattleType) (g : key.Ghosts K'.Denot) (e : eq.Ghosts K'.Den
       fill_first = option_fill K' V' g e LK LV 𝓛 l ik iv
 
       pairs-put : (f : Option P) (L : List P) (ws : List V'.Denot)
-          → all_pairs (put_first f (take (count_first f) ws)) (puts L (drop (count_first f) ws)) ≡ refilled kept (all_pairs f L) ws
-      unfolding refilled
+          → all_pairs (put_first f (take (count_first f) ws)) (puts L (drop (count_first f) ws)) ≡ with_values (all_pairs f L) ws
+      unfolding with_values
       pairs-put None L ws = puts-is L ws
       pairs-put (Some p) L [] = ap (λ M. p ∷ M) (puts-none L)
-      pairs-put (Some p) L (w ∷ ws) = ap (λ M. (p.0, kept w) ∷ M) (puts-is L ws)
+      pairs-put (Some p) L (w ∷ ws) = ap (λ M. (p.0, w) ∷ M) (puts-is L ws)
 
       pairs-count : (f : Option P) (L : List P) → count_first f + row_count 𝓛 (V V') (Pr K' V' g e) (PHr K' V' g e) l PO L ≡ length (all_pairs f L)
       pairs-count None L = let n = count-is L in omega (arith, n)
       pairs-count (Some p) L = let n = count-is L in omega (arith, n)
 
-      pairs-fill : (f : (FHr K' V' g e).Denot) (L : List (K'.Denot × (Ptr × V'.Denot))) → kept_pairs (all_pairs f L) ≡ all_pairs (fill_first f) (row_fill 𝓛 (V V') (Pr K' V' g e) (PHr K' V' g e) l PO L)
+      pairs-fill : (f : (FHr K' V' g e).Denot) (L : List (K'.Denot × (Ptr × V'.Denot))) → lent_pairs (all_pairs f L) ≡ all_pairs (fill_first f) (row_fill 𝓛 (V V') (Pr K' V' g e) (PHr K' V' g e) l PO L)
       pairs-fill None L = sym (fill-is L)
-      pairs-fill (Some h) L = ap (λ M. (h.0, kept h.1.1) ∷ M) (sym (fill-is L))
+      pairs-fill (Some h) L = ap (λ M. (h.0, h.1.1) ∷ M) (sym (fill-is L))
 
       pairs-cells : (f : (FHr K' V' g e).Denot) (L : List (K'.Denot × (Ptr × V'.Denot)))
           → option_cells_in K' V' g e LK LV 𝓛 l ik iv f ++ row_cells_in 𝓛 (V V') (Pr K' V' g e) (PHr K' V' g e) l PO L ≡ values_of (all_pairs f L)
@@ -189,7 +189,7 @@ module _ (K' V' A' : RattleType) (g : key.Ghosts K'.Denot) (e : eq.Ghosts K'.Den
       abbrev good' : IHr.Denot → Type 0
       good' = L-type.the_invariant (K K' V' g e) (Hr V') A g e a
 
-      abbrev view : Ir.Denot → Held K'.Denot (Kept V'.Denot)
+      abbrev view : Ir.Denot → Held K'.Denot V'.Denot
       view = L-type.the_view (K K' V' g e) (Kr V') A g e a
 
       abbrev view' : IHr.Denot → Held K'.Denot (Ptr × V'.Denot)
@@ -207,7 +207,7 @@ module _ (K' V' A' : RattleType) (g : key.Ghosts K'.Denot) (e : eq.Ghosts K'.Den
       pub slot-holeds : (s : Ir.Denot) (i : inside_opens.Info s) (b o : ℕ) → good s → good' (inside_opens.holed s i b o)
       slot-holeds s i b o ok = let h = inside_opens.holed s i b o in first-fill h.first h.rest.items (subst good (sym (inside_opens.filled s i b o)) ok)
 
-      pub slot-fills : (h : IHr.Denot) → kept_slot (view' h) ≡ view (inside_opens.fill h)
+      pub slot-fills : (h : IHr.Denot) → lent_slot (view' h) ≡ view (inside_opens.fill h)
       slot-fills h = λ i. record { pairs = pairs-fill h.first h.rest.items i; room = (view' h).room }
 
       pub slot-celleds : (h : IHr.Denot) → inside_opens.cells_in h ≡ values_of (view' h).pairs
@@ -216,7 +216,7 @@ module _ (K' V' A' : RattleType) (g : key.Ghosts K'.Denot) (e : eq.Ghosts K'.Den
       -- a slot is lent as a slot of holes
       abbrev pub slot_opens : Opens 𝓛 (V V') Sr SHr l
       slot_opens =
-          view_opens 𝓛 (V V') Ir IHr l inside_opens (Held K'.Denot (Kept V'.Denot)) (Held K'.Denot (Ptr × V'.Denot))
+          view_opens 𝓛 (V V') Ir IHr l inside_opens (Held K'.Denot V'.Denot) (Held K'.Denot (Ptr × V'.Denot))
           (declared.the_code K'.Denot (Kr V').Denot A'.Denot K'.coded (Kr V').coded A'.coded) (declared.the_code K'.Denot (Hr V').Denot A'.Denot K'.coded (Hr V').coded A'.coded)
-          view view' good good' refilled_slot (λ h. length h.pairs) kept_slot (λ h. values_of h.pairs)
+          view view' good good' refilled_slot (λ h. length h.pairs) lent_slot (λ h. values_of h.pairs)
           (λ s ws long. slot-puts s ws) slot-goods slot-counts slot-holeds slot-fills slot-celleds

@@ -22,7 +22,6 @@ use Rattle.std.proofs.vec.Vec.TheLaws as V-laws
 use Rattle.std.specs.declared.alloc.Allocator as allocator
 use Rattle.std.specs.declared.cmp.PartialEq as eq
 use Rattle.intmap_table.specs.declared.key.IntKey as key
-use Rattle.intmap_table.specs.declared.kept.Kept.{Kept}
 use Rattle.std.specs.Map.{values_of}
 use denote.RawPtr.{Ptr}
 use denote.Shares.{Shares, Shares-less}
@@ -34,9 +33,10 @@ use Rattle.intmap_table.proofs.table.Directory.TheLaws as D-laws
 use Rattle.intmap_table.proofs.slot.Slot.TheLaws as S-laws
 use Rattle.intmap_table.proofs.kept.Kept.TheLaws as K-laws
 use Rattle.intmap_table.specs.Tables.Slots.{Held, Grid, rows, joined}
-use Rattle.intmap_table.specs.Values.{refilled}
+use Rattle.intmap_table.specs.Lending.Apart.{lent_pairs}
+use Rattle.intmap_table.specs.Values.{with_values}
 use Rattle.intmap_table.proofs.Tables.SameKeysLemmas.{row_keys, IsMaskedTable-same_keys}
-use Rattle.intmap_table.proofs.Lending.ValuesLemmas.{kept, refilled-append, keys_of-refilled, kept_pairs, kept_slot, kept_pairs-joined, row_keys-kept_slots}
+use Rattle.intmap_table.proofs.Lending.ValuesLemmas.{with_values-append, keys_of-with_values, lent_slot, lent_pairs-joined, row_keys-lent_slots}
 use Rattle.intmap_table.proofs.Lending.OpensLemmas.{Opens, row_put, row_count, row_cells_in, length-row_put}
 use Rattle.intmap_table.proofs.Lending.OpensVecLemmas.{vec_opens}
 use Rattle.intmap_table.proofs.Lending.OpensStructLemmas.{still, two_opens, view_opens}
@@ -118,19 +118,19 @@ module _ (K' V' A' : RattleType) (g : key.Ghosts K'.Denot) (e : eq.Ghosts K'.Den
           Ir IHr to_two of_two (λ t. refl) table_apart table_whole (λ d s. record { directory = d; slots = s }) (λ t. t.directory) (λ t. t.slots) (λ d s. refl) (λ d s. refl) (λ d s block o κ. id⊢ 𝓤 _) refl
 
       abbrev H' : Type 0
-      H' = Held K'.Denot (Kept V'.Denot)
+      H' = Held K'.Denot V'.Denot
 
       abbrev puts : List H' → List V'.Denot → List H'
       puts = row_put 𝓛 (V V') (Sr K' V' A' g e a) (SHr K' V' A' g e a) l SO
 
-      joined-puts : (S : List H') (ws : List V'.Denot) → joined (rows (puts S ws)) ≡ refilled kept (joined (rows S)) ws
-      unfolding refilled
+      joined-puts : (S : List H') (ws : List V'.Denot) → joined (rows (puts S ws)) ≡ with_values (joined (rows S)) ws
+      unfolding with_values
       joined-puts [] ws = refl
-      joined-puts (h ∷ S) ws = ap (λ L. refilled kept h.pairs (take (length h.pairs) ws) ++ L) (joined-puts S (drop (length h.pairs) ws)) ∙ refilled-append kept h.pairs (joined (rows S)) ws
+      joined-puts (h ∷ S) ws = ap (λ L. with_values h.pairs (take (length h.pairs) ws) ++ L) (joined-puts S (drop (length h.pairs) ws)) ∙ with_values-append h.pairs (joined (rows S)) ws
 
       keys-puts : (S : List H') (ws : List V'.Denot) → row_keys (puts S ws) ≡ row_keys S
       keys-puts [] ws = refl
-      keys-puts (h ∷ S) ws = λ i. keys_of-refilled kept h.pairs (take (length h.pairs) ws) i ∷ keys-puts S (drop (length h.pairs) ws) i
+      keys-puts (h ∷ S) ws = λ i. keys_of-with_values h.pairs (take (length h.pairs) ws) i ∷ keys-puts S (drop (length h.pairs) ws) i
 
       joined-count : (S : List H') → row_count 𝓛 (V V') (Sr K' V' A' g e a) (SHr K' V' A' g e a) l SO S ≡ length (joined (rows S))
       joined-count [] = refl
@@ -146,17 +146,17 @@ module _ (K' V' A' : RattleType) (g : key.Ghosts K'.Denot) (e : eq.Ghosts K'.Den
       abbrev pub good' : IHr.Denot → Type 0
       good' = T-type.the_invariant (K K' V' g e) (Hr V') (A K' V' A' g e a) g e a
 
-      abbrev pub view : Ir.Denot → Grid K'.Denot (Kept V'.Denot)
+      abbrev pub view : Ir.Denot → Grid K'.Denot V'.Denot
       view = T-type.the_view (K K' V' g e) (Kr V') (A K' V' A' g e a) g e a
 
       abbrev pub view' : IHr.Denot → Grid K'.Denot (Ptr × V'.Denot)
       view' = T-type.the_view (K K' V' g e) (Hr V') (A K' V' A' g e a) g e a
 
-      abbrev pub grid_with : Grid K'.Denot (Kept V'.Denot) → List V'.Denot → Grid K'.Denot (Kept V'.Denot)
-      grid_with t ws = record { walk = refilled kept t.walk ws; capacity = t.capacity }
+      abbrev pub grid_with : Grid K'.Denot V'.Denot → List V'.Denot → Grid K'.Denot V'.Denot
+      grid_with t ws = record { walk = with_values t.walk ws; capacity = t.capacity }
 
-      abbrev pub grid_fill : Grid K'.Denot (Ptr × V'.Denot) → Grid K'.Denot (Kept V'.Denot)
-      grid_fill t = record { walk = kept_pairs t.walk; capacity = t.capacity }
+      abbrev pub grid_fill : Grid K'.Denot (Ptr × V'.Denot) → Grid K'.Denot V'.Denot
+      grid_fill t = record { walk = lent_pairs t.walk; capacity = t.capacity }
 
       pub table-puts : (t : Ir.Denot) (ws : List V'.Denot) → view (inside_opens.put t ws) ≡ grid_with (view t) ws
       table-puts t ws = λ i. record { walk = joined-puts t.slots.items ws i; capacity = length-row_put 𝓛 (V V') (Sr K' V' A' g e a) (SHr K' V' A' g e a) l SO t.slots.items ws i }
@@ -170,10 +170,10 @@ module _ (K' V' A' : RattleType) (g : key.Ghosts K'.Denot) (e : eq.Ghosts K'.Den
       pub table-holeds : (t : Ir.Denot) (i : inside_opens.Info t) (b o : ℕ) → good t → good' (inside_opens.holed t i b o)
       table-holeds t i b o ok =
           let h = inside_opens.holed t i b o in
-          IsMaskedTable-same_keys t.slots.items h.slots.items (ap (λ (s : Ir.Denot). row_keys s.slots.items) (sym (inside_opens.filled t i b o)) ∙ row_keys-kept_slots h.slots.items) g.number_of t.directory.bits t.directory.mask ok
+          IsMaskedTable-same_keys t.slots.items h.slots.items (ap (λ (s : Ir.Denot). row_keys s.slots.items) (sym (inside_opens.filled t i b o)) ∙ row_keys-lent_slots h.slots.items) g.number_of t.directory.bits t.directory.mask ok
 
       pub table-fills : (h : IHr.Denot) → grid_fill (view' h) ≡ view (inside_opens.fill h)
-      table-fills h = λ i. record { walk = kept_pairs-joined h.slots.items i; capacity = sym (length-map h.slots.items kept_slot) i }
+      table-fills h = λ i. record { walk = lent_pairs-joined h.slots.items i; capacity = sym (length-map h.slots.items lent_slot) i }
 
       pub table-celleds : (h : IHr.Denot) → inside_opens.cells_in h ≡ values_of (view' h).walk
       table-celleds h = joined-cells h.slots.items
@@ -181,7 +181,7 @@ module _ (K' V' A' : RattleType) (g : key.Ghosts K'.Denot) (e : eq.Ghosts K'.Den
       -- a table is lent as a table of holes
       abbrev pub table_opens : Opens 𝓛 (V V') Tr THr l
       table_opens =
-          view_opens 𝓛 (V V') Ir IHr l inside_opens (Grid K'.Denot (Kept V'.Denot)) (Grid K'.Denot (Ptr × V'.Denot))
+          view_opens 𝓛 (V V') Ir IHr l inside_opens (Grid K'.Denot V'.Denot) (Grid K'.Denot (Ptr × V'.Denot))
           (declared.the_code K'.Denot (Kr V').Denot A'.Denot K'.coded (Kr V').coded A'.coded) (declared.the_code K'.Denot (Hr V').Denot A'.Denot K'.coded (Hr V').coded A'.coded)
           view view' good good' grid_with (λ t. length t.walk) grid_fill (λ t. values_of t.walk)
           (λ t ws long. table-puts t ws) table-goods table-counts table-holeds table-fills table-celleds

@@ -6,9 +6,7 @@ use Rattle.std.specs.Map.{keys_of}
 use Rattle.intmap_table.specs.Bindings.{value_of}
 use Rattle.intmap_table.specs.Classes.{same_key}
 use Rattle.intmap_table.specs.Cloning.{IsPairClone, BindsClones}
-use Rattle.intmap_table.specs.Tables.Kept.{unkept}
 use Rattle.intmap_table.specs.Tables.Slots.{Held, rows, joined}
-use Rattle.intmap_table.specs.declared.kept.Kept.{Kept}
 use Rattle.intmap_table.proofs.Tables.SameKeysLemmas.{row_keys}
 
 module _ {P Q : Type 0} (R : P → Q → Type 0) where
@@ -50,13 +48,6 @@ module _ {K X : Type 0} (clones : X → X → Type 0) where
   row_keys-AllZip (h ∷ S) (g ∷ T) all = λ i. keys_of-AreClones h.pairs g.pairs all.0 i ∷ row_keys-AllZip S T all.1 i
 
 module _ {K V : Type 0} (clones : V → V → Type 0) where
-  -- clones of stored values are clones of the values
-  pub AreClones-unkept : (L M : List (K × Kept V)) → AreClones (λ (a b : Kept V). clones a.value b.value) L M → AreClones clones (unkept L) (unkept M)
-  AreClones-unkept [] [] all = tt
-  AreClones-unkept [] (q ∷ M) all = absurd all
-  AreClones-unkept (p ∷ L) [] all = absurd all
-  AreClones-unkept (p ∷ L) (q ∷ M) all = (all.0, AreClones-unkept L M all.1)
-
   -- a clone of the first pair is looked at as the pair is
   value_of-clone : (number : K → ℕ) (k : K) (p q : K × V) (M : List (K × V)) (b : Bool) → same_key number k p.0 ≡ b → q.0 ≡ p.0 → value_of number (q ∷ M) k ≡ cond b (Some q.1) (value_of number M k)
   value_of-clone number k p q M b is key = ap (λ j. cond (same_key number k j) (Some q.1) (value_of number M k)) key ∙ ap (λ c. cond c (Some q.1) (value_of number M k)) is

@@ -10,8 +10,7 @@ use Rattle.intmap_table.specs.Tables.Slots.{Held, rows, joined, IsTable}
 use Rattle.intmap_table.specs.Walk.{slot_of}
 use Rattle.intmap_table.specs.Laws.Written.{the_key-same}
 use Rattle.intmap_table.specs.declared.table.locate.Location.{Location}
-use Rattle.intmap_table.proofs.LocationLemmas.{IsAt-without_values, slot-at, place-within}
-use Rattle.intmap_table.proofs.MappedLemmas.{map_values, slot_of-map_values}
+use Rattle.intmap_table.proofs.LocationLemmas.{slot-at, place-within}
 use Rattle.intmap_table.proofs.PositionLemmas.{position-within}
 use Rattle.intmap_table.proofs.Tables.TableLemmas.{slot_of-here}
 
@@ -83,22 +82,3 @@ module _ {K X : Type 0} (number : K → ℕ) (S : List (Held K X)) (h : Held K X
   pub key_at-here : (k : K) → ((p : K × X) → k ≡ (get_or h.pairs place p).0) → Some k ≡ key_at (slot_of number (joined (rows S)) (length S) slot) place
   key_at-here k e =
       key_at-get_or h.pairs place k place-found e ∙ ap (λ L. key_at L place) (sym (slot_of-here number S h slot _ (slot-at number S h _ table is.at here)))
-
--- pairs with other values have their keys where they had them
-module _ {K X V : Type 0} (number : K → ℕ) (f : X → V) where
-  key_at-map_values : (L : List (K × X)) (i : ℕ) → key_at (map_values number f L) i ≡ key_at L i
-  key_at-map_values [] i = refl
-  key_at-map_values (p ∷ L) zero = refl
-  key_at-map_values (p ∷ L) (suc i) = key_at-map_values L i
-
-  pub key_at-slot_map_values : (L : List (K × X)) (C slot place : ℕ) → key_at (slot_of number (map_values number f L) C slot) place ≡ key_at (slot_of number L C slot) place
-  key_at-slot_map_values L C slot place = ap (λ M. key_at M place) (slot_of-map_values number f L C slot) ∙ key_at-map_values (slot_of number L C slot) place
-
-  pub IsFound-without_values : (L : List (K × X)) (C slot place : ℕ) → IsFound number (map_values number f L) C slot place → IsFound number L C slot place
-  IsFound-without_values L C slot place is =
-      let same = key_at-slot_map_values L C slot place in
-      let some : IsSome (key_at (slot_of number L C slot) place) = subst IsSome same is.some in
-      record {
-        some = some;
-        at = subst (λ q. IsAt number L C (record { key = q; slot = slot; place = place })) (the_key-same _ _ is.some some same) (IsAt-without_values number f L C _ is.at);
-      }

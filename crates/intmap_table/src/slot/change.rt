@@ -1,9 +1,8 @@
 //! Pairs are put into a slot, replaced and removed there, and their values are written.
 ghost use Rattle.std.specs.Prelude.{◌≡◌, ◌≢◌, ◌+◌, ◌<◌, ◌≤◌, [], ◌∷◌, ◌++◌, length, reverse, vec_capacity, swap_remove, slice_index_or, is_some, true, Some, OnOk, OnErr, IfErr, IfSome, IfNone};
 ghost use Rattle.intmap_table.specs.Tables.Moves.{emptied};
-ghost use Rattle.intmap_table.specs.Tables.Kept.{WritesStored, TakesStoredMut};
 ghost use Rattle.intmap_table.specs.Taking.{TakesEach};
-ghost use Rattle.intmap_table.specs.Writes.{Writes};
+ghost use Rattle.intmap_table.specs.Writes.{Writes, WritesAt, TakesPairMut};
 
 use crate::kept::Kept;
 use crate::key::IntKey;
@@ -215,8 +214,8 @@ impl<K: IntKey, X, A: Allocator + Copy> Slot<K, X, A> {
 
 /// Calls the closure at each pair in turn, with a mutable reference to its value.
 fn write_in<K: IntKey, V, F: FnMut(K, &mut V)>(pairs: &mut [(Stored<K>, Kept<V>)], f: &mut F)
-    requires { TakesEach (WritesStored F.FnMut) (TakesStoredMut F.FnMut) f.old pairs.old }
-    ensures { Writes (WritesStored F.FnMut) f.old pairs.old pairs.new f.new }
+    requires { TakesEach (WritesAt F.FnMut) (TakesPairMut F.FnMut) f.old pairs.old }
+    ensures { Writes (WritesAt F.FnMut) f.old pairs.old pairs.new f.new }
 {
     for pair in pairs.iter_mut() {
         write_pair(pair, f);
@@ -226,8 +225,8 @@ fn write_in<K: IntKey, V, F: FnMut(K, &mut V)>(pairs: &mut [(Stored<K>, Kept<V>)
 impl<K: IntKey, V, A: Allocator> Slot<K, Kept<V>, A> {
     /// Calls the closure at each pair in turn, with a mutable reference to its value.
     pub(crate) fn write_each<F: FnMut(K, &mut V)>(&mut self, f: &mut F)
-        requires { TakesEach (WritesStored F.FnMut) (TakesStoredMut F.FnMut) f.old self.old.pairs }
-        ensures { Writes (WritesStored F.FnMut) f.old self.old.pairs self.new.pairs f.new }
+        requires { TakesEach (WritesAt F.FnMut) (TakesPairMut F.FnMut) f.old self.old.pairs }
+        ensures { Writes (WritesAt F.FnMut) f.old self.old.pairs self.new.pairs f.new }
     {
         if let Some(pair) = &mut self.first {
             write_pair(pair, f);

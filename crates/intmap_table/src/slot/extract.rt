@@ -1,7 +1,7 @@
 //! One step of `extract_if` in a slot: the removal of the next pair that a closure picks.
 ghost use Rattle.std.specs.Prelude.{◌≡◌, ◌+◌, ◌^◌, ◌<◌, ◌≤◌, ◌++◌, length, take, drop, set, slice_index_or};
-ghost use Rattle.intmap_table.specs.Tables.Kept.{AsksStored, PicksStored, TakesStoredMut};
-ghost use Rattle.intmap_table.specs.Picking.{ExtractsBehind};
+ghost use Rattle.intmap_table.specs.Writes.{TakesPairMut};
+ghost use Rattle.intmap_table.specs.Picking.{ExtractsBehind, AsksAt, PicksAt};
 ghost use Rattle.intmap_table.specs.Taking.{TakesEach};
 
 use crate::kept::Kept;
@@ -33,11 +33,10 @@ impl<K: IntKey, V, A: Allocator> Slot<K, Kept<V>, A> {
     /// Whether the closure picks the pair at a place. It may write the value.
     fn ask_at<F: FnMut(K, &mut V) -> bool>(&mut self, place: usize, f: &mut F) -> bool
         requires within { place < length self.old.pairs }
-        requires callable { (pair : K × Kept V) → TakesStoredMut F.FnMut f.old
+        requires callable { (pair : K × V) → TakesPairMut F.FnMut f.old
             (slice_index_or self.old.pairs place pair) }
-        ensures { (pair : K × Kept V) × (self.new.pairs ≡ set self.old.pairs place pair)
-            × PicksStored F.FnMut f.old (slice_index_or self.old.pairs place pair) result
-            f.new pair }
+        ensures { (pair : K × V) × (self.new.pairs ≡ set self.old.pairs place pair)
+            × PicksAt F.FnMut f.old (slice_index_or self.old.pairs place pair) result f.new pair }
     {
         if place > 0 {
             return picks_pair(&mut self.rest[place - 1], f);
@@ -57,9 +56,9 @@ impl<K: IntKey, V, A: Allocator> Slot<K, Kept<V>, A> {
     ) -> Option<(Stored<K>, Kept<V>)>
         requires within { place.old ≤ length self.old.pairs }
         requires few { length self.old.pairs < 2 ^ 64 }
-        requires callable { TakesEach (AsksStored F.FnMut) (TakesStoredMut F.FnMut) f.old
+        requires callable { TakesEach (AsksAt F.FnMut) (TakesPairMut F.FnMut) f.old
             (drop place.old self.old.pairs) }
-        ensures step { ExtractsBehind (PicksStored F.FnMut) f.old self.old.pairs place.old result
+        ensures step { ExtractsBehind (PicksAt F.FnMut) f.old self.old.pairs place.old result
             f.new self.new.pairs place.new }
         ensures within { place.new ≤ length self.new.pairs }
         ensures on { place.old ≤ place.new }

@@ -1,6 +1,8 @@
 //! Closures that are asked about a pair. They get its key, which no search of a slot can read.
 ghost use Rattle.std.specs.Prelude.{◌≡◌};
-ghost use Rattle.intmap_table.specs.Tables.Kept.{KeepsStored, PicksStored, TakesStored, TakesStoredMut, WritesStored};
+ghost use Rattle.intmap_table.specs.Picking.{PicksAt};
+ghost use Rattle.intmap_table.specs.Retaining.{KeepsAt, TakesPair};
+ghost use Rattle.intmap_table.specs.Writes.{TakesPairMut, WritesAt};
 
 use crate::kept::Kept;
 use crate::key::IntKey;
@@ -12,10 +14,10 @@ pub(crate) fn keeps_pair<K: IntKey, V, F: FnMut(K, &V) -> bool>(
     pair: &(Stored<K>, Kept<V>),
     f: &mut F,
 ) -> bool
-    requires { TakesStored F.FnMut f.old pair.now }
-    ensures { KeepsStored F.FnMut f.old pair.now result f.new }
+    requires { TakesPair F.FnMut f.old pair.now }
+    ensures { KeepsAt F.FnMut f.old pair.now result f.new }
 {
-    f(*pair.0.key(), &pair.1.value)
+    f(*pair.0.key(), pair.1.get())
 }
 
 /// Whether the closure picks a pair. It may write the value.
@@ -24,10 +26,10 @@ pub(crate) fn picks_pair<K: IntKey, V, F: FnMut(K, &mut V) -> bool>(
     pair: &mut (Stored<K>, Kept<V>),
     f: &mut F,
 ) -> bool
-    requires { TakesStoredMut F.FnMut f.old pair.old }
-    ensures { PicksStored F.FnMut f.old pair.old result f.new pair.new }
+    requires { TakesPairMut F.FnMut f.old pair.old }
+    ensures { PicksAt F.FnMut f.old pair.old result f.new pair.new }
 {
-    f(*pair.0.key(), &mut pair.1.value)
+    f(*pair.0.key(), pair.1.get_mut())
 }
 
 /// Calls the closure at a pair, with a mutable reference to its value.
@@ -36,9 +38,9 @@ pub(crate) fn write_pair<K: IntKey, V, F: FnMut(K, &mut V)>(
     pair: &mut (Stored<K>, Kept<V>),
     f: &mut F,
 )
-    requires { TakesStoredMut F.FnMut f.old pair.old }
+    requires { TakesPairMut F.FnMut f.old pair.old }
     ensures key { pair.new.0 ≡ pair.old.0 }
-    ensures value { WritesStored F.FnMut f.old pair.old pair.new.1 f.new }
+    ensures value { WritesAt F.FnMut f.old pair.old pair.new.1 f.new }
 {
-    f(*pair.0.key(), &mut pair.1.value);
+    f(*pair.0.key(), pair.1.get_mut());
 }

@@ -5,7 +5,6 @@ ghost use Rattle.std.specs.Iterator.{YieldsFirst};
 ghost use Rattle.intmap_table.specs.Classes.{slot_number};
 ghost use Rattle.intmap_table.specs.Walk.{ArePassed, walk_of};
 ghost use Rattle.intmap_table.specs.Tables.Slots.{rows, joined, IsMarkedTable};
-ghost use Rattle.intmap_table.specs.Tables.Kept.{unkept, KeepsStored, TakesStored, WritesStored, TakesStoredMut};
 ghost use Rattle.intmap_table.specs.Retaining.{Retains, KeepsAt, TakesPair};
 ghost use Rattle.intmap_table.specs.Taking.{TakesEach};
 ghost use Rattle.intmap_table.specs.Writes.{Writes, WritesAt, TakesPairMut};
@@ -50,11 +49,11 @@ fn retain_slots<K: IntKey, V: Drop, A: Allocator, F: FnMut(K, &V) -> bool>(
     slots: &mut Vec<Slot<K, Kept<V>, A>, A>,
     f: &mut F,
 ) -> usize
-    requires callable { TakesEach (KeepsStored F.FnMut) (TakesStored F.FnMut) f.old
+    requires callable { TakesEach (KeepsAt F.FnMut) (TakesPair F.FnMut) f.old
         (joined (rows slots.old.items)) }
     requires table { IsMarkedTable K.number_of slots.old.items bits.old }
     requires count { length (joined (rows slots.old.items)) < 2 ^ 64 }
-    ensures pairs { Retains (KeepsStored F.FnMut) f.old (joined (rows slots.old.items))
+    ensures pairs { Retains (KeepsAt F.FnMut) f.old (joined (rows slots.old.items))
         (joined (rows slots.new.items)) f.new }
     ensures table { IsMarkedTable K.number_of slots.new.items bits.new }
     ensures len { length slots.new.items ≡ length slots.old.items }
@@ -79,10 +78,10 @@ impl<K: IntKey, V: Drop, A: Allocator> Table<K, Kept<V>, A> {
     /// number. The closure is called once at each pair, in the order of the walk.
     pub fn retain<F: FnMut(K, &V) -> bool>(&mut self, f: &mut F) -> usize
         requires callable { TakesEach (KeepsAt F.FnMut) (TakesPair F.FnMut) f.old
-            (unkept self.old.walk) }
+            self.old.walk }
         requires count { length self.old.walk < 2 ^ 64 }
-        ensures pairs { Retains (KeepsAt F.FnMut) f.old (unkept self.old.walk)
-            (unkept self.new.walk) f.new }
+        ensures pairs { Retains (KeepsAt F.FnMut) f.old self.old.walk
+            self.new.walk f.new }
         ensures capacity { self.new.capacity ≡ self.old.capacity }
         ensures own { walk_of K.number_of self.new.walk self.new.capacity ≡ self.new.walk }
         ensures count { result ≡ length self.new.walk }
@@ -98,10 +97,10 @@ fn write_slots<K: IntKey, V, A: Allocator, F: FnMut(K, &mut V)>(
     slots: &mut Vec<Slot<K, Kept<V>, A>, A>,
     f: &mut F,
 )
-    requires callable { TakesEach (WritesStored F.FnMut) (TakesStoredMut F.FnMut) f.old
+    requires callable { TakesEach (WritesAt F.FnMut) (TakesPairMut F.FnMut) f.old
         (joined (rows slots.old.items)) }
     requires table { IsMarkedTable K.number_of slots.old.items bits.now }
-    ensures pairs { Writes (WritesStored F.FnMut) f.old (joined (rows slots.old.items))
+    ensures pairs { Writes (WritesAt F.FnMut) f.old (joined (rows slots.old.items))
         (joined (rows slots.new.items)) f.new }
     ensures table { IsMarkedTable K.number_of slots.new.items bits.now }
     ensures len { length slots.new.items ≡ length slots.old.items }
@@ -116,9 +115,9 @@ impl<K: IntKey, V, A: Allocator> Table<K, Kept<V>, A> {
     /// value.
     pub fn write_each<F: FnMut(K, &mut V)>(&mut self, f: &mut F)
         requires { TakesEach (WritesAt F.FnMut) (TakesPairMut F.FnMut) f.old
-            (unkept self.old.walk) }
-        ensures pairs { Writes (WritesAt F.FnMut) f.old (unkept self.old.walk)
-            (unkept self.new.walk) f.new }
+            self.old.walk }
+        ensures pairs { Writes (WritesAt F.FnMut) f.old self.old.walk
+            self.new.walk f.new }
         ensures capacity { self.new.capacity ≡ self.old.capacity }
         ensures own { walk_of K.number_of self.new.walk self.new.capacity ≡ self.new.walk }
     {

@@ -1,7 +1,6 @@
 //! Removal of the pairs that a closure picks, one pair at a step.
 ghost use Rattle.std.specs.Prelude.{◌≡◌, ◌+◌, ◌^◌, ◌<◌, ◌≤◌, [], length, drop, set, slice_index_or};
 ghost use Rattle.intmap_table.specs.Picking.{AsksAt, ExtractsBehind, IsReached, PicksAt};
-ghost use Rattle.intmap_table.specs.Tables.Kept.{unkept, AsksStored, PicksStored, TakesStoredMut};
 ghost use Rattle.intmap_table.specs.Tables.Slots.{rows, joined, Held, IsMarkedTable};
 ghost use Rattle.intmap_table.specs.Taking.{TakesEach};
 ghost use Rattle.intmap_table.specs.Walk.{walk_of};
@@ -50,13 +49,12 @@ fn extract_in<K: IntKey, V, A: Allocator, F: FnMut(K, &mut V) -> bool>(
     requires reached { IsReached K.number_of (joined (rows slots.old.items))
         (length slots.old.items) at.old.slot at.old.place at.old.passed }
     requires count { length (joined (rows slots.old.items)) < 2 ^ 64 }
-    requires callable { TakesEach (AsksStored F.FnMut) (TakesStoredMut F.FnMut) f.old
+    requires callable { TakesEach (AsksAt F.FnMut) (TakesPairMut F.FnMut) f.old
         (drop at.old.place (slice_index_or (rows slots.old.items) at.old.slot [])) }
     ensures slot { at.new.slot ≡ at.old.slot }
     ensures passed { at.new.passed + at.old.place ≡ at.old.passed + at.new.place }
-    ensures step { (slot : Held K (Kept V))
-        × (slots.new.items ≡ set slots.old.items at.old.slot slot)
-        × ExtractsBehind (PicksStored F.FnMut) f.old
+    ensures step { (slot : Held K V) × (slots.new.items ≡ set slots.old.items at.old.slot slot)
+        × ExtractsBehind (PicksAt F.FnMut) f.old
         (slice_index_or (rows slots.old.items) at.old.slot []) at.old.place result
         f.new slot.pairs at.new.place
         × (at.new.place ≤ length slot.pairs) }
@@ -84,9 +82,9 @@ fn extract_slots<K: IntKey, V, A: Allocator, F: FnMut(K, &mut V) -> bool>(
     requires reached { IsReached K.number_of (joined (rows slots.old.items))
         (length slots.old.items) at.old.slot at.old.place at.old.passed }
     requires count { length (joined (rows slots.old.items)) < 2 ^ 64 }
-    requires callable { TakesEach (AsksStored F.FnMut) (TakesStoredMut F.FnMut) f.old
+    requires callable { TakesEach (AsksAt F.FnMut) (TakesPairMut F.FnMut) f.old
         (drop at.old.passed (joined (rows slots.old.items))) }
-    ensures step { ExtractsBehind (PicksStored F.FnMut) f.old (joined (rows slots.old.items))
+    ensures step { ExtractsBehind (PicksAt F.FnMut) f.old (joined (rows slots.old.items))
         at.old.passed result f.new (joined (rows slots.new.items)) at.new.passed }
     ensures table { IsMarkedTable K.number_of slots.new.items bits.new }
     ensures reached { IsReached K.number_of (joined (rows slots.new.items))
@@ -117,9 +115,9 @@ impl<K: IntKey, V, A: Allocator> Table<K, Kept<V>, A> {
             at.old.slot at.old.place at.old.passed }
         requires count { length self.old.walk < 2 ^ 64 }
         requires callable { TakesEach (AsksAt F.FnMut) (TakesPairMut F.FnMut) f.old
-            (drop at.old.passed (unkept self.old.walk)) }
-        ensures step { ExtractsBehind (PicksAt F.FnMut) f.old (unkept self.old.walk)
-            at.old.passed result f.new (unkept self.new.walk) at.new.passed }
+            (drop at.old.passed self.old.walk) }
+        ensures step { ExtractsBehind (PicksAt F.FnMut) f.old self.old.walk
+            at.old.passed result f.new self.new.walk at.new.passed }
         ensures reached { IsReached K.number_of self.new.walk self.new.capacity
             at.new.slot at.new.place at.new.passed }
         ensures capacity { self.new.capacity ≡ self.old.capacity }
@@ -129,6 +127,6 @@ impl<K: IntKey, V, A: Allocator> Table<K, Kept<V>, A> {
         let Some((key, kept)) = extract_slots(bits, &mut self.slots, at, f) else {
             return None;
         };
-        Some((*key.key(), kept.value))
+        Some((*key.key(), kept.into_value()))
     }
 }

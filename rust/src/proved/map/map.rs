@@ -87,13 +87,12 @@ impl<K: IntKey, V, A: Allocator + Copy> IntMap<K, V, A> {
 
     /// The value of a located pair.
     pub(in crate::proved::map) fn value_at(&self, at: Location<K>) -> &V {
-        &self.table.value_at(at).value
+        self.table.value_at(at).get()
     }
 
     /// A mutable reference to the value of a located pair.
     pub(in crate::proved::map) fn value_mut_at(&mut self, at: Location<K>) -> &mut V {
-        let kept = self.table.value_mut_at(at);
-        &mut kept.value
+        self.table.value_mut_at(at).get_mut()
     }
 
     /// Removes a located pair. The last pair of its slot takes its place.
@@ -101,14 +100,14 @@ impl<K: IntKey, V, A: Allocator + Copy> IntMap<K, V, A> {
     pub(in crate::proved::map) fn take_at(&mut self, at: Location<K>) -> V {
         let kept = self.table.take_at(at);
         self.len -= 1;
-        kept.value
+        kept.into_value()
     }
 
     /// Removes a located pair and puts the pair of its key and this value at the end of the slot. The
     /// last pair of the slot takes the place of the removed one. It allocates nothing.
     #[inline(always)]
     pub(in crate::proved::map) fn replace_at(&mut self, at: Location<K>, value: V) -> V {
-        self.table.replace_at(at, Kept { value }).value
+        self.table.replace_at(at, Kept::new(value)).into_value()
     }
 }
 

@@ -37,7 +37,7 @@ impl<K: IntKey, V, A: Allocator + Copy> IntMap<K, V, A> {
         let Some((key, kept)) = self.table.step(at) else {
             return None;
         };
-        Some((key, &kept.value))
+        Some((key, kept.get()))
     }
 
     /// Removes the first pair of the walk from the cursor on and returns it, or returns `None` if no

@@ -33,7 +33,7 @@ impl<'a, K: IntKey, V, A: Allocator + Copy> Iterator for Iter<'a, K, V, A> {
 
     fn next(&mut self) -> Option<(&'a K, &'a V)> {
         let (key, kept) = self.pairs.next()?;
-        Some((key, &kept.value))
+        Some((key, kept.get()))
     }
 }
 

@@ -11,7 +11,7 @@ pub(in crate::proved::table) fn keeps_pair<K: IntKey, V, F: FnMut(K, &V) -> bool
     pair: &(Stored<K>, Kept<V>),
     f: &mut F,
 ) -> bool {
-    f(*pair.0.key(), &pair.1.value)
+    f(*pair.0.key(), pair.1.get())
 }
 
 /// Whether the closure picks a pair. It may write the value.
@@ -20,7 +20,7 @@ pub(in crate::proved::table) fn picks_pair<K: IntKey, V, F: FnMut(K, &mut V) -> 
     pair: &mut (Stored<K>, Kept<V>),
     f: &mut F,
 ) -> bool {
-    f(*pair.0.key(), &mut pair.1.value)
+    f(*pair.0.key(), pair.1.get_mut())
 }
 
 /// Calls the closure at a pair, with a mutable reference to its value.
@@ -29,5 +29,5 @@ pub(in crate::proved::table) fn write_pair<K: IntKey, V, F: FnMut(K, &mut V)>(
     pair: &mut (Stored<K>, Kept<V>),
     f: &mut F,
 ) {
-    f(*pair.0.key(), &mut pair.1.value);
+    f(*pair.0.key(), pair.1.get_mut());
 }

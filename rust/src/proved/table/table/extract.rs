@@ -79,6 +79,6 @@ impl<K: IntKey, V, A: Allocator> Table<K, Kept<V>, A> {
         let Some((key, kept)) = extract_slots(bits, &mut self.slots, at, f) else {
             return None;
         };
-        Some((*key.key(), kept.value))
+        Some((*key.key(), kept.into_value()))
     }
 }

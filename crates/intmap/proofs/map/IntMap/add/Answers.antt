@@ -4,10 +4,8 @@ use Rattle.std.specs.Prelude.{◌&&◌, ◌==◌, nat_lt}
 use Rattle.std.proofs.lemmas.Bool.{eq-eqb}
 use Rattle.intmap.specs.Growth.{IsNext, is_due}
 use Rattle.intmap.specs.Map.{InsertIsTooLarge}
-use Rattle.intmap_table.specs.Tables.Kept.{unkept}
 use Rattle.intmap.proofs.LoadFactorLemmas.{IsNext-same, GrowsTooMuch-none}
-use Rattle.intmap.proofs.MapLemmas.{MapState-same, unkept-put, length-unkept, IsConsistent-added}
-use Rattle.intmap_table.proofs.MappedLemmas.{value_of-missing_values, class_size-map_values}
+use Rattle.intmap.proofs.MapLemmas.{MapState-same, IsConsistent-added}
 use Rattle.intmap.proofs.map.IntMap.add.Goals as goal
 use Rattle.intmap.proofs.map.IntMap.add.Goals.{After-add}
 
@@ -18,38 +16,30 @@ module _ (g : _) (c : After-add g) where
   test : (is_due (c.self.inside.len + 1) && nat_lt c.self.inside.threshold (c.self.inside.len + 1)) ≡ false
   test = sym c.if-has_outgrown.ensures
 
-  seen : c.self.inside.len ≡ length (unkept c.self.inside.table.walk)
-  seen = c.self.invariant.count ∙ sym (length-unkept g.K.IntKey.number_of c.self.inside.table.walk)
+  seen : c.self.inside.len ≡ length c.self.inside.table.walk
+  seen = c.self.invariant.count
 
   -- the capacity stays
-  stays : IsNext c.self.inside.table.capacity (length (unkept c.self.inside.table.walk) + 1) c.self.inside.factor c.self.inside.table.capacity
+  stays : IsNext c.self.inside.table.capacity (length c.self.inside.table.walk + 1) c.self.inside.factor c.self.inside.table.capacity
   stays =
       subst (λ n. IsNext c.self.inside.table.capacity (n + 1) c.self.inside.factor c.self.inside.table.capacity) seen
       (IsNext-same c.self.inside.table.capacity c.self.inside.factor (c.self.inside.len + 1) c.self.inside.threshold c.self.invariant.map.capacity fits c.self.invariant.threshold test)
 
-  in_range : InsertIsTooLarge (unkept c.self.inside.table.walk) c.self.inside.table.capacity c.self.inside.factor → ⊥
+  in_range : InsertIsTooLarge c.self.inside.table.walk c.self.inside.table.capacity c.self.inside.factor → ⊥
   in_range large = elim large [
     | inl long ↦ (let few = fits in omega (arith, long, few, seen))
-    | inr much ↦ GrowsTooMuch-none c.self.inside.table.capacity (length (unkept c.self.inside.table.walk) + 1) c.self.inside.factor c.self.inside.table.capacity c.self.invariant.map.capacity stays much
+    | inr much ↦ GrowsTooMuch-none c.self.inside.table.capacity (length c.self.inside.table.walk + 1) c.self.inside.factor c.self.inside.table.capacity c.self.invariant.map.capacity stays much
   ]
-
-pub add-requires : goal.add-requires
-add-requires g c =
-    value_of-missing_values g.K.IntKey.number_of (λ kept. kept.value) c.self.inside.table.walk c.args.key (rw (← c.self.view_is) at c.requires.missing)
 
 pub returns-in-Err-clause-too_large : goal.returns-in-Err-clause-too_large
 returns-in-Err-clause-too_large g c =
     rw (← c.self.view_is) ((λ e. cc), (λ large. absurd (in_range g (goal.at.returns-in-Err-clause-too_large g c).After-add large)))
 
-pub returns-in-Err-clause-memory : goal.returns-in-Err-clause-memory
-returns-in-Err-clause-memory g c = λ _ _.
-    rw (← c.self.view_is) (rw (class_size-map_values g.K.IntKey.number_of (λ kept. kept.value) c.self.inside.table.walk c.self.inside.table.capacity c.args.key) c.in-Err.ensures.memory)
-
 pub invariant_of-self-2 : goal.invariant_of-self-2
 invariant_of-self-2 g c =
     let here = (goal.at.invariant_of-self-2 g c).After-add in
-    let missing = value_of-missing_values g.K.IntKey.number_of (λ kept. kept.value) c.self.inside.table.walk c.args.key (rw (← c.self.view_is) at c.requires.missing) in
-    IsConsistent-added _ _ _ _ _ _ _ _ c.self.invariant c.add.new.self.capacity c.args.key (record { value = c.args.value }) c.in_default.ensures.capacity c.requires.key missing (fits g here) (test g here) c.in_default.ensures.walk
+    let missing = (rw (← c.self.view_is) at c.requires.missing) in
+    IsConsistent-added _ _ _ _ _ _ _ _ c.self.invariant c.add.new.self.capacity c.args.key c.new.result c.in_default.ensures.capacity c.requires.key missing (fits g here) (test g here) c.in_default.ensures.walk
 
 pub returns-clause-capacity : goal.returns-clause-capacity
 returns-clause-capacity g c =
@@ -59,8 +49,8 @@ pub returns-clause-state : goal.returns-clause-state
 returns-clause-state g c =
     let same : (c.self.inside.table.capacity == c.self.inside.table.capacity) ≡ true = eq-eqb c.self.inside.table.capacity c.self.inside.table.capacity refl in
     rw (c.in_default.ensures.capacity, ← c.self.view_is) (MapState-same _ _ _ _ _ _ _ _ _
-    (unkept-put g.K.IntKey.number_of c.self.inside.table.walk c.add.new.self.walk c.self.inside.table.capacity c.self.inside.table.capacity c.args.key (record { value = c.args.value }) c.in_default.ensures.walk)
-    refl (sym (ap (λ b. c.self.inside.placed + cond b 0 (length (unkept c.self.inside.table.walk) + 1)) same ∙ add-zero c.self.inside.placed)) refl)
+    (rw c.new.ensures at c.in_default.ensures.walk)
+    refl (sym (ap (λ b. c.self.inside.placed + cond b 0 (length c.self.inside.table.walk + 1)) same ∙ add-zero c.self.inside.placed)) refl)
 
 pub returns-clause-in_range : goal.returns-clause-in_range
 returns-clause-in_range g c = rw (← c.self.view_is) (in_range g (goal.at.returns-clause-in_range g c).After-add)

@@ -4,22 +4,20 @@ use Rattle.std.proofs.lemmas.Bool.{ne_eqb}
 use Rattle.intmap_table.specs.Bindings.{value_of}
 use Rattle.intmap.specs.Growth.{IsWanted, IsNext, WantsTooMuch, MeetsLoad, is_due}
 use Rattle.intmap.specs.Map.{InsertIsTooLarge}
-use Rattle.intmap_table.specs.Tables.Kept.{unkept}
 use Rattle.intmap.specs.Consistency.{IsConsistent}
 use Rattle.intmap.proofs.LoadFactorLemmas.{IsNext-changes, IsNext-wanted, GrowsTooMuch-none, GrowsTooMuch-wants}
-use Rattle.intmap.proofs.MapLemmas.{MapState-same, unkept-put, length-unkept, IsConsistent-grown_with}
-use Rattle.intmap_table.proofs.MappedLemmas.{value_of-missing_values}
+use Rattle.intmap.proofs.MapLemmas.{MapState-same, IsConsistent-grown_with}
 use Rattle.intmap.proofs.map.IntMap.add_growing.Goals as goal
 use Rattle.intmap.proofs.map.IntMap.add_growing.Goals.{After-capacity, After-grow_with}
 
-seen : (g : _) (c : After-capacity g) → c.args.len ≡ length (unkept c.self.inside.table.walk) + 1
+seen : (g : _) (c : After-capacity g) → c.args.len ≡ length c.self.inside.table.walk + 1
 seen g c = rw (← c.self.view_is) at c.requires.count
 
 long : (g : _) (c : After-capacity g) → c.args.len ≡ length c.self.inside.table.walk + 1
-long g c = seen g c ∙ ap (λ n. n + 1) (length-unkept g.K.IntKey.number_of c.self.inside.table.walk)
+long g c = seen g c
 
 missing : (g : _) (c : After-capacity g) → value_of g.K.IntKey.number_of c.self.inside.table.walk c.args.key ≡ None
-missing g c = value_of-missing_values g.K.IntKey.number_of (λ kept. kept.value) c.self.inside.table.walk c.args.key (rw (← c.self.view_is) at c.requires.missing)
+missing g c = (rw (← c.self.view_is) at c.requires.missing)
 
 pub grow_with-requires-clause-missing : goal.grow_with-requires-clause-missing
 grow_with-requires-clause-missing g c = missing g (goal.at.grow_with-requires-clause-missing g c).After-capacity
@@ -37,40 +35,40 @@ invariant_of-self-2 g c =
     let Counted : ℕ → Type 0 = λ n. IsConsistent g.K.IntKey.number_of g.K.IntKey.is_valid c.grow_with.new.self.walk c.grow_with.new.self.capacity c.self.inside.factor n c.threshold_of-threshold.result in
     let meets : MeetsLoad c.in-Some.capacity (c.self.inside.len + 1) c.self.inside.factor = subst (λ n. MeetsLoad c.in-Some.capacity n c.self.inside.factor) e c.in-Some.ensures.wanted.meets in
     subst Counted (sym e)
-    (IsConsistent-grown_with _ _ _ _ _ _ _ _ c.self.invariant c.in-Some.capacity c.grow_with.new.self.capacity c.threshold_of-threshold.result c.args.key (record { value = c.args.value })
+    (IsConsistent-grown_with _ _ _ _ _ _ _ _ c.self.invariant c.in-Some.capacity c.grow_with.new.self.capacity c.threshold_of-threshold.result c.args.key c.new.result
     c.in_default-grow_with.ensures.capacity c.in-Some.ensures.capacity c.requires.key (missing g here) (omega (arith, e, fits)) meets c.threshold_of-threshold.ensures c.in_default-grow_with.ensures.walk)
 
 pub returns-clause-state : goal.returns-clause-state
 returns-clause-state g c =
     let here = (goal.at.returns-clause-state g c).After-capacity in
     let C = c.self.inside.table.capacity in
-    let n : ℕ = length (unkept c.self.inside.table.walk) + 1 in
+    let n : ℕ = length c.self.inside.table.walk + 1 in
     let e : c.args.len ≡ n = seen g here in
     let over : c.self.inside.factor < n * 1000 / c.self.inside.table.capacity = rw (← c.self.view_is) at (subst (λ m. c.args.self.now.factor < m * 1000 / c.args.self.now.capacity) e c.requires.exceeds) in
     let apart : c.in-Some.capacity ≢ c.self.inside.table.capacity =
     IsNext-changes c.self.inside.table.capacity n c.self.inside.factor c.in-Some.capacity over (subst (λ m. MeetsLoad c.in-Some.capacity m c.self.inside.factor) e c.in-Some.ensures.wanted.meets) in
     let other : (c.in-Some.capacity == c.self.inside.table.capacity) ≡ false = ne_eqb c.in-Some.capacity c.self.inside.table.capacity apart in
     rw (c.in_default-grow_with.ensures.capacity, ← c.self.view_is) (MapState-same _ _ _ _ _ _ _ _ _
-    (unkept-put g.K.IntKey.number_of c.self.inside.table.walk c.grow_with.new.self.walk c.self.inside.table.capacity c.in-Some.capacity c.args.key (record { value = c.args.value }) c.in_default-grow_with.ensures.walk)
+    (rw c.new.ensures at c.in_default-grow_with.ensures.walk)
     refl
-    (c.in_default-grow_with.ensures.placed ∙ ap (λ m. c.self.inside.placed + m) (ap (λ m. m + 1) (sym (length-unkept g.K.IntKey.number_of c.self.inside.table.walk)) ∙ ap (λ b. cond b 0 n) (sym other)))
+    (c.in_default-grow_with.ensures.placed ∙ ap (λ m. c.self.inside.placed + m) (ap (λ b. cond b 0 n) (sym other)))
     refl)
 
 module _ (g : _) (c : After-grow_with g) where
-  here : c.args.len ≡ length (unkept c.self.inside.table.walk) + 1
+  here : c.args.len ≡ length c.self.inside.table.walk + 1
   here = rw (← c.self.view_is) at c.requires.count
 
   -- the capacity that is wanted is the next
-  next : IsNext c.self.inside.table.capacity (length (unkept c.self.inside.table.walk) + 1) c.self.inside.factor c.in-Some.capacity
+  next : IsNext c.self.inside.table.capacity (length c.self.inside.table.walk + 1) c.self.inside.factor c.in-Some.capacity
   next =
-      IsNext-wanted c.self.inside.table.capacity c.self.inside.factor (length (unkept c.self.inside.table.walk) + 1) c.in-Some.capacity
+      IsNext-wanted c.self.inside.table.capacity c.self.inside.factor (length c.self.inside.table.walk + 1) c.in-Some.capacity
       (subst (λ n. is_due n ≡ true) here c.requires.due)
       (subst (λ n. IsWanted c.self.inside.table.capacity n c.self.inside.factor c.in-Some.capacity) here (rw c.capacity.ensures.value at c.in-Some.ensures.wanted))
 
-  in_range : InsertIsTooLarge (unkept c.self.inside.table.walk) c.self.inside.table.capacity c.self.inside.factor → ⊥
+  in_range : InsertIsTooLarge c.self.inside.table.walk c.self.inside.table.capacity c.self.inside.factor → ⊥
   in_range large = elim large [
     | inl long ↦ (let fits = c.ranges.len.fits in let e = here in omega (arith, long, fits, e))
-    | inr much ↦ GrowsTooMuch-none c.self.inside.table.capacity (length (unkept c.self.inside.table.walk) + 1) c.self.inside.factor c.in-Some.capacity c.in-Some.ensures.capacity next much
+    | inr much ↦ GrowsTooMuch-none c.self.inside.table.capacity (length c.self.inside.table.walk + 1) c.self.inside.factor c.in-Some.capacity c.in-Some.ensures.capacity next much
   ]
 
 pub returns-in_default-clause-too_large : goal.returns-in_default-clause-too_large
@@ -78,7 +76,7 @@ returns-in_default-clause-too_large g c =
     let e = seen g (goal.at.returns-in_default-clause-too_large g c).After-capacity in
     let due = subst (λ n. is_due n ≡ true) e c.requires.due in
     let much = subst (λ n. WantsTooMuch c.self.inside.table.capacity n c.self.inside.factor) e (rw c.capacity.ensures.value at c.in_default.ensures.none) in
-    rw (← c.self.view_is) ((λ _. inr (GrowsTooMuch-wants c.self.inside.table.capacity (length (unkept c.self.inside.table.walk) + 1) c.self.inside.factor due much)), (λ _. refl))
+    rw (← c.self.view_is) ((λ _. inr (GrowsTooMuch-wants c.self.inside.table.capacity (length c.self.inside.table.walk + 1) c.self.inside.factor due much)), (λ _. refl))
 
 pub returns-in-Err-clause-too_large : goal.returns-in-Err-clause-too_large
 returns-in-Err-clause-too_large g c =
@@ -106,9 +104,6 @@ returns-in_default-clause-err g c = refl
 
 pub returns-in_default-clause-valid_after : goal.returns-in_default-clause-valid_after
 returns-in_default-clause-valid_after g c = rw (← c.self.view_is) c.self.invariant.map
-
-pub returns-in-Err-clause-value_returned : goal.returns-in-Err-clause-value_returned
-returns-in-Err-clause-value_returned g c = ap (λ kept. kept.value) c.in-Err.ensures.value_returned
 
 pub returns-in-Err-clause-valid_after : goal.returns-in-Err-clause-valid_after
 returns-in-Err-clause-valid_after g c = (invariant_of-self g c).map

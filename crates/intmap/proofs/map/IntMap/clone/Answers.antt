@@ -1,18 +1,16 @@
 use Rattle.std.proofs.Common.{refl, sym, subst}
-use Rattle.intmap_table.specs.Tables.Kept.{unkept}
 use Rattle.intmap.specs.Map.{MapState}
-use Rattle.intmap_table.proofs.Tables.CloneLemmas.{AreClones, AreClones-unkept, keys_of-AreClones, BindsClones-AreClones}
+use Rattle.intmap_table.proofs.Tables.CloneLemmas.{AreClones, keys_of-AreClones, BindsClones-AreClones}
 use Rattle.intmap_table.proofs.Tables.SameKeysLemmas.{length-same_keys}
 use Rattle.intmap.proofs.SameKeysLemmas.{IsConsistent-same_keys}
 use Rattle.intmap.proofs.map.IntMap.clone.Goals as goal
 use Rattle.intmap.proofs.map.IntMap.clone.Goals.{After-new-2}
 
--- the walk of the clone, as callers see it
-walk : (g : _) (c : After-new-2 g) → AreClones g.V.Clone.is_clone c.args.self.now.walk (unkept c.in-Ok.table.walk)
+-- the walk of the clone
+walk : (g : _) (c : After-new-2 g) → AreClones g.V.Clone.is_clone c.args.self.now.walk c.in-Ok.table.walk
 walk g c =
     let clones = g.V.Clone.is_clone in
-    subst (λ (m : MapState _ _). AreClones clones m.walk (unkept c.in-Ok.table.walk)) c.self.view_is
-    (AreClones-unkept clones c.self.inside.table.walk c.in-Ok.table.walk c.in-Ok.ensures.walk)
+    subst (λ (m : MapState _ _). AreClones clones m.walk c.in-Ok.table.walk) c.self.view_is c.in-Ok.ensures.walk
 
 pub invariant_of-result : goal.invariant_of-result
 invariant_of-result g c =
@@ -24,13 +22,13 @@ pub returns-clause-clone : goal.returns-clause-clone
 returns-clause-clone g c = record { walk = walk g c; state = rw (← c.self.view_is, c.in-Ok.ensures.capacity, c.new.ensures, c.new-2.ensures) refl }
 
 pub returns-clause-keys : goal.returns-clause-keys
-returns-clause-keys g c = sym (keys_of-AreClones g.V.Clone.is_clone c.args.self.now.walk (unkept c.in-Ok.table.walk) (walk g c))
+returns-clause-keys g c = sym (keys_of-AreClones g.V.Clone.is_clone c.args.self.now.walk c.in-Ok.table.walk (walk g c))
 
 pub returns-clause-values : goal.returns-clause-values
-returns-clause-values g c = BindsClones-AreClones g.V.Clone.is_clone g.K.IntKey.number_of c.args.self.now.walk (unkept c.in-Ok.table.walk) (walk g c)
+returns-clause-values g c = BindsClones-AreClones g.V.Clone.is_clone g.K.IntKey.number_of c.args.self.now.walk c.in-Ok.table.walk (walk g c)
 
 pub returns-clause-len : goal.returns-clause-len
-returns-clause-len g c = length-same_keys (unkept c.in-Ok.table.walk) c.args.self.now.walk (returns-clause-keys g c)
+returns-clause-len g c = length-same_keys c.in-Ok.table.walk c.args.self.now.walk (returns-clause-keys g c)
 
 pub returns-clause-valid_after : goal.returns-clause-valid_after
 returns-clause-valid_after g c = (invariant_of-result g c).map

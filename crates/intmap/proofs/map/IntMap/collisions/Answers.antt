@@ -1,25 +1,16 @@
-use Rattle.std.proofs.Common.{◌≡◌, ◌^◌, ◌<◌, ◌≤◌, ℕ, List, length, refl, sym, ap, ◌∙◌, subst, arith}
+use Rattle.std.proofs.Common.{◌≡◌, ◌^◌, ◌<◌, ◌≤◌, ℕ, length, refl, ap, ◌∙◌, subst, arith}
 use Rattle.std.specs.Prelude.{Result, Ok, Err, IsErrAnd, IfErr}
 use Rattle.std.proofs.lemmas.Bool.{lt-ltb, le-ltb}
 use Rattle.intmap_table.specs.Bindings.{value_of}
 use Rattle.intmap.specs.Extending.{IsMadeOf}
 use Rattle.intmap_table.specs.Figures.{tally_of}
-use Rattle.intmap_table.specs.Tables.Kept.{unkept}
 use Rattle.intmap_table.specs.Walk.{slot_of, walk_of}
-use Rattle.intmap_table.specs.declared.kept.Kept.{Kept}
 use Rattle.intmap.specs.declared.refusal.Cause.{Cause}
 use Rattle.intmap.specs.declared.refusal.Cause.TheVariants.{Memory, TooLarge}
 use Rattle.intmap.proofs.CollisionLemmas.{collision_sizes_below, collision_sizes_below-crowded, collision_sizes_below-alone, count-below, size-in_range}
 use Rattle.intmap_table.proofs.SlotNumberLemmas.{capacity-greatest}
-use Rattle.intmap.proofs.MapLemmas.{length-unkept}
-use Rattle.intmap_table.proofs.MappedLemmas.{slot_of-map_values, length-map_values}
 use Rattle.intmap.proofs.map.IntMap.collisions.Goals as goal
 use Rattle.intmap.proofs.map.IntMap.collisions.Goals.{After-loop-slot, After-slot_len-size, then-size-gt1+in_ok-count_once_more, else-size-gt1}
-
--- a slot has the same number of pairs, whatever their values are
-slot-len : {K V : Type 0} (number : K → ℕ) (T : List (K × Kept V)) (C i : ℕ) → length (slot_of number T C i) ≡ length (slot_of number (unkept T) C i)
-slot-len number T C i =
-    sym (ap length (slot_of-map_values number (λ (kept : Kept _). kept.value) T C i) ∙ length-map_values number (λ (kept : Kept _). kept.value) (slot_of number T C i))
 
 -- a cause that isn't this one is the other
 memory-otherwise : (cause : Cause) → (cause ≡ TooLarge → ⊥) → cause ≡ Memory
@@ -33,7 +24,7 @@ refused-with (Err to) cause same memory = same ∙ memory
 module _ (g : _) (c : After-slot_len-size g) where
   -- the size of the slot, as the map shows it
   size : c.slot_len-size.result ≡ length (slot_of g.K.IntKey.number_of c.args.self.now.walk c.args.self.now.capacity c.loop-slot.slot)
-  size = c.slot_len-size.ensures ∙ rw (← c.self.view_is) (slot-len g.K.IntKey.number_of c.self.inside.table.walk c.self.inside.table.capacity c.loop-slot.slot)
+  size = rw (← c.self.view_is) c.slot_len-size.ensures
 
   -- the slot is one of the map
   within : c.loop-slot.slot < c.args.self.now.capacity
@@ -49,8 +40,8 @@ module _ (g : _) (c : After-slot_len-size g) where
 pub slot_len-size-requires : goal.slot_len-size-requires
 slot_len-size-requires g c =
     let end = c.capacity-slot-end.ensures.value in let test = c.loop-slot-test.true in
-    let few = c.self.invariant.map.count in let long = length-unkept g.K.IntKey.number_of c.self.inside.table.walk in
-    record { within = omega (arith, test, end); fits = omega (arith, few, long) }
+    let few = c.self.invariant.map.count in
+    record { within = omega (arith, test, end); fits = omega (arith, few) }
 
 pub returns-in_err-sizes-clause-memory : goal.returns-in_err-sizes-clause-memory
 returns-in_err-sizes-clause-memory g c = refused-with c.from_residual.result c.in_err-sizes.field-0.0 c.from_residual.ensures.1 c.in_err-sizes.ensures.memory

@@ -1,8 +1,7 @@
 use Rattle.std.proofs.Common.{◌∙◌, sym, subst}
-use Rattle.intmap_table.specs.Tables.Kept.{unkept}
 use Rattle.intmap.specs.Map.{MapState}
 use Rattle.intmap_table.specs.Taking.{TakesEach}
-use Rattle.intmap_table.specs.Writes.{Writes, WritesAt, TakesPairMut}
+use Rattle.intmap_table.specs.Writes.{WritesAt, TakesPairMut}
 use Rattle.intmap_table.proofs.WritesLemmas.{keys_of-Writes, is_some-Writes, length-Writes}
 use Rattle.intmap.proofs.WritesLemmas.{IsConsistent-Writes}
 use Rattle.intmap.proofs.map.IntMap.for_each_mut.Goals as goal
@@ -12,10 +11,6 @@ invariant_of-self g c =
     let left = c.write_each.ensures in
     IsConsistent-Writes g.K.IntKey.number_of g.K.IntKey.is_valid (WritesAt g.F.FnMut) c.args.f c.write_each.new.f c.self.inside.table.walk c.write_each.new.self.walk _ _ _ _ _
     left.pairs left.capacity left.own c.self.invariant
-
-pub returns-clause-values : goal.returns-clause-values
-returns-clause-values g c =
-    (c.write_each.new.f, subst (λ (m : MapState _ _). Writes (WritesAt g.F.FnMut) c.args.f m.walk (unkept c.write_each.new.self.walk) c.write_each.new.f) c.self.view_is c.write_each.ensures.pairs)
 
 pub returns-clause-keys : goal.returns-clause-keys
 returns-clause-keys g c = rw (← c.self.view_is) (keys_of-Writes (WritesAt g.F.FnMut) _ _ _ _ c.write_each.ensures.pairs)

@@ -9,13 +9,13 @@ use Rattle.intmap.proofs.GrowthLemmas.{IsLeastPower-up, IsLeastPower-fits, IsCap
 use Rattle.intmap.proofs.LoadFactorLemmas.{IsLoaded, IsLoaded-larger}
 use Rattle.intmap_table.proofs.SlotNumberLemmas.{capacity-positive}
 use Rattle.intmap.proofs.AfterLemmas.{value_of-in_slots, length-in_slots}
-use Rattle.intmap.proofs.MapLemmas.{MapState-same, unkept-grown, length-unkept, IsConsistent-grown, OnOk-at, IsOk-at_err}
+use Rattle.intmap.proofs.MapLemmas.{MapState-same, IsConsistent-grown, OnOk-at, IsOk-at_err}
 use Rattle.intmap.proofs.map.IntMap.reserve.Goals as goal
 use Rattle.intmap.proofs.map.IntMap.reserve.Goals.{After-max-capacity}
 
 module _ (g : _) (c : After-max-capacity g) where
   seen : c.self.inside.len ≡ length c.args.self.now.walk
-  seen = c.self.invariant.count ∙ sym (length-unkept g.K.IntKey.number_of c.self.inside.table.walk) ∙ ap (λ (m : MapState g.row.K.Denot g.row.V.Denot). length m.walk) c.self.view_is
+  seen = c.self.invariant.count ∙ ap (λ (m : MapState g.row.K.Denot g.row.V.Denot). length m.walk) c.self.view_is
 
   least : IsLeastPower (length c.args.self.now.walk + c.args.additional) c.next_power_of_two-slots.result
   least =
@@ -63,7 +63,7 @@ invariant_of-self-2 g c =
     let capacity = OnOk-at c.grow_to.result _ accepted c.grow_to.ensures.capacity in
     let C = c.self.inside.table.capacity in
     let loaded : IsLoaded c.self.inside.table.capacity c.self.inside.len c.self.inside.factor =
-    subst (λ n. IsLoaded c.self.inside.table.capacity n c.self.inside.factor) (length-unkept g.K.IntKey.number_of c.self.inside.table.walk ∙ sym c.self.invariant.count) c.self.invariant.map.load in
+    subst (λ n. IsLoaded c.self.inside.table.capacity n c.self.inside.factor) (sym c.self.invariant.count) c.self.invariant.map.load in
     IsConsistent-grown _ _ _ _ _ _ _ _ c.self.invariant c.max-capacity.result c.grow_to.new.self.capacity c.self.inside.factor _ capacity (cap g at) c.self.invariant.map.factor
     (IsLoaded-larger c.self.inside.table.capacity c.max-capacity.result c.self.inside.len c.self.inside.factor (capacity-positive c.self.inside.table.capacity c.self.invariant.map.capacity) (omega (arith, most g at)) loaded)
     c.threshold_of-self-inside.ensures walk
@@ -81,7 +81,7 @@ returns-clause-state g c =
     let accepted = sym c.is_err.ensures.value ∙ c.if-is_err.false in
     let walk = OnOk-at c.grow_to.result _ accepted c.grow_to.ensures.walk in
     let capacity = OnOk-at c.grow_to.result _ accepted c.grow_to.ensures.capacity in
-    rw (capacity, ← c.self.view_is) (MapState-same _ _ _ _ _ _ _ _ _ (unkept-grown g.K.IntKey.number_of c.self.inside.table.walk c.grow_to.new.self.walk c.max-capacity.result walk) refl refl refl)
+    rw (capacity, ← c.self.view_is) (MapState-same _ _ _ _ _ _ _ _ _ walk refl refl refl)
 
 pub returns-clause-valid_after : goal.returns-clause-valid_after
 returns-clause-valid_after g c = (invariant_of-self-2 g c).map

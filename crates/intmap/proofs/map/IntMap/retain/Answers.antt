@@ -1,8 +1,5 @@
-use Rattle.std.proofs.Common.{length, refl, sym, subst}
-use Rattle.intmap_table.specs.Tables.Kept.{unkept}
-use Rattle.intmap.specs.Map.{MapState}
-use Rattle.intmap_table.specs.Retaining.{KeepsAt, Retains, TakesPair}
-use Rattle.intmap_table.specs.Taking.{TakesEach}
+use Rattle.std.proofs.Common.{length, refl}
+use Rattle.intmap_table.specs.Retaining.{KeepsAt}
 use Rattle.intmap_table.proofs.RetainLemmas.{length-Retains}
 use Rattle.intmap.proofs.RetainLemmas.{value_of-Retains, IsConsistent-Retains}
 use Rattle.intmap.proofs.map.IntMap.retain.Goals as goal
@@ -12,10 +9,6 @@ invariant_of-self g c =
     let kept = c.retain-self-inside.ensures in
     IsConsistent-Retains g.K.IntKey.number_of g.K.IntKey.is_valid (KeepsAt g.F.FnMut) c.args.f c.retain-self-inside.new.f c.self.inside.table.walk c.retain-self-inside.new.self.walk _ _ _ _ _ _
     kept.pairs kept.capacity kept.own kept.count c.self.invariant
-
-pub returns-clause-pairs : goal.returns-clause-pairs
-returns-clause-pairs g c =
-    (c.retain-self-inside.new.f, subst (λ (m : MapState _ _). Retains (KeepsAt g.F.FnMut) c.args.f m.walk (unkept c.retain-self-inside.new.self.walk) c.retain-self-inside.new.f) c.self.view_is c.retain-self-inside.ensures.pairs)
 
 pub returns-clause-updates : goal.returns-clause-updates
 returns-clause-updates g c q =
@@ -29,7 +22,3 @@ returns-clause-valid_after g c =
     let kept = c.retain-self-inside.ensures in
     (IsConsistent-Retains g.K.IntKey.number_of g.K.IntKey.is_valid (KeepsAt g.F.FnMut) c.args.f c.retain-self-inside.new.f c.self.inside.table.walk c.retain-self-inside.new.self.walk _ _ _ _ (length c.retain-self-inside.new.self.walk) _
     kept.pairs kept.capacity kept.own refl c.self.invariant).map
-
-pub retain-self-inside-requires-clause-callable : goal.retain-self-inside-requires-clause-callable
-retain-self-inside-requires-clause-callable g c =
-    subst (λ (m : MapState _ _). TakesEach (KeepsAt g.F.FnMut) (TakesPair g.F.FnMut) c.args.f m.walk) (sym c.self.view_is) c.requires

@@ -6,13 +6,13 @@ use Rattle.intmap.proofs.GrowthLemmas.{IsWanted-unique}
 use Rattle.intmap.proofs.LoadFactorLemmas.{not_too_much, IsLoaded-from}
 use Rattle.intmap_table.proofs.SlotNumberLemmas.{capacity-greatest, capacity-positive}
 use Rattle.intmap.proofs.AfterLemmas.{value_of-in_slots, length-in_slots}
-use Rattle.intmap.proofs.MapLemmas.{MapState-same, unkept-grown, length-unkept, IsConsistent-grown, OnOk-at, IsOk-at_err}
+use Rattle.intmap.proofs.MapLemmas.{MapState-same, IsConsistent-grown, OnOk-at, IsOk-at_err}
 use Rattle.intmap.proofs.map.IntMap.set_load_factor.Goals as goal
 use Rattle.intmap.proofs.map.IntMap.set_load_factor.Goals.{After-is_err}
 
 module _ (g : _) (c : After-is_err g) where
   seen : c.self.inside.len ≡ length c.args.self.now.walk
-  seen = c.self.invariant.count ∙ sym (length-unkept g.K.IntKey.number_of c.self.inside.table.walk) ∙ ap (λ (m : MapState g.row.K.Denot g.row.V.Denot). length m.walk) c.self.view_is
+  seen = c.self.invariant.count ∙ ap (λ (m : MapState g.row.K.Denot g.row.V.Denot). length m.walk) c.self.view_is
 
   wanted : IsWanted c.args.self.now.capacity (length c.args.self.now.walk) c.args.thousandths c.in-Some.capacity
   wanted =
@@ -40,7 +40,7 @@ returns-clause-state g c =
     let accepted = sym c.is_err.ensures.value ∙ c.if-is_err.false in
     let walk = OnOk-at c.grow_to.result _ accepted c.grow_to.ensures.walk in
     let capacity = OnOk-at c.grow_to.result _ accepted c.grow_to.ensures.capacity in
-    rw (capacity, ← c.self.view_is) (MapState-same _ _ _ _ _ _ _ _ _ (unkept-grown g.K.IntKey.number_of c.self.inside.table.walk c.grow_to.new.self.walk c.in-Some.capacity walk) refl refl refl)
+    rw (capacity, ← c.self.view_is) (MapState-same _ _ _ _ _ _ _ _ _ walk refl refl refl)
 
 pub returns-clause-too_large : goal.returns-clause-too_large
 returns-clause-too_large g c =
@@ -59,7 +59,7 @@ returns-clause-len g c =
 
 pub returns-in_default-clause-too_large : goal.returns-in_default-clause-too_large
 returns-in_default-clause-too_large g c =
-    let seen = c.self.invariant.count ∙ sym (length-unkept g.K.IntKey.number_of c.self.inside.table.walk) in
+    let seen = c.self.invariant.count in
     let much = subst (λ n. WantsTooMuch c.self.inside.table.capacity n c.args.thousandths) seen (rw c.capacity.ensures.value at c.in_default.ensures.none) in
     rw (← c.self.view_is) ((λ _. much), (λ _. refl))
 

@@ -1,13 +1,8 @@
-use Rattle.std.proofs.Common.{rules, [], None, ap, refl, subst}
+use Rattle.std.proofs.Common.{rules, [], None, refl, subst}
 use Rattle.intmap_table.specs.Bindings.{Updates}
-use Rattle.intmap_table.specs.Tables.Kept.{unkept}
-use Rattle.intmap.proofs.DrainLemmas.{ArePassed-kept, ArePassed-unkept, IsConsistent-rest}
+use Rattle.intmap.proofs.DrainLemmas.{IsConsistent-rest}
 use Rattle.intmap.proofs.CursorLemmas.{Updates-cut}
 use Rattle.intmap.proofs.map.IntMap.take_front.Goals as goal
-
-pub take_front-requires : goal.take_front-requires
-take_front-requires g c =
-    ArePassed-kept g.K.IntKey.number_of c.self.inside.table.walk c.self.inside.table.capacity c.args.from.now (rw (← c.self.view_is) at c.requires)
 
 pub invariant_of-self-2 : goal.invariant_of-self-2
 invariant_of-self-2 g c =
@@ -15,15 +10,11 @@ invariant_of-self-2 g c =
     IsConsistent-rest g.K.IntKey.number_of g.K.IntKey.is_valid _ c.self.inside.table.walk c.take_front.new.self.walk _ _ _ _ _
     taken.first taken.capacity taken.own c.self.invariant
 
-pub returns-clause-passed : goal.returns-clause-passed
-returns-clause-passed g c =
-    ArePassed-unkept g.K.IntKey.number_of c.take_front.new.self.walk c.take_front.new.self.capacity c.take_front.new.from c.in-Some.ensures.passed
-
 pub returns-clause-valid_after : goal.returns-clause-valid_after
 returns-clause-valid_after g c = (invariant_of-self-2 g c).map
 
 pub returns-clause-updates : goal.returns-clause-updates
 returns-clause-updates g c =
-    let L = unkept c.self.inside.table.walk in let M = unkept c.take_front.new.self.walk in
-    let told = Updates-cut g.K.IntKey.number_of L M [] M _ (ap unkept c.in-Some.ensures'.first) refl c.self.invariant.map.distinct in
+    let L = c.self.inside.table.walk in let M = c.take_front.new.self.walk in
+    let told = Updates-cut g.K.IntKey.number_of L M [] M _ c.in-Some.ensures'.first refl c.self.invariant.map.distinct in
     rw (← c.self.view_is) (subst (λ k. Updates g.K.IntKey.number_of L M k None) (search rules) told)

@@ -1,7 +1,6 @@
 use Rattle.std.proofs.Common.{◌≡◌, ℕ, ◌+◌, ◌<◌, ◌≤◌, List, ◌∙◌, refl, sym, ap, subst, arith, length, take, drop, get_or}
 use Rattle.std.proofs.lemmas.List.{drop_all}
-use Rattle.intmap_table.specs.Tables.Kept.{KeepsStored, TakesStored}
-use Rattle.intmap_table.specs.Retaining.{Retains}
+use Rattle.intmap_table.specs.Retaining.{KeepsAt, Retains, TakesPair}
 use Rattle.intmap_table.specs.Taking.{TakesEach}
 use Rattle.intmap_table.proofs.LeadsLemmas.{Leads, Leads-end}
 use Rattle.intmap_table.proofs.RetainLemmas.{Leads-stays, Leads-goes, drop-swap}
@@ -12,7 +11,7 @@ use Rattle.intmap_table.proofs.slot.retain.gather.Goals.{then-keeps_pair, else-k
 pub keeps_pair-requires : goal.keeps_pair-requires
 keeps_pair-requires g c =
     let long = c.loop-i.auto.pairs in let within = c.loop-i-test.true in
-    TakesEach-at (KeepsStored g.F.FnMut) (TakesStored g.F.FnMut) c.loop-i.f c.loop-i.pairs c.loop-i.i c.index-pairs-i.result (omega (arith, long, within)) c.loop-i.invariant.callable
+    TakesEach-at (KeepsAt g.F.FnMut) (TakesPair g.F.FnMut) c.loop-i.f c.loop-i.pairs c.loop-i.i c.index-pairs-i.result (omega (arith, long, within)) c.loop-i.invariant.callable
 
 -- what holds of a list cut at two places holds of the same list and places under other names
 cut : {X : Type 0} (P : List X → List X → Type 0) (n k i : ℕ) (ys xs : List X) → n ≡ k → ys ≡ xs → P (take k xs) (drop i xs) → P (take n ys) (drop i ys)
@@ -27,11 +26,11 @@ kept-same n k i before is = omega arith
 
 pub loop-i-preserved : goal.loop-i-preserved
 loop-i-preserved g c =
-    let loop = c.loop-i.invariant in let R = KeepsStored g.F.FnMut in let g' = c.keeps_pair.new.f in
+    let loop = c.loop-i.invariant in let R = KeepsAt g.F.FnMut in let g' = c.keeps_pair.new.f in
     let pairs = c.loop-i.pairs in let i = c.loop-i.i in let pair = c.index-pairs-i.result in
     let long = c.loop-i.auto.pairs in let within = c.loop-i-test.true in let below : i < length pairs = omega (arith, long, within) in
-    let T = TakesEach R (TakesStored g.F.FnMut) g' in
-    let rest : T (drop (i + 1) pairs) = TakesEach-past R (TakesStored g.F.FnMut) c.loop-i.f pairs i pair below loop.callable g' c.keeps_pair.result c.keeps_pair.ensures in
+    let T = TakesEach R (TakesPair g.F.FnMut) g' in
+    let rest : T (drop (i + 1) pairs) = TakesEach-past R (TakesPair g.F.FnMut) c.loop-i.f pairs i pair below loop.callable g' c.keeps_pair.result c.keeps_pair.ensures in
     let P = Leads (Retains R) c.args.f.now c.args.pairs.now g' in
     elim c.if-keeps_pair.branch [
       | then-keeps_pair w ↦
@@ -55,4 +54,4 @@ pub returns-clause-pairs : goal.returns-clause-pairs
 returns-clause-pairs g c =
     let loop = c.loop-i.invariant in let long = c.loop-i.auto.pairs in let done = c.loop-i-test.false in
     let none = drop_all c.loop-i.i c.loop-i.pairs (omega (arith, long, done)) in
-    Leads-end (Retains (KeepsStored g.F.FnMut)) _ _ _ (take c.loop-i.kept c.loop-i.pairs) (refl, refl) (rw none at loop.leads)
+    Leads-end (Retains (KeepsAt g.F.FnMut)) _ _ _ (take c.loop-i.kept c.loop-i.pairs) (refl, refl) (rw none at loop.leads)

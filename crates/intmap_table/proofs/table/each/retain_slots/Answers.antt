@@ -1,7 +1,6 @@
 use Rattle.std.proofs.Common.{◌≡◌, ◌+◌, ◌<◌, ◌≤◌, ◌∙◌, length, length-set, get_or, [], true, false, refl, sym, ap, subst, arith}
 use Rattle.std.specs.Prelude.{nat_lt}
-use Rattle.intmap_table.specs.Tables.Kept.{KeepsStored, TakesStored}
-use Rattle.intmap_table.specs.Retaining.{Retains}
+use Rattle.intmap_table.specs.Retaining.{KeepsAt, Retains, TakesPair}
 use Rattle.intmap_table.specs.Tables.Slots.{rows, joined}
 use Rattle.intmap_table.specs.Taking.{TakesEach}
 use Rattle.intmap_table.proofs.Tables.FilledLemmas.{place-below}
@@ -44,17 +43,17 @@ clear-requires g c =
 
 -- the closure was asked about the pairs of the slot
 asked : (g : _) (c : After-retain g) → c.in-Some.place < length c.loop-place.slots.items
-    → Retains (KeepsStored g.F.FnMut) c.loop-place.f (get_or (rows c.loop-place.slots.items) c.in-Some.place []) c.retain.new.self.pairs c.retain.new.f
+    → Retains (KeepsAt g.F.FnMut) c.loop-place.f (get_or (rows c.loop-place.slots.items) c.in-Some.place []) c.retain.new.self.pairs c.retain.new.f
 asked g c below =
-    subst (λ ps. Retains (KeepsStored g.F.FnMut) c.loop-place.f ps c.retain.new.self.pairs c.retain.new.f)
+    subst (λ ps. Retains (KeepsAt g.F.FnMut) c.loop-place.f ps c.retain.new.self.pairs c.retain.new.f)
     (row-at c.loop-place.slots.items c.in-Some.place c.index_mut-slot.result.now below c.index_mut-slot.ensures.value) c.retain.ensures.pairs
 
 pub retain-requires : goal.retain-requires
 retain-requires g c =
     let at = goal.at.retain-requires g c in let loop = c.loop-place.invariant in
-    let S = c.loop-place.slots.items in let place = c.in-Some.place in let Q = TakesEach (KeepsStored g.F.FnMut) (TakesStored g.F.FnMut) c.loop-place.f in
+    let S = c.loop-place.slots.items in let place = c.in-Some.place in let Q = TakesEach (KeepsAt g.F.FnMut) (TakesPair g.F.FnMut) c.loop-place.f in
     let is = next g at.In-Some in let s = c.index_mut-slot.result.now in
-    subst Q (sym (row-at S place s (within g at.In-Some) c.index_mut-slot.ensures.value)) (TakesEach-front (KeepsStored g.F.FnMut) (TakesStored g.F.FnMut) c.loop-place.f _ _
+    subst Q (sym (row-at S place s (within g at.In-Some) c.index_mut-slot.ensures.value)) (TakesEach-front (KeepsAt g.F.FnMut) (TakesPair g.F.FnMut) c.loop-place.f _ _
     (subst Q (joined-left g.K.IntKey.number_of S c.loop-place.bits loop.table c.loop-place.from place is s) loop.callable))
 
 -- up to this slot no more pairs stay than there were in all
@@ -89,9 +88,9 @@ loop-place-preserved g c =
     let number = g.K.IntKey.number_of in
     let few = fewer number S marks loop.table from place is s _ _ _ run in
     record {
-      callable = TakesEach-behind (KeepsStored g.F.FnMut) (TakesStored g.F.FnMut) c.loop-place.f c.retain.new.f _ _
-          (subst (TakesEach (KeepsStored g.F.FnMut) (TakesStored g.F.FnMut) c.loop-place.f) (joined-left number S marks loop.table from place is s) loop.callable)
-          (FoldsTo-Retains (KeepsStored g.F.FnMut) _ _ _ s.pairs run);
+      callable = TakesEach-behind (KeepsAt g.F.FnMut) (TakesPair g.F.FnMut) c.loop-place.f c.retain.new.f _ _
+          (subst (TakesEach (KeepsAt g.F.FnMut) (TakesPair g.F.FnMut) c.loop-place.f) (joined-left number S marks loop.table from place is s) loop.callable)
+          (FoldsTo-Retains (KeepsAt g.F.FnMut) _ _ _ s.pairs run);
       table = elim c.if-not-is_filled.branch [
         | then-not-is_filled w ↦
             (let empty : false ≡ nat_lt 0 (length s.pairs) = let told = c.is_filled.ensures in let no = w.if-not-is_filled.true in grind (arith, told, no) in
@@ -109,7 +108,7 @@ loop-place-preserved g c =
 pub returns-clause-pairs : goal.returns-clause-pairs
 returns-clause-pairs g c =
     let none = unmarked-behind c.loop-place.bits c.loop-place.from (sym c.iter_from.ensures ∙ c.in_default.ensures.steps.0) in
-    Leads-all c.loop-place.slots.items c.loop-place.bits c.loop-place.invariant.table.marks c.loop-place.from (KeepsStored g.F.FnMut) _ _ _ none c.loop-place.invariant.leads
+    Leads-all c.loop-place.slots.items c.loop-place.bits c.loop-place.invariant.table.marks c.loop-place.from (KeepsAt g.F.FnMut) _ _ _ none c.loop-place.invariant.leads
 
 pub returns-clause-count : goal.returns-clause-count
 returns-clause-count g c =

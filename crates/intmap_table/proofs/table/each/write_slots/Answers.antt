@@ -1,9 +1,8 @@
 use Rattle.std.proofs.Common.{◌≡◌, ◌<◌, ◌∙◌, [], ◌∷◌, ◌++◌, length, refl, sym, ap, subst, arith, get_or, length-set, append_assoc}
 use Rattle.intmap_table.specs.Tables.Bits.{marked_places}
-use Rattle.intmap_table.specs.Tables.Kept.{WritesStored, TakesStoredMut}
 use Rattle.intmap_table.specs.Tables.Slots.{rows, pairs_at}
 use Rattle.intmap_table.specs.Taking.{TakesEach}
-use Rattle.intmap_table.specs.Writes.{Writes}
+use Rattle.intmap_table.specs.Writes.{Writes, WritesAt, TakesPairMut}
 use Rattle.intmap_table.proofs.Tables.FilledLemmas.{pairs_at-marked}
 use Rattle.intmap_table.proofs.Tables.TableLemmas.{get_or-rows}
 use Rattle.intmap_table.proofs.TakingLemmas.{TakesEach-front}
@@ -36,18 +35,18 @@ pub write_each-requires : goal.write_each-requires
 write_each-requires g c =
     let at = (goal.at.write_each-requires g c).In-Some in let S = c.loop-place.slots.items in let place = c.in-Some.place in
     let row = ap (λ h. h.pairs) c.index_mut.ensures.value ∙ sym (get_or-rows S place c.index_mut.result.now (within g at)) in
-    subst (TakesEach (WritesStored g.F.FnMut) (TakesStoredMut g.F.FnMut) c.loop-place.f) (sym row)
-    (TakesEach-front (WritesStored g.F.FnMut) (TakesStoredMut g.F.FnMut) c.loop-place.f (get_or (rows S) place []) (pairs_at (rows S) c.next.new.self) (rw c.in-Some.ensures.steps at c.loop-place.invariant.callable))
+    subst (TakesEach (WritesAt g.F.FnMut) (TakesPairMut g.F.FnMut) c.loop-place.f) (sym row)
+    (TakesEach-front (WritesAt g.F.FnMut) (TakesPairMut g.F.FnMut) c.loop-place.f (get_or (rows S) place []) (pairs_at (rows S) c.next.new.self) (rw c.in-Some.ensures.steps at c.loop-place.invariant.callable))
 
 pub loop-place-preserved : goal.loop-place-preserved
 loop-place-preserved g c =
-    let at = (goal.at.loop-place-preserved g c).In-Some in let loop = c.loop-place.invariant in let R = WritesStored g.F.FnMut in
+    let at = (goal.at.loop-place-preserved g c).In-Some in let loop = c.loop-place.invariant in let R = WritesAt g.F.FnMut in
     let S = c.loop-place.slots.items in let marks = c.args.bits.now in let before = loop.passed.0 in let place = c.in-Some.place in let rest = c.next.new.self in
     let s = c.write_each.new.self in let is = next g at in
     let row = ap (λ h. h.pairs) c.index_mut.ensures.value ∙ sym (get_or-rows S place c.index_mut.result.now (within g at)) in
     let run = subst (λ ps. Writes R c.loop-place.f ps s.pairs c.write_each.new.f) row c.write_each.ensures in
     record {
-      callable = TakesEach-place S marks loop.table.marks before place rest is s R _ _ run (TakesStoredMut g.F.FnMut) (rw c.in-Some.ensures.steps at loop.callable);
+      callable = TakesEach-place S marks loop.table.marks before place rest is s R _ _ run (TakesPairMut g.F.FnMut) (rw c.in-Some.ensures.steps at loop.callable);
       table = IsMarkedTable-Writes S marks loop.table.marks before place rest is s R _ _ run g.K.IntKey.number_of loop.table;
       len = length-set S place s ∙ loop.len;
       passed = (
@@ -60,7 +59,7 @@ loop-place-preserved g c =
 pub returns-clause-pairs : goal.returns-clause-pairs
 returns-clause-pairs g c =
     let loop = c.loop-place.invariant in let none = c.in-None.ensures.steps.0 in
-    Leads-places (WritesStored g.F.FnMut) c.loop-place.slots.items c.args.bits.now _ _ _ loop.passed.0 loop.table.marks (rw none at loop.passed.1) (rw none at loop.passed.2)
+    Leads-places (WritesAt g.F.FnMut) c.loop-place.slots.items c.args.bits.now _ _ _ loop.passed.0 loop.table.marks (rw none at loop.passed.1) (rw none at loop.passed.2)
 
 pub returns-clause-table : goal.returns-clause-table
 returns-clause-table g c = c.loop-place.invariant.table

@@ -19,7 +19,7 @@ impl<'a, K: IntKey, V, A: Allocator + Copy> Iterator for IterMut<'a, K, V, A> {
     #[inline]
     fn next(&mut self) -> Option<(&'a K, &'a mut V)> {
         let (key, kept) = self.pairs.next()?;
-        Some((key, &mut kept.value))
+        Some((key, kept.get_mut()))
     }
 }
 
