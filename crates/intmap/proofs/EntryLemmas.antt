@@ -1,6 +1,6 @@
 -- Entries once a value was written, and maps into which the pair of a new key was put.
 use Rattle.std.proofs.Common.{◌≡◌, ◌⊎◌, inl, inr, ℕ, ◌+◌, ◌^◌, ◌<◌, Bool, true, false, cond, List, [], ◌∷◌, ◌++◌, length, Option, Some, None, refl, sym, ap, ◌∙◌, subst}
-use Rattle.std.specs.Prelude.{Result, Ok, Err, OnOk, OnErr}
+use Rattle.std.specs.Prelude.{Result, Ok, Err, OnErr}
 use Rattle.std.proofs.lemmas.Bool.{cases_Bool, cases_lt, eq-eqb}
 use Rattle.std.proofs.lemmas.List.{map-append}
 use Rattle.std.proofs.Props.{props}
@@ -14,18 +14,15 @@ use Rattle.intmap_table.specs.Classes.{IsCapacity, same_key}
 use Rattle.intmap.specs.Entries.{occupied_with_value, occupied_key, IsMadeRefusal}
 use Rattle.intmap.specs.Growth.{IsNext, is_due, next_capacity}
 use Rattle.intmap_table.specs.Locations.{IsFound}
-use Rattle.intmap.specs.Map.{MapState, InsertIsTooLarge, with_pair, written}
+use Rattle.intmap.specs.Insertions.{IsInsertion}
+use Rattle.intmap.specs.Map.{MapState, IsMap, InsertIsTooLarge, with_pair, written}
 use Rattle.intmap_table.specs.Walk.{walk_of}
 use Rattle.intmap.proofs.GrowthLemmas.{IsWanted-wanted_capacity}
+use Rattle.intmap.proofs.LoadFactorLemmas.{IsNext-unique}
 use Rattle.intmap_table.proofs.LocationLemmas.{walk_of-write_value}
 use Rattle.intmap.proofs.MapLemmas.{MapState-same}
 use Rattle.intmap_table.proofs.PositionLemmas.{swap_out-none, position-from_none}
 use Rattle.intmap_table.specs.Laws.Written.{IsFound-write_value, key_at-written, the_key-same}
-
--- what a successful call says, if that follows
-pub OnOk-so : {T E : Type 0} (P Q : Type 0) → (P → Q) → (r : Result T E) → OnOk r P → OnOk r Q
-OnOk-so P Q so (Ok x) h = so h
-OnOk-so P Q so (Err x) h = h
 
 -- what holds whether a call returns an error or not
 pub on_error : {T E P : Type 0} (r : Result T E) → P → OnErr r P
@@ -50,6 +47,14 @@ pub length-not_too_large : {K V : Type 0} (W : List (K × V)) (C F : ℕ) → (I
 length-not_too_large W C F room = elim (cases_lt (length W + 1) (2 ^ 64)) [ inl fits ↦ fits | inr many ↦ absurd (room (inl many)) ]
 
 module _ {K V : Type 0} (number : K → ℕ) where
+  -- an insertion of an absent key leaves the next capacity
+  pub next_capacity-inserted : (is_valid : K → Type 0) (m n : MapState K V) (k : K) (v : V) → value_of number m.walk k ≡ None → IsMap number is_valid m → IsInsertion number is_valid m k v n
+      → n.capacity ≡ next_capacity m.capacity (length m.walk + 1) m.factor
+  next_capacity-inserted is_valid m n k v none is_map did =
+      let next : IsNext m.capacity (length m.walk + 1) m.factor n.capacity = rw none at did.capacity in
+      let fits = length-not_too_large m.walk m.capacity m.factor (λ large. did.in_range (rw none refl, large)) in
+      IsNext-unique m.capacity (length m.walk + 1) m.factor n.capacity _ next (IsNext-next_capacity m.capacity (length m.walk + 1) m.factor is_map.capacity fits)
+
   write_value-unbound_step : (p : K × V) (L : List (K × V)) (k : K) (v : V) (t : Bool) → same_key number k p.0 ≡ t → (value_of number L k ≡ None → write_value number L k v ≡ L)
       → value_of number (p ∷ L) k ≡ None → write_value number (p ∷ L) k v ≡ p ∷ L
   write_value-unbound_step p L k v true e rest none = let no : ◌≡◌ {A = Option V} (Some p.1) None = rw e at none in cc

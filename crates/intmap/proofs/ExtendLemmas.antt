@@ -100,15 +100,15 @@ module _ {K V : Type 0} (number : K → ℕ) (is_valid : K → Type 0) where
 
   module _ (m l n : MapState K V) (ps : List (K × V)) (k : K) (v : V) (before : IsExtended number is_valid m ps l) (last : MapInserts number is_valid l k v n) where
     -- one insertion more that returned this, by what it says of keys and length
-    pub IsExtended-push : (old : Option V) → old ≡ value_of number l.walk k → ((q : K) → value_of number n.walk q ≡ cond (same_key number k q) (Some v) (value_of number l.walk q))
-        → length n.walk ≡ length l.walk + cond (is_some old) 0 1 → IsExtended number is_valid m (ps ++ (k, v) ∷ []) n
-    IsExtended-push old was updates len = record {
+    pub IsExtended-push : ((q : K) → value_of number n.walk q ≡ cond (same_key number k q) (Some v) (value_of number l.walk q))
+        → length n.walk ≡ length l.walk + cond (is_some (value_of number l.walk k)) 0 1 → IsExtended number is_valid m (ps ++ (k, v) ∷ []) n
+    IsExtended-push updates len = record {
       inserted = MapInsertsAll-push m l n ps k v before.inserted last;
       updates = λ q. updates q ∙ by_case q (same_key number k q) refl;
       len =
           (let more = length-new_keys-push number m.walk ps k v in
-          let bound : cond {A = ℕ} (is_some old) 0 1 ≡ cond {A = ℕ} (is_some (option_or (value_of number (reverse ps) k) (value_of number m.walk k))) 0 1 =
-          ap (λ o. cond (is_some o) 0 1) (was ∙ before.updates k) in
+          let bound : cond {A = ℕ} (is_some (value_of number l.walk k)) 0 1 ≡ cond {A = ℕ} (is_some (option_or (value_of number (reverse ps) k) (value_of number m.walk k))) 0 1 =
+          ap (λ o. cond (is_some o) 0 1) (before.updates k) in
           let start = before.len in
           omega (arith, len, more, bound, start));
       factor = ap (λ x. x.factor) last.state ∙ before.factor;

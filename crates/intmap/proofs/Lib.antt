@@ -33,5 +33,6 @@ pub mod WritesLemmas
 pub mod ExtractLemmas
 pub mod CursorLemmas
 pub mod RefusalLemmas
+pub mod InsertionLemmas
 pub mod LendMapLemmas
 pub mod EqualLengthLemmas

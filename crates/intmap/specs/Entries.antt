@@ -15,7 +15,7 @@ use Rattle.intmap.specs.contracts.entry.OccupiedEntry as occupied
 use Rattle.intmap_table.specs.Bindings.{value_of}
 use Rattle.intmap.specs.Growth.{next_capacity}
 use Rattle.intmap.specs.Map.{MapState, with_pair, written}
-use Rattle.intmap.specs.PlainLists.{PlainList}
+use Rattle.intmap.specs.PlainLists.{PlainList, list_of}
 use Rattle.intmap_table.specs.Laws.Written.{IsFound-write_value}
 use Rattle.intmap_table.specs.Locations.{key_at, the_key}
 use Rattle.intmap_table.specs.Walk.{slot_of}
@@ -45,7 +45,7 @@ module _ {K V A : Type 0} {g : key.Ghosts K} {e : eq.Ghosts K} where
 
   -- the pairs of the map with its capacity and load factor
   abbrev pub entry_list : Entry K V A g e → PlainList K V
-  entry_list x = let m = entry_map x in record { pairs = m.walk; capacity = m.capacity; factor = m.factor }
+  entry_list x = list_of (entry_map x)
 
   -- the capacity after one more pair
   abbrev pub next_entry_capacity : Entry K V A g e → ℕ

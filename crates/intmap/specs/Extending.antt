@@ -6,7 +6,7 @@ use Rattle.intmap_table.specs.Bindings.{value_of}
 use Rattle.intmap_table.specs.Figures.{tally_of}
 use Rattle.intmap.specs.Growth.{IsLeastPower}
 use Rattle.intmap.specs.Map.{MapState, IsMap, IsOutOfRange, IsCapacityAfter, empty_map, after_search, after_insert}
-use Rattle.intmap.specs.PlainLists.{RefusalIsDue}
+use Rattle.intmap.specs.PlainLists.{RefusalIsDue, list_of}
 use Rattle.intmap.specs.declared.refusal.Cause.{Cause}
 use Rattle.intmap.specs.declared.refusal.Cause.TheVariants.{Memory, TooLarge}
 use Rattle.intmap.specs.declared.refusal.RefusedPair.{RefusedPair}
@@ -76,7 +76,7 @@ module _ {K V S : Type 0} (number : K → ℕ) (is_valid : K → Type 0) (steps 
     pub came : YieldsThen steps s pairs (Some (refused.key, refused.value)) rest
     pub before : MapState K V
     pub extended : IsExtended number is_valid m pairs before
-    pub may_refuse : RefusalIsDue number (record { pairs = before.walk; capacity = before.capacity; factor = before.factor }) refused.key refused.cause
+    pub may_refuse : RefusalIsDue number (list_of before) refused.key refused.cause
     pub after : n ≡ after_search number before refused.key
     pub applied : refused.applied ≡ min (length pairs) (2 ^ 64 - 1)
 

@@ -14,6 +14,7 @@ pub use Rattle.intmap_table.specs.Values
 pub mod Growth
 pub mod Map
 pub mod PlainLists
+pub mod Insertions
 pub mod Laws
 pub mod Lending
 pub mod Entries

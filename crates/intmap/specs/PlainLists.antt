@@ -18,6 +18,10 @@ pub record PlainList (K V : Type 0) : Type 0 where
 abbrev pub empty_list : {K V : Type 0} → ℕ → PlainList K V
 empty_list C = record { pairs = []; capacity = C; factor = 909 }
 
+-- the pairs of a map in the order of its walk
+abbrev pub list_of : {K V : Type 0} → MapState K V → PlainList K V
+list_of m = record { pairs = m.walk; capacity = m.capacity; factor = m.factor }
+
 module _ {K V : Type 0} (number : K → ℕ) where
   -- the list stands for the map
   pub record Stands (s : PlainList K V) (m : MapState K V) : Type 0 where

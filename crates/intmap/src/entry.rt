@@ -1,10 +1,11 @@
 //! Entries: a map with a key that was looked up once, to read, write, remove or insert its pair.
-ghost use Rattle.std.specs.Prelude.{◌≡◌, None, ◌+◌, cond, length, is_some, IsSome, Some, IfOk, IfErr, OnOk, IsOk, unwrap_or, MatchOption};
+ghost use Rattle.std.specs.Prelude.{◌≡◌, None, length, IsSome, Some, IfOk, IfErr, OnOk, IsOk, unwrap_or, MatchOption};
 ghost use Rattle.intmap_table.specs.Bindings.{value_of, Updates};
 ghost use Rattle.intmap_table.specs.Locations.{IsFound};
 ghost use Rattle.std.specs.Borrow.{sem, MutBor};
 ghost use Rattle.std.specs.Map.Calls.{ModifiesValue};
-ghost use Rattle.intmap.specs.Map.{IsLone, IsMap, IsOutOfRange, IsCapacityAfter, after_search};
+ghost use Rattle.intmap.specs.Insertions.{IsInsertion};
+ghost use Rattle.intmap.specs.Map.{IsLone, IsMap, after_search};
 ghost use Rattle.intmap.specs.PlainLists.{RefusalIsDue};
 
 mod attempt;
@@ -121,24 +122,13 @@ impl<'a, K: IntKey, V, A: Allocator + Copy> Entry<'a, K, V, A> {
         ensures* writes_back { sem 𝓛 (entry_lends_ok K.row V.row A.row A.Allocator
             self.entry result) }
         ensures value { IfOk result (λ r. r.now ≡ unwrap_or (entry_value self.entry) value) }
-        ensures capacity { OnOk result ((v : V) → IsCapacityAfter K.number_of
-            (entry_list self.entry).pairs (entry_list self.entry).capacity
-            (entry_list self.entry).factor (entry_key self.entry)
-            (map_with_value self.entry v).capacity) }
-        ensures updates { OnOk result ((v : V) → Updates K.number_of (entry_map self.entry).walk
-            (map_with_value self.entry v).walk (entry_key self.entry) (Some v)) }
-        ensures len { OnOk result ((v : V) → length (map_with_value self.entry v).walk
-            ≡ length (entry_map self.entry).walk + cond (is_some (entry_value self.entry)) 0 1) }
-        ensures valid_after { OnOk result ((v : V)
-            → IsMap K.number_of K.is_valid (map_with_value self.entry v)) }
+        ensures inserted { OnOk result ((v : V) → IsInsertion K.number_of K.is_valid
+            (entry_map self.entry) (entry_key self.entry) v (map_with_value self.entry v)) }
 
         // what a failure returns
         ensures value_returned { IfErr result (λ refused. refused.value ≡ value) }
 
         // when it fails
-        ensures in_range { OnOk result (IsOutOfRange K.number_of (entry_map self.entry).walk
-            (entry_map self.entry).capacity (entry_map self.entry).factor (entry_key self.entry)
-            → ⊥) }
         ensures refused { IfErr result (λ refused. RefusalIsDue K.number_of (entry_list self.entry)
             (entry_key self.entry) refused.cause) }
         ensures lone { IsLone K.number_of (entry_map self.entry).walk

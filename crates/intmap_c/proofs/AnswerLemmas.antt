@@ -1,14 +1,14 @@
 -- What a call did to the map of a handle.
-use Rattle.std.proofs.Common.{◌≡◌, ◌∙◌, ℕ, ℤ, ◌+◌, None, Some, Option, length, sym, ap, subst}
+use Rattle.std.proofs.Common.{◌≡◌, ◌∙◌, ℕ, ℤ, ◌^◌, ◌<◌, None, Some, Option, sym, ap, subst}
 use Rattle.std.specs.Prelude.{◌↔◌}
-use Rattle.intmap.specs.Growth.{IsNext}
-use Rattle.intmap.specs.Bindings.{Updates}
-use Rattle.intmap.specs.Map.{InsertIsTooLarge, after_search, with_pair}
-use Rattle.intmap.specs.PlainLists.{RefusalIsDue}
+use Rattle.intmap.specs.Insertions.{IsInsertion}
+use Rattle.intmap.specs.Map.{after_search, with_pair}
+use Rattle.intmap.specs.PlainLists.{RefusalIsDue, list_of}
 use Rattle.intmap.specs.declared.refusal.Cause.{Cause}
 use Rattle.intmap.specs.declared.refusal.Cause.TheVariants.{TooLarge, Memory}
 use Rattle.intmap_c.specs.declared.answer.TheConstants.{NO_MEMORY, TOO_LARGE}
 use Rattle.intmap_c.specs.Answers.{IsFailed, OnMap}
+use Rattle.intmap.proofs.InsertionLemmas.{IsInsertion-searched}
 use Rattle.intmap_c.specs.Calls.{Binds, Fails, State, bound_to, itself}
 
 module _ {S : Type 0} (N : Type 0) (P : S → S → Type 0) where
@@ -22,10 +22,10 @@ module _ (m v : State) (k q : ℕ) (searched : v ≡ after_search itself m k) (s
   said_before P p = subst (λ s. P s k) searched (subst (P v) same p)
 
   -- a refusal that is due is told by the status of its cause
-  pub Fails-due : (n : State) (status : ℤ) (cause : Cause) → n ≡ v → RefusalIsDue itself (record { pairs = v.walk; capacity = v.capacity; factor = v.factor }) q cause
+  pub Fails-due : (n : State) (status : ℤ) (cause : Cause) → n ≡ v → RefusalIsDue itself (list_of v) q cause
       → IsFailed status → ((status ≡ TOO_LARGE) ↔ (cause ≡ TooLarge)) → ((status ≡ NO_MEMORY) ↔ (cause ≡ Memory)) → Fails m n k status
   Fails-due n status cause stayed due failed large memory =
-      let was = said_before (λ s key. RefusalIsDue itself (record { pairs = s.walk; capacity = s.capacity; factor = s.factor }) key cause) due in
+      let was = said_before (λ s key. RefusalIsDue itself (list_of s) key cause) due in
       record {
         why = failed;
         state = stayed ∙ searched;
@@ -35,12 +35,8 @@ module _ (m v : State) (k q : ℕ) (searched : v ≡ after_search itself m k) (s
       }
 
   -- an insertion, into the number of slots that it needs
-  pub Binds-new : (n : State) (x D : ℕ) → n ≡ with_pair itself v q x D → IsNext v.capacity (length v.walk + 1) v.factor n.capacity → Updates itself v.walk n.walk q (Some x)
-      → length n.walk ≡ length v.walk + 1 → (InsertIsTooLarge v.walk v.capacity v.factor → ⊥) → Binds m n k x
-  Binds-new n x D made next updates len in_range = record {
-    in_range = (λ far. said_before (λ s key. InsertIsTooLarge s.walk s.capacity s.factor → ⊥) in_range far.1);
-    capacity = rw none (said_before (λ s key. IsNext s.capacity (length s.walk + 1) s.factor n.capacity) next);
+  pub Binds-new : (n : State) (x D : ℕ) → n ≡ with_pair itself v q x D → IsInsertion itself (λ r. r < 2 ^ 64) v q x n → Binds m n k x
+  Binds-new n x D made did = record {
+    inserted = IsInsertion-searched itself (λ r. r < 2 ^ 64) m n k k x (said_before (λ s key. IsInsertion itself (λ r. r < 2 ^ 64) s key x n) did);
     state = said_before (λ s key. n ≡ with_pair itself s key x n.capacity) (made ∙ ap (λ C. with_pair itself v q x C) (sym (ap (λ s. s.capacity) made)));
-    updates = said_before (λ s key. Updates itself s.walk n.walk key (Some x)) updates;
-    len = rw none (said_before (λ s key. length n.walk ≡ length s.walk + 1) len);
   }

@@ -4,7 +4,8 @@ use Rattle.intmap.specs.Bindings.{value_of, IsPresent, Updates}
 use Rattle.intmap.specs.Cloning.{IsClone}
 use Rattle.intmap.specs.Reach.{class_size}
 use Rattle.intmap.specs.Growth.{IsNext, IsLeastPower, IsWanted, WantsTooMuch}
-use Rattle.intmap.specs.Map.{MapState, IsOutOfRange, IsCapacityAfter, after_search, after_insert, after_remove, written, in_slots}
+use Rattle.intmap.specs.Insertions.{IsInsertion}
+use Rattle.intmap.specs.Map.{MapState, IsOutOfRange, after_search, after_insert, after_remove, written, in_slots}
 use Rattle.intmap_c.specs.declared.answer.TheConstants.{DONE, PRESENT, ABSENT, NO_MEMORY, TOO_LARGE, NO_MAP}
 use Rattle.intmap_c.specs.declared.answer.Answer.{Answer}
 use Rattle.intmap_c.specs.Answers.{value_found, no_value, IsFailed}
@@ -41,11 +42,8 @@ Clones (Some m) old new status =
 
 -- k was inserted with v, in the number of slots that this needs
 pub record Binds (m n : State) (k v : ℕ) : Type 0 where
-  pub in_range : IsOutOfRange itself m.walk m.capacity m.factor k → ⊥
-  pub capacity : IsCapacityAfter itself m.walk m.capacity m.factor k n.capacity
+  pub inserted : IsInsertion itself (λ n. n < 2 ^ 64) m k v n
   pub state : n ≡ after_insert itself m k v n.capacity
-  pub updates : Updates itself m.walk n.walk k (Some v)
-  pub len : length n.walk ≡ length m.walk + cond (is_some (bound_to m k)) 0 1
 
 -- the insertion of the new key k failed, and the map is as it was except for the count of comparisons
 pub record Fails (m n : State) (k : ℕ) (status : ℤ) : Type 0 where

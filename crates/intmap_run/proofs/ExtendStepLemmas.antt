@@ -7,7 +7,7 @@ use Rattle.intmap.specs.Bindings.{put_pair}
 use Rattle.intmap.specs.Extending.{MapInserts, MapInsertsAll}
 use Rattle.intmap.specs.Map.{MapState, IsMap, after_search}
 use Rattle.intmap.specs.Reach.{reach}
-use Rattle.intmap.specs.PlainLists.{PlainList, Stands, ListInsertsAll, RefusalIsDue}
+use Rattle.intmap.specs.PlainLists.{PlainList, Stands, ListInsertsAll, RefusalIsDue, list_of}
 use Rattle.intmap.specs.declared.refusal.RefusedPair.{RefusedPair}
 use Rattle.intmap_run.specs.declared.command.Command.TheVariants as command
 use Rattle.intmap_run.specs.declared.answer.Answer.TheVariants as answer
@@ -69,15 +69,15 @@ module _ {K V S A : Type 0} (number : K → ℕ) (is_valid : K → Type 0) (m : 
   pub StepsFrom-stopped : (pairs : Vec (K × V) A) (xs rest : List (K × V)) (before n : MapState K V) (refused : RefusedPair K V)
       → pairs.items ≡ xs ++ (refused.key, refused.value) ∷ rest → refused.applied ≡ length xs
       → MapInsertsAll number is_valid m xs before → n ≡ after_search number before refused.key
-      → RefusalIsDue number (record { pairs = before.walk; capacity = before.capacity; factor = before.factor }) refused.key refused.cause
+      → RefusalIsDue number (list_of before) refused.key refused.cause
       → StepsFrom number sees keeps m (command.Extend pairs) (answer.Stopped refused) n
-  StepsFrom-stopped pairs xs rest before n refused split count inserted searched may_be s stands =
+  StepsFrom-stopped pairs xs rest before n refused split count inserted searched due s stands =
       let left = all_accepted number is_valid m xs before is_map inserted s stands in
       let t : PlainList K V = left.0 in
       let stands' = left.1.stands in
       let is_map' = left.1.map in
       let compared : ℕ = insertion_comparisons number s xs t left.1.inserts in
-      let refuses = may number is_valid before is_map' refused.key refused.cause may_be.new_key may_be.too_large may_be.memory t stands' in (
+      let refuses = may number is_valid before is_map' refused.key refused.cause due t stands' in (
         t,
         rw searched (record {
           answers = inr (refused, refl, (xs, rest, split, count, left.1.inserts, refuses));

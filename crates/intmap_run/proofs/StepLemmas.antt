@@ -1,18 +1,16 @@
 -- One call on a map is one step of every list that stands for the map.
-use Rattle.std.proofs.Common.{◌≡◌, inl, inr, ℕ, ◌+◌, ◌<◌, cond, Bool, true, false, [], length, is_some, Option, Some, None, refl, sym, ap, subst, ◌∙◌, add-zero, lit<}
-use Rattle.std.specs.Prelude.{◌↔◌, ◌==◌, IsNone, IsSome, is_none, MatchBool}
+use Rattle.std.proofs.Common.{◌≡◌, inl, inr, ℕ, ◌+◌, cond, Bool, true, false, [], length, is_some, Option, Some, None, refl, sym, ap, subst, ◌∙◌, add-zero, lit<}
+use Rattle.std.specs.Prelude.{◌==◌, IsNone, IsSome, is_none, MatchBool}
 use Rattle.std.specs.List.{AllZip}
 use Rattle.std.specs.Map.{keys_of, values_of}
 use Rattle.std.specs.declared.vec.Vec.{Vec}
 use Rattle.intmap.specs.Bindings.{value_of, take_key, put_pair}
 use Rattle.intmap.specs.Classes.{IsCapacity}
-use Rattle.intmap.specs.Reach.{class_size, reach}
-use Rattle.intmap.specs.Growth.{IsNext}
+use Rattle.intmap.specs.Reach.{reach}
 use Rattle.intmap.specs.Figures.{load_of, rate_of}
 use Rattle.intmap.specs.Map.{MapState, IsMap, IsOutOfRange, IsCapacityAfter, after_search, after_insert, after_remove, emptied}
-use Rattle.intmap.specs.PlainLists.{PlainList, Stands, ListInserts, RefusalIsDue}
+use Rattle.intmap.specs.PlainLists.{PlainList, Stands, ListInserts, RefusalIsDue, list_of}
 use Rattle.intmap.specs.declared.refusal.Cause.{Cause}
-use Rattle.intmap.specs.declared.refusal.Cause.TheVariants.{Memory, TooLarge}
 use Rattle.intmap_run.specs.declared.command.Command.{Command}
 use Rattle.intmap_run.specs.declared.command.Command.TheVariants as command
 use Rattle.intmap_run.specs.declared.answer.Answer.{Answer}
@@ -76,15 +74,13 @@ module _ {K V : Type 0} (number : K → ℕ) (is_valid : K → Type 0) (m : MapS
       }
 
   -- an insertion may fail at each list with the cause that the map has
-  pub may : (k : K) (cause : Cause) → IsNone (value_of number m.walk k) → (cause ≡ TooLarge) ↔ IsOutOfRange number m.walk m.capacity m.factor k
-      → (cause ≡ Memory → IsNext m.capacity (length m.walk + 1) m.factor m.capacity → 0 < class_size number m.walk m.capacity k)
-      → (s : PlainList K V) → Stands number s m → RefusalIsDue number s k cause
-  may k cause new_key too_large memory s stands =
+  pub may : (k : K) (cause : Cause) → RefusalIsDue number (list_of m) k cause → (s : PlainList K V) → Stands number s m → RefusalIsDue number s k cause
+  may k cause due s stands =
       let same = IsOutOfRange-stands is_map stands k in
       record {
-        new_key = rw (value_of-stands is_map stands k) new_key;
-        too_large = ((λ h. same.1 (too_large.0 h)), (λ h. too_large.1 (same.0 h)));
-        memory = λ h kept. rw (class_size-stands is_map stands k) (memory h (rw (length-stands is_map stands, stands.capacity, stands.factor) at kept));
+        new_key = rw (value_of-stands is_map stands k) due.new_key;
+        too_large = ((λ h. same.1 (due.too_large.0 h)), (λ h. due.too_large.1 (same.0 h)));
+        memory = λ h kept. rw (class_size-stands is_map stands k) (due.memory h (rw (length-stands is_map stands, stands.capacity, stands.factor) at kept));
       }
 
 module _ {K V S A : Type 0} (number : K → ℕ) (is_valid : K → Type 0) (m : MapState K V) (is_map : IsMap number is_valid m) (sees : V → S → Type 0) (keeps : K → V → Bool) where
@@ -133,20 +129,16 @@ module _ {K V S A : Type 0} (number : K → ℕ) (is_valid : K → Type 0) (m : 
   )
 
   -- an insertion that fails
-  pub StepsFrom-refused : (k : K) (v : V) (cause : Cause)
-      → IsNone (value_of number m.walk k) → (cause ≡ TooLarge) ↔ IsOutOfRange number m.walk m.capacity m.factor k
-      → (cause ≡ Memory → IsNext m.capacity (length m.walk + 1) m.factor m.capacity → 0 < class_size number m.walk m.capacity k)
+  pub StepsFrom-refused : (k : K) (v : V) (cause : Cause) → RefusalIsDue number (list_of m) k cause
       → StepsFrom {A = A} number sees keeps m (command.Insert k v) (answer.Refused cause (Some v)) (after_search number m k)
-  StepsFrom-refused k v cause new_key too_large memory s stands =
-      StepsFrom-searched k (command.Insert k v) (answer.Refused cause (Some v)) s stands (inr (cause, refl, may number is_valid m is_map k cause new_key too_large memory s stands, refl)) refl (placements-kept s s refl)
+  StepsFrom-refused k v cause due s stands =
+      StepsFrom-searched k (command.Insert k v) (answer.Refused cause (Some v)) s stands (inr (cause, refl, may number is_valid m is_map k cause due s stands, refl)) refl (placements-kept s s refl)
 
   -- a checked insertion that fails
-  pub StepsFrom-refused_checked : (k : K) (v : V) (cause : Cause)
-      → IsNone (value_of number m.walk k) → (cause ≡ TooLarge) ↔ IsOutOfRange number m.walk m.capacity m.factor k
-      → (cause ≡ Memory → IsNext m.capacity (length m.walk + 1) m.factor m.capacity → 0 < class_size number m.walk m.capacity k)
+  pub StepsFrom-refused_checked : (k : K) (v : V) (cause : Cause) → RefusalIsDue number (list_of m) k cause
       → StepsFrom {A = A} number sees keeps m (command.InsertChecked k v) (answer.Refused cause (Some v)) (after_search number m k)
-  StepsFrom-refused_checked k v cause new_key too_large memory s stands =
-      StepsFrom-searched k (command.InsertChecked k v) (answer.Refused cause (Some v)) s stands (inr (inr (cause, refl, may number is_valid m is_map k cause new_key too_large memory s stands, refl))) refl (placements-kept s s refl)
+  StepsFrom-refused_checked k v cause due s stands =
+      StepsFrom-searched k (command.InsertChecked k v) (answer.Refused cause (Some v)) s stands (inr (inr (cause, refl, may number is_valid m is_map k cause due s stands, refl))) refl (placements-kept s s refl)
 
   -- a checked insertion of a present key
   StepsFrom-bound : (k : K) (v : V) → IsSome (value_of number m.walk k)

@@ -1,11 +1,10 @@
 -- Values written in their places, calls of entries and a walk of which some pairs stay are one step of every list that stands for the map.
-use Rattle.std.proofs.Common.{◌≡◌, inl, inr, ℕ, ◌+◌, Bool, length, Some, None, refl, sym, ap, ◌∙◌, add-zero}
+use Rattle.std.proofs.Common.{◌≡◌, inl, inr, ℕ, ◌+◌, Bool, Some, None, refl, sym, ap, ◌∙◌, add-zero}
 use Rattle.std.specs.Prelude.{IsNone}
 use Rattle.intmap.specs.Bindings.{value_of, take_key, put_pair, write_value, keep_pairs}
 use Rattle.intmap.specs.Classes.{same_key}
-use Rattle.intmap.specs.Growth.{IsNext}
-use Rattle.intmap.specs.Map.{MapState, IsMap, IsCapacityAfter, InsertIsTooLarge, after_search, after_insert, after_remove, with_pair, without_key, written}
-use Rattle.intmap.specs.PlainLists.{PlainList, Stands, RefusalIsDue}
+use Rattle.intmap.specs.Map.{MapState, IsMap, IsCapacityAfter, IsOutOfRange, after_search, after_insert, after_remove, with_pair, without_key, written}
+use Rattle.intmap.specs.PlainLists.{PlainList, Stands, RefusalIsDue, list_of}
 use Rattle.intmap.specs.declared.refusal.Cause.{Cause}
 use Rattle.intmap_run.specs.declared.command.Command.{Command}
 use Rattle.intmap_run.specs.declared.command.Command.TheVariants as command
@@ -64,12 +63,11 @@ module _ {K V S A : Type 0} (number : K → ℕ) (is_valid : K → Type 0) (m : 
         },
       )
 
-  StepsFrom-entry_missing : (k : K) (v : V) (D : ℕ) → value_of number m.walk k ≡ None → IsNext m.capacity (length m.walk + 1) m.factor D → (InsertIsTooLarge m.walk m.capacity m.factor → ⊥)
+  StepsFrom-entry_missing : (k : K) (v : V) (D : ℕ) → value_of number m.walk k ≡ None → IsCapacityAfter number m.walk m.capacity m.factor k D → (IsOutOfRange number m.walk m.capacity m.factor k → ⊥)
       → StepsFrom {A = A} number sees keeps m (command.EntryInsert k v) answer.Fresh (after_insert number m k v D)
-  StepsFrom-entry_missing k v D missing next in_range s stands =
-      let after : IsCapacityAfter number m.walk m.capacity m.factor k D = rw missing next in
+  StepsFrom-entry_missing k v D missing after in_range s stands =
       let none : IsNone (value_of number s.pairs k) = rw (value_of-stands is_map stands k, missing) refl in
-      let left = accepted number is_valid m is_map k v (after_insert number m k v D) after (λ out. in_range out.1) refl s stands in (
+      let left = accepted number is_valid m is_map k v (after_insert number m k v D) after in_range refl s stands in (
         record s { pairs = put_pair number s.pairs s.capacity k v; capacity = D },
         record {
           answers = inr (inl (refl, none, left.inserts));
@@ -79,10 +77,10 @@ module _ {K V S A : Type 0} (number : K → ℕ) (is_valid : K → Type 0) (m : 
         },
       )
 
-  StepsFrom-entry_refused : (k : K) (v : V) (cause : Cause) → RefusalIsDue number (record { pairs = m.walk; capacity = m.capacity; factor = m.factor }) k cause
+  StepsFrom-entry_refused : (k : K) (v : V) (cause : Cause) → RefusalIsDue number (list_of m) k cause
       → StepsFrom {A = A} number sees keeps m (command.EntryInsert k v) (answer.Refused cause (Some v)) (after_search number m k)
-  StepsFrom-entry_refused k v cause may_be s stands =
-      let refused = may number is_valid m is_map k cause may_be.new_key may_be.too_large may_be.memory s stands in
+  StepsFrom-entry_refused k v cause due s stands =
+      let refused = may number is_valid m is_map k cause due s stands in
       StepsFrom-searched number is_valid m is_map sees keeps k (command.EntryInsert k v) (answer.Refused cause (Some v)) s stands (inr (inr (cause, refl, refused, refl))) refl (placements-kept s s refl)
 
   StepsFrom-taken : (k : K) (old : V) → value_of number m.walk k ≡ Some old
@@ -106,15 +104,15 @@ module _ {K V S A : Type 0} (number : K → ℕ) (is_valid : K → Type 0) (m : 
     StepsFrom-entry_insert v old bound = rw (searched, same_key) (StepsFrom-entry_bound k v old (rw (searched, same_key) at bound))
 
     -- a pair put in by an entry
-    pub StepsFrom-fresh : (v w : V) (D : ℕ) → value_of number x.walk q ≡ None → w ≡ v → IsNext x.capacity (length x.walk + 1) x.factor D → (InsertIsTooLarge x.walk x.capacity x.factor → ⊥)
+    pub StepsFrom-fresh : (v w : V) (D : ℕ) → value_of number x.walk q ≡ None → w ≡ v → IsCapacityAfter number x.walk x.capacity x.factor q D → (IsOutOfRange number x.walk x.capacity x.factor q → ⊥)
         → StepsFrom {A = A} number sees keeps m (command.EntryInsert k v) answer.Fresh (with_pair number x q w D)
     StepsFrom-fresh v w D missing value next in_range =
-        rw (searched, same_key, value) (StepsFrom-entry_missing k v D (rw (searched, same_key) at missing) (rw searched at next) (rw searched at in_range))
+        rw (searched, same_key, value) (StepsFrom-entry_missing k v D (rw (searched, same_key) at missing) (rw (searched, same_key) at next) (rw (searched, same_key) at in_range))
 
     -- a pair that an entry couldn't put in
-    pub StepsFrom-not_fresh : (v : V) (cause : Cause) → RefusalIsDue number (record { pairs = x.walk; capacity = x.capacity; factor = x.factor }) q cause
+    pub StepsFrom-not_fresh : (v : V) (cause : Cause) → RefusalIsDue number (list_of x) q cause
         → StepsFrom {A = A} number sees keeps m (command.EntryInsert k v) (answer.Refused cause (Some v)) x
-    StepsFrom-not_fresh v cause may_be = rw searched (StepsFrom-entry_refused k v cause (rw (searched, same_key) at may_be))
+    StepsFrom-not_fresh v cause due = rw searched (StepsFrom-entry_refused k v cause (rw (searched, same_key) at due))
 
     -- a pair that an entry removed
     pub StepsFrom-entry_remove : (old : V) → value_of number x.walk q ≡ Some old

@@ -1,25 +1,19 @@
 -- What a call leaves of the map and returns, as the set shows it.
-use Rattle.std.proofs.Common.{◌≡◌, ◌∙◌, ℕ, ◌+◌, ◌<◌, Bool, true, false, sym, ap, subst, length, max}
-use Rattle.std.specs.Prelude.{◌↔◌, Result, Ok, Err, IsErrAnd, IsErrOf, OnOk, OnErr, MatchBool}
+use Rattle.std.proofs.Common.{◌≡◌, ◌∙◌, ℕ, ◌+◌, ◌<◌, Bool, true, false, cond, Option, None, Some, refl, sym, ap, subst, length, max}
+use Rattle.std.specs.Prelude.{◌↔◌, not, is_some, is_none, IsNone, Result, Ok, Err, IfErr, IsErrAnd, OnErr, MatchBool}
 use Rattle.intmap.specs.declared.refusal.Cause.{Cause}
+use Rattle.intmap.specs.declared.refusal.Cause.TheVariants.{TooLarge}
+use Rattle.intmap.specs.Bindings.{value_of}
+use Rattle.intmap.specs.Insertions.{IsInsertion}
+use Rattle.intmap.specs.PlainLists.{RefusalIsDue, list_of}
 use Rattle.intmap.specs.Growth.{IsNext, IsLeastPower}
 use Rattle.intmap.specs.Map.{MapState, IsLone, IsOutOfRange, IsCapacityAfter, after_search, after_insert, after_remove}
 use Rattle.intmap.specs.Map as of_map
 use Rattle.intmap.specs.Reach.{class_size}
-use Rattle.intmap_set.specs.Sets.{SetState, load_factor, paired, set_of, with_key, without_key, in_slots}
-use Rattle.intmap_set.proofs.MemberLemmas.{factor-seen, length-paired, length-seen, paired-keys_of}
-
--- an error is of its own cause alone
-IsErrOf-cause : {T E : Type 0} (r : Result T E) (cause d : E) → IsErrAnd r (λ e. e ≡ cause) → IsErrOf r d ↔ (cause ≡ d)
-IsErrOf-cause (Ok x) cause d is = absurd is
-IsErrOf-cause {T} {E} (Err e) cause d is = (λ of. sym is ∙ same of, λ here. ap Err (is ∙ here))
-  where
-    same : ◌≡◌ {A = Result T E} (Err e) (Err d) → e ≡ d
-    same of = cc
-
--- success is no error
-pub IsErrOf-ok : {T E : Type 0} (x : T) (d : E) → IsErrOf (Ok x) d → ⊥
-IsErrOf-ok x d err = subst (λ r. OnOk r ⊥ → ⊥) err (λ no. no) tt
+use Rattle.intmap_set.specs.Sets.{SetState, holds, load_factor, paired, set_of, with_key, without_key, in_slots}
+use Rattle.std.proofs.lemmas.Map.Entries.{length-keys_of}
+use Rattle.intmap_set.specs.Extending.{Inserts, MayRefuse}
+use Rattle.intmap_set.proofs.MemberLemmas.{IsSet-seen, Updates-seen, factor-seen, holds-seen, length-paired, length-seen, not-is_some, paired-keys_of}
 
 -- what holds of an error that was returned holds if there was none
 pub on_error : {T E P : Type 0} (r : Result T E) → P → OnErr r P
@@ -27,13 +21,13 @@ on_error (Ok x) p = tt
 on_error (Err e) p = p
 
 module _ {K : Type 0} (number : K → ℕ) (m n : MapState K (Unit {0})) (s : SetState K) (k : K) (seen : set_of m ≡ s) where
-  -- an insertion into the map is one into the set
-  pub with_key-seen : n ≡ after_insert number m k tt n.capacity → set_of n ≡ with_key number s k n.capacity
+  -- a pair that is put into the map is a member of the set
+  with_key-seen : n ≡ after_insert number m k tt n.capacity → set_of n ≡ with_key number s k n.capacity
   with_key-seen state =
       ap set_of state ∙ ap (λ L. set_of (of_map.with_pair number (record m { walk = L }) k tt n.capacity)) (sym (paired-keys_of m.walk)) ∙ ap (λ t. with_key number t k n.capacity) seen
 
-  -- or leaves it
-  pub inserted-seen : (new : Bool) → MatchBool new (n ≡ after_insert number m k tt n.capacity) (n ≡ after_search number m k)
+  -- and none leaves it
+  inserted-seen : (new : Bool) → MatchBool new (n ≡ after_insert number m k tt n.capacity) (n ≡ after_search number m k)
       → MatchBool new (set_of n ≡ with_key number s k n.capacity) (set_of n ≡ s)
   inserted-seen true state = with_key-seen state
   inserted-seen false state = ap set_of state ∙ seen
@@ -47,34 +41,50 @@ module _ {K : Type 0} (number : K → ℕ) (m n : MapState K (Unit {0})) (s : Se
   pub IsCapacityAfter-seen : m.factor ≡ load_factor → IsCapacityAfter number m.walk m.capacity m.factor k n.capacity → IsCapacityAfter number (paired s.walk) s.capacity load_factor k n.capacity
   IsCapacityAfter-seen kept is = subst (λ t. IsCapacityAfter number t.0 t.1 t.2 k n.capacity) (factor-seen m s seen kept) is
 
-  -- a failure by the map is one by the set
-  pub refused-seen : m.factor ≡ load_factor → (r : Result Bool Cause) (cause d : Cause) → IsErrAnd r (λ e. e ≡ cause) → (cause ≡ d) ↔ IsOutOfRange number m.walk m.capacity m.factor k
-      → IsErrOf r d ↔ IsOutOfRange number (paired s.walk) s.capacity load_factor k
-  refused-seen kept r cause d is iff =
-      let of = IsErrOf-cause r cause d is in let pairs = factor-seen m s seen kept in (
-        λ err. subst (λ t. IsOutOfRange number t.0 t.1 t.2 k) pairs (iff.0 (of.0 err)),
-        λ beyond. of.1 (iff.1 (subst (λ t. IsOutOfRange number t.0 t.1 t.2 k) (sym pairs) beyond)),
-      )
-
   -- a lone key of the set is one of the map
   pub IsLone-seen : m.factor ≡ load_factor → IsLone number (paired s.walk) s.capacity k → IsLone number m.walk m.capacity k
   IsLone-seen kept lone = subst (λ t. IsLone number t.0 t.1 k) (sym (factor-seen m s seen kept)) lone
 
-  -- if nothing fails, no key is out of range
-  pub accepted-seen : m.factor ≡ load_factor → (new : Bool) (d : Cause) → ⊥ ↔ IsOutOfRange number m.walk m.capacity m.factor k
-      → IsErrOf {T = Bool} (Ok new) d ↔ IsOutOfRange number (paired s.walk) s.capacity load_factor k
-  accepted-seen kept new d iff = (
-    λ err. absurd (IsErrOf-ok new d err),
-    λ beyond. absurd (iff.1 (subst (λ t. IsOutOfRange number t.0 t.1 t.2 k) (sym (factor-seen m s seen kept)) beyond)),
-  )
+  -- why the map fails is why the set does
+  pub MayRefuse-seen : m.factor ≡ load_factor → (r : Result Bool Cause) (cause : Cause) → IsErrAnd r (λ e. e ≡ cause) → RefusalIsDue number (list_of m) k cause → IfErr r (MayRefuse number s k)
+  MayRefuse-seen kept (Ok new) cause is due = absurd is
+  MayRefuse-seen kept (Err e) cause is due = subst (MayRefuse number s k) (sym is) (record {
+    new_key = holds-seen number m s k seen ∙ absent;
+    too_large = subst (λ t. (cause ≡ TooLarge) ↔ IsOutOfRange number t.0 t.1 t.2 k) (factor-seen m s seen kept) due.too_large;
+    memory = λ memory next.
+        subst (λ t. IsNext t.1 (length t.0 + 1) t.2 t.1 → 0 < class_size number t.0 t.1 k) (factor-seen m s seen kept) (due.memory memory)
+        (subst (λ l. IsNext s.capacity (l + 1) load_factor s.capacity) (sym (length-paired s.walk)) next);
+  })
+    where
+      absent : is_some (value_of number m.walk k) ≡ false
+      absent = of (value_of number m.walk k) due.new_key
+        where
+          of : {V : Type 0} (o : Option V) → IsNone o → is_some o ≡ false
+          of None none = refl
+          of (Some v) none = cc
 
-  -- want of memory has one cause in both
-  pub memory-seen : m.factor ≡ load_factor → (r : Result Bool Cause) (cause d : Cause) → IsErrAnd r (λ e. e ≡ cause)
-      → (cause ≡ d → IsNext m.capacity (length m.walk + 1) m.factor m.capacity → 0 < class_size number m.walk m.capacity k)
-      → IsErrOf r d → IsNext s.capacity (length s.walk + 1) load_factor s.capacity → 0 < class_size number (paired s.walk) s.capacity k
-  memory-seen kept r cause d is memory err next =
-      subst (λ t. IsNext t.1 (length t.0 + 1) t.2 t.1 → 0 < class_size number t.0 t.1 k) (factor-seen m s seen kept) (memory ((IsErrOf-cause r cause d is).0 err))
-      (subst (λ l. IsNext s.capacity (l + 1) load_factor s.capacity) (sym (length-paired s.walk)) next)
+  -- an insertion into the map is one into the set
+  pub Inserts-seen : (is_valid : K → Type 0) → m.factor ≡ load_factor → (new : Bool) → new ≡ is_none (value_of number m.walk k)
+      → MatchBool new (n ≡ after_insert number m k tt n.capacity) (n ≡ after_search number m k) → IsInsertion number is_valid m k tt n → Inserts number is_valid s k (set_of n)
+  Inserts-seen is_valid kept new was state did = record {
+    in_range = λ beyond. did.in_range (subst (λ t. IsOutOfRange number t.0 t.1 t.2 k) (sym (factor-seen m s seen kept)) beyond);
+    capacity = IsCapacityAfter-seen kept did.capacity;
+    state = at (holds number s.walk k) (subst (λ b. MatchBool b (set_of n ≡ with_key number s k n.capacity) (set_of n ≡ s)) is_new (inserted-seen new state));
+    updates = Updates-seen number m n s k (Some tt) seen did.updates;
+    len = length-keys_of n.walk ∙ did.len ∙ ap (λ (t : ℕ × Bool). t.0 + cond t.1 0 1) (λ i. (length-seen m s seen i, sym (holds-seen number m s k seen) i));
+    valid = IsSet-seen number is_valid n (set_of n) refl (same_factor new state ∙ kept) did.valid;
+  }
+    where
+      is_new : new ≡ not (holds number s.walk k)
+      is_new = was ∙ not-is_some (value_of number m.walk k) ∙ ap not (sym (holds-seen number m s k seen))
+
+      at : (b : Bool) → MatchBool (not b) (set_of n ≡ with_key number s k n.capacity) (set_of n ≡ s) → set_of n ≡ cond b s (with_key number s k n.capacity)
+      at true same = same
+      at false added = added
+
+      same_factor : (b : Bool) → MatchBool b (n ≡ after_insert number m k tt n.capacity) (n ≡ after_search number m k) → n.factor ≡ m.factor
+      same_factor true is = ap (λ x. x.factor) is
+      same_factor false is = ap (λ x. x.factor) is
 
 module _ {K : Type 0} (number : K → ℕ) (m n : MapState K (Unit {0})) (s : SetState K) (seen : set_of m ≡ s) where
   -- growth of the map is growth of the set

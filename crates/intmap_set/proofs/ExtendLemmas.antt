@@ -2,18 +2,13 @@
 use Rattle.std.proofs.Common.{◌≡◌, inl, inr, ℕ, ◌+◌, Bool, true, false, cond, List, [], ◌∷◌, ◌++◌, length, refl, sym, ap, subst, ◌∙◌, add-zero, arith}
 use Rattle.std.proofs.lemmas.Bool.{cases_eq, eqb-true, eq-eqb, ne_eqb, true≢false}
 use Rattle.std.proofs.lemmas.List.Folds.{list_any-append}
-use Rattle.std.specs.Prelude.{◌||◌, ◌<◌, ◌↔◌, not, MatchBool, Result, Err}
-use Rattle.intmap.specs.declared.refusal.Cause.{Cause}
-use Rattle.intmap.specs.declared.refusal.Cause.TheVariants.{Memory, TooLarge}
-use Rattle.intmap.specs.Growth.{IsNext}
-use Rattle.intmap.specs.Map.{IsOutOfRange}
-use Rattle.intmap.specs.Reach.{class_size}
+use Rattle.std.specs.Prelude.{◌||◌}
 use Rattle.intmap.specs.Bindings.{value_of}
 use Rattle.intmap.specs.Classes.{same_key}
 use Rattle.intmap.proofs.CostLemmas.{capacity-not_less}
-use Rattle.intmap_set.specs.Sets.{SetState, holds, load_factor, paired, with_key}
+use Rattle.intmap_set.specs.Sets.{SetState, holds, load_factor, paired}
 use Rattle.intmap_set.specs.EqualityLaws.{holds-same_number}
-use Rattle.intmap_set.specs.Extending.{new_keys, Inserts, InsertsAll, IsExtended, MayRefuse}
+use Rattle.intmap_set.specs.Extending.{new_keys, Inserts, InsertsAll, IsExtended}
 
 -- a second of two that follows from the first adds nothing
 or-absorbed : (a b c : Bool) → (b ≡ true → a ≡ true) → (a || c) ≡ (a || (b || c))
@@ -69,21 +64,7 @@ module _ {K : Type 0} (number : K → ℕ) where
           let more = rest ∙ ap (λ b. length (new_keys number (j ∷ W) ks) + cond b 0 1) (or-turned (holds number W k) (same_key number k j) (holds number ks k)) in
           omega (arith, more)
 
--- one member more for a key that wasn't one
-cond-not : (b : Bool) → cond {A = ℕ} (not b) 1 0 ≡ cond b 0 1
-cond-not true = refl
-cond-not false = refl
-
 module _ {K : Type 0} (number : K → ℕ) (is_valid : K → Type 0) where
-  -- what an insertion leaves, by what it returns
-  pub inserted-state : (s t : SetState K) (k : K) (new : Bool) → new ≡ not (holds number s.walk k) → MatchBool new (t ≡ with_key number s k t.capacity) (t ≡ s)
-      → t ≡ cond (holds number s.walk k) s (with_key number s k t.capacity)
-  inserted-state s t k new is state = at (holds number s.walk k) (subst (λ b. MatchBool b (t ≡ with_key number s k t.capacity) (t ≡ s)) is state)
-    where
-      at : (b : Bool) → MatchBool (not b) (t ≡ with_key number s k t.capacity) (t ≡ s) → t ≡ cond b s (with_key number s k t.capacity)
-      at true same = same
-      at false added = added
-
   -- one successful insertion more
   InsertsAll-push : (s u t : SetState K) (ks : List K) (k : K) → InsertsAll number is_valid s ks u → Inserts number is_valid u k t → InsertsAll number is_valid s (ks ++ k ∷ []) t
   InsertsAll-push s u t [] k before last = (t, subst (λ x. Inserts number is_valid x k t) before last, refl)
@@ -98,41 +79,22 @@ module _ {K : Type 0} (number : K → ℕ) (is_valid : K → Type 0) where
       or-none false = refl
 
   module _ (s u t : SetState K) (ks : List K) (k : K) (before : IsExtended number is_valid s ks u) (last : Inserts number is_valid u k t) where
-    -- one insertion more that returned this, by what it says of members and length
-    pub IsExtended-push : (new : Bool) → new ≡ not (holds number u.walk k) → ((q : K) → holds number t.walk q ≡ cond (same_key number k q) true (holds number u.walk q))
-        → length t.walk ≡ length u.walk + cond new 1 0 → IsExtended number is_valid s (ks ++ k ∷ []) t
-    IsExtended-push new is updates len = record {
+    -- one insertion more
+    pub IsExtended-push : IsExtended number is_valid s (ks ++ k ∷ []) t
+    IsExtended-push = record {
       inserted = InsertsAll-push s u t ks k before.inserted last;
       members = λ q.
-          updates q ∙ (λ i. cond (same_key-turned number k q i) true (before.members q i))
+          last.updates.0 q ∙ (λ i. cond (same_key-turned number k q i) true (before.members q i))
           ∙ or-last (holds number s.walk q) (holds number ks q) (same_key number q k)
           ∙ ap (λ b. holds number s.walk q || b) (sym (list_any-append (same_key number q) ks (k ∷ [])));
       len =
           (let more = length-new_keys-push number s.walk ks k in
-          let counted : cond {A = ℕ} new 1 0 ≡ cond {A = ℕ} (holds number s.walk k || holds number ks k) 0 1 =
-          ap (λ b. cond b 1 0) is ∙ cond-not (holds number u.walk k) ∙ ap (λ b. cond b 0 1) (before.members k) in
+          let counted : cond {A = ℕ} (holds number u.walk k) 0 1 ≡ cond {A = ℕ} (holds number s.walk k || holds number ks k) 0 1 = ap (λ b. cond b 0 1) (before.members k) in
           let start = before.len in
-          omega (arith, len, more, counted, start));
+          let one = last.len in
+          omega (arith, one, more, counted, start));
       capacity =
           (let kept = capacity-not_less (value_of number (paired u.walk) k) u.capacity (length (paired u.walk) + 1) load_factor t.capacity last.capacity in
           let start = before.capacity in
           omega (arith, kept, start));
     }
-
--- a failure, in place of a T
-abbrev refusal_of : (T E : Type 0) → E → Result T E
-refusal_of T E e = Err e
-
--- what a failed insertion says of the key
-pub may_refuse-err : {K : Type 0} (number : K → ℕ) (s : SetState K) (k : K) (cause : Cause) → holds number s.walk k ≡ false
-    → (refusal_of Bool Cause cause ≡ Err TooLarge) ↔ IsOutOfRange number (paired s.walk) s.capacity load_factor k
-    → (refusal_of Bool Cause cause ≡ Err Memory → IsNext s.capacity (length s.walk + 1) load_factor s.capacity → 0 < class_size number (paired s.walk) s.capacity k)
-    → MayRefuse number s k cause
-may_refuse-err number s k cause new_key too_large memory = record {
-  new_key = new_key;
-  too_large = (λ is. too_large.0 (ap Err is), λ beyond. same (too_large.1 beyond));
-  memory = λ is. memory (ap Err is);
-}
-  where
-    same : (refusal_of Bool Cause cause ≡ Err TooLarge) → cause ≡ TooLarge
-    same err = cc

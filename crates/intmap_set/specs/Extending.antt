@@ -1,5 +1,5 @@
 -- What inserting keys in turn returns and leaves.
-use Rattle.std.specs.Prelude.{◌≡◌, false, ◌↔◌, ◌⊎◌, ℕ, ◌+◌, ◌-◌, ◌^◌, ◌<◌, ◌≤◌, cond, min, max, List, [], ◌∷◌, length, take, Option, Some}
+use Rattle.std.specs.Prelude.{◌≡◌, true, false, ◌↔◌, ◌⊎◌, ℕ, ◌+◌, ◌-◌, ◌^◌, ◌<◌, ◌≤◌, cond, min, max, List, [], ◌∷◌, length, take, Option, Some}
 use Rattle.std.specs.Iterator.{Drains, YieldsThen}
 use Rattle.std.specs.List.{slice_get}
 use Rattle.intmap.specs.declared.refusal.Cause.{Cause}
@@ -8,7 +8,7 @@ use Rattle.intmap.specs.declared.refusal.RefusedPair.{RefusedPair}
 use Rattle.intmap.specs.Growth.{IsLeastPower, IsNext}
 use Rattle.intmap.specs.Map.{IsOutOfRange, IsCapacityAfter}
 use Rattle.intmap.specs.Reach.{class_size}
-use Rattle.intmap_set.specs.Sets.{SetState, IsSet, empty_set, holds, load_factor, paired, with_key}
+use Rattle.intmap_set.specs.Sets.{SetState, IsSet, Updates, empty_set, holds, load_factor, paired, with_key}
 use Rattle.intmap_set.specs.Combined.{IsUnion}
 
 module _ {K : Type 0} (number : K → ℕ) where
@@ -25,12 +25,15 @@ module _ {K : Type 0} (number : K → ℕ) where
     pub memory : cause ≡ Memory → IsNext s.capacity (length s.walk + 1) load_factor s.capacity → 0 < class_size number (paired s.walk) s.capacity k
 
 module _ {K : Type 0} (number : K → ℕ) (is_valid : K → Type 0) where
-  -- a successful insertion of k took the set s to t
+  -- an insertion of k took the set s to t: k is in range, a new key alone may grow the table, and is then the last of its slot,
+  -- each other key is a member exactly if it was one, and there is one member more if k is new
   pub record Inserts (s : SetState K) (k : K) (t : SetState K) : Type 0 where
     pub in_range : IsOutOfRange number (paired s.walk) s.capacity load_factor k → ⊥
     pub capacity : IsCapacityAfter number (paired s.walk) s.capacity load_factor k t.capacity
     pub state : t ≡ cond (holds number s.walk k) s (with_key number s k t.capacity)
-    pub set : IsSet number is_valid t
+    pub updates : Updates number s.walk t.walk k true
+    pub len : length t.walk ≡ length s.walk + cond (holds number s.walk k) 0 1
+    pub valid : IsSet number is_valid t
 
   -- the keys were inserted in turn, and none failed
   abbrev pub InsertsAll : SetState K → List K → SetState K → Type 0

@@ -99,3 +99,11 @@ IsCapacityWith v place z D = MatchBool (is_nonzero z) (IsCapacityAfter (λ key. 
 -- the place isn't stored, and no new one is in range
 abbrev pub IsBeyondRange : Vector → ℕ → Type 0
 IsBeyondRange v place = IsOutOfRange (λ key. key) v.walk v.capacity load_factor place
+
+-- z became the value of the place, and the vector w is what v then is: a map with this place inserted, or removed for a 0; each other
+-- place has the value that it had
+pub record IsAssignment (v : Vector) (place : ℕ) (z : ℤ) (w : Vector) : Type 0 where
+  pub capacity : IsCapacityWith v place z w.capacity
+  pub state : w ≡ with_value v place z w.capacity
+  pub sets : SetsValue v.walk w.walk place z
+  pub len : length w.walk + cond (is_nonzero (value_at v.walk place)) 1 0 ≡ length v.walk + cond (is_nonzero z) 1 0

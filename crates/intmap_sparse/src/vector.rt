@@ -1,9 +1,9 @@
 //! The vector: a map from places to values other than 0.
-ghost use Rattle.std.specs.Prelude.{◌≡◌, ◌≢◌, ◌↔◌, ◌+◌, ◌<◌, ◌==◌, pos, ◌+ℤ◌, FitsSigned, IfOk, IfErr, IfSome, OnOk, OnErr, IsErrOf, IsNone, IsTrue, cond, length, []};
+ghost use Rattle.std.specs.Prelude.{◌≡◌, ◌≢◌, ◌↔◌, ◌+◌, ◌<◌, ◌==◌, pos, ◌+ℤ◌, FitsSigned, IfOk, IfErr, IfSome, OnOk, OnErr, IsErrOf, IsNone, IsTrue, length, []};
 ghost use Rattle.std.specs.Int.{w64};
 ghost use Rattle.intmap.specs.Reach.{class_size};
 ghost use Rattle.intmap.specs.Growth.{IsNext};
-ghost use Rattle.intmap_sparse.specs.Vectors.{value_at, is_nonzero, SetsValue, IsVector, HaveSameValues, IsBeyondRange, with_value, IsCapacityWith, load_factor, product, products, products_along, HasWideSum, count_of_nonzero};
+ghost use Rattle.intmap_sparse.specs.Vectors.{value_at, IsAssignment, IsVector, HaveSameValues, IsBeyondRange, load_factor, product, products, products_along, HasWideSum, count_of_nonzero};
 
 mod equal;
 
@@ -72,13 +72,7 @@ impl<A: Allocator + Copy> SparseVec<A> {
     pub fn set(&mut self, place: u64, value: i64) -> Result<i64, Cause>
         // what is returned and left
         ensures old { IfOk result (λ old. old ≡ value_at self.old.walk place) }
-        ensures capacity { OnOk result (IsCapacityWith self.old place value self.new.capacity) }
-        ensures state { OnOk result
-            (self.new ≡ with_value self.old place value self.new.capacity) }
-        ensures sets { OnOk result (SetsValue self.old.walk self.new.walk place value) }
-        ensures len { OnOk result
-            (length self.new.walk + cond (is_nonzero (value_at self.old.walk place)) 1 0
-            ≡ length self.old.walk + cond (is_nonzero value) 1 0) }
+        ensures assigned { OnOk result (IsAssignment self.old place value self.new) }
         ensures err { OnErr result (self.new ≡ self.old) }
 
         // when it fails
@@ -112,16 +106,8 @@ impl<A: Allocator + Copy> SparseVec<A> {
     pub fn add(&mut self, place: u64, delta: i64) -> Result<i64, SparseCause>
         // what is returned and left
         ensures sum { IfOk result (λ sum. sum ≡ value_at self.old.walk place +ℤ delta) }
-        ensures capacity { OnOk result (IsCapacityWith self.old place
-            (value_at self.old.walk place +ℤ delta) self.new.capacity) }
-        ensures state { OnOk result (self.new ≡ with_value self.old place
-            (value_at self.old.walk place +ℤ delta) self.new.capacity) }
-        ensures sets { OnOk result (SetsValue self.old.walk self.new.walk place
-            (value_at self.old.walk place +ℤ delta)) }
-        ensures len { OnOk result
-            (length self.new.walk + cond (is_nonzero (value_at self.old.walk place)) 1 0
-            ≡ length self.old.walk
-            + cond (is_nonzero (value_at self.old.walk place +ℤ delta)) 1 0) }
+        ensures assigned { OnOk result (IsAssignment self.old place
+            (value_at self.old.walk place +ℤ delta) self.new) }
         ensures err { OnErr result (self.new ≡ self.old) }
 
         // when it fails

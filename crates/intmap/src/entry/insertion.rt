@@ -1,10 +1,9 @@
 //! Insertions that return the entry of the key, which is then present.
-ghost use Rattle.std.specs.Prelude.{◌≡◌, ◌+◌, Some, cond, length, is_some, IfOk, IfErr, OnOk, IsOk};
+ghost use Rattle.std.specs.Prelude.{◌≡◌, None, IfOk, IfErr, IsOk};
 ghost use Rattle.std.specs.Borrow.{sem};
-ghost use Rattle.intmap_table.specs.Bindings.{Updates};
 ghost use Rattle.intmap.specs.Entries.{Occupied, Vacant, entry_map, entry_key, entry_value, entry_list, IsWritten, entry_rests};
-ghost use Rattle.intmap.specs.Growth.{IsNext};
-ghost use Rattle.intmap.specs.Map.{IsLone, IsMap, IsOutOfRange, IsCapacityAfter, InsertIsTooLarge};
+ghost use Rattle.intmap.specs.Insertions.{IsInsertion};
+ghost use Rattle.intmap.specs.Map.{IsLone};
 ghost use Rattle.intmap.specs.PlainLists.{RefusalIsDue};
 
 use crate::entry::{Entry, OccupiedEntry, VacantEntry};
@@ -24,16 +23,10 @@ impl<'a, K: IntKey, V: Drop, A: Allocator + Copy> VacantEntry<'a, K, V, A> {
         // what is returned and left
         ensures written { IfOk result (λ entry. IsWritten (Vacant self.entry) value
             (Occupied entry)) }
-        ensures capacity { IfOk result (λ entry. IsNext (entry_list (Vacant self.entry)).capacity
-            (length (entry_list (Vacant self.entry)).pairs + 1)
-            (entry_list (Vacant self.entry)).factor (entry_map (Occupied entry)).capacity) }
-        ensures updates { IfOk result (λ entry. Updates K.number_of
-            (entry_map (Vacant self.entry)).walk (entry_map (Occupied entry)).walk
-            (entry_key (Vacant self.entry)) (Some value)) }
-        ensures len { IfOk result (λ entry. length (entry_map (Occupied entry)).walk
-            ≡ length (entry_map (Vacant self.entry)).walk + 1) }
-        ensures valid_after { IfOk result
-            (λ entry. IsMap K.number_of K.is_valid (entry_map (Occupied entry))) }
+        ensures absent { entry_value (Vacant self.entry) ≡ None }
+        ensures inserted { IfOk result (λ entry. IsInsertion K.number_of K.is_valid
+            (entry_map (Vacant self.entry)) (entry_key (Vacant self.entry)) value
+            (entry_map (Occupied entry))) }
 
         // what a failure returns and leaves
         ensures* err { sem 𝓛 (entry_rests K.row V.row A.row A.Allocator (Vacant self.entry)
@@ -41,8 +34,6 @@ impl<'a, K: IntKey, V: Drop, A: Allocator + Copy> VacantEntry<'a, K, V, A> {
         ensures value_returned { IfErr result (λ refused. refused.value ≡ value) }
 
         // when it fails
-        ensures in_range { OnOk result (InsertIsTooLarge (entry_map (Vacant self.entry)).walk
-            (entry_map (Vacant self.entry)).capacity (entry_map (Vacant self.entry)).factor → ⊥) }
         ensures refused { IfErr result (λ refused. RefusalIsDue K.number_of
             (entry_list (Vacant self.entry)) (entry_key (Vacant self.entry)) refused.cause) }
         ensures lone { IsLone K.number_of (entry_map (Vacant self.entry)).walk
@@ -75,25 +66,14 @@ impl<'a, K: IntKey, V: Drop, A: Allocator + Copy> Entry<'a, K, V, A> {
     pub fn insert_entry(self, value: V) -> Result<OccupiedEntry<'a, K, V, A>, Refused<V>>
         // what is returned and left
         ensures written { IfOk result (λ entry. IsWritten self.entry value (Occupied entry)) }
-        ensures capacity { IfOk result (λ entry. IsCapacityAfter K.number_of
-            (entry_list self.entry).pairs (entry_list self.entry).capacity
-            (entry_list self.entry).factor (entry_key self.entry)
-            (entry_map (Occupied entry)).capacity) }
-        ensures updates { IfOk result (λ entry. Updates K.number_of (entry_map self.entry).walk
-            (entry_map (Occupied entry)).walk (entry_key self.entry) (Some value)) }
-        ensures len { IfOk result (λ entry. length (entry_map (Occupied entry)).walk
-            ≡ length (entry_map self.entry).walk + cond (is_some (entry_value self.entry)) 0 1) }
-        ensures valid_after { IfOk result
-            (λ entry. IsMap K.number_of K.is_valid (entry_map (Occupied entry))) }
+        ensures inserted { IfOk result (λ entry. IsInsertion K.number_of K.is_valid
+            (entry_map self.entry) (entry_key self.entry) value (entry_map (Occupied entry))) }
 
         // what a failure returns and leaves
         ensures* err { sem 𝓛 (entry_rests K.row V.row A.row A.Allocator self.entry result) }
         ensures value_returned { IfErr result (λ refused. refused.value ≡ value) }
 
         // when it fails
-        ensures in_range { OnOk result (IsOutOfRange K.number_of (entry_map self.entry).walk
-            (entry_map self.entry).capacity (entry_map self.entry).factor (entry_key self.entry)
-            → ⊥) }
         ensures refused { IfErr result (λ refused. RefusalIsDue K.number_of (entry_list self.entry)
             (entry_key self.entry) refused.cause) }
         ensures lone { IsLone K.number_of (entry_map self.entry).walk

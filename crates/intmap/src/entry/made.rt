@@ -1,10 +1,10 @@
 //! Insertions of values that are made only if the key is absent.
-ghost use Rattle.std.specs.Prelude.{◌≡◌, ◌+◌, None, Some, cond, length, is_some, IfOk, IfErr, OnOk, IsOk};
+ghost use Rattle.std.specs.Prelude.{◌≡◌, None, IfOk, IfErr, OnOk, IsOk};
 ghost use Rattle.std.specs.Borrow.{sem};
 ghost use Rattle.std.specs.Option.{UnwrapsOrElse};
-ghost use Rattle.intmap_table.specs.Bindings.{Updates};
 ghost use Rattle.intmap.specs.Entries.{entry_map, entry_key, entry_value, entry_list, map_with_value, entry_lends_ok};
-ghost use Rattle.intmap.specs.Map.{IsLone, IsMap, IsOutOfRange, IsCapacityAfter};
+ghost use Rattle.intmap.specs.Insertions.{IsInsertion};
+ghost use Rattle.intmap.specs.Map.{IsLone};
 ghost use Rattle.intmap.specs.PlainLists.{RefusalIsDue};
 
 use crate::entry::Entry;
@@ -33,25 +33,14 @@ impl<'a, K: IntKey, V: Drop, A: Allocator + Copy> Entry<'a, K, V, A> {
             self.entry result) }
         ensures value { IfOk result (λ r. UnwrapsOrElse (entry_value self.entry)
             (F.post f (entry_key self.entry)) r.now) }
-        ensures capacity { OnOk result ((v : V) → IsCapacityAfter K.number_of
-            (entry_list self.entry).pairs (entry_list self.entry).capacity
-            (entry_list self.entry).factor (entry_key self.entry)
-            (map_with_value self.entry v).capacity) }
-        ensures updates { OnOk result ((v : V) → Updates K.number_of (entry_map self.entry).walk
-            (map_with_value self.entry v).walk (entry_key self.entry) (Some v)) }
-        ensures len { OnOk result ((v : V) → length (map_with_value self.entry v).walk
-            ≡ length (entry_map self.entry).walk + cond (is_some (entry_value self.entry)) 0 1) }
-        ensures valid_after { OnOk result ((v : V)
-            → IsMap K.number_of K.is_valid (map_with_value self.entry v)) }
+        ensures inserted { OnOk result ((v : V) → IsInsertion K.number_of K.is_valid
+            (entry_map self.entry) (entry_key self.entry) v (map_with_value self.entry v)) }
 
         // what a failure returns
         ensures value_returned { IfErr result
             (λ refused. F.post f (entry_key self.entry) refused.value) }
 
         // when it fails
-        ensures in_range { OnOk result (IsOutOfRange K.number_of (entry_map self.entry).walk
-            (entry_map self.entry).capacity (entry_map self.entry).factor (entry_key self.entry)
-            → ⊥) }
         ensures refused { IfErr result (λ refused. RefusalIsDue K.number_of (entry_list self.entry)
             (entry_key self.entry) refused.cause) }
         ensures lone { IsLone K.number_of (entry_map self.entry).walk
@@ -81,24 +70,13 @@ impl<'a, K: IntKey, V: Drop, A: Allocator + Copy> Entry<'a, K, V, A> {
             self.entry result) }
         ensures value { IfOk result
             (λ r. UnwrapsOrElse (entry_value self.entry) (F.post f) r.now) }
-        ensures capacity { OnOk result ((v : V) → IsCapacityAfter K.number_of
-            (entry_list self.entry).pairs (entry_list self.entry).capacity
-            (entry_list self.entry).factor (entry_key self.entry)
-            (map_with_value self.entry v).capacity) }
-        ensures updates { OnOk result ((v : V) → Updates K.number_of (entry_map self.entry).walk
-            (map_with_value self.entry v).walk (entry_key self.entry) (Some v)) }
-        ensures len { OnOk result ((v : V) → length (map_with_value self.entry v).walk
-            ≡ length (entry_map self.entry).walk + cond (is_some (entry_value self.entry)) 0 1) }
-        ensures valid_after { OnOk result ((v : V)
-            → IsMap K.number_of K.is_valid (map_with_value self.entry v)) }
+        ensures inserted { OnOk result ((v : V) → IsInsertion K.number_of K.is_valid
+            (entry_map self.entry) (entry_key self.entry) v (map_with_value self.entry v)) }
 
         // what a failure returns
         ensures value_returned { IfErr result (λ refused. F.post f refused.value) }
 
         // when it fails
-        ensures in_range { OnOk result (IsOutOfRange K.number_of (entry_map self.entry).walk
-            (entry_map self.entry).capacity (entry_map self.entry).factor (entry_key self.entry)
-            → ⊥) }
         ensures refused { IfErr result (λ refused. RefusalIsDue K.number_of (entry_list self.entry)
             (entry_key self.entry) refused.cause) }
         ensures lone { IsLone K.number_of (entry_map self.entry).walk
@@ -123,24 +101,13 @@ impl<'a, K: IntKey, V: Drop, A: Allocator + Copy> Entry<'a, K, V, A> {
             self.entry result) }
         ensures value { IfOk result
             (λ r. UnwrapsOrElse (entry_value self.entry) V.is_made_with r.now) }
-        ensures capacity { OnOk result ((v : V) → IsCapacityAfter K.number_of
-            (entry_list self.entry).pairs (entry_list self.entry).capacity
-            (entry_list self.entry).factor (entry_key self.entry)
-            (map_with_value self.entry v).capacity) }
-        ensures updates { OnOk result ((v : V) → Updates K.number_of (entry_map self.entry).walk
-            (map_with_value self.entry v).walk (entry_key self.entry) (Some v)) }
-        ensures len { OnOk result ((v : V) → length (map_with_value self.entry v).walk
-            ≡ length (entry_map self.entry).walk + cond (is_some (entry_value self.entry)) 0 1) }
-        ensures valid_after { OnOk result ((v : V)
-            → IsMap K.number_of K.is_valid (map_with_value self.entry v)) }
+        ensures inserted { OnOk result ((v : V) → IsInsertion K.number_of K.is_valid
+            (entry_map self.entry) (entry_key self.entry) v (map_with_value self.entry v)) }
 
         // what a failure returns
         ensures value_returned { IfErr result (λ refused. V.is_made_with refused.value) }
 
         // when it fails
-        ensures in_range { OnOk result (IsOutOfRange K.number_of (entry_map self.entry).walk
-            (entry_map self.entry).capacity (entry_map self.entry).factor (entry_key self.entry)
-            → ⊥) }
         ensures refused { IfErr result (λ refused. RefusalIsDue K.number_of (entry_list self.entry)
             (entry_key self.entry) refused.cause) }
         ensures lone { IsLone K.number_of (entry_map self.entry).walk

@@ -1,10 +1,9 @@
 //! Entries of absent keys.
-ghost use Rattle.std.specs.Prelude.{◌≡◌, ◌+◌, length, Some, IfOk, IfErr, OnOk, IsOk};
+ghost use Rattle.std.specs.Prelude.{◌≡◌, None, IfOk, IfErr, OnOk, IsOk};
 ghost use Rattle.std.specs.Borrow.{sem};
-ghost use Rattle.intmap_table.specs.Bindings.{Updates};
-ghost use Rattle.intmap.specs.Entries.{Vacant, entry_reference, entry_map, entry_key, entry_list, next_entry_capacity, map_with_value, entry_lends_ok};
-ghost use Rattle.intmap.specs.Growth.{IsNext};
-ghost use Rattle.intmap.specs.Map.{IsLone, IsMap, InsertIsTooLarge};
+ghost use Rattle.intmap.specs.Entries.{Vacant, entry_reference, entry_map, entry_key, entry_value, entry_list, map_with_value, entry_lends_ok};
+ghost use Rattle.intmap.specs.Insertions.{IsInsertion};
+ghost use Rattle.intmap.specs.Map.{IsLone};
 ghost use Rattle.intmap.specs.PlainLists.{RefusalIsDue};
 
 use crate::entry::VacantEntry;
@@ -55,23 +54,15 @@ impl<'a, K: IntKey, V: Drop, A: Allocator + Copy> VacantEntry<'a, K, V, A> {
         ensures* writes_back { sem 𝓛 (entry_lends_ok K.row V.row A.row A.Allocator
             (Vacant self.entry) result) }
         ensures value { IfOk result (λ r. r.now ≡ value) }
-        ensures capacity { OnOk result (IsNext (entry_list (Vacant self.entry)).capacity
-            (length (entry_list (Vacant self.entry)).pairs + 1)
-            (entry_list (Vacant self.entry)).factor (next_entry_capacity (Vacant self.entry))) }
-        ensures updates { OnOk result ((v : V) → Updates K.number_of
-            (entry_map (Vacant self.entry)).walk (map_with_value (Vacant self.entry) v).walk
-            (entry_key (Vacant self.entry)) (Some v)) }
-        ensures len { OnOk result ((v : V) → length (map_with_value (Vacant self.entry) v).walk
-            ≡ length (entry_map (Vacant self.entry)).walk + 1) }
-        ensures valid_after { OnOk result ((v : V)
-            → IsMap K.number_of K.is_valid (map_with_value (Vacant self.entry) v)) }
+        ensures absent { entry_value (Vacant self.entry) ≡ None }
+        ensures inserted { OnOk result ((v : V) → IsInsertion K.number_of K.is_valid
+            (entry_map (Vacant self.entry)) (entry_key (Vacant self.entry)) v
+            (map_with_value (Vacant self.entry) v)) }
 
         // what a failure returns
         ensures value_returned { IfErr result (λ refused. refused.value ≡ value) }
 
         // when it fails
-        ensures in_range { OnOk result (InsertIsTooLarge (entry_map (Vacant self.entry)).walk
-            (entry_map (Vacant self.entry)).capacity (entry_map (Vacant self.entry)).factor → ⊥) }
         ensures refused { IfErr result (λ refused. RefusalIsDue K.number_of
             (entry_list (Vacant self.entry)) (entry_key (Vacant self.entry)) refused.cause) }
         ensures lone { IsLone K.number_of (entry_map (Vacant self.entry)).walk

@@ -1,9 +1,10 @@
 //! Insertions.
-ghost use Rattle.std.specs.Prelude.{◌≡◌, ◌↔◌, ◌+◌, ◌*◌, ◌/◌, ◌^◌, ◌<◌, length, IfOk, IfErr, IsOk, OnOk, OnErr, IsErrAnd, IsNone, None, Some, true, cond, is_some, is_none, unwrap_or, MatchBool};
-ghost use Rattle.intmap_table.specs.Bindings.{value_of, Updates};
-ghost use Rattle.intmap_table.specs.Reach.{class_size};
-ghost use Rattle.intmap.specs.Growth.{IsNext, is_due};
-ghost use Rattle.intmap.specs.Map.{IsLone, IsMap, InsertIsTooLarge, IsOutOfRange, IsCapacityAfter, after_search, after_insert, with_pair};
+ghost use Rattle.std.specs.Prelude.{◌≡◌, ◌+◌, ◌*◌, ◌/◌, ◌<◌, length, IfOk, IfErr, IsOk, OnOk, OnErr, None, true, is_none, unwrap_or, MatchBool};
+ghost use Rattle.intmap_table.specs.Bindings.{value_of};
+ghost use Rattle.intmap.specs.Growth.{is_due};
+ghost use Rattle.intmap.specs.Insertions.{IsInsertion};
+ghost use Rattle.intmap.specs.Map.{IsLone, IsMap, after_search, after_insert, with_pair};
+ghost use Rattle.intmap.specs.PlainLists.{RefusalIsDue, list_of};
 
 use crate::load::{has_outgrown, threshold_of, wanted_capacity};
 use crate::map::IntMap;
@@ -37,26 +38,18 @@ impl<K: IntKey, V: Drop, A: Allocator + Copy> IntMap<K, V, A> {
     pub fn insert(&mut self, key: K, value: V) -> Result<Option<V>, Refused<V>>
         // what is returned and left
         ensures old { IfOk result (λ old. old ≡ value_of K.number_of self.old.walk key) }
-        ensures capacity { OnOk result (IsCapacityAfter K.number_of self.old.walk self.old.capacity
-            self.old.factor key self.new.capacity) }
+        ensures inserted { OnOk result
+            (IsInsertion K.number_of K.is_valid self.old key value self.new) }
         ensures state { OnOk result
             (self.new ≡ after_insert K.number_of self.old key value self.new.capacity) }
-        ensures updates { OnOk result
-            (Updates K.number_of self.old.walk self.new.walk key (Some value)) }
-        ensures len { IfOk result (λ old. length self.new.walk
-            ≡ length self.old.walk + cond (is_some old) 0 1) }
 
         // what a failure returns and leaves
         ensures err { OnErr result (self.new ≡ after_search K.number_of self.old key) }
         ensures value_returned { IfErr result (λ refused. refused.value ≡ value) }
 
         // when it fails
-        ensures new_key { OnErr result (IsNone (value_of K.number_of self.old.walk key)) }
-        ensures too_large { IsErrAnd result (λ refused. refused.cause ≡ Cause.TooLarge)
-            ↔ IsOutOfRange K.number_of self.old.walk self.old.capacity self.old.factor key }
-        ensures memory { IfErr result (λ refused. refused.cause ≡ Cause.Memory
-            → IsNext self.old.capacity (length self.old.walk + 1) self.old.factor self.old.capacity
-            → 0 < class_size K.number_of self.old.walk self.old.capacity key) }
+        ensures refused { IfErr result (λ refused. RefusalIsDue K.number_of (list_of self.old) key
+            refused.cause) }
         ensures lone { IsLone K.number_of self.old.walk self.old.capacity key → IsOk result }
 
         ensures valid { IsMap K.number_of K.is_valid self.old }
@@ -83,27 +76,19 @@ impl<K: IntKey, V: Drop, A: Allocator + Copy> IntMap<K, V, A> {
     pub fn insert_checked(&mut self, key: K, value: V) -> Result<bool, Refused<V>>
         // what is returned and left
         ensures new { IfOk result (λ new. new ≡ is_none (value_of K.number_of self.old.walk key)) }
-        ensures capacity { OnOk result (IsCapacityAfter K.number_of self.old.walk self.old.capacity
-            self.old.factor key self.new.capacity) }
+        ensures inserted { OnOk result (IsInsertion K.number_of K.is_valid self.old key
+            (unwrap_or (value_of K.number_of self.old.walk key) value) self.new) }
         ensures state { IfOk result (λ new. MatchBool new
             (self.new ≡ after_insert K.number_of self.old key value self.new.capacity)
             (self.new ≡ after_search K.number_of self.old key)) }
-        ensures updates { OnOk result (Updates K.number_of self.old.walk self.new.walk key
-            (Some (unwrap_or (value_of K.number_of self.old.walk key) value))) }
-        ensures len { IfOk result (λ new. length self.new.walk
-            ≡ length self.old.walk + cond new 1 0) }
 
         // what a failure returns and leaves
         ensures err { OnErr result (self.new ≡ after_search K.number_of self.old key) }
         ensures value_returned { IfErr result (λ refused. refused.value ≡ value) }
 
         // when it fails
-        ensures new_key { OnErr result (IsNone (value_of K.number_of self.old.walk key)) }
-        ensures too_large { IsErrAnd result (λ refused. refused.cause ≡ Cause.TooLarge)
-            ↔ IsOutOfRange K.number_of self.old.walk self.old.capacity self.old.factor key }
-        ensures memory { IfErr result (λ refused. refused.cause ≡ Cause.Memory
-            → IsNext self.old.capacity (length self.old.walk + 1) self.old.factor self.old.capacity
-            → 0 < class_size K.number_of self.old.walk self.old.capacity key) }
+        ensures refused { IfErr result (λ refused. RefusalIsDue K.number_of (list_of self.old) key
+            refused.cause) }
         ensures lone { IsLone K.number_of self.old.walk self.old.capacity key → IsOk result }
 
         ensures valid { IsMap K.number_of K.is_valid self.old }
@@ -123,19 +108,14 @@ impl<K: IntKey, V: Drop, A: Allocator + Copy> IntMap<K, V, A> {
     pub(crate) fn add(&mut self, key: K, value: V) -> Result<(), Refused<V>>
         requires key { K.is_valid key }
         requires missing { value_of K.number_of self.old.walk key ≡ None }
-        ensures capacity { OnOk result (IsNext self.old.capacity (length self.old.walk + 1)
-            self.old.factor self.new.capacity) }
+        ensures inserted { OnOk result
+            (IsInsertion K.number_of K.is_valid self.old key value self.new) }
         ensures state { OnOk result
             (self.new ≡ with_pair K.number_of self.old key value self.new.capacity) }
         ensures err { OnErr result (self.new ≡ self.old) }
         ensures value_returned { IfErr result (λ refused. refused.value ≡ value) }
-        ensures in_range { OnOk result
-            (InsertIsTooLarge self.old.walk self.old.capacity self.old.factor → ⊥) }
-        ensures too_large { IfErr result (λ refused. (refused.cause ≡ Cause.TooLarge)
-            ↔ InsertIsTooLarge self.old.walk self.old.capacity self.old.factor) }
-        ensures memory { IfErr result (λ refused. refused.cause ≡ Cause.Memory
-            → IsNext self.old.capacity (length self.old.walk + 1) self.old.factor self.old.capacity
-            → 0 < class_size K.number_of self.old.walk self.old.capacity key) }
+        ensures refused { IfErr result (λ refused. RefusalIsDue K.number_of (list_of self.old) key
+            refused.cause) }
         ensures valid { IsMap K.number_of K.is_valid self.old }
         ensures valid_after { IsMap K.number_of K.is_valid self.new }
     {
@@ -168,16 +148,14 @@ impl<K: IntKey, V: Drop, A: Allocator + Copy> IntMap<K, V, A> {
         requires count { len ≡ length self.old.walk + 1 }
         requires due { is_due len ≡ true }
         requires exceeds { self.old.factor < len * 1000 / self.old.capacity }
-        ensures capacity { OnOk result (IsNext self.old.capacity (length self.old.walk + 1)
-            self.old.factor self.new.capacity) }
+        ensures inserted { OnOk result
+            (IsInsertion K.number_of K.is_valid self.old key value self.new) }
         ensures state { OnOk result
             (self.new ≡ with_pair K.number_of self.old key value self.new.capacity) }
         ensures err { OnErr result (self.new ≡ self.old) }
         ensures value_returned { IfErr result (λ refused. refused.value ≡ value) }
-        ensures in_range { OnOk result
-            (InsertIsTooLarge self.old.walk self.old.capacity self.old.factor → ⊥) }
-        ensures too_large { IfErr result (λ refused. (refused.cause ≡ Cause.TooLarge)
-            ↔ InsertIsTooLarge self.old.walk self.old.capacity self.old.factor) }
+        ensures refused { IfErr result (λ refused. RefusalIsDue K.number_of (list_of self.old) key
+            refused.cause) }
         ensures valid_after { IsMap K.number_of K.is_valid self.new }
     {
         let Some(capacity) = wanted_capacity(len, self.table.capacity(), self.factor) else {

@@ -1,9 +1,9 @@
 //! New sets, and the insertion of a key.
-ghost use Rattle.std.specs.Prelude.{◌≡◌, ◌↔◌, ℕ, ◌+◌, ◌^◌, ◌<◌, max, length, not, true, false, cond, Err, IfOk, IfErr, OnOk, OnErr, IsOk, IsErrOf, MatchBool};
-ghost use Rattle.intmap.specs.Growth.{IsLeastPower, IsNext};
-ghost use Rattle.intmap.specs.Map.{IsLone, IsOutOfRange, IsCapacityAfter};
-ghost use Rattle.intmap.specs.Reach.{class_size};
-ghost use Rattle.intmap_set.specs.Sets.{IsSet, Updates, empty_set, holds, load_factor, paired, with_key, in_slots};
+ghost use Rattle.std.specs.Prelude.{◌≡◌, ◌↔◌, ℕ, ◌+◌, ◌^◌, ◌<◌, max, length, not, Err, IfOk, IfErr, OnOk, OnErr, IsOk};
+ghost use Rattle.intmap.specs.Growth.{IsLeastPower};
+ghost use Rattle.intmap.specs.Map.{IsLone};
+ghost use Rattle.intmap_set.specs.Extending.{Inserts, MayRefuse};
+ghost use Rattle.intmap_set.specs.Sets.{IsSet, empty_set, holds, paired, in_slots};
 
 use crate::set::IntSet;
 use intmap::{Cause, IntKey, IntMap};
@@ -54,24 +54,11 @@ impl<K: IntKey, A: Allocator + Copy> IntSet<K, A> {
     pub fn insert(&mut self, key: K) -> Result<bool, Cause>
         // what is returned and left
         ensures new { IfOk result (λ new. new ≡ not (holds K.number_of self.old.walk key)) }
-        ensures capacity { OnOk result (IsCapacityAfter K.number_of (paired self.old.walk)
-            self.old.capacity load_factor key self.new.capacity) }
-        ensures state { IfOk result (λ new. MatchBool new
-            (self.new ≡ with_key K.number_of self.old key self.new.capacity)
-            (self.new ≡ self.old)) }
-        ensures updates { OnOk result
-            (Updates K.number_of self.old.walk self.new.walk key true) }
-        ensures len { IfOk result (λ new. length self.new.walk
-            ≡ length self.old.walk + cond new 1 0) }
+        ensures inserted { OnOk result (Inserts K.number_of K.is_valid self.old key self.new) }
         ensures err { OnErr result (self.new ≡ self.old) }
 
         // when it fails
-        ensures new_key { OnErr result (holds K.number_of self.old.walk key ≡ false) }
-        ensures too_large { IsErrOf result Cause.TooLarge
-            ↔ IsOutOfRange K.number_of (paired self.old.walk) self.old.capacity load_factor key }
-        ensures memory { IsErrOf result Cause.Memory
-            → IsNext self.old.capacity (length self.old.walk + 1) load_factor self.old.capacity
-            → 0 < class_size K.number_of (paired self.old.walk) self.old.capacity key }
+        ensures refused { IfErr result (MayRefuse K.number_of self.old key) }
         ensures lone { IsLone K.number_of (paired self.old.walk) self.old.capacity key
             → IsOk result }
 

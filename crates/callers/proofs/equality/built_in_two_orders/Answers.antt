@@ -20,9 +20,9 @@ returns g c =
     let first = c.args.first in let second = c.args.second in
     c.eq.ensures ∙ (c.equal_maps_bind_the_same.ensures c.insert-2.new.self c.insert-4.new.self).1 (λ k.
     let none = ap (λ m. value_of number m.walk k) c.in_ok-map.ensures.state in
-    let there = c.in_ok-insert-2.ensures.updates.0 k ∙ ap (cond (same_key number second.0 k) (Some second.1)) (c.in_ok-insert.ensures.updates.0 k ∙ ap (cond (same_key number first.0 k) (Some first.1)) none) in
+    let there = c.in_ok-insert-2.ensures.inserted.updates.0 k ∙ ap (cond (same_key number second.0 k) (Some second.1)) (c.in_ok-insert.ensures.inserted.updates.0 k ∙ ap (cond (same_key number first.0 k) (Some first.1)) none) in
     let none_too = ap (λ m. value_of number m.walk k) c.in_ok-other.ensures.state in
-    let back = c.in_ok-insert-4.ensures.updates.0 k ∙ ap (cond (same_key number first.0 k) (Some first.1)) (c.in_ok-insert-3.ensures.updates.0 k ∙ ap (cond (same_key number second.0 k) (Some second.1)) none_too) in
+    let back = c.in_ok-insert-4.ensures.inserted.updates.0 k ∙ ap (cond (same_key number first.0 k) (Some first.1)) (c.in_ok-insert-3.ensures.inserted.updates.0 k ∙ ap (cond (same_key number second.0 k) (Some second.1)) none_too) in
     (λ i. option_eq ◌==◌ (there i) (back i))
     ∙ option_eq-turned (same_key number first.0 k) (same_key number second.0 k) first.1 second.1
     (λ is_first is_second. c.requires (sym (eqb-true k first.0 is_first) ∙ eqb-true k second.0 is_second)))

@@ -7,5 +7,5 @@ pub returns-in_default-clause-moved : goal.returns-in_default-clause-moved
 returns-in_default-clause-moved g c came before rest moves = record {
   moved = (c.args.key, c.args.value) ∷ moves.moved;
   none_lost = λ test. let counted = moves.none_lost test in grind (arith, common_steps, counted);
-  bound = λ q. let now = c.in_default.ensures.updates.0 q in let so_far = moves.bound q in grind (arith, now, so_far);
+  bound = λ q. let now = c.in_default.ensures.inserted.updates.0 q in let so_far = moves.bound q in grind (arith, now, so_far);
 }

@@ -61,12 +61,12 @@ invariant_of-self-2 c =
     let ok : c.insert.result ≡ Ok c.in_ok-insert.field-0 = search rules in
     let next : id ≡ length pairs = search rules in
     let new : is_some (value_of (λ key. key) pairs id) ≡ false = is_some-none _ (self.index.free id (omega (arith, next))) in
-    let more : length c.insert.new.self.walk ≡ length pairs + 1 = IfOk-at_ok _ ok c.insert.ensures.len ∙ ap (λ b. length pairs + cond b 0 1) (ap is_some (IfOk-at_ok _ ok c.insert.ensures.old) ∙ new) in
+    let more : length c.insert.new.self.walk ≡ length pairs + 1 = c.in_ok-insert.ensures.inserted.len ∙ ap (λ b. length pairs + cond b 0 1) new in
     let key : string_bytes c.in_ok-key.key ≡ c.args.word.now = c.in_ok-key.ensures.ok in
     let text : string_bytes c.in_ok-text.text ≡ c.args.word.now = c.in_ok-text.ensures.ok in
     record {
       index = IsIndex-add _ _ (word_at pairs) (word_at c.insert.new.self.walk) _ _ id c.args.word.now (is_ok c.insert-2.result) self.index next more
           (λ v. get_by_text-insert c.insert-2.result (string_bytes c.in_ok-key.key) self.ids c.insert-2.new.self _ c.insert-2.ensures.updates c.insert-2.ensures.err v
           ∙ ap (λ w. cond (is_ok c.insert-2.result) (update bytes_eq (get_by_text self.ids) w (Some id) v) (get_by_text self.ids v)) key)
-          (λ q. ap (option_map string_bytes) ((IfOk-at_ok _ ok c.insert.ensures.updates).0 q) ∙ word-cond (q == id) _ _ _ text);
+          (λ q. ap (option_map string_bytes) (c.in_ok-insert.ensures.inserted.updates.0 q) ∙ word-cond (q == id) _ _ _ text);
     }

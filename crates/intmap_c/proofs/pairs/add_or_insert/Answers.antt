@@ -15,7 +15,7 @@ returns-in-Ok c =
       c.of-in-Ok.ensures,
       v.occupied,
       subst (λ n. Binds c.args.map.now n c.args.key c.args.more) (sym (c.map-in-Ok-1.given.1 name ∙ left))
-          (Binds-new c.args.map.now _ c.args.key _ v.state v.key v.occupied _ c.args.more _ made.written.map made.capacity made.updates made.len made.in_range),
+          (Binds-new c.args.map.now _ c.args.key _ v.state v.key v.occupied _ c.args.more _ made.written.map made.inserted),
     ))
 
 pub returns-in-Err : goal.returns-in-Err

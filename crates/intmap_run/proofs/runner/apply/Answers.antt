@@ -8,26 +8,26 @@ pub returns-in-Ok-clause-step : goal.returns-in-Ok-clause-step
 returns-in-Ok-clause-step g c =
     rw (c.in-Insert.is, c.in-Ok.ensures.old)
     (StepsFrom-insert g.K.IntKey.number_of g.K.IntKey.is_valid c.args.map.now c.insert.ensures.valid (g.J.Judge.sees c.args.judge.now) (g.J.Judge.keeps c.args.judge.now)
-    c.in-Insert.key c.in-Insert.value c.insert.new.self c.in-Ok.ensures.capacity c.in-Ok.ensures.too_large.1 c.in-Ok.ensures.state)
+    c.in-Insert.key c.in-Insert.value c.insert.new.self c.in-Ok.ensures.inserted.capacity c.in-Ok.ensures.inserted.in_range c.in-Ok.ensures.state)
 
 pub returns-in-Err-clause-step : goal.returns-in-Err-clause-step
 returns-in-Err-clause-step g c =
     rw (c.in-Insert.is, c.handed_back.ensures, c.in-Err.ensures.value_returned, c.in-Err.ensures.err)
     (StepsFrom-refused g.K.IntKey.number_of g.K.IntKey.is_valid c.args.map.now c.insert.ensures.valid (g.J.Judge.sees c.args.judge.now) (g.J.Judge.keeps c.args.judge.now)
-    c.in-Insert.key c.in-Insert.value c.in-Err.refused.cause c.in-Err.ensures.new_key c.in-Err.ensures.too_large c.in-Err.ensures.memory)
+    c.in-Insert.key c.in-Insert.value c.in-Err.refused.cause c.in-Err.ensures.refused)
 
 pub returns-in-Ok-insert_checked-clause-step : goal.returns-in-Ok-insert_checked-clause-step
 returns-in-Ok-insert_checked-clause-step g c =
     let e = c.in-Ok-insert_checked.ensures in
     rw c.in-InsertChecked.is
     (StepsFrom-insert_checked g.K.IntKey.number_of g.K.IntKey.is_valid c.args.map.now c.insert_checked.ensures.valid (g.J.Judge.sees c.args.judge.now) (g.J.Judge.keeps c.args.judge.now)
-    c.in-InsertChecked.key c.in-InsertChecked.value c.insert_checked.new.self c.in-Ok-insert_checked.new e.new e.capacity e.too_large.1 e.state)
+    c.in-InsertChecked.key c.in-InsertChecked.value c.insert_checked.new.self c.in-Ok-insert_checked.new e.new e.inserted.capacity e.inserted.in_range e.state)
 
 pub returns-in-Err-insert_checked-clause-step : goal.returns-in-Err-insert_checked-clause-step
 returns-in-Err-insert_checked-clause-step g c =
     rw (c.in-InsertChecked.is, c.handed_back-in-Err-insert_checked.ensures, c.in-Err-insert_checked.ensures.value_returned, c.in-Err-insert_checked.ensures.err)
     (StepsFrom-refused_checked g.K.IntKey.number_of g.K.IntKey.is_valid c.args.map.now c.insert_checked.ensures.valid (g.J.Judge.sees c.args.judge.now) (g.J.Judge.keeps c.args.judge.now)
-    c.in-InsertChecked.key c.in-InsertChecked.value c.in-Err-insert_checked.refused.cause c.in-Err-insert_checked.ensures.new_key c.in-Err-insert_checked.ensures.too_large c.in-Err-insert_checked.ensures.memory)
+    c.in-InsertChecked.key c.in-InsertChecked.value c.in-Err-insert_checked.refused.cause c.in-Err-insert_checked.ensures.refused)
 
 pub returns-in-Some-get_mut-clause-step : goal.returns-in-Some-get_mut-clause-step
 returns-in-Some-get_mut-clause-step g c =

@@ -1,4 +1,4 @@
-use Rattle.std.proofs.Common.{◌≡◌, ◌+◌, None, length, ap, ◌∙◌, ne_eqb, arith}
+use Rattle.std.proofs.Common.{◌≡◌, ◌+◌, length, ap, ◌∙◌, ne_eqb, arith}
 use Rattle.std.proofs.lemmas.Grind.{common_steps}
 use Rattle.std.proofs.lemmas.Bool.Decides.{nat_tests}
 use Rattle.callers.proofs.dense.Dense.add.Goals as goal
@@ -11,26 +11,26 @@ invariant_of-self-in-Ok g c =
     let is = c.self.invariant in
     let put = c.in-Ok.ensures in
     let next : c.len-number.result ≡ length c.self.inside.values.walk = c.len-number.ensures.value ∙ c.reserve.ensures.len in
-    let none : c.in-Ok.field-0 ≡ None = put.old ∙ c.reserve.ensures.updates c.len-number.result ∙ is.not_given c.len-number.result (omega arith) in
-    let long = rw none at put.len in
+    let none = c.reserve.ensures.updates c.len-number.result ∙ is.not_given c.len-number.result (omega arith) in
+    let long = rw none at put.inserted.len in
     let roomy = c.in_default.ensures.capacity in
-    let kept = c.insertions_keep_capacity.ensures c.reserve.new.self.walk c.reserve.new.self.capacity c.reserve.new.self.factor c.len-number.result c.insert.new.self.capacity put.capacity in
+    let kept = c.insertions_keep_capacity.ensures c.reserve.new.self.walk c.reserve.new.self.capacity c.reserve.new.self.factor c.len-number.result c.insert.new.self.capacity put.inserted.capacity in
     record {
       room = omega (arith, long, c.reserve.ensures.len, kept, roomy.1.enough, roomy.2);
-      given = λ n below. let each = put.updates.0 n in let same = c.reserve.ensures.updates n in let had = is.given n in grind (arith, common_steps, nat_tests, each, same, had, long, next);
-      not_given = λ n above. let each = put.updates.0 n in let same = c.reserve.ensures.updates n in let had = is.not_given n in grind (arith, common_steps, nat_tests, each, same, had, long, next);
+      given = λ n below. let each = put.inserted.updates.0 n in let same = c.reserve.ensures.updates n in let had = is.given n in grind (arith, common_steps, nat_tests, each, same, had, long, next);
+      not_given = λ n above. let each = put.inserted.updates.0 n in let same = c.reserve.ensures.updates n in let had = is.not_given n in grind (arith, common_steps, nat_tests, each, same, had, long, next);
     }
 
 pub returns-in-Ok-clause-len : goal.returns-in-Ok-clause-len
 returns-in-Ok-clause-len g c =
     let next : c.len-number.result ≡ length c.self.inside.values.walk = c.len-number.ensures.value ∙ c.reserve.ensures.len in
-    let none : c.in-Ok.field-0 ≡ None = c.in-Ok.ensures.old ∙ c.reserve.ensures.updates c.len-number.result ∙ c.self.invariant.not_given c.len-number.result (omega arith) in
-    rw none at c.in-Ok.ensures.len ∙ ap (λ n. n + 1) (c.reserve.ensures.len ∙ ap length c.self.view_is)
+    let none = c.reserve.ensures.updates c.len-number.result ∙ c.self.invariant.not_given c.len-number.result (omega arith) in
+    rw none at c.in-Ok.ensures.inserted.len ∙ ap (λ n. n + 1) (c.reserve.ensures.len ∙ ap length c.self.view_is)
 
 pub returns-in-Ok-clause-others : goal.returns-in-Ok-clause-others
 returns-in-Ok-clause-others g c q other =
     let next : c.len-number.result ≡ length c.args.self.now = c.len-number.ensures.value ∙ c.reserve.ensures.len ∙ ap length c.self.view_is in
-    rw (← c.self.view_is) (c.in-Ok.ensures.updates.2 q (ne_eqb q c.len-number.result (λ e. other (e ∙ next))) ∙ c.reserve.ensures.updates q)
+    rw (← c.self.view_is) (c.in-Ok.ensures.inserted.updates.2 q (ne_eqb q c.len-number.result (λ e. other (e ∙ next))) ∙ c.reserve.ensures.updates q)
 
 pub invariant_of-self-2 : goal.invariant_of-self-2
 invariant_of-self-2 g c =

@@ -1,12 +1,10 @@
-use Rattle.std.proofs.Common.{◌≡◌, true, false, Some, refl, sym, ap, ◌∙◌, subst, arith}
-use Rattle.std.proofs.lemmas.Result.{IfOk-weaker}
-use Rattle.intmap_table.specs.Bindings.{Updates, value_of}
+use Rattle.std.proofs.Common.{◌≡◌, refl, sym, ap, ◌∙◌, subst}
+use Rattle.intmap_table.specs.Bindings.{value_of}
 use Rattle.intmap.specs.Entries.{occupied_key}
+use Rattle.intmap.specs.Insertions.{IsInsertion}
 use Rattle.intmap.specs.Map.{written}
 use Rattle.intmap_table.specs.Laws.Written.{IsFound-write_value, key_at-written, the_key-same}
-use Rattle.intmap.proofs.EntryLemmas.{OnOk-so}
-use Rattle.intmap.proofs.MapLemmas.{one_more}
-use Rattle.intmap.proofs.WriteLemmas.{Updates-written, length-write_value, IsMapWalk-written}
+use Rattle.intmap.proofs.InsertionLemmas.{IsInsertion-written}
 use Rattle.intmap.proofs.entry.Entry.insert_entry.Goals as goal
 
 pub invariant_of-self : goal.invariant_of-self
@@ -31,13 +29,10 @@ returns-in-Occupied g c =
           map = ap (λ k. written number o.map.now k v) same;
           key = the_key-same _ _ _ o.found.some (key_at-written number walk o.map.now.capacity o.slot o.place k v);
         };
-        capacity = rw value refl;
-        updates = subst (λ q. Updates number walk (written number o.map.now k v).walk q (Some v)) same (Updates-written number walk k v _ c.value_mut_at.ensures.value);
-        len = let long = length-write_value number walk k v in rw value (omega (arith, long));
-        valid_after = IsMapWalk-written number g.K.IntKey.is_valid walk _ _ k v c.value_mut_at.ensures.valid;
+        inserted = subst (λ q. IsInsertion number g.K.IntKey.is_valid o.map.now q v (written number o.map.now k v)) same
+            (IsInsertion-written number g.K.IntKey.is_valid o.map.now k v _ c.value_mut_at.ensures.value c.value_mut_at.ensures.valid);
         err = tt;
         value_returned = tt;
-        in_range = λ out. let w : true ≡ false = rw value at out.0 in cc;
         refused = tt;
         lone = λ lone. refl;
       },
@@ -47,18 +42,13 @@ pub returns-in-Vacant : goal.returns-in-Vacant
 returns-in-Vacant g c =
     let e = c.in-Vacant.entry in
     let told = c.insert_entry.ensures in
-    let one = one_more (value_of g.K.IntKey.number_of e.map.now.walk e.key) e.missing in
     rw c.in-Vacant.is (
       (refl, c.insert_entry.follows.holds, c.insert_entry.follows.holds-at-none),
       record {
         written = told.written;
-        capacity = IfOk-weaker c.insert_entry.result _ _ (λ entry next. rw e.missing next) told.capacity;
-        updates = told.updates;
-        len = IfOk-weaker c.insert_entry.result _ _ (λ entry len. omega (arith, len, one)) told.len;
-        valid_after = told.valid_after;
+        inserted = told.inserted;
         err = tt;
         value_returned = told.value_returned;
-        in_range = OnOk-so _ _ (λ fits out. fits out.1) c.insert_entry.result told.in_range;
         refused = told.refused;
         lone = told.lone;
       },

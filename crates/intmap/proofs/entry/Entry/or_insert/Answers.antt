@@ -1,25 +1,35 @@
-use Rattle.std.proofs.Common.{refl, arith}
-use Rattle.intmap_table.specs.Bindings.{value_of}
-use Rattle.intmap.proofs.EntryLemmas.{OnOk-so}
-use Rattle.intmap.proofs.MapLemmas.{one_more}
+use Rattle.std.proofs.Common.{refl}
+use Rattle.intmap.specs.Entries.{Occupied, map_with_value, occupied_key}
+use Rattle.intmap.proofs.InsertionLemmas.{IsInsertion-present}
 use Rattle.intmap.proofs.entry.Entry.or_insert.Goals as goal
+
+pub returns-in-Occupied : goal.returns-in-Occupied
+returns-in-Occupied g c =
+    let o = c.in-Occupied.entry in
+    let told = c.into_mut.ensures in
+    rw c.in-Occupied.is (
+      refl,
+      record {
+        writes_back = tt;
+        value = rw told.value refl;
+        inserted = λ v. IsInsertion-present g.K.IntKey.number_of g.K.IntKey.is_valid o.map.now (map_with_value (Occupied o) v) (occupied_key o) v _ told.value refl (told.updates v) (told.len v) (told.valid_after v);
+        value_returned = tt;
+        refused = tt;
+        lone = λ lone. refl;
+      },
+    )
 
 pub returns-in-Vacant : goal.returns-in-Vacant
 returns-in-Vacant g c =
     let e = c.in-Vacant.entry in
     let told = c.insert.ensures in
-    let one = one_more (value_of g.K.IntKey.number_of e.map.now.walk e.key) e.missing in
     rw c.in-Vacant.is (
       refl,
       record {
         writes_back = tt;
         value = rw e.missing told.value;
-        capacity = OnOk-so _ _ (λ next v. rw e.missing next) c.insert.result told.capacity;
-        updates = told.updates;
-        len = OnOk-so _ _ (λ len v. let n = len v in omega (arith, n, one)) c.insert.result told.len;
-        valid_after = told.valid_after;
+        inserted = told.inserted;
         value_returned = told.value_returned;
-        in_range = OnOk-so _ _ (λ fits out. fits out.1) c.insert.result told.in_range;
         refused = told.refused;
         lone = told.lone;
       },

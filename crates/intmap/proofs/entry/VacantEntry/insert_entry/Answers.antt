@@ -1,34 +1,26 @@
-use Rattle.std.proofs.Common.{◌≡◌, ◌+◌, Some, length, refl, sym, ap, ◌∙◌, subst, arith}
-use Rattle.intmap_table.specs.Bindings.{value_of}
+use Rattle.std.proofs.Common.{◌≡◌, Some, refl, sym, ap, ◌∙◌, subst}
 use Rattle.intmap.specs.Entries.{Vacant, entry_list}
-use Rattle.intmap.specs.Growth.{next_capacity}
 use Rattle.intmap_table.specs.Locations.{IsLast, key_at}
 use Rattle.intmap_table.specs.Walk.{slot_of}
 use Rattle.intmap.specs.Map.{MapState, with_pair}
 use Rattle.intmap_table.specs.Laws.Written.{the_key-same}
-use Rattle.intmap.proofs.AfterLemmas.{Updates-put, length-put}
-use Rattle.intmap.proofs.EntryLemmas.{IsNext-next_capacity, length-not_too_large}
-use Rattle.intmap.proofs.LoadFactorLemmas.{IsNext-unique}
+use Rattle.intmap.proofs.EntryLemmas.{next_capacity-inserted}
 use Rattle.intmap_table.proofs.LocationLemmas.{IsLast-put}
 use Rattle.intmap_table.proofs.Tables.FoundLemmas.{IsFound-located, key_at-located}
-use Rattle.intmap.proofs.MapLemmas.{one_more}
-use Rattle.intmap.proofs.RefusalLemmas.{RefusalIsDue-absent, lone-never_refused}
+use Rattle.intmap.proofs.RefusalLemmas.{lone-never_refused}
 use Rattle.intmap.proofs.entry.VacantEntry.insert_entry.Goals as goal
 use Rattle.intmap.proofs.entry.VacantEntry.insert_entry.Goals.{After-locate_last-at}
 
 pub returns-in-Err : goal.returns-in-Err
 returns-in-Err g c =
-    let due = RefusalIsDue-absent g.K.IntKey.number_of (entry_list (Vacant c.args.self)) c.args.self.key c.args.self.missing c.in-Err.refused.cause c.in-Err.ensures.too_large c.in-Err.ensures.memory in (
+    let due = c.in-Err.ensures.refused in (
       (refl, (λ w. tt), c.in-Err.ensures.err),
       record {
         written = tt;
-        capacity = tt;
-        updates = tt;
-        len = tt;
-        valid_after = tt;
+        absent = c.args.self.missing;
+        inserted = tt;
         err = tt;
         value_returned = c.in-Err.ensures.value_returned;
-        in_range = tt;
         refused = due;
         lone = λ lone. absurd (lone-never_refused g.K.IntKey.number_of (entry_list (Vacant c.args.self)) c.args.self.key c.add.ensures.valid.capacity lone c.in-Err.refused.cause due);
       },
@@ -56,11 +48,7 @@ returns g c =
     let number = g.K.IntKey.number_of in
     let m : MapState g.row.K.Denot g.row.V.Denot = c.args.self.map.now in
     let k = c.args.self.key in
-    let D = next_capacity m.capacity (length m.walk + 1) m.factor in
-    let next = IsNext-next_capacity m.capacity (length m.walk + 1) m.factor c.add.ensures.valid.capacity (length-not_too_large m.walk m.capacity m.factor c.in_default.ensures.in_range) in
-    let same : c.add.new.self.capacity ≡ D = IsNext-unique m.capacity (length m.walk + 1) m.factor c.add.new.self.capacity D c.in_default.ensures.capacity next in
-    let walk = ap (λ n. n.walk) c.in_default.ensures.state in
-    let cap = c.add.ensures.valid_after.capacity in (
+    let same = next_capacity-inserted number g.K.IntKey.is_valid m c.add.new.self k c.args.value c.args.self.missing c.add.ensures.valid c.in_default.ensures.inserted in (
       (refl, (λ w. refl), tt),
       record {
         written = record {
@@ -68,13 +56,10 @@ returns g c =
           map = c.in_default.ensures.state ∙ ap (with_pair number m k c.args.value) same;
           key = the_key-same _ (Some k) _ refl (here g (goal.at.returns g c).After-locate_last-at);
         };
-        capacity = c.in_default.ensures.capacity;
-        updates = Updates-put number g.K.IntKey.is_valid m c.add.new.self.walk c.add.new.self.capacity k c.args.value c.add.ensures.valid cap walk;
-        len = let long = length-put number g.K.IntKey.is_valid m c.add.new.self.walk c.add.new.self.capacity k c.args.value cap walk in let one = one_more (value_of number m.walk k) c.args.self.missing in omega (arith, long, one);
-        valid_after = c.add.ensures.valid_after;
+        absent = c.args.self.missing;
+        inserted = c.in_default.ensures.inserted;
         err = tt;
         value_returned = tt;
-        in_range = c.in_default.ensures.in_range;
         refused = tt;
         lone = λ lone. refl;
       },

@@ -1,18 +1,13 @@
-use Rattle.std.proofs.Common.{◌≡◌, ◌+◌, Some, Ok, length, refl, sym, ap, ◌∙◌, subst, arith}
+use Rattle.std.proofs.Common.{◌≡◌, ◌+◌, Some, Ok, length, refl, sym, ap, ◌∙◌, subst}
 use mathlib.Core.Logic.{inl, inr}
 use mathlib.Core.Path.{fun_ext}
 use Rattle.intmap_table.specs.Bindings.{value_of}
-use Rattle.intmap_table.specs.Classes.{IsCapacity}
-use Rattle.intmap.specs.Entries.{Vacant, entry_list}
 use Rattle.intmap.specs.Growth.{next_capacity}
 use Rattle.intmap_table.specs.Locations.{IsLast}
-use Rattle.intmap.specs.Map.{MapState, IsMap, with_pair, written}
-use Rattle.intmap.proofs.AfterLemmas.{Updates-put, length-put}
-use Rattle.intmap.proofs.EntryLemmas.{IsNext-next_capacity, length-not_too_large, written-with_pair}
-use Rattle.intmap.proofs.LoadFactorLemmas.{IsNext-unique}
+use Rattle.intmap.specs.Map.{MapState, IsMap, IsCapacityAfter, with_pair, written}
+use Rattle.intmap.proofs.EntryLemmas.{next_capacity-inserted, written-with_pair}
+use Rattle.intmap.proofs.InsertionLemmas.{IsInsertion-put}
 use Rattle.intmap_table.proofs.LocationLemmas.{IsLast-put}
-use Rattle.intmap.proofs.MapLemmas.{one_more}
-use Rattle.intmap.proofs.RefusalLemmas.{RefusalIsDue-absent}
 use Rattle.intmap.proofs.WriteLemmas.{IsMapWalk-written}
 use Rattle.intmap.proofs.entry.VacantEntry.insert_made.Goals as goal
 use Rattle.intmap.proofs.entry.VacantEntry.insert_made.Goals.{After-value_mut_at}
@@ -24,17 +19,13 @@ returns-in-Err-add g c =
       record {
         writes_back = tt;
         value = tt;
-        capacity = tt;
-        updates = tt;
-        len = tt;
-        valid_after = tt;
+        inserted = tt;
         err = inr (record {
           refused = c.in-Err-add.refused;
           value = ap Ok told.value_returned ∙ sym c.in-Ok.is;
-          due = RefusalIsDue-absent g.K.IntKey.number_of (entry_list (Vacant c.args.self)) c.args.self.key c.args.self.missing c.in-Err-add.refused.cause told.too_large told.memory;
+          due = told.refused;
           error = c.from.ensures;
         });
-        in_range = tt;
       },
     )
 
@@ -49,22 +40,18 @@ returns g c =
     let m : MapState g.row.K.Denot g.row.V.Denot = c.args.self.map.now in
     let k = c.args.self.key in
     let D = next_capacity m.capacity (length m.walk + 1) m.factor in
-    let next = IsNext-next_capacity m.capacity (length m.walk + 1) m.factor c.add.ensures.valid.capacity (length-not_too_large m.walk m.capacity m.factor c.in_default.ensures.in_range) in
-    let same : c.add.new.self.capacity ≡ D = IsNext-unique m.capacity (length m.walk + 1) m.factor c.add.new.self.capacity D c.in_default.ensures.capacity next in
-    let cap : IsCapacity D = subst IsCapacity same c.add.ensures.valid_after.capacity in
+    let did = c.in_default.ensures.inserted in
+    let same : c.add.new.self.capacity ≡ D = next_capacity-inserted number g.K.IntKey.is_valid m c.add.new.self k c.in-Ok.value c.args.self.missing c.add.ensures.valid did in
     let after : (v : g.row.V.Denot) → written number c.add.new.self c.locate_last-at.result.key v ≡ with_pair number m k v D
     = λ v. ap (λ q. written number c.add.new.self q v) c.locate_last-at.ensures.key ∙ ap (λ n. written number n k v) c.in_default.ensures.state
-    ∙ written-with_pair number m k c.in-Ok.value v c.add.new.self.capacity c.args.self.missing ∙ ap (λ C. with_pair number m k v C) same in
-    let here = Updates-put number g.K.IntKey.is_valid m c.add.new.self.walk c.add.new.self.capacity k c.in-Ok.value c.add.ensures.valid c.add.ensures.valid_after.capacity (ap (λ n. n.walk) c.in_default.ensures.state) in (
+    ∙ written-with_pair number m k c.in-Ok.value v c.add.new.self.capacity c.args.self.missing ∙ ap (λ C. with_pair number m k v C) same in (
       ap (λ f. inl (c.value_mut_at.result.ghost_name, f)) (fun_ext after),
       record {
         writes_back = tt;
-        value = c.in-Ok.is ∙ ap Ok (let found : value_of number c.add.new.self.walk k ≡ Some c.value_mut_at.result.now = ap (value_of number c.add.new.self.walk) (sym c.locate_last-at.ensures.key) ∙ c.value_mut_at.ensures.value in let is = here.1 in cc);
-        capacity = next;
-        updates = λ v. Updates-put number g.K.IntKey.is_valid m _ D k v c.add.ensures.valid cap refl;
-        len = λ v. let long = length-put number g.K.IntKey.is_valid m _ D k v cap refl in let one = one_more (value_of number m.walk k) c.args.self.missing in omega (arith, long, one);
-        valid_after = λ v. subst (IsMap number g.K.IntKey.is_valid) (after v) (IsMapWalk-written number g.K.IntKey.is_valid c.add.new.self.walk c.add.new.self.capacity c.add.new.self.factor c.locate_last-at.result.key v c.add.ensures.valid_after);
+        value = c.in-Ok.is ∙ ap Ok (let found : value_of number c.add.new.self.walk k ≡ Some c.value_mut_at.result.now = ap (value_of number c.add.new.self.walk) (sym c.locate_last-at.ensures.key) ∙ c.value_mut_at.ensures.value in let is = did.updates.1 in cc);
+        inserted = λ v. IsInsertion-put number g.K.IntKey.is_valid m (with_pair number m k v D) k v c.add.ensures.valid
+            (subst (IsMap number g.K.IntKey.is_valid) (after v) (IsMapWalk-written number g.K.IntKey.is_valid c.add.new.self.walk c.add.new.self.capacity c.add.new.self.factor c.locate_last-at.result.key v c.add.ensures.valid_after))
+            refl did.in_range (subst (IsCapacityAfter number m.walk m.capacity m.factor k) same did.capacity);
         err = tt;
-        in_range = c.in_default.ensures.in_range;
       },
     )

@@ -4,6 +4,10 @@ use Rattle.std.specs.Prelude.{◌&&◌, ◌==◌, nat_lt}
 use Rattle.std.proofs.lemmas.Bool.{eq-eqb}
 use Rattle.intmap.specs.Growth.{IsNext, is_due}
 use Rattle.intmap.specs.Map.{InsertIsTooLarge}
+use Rattle.intmap.specs.PlainLists.{PlainList}
+use Rattle.intmap.specs.declared.refusal.Cause.TheVariants.{Memory, TooLarge}
+use Rattle.intmap.proofs.InsertionLemmas.{IsInsertion-put}
+use Rattle.intmap.proofs.RefusalLemmas.{RefusalIsDue-absent}
 use Rattle.intmap.proofs.LoadFactorLemmas.{IsNext-same, GrowsTooMuch-none}
 use Rattle.intmap.proofs.MapLemmas.{MapState-same, IsConsistent-added}
 use Rattle.intmap.proofs.map.IntMap.add.Goals as goal
@@ -19,6 +23,9 @@ module _ (g : _) (c : After-add g) where
   seen : c.self.inside.len ≡ length c.self.inside.table.walk
   seen = c.self.invariant.count
 
+  abbrev held : PlainList g.row.K.Denot g.row.V.Denot
+  held = record { pairs = c.self.inside.table.walk; capacity = c.self.inside.table.capacity; factor = c.self.inside.factor }
+
   -- the capacity stays
   stays : IsNext c.self.inside.table.capacity (length c.self.inside.table.walk + 1) c.self.inside.factor c.self.inside.table.capacity
   stays =
@@ -31,9 +38,11 @@ module _ (g : _) (c : After-add g) where
     | inr much ↦ GrowsTooMuch-none c.self.inside.table.capacity (length c.self.inside.table.walk + 1) c.self.inside.factor c.self.inside.table.capacity c.self.invariant.map.capacity stays much
   ]
 
-pub returns-in-Err-clause-too_large : goal.returns-in-Err-clause-too_large
-returns-in-Err-clause-too_large g c =
-    rw (← c.self.view_is) ((λ e. cc), (λ large. absurd (in_range g (goal.at.returns-in-Err-clause-too_large g c).After-add large)))
+pub returns-in-Err-clause-refused : goal.returns-in-Err-clause-refused
+returns-in-Err-clause-refused g c =
+    let at = (goal.at.returns-in-Err-clause-refused g c).After-add in
+    rw (← c.self.view_is) (RefusalIsDue-absent g.K.IntKey.number_of (held g at) c.args.key (rw (← c.self.view_is) at c.requires.missing) Memory
+    ((λ e. cc), λ large. absurd (in_range g at large)) (λ _ _. c.in-Err.ensures.memory))
 
 pub invariant_of-self-2 : goal.invariant_of-self-2
 invariant_of-self-2 g c =
@@ -41,9 +50,12 @@ invariant_of-self-2 g c =
     let missing = (rw (← c.self.view_is) at c.requires.missing) in
     IsConsistent-added _ _ _ _ _ _ _ _ c.self.invariant c.add.new.self.capacity c.args.key c.new.result c.in_default.ensures.capacity c.requires.key missing (fits g here) (test g here) c.in_default.ensures.walk
 
-pub returns-clause-capacity : goal.returns-clause-capacity
-returns-clause-capacity g c =
-    rw (c.in_default.ensures.capacity, ← c.self.view_is) (stays g (goal.at.returns-clause-capacity g c).After-add)
+pub returns-clause-inserted : goal.returns-clause-inserted
+returns-clause-inserted g c =
+    let at = (goal.at.returns-clause-inserted g c).After-add in
+    let missing = (rw (← c.self.view_is) at c.requires.missing) in
+    rw (← c.self.view_is) (IsInsertion-put g.K.IntKey.number_of g.K.IntKey.is_valid _ _ c.args.key c.args.value c.self.invariant.map (invariant_of-self-2 g c).map
+    (rw c.in_default.ensures.capacity (rw c.new.ensures at c.in_default.ensures.walk)) (λ out. in_range g at out.1) (rw (missing, c.in_default.ensures.capacity) (stays g at)))
 
 pub returns-clause-state : goal.returns-clause-state
 returns-clause-state g c =
@@ -52,17 +64,15 @@ returns-clause-state g c =
     (rw c.new.ensures at c.in_default.ensures.walk)
     refl (sym (ap (λ b. c.self.inside.placed + cond b 0 (length c.self.inside.table.walk + 1)) same ∙ add-zero c.self.inside.placed)) refl)
 
-pub returns-clause-in_range : goal.returns-clause-in_range
-returns-clause-in_range g c = rw (← c.self.view_is) (in_range g (goal.at.returns-clause-in_range g c).After-add)
-
-pub returns-then-self-clause-too_large : goal.returns-then-self-clause-too_large
-returns-then-self-clause-too_large g c = grind (arith, common_steps)
+pub returns-then-self-clause-refused : goal.returns-then-self-clause-refused
+returns-then-self-clause-refused g c =
+    let missing = (rw (← c.self.view_is) at c.requires.missing) in
+    let full = c.if-self.true in let counted = c.self.invariant.count in
+    rw (← c.self.view_is) (RefusalIsDue-absent g.K.IntKey.number_of (record { pairs = c.self.inside.table.walk; capacity = c.self.inside.table.capacity; factor = c.self.inside.factor }) c.args.key missing TooLarge
+    ((λ _. inl (omega (arith, full, counted))), λ _. refl) (λ e. cc))
 
 pub add_growing-requires-clause-count : goal.add_growing-requires-clause-count
 add_growing-requires-clause-count g c = grind (arith, common_steps)
-
-pub returns-then-has_outgrown-clause-memory : goal.returns-then-has_outgrown-clause-memory
-returns-then-has_outgrown-clause-memory g c = grind (arith, common_steps)
 
 pub invariant_of-self : goal.invariant_of-self
 invariant_of-self g c = rw (c.in-Err.ensures.err, c.in-Err.ensures.capacity) c.self.invariant
@@ -103,8 +113,8 @@ returns-then-self-clause-err g c = refl
 pub returns-then-self-clause-valid_after : goal.returns-then-self-clause-valid_after
 returns-then-self-clause-valid_after g c = rw (← c.self.view_is) c.self.invariant.map
 
-pub returns-then-has_outgrown-clause-capacity : goal.returns-then-has_outgrown-clause-capacity
-returns-then-has_outgrown-clause-capacity g c = c.add_growing.ensures.capacity
+pub returns-then-has_outgrown-clause-inserted : goal.returns-then-has_outgrown-clause-inserted
+returns-then-has_outgrown-clause-inserted g c = c.add_growing.ensures.inserted
 
 pub returns-then-has_outgrown-clause-state : goal.returns-then-has_outgrown-clause-state
 returns-then-has_outgrown-clause-state g c = c.add_growing.ensures.state
@@ -115,11 +125,8 @@ returns-then-has_outgrown-clause-err g c = c.add_growing.ensures.err
 pub returns-then-has_outgrown-clause-value_returned : goal.returns-then-has_outgrown-clause-value_returned
 returns-then-has_outgrown-clause-value_returned g c = c.add_growing.ensures.value_returned
 
-pub returns-then-has_outgrown-clause-in_range : goal.returns-then-has_outgrown-clause-in_range
-returns-then-has_outgrown-clause-in_range g c = c.add_growing.ensures.in_range
-
-pub returns-then-has_outgrown-clause-too_large : goal.returns-then-has_outgrown-clause-too_large
-returns-then-has_outgrown-clause-too_large g c = c.add_growing.ensures.too_large
+pub returns-then-has_outgrown-clause-refused : goal.returns-then-has_outgrown-clause-refused
+returns-then-has_outgrown-clause-refused g c = c.add_growing.ensures.refused
 
 pub returns-then-has_outgrown-clause-valid_after : goal.returns-then-has_outgrown-clause-valid_after
 returns-then-has_outgrown-clause-valid_after g c = c.add_growing.ensures.valid_after

@@ -5,7 +5,11 @@ use Rattle.intmap_table.specs.Bindings.{value_of}
 use Rattle.intmap.specs.Growth.{IsWanted, IsNext, WantsTooMuch, MeetsLoad, is_due}
 use Rattle.intmap.specs.Map.{InsertIsTooLarge}
 use Rattle.intmap.specs.Consistency.{IsConsistent}
-use Rattle.intmap.proofs.LoadFactorLemmas.{IsNext-changes, IsNext-wanted, GrowsTooMuch-none, GrowsTooMuch-wants}
+use Rattle.intmap.specs.PlainLists.{PlainList}
+use Rattle.intmap.specs.declared.refusal.Cause.TheVariants.{Memory, TooLarge}
+use Rattle.intmap.proofs.InsertionLemmas.{IsInsertion-put}
+use Rattle.intmap.proofs.RefusalLemmas.{RefusalIsDue-absent}
+use Rattle.intmap.proofs.LoadFactorLemmas.{IsNext-changes, IsNext-unique, IsNext-wanted, GrowsTooMuch-none, GrowsTooMuch-wants}
 use Rattle.intmap.proofs.MapLemmas.{MapState-same, IsConsistent-grown_with}
 use Rattle.intmap.proofs.map.IntMap.add_growing.Goals as goal
 use Rattle.intmap.proofs.map.IntMap.add_growing.Goals.{After-capacity, After-grow_with}
@@ -38,23 +42,10 @@ invariant_of-self-2 g c =
     (IsConsistent-grown_with _ _ _ _ _ _ _ _ c.self.invariant c.in-Some.capacity c.grow_with.new.self.capacity c.threshold_of-threshold.result c.args.key c.new.result
     c.in_default-grow_with.ensures.capacity c.in-Some.ensures.capacity c.requires.key (missing g here) (omega (arith, e, fits)) meets c.threshold_of-threshold.ensures c.in_default-grow_with.ensures.walk)
 
-pub returns-clause-state : goal.returns-clause-state
-returns-clause-state g c =
-    let here = (goal.at.returns-clause-state g c).After-capacity in
-    let C = c.self.inside.table.capacity in
-    let n : ℕ = length c.self.inside.table.walk + 1 in
-    let e : c.args.len ≡ n = seen g here in
-    let over : c.self.inside.factor < n * 1000 / c.self.inside.table.capacity = rw (← c.self.view_is) at (subst (λ m. c.args.self.now.factor < m * 1000 / c.args.self.now.capacity) e c.requires.exceeds) in
-    let apart : c.in-Some.capacity ≢ c.self.inside.table.capacity =
-    IsNext-changes c.self.inside.table.capacity n c.self.inside.factor c.in-Some.capacity over (subst (λ m. MeetsLoad c.in-Some.capacity m c.self.inside.factor) e c.in-Some.ensures.wanted.meets) in
-    let other : (c.in-Some.capacity == c.self.inside.table.capacity) ≡ false = ne_eqb c.in-Some.capacity c.self.inside.table.capacity apart in
-    rw (c.in_default-grow_with.ensures.capacity, ← c.self.view_is) (MapState-same _ _ _ _ _ _ _ _ _
-    (rw c.new.ensures at c.in_default-grow_with.ensures.walk)
-    refl
-    (c.in_default-grow_with.ensures.placed ∙ ap (λ m. c.self.inside.placed + m) (ap (λ b. cond b 0 n) (sym other)))
-    refl)
-
 module _ (g : _) (c : After-grow_with g) where
+  abbrev held : PlainList g.row.K.Denot g.row.V.Denot
+  held = record { pairs = c.self.inside.table.walk; capacity = c.self.inside.table.capacity; factor = c.self.inside.factor }
+
   here : c.args.len ≡ length c.self.inside.table.walk + 1
   here = rw (← c.self.view_is) at c.requires.count
 
@@ -65,30 +56,50 @@ module _ (g : _) (c : After-grow_with g) where
       (subst (λ n. is_due n ≡ true) here c.requires.due)
       (subst (λ n. IsWanted c.self.inside.table.capacity n c.self.inside.factor c.in-Some.capacity) here (rw c.capacity.ensures.value at c.in-Some.ensures.wanted))
 
+  -- which is another than now
+  grows : c.in-Some.capacity ≢ c.self.inside.table.capacity
+  grows =
+      let over : c.self.inside.factor < (length c.self.inside.table.walk + 1) * 1000 / c.self.inside.table.capacity = rw (← c.self.view_is) at (subst (λ m. c.args.self.now.factor < m * 1000 / c.args.self.now.capacity) here c.requires.exceeds) in
+      IsNext-changes c.self.inside.table.capacity (length c.self.inside.table.walk + 1) c.self.inside.factor c.in-Some.capacity over
+      (subst (λ m. MeetsLoad c.in-Some.capacity m c.self.inside.factor) here c.in-Some.ensures.wanted.meets)
+
   in_range : InsertIsTooLarge c.self.inside.table.walk c.self.inside.table.capacity c.self.inside.factor → ⊥
   in_range large = elim large [
     | inl long ↦ (let fits = c.ranges.len.fits in let e = here in omega (arith, long, fits, e))
     | inr much ↦ GrowsTooMuch-none c.self.inside.table.capacity (length c.self.inside.table.walk + 1) c.self.inside.factor c.in-Some.capacity c.in-Some.ensures.capacity next much
   ]
 
-pub returns-in_default-clause-too_large : goal.returns-in_default-clause-too_large
-returns-in_default-clause-too_large g c =
-    let e = seen g (goal.at.returns-in_default-clause-too_large g c).After-capacity in
+pub returns-in_default-clause-refused : goal.returns-in_default-clause-refused
+returns-in_default-clause-refused g c =
+    let at = (goal.at.returns-in_default-clause-refused g c).After-capacity in
+    let e = seen g at in
     let due = subst (λ n. is_due n ≡ true) e c.requires.due in
     let much = subst (λ n. WantsTooMuch c.self.inside.table.capacity n c.self.inside.factor) e (rw c.capacity.ensures.value at c.in_default.ensures.none) in
-    rw (← c.self.view_is) ((λ _. inr (GrowsTooMuch-wants c.self.inside.table.capacity (length c.self.inside.table.walk + 1) c.self.inside.factor due much)), (λ _. refl))
+    rw (← c.self.view_is) (RefusalIsDue-absent g.K.IntKey.number_of (record { pairs = c.self.inside.table.walk; capacity = c.self.inside.table.capacity; factor = c.self.inside.factor }) c.args.key (missing g at) TooLarge
+    ((λ _. inr (GrowsTooMuch-wants c.self.inside.table.capacity (length c.self.inside.table.walk + 1) c.self.inside.factor due much)), (λ _. refl)) (λ e. cc))
 
-pub returns-in-Err-clause-too_large : goal.returns-in-Err-clause-too_large
-returns-in-Err-clause-too_large g c =
-    let at = (goal.at.returns-in-Err-clause-too_large g c).After-grow_with in
-    rw (← c.self.view_is) ((λ e. cc), (λ large. absurd (in_range g at large)))
+pub returns-in-Err-clause-refused : goal.returns-in-Err-clause-refused
+returns-in-Err-clause-refused g c =
+    let at = (goal.at.returns-in-Err-clause-refused g c).After-grow_with in
+    rw (← c.self.view_is) (RefusalIsDue-absent g.K.IntKey.number_of (held g at) c.args.key (rw (← c.self.view_is) at c.requires.missing) Memory
+    ((λ e. cc), (λ large. absurd (in_range g at large))) (λ _ stays. absurd (grows g at (IsNext-unique _ _ _ _ _ (next g at) stays))))
 
-pub returns-clause-capacity : goal.returns-clause-capacity
-returns-clause-capacity g c =
-    rw (c.in_default-grow_with.ensures.capacity, ← c.self.view_is) (next g (goal.at.returns-clause-capacity g c).After-grow_with)
+pub returns-clause-state : goal.returns-clause-state
+returns-clause-state g c =
+    let at = (goal.at.returns-clause-state g c).After-grow_with in
+    let other : (c.in-Some.capacity == c.self.inside.table.capacity) ≡ false = ne_eqb c.in-Some.capacity c.self.inside.table.capacity (grows g at) in
+    rw (c.in_default-grow_with.ensures.capacity, ← c.self.view_is) (MapState-same _ _ _ _ _ _ _ _ _
+    (rw c.new.ensures at c.in_default-grow_with.ensures.walk)
+    refl
+    (c.in_default-grow_with.ensures.placed ∙ ap (λ m. c.self.inside.placed + m) (ap (λ b. cond b 0 (length c.self.inside.table.walk + 1)) (sym other)))
+    refl)
 
-pub returns-clause-in_range : goal.returns-clause-in_range
-returns-clause-in_range g c = rw (← c.self.view_is) (in_range g (goal.at.returns-clause-in_range g c).After-grow_with)
+pub returns-clause-inserted : goal.returns-clause-inserted
+returns-clause-inserted g c =
+    let at = (goal.at.returns-clause-inserted g c).After-grow_with in
+    let missing = (rw (← c.self.view_is) at c.requires.missing) in
+    rw (← c.self.view_is) (IsInsertion-put g.K.IntKey.number_of g.K.IntKey.is_valid _ _ c.args.key c.args.value c.self.invariant.map (invariant_of-self-2 g c).map
+    (rw c.in_default-grow_with.ensures.capacity (rw c.new.ensures at c.in_default-grow_with.ensures.walk)) (λ out. in_range g at out.1) (rw (missing, c.in_default-grow_with.ensures.capacity) (next g at)))
 
 pub invariant_of-self : goal.invariant_of-self
 invariant_of-self g c = rw c.in-Err.ensures.err c.self.invariant

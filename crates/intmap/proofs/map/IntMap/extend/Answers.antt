@@ -13,10 +13,11 @@ pub loop-key-preserved : goal.loop-key-preserved
 loop-key-preserved g c =
     let e = c.in-Ok.ensures in
     let kept = c.loop-key.invariant in
-    let last : MapInserts g.K.IntKey.number_of g.K.IntKey.is_valid c.loop-key.self c.in-Some.key c.in-Some.value c.insert.new.self = record { in_range = e.too_large.1; capacity = e.capacity; state = e.state; map = c.insert.ensures.valid_after } in (
+    let last : MapInserts g.K.IntKey.number_of g.K.IntKey.is_valid c.loop-key.self c.in-Some.key c.in-Some.value c.insert.new.self =
+    record { in_range = e.inserted.in_range; capacity = e.inserted.capacity; state = e.state; map = e.inserted.valid } in (
       search rules,
       IsExtended-push g.K.IntKey.number_of g.K.IntKey.is_valid c.args.self.now c.loop-key.self c.insert.new.self c.loop-key.yielded c.in-Some.key c.in-Some.value
-          kept.1 last c.in-Ok.field-0 e.old e.updates.0 e.len,
+          kept.1 last e.inserted.updates.0 e.inserted.len,
       omega (arith, c.saturating_add-applied.ensures, kept.2, length_push c.loop-key.yielded (c.in-Some.key, c.in-Some.value)),
       c.insert.ensures.valid_after,
       kept.4,
@@ -37,7 +38,7 @@ returns-in-Err-clause-stops g c =
       );
       before = c.loop-key.self;
       extended = c.loop-key.invariant.1;
-      may_refuse = record { new_key = e.new_key; too_large = e.too_large; memory = e.memory };
+      may_refuse = e.refused;
       after = e.err;
       applied = c.loop-key.invariant.2;
     }

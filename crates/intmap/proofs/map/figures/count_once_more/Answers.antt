@@ -11,8 +11,8 @@ returns-in-Some-clause-valid_after g c = c.in-Some.ensures.valid_after (c.in-Som
 
 pub returns-clause-counted : goal.returns-clause-counted
 returns-clause-counted g c = λ ns tally.
-    let inserted = c.in_ok-insert.ensures in
+    let inserted = c.in_ok-insert.ensures.inserted in let state = c.in_ok-insert.ensures.state in
     let none = c.in_default.ensures.value in
     let len : length c.insert.new.self.walk ≡ length c.args.counts.now.walk + 1 =
-    inserted.len ∙ ap (λ (o : Option ℕ). length c.args.counts.now.walk + cond (is_some o) 0 1) (inserted.old ∙ sym none) in
-    IsTally-inserted ns c.args.number c.args.counts.now c.insert.new.self tally none inserted.too_large.1 inserted.capacity (ap (λ x. x.walk) inserted.state) (ap (λ x. x.factor) inserted.state) inserted.valid_after inserted.updates len
+    inserted.len ∙ ap (λ (o : Option ℕ). length c.args.counts.now.walk + cond (is_some o) 0 1) (sym none) in
+    IsTally-inserted ns c.args.number c.args.counts.now c.insert.new.self tally none inserted.in_range inserted.capacity (ap (λ x. x.walk) state) (ap (λ x. x.factor) state) inserted.valid inserted.updates len

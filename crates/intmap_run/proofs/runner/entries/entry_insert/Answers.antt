@@ -15,7 +15,7 @@ returns-in-Ok-clause-step g c =
     let e = c.in-Vacant.ensures in
     λ judge. StepsFrom-equal g.K.IntKey.number_of (g.J.Judge.sees judge) (g.J.Judge.keeps judge) c.args.map.now _ _ _ _
     (StepsFrom-fresh g.K.IntKey.number_of g.K.IntKey.is_valid c.args.map.now e.valid (g.J.Judge.sees judge) (g.J.Judge.keeps judge) c.args.key
-    c.in-Vacant.entry.key c.in-Vacant.entry.map.now e.state e.key c.args.value c.in-Ok._value.now _ c.in-Vacant.entry.missing c.in-Ok.ensures.value c.in-Ok.ensures.capacity c.in-Ok.ensures.in_range) (search rules)
+    c.in-Vacant.entry.key c.in-Vacant.entry.map.now e.state e.key c.args.value c.in-Ok._value.now _ c.in-Vacant.entry.missing c.in-Ok.ensures.value (c.in-Ok.ensures.inserted c.in-Ok._value.now).capacity (c.in-Ok.ensures.inserted c.in-Ok._value.now).in_range) (search rules)
 
 pub returns-in-Err-clause-step : goal.returns-in-Err-clause-step
 returns-in-Err-clause-step g c =
@@ -25,4 +25,4 @@ returns-in-Err-clause-step g c =
     c.in-Vacant.entry.key c.in-Vacant.entry.map.now e.state e.key c.args.value c.in-Err.refused.cause c.in-Err.ensures.refused) (search rules))
 
 pub returns-in-Ok-clause-valid_after : goal.returns-in-Ok-clause-valid_after
-returns-in-Ok-clause-valid_after g c = let h = c.in-Ok.ensures.valid_after c.in-Ok._value.now in search rules
+returns-in-Ok-clause-valid_after g c = let h = (c.in-Ok.ensures.inserted c.in-Ok._value.now).valid in search rules

@@ -2,24 +2,16 @@
 use Rattle.std.proofs.Common.{sym, subst, arith, rules}
 use Rattle.std.specs.Iterator.{Yields}
 use Rattle.std.proofs.lemmas.List.{length_push}
-use Rattle.intmap_set.specs.Extending.{Inserts, IsExtended, MayRefuse}
-use Rattle.intmap_set.proofs.CallLemmas.{IsErrOf-ok}
-use Rattle.intmap_set.proofs.ExtendLemmas.{IsExtended-push, inserted-state, may_refuse-err}
+use Rattle.intmap_set.specs.Extending.{IsExtended, MayRefuse}
+use Rattle.intmap_set.proofs.ExtendLemmas.{IsExtended-push}
 use Rattle.intmap_set.proofs.set.IntSet.extend.Goals as goal
 
 pub loop-key-preserved : goal.loop-key-preserved
 loop-key-preserved g c =
     let number = g.K.IntKey.number_of in let is_valid = g.K.IntKey.is_valid in
-    let before = c.loop-key.self in let after = c.insert.new.self in let key = c.in-Some.key in
-    let kept = c.loop-key.invariant in let e = c.in_default.ensures in
-    let last : Inserts number is_valid before key after = record {
-      in_range = λ beyond. IsErrOf-ok c.in_default.field-0 _ (e.too_large.1 beyond);
-      capacity = e.capacity;
-      state = inserted-state number is_valid before after key c.in_default.field-0 e.new e.state;
-      set = c.insert.ensures.valid_after;
-    } in (
+    let key = c.in-Some.key in let kept = c.loop-key.invariant in (
       search rules,
-      IsExtended-push number is_valid c.args.self.now before after c.loop-key.yielded key kept.1 last c.in_default.field-0 e.new e.updates.0 e.len,
+      IsExtended-push number is_valid c.args.self.now c.loop-key.self c.insert.new.self c.loop-key.yielded key kept.1 c.in_default.ensures.inserted,
       omega (arith, c.saturating_add-applied.ensures, kept.2, length_push c.loop-key.yielded key),
       c.insert.ensures.valid_after,
       kept.4,
@@ -37,7 +29,6 @@ returns-in-Err-clause-stops g c =
         c.in-Some.ensures.steps,
       );
       extended = subst (λ s. IsExtended g.K.IntKey.number_of g.K.IntKey.is_valid c.args.self.now keys s) (sym e.err) c.loop-key.invariant.1;
-      may_refuse = subst (λ s. MayRefuse g.K.IntKey.number_of s c.in-Some.key c.in-Err.cause) (sym e.err)
-          (may_refuse-err g.K.IntKey.number_of c.loop-key.self c.in-Some.key c.in-Err.cause e.new_key e.too_large e.memory);
+      may_refuse = subst (λ s. MayRefuse g.K.IntKey.number_of s c.in-Some.key c.in-Err.cause) (sym e.err) e.refused;
       applied = c.loop-key.invariant.2;
     }

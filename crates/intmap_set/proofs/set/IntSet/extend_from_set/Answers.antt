@@ -1,6 +1,6 @@
 use Rattle.std.proofs.Common.{length, ◌∙◌, sym, ◌^◌, ◌<◌, arith}
 use Rattle.std.proofs.lemmas.Iterator.Consumers.{YieldsList-from_copied, YieldsList-from_first}
-use Rattle.intmap.proofs.EntryLemmas.{OnOk-so}
+use Rattle.std.proofs.lemmas.Result.{on_ok_weaker}
 use Rattle.intmap_set.specs.Combined.{union_of}
 use Rattle.intmap_set.proofs.CombinedLemmas.{IsUnion-union_of}
 use Rattle.intmap_set.proofs.DistinctLemmas.{HasDistinctKeys-union_of}
@@ -11,15 +11,15 @@ use Rattle.intmap_set.proofs.set.IntSet.extend_from_set.Goals as goal
 
 pub returns-clause-members : goal.returns-clause-members
 returns-clause-members g c =
-    OnOk-so _ _ (members-extended g.K.IntKey.number_of g.K.IntKey.is_valid (YieldsList-from_copied {s = c.copied.result} (YieldsList-from_first (λ key. key.now) (λ rest. rest) c.args.other.now.walk (c.copied.ensures.source ∙ c.iter.ensures.walk))) c.args.self.now c.extend.new.self) c.extend.result c.extend.ensures.extends
+    on_ok_weaker c.extend.result (members-extended g.K.IntKey.number_of g.K.IntKey.is_valid (YieldsList-from_copied {s = c.copied.result} (YieldsList-from_first (λ key. key.now) (λ rest. rest) c.args.other.now.walk (c.copied.ensures.source ∙ c.iter.ensures.walk))) c.args.self.now c.extend.new.self) c.extend.ensures.extends
 
 pub returns-clause-len : goal.returns-clause-len
 returns-clause-len g c =
     let number = g.K.IntKey.number_of in let V = c.args.self.now.walk in let W = c.args.other.now.walk in
-    OnOk-so _ _ (λ told. length-same_members number c.extend.new.self.walk (union_of number V W) c.extend.ensures.valid_after.distinct
+    on_ok_weaker c.extend.result (λ told. length-same_members number c.extend.new.self.walk (union_of number V W) c.extend.ensures.valid_after.distinct
     (HasDistinctKeys-union_of number V W c.extend.ensures.valid.distinct c.known.ensures.valid.distinct)
     (λ q. members-extended number g.K.IntKey.is_valid (YieldsList-from_copied {s = c.copied.result} (YieldsList-from_first (λ key. key.now) (λ rest. rest) c.args.other.now.walk (c.copied.ensures.source ∙ c.iter.ensures.walk))) c.args.self.now c.extend.new.self told q ∙ sym (IsUnion-union_of number V W q)))
-    c.extend.result c.extend.ensures.extends
+    c.extend.ensures.extends
 
 pub returns-clause-stops : goal.returns-clause-stops
 returns-clause-stops g c =
@@ -29,4 +29,4 @@ returns-clause-stops g c =
 
 pub returns-clause-inserted : goal.returns-clause-inserted
 returns-clause-inserted g c =
-    OnOk-so _ _ (extended-all g.K.IntKey.number_of g.K.IntKey.is_valid (YieldsList-from_copied {s = c.copied.result} (YieldsList-from_first (λ key. key.now) (λ rest. rest) c.args.other.now.walk (c.copied.ensures.source ∙ c.iter.ensures.walk))) c.args.self.now c.extend.new.self) c.extend.result c.extend.ensures.extends
+    on_ok_weaker c.extend.result (extended-all g.K.IntKey.number_of g.K.IntKey.is_valid (YieldsList-from_copied {s = c.copied.result} (YieldsList-from_first (λ key. key.now) (λ rest. rest) c.args.other.now.walk (c.copied.ensures.source ∙ c.iter.ensures.walk))) c.args.self.now c.extend.new.self) c.extend.ensures.extends

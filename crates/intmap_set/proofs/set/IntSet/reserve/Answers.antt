@@ -1,14 +1,14 @@
 use Rattle.std.proofs.Common.{refl, rules}
-use Rattle.intmap.proofs.EntryLemmas.{OnOk-so}
+use Rattle.std.proofs.lemmas.Result.{on_ok_weaker}
 use Rattle.intmap_set.proofs.MemberLemmas.{IsSet-seen, same-seen}
 use Rattle.intmap_set.proofs.CallLemmas.{in_slots-seen, reserved-seen}
 use Rattle.intmap_set.proofs.set.IntSet.reserve.Goals as goal
 
 pub returns-clause-capacity : goal.returns-clause-capacity
-returns-clause-capacity g c = OnOk-so _ _ (reserved-seen g.K.IntKey.number_of c.self.inside.map c.reserve.new.self _ c.self.view_is _) c.reserve.result c.reserve.ensures.capacity
+returns-clause-capacity g c = on_ok_weaker c.reserve.result (reserved-seen g.K.IntKey.number_of c.self.inside.map c.reserve.new.self _ c.self.view_is _) c.reserve.ensures.capacity
 
 pub returns-clause-state : goal.returns-clause-state
-returns-clause-state g c = OnOk-so _ _ (in_slots-seen _ c.self.inside.map c.reserve.new.self _ c.self.view_is) c.reserve.result c.reserve.ensures.state
+returns-clause-state g c = on_ok_weaker c.reserve.result (in_slots-seen _ c.self.inside.map c.reserve.new.self _ c.self.view_is) c.reserve.ensures.state
 
 pub returns-clause-same : goal.returns-clause-same
 returns-clause-same g c = same-seen _ c.self.inside.map c.reserve.new.self _ c.self.view_is c.reserve.ensures.updates

@@ -65,7 +65,7 @@ returns-in_err-insert-clause-refused c =
       are = kept.are ((k, v) ∷ rest.0) here;
       before = c.loop-text.map;
       collected = collected;
-      out_of_range = c.in_err-insert.ensures.too_large.0 large;
+      out_of_range = (c.in_err-insert.ensures.refused.too_large.0 large);
     })
     within))
 
@@ -79,7 +79,7 @@ loop-text-preserved c =
     let e = c.in_ok-insert.ensures in
     let text : IsKeyText (string_bytes c.in-Some.text.now) k = subst (λ t. IsKeyText t k) c.as_str.ensures.value c.known_key-key.ensures.value in
     let last : MapInserts (λ key. key) (λ key. key < 2 ^ 64) c.loop-text.map k v c.insert.new.self =
-    record { in_range = e.too_large.1; capacity = e.capacity; state = e.state; map = c.insert.ensures.valid_after } in record {
+    record { in_range = e.inserted.in_range; capacity = e.inserted.capacity; state = e.state; map = e.inserted.valid } in record {
       can = tt;
       ends = tt;
       texts = (subst (λ es. HasKeyTexts (members_view es)) first kept.texts).1;
@@ -88,7 +88,7 @@ loop-text-preserved c =
           let here = subst (λ es. ArePairsOf (members_view es) ((k, v) ∷ rest)) (sym first) (text, c.in_ok-clone.ensures.cases, are) in
           subst (λ ps. ArePairsOf ms ps) (sym (append_assoc kept.pairs ((k, v) ∷ []) rest)) (kept.are ((k, v) ∷ rest) here);
       extended = IsExtended-push (λ key. key) (λ key. key < 2 ^ 64) (empty_map c.in_ok-map.map.capacity) c.loop-text.map c.insert.new.self kept.pairs k v
-          kept.extended last c.in_ok-insert.field-0 e.old e.updates.0 e.len;
+          kept.extended last e.inserted.updates.0 e.inserted.len;
       map = c.insert.ensures.valid_after;
     }
 
