@@ -21,7 +21,6 @@ PAGE = "README.md"
 
 # sources that aren't erased
 LEFT = [
-    "intmap_table/src/lent.rt",
     "intmap/src/laws.rt",
     "intmap/src/map/iter/written.rt",
     "intmap/src/map/json.rt",
@@ -33,7 +32,6 @@ LEFT_LINES = {
     "#![tactic(auto)]",
     "#[derive(Drop)]",
     "pub mod laws;",
-    "pub mod lent;",
     "pub(crate) mod json;",
     "pub use map::json::JsonCause;",
     "pub use map::json::read::key_of;",

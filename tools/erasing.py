@@ -20,11 +20,10 @@ module that isn't there.
 """
 import re
 
-# a crate of Rattle, and the module that its erased text becomes
+# a crate of Rattle, and the module that its erased text becomes. Only what is left out uses intmap_loan.
 HOMES = {"intmap_table": "table", "intmap": "map", "intmap_set": "set"}
 
 LEFT_OUT = {
-    "intmap_table": ["lent"],
     "intmap": ["laws", "map/iter/written", "map/json"],
     "intmap_set": ["laws"],
 }

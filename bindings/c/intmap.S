@@ -9,8 +9,8 @@
  *
  * Written by tools/assembly of the repository, and not to be edited.
  * Compilers: rattle-kit-13f logic dac8208d650f15bf; clang version 22.1.8
- * Sources: a60f1f14c9b3d17961a612043f893fa62ecebd313385c581988343af1da679ae
- *     cat $(find crates/intmap_table/src crates/intmap/src crates/intmap_c/src -name '*.rt' | LC_ALL=C sort) | sha256sum
+ * Sources: 66ed48d49d71a2ff6542d61e8afabc3f7b71cfd48e1bcacf4ecb4da68180139c
+ *     cat $(find crates/intmap_loan/src crates/intmap_table/src crates/intmap/src crates/intmap_c/src -name '*.rt' | LC_ALL=C sort) | sha256sum
  *
  * MIT License
  *

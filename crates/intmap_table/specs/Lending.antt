@@ -1,5 +1,4 @@
 -- What a stored value, a slot and a table end as, once a value of theirs was lent and written.
-pub mod Apart
 use Rattle.std.specs.Prelude.{ℕ}
 use Rattle.std.specs.Borrow.{Lends, Fml, RattleType, MutBor}
 use Rattle.std.specs.declared.alloc.Allocator as allocator

@@ -5,7 +5,6 @@
 mod bits;
 pub mod kept;
 mod key;
-pub mod lent;
 mod slot;
 pub mod steps;
 pub mod table;

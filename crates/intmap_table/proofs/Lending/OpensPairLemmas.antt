@@ -8,16 +8,18 @@ use base.Logic.{SProp, ent, sep, id⊢, never_e}
 use base.Fml.{Lft, Incl, ftrue, ffalse, fsep, fbor}
 use mir.Syntax.{Sym}
 use prog.Memory.{align, up}
+use contract.BorrowLft.{⊑_meet}
 use types.Logic.{Logic, sem, lfts}
 use types.Kit.{Item, ‵, raw, ◌⊛◌, some, pick, show, mean, ◌$◌, ◌∵◌, !, qed, by, move, keep, drop, use1, use3, split, split3, fsplit, fjoin, feq_i, rewrite, updating, done}
 use types.Kit.{now as at_once}
-use denote.RattleType.{RattleType}
+use denote.RattleType.{RattleType, lives_all}
 use denote.RawPtr.{Ptr, block_ptr, lies_at}
 use denote.Steps.{nothing}
 use denote.Model.Fields.{view_owns, view_made, plain_out, Plain-in}
 use denote.Memory.{part_at, part_of, shared_of, lone}
 use denote.Param.{param, copied}
 use denote.Param.Laws.{Laws, param_laws, copied_laws}
+use denote.Param.Lives.{in_all}
 use denote.Shares.{Shares, Shares-less}
 use denote.Struct.CellSteps.{first_at}
 use denote.Struct.Lending.{Lends}
@@ -28,15 +30,15 @@ use denote.Struct.Pick.{record_field_out, record_field_back}
 use denote.Struct.Tuple.{Tuple, tuple_type, tuple_laws}
 use Rattle.std.specs.declared.cmp.PartialEq as eq
 use Rattle.intmap_table.specs.declared.key.IntKey as key
-use Rattle.intmap_table.specs.contracts.lent.Hole as H-type
+use Rattle.intmap_loan.specs.contracts.lent.Hole as H-type
 use Rattle.intmap_table.specs.contracts.kept.Kept as K-type
 use Rattle.intmap_table.specs.contracts.kept.Kept.TheInside as I-type
 use Rattle.intmap_table.specs.contracts.table.stored.Stored as S-type
 use Rattle.intmap_table.proofs.table.stored.Stored.TheLaws as S-laws
 use Rattle.intmap_table.proofs.kept.Kept.TheLaws as K-laws
-use Rattle.intmap_table.specs.Lending.Apart.{each_at}
-use Rattle.intmap_table.proofs.Lending.OpensLemmas.{Opens}
-use Rattle.intmap_table.proofs.Lending.OpensStructLemmas.{still, two_opens}
+use Rattle.intmap_loan.specs.Apart.{each_at}
+use Rattle.intmap_loan.proofs.OpensLemmas.{Opens}
+use Rattle.intmap_loan.proofs.OpensStructLemmas.{still, two_opens}
 
 module _ (V' : RattleType) where
   abbrev pub V : RattleType
@@ -167,6 +169,12 @@ module _ (K' V' : RattleType) (g : key.Ghosts K'.Denot) (e : eq.Ghosts K'.Denot)
 
   abbrev pub of_two : Two.Denot → Pr.Denot
   of_two y = (y.0, y.1.0)
+
+  -- a pair lives as long as its key and its value
+  pub pair_within : (l : Lft) → Incl l K'.lives → Incl l V'.lives → Incl l Pr.lives
+  pair_within l ik iv =
+      let rows = St ∷ Kr V' ∷ [] in let both = in_all l rows (S-laws.the_within K g e l ik, (K-laws.the_within (V V') l iv, tt)) in
+      ⊑_meet l (lives_all rows) (lives_all rows) both both
 
   module _ (LK : Laws K') (LV : Laws V') {M : Type 1} {𝓤 : Ura M} (𝓛 : Logic 𝓤) where
     pub ones : Lones (rows_of (m₁ ∷ m₂ ∷ []))

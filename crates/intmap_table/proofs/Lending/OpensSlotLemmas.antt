@@ -30,22 +30,29 @@ use Rattle.std.specs.Map.{values_of}
 use Rattle.intmap_table.specs.declared.slot.Slot as declared
 use Rattle.std.specs.declared.option.Option.{Option}
 use Rattle.std.specs.declared.option.Option.TheVariants.{None, Some}
+use Rattle.std.specs.contracts.option.Option as O-type
 use Rattle.intmap_table.specs.contracts.slot.Slot as L-type
 use Rattle.intmap_table.specs.contracts.slot.Slot.TheInside as I-type
 use Rattle.intmap_table.specs.Tables.Slots.{Held, all_pairs, HasFirst}
-use Rattle.intmap_table.specs.Lending.Apart.{lent_pairs}
-use Rattle.intmap_table.specs.Values.{with_values}
+use Rattle.intmap_table.specs.Values.{lent_pairs, with_values}
 use Rattle.std.proofs.option.Option.TheLaws as O-laws
 use Rattle.intmap_table.proofs.Lending.ValuesLemmas.{refilled_slot, lent_slot}
-use Rattle.intmap_table.proofs.Lending.OpensLemmas.{Opens, row_put, row_count, row_cells_in, row_fill}
-use Rattle.intmap_table.proofs.Lending.OpensVecLemmas.{vec_opens}
-use Rattle.intmap_table.proofs.Lending.OpensStructLemmas.{two_opens, view_opens}
-use Rattle.intmap_table.proofs.Lending.OpensPairLemmas.{V, K, Kr, Hr, Pr, PHr, pair_laws, pair_opens}
-use Rattle.intmap_table.proofs.Lending.OpensOptionLemmas.{Fr, FHr, option_opens, option_put, option_fill, option_count, option_cells_in}
+use Rattle.intmap_loan.proofs.OpensLemmas.{Opens, row_put, row_count, row_cells_in, row_fill}
+use Rattle.intmap_loan.proofs.OpensVecLemmas.{vec_opens}
+use Rattle.intmap_loan.proofs.OpensStructLemmas.{two_opens, view_opens}
+use Rattle.intmap_table.proofs.Lending.OpensPairLemmas.{V, K, Kr, Hr, Pr, PHr, pair_within, pair_laws, pair_opens}
+use Rattle.intmap_loan.proofs.OpensOptionLemmas.{option_opens, option_put, option_fill, option_count, option_cells_in}
 
 module _ (K' V' A' : RattleType) (g : key.Ghosts K'.Denot) (e : eq.Ghosts K'.Denot) (a : allocator.Ghosts A'.Denot) where
   abbrev pub A : RattleType
   A = copied 2 A'
+
+  -- the first pair of a slot, if there is one, and the same with a hole
+  abbrev pub Fr : RattleType
+  Fr = O-type.the_row (Pr K' V' g e)
+
+  abbrev pub FHr : RattleType
+  FHr = O-type.the_row (PHr K' V' g e)
 
   abbrev pub Vr : RattleType
   Vr = V-type.the_row (Pr K' V' g e) A a
@@ -65,8 +72,11 @@ module _ (K' V' A' : RattleType) (g : key.Ghosts K'.Denot) (e : eq.Ghosts K'.Den
   abbrev pub SHr : RattleType
   SHr = L-type.the_row (K K' V' g e) (Hr V') A g e a
 
+  abbrev mp : Member
+  mp = record { row = Pr K' V' g e; ty = lone (Pr K' V' g e).mir }
+
   abbrev pub m₁ : Member
-  m₁ = record { row = Fr K' V' g e; ty = lone (Fr K' V' g e).mir }
+  m₁ = record { row = Fr; ty = lone Fr.mir }
 
   abbrev pub m₂ : Member
   m₂ = record { row = Vr; ty = lone Vr.mir }
@@ -106,9 +116,12 @@ module _ (K' V' A' : RattleType) (g : key.Ghosts K'.Denot) (e : eq.Ghosts K'.Den
       abbrev pub rest_opens : Opens 𝓛 (V V') Vr VHr l
       rest_opens = vec_opens 𝓛 (V V') (Pr K' V' g e) (PHr K' V' g e) l PO tt A a (copied_laws 2 A' LA) words_live
 
+      abbrev pub first_opens : Opens 𝓛 (V V') Fr FHr l
+      first_opens = option_opens 𝓛 (V V') l mp (PHr K' V' g e) PO (pair_laws K' V' g e LK LV 𝓛) (pair_within K' V' g e l ik iv) (λ b o κ. id⊢ 𝓤 _) (λ h b o κ. id⊢ 𝓤 _) refl
+
       abbrev pub inside_opens : Opens 𝓛 (V V') Ir IHr l
       inside_opens =
-          two_opens 𝓛 (V V') l m₁ m₂ (FHr K' V' g e) VHr ν (option_opens K' V' g e LK LV 𝓛 l ik iv) rest_opens ones
+          two_opens 𝓛 (V V') l m₁ m₂ FHr VHr ν first_opens rest_opens ones
           Ir IHr to_two of_two (λ s. refl) slot_apart slot_whole (λ f r. record { first = f; rest = r }) (λ s. s.first) (λ s. s.rest) (λ f r. refl) (λ f r. refl) (λ f r b o κ. id⊢ 𝓤 _) refl
 
       abbrev P : Type 0
@@ -140,13 +153,13 @@ module _ (K' V' A' : RattleType) (g : key.Ghosts K'.Denot) (e : eq.Ghosts K'.Den
       cells-is (p ∷ L) = ap (λ M. p.1 ∷ M) (cells-is L)
 
       abbrev put_first : Option P → List V'.Denot → Option P
-      put_first = option_put K' V' g e LK LV 𝓛 l ik iv
+      put_first = option_put 𝓛 (V V') l mp (PHr K' V' g e) PO
 
       abbrev count_first : Option P → ℕ
-      count_first = option_count K' V' g e LK LV 𝓛 l ik iv
+      count_first = option_count 𝓛 (V V') l mp (PHr K' V' g e) PO
 
-      abbrev fill_first : (FHr K' V' g e).Denot → Option P
-      fill_first = option_fill K' V' g e LK LV 𝓛 l ik iv
+      abbrev fill_first : FHr.Denot → Option P
+      fill_first = option_fill 𝓛 (V V') l mp (PHr K' V' g e) PO
 
       pairs-put : (f : Option P) (L : List P) (ws : List V'.Denot)
           → all_pairs (put_first f (take (count_first f) ws)) (puts L (drop (count_first f) ws)) ≡ with_values (all_pairs f L) ws
@@ -159,12 +172,12 @@ module _ (K' V' A' : RattleType) (g : key.Ghosts K'.Denot) (e : eq.Ghosts K'.Den
       pairs-count None L = let n = count-is L in omega (arith, n)
       pairs-count (Some p) L = let n = count-is L in omega (arith, n)
 
-      pairs-fill : (f : (FHr K' V' g e).Denot) (L : List (K'.Denot × (Ptr × V'.Denot))) → lent_pairs (all_pairs f L) ≡ all_pairs (fill_first f) (row_fill 𝓛 (V V') (Pr K' V' g e) (PHr K' V' g e) l PO L)
+      pairs-fill : (f : FHr.Denot) (L : List (K'.Denot × (Ptr × V'.Denot))) → lent_pairs (all_pairs f L) ≡ all_pairs (fill_first f) (row_fill 𝓛 (V V') (Pr K' V' g e) (PHr K' V' g e) l PO L)
       pairs-fill None L = sym (fill-is L)
       pairs-fill (Some h) L = ap (λ M. (h.0, h.1.1) ∷ M) (sym (fill-is L))
 
-      pairs-cells : (f : (FHr K' V' g e).Denot) (L : List (K'.Denot × (Ptr × V'.Denot)))
-          → option_cells_in K' V' g e LK LV 𝓛 l ik iv f ++ row_cells_in 𝓛 (V V') (Pr K' V' g e) (PHr K' V' g e) l PO L ≡ values_of (all_pairs f L)
+      pairs-cells : (f : FHr.Denot) (L : List (K'.Denot × (Ptr × V'.Denot)))
+          → option_cells_in 𝓛 (V V') l mp (PHr K' V' g e) PO f ++ row_cells_in 𝓛 (V V') (Pr K' V' g e) (PHr K' V' g e) l PO L ≡ values_of (all_pairs f L)
       pairs-cells None L = cells-is L
       pairs-cells (Some h) L = ap (λ M. h.1 ∷ M) (cells-is L)
 
@@ -178,7 +191,7 @@ module _ (K' V' A' : RattleType) (g : key.Ghosts K'.Denot) (e : eq.Ghosts K'.Den
       none-fill (h ∷ L) none = absurd (cons≢nil none)
 
       -- nor with holes in the place of the values
-      first-fill : (f : (FHr K' V' g e).Denot) (L : List (K'.Denot × (Ptr × V'.Denot)))
+      first-fill : (f : FHr.Denot) (L : List (K'.Denot × (Ptr × V'.Denot)))
           → HasFirst (fill_first f) (row_fill 𝓛 (V V') (Pr K' V' g e) (PHr K' V' g e) l PO L) → HasFirst f L
       first-fill None L none = none-fill L none
       first-fill (Some h) L none = tt

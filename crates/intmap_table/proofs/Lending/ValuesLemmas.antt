@@ -3,9 +3,8 @@ use Rattle.std.proofs.Common.{◌≡◌, suc, List, [], ◌∷◌, ◌++◌, len
 use Rattle.std.specs.Prelude.{take, drop}
 use Rattle.std.specs.Map.{keys_of, values_of}
 use Rattle.std.proofs.lemmas.List.{map-append}
-use Rattle.intmap_table.specs.Lending.Apart.{lent_pairs}
 use Rattle.intmap_table.specs.Tables.Slots.{Held, rows, joined}
-use Rattle.intmap_table.specs.Values.{with_values}
+use Rattle.intmap_table.specs.Values.{lent_pairs, with_values}
 use Rattle.intmap_table.proofs.Tables.SameKeysLemmas.{row_keys}
 use denote.RawPtr.{Ptr}
 

@@ -4,15 +4,14 @@ ghost use Rattle.std.specs.Iterator.{YieldsFirstBy, item_count};
 ghost use Rattle.std.specs.Prelude.{◌≡◌, List, length};
 ghost use Rattle.std.specs.Borrow.{sem};
 ghost use Rattle.std.specs.Map.{keys_of, values_of};
-ghost use Rattle.intmap_table.specs.Lending.Apart.{lent_pairs};
 ghost use Rattle.intmap.specs.Lending.{map_lends_values};
 ghost use Rattle.intmap.specs.Map.{IsMap};
-ghost use Rattle.intmap_table.specs.Values.{with_values};
+ghost use Rattle.intmap_table.specs.Values.{lent_pairs, with_values};
 ghost use Rattle.intmap.specs.Map.{map_with_values};
 
 use crate::map::IntMap;
+use intmap_loan::lent::{Hole, Lent};
 use intmap_table::IntKey;
-use intmap_table::lent::{Hole, Lent};
 use intmap_table::table::Table;
 use intmap_table::table::walk::Pairs;
 use std::alloc::{Allocator, Global};
@@ -31,7 +30,7 @@ impl<'a, K: IntKey, V, A: Allocator + Copy> Model for IterMut<'a, K, V, A> {
     ghost use base.Fml.{GName};
     ghost use Rattle.std.specs.Prelude.{◌≡◌, List};
     ghost use Rattle.std.specs.Map.{values_of};
-    ghost use Rattle.intmap_table.specs.Lending.Apart.{lent_pairs};
+    ghost use Rattle.intmap_table.specs.Values.{lent_pairs};
 
     ghost Value = { List (K × V) × GName };
 

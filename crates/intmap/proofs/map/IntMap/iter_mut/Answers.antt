@@ -1,5 +1,5 @@
 use Rattle.std.proofs.Common.{refl, sym, ap, ◌∙◌}
-use Rattle.intmap_table.specs.Lending.Apart.{lent_pairs}
+use Rattle.intmap_table.specs.Values.{lent_pairs}
 use Rattle.intmap.proofs.SameKeysLemmas.{IsMapWalk-same_keys}
 use Rattle.intmap_table.proofs.Lending.ValuesLemmas.{keys_of-with_values, length-with_values}
 use Rattle.intmap.proofs.map.IntMap.iter_mut.Goals as goal

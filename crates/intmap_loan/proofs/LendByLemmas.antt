@@ -19,8 +19,8 @@ use denote.RattleType.{RattleType}
 use denote.RawPtr.{Ptr}
 use denote.Steps.{nothing}
 use denote.Memory.{part_at, shared_of}
-use Rattle.intmap_table.specs.Lending.Apart.{each_at, EachAt, lent_cells, places_of, contents_of}
-use Rattle.intmap_table.proofs.Lending.OpensLemmas.{Opens, length-each_at}
+use Rattle.intmap_loan.specs.Apart.{each_at, EachAt, lent_cells, places_of, contents_of}
+use Rattle.intmap_loan.proofs.OpensLemmas.{Opens, length-each_at}
 
 module _ {M : Type 1} {𝓤 : Ura M} (𝓛 : Logic 𝓤) (V R R' : RattleType) (κ : Lft) (O : Opens 𝓛 V R R' κ) where
   open 𝓛 use {H, A}

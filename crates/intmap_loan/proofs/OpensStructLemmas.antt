@@ -27,8 +27,8 @@ use denote.Struct.Struct.{Struct}
 use denote.Struct.Lending.{Lends, Lends-both}
 use denote.Struct.Members.{Member, row_of, rows_of, raw_tys, parts_at, Lones}
 use denote.Struct.Parts.{shape_of, Struct-left, left_Struct}
-use Rattle.intmap_table.specs.Lending.Apart.{each_at, places_of, contents_of}
-use Rattle.intmap_table.proofs.Lending.OpensLemmas.{Opens, length-each_at, glue, part}
+use Rattle.intmap_loan.specs.Apart.{each_at, places_of, contents_of}
+use Rattle.intmap_loan.proofs.OpensLemmas.{Opens, length-each_at, glue, part}
 
 -- a type that holds none of the values is shared as it is
 module _ {M : Type 1} {𝓤 : Ura M} (𝓛 : Logic 𝓤) (V R : RattleType) (l : Lft) (sh : Shares 𝓛 R l) where

@@ -19,7 +19,7 @@ use denote.Memory.{part_at, shared_of, lone, each_shared}
 use denote.Index.{row}
 use denote.Struct.Lending.{Lends, Lends-both, Lends-nothing}
 use Rattle.std.specs.Prelude.{map}
-use Rattle.intmap_table.specs.Lending.Apart.{each_at, places_of, contents_of}
+use Rattle.intmap_loan.specs.Apart.{each_at, places_of, contents_of}
 
 module _ (V : RattleType) where
   abbrev pub Cells : Type 0

@@ -22,8 +22,8 @@ use denote.Shadow.{makes_shadow}
 use denote.Steps.{nothing}
 use denote.Struct.Owning.{shape}
 use denote.Struct.Struct.{Struct}
-use Rattle.intmap_table.specs.Lending.Apart.{EachAt, each_at, lent_cells, places_of, contents_of}
-use Rattle.intmap_table.specs.contracts.lent.Lent.{the_type}
+use Rattle.intmap_loan.specs.Apart.{EachAt, each_at, lent_cells, places_of, contents_of}
+use Rattle.intmap_loan.specs.contracts.lent.Lent.{the_type}
 
 -- the machine value of a `Lent`, which has no bytes
 abbrev pub lent_value : Val

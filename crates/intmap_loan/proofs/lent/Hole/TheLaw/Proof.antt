@@ -15,8 +15,8 @@ use denote.Param.Laws.{Laws}
 use denote.Shares.{bor-Cut}
 use denote.SharingLaws.{said_shr_laws}
 use denote.Struct.Lending.{Lends, Lends-false}
-use Rattle.intmap_table.specs.contracts.lent.Hole.{the_written}
-use Rattle.intmap_table.proofs.lent.Hole.TheLaw.Statement.{statement}
+use Rattle.intmap_loan.specs.contracts.lent.Hole.{the_written}
+use Rattle.intmap_loan.proofs.lent.Hole.TheLaw.Statement.{statement}
 
 module _ {M : Type 1} {𝓤 : Ura M} (𝓛 : Logic 𝓤) where
   -- what can't be owned is lent as anything

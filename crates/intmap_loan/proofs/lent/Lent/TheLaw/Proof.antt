@@ -7,8 +7,8 @@ use denote.SharingLaws.{nothing_shr_laws}
 use denote.Struct.Laws.{field_copy}
 use denote.Struct.Lending.{Lends-nothing, of_Lends}
 use Rattle.std.specs.contracts.marker.PhantomData as mark
-use Rattle.intmap_table.specs.contracts.lent.Lent.{the_row, struct, the_codes, the_heap, the_lent}
-use Rattle.intmap_table.proofs.lent.Lent.TheLaw.Statement.{statement}
+use Rattle.intmap_loan.specs.contracts.lent.Lent.{the_row, struct, the_codes, the_heap, the_lent}
+use Rattle.intmap_loan.proofs.lent.Lent.TheLaw.Statement.{statement}
 
 module _ (a : NamedLft) (V : RattleType) where
   -- the type whose mark it has

@@ -42,8 +42,8 @@ use Rattle.std.specs.declared.alloc.Allocator.{Ghosts}
 use Rattle.std.specs.declared.vec.Vec.{Vec}
 use Rattle.std.specs.contracts.vec.Vec as V-type
 use Rattle.std.specs.Vec.Ownership.{owns_if}
-use Rattle.intmap_table.specs.Lending.Apart.{each_at, places_of, contents_of}
-use Rattle.intmap_table.proofs.Lending.OpensLemmas.{Opens, row_Info, RowOpen, row_filled, row_cells_in, row_celled, row_holed, row_cells, row_count, row_counts, row_put, length-row_put, length-row_holed, row_frame, row_Back, row_out, row_back, row_lends}
+use Rattle.intmap_loan.specs.Apart.{each_at, places_of, contents_of}
+use Rattle.intmap_loan.proofs.OpensLemmas.{Opens, row_Info, RowOpen, row_filled, row_cells_in, row_celled, row_holed, row_cells, row_count, row_counts, row_put, length-row_put, length-row_holed, row_frame, row_Back, row_out, row_back, row_lends}
 
 none : {X : Type 0} (xs : List X) → length xs ≡ 0 → xs ≡ []
 none [] e = refl

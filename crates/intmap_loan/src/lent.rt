@@ -1,4 +1,4 @@
-//! Stored values while they are lent one by one.
+//! Values while they are lent one by one.
 ghost use Rattle.std.specs.Prelude.{List};
 ghost use base.Fml.{GName, ffalse, feq};
 ghost use base.Stored.{coded×};
@@ -6,8 +6,9 @@ ghost use denote.RawPtr.{Ptr, coded_ptr};
 
 use std::marker::{Model, Move, Owns, PhantomData};
 
-/// What a `&` to a table shows in place of each stored value while that value is lent: where it
-/// lies and what it was. It has the layout of a stored value. No `Hole` is ever made.
+/// What stands in the place of each value while the values are lent: a `&` to what holds them shows
+/// where this one lies and what it was. It has the layout of a struct whose one field is the value.
+/// No `Hole` is ever made.
 pub struct Hole<V> {
     value: V,
 }
@@ -25,8 +26,9 @@ impl<V> Move for Hole<V> {
 }
 
 /// The right to write values in separate places, each of which is taken once. Contracts see three
-/// things: the name of their loan, the name of the loan behind it, which the map follows, and the
-/// cells that are left. The cells say, in order, where each value lies and what it was.
+/// things: the name of their loan, the name of the loan behind it, which what holds the values
+/// follows, and the cells that are left. The cells say, in order, where each value lies and what it
+/// was.
 pub struct Lent<'a, V> {
     pub mark: PhantomData<&'a mut V>,
     ghost loan: { GName },
@@ -36,7 +38,7 @@ pub struct Lent<'a, V> {
 
 impl<'a, V> Model for Lent<'a, V> {
     ghost use base.Fml.{ftrue};
-    ghost use Rattle.intmap_table.specs.Lending.Apart.{lent_cells};
+    ghost use Rattle.intmap_loan.specs.Apart.{lent_cells};
 
     ghost also_owns = { λ lent. lent_cells 'a V.row lent.loan lent.cells };
 

@@ -31,14 +31,14 @@ use denote.Triple.Entry.{on_entry}
 use denote.Triple.Walked.{Stays, says, stay_dropped, stay_ref, walk_of, ends_at, Goes-dropped, Goes-ref}
 use Rattle.std.proofs.VecSteps.Shapes.{after}
 use Rattle.std.proofs.raw_atomic.Walks.{proved}
-use Rattle.intmap_table.specs.Lending.Apart.{lent_cells}
-use Rattle.intmap_table.specs.declared.lent.Lent.{Lent}
-use Rattle.intmap_table.specs.contracts.lent.Hole as H-type
-use Rattle.intmap_table.specs.contracts.lent.Lent as L-type
-use Rattle.intmap_table.specs.contracts.lent.Lent.take_first as f
-use Rattle.intmap_table.proofs.Lending.CellLemmas.{Taken, take_cell}
-use Rattle.intmap_table.proofs.lent.Lent.take_first.Statement.{statement}
-use Rattle.intmap_table.proofs.lent.Lent.take_first.Code as code
+use Rattle.intmap_loan.specs.Apart.{lent_cells}
+use Rattle.intmap_loan.specs.declared.lent.Lent.{Lent}
+use Rattle.intmap_loan.specs.contracts.lent.Hole as H-type
+use Rattle.intmap_loan.specs.contracts.lent.Lent as L-type
+use Rattle.intmap_loan.specs.contracts.lent.Lent.take_first as f
+use Rattle.intmap_loan.proofs.CellLemmas.{Taken, take_cell}
+use Rattle.intmap_loan.proofs.lent.Lent.take_first.Statement.{statement}
+use Rattle.intmap_loan.proofs.lent.Lent.take_first.Code as code
 
 module _ (V' : RattleType) where
   abbrev V : RattleType
