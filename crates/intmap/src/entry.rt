@@ -1,6 +1,7 @@
 //! Entries: a map with a key that was looked up once, to read, write, remove or insert its pair.
 ghost use Rattle.std.specs.Prelude.{◌≡◌, None, length, IsSome, Some, IfOk, IfErr, OnOk, IsOk, unwrap_or, MatchOption};
 ghost use Rattle.intmap_table.specs.Bindings.{value_of, Updates};
+ghost use Rattle.intmap_table.specs.Classes.{slot_number};
 ghost use Rattle.intmap_table.specs.Locations.{IsFound};
 ghost use Rattle.std.specs.Borrow.{sem, MutBor};
 ghost use Rattle.std.specs.Map.Calls.{ModifiesValue};
@@ -41,7 +42,9 @@ pub struct OccupiedEntry<'a, K: IntKey, V, A: Allocator + Copy = Global> {
 pub struct VacantEntry<'a, K: IntKey, V, A: Allocator + Copy = Global> {
     map: &'a mut IntMap<K, V, A>,
     key: K,
+    slot: usize,
     ghost missing: { value_of K.number_of map.now.walk key ≡ None },
+    ghost in_slot: { slot ≡ slot_number K.number_of key map.now.capacity },
 }
 
 /// Dropping it leaves the map as it is.
@@ -52,7 +55,11 @@ impl<K: IntKey, V, A: Allocator + Copy> Drop for VacantEntry<'_, K, V, A> {
     fn drop(self)
         ensures { self.exit.0.now ≡ entry_map (Vacant self.entry) }
     {
-        let VacantEntry { map: _, key: _ } = self;
+        let VacantEntry {
+            map: _,
+            key: _,
+            slot: _,
+        } = self;
     }
 }
 
@@ -84,12 +91,16 @@ impl<K: IntKey, V, A: Allocator + Copy> IntMap<K, V, A> {
         ensures valid_after { IsMap K.number_of K.is_valid (entry_map result) }
     {
         match self.locate(key) {
-            Some(at) => Entry::Occupied(OccupiedEntry {
+            Ok(at) => Entry::Occupied(OccupiedEntry {
                 map: self,
                 slot: at.slot,
                 place: at.place,
             }),
-            None => Entry::Vacant(VacantEntry { map: self, key }),
+            Err(slot) => Entry::Vacant(VacantEntry {
+                map: self,
+                key,
+                slot,
+            }),
         }
     }
 }

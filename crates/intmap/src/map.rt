@@ -1,9 +1,10 @@
 //! The map: a table of slots, the number of its pairs and its load factor. This file has its
 //! figures, and the calls on a located pair, whose key was found before. These compare no key.
-ghost use Rattle.std.specs.Prelude.{◌≡◌, ◌==◌, length, is_some, IfSome, IfNone, Some, None};
+ghost use Rattle.std.specs.Prelude.{◌≡◌, ◌==◌, length, is_some, is_ok, IfOk, IfErr, OnErr, Some, None};
 ghost use Rattle.intmap.specs.Map.{IsMap, after_search, with_pair, without_key};
 ghost use Rattle.intmap_table.specs.Bindings.{value_of};
-ghost use Rattle.intmap_table.specs.Locations.{IsAt, IsLast, IsFound, key_at};
+ghost use Rattle.intmap_table.specs.Classes.{slot_number};
+ghost use Rattle.intmap_table.specs.Locations.{IsAt, IsFound, key_at};
 ghost use Rattle.intmap_table.specs.Walk.{slot_of};
 
 mod build;
@@ -102,29 +103,23 @@ impl<K: IntKey, V, A: Allocator + Copy> IntMap<K, V, A> {
     ghost use Rattle.std.specs.Borrow.{sem};
     ghost use Rattle.intmap.specs.Lending.{map_lends};
 
-    /// Where the pair of the key is, if the key is present. The map counts the comparisons.
+    /// Where the pair of the key is, or the slot of the key if the key is absent. The map counts
+    /// the comparisons.
     #[inline(always)]
-    pub(crate) fn locate(&mut self, key: K) -> Option<Location<K>>
-        ensures found { IfSome result (λ at. (at.key ≡ key)
+    pub(crate) fn locate(&mut self, key: K) -> Result<Location<K>, usize>
+        ensures found { IfOk result (λ at. (at.key ≡ key)
             × IsAt K.number_of self.new.walk self.new.capacity at) }
-        ensures key { IfSome result (λ at. key_at (slot_of K.number_of self.new.walk
+        ensures key { IfOk result (λ at. key_at (slot_of K.number_of self.new.walk
             self.new.capacity at.slot) at.place ≡ Some key) }
-        ensures missing { IfNone result (value_of K.number_of self.old.walk key ≡ None) }
-        ensures bound { is_some result ≡ is_some (value_of K.number_of self.old.walk key) }
+        ensures missing { OnErr result (value_of K.number_of self.old.walk key ≡ None) }
+        ensures slot { IfErr result (λ slot. slot
+            ≡ slot_number K.number_of key self.new.capacity) }
+        ensures bound { is_ok result ≡ is_some (value_of K.number_of self.old.walk key) }
         ensures state { self.new ≡ after_search K.number_of self.old key }
         ensures known { K.is_valid key }
         ensures valid { IsMap K.number_of K.is_valid self.old }
     {
         self.table.locate(key, &mut self.compared)
-    }
-
-    /// Where the pair of a key is that is the last of its slot.
-    pub(crate) fn locate_last(&self, key: K) -> Location<K>
-        requires { IsLast K.number_of self.now.walk self.now.capacity key }
-        ensures key { result.key ≡ key }
-        ensures at { IsAt K.number_of self.now.walk self.now.capacity result }
-    {
-        self.table.locate_last(key)
     }
 
     /// The key of the pair at a place of a slot.

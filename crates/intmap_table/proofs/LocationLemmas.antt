@@ -1,8 +1,8 @@
 -- Pairs that were located: what is there, and what a table is once one was written or removed.
-use Rattle.std.proofs.Common.{◌≡◌, ◌≢◌, ℕ, zero, suc, ◌+◌, ◌<◌, ◌≤◌, Bool, true, false, cond, List, [], ◌∷◌, ◌++◌, length, get_or, set, Option, Some, None, IsSome, is_some, refl, sym, ap, ◌∙◌, subst, arith, length-set}
-use Rattle.std.specs.Prelude.{◌==◌, All, IfSome, IfNone, count_by, filter, nat_lt, position}
+use Rattle.std.proofs.Common.{◌≡◌, ◌≢◌, ℕ, zero, suc, ◌+◌, ◌<◌, ◌≤◌, Bool, true, false, cond, List, [], ◌∷◌, ◌++◌, length, get_or, set, Option, Some, None, IsSome, is_some, Result, Ok, Err, refl, sym, ap, ◌∙◌, subst, arith, length-set, get_or-set_same}
+use Rattle.std.specs.Prelude.{◌==◌, All, IfOk, OnErr, is_ok, count_by, filter, nat_lt, position}
 use Rattle.std.specs.List.{position_or_len, range_with_len}
-use Rattle.std.proofs.lemmas.Bool.{eqb-true, lt-ltb, eq-eqb, cond-true}
+use Rattle.std.proofs.lemmas.Bool.{eqb-true, lt-ltb, eq-eqb}
 use Rattle.std.proofs.lemmas.List.{length_push}
 use Rattle.std.proofs.lemmas.List.Elements.{All-cons, All-head, All-tail, filter-append}
 use Rattle.std.proofs.lemmas.List.Folds.{position_or_len_push}
@@ -15,10 +15,9 @@ use Rattle.intmap_table.specs.Walk.{slot_of, walk_of}
 use Rattle.intmap_table.specs.Laws.Written.{slot_of-write_value}
 use Rattle.intmap_table.specs.declared.table.locate.Location.{Location}
 use Rattle.intmap_table.proofs.Tables.FilledLemmas.{marks-kept}
-use Rattle.intmap_table.proofs.BindingLemmas.{value_of-take_key}
 use Rattle.intmap_table.proofs.MappedLemmas.{flat_map-map}
 use Rattle.intmap_table.proofs.PositionLemmas.{swap_out-none, position-within, position_or_len-none, first_value-position, position-from_none}
-use Rattle.intmap_table.proofs.Tables.TableLemmas.{IsSlot, slot_of-here, value_of-here, walk_of-joined, joined-set, within, IsTable-set, Belong-here}
+use Rattle.intmap_table.proofs.Tables.TableLemmas.{IsSlot, slot_of-here, value_of-here, walk_of-joined, joined-set, within, IsTable-set, Belong-here, Belong-push}
 use Rattle.intmap_table.proofs.SlotNumberLemmas.{slot_number-below}
 use Rattle.intmap_table.proofs.WalkLemmas.{same_key-slot, slot_of-walk_of, value_of-slot_of}
 
@@ -122,9 +121,9 @@ module _ {K V : Type 0} (number : K → ℕ) where
       bound_from W C at.key at.slot at.place (value_of number W at.key) (ap (λ i. value_of number (slot_of number W C i) at.key) is.slot ∙ value_of-slot_of number C W at.key) is.place
 
   -- a key was located exactly if it is present
-  pub is_some-located : (W : List (K × V)) (C : ℕ) (k : K) (o : Option (Location K)) → IfSome o (λ at. (at.key ≡ k) × IsAt number W C at) → IfNone o (value_of number W k ≡ None) → is_some o ≡ is_some (value_of number W k)
-  is_some-located W C k None found missing = rw missing refl
-  is_some-located W C k (Some at) found missing = sym (subst (IsPresent number W) found.0 (IsPresent-at W C at found.1))
+  pub is_ok-located : (W : List (K × V)) (C : ℕ) (k : K) (r : Result (Location K) ℕ) → IfOk r (λ at. (at.key ≡ k) × IsAt number W C at) → OnErr r (value_of number W k ≡ None) → is_ok r ≡ is_some (value_of number W k)
+  is_ok-located W C k (Err slot) found missing = rw missing refl
+  is_ok-located W C k (Ok at) found missing = sym (subst (IsPresent number W) found.0 (IsPresent-at W C at found.1))
 
 -- a pair of a table was located, and h is its slot
 module _ {K X : Type 0} (number : K → ℕ) (S : List (Held K X)) (h : Held K X) (l : Location K) (table : IsTable number S) (at : IsAt number (joined (rows S)) (length S) l) (here : h ≡ get_or S l.slot h) where
@@ -169,6 +168,21 @@ module _ {K X : Type 0} (number : K → ℕ) (S : List (Held K X)) (h : Held K X
       marks = marks-kept number S h l.slot l.key slot-at bits marks s (ap (nat_lt 0) (sym (length-write_at h.pairs l.place v) ∙ ap length (sym is)));
     }
 
+-- h is the slot of k, which is absent
+module _ {K X : Type 0} (number : K → ℕ) (S : List (Held K X)) (h : Held K X) (i : ℕ) (k : K) (at : IsSlot number S h i k) (missing : value_of number (joined (rows S)) k ≡ None) where
+  -- a pair of k, added behind the pairs of the slot, is at the place after theirs
+  pub IsAt-added : (s : Held K X) (v : X) → s.pairs ≡ h.pairs ++ (k, v) ∷ [] → IsAt number (joined (rows (set S i s))) (length (set S i s)) (record { key = k; slot = i; place = length h.pairs })
+  IsAt-added s v left =
+      let own : same_key number k k ≡ true = eq-eqb (number k) (number k) refl in
+      let none = position-from_none (same_key number k) h.pairs (sym (value_of-here number S h i k at) ∙ missing) in
+      let table = IsTable-set number S h i k at s (rw left (Belong-push number S h i k at h.pairs v (Belong-here number S h i k at))) in
+      let slot = at.slot ∙ ap (slot_number number k) (sym (length-set S i s)) in
+      let there = slot_of-here number (set S i s) s i k (record { table = table; slot = slot; here = sym (get_or-set_same S i s s (within number S h i k at)) }) in
+      record {
+        slot = slot;
+        place = ap (position (λ p. same_key number k p.0)) (there ∙ left) ∙ position-push (λ p. same_key number k p.0) h.pairs (k, v) none own;
+      }
+
 -- the pair of k is last in its slot, which is h
 module _ {K X : Type 0} (number : K → ℕ) (S : List (Held K X)) (h : Held K X) (i : ℕ) (k : K) (at : IsSlot number S h i k) (last : IsLast number (joined (rows S)) (length S) k) where
   slot-last : slot_of number (joined (rows S)) (length S) (slot_number number k (length S)) ≡ h.pairs
@@ -189,13 +203,15 @@ module _ {K X : Type 0} (number : K → ℕ) (S : List (Held K X)) (h : Held K X
       }
 
 module _ {K V : Type 0} (number : K → ℕ) where
-  -- a pair behind others, none of which has its key, is last in its slot, however many slots there are
-  IsLast-behind : (T : List (K × V)) (D : ℕ) (k : K) (v : V) → value_of number T k ≡ None → IsCapacity D → IsLast number (walk_of number (T ++ (k, v) ∷ []) D) D k
-  IsLast-behind T D k v gone cap =
+  -- the pair of a key that was absent is last in its slot, however many slots there are
+  pub IsLast-new : (L : List (K × V)) (C D : ℕ) (k : K) (v : V) → value_of number L k ≡ None → IsCapacity D → IsLast number (walk_of number (put_pair number L C k v) D) D k
+  IsLast-new L C D k v missing cap =
+      let T : List (K × V) = take_key number L C k in
+      let same : T ≡ L = swap_out-none (λ (p : K × V). same_key number k p.0) (λ p. agrees number C k p.0) L (position-from_none (same_key number k) L missing) in
       let i : ℕ = slot_number number k D in
       let here : (slot_number number k D == i) ≡ true = eq-eqb (slot_number number k D) i refl in
       let own : same_key number k k ≡ true = eq-eqb (number k) (number k) refl in
-      let none = position-from_none (same_key number k) (slot_of number T D i) (value_of-slot_of number D T k ∙ gone) in
+      let none = position-from_none (same_key number k) (slot_of number T D i) (value_of-slot_of number D T k ∙ ap (λ M. value_of number M k) same ∙ missing) in
       let row : slot_of number (walk_of number (T ++ (k, v) ∷ []) D) D i ≡ slot_of number T D i ++ (k, v) ∷ [] =
       slot_of-walk_of number D (T ++ (k, v) ∷ []) i (slot_number-below number k D cap) ∙ filter-append (λ p. slot_number number p.0 D == i) T ((k, v) ∷ []) ∙ simp here refl in
       record {
@@ -203,15 +219,3 @@ module _ {K V : Type 0} (number : K → ℕ) where
         stands = ap (position (λ p. same_key number k p.0)) row ∙ position-push (λ p. same_key number k p.0) (slot_of number T D i) (k, v) none own;
         last = sym (ap length row ∙ length_push (slot_of number T D i) (k, v));
       }
-
-  -- a pair that was put in is last in its slot, in other slots too
-  pub IsLast-put : (L : List (K × V)) (C D : ℕ) (k : K) (v : V) → HasDistinctKeys number L → IsCapacity D → IsLast number (walk_of number (put_pair number L C k v) D) D k
-  IsLast-put L C D k v once cap =
-      let own : same_key number k k ≡ true = eq-eqb (number k) (number k) refl in
-      IsLast-behind (take_key number L C k) D k v (value_of-take_key number L C k k once ∙ cond-true (same_key number k k) None (value_of number L k) own) cap
-
-  -- so does that of a new key, whatever the others are
-  pub IsLast-new : (L : List (K × V)) (C D : ℕ) (k : K) (v : V) → value_of number L k ≡ None → IsCapacity D → IsLast number (walk_of number (put_pair number L C k v) D) D k
-  IsLast-new L C D k v missing cap =
-      let same = swap_out-none (λ (p : K × V). same_key number k p.0) (λ p. agrees number C k p.0) L (position-from_none (same_key number k) L missing) in
-      IsLast-behind (take_key number L C k) D k v (ap (λ M. value_of number M k) same ∙ missing) cap

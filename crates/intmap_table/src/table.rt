@@ -16,6 +16,7 @@ pub mod walk;
 ghost use Rattle.std.specs.Prelude.{◌≡◌, ℕ, ◌+◌, ◌^◌, ◌<◌, ◌≤◌, slice_index_or, [], OnOk, OnErr, IfOk, IfErr, Some, None, option_copied, length};
 ghost use Rattle.intmap_table.specs.Classes.{IsCapacity, slot_number};
 ghost use Rattle.intmap_table.specs.Bindings.{value_of, put_pair};
+ghost use Rattle.intmap_table.specs.Locations.{IsAt};
 ghost use Rattle.intmap_table.specs.Tables.Slots.{rows, AreMarked};
 ghost use Rattle.intmap_table.specs.Walk.{slot_of, walk_of};
 ghost use Rattle.intmap_table.specs.Reach.{class_size};
@@ -27,6 +28,7 @@ use crate::slot::Slot;
 use crate::steps::Steps;
 use crate::table::stored::Stored;
 use grow::add_slots;
+use locate::Location;
 use std::alloc::{AllocError, Allocator};
 use std::marker::Model;
 use walk::Pairs;
@@ -158,11 +160,14 @@ impl<K: IntKey, X: Drop, A: Allocator> Table<K, X, A> {
         self.directory.bits.clear_all();
     }
 
-    /// Puts the pair of an absent key last in its slot. If an allocation fails, it returns the
-    /// value and changes nothing. A slot without a pair needs no allocation.
+    /// Puts the pair of an absent key last in its slot, and returns where it is. If an allocation
+    /// fails, it returns the value and changes nothing. A slot without a pair needs no allocation.
     #[inline(always)]
-    pub fn add(&mut self, key: K, value: X) -> Result<(), X>
-        requires { value_of K.number_of self.old.walk key ≡ None }
+    pub fn add(&mut self, slot: usize, key: K, value: X) -> Result<Location<K>, X>
+        requires missing { value_of K.number_of self.old.walk key ≡ None }
+        requires slot { slot ≡ slot_number K.number_of key self.old.capacity }
+        ensures key { IfOk result (λ at. at.key ≡ key) }
+        ensures at { IfOk result (IsAt K.number_of self.new.walk self.new.capacity) }
         ensures walk { OnOk result (self.new.walk ≡ walk_of K.number_of
             (put_pair K.number_of self.old.walk self.old.capacity key value) self.old.capacity) }
         ensures err { OnErr result (self.new.walk ≡ self.old.walk) }
@@ -170,14 +175,22 @@ impl<K: IntKey, X: Drop, A: Allocator> Table<K, X, A> {
         ensures capacity { self.new.capacity ≡ self.old.capacity }
         ensures memory { OnErr result
             (0 < class_size K.number_of self.old.walk self.old.capacity key) }
+        ensures known { K.is_valid key }
     {
-        let index = self.index_of(&key);
-        let slot = &mut self.slots[index];
-        if self.directory.bits.set(index) {
-            return slot.push(key, value);
+        let stored = Stored::new(key);
+        let row = &mut self.slots[slot];
+        if self.directory.bits.set(slot) {
+            match row.push(stored, value) {
+                Ok(place) => return Ok(Location { key, slot, place }),
+                Err(value) => return Err(value),
+            }
         }
-        slot.put_first((Stored::new(key), value));
-        Ok(())
+        row.put_first((stored, value));
+        Ok(Location {
+            key,
+            slot,
+            place: 0,
+        })
     }
 }
 

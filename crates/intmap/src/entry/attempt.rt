@@ -29,17 +29,15 @@ impl<'a, K: IntKey, V: Drop, A: Allocator + Copy> VacantEntry<'a, K, V, A> {
             E.from_gives (RefusalIsDue K.number_of (entry_list (Vacant self.entry))
             (entry_key (Vacant self.entry))) e) }
     {
-        let VacantEntry { map, key } = self;
-        // tells the proof that the key satisfies `is_valid`
-        let _number = key.number();
+        let VacantEntry { map, key, slot } = self;
         let value = match made {
             Ok(value) => value,
             Err(error) => return Err(error),
         };
-        if let Err(refused) = map.add(key, value) {
-            return Err(E::from(refused));
-        }
-        let at = map.locate_last(key);
+        let at = match map.add(slot, key, value) {
+            Ok(at) => at,
+            Err(refused) => return Err(E::from(refused)),
+        };
         Ok(map.value_mut_at(at))
     }
 }

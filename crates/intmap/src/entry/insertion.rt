@@ -40,13 +40,11 @@ impl<'a, K: IntKey, V: Drop, A: Allocator + Copy> VacantEntry<'a, K, V, A> {
             (entry_map (Vacant self.entry)).capacity (entry_key (Vacant self.entry))
             → IsOk result }
     {
-        let VacantEntry { map, key } = self;
-        // tells the proof that the key satisfies `is_valid`
-        let _number = key.number();
-        if let Err(refused) = map.add(key, value) {
-            return Err(refused);
-        }
-        let at = map.locate_last(key);
+        let VacantEntry { map, key, slot } = self;
+        let at = match map.add(slot, key, value) {
+            Ok(at) => at,
+            Err(refused) => return Err(refused),
+        };
         Ok(OccupiedEntry {
             map,
             slot: at.slot,

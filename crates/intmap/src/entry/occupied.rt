@@ -126,11 +126,7 @@ impl<'a, K: IntKey, V, A: Allocator + Copy> OccupiedEntry<'a, K, V, A> {
     pub fn leave(self)
         ensures state { self.exit.0.now ≡ entry_map (Occupied self.entry) }
     {
-        let OccupiedEntry {
-            map: _,
-            slot: _,
-            place: _,
-        } = self;
+        let OccupiedEntry { .. } = self;
     }
 
     /// The map, as the calls on the entry left it, for as long as the map was borrowed. It removes

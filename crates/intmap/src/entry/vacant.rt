@@ -29,7 +29,7 @@ impl<'a, K: IntKey, V, A: Allocator + Copy> VacantEntry<'a, K, V, A> {
         ensures value { result ≡ entry_key (Vacant self.entry) }
         ensures state { self.exit.0.now ≡ entry_map (Vacant self.entry) }
     {
-        let VacantEntry { map: _, key } = self;
+        let VacantEntry { key, .. } = self;
         key
     }
 
@@ -39,7 +39,11 @@ impl<'a, K: IntKey, V, A: Allocator + Copy> VacantEntry<'a, K, V, A> {
             ≡ (entry_reference (Vacant self.entry)).ghost_name }
         ensures state { result.now ≡ entry_map (Vacant self.entry) }
     {
-        let VacantEntry { map, key: _ } = self;
+        let VacantEntry {
+            map,
+            key: _,
+            slot: _,
+        } = self;
         map
     }
 }
@@ -69,13 +73,11 @@ impl<'a, K: IntKey, V: Drop, A: Allocator + Copy> VacantEntry<'a, K, V, A> {
             (entry_map (Vacant self.entry)).capacity (entry_key (Vacant self.entry))
             → IsOk result }
     {
-        let VacantEntry { map, key } = self;
-        // tells the proof that the key satisfies `is_valid`
-        let _number = key.number();
-        if let Err(refused) = map.add(key, value) {
-            return Err(refused);
-        }
-        let at = map.locate_last(key);
+        let VacantEntry { map, key, slot } = self;
+        let at = match map.add(slot, key, value) {
+            Ok(at) => at,
+            Err(refused) => return Err(refused),
+        };
         Ok(map.value_mut_at(at))
     }
 }

@@ -52,7 +52,7 @@ impl<K: IntKey, V, A: Allocator + Copy> IntMap<K, V, A> {
             ≡ steps.old + reach K.number_of self.now.walk self.now.capacity key }
         ensures valid { IsMap K.number_of K.is_valid self.now }
     {
-        let Some(at) = self.table.locate(key, steps) else {
+        let Ok(at) = self.table.locate(key, steps) else {
             return None;
         };
         Some(self.table.value_at(at).get())
@@ -79,8 +79,8 @@ impl<K: IntKey, V, A: Allocator + Copy> IntMap<K, V, A> {
             (written K.number_of (after_search K.number_of self.old key) key v) }
     {
         match self.locate(key) {
-            Some(at) => Some(self.value_mut_at(at)),
-            None => None,
+            Ok(at) => Some(self.value_mut_at(at)),
+            Err(_) => None,
         }
     }
 
@@ -96,7 +96,7 @@ impl<K: IntKey, V, A: Allocator + Copy> IntMap<K, V, A> {
         ensures valid { IsMap K.number_of K.is_valid self.now }
     {
         let mut steps = Steps::new();
-        let Some(at) = self.table.locate(key, &mut steps) else {
+        let Ok(at) = self.table.locate(key, &mut steps) else {
             return None;
         };
         let found = self.table.key_at(at.slot, at.place);

@@ -1,6 +1,8 @@
 //! Insertions.
 ghost use Rattle.std.specs.Prelude.{◌≡◌, ◌+◌, ◌*◌, ◌/◌, ◌<◌, length, IfOk, IfErr, IsOk, OnOk, OnErr, None, true, is_none, unwrap_or, MatchBool};
+ghost use Rattle.intmap_table.specs.Classes.{slot_number};
 ghost use Rattle.intmap_table.specs.Bindings.{value_of};
+ghost use Rattle.intmap_table.specs.Locations.{IsAt};
 ghost use Rattle.intmap.specs.Growth.{is_due};
 ghost use Rattle.intmap.specs.Insertions.{IsInsertion};
 ghost use Rattle.intmap.specs.Map.{IsLone, IsMap, after_search, after_insert, with_pair};
@@ -11,6 +13,7 @@ use crate::map::IntMap;
 use crate::refusal::{Cause, Refused};
 use intmap_table::IntKey;
 use intmap_table::kept::Kept;
+use intmap_table::table::locate::Location;
 use std::alloc::Allocator;
 
 impl<K: IntKey, V: Drop, A: Allocator + Copy> IntMap<K, V, A> {
@@ -55,10 +58,11 @@ impl<K: IntKey, V: Drop, A: Allocator + Copy> IntMap<K, V, A> {
         ensures valid { IsMap K.number_of K.is_valid self.old }
         ensures valid_after { IsMap K.number_of K.is_valid self.new }
     {
-        if let Some(at) = self.locate(key) {
-            return Ok(Some(self.replace_at(at, value)));
-        }
-        if let Err(refused) = self.add(key, value) {
+        let slot = match self.locate(key) {
+            Ok(at) => return Ok(Some(self.replace_at(at, value))),
+            Err(slot) => slot,
+        };
+        if let Err(refused) = self.add(slot, key, value) {
             return Err(refused);
         }
         Ok(None)
@@ -94,20 +98,23 @@ impl<K: IntKey, V: Drop, A: Allocator + Copy> IntMap<K, V, A> {
         ensures valid { IsMap K.number_of K.is_valid self.old }
         ensures valid_after { IsMap K.number_of K.is_valid self.new }
     {
-        if self.locate(key).is_some() {
+        let Err(slot) = self.locate(key) else {
             return Ok(false);
-        }
-        if let Err(refused) = self.add(key, value) {
+        };
+        if let Err(refused) = self.add(slot, key, value) {
             return Err(refused);
         }
         Ok(true)
     }
 
-    /// Adds the pair of an absent key. It compares no key.
+    /// Adds the pair of an absent key in its slot, and returns where it is. It compares no key.
     #[inline(always)]
-    pub(crate) fn add(&mut self, key: K, value: V) -> Result<(), Refused<V>>
-        requires key { K.is_valid key }
+    pub(crate) fn add(&mut self, slot: usize, key: K, value: V) -> Result<Location<K>, Refused<V>>
         requires missing { value_of K.number_of self.old.walk key ≡ None }
+        requires slot { slot ≡ slot_number K.number_of key self.old.capacity }
+        ensures key { IfOk result (λ at. at.key ≡ key) }
+        ensures at { IfOk result (IsAt K.number_of self.new.walk self.new.capacity) }
+        ensures known { OnOk result (K.is_valid key) }
         ensures inserted { OnOk result
             (IsInsertion K.number_of K.is_valid self.old key value self.new) }
         ensures state { OnOk result
@@ -127,27 +134,38 @@ impl<K: IntKey, V: Drop, A: Allocator + Copy> IntMap<K, V, A> {
         }
         let len = self.len + 1;
         if has_outgrown(len, self.threshold) {
-            return self.add_growing(len, key, value);
+            return self.add_growing(len, slot, key, value);
         }
-        if let Err(kept) = self.table.add(key, Kept::new(value)) {
-            return Err(Refused {
+        match self.table.add(slot, key, Kept::new(value)) {
+            Ok(at) => {
+                self.len = len;
+                Ok(at)
+            }
+            Err(kept) => Err(Refused {
                 value: kept.into_value(),
                 cause: Cause::Memory,
-            });
+            }),
         }
-        self.len = len;
-        Ok(())
     }
 
-    /// Adds the pair of an absent key, if the new length exceeds the load factor. All memory is
-    /// allocated before a pair moves.
+    /// Adds the pair of an absent key, if the new length exceeds the load factor, and returns where
+    /// it is. All memory is allocated before a pair moves.
     #[inline(never)]
-    fn add_growing(&mut self, len: usize, key: K, value: V) -> Result<(), Refused<V>>
-        requires key { K.is_valid key }
+    fn add_growing(
+        &mut self,
+        len: usize,
+        slot: usize,
+        key: K,
+        value: V,
+    ) -> Result<Location<K>, Refused<V>>
         requires missing { value_of K.number_of self.old.walk key ≡ None }
+        requires slot { slot ≡ slot_number K.number_of key self.old.capacity }
         requires count { len ≡ length self.old.walk + 1 }
         requires due { is_due len ≡ true }
         requires exceeds { self.old.factor < len * 1000 / self.old.capacity }
+        ensures key { IfOk result (λ at. at.key ≡ key) }
+        ensures at { IfOk result (IsAt K.number_of self.new.walk self.new.capacity) }
+        ensures known { OnOk result (K.is_valid key) }
         ensures inserted { OnOk result
             (IsInsertion K.number_of K.is_valid self.old key value self.new) }
         ensures state { OnOk result
@@ -165,17 +183,19 @@ impl<K: IntKey, V: Drop, A: Allocator + Copy> IntMap<K, V, A> {
             });
         };
         let threshold = threshold_of(capacity, self.factor);
-        if let Err(kept) = self
+        match self
             .table
-            .grow_with(capacity, key, Kept::new(value), &mut self.placed)
+            .grow_with(capacity, slot, key, Kept::new(value), &mut self.placed)
         {
-            return Err(Refused {
+            Ok(at) => {
+                self.len = len;
+                self.threshold = threshold;
+                Ok(at)
+            }
+            Err(kept) => Err(Refused {
                 value: kept.into_value(),
                 cause: Cause::Memory,
-            });
+            }),
         }
-        self.len = len;
-        self.threshold = threshold;
-        Ok(())
     }
 }

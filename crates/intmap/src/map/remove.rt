@@ -32,7 +32,7 @@ impl<K: IntKey, V, A: Allocator + Copy> IntMap<K, V, A> {
         ensures valid { IsMap K.number_of K.is_valid self.old }
         ensures valid_after { IsMap K.number_of K.is_valid self.new }
     {
-        let Some(at) = self.locate(key) else {
+        let Ok(at) = self.locate(key) else {
             return None;
         };
         Some(self.take_at(at))

@@ -1,5 +1,5 @@
 //! Pairs are put into a slot, replaced and removed there, and their values are written.
-ghost use Rattle.std.specs.Prelude.{◌≡◌, ◌≢◌, ◌+◌, ◌<◌, ◌≤◌, [], ◌∷◌, ◌++◌, length, reverse, vec_capacity, swap_remove, slice_index_or, is_some, true, Some, OnOk, OnErr, IfErr, IfSome, IfNone};
+ghost use Rattle.std.specs.Prelude.{◌≡◌, ◌≢◌, ◌+◌, ◌<◌, ◌≤◌, [], ◌∷◌, ◌++◌, length, reverse, vec_capacity, swap_remove, slice_index_or, is_some, true, Some, OnOk, OnErr, IfOk, IfErr, IfSome, IfNone};
 ghost use Rattle.intmap_table.specs.Tables.Moves.{emptied};
 ghost use Rattle.intmap_table.specs.Taking.{TakesEach};
 ghost use Rattle.intmap_table.specs.Writes.{Writes, WritesAt, TakesPairMut};
@@ -97,11 +97,12 @@ impl<K: IntKey, X: Drop, A: Allocator> Slot<K, X, A> {
         self.rest.shrink_to_fit();
     }
 
-    /// Adds a pair behind others. The second pair allocates room for itself alone. If the
-    /// allocation fails, the value is returned.
+    /// Adds a pair behind others, and returns its place. The second pair allocates room for itself
+    /// alone. If the allocation fails, the value is returned.
     #[inline(never)]
-    pub(crate) fn push(&mut self, key: K, value: X) -> Result<(), X>
+    pub(crate) fn push(&mut self, key: Stored<K>, value: X) -> Result<usize, X>
         requires { 0 < length self.old.pairs }
+        ensures place { IfOk result (λ place. place ≡ length self.old.pairs) }
         ensures ok { OnOk result (self.new.pairs ≡ self.old.pairs ++ (key, value) ∷ []) }
         ensures err { OnErr result (self.new.pairs ≡ self.old.pairs) }
         ensures value_returned { IfErr result (λ returned. returned ≡ value) }
@@ -114,8 +115,8 @@ impl<K: IntKey, X: Drop, A: Allocator> Slot<K, X, A> {
         if room.is_err() {
             return Err(value);
         }
-        self.rest.push_reserved((Stored::new(key), value));
-        Ok(())
+        self.rest.push_reserved((key, value));
+        Ok(self.rest.len())
     }
 }
 

@@ -4,13 +4,14 @@ ghost use Rattle.intmap_table.specs.Classes.{IsCapacity, slot_number};
 ghost use Rattle.intmap_table.specs.Bindings.{value_of, put_pair, take_key};
 ghost use Rattle.intmap_table.specs.Tables.Slots.{rows, joined, AreMarked, IsMaskedTable};
 ghost use Rattle.intmap_table.specs.Walk.{slot_of, walk_of};
-ghost use Rattle.intmap_table.specs.Locations.{IsLast};
+ghost use Rattle.intmap_table.specs.Locations.{IsAt};
 ghost use Rattle.intmap_table.specs.Tables.Moves.{rooms, IsGrown, IsOldRows, HasParts, CanMoveOn, emptied, need};
 
 use crate::bits::Bits;
 use crate::key::IntKey;
 use crate::slot::Slot;
 use crate::steps::Steps;
+use crate::table::locate::Location;
 use crate::table::place::move_all;
 use crate::table::stored::Stored;
 use crate::table::{Directory, Table, index_of};
@@ -236,27 +237,25 @@ impl<K: IntKey, X: Drop, A: Allocator + Copy> Table<K, X, A> {
         Ok(())
     }
 
-    /// Makes room for the pair of a key in its slot, and allocates for exactly that. It returns
-    /// whether it allocated.
-    fn reserve_for(&mut self, key: &K) -> Result<bool, AllocError>
+    /// Makes room for one more pair in the slot of a key, and allocates for exactly that. It
+    /// returns whether it allocated.
+    fn reserve_for(&mut self, slot: usize) -> Result<bool, AllocError>
+        requires { (key : K) × (slot ≡ slot_number K.number_of key self.old.capacity) }
         ensures same { self.new ≡ self.old }
         ensures range { IsCapacity self.old.capacity }
         ensures own { walk_of K.number_of self.old.walk self.old.capacity ≡ self.old.walk }
     {
-        let index = self.index_of(key);
-        self.slots[index].reserve_one()
+        self.slots[slot].reserve_one()
     }
 
-    /// Removes the pair of a key, which is the last of its slot, and gives back the room that was
-    /// made for it.
-    fn take_back(&mut self, key: K, is_made: bool) -> X
-        requires { IsLast K.number_of self.old.walk self.old.capacity key }
-        ensures value { value_of K.number_of self.old.walk key ≡ Some result }
+    /// Removes a located pair, and gives back the room that was made for it.
+    fn take_back(&mut self, at: Location<K>, is_made: bool) -> X
+        requires { IsAt K.number_of self.old.walk self.old.capacity at }
+        ensures value { value_of K.number_of self.old.walk at.key ≡ Some result }
         ensures walk { self.new.walk ≡ walk_of K.number_of
-            (take_key K.number_of self.old.walk self.old.capacity key) self.old.capacity }
+            (take_key K.number_of self.old.walk self.old.capacity at.key) self.old.capacity }
         ensures capacity { self.new.capacity ≡ self.old.capacity }
     {
-        let at = self.locate_last(key);
         let value = self.take_at(at);
         if is_made {
             self.slots[at.slot].shrink();
@@ -264,20 +263,24 @@ impl<K: IntKey, X: Drop, A: Allocator + Copy> Table<K, X, A> {
         value
     }
 
-    /// Puts the pair of an absent key behind the pairs of its slot, and moves all pairs, in the
-    /// order of the walk, to their slots among `capacity` slots. If an allocation fails, the value
-    /// is returned and nothing changes.
+    /// Puts the pair of an absent key behind the pairs of its slot, moves all pairs, in the order
+    /// of the walk, to their slots among `capacity` slots, and returns where the new pair is. If an
+    /// allocation fails, the value is returned and nothing changes.
     pub fn grow_with(
         &mut self,
         capacity: usize,
+        slot: usize,
         key: K,
         value: X,
         placed: &mut Steps,
-    ) -> Result<(), X>
+    ) -> Result<Location<K>, X>
         requires capacity { IsCapacity capacity }
         requires larger { self.old.capacity ≤ capacity }
         requires missing { value_of K.number_of self.old.walk key ≡ None }
+        requires slot { slot ≡ slot_number K.number_of key self.old.capacity }
         requires count { length self.old.walk + 1 < 2 ^ 64 }
+        ensures key { IfOk result (λ at. at.key ≡ key) }
+        ensures at { IfOk result (IsAt K.number_of self.new.walk self.new.capacity) }
         ensures walk { OnOk result (self.new.walk ≡ walk_of K.number_of
             (put_pair K.number_of self.old.walk self.old.capacity key value) capacity) }
         ensures capacity { OnOk result (self.new.capacity ≡ capacity) }
@@ -285,15 +288,16 @@ impl<K: IntKey, X: Drop, A: Allocator + Copy> Table<K, X, A> {
         ensures err { OnErr result (self.new ≡ self.old) }
         ensures none_placed { OnErr result (placed.new ≡ placed.old) }
         ensures value_returned { IfErr result (λ returned. returned ≡ value) }
+        ensures known { OnOk result (K.is_valid key) }
     {
-        let Ok(is_made) = self.reserve_for(&key) else {
+        let Ok(is_made) = self.reserve_for(slot) else {
             return Err(value);
         };
-        self.add(key, value)?;
+        let at = self.add(slot, key, value)?;
         if self.grow(capacity, placed).is_err() {
-            return Err(self.take_back(key, is_made));
+            return Err(self.take_back(at, is_made));
         }
-        Ok(())
+        Ok(self.locate_last(key))
     }
 
     /// Moves all pairs, in the order of the walk, to their slots among `capacity` slots. If the

@@ -1,5 +1,6 @@
 //! Where the pair of a key is, and calls on a located pair, which compare no key.
-ghost use Rattle.std.specs.Prelude.{◌≡◌, ◌+◌, IfSome, IfNone, Some, None};
+ghost use Rattle.std.specs.Prelude.{◌≡◌, ◌+◌, IfOk, IfErr, OnErr, Some, None};
+ghost use Rattle.intmap_table.specs.Classes.{slot_number};
 ghost use Rattle.intmap_table.specs.Bindings.{HasDistinctKeys, value_of, take_key, put_pair};
 ghost use Rattle.intmap_table.specs.Locations.{IsAt, IsLast, IsFound, key_at};
 ghost use Rattle.intmap_table.specs.Reach.{reach};
@@ -23,26 +24,28 @@ impl<K: IntKey, X, A: Allocator> Table<K, X, A> {
     ghost use Rattle.std.specs.Borrow.{sem};
     ghost use Rattle.intmap_table.specs.Lending.{table_lends};
 
-    /// Where the pair of the key is, if the key is present. The keys of its slot are compared from
-    /// the front, up to the one sought. Each comparison is one step.
+    /// Where the pair of the key is, or the slot of the key if the key is absent. The keys of the
+    /// slot are compared from the front, up to the one sought. Each comparison is one step.
     #[inline(always)]
-    pub fn locate(&self, key: K, steps: &mut Steps) -> Option<Location<K>>
-        ensures found { IfSome result (λ at. (at.key ≡ key)
+    pub fn locate(&self, key: K, steps: &mut Steps) -> Result<Location<K>, usize>
+        ensures found { IfOk result (λ at. (at.key ≡ key)
             × IsAt K.number_of self.now.walk self.now.capacity at) }
-        ensures missing { IfNone result (value_of K.number_of self.now.walk key ≡ None) }
+        ensures missing { OnErr result (value_of K.number_of self.now.walk key ≡ None) }
+        ensures slot { IfErr result (λ slot. slot
+            ≡ slot_number K.number_of key self.now.capacity) }
         ensures counted { steps.new
             ≡ steps.old + reach K.number_of self.now.walk self.now.capacity key }
         ensures known { K.is_valid key }
     {
         let slot = self.index_of(&key);
         let Some(place) = self.slots[slot].find(&key, steps) else {
-            return None;
+            return Err(slot);
         };
-        Some(Location { key, slot, place })
+        Ok(Location { key, slot, place })
     }
 
     /// Where the pair of a key is that is the last of its slot.
-    pub fn locate_last(&self, key: K) -> Location<K>
+    pub(super) fn locate_last(&self, key: K) -> Location<K>
         requires { IsLast K.number_of self.now.walk self.now.capacity key }
         ensures key { result.key ≡ key }
         ensures at { IsAt K.number_of self.now.walk self.now.capacity result }

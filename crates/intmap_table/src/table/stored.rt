@@ -26,6 +26,7 @@ impl<K: IntKey> Stored<K> {
     #[inline(always)]
     pub(crate) fn new(key: K) -> Stored<K>
         ensures value { result ≡ key }
+        ensures known { K.is_valid key }
     {
         let _number = key.number();
         Stored { key }

@@ -44,24 +44,24 @@ returns-in-Err-clause-refused g c =
     rw (← c.self.view_is) (RefusalIsDue-absent g.K.IntKey.number_of (held g at) c.args.key (rw (← c.self.view_is) at c.requires.missing) Memory
     ((λ e. cc), λ large. absurd (in_range g at large)) (λ _ _. c.in-Err.ensures.memory))
 
-pub invariant_of-self-2 : goal.invariant_of-self-2
-invariant_of-self-2 g c =
-    let here = (goal.at.invariant_of-self-2 g c).After-add in
+pub invariant_of-self : goal.invariant_of-self
+invariant_of-self g c =
+    let here = (goal.at.invariant_of-self g c).After-add in
     let missing = (rw (← c.self.view_is) at c.requires.missing) in
-    IsConsistent-added _ _ _ _ _ _ _ _ c.self.invariant c.add.new.self.capacity c.args.key c.new.result c.in_default.ensures.capacity c.requires.key missing (fits g here) (test g here) c.in_default.ensures.walk
+    IsConsistent-added _ _ _ _ _ _ _ _ c.self.invariant c.add.new.self.capacity c.args.key c.new.result c.in-Ok.ensures.capacity c.in-Ok.ensures.known missing (fits g here) (test g here) c.in-Ok.ensures.walk
 
-pub returns-clause-inserted : goal.returns-clause-inserted
-returns-clause-inserted g c =
-    let at = (goal.at.returns-clause-inserted g c).After-add in
+pub returns-in-Ok-clause-inserted : goal.returns-in-Ok-clause-inserted
+returns-in-Ok-clause-inserted g c =
+    let at = (goal.at.returns-in-Ok-clause-inserted g c).After-add in
     let missing = (rw (← c.self.view_is) at c.requires.missing) in
-    rw (← c.self.view_is) (IsInsertion-put g.K.IntKey.number_of g.K.IntKey.is_valid _ _ c.args.key c.args.value c.self.invariant.map (invariant_of-self-2 g c).map
-    (rw c.in_default.ensures.capacity (rw c.new.ensures at c.in_default.ensures.walk)) (λ out. in_range g at out.1) (rw (missing, c.in_default.ensures.capacity) (stays g at)))
+    rw (← c.self.view_is) (IsInsertion-put g.K.IntKey.number_of g.K.IntKey.is_valid _ _ c.args.key c.args.value c.self.invariant.map (invariant_of-self g c).map
+    (rw c.in-Ok.ensures.capacity (rw c.new.ensures at c.in-Ok.ensures.walk)) (λ out. in_range g at out.1) (rw (missing, c.in-Ok.ensures.capacity) (stays g at)))
 
-pub returns-clause-state : goal.returns-clause-state
-returns-clause-state g c =
+pub returns-in-Ok-clause-state : goal.returns-in-Ok-clause-state
+returns-in-Ok-clause-state g c =
     let same : (c.self.inside.table.capacity == c.self.inside.table.capacity) ≡ true = eq-eqb c.self.inside.table.capacity c.self.inside.table.capacity refl in
-    rw (c.in_default.ensures.capacity, ← c.self.view_is) (MapState-same _ _ _ _ _ _ _ _ _
-    (rw c.new.ensures at c.in_default.ensures.walk)
+    rw (c.in-Ok.ensures.capacity, ← c.self.view_is) (MapState-same _ _ _ _ _ _ _ _ _
+    (rw c.new.ensures at c.in-Ok.ensures.walk)
     refl (sym (ap (λ b. c.self.inside.placed + cond b 0 (length c.self.inside.table.walk + 1)) same ∙ add-zero c.self.inside.placed)) refl)
 
 pub returns-then-self-clause-refused : goal.returns-then-self-clause-refused
@@ -74,14 +74,11 @@ returns-then-self-clause-refused g c =
 pub add_growing-requires-clause-count : goal.add_growing-requires-clause-count
 add_growing-requires-clause-count g c = grind (arith, common_steps)
 
-pub invariant_of-self : goal.invariant_of-self
-invariant_of-self g c = rw (c.in-Err.ensures.err, c.in-Err.ensures.capacity) c.self.invariant
+pub invariant_of-self-in-Err : goal.invariant_of-self-in-Err
+invariant_of-self-in-Err g c = rw (c.in-Err.ensures.err, c.in-Err.ensures.capacity) c.self.invariant
 
 pub returns-in-Err-clause-err : goal.returns-in-Err-clause-err
 returns-in-Err-clause-err g c = search (tests, rules)
-
-pub add_growing-requires-clause-key : goal.add_growing-requires-clause-key
-add_growing-requires-clause-key g c = c.requires.key
 
 pub add_growing-requires-clause-missing : goal.add_growing-requires-clause-missing
 add_growing-requires-clause-missing g c = c.requires.missing
@@ -92,8 +89,8 @@ add_growing-requires-clause-due g c = let h = c.if-has_outgrown.ensures in searc
 pub add_growing-requires-clause-exceeds : goal.add_growing-requires-clause-exceeds
 add_growing-requires-clause-exceeds g c = let h = c.if-has_outgrown.ensures in search (tests, rules)
 
-pub returns-clause-valid_after : goal.returns-clause-valid_after
-returns-clause-valid_after g c = (invariant_of-self-2 g c).map
+pub returns-in-Ok-clause-valid_after : goal.returns-in-Ok-clause-valid_after
+returns-in-Ok-clause-valid_after g c = (invariant_of-self g c).map
 
 pub returns-then-self-clause-valid : goal.returns-then-self-clause-valid
 returns-then-self-clause-valid g c = rw (← c.self.view_is) c.self.invariant.map
@@ -104,8 +101,8 @@ returns-then-has_outgrown-clause-valid g c = rw (← c.self.view_is) c.self.inva
 pub returns-in-Err-clause-valid : goal.returns-in-Err-clause-valid
 returns-in-Err-clause-valid g c = rw (← c.self.view_is) c.self.invariant.map
 
-pub returns-clause-valid : goal.returns-clause-valid
-returns-clause-valid g c = rw (← c.self.view_is) c.self.invariant.map
+pub returns-in-Ok-clause-valid : goal.returns-in-Ok-clause-valid
+returns-in-Ok-clause-valid g c = rw (← c.self.view_is) c.self.invariant.map
 
 pub returns-then-self-clause-err : goal.returns-then-self-clause-err
 returns-then-self-clause-err g c = refl
@@ -132,4 +129,4 @@ pub returns-then-has_outgrown-clause-valid_after : goal.returns-then-has_outgrow
 returns-then-has_outgrown-clause-valid_after g c = c.add_growing.ensures.valid_after
 
 pub returns-in-Err-clause-valid_after : goal.returns-in-Err-clause-valid_after
-returns-in-Err-clause-valid_after g c = (invariant_of-self g c).map
+returns-in-Err-clause-valid_after g c = (invariant_of-self-in-Err g c).map

@@ -31,16 +31,16 @@ grow_with-requires-clause-count g c =
     let e = long g (goal.at.grow_with-requires-clause-count g c).After-capacity in
     let fits = c.ranges.len.fits in omega (arith, e, fits)
 
-pub invariant_of-self-2 : goal.invariant_of-self-2
-invariant_of-self-2 g c =
-    let here = (goal.at.invariant_of-self-2 g c).After-capacity in
+pub invariant_of-self : goal.invariant_of-self
+invariant_of-self g c =
+    let here = (goal.at.invariant_of-self g c).After-capacity in
     let e : c.args.len ≡ c.self.inside.len + 1 = long g here ∙ ap (λ n. n + 1) (sym c.self.invariant.count) in
     let fits = c.ranges.len.fits in
     let Counted : ℕ → Type 0 = λ n. IsConsistent g.K.IntKey.number_of g.K.IntKey.is_valid c.grow_with.new.self.walk c.grow_with.new.self.capacity c.self.inside.factor n c.threshold_of-threshold.result in
     let meets : MeetsLoad c.in-Some.capacity (c.self.inside.len + 1) c.self.inside.factor = subst (λ n. MeetsLoad c.in-Some.capacity n c.self.inside.factor) e c.in-Some.ensures.wanted.meets in
     subst Counted (sym e)
     (IsConsistent-grown_with _ _ _ _ _ _ _ _ c.self.invariant c.in-Some.capacity c.grow_with.new.self.capacity c.threshold_of-threshold.result c.args.key c.new.result
-    c.in_default-grow_with.ensures.capacity c.in-Some.ensures.capacity c.requires.key (missing g here) (omega (arith, e, fits)) meets c.threshold_of-threshold.ensures c.in_default-grow_with.ensures.walk)
+    c.in-Ok.ensures.capacity c.in-Some.ensures.capacity c.in-Ok.ensures.known (missing g here) (omega (arith, e, fits)) meets c.threshold_of-threshold.ensures c.in-Ok.ensures.walk)
 
 module _ (g : _) (c : After-grow_with g) where
   abbrev held : PlainList g.row.K.Denot g.row.V.Denot
@@ -84,31 +84,31 @@ returns-in-Err-clause-refused g c =
     rw (← c.self.view_is) (RefusalIsDue-absent g.K.IntKey.number_of (held g at) c.args.key (rw (← c.self.view_is) at c.requires.missing) Memory
     ((λ e. cc), (λ large. absurd (in_range g at large))) (λ _ stays. absurd (grows g at (IsNext-unique _ _ _ _ _ (next g at) stays))))
 
-pub returns-clause-state : goal.returns-clause-state
-returns-clause-state g c =
-    let at = (goal.at.returns-clause-state g c).After-grow_with in
+pub returns-in-Ok-clause-state : goal.returns-in-Ok-clause-state
+returns-in-Ok-clause-state g c =
+    let at = (goal.at.returns-in-Ok-clause-state g c).After-grow_with in
     let other : (c.in-Some.capacity == c.self.inside.table.capacity) ≡ false = ne_eqb c.in-Some.capacity c.self.inside.table.capacity (grows g at) in
-    rw (c.in_default-grow_with.ensures.capacity, ← c.self.view_is) (MapState-same _ _ _ _ _ _ _ _ _
-    (rw c.new.ensures at c.in_default-grow_with.ensures.walk)
+    rw (c.in-Ok.ensures.capacity, ← c.self.view_is) (MapState-same _ _ _ _ _ _ _ _ _
+    (rw c.new.ensures at c.in-Ok.ensures.walk)
     refl
-    (c.in_default-grow_with.ensures.placed ∙ ap (λ m. c.self.inside.placed + m) (ap (λ b. cond b 0 (length c.self.inside.table.walk + 1)) (sym other)))
+    (c.in-Ok.ensures.placed ∙ ap (λ m. c.self.inside.placed + m) (ap (λ b. cond b 0 (length c.self.inside.table.walk + 1)) (sym other)))
     refl)
 
-pub returns-clause-inserted : goal.returns-clause-inserted
-returns-clause-inserted g c =
-    let at = (goal.at.returns-clause-inserted g c).After-grow_with in
+pub returns-in-Ok-clause-inserted : goal.returns-in-Ok-clause-inserted
+returns-in-Ok-clause-inserted g c =
+    let at = (goal.at.returns-in-Ok-clause-inserted g c).After-grow_with in
     let missing = (rw (← c.self.view_is) at c.requires.missing) in
-    rw (← c.self.view_is) (IsInsertion-put g.K.IntKey.number_of g.K.IntKey.is_valid _ _ c.args.key c.args.value c.self.invariant.map (invariant_of-self-2 g c).map
-    (rw c.in_default-grow_with.ensures.capacity (rw c.new.ensures at c.in_default-grow_with.ensures.walk)) (λ out. in_range g at out.1) (rw (missing, c.in_default-grow_with.ensures.capacity) (next g at)))
+    rw (← c.self.view_is) (IsInsertion-put g.K.IntKey.number_of g.K.IntKey.is_valid _ _ c.args.key c.args.value c.self.invariant.map (invariant_of-self g c).map
+    (rw c.in-Ok.ensures.capacity (rw c.new.ensures at c.in-Ok.ensures.walk)) (λ out. in_range g at out.1) (rw (missing, c.in-Ok.ensures.capacity) (next g at)))
 
-pub invariant_of-self : goal.invariant_of-self
-invariant_of-self g c = rw c.in-Err.ensures.err c.self.invariant
+pub invariant_of-self-in-Err : goal.invariant_of-self-in-Err
+invariant_of-self-in-Err g c = rw c.in-Err.ensures.err c.self.invariant
 
 pub returns-in-Err-clause-err : goal.returns-in-Err-clause-err
 returns-in-Err-clause-err g c = search rules
 
-pub returns-clause-valid_after : goal.returns-clause-valid_after
-returns-clause-valid_after g c = (invariant_of-self-2 g c).map
+pub returns-in-Ok-clause-valid_after : goal.returns-in-Ok-clause-valid_after
+returns-in-Ok-clause-valid_after g c = (invariant_of-self g c).map
 
 pub returns-in_default-clause-err : goal.returns-in_default-clause-err
 returns-in_default-clause-err g c = refl
@@ -117,4 +117,4 @@ pub returns-in_default-clause-valid_after : goal.returns-in_default-clause-valid
 returns-in_default-clause-valid_after g c = rw (← c.self.view_is) c.self.invariant.map
 
 pub returns-in-Err-clause-valid_after : goal.returns-in-Err-clause-valid_after
-returns-in-Err-clause-valid_after g c = (invariant_of-self g c).map
+returns-in-Err-clause-valid_after g c = (invariant_of-self-in-Err g c).map

@@ -23,10 +23,10 @@ returns-in_default-clause-valid_after g c = subst (IsMap g.K.IntKey.number_of g.
 
 module _ (g : _) (c : After-take_at g) where
   state : c.take_at.new.self ≡ after_remove g.K.IntKey.number_of c.args.self.now c.args.key
-  state = c.take_at.ensures.state ∙ (λ i. without_key g.K.IntKey.number_of (c.in-Some.ensures.state i) (c.in-Some.ensures.found.0 i))
+  state = c.take_at.ensures.state ∙ (λ i. without_key g.K.IntKey.number_of (c.in-Ok.ensures.state i) (c.in-Ok.ensures.found.0 i))
 
   value : value_of g.K.IntKey.number_of c.args.self.now.walk c.args.key ≡ Some c.take_at.result
-  value = sym (λ i. value_of g.K.IntKey.number_of (c.in-Some.ensures.state i).walk (c.in-Some.ensures.found.0 i)) ∙ c.take_at.ensures.value
+  value = sym (λ i. value_of g.K.IntKey.number_of (c.in-Ok.ensures.state i).walk (c.in-Ok.ensures.found.0 i)) ∙ c.take_at.ensures.value
 
 pub returns-clause-value : goal.returns-clause-value
 returns-clause-value g c = sym (value g (goal.at.returns-clause-value g c).After-take_at)
@@ -36,9 +36,9 @@ returns-clause-state g c = state g (goal.at.returns-clause-state g c).After-take
 
 pub returns-clause-updates : goal.returns-clause-updates
 returns-clause-updates g c =
-    Updates-remove g.K.IntKey.number_of g.K.IntKey.is_valid c.args.self.now _ c.args.key c.in-Some.ensures.valid (state g (goal.at.returns-clause-updates g c).After-take_at)
+    Updates-remove g.K.IntKey.number_of g.K.IntKey.is_valid c.args.self.now _ c.args.key c.in-Ok.ensures.valid (state g (goal.at.returns-clause-updates g c).After-take_at)
 
 pub returns-clause-len : goal.returns-clause-len
 returns-clause-len g c =
     let after = (goal.at.returns-clause-len g c).After-take_at in
-    rw (value g after) at (length-remove g.K.IntKey.number_of g.K.IntKey.is_valid c.args.self.now _ c.args.key c.in-Some.ensures.valid (state g after))
+    rw (value g after) at (length-remove g.K.IntKey.number_of g.K.IntKey.is_valid c.args.self.now _ c.args.key c.in-Ok.ensures.valid (state g after))
