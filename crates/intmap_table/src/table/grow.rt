@@ -72,7 +72,7 @@ fn count_parts<K: IntKey, X, A: Allocator>(counts: &mut [usize], slot: &Slot<K, 
 
 /// Makes room in each part of an old slot for the pairs that are counted for it. A part has `old`
 /// slots. The first part that needs a block gets the block of the old slot instead.
-fn take_room<K: IntKey, X: Drop, A: Allocator>(
+fn reserve_room<K: IntKey, X: Drop, A: Allocator>(
     slots: &mut [Slot<K, X, A>],
     index: usize,
     old: usize,
@@ -102,14 +102,15 @@ fn take_room<K: IntKey, X: Drop, A: Allocator>(
     Ok(())
 }
 
-/// Makes room in the new slots for the pairs of all old ones, and returns the greatest number of
-/// pairs behind the first one of an old slot. Old slots of up to three pairs need no room: at most
+/// Makes room in the new slots for the pairs of all old ones, and returns a buffer with room for the
+/// pairs behind the first one of any old slot. Old slots of up to three pairs need no room: at most
 /// one of their new slots gets several pairs, and that one gets the old block.
-fn take_rooms<K: IntKey, X: Drop, A: Allocator>(
+fn reserve_rooms<K: IntKey, X: Drop, A: Allocator + Copy>(
     slots: &mut [Slot<K, X, A>],
     old: &Directory<A>,
     counts: &mut [usize],
-) -> Result<usize, AllocError>
+    alloc: A,
+) -> Result<Vec<(Stored<K>, X), A>, AllocError>
     requires grown { IsGrown (old.now.mask + 1) (length slots.old) }
     requires all { length slots.old ≡ length counts.old * (old.now.mask + 1) }
     requires rows { IsOldRows K.number_of (take (old.now.mask + 1) (rows slots.old))
@@ -119,22 +120,23 @@ fn take_rooms<K: IntKey, X: Drop, A: Allocator>(
         → get_or slots.old j emptied ≡ emptied }
     requires fits { length (joined (rows slots.old)) < 2 ^ 64 }
     ensures rows { rows slots.new ≡ rows slots.old }
-    ensures ready { IfOk result (λ longest. CanMoveOn K.number_of
-        (take (old.now.mask + 1) (rows slots.old)) (old.now.mask + 1) (length slots.old) 0 longest
-        slots.new) }
+    ensures buffer { IfOk result (λ buffer. buffer.items ≡ []) }
+    ensures ready { IfOk result (λ buffer. CanMoveOn K.number_of
+        (take (old.now.mask + 1) (rows slots.old)) (old.now.mask + 1) (length slots.old) 0
+        (vec_capacity buffer) slots.new) }
 {
     let mut longest = 0;
     for index in old.bits.iter() {
         let behind = slots[index].last_place();
         if behind > 2 {
             count_parts(counts, &slots[index], old.mask + 1);
-            take_room(slots, index, old.mask + 1, counts)?;
+            reserve_room(slots, index, old.mask + 1, counts)?;
         }
         if behind > longest {
             longest = behind;
         }
     }
-    Ok(longest)
+    Vec::with_capacity(alloc, longest)
 }
 
 /// Adds empty slots, up to `capacity` slots. It allocates them at once.
@@ -157,32 +159,8 @@ pub(super) fn add_slots<K: IntKey, X: Drop, A: Allocator + Copy>(
 }
 
 /// Allocates all that growth to `capacity` slots needs: empty slots, room in them, and a buffer,
-/// which it returns. The old slots stay. If an allocation fails, some further slots may stay.
+/// which it returns. If an allocation fails, the slots and their memory are as before.
 fn make_room<K: IntKey, X: Drop, A: Allocator + Copy>(
-    slots: &mut Vec<Slot<K, X, A>, A>,
-    old: &Directory<A>,
-    capacity: usize,
-) -> Result<Vec<(Stored<K>, X), A>, AllocError>
-    requires grown { IsGrown (length slots.old.items) capacity }
-    requires table { IsMaskedTable K.number_of slots.old.items old.now.bits old.now.mask }
-    requires fits { length (joined (rows slots.old.items)) < 2 ^ 64 }
-    ensures rows { take (length slots.old.items) (rows slots.new.items)
-        ≡ rows slots.old.items }
-    ensures len { IfOk result (λ _. length slots.new.items ≡ capacity) }
-    ensures buffer { IfOk result (λ buffer. buffer.items ≡ []) }
-    ensures ready { IfOk result (λ buffer. CanMoveOn K.number_of (rows slots.old.items)
-        (length slots.old.items) capacity 0 (vec_capacity buffer) slots.new.items) }
-{
-    let alloc = *slots.allocator();
-    let mut counts = vec![in alloc; 0usize; capacity / slots.len()]?;
-    add_slots(slots, capacity)?;
-    let longest = take_rooms(slots, old, &mut counts)?;
-    Vec::with_capacity(alloc, longest)
-}
-
-/// Allocates all that growth to `capacity` slots needs, and returns the buffer for it. If an
-/// allocation fails, the slots and their memory are as before.
-fn take_memory<K: IntKey, X: Drop, A: Allocator + Copy>(
     slots: &mut Vec<Slot<K, X, A>, A>,
     old: &Directory<A>,
     capacity: usize,
@@ -193,18 +171,21 @@ fn take_memory<K: IntKey, X: Drop, A: Allocator + Copy>(
     ensures err { OnErr result (rows slots.new.items ≡ rows slots.old.items) }
     ensures rows { OnOk result (take (length slots.old.items) (rows slots.new.items)
         ≡ rows slots.old.items) }
-    ensures len { IfOk result (λ _. length slots.new.items ≡ capacity) }
+    ensures len { OnOk result (length slots.new.items ≡ capacity) }
     ensures buffer { IfOk result (λ buffer. buffer.items ≡ []) }
     ensures ready { IfOk result (λ buffer. CanMoveOn K.number_of (rows slots.old.items)
         (length slots.old.items) capacity 0 (vec_capacity buffer) slots.new.items) }
 {
+    let alloc = *slots.allocator();
     let len = slots.len();
-    let made = make_room(slots, old, capacity);
-    if made.is_err() {
+    let mut counts = vec![in alloc; 0usize; capacity / len]?;
+    add_slots(slots, capacity)?;
+    let Ok(buffer) = reserve_rooms(slots, old, &mut counts, alloc) else {
         slots.truncate(len);
         slots.shrink_to_fit();
-    }
-    made
+        return Err(AllocError);
+    };
+    Ok(buffer)
 }
 
 impl<K: IntKey, X: Drop, A: Allocator + Copy> Table<K, X, A> {
@@ -222,7 +203,7 @@ impl<K: IntKey, X: Drop, A: Allocator + Copy> Table<K, X, A> {
         ensures none_placed { OnErr result (placed.new ≡ placed.old) }
     {
         let mut bits = Bits::new(*self.slots.allocator(), capacity)?;
-        let mut buffer = take_memory(&mut self.slots, &self.directory, capacity)?;
+        let mut buffer = make_room(&mut self.slots, &self.directory, capacity)?;
         move_all(
             &mut bits,
             &mut self.slots,

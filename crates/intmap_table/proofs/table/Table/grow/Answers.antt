@@ -19,11 +19,11 @@ module _ (g : _) (c : In_ok-bits g) where
       let own : length c.self.inside.slots.items ≡ c.args.self.now.capacity = ap (λ (t : Grid _ _). t.capacity) c.self.view_is in
       IsGrown-from _ _ c.self.invariant.marked.table.capacity c.requires.capacity (rw own c.requires.larger)
 
-pub take_memory-requires-clause-grown : goal.take_memory-requires-clause-grown
-take_memory-requires-clause-grown g c = grown g (goal.at.take_memory-requires-clause-grown g c).In_ok-bits
+pub make_room-requires-clause-grown : goal.make_room-requires-clause-grown
+make_room-requires-clause-grown g c = grown g (goal.at.make_room-requires-clause-grown g c).In_ok-bits
 
-pub take_memory-requires-clause-fits : goal.take_memory-requires-clause-fits
-take_memory-requires-clause-fits g c = rw (walk g (goal.at.take_memory-requires-clause-fits g c).In_ok-bits) c.requires.fits
+pub make_room-requires-clause-fits : goal.make_room-requires-clause-fits
+make_room-requires-clause-fits g c = rw (walk g (goal.at.make_room-requires-clause-fits g c).In_ok-bits) c.requires.fits
 
 pub invariant_of-self : goal.invariant_of-self
 invariant_of-self g c = IsMaskedTable-same_rows _ _ c.in_err-buffer.ensures.err _ _ _ c.self.invariant
@@ -63,8 +63,8 @@ move_all-requires-clause-ready g c =
     rw (CanMoveOn-longer (longer g at.After-deref_mut (grown g at.In_ok-bits)) _ _, c.deref_mut.ensures.value) c.in_ok-buffer.ensures.ready
 
 -- the table's slots are those that pairs were moved in
-written : (g : _) (c : After-move_all g) → (with_items c.take_memory.new.slots c.move_all.new.slots).items ≡ c.move_all.new.slots
-written g c = with_items_is c.take_memory.new.slots c.move_all.new.slots (c.move_all.ensures.moved.len ∙ c.deref_mut.ensures.len)
+written : (g : _) (c : After-move_all g) → (with_items c.make_room.new.slots c.move_all.new.slots).items ≡ c.move_all.new.slots
+written g c = with_items_is c.make_room.new.slots c.move_all.new.slots (c.move_all.ensures.moved.len ∙ c.deref_mut.ensures.len)
 
 pub invariant_of-self-2 : goal.invariant_of-self-2
 invariant_of-self-2 g c =
@@ -89,8 +89,8 @@ returns-clause-placed g c =
 pub new-requires : goal.new-requires
 new-requires g c = capacity-greatest c.args.capacity c.requires.capacity
 
-pub take_memory-requires-clause-table : goal.take_memory-requires-clause-table
-take_memory-requires-clause-table g c = c.self.invariant
+pub make_room-requires-clause-table : goal.make_room-requires-clause-table
+make_room-requires-clause-table g c = c.self.invariant
 
 pub move_all-requires-clause-unmarked : goal.move_all-requires-clause-unmarked
 move_all-requires-clause-unmarked g c =

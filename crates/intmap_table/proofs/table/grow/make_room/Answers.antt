@@ -1,13 +1,13 @@
-use Rattle.std.proofs.Common.{◌≡◌, ◌-◌, ◌/◌, ◌++◌, ◌∙◌, length, replicate, ap, arith}
+use Rattle.std.proofs.Common.{◌≡◌, ◌-◌, ◌/◌, ◌++◌, ◌∙◌, length, take, replicate, vec_capacity, ap, arith}
 use Rattle.std.specs.Vec.{with_items}
 use Rattle.std.proofs.lemmas.List.{with_items_is}
-use Rattle.std.proofs.lemmas.Result.{IfOk-weaker}
+use Rattle.intmap_table.specs.Tables.Slots.{rows}
 use Rattle.intmap_table.specs.Tables.Moves.{emptied}
-use Rattle.intmap_table.proofs.Tables.MemoryLemmas.{IsLonger, IsLonger-added, length-same_rows, bare-added, joined-added, IsGrown-longer, parts-longer, IsOldRows-longer, AreMarked-longer, CanMoveOn-longer, take-own, take-kept}
+use Rattle.intmap_table.proofs.Tables.MemoryLemmas.{IsLonger, IsLonger-added, length-same_rows, bare-added, joined-added, IsGrown-longer, parts-longer, IsOldRows-longer, AreMarked-longer, CanMoveOn-longer, take-kept, rows-truncated}
 use Rattle.intmap_table.proofs.SlotNumberLemmas.{capacity-positive}
 use Rattle.intmap_table.proofs.Tables.GrownLemmas.{grown-more}
 use Rattle.intmap_table.proofs.table.grow.make_room.Goals as goal
-use Rattle.intmap_table.proofs.table.grow.make_room.Goals.{After-deref_mut-2, After-take_rooms}
+use Rattle.intmap_table.proofs.table.grow.make_room.Goals.{After-deref_mut-2, After-reserve_rooms}
 
 -- the slots that are lent are the old ones with empty ones behind them
 added : (g : _) (c : After-deref_mut-2 g) → c.deref_mut.result.now ≡ c.args.slots.now.items ++ replicate (c.args.capacity - length c.args.slots.now.items) emptied
@@ -16,66 +16,63 @@ added g c = c.deref_mut.ensures.value ∙ c.in_ok-add_slots.ensures.slots
 longer : (g : _) (c : After-deref_mut-2 g) → IsLonger g.K.IntKey.number_of c.args.slots.now.items c.deref_mut.result.now c.args.old.now.bits c.args.old.now.mask c.args.capacity
 longer g c = IsLonger-added _ _ _ c.requires.grown (added g c) _ _ _ c.requires.table
 
-pub take_rooms-requires-clause-grown : goal.take_rooms-requires-clause-grown
-take_rooms-requires-clause-grown g c = IsGrown-longer (longer g (goal.at.take_rooms-requires-clause-grown g c).After-deref_mut-2)
+pub reserve_rooms-requires-clause-grown : goal.reserve_rooms-requires-clause-grown
+reserve_rooms-requires-clause-grown g c = IsGrown-longer (longer g (goal.at.reserve_rooms-requires-clause-grown g c).After-deref_mut-2)
 
-pub take_rooms-requires-clause-all : goal.take_rooms-requires-clause-all
-take_rooms-requires-clause-all g c =
-    parts-longer (longer g (goal.at.take_rooms-requires-clause-all g c).After-deref_mut-2) c.deref_mut-2.result.now (c.deref_mut-2.ensures.len ∙ c.in_ok-counts.ensures.len ∙ ap (λ n. c.args.capacity / n) (c.len.ensures ∙ c.args.slots.now.ok.0))
+pub reserve_rooms-requires-clause-all : goal.reserve_rooms-requires-clause-all
+reserve_rooms-requires-clause-all g c =
+    parts-longer (longer g (goal.at.reserve_rooms-requires-clause-all g c).After-deref_mut-2) c.deref_mut-2.result.now (c.deref_mut-2.ensures.len ∙ c.in_ok-counts.ensures.len ∙ ap (λ n. c.args.capacity / n) (c.len-len.ensures ∙ c.args.slots.now.ok.0))
 
-pub take_rooms-requires-clause-rows : goal.take_rooms-requires-clause-rows
-take_rooms-requires-clause-rows g c = IsOldRows-longer (longer g (goal.at.take_rooms-requires-clause-rows g c).After-deref_mut-2)
+pub reserve_rooms-requires-clause-rows : goal.reserve_rooms-requires-clause-rows
+reserve_rooms-requires-clause-rows g c = IsOldRows-longer (longer g (goal.at.reserve_rooms-requires-clause-rows g c).After-deref_mut-2)
 
-pub take_rooms-requires-clause-marks : goal.take_rooms-requires-clause-marks
-take_rooms-requires-clause-marks g c = AreMarked-longer (longer g (goal.at.take_rooms-requires-clause-marks g c).After-deref_mut-2)
+pub reserve_rooms-requires-clause-marks : goal.reserve_rooms-requires-clause-marks
+reserve_rooms-requires-clause-marks g c = AreMarked-longer (longer g (goal.at.reserve_rooms-requires-clause-marks g c).After-deref_mut-2)
 
-pub take_rooms-requires-clause-bare : goal.take_rooms-requires-clause-bare
-take_rooms-requires-clause-bare g c = bare-added _ _ _ c.requires.grown (added g (goal.at.take_rooms-requires-clause-bare g c).After-deref_mut-2) _ c.requires.table.count
+pub reserve_rooms-requires-clause-bare : goal.reserve_rooms-requires-clause-bare
+reserve_rooms-requires-clause-bare g c = bare-added _ _ _ c.requires.grown (added g (goal.at.reserve_rooms-requires-clause-bare g c).After-deref_mut-2) _ c.requires.table.count
 
-pub take_rooms-requires-clause-fits : goal.take_rooms-requires-clause-fits
-take_rooms-requires-clause-fits g c =
-    rw (joined-added _ _ _ c.requires.grown (added g (goal.at.take_rooms-requires-clause-fits g c).After-deref_mut-2)) c.requires.fits
+pub reserve_rooms-requires-clause-fits : goal.reserve_rooms-requires-clause-fits
+reserve_rooms-requires-clause-fits g c =
+    rw (joined-added _ _ _ c.requires.grown (added g (goal.at.reserve_rooms-requires-clause-fits g c).After-deref_mut-2)) c.requires.fits
 
-module _ (g : _) (c : After-take_rooms g) where
+module _ (g : _) (c : After-reserve_rooms g) where
   -- their number stays
-  same : length c.take_rooms.new.slots ≡ length c.deref_mut.result.now
-  same = length-same_rows c.deref_mut.result.now c.take_rooms.new.slots c.take_rooms.ensures.rows
+  same : length c.reserve_rooms.new.slots ≡ length c.deref_mut.result.now
+  same = length-same_rows c.deref_mut.result.now c.reserve_rooms.new.slots c.reserve_rooms.ensures.rows
 
   -- the slots are those that were lent
-  written : (with_items c.add_slots.new.slots c.take_rooms.new.slots).items ≡ c.take_rooms.new.slots
-  written = with_items_is c.add_slots.new.slots c.take_rooms.new.slots (same ∙ c.deref_mut.ensures.len)
+  written : (with_items c.add_slots.new.slots c.reserve_rooms.new.slots).items ≡ c.reserve_rooms.new.slots
+  written = with_items_is c.add_slots.new.slots c.reserve_rooms.new.slots (same ∙ c.deref_mut.ensures.len)
+
+  -- the first of them have the old rows
+  kept : (added : IsLonger g.K.IntKey.number_of c.args.slots.now.items c.deref_mut.result.now c.args.old.now.bits c.args.old.now.mask c.args.capacity)
+      → take (length c.args.slots.now.items) (rows (with_items c.add_slots.new.slots c.reserve_rooms.new.slots).items) ≡ rows c.args.slots.now.items
+  kept added = rw written (take-kept added _ c.reserve_rooms.ensures.rows)
 
 pub returns-clause-len : goal.returns-clause-len
 returns-clause-len g c =
     let at = goal.at.returns-clause-len g c in
-    rw (written g at.After-take_rooms) (IfOk-weaker c.with_capacity.result _ _ (λ buffer _. same g at.After-take_rooms ∙ (longer g at.After-deref_mut-2).len) c.with_capacity.ensures.items)
+    rw (written g at.After-reserve_rooms) (same g at.After-reserve_rooms ∙ (longer g at.After-deref_mut-2).len)
+
+pub returns-clause-rows : goal.returns-clause-rows
+returns-clause-rows g c = let at = goal.at.returns-clause-rows g c in kept g at.After-reserve_rooms (longer g at.After-deref_mut-2)
 
 pub returns-clause-ready : goal.returns-clause-ready
 returns-clause-ready g c =
     let at = goal.at.returns-clause-ready g c in
-    let ready = rw (CanMoveOn-longer (longer g at.After-deref_mut-2) c.in_ok-longest.longest c.take_rooms.new.slots) at c.in_ok-longest.ensures.ready in
-    rw (written g at.After-take_rooms) (IfOk-weaker c.with_capacity.result _ _ (λ buffer room. rw room ready) c.with_capacity.ensures.exact)
+    let ready = rw (CanMoveOn-longer (longer g at.After-deref_mut-2) (vec_capacity c.in-Ok.buffer) c.reserve_rooms.new.slots) at c.in-Ok.ensures.ready in
+    rw (written g at.After-reserve_rooms) ready
+
+pub returns-in_default-clause-err : goal.returns-in_default-clause-err
+returns-in_default-clause-err g c =
+    let at = goal.at.returns-in_default-clause-err g c in
+    rows-truncated _ _ _ _ (c.len-len.ensures ∙ c.args.slots.now.ok.0) (c.shrink_to_fit.ensures.items ∙ c.truncate.ensures.items) (kept g at.After-reserve_rooms (longer g at.After-deref_mut-2))
 
 pub nonzero_div-capacity : goal.nonzero_div-capacity
 nonzero_div-capacity g c =
-    let some = capacity-positive _ c.requires.grown.old in let all = c.args.slots.now.ok.0 in let n = c.len.ensures in
+    let some = capacity-positive _ c.requires.grown.old in let all = c.args.slots.now.ok.0 in let n = c.len-len.ensures in
     omega (arith, some, all, n)
 
 pub add_slots-requires : goal.add_slots-requires
 add_slots-requires g c = grown-more _ _ c.requires.grown
-
-pub returns-in_err-counts-clause-rows : goal.returns-in_err-counts-clause-rows
-returns-in_err-counts-clause-rows g c = take-own c.args.slots.now.items
-
-pub returns-in_err-add_slots-clause-rows : goal.returns-in_err-add_slots-clause-rows
-returns-in_err-add_slots-clause-rows g c = rw c.in_err-add_slots.ensures.err (take-own c.args.slots.now.items)
-
-pub returns-in_err-longest-clause-rows : goal.returns-in_err-longest-clause-rows
-returns-in_err-longest-clause-rows g c =
-    let at = goal.at.returns-in_err-longest-clause-rows g c in
-    rw (written g at.After-take_rooms) (take-kept (longer g at.After-deref_mut-2) _ c.take_rooms.ensures.rows)
-
-pub returns-clause-rows : goal.returns-clause-rows
-returns-clause-rows g c =
-    let at = goal.at.returns-clause-rows g c in
-    rw (written g at.After-take_rooms) (take-kept (longer g at.After-deref_mut-2) _ c.take_rooms.ensures.rows)

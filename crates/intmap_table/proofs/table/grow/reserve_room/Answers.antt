@@ -1,7 +1,7 @@
 use Rattle.std.proofs.Common.{◌≡◌, true, ◌+◌, ◌*◌, ◌<◌, ◌≤◌, ◌∙◌, length, get_or, refl, subst, arith}
 use Rattle.intmap_table.proofs.Tables.CountLemmas.{part-within, offset-fits, own-kept, others-kept, IsShared, IsShared-reserved, IsShared-start, IsShared-few, IsShared-spare, HasParts-shared, bare-parts, rows-kept, spare_rooms}
-use Rattle.intmap_table.proofs.table.grow.take_room.Goals as goal
-use Rattle.intmap_table.proofs.table.grow.take_room.Goals.{Then-spared, then-count-gt1+then-spared+in_ok-reserve_behind, then-count-gt1+else-spared, else-count-gt1}
+use Rattle.intmap_table.proofs.table.grow.reserve_room.Goals as goal
+use Rattle.intmap_table.proofs.table.grow.reserve_room.Goals.{Then-spared, then-count-gt1+then-spared+in_ok-reserve_behind, then-count-gt1+else-spared, else-count-gt1}
 
 pub loop-part-init : goal.loop-part-init
 loop-part-init g c = record {

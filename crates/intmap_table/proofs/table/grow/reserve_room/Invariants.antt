@@ -2,7 +2,7 @@ use Rattle.std.proofs.Common.{◌≡◌, ℕ, ◌+◌, ◌*◌, ◌<◌, get_or}
 use Rattle.intmap_table.specs.Tables.Slots.{rows}
 use Rattle.intmap_table.specs.Tables.Moves.{rooms}
 use Rattle.intmap_table.proofs.Tables.CountLemmas.{IsShared, spare_rooms}
-use Rattle.intmap_table.proofs.table.grow.take_room.Given as goal
+use Rattle.intmap_table.proofs.table.grow.reserve_room.Given as goal
 
 abbrev pub invariant-loop-part : goal.invariant-loop-part
 invariant-loop-part g l = record {

@@ -1,7 +1,7 @@
 use Rattle.std.proofs.Common.{◌+◌, take}
 use Rattle.intmap_table.specs.Tables.Slots.{rows}
 use Rattle.intmap_table.proofs.Tables.CountLemmas.{AreLeft, AreReady}
-use Rattle.intmap_table.proofs.table.grow.take_rooms.Given as goal
+use Rattle.intmap_table.proofs.table.grow.reserve_rooms.Given as goal
 
 abbrev pub invariant-loop-index : goal.invariant-loop-index
 invariant-loop-index g l = record {

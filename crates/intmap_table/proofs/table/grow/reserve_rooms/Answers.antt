@@ -1,9 +1,10 @@
 use Rattle.std.proofs.Common.{◌≡◌, ℕ, ◌+◌, ◌*◌, ◌<◌, ◌≤◌, ◌∙◌, [], ◌∷◌, length, get_or, take, sym, ap, arith}
+use Rattle.std.proofs.lemmas.Result.{IfOk-weaker}
 use Rattle.intmap_table.specs.Tables.Slots.{rows}
 use Rattle.intmap_table.specs.Tables.Moves.{rooms, need}
 use Rattle.intmap_table.proofs.Tables.CountLemmas.{offset-fits, AreLeft, AreLeft-marked, AreLeft-rest, AreReady, AreReady-start, AreReady-few, AreReady-parts, CanMoveOn-ready, place-old, place-slot, row-ready, room-ready, filled-ready, few-ready, own-ready, bare-parts-ready}
-use Rattle.intmap_table.proofs.table.grow.take_rooms.Goals as goal
-use Rattle.intmap_table.proofs.table.grow.take_rooms.Goals.{In-Some, Joined-behind-gt2, then-behind-gt2+in_ok-take_room, else-behind-gt2}
+use Rattle.intmap_table.proofs.table.grow.reserve_rooms.Goals as goal
+use Rattle.intmap_table.proofs.table.grow.reserve_rooms.Goals.{In-Some, Joined-behind-gt2, then-behind-gt2+in_ok-reserve_room, else-behind-gt2}
 
 pub loop-index-init : goal.loop-index-init
 loop-index-init g c =
@@ -50,18 +51,18 @@ count_parts-requires-clause-fits g c =
     let few = few-ready g.K.IntKey.number_of c.args.slots.now (c.args.old.now.mask + 1) c.requires.grown c.requires.rows c.requires.bare c.in-Some.index c.next.new.self (left g at) c.loop-index.longest c.loop-index.slots (ready g at) c.index-slots-index-then-behind-gt2.result in
     omega (arith, few, c.requires.fits)
 
-pub take_room-requires-clause-within : goal.take_room-requires-clause-within
-take_room-requires-clause-within g c = old g (goal.at.take_room-requires-clause-within g c).In-Some
+pub reserve_room-requires-clause-within : goal.reserve_room-requires-clause-within
+reserve_room-requires-clause-within g c = old g (goal.at.reserve_room-requires-clause-within g c).In-Some
 
-pub take_room-requires-clause-bare : goal.take_room-requires-clause-bare
-take_room-requires-clause-bare g c =
-    let at = (goal.at.take_room-requires-clause-bare g c).In-Some in
+pub reserve_room-requires-clause-bare : goal.reserve_room-requires-clause-bare
+reserve_room-requires-clause-bare g c =
+    let at = (goal.at.reserve_room-requires-clause-bare g c).In-Some in
     let n : length c.count_parts.new.counts ≡ length c.args.counts.now = c.count_parts.ensures.len ∙ c.loop-index.auto.counts in
     bare-parts-ready g.K.IntKey.number_of c.args.slots.now (c.args.old.now.mask + 1) c.requires.grown c.requires.rows c.requires.bare c.in-Some.index c.next.new.self (left g at) c.loop-index.longest c.loop-index.slots (ready g at)
     (length c.count_parts.new.counts) (c.requires.all ∙ ap (λ m. m * (c.args.old.now.mask + 1)) (sym n))
 
-pub returns-in_err-take_room-clause-rows : goal.returns-in_err-take_room-clause-rows
-returns-in_err-take_room-clause-rows g c = c.in_err-take_room.ensures.rows ∙ c.loop-index.invariant.ready.kept
+pub returns-in_err-reserve_room-clause-rows : goal.returns-in_err-reserve_room-clause-rows
+returns-in_err-reserve_room-clause-rows g c = c.in_err-reserve_room.ensures.rows ∙ c.loop-index.invariant.ready.kept
 
 -- once the place at hand is done, the next ones are left, with a longest that is no less than before and than here
 done : (g : _) (c : Joined-behind-gt2 g) (longer : ℕ)
@@ -78,8 +79,8 @@ done g c longer l r le here =
     let fits : length (get_or (rows S₀) place []) ≤ get_or (rooms S) place 0 = omega (arith, row, room, enough) in
     let few : length (get_or (rows S₀) place []) ≤ 1 + longer = omega (arith, row, behind, here) in
     elim c.if-behind-gt2.branch as (λ _. AreReady number S₀ C rest longer c.if-behind-gt2.slots) [
-      | then-behind-gt2+in_ok-take_room w ↦ (
-          let counts = w.count_parts.new.counts in let T = w.take_room.new.slots in let told = w.count_parts.ensures in let made = w.in_ok-take_room.ensures in
+      | then-behind-gt2+in_ok-reserve_room w ↦ (
+          let counts = w.count_parts.new.counts in let T = w.reserve_room.new.slots in let told = w.count_parts.ensures in let made = w.in_ok-reserve_room.ensures in
           let e = w.index-slots-index-then-behind-gt2.result in
           let n : length counts ≡ length c.loop-index.counts = told.len in
           let len : length S₀ ≡ length counts * C = c.requires.all ∙ ap (λ m. m * C) (sym (n ∙ c.loop-index.auto.counts)) in
@@ -120,4 +121,5 @@ returns-clause-rows g c = c.loop-index.invariant.ready.kept
 
 pub returns-clause-ready : goal.returns-clause-ready
 returns-clause-ready g c =
-    CanMoveOn-ready g.K.IntKey.number_of c.args.slots.now (c.args.old.now.mask + 1) c.requires.grown c.requires.rows c.requires.bare c.loop-index.longest c.loop-index.slots (rw c.in-None.ensures.steps.0 at c.loop-index.invariant.ready)
+    let ready = CanMoveOn-ready g.K.IntKey.number_of c.args.slots.now (c.args.old.now.mask + 1) c.requires.grown c.requires.rows c.requires.bare c.loop-index.longest c.loop-index.slots (rw c.in-None.ensures.steps.0 at c.loop-index.invariant.ready) in
+    IfOk-weaker c.with_capacity.result _ _ (λ buffer room. rw room ready) c.with_capacity.ensures.exact
