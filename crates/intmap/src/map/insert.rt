@@ -134,7 +134,10 @@ impl<K: IntKey, V: Drop, A: Allocator + Copy> IntMap<K, V, A> {
         }
         let len = self.len + 1;
         if has_outgrown(len, self.threshold) {
-            return self.add_growing(len, slot, key, value);
+            match self.add_growing(len, slot, key, value) {
+                Ok(at) => return Ok(at),
+                Err(refused) => return Err(refused),
+            }
         }
         match self.table.add(slot, key, Kept::new(value)) {
             Ok(at) => {

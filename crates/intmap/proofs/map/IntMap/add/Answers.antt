@@ -38,30 +38,30 @@ module _ (g : _) (c : After-add g) where
     | inr much ↦ GrowsTooMuch-none c.self.inside.table.capacity (length c.self.inside.table.walk + 1) c.self.inside.factor c.self.inside.table.capacity c.self.invariant.map.capacity stays much
   ]
 
-pub returns-in-Err-clause-refused : goal.returns-in-Err-clause-refused
-returns-in-Err-clause-refused g c =
-    let at = (goal.at.returns-in-Err-clause-refused g c).After-add in
+pub returns-in-Err-add-clause-refused : goal.returns-in-Err-add-clause-refused
+returns-in-Err-add-clause-refused g c =
+    let at = (goal.at.returns-in-Err-add-clause-refused g c).After-add in
     rw (← c.self.view_is) (RefusalIsDue-absent g.K.IntKey.number_of (held g at) c.args.key (rw (← c.self.view_is) at c.requires.missing) Memory
-    ((λ e. cc), λ large. absurd (in_range g at large)) (λ _ _. c.in-Err.ensures.memory))
+    ((λ e. cc), λ large. absurd (in_range g at large)) (λ _ _. c.in-Err-add.ensures.memory))
 
 pub invariant_of-self : goal.invariant_of-self
 invariant_of-self g c =
     let here = (goal.at.invariant_of-self g c).After-add in
     let missing = (rw (← c.self.view_is) at c.requires.missing) in
-    IsConsistent-added _ _ _ _ _ _ _ _ c.self.invariant c.add.new.self.capacity c.args.key c.new.result c.in-Ok.ensures.capacity c.in-Ok.ensures.known missing (fits g here) (test g here) c.in-Ok.ensures.walk
+    IsConsistent-added _ _ _ _ _ _ _ _ c.self.invariant c.add.new.self.capacity c.args.key c.new.result c.in-Ok-add.ensures.capacity c.in-Ok-add.ensures.known missing (fits g here) (test g here) c.in-Ok-add.ensures.walk
 
-pub returns-in-Ok-clause-inserted : goal.returns-in-Ok-clause-inserted
-returns-in-Ok-clause-inserted g c =
-    let at = (goal.at.returns-in-Ok-clause-inserted g c).After-add in
+pub returns-in-Ok-add-clause-inserted : goal.returns-in-Ok-add-clause-inserted
+returns-in-Ok-add-clause-inserted g c =
+    let at = (goal.at.returns-in-Ok-add-clause-inserted g c).After-add in
     let missing = (rw (← c.self.view_is) at c.requires.missing) in
     rw (← c.self.view_is) (IsInsertion-put g.K.IntKey.number_of g.K.IntKey.is_valid _ _ c.args.key c.args.value c.self.invariant.map (invariant_of-self g c).map
-    (rw c.in-Ok.ensures.capacity (rw c.new.ensures at c.in-Ok.ensures.walk)) (λ out. in_range g at out.1) (rw (missing, c.in-Ok.ensures.capacity) (stays g at)))
+    (rw c.in-Ok-add.ensures.capacity (rw c.new.ensures at c.in-Ok-add.ensures.walk)) (λ out. in_range g at out.1) (rw (missing, c.in-Ok-add.ensures.capacity) (stays g at)))
 
-pub returns-in-Ok-clause-state : goal.returns-in-Ok-clause-state
-returns-in-Ok-clause-state g c =
+pub returns-in-Ok-add-clause-state : goal.returns-in-Ok-add-clause-state
+returns-in-Ok-add-clause-state g c =
     let same : (c.self.inside.table.capacity == c.self.inside.table.capacity) ≡ true = eq-eqb c.self.inside.table.capacity c.self.inside.table.capacity refl in
-    rw (c.in-Ok.ensures.capacity, ← c.self.view_is) (MapState-same _ _ _ _ _ _ _ _ _
-    (rw c.new.ensures at c.in-Ok.ensures.walk)
+    rw (c.in-Ok-add.ensures.capacity, ← c.self.view_is) (MapState-same _ _ _ _ _ _ _ _ _
+    (rw c.new.ensures at c.in-Ok-add.ensures.walk)
     refl (sym (ap (λ b. c.self.inside.placed + cond b 0 (length c.self.inside.table.walk + 1)) same ∙ add-zero c.self.inside.placed)) refl)
 
 pub returns-then-self-clause-refused : goal.returns-then-self-clause-refused
@@ -74,11 +74,11 @@ returns-then-self-clause-refused g c =
 pub add_growing-requires-clause-count : goal.add_growing-requires-clause-count
 add_growing-requires-clause-count g c = grind (arith, common_steps)
 
-pub invariant_of-self-in-Err : goal.invariant_of-self-in-Err
-invariant_of-self-in-Err g c = rw (c.in-Err.ensures.err, c.in-Err.ensures.capacity) c.self.invariant
+pub invariant_of-self-in-Err-add : goal.invariant_of-self-in-Err-add
+invariant_of-self-in-Err-add g c = rw (c.in-Err-add.ensures.err, c.in-Err-add.ensures.capacity) c.self.invariant
 
-pub returns-in-Err-clause-err : goal.returns-in-Err-clause-err
-returns-in-Err-clause-err g c = search (tests, rules)
+pub returns-in-Err-add-clause-err : goal.returns-in-Err-add-clause-err
+returns-in-Err-add-clause-err g c = search (tests, rules)
 
 pub add_growing-requires-clause-missing : goal.add_growing-requires-clause-missing
 add_growing-requires-clause-missing g c = c.requires.missing
@@ -89,20 +89,17 @@ add_growing-requires-clause-due g c = let h = c.if-has_outgrown.ensures in searc
 pub add_growing-requires-clause-exceeds : goal.add_growing-requires-clause-exceeds
 add_growing-requires-clause-exceeds g c = let h = c.if-has_outgrown.ensures in search (tests, rules)
 
-pub returns-in-Ok-clause-valid_after : goal.returns-in-Ok-clause-valid_after
-returns-in-Ok-clause-valid_after g c = (invariant_of-self g c).map
+pub returns-in-Ok-add-clause-valid_after : goal.returns-in-Ok-add-clause-valid_after
+returns-in-Ok-add-clause-valid_after g c = (invariant_of-self g c).map
 
 pub returns-then-self-clause-valid : goal.returns-then-self-clause-valid
 returns-then-self-clause-valid g c = rw (← c.self.view_is) c.self.invariant.map
 
-pub returns-then-has_outgrown-clause-valid : goal.returns-then-has_outgrown-clause-valid
-returns-then-has_outgrown-clause-valid g c = rw (← c.self.view_is) c.self.invariant.map
+pub returns-in-Err-add-clause-valid : goal.returns-in-Err-add-clause-valid
+returns-in-Err-add-clause-valid g c = rw (← c.self.view_is) c.self.invariant.map
 
-pub returns-in-Err-clause-valid : goal.returns-in-Err-clause-valid
-returns-in-Err-clause-valid g c = rw (← c.self.view_is) c.self.invariant.map
-
-pub returns-in-Ok-clause-valid : goal.returns-in-Ok-clause-valid
-returns-in-Ok-clause-valid g c = rw (← c.self.view_is) c.self.invariant.map
+pub returns-in-Ok-add-clause-valid : goal.returns-in-Ok-add-clause-valid
+returns-in-Ok-add-clause-valid g c = rw (← c.self.view_is) c.self.invariant.map
 
 pub returns-then-self-clause-err : goal.returns-then-self-clause-err
 returns-then-self-clause-err g c = refl
@@ -110,23 +107,5 @@ returns-then-self-clause-err g c = refl
 pub returns-then-self-clause-valid_after : goal.returns-then-self-clause-valid_after
 returns-then-self-clause-valid_after g c = rw (← c.self.view_is) c.self.invariant.map
 
-pub returns-then-has_outgrown-clause-inserted : goal.returns-then-has_outgrown-clause-inserted
-returns-then-has_outgrown-clause-inserted g c = c.add_growing.ensures.inserted
-
-pub returns-then-has_outgrown-clause-state : goal.returns-then-has_outgrown-clause-state
-returns-then-has_outgrown-clause-state g c = c.add_growing.ensures.state
-
-pub returns-then-has_outgrown-clause-err : goal.returns-then-has_outgrown-clause-err
-returns-then-has_outgrown-clause-err g c = c.add_growing.ensures.err
-
-pub returns-then-has_outgrown-clause-value_returned : goal.returns-then-has_outgrown-clause-value_returned
-returns-then-has_outgrown-clause-value_returned g c = c.add_growing.ensures.value_returned
-
-pub returns-then-has_outgrown-clause-refused : goal.returns-then-has_outgrown-clause-refused
-returns-then-has_outgrown-clause-refused g c = c.add_growing.ensures.refused
-
-pub returns-then-has_outgrown-clause-valid_after : goal.returns-then-has_outgrown-clause-valid_after
-returns-then-has_outgrown-clause-valid_after g c = c.add_growing.ensures.valid_after
-
-pub returns-in-Err-clause-valid_after : goal.returns-in-Err-clause-valid_after
-returns-in-Err-clause-valid_after g c = (invariant_of-self-in-Err g c).map
+pub returns-in-Err-add-clause-valid_after : goal.returns-in-Err-add-clause-valid_after
+returns-in-Err-add-clause-valid_after g c = (invariant_of-self-in-Err-add g c).map
