@@ -7,7 +7,7 @@ use Rattle.std.proofs.lemmas.Grind.{flat_map-append}
 use Rattle.std.proofs.lemmas.List.{replicate_more, length-replicate, get_or-replicate, get_or-append_right, map-append, take-map}
 use Rattle.intmap_table.specs.Classes.{IsCapacity}
 use Rattle.intmap_table.specs.Tables.Slots.{Held, rows, joined, AreMarked, Grid, IsMaskedTable}
-use Rattle.intmap_table.specs.Tables.Moves.{IsGrown, IsOldRows, IsMidway, CanMoveOn, emptied}
+use Rattle.intmap_table.specs.Tables.Moves.{IsGrown, IsLonger, IsOldRows, IsMidway, CanMoveOn, emptied}
 use Rattle.intmap_table.proofs.SlotNumberLemmas.{capacity-positive}
 use Rattle.intmap_table.proofs.Tables.FilledLemmas.{IsMarkedTable-empty, joined-emptied, get_or-no_pairs}
 use Rattle.intmap_table.proofs.Tables.GrownLemmas.{grown-more, IsMoved-midway}
@@ -88,7 +88,7 @@ module _ {K X : Type 0} where
       get_or-append_right S (replicate n emptied) (length S) j emptied refl past ∙ get_or-replicate n (j - length S) emptied emptied (omega (arith, past, below, all))
 
 -- slots T of a table that has become longer, up to D: the rows of the first of them are those of S, the slots that it had
-pub record IsLonger {K X : Type 0} (number : K → ℕ) (S T : List (Held K X)) (bits : List Bool) (mask D : ℕ) : Type 0 where
+pub record IsLongerOf {K X : Type 0} (number : K → ℕ) (S T : List (Held K X)) (bits : List Bool) (mask D : ℕ) : Type 0 where
   pub grown : IsGrown (length S) D
   pub table : IsMaskedTable number S bits mask
   pub len : length T ≡ D
@@ -99,7 +99,7 @@ module _ {K X : Type 0} (S T : List (Held K X)) (D : ℕ) (grown : IsGrown (leng
   rows-added = ap rows added ∙ map-append (λ h. h.pairs) S (replicate (D - length S) emptied) ∙ ap (λ R. rows S ++ R) (rows-emptied (D - length S))
 
   -- with empty ones behind them they are longer
-  pub IsLonger-added : (number : K → ℕ) (bits : List Bool) (mask : ℕ) → IsMaskedTable number S bits mask → IsLonger number S T bits mask D
+  pub IsLonger-added : (number : K → ℕ) (bits : List Bool) (mask : ℕ) → IsMaskedTable number S bits mask → IsLongerOf number S T bits mask D
   IsLonger-added number bits mask table =
       let more = grown-more (length S) D grown in
       let n : length T ≡ length S + (D - length S) = ap length added ∙ length-append S (replicate (D - length S) emptied) ∙ ap (λ m. length S + m) (length-replicate (D - length S) emptied) in
@@ -120,14 +120,10 @@ module _ {K X : Type 0} (S T : List (Held K X)) (D : ℕ) (grown : IsGrown (leng
       ap joined rows-added ∙ flat_map-append (λ s. s) (rows S) (replicate (D - length S) [])
       ∙ ap (λ L. joined (rows S) ++ L) (joined-emptied (replicate (D - length S) []) (get_or-no_pairs (D - length S))) ∙ append-nil (joined (rows S))
 
-module _ {K X : Type 0} {number : K → ℕ} {S T : List (Held K X)} {bits : List Bool} {mask D : ℕ} (is : IsLonger number S T bits mask D) where
+module _ {K X : Type 0} {number : K → ℕ} {S T : List (Held K X)} {bits : List Bool} {mask D : ℕ} (is : IsLongerOf number S T bits mask D) where
   -- the rows of the old slots are the old rows
   pub take-longer : take (mask + 1) (rows T) ≡ rows S
   take-longer = rw is.table.count is.old
-
-  -- they are grown
-  pub IsGrown-longer : IsGrown (mask + 1) (length T)
-  IsGrown-longer = rw (is.table.count, is.len) is.grown
 
   -- there are whole numbers of old slots
   pub parts-longer : (counts : List ℕ) → length counts ≡ D / length S → length T ≡ length counts * (mask + 1)
@@ -140,13 +136,13 @@ module _ {K X : Type 0} {number : K → ℕ} {S T : List (Held K X)} {bits : Lis
   old_rows : IsOldRows number (rows S) (length S)
   old_rows = record { len = length-rows S; own = is.table.marked.table.in_place }
 
-  -- their first rows have pairs of their slots alone
-  pub IsOldRows-longer : IsOldRows number (take (mask + 1) (rows T)) (mask + 1)
-  IsOldRows-longer = rw (take-longer, is.table.count) old_rows
-
-  -- the marks of the old slots say which of them hold a pair
-  pub AreMarked-longer : AreMarked (take (mask + 1) (rows T)) bits
-  AreMarked-longer = rw take-longer is.table.marked.marks
+  -- the first of them are those of a table
+  pub IsLonger-of : IsLonger number bits (mask + 1) T
+  IsLonger-of = record {
+    grown = rw (is.table.count, is.len) is.grown;
+    own = rw (take-longer, is.table.count) old_rows;
+    marked = rw take-longer is.table.marked.marks;
+  }
 
   -- slots with other room have the old rows too
   pub take-kept : (U : List (Held K X)) → rows U ≡ rows T → take (length S) (rows U) ≡ rows S

@@ -11,7 +11,7 @@ use Rattle.intmap_table.specs.Tables.Slots.{Held, rows}
 use Rattle.intmap_table.specs.Tables.Moves.{rooms, emptied, need, IsPlaced, IsPut, AreSet, AreTold, AreFree}
 use Rattle.intmap_table.proofs.Tables.TableLemmas.{length-rows, get_or-rows}
 use Rattle.intmap_table.proofs.Tables.FilledLemmas.{filled-pushed}
-use Rattle.intmap_table.proofs.Tables.RoomLemmas.{slot_of-not_first, length-first}
+use Rattle.intmap_table.proofs.Tables.RoomLemmas.{slot_of-not_first, need-less, length-first}
 
 module _ {K X : Type 0} (S : List (Held K X)) (j : ℕ) (d : Held K X) (within : j < length S) where
   -- the row of a slot
@@ -81,10 +81,7 @@ module _ {K X : Type 0} (number : K → ℕ) where
 
   -- and others behind it neither
   need-first : (p : K × X) (M : List (K × X)) (D j : ℕ) → 0 < need number (p ∷ []) D j → 0 < need number (p ∷ M) D j
-  need-first p M D j some = elim (cases_eq (slot_number number p.0 D) j) as (λ _. 0 < need number (p ∷ M) D j) [
-    | inl here ↦ (let one = length-first number p M D j here in omega (arith, one))
-    | inr apart ↦ (let same = ap length (slot_of-not_first number p [] D j apart) in absurd (omega (arith, same, some)))
-  ]
+  need-first p M D j some = let less = need-less number p M D j in omega (arith, less, some)
 
   -- if no slot that they go to holds a pair, and none is marked, they are told
   pub AreTold-free : (S : List (Held K X)) (L : List (K × X)) (bits : List Bool) → AreFree number S L bits → AreTold number S L bits

@@ -7,7 +7,7 @@ use Rattle.std.proofs.lemmas.List.Elements.{filter-append, All-weaker, All-head,
 use Rattle.intmap_table.specs.Classes.{IsCapacity, slot_number}
 use Rattle.intmap_table.specs.Walk.{slot_of}
 use Rattle.intmap_table.specs.Tables.Slots.{Held, rows}
-use Rattle.intmap_table.specs.Tables.Moves.{rooms, IsGrown, emptied, IsOldRows, IsPlaced, need, HasRoom, CanLeave, CanMoveOn, IsPut, Fits}
+use Rattle.intmap_table.specs.Tables.Moves.{rooms, IsGrown, emptied, IsOldRows, IsPlaced, need, HasRoom, CanLeave, CanMoveOn, IsPut}
 use Rattle.intmap_table.proofs.Tables.TableLemmas.{length-rows}
 use Rattle.intmap_table.proofs.Tables.GrownLemmas.{slot_number-parts, modulo-below, nonempty, no_length, slot_of-apart, grown-more, IsMidway-past, IsMidway-next}
 
@@ -20,18 +20,26 @@ module _ {K X : Type 0} (number : K → ℕ) where
   pub slot_of-not_first : (p : K × X) (M : List (K × X)) (D j : ℕ) → slot_number number p.0 D ≢ j → slot_of number (p ∷ M) D j ≡ slot_of number M D j
   slot_of-not_first p M D j apart = let e : (slot_number number p.0 D == j) ≡ false = ne_eqb (slot_number number p.0 D) j apart in simp e
 
+  -- further pairs need no less
+  pub need-less : (p : K × X) (M : List (K × X)) (D j : ℕ) → need number (p ∷ []) D j ≤ need number (p ∷ M) D j
+  need-less p M D j = elim (cases_eq (slot_number number p.0 D) j) as (λ _. need number (p ∷ []) D j ≤ need number (p ∷ M) D j) [
+    | inl here ↦ (let one = ap length (slot_of-first p [] D j here) in let more = ap length (slot_of-first p M D j here) in omega (arith, one, more))
+    | inr apart ↦ (let none = ap length (slot_of-not_first p [] D j apart) in omega (arith, none))
+  ]
+
   pub length-first : (p : K × X) (M : List (K × X)) (D j : ℕ) → slot_number number p.0 D ≡ j → length (slot_of number (p ∷ M) D j) ≡ length (slot_of number M D j) + 1
   length-first p M D j is = let e = ap length (slot_of-first p M D j is) in omega (arith, e)
 
-  -- each pair that is put behind another fits, into the slot's own block or into the one at hand
-  pub Fits-room : (S : List (Held K X)) (p : K × X) (M : List (K × X)) (block x j : ℕ) → j < length S → slot_number number p.0 (length S) ≡ j
-      → HasRoom number S (p ∷ M) block x → Fits S j block
-  Fits-room S p M block x j below is has =
-      let one : length (slot_of number (p ∷ M) (length S) j) ≡ length (slot_of number M (length S) j) + 1 = length-first p M (length S) j is in
-      elim (has.room j below (omega (arith, one))) [
-        | inl fits ↦ record { own = λ some other. omega (arith, fits, one); lent = λ some bare. omega (arith, fits, one, bare, some) }
-        | inr but ↦ (let bare = but.1 in let enough = but.2 in record { own = λ some other. absurd (other bare); lent = λ some _. omega (arith, enough, one) })
-      ]
+  -- with room for several pairs there is room for the first
+  pub HasRoom-first : (S : List (Held K X)) (p : K × X) (M : List (K × X)) (block x : ℕ) → HasRoom number S (p ∷ M) block x → HasRoom number S (p ∷ []) block x
+  HasRoom-first S p M block x has = record {
+    room = λ j below some.
+        let less = need-less p M (length S) j in
+        elim (has.room j below (omega (arith, less, some))) [
+          | inl fits ↦ inl (omega (arith, fits, less))
+          | inr but ↦ inr (but.0, but.1, (let enough = but.2 in omega (arith, enough, less)))
+        ];
+  }
 
   module _ (S T : List (Held K X)) (p : K × X) (M : List (K × X)) (block left x j : ℕ) (below : j < length S) (is : slot_number number p.0 (length S) ≡ j) (has : HasRoom number S (p ∷ M) block x) (put : IsPut S j block p T left) where
     one : length (slot_of number (p ∷ M) (length S) j) ≡ length (slot_of number M (length S) j) + 1

@@ -3,7 +3,7 @@ use Rattle.std.specs.Prelude.{◌≡◌, ◌≢◌, ◌⊎◌, ◌||◌, ℕ, �
 use Rattle.intmap_table.specs.Classes.{IsCapacity, slot_number}
 use Rattle.intmap_table.specs.Walk.{slot_of}
 use Rattle.intmap_table.specs.Tables.Bits.{marked}
-use Rattle.intmap_table.specs.Tables.Slots.{Held, rows, joined}
+use Rattle.intmap_table.specs.Tables.Slots.{Held, rows, joined, AreMarked}
 
 -- how many pairs each slot has room for
 abbrev pub rooms : {K X : Type 0} → List (Held K X) → List ℕ
@@ -24,6 +24,12 @@ module _ {K X : Type 0} (number : K → ℕ) where
   pub record IsOldRows (R : List (List (K × X))) (C : ℕ) : Type 0 where
     pub len : length R ≡ C
     pub own : (i : ℕ) → i < C → All (λ p. slot_number number p.0 C ≡ i) (get_or R i [])
+
+  -- slots of which the first C are a table's, with these marks
+  pub record IsLonger (marks : List Bool) (C : ℕ) (S : List (Held K X)) : Type 0 where
+    pub grown : IsGrown C (length S)
+    pub own : IsOldRows (take C (rows S)) C
+    pub marked : AreMarked (take C (rows S)) marks
 
   -- the rows before place i are moved into D slots: those from i on are where they were, and all other slots have the pairs that were moved
   pub record IsMidway (R : List (List (K × X))) (D i : ℕ) (S : List (Held K X)) : Type 0 where
@@ -71,6 +77,15 @@ module _ {K X : Type 0} (number : K → ℕ) where
     pub empty : (j : ℕ) → j < length S → 0 < need L (length S) j → get_or (rows S) j [] ≡ []
     pub unmarked : (j : ℕ) → j < length S → 0 < need L (length S) j → marked marks j ≡ false
 
+  -- the pairs of old slot k can be moved to the ends of their slots, with a buffer for so many behind the first
+  pub record CanMove (S : List (Held K X)) (marks : List Bool) (k buffer : ℕ) : Type 0 where
+    pub capacity : IsCapacity (length S)
+    pub words : length S ≤ length marks
+    pub within : k < length S
+    pub enough : length (get_or (rows S) k []) ≤ 1 + buffer
+    pub leave : CanLeave S k
+    pub free : AreFree (set S k emptied) (get_or (rows S) k []) marks
+
 module _ {K X : Type 0} where
   -- a pair was put at the end of slot j. If the slot had a pair and no block, it took the current block before
   pub record IsPut (S : List (Held K X)) (j block : ℕ) (p : K × X) (T : List (Held K X)) (left : ℕ) : Type 0 where
@@ -80,11 +95,6 @@ module _ {K X : Type 0} where
     pub other_rooms : (i : ℕ) → i ≢ j → get_or (rooms T) i 0 ≡ get_or (rooms S) i 0
     pub how : (((length (get_or (rows S) j []) ≡ 0) ⊎ (get_or (rooms S) j 0 ≢ 1)) × (get_or (rooms T) j 0 ≡ get_or (rooms S) j 0) × (left ≡ block))
         ⊎ ((0 < length (get_or (rows S) j [])) × (get_or (rooms S) j 0 ≡ 1) × (get_or (rooms T) j 0 ≡ 1 + block))
-
-  -- behind another pair there is room for one more in slot j, or else in the current block, and then the slot has none
-  pub record Fits (S : List (Held K X)) (j block : ℕ) : Type 0 where
-    pub own : 0 < length (get_or (rows S) j []) → get_or (rooms S) j 0 ≢ 1 → length (get_or (rows S) j []) < get_or (rooms S) j 0
-    pub lent : 0 < length (get_or (rows S) j []) → get_or (rooms S) j 0 ≡ 1 → length (get_or (rows S) j []) < 1 + block
 
   -- each part of an old slot, slot t C + i for part t, has room for the pairs that are counted for it; part x may have no block
   pub record HasParts (S : List (Held K X)) (C i : ℕ) (counts : List ℕ) (x : ℕ) : Type 0 where

@@ -2,10 +2,10 @@
 ghost use Rattle.std.specs.Prelude.{◌≡◌, ◌+◌, ◌-◌, ◌*◌, ◌/◌, ◌^◌, ◌<◌, ◌≤◌, ℕ, [], ◌∷◌, ◌++◌, length, get_or, set, take, replicate, All, OnOk, OnErr, IfOk, IfErr, IsOk, None, Some, vec_capacity};
 ghost use Rattle.intmap_table.specs.Classes.{IsCapacity, slot_number};
 ghost use Rattle.intmap_table.specs.Bindings.{value_of, put_pair, take_key};
-ghost use Rattle.intmap_table.specs.Tables.Slots.{rows, joined, AreMarked, IsMaskedTable};
+ghost use Rattle.intmap_table.specs.Tables.Slots.{rows, joined, IsMaskedTable};
 ghost use Rattle.intmap_table.specs.Walk.{slot_of, walk_of};
 ghost use Rattle.intmap_table.specs.Locations.{IsAt};
-ghost use Rattle.intmap_table.specs.Tables.Moves.{rooms, IsGrown, IsOldRows, HasParts, CanMoveOn, emptied, need};
+ghost use Rattle.intmap_table.specs.Tables.Moves.{rooms, IsGrown, IsLonger, HasParts, CanMoveOn, emptied, need};
 
 use crate::bits::Bits;
 use crate::key::IntKey;
@@ -111,11 +111,8 @@ fn reserve_rooms<K: IntKey, X: Drop, A: Allocator + Copy>(
     counts: &mut [usize],
     alloc: A,
 ) -> Result<Vec<(Stored<K>, X), A>, AllocError>
-    requires grown { IsGrown (old.now.mask + 1) (length slots.old) }
+    requires longer { IsLonger K.number_of old.now.bits (old.now.mask + 1) slots.old }
     requires all { length slots.old ≡ length counts.old * (old.now.mask + 1) }
-    requires rows { IsOldRows K.number_of (take (old.now.mask + 1) (rows slots.old))
-        (old.now.mask + 1) }
-    requires marks { AreMarked (take (old.now.mask + 1) (rows slots.old)) old.now.bits }
     requires bare { (j : ℕ) → old.now.mask + 1 ≤ j → j < length slots.old
         → get_or slots.old j emptied ≡ emptied }
     requires fits { length (joined (rows slots.old)) < 2 ^ 64 }

@@ -2,7 +2,7 @@
 ghost use Rattle.std.specs.Prelude.{◌≡◌, ◌+◌, ◌*◌, ◌/◌, ◌<◌, ◌≤◌, [], ◌∷◌, length, get_or, set, slice_set, take, reverse, replicate, true, false, vec_capacity, ℕ};
 ghost use Rattle.intmap_table.specs.Classes.{IsCapacity, slot_number};
 ghost use Rattle.intmap_table.specs.Tables.Slots.{Held, rows, joined, AreMarked};
-ghost use Rattle.intmap_table.specs.Tables.Moves.{IsGrown, IsOldRows, IsMidway, IsPlaced, IsPut, Fits, HasRoom, CanLeave, CanMoveOn, AreSet, AreTold, AreFree, emptied};
+ghost use Rattle.intmap_table.specs.Tables.Moves.{IsLonger, IsMidway, IsPlaced, IsPut, HasRoom, CanMove, CanMoveOn, AreSet, AreTold, AreFree, emptied};
 
 use crate::bits::Bits;
 use crate::key::IntKey;
@@ -25,8 +25,8 @@ fn place<K: IntKey, X: Drop, A: Allocator>(
     requires words { length slots.old ≤ length bits.old }
     requires told { AreTold K.number_of slots.old (pair ∷ []) bits.old }
     requires block { block.old.items ≡ [] }
-    requires room { Fits slots.old (slot_number K.number_of pair.0 (length slots.old))
-        (vec_capacity block.old) }
+    requires room { (x : ℕ) × HasRoom K.number_of slots.old (pair ∷ []) (vec_capacity block.old)
+        x }
     ensures put { IsPut slots.old (slot_number K.number_of pair.0 (length slots.old))
         (vec_capacity block.old) pair slots.new (vec_capacity block.new) }
     ensures marks { bits.new
@@ -104,15 +104,9 @@ fn move_several<K: IntKey, X: Drop, A: Allocator + Copy>(
     buffer: &mut Vec<(Stored<K>, X), A>,
     placed: &mut Steps,
 )
-    requires capacity { IsCapacity (length slots.old) }
-    requires words { length slots.old ≤ length bits.old }
-    requires within { index < length slots.old }
+    requires ready { CanMove K.number_of slots.old bits.old index (vec_capacity buffer.old) }
     requires several { 1 < length (get_or (rows slots.old) index []) }
     requires buffer { buffer.old.items ≡ [] }
-    requires enough { length (get_or (rows slots.old) index []) ≤ 1 + vec_capacity buffer.old }
-    requires leave { CanLeave K.number_of slots.old index }
-    requires free { AreFree K.number_of (set slots.old index emptied)
-        (get_or (rows slots.old) index []) bits.old }
     ensures pairs { IsPlaced K.number_of (set slots.old index emptied)
         (get_or (rows slots.old) index []) slots.new }
     ensures marks { AreSet K.number_of bits.old (get_or (rows slots.old) index [])
@@ -136,15 +130,9 @@ fn move_slot<K: IntKey, X: Drop, A: Allocator + Copy>(
     buffer: &mut Vec<(Stored<K>, X), A>,
     placed: &mut Steps,
 )
-    requires capacity { IsCapacity (length slots.old) }
-    requires words { length slots.old ≤ length bits.old }
-    requires within { index < length slots.old }
+    requires ready { CanMove K.number_of slots.old bits.old index (vec_capacity buffer.old) }
     requires filled { 0 < length (get_or (rows slots.old) index []) }
     requires buffer { buffer.old.items ≡ [] }
-    requires enough { length (get_or (rows slots.old) index []) ≤ 1 + vec_capacity buffer.old }
-    requires leave { CanLeave K.number_of slots.old index }
-    requires free { AreFree K.number_of (set slots.old index emptied)
-        (get_or (rows slots.old) index []) bits.old }
     ensures pairs { (left : Held K X) × (left.pairs ≡ []) × IsPlaced K.number_of
         (set slots.old index left) (get_or (rows slots.old) index []) slots.new }
     ensures marks { AreSet K.number_of bits.old (get_or (rows slots.old) index [])
@@ -168,10 +156,7 @@ pub(super) fn move_all<K: IntKey, X: Drop, A: Allocator + Copy>(
     buffer: &mut Vec<(Stored<K>, X), A>,
     placed: &mut Steps,
 )
-    requires grown { IsGrown (old.now.mask + 1) (length slots.old) }
-    requires rows { IsOldRows K.number_of (take (old.now.mask + 1) (rows slots.old))
-        (old.now.mask + 1) }
-    requires old_marks { AreMarked (take (old.now.mask + 1) (rows slots.old)) old.now.bits }
+    requires longer { IsLonger K.number_of old.now.bits (old.now.mask + 1) slots.old }
     requires unmarked { bits.old ≡ replicate (64 * ((length slots.old + 63) / 64)) false }
     requires buffer { buffer.old.items ≡ [] }
     requires ready { CanMoveOn K.number_of (take (old.now.mask + 1) (rows slots.old))

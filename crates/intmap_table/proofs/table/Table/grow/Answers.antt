@@ -6,7 +6,7 @@ use Rattle.intmap_table.specs.Tables.Moves.{IsGrown}
 use Rattle.intmap_table.proofs.SlotNumberLemmas.{capacity-greatest}
 use Rattle.intmap_table.proofs.Tables.GrownLemmas.{IsGrown-from}
 use Rattle.intmap_table.proofs.Tables.MoveLemmas.{joined-moved}
-use Rattle.intmap_table.proofs.Tables.MemoryLemmas.{OnErr-always, grid-same_rows, IsMaskedTable-same_rows, IsLonger, take-longer, IsGrown-longer, IsOldRows-longer, AreMarked-longer, CanMoveOn-longer, IsMoved-longer, IsMaskedTable-longer}
+use Rattle.intmap_table.proofs.Tables.MemoryLemmas.{OnErr-always, grid-same_rows, IsMaskedTable-same_rows, IsLongerOf, take-longer, IsLonger-of, CanMoveOn-longer, IsMoved-longer, IsMaskedTable-longer}
 use Rattle.intmap_table.proofs.table.Table.grow.Goals as goal
 use Rattle.intmap_table.proofs.table.Table.grow.Goals.{In_ok-bits, After-deref_mut, After-move_all}
 
@@ -34,7 +34,7 @@ returns-in_err-buffer-clause-err g c =
 
 -- the slots that pairs are moved in are longer
 longer : (g : _) (c : After-deref_mut g) → IsGrown (length c.self.inside.slots.items) c.args.capacity
-    → IsLonger g.K.IntKey.number_of c.self.inside.slots.items c.deref_mut.result.now c.self.inside.directory.bits c.self.inside.directory.mask c.args.capacity
+    → IsLongerOf g.K.IntKey.number_of c.self.inside.slots.items c.deref_mut.result.now c.self.inside.directory.bits c.self.inside.directory.mask c.args.capacity
 longer g c more = record {
   grown = more;
   table = c.self.invariant;
@@ -42,20 +42,10 @@ longer g c more = record {
   old = rw c.deref_mut.ensures.value c.in_ok-buffer.ensures.rows;
 }
 
-pub move_all-requires-clause-grown : goal.move_all-requires-clause-grown
-move_all-requires-clause-grown g c =
-    let at = goal.at.move_all-requires-clause-grown g c in
-    IsGrown-longer (longer g at.After-deref_mut (grown g at.In_ok-bits))
-
-pub move_all-requires-clause-rows : goal.move_all-requires-clause-rows
-move_all-requires-clause-rows g c =
-    let at = goal.at.move_all-requires-clause-rows g c in
-    IsOldRows-longer (longer g at.After-deref_mut (grown g at.In_ok-bits))
-
-pub move_all-requires-clause-old_marks : goal.move_all-requires-clause-old_marks
-move_all-requires-clause-old_marks g c =
-    let at = goal.at.move_all-requires-clause-old_marks g c in
-    AreMarked-longer (longer g at.After-deref_mut (grown g at.In_ok-bits))
+pub move_all-requires-clause-longer : goal.move_all-requires-clause-longer
+move_all-requires-clause-longer g c =
+    let at = goal.at.move_all-requires-clause-longer g c in
+    IsLonger-of (longer g at.After-deref_mut (grown g at.In_ok-bits))
 
 pub move_all-requires-clause-ready : goal.move_all-requires-clause-ready
 move_all-requires-clause-ready g c =

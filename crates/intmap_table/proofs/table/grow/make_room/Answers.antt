@@ -3,7 +3,7 @@ use Rattle.std.specs.Vec.{with_items}
 use Rattle.std.proofs.lemmas.List.{with_items_is}
 use Rattle.intmap_table.specs.Tables.Slots.{rows}
 use Rattle.intmap_table.specs.Tables.Moves.{emptied}
-use Rattle.intmap_table.proofs.Tables.MemoryLemmas.{IsLonger, IsLonger-added, length-same_rows, bare-added, joined-added, IsGrown-longer, parts-longer, IsOldRows-longer, AreMarked-longer, CanMoveOn-longer, take-kept, rows-truncated}
+use Rattle.intmap_table.proofs.Tables.MemoryLemmas.{IsLongerOf, IsLonger-added, length-same_rows, bare-added, joined-added, IsLonger-of, parts-longer, CanMoveOn-longer, take-kept, rows-truncated}
 use Rattle.intmap_table.proofs.SlotNumberLemmas.{capacity-positive}
 use Rattle.intmap_table.proofs.Tables.GrownLemmas.{grown-more}
 use Rattle.intmap_table.proofs.table.grow.make_room.Goals as goal
@@ -13,21 +13,15 @@ use Rattle.intmap_table.proofs.table.grow.make_room.Goals.{After-deref_mut-2, Af
 added : (g : _) (c : After-deref_mut-2 g) → c.deref_mut.result.now ≡ c.args.slots.now.items ++ replicate (c.args.capacity - length c.args.slots.now.items) emptied
 added g c = c.deref_mut.ensures.value ∙ c.in_ok-add_slots.ensures.slots
 
-longer : (g : _) (c : After-deref_mut-2 g) → IsLonger g.K.IntKey.number_of c.args.slots.now.items c.deref_mut.result.now c.args.old.now.bits c.args.old.now.mask c.args.capacity
+longer : (g : _) (c : After-deref_mut-2 g) → IsLongerOf g.K.IntKey.number_of c.args.slots.now.items c.deref_mut.result.now c.args.old.now.bits c.args.old.now.mask c.args.capacity
 longer g c = IsLonger-added _ _ _ c.requires.grown (added g c) _ _ _ c.requires.table
 
-pub reserve_rooms-requires-clause-grown : goal.reserve_rooms-requires-clause-grown
-reserve_rooms-requires-clause-grown g c = IsGrown-longer (longer g (goal.at.reserve_rooms-requires-clause-grown g c).After-deref_mut-2)
+pub reserve_rooms-requires-clause-longer : goal.reserve_rooms-requires-clause-longer
+reserve_rooms-requires-clause-longer g c = IsLonger-of (longer g (goal.at.reserve_rooms-requires-clause-longer g c).After-deref_mut-2)
 
 pub reserve_rooms-requires-clause-all : goal.reserve_rooms-requires-clause-all
 reserve_rooms-requires-clause-all g c =
     parts-longer (longer g (goal.at.reserve_rooms-requires-clause-all g c).After-deref_mut-2) c.deref_mut-2.result.now (c.deref_mut-2.ensures.len ∙ c.in_ok-counts.ensures.len ∙ ap (λ n. c.args.capacity / n) (c.len-len.ensures ∙ c.args.slots.now.ok.0))
-
-pub reserve_rooms-requires-clause-rows : goal.reserve_rooms-requires-clause-rows
-reserve_rooms-requires-clause-rows g c = IsOldRows-longer (longer g (goal.at.reserve_rooms-requires-clause-rows g c).After-deref_mut-2)
-
-pub reserve_rooms-requires-clause-marks : goal.reserve_rooms-requires-clause-marks
-reserve_rooms-requires-clause-marks g c = AreMarked-longer (longer g (goal.at.reserve_rooms-requires-clause-marks g c).After-deref_mut-2)
 
 pub reserve_rooms-requires-clause-bare : goal.reserve_rooms-requires-clause-bare
 reserve_rooms-requires-clause-bare g c = bare-added _ _ _ c.requires.grown (added g (goal.at.reserve_rooms-requires-clause-bare g c).After-deref_mut-2) _ c.requires.table.count
@@ -46,7 +40,7 @@ module _ (g : _) (c : After-reserve_rooms g) where
   written = with_items_is c.add_slots.new.slots c.reserve_rooms.new.slots (same ∙ c.deref_mut.ensures.len)
 
   -- the first of them have the old rows
-  kept : (added : IsLonger g.K.IntKey.number_of c.args.slots.now.items c.deref_mut.result.now c.args.old.now.bits c.args.old.now.mask c.args.capacity)
+  kept : (added : IsLongerOf g.K.IntKey.number_of c.args.slots.now.items c.deref_mut.result.now c.args.old.now.bits c.args.old.now.mask c.args.capacity)
       → take (length c.args.slots.now.items) (rows (with_items c.add_slots.new.slots c.reserve_rooms.new.slots).items) ≡ rows c.args.slots.now.items
   kept added = rw written (take-kept added _ c.reserve_rooms.ensures.rows)
 

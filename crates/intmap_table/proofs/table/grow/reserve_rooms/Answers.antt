@@ -10,8 +10,8 @@ pub loop-index-init : goal.loop-index-init
 loop-index-init g c =
     let C = c.args.old.now.mask + 1 in
     rw (c.into_iter-index-iterator.ensures.into_iter_gives ∙ c.iter-index-items.ensures) (record {
-      left = AreLeft-marked (take C (rows c.args.slots.now)) c.args.old.now.bits c.requires.marks;
-      ready = AreReady-start g.K.IntKey.number_of c.args.slots.now C c.requires.grown c.requires.rows c.requires.bare c.args.old.now.bits c.requires.marks;
+      left = AreLeft-marked (take C (rows c.args.slots.now)) c.args.old.now.bits c.requires.longer.marked;
+      ready = AreReady-start g.K.IntKey.number_of c.args.slots.now C c.requires.longer.grown c.requires.longer.own c.requires.bare c.args.old.now.bits c.requires.longer.marked;
     })
 
 module _ (g : _) (c : In-Some g) where
@@ -23,10 +23,10 @@ module _ (g : _) (c : In-Some g) where
   ready = rw c.in-Some.ensures.steps at c.loop-index.invariant.ready
 
   old : c.in-Some.index < c.args.old.now.mask + 1
-  old = place-old g.K.IntKey.number_of c.args.slots.now (c.args.old.now.mask + 1) c.requires.grown c.requires.rows c.requires.bare c.in-Some.index c.next.new.self left c.loop-index.longest c.loop-index.slots ready
+  old = place-old g.K.IntKey.number_of c.args.slots.now (c.args.old.now.mask + 1) c.requires.longer.grown c.requires.longer.own c.requires.bare c.in-Some.index c.next.new.self left c.loop-index.longest c.loop-index.slots ready
 
   slot : c.in-Some.index < length c.args.slots.now
-  slot = place-slot g.K.IntKey.number_of c.args.slots.now (c.args.old.now.mask + 1) c.requires.grown c.requires.rows c.requires.bare c.in-Some.index c.next.new.self left c.loop-index.longest c.loop-index.slots ready
+  slot = place-slot g.K.IntKey.number_of c.args.slots.now (c.args.old.now.mask + 1) c.requires.longer.grown c.requires.longer.own c.requires.bare c.in-Some.index c.next.new.self left c.loop-index.longest c.loop-index.slots ready
 
 pub offset_bounds-slots-index : goal.offset_bounds-slots-index
 offset_bounds-slots-index g c = record { fits = offset-fits _ _ _ (slot g (goal.at.offset_bounds-slots-index g c).In-Some) c.well_formed.0.1 }
@@ -37,7 +37,7 @@ bounds-slots-index g c = let w = slot g (goal.at.bounds-slots-index g c).In-Some
 pub last_place-behind-requires : goal.last_place-behind-requires
 last_place-behind-requires g c =
     let at = (goal.at.last_place-behind-requires g c).In-Some in
-    filled-ready g.K.IntKey.number_of c.args.slots.now (c.args.old.now.mask + 1) c.requires.grown c.requires.rows c.requires.bare c.in-Some.index c.next.new.self (left g at) c.loop-index.longest c.loop-index.slots (ready g at) c.index-slots-index.result
+    filled-ready g.K.IntKey.number_of c.args.slots.now (c.args.old.now.mask + 1) c.requires.longer.grown c.requires.longer.own c.requires.bare c.in-Some.index c.next.new.self (left g at) c.loop-index.longest c.loop-index.slots (ready g at) c.index-slots-index.result
 
 pub offset_bounds-slots-index-then-behind-gt2 : goal.offset_bounds-slots-index-then-behind-gt2
 offset_bounds-slots-index-then-behind-gt2 g c = record { fits = offset-fits _ _ _ (slot g (goal.at.offset_bounds-slots-index-then-behind-gt2 g c).In-Some) c.well_formed.0.1 }
@@ -48,7 +48,7 @@ bounds-slots-index-then-behind-gt2 g c = let w = slot g (goal.at.bounds-slots-in
 pub count_parts-requires-clause-fits : goal.count_parts-requires-clause-fits
 count_parts-requires-clause-fits g c =
     let at = (goal.at.count_parts-requires-clause-fits g c).In-Some in
-    let few = few-ready g.K.IntKey.number_of c.args.slots.now (c.args.old.now.mask + 1) c.requires.grown c.requires.rows c.requires.bare c.in-Some.index c.next.new.self (left g at) c.loop-index.longest c.loop-index.slots (ready g at) c.index-slots-index-then-behind-gt2.result in
+    let few = few-ready g.K.IntKey.number_of c.args.slots.now (c.args.old.now.mask + 1) c.requires.longer.grown c.requires.longer.own c.requires.bare c.in-Some.index c.next.new.self (left g at) c.loop-index.longest c.loop-index.slots (ready g at) c.index-slots-index-then-behind-gt2.result in
     omega (arith, few, c.requires.fits)
 
 pub reserve_room-requires-clause-within : goal.reserve_room-requires-clause-within
@@ -58,7 +58,7 @@ pub reserve_room-requires-clause-bare : goal.reserve_room-requires-clause-bare
 reserve_room-requires-clause-bare g c =
     let at = (goal.at.reserve_room-requires-clause-bare g c).In-Some in
     let n : length c.count_parts.new.counts ≡ length c.args.counts.now = c.count_parts.ensures.len ∙ c.loop-index.auto.counts in
-    bare-parts-ready g.K.IntKey.number_of c.args.slots.now (c.args.old.now.mask + 1) c.requires.grown c.requires.rows c.requires.bare c.in-Some.index c.next.new.self (left g at) c.loop-index.longest c.loop-index.slots (ready g at)
+    bare-parts-ready g.K.IntKey.number_of c.args.slots.now (c.args.old.now.mask + 1) c.requires.longer.grown c.requires.longer.own c.requires.bare c.in-Some.index c.next.new.self (left g at) c.loop-index.longest c.loop-index.slots (ready g at)
     (length c.count_parts.new.counts) (c.requires.all ∙ ap (λ m. m * (c.args.old.now.mask + 1)) (sym n))
 
 pub returns-in_err-reserve_room-clause-rows : goal.returns-in_err-reserve_room-clause-rows
@@ -73,8 +73,8 @@ done : (g : _) (c : Joined-behind-gt2 g) (longer : ℕ)
 done g c longer l r le here =
     let number = g.K.IntKey.number_of in let S₀ = c.args.slots.now in let C = c.args.old.now.mask + 1 in let place = c.in-Some.index in let rest = c.next.new.self in let S = c.loop-index.slots in
     let d = c.index-slots-index.result in
-    let row = ap length (row-ready number S₀ C c.requires.grown c.requires.rows c.requires.bare place rest l c.loop-index.longest S r d) in
-    let room = room-ready number S₀ C c.requires.grown c.requires.rows c.requires.bare place rest l c.loop-index.longest S r d in
+    let row = ap length (row-ready number S₀ C c.requires.longer.grown c.requires.longer.own c.requires.bare place rest l c.loop-index.longest S r d) in
+    let room = room-ready number S₀ C c.requires.longer.grown c.requires.longer.own c.requires.bare place rest l c.loop-index.longest S r d in
     let behind = c.last_place-behind.ensures.place in let enough = c.last_place-behind.ensures.room in
     let fits : length (get_or (rows S₀) place []) ≤ get_or (rooms S) place 0 = omega (arith, row, room, enough) in
     let few : length (get_or (rows S₀) place []) ≤ 1 + longer = omega (arith, row, behind, here) in
@@ -84,17 +84,17 @@ done g c longer l r le here =
           let e = w.index-slots-index-then-behind-gt2.result in
           let n : length counts ≡ length c.loop-index.counts = told.len in
           let len : length S₀ ≡ length counts * C = c.requires.all ∙ ap (λ m. m * C) (sym (n ∙ c.loop-index.auto.counts)) in
-          let old = place-old number S₀ C c.requires.grown c.requires.rows c.requires.bare place rest l c.loop-index.longest S r in
-          let own = own-ready number S₀ C c.requires.grown c.requires.rows c.requires.bare place rest l c.loop-index.longest S r e in
-          let same = row-ready number S₀ C c.requires.grown c.requires.rows c.requires.bare place rest l c.loop-index.longest S r e in
-          rw w.slots-is (AreReady-parts number S₀ C c.requires.grown c.requires.rows c.requires.bare place rest l c.loop-index.longest S r T counts made.room.0 len made.rows made.own fits
+          let old = place-old number S₀ C c.requires.longer.grown c.requires.longer.own c.requires.bare place rest l c.loop-index.longest S r in
+          let own = own-ready number S₀ C c.requires.longer.grown c.requires.longer.own c.requires.bare place rest l c.loop-index.longest S r e in
+          let same = row-ready number S₀ C c.requires.longer.grown c.requires.longer.own c.requires.bare place rest l c.loop-index.longest S r e in
+          rw w.slots-is (AreReady-parts number S₀ C c.requires.longer.grown c.requires.longer.own c.requires.bare place rest l c.loop-index.longest S r T counts made.room.0 len made.rows made.own fits
           (λ t lt. told.counts place t old (omega (arith, lt, n)) own
           ∙ ap (λ ps. need number ps (length c.loop-index.counts * C) (t * C + place)) same
           ∙ ap (λ m. need number (get_or (rows S₀) place []) (m * C) (t * C + place)) (sym n))
           made.room.1 longer made.others le few))
       | else-behind-gt2 w ↦ (
           let three : length (get_or (rows S₀) place []) ≤ 3 = (let two = w.if-behind-gt2.false in omega (arith, row, behind, two)) in
-          rw w.slots-is (AreReady-few number S₀ C c.requires.grown c.requires.rows c.requires.bare place rest l c.loop-index.longest S r longer three fits le few))
+          rw w.slots-is (AreReady-few number S₀ C c.requires.longer.grown c.requires.longer.own c.requires.bare place rest l c.loop-index.longest S r longer three fits le few))
     ]
 
 pub loop-index-preserved-then-behind-longest : goal.loop-index-preserved-then-behind-longest
@@ -121,5 +121,5 @@ returns-clause-rows g c = c.loop-index.invariant.ready.kept
 
 pub returns-clause-ready : goal.returns-clause-ready
 returns-clause-ready g c =
-    let ready = CanMoveOn-ready g.K.IntKey.number_of c.args.slots.now (c.args.old.now.mask + 1) c.requires.grown c.requires.rows c.requires.bare c.loop-index.longest c.loop-index.slots (rw c.in-None.ensures.steps.0 at c.loop-index.invariant.ready) in
+    let ready = CanMoveOn-ready g.K.IntKey.number_of c.args.slots.now (c.args.old.now.mask + 1) c.requires.longer.grown c.requires.longer.own c.requires.bare c.loop-index.longest c.loop-index.slots (rw c.in-None.ensures.steps.0 at c.loop-index.invariant.ready) in
     IfOk-weaker c.with_capacity.result _ _ (λ buffer room. rw room ready) c.with_capacity.ensures.exact

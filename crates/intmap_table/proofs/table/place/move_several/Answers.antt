@@ -4,7 +4,7 @@ use Rattle.intmap_table.specs.Classes.{IsCapacity, slot_number}
 use Rattle.intmap_table.specs.Tables.Slots.{rows}
 use Rattle.intmap_table.specs.Tables.Moves.{rooms, emptied, HasRoom, AreSet, AreTold}
 use Rattle.intmap_table.proofs.SlotNumberLemmas.{slot_number-below}
-use Rattle.intmap_table.proofs.Tables.RoomLemmas.{Fits-room, HasRoom-put, IsPlaced-put, IsPlaced-more}
+use Rattle.intmap_table.proofs.Tables.RoomLemmas.{HasRoom-first, HasRoom-put, IsPlaced-put, IsPlaced-more}
 use Rattle.intmap_table.proofs.Tables.PutLemmas.{row-before, room-before, AreTold-free, AreTold-first, AreTold-put, AreSet-more, AreSet-put}
 use Rattle.intmap_table.proofs.table.place.move_several.Goals as goal
 use Rattle.intmap_table.proofs.table.place.move_several.Goals.{After-take_out-first, After-place}
@@ -12,7 +12,7 @@ use Rattle.intmap_table.proofs.table.place.move_several.Goals.{After-take_out-fi
 module _ (g : _) (c : After-take_out-first g) where
   -- the pairs of the old slot: the first, and those in the buffer
   row : get_or (rows c.args.slots.now) c.args.index [] ≡ c.take_out-first.result.0 ∷ reverse c.take_out-first.new.buffer.items
-  row = row-before c.args.slots.now c.args.index c.index-slots-index.result c.requires.within ∙ c.take_out-first.ensures.pairs
+  row = row-before c.args.slots.now c.args.index c.index-slots-index.result c.requires.ready.within ∙ c.take_out-first.ensures.pairs
 
   -- the slots without them
   left : set c.args.slots.now c.args.index c.take_out-first.new.self ≡ set c.args.slots.now c.args.index emptied
@@ -23,22 +23,22 @@ module _ (g : _) (c : After-take_out-first g) where
 
   -- the block at hand is that of the old slot
   block : get_or (rooms c.args.slots.now) c.args.index 0 - 1 ≡ vec_capacity c.take_out-first.result.1
-  block = let r = room-before c.args.slots.now c.args.index c.index-slots-index.result c.requires.within in let b = c.take_out-first.ensures.block_room in omega (arith, r, b)
+  block = let r = room-before c.args.slots.now c.args.index c.index-slots-index.result c.requires.ready.within in let b = c.take_out-first.ensures.block_room in omega (arith, r, b)
 
-  room : HasRoom g.K.IntKey.number_of (set c.args.slots.now c.args.index c.take_out-first.new.self) (c.take_out-first.result.0 ∷ reverse c.take_out-first.new.buffer.items) (vec_capacity c.take_out-first.result.1) c.requires.leave.0
-  room = rw (left, ← row, ← block) c.requires.leave.1
+  room : HasRoom g.K.IntKey.number_of (set c.args.slots.now c.args.index c.take_out-first.new.self) (c.take_out-first.result.0 ∷ reverse c.take_out-first.new.buffer.items) (vec_capacity c.take_out-first.result.1) c.requires.ready.leave.0
+  room = rw (left, ← row, ← block) c.requires.ready.leave.1
 
   told : AreTold g.K.IntKey.number_of (set c.args.slots.now c.args.index c.take_out-first.new.self) (c.take_out-first.result.0 ∷ reverse c.take_out-first.new.buffer.items) c.args.bits.now
-  told = rw (left, ← row) (AreTold-free _ _ _ _ c.requires.free)
+  told = rw (left, ← row) (AreTold-free _ _ _ _ c.requires.ready.free)
 
   capacity : IsCapacity (length (set c.args.slots.now c.args.index c.take_out-first.new.self))
-  capacity = subst IsCapacity (sym long) c.requires.capacity
+  capacity = subst IsCapacity (sym long) c.requires.ready.capacity
 
   below : slot_number g.K.IntKey.number_of c.take_out-first.result.0.0 (length (set c.args.slots.now c.args.index c.take_out-first.new.self)) < length (set c.args.slots.now c.args.index c.take_out-first.new.self)
   below = slot_number-below g.K.IntKey.number_of c.take_out-first.result.0.0 _ capacity
 
   mark : slot_number g.K.IntKey.number_of c.take_out-first.result.0.0 (length (set c.args.slots.now c.args.index c.take_out-first.new.self)) < length c.args.bits.now
-  mark = let b = below in let l = long in let w = c.requires.words in omega (arith, b, l, w)
+  mark = let b = below in let l = long in let w = c.requires.ready.words in omega (arith, b, l, w)
 
 pub place-requires-clause-told : goal.place-requires-clause-told
 place-requires-clause-told g c = AreTold-first _ _ _ _ _ (told g (goal.at.place-requires-clause-told g c).After-take_out-first)
@@ -46,7 +46,7 @@ place-requires-clause-told g c = AreTold-first _ _ _ _ _ (told g (goal.at.place-
 pub place-requires-clause-room : goal.place-requires-clause-room
 place-requires-clause-room g c =
     let at = (goal.at.place-requires-clause-room g c).After-take_out-first in
-    Fits-room _ _ _ _ _ c.requires.leave.0 _ (below g at) refl (room g at)
+    (c.requires.ready.leave.0, HasRoom-first _ _ _ _ _ _ (room g at))
 
 pub place_each-requires-clause-told : goal.place_each-requires-clause-told
 place_each-requires-clause-told g c =
@@ -56,7 +56,7 @@ place_each-requires-clause-told g c =
 pub place_each-requires-clause-room : goal.place_each-requires-clause-room
 place_each-requires-clause-room g c =
     let at = (goal.at.place_each-requires-clause-room g c).After-take_out-first in
-    (c.requires.leave.0, HasRoom-put _ _ _ _ _ (vec_capacity c.take_out-first.result.1) (vec_capacity c.place.new.block) c.requires.leave.0 _ (below g at) refl (room g at) c.place.ensures.put)
+    (c.requires.ready.leave.0, HasRoom-put _ _ _ _ _ (vec_capacity c.take_out-first.result.1) (vec_capacity c.place.new.block) c.requires.ready.leave.0 _ (below g at) refl (room g at) c.place.ensures.put)
 
 pub returns-clause-pairs : goal.returns-clause-pairs
 returns-clause-pairs g c =

@@ -12,16 +12,16 @@ use Rattle.intmap_table.proofs.table.place.move_slot.Goals.{In-Some, In_default}
 module _ (g : _) (c : In-Some g) where
   -- the lone pair is all of the old slot
   row : get_or (rows c.args.slots.now) c.args.index [] ≡ c.in-Some.lone ∷ []
-  row = row-before c.args.slots.now c.args.index c.index-slots-index.result c.requires.within ∙ c.in-Some.ensures.lone
+  row = row-before c.args.slots.now c.args.index c.index-slots-index.result c.requires.ready.within ∙ c.in-Some.ensures.lone
 
   long : length (set c.args.slots.now c.args.index c.take_lone.new.self) ≡ length c.args.slots.now
   long = length-set c.args.slots.now c.args.index c.take_lone.new.self
 
   free : AreFree g.K.IntKey.number_of (set c.args.slots.now c.args.index c.take_lone.new.self) (c.in-Some.lone ∷ []) c.args.bits.now
-  free = rw (← row) (AreFree-left _ _ _ _ _ _ c.in-Some.ensures.emptied c.requires.free)
+  free = rw (← row) (AreFree-left _ _ _ _ _ _ c.in-Some.ensures.emptied c.requires.ready.free)
 
   below : slot_number g.K.IntKey.number_of c.in-Some.lone.0 (length c.args.slots.now) < length c.args.bits.now
-  below = let b = slot_number-below g.K.IntKey.number_of c.in-Some.lone.0 (length c.args.slots.now) c.requires.capacity in let w = c.requires.words in omega (arith, b, w)
+  below = let b = slot_number-below g.K.IntKey.number_of c.in-Some.lone.0 (length c.args.slots.now) c.requires.ready.capacity in let w = c.requires.ready.words in omega (arith, b, w)
 
 -- a slot of several is left as it was
 same : (g : _) (c : In_default g) → set c.args.slots.now c.args.index c.take_lone.new.self ≡ c.args.slots.now
@@ -49,18 +49,12 @@ returns-in-Some-clause-placed g c = let n = ap length (row g (goal.at.returns-in
 pub move_several-requires-clause-several : goal.move_several-requires-clause-several
 move_several-requires-clause-several g c =
     let s = same g (goal.at.move_several-requires-clause-several g c).In_default in
-    let r = ap length (row-before c.args.slots.now c.args.index c.index-slots-index.result c.requires.within) in
+    let r = ap length (row-before c.args.slots.now c.args.index c.index-slots-index.result c.requires.ready.within) in
     let many : 1 < length (get_or (rows c.args.slots.now) c.args.index []) = omega (arith, r, c.requires.filled, c.in_default.ensures.not_lone) in
     rw s many
 
-pub move_several-requires-clause-enough : goal.move_several-requires-clause-enough
-move_several-requires-clause-enough g c = rw (same g (goal.at.move_several-requires-clause-enough g c).In_default) c.requires.enough
-
-pub move_several-requires-clause-leave : goal.move_several-requires-clause-leave
-move_several-requires-clause-leave g c = rw (same g (goal.at.move_several-requires-clause-leave g c).In_default) c.requires.leave
-
-pub move_several-requires-clause-free : goal.move_several-requires-clause-free
-move_several-requires-clause-free g c = rw (same g (goal.at.move_several-requires-clause-free g c).In_default) c.requires.free
+pub move_several-requires-clause-ready : goal.move_several-requires-clause-ready
+move_several-requires-clause-ready g c = rw (same g (goal.at.move_several-requires-clause-ready g c).In_default) c.requires.ready
 
 pub returns-clause-pairs : goal.returns-clause-pairs
 returns-clause-pairs g c =

@@ -1,13 +1,13 @@
-use Rattle.std.proofs.Common.{◌≡◌, inl, inr, ◌<◌, ◌∙◌, get_or, [], ◌∷◌, ◌++◌, length, set, sym, ap, subst, arith, vec_capacity}
+use Rattle.std.proofs.Common.{◌≡◌, ◌⊎◌, inl, inr, ◌+◌, ◌≤◌, ◌∙◌, get_or, [], ◌∷◌, ◌++◌, length, set, sym, ap, subst, arith, vec_capacity}
 use Rattle.std.specs.Prelude.{nat_lt}
 use Rattle.std.proofs.lemmas.Bool.{ltb-true, cases_eq}
 use Rattle.intmap_table.specs.Classes.{slot_number}
-use Rattle.intmap_table.specs.Walk.{slot_of}
 use Rattle.intmap_table.specs.Tables.Bits.{marked}
 use Rattle.intmap_table.specs.Tables.Slots.{rows}
-use Rattle.intmap_table.specs.Tables.Moves.{rooms, IsPut, Fits}
+use Rattle.intmap_table.specs.Tables.Moves.{rooms, IsPut, need}
 use Rattle.intmap_table.proofs.Tables.MarkedLemmas.{row-none}
-use Rattle.intmap_table.proofs.Tables.PutLemmas.{IsPut-kept, IsPut-lent, row-before, room-before, need-own}
+use Rattle.intmap_table.proofs.Tables.PutLemmas.{IsPut-kept, IsPut-lent, row-before, room-before}
+use Rattle.intmap_table.proofs.Tables.RoomLemmas.{length-first}
 use Rattle.intmap_table.proofs.table.place.place.Goals as goal
 use Rattle.intmap_table.proofs.table.place.place.Goals.{After-index-slots-index, After-set, then-set, else-set}
 
@@ -16,9 +16,14 @@ module _ (g : _) (c : After-index-slots-index g) where
   slot : slot_number g.K.IntKey.number_of c.args.pair.0 (length c.args.slots.now) ≡ c.index_of-index.result
   slot = ap (λ k. slot_number g.K.IntKey.number_of k (length c.args.slots.now)) (sym c.key.ensures.value) ∙ sym c.index_of-index.ensures.slot
 
-  -- there is room behind its pairs
-  fits : Fits c.args.slots.now c.index_of-index.result (vec_capacity c.args.block.now)
-  fits = subst (λ j. Fits c.args.slots.now j (vec_capacity c.args.block.now)) slot c.requires.room
+  -- it needs room for the pair
+  need-one : need g.K.IntKey.number_of (c.args.pair ∷ []) (length c.args.slots.now) c.index_of-index.result ≡ 1
+  need-one = length-first g.K.IntKey.number_of c.args.pair [] (length c.args.slots.now) c.index_of-index.result slot
+
+  -- and has it, or else the current block has
+  fits : (length (get_or (rows c.args.slots.now) c.index_of-index.result []) + 1 ≤ get_or (rooms c.args.slots.now) c.index_of-index.result 0)
+      ⊎ ((c.index_of-index.result ≡ c.requires.room.0) × (get_or (rooms c.args.slots.now) c.index_of-index.result 0 ≡ 1) × (length (get_or (rows c.args.slots.now) c.index_of-index.result []) + 1 ≤ 1 + vec_capacity c.args.block.now))
+  fits = let one = need-one in rw one at (c.requires.room.1.room c.index_of-index.result c.index_of-index.ensures.within (omega (arith, one)))
 
   row : get_or (rows c.args.slots.now) c.index_of-index.result [] ≡ (get_or c.args.slots.now c.index_of-index.result c.index-slots-index.result).pairs
   row = row-before c.args.slots.now c.index_of-index.result c.index-slots-index.result c.index_of-index.ensures.within
@@ -29,9 +34,8 @@ module _ (g : _) (c : After-index-slots-index g) where
   -- its place is marked exactly if it holds a pair
   told : marked c.args.bits.now c.index_of-index.result ≡ nat_lt 0 (length (get_or c.args.slots.now c.index_of-index.result c.index-slots-index.result).pairs)
   told =
-      let number = g.K.IntKey.number_of in let D = length c.args.slots.now in
-      let needs = subst (λ j. 0 < length (slot_of number (c.args.pair ∷ []) D j)) slot (need-own number c.args.pair D) in
-      c.requires.told.told c.index_of-index.result c.index_of-index.ensures.within needs ∙ ap (λ ps. nat_lt 0 (length ps)) row
+      let one = need-one in
+      c.requires.told.told c.index_of-index.result c.index_of-index.ensures.within (omega (arith, one)) ∙ ap (λ ps. nat_lt 0 (length ps)) row
 
 pub push_with-requires-clause-filled : goal.push_with-requires-clause-filled
 push_with-requires-clause-filled g c =
@@ -40,18 +44,21 @@ push_with-requires-clause-filled g c =
 pub push_with-requires-clause-own : goal.push_with-requires-clause-own
 push_with-requires-clause-own g c = λ other.
     let at = (goal.at.push_with-requires-clause-own g c).After-index-slots-index in
-    let some = ltb-true 0 _ (sym (told g at) ∙ sym c.set.ensures.before ∙ c.if-set.true) in
     let r = ap length (row g at) in let n = room g at in
-    let less = (fits g at).own (omega (arith, r, some)) (λ q. other (sym n ∙ q)) in
-    omega (arith, less, r, n)
+    elim (fits g at) [
+      | inl has ↦ omega (arith, has, r, n)
+      | inr but ↦ absurd (other (sym n ∙ but.1))
+    ]
 
 pub push_with-requires-clause-lent : goal.push_with-requires-clause-lent
 push_with-requires-clause-lent g c = λ bare.
     let at = (goal.at.push_with-requires-clause-lent g c).After-index-slots-index in
     let some = ltb-true 0 _ (sym (told g at) ∙ sym c.set.ensures.before ∙ c.if-set.true) in
     let r = ap length (row g at) in let n = room g at in
-    let less = (fits g at).lent (omega (arith, r, some)) (n ∙ bare) in
-    omega (arith, less, r)
+    elim (fits g at) [
+      | inl has ↦ absurd (omega (arith, has, r, n, bare, some))
+      | inr but ↦ (let enough = but.2 in omega (arith, enough, r))
+    ]
 
 pub put_first-requires : goal.put_first-requires
 put_first-requires g c = row-none _ (sym (told g (goal.at.put_first-requires g c).After-index-slots-index) ∙ sym c.set.ensures.before ∙ c.if-set.false)

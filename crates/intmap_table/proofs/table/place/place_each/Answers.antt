@@ -4,7 +4,7 @@ use Rattle.intmap_table.specs.Classes.{slot_number}
 use Rattle.intmap_table.specs.Tables.Moves.{IsPlaced, HasRoom, AreSet, AreTold}
 use Rattle.intmap_table.proofs.SlotNumberLemmas.{slot_number-below}
 use Rattle.intmap_table.proofs.Tables.GrownLemmas.{no_length}
-use Rattle.intmap_table.proofs.Tables.RoomLemmas.{Fits-room, HasRoom-put, IsPlaced-put, IsPlaced-more}
+use Rattle.intmap_table.proofs.Tables.RoomLemmas.{HasRoom-first, HasRoom-put, IsPlaced-put, IsPlaced-more}
 use Rattle.intmap_table.proofs.Tables.PutLemmas.{IsPlaced-none, AreTold-first, AreTold-put, AreSet-none, AreSet-more, AreSet-put}
 use Rattle.intmap_table.proofs.table.place.place_each.Goals as goal
 use Rattle.intmap_table.proofs.table.place.place_each.Goals.{In-Some, In_default}
@@ -54,7 +54,7 @@ place-requires-clause-block g c = c.loop-pair.invariant.block
 pub place-requires-clause-room : goal.place-requires-clause-room
 place-requires-clause-room g c =
     let at = (goal.at.place-requires-clause-room g c).In-Some in
-    Fits-room _ _ _ _ _ c.loop-pair.invariant.room.0 _ (below g at) refl (room g at)
+    (c.loop-pair.invariant.room.0, HasRoom-first _ _ _ _ _ _ (room g at))
 
 pub loop-pair-preserved : goal.loop-pair-preserved
 loop-pair-preserved g c =
