@@ -9,9 +9,7 @@ ghost use Rattle.intmap.specs.Insertions.{IsInsertion};
 ghost use Rattle.intmap.specs.Map.{IsLone, IsMap, after_search};
 ghost use Rattle.intmap.specs.PlainLists.{RefusalIsDue};
 
-mod attempt;
-mod insertion;
-mod made;
+mod insert;
 mod occupied;
 mod vacant;
 

@@ -1,7 +1,7 @@
 -- What a walk by a cursor returns to C, and what it leaves of a map, m before and n after.
 use Rattle.std.specs.Prelude.{◌≡◌, ◌⊎◌, ◌+◌, [], ◌∷◌, take, drop, length, Option, None, Some}
 use Rattle.intmap_table.specs.Picking.{IsReached}
-use Rattle.intmap_table.specs.declared.table.extract.Cursor.{Cursor}
+use Rattle.intmap_table.specs.declared.table.walk.Cursor.{Cursor}
 use Rattle.intmap.specs.Bindings.{Updates}
 use Rattle.intmap.specs.Map.{with_walk}
 use Rattle.intmap_c.specs.declared.answer.TheConstants.{PRESENT, ABSENT, NO_MAP}

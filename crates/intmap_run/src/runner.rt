@@ -1,21 +1,18 @@
 //! Runs lists of commands over a map.
-ghost use Rattle.std.specs.Prelude.{◌≡◌, Some, IfOk, IfErr, OnErr, MatchResult};
+ghost use Rattle.std.specs.Prelude.{◌≡◌, Some, IfOk, IfErr, OnErr, MatchResult, Bool};
 ghost use Rattle.intmap.specs.Map.{IsMap};
 ghost use Rattle.intmap_run.specs.Runs.{RunsFrom};
 ghost use Rattle.intmap_run.specs.Steps.{StepsFrom};
+ghost use Rattle.intmap_run.specs.declared.command.Command.TheVariants as command;
+ghost use Rattle.intmap.specs.Bindings.{keep_pairs};
 
-mod entries;
-mod extend;
-mod keep;
 mod lists;
 
 use crate::answer::Answer;
 use crate::command::Command;
 use crate::judge::Judge;
-use crate::runner::entries::{entry_insert, entry_remove};
-use crate::runner::extend::extend;
-use crate::runner::keep::keep_all;
 use crate::runner::lists::{collisions, drain, keys, values, walk};
+use intmap::entry::Entry;
 use intmap::{Cause, IntKey, IntMap, Refused};
 use std::alloc::Allocator;
 use std::mem;
@@ -129,6 +126,90 @@ fn apply<K: IntKey, V: Drop, J: Judge<K, V>, A: Allocator + Copy>(
         Command::Values => values(alloc, map, judge),
         Command::Collisions => collisions::<K, V, J, A>(alloc, map),
     }
+}
+
+/// The answer of an insertion by an entry, whatever the judge is.
+fn entry_insert<K: IntKey, V: Drop, J: Judge<K, V>, A: Allocator + Copy>(
+    map: &mut IntMap<K, V, A>,
+    key: K,
+    value: V,
+) -> Answer<K, V, J::Seen, A>
+    ensures step { (judge : J) → StepsFrom K.number_of (J.sees judge) (J.keeps judge)
+        map.old (command.EntryInsert key value) result map.new }
+    ensures valid_after { IsMap K.number_of K.is_valid map.new }
+{
+    match map.entry(key) {
+        Entry::Occupied(mut entry) => {
+            let old = entry.insert(value);
+            entry.leave();
+            Answer::Old(Some(old))
+        }
+        Entry::Vacant(entry) => match entry.insert(value) {
+            Ok(_value) => Answer::Fresh,
+            Err(refused) => handed_back(refused),
+        },
+    }
+}
+
+/// The answer of a removal by an entry, whatever the judge is.
+fn entry_remove<K: IntKey, V: Drop, J: Judge<K, V>, A: Allocator + Copy>(
+    map: &mut IntMap<K, V, A>,
+    key: K,
+) -> Answer<K, V, J::Seen, A>
+    ensures step { (judge : J) → StepsFrom K.number_of (J.sees judge) (J.keeps judge)
+        map.old (command.EntryRemove key) result map.new }
+    ensures valid_after { IsMap K.number_of K.is_valid map.new }
+{
+    match map.entry(key) {
+        Entry::Occupied(entry) => Answer::Old(Some(entry.remove())),
+        Entry::Vacant(_entry) => Answer::Old(None),
+    }
+}
+
+/// The answer of an insertion of several pairs, whatever the judge is.
+fn extend<K: IntKey, V: Drop, J: Judge<K, V>, A: Allocator + Copy>(
+    map: &mut IntMap<K, V, A>,
+    pairs: Vec<(K, V), A>,
+) -> Answer<K, V, J::Seen, A>
+    ensures step { (judge : J) → StepsFrom K.number_of (J.sees judge) (J.keeps judge)
+        map.old (command.Extend pairs) result map.new }
+    ensures valid_after { IsMap K.number_of K.is_valid map.new }
+{
+    match map.extend(pairs.into_iter()) {
+        Ok(()) => Answer::Done,
+        Err(refused) => Answer::Stopped(refused),
+    }
+}
+
+/// Says which pairs stay, as a judge does.
+// a closure that holds a judge gets no proof, since `Judge` has an associated type
+trait Keeps<K, V> {
+    /// What `stays` returns for a key and its value.
+    ghost stays_at: { Self → K → V → Bool };
+
+    /// Whether the pair stays.
+    fn stays(&self, key: K, value: &V) -> bool
+        ensures { result ≡ stays_at self.now key value.now };
+}
+
+impl<K, V, J: Judge<K, V>> Keeps<K, V> for J {
+    ghost stays_at = { J.keeps };
+
+    fn stays(&self, key: K, value: &V) -> bool {
+        self.keep(key, value)
+    }
+}
+
+/// Keeps the pairs that stay by the keeper, and drops the others.
+fn keep_all<K: IntKey, V: Drop, S: Keeps<K, V>, A: Allocator + Copy>(
+    map: &mut IntMap<K, V, A>,
+    keeper: &S,
+)
+    ensures walk { map.new.walk ≡ keep_pairs (S.stays_at keeper.now) map.old.walk }
+    ensures state { map.new ≡ record map.old { walk = map.new.walk } }
+    ensures valid_after { IsMap K.number_of K.is_valid map.new }
+{
+    map.retain(|key, value| keeper.stays(key, value));
 }
 
 /// The answer of a failed insertion, which returns the value.

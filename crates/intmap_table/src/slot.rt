@@ -6,9 +6,9 @@ ghost use Rattle.intmap_table.specs.Tables.Slots.{all_pairs};
 ghost use Rattle.std.specs.List.{AllZip};
 ghost use Rattle.intmap_table.specs.Cloning.{IsPairClone};
 
-mod change;
-mod extract;
-mod retain;
+mod closures;
+mod pairs;
+mod room;
 
 use crate::key::IntKey;
 use crate::steps::Steps;

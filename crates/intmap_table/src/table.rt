@@ -1,12 +1,11 @@
 //! A table of slots. Each key has one of them.
 //!
 //! The calls here look at the slot of one key, or at the table as a whole. `locate` has the calls
-//! on a pair whose place is known, `walk`, `each` and `extract` those that go through the pairs,
-//! and `grow` and `place` the growth.
+//! on a pair whose place is known, `walk` and `closures` those that go through the pairs, and `grow`
+//! and `place` the growth.
 
 pub(crate) mod asked;
-mod each;
-pub mod extract;
+mod closures;
 mod grow;
 pub mod locate;
 mod place;
@@ -21,6 +20,8 @@ ghost use Rattle.intmap_table.specs.Tables.Slots.{rows, AreMarked};
 ghost use Rattle.intmap_table.specs.Walk.{slot_of, walk_of};
 ghost use Rattle.intmap_table.specs.Reach.{class_size};
 ghost use Rattle.intmap_table.specs.Figures.{load_of};
+ghost use Rattle.std.specs.List.{AllZip};
+ghost use Rattle.intmap_table.specs.Cloning.{IsPairClone};
 
 use crate::bits::Bits;
 use crate::key::IntKey;
@@ -211,6 +212,29 @@ impl<K: IntKey, X: Drop, A: Allocator + Copy> Table<K, X, A> {
         add_slots(&mut slots, capacity)?;
         let directory = Directory {
             mask: capacity - 1,
+            bits,
+        };
+        Ok(Table { directory, slots })
+    }
+}
+
+impl<K: IntKey, X: Clone, A: Allocator + Copy> Table<K, X, A> {
+    /// The same keys in the same slots, with clones of their values. The bits and the slots are
+    /// allocated before the first value is cloned.
+    pub fn clone(&self) -> Result<Table<K, X, A>, AllocError>
+        ensures walk { IfOk result
+            (λ made. AllZip (IsPairClone X.is_clone) self.now.walk made.walk) }
+        ensures capacity { IfOk result (λ made. made.capacity ≡ self.now.capacity) }
+        ensures own { IfOk result
+            (λ made. walk_of K.number_of made.walk made.capacity ≡ made.walk) }
+    {
+        let bits = self.directory.bits.clone()?;
+        let mut slots = Vec::with_capacity(*self.slots.allocator(), self.slots.len())?;
+        for slot in &self.slots {
+            slots.push_reserved(slot.clone()?);
+        }
+        let directory = Directory {
+            mask: self.directory.mask,
             bits,
         };
         Ok(Table { directory, slots })

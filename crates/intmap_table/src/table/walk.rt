@@ -1,19 +1,40 @@
-//! The pairs of a table by reference, slot after slot, and clones of a table.
-ghost use Rattle.std.specs.Prelude.{◌≡◌, ◌+◌, ◌<◌, ◌^◌, [], ◌∷◌, cond, drop, is_some, length, slice_index_or, IfOk, MatchOption, ⊤};
-ghost use Rattle.std.specs.Iterator.{YieldsFirstBy, item_count};
-ghost use Rattle.std.specs.List.{AllZip};
-ghost use Rattle.intmap_table.specs.Cloning.{IsPairClone};
+//! The walk of a table: its pairs by reference, slot after slot, a position in it, and removal from
+//! its front.
+ghost use Rattle.std.specs.Prelude.{◌≡◌, ◌+◌, ◌<◌, ◌^◌, [], ◌∷◌, cond, drop, is_some, length, slice_index_or, MatchOption, ⊤, IfSome};
+ghost use Rattle.std.specs.Iterator.{YieldsFirstBy, item_count, YieldsFirst};
 ghost use Rattle.intmap_table.specs.Picking.{IsReached};
-ghost use Rattle.intmap_table.specs.Walk.{walk_of};
+ghost use Rattle.intmap_table.specs.Walk.{walk_of, ArePassed};
+ghost use Rattle.intmap_table.specs.Classes.{slot_number};
 
 use crate::bits::Places;
 use crate::key::IntKey;
 use crate::slot::Slot;
-use crate::table::extract::Cursor;
+use crate::table::Table;
 use crate::table::stored::Stored;
-use crate::table::{Directory, Table};
 use std::alloc::{AllocError, Allocator};
 use std::marker::Model;
+
+/// The position of a walk: a place in a slot, and the number of pairs of the walk before it.
+#[repr(C)]
+#[derive(Clone, Copy)]
+pub struct Cursor {
+    pub slot: usize,
+    pub place: usize,
+    pub passed: usize,
+}
+
+impl Cursor {
+    /// The start of every walk.
+    pub fn start() -> Cursor
+        ensures { result ≡ record { slot = 0; place = 0; passed = 0 } }
+    {
+        Cursor {
+            slot: 0,
+            place: 0,
+            passed: 0,
+        }
+    }
+}
 
 /// The slot at a place.
 #[inline(always)]
@@ -114,27 +135,28 @@ impl<K: IntKey, X, A: Allocator> Table<K, X, A> {
         }
         None
     }
-}
 
-impl<K: IntKey, X: Clone, A: Allocator + Copy> Table<K, X, A> {
-    /// The same keys in the same slots, with clones of their values. The bits and the slots are
-    /// allocated before the first value is cloned.
-    pub fn clone(&self) -> Result<Table<K, X, A>, AllocError>
-        ensures walk { IfOk result
-            (λ made. AllZip (IsPairClone X.is_clone) self.now.walk made.walk) }
-        ensures capacity { IfOk result (λ made. made.capacity ≡ self.now.capacity) }
-        ensures own { IfOk result
-            (λ made. walk_of K.number_of made.walk made.capacity ≡ made.walk) }
+    /// Removes the first pair of the walk and returns it. No slot before the place `from` holds a
+    /// pair. `from` moves on to the slot that held the removed pair.
+    pub fn take_front(&mut self, from: &mut usize) -> Option<(K, X)>
+        requires { ArePassed K.number_of self.old.walk self.old.capacity from.old }
+        ensures first { YieldsFirst (λ t. t.walk) self.old result self.new }
+        ensures capacity { self.new.capacity ≡ self.old.capacity }
+        ensures own { walk_of K.number_of self.new.walk self.new.capacity ≡ self.new.walk }
+        ensures passed { ArePassed K.number_of self.new.walk self.new.capacity from.new }
+        ensures slot { IfSome result
+            (λ pair. from.new ≡ slot_number K.number_of pair.0 self.old.capacity) }
     {
-        let bits = self.directory.bits.clone()?;
-        let mut slots = Vec::with_capacity(*self.slots.allocator(), self.slots.len())?;
-        for slot in &self.slots {
-            slots.push_reserved(slot.clone()?);
-        }
-        let directory = Directory {
-            mask: self.directory.mask,
-            bits,
+        let Some(place) = self.directory.bits.iter_from(*from).next() else {
+            return None;
         };
-        Ok(Table { directory, slots })
+        *from = place;
+        let slot = &mut self.slots[place];
+        if let Some((key, value)) = slot.take_lone() {
+            self.directory.bits.clear(place);
+            return Some((*key.key(), value));
+        }
+        let (key, value) = slot.take_front();
+        Some((*key.key(), value))
     }
 }

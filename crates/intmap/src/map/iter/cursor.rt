@@ -6,7 +6,7 @@ ghost use Rattle.intmap.specs.Map.{IsMap, with_walk};
 
 use crate::map::IntMap;
 use intmap_table::IntKey;
-pub use intmap_table::table::extract::Cursor;
+pub use intmap_table::table::walk::Cursor;
 use std::alloc::Allocator;
 
 impl<K: IntKey, V, A: Allocator + Copy> IntMap<K, V, A> {

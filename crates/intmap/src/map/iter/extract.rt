@@ -8,7 +8,7 @@ ghost use Rattle.intmap.specs.Map.{IsMap, with_walk};
 
 use crate::map::IntMap;
 use intmap_table::IntKey;
-use intmap_table::table::extract::Cursor;
+use intmap_table::table::walk::Cursor;
 use std::alloc::{Allocator, Global};
 
 impl<K: IntKey, V, A: Allocator + Copy> IntMap<K, V, A> {

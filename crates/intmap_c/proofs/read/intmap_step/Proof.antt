@@ -10,7 +10,7 @@ use denote.Lend.{lends_again, comes_back, LentAgain}
 use denote.MutBor.{MutBor}
 use denote.Ref.{MutRef, mut_vals, mut_Tells}
 use denote.Triple.Walked.{Goes-ref, stay_ref}
-use Rattle.intmap_table.specs.contracts.table.extract.Cursor.{the_row as Cursor}
+use Rattle.intmap_table.specs.contracts.table.walk.Cursor.{the_row as Cursor}
 use Rattle.intmap_c.specs.Walks.{MayStep, StepsIfMap}
 use Rattle.intmap_c.specs.declared.answer.Found.{Found}
 use Rattle.intmap_c.specs.contracts.answer.Found as found

@@ -1,0 +1,28 @@
+use Rattle.std.proofs.Common.{rules}
+use Rattle.intmap_run.proofs.WritingStepLemmas.{StepsFrom-entry_insert, StepsFrom-fresh, StepsFrom-not_fresh, StepsFrom-equal}
+use Rattle.intmap.specs.Entries.{occupied_key}
+use Rattle.intmap_run.proofs.runner.entry_insert.Goals as goal
+
+pub returns-in-Occupied-clause-step : goal.returns-in-Occupied-clause-step
+returns-in-Occupied-clause-step g c =
+    let e = c.in-Occupied.ensures in
+    λ judge. StepsFrom-equal g.K.IntKey.number_of (g.J.Judge.sees judge) (g.J.Judge.keeps judge) c.args.map.now _ _ _ _
+    (StepsFrom-entry_insert g.K.IntKey.number_of g.K.IntKey.is_valid c.args.map.now e.valid (g.J.Judge.sees judge) (g.J.Judge.keeps judge) c.args.key
+    (occupied_key c.in-Occupied.entry) c.in-Occupied.entry.map.now e.state e.key c.args.value c.insert-old.result c.insert-old.ensures.old) (search rules)
+
+pub returns-in-Ok-clause-step : goal.returns-in-Ok-clause-step
+returns-in-Ok-clause-step g c =
+    let e = c.in-Vacant.ensures in
+    λ judge. StepsFrom-equal g.K.IntKey.number_of (g.J.Judge.sees judge) (g.J.Judge.keeps judge) c.args.map.now _ _ _ _
+    (StepsFrom-fresh g.K.IntKey.number_of g.K.IntKey.is_valid c.args.map.now e.valid (g.J.Judge.sees judge) (g.J.Judge.keeps judge) c.args.key
+    c.in-Vacant.entry.key c.in-Vacant.entry.map.now e.state e.key c.args.value c.in-Ok._value.now _ c.in-Vacant.entry.missing c.in-Ok.ensures.value (c.in-Ok.ensures.inserted c.in-Ok._value.now).capacity (c.in-Ok.ensures.inserted c.in-Ok._value.now).in_range) (search rules)
+
+pub returns-in-Err-clause-step : goal.returns-in-Err-clause-step
+returns-in-Err-clause-step g c =
+    let e = c.in-Vacant.ensures in
+    λ judge. rw (c.handed_back.ensures, c.in-Err.ensures.value_returned) (StepsFrom-equal g.K.IntKey.number_of (g.J.Judge.sees judge) (g.J.Judge.keeps judge) c.args.map.now _ _ _ _
+    (StepsFrom-not_fresh g.K.IntKey.number_of g.K.IntKey.is_valid c.args.map.now e.valid (g.J.Judge.sees judge) (g.J.Judge.keeps judge) c.args.key
+    c.in-Vacant.entry.key c.in-Vacant.entry.map.now e.state e.key c.args.value c.in-Err.refused.cause c.in-Err.ensures.refused) (search rules))
+
+pub returns-in-Ok-clause-valid_after : goal.returns-in-Ok-clause-valid_after
+returns-in-Ok-clause-valid_after g c = let h = (c.in-Ok.ensures.inserted c.in-Ok._value.now).valid in search rules

@@ -1,0 +1,18 @@
+use Rattle.std.proofs.Common.{◌-◌, ◌^◌, ◌<◌, ◌≤◌, length, take, drop}
+use Rattle.intmap_table.specs.Picking.{AsksAt, PicksAt}
+use Rattle.intmap_table.specs.Writes.{TakesPairMut}
+use Rattle.intmap_table.specs.Taking.{TakesEach}
+use Rattle.intmap_table.proofs.ExtractLemmas.{StepsTo}
+use Rattle.intmap_table.proofs.slot.closures.Slot+K+Kept+V+A.extract_next.Given as goal
+
+abbrev pub invariant-loop-place : goal.invariant-loop-place
+invariant-loop-place g l = record {
+  callable : TakesEach (AsksAt g.F.FnMut) (TakesPairMut g.F.FnMut) l.f (drop l.place l.self.pairs);
+  within : l.place ≤ length l.self.pairs;
+  few : length l.self.pairs < 2 ^ 64;
+  on : l.initial.place ≤ l.place;
+  steps : StepsTo (PicksAt g.F.FnMut) l.initial.f (take l.initial.place l.initial.self.pairs) (drop l.initial.place l.initial.self.pairs) l.f (take l.place l.self.pairs) (drop l.place l.self.pairs);
+}
+
+abbrev pub decreases-loop-place : goal.decreases-loop-place
+decreases-loop-place g l = length l.self.pairs - l.place

@@ -1,0 +1,16 @@
+use Rattle.std.proofs.Common.{◌≡◌, ℕ, List, ◌++◌, length}
+use Rattle.intmap_table.specs.Tables.Bits.{marked_places}
+use Rattle.intmap_table.specs.Tables.Slots.{rows, joined, pairs_at, IsMarkedTable}
+use Rattle.intmap_table.specs.Taking.{TakesEach}
+use Rattle.intmap_table.specs.Writes.{Writes, WritesAt, TakesPairMut}
+use Rattle.intmap_table.proofs.LeadsLemmas.{Leads}
+use Rattle.intmap_table.proofs.table.closures.write_slots.Given as goal
+
+abbrev pub invariant-loop-place : goal.invariant-loop-place
+invariant-loop-place g l = record {
+  callable : TakesEach (WritesAt g.F.FnMut) (TakesPairMut g.F.FnMut) l.f (pairs_at (rows l.slots.items) l.place-iterator);
+  table : IsMarkedTable g.K.IntKey.number_of l.slots.items l.bits;
+  len : length l.slots.items ≡ length l.initial.slots.items;
+  passed : (before : List ℕ) × (before ++ l.place-iterator ≡ marked_places l.bits)
+      × Leads (Writes (WritesAt g.F.FnMut)) l.initial.f (joined (rows l.initial.slots.items)) l.f (pairs_at (rows l.slots.items) before) (pairs_at (rows l.slots.items) l.place-iterator);
+}

@@ -1,0 +1,89 @@
+//! Room in slots, and the moves of a growth, which takes all pairs of a slot at once.
+ghost use Rattle.std.specs.Prelude.{◌≡◌, ◌≢◌, ◌+◌, ◌<◌, ◌≤◌, [], ◌∷◌, ◌++◌, length, reverse, vec_capacity, OnOk};
+ghost use Rattle.intmap_table.specs.Tables.Moves.{emptied};
+
+use crate::key::IntKey;
+use crate::slot::Slot;
+use crate::table::stored::Stored;
+use std::alloc::{AllocError, Allocator};
+use std::mem;
+
+impl<K: IntKey, X: Drop, A: Allocator> Slot<K, X, A> {
+    /// Makes room for `count` pairs behind the first one, and allocates for exactly those. It fails
+    /// if the allocation does.
+    #[inline(never)]
+    pub(crate) fn reserve_behind(&mut self, count: usize) -> Result<(), AllocError>
+        ensures pairs { self.new.pairs ≡ self.old.pairs }
+        ensures room { OnOk result (count < self.new.room) }
+    {
+        self.rest.reserve_exact(count)
+    }
+
+    /// Adds a pair behind others. If the slot has no block, it takes this one.
+    #[inline(always)]
+    pub(crate) fn push_with(&mut self, pair: (Stored<K>, X), block: &mut Vec<(Stored<K>, X), A>)
+        requires filled { 0 < length self.old.pairs }
+        requires empty { block.old.items ≡ [] }
+        requires own { self.old.room ≢ 1 → length self.old.pairs < self.old.room }
+        requires lent { self.old.room ≡ 1 → length self.old.pairs < 1 + vec_capacity block.old }
+        ensures pairs { self.new.pairs ≡ self.old.pairs ++ pair ∷ [] }
+        ensures block { block.new.items ≡ [] }
+        ensures own { self.old.room ≢ 1 → (self.new.room ≡ self.old.room)
+            × (vec_capacity block.new ≡ vec_capacity block.old) }
+        ensures lent { self.old.room ≡ 1 → self.new.room ≡ 1 + vec_capacity block.old }
+    {
+        if self.rest.capacity() == 0 {
+            mem::swap(&mut self.rest, block);
+        }
+        self.rest.push_reserved(pair);
+    }
+
+    /// Makes room for one more pair, and allocates for exactly that. It returns whether it
+    /// allocated.
+    pub(crate) fn reserve_one(&mut self) -> Result<bool, AllocError>
+        ensures { self.new.pairs ≡ self.old.pairs }
+    {
+        if self.first.is_none() || self.rest.len() < self.rest.capacity() {
+            return Ok(false);
+        }
+        self.rest.reserve_exact(1)?;
+        Ok(true)
+    }
+
+    /// Gives back the room that no pair needs.
+    pub(crate) fn shrink(&mut self)
+        ensures { self.new.pairs ≡ self.old.pairs }
+    {
+        self.rest.shrink_to_fit();
+    }
+}
+
+impl<K: IntKey, X, A: Allocator + Copy> Slot<K, X, A> {
+    /// Removes all of several pairs. The first one is returned. The others are moved into a buffer,
+    /// which has room for them, the last of them first. The block of the others is returned too.
+    #[inline(always)]
+    pub(crate) fn take_out(
+        &mut self,
+        buffer: &mut Vec<(Stored<K>, X), A>,
+    ) -> ((Stored<K>, X), Vec<(Stored<K>, X), A>)
+        requires several { 1 < length self.old.pairs }
+        requires empty { buffer.old.items ≡ [] }
+        requires enough { length self.old.pairs ≤ 1 + vec_capacity buffer.old }
+        ensures pairs { self.old.pairs ≡ result.0 ∷ reverse buffer.new.items }
+        ensures emptied { self.new ≡ emptied }
+        ensures block { result.1.items ≡ [] }
+        ensures block_room { 1 + vec_capacity result.1 ≡ self.old.room }
+        ensures buffer_room { vec_capacity buffer.old ≤ vec_capacity buffer.new }
+    {
+        let alloc = *self.rest.allocator();
+        let mut block = mem::replace(&mut self.rest, Vec::new(alloc));
+        if buffer.append(&mut block).is_err() {
+            unreachable!();
+        }
+        buffer.as_mut_slice().reverse();
+        match self.first.take() {
+            Some(first) => (first, block),
+            None => unreachable!(),
+        }
+    }
+}
