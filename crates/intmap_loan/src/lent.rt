@@ -56,7 +56,7 @@ impl<'a, V> Lent<'a, V> {
     ghost use denote.RawPtr.{Ptr};
 
     /// A mutable reference to the first of the values that are left. The hole shows where it lies.
-    pub fn take_first(&mut self, hole: &'a Hole<V>) -> &'a mut V
+    pub fn next_mut(&mut self, hole: &'a Hole<V>) -> &'a mut V
         requires { (rest : List (Ptr × V)) × (self.old.cells ≡ hole.now ∷ rest) }
         ensures { (result.now ≡ hole.now.1) × (self.old.cells ≡ hole.now ∷ self.new.cells) }
     {

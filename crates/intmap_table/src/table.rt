@@ -67,8 +67,8 @@ fn clear_slots<K: IntKey, X: Drop, A: Allocator>(bits: &Bits<A>, slots: &mut Vec
     ensures len { length slots.new.items ≡ length slots.old.items }
     ensures empty { (i : ℕ) → slice_index_or (rows slots.new.items) i [] ≡ [] }
 {
-    for place in bits.iter() {
-        slots[place].clear();
+    for index in bits.iter() {
+        slots[index].clear();
     }
 }
 

@@ -36,14 +36,14 @@ fn retain_slots<K: IntKey, V: Drop, A: Allocator, F: FnMut(K, &V) -> bool>(
 {
     let mut count = 0;
     let mut from = 0;
-    while let Some(place) = bits.iter_from(from).next() {
-        let slot = &mut slots[place];
+    while let Some(index) = bits.iter_from(from).next() {
+        let slot = &mut slots[index];
         slot.retain(f);
         if !slot.is_filled() {
-            bits.clear(place);
+            bits.clear(index);
         }
         count += slot.len();
-        from = place + 1;
+        from = index + 1;
     }
     count
 }
@@ -175,8 +175,8 @@ fn write_slots<K: IntKey, V, A: Allocator, F: FnMut(K, &mut V)>(
     ensures table { IsMarkedTable K.number_of slots.new.items bits.now }
     ensures len { length slots.new.items ≡ length slots.old.items }
 {
-    for place in bits.iter() {
-        slots[place].write_each(f);
+    for index in bits.iter() {
+        slots[index].write_each(f);
     }
 }
 

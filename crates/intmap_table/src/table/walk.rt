@@ -36,13 +36,13 @@ impl Cursor {
     }
 }
 
-/// The slot at a place.
+/// A slot, by its number.
 #[inline(always)]
-fn slot_at<K: IntKey, X, A: Allocator>(slots: &[Slot<K, X, A>], place: usize) -> &Slot<K, X, A>
-    requires { place < length slots.now }
-    ensures { result.now ≡ slice_index_or slots.now place result.now }
+fn slot_at<K: IntKey, X, A: Allocator>(slots: &[Slot<K, X, A>], index: usize) -> &Slot<K, X, A>
+    requires { index < length slots.now }
+    ensures { result.now ≡ slice_index_or slots.now index result.now }
 {
-    &slots[place]
+    &slots[index]
 }
 
 /// The pairs that are left: those of the current slot, then those of the slots at the places behind
@@ -99,10 +99,10 @@ impl<'a, K: IntKey, X, A: Allocator> Iterator for Pairs<'a, K, X, A> {
                 self.rest = rest;
                 return Some((pair.0.key(), &pair.1));
             }
-            let Some(place) = self.places.next() else {
+            let Some(index) = self.places.next() else {
                 return None;
             };
-            (self.first, self.rest) = slot_at(self.slots, place).parts();
+            (self.first, self.rest) = slot_at(self.slots, index).parts();
         }
     }
 }
@@ -136,7 +136,7 @@ impl<K: IntKey, X, A: Allocator> Table<K, X, A> {
         None
     }
 
-    /// Removes the first pair of the walk and returns it. No slot before the place `from` holds a
+    /// Removes the first pair of the walk and returns it. No slot before `from` holds a
     /// pair. `from` moves on to the slot that held the removed pair.
     pub fn take_front(&mut self, from: &mut usize) -> Option<(K, X)>
         requires { ArePassed K.number_of self.old.walk self.old.capacity from.old }
@@ -147,13 +147,13 @@ impl<K: IntKey, X, A: Allocator> Table<K, X, A> {
         ensures slot { IfSome result
             (λ pair. from.new ≡ slot_number K.number_of pair.0 self.old.capacity) }
     {
-        let Some(place) = self.directory.bits.iter_from(*from).next() else {
+        let Some(index) = self.directory.bits.iter_from(*from).next() else {
             return None;
         };
-        *from = place;
-        let slot = &mut self.slots[place];
+        *from = index;
+        let slot = &mut self.slots[index];
         if let Some((key, value)) = slot.take_lone() {
-            self.directory.bits.clear(place);
+            self.directory.bits.clear(index);
             return Some((*key.key(), value));
         }
         let (key, value) = slot.take_front();

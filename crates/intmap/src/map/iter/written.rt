@@ -48,7 +48,7 @@ impl<'a, K: IntKey, V, A: Allocator + Copy> Iterator for IterMut<'a, K, V, A> {
 
     fn next(&mut self) -> Option<(&'a K, &'a mut V)> {
         let (key, hole) = self.pairs.next()?;
-        Some((key, self.lent.take_first(hole)))
+        Some((key, self.lent.next_mut(hole)))
     }
 
     fn size_hint(&self) -> (usize, Option<usize>) {

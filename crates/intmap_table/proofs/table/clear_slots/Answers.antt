@@ -9,26 +9,26 @@ use Rattle.intmap_table.proofs.Tables.TableLemmas.{length-rows}
 use Rattle.intmap_table.proofs.table.clear_slots.Goals as goal
 use Rattle.intmap_table.proofs.table.clear_slots.Goals.{In-Some}
 
-pub loop-place-init : goal.loop-place-init
-loop-place-init g c =
-    rw (c.into_iter-place-iterator.ensures.into_iter_gives ∙ c.iter-place-items.ensures) (record {
+pub loop-index-init : goal.loop-index-init
+loop-index-init g c =
+    rw (c.into_iter-index-iterator.ensures.into_iter_gives ∙ c.iter-index-items.ensures) (record {
       len = refl;
       within = places-within c.args.slots.now.items c.args.bits.now c.requires;
       empty = row-unplaced (rows c.args.slots.now.items) c.args.bits.now c.requires;
     })
 
 -- the place at hand is that of a slot
-here : (g : _) (c : In-Some g) → c.in-Some.place < length c.loop-place.slots.items
-here g c = All-head (λ place. place < length c.loop-place.slots.items) c.in-Some.place c.next.new.self (rw c.in-Some.ensures.steps at c.loop-place.invariant.within)
+here : (g : _) (c : In-Some g) → c.in-Some.index < length c.loop-index.slots.items
+here g c = All-head (λ place. place < length c.loop-index.slots.items) c.in-Some.index c.next.new.self (rw c.in-Some.ensures.steps at c.loop-index.invariant.within)
 
 pub index_mut-requires : goal.index_mut-requires
 index_mut-requires g c =
-    let below = here g (goal.at.index_mut-requires g c).In-Some in let len = c.loop-place.slots.ok.0 in omega (arith, below, len)
+    let below = here g (goal.at.index_mut-requires g c).In-Some in let len = c.loop-index.slots.ok.0 in omega (arith, below, len)
 
-pub loop-place-preserved : goal.loop-place-preserved
-loop-place-preserved g c =
-    let loop = c.loop-place.invariant in let slots = c.loop-place.slots.items in let place = c.in-Some.place in let s = c.clear.new.self in
-    let below = here g (goal.at.loop-place-preserved g c).In-Some in
+pub loop-index-preserved : goal.loop-index-preserved
+loop-index-preserved g c =
+    let loop = c.loop-index.invariant in let slots = c.loop-index.slots.items in let place = c.in-Some.index in let s = c.clear.new.self in
+    let below = here g (goal.at.loop-index-preserved g c).In-Some in
     let len = length-set slots place s in
     record {
       len = len ∙ loop.len;
@@ -41,4 +41,4 @@ loop-place-preserved g c =
     }
 
 pub returns-clause-empty : goal.returns-clause-empty
-returns-clause-empty g c i = c.loop-place.invariant.empty i (rw c.in-None.ensures.steps.0 refl)
+returns-clause-empty g c i = c.loop-index.invariant.empty i (rw c.in-None.ensures.steps.0 refl)

@@ -4,9 +4,9 @@ use Rattle.std.specs.List.{list_any}
 use Rattle.intmap_table.specs.Tables.Slots.{rows}
 use Rattle.intmap_table.proofs.table.clear_slots.Given as goal
 
-abbrev pub invariant-loop-place : goal.invariant-loop-place
-invariant-loop-place g l = record {
+abbrev pub invariant-loop-index : goal.invariant-loop-index
+invariant-loop-index g l = record {
   len : length l.slots.items ≡ length l.fn.slots.items;
-  within : All (λ place. place < length l.slots.items) l.place-iterator;
-  empty : (i : ℕ) → list_any (λ place. place == i) l.place-iterator ≡ false → get_or (rows l.slots.items) i [] ≡ [];
+  within : All (λ place. place < length l.slots.items) l.index-iterator;
+  empty : (i : ℕ) → list_any (λ place. place == i) l.index-iterator ≡ false → get_or (rows l.slots.items) i [] ≡ [];
 }

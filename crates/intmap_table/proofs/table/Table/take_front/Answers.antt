@@ -16,51 +16,51 @@ use Rattle.intmap_table.proofs.table.Table.take_front.Goals.{In-Some, In-Some-ta
 
 module _ (g : _) (c : In-Some g) where
   -- the current slot is that of the next mark
-  next : IsNextMark c.self.inside.directory.bits c.args.from.now c.in-Some.place
-  next = IsNextMark-first c.self.inside.directory.bits c.args.from.now c.in-Some.place c.next.new.self (sym c.iter_from.ensures ∙ c.in-Some.ensures.steps)
+  next : IsNextMark c.self.inside.directory.bits c.args.from.now c.in-Some.index
+  next = IsNextMark-first c.self.inside.directory.bits c.args.from.now c.in-Some.index c.next.new.self (sym c.iter_from.ensures ∙ c.in-Some.ensures.steps)
 
-  within : c.in-Some.place < length c.self.inside.slots.items
-  within = next-within c.self.inside.slots.items c.self.inside.directory.bits c.self.invariant.marked.marks c.args.from.now c.in-Some.place next
+  within : c.in-Some.index < length c.self.inside.slots.items
+  within = next-within c.self.inside.slots.items c.self.inside.directory.bits c.self.invariant.marked.marks c.args.from.now c.in-Some.index next
 
   -- the slots before the place hold no pair
   passed : (j : _) → j < c.args.from.now → get_or (rows c.self.inside.slots.items) j [] ≡ []
   passed = rows-passed g.K.IntKey.number_of c.self.inside.slots.items c.self.invariant.marked.table c.args.from.now (rw (← c.self.view_is) at c.requires)
 
 -- the current slot lost its first pair
-module _ (g : _) (c : In-Some g) (p : g.row.K.Denot × g.row.X.Denot) (s : Held g.row.K.Denot g.row.X.Denot) (taken : get_or (rows c.self.inside.slots.items) c.in-Some.place [] ≡ p ∷ s.pairs) where
+module _ (g : _) (c : In-Some g) (p : g.row.K.Denot × g.row.X.Denot) (s : Held g.row.K.Denot g.row.X.Denot) (taken : get_or (rows c.self.inside.slots.items) c.in-Some.index [] ≡ p ∷ s.pairs) where
   -- the walk was the pair and the walk that is left
-  front : joined (rows c.self.inside.slots.items) ≡ p ∷ joined (rows (set c.self.inside.slots.items c.in-Some.place s))
-  front = joined-front g.K.IntKey.number_of c.self.inside.slots.items c.self.inside.directory.bits c.self.invariant.marked c.args.from.now c.in-Some.place (next g c) (passed g c) (p ∷ []) s taken
+  front : joined (rows c.self.inside.slots.items) ≡ p ∷ joined (rows (set c.self.inside.slots.items c.in-Some.index s))
+  front = joined-front g.K.IntKey.number_of c.self.inside.slots.items c.self.inside.directory.bits c.self.invariant.marked c.args.from.now c.in-Some.index (next g c) (passed g c) (p ∷ []) s taken
 
   -- the slots are those of a table
-  own : walk_of g.K.IntKey.number_of (joined (rows (set c.self.inside.slots.items c.in-Some.place s))) (length (set c.self.inside.slots.items c.in-Some.place s)) ≡ joined (rows (set c.self.inside.slots.items c.in-Some.place s))
+  own : walk_of g.K.IntKey.number_of (joined (rows (set c.self.inside.slots.items c.in-Some.index s))) (length (set c.self.inside.slots.items c.in-Some.index s)) ≡ joined (rows (set c.self.inside.slots.items c.in-Some.index s))
   own =
-      walk_of-joined g.K.IntKey.number_of (set c.self.inside.slots.items c.in-Some.place s)
-      (IsTable-front g.K.IntKey.number_of c.self.inside.slots.items c.self.inside.directory.bits c.self.invariant.marked c.args.from.now c.in-Some.place (next g c) (passed g c) (p ∷ []) s taken)
+      walk_of-joined g.K.IntKey.number_of (set c.self.inside.slots.items c.in-Some.index s)
+      (IsTable-front g.K.IntKey.number_of c.self.inside.slots.items c.self.inside.directory.bits c.self.invariant.marked c.args.from.now c.in-Some.index (next g c) (passed g c) (p ∷ []) s taken)
 
   -- the slot is that of the pair
-  slot : slot_number g.K.IntKey.number_of p.0 (length c.self.inside.slots.items) ≡ c.in-Some.place
+  slot : slot_number g.K.IntKey.number_of p.0 (length c.self.inside.slots.items) ≡ c.in-Some.index
   slot =
-      All-head (λ q. slot_number g.K.IntKey.number_of q.0 (length c.self.inside.slots.items) ≡ c.in-Some.place) p s.pairs
-      (subst (All (λ q. slot_number g.K.IntKey.number_of q.0 (length c.self.inside.slots.items) ≡ c.in-Some.place)) taken (c.self.invariant.marked.table.in_place c.in-Some.place (within g c)))
+      All-head (λ q. slot_number g.K.IntKey.number_of q.0 (length c.self.inside.slots.items) ≡ c.in-Some.index) p s.pairs
+      (subst (All (λ q. slot_number g.K.IntKey.number_of q.0 (length c.self.inside.slots.items) ≡ c.in-Some.index)) taken (c.self.invariant.marked.table.in_place c.in-Some.index (within g c)))
 
   -- those before it hold no pair
-  empty : ArePassed g.K.IntKey.number_of (joined (rows (set c.self.inside.slots.items c.in-Some.place s))) (length (set c.self.inside.slots.items c.in-Some.place s)) c.in-Some.place
-  empty = ArePassed-front g.K.IntKey.number_of c.self.inside.slots.items c.self.inside.directory.bits c.self.invariant.marked c.args.from.now c.in-Some.place (next g c) (passed g c) (p ∷ []) s taken
+  empty : ArePassed g.K.IntKey.number_of (joined (rows (set c.self.inside.slots.items c.in-Some.index s))) (length (set c.self.inside.slots.items c.in-Some.index s)) c.in-Some.index
+  empty = ArePassed-front g.K.IntKey.number_of c.self.inside.slots.items c.self.inside.directory.bits c.self.invariant.marked c.args.from.now c.in-Some.index (next g c) (passed g c) (p ∷ []) s taken
 
 -- it was the only one
-lone : (g : _) (c : In-Some-take_lone g) → c.in-Some.place < length c.self.inside.slots.items
-    → get_or (rows c.self.inside.slots.items) c.in-Some.place [] ≡ (c.in-Some-take_lone.key, c.in-Some-take_lone.value) ∷ c.take_lone.new.self.pairs
+lone : (g : _) (c : In-Some-take_lone g) → c.in-Some.index < length c.self.inside.slots.items
+    → get_or (rows c.self.inside.slots.items) c.in-Some.index [] ≡ (c.in-Some-take_lone.key, c.in-Some-take_lone.value) ∷ c.take_lone.new.self.pairs
 lone g c below =
-    get_or-rows c.self.inside.slots.items c.in-Some.place c.index_mut-slot.result.now below
+    get_or-rows c.self.inside.slots.items c.in-Some.index c.index_mut-slot.result.now below
     ∙ ap (λ (h : _). h.pairs) (sym c.index_mut-slot.ensures.value) ∙ c.in-Some-take_lone.ensures.lone
     ∙ ap (λ ps. (c.in-Some-take_lone.key, c.in-Some-take_lone.value) ∷ ps) (sym c.in-Some-take_lone.ensures.emptied)
 
 -- or the first of several
-first : (g : _) (c : After-take_front-key g) → c.in-Some.place < length c.self.inside.slots.items
-    → get_or (rows c.self.inside.slots.items) c.in-Some.place [] ≡ c.take_front-key.result ∷ c.take_front-key.new.self.pairs
+first : (g : _) (c : After-take_front-key g) → c.in-Some.index < length c.self.inside.slots.items
+    → get_or (rows c.self.inside.slots.items) c.in-Some.index [] ≡ c.take_front-key.result ∷ c.take_front-key.new.self.pairs
 first g c below =
-    get_or-rows c.self.inside.slots.items c.in-Some.place c.index_mut-slot.result.now below
+    get_or-rows c.self.inside.slots.items c.in-Some.index c.index_mut-slot.result.now below
     ∙ ap (λ (h : _). h.pairs) (sym c.index_mut-slot.ensures.value) ∙ sym c.in_default-take_lone.ensures.others ∙ c.take_front-key.ensures.pairs
 
 pub returns-in_default-clause-first : goal.returns-in_default-clause-first
@@ -79,21 +79,21 @@ index_mut-slot-requires g c = let below = within g (goal.at.index_mut-slot-requi
 pub take_front-key-requires : goal.take_front-key-requires
 take_front-key-requires g c =
     let at = (goal.at.take_front-key-requires g c).In-Some in
-    let filled = row-filled (rows c.self.inside.slots.items) c.self.inside.directory.bits c.self.invariant.marked.marks c.in-Some.place c.index_mut-slot.result.now.pairs (next g at).is
-    (get_or-rows c.self.inside.slots.items c.in-Some.place c.index_mut-slot.result.now (within g at) ∙ ap (λ (h : _). h.pairs) (sym c.index_mut-slot.ensures.value)) in
+    let filled = row-filled (rows c.self.inside.slots.items) c.self.inside.directory.bits c.self.invariant.marked.marks c.in-Some.index c.index_mut-slot.result.now.pairs (next g at).is
+    (get_or-rows c.self.inside.slots.items c.in-Some.index c.index_mut-slot.result.now (within g at) ∙ ap (λ (h : _). h.pairs) (sym c.index_mut-slot.ensures.value)) in
     let same = ap length c.in_default-take_lone.ensures.others in
     omega (arith, filled, same, c.in_default-take_lone.ensures.not_lone)
 
 pub clear-requires : goal.clear-requires
 clear-requires g c =
-    place-below c.self.inside.slots.items c.self.inside.directory.bits c.self.invariant.marked.marks c.in-Some.place (within g (goal.at.clear-requires g c).In-Some)
+    place-below c.self.inside.slots.items c.self.inside.directory.bits c.self.invariant.marked.marks c.in-Some.index (within g (goal.at.clear-requires g c).In-Some)
 
 pub invariant_of-self : goal.invariant_of-self
 invariant_of-self g c =
     let at = (goal.at.invariant_of-self g c).In-Some in
     let taken = lone g (goal.at.invariant_of-self g c).In-Some-take_lone (within g at) in
     record {
-      marked = rw c.clear.ensures (IsMarkedTable-emptied_front g.K.IntKey.number_of c.self.inside.slots.items c.self.inside.directory.bits c.self.invariant.marked c.args.from.now c.in-Some.place (next g at) (passed g at)
+      marked = rw c.clear.ensures (IsMarkedTable-emptied_front g.K.IntKey.number_of c.self.inside.slots.items c.self.inside.directory.bits c.self.invariant.marked c.args.from.now c.in-Some.index (next g at) (passed g at)
           ((c.in-Some-take_lone.key, c.in-Some-take_lone.value) ∷ []) c.take_lone.new.self taken (ap (λ ps. nat_lt 0 (length ps)) (sym c.in-Some-take_lone.ensures.emptied)));
       count = c.self.invariant.count ∙ sym (length-set _ _ _);
     }
@@ -103,7 +103,7 @@ invariant_of-self-2 g c =
     let at = (goal.at.invariant_of-self-2 g c).In-Some in
     let taken = first g (goal.at.invariant_of-self-2 g c).After-take_front-key (within g at) in
     record {
-      marked = IsMarkedTable-kept_front g.K.IntKey.number_of c.self.inside.slots.items c.self.inside.directory.bits c.self.invariant.marked c.args.from.now c.in-Some.place (next g at) (passed g at)
+      marked = IsMarkedTable-kept_front g.K.IntKey.number_of c.self.inside.slots.items c.self.inside.directory.bits c.self.invariant.marked c.args.from.now c.in-Some.index (next g at) (passed g at)
           (c.take_front-key.result ∷ []) c.take_front-key.new.self taken (sym (lt-ltb 0 (length c.take_front-key.new.self.pairs) c.take_front-key.ensures.left));
       count = c.self.invariant.count ∙ sym (length-set _ _ _);
     }

@@ -5,8 +5,8 @@ use Rattle.intmap_table.specs.Tables.Slots.{rows, joined, IsMarkedTable}
 use Rattle.intmap_table.proofs.LeadsLemmas.{Leads}
 use Rattle.intmap_table.proofs.table.closures.retain_slots.Given as goal
 
-abbrev pub invariant-loop-place : goal.invariant-loop-place
-invariant-loop-place g l = record {
+abbrev pub invariant-loop-index : goal.invariant-loop-index
+invariant-loop-index g l = record {
   callable : TakesEach (KeepsAt g.F.FnMut) (TakesPair g.F.FnMut) l.f (joined (drop l.from (rows l.slots.items)));
   table : IsMarkedTable g.K.IntKey.number_of l.slots.items l.bits;
   len : length l.slots.items ≡ length l.initial.slots.items;
@@ -15,5 +15,5 @@ invariant-loop-place g l = record {
   leads : Leads (Retains (KeepsAt g.F.FnMut)) l.initial.f (joined (rows l.initial.slots.items)) l.f (joined (take l.from (rows l.slots.items))) (joined (drop l.from (rows l.slots.items)));
 }
 
-abbrev pub decreases-loop-place : goal.decreases-loop-place
-decreases-loop-place g l = length l.slots.items - l.from
+abbrev pub decreases-loop-index : goal.decreases-loop-index
+decreases-loop-index g l = length l.slots.items - l.from

@@ -10,10 +10,10 @@ use Rattle.intmap_table.proofs.Tables.WritesSlotsLemmas.{place-within, Leads-pla
 use Rattle.intmap_table.proofs.table.closures.write_slots.Goals as goal
 use Rattle.intmap_table.proofs.table.closures.write_slots.Goals.{In-Some}
 
-pub loop-place-init : goal.loop-place-init
-loop-place-init g c =
+pub loop-index-init : goal.loop-index-init
+loop-index-init g c =
     let all = pairs_at-marked (rows c.args.slots.now.items) c.args.bits.now c.requires.table.marks in
-    rw (c.into_iter-place-iterator.ensures.into_iter_gives ∙ c.iter-place-items.ensures) (record {
+    rw (c.into_iter-index-iterator.ensures.into_iter_gives ∙ c.iter-index-items.ensures) (record {
       callable = rw all c.requires.callable;
       table = c.requires.table;
       len = refl;
@@ -22,29 +22,29 @@ loop-place-init g c =
 
 module _ (g : _) (c : In-Some g) where
   -- the place at hand is the next one of those that are marked
-  next : c.loop-place.invariant.passed.0 ++ c.in-Some.place ∷ c.next.new.self ≡ marked_places c.args.bits.now
-  next = rw c.in-Some.ensures.steps at c.loop-place.invariant.passed.1
+  next : c.loop-index.invariant.passed.0 ++ c.in-Some.index ∷ c.next.new.self ≡ marked_places c.args.bits.now
+  next = rw c.in-Some.ensures.steps at c.loop-index.invariant.passed.1
 
-  within : c.in-Some.place < length c.loop-place.slots.items
-  within = place-within c.loop-place.slots.items c.args.bits.now c.loop-place.invariant.table.marks c.loop-place.invariant.passed.0 c.in-Some.place c.next.new.self next
+  within : c.in-Some.index < length c.loop-index.slots.items
+  within = place-within c.loop-index.slots.items c.args.bits.now c.loop-index.invariant.table.marks c.loop-index.invariant.passed.0 c.in-Some.index c.next.new.self next
 
 pub index_mut-requires : goal.index_mut-requires
-index_mut-requires g c = let below = within g (goal.at.index_mut-requires g c).In-Some in omega (arith, below, c.loop-place.slots.ok.0)
+index_mut-requires g c = let below = within g (goal.at.index_mut-requires g c).In-Some in omega (arith, below, c.loop-index.slots.ok.0)
 
 pub write_each-requires : goal.write_each-requires
 write_each-requires g c =
-    let at = (goal.at.write_each-requires g c).In-Some in let S = c.loop-place.slots.items in let place = c.in-Some.place in
+    let at = (goal.at.write_each-requires g c).In-Some in let S = c.loop-index.slots.items in let place = c.in-Some.index in
     let row = ap (λ h. h.pairs) c.index_mut.ensures.value ∙ sym (get_or-rows S place c.index_mut.result.now (within g at)) in
-    subst (TakesEach (WritesAt g.F.FnMut) (TakesPairMut g.F.FnMut) c.loop-place.f) (sym row)
-    (TakesEach-front (WritesAt g.F.FnMut) (TakesPairMut g.F.FnMut) c.loop-place.f (get_or (rows S) place []) (pairs_at (rows S) c.next.new.self) (rw c.in-Some.ensures.steps at c.loop-place.invariant.callable))
+    subst (TakesEach (WritesAt g.F.FnMut) (TakesPairMut g.F.FnMut) c.loop-index.f) (sym row)
+    (TakesEach-front (WritesAt g.F.FnMut) (TakesPairMut g.F.FnMut) c.loop-index.f (get_or (rows S) place []) (pairs_at (rows S) c.next.new.self) (rw c.in-Some.ensures.steps at c.loop-index.invariant.callable))
 
-pub loop-place-preserved : goal.loop-place-preserved
-loop-place-preserved g c =
-    let at = (goal.at.loop-place-preserved g c).In-Some in let loop = c.loop-place.invariant in let R = WritesAt g.F.FnMut in
-    let S = c.loop-place.slots.items in let marks = c.args.bits.now in let before = loop.passed.0 in let place = c.in-Some.place in let rest = c.next.new.self in
+pub loop-index-preserved : goal.loop-index-preserved
+loop-index-preserved g c =
+    let at = (goal.at.loop-index-preserved g c).In-Some in let loop = c.loop-index.invariant in let R = WritesAt g.F.FnMut in
+    let S = c.loop-index.slots.items in let marks = c.args.bits.now in let before = loop.passed.0 in let place = c.in-Some.index in let rest = c.next.new.self in
     let s = c.write_each.new.self in let is = next g at in
     let row = ap (λ h. h.pairs) c.index_mut.ensures.value ∙ sym (get_or-rows S place c.index_mut.result.now (within g at)) in
-    let run = subst (λ ps. Writes R c.loop-place.f ps s.pairs c.write_each.new.f) row c.write_each.ensures in
+    let run = subst (λ ps. Writes R c.loop-index.f ps s.pairs c.write_each.new.f) row c.write_each.ensures in
     record {
       callable = TakesEach-place S marks loop.table.marks before place rest is s R _ _ run (TakesPairMut g.F.FnMut) (rw c.in-Some.ensures.steps at loop.callable);
       table = IsMarkedTable-Writes S marks loop.table.marks before place rest is s R _ _ run g.K.IntKey.number_of loop.table;
@@ -58,11 +58,11 @@ loop-place-preserved g c =
 
 pub returns-clause-pairs : goal.returns-clause-pairs
 returns-clause-pairs g c =
-    let loop = c.loop-place.invariant in let none = c.in-None.ensures.steps.0 in
-    Leads-places (WritesAt g.F.FnMut) c.loop-place.slots.items c.args.bits.now _ _ _ loop.passed.0 loop.table.marks (rw none at loop.passed.1) (rw none at loop.passed.2)
+    let loop = c.loop-index.invariant in let none = c.in-None.ensures.steps.0 in
+    Leads-places (WritesAt g.F.FnMut) c.loop-index.slots.items c.args.bits.now _ _ _ loop.passed.0 loop.table.marks (rw none at loop.passed.1) (rw none at loop.passed.2)
 
 pub returns-clause-table : goal.returns-clause-table
-returns-clause-table g c = c.loop-place.invariant.table
+returns-clause-table g c = c.loop-index.invariant.table
 
 pub returns-clause-len : goal.returns-clause-len
-returns-clause-len g c = c.loop-place.invariant.len
+returns-clause-len g c = c.loop-index.invariant.len

@@ -6,11 +6,11 @@ use Rattle.intmap_table.specs.Writes.{Writes, WritesAt, TakesPairMut}
 use Rattle.intmap_table.proofs.LeadsLemmas.{Leads}
 use Rattle.intmap_table.proofs.table.closures.write_slots.Given as goal
 
-abbrev pub invariant-loop-place : goal.invariant-loop-place
-invariant-loop-place g l = record {
-  callable : TakesEach (WritesAt g.F.FnMut) (TakesPairMut g.F.FnMut) l.f (pairs_at (rows l.slots.items) l.place-iterator);
+abbrev pub invariant-loop-index : goal.invariant-loop-index
+invariant-loop-index g l = record {
+  callable : TakesEach (WritesAt g.F.FnMut) (TakesPairMut g.F.FnMut) l.f (pairs_at (rows l.slots.items) l.index-iterator);
   table : IsMarkedTable g.K.IntKey.number_of l.slots.items l.bits;
   len : length l.slots.items ≡ length l.initial.slots.items;
-  passed : (before : List ℕ) × (before ++ l.place-iterator ≡ marked_places l.bits)
-      × Leads (Writes (WritesAt g.F.FnMut)) l.initial.f (joined (rows l.initial.slots.items)) l.f (pairs_at (rows l.slots.items) before) (pairs_at (rows l.slots.items) l.place-iterator);
+  passed : (before : List ℕ) × (before ++ l.index-iterator ≡ marked_places l.bits)
+      × Leads (Writes (WritesAt g.F.FnMut)) l.initial.f (joined (rows l.initial.slots.items)) l.f (pairs_at (rows l.slots.items) before) (pairs_at (rows l.slots.items) l.index-iterator);
 }

@@ -35,10 +35,10 @@ use Rattle.intmap_loan.specs.Apart.{lent_cells}
 use Rattle.intmap_loan.specs.declared.lent.Lent.{Lent}
 use Rattle.intmap_loan.specs.contracts.lent.Hole as H-type
 use Rattle.intmap_loan.specs.contracts.lent.Lent as L-type
-use Rattle.intmap_loan.specs.contracts.lent.Lent.take_first as f
+use Rattle.intmap_loan.specs.contracts.lent.Lent.next_mut as f
 use Rattle.intmap_loan.proofs.CellLemmas.{Taken, take_cell}
-use Rattle.intmap_loan.proofs.lent.Lent.take_first.Statement.{statement}
-use Rattle.intmap_loan.proofs.lent.Lent.take_first.Code as code
+use Rattle.intmap_loan.proofs.lent.Lent.next_mut.Statement.{statement}
+use Rattle.intmap_loan.proofs.lent.Lent.next_mut.Code as code
 
 module _ (V' : RattleType) where
   abbrev V : RattleType
@@ -105,8 +105,8 @@ module _ (V' : RattleType) {M : Type 1} {𝓤 : Ura M} (𝓛 : Logic 𝓤) (atm 
         join ! $ move ! (1 ∷ 0 ∷ []) $ join ! $ frame ! $
         feq_i ! (List Val) (vptr rb ro ∷ []) (vptr rb ro ∷ []) refl $ fjoin3 ! $ nothing ! $ nothing ! $ fjoin ! $ move ! (1 ∷ 0 ∷ []) $ fjoin ! $ done !))))
 
-pub take_first_spec : {M : Type 1} → statement M
-take_first_spec 𝓤 𝓛 𝓜 𝓡 wired V' L =
+pub next_mut_spec : {M : Type 1} → statement M
+next_mut_spec 𝓤 𝓛 𝓜 𝓡 wired V' L =
     proved 𝓛 (f.ended V') (stayed V') (f.clauses V' 𝓛 𝓜.mem 𝓡.returns) 𝓜 𝓡
     (Goes-ref 𝓛 3 0 tt (plain (Lents V')), (Goes-dropped 𝓛 3 (RefOf (1 ∷ []) tt (plain (λ _. H-type.the_row (V V'))) (λ _. tt)) yes (λ κs x e. refl), tt))
     (f.Key.name (layouts (a_type ∷ []) (V', tt))) (function V') (code.unfolded 𝓤 𝓛.H 𝓜 𝓡 wired (V', tt))
