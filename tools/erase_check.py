@@ -21,6 +21,7 @@ PAGE = "README.md"
 
 # sources that aren't erased
 LEFT = [
+    "intmap/src/decimal.rt",
     "intmap/src/laws.rt",
     "intmap/src/map/iter/written.rt",
     "intmap/src/map/json.rt",
@@ -31,10 +32,11 @@ LEFT = [
 LEFT_LINES = {
     "#![tactic(auto)]",
     "#[derive(Drop)]",
+    "mod decimal;",
     "pub mod laws;",
     "pub(crate) mod json;",
     "pub use map::json::JsonCause;",
-    "pub use map::json::read::key_of;",
+    "pub use decimal::key_of;",
     "use std::marker::Model;",
 }
 # how the items of sources begin that are left out

@@ -24,12 +24,12 @@ import re
 HOMES = {"intmap_table": "table", "intmap": "map", "intmap_set": "set"}
 
 LEFT_OUT = {
-    "intmap": ["laws", "map/iter/written", "map/json"],
+    "intmap": ["decimal", "laws", "map/iter/written", "map/json"],
     "intmap_set": ["laws"],
 }
 
 DROPS = [
-    "let VacantEntry { map: _, key: _ } = self;",
+    "let VacantEntry { map: _, key: _, slot: _, } = self;",
     "let Drain { map, from: _ } = self; map.known();",
     "let Drain { set, from: _ } = self; set.known();",
     "let ExtractIf { map, at: _, test } = self; map.known(); drop(test);",

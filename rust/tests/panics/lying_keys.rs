@@ -49,7 +49,7 @@ fn keys_that_lie_drop_each_value_once() {
         let mut map = IntMap::new();
         for _ in 0..CALLS {
             let (key, number) = (Liar(random.below(200)), random.below(12));
-            let place = if random.below(8) == 0 { random.below(20) } else { 0 };
+            let place = if random.below(5) == 0 { random.below(16) } else { 0 };
             panics += u64::from(panics_at(place, || call(&mut map, number, key, &value)));
         }
         assert!(Rc::strong_count(&value) > map.iter().count(), "values live, round {round}");

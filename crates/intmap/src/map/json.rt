@@ -7,7 +7,7 @@ ghost use Rattle.serde_json.specs.View.{view, members_view};
 ghost use Rattle.intmap.specs.Map.{IsMap};
 ghost use Rattle.serde_json.specs.Written.{has_float, members_have_float};
 
-pub(crate) mod read;
+mod read;
 
 use crate::map::IntMap;
 use crate::refusal::{Cause, Refused};

@@ -1,8 +1,6 @@
 //! Entries: a map with a key that was looked up once, to read, write, remove or insert its pair.
 
-mod attempt;
-mod insertion;
-mod made;
+mod insert;
 mod occupied;
 mod vacant;
 
@@ -31,6 +29,7 @@ pub struct OccupiedEntry<'a, K: IntKey, V, A: Allocator + Copy = Global> {
 pub struct VacantEntry<'a, K: IntKey, V, A: Allocator + Copy = Global> {
     map: &'a mut IntMap<K, V, A>,
     key: K,
+    slot: usize,
 }
 
 impl<K: IntKey, V, A: Allocator + Copy> IntMap<K, V, A> {
@@ -44,12 +43,16 @@ impl<K: IntKey, V, A: Allocator + Copy> IntMap<K, V, A> {
     #[inline]
     pub fn entry(&mut self, key: K) -> Entry<'_, K, V, A> {
         match self.locate(key) {
-            Some(at) => Entry::Occupied(OccupiedEntry {
+            Ok(at) => Entry::Occupied(OccupiedEntry {
                 map: self,
                 slot: at.slot,
                 place: at.place,
             }),
-            None => Entry::Vacant(VacantEntry { map: self, key }),
+            Err(slot) => Entry::Vacant(VacantEntry {
+                map: self,
+                key,
+                slot,
+            }),
         }
     }
 }

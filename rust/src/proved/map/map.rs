@@ -63,15 +63,11 @@ impl<K: IntKey, V, A: Allocator + Copy> IntMap<K, V, A> {
 }
 
 impl<K: IntKey, V, A: Allocator + Copy> IntMap<K, V, A> {
-    /// Where the pair of the key is, if the key is present. The map counts the comparisons.
+    /// Where the pair of the key is, or the slot of the key if the key is absent. The map counts
+    /// the comparisons.
     #[inline(always)]
-    pub(in crate::proved::map) fn locate(&mut self, key: K) -> Option<Location<K>> {
+    pub(in crate::proved::map) fn locate(&mut self, key: K) -> Result<Location<K>, usize> {
         self.table.locate(key, &mut self.compared)
-    }
-
-    /// Where the pair of a key is that is the last of its slot.
-    pub(in crate::proved::map) fn locate_last(&self, key: K) -> Location<K> {
-        self.table.locate_last(key)
     }
 
     /// The key of the pair at a place of a slot.

@@ -1,8 +1,8 @@
 //! One slot of a table: the first pair in its place, the others behind it.
 
-mod change;
-mod extract;
-mod retain;
+mod closures;
+mod pairs;
+mod room;
 
 use crate::memory::prelude::*;
 use crate::proved::table::key::IntKey;

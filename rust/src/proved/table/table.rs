@@ -1,12 +1,11 @@
 //! A table of slots. Each key has one of them.
 //!
 //! The calls here look at the slot of one key, or at the table as a whole. `locate` has the calls
-//! on a pair whose place is known, `walk`, `each` and `extract` those that go through the pairs,
-//! and `grow` and `place` the growth.
+//! on a pair whose place is known, `walk` and `closures` those that go through the pairs, and `grow`
+//! and `place` the growth.
 
 pub(in crate::proved::table) mod asked;
-mod each;
-pub mod extract;
+mod closures;
 mod grow;
 pub mod locate;
 mod place;
@@ -20,6 +19,7 @@ use crate::proved::table::slot::Slot;
 use crate::proved::table::steps::Steps;
 use crate::proved::table::table::stored::Stored;
 use grow::add_slots;
+use locate::Location;
 use crate::memory::alloc::{AllocError, Allocator};
 use walk::Pairs;
 
@@ -42,8 +42,8 @@ fn index_of<K: IntKey>(key: &K, slots: usize) -> usize {
 
 /// Drops the pairs of all slots. The bits mark the slots that hold a pair.
 fn clear_slots<K: IntKey, X, A: Allocator>(bits: &Bits<A>, slots: &mut Vec<Slot<K, X, A>, A>) {
-    for place in bits.iter() {
-        slots[place].clear();
+    for index in bits.iter() {
+        slots[index].clear();
     }
 }
 
@@ -101,17 +101,24 @@ impl<K: IntKey, X, A: Allocator> Table<K, X, A> {
         self.directory.bits.clear_all();
     }
 
-    /// Puts the pair of an absent key last in its slot. If an allocation fails, it returns the
-    /// value and changes nothing. A slot without a pair needs no allocation.
+    /// Puts the pair of an absent key last in its slot, and returns where it is. If an allocation
+    /// fails, it returns the value and changes nothing. A slot without a pair needs no allocation.
     #[inline(always)]
-    pub fn add(&mut self, key: K, value: X) -> Result<(), X> {
-        let index = self.index_of(&key);
-        let slot = &mut self.slots[index];
-        if self.directory.bits.set(index) {
-            return slot.push(key, value);
+    pub fn add(&mut self, slot: usize, key: K, value: X) -> Result<Location<K>, X> {
+        let stored = Stored::new(key);
+        let row = &mut self.slots[slot];
+        if self.directory.bits.set(slot) {
+            match row.push(stored, value) {
+                Ok(place) => return Ok(Location { key, slot, place }),
+                Err(value) => return Err(value),
+            }
         }
-        slot.put_first((Stored::new(key), value));
-        Ok(())
+        row.put_first((stored, value));
+        Ok(Location {
+            key,
+            slot,
+            place: 0,
+        })
     }
 }
 
@@ -128,6 +135,23 @@ impl<K: IntKey, X, A: Allocator + Copy> Table<K, X, A> {
         add_slots(&mut slots, capacity)?;
         let directory = Directory {
             mask: capacity - 1,
+            bits,
+        };
+        Ok(Table { directory, slots })
+    }
+}
+
+impl<K: IntKey, X: Clone, A: Allocator + Copy> Table<K, X, A> {
+    /// The same keys in the same slots, with clones of their values. The bits and the slots are
+    /// allocated before the first value is cloned.
+    pub fn clone(&self) -> Result<Table<K, X, A>, AllocError> {
+        let bits = self.directory.bits.clone()?;
+        let mut slots = Vec::with_capacity(*self.slots.allocator(), self.slots.len())?;
+        for slot in &self.slots {
+            slots.push_reserved(slot.clone()?);
+        }
+        let directory = Directory {
+            mask: self.directory.mask,
             bits,
         };
         Ok(Table { directory, slots })

@@ -1,5 +1,5 @@
 //! A map from a JSON object.
-ghost use Rattle.std.specs.Prelude.{◌≡◌, ◌↔◌, ◌^◌, ◌<◌, ◌≤◌, length, IfOk, IfErr, IsErrOf, IsNone, IsSomeAnd, IsTrue, ◌≢◌, ℕ, IfSome, IfNone, slice_index};
+ghost use Rattle.std.specs.Prelude.{◌≡◌, ◌↔◌, ◌^◌, ◌<◌, ◌≤◌, length, IfOk, IfErr, IsErrOf, IsNone, IsSomeAnd, IsTrue, ℕ};
 ghost use Rattle.serde_json.specs.Events.{members_len};
 ghost use Rattle.serde_json.specs.Find.{as_object};
 ghost use Rattle.serde_json.specs.View.{view, members_view};
@@ -7,6 +7,7 @@ ghost use Rattle.serde_json.specs.Written.{members_have_float};
 ghost use Rattle.intmap.specs.Json.{HasKeyTexts, Shows, ShowsBindings, AreRead, AreTooMany, MayRefuseToRead, IsKeyText};
 ghost use Rattle.intmap.specs.Map.{IsMap};
 
+use crate::decimal::key_of;
 use crate::map::IntMap;
 use crate::map::json::{JsonCause, holds_float};
 use serde_json::{Map, Value};
@@ -106,36 +107,6 @@ fn have_key_texts(members: &Map<String, Value>) -> bool
         }
     }
     true
-}
-
-/// The number below 2^64 whose decimal text this is, or `None` if there is none: digits with no
-/// sign and no leading zero. [`from_json`](crate::IntMap::from_json) reads the keys of an object
-/// this way. It allocates nothing and never fails.
-///
-/// ```text
-/// "18446744073709551615"    Some(18446744073709551615)
-/// "05", "+5", "" and " 5"   None
-/// ```
-pub fn key_of(text: &str) -> Option<u64>
-    ensures some { IfSome result (IsKeyText text.now) }
-    ensures none { IfNone result ((k : ℕ) → ¬ IsKeyText text.now k) }
-{
-    if !begins_as_printed(text.as_bytes()) {
-        return None;
-    }
-    text.parse::<u64>().ok()
-}
-
-/// Whether the text doesn't begin with a plus, and begins with a zero only if it is that zero
-/// alone.
-fn begins_as_printed(bytes: &[u8]) -> bool
-    ensures { IsTrue result
-        ↔ (slice_index bytes.now 0 ≢ 43) × (slice_index bytes.now 0 ≡ 48 → length bytes.now ≡ 1) }
-{
-    match bytes {
-        [] | [b'0'] => true,
-        [first, ..] => *first != b'+' && *first != b'0',
-    }
 }
 
 /// The number whose decimal text this is. The caller knows that the text is one.

@@ -63,11 +63,7 @@ impl<'a, K: IntKey, V, A: Allocator + Copy> OccupiedEntry<'a, K, V, A> {
     /// Ends the entry, and leaves the map as the calls on the entry left it. It removes no pair and
     /// compares no key.
     pub fn leave(self) {
-        let OccupiedEntry {
-            map: _,
-            slot: _,
-            place: _,
-        } = self;
+        let OccupiedEntry { .. } = self;
     }
 
     /// The map, as the calls on the entry left it, for as long as the map was borrowed. It removes

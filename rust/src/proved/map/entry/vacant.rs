@@ -15,13 +15,17 @@ impl<'a, K: IntKey, V, A: Allocator + Copy> VacantEntry<'a, K, V, A> {
 
     /// The key that was looked up. This ends the entry and leaves the map with the key still absent.
     pub fn into_key(self) -> K {
-        let VacantEntry { map: _, key } = self;
+        let VacantEntry { key, .. } = self;
         key
     }
 
     /// The map, with the key still absent, for as long as the map was borrowed. It compares no key.
     pub fn into_map(self) -> &'a mut IntMap<K, V, A> {
-        let VacantEntry { map, key: _ } = self;
+        let VacantEntry {
+            map,
+            key: _,
+            slot: _,
+        } = self;
         map
     }
 }
@@ -32,13 +36,11 @@ impl<'a, K: IntKey, V, A: Allocator + Copy> VacantEntry<'a, K, V, A> {
     /// [`IntMap::insert`](crate::proved::map::IntMap::insert) of a new key does. A failed call returns the value
     /// and leaves the map as it was.
     pub fn insert(self, value: V) -> Result<&'a mut V, Refused<V>> {
-        let VacantEntry { map, key } = self;
-        // tells the proof that the key satisfies `is_valid`
-        let _number = key.number();
-        if let Err(refused) = map.add(key, value) {
-            return Err(refused);
-        }
-        let at = map.locate_last(key);
+        let VacantEntry { map, key, slot } = self;
+        let at = match map.add(slot, key, value) {
+            Ok(at) => at,
+            Err(refused) => return Err(refused),
+        };
         Ok(map.value_mut_at(at))
     }
 }

@@ -24,7 +24,7 @@ impl<K: IntKey, V, A: Allocator + Copy> IntMap<K, V, A> {
     /// counted in `steps`. The keys that agree with the sought one modulo the capacity are compared
     /// in iteration order, up to the key itself. It never fails.
     pub fn get_counted(&self, key: K, steps: &mut Steps) -> Option<&V> {
-        let Some(at) = self.table.locate(key, steps) else {
+        let Ok(at) = self.table.locate(key, steps) else {
             return None;
         };
         Some(self.table.value_at(at).get())
@@ -35,15 +35,15 @@ impl<K: IntKey, V, A: Allocator + Copy> IntMap<K, V, A> {
     #[inline]
     pub fn get_mut(&mut self, key: K) -> Option<&mut V> {
         match self.locate(key) {
-            Some(at) => Some(self.value_mut_at(at)),
-            None => None,
+            Ok(at) => Some(self.value_mut_at(at)),
+            Err(_) => None,
         }
     }
 
     /// The key as the map holds it, with its value, or `None` if the key is absent. It never fails.
     pub fn get_key_value(&self, key: K) -> Option<(&K, &V)> {
         let mut steps = Steps::new();
-        let Some(at) = self.table.locate(key, &mut steps) else {
+        let Ok(at) = self.table.locate(key, &mut steps) else {
             return None;
         };
         let found = self.table.key_at(at.slot, at.place);

@@ -6,6 +6,7 @@ use crate::proved::map::map::IntMap;
 use crate::proved::map::refusal::{Cause, Refused};
 use crate::proved::table::IntKey;
 use crate::proved::table::kept::Kept;
+use crate::proved::table::table::locate::Location;
 use crate::memory::alloc::Allocator;
 
 impl<K: IntKey, V, A: Allocator + Copy> IntMap<K, V, A> {
@@ -25,10 +26,11 @@ impl<K: IntKey, V, A: Allocator + Copy> IntMap<K, V, A> {
     /// the map as it was. Only the count of compared keys, which takes no memory, changes.
     #[inline(always)]
     pub fn insert(&mut self, key: K, value: V) -> Result<Option<V>, Refused<V>> {
-        if let Some(at) = self.locate(key) {
-            return Ok(Some(self.replace_at(at, value)));
-        }
-        if let Err(refused) = self.add(key, value) {
+        let slot = match self.locate(key) {
+            Ok(at) => return Ok(Some(self.replace_at(at, value))),
+            Err(slot) => slot,
+        };
+        if let Err(refused) = self.add(slot, key, value) {
             return Err(refused);
         }
         Ok(None)
@@ -39,18 +41,18 @@ impl<K: IntKey, V, A: Allocator + Copy> IntMap<K, V, A> {
     ///
     /// For a new key it does what [`insert`](IntMap::insert) does, and fails as that does.
     pub fn insert_checked(&mut self, key: K, value: V) -> Result<bool, Refused<V>> {
-        if self.locate(key).is_some() {
+        let Err(slot) = self.locate(key) else {
             return Ok(false);
-        }
-        if let Err(refused) = self.add(key, value) {
+        };
+        if let Err(refused) = self.add(slot, key, value) {
             return Err(refused);
         }
         Ok(true)
     }
 
-    /// Adds the pair of an absent key. It compares no key.
+    /// Adds the pair of an absent key in its slot, and returns where it is. It compares no key.
     #[inline(always)]
-    pub(in crate::proved::map) fn add(&mut self, key: K, value: V) -> Result<(), Refused<V>> {
+    pub(in crate::proved::map) fn add(&mut self, slot: usize, key: K, value: V) -> Result<Location<K>, Refused<V>> {
         if self.len == usize::MAX {
             return Err(Refused {
                 value,
@@ -59,22 +61,33 @@ impl<K: IntKey, V, A: Allocator + Copy> IntMap<K, V, A> {
         }
         let len = self.len + 1;
         if has_outgrown(len, self.threshold) {
-            return self.add_growing(len, key, value);
+            match self.add_growing(len, slot, key, value) {
+                Ok(at) => return Ok(at),
+                Err(refused) => return Err(refused),
+            }
         }
-        if let Err(kept) = self.table.add(key, Kept::new(value)) {
-            return Err(Refused {
+        match self.table.add(slot, key, Kept::new(value)) {
+            Ok(at) => {
+                self.len = len;
+                Ok(at)
+            }
+            Err(kept) => Err(Refused {
                 value: kept.into_value(),
                 cause: Cause::Memory,
-            });
+            }),
         }
-        self.len = len;
-        Ok(())
     }
 
-    /// Adds the pair of an absent key, if the new length exceeds the load factor. All memory is
-    /// allocated before a pair moves.
+    /// Adds the pair of an absent key, if the new length exceeds the load factor, and returns where
+    /// it is. All memory is allocated before a pair moves.
     #[inline(never)]
-    fn add_growing(&mut self, len: usize, key: K, value: V) -> Result<(), Refused<V>> {
+    fn add_growing(
+        &mut self,
+        len: usize,
+        slot: usize,
+        key: K,
+        value: V,
+    ) -> Result<Location<K>, Refused<V>> {
         let Some(capacity) = wanted_capacity(len, self.table.capacity(), self.factor) else {
             return Err(Refused {
                 value,
@@ -82,17 +95,19 @@ impl<K: IntKey, V, A: Allocator + Copy> IntMap<K, V, A> {
             });
         };
         let threshold = threshold_of(capacity, self.factor);
-        if let Err(kept) = self
+        match self
             .table
-            .grow_with(capacity, key, Kept::new(value), &mut self.placed)
+            .grow_with(capacity, slot, key, Kept::new(value), &mut self.placed)
         {
-            return Err(Refused {
+            Ok(at) => {
+                self.len = len;
+                self.threshold = threshold;
+                Ok(at)
+            }
+            Err(kept) => Err(Refused {
                 value: kept.into_value(),
                 cause: Cause::Memory,
-            });
+            }),
         }
-        self.len = len;
-        self.threshold = threshold;
-        Ok(())
     }
 }

@@ -10,7 +10,7 @@ impl<K: IntKey, V, A: Allocator + Copy> IntMap<K, V, A> {
     /// pair of the slot takes the place of the removed one. It never fails.
     #[inline(always)]
     pub fn remove(&mut self, key: K) -> Option<V> {
-        let Some(at) = self.locate(key) else {
+        let Ok(at) = self.locate(key) else {
             return None;
         };
         Some(self.take_at(at))

@@ -5,6 +5,7 @@ use crate::proved::table::bits::Bits;
 use crate::proved::table::key::IntKey;
 use crate::proved::table::slot::Slot;
 use crate::proved::table::steps::Steps;
+use crate::proved::table::table::locate::Location;
 use crate::proved::table::table::place::move_all;
 use crate::proved::table::table::stored::Stored;
 use crate::proved::table::table::{Directory, Table, index_of};
@@ -37,7 +38,7 @@ fn count_parts<K: IntKey, X, A: Allocator>(counts: &mut [usize], slot: &Slot<K, 
 
 /// Makes room in each part of an old slot for the pairs that are counted for it. A part has `old`
 /// slots. The first part that needs a block gets the block of the old slot instead.
-fn take_room<K: IntKey, X, A: Allocator>(
+fn reserve_room<K: IntKey, X, A: Allocator>(
     slots: &mut [Slot<K, X, A>],
     index: usize,
     old: usize,
@@ -56,26 +57,27 @@ fn take_room<K: IntKey, X, A: Allocator>(
     Ok(())
 }
 
-/// Makes room in the new slots for the pairs of all old ones, and returns the greatest number of
-/// pairs behind the first one of an old slot. Old slots of up to three pairs need no room: at most
+/// Makes room in the new slots for the pairs of all old ones, and returns a buffer with room for the
+/// pairs behind the first one of any old slot. Old slots of up to three pairs need no room: at most
 /// one of their new slots gets several pairs, and that one gets the old block.
-fn take_rooms<K: IntKey, X, A: Allocator>(
+fn reserve_rooms<K: IntKey, X, A: Allocator + Copy>(
     slots: &mut [Slot<K, X, A>],
     old: &Directory<A>,
     counts: &mut [usize],
-) -> Result<usize, AllocError> {
+    alloc: A,
+) -> Result<Vec<(Stored<K>, X), A>, AllocError> {
     let mut longest = 0;
     for index in old.bits.iter() {
         let behind = slots[index].last_place();
         if behind > 2 {
             count_parts(counts, &slots[index], old.mask + 1);
-            take_room(slots, index, old.mask + 1, counts)?;
+            reserve_room(slots, index, old.mask + 1, counts)?;
         }
         if behind > longest {
             longest = behind;
         }
     }
-    Ok(longest)
+    Vec::with_capacity(alloc, longest)
 }
 
 /// Adds empty slots, up to `capacity` slots. It allocates them at once.
@@ -93,33 +95,22 @@ pub(super) fn add_slots<K: IntKey, X, A: Allocator + Copy>(
 }
 
 /// Allocates all that growth to `capacity` slots needs: empty slots, room in them, and a buffer,
-/// which it returns. The old slots stay. If an allocation fails, some further slots may stay.
+/// which it returns. If an allocation fails, the slots and their memory are as before.
 fn make_room<K: IntKey, X, A: Allocator + Copy>(
     slots: &mut Vec<Slot<K, X, A>, A>,
     old: &Directory<A>,
     capacity: usize,
 ) -> Result<Vec<(Stored<K>, X), A>, AllocError> {
     let alloc = *slots.allocator();
-    let mut counts = vec![in alloc; 0usize; capacity / slots.len()]?;
-    add_slots(slots, capacity)?;
-    let longest = take_rooms(slots, old, &mut counts)?;
-    Vec::with_capacity(alloc, longest)
-}
-
-/// Allocates all that growth to `capacity` slots needs, and returns the buffer for it. If an
-/// allocation fails, the slots and their memory are as before.
-fn take_memory<K: IntKey, X, A: Allocator + Copy>(
-    slots: &mut Vec<Slot<K, X, A>, A>,
-    old: &Directory<A>,
-    capacity: usize,
-) -> Result<Vec<(Stored<K>, X), A>, AllocError> {
     let len = slots.len();
-    let made = make_room(slots, old, capacity);
-    if made.is_err() {
+    let mut counts = vec![in alloc; 0usize; capacity / len]?;
+    add_slots(slots, capacity)?;
+    let Ok(buffer) = reserve_rooms(slots, old, &mut counts, alloc) else {
         slots.truncate(len);
         slots.shrink_to_fit();
-    }
-    made
+        return Err(AllocError);
+    };
+    Ok(buffer)
 }
 
 impl<K: IntKey, X, A: Allocator + Copy> Table<K, X, A> {
@@ -127,7 +118,7 @@ impl<K: IntKey, X, A: Allocator + Copy> Table<K, X, A> {
     /// allocation fails, nothing changes.
     fn grow(&mut self, capacity: usize, placed: &mut Steps) -> Result<(), AllocError> {
         let mut bits = Bits::new(*self.slots.allocator(), capacity)?;
-        let mut buffer = take_memory(&mut self.slots, &self.directory, capacity)?;
+        let mut buffer = make_room(&mut self.slots, &self.directory, capacity)?;
         move_all(
             &mut bits,
             &mut self.slots,
@@ -142,17 +133,14 @@ impl<K: IntKey, X, A: Allocator + Copy> Table<K, X, A> {
         Ok(())
     }
 
-    /// Makes room for the pair of a key in its slot, and allocates for exactly that. It returns
-    /// whether it allocated.
-    fn reserve_for(&mut self, key: &K) -> Result<bool, AllocError> {
-        let index = self.index_of(key);
-        self.slots[index].reserve_one()
+    /// Makes room for one more pair in the slot of a key, and allocates for exactly that. It
+    /// returns whether it allocated.
+    fn reserve_for(&mut self, slot: usize) -> Result<bool, AllocError> {
+        self.slots[slot].reserve_one()
     }
 
-    /// Removes the pair of a key, which is the last of its slot, and gives back the room that was
-    /// made for it.
-    fn take_back(&mut self, key: K, is_made: bool) -> X {
-        let at = self.locate_last(key);
+    /// Removes a located pair, and gives back the room that was made for it.
+    fn take_back(&mut self, at: Location<K>, is_made: bool) -> X {
         let value = self.take_at(at);
         if is_made {
             self.slots[at.slot].shrink();
@@ -160,24 +148,25 @@ impl<K: IntKey, X, A: Allocator + Copy> Table<K, X, A> {
         value
     }
 
-    /// Puts the pair of an absent key behind the pairs of its slot, and moves all pairs, in the
-    /// order of the walk, to their slots among `capacity` slots. If an allocation fails, the value
-    /// is returned and nothing changes.
+    /// Puts the pair of an absent key behind the pairs of its slot, moves all pairs, in the order
+    /// of the walk, to their slots among `capacity` slots, and returns where the new pair is. If an
+    /// allocation fails, the value is returned and nothing changes.
     pub fn grow_with(
         &mut self,
         capacity: usize,
+        slot: usize,
         key: K,
         value: X,
         placed: &mut Steps,
-    ) -> Result<(), X> {
-        let Ok(is_made) = self.reserve_for(&key) else {
+    ) -> Result<Location<K>, X> {
+        let Ok(is_made) = self.reserve_for(slot) else {
             return Err(value);
         };
-        self.add(key, value)?;
+        let at = self.add(slot, key, value)?;
         if self.grow(capacity, placed).is_err() {
-            return Err(self.take_back(key, is_made));
+            return Err(self.take_back(at, is_made));
         }
-        Ok(())
+        Ok(self.locate_last(key))
     }
 
     /// Moves all pairs, in the order of the walk, to their slots among `capacity` slots. If the

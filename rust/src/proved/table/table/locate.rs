@@ -16,19 +16,19 @@ pub struct Location<K> {
 }
 
 impl<K: IntKey, X, A: Allocator> Table<K, X, A> {
-    /// Where the pair of the key is, if the key is present. The keys of its slot are compared from
-    /// the front, up to the one sought. Each comparison is one step.
+    /// Where the pair of the key is, or the slot of the key if the key is absent. The keys of the
+    /// slot are compared from the front, up to the one sought. Each comparison is one step.
     #[inline(always)]
-    pub fn locate(&self, key: K, steps: &mut Steps) -> Option<Location<K>> {
+    pub fn locate(&self, key: K, steps: &mut Steps) -> Result<Location<K>, usize> {
         let slot = self.index_of(&key);
         let Some(place) = self.slots[slot].find(&key, steps) else {
-            return None;
+            return Err(slot);
         };
-        Some(Location { key, slot, place })
+        Ok(Location { key, slot, place })
     }
 
     /// Where the pair of a key is that is the last of its slot.
-    pub fn locate_last(&self, key: K) -> Location<K> {
+    pub(super) fn locate_last(&self, key: K) -> Location<K> {
         let slot = self.index_of(&key);
         let place = self.slots[slot].last_place();
         Location { key, slot, place }

@@ -1,18 +1,38 @@
-//! The pairs of a table by reference, slot after slot, and clones of a table.
+//! The walk of a table: its pairs by reference, slot after slot, a position in it, and removal from
+//! its front.
 
 use crate::memory::prelude::*;
 use crate::proved::table::bits::Places;
 use crate::proved::table::key::IntKey;
 use crate::proved::table::slot::Slot;
-use crate::proved::table::table::extract::Cursor;
+use crate::proved::table::table::Table;
 use crate::proved::table::table::stored::Stored;
-use crate::proved::table::table::{Directory, Table};
 use crate::memory::alloc::{AllocError, Allocator};
 
-/// The slot at a place.
+/// The position of a walk: a place in a slot, and the number of pairs of the walk before it.
+#[repr(C)]
+#[derive(Clone, Copy)]
+pub struct Cursor {
+    pub slot: usize,
+    pub place: usize,
+    pub passed: usize,
+}
+
+impl Cursor {
+    /// The start of every walk.
+    pub fn start() -> Cursor {
+        Cursor {
+            slot: 0,
+            place: 0,
+            passed: 0,
+        }
+    }
+}
+
+/// A slot, by its number.
 #[inline(always)]
-fn slot_at<K: IntKey, X, A: Allocator>(slots: &[Slot<K, X, A>], place: usize) -> &Slot<K, X, A> {
-    &slots[place]
+fn slot_at<K: IntKey, X, A: Allocator>(slots: &[Slot<K, X, A>], index: usize) -> &Slot<K, X, A> {
+    &slots[index]
 }
 
 /// The pairs that are left: those of the current slot, then those of the slots at the places behind
@@ -47,10 +67,10 @@ impl<'a, K: IntKey, X, A: Allocator> Iterator for Pairs<'a, K, X, A> {
                 self.rest = rest;
                 return Some((pair.0.key(), &pair.1));
             }
-            let Some(place) = self.places.next() else {
+            let Some(index) = self.places.next() else {
                 return None;
             };
-            (self.first, self.rest) = slot_at(self.slots, place).parts();
+            (self.first, self.rest) = slot_at(self.slots, index).parts();
         }
     }
 }
@@ -73,21 +93,20 @@ impl<K: IntKey, X, A: Allocator> Table<K, X, A> {
         }
         None
     }
-}
 
-impl<K: IntKey, X: Clone, A: Allocator + Copy> Table<K, X, A> {
-    /// The same keys in the same slots, with clones of their values. The bits and the slots are
-    /// allocated before the first value is cloned.
-    pub fn clone(&self) -> Result<Table<K, X, A>, AllocError> {
-        let bits = self.directory.bits.clone()?;
-        let mut slots = Vec::with_capacity(*self.slots.allocator(), self.slots.len())?;
-        for slot in &self.slots {
-            slots.push_reserved(slot.clone()?);
-        }
-        let directory = Directory {
-            mask: self.directory.mask,
-            bits,
+    /// Removes the first pair of the walk and returns it. No slot before `from` holds a
+    /// pair. `from` moves on to the slot that held the removed pair.
+    pub fn take_front(&mut self, from: &mut usize) -> Option<(K, X)> {
+        let Some(index) = self.directory.bits.iter_from(*from).next() else {
+            return None;
         };
-        Ok(Table { directory, slots })
+        *from = index;
+        let slot = &mut self.slots[index];
+        if let Some((key, value)) = slot.take_lone() {
+            self.directory.bits.clear(index);
+            return Some((*key.key(), value));
+        }
+        let (key, value) = slot.take_front();
+        Some((*key.key(), value))
     }
 }

@@ -3,7 +3,7 @@
 use crate::memory::prelude::*;
 use crate::proved::map::map::IntMap;
 use crate::proved::table::IntKey;
-pub use crate::proved::table::table::extract::Cursor;
+pub use crate::proved::table::table::walk::Cursor;
 use crate::memory::alloc::Allocator;
 
 impl<K: IntKey, V, A: Allocator + Copy> IntMap<K, V, A> {

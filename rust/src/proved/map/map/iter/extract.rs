@@ -3,7 +3,7 @@
 use crate::memory::prelude::*;
 use crate::proved::map::map::IntMap;
 use crate::proved::table::IntKey;
-use crate::proved::table::table::extract::Cursor;
+use crate::proved::table::table::walk::Cursor;
 use crate::memory::alloc::{Allocator, Global};
 
 impl<K: IntKey, V, A: Allocator + Copy> IntMap<K, V, A> {

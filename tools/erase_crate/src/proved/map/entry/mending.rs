@@ -21,11 +21,19 @@ impl<K: IntKey, V, A: Allocator + Copy> OccupiedEntry<'_, K, V, A> {
     }
 }
 
-impl<K: IntKey, V, A: Allocator + Copy> IntMap<K, V, A> {
-    /// The entry of a key that is absent. The key isn't looked up.
+impl<K: IntKey, V, A: Allocator + Copy> VacantEntry<'_, K, V, A> {
+    /// The slot of the key.
     #[inline]
-    pub fn vacant_entry(&mut self, key: K) -> VacantEntry<'_, K, V, A> {
-        VacantEntry { map: self, key }
+    pub fn slot(&self) -> usize {
+        self.slot
+    }
+}
+
+impl<K: IntKey, V, A: Allocator + Copy> IntMap<K, V, A> {
+    /// The entry of a key that is absent, whose slot is given. The key isn't looked up.
+    #[inline]
+    pub fn vacant_entry(&mut self, key: K, slot: usize) -> VacantEntry<'_, K, V, A> {
+        VacantEntry { map: self, key, slot }
     }
 
     /// The entry of the pair at a place. No key is looked up.

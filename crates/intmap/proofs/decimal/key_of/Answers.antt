@@ -1,7 +1,7 @@
 -- Text and number meet in two lemmas, one for each case.
 use Rattle.std.proofs.Common.{sym, subst}
 use Rattle.intmap.proofs.JsonLemmas.{BeginsAsPrinted, BeginsAsPrinted-IsKeyText, IsKeyText-parsed, IsKeyText-not_parsed}
-use Rattle.intmap.proofs.map.json.read.key_of.Goals as goal
+use Rattle.intmap.proofs.decimal.key_of.Goals as goal
 
 pub returns-then-not-begins_as_printed-clause-none : goal.returns-then-not-begins_as_printed-clause-none
 returns-then-not-begins_as_printed-clause-none c k is =

@@ -1,4 +1,5 @@
-//! Removal of the pairs that a closure picks, one pair at a step.
+//! Calls with closures, in the order of the walk: `retain`, one step of `extract_if`, and writes to each
+//! value.
 
 use crate::memory::prelude::*;
 use crate::proved::table::bits::Bits;
@@ -7,25 +8,35 @@ use crate::proved::table::key::IntKey;
 use crate::proved::table::slot::Slot;
 use crate::proved::table::table::Table;
 use crate::proved::table::table::stored::Stored;
+use crate::proved::table::table::walk::Cursor;
 use crate::memory::alloc::Allocator;
 
-/// The position of a walk: a place in a slot, and the number of pairs of the walk before it.
-#[repr(C)]
-#[derive(Clone, Copy)]
-pub struct Cursor {
-    pub slot: usize,
-    pub place: usize,
-    pub passed: usize,
+/// Keeps the pairs for which the closure returns true, slot after slot, and returns their number.
+/// The bits mark the slots that hold a pair. A slot that is emptied loses its bit.
+fn retain_slots<K: IntKey, V, A: Allocator, F: FnMut(K, &V) -> bool>(
+    bits: &mut Bits<A>,
+    slots: &mut Vec<Slot<K, Kept<V>, A>, A>,
+    f: &mut F,
+) -> usize {
+    let mut count = 0;
+    let mut from = 0;
+    while let Some(index) = bits.iter_from(from).next() {
+        let slot = &mut slots[index];
+        slot.retain(f);
+        if !slot.is_filled() {
+            bits.clear(index);
+        }
+        count += slot.len();
+        from = index + 1;
+    }
+    count
 }
 
-impl Cursor {
-    /// The start of every walk.
-    pub fn start() -> Cursor {
-        Cursor {
-            slot: 0,
-            place: 0,
-            passed: 0,
-        }
+impl<K: IntKey, V, A: Allocator> Table<K, Kept<V>, A> {
+    /// Keeps the pairs for which the closure returns true, in their order, and returns their
+    /// number. The closure is called once at each pair, in the order of the walk.
+    pub fn retain<F: FnMut(K, &V) -> bool>(&mut self, f: &mut F) -> usize {
+        retain_slots(&mut self.directory.bits, &mut self.slots, f)
     }
 }
 
@@ -80,5 +91,25 @@ impl<K: IntKey, V, A: Allocator> Table<K, Kept<V>, A> {
             return None;
         };
         Some((*key.key(), kept.into_value()))
+    }
+}
+
+/// Calls the closure at each pair in turn, slot after slot, with a mutable reference to its value.
+/// The bits mark the slots that hold a pair.
+fn write_slots<K: IntKey, V, A: Allocator, F: FnMut(K, &mut V)>(
+    bits: &Bits<A>,
+    slots: &mut Vec<Slot<K, Kept<V>, A>, A>,
+    f: &mut F,
+) {
+    for index in bits.iter() {
+        slots[index].write_each(f);
+    }
+}
+
+impl<K: IntKey, V, A: Allocator> Table<K, Kept<V>, A> {
+    /// Calls the closure at each pair in the order of the walk, with a mutable reference to its
+    /// value.
+    pub fn write_each<F: FnMut(K, &mut V)>(&mut self, f: &mut F) {
+        write_slots(&self.directory.bits, &mut self.slots, f);
     }
 }

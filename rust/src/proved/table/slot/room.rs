@@ -1,0 +1,62 @@
+//! Room in slots, and the moves of a growth, which takes all pairs of a slot at once.
+
+use crate::memory::prelude::*;
+use crate::proved::table::key::IntKey;
+use crate::proved::table::slot::Slot;
+use crate::proved::table::table::stored::Stored;
+use crate::memory::alloc::{AllocError, Allocator};
+use core::mem;
+
+impl<K: IntKey, X, A: Allocator> Slot<K, X, A> {
+    /// Makes room for `count` pairs behind the first one, and allocates for exactly those. It fails
+    /// if the allocation does.
+    #[inline(never)]
+    pub(in crate::proved::table) fn reserve_behind(&mut self, count: usize) -> Result<(), AllocError> {
+        self.rest.reserve_exact(count)
+    }
+
+    /// Adds a pair behind others. If the slot has no block, it takes this one.
+    #[inline(always)]
+    pub(in crate::proved::table) fn push_with(&mut self, pair: (Stored<K>, X), block: &mut Vec<(Stored<K>, X), A>) {
+        if self.rest.capacity() == 0 {
+            mem::swap(&mut self.rest, block);
+        }
+        self.rest.push_reserved(pair);
+    }
+
+    /// Makes room for one more pair, and allocates for exactly that. It returns whether it
+    /// allocated.
+    pub(in crate::proved::table) fn reserve_one(&mut self) -> Result<bool, AllocError> {
+        if self.first.is_none() || self.rest.len() < self.rest.capacity() {
+            return Ok(false);
+        }
+        self.rest.reserve_exact(1)?;
+        Ok(true)
+    }
+
+    /// Gives back the room that no pair needs.
+    pub(in crate::proved::table) fn shrink(&mut self) {
+        self.rest.shrink_to_fit();
+    }
+}
+
+impl<K: IntKey, X, A: Allocator + Copy> Slot<K, X, A> {
+    /// Removes all of several pairs. The first one is returned. The others are moved into a buffer,
+    /// which has room for them, the last of them first. The block of the others is returned too.
+    #[inline(always)]
+    pub(in crate::proved::table) fn take_out(
+        &mut self,
+        buffer: &mut Vec<(Stored<K>, X), A>,
+    ) -> ((Stored<K>, X), Vec<(Stored<K>, X), A>) {
+        let alloc = *self.rest.allocator();
+        let mut block = mem::replace(&mut self.rest, Vec::new(alloc));
+        if buffer.append(&mut block).is_err() {
+            unreachable!();
+        }
+        buffer.as_mut_slice().reverse();
+        match self.first.take() {
+            Some(first) => (first, block),
+            None => unreachable!(),
+        }
+    }
+}
