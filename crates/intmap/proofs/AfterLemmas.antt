@@ -3,7 +3,7 @@ use Rattle.std.proofs.Common.{◌≡◌, ℕ, ◌+◌, List, cond, length, Some,
 use Rattle.intmap_table.specs.Classes.{IsCapacity, same_key}
 use Rattle.intmap_table.specs.Bindings.{value_of, take_key, put_pair, Updates}
 use Rattle.intmap_table.specs.Walk.{walk_of}
-use Rattle.intmap.specs.Map.{MapState, IsMap, after_insert, after_remove, without_key}
+use Rattle.intmap.specs.Map.{MapState, IsMap, after_remove, without_key}
 use Rattle.intmap_table.proofs.PositionLemmas.{swap_out-none, position-from_none}
 use Rattle.intmap_table.proofs.SlotNumberLemmas.{slot_number-below}
 use Rattle.intmap_table.proofs.DistinctLemmas.{length-walk_of, length-take_key, length-put_pair}
@@ -24,13 +24,6 @@ module _ {K V : Type 0} (number : K → ℕ) (is_valid : K → Type 0) where
       ap length is
       ∙ length-walk_of number (put_pair number m.walk m.capacity k v) D (λ q. slot_number-below number q D cap)
       ∙ length-put_pair number m.walk m.capacity k v
-
-  -- the same after an insertion
-  pub Updates-insert : (m n : MapState K V) (k : K) (v : V) → IsMap number is_valid m → IsCapacity n.capacity → n ≡ after_insert number m k v n.capacity → Updates number m.walk n.walk k (Some v)
-  Updates-insert m n k v is_map cap state = Updates-put m n.walk n.capacity k v is_map cap (ap (λ s. s.walk) state)
-
-  pub length-insert : (m n : MapState K V) (k : K) (v : V) → IsCapacity n.capacity → n ≡ after_insert number m k v n.capacity → length n.walk ≡ length m.walk + cond (is_some (value_of number m.walk k)) 0 1
-  length-insert m n k v cap state = length-put m n.walk n.capacity k v cap (ap (λ s. s.walk) state)
 
   -- with a key removed it has no value, and each other key its own
   pub Updates-taken : (m : MapState K V) (W : List (K × V)) (k : K) → IsMap number is_valid m → W ≡ walk_of number (take_key number m.walk m.capacity k) m.capacity → Updates number m.walk W k None

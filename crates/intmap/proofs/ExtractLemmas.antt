@@ -9,7 +9,7 @@ use Rattle.std.specs.List.Retain.{ExtractsNext}
 use Rattle.std.specs.Option.{option_len}
 use Rattle.intmap_table.specs.Bindings.{IsPresent}
 use Rattle.intmap_table.specs.Classes.{same_key}
-use Rattle.intmap_table.specs.Picking.{ExtractsBehind, IsReached}
+use Rattle.intmap_table.specs.Picking.{ExtractsBehind}
 use Rattle.intmap_table.specs.Taking.{TakesEach}
 use Rattle.intmap_table.specs.Walk.{walk_of}
 use Rattle.intmap.specs.Consistency.{IsConsistent}
@@ -18,10 +18,6 @@ use Rattle.intmap.specs.Map.{IsMapWalk}
 use Rattle.intmap.proofs.LoadFactorLemmas.{IsLoaded-fewer}
 use Rattle.intmap_table.proofs.ExtractLemmas.{sum_by-ExtractsBehind, length-ExtractsNext, length-ExtractsBehind, All-ExtractsBehind, TakesEach-rest}
 use Rattle.intmap_table.proofs.SlotNumberLemmas.{capacity-positive}
-
--- at the start no pair was passed
-pub IsReached-start : {K V : Type 0} (number : K → ℕ) (W : List (K × V)) (C : ℕ) → IsReached number W C 0 0 0
-IsReached-start number W C = record { within = omega arith; count = refl; few = omega arith }
 
 module _ {F K V : Type 0} (number : K → ℕ) (is_valid : K → Type 0) (R : F → K × V → Bool → F → K × V → Type 0) (same : (f : F) (p : K × V) (b : Bool) (g : F) (q : K × V) → R f p b g q → q.0 ≡ p.0) where
   -- what stays of a map's walk is the walk of a map

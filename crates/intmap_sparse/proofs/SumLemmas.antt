@@ -109,15 +109,6 @@ fold-from a (z ∷ zs) =
 abbrev pub IsWideFrom : ℤ → List ℤ → Type 0
 IsWideFrom a zs = (i : ℕ) × (FitsSigned w128 (fold ◌+ℤ◌ a (take i zs)) → ⊥)
 
--- nothing is added: the sum stays one
-fits-nothing : (a : ℤ) (i : ℕ) → FitsSigned w128 a → FitsSigned w128 (fold ◌+ℤ◌ a (take i []))
-fits-nothing a zero fits = fits
-fits-nothing a (suc i) fits = fits
-
--- of nothing no sum is too wide
-pub IsWideFrom-nil : (a : ℤ) → FitsSigned w128 a → IsWideFrom a [] → ⊥
-IsWideFrom-nil a fits wide = wide.1 (fits-nothing a wide.0 fits)
-
 -- a sum that is too wide at once
 pub IsWideFrom-now : (a : ℤ) (zs : List ℤ) → (FitsSigned w128 a → ⊥) → IsWideFrom a zs
 IsWideFrom-now a zs wide = (0, wide)

@@ -15,7 +15,7 @@ use Rattle.intmap.specs.Map.{MapState, IsMap}
 use Rattle.intmap.proofs.BindingLemmas.{first_value-none}
 use Rattle.intmap.proofs.CostLemmas.{HasDistinctKeys-tail}
 use Rattle.intmap_sparse.specs.Vectors.{IsVector, value_at, HasNoZeros, HaveSameValues, is_nonzero, sum_below, count_below, product, products_along}
-use Rattle.intmap_sparse.proofs.SumLemmas.{sum_below-ext, sum_below-zeros, sum_below-plus, sum_below-single, count_below-none, count_below-more, fold-from, IsWideFrom, IsWideFrom-nil, IsWideFrom-now, IsWideFrom-cons}
+use Rattle.intmap_sparse.proofs.SumLemmas.{sum_below-ext, sum_below-zeros, sum_below-plus, sum_below-single, count_below-none, count_below-more, fold-from, IsWideFrom, IsWideFrom-now, IsWideFrom-cons}
 
 -- a value or 0, by whether it was found first
 unwrap_or-cond : (b : Bool) (z : ℤ) (o : Option ℤ) → unwrap_or (cond b (Some z) o) (pos 0) ≡ cond b z (unwrap_or o (pos 0))
@@ -156,7 +156,3 @@ pub wide-next : (R S W : List (ℕ × ℤ)) (p : ℕ × ℤ) (a : ℤ) (Q : Type
 wide-next R S W p a Q steps fits wider wide =
     let next = a +ℤ (p.1 *ℤ value_at W p.0) in
     (IsWideFrom-rest R S W p a next steps refl Q fits wide).0 (IsWideFrom-now next (products_along S W) wider)
-
--- if nothing is left, none is
-pub wide-none : (R W : List (ℕ × ℤ)) (a : ℤ) (Q : Type 0) → R ≡ [] → FitsSigned w128 a → IsWideFrom a (products_along R W) ↔ Q → Q → ⊥
-wide-none R W a Q ends fits wide q = IsWideFrom-nil a fits (subst (λ V. IsWideFrom a (products_along V W)) ends (wide.1 q))

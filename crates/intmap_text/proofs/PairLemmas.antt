@@ -1,7 +1,6 @@
 -- Words that write pairs, two words a pair.
 use Rattle.std.proofs.Common.{◌≡◌, ℕ, List, [], ◌∷◌, ◌++◌, refl, ap, sym, ◌∙◌, subst, append_assoc}
 use Rattle.std.specs.List.{AllZip}
-use Rattle.std.proofs.lemmas.List.{append-nil}
 use Rattle.intmap_text.specs.Words.{keys_and_values}
 use Rattle.intmap_text.specs.Commands.{Writes}
 
@@ -14,10 +13,6 @@ pub record HaveRead (words : List (List ℕ)) (pairs : List (ℕ × ℕ)) (left 
   pub front : List (List ℕ)
   pub split : words ≡ front ++ left
   pub written : WritesPairs front pairs
-
--- before the first pair all words are left
-pub nothing_read : (words : List (List ℕ)) → HaveRead words [] words
-nothing_read words = record { front = []; split = refl; written = tt }
 
 -- words that write pairs, and two more words that write one
 pairs_more : (front : List (List ℕ)) (pairs : List (ℕ × ℕ)) (key value : List ℕ) (pair : ℕ × ℕ)
@@ -44,12 +39,6 @@ pair_read words pairs left more rest key value pair read first second k v =
           ∙ sym (append_assoc read.front (key ∷ value ∷ []) rest);
       written = pairs_more read.front pairs key value pair read.written k v;
     }
-
--- if no word is left, all words write the pairs
-pub all_read : (words : List (List ℕ)) (pairs : List (ℕ × ℕ)) → HaveRead words pairs []
-    → WritesPairs words pairs
-all_read words pairs read =
-    subst (λ ws. WritesPairs ws pairs) (sym (read.split ∙ append-nil read.front)) read.written
 
 -- if all words write pairs, and those at the front write some, the others write the rest
 left_pairs : (front left : List (List ℕ)) (some all : List (ℕ × ℕ)) → WritesPairs front some
