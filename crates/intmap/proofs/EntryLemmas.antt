@@ -1,6 +1,6 @@
 -- Entries once a value was written, and maps into which the pair of a new key was put.
 use Rattle.std.proofs.Common.{◌≡◌, ◌⊎◌, inl, inr, ℕ, ◌+◌, ◌^◌, ◌<◌, Bool, true, false, cond, List, [], ◌∷◌, ◌++◌, length, Option, Some, None, refl, sym, ap, ◌∙◌, subst}
-use Rattle.std.specs.Prelude.{Result, Ok, Err, OnErr}
+use Rattle.std.specs.Prelude.{Result, Err}
 use Rattle.std.proofs.lemmas.Bool.{cases_Bool, cases_lt, eq-eqb}
 use Rattle.std.proofs.lemmas.List.{map-append}
 use Rattle.std.proofs.Props.{props}
@@ -23,11 +23,6 @@ use Rattle.intmap_table.proofs.LocationLemmas.{walk_of-write_value}
 use Rattle.intmap.proofs.MapLemmas.{MapState-same}
 use Rattle.intmap_table.proofs.PositionLemmas.{swap_out-none, position-from_none}
 use Rattle.intmap_table.specs.Laws.Written.{IsFound-write_value, key_at-written, the_key-same}
-
--- what holds whether a call returns an error or not
-pub on_error : {T E P : Type 0} (r : Result T E) → P → OnErr r P
-on_error (Ok x) p = tt
-on_error (Err e) p = p
 
 -- the error of what was made, or of its failed insertion, is one of what may be made
 pub made-so : {V E : Type 0} (Made : Result V E → Type 0) (from_gives : Refused V → E → Type 0) (is_due : Cause → Type 0) (made : Result V E) (e : E) → Made made

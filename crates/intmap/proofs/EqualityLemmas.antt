@@ -23,11 +23,11 @@ module _ {K V : Type 0} (number : K → ℕ) where
   KeysWithin L M = (q : K) → value_of number M q ≡ None → value_of number L q ≡ None
 
   -- a pair's own key is found
-  value_of-first : (p : K × V) (L : List (K × V)) → value_of number (p ∷ L) p.0 ≡ Some p.1
+  pub value_of-first : (p : K × V) (L : List (K × V)) → value_of number (p ∷ L) p.0 ≡ Some p.1
   value_of-first p L = ap (λ b. cond b (Some p.1) (value_of number L p.0)) (eq-eqb (number p.0) (number p.0) refl)
 
   -- the first pair's key is absent behind it
-  value_of-rest : (p : K × V) (L : List (K × V)) → HasDistinctKeys number (p ∷ L) → (q : K) → same_key number q p.0 ≡ true → value_of number L q ≡ None
+  pub value_of-rest : (p : K × V) (L : List (K × V)) → HasDistinctKeys number (p ∷ L) → (q : K) → same_key number q p.0 ≡ true → value_of number L q ≡ None
   value_of-rest p L once q found =
       let more = sum_by-cons (λ (r : K × V). cond (same_key number q r.0) 1 0) p L in
       let one : ◌≡◌ {A = ℕ} (cond (same_key number q p.0) 1 0) 1 = ap (λ b. cond b 1 0) found in

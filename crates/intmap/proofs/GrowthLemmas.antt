@@ -13,6 +13,7 @@ use Rattle.std.proofs.lemmas.List.Sums.{passes_at_first, fails_before_first}
 use Rattle.std.proofs.lemmas.List.FromFn.{get_or-map-range_with_len, length-map-range_with_len}
 use Rattle.intmap_table.specs.Classes.{IsCapacity}
 use Rattle.intmap.specs.Growth.{IsWanted, wanted_capacity, IsLeastPower, least_power}
+use Rattle.intmap_table.proofs.SlotNumberLemmas.{capacity-positive}
 
 -- r is the value of f at the first of 0, 1, .., m - 1 that passes
 record FirstHit (test : ℕ → Bool) (f : ℕ → ℕ) (m r : ℕ) : Type 0 where
@@ -39,10 +40,6 @@ first_hit test f m k lt passes =
       missed = λ i w. ap test (sym (at i (omega (arith, within, len, w)))) ∙ fails_before_first test xs i 0 w;
     }
 
--- a capacity is positive
-capacity_pos : (C : ℕ) → IsCapacity C → 0 < C
-capacity_pos C cap = rw cap.3 (pow_pos cap.0)
-
 -- of two wanted capacities none is below the other
 not_below : (C n F A B : ℕ) → IsWanted C n F A → IsWanted C n F B → A < B → ⊥
 not_below C n F A B a b lt =
@@ -62,7 +59,7 @@ IsWanted-unique C n F A B a b = elim (cases_order A B) [
 pub IsWanted-wanted_capacity : (C n F : ℕ) → IsCapacity C → n < 2 ^ 64 → IsWanted C n F (wanted_capacity C n F)
 IsWanted-wanted_capacity C n F cap small =
     let test : ℕ → Bool = λ D. nat_le (n * 1000 / D) F in
-    let pos : 0 < C = capacity_pos C cap in
+    let pos : 0 < C = capacity-positive C cap in
     let none : n * 1000 / (C * 2 ^ 75) < 1 = div_below (n * 1000) (C * 2 ^ 75) 1 (omega (arith, pos)) (omega (arith, pos, small)) in
     let h : FirstHit test (λ j. C * 2 ^ j) 76 (wanted_capacity C n F) = first_hit test (λ j. C * 2 ^ j) 76 75 (omega arith) (le-leb (n * 1000 / (C * 2 ^ 75)) F (omega (arith, none))) in
     let met : n * 1000 / (C * 2 ^ h.place) ≤ F = leb-true (n * 1000 / (C * 2 ^ h.place)) F h.hit in

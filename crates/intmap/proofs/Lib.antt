@@ -7,6 +7,7 @@ pub use Rattle.intmap_table.proofs.DistinctLemmas
 pub use Rattle.intmap_table.proofs.LoadLemmas
 pub use Rattle.intmap_table.proofs.BindingLemmas
 pub use Rattle.intmap_table.proofs.RegroupLemmas
+pub use Rattle.intmap_table.proofs.Tables.CloneLemmas
 pub mod RewrittenLemmas
 pub mod GrowthLemmas
 pub mod DrainLemmas

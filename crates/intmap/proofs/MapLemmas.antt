@@ -1,6 +1,6 @@
 -- What calls leave of a map: its walk stays that of a map, and its count that of its walk.
 use Rattle.std.proofs.Common.{◌≡◌, ℕ, ◌+◌, ◌-◌, ◌^◌, ◌<◌, cond, true, false, List, [], ◌∷◌, length, Option, Some, None, is_some, refl, sym, ap, ◌∙◌, subst, arith}
-use Rattle.std.specs.Prelude.{All, ◌&&◌, nat_lt, Result, Ok, Err, IsOk, OnOk}
+use Rattle.std.specs.Prelude.{All, ◌&&◌, nat_lt, Result, Ok, Err, IsOk}
 use Rattle.std.specs.Result.{is_err}
 use Rattle.std.proofs.lemmas.List.Elements.{All-nil}
 use Rattle.intmap_table.specs.Classes.{IsCapacity}
@@ -144,11 +144,6 @@ module _ {K V : Type 0} (number : K → ℕ) where
           count = omega (arith, all, old.count);
           threshold = rw same threshold;
         }
-
--- a clause of an accepted call
-pub OnOk-at : {T E : Type 0} (r : Result T E) (P : Type 0) → is_err r ≡ false → OnOk r P → P
-OnOk-at (Ok x) P e h = h
-OnOk-at (Err x) P e h = cc
 
 -- a failed call isn't a successful one
 pub IsOk-at_err : {T E : Type 0} (r : Result T E) → is_err r ≡ true → IsOk r → ⊥

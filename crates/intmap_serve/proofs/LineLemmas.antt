@@ -5,6 +5,7 @@ use Rattle.std.proofs.lemmas.List.{map-append, append-nil, length-append, length
 use Rattle.std.proofs.lemmas.List.Elements.{filter-append, All-cons, All-nil}
 use Rattle.std.proofs.lemmas.List.Sums.{count_by-le-length}
 use Rattle.std.proofs.lemmas.List.Splits.{length-slice_split}
+use Rattle.intmap.proofs.CloneLemmas.{AllZip-append}
 use Rattle.intmap_run.specs.declared.command.Command.{Command}
 use Rattle.intmap_text.specs.Lines.{is_filled, lines_in, words_of, rows_of}
 use Rattle.intmap_text.specs.Commands.{Says, SpellsNone, IsUnknown, IsKnown, IsFirstUnknown}
@@ -12,14 +13,6 @@ use Rattle.intmap_text.specs.Commands.{Says, SpellsNone, IsUnknown, IsKnown, IsF
 -- the lines say these commands, one for each line that has a word
 abbrev pub LinesSay : {A : Type 0} → List (List ℕ) → List (Command ℕ ℕ A) → Type 0
 LinesSay lines commands = AllZip Says (rows_of lines) commands
-
--- place by place for two lists, and for two more behind them
-AllZip-append : {A B : Type 0} (R : A → B → Type 0) (xs us : List A) (ys vs : List B)
-    → AllZip R xs ys → AllZip R us vs → AllZip R (xs ++ us) (ys ++ vs)
-AllZip-append R [] us [] vs p q = q
-AllZip-append R [] us (y ∷ ys) vs p q = absurd p
-AllZip-append R (x ∷ xs) us [] vs p q = absurd p
-AllZip-append R (x ∷ xs) us (y ∷ ys) vs p q = (p.0, AllZip-append R xs us ys vs p.1 q)
 
 -- the rows of lines, and of more lines behind them
 rows_of-append : (xs ys : List (List ℕ)) → rows_of (xs ++ ys) ≡ rows_of xs ++ rows_of ys

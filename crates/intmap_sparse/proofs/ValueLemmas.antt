@@ -7,13 +7,11 @@ use Rattle.std.specs.Ordering.{int_eq}
 use Rattle.std.proofs.lemmas.Bool.{cases_Bool, eqb-true, eq-eqb}
 use Rattle.std.proofs.lemmas.Bool.Decides.{Decides-int_eq}
 use Rattle.std.proofs.lemmas.List.Elements.{All-head, All-tail}
-use Rattle.std.proofs.lemmas.List.Sums.{sum_by-cons}
 use Rattle.std.proofs.Math.IntN.{+ℤ_idl, +ℤ_idr, *ℤ_comm, zero-*ℤ}
-use Rattle.intmap.specs.Classes.{same_key}
 use Rattle.intmap.specs.Bindings.{value_of, HasDistinctKeys}
 use Rattle.intmap.specs.Map.{MapState, IsMap}
-use Rattle.intmap.proofs.BindingLemmas.{first_value-none}
 use Rattle.intmap.proofs.CostLemmas.{HasDistinctKeys-tail}
+use Rattle.intmap.proofs.EqualityLemmas.{value_of-first, value_of-rest}
 use Rattle.intmap_sparse.specs.Vectors.{IsVector, value_at, HasNoZeros, HaveSameValues, is_nonzero, sum_below, count_below, product, products_along}
 use Rattle.intmap_sparse.proofs.SumLemmas.{sum_below-ext, sum_below-zeros, sum_below-plus, sum_below-single, count_below-none, count_below-more, fold-from, IsWideFrom, IsWideFrom-now, IsWideFrom-cons}
 
@@ -26,17 +24,9 @@ unwrap_or-cond false z o = refl
 value_at-cons : (p : ℕ × ℤ) (V : List (ℕ × ℤ)) (place : ℕ) → value_at (p ∷ V) place ≡ cond (p.0 == place) p.1 (value_at V place)
 value_at-cons p V place = unwrap_or-cond (p.0 == place) p.1 (value_of (λ key. key) V place)
 
--- the first pair's place isn't stored behind it
-value_of-behind : (p : ℕ × ℤ) (V : List (ℕ × ℤ)) → HasDistinctKeys (λ key. key) (p ∷ V) → (place : ℕ) → (p.0 == place) ≡ true → value_of (λ key. key) V place ≡ None
-value_of-behind p V once place here =
-    let more = sum_by-cons (λ (q : ℕ × ℤ). cond (q.0 == place) 1 0) p V in
-    let one : ◌≡◌ {A = ℕ} (cond (p.0 == place) 1 0) 1 = ap (λ b. cond b 1 0) here in
-    let few = once place in
-    first_value-none (same_key (λ key. key) place) V (omega (arith, more, one, few))
-
--- so there it has the value 0
+-- behind the first pair its place has the value 0
 value_at-behind : (p : ℕ × ℤ) (V : List (ℕ × ℤ)) → HasDistinctKeys (λ key. key) (p ∷ V) → (place : ℕ) → (p.0 == place) ≡ true → value_at V place ≡ pos 0
-value_at-behind p V once place here = ap (λ o. unwrap_or o (pos 0)) (value_of-behind p V once place here)
+value_at-behind p V once place here = ap (λ o. unwrap_or o (pos 0)) (value_of-rest (λ key. key) p V once place here)
 
 -- a product at a place is the first pair's, if it is the pair's place, and the product behind it
 product-cons : (p : ℕ × ℤ) (V W : List (ℕ × ℤ)) → HasDistinctKeys (λ key. key) (p ∷ V) → (place : ℕ)
@@ -82,14 +72,10 @@ is_nonzero-true z other = elim (cases_Bool (int_eq z (pos 0))) [
   | inr apart ↦ ap not apart
 ]
 
--- the first pair's place is stored
-value_of-first : (p : ℕ × ℤ) (V : List (ℕ × ℤ)) → value_of (λ key. key) (p ∷ V) p.0 ≡ Some p.1
-value_of-first p V = ap (λ b. cond b (Some p.1) (value_of (λ key. key) V p.0)) (eq-eqb p.0 p.0 refl)
-
 -- no zeros are stored behind the first pair
 HasNoZeros-tail : (p : ℕ × ℤ) (V : List (ℕ × ℤ)) → HasDistinctKeys (λ key. key) (p ∷ V) → HasNoZeros (p ∷ V) → HasNoZeros V
 HasNoZeros-tail p V once none place zero = elim (cases_Bool (p.0 == place)) [
-  | inl here ↦ (let gone = value_of-behind p V once place here in cc)
+  | inl here ↦ (let gone = value_of-rest (λ key. key) p V once place here in cc)
   | inr apart ↦ none place (ap (λ b. cond b (Some p.1) (value_of (λ key. key) V place)) apart ∙ zero)
 ]
 
@@ -105,7 +91,7 @@ count_below-length [] n once below none = count_below-none (λ place. is_nonzero
 count_below-length (p ∷ V) n once below none =
     let within = All-head (λ (q : ℕ × ℤ). q.0 < n) p V below in
     let rest = count_below-length V n (HasDistinctKeys-tail (λ key. key) p V once) (All-tail (λ (q : ℕ × ℤ). q.0 < n) p V below) (HasNoZeros-tail p V once none) in
-    let here = is_nonzero-true p.1 (λ zero. none p.0 (value_of-first p V ∙ ap Some zero)) in
+    let here = is_nonzero-true p.1 (λ zero. none p.0 (value_of-first (λ key. key) p V ∙ ap Some zero)) in
     let more = count_below-more (λ place. is_nonzero (value_at (p ∷ V) place)) (λ place. is_nonzero (value_at V place)) p.0 n within
     (ap is_nonzero (value_at-behind p V once p.0 (eq-eqb p.0 p.0 refl)))
     (λ place. ap is_nonzero (value_at-cons p V place) ∙ is_nonzero-cond (p.0 == place) p.1 (value_at V place) here) in
@@ -132,8 +118,8 @@ HaveSameValues-empty (p ∷ V) none place = absurd (let e = eqb-true (length (p 
 pub length-zeros : (V : List (ℕ × ℤ)) → HasNoZeros V → HaveSameValues V [] → (length V == 0) ≡ true
 length-zeros [] none zeros = refl
 length-zeros (p ∷ V) none zeros =
-    let found = ap (λ o. unwrap_or o (pos 0)) (value_of-first p V) in
-    absurd (none p.0 (value_of-first p V ∙ ap Some (sym found ∙ zeros p.0)))
+    let found = ap (λ o. unwrap_or o (pos 0)) (value_of-first (λ key. key) p V) in
+    absurd (none p.0 (value_of-first (λ key. key) p V ∙ ap Some (sym found ∙ zeros p.0)))
 
 -- what is left to be summed once the first of the pairs that were left is
 module _ (R S W : List (ℕ × ℤ)) (p : ℕ × ℤ) (a b : ℤ) (steps : R ≡ p ∷ S) (adds : b ≡ (a +ℤ (p.1 *ℤ value_at W p.0))) where

@@ -17,7 +17,7 @@ use Rattle.intmap_table.specs.declared.table.locate.Location.{Location}
 use Rattle.intmap_table.proofs.Tables.FilledLemmas.{marks-kept}
 use Rattle.intmap_table.proofs.MappedLemmas.{flat_map-map}
 use Rattle.intmap_table.proofs.PositionLemmas.{swap_out-none, position-within, position_or_len-none, first_value-position, position-from_none}
-use Rattle.intmap_table.proofs.Tables.TableLemmas.{IsSlot, slot_of-here, value_of-here, walk_of-joined, joined-set, within, IsTable-set, Belong-here, Belong-push}
+use Rattle.intmap_table.proofs.Tables.TableLemmas.{Grid-same, IsSlot, slot_of-here, value_of-here, walk_of-joined, joined-set, within, IsTable-set, Belong-here, Belong-push}
 use Rattle.intmap_table.proofs.SlotNumberLemmas.{slot_number-below}
 use Rattle.intmap_table.proofs.WalkLemmas.{same_key-slot, slot_of-walk_of, value_of-slot_of}
 
@@ -52,9 +52,6 @@ module _ {K X : Type 0} where
   All-write_at P (p ∷ ps) zero v all = All-cons (λ p. P p.0) (p.0, v) ps (All-head (λ p. P p.0) p ps all) (All-tail (λ p. P p.0) p ps all)
   All-write_at P (p ∷ ps) (suc i) v all =
       All-cons (λ p. P p.0) p (write_at ps i v) (All-head (λ p. P p.0) p ps all) (All-write_at P ps i v (All-tail (λ p. P p.0) p ps all))
-
-  Grid-same : (W W' : List (K × X)) (C C' : ℕ) → W ≡ W' → C ≡ C' → ◌≡◌ {A = Grid K X} (record { walk = W; capacity = C }) (record { walk = W'; capacity = C' })
-  Grid-same W W' C C' walk capacity = rw (walk, capacity) refl
 
 module _ {K X : Type 0} (number : K → ℕ) where
   -- a key that isn't there is written for nothing
@@ -157,7 +154,7 @@ module _ {K X : Type 0} (number : K → ℕ) (S : List (Held K X)) (h : Held K X
 
     pub Grid-written : HasDistinctKeys number (joined (rows S))
         → ◌≡◌ {A = Grid K X} (record { walk = joined (rows (set S l.slot s)); capacity = length (set S l.slot s) }) (record { walk = write_value number (joined (rows S)) l.key v; capacity = length S })
-    Grid-written distinct = Grid-same _ _ _ _ (walk-written distinct) (length-set S l.slot s)
+    Grid-written distinct = Grid-same _ _ (walk-written distinct) (length-set S l.slot s)
 
     -- and the slots are a table as before
     pub IsMarkedTable-written : (bits : List Bool) → AreMarked (rows S) bits → IsMarkedTable number (set S l.slot s) bits

@@ -16,10 +16,6 @@ use Rattle.intmap_table.proofs.Tables.SwapOutLemmas.{any}
 use Rattle.intmap_table.proofs.Tables.SameKeysLemmas.{row_keys, IsMaskedTable-same_keys}
 use Rattle.intmap_table.proofs.Tables.TableLemmas.{get_or-rows}
 
--- tables with the same walk and the same number of slots are seen alike
-pub Grid-same : {K X : Type 0} (s t : Grid K X) → s.walk ≡ t.walk → s.capacity ≡ t.capacity → s ≡ t
-Grid-same s t walk capacity = ap (λ W. record s { walk = W }) walk ∙ ap (λ n. record t { capacity = n }) capacity
-
 -- the table of these rows
 abbrev pub grid_of : {K X : Type 0} → List (List (K × X)) → ℕ → Grid K X
 grid_of R n = record { walk = joined R; capacity = n }

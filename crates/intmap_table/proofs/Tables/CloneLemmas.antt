@@ -11,7 +11,7 @@ use Rattle.intmap_table.proofs.Tables.SameKeysLemmas.{row_keys}
 
 module _ {P Q : Type 0} (R : P → Q → Type 0) where
   -- two runs alike, one behind the other
-  AllZip-append : (xs us : List P) (ys vs : List Q) → AllZip R xs ys → AllZip R us vs → AllZip R (xs ++ us) (ys ++ vs)
+  pub AllZip-append : (xs us : List P) (ys vs : List Q) → AllZip R xs ys → AllZip R us vs → AllZip R (xs ++ us) (ys ++ vs)
   AllZip-append [] us [] vs all more = more
   AllZip-append [] us (y ∷ ys) vs all more = absurd all
   AllZip-append (x ∷ xs) us [] vs all more = absurd all

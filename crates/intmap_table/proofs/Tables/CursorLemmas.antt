@@ -3,7 +3,7 @@ use Rattle.std.proofs.Common.{◌≡◌, ℕ, suc, ◌+◌, ◌<◌, ◌≤◌, 
 use Rattle.std.proofs.lemmas.List.{drop_more}
 use Rattle.intmap_table.specs.Tables.Slots.{Held, rows, joined}
 use Rattle.intmap_table.proofs.Tables.ExtractSlotsLemmas.{IsAt, drop-reached}
-use Rattle.intmap_table.proofs.Tables.RetainSlotsLemmas.{joined-take}
+use Rattle.intmap_table.proofs.Tables.TableLemmas.{joined-take}
 
 module _ {K X : Type 0} (S : List (Held K X)) (i j n : ℕ) (at : IsAt (rows S) i j n) where
   abbrev row : List (K × X)

@@ -17,8 +17,8 @@ use Rattle.intmap_table.proofs.ExtractLemmas.{StepsTo, StepsTo-on, StepsTo-stop,
 use Rattle.intmap_table.proofs.Tables.FilledLemmas.{marks-set_at, marks-kept_at}
 use Rattle.intmap_table.proofs.Tables.MarkedLemmas.{range_with_len-add}
 use Rattle.intmap_table.proofs.Tables.PlacesLemmas.{IsNextMark}
-use Rattle.intmap_table.proofs.Tables.RetainSlotsLemmas.{joined-cut, joined-drop, joined-none, joined-take, joined-take_past, empty-between, empty-unmarked, IsTable-set_at}
-use Rattle.intmap_table.proofs.Tables.TableLemmas.{get_or-rows, length-rows, slot_of-joined}
+use Rattle.intmap_table.proofs.Tables.RetainSlotsLemmas.{joined-cut, joined-drop, joined-none, joined-take_past, empty-between, empty-unmarked, IsTable-set_at}
+use Rattle.intmap_table.proofs.Tables.TableLemmas.{joined-take, get_or-rows, length-rows, slot_of-joined}
 
 -- the pairs of a slot are its row
 pub row-at : {K X : Type 0} (S : List (Held K X)) (i : ℕ) (h : Held K X) → i < length S → h ≡ get_or S i h → h.pairs ≡ get_or (rows S) i []

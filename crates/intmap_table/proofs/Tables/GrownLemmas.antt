@@ -1,5 +1,5 @@
 -- Slots in a table that has become longer: which of them keys have, and how pairs are moved there.
-use Rattle.std.proofs.Common.{◌≡◌, ◌≢◌, ◌⊎◌, inl, inr, ℕ, zero, suc, ◌+◌, ◌-◌, ◌*◌, ◌/◌, ◌%◌, ◌^◌, ◌<◌, ◌≤◌, Bool, false, ◌==◌, filter, List, [], ◌∷◌, ◌++◌, length, get_or, set, take, refl, sym, ap, ◌∙◌, subst, arith, append-nil, append_assoc, length-set, get_or-set_same, get_or-set_other, mul_comm, zero-mul, zero-add, pow_pos, pow_mono, mul-one, mul-le-mul_left, take_all, All}
+use Rattle.std.proofs.Common.{◌≡◌, ◌≢◌, ◌⊎◌, inl, inr, ℕ, zero, suc, ◌+◌, ◌-◌, ◌*◌, ◌/◌, ◌%◌, ◌^◌, ◌<◌, ◌≤◌, Bool, false, ◌==◌, filter, List, [], ◌∷◌, ◌++◌, length, get_or, set, take, refl, sym, ap, ◌∙◌, subst, arith, append-nil, length-set, get_or-set_same, get_or-set_other, mul_comm, zero-mul, zero-add, pow_pos, pow_mono, mul-one, mul-le-mul_left, take_all, All}
 use Rattle.std.proofs.lemmas.Nat.{pow-add, mod_below, mod-pow-add, mod-mul-add}
 use Rattle.std.proofs.lemmas.Bool.{ne_eqb, cases_eq, cases_lt}
 use Rattle.std.proofs.lemmas.List.{map-set}
@@ -10,7 +10,7 @@ use Rattle.intmap_table.specs.Tables.Slots.{Held, rows, joined}
 use Rattle.intmap_table.specs.Tables.Moves.{IsGrown, IsOldRows, IsMidway, IsPlaced}
 use Rattle.intmap_table.proofs.SlotNumberLemmas.{slot_number-below}
 use Rattle.intmap_table.proofs.Tables.MoveLemmas.{IsMoved}
-use Rattle.intmap_table.proofs.Tables.TableLemmas.{length-rows}
+use Rattle.intmap_table.proofs.Tables.TableLemmas.{joined-take, length-rows}
 
 module _ {K : Type 0} (number : K → ℕ) where
   -- how far past the old slots the new slot of a key is, in numbers of old slots
@@ -78,12 +78,6 @@ module _ {P : Type 0} where
   no_length [] q = refl
   no_length (p ∷ L) q = absurd (omega (arith, q))
 
-  pub joined-to : (i : ℕ) (R : List (List P)) → joined (take (suc i) R) ≡ joined (take i R) ++ get_or R i []
-  joined-to zero [] = refl
-  joined-to zero (row ∷ R) = append-nil row
-  joined-to (suc i) [] = refl
-  joined-to (suc i) (row ∷ R) = ap (λ Z. row ++ Z) (joined-to i R) ∙ sym (append_assoc row (joined (take i R)) (get_or R i []))
-
   -- no element passes
   pub filter_none : (q : P → Bool) (L : List P) → All (λ p. q p ≡ false) L → filter q L ≡ []
   filter_none q [] all = refl
@@ -104,7 +98,7 @@ module _ {K X : Type 0} (number : K → ℕ) (C D : ℕ) (grown : IsGrown C D) w
     before (suc i) le =
         let Q : K × X → Type 0 = λ p. slot_number number p.0 C < suc i in
         let w : i < C = omega (arith, le) in
-        subst (λ L. All Q L) (sym (joined-to i R))
+        subst (λ L. All Q L) (sym (joined-take i R))
         (All-append Q (joined (take i R)) (get_or R i [])
         (All-weaker (λ p. slot_number number p.0 C < i) Q (λ p lt. omega (arith, lt)) (joined (take i R)) (before i (omega (arith, le))))
         (All-weaker (λ p. slot_number number p.0 C ≡ i) Q (λ p e. omega (arith, e)) (get_or R i []) (is.own i w)))
@@ -129,7 +123,7 @@ module _ {K X : Type 0} (number : K → ℕ) (C D : ℕ) (grown : IsGrown C D) w
       slot_of-next : (j : ℕ) → slot_of number (joined (take (i + 1) R)) D j ≡ slot_of number (joined (take i R)) D j ++ slot_of number (get_or R i []) D j
       slot_of-next j =
           let step : i + 1 ≡ suc i = omega arith in
-          ap (λ n. slot_of number (joined (take n R)) D j) step ∙ ap (λ L. slot_of number L D j) (joined-to i R)
+          ap (λ n. slot_of number (joined (take n R)) D j) step ∙ ap (λ L. slot_of number L D j) (joined-take i R)
           ∙ filter-append (λ p. slot_number number p.0 D == j) (joined (take i R)) (get_or R i [])
 
       none-here : slot_of number (joined (take i R)) D i ≡ []

@@ -12,11 +12,11 @@ use Rattle.intmap_table.specs.Tables.Bits.{marked, marked_places}
 use Rattle.intmap_table.specs.Tables.Slots.{Held, rows, joined, AreMarked}
 use Rattle.intmap_table.specs.Tables.Moves.{IsGrown, emptied, IsOldRows, IsPlaced, need, CanMoveOn, AreSet, AreFree}
 use Rattle.intmap_table.proofs.SlotNumberLemmas.{slot_number-below}
-use Rattle.intmap_table.proofs.Tables.TableLemmas.{length-rows}
+use Rattle.intmap_table.proofs.Tables.TableLemmas.{joined-take, length-rows}
 use Rattle.intmap_table.proofs.Tables.MarkedLemmas.{marked-replicate}
 use Rattle.intmap_table.proofs.Tables.FilledLemmas.{row-unplaced}
 use Rattle.intmap_table.proofs.Tables.CountLemmas.{AreLeft, AreLeft-marked, AreLeft-rest}
-use Rattle.intmap_table.proofs.Tables.GrownLemmas.{modulo-below, grown-more, joined-to, filter_none, slot_of-before, slot_of-row}
+use Rattle.intmap_table.proofs.Tables.GrownLemmas.{modulo-below, grown-more, filter_none, slot_of-before, slot_of-row}
 use Rattle.intmap_table.proofs.Tables.RoomLemmas.{CanMoveOn-past, CanMoveOn-next}
 use Rattle.intmap_table.proofs.Tables.PutLemmas.{AreSet-none, AreSet-more}
 
@@ -43,7 +43,7 @@ joined-gap : {P : Type 0} (R : List (List P)) (i n : ℕ) → ((k : ℕ) → i �
 joined-gap R i zero none = let e : i + zero ≡ i = omega arith in ap (λ m. joined (take m R)) e
 joined-gap R i (suc n) none =
     let e : i + suc n ≡ suc (i + n) = omega arith in
-    ap (λ m. joined (take m R)) e ∙ joined-to (i + n) R ∙ ap (λ row. joined (take (i + n) R) ++ row) (none (i + n) (omega arith) (omega arith)) ∙ append-nil (joined (take (i + n) R))
+    ap (λ m. joined (take m R)) e ∙ joined-take (i + n) R ∙ ap (λ row. joined (take (i + n) R) ++ row) (none (i + n) (omega arith) (omega arith)) ∙ append-nil (joined (take (i + n) R))
     ∙ joined-gap R i n (λ k le lt. none k le (omega (arith, lt)))
 
 module _ {K X : Type 0} (number : K → ℕ) (R : List (List (K × X))) (C D longest : ℕ) (grown : IsGrown C D) (is : IsOldRows number R C) where
@@ -179,7 +179,7 @@ module _ {K X : Type 0} (number : K → ℕ) (R : List (List (K × X))) (C D lon
           marks =
               let e : place + 1 ≡ suc place = omega arith in
               let more : AreSet number bits (get_or R place []) D bits' = rw (row-moved, before.can.midway.len) at marked' in
-              subst (λ L. AreSet number fresh L D bits') (sym (ap (λ m. joined (take m R)) e ∙ joined-to place R))
+              subst (λ L. AreSet number fresh L D bits') (sym (ap (λ m. joined (take m R)) e ∙ joined-take place R))
               (AreSet-more number D fresh bits bits' (joined (take place R)) (get_or R place []) before.marks more);
         }
 
@@ -187,7 +187,7 @@ module _ {K X : Type 0} (number : K → ℕ) (R : List (List (K × X))) (C D lon
         pub length-moved : length (joined (take (place + 1) R)) ≡ length (joined (take place R)) + length (get_or (rows S) place [])
         length-moved =
             let e : place + 1 ≡ suc place = omega arith in
-            ap (λ m. length (joined (take m R))) e ∙ ap length (joined-to place R) ∙ length-append (joined (take place R)) (get_or R place [])
+            ap (λ m. length (joined (take m R))) e ∙ ap length (joined-take place R) ∙ length-append (joined (take place R)) (get_or R place [])
             ∙ ap (λ L. length (joined (take place R)) + length L) (sym row-moved)
 
     -- the marks in the end are those of the slots that hold pairs

@@ -1,5 +1,5 @@
 -- What a closure that is asked about each pair in turn leaves of the slots of a table.
-use Rattle.std.proofs.Common.{◌≡◌, inl, inr, ℕ, zero, suc, ◌+◌, ◌-◌, ◌<◌, ◌≤◌, Bool, true, false, List, [], ◌∷◌, ◌++◌, length, get_or, set, take, drop, refl, sym, ap, ◌∙◌, subst, arith, add-zero, append-nil, append_assoc, length-append, length-set, get_or-set_same, get_or-set_other}
+use Rattle.std.proofs.Common.{◌≡◌, inl, inr, ℕ, zero, suc, ◌+◌, ◌-◌, ◌<◌, ◌≤◌, Bool, true, false, List, [], ◌∷◌, ◌++◌, length, get_or, set, take, drop, refl, sym, ap, ◌∙◌, subst, arith, add-zero, append-nil, length-append, length-set, get_or-set_same, get_or-set_other}
 use Rattle.std.specs.Prelude.{All, nat_lt}
 use Rattle.std.proofs.lemmas.Bool.{cases_eq, cases_lt, ltb-true}
 use Rattle.std.proofs.lemmas.List.{drop-set-lt, take-set, map-set, get_or_past, get_or-drop, take-append-drop}
@@ -13,7 +13,7 @@ use Rattle.intmap_table.proofs.Tables.MarkedLemmas.{row-none}
 use Rattle.intmap_table.proofs.Tables.PlacesLemmas.{IsNextMark}
 use Rattle.intmap_table.proofs.LeadsLemmas.{Leads, Leads-next, Leads-end}
 use Rattle.intmap_table.proofs.RetainLemmas.{Retains-append, length-Retains, All-Retains}
-use Rattle.intmap_table.proofs.Tables.TableLemmas.{length-rows}
+use Rattle.intmap_table.proofs.Tables.TableLemmas.{joined-take, length-rows}
 
 module _ {P : Type 0} where
   pub joined-drop : (i : ℕ) (R : List (List P)) → joined (drop i R) ≡ get_or R i [] ++ joined (drop (suc i) R)
@@ -21,12 +21,6 @@ module _ {P : Type 0} where
   joined-drop zero (row ∷ R) = refl
   joined-drop (suc i) [] = refl
   joined-drop (suc i) (row ∷ R) = joined-drop i R
-
-  pub joined-take : (i : ℕ) (R : List (List P)) → joined (take (suc i) R) ≡ joined (take i R) ++ get_or R i []
-  joined-take zero [] = refl
-  joined-take zero (row ∷ R) = append-nil row
-  joined-take (suc i) [] = refl
-  joined-take (suc i) (row ∷ R) = ap (λ Z. row ++ Z) (joined-take i R) ∙ sym (append_assoc row (joined (take i R)) (get_or R i []))
 
   -- rows without pairs are passed over
   pub joined-drop_past : (n i : ℕ) (R : List (List P)) → ((j : ℕ) → i ≤ j → j < i + n → get_or R j [] ≡ []) → joined (drop i R) ≡ joined (drop (i + n) R)

@@ -1,5 +1,5 @@
 -- What calls of a table do to its slots, read as its walk.
-use Rattle.std.proofs.Common.{◌≡◌, ◌≢◌, inl, inr, ℕ, suc, ◌<◌, cond, List, [], ◌∷◌, ◌++◌, length, get_or, set, None, refl, sym, ap, ◌∙◌, subst, arith, zero-add, length-set, get_or-set_same, get_or-set_other}
+use Rattle.std.proofs.Common.{◌≡◌, ◌≢◌, inl, inr, ℕ, zero, suc, ◌<◌, cond, List, [], ◌∷◌, ◌++◌, length, get_or, set, take, None, refl, sym, ap, ◌∙◌, subst, arith, zero-add, append_assoc, append-nil, length-set, get_or-set_same, get_or-set_other}
 use Rattle.std.specs.Prelude.{All, count_by, nat_lt}
 use Rattle.std.specs.List.{flat_map, range_with_len}
 use Rattle.std.proofs.lemmas.List.{set-get_or, get_or-map, map-set, length-map}
@@ -11,7 +11,7 @@ use Rattle.intmap_table.specs.Bindings.{swap_out, value_of, take_key, put_pair}
 use Rattle.intmap_table.specs.Walk.{slot_of, walk_of}
 use Rattle.intmap_table.specs.Reach.{through_first, class_size, reach}
 use Rattle.intmap_table.specs.Figures.{load_of}
-use Rattle.intmap_table.specs.Tables.Slots.{Held, rows, joined, IsTable}
+use Rattle.intmap_table.specs.Tables.Slots.{Grid, Held, rows, joined, IsTable}
 use Rattle.intmap_table.proofs.SlotNumberLemmas.{agrees-slot_number, slot_number-below}
 use Rattle.intmap_table.proofs.Tables.SwapOutLemmas.{any}
 use Rattle.intmap_table.proofs.ClassLemmas.{class-joined, flat_map-rows}
@@ -19,6 +19,18 @@ use Rattle.intmap_table.proofs.DistinctLemmas.{All-swap_out}
 use Rattle.intmap_table.proofs.PositionLemmas.{swap_out-none, position-from_none}
 use Rattle.intmap_table.proofs.WalkLemmas.{slot_of-take_key, slot_of-take_key-other, slot_of-put_pair, slot_of-put_pair-other, value_of-slot_of, class_size-slot_of, reach-slot_of}
 use Rattle.intmap_table.proofs.LoadLemmas.{is_filled, load_of-rows}
+
+-- tables with the same walk and the same number of slots are seen alike
+pub Grid-same : {K X : Type 0} (s t : Grid K X) → s.walk ≡ t.walk → s.capacity ≡ t.capacity → s ≡ t
+Grid-same s t walk capacity = ap (λ W. record s { walk = W }) walk ∙ ap (λ n. record t { capacity = n }) capacity
+
+module _ {P : Type 0} where
+  -- the rows before a place and the row there, joined
+  pub joined-take : (i : ℕ) (R : List (List P)) → joined (take (suc i) R) ≡ joined (take i R) ++ get_or R i []
+  joined-take zero [] = refl
+  joined-take zero (row ∷ R) = append-nil row
+  joined-take (suc i) [] = refl
+  joined-take (suc i) (row ∷ R) = ap (λ Z. row ++ Z) (joined-take i R) ∙ sym (append_assoc row (joined (take i R)) (get_or R i []))
 
 module _ {K X : Type 0} where
   pub length-rows : (S : List (Held K X)) → length (rows S) ≡ length S

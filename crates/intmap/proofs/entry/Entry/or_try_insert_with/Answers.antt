@@ -1,6 +1,7 @@
 use Rattle.std.proofs.Common.{refl, subst}
 use Rattle.std.proofs.lemmas.Result.{IfOk-weaker, IfErr-weaker}
-use Rattle.intmap.proofs.EntryLemmas.{on_error, made-so}
+use Rattle.intmap.proofs.EntryLemmas.{made-so}
+use Rattle.intmap_table.proofs.Tables.MemoryLemmas.{OnErr-always}
 use Rattle.intmap.specs.Entries.{Occupied, map_with_value, occupied_key}
 use Rattle.intmap.proofs.InsertionLemmas.{IsInsertion-present}
 use Rattle.intmap.proofs.entry.Entry.or_try_insert_with.Goals as goal
@@ -32,7 +33,7 @@ returns-in-Vacant g c =
         writes_back = tt;
         value = IfOk-weaker c.insert_made.result _ _ (λ r is. rw e.missing (subst Made is made)) told.value;
         inserted = told.inserted;
-        absent = on_error c.insert_made.result e.missing;
+        absent = OnErr-always c.insert_made.result e.missing;
         err = IfErr-weaker c.insert_made.result _ _ (λ error. made-so Made _ _ c.f-made.result error made) told.err;
       },
     )

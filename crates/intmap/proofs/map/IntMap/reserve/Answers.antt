@@ -9,7 +9,8 @@ use Rattle.intmap.proofs.GrowthLemmas.{IsLeastPower-up, IsLeastPower-fits, IsCap
 use Rattle.intmap.proofs.LoadFactorLemmas.{IsLoaded, IsLoaded-larger}
 use Rattle.intmap_table.proofs.SlotNumberLemmas.{capacity-positive}
 use Rattle.intmap.proofs.AfterLemmas.{value_of-in_slots, length-in_slots}
-use Rattle.intmap.proofs.MapLemmas.{MapState-same, IsConsistent-grown, OnOk-at, IsOk-at_err}
+use Rattle.intmap.proofs.MapLemmas.{MapState-same, IsConsistent-grown, IsOk-at_err}
+use Rattle.intmap_table.proofs.Tables.BackLemmas.{OnOk-at}
 use Rattle.intmap.proofs.map.IntMap.reserve.Goals as goal
 use Rattle.intmap.proofs.map.IntMap.reserve.Goals.{After-max-capacity}
 

@@ -6,7 +6,8 @@ use Rattle.intmap.proofs.GrowthLemmas.{IsWanted-unique}
 use Rattle.intmap.proofs.LoadFactorLemmas.{not_too_much, IsLoaded-from}
 use Rattle.intmap_table.proofs.SlotNumberLemmas.{capacity-greatest, capacity-positive}
 use Rattle.intmap.proofs.AfterLemmas.{value_of-in_slots, length-in_slots}
-use Rattle.intmap.proofs.MapLemmas.{MapState-same, IsConsistent-grown, OnOk-at, IsOk-at_err}
+use Rattle.intmap.proofs.MapLemmas.{MapState-same, IsConsistent-grown, IsOk-at_err}
+use Rattle.intmap_table.proofs.Tables.BackLemmas.{OnOk-at}
 use Rattle.intmap.proofs.map.IntMap.set_load_factor.Goals as goal
 use Rattle.intmap.proofs.map.IntMap.set_load_factor.Goals.{After-is_err}
 

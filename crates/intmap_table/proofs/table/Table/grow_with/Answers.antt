@@ -5,7 +5,8 @@ use Rattle.intmap_table.specs.Tables.Slots.{Grid}
 use Rattle.intmap_table.specs.Walk.{walk_of}
 use Rattle.intmap_table.proofs.LocationLemmas.{IsLast-new}
 use Rattle.intmap_table.proofs.RegroupLemmas.{walk_of-larger}
-use Rattle.intmap_table.proofs.Tables.BackLemmas.{value_of-put_new, walk_of-take_new, length-put_new, OnErr-at, OnOk-at, Grid-same}
+use Rattle.intmap_table.proofs.Tables.BackLemmas.{value_of-put_new, walk_of-take_new, length-put_new, OnErr-at, OnOk-at}
+use Rattle.intmap_table.proofs.Tables.TableLemmas.{Grid-same}
 use Rattle.intmap_table.proofs.table.Table.grow_with.Goals as goal
 use Rattle.intmap_table.proofs.table.Table.grow_with.Goals.{After-add}
 
