@@ -1,15 +1,24 @@
 -- Lemmas for the proofs of callers: what a clause can't say, since it speaks of any fact about pairs, or of any closure.
-use Rattle.std.proofs.Common.{◌≡◌, ℕ, Bool, List, [], ◌∷◌, sym, subst}
-use Rattle.std.specs.Prelude.{All}
+pub use Rattle.intmap_table.proofs.RetainLemmas.{Retains-filter, Retains-kept_from}
+pub use Rattle.intmap_table.proofs.WritesLemmas.{Writes-map, Writes-written_from}
+use Rattle.std.proofs.Common.{◌≡◌, ℕ, Bool, List, [], ◌∷◌, ◌++◌, Option, None, sym, ap, ◌∙◌, subst, append-nil, append_assoc}
+use Rattle.std.specs.Prelude.{All, not, filter}
+use Rattle.std.specs.Option.{option_to_list}
+use Rattle.std.proofs.lemmas.List.{take-append-drop}
+use Rattle.std.specs.declared.cmp.PartialEq as eq
+use Rattle.intmap_table.specs.declared.key.IntKey as key
+use Rattle.intmap.specs.declared.map.iter.extract.ExtractIf.{ExtractIf}
+use Rattle.intmap.specs.Extracting.{extracted_map, extract_kept, extract_rest, extract_test, Extracts}
 use Rattle.std.specs.Borrow.{Bor, MutBor}
 use Rattle.std.specs.Fn.{Mut, always_mut}
 use Rattle.intmap.specs.Map.{MapState, after_insert, after_remove}
 use Rattle.intmap_table.specs.Bindings.{take_key, put_pair}
-use Rattle.intmap_table.specs.Picking.{AsksAt}
+use Rattle.intmap_table.specs.Picking.{AsksAt, PicksAt}
 use Rattle.intmap_table.specs.Retaining.{KeepsAt, TakesPair}
 use Rattle.intmap_table.specs.Taking.{TakesEach, TakesEach-from}
 use Rattle.intmap_table.specs.Walk.{walk_of}
 use Rattle.intmap_table.specs.Writes.{WritesAt, TakesPairMut}
+use Rattle.intmap_table.proofs.ExtractLemmas.{ExtractsNext-end, ExtractsNext-filter}
 use Rattle.intmap_table.proofs.DistinctLemmas.{All-walk_of, All-take_key, All-put_pair}
 
 module _ {K V : Type 0} (number : K → ℕ) (P : K × V → Type 0) where
@@ -57,3 +66,25 @@ module _ {F K V : Type 0} where
         λ a h call. record { at = λ xs. (own.at ((call.1.key, (call.1.value, tt)) ∷ xs)).1 (a.0, (call.1.left, tt)) h call.1.called },
       ))
       f L callable
+
+module _ {K V F A : Type 0} {g : key.Ghosts K} {e : eq.Ghosts K} (m : Mut F (K × (MutBor V × Unit {0})) (Bool × (MutBor V × Unit {0}))) where
+  -- a step that removes none goes to the end of the walk, so all pairs that the map has were kept
+  pub Extracts-end : (d rest : ExtractIf K V F A g e) → Extracts m d None rest → (extract_rest rest ≡ []) × (extract_kept rest ≡ (extracted_map rest).walk)
+  Extracts-end d rest step =
+      let none = ExtractsNext-end (PicksAt m) (extract_test d) (extract_test rest) (extract_rest d) step.0.0 (extract_rest rest) step.0.1 in
+      (none, sym (append-nil (extract_kept rest)) ∙ ap (λ Z. extract_kept rest ++ Z) (sym none) ∙ take-append-drop rest.at.passed (extracted_map rest).walk)
+
+  -- a step if each answer is a test of the pair alone, no value is written, and `Own` holds of the closure throughout: the removed pair is the first
+  -- of those left that pass, those that don't are the same before and behind it, and `Own` holds behind it
+  pub Extracts-filter : (Own : F → Type 0) (test : K × V → Bool) → ((f : F) (p : K × V) (b : Bool) (h : F) (q : K × V) → Own f → PicksAt m f p b h q → (b ≡ test p) × (q ≡ p) × Own h)
+      → (d rest : ExtractIf K V F A g e) (r : Option (K × V)) → Own (extract_test d) → Extracts m d r rest
+      → (filter test (extract_rest d) ≡ option_to_list r ++ filter test (extract_rest rest))
+      × (extract_kept d ++ filter (λ p. not (test p)) (extract_rest d) ≡ extract_kept rest ++ filter (λ p. not (test p)) (extract_rest rest))
+      × Own (extract_test rest)
+  Extracts-filter Own test each d rest r own step =
+      let told = ExtractsNext-filter (PicksAt m) Own test each (extract_test d) (extract_test rest) (extract_rest d) step.0.0 (extract_rest rest) r own step.0.1 in (
+        told.0,
+        ap (λ Z. extract_kept d ++ Z) told.1 ∙ sym (append_assoc (extract_kept d) step.0.0 (filter (λ p. not (test p)) (extract_rest rest)))
+            ∙ ap (λ Z. Z ++ filter (λ p. not (test p)) (extract_rest rest)) (sym step.0.2),
+        told.2,
+      )

@@ -8,7 +8,8 @@ use Rattle.std.proofs.lemmas.List.{length-take-le, take-append-drop}
 use Rattle.std.proofs.lemmas.List.Sums.{sum_by-cons}
 use Rattle.intmap_table.specs.Bindings.{first_value, value_of, HasDistinctKeys, Updates}
 use Rattle.intmap_table.specs.Classes.{same_key}
-use Rattle.intmap_table.specs.Picking.{ExtractsBehind, ExtractsNext-end}
+use Rattle.intmap_table.specs.Picking.{ExtractsBehind}
+use Rattle.intmap_table.proofs.ExtractLemmas.{ExtractsNext-end}
 use Rattle.intmap_table.proofs.BindingLemmas.{Updates-from, first_value-none}
 use Rattle.intmap_table.proofs.ExtractLemmas.{length-ExtractsBehind}
 

@@ -22,7 +22,7 @@ use Rattle.intmap.proofs.LoadFactorLemmas.{IsNext-unique}
 use Rattle.intmap_table.proofs.LocationLemmas.{walk_of-write_value}
 use Rattle.intmap.proofs.MapLemmas.{MapState-same}
 use Rattle.intmap_table.proofs.PositionLemmas.{swap_out-none, position-from_none}
-use Rattle.intmap_table.specs.Laws.Written.{IsFound-write_value, key_at-written, the_key-same}
+use Rattle.intmap_table.proofs.WrittenLemmas.{IsFound-write_value, key_at-written, the_key-same}
 
 -- the error of what was made, or of its failed insertion, is one of what may be made
 pub made-so : {V E : Type 0} (Made : Result V E → Type 0) (from_gives : Refused V → E → Type 0) (is_due : Cause → Type 0) (made : Result V E) (e : E) → Made made

@@ -11,7 +11,8 @@ use Rattle.std.proofs.lemmas.List.Sums.{sum_by-cons}
 use Rattle.intmap_table.specs.Classes.{same_key}
 use Rattle.intmap_table.specs.Bindings.{value_of, HasDistinctKeys, take_key, put_pair}
 use Rattle.intmap.specs.Equality.{are_present_alike, maps_equal}
-use Rattle.intmap.specs.Laws.EqualityLaws.{value_of-same_number, unbound-or_alike, are_present_alike-from_BindSame, option_eq-symm}
+use Rattle.intmap.specs.Laws.EqualityLaws.{unbound-or_alike, are_present_alike-from_BindSame}
+use Rattle.intmap_table.proofs.BindSameLemmas.{value_of-same_number, option_eq-symm}
 use Rattle.intmap.specs.Map.{MapState}
 use Rattle.intmap_table.proofs.BindingLemmas.{first_value-none, value_of-take_key, value_of-put_pair}
 use Rattle.intmap_table.proofs.DistinctLemmas.{length-take_key, length-put_pair, HasDistinctKeys-take_key, HasDistinctKeys-put_pair}

@@ -9,7 +9,7 @@ use Rattle.std.proofs.lemmas.Bool.{cases_eq, cases_lt, eqb-true, eq-eqb, ne_eqb}
 use Rattle.std.proofs.lemmas.List.{reverse-append}
 use Rattle.intmap_table.specs.Bindings.{value_of}
 use Rattle.intmap_table.specs.Classes.{same_key}
-use Rattle.intmap.specs.Laws.EqualityLaws.{value_of-same_number}
+use Rattle.intmap_table.proofs.BindSameLemmas.{value_of-same_number}
 use Rattle.intmap.specs.Extending.{MapInserts, MapInsertsAll, new_keys, IsExtended}
 use Rattle.intmap.specs.Map.{MapState}
 use Rattle.intmap.specs.declared.refusal.Cause.{Cause}

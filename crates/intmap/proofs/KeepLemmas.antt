@@ -5,7 +5,8 @@ use Rattle.std.specs.List.{flat_map, range_with_len}
 use Rattle.std.proofs.lemmas.List.Elements.{filter-append}
 use Rattle.intmap_table.specs.Bindings.{keep_pairs}
 use Rattle.intmap_table.specs.Classes.{slot_number}
-use Rattle.intmap_table.specs.Retaining.{Retains, Retains-filter}
+use Rattle.intmap_table.specs.Retaining.{Retains}
+use Rattle.intmap_table.proofs.RetainLemmas.{Retains-filter}
 use Rattle.intmap_table.specs.Walk.{slot_of, walk_of, StandsFor}
 use Rattle.intmap_table.proofs.ClassLemmas.{flat_map-same}
 use Rattle.intmap.proofs.RewrittenLemmas.{filter-filter}

@@ -5,7 +5,7 @@ use Rattle.std.specs.List.{list_any}
 use Rattle.intmap_table.specs.Classes.{slot_number, same_key}
 use Rattle.intmap_table.specs.Bindings.{write_value, strike_keys}
 use Rattle.intmap_table.specs.Walk.{walk_of}
-use Rattle.intmap_table.specs.Laws.Written.{slot_of-write_value}
+use Rattle.intmap_table.proofs.WrittenLemmas.{slot_of-write_value}
 use Rattle.intmap_table.proofs.WalkLemmas.{SameSlots-from_walk_of, walk_of-same}
 
 module _ {X : Type 0} (keep test : X → Bool) where

@@ -16,7 +16,7 @@ use Rattle.intmap_table.specs.Bindings.{value_of}
 use Rattle.intmap.specs.Growth.{next_capacity}
 use Rattle.intmap.specs.Map.{MapState, with_pair, written}
 use Rattle.intmap.specs.PlainLists.{PlainList, list_of}
-use Rattle.intmap_table.specs.Laws.Written.{IsFound-write_value}
+use Rattle.intmap_table.proofs.WrittenLemmas.{IsFound-write_value}
 use Rattle.intmap_table.specs.Locations.{key_at, the_key}
 use Rattle.intmap_table.specs.Walk.{slot_of}
 

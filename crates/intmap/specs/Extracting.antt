@@ -1,15 +1,12 @@
 -- What a contract sees of pairs that a closure picks to be removed, one at a step, and of an `ExtractIf`.
-use Rattle.std.specs.Prelude.{◌≡◌, ◌+◌, Bool, cond, not, filter, List, [], ◌++◌, length, take, drop, Option, None, IfSome, is_some}
-use Rattle.std.specs.Option.{option_to_list}
-use Rattle.std.proofs.Common.{◌∙◌, sym, ap, append-nil, append_assoc}
-use Rattle.std.proofs.lemmas.List.{take-append-drop}
+use Rattle.std.specs.Prelude.{◌≡◌, ◌+◌, Bool, cond, List, ◌++◌, length, take, drop, Option, IfSome, is_some}
 use Rattle.std.specs.Borrow.{GName, MutBor}
 use Rattle.std.specs.Fn.{Mut}
 use Rattle.std.specs.List.Retain.{ExtractsNext}
 use Rattle.std.specs.declared.cmp.PartialEq as eq
 use Rattle.intmap_table.specs.declared.key.IntKey as key
 use Rattle.intmap_table.specs.Bindings.{IsPresent}
-use Rattle.intmap_table.specs.Picking.{AsksAt, ExtractsNext-end, ExtractsNext-filter, PicksAt}
+use Rattle.intmap_table.specs.Picking.{AsksAt, PicksAt}
 use Rattle.intmap_table.specs.Taking.{TakesEach}
 use Rattle.intmap_table.specs.Writes.{TakesPairMut}
 use Rattle.intmap.specs.declared.map.iter.extract.ExtractIf.{ExtractIf}
@@ -50,24 +47,3 @@ module _ {K V F A : Type 0} {g : key.Ghosts K} {e : eq.Ghosts K} where
         × (extracted_map rest ≡ with_walk (extracted_map d) (extracted_map rest).walk)
         × IfSome r (λ pair. IsPresent g.number_of (extracted_map d).walk pair.0)
         × (length (extracted_map rest).walk + cond (is_some r) 1 0 ≡ length (extracted_map d).walk)
-
-    -- a step that removes none goes to the end of the walk, so all pairs that the map has were kept
-    pub Extracts-end : (d rest : ExtractIf K V F A g e) → Extracts d None rest → (extract_rest rest ≡ []) × (extract_kept rest ≡ (extracted_map rest).walk)
-    Extracts-end d rest step =
-        let none = ExtractsNext-end (PicksAt m) (extract_test d) (extract_test rest) (extract_rest d) step.0.0 (extract_rest rest) step.0.1 in
-        (none, sym (append-nil (extract_kept rest)) ∙ ap (λ Z. extract_kept rest ++ Z) (sym none) ∙ take-append-drop rest.at.passed (extracted_map rest).walk)
-
-    -- a step if each answer is a test of the pair alone, no value is written, and `Own` holds of the closure throughout: the removed pair is the first
-    -- of those left that pass, those that don't are the same before and behind it, and `Own` holds behind it
-    pub Extracts-filter : (Own : F → Type 0) (test : K × V → Bool) → ((f : F) (p : K × V) (b : Bool) (h : F) (q : K × V) → Own f → PicksAt m f p b h q → (b ≡ test p) × (q ≡ p) × Own h)
-        → (d rest : ExtractIf K V F A g e) (r : Option (K × V)) → Own (extract_test d) → Extracts d r rest
-        → (filter test (extract_rest d) ≡ option_to_list r ++ filter test (extract_rest rest))
-        × (extract_kept d ++ filter (λ p. not (test p)) (extract_rest d) ≡ extract_kept rest ++ filter (λ p. not (test p)) (extract_rest rest))
-        × Own (extract_test rest)
-    Extracts-filter Own test each d rest r own step =
-        let told = ExtractsNext-filter (PicksAt m) Own test each (extract_test d) (extract_test rest) (extract_rest d) step.0.0 (extract_rest rest) r own step.0.1 in (
-          told.0,
-          ap (λ Z. extract_kept d ++ Z) told.1 ∙ sym (append_assoc (extract_kept d) step.0.0 (filter (λ p. not (test p)) (extract_rest rest)))
-              ∙ ap (λ Z. Z ++ filter (λ p. not (test p)) (extract_rest rest)) (sym step.0.2),
-          told.2,
-        )

@@ -1,2 +1,2 @@
--- Proofs among the definitions, since definitions are built on them.
+-- Proofs among the definitions, since `impl`s cite them.
 pub mod EqualityLaws

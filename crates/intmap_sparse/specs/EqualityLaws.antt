@@ -1,27 +1,15 @@
 -- The laws of the equality of vectors: it compares the values at every place, and so is an equivalence.
-use Rattle.std.specs.Prelude.{◌≡◌, ◌⊎◌, ℕ, ◌==◌, Bool, true, false, cond, ◌&&◌, List, [], ◌∷◌, Some, None, ℤ, pos, unwrap_or}
-use Rattle.std.proofs.Common.{refl, sym, ap, ◌∙◌, inl, inr}
-use Rattle.std.proofs.lemmas.Bool.{eqb-true}
+-- They are proved among the definitions, since the `impl`s of `PartialEq` and `Eq` cite the last two.
+use Rattle.std.specs.Prelude.{◌≡◌, ◌⊎◌, true, ◌&&◌, None, ℤ, pos, unwrap_or}
+use Rattle.std.proofs.Common.{refl, sym, ◌∙◌, inl, inr}
 use Rattle.std.proofs.lemmas.Bool.Decides.{Decides-int_eq}
 use Rattle.std.proofs.lemmas.List.Sums.{list_all-from_AllPass}
 use Rattle.std.specs.Cmp.{IsPartialEquivalence, IsEquivalence, equiv, first_so, second_so}
-use Rattle.std.specs.List.{list_all}
 use Rattle.std.specs.Ordering.{int_eq}
 use Rattle.intmap.specs.Bindings.{value_of}
+use Rattle.intmap.specs.Laws.EqualityLaws.{unbound-or_passing}
 use Rattle.intmap_sparse.specs.Vectors.{Vector, value_at, HaveSameValues, are_same_along, vectors_equal}
 use Rattle.std.proofs.Math.Bool.{and_comm}
-
--- a test that each stored place passes is passed by a place that is stored
-unstored-or_passing : (test : ℕ → Bool) (V : List (ℕ × ℤ)) (place : ℕ) → list_all (λ pair. test pair.0) V ≡ true
-    → (value_of (λ key. key) V place ≡ None) ⊎ (test place ≡ true)
-unstored-or_passing test [] place all = inl refl
-unstored-or_passing test (p ∷ V) place all = at (p.0 == place) refl (unstored-or_passing test V place (second_so (test p.0) _ all))
-  where
-    at : (b : Bool) → (p.0 == place) ≡ b → (value_of (λ key. key) V place ≡ None) ⊎ (test place ≡ true)
-        → (value_of (λ key. key) (p ∷ V) place ≡ None) ⊎ (test place ≡ true)
-    at true is rest = inr (ap test (sym (eqb-true p.0 place is)) ∙ first_so (test p.0) _ all)
-    at false is (inl none) = inl (ap (λ b. cond b (Some p.1) (value_of (λ key. key) V place)) is ∙ none)
-    at false is (inr passes) = inr passes
 
 -- equal integers are one
 int_eq-true : (x y : ℤ) → int_eq x y ≡ true → x ≡ y
@@ -35,8 +23,8 @@ int_eq-same x y same = (Decides-int_eq x y).1 same
 pub HaveSameValues-from_equal : (v w : Vector) → vectors_equal v w ≡ true → HaveSameValues v.walk w.walk
 HaveSameValues-from_equal v w both place =
     at
-    (unstored-or_passing (λ p. int_eq (value_at v.walk p) (value_at w.walk p)) v.walk place (first_so (are_same_along v.walk w.walk) (are_same_along w.walk v.walk) both))
-    (unstored-or_passing (λ p. int_eq (value_at w.walk p) (value_at v.walk p)) w.walk place (second_so (are_same_along v.walk w.walk) (are_same_along w.walk v.walk) both))
+    (unbound-or_passing (λ key. key) (λ p. int_eq (value_at v.walk p) (value_at w.walk p)) (λ j k same i. int_eq (value_at v.walk (same i)) (value_at w.walk (same i))) v.walk place (first_so (are_same_along v.walk w.walk) (are_same_along w.walk v.walk) both))
+    (unbound-or_passing (λ key. key) (λ p. int_eq (value_at w.walk p) (value_at v.walk p)) (λ j k same i. int_eq (value_at w.walk (same i)) (value_at v.walk (same i))) w.walk place (second_so (are_same_along v.walk w.walk) (are_same_along w.walk v.walk) both))
   where
     at : (value_of (λ key. key) v.walk place ≡ None) ⊎ (int_eq (value_at v.walk place) (value_at w.walk place) ≡ true)
         → (value_of (λ key. key) w.walk place ≡ None) ⊎ (int_eq (value_at w.walk place) (value_at v.walk place) ≡ true)

@@ -1,6 +1,7 @@
 pub mod SlotNumberLemmas
 pub mod ClassLemmas
 pub mod WalkLemmas
+pub mod WrittenLemmas
 pub mod RegroupLemmas
 pub mod LocationLemmas
 pub mod PositionLemmas
@@ -13,5 +14,6 @@ pub mod WritesLemmas
 pub mod ExtractLemmas
 pub mod MappedLemmas
 pub mod BindingLemmas
+pub mod BindSameLemmas
 pub mod Tables
 pub mod Lending

@@ -12,7 +12,7 @@ use Rattle.intmap_table.specs.Bindings.{value_of, IsPresent, take_key, put_pair,
 use Rattle.intmap_table.specs.Locations.{IsAt, IsLast}
 use Rattle.intmap_table.specs.Tables.Slots.{Grid, Held, rows, joined, write_at, AreMarked, IsTable, IsMarkedTable}
 use Rattle.intmap_table.specs.Walk.{slot_of, walk_of}
-use Rattle.intmap_table.specs.Laws.Written.{slot_of-write_value}
+use Rattle.intmap_table.proofs.WrittenLemmas.{slot_of-write_value}
 use Rattle.intmap_table.specs.declared.table.locate.Location.{Location}
 use Rattle.intmap_table.proofs.Tables.FilledLemmas.{marks-kept}
 use Rattle.intmap_table.proofs.MappedLemmas.{flat_map-map}

@@ -1,13 +1,13 @@
 -- What a closure that is asked about each pair in turn leaves of lists, of slots and of tables.
 use Rattle.std.proofs.Common.{◌≡◌, inl, inr, ℕ, suc, ◌+◌, ◌<◌, ◌≤◌, Bool, true, false, cond, List, [], ◌∷◌, ◌++◌, length, get_or, set, take, drop, refl, sym, ap, ◌∙◌, subst, arith, append-nil}
-use Rattle.std.specs.Prelude.{All, count_by}
+use Rattle.std.specs.Prelude.{All, count_by, filter}
 use Rattle.std.specs.List.{swap, FoldsTo}
 use Rattle.std.proofs.lemmas.Bool.{cases_lt, cond_both}
 use Rattle.std.proofs.lemmas.List.{drop_more, take_more_set, take-set-le, drop-set-lt, set-set}
 use Rattle.std.proofs.lemmas.List.Edits.{swap_is}
 use Rattle.std.proofs.lemmas.List.Elements.{All-cons, All-head, All-tail}
 use Rattle.std.proofs.lemmas.List.Sums.{sum_by-cons}
-use Rattle.intmap_table.specs.Retaining.{Retains}
+use Rattle.intmap_table.specs.Retaining.{Retains, state_after, kept_from}
 use Rattle.intmap_table.specs.Taking.{Passes}
 use Rattle.intmap_table.proofs.LeadsLemmas.{Leads, Leads-next}
 
@@ -95,3 +95,23 @@ module _ {X : Type 0} (xs : List X) (k i : ℕ) (d : X) (before : k ≤ i) (belo
     -- the element at place i goes
     pub Leads-goes : R f (get_or xs i d) false h → Leads (Retains R) f₀ L h (take k xs) (drop (i + 1) xs)
     Leads-goes call = subst (λ Z. Leads (Retains R) f₀ L h Z (drop (i + 1) xs)) (append-nil (take k xs)) (asked false call)
+
+module _ {F X : Type 0} (R : F → X → Bool → F → Type 0) where
+  -- what stays if each answer is a test of the element alone, and `Own` holds of the closure throughout
+  pub Retains-filter : (Own : F → Type 0) (test : X → Bool) → ((f : F) (x : X) (b : Bool) (g : F) → Own f → R f x b g → (b ≡ test x) × Own g)
+      → (f g : F) (L M : List X) → Own f → Retains R f L M g → M ≡ filter test L
+  Retains-filter Own test each f g [] M own r = r.0
+  Retains-filter Own test each f g (x ∷ L) M own r =
+      let here = each f x r.0 r.1 own r.3 in
+      let rest = Retains-filter Own test each r.1 g L r.2 here.1 r.4 in
+      r.5 ∙ (λ i. cond (here.0 i) (x ∷ rest i) (rest i))
+
+  -- what stays if each answer is a test with a state, and `Own` says which state the closure is in; and that state
+  pub Retains-kept_from : {S : Type 0} (Own : F → S → Type 0) (says : S → X → Bool) (next : S → X → S)
+      → ((f : F) (x : X) (b : Bool) (g : F) (s : S) → Own f s → R f x b g → (b ≡ says s x) × Own g (next s x))
+      → (s : S) (f g : F) (L M : List X) → Own f s → Retains R f L M g → (M ≡ kept_from says next s L) × Own g (state_after next s L)
+  Retains-kept_from Own says next each s f g [] M own r = (r.0, subst (λ h. Own h s) r.1 own)
+  Retains-kept_from Own says next each s f g (x ∷ L) M own r =
+      let here = each f x r.0 r.1 s own r.3 in
+      let rest = Retains-kept_from Own says next each (next s x) r.1 g L r.2 here.1 r.4 in
+      (r.5 ∙ (λ i. cond (here.0 i) (x ∷ rest.0 i) (rest.0 i)), rest.1)

@@ -1,6 +1,6 @@
 -- What a closure that writes each value in turn leaves of lists, of slots and of tables.
 use Rattle.std.proofs.Common.{Bool, true, false, cond, Some, is_some, ◌≡◌, ℕ, ◌+◌, ◌<◌, List, [], ◌∷◌, ◌++◌, length, get_or, set, take, drop, refl, sym, ap, ◌∙◌, subst, arith}
-use Rattle.std.specs.Prelude.{All}
+use Rattle.std.specs.Prelude.{All, map}
 use Rattle.std.specs.List.{FoldsTo}
 use Rattle.std.specs.Map.{keys_of}
 use Rattle.std.proofs.lemmas.List.{drop_more, take_more_set, drop-set-lt}
@@ -9,7 +9,8 @@ use Rattle.std.proofs.lemmas.Map.Entries.{length-keys_of}
 use Rattle.intmap_table.specs.Bindings.{value_of}
 use Rattle.intmap_table.specs.Classes.{same_key}
 use Rattle.intmap_table.specs.Taking.{Passes}
-use Rattle.intmap_table.specs.Writes.{Writes}
+use Rattle.intmap_table.specs.Retaining.{state_after}
+use Rattle.intmap_table.specs.Writes.{Writes, written_from}
 use Rattle.intmap_table.proofs.LeadsLemmas.{Leads, Leads-next}
 
 module _ {F K V : Type 0} (R : F → K × V → V → F → Type 0) where
@@ -59,3 +60,23 @@ module _ {F K V : Type 0} (R : F → K × V → V → F → Type 0) where
       let next = Leads-next (Writes R) Writes-append f₀ f h L (take i ps) (x ∷ []) (p ∷ []) (drop (i + 1) ps) (subst (λ Z. Leads (Writes R) f₀ L f (take i ps) Z) (drop_more ps i d below) leads) one in
       subst (λ Z. Leads (Writes R) f₀ L h Z (drop (i + 1) (set ps i p))) (sym (take_more_set ps i p below))
       (subst (λ Z. Leads (Writes R) f₀ L h (take i ps ++ p ∷ []) Z) (sym left) next)
+
+module _ {F K V : Type 0} (R : F → K × V → V → F → Type 0) where
+  -- the values if each is made of its pair alone, and `Own` holds of the closure throughout
+  pub Writes-map : (Own : F → Type 0) (value : K × V → V) → ((f : F) (p : K × V) (w : V) (g : F) → Own f → R f p w g → (w ≡ value p) × Own g)
+      → (f g : F) (L M : List (K × V)) → Own f → Writes R f L M g → M ≡ map (λ p. (p.0, value p)) L
+  Writes-map Own value each f g [] M own r = r.0
+  Writes-map Own value each f g (p ∷ L) M own r =
+      let here = each f p r.0 r.1 own r.3 in
+      let rest = Writes-map Own value each r.1 g L r.2 here.1 r.4 in
+      r.5 ∙ (λ i. (p.0, here.0 i) ∷ rest i)
+
+  -- the values if each is made of its pair and of a state, and `Own` says which state the closure is in; and that state
+  pub Writes-written_from : {S : Type 0} (Own : F → S → Type 0) (value : S → K × V → V) (next : S → K × V → S)
+      → ((f : F) (p : K × V) (w : V) (g : F) (s : S) → Own f s → R f p w g → (w ≡ value s p) × Own g (next s p))
+      → (s : S) (f g : F) (L M : List (K × V)) → Own f s → Writes R f L M g → (M ≡ written_from value next s L) × Own g (state_after next s L)
+  Writes-written_from Own value next each s f g [] M own r = (r.0, subst (λ h. Own h s) r.1 own)
+  Writes-written_from Own value next each s f g (p ∷ L) M own r =
+      let here = each f p r.0 r.1 s own r.3 in
+      let rest = Writes-written_from Own value next each (next s p) r.1 g L r.2 here.1 r.4 in
+      (r.5 ∙ (λ i. (p.0, here.0 i) ∷ rest.0 i), rest.1)

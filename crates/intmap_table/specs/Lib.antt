@@ -9,7 +9,6 @@ pub mod Retaining
 pub mod Writes
 pub mod Picking
 pub mod Locations
-pub mod Laws
 pub mod Lending
 pub mod Values
 pub mod Cloning

@@ -1,6 +1,5 @@
 -- What stays of pairs if a closure is asked about each in turn.
-use Rattle.std.specs.Prelude.{◌≡◌, Bool, cond, filter, List, [], ◌∷◌}
-use Rattle.std.proofs.Common.{◌∙◌, subst}
+use Rattle.std.specs.Prelude.{◌≡◌, Bool, cond, List, [], ◌∷◌}
 use Rattle.std.specs.Fn.{Called, Mut, Takes}
 use Rattle.std.specs.Borrow.{Bor}
 
@@ -32,23 +31,3 @@ module _ {S X : Type 0} (says : S → X → Bool) (next : S → X → S) where
   abbrev pub kept_from : S → List X → List X
   kept_from s [] = []
   kept_from s (x ∷ L) = cond (says s x) (x ∷ kept_from (next s x) L) (kept_from (next s x) L)
-
-module _ {F X : Type 0} (R : F → X → Bool → F → Type 0) where
-  -- what stays if each answer is a test of the element alone, and `Own` holds of the closure throughout
-  pub Retains-filter : (Own : F → Type 0) (test : X → Bool) → ((f : F) (x : X) (b : Bool) (g : F) → Own f → R f x b g → (b ≡ test x) × Own g)
-      → (f g : F) (L M : List X) → Own f → Retains R f L M g → M ≡ filter test L
-  Retains-filter Own test each f g [] M own r = r.0
-  Retains-filter Own test each f g (x ∷ L) M own r =
-      let here = each f x r.0 r.1 own r.3 in
-      let rest = Retains-filter Own test each r.1 g L r.2 here.1 r.4 in
-      r.5 ∙ (λ i. cond (here.0 i) (x ∷ rest i) (rest i))
-
-  -- what stays if each answer is a test with a state, and `Own` says which state the closure is in; and that state
-  pub Retains-kept_from : {S : Type 0} (Own : F → S → Type 0) (says : S → X → Bool) (next : S → X → S)
-      → ((f : F) (x : X) (b : Bool) (g : F) (s : S) → Own f s → R f x b g → (b ≡ says s x) × Own g (next s x))
-      → (s : S) (f g : F) (L M : List X) → Own f s → Retains R f L M g → (M ≡ kept_from says next s L) × Own g (state_after next s L)
-  Retains-kept_from Own says next each s f g [] M own r = (r.0, subst (λ h. Own h s) r.1 own)
-  Retains-kept_from Own says next each s f g (x ∷ L) M own r =
-      let here = each f x r.0 r.1 s own r.3 in
-      let rest = Retains-kept_from Own says next each (next s x) r.1 g L r.2 here.1 r.4 in
-      (r.5 ∙ (λ i. cond (here.0 i) (x ∷ rest.0 i) (rest.0 i)), rest.1)

@@ -1,9 +1,7 @@
 -- What values are once a closure was called at each pair in turn.
-use Rattle.std.specs.Prelude.{◌≡◌, List, [], ◌∷◌, map}
-use Rattle.std.proofs.Common.{◌∙◌, subst}
+use Rattle.std.specs.Prelude.{◌≡◌, List, [], ◌∷◌}
 use Rattle.std.specs.Fn.{Called, Mut, Takes}
 use Rattle.std.specs.Borrow.{MutBor}
-use Rattle.intmap_table.specs.Retaining.{state_after}
 
 -- a call of f at the key of p and a `&mut` to its value returned y, and left w there and g of the closure
 pub record CallsAt {F K V Y : Type 0} (m : Mut F (K × (MutBor V × Unit {0})) (Y × (MutBor V × Unit {0}))) (f : F) (p : K × V) (y : Y) (w : V) (g : F) : Type 0 where
@@ -33,23 +31,3 @@ module _ {S K V : Type 0} (value : S → K × V → V) (next : S → K × V → 
   abbrev pub written_from : S → List (K × V) → List (K × V)
   written_from s [] = []
   written_from s (p ∷ L) = (p.0, value s p) ∷ written_from (next s p) L
-
-module _ {F K V : Type 0} (R : F → K × V → V → F → Type 0) where
-  -- the values if each is made of its pair alone, and `Own` holds of the closure throughout
-  pub Writes-map : (Own : F → Type 0) (value : K × V → V) → ((f : F) (p : K × V) (w : V) (g : F) → Own f → R f p w g → (w ≡ value p) × Own g)
-      → (f g : F) (L M : List (K × V)) → Own f → Writes R f L M g → M ≡ map (λ p. (p.0, value p)) L
-  Writes-map Own value each f g [] M own r = r.0
-  Writes-map Own value each f g (p ∷ L) M own r =
-      let here = each f p r.0 r.1 own r.3 in
-      let rest = Writes-map Own value each r.1 g L r.2 here.1 r.4 in
-      r.5 ∙ (λ i. (p.0, here.0 i) ∷ rest i)
-
-  -- the values if each is made of its pair and of a state, and `Own` says which state the closure is in; and that state
-  pub Writes-written_from : {S : Type 0} (Own : F → S → Type 0) (value : S → K × V → V) (next : S → K × V → S)
-      → ((f : F) (p : K × V) (w : V) (g : F) (s : S) → Own f s → R f p w g → (w ≡ value s p) × Own g (next s p))
-      → (s : S) (f g : F) (L M : List (K × V)) → Own f s → Writes R f L M g → (M ≡ written_from value next s L) × Own g (state_after next s L)
-  Writes-written_from Own value next each s f g [] M own r = (r.0, subst (λ h. Own h s) r.1 own)
-  Writes-written_from Own value next each s f g (p ∷ L) M own r =
-      let here = each f p r.0 r.1 s own r.3 in
-      let rest = Writes-written_from Own value next each (next s p) r.1 g L r.2 here.1 r.4 in
-      (r.5 ∙ (λ i. (p.0, here.0 i) ∷ rest.0 i), rest.1)

@@ -8,7 +8,8 @@ use Rattle.std.proofs.lemmas.Bool.{cases_lt, lt-ltb, ltb-true}
 use Rattle.std.proofs.lemmas.Grind.{flat_map-append}
 use Rattle.std.proofs.lemmas.List.{drop_all, drop-append-le, drop-set-lt, length-drop, map-set, take-append-le, take-set-le}
 use Rattle.intmap_table.specs.Classes.{slot_number}
-use Rattle.intmap_table.specs.Picking.{ExtractsBehind, ExtractsNext-end, IsReached}
+use Rattle.intmap_table.specs.Picking.{ExtractsBehind, IsReached}
+use Rattle.intmap_table.proofs.ExtractLemmas.{ExtractsNext-end}
 use Rattle.intmap_table.specs.Tables.Bits.{marked}
 use Rattle.intmap_table.specs.Tables.Slots.{Held, rows, joined, AreMarked, IsTable, IsMarkedTable}
 use Rattle.intmap_table.specs.Taking.{TakesEach}

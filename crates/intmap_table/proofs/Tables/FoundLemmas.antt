@@ -8,7 +8,7 @@ use Rattle.intmap_table.specs.Classes.{slot_number, same_key}
 use Rattle.intmap_table.specs.Locations.{IsAt, IsFound, key_at}
 use Rattle.intmap_table.specs.Tables.Slots.{Held, rows, joined, IsTable}
 use Rattle.intmap_table.specs.Walk.{slot_of}
-use Rattle.intmap_table.specs.Laws.Written.{the_key-same}
+use Rattle.intmap_table.proofs.WrittenLemmas.{the_key-same}
 use Rattle.intmap_table.specs.declared.table.locate.Location.{Location}
 use Rattle.intmap_table.proofs.LocationLemmas.{slot-at, place-within}
 use Rattle.intmap_table.proofs.PositionLemmas.{position-within}

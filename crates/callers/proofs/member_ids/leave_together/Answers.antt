@@ -1,6 +1,6 @@
 use Rattle.std.proofs.Common.{rules, ◌≡◌, sym, subst}
 use Rattle.std.specs.Prelude.{not}
-use Rattle.intmap.specs.Retaining.{Retains-filter}
+use Rattle.intmap.proofs.Callers.{Retains-filter}
 use Rattle.intmap_set.specs.Combined.{IsDifference}
 use Rattle.intmap_set.specs.Sets.{holds}
 use Rattle.callers.proofs.member_ids.leave_together.Goals as goal

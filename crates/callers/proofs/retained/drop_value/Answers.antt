@@ -1,6 +1,6 @@
 use Rattle.std.proofs.Common.{◌≡◌, rules}
 use Rattle.std.specs.Prelude.{◌==◌, not}
-use Rattle.intmap.specs.Retaining.{Retains-filter}
+use Rattle.intmap.proofs.Callers.{Retains-filter}
 use Rattle.callers.proofs.retained.drop_value.Goals as goal
 
 -- the closure keeps the value that it was made with

@@ -1,6 +1,7 @@
 use Rattle.std.proofs.Common.{◌≡◌, false, List, [], ◌∷◌, ◌∙◌, refl, ap, rules}
 use Rattle.std.specs.Prelude.{not}
-use Rattle.intmap.specs.Retaining.{Retains-kept_from, kept_from}
+use Rattle.intmap.proofs.Callers.{Retains-kept_from}
+use Rattle.intmap.specs.Retaining.{kept_from}
 use Rattle.callers.specs.Retained.{every_other}
 use Rattle.callers.proofs.retained.keep_every_other.Goals as goal
 

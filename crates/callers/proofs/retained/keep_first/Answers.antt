@@ -1,6 +1,7 @@
 use Rattle.std.proofs.Common.{refl, rules, arith, take, ◌≡◌, ◌∙◌, ◌+◌, ◌<◌, ◌≤◌, ◌^◌, ℕ, suc, zero, true, false, List, [], ◌∷◌, ap, length}
 use Rattle.std.specs.Prelude.{nat_le}
-use Rattle.intmap.specs.Retaining.{Retains-kept_from, kept_from}
+use Rattle.intmap.proofs.Callers.{Retains-kept_from}
+use Rattle.intmap.specs.Retaining.{kept_from}
 use Rattle.intmap.specs.Taking.{TakesEach-from}
 use Rattle.callers.proofs.retained.keep_first.Goals as goal
 

@@ -1,6 +1,6 @@
 use Rattle.std.proofs.Common.{rules, ◌≡◌, ◌<◌, ℕ, All, false, length, slice_index_or}
 use Rattle.std.proofs.lemmas.List.Elements.{All-head, All-tail}
-use Rattle.intmap.specs.Retaining.{Retains-filter}
+use Rattle.intmap.proofs.Callers.{Retains-filter}
 use Rattle.intmap.specs.Taking.{TakesEach-from}
 use Rattle.callers.proofs.retained.keep_listed.Goals as goal
 

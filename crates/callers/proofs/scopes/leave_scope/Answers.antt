@@ -3,7 +3,8 @@ use Rattle.std.specs.Prelude.{◌==◌, count_by, filter, not}
 use Rattle.std.proofs.lemmas.List.Sums.{count_by-le-length, length-filter, sum_by-cons}
 use Rattle.intmap.specs.Bindings.{value_of}
 use Rattle.intmap.specs.Classes.{same_key}
-use Rattle.intmap.specs.Extracting.{extracted_map, extract_kept, Extracts-end, Extracts-filter}
+use Rattle.intmap.proofs.Callers.{Extracts-end, Extracts-filter}
+use Rattle.intmap.specs.Extracting.{extracted_map, extract_kept}
 use Rattle.intmap.specs.Map.{with_walk}
 use Rattle.callers.specs.Numbered.{value_at}
 use Rattle.callers.specs.Scopes.{outside_of}

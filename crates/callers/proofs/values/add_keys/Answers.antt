@@ -1,7 +1,7 @@
 use Rattle.std.proofs.Common.{rules, ◌+◌, ◌<◌, ◌^◌, ℕ, All}
 use Rattle.std.proofs.lemmas.List.Elements.{All-head, All-tail}
 use Rattle.intmap.specs.Taking.{TakesEach-from}
-use Rattle.intmap.specs.Writes.{Writes-map}
+use Rattle.intmap.proofs.Callers.{Writes-map}
 use Rattle.callers.proofs.values.add_keys.Goals as goal
 
 -- the sums that are still to come are no larger than a value may be

@@ -1,5 +1,5 @@
 use Rattle.std.proofs.Common.{rules, ◌+◌, ◌%◌, ◌^◌}
-use Rattle.intmap.specs.Writes.{Writes-map}
+use Rattle.intmap.proofs.Callers.{Writes-map}
 use Rattle.callers.proofs.values.add_one_to_all.Goals as goal
 
 -- the closure keeps nothing of its own

@@ -1,5 +1,6 @@
 use Rattle.std.proofs.Common.{◌≡◌, ℕ, List, [], ◌∷◌, ◌∙◌, refl, ap, rules, ◌+◌, ◌%◌, ◌^◌}
-use Rattle.intmap.specs.Writes.{Writes-written_from, written_from}
+use Rattle.intmap.proofs.Callers.{Writes-written_from}
+use Rattle.intmap.specs.Writes.{written_from}
 use Rattle.callers.specs.Values.{sums_from}
 use Rattle.callers.proofs.values.add_up.Goals as goal
 

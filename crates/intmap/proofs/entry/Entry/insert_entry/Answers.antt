@@ -3,7 +3,7 @@ use Rattle.intmap_table.specs.Bindings.{value_of}
 use Rattle.intmap.specs.Entries.{occupied_key}
 use Rattle.intmap.specs.Insertions.{IsInsertion}
 use Rattle.intmap.specs.Map.{written}
-use Rattle.intmap_table.specs.Laws.Written.{IsFound-write_value, key_at-written, the_key-same}
+use Rattle.intmap_table.proofs.WrittenLemmas.{IsFound-write_value, key_at-written, the_key-same}
 use Rattle.intmap.proofs.InsertionLemmas.{IsInsertion-written}
 use Rattle.intmap.proofs.entry.Entry.insert_entry.Goals as goal
 

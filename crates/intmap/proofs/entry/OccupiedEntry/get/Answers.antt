@@ -1,6 +1,6 @@
 use Rattle.std.proofs.Common.{refl, ap, sym, ◌∙◌}
 use Rattle.intmap_table.specs.Bindings.{value_of}
-use Rattle.intmap_table.specs.Laws.Written.{the_key-same}
+use Rattle.intmap_table.proofs.WrittenLemmas.{the_key-same}
 use Rattle.intmap.proofs.entry.OccupiedEntry.get.Goals as goal
 
 pub returns : goal.returns

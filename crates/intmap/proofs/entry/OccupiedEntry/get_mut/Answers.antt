@@ -1,7 +1,7 @@
 use Rattle.std.proofs.Common.{◌≡◌, refl, ap, sym, ◌∙◌}
 use Rattle.intmap_table.specs.Bindings.{value_of}
 use Rattle.intmap.specs.Entries.{occupied_key}
-use Rattle.intmap_table.specs.Laws.Written.{IsFound-write_value, the_key-same}
+use Rattle.intmap_table.proofs.WrittenLemmas.{IsFound-write_value, the_key-same}
 use Rattle.intmap.proofs.EntryLemmas.{occupied-rewritten}
 use Rattle.intmap.proofs.WriteLemmas.{Updates-written, length-write_value, IsMapWalk-written}
 use Rattle.intmap.proofs.entry.OccupiedEntry.get_mut.Goals as goal

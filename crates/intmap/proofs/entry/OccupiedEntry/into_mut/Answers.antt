@@ -2,7 +2,7 @@ use Rattle.std.proofs.Common.{◌≡◌, refl, ap, sym, ◌∙◌}
 use Rattle.intmap_table.specs.Bindings.{value_of}
 use Rattle.intmap.specs.Entries.{occupied_key}
 use Rattle.intmap.specs.Map.{written}
-use Rattle.intmap_table.specs.Laws.Written.{the_key-same}
+use Rattle.intmap_table.proofs.WrittenLemmas.{the_key-same}
 use Rattle.intmap.proofs.WriteLemmas.{Updates-written, length-write_value, IsMapWalk-written}
 use Rattle.intmap.proofs.entry.OccupiedEntry.into_mut.Goals as goal
 

@@ -2,7 +2,7 @@ use Rattle.std.proofs.Common.{◌≡◌, Some, refl, ap, sym, ◌∙◌, arith}
 use Rattle.intmap_table.specs.Bindings.{value_of}
 use Rattle.intmap.specs.Entries.{occupied_key}
 use Rattle.intmap.specs.Map.{without_key}
-use Rattle.intmap_table.specs.Laws.Written.{the_key-same}
+use Rattle.intmap_table.proofs.WrittenLemmas.{the_key-same}
 use Rattle.intmap.proofs.AfterLemmas.{Updates-taken, length-taken}
 use Rattle.intmap.proofs.MapLemmas.{one_less}
 use Rattle.intmap.proofs.entry.OccupiedEntry.remove_entry.Goals as goal

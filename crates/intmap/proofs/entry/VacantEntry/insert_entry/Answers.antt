@@ -3,7 +3,7 @@ use Rattle.intmap.specs.Entries.{Vacant, entry_list}
 use Rattle.intmap_table.specs.Locations.{key_at}
 use Rattle.intmap_table.specs.Walk.{slot_of}
 use Rattle.intmap.specs.Map.{MapState, with_pair}
-use Rattle.intmap_table.specs.Laws.Written.{the_key-same}
+use Rattle.intmap_table.proofs.WrittenLemmas.{the_key-same}
 use Rattle.intmap.proofs.EntryLemmas.{next_capacity-inserted}
 use Rattle.intmap_table.proofs.Tables.FoundLemmas.{IsFound-located, key_at-located}
 use Rattle.intmap.proofs.RefusalLemmas.{lone-never_refused}

@@ -1,5 +1,5 @@
 use Rattle.std.proofs.Common.{Some, refl}
-use Rattle.intmap_table.specs.Laws.Written.{the_key-same}
+use Rattle.intmap_table.proofs.WrittenLemmas.{the_key-same}
 use Rattle.intmap_table.proofs.Tables.FoundLemmas.{IsFound-located}
 use Rattle.intmap.proofs.map.IntMap.entry.Goals as goal
 

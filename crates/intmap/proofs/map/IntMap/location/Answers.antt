@@ -1,6 +1,6 @@
 use Rattle.std.proofs.Common.{subst, sym, refl}
 use Rattle.intmap_table.specs.Locations.{IsAt}
-use Rattle.intmap_table.specs.Laws.Written.{the_key-same}
+use Rattle.intmap_table.proofs.WrittenLemmas.{the_key-same}
 use Rattle.intmap.proofs.map.IntMap.location.Goals as goal
 
 pub returns-clause-at : goal.returns-clause-at

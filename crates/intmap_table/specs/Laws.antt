@@ -1,2 +1,0 @@
--- Proofs among the definitions, since definitions are built on them.
-pub mod Written
