@@ -47,6 +47,8 @@ pub struct IntMap<K: IntKey, V, A: Allocator + Copy = Global> {
     compared: Steps,
 }
 
+// Invariant: the walk is that of a map, and the length and the threshold are those of its pairs,
+// slots and load factor.
 impl<K: IntKey, V, A: Allocator + Copy> Model for IntMap<K, V, A> {
     ghost use Rattle.intmap.specs.Map.{MapState};
     ghost use Rattle.intmap.specs.Consistency.{IsConsistent};

@@ -24,6 +24,7 @@ pub struct SparseVec<A: Allocator + Copy = Global> {
     values: IntMap<u64, i64, A>,
 }
 
+// Invariant: no stored value is 0, and the load factor is that of every vector.
 impl<A: Allocator + Copy> Model for SparseVec<A> {
     ghost use Rattle.std.specs.Prelude.{◌≡◌};
     ghost use Rattle.intmap_sparse.specs.Vectors.{Vector, HasNoZeros, load_factor};

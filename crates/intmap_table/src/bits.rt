@@ -15,6 +15,7 @@ pub(crate) struct Bits<A: Allocator> {
     words: Vec<u64, A>,
 }
 
+// Invariant: there are at most 2^63 bits.
 impl<A: Allocator> Model for Bits<A> {
     ghost use Rattle.std.specs.Prelude.{List, Bool, ◌*◌, ◌^◌, ◌≤◌, length};
     ghost use Rattle.intmap_table.specs.Tables.Bits.{marks_of};
@@ -163,6 +164,7 @@ pub(crate) struct Places<'a> {
     words: &'a [u64],
 }
 
+// Invariant: the words that are left begin at most at bit 2^63.
 impl<'a> Model for Places<'a> {
     ghost use Rattle.std.specs.Prelude.{List, ℕ, ◌∷◌, ◌+◌, ◌*◌, ◌^◌, ◌≤◌, length};
     ghost use Rattle.intmap_table.specs.Tables.Bits.{places_from};

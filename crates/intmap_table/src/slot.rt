@@ -23,6 +23,7 @@ pub(crate) struct Slot<K: IntKey, X, A: Allocator> {
     rest: Vec<(Stored<K>, X), A>,
 }
 
+// Invariant: a slot without a first pair has no others.
 impl<K: IntKey, X, A: Allocator> Model for Slot<K, X, A> {
     ghost use Rattle.std.specs.Prelude.{◌+◌, vec_capacity};
     ghost use Rattle.intmap_table.specs.Tables.Slots.{Held, all_pairs, HasFirst};

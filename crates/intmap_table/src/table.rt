@@ -89,6 +89,8 @@ pub struct Table<K: IntKey, X, A: Allocator> {
     slots: Vec<Slot<K, X, A>, A>,
 }
 
+// Invariant: each pair is in the slot of its key, the bits mark the slots that hold pairs, and the
+// mask is one less than the number of slots.
 impl<K: IntKey, X, A: Allocator> Model for Table<K, X, A> {
     ghost use Rattle.std.specs.Prelude.{length};
     ghost use Rattle.intmap_table.specs.Tables.Slots.{Grid, rows, joined, IsMaskedTable};

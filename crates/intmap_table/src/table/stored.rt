@@ -13,6 +13,7 @@ pub struct Stored<K: IntKey> {
     key: K,
 }
 
+// Invariant: the key is valid.
 impl<K: IntKey> Model for Stored<K> {
     ghost Value = { K };
 

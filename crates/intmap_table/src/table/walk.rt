@@ -55,6 +55,7 @@ pub struct Pairs<'a, K: IntKey, X, A: Allocator> {
     pub(super) slots: &'a [Slot<K, X, A>],
 }
 
+// Invariant: each place that is left is that of a slot.
 impl<'a, K: IntKey, X, A: Allocator> Model for Pairs<'a, K, X, A> {
     ghost use Rattle.std.specs.Prelude.{List, All, ◌<◌, ◌++◌, length};
     ghost use Rattle.std.specs.Option.{option_copied};

@@ -26,6 +26,7 @@ pub struct IterMut<'a, K: IntKey, V, A: Allocator + Copy = Global> {
     pub(crate) lent: Lent<'a, V>,
 }
 
+// Invariant: what is lent are the values of the pairs, in their order.
 impl<'a, K: IntKey, V, A: Allocator + Copy> Model for IterMut<'a, K, V, A> {
     ghost use base.Fml.{GName};
     ghost use Rattle.std.specs.Prelude.{◌≡◌, List};

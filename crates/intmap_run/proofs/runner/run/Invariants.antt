@@ -4,6 +4,7 @@ use Rattle.intmap.specs.Map.{IsMap}
 use Rattle.intmap_run.proofs.RunLemmas.{Leads}
 use Rattle.intmap_run.proofs.runner.run.Given as goal
 
+-- a run over the commands that are left ends a run over all of them, and the list has room for one more answer each
 abbrev pub invariant-loop-command : goal.invariant-loop-command
 invariant-loop-command g l = record {
   leads :

@@ -3,6 +3,7 @@ use Rattle.std.specs.List.{AllZip}
 use Rattle.intmap_table.specs.Cloning.{IsPairClone}
 use Rattle.intmap_table.proofs.slot.clone_in.Given as goal
 
+-- the pairs made so far are clones of the first ones, and the list has room for all
 abbrev pub invariant-loop-pair : goal.invariant-loop-pair
 invariant-loop-pair g l = record {
   pushed : vec_len l.made ≡ l.pair-index;

@@ -4,6 +4,7 @@ use Rattle.std.specs.List.{list_any}
 use Rattle.intmap_table.specs.Tables.Slots.{rows}
 use Rattle.intmap_table.proofs.table.clear_slots.Given as goal
 
+-- there are as many slots as before, and each slot whose place isn't left holds no pair
 abbrev pub invariant-loop-index : goal.invariant-loop-index
 invariant-loop-index g l = record {
   len : length l.slots.items ≡ length l.fn.slots.items;

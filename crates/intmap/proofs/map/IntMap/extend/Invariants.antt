@@ -4,6 +4,7 @@ use Rattle.intmap.specs.Extending.{IsExtended}
 use Rattle.intmap.specs.Map.{IsMap}
 use Rattle.intmap.proofs.map.IntMap.extend.Given as goal
 
+-- the pairs so far are inserted in the map, and counted up to 2 ^ 64 - 1; the map is valid, as it was before
 abbrev pub invariant-loop-key : goal.invariant-loop-key
 invariant-loop-key g l =
     ((goal.iterator-loop-key g).can_next l.key-iterator × (goal.iterator-loop-key g).is_finite l.key-iterator)

@@ -3,6 +3,7 @@ use Rattle.intmap.specs.Draining.{drain_rest, drained_map, drain_lender}
 use Rattle.intmap.specs.Map.{with_walk}
 use Rattle.intmap_run.proofs.runner.lists.take_front.Given as goal
 
+-- the pairs so far are the front of the walk, the map has the others, and the list has room for all that are wanted
 abbrev pub invariant-loop : goal.invariant-loop
 invariant-loop g l = record {
   front : l.pairs.items ++ drain_rest l.drain ≡ l.fn.map.walk;

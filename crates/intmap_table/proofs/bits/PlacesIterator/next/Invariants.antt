@@ -2,6 +2,7 @@ use Rattle.std.proofs.Common.{◌≡◌, ◌∷◌, ◌+◌, ◌*◌, ◌^◌, �
 use Rattle.intmap_table.specs.Tables.Bits.{places_from}
 use Rattle.intmap_table.proofs.bits.PlacesIterator.next.Given as goal
 
+-- the places of this word and of the words behind it are those that were left at the call, and all these words begin at most at 2 ^ 63
 abbrev pub invariant-loop-self : goal.invariant-loop-self
 invariant-loop-self l = record {
   left : places_from l.self-inside.base (l.self-inside.word ∷ l.self-inside.words.now) ≡ l.fn.self;

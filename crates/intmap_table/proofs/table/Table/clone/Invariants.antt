@@ -3,6 +3,7 @@ use Rattle.std.specs.List.{AllZip}
 use Rattle.intmap_table.proofs.Tables.CloneLemmas.{IsSlotClone}
 use Rattle.intmap_table.proofs.table.Table.clone.Given as goal
 
+-- the slots made so far are clones of the first ones, and the list has room for all
 abbrev pub invariant-loop-slot : goal.invariant-loop-slot
 invariant-loop-slot g l = record {
   pushed : vec_len l.slots ≡ l.slot-index;

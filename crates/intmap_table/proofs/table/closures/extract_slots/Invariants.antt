@@ -7,6 +7,7 @@ use Rattle.intmap_table.proofs.ExtractLemmas.{StepsTo}
 use Rattle.intmap_table.proofs.Tables.ExtractSlotsLemmas.{IsAt}
 use Rattle.intmap_table.proofs.table.closures.extract_slots.Given as goal
 
+-- a step from the cursor on is one from where it was at the call, and the slots are a table with its marks
 abbrev pub invariant-loop-slot : goal.invariant-loop-slot
 invariant-loop-slot g l = record {
   callable : TakesEach (AsksAt g.F.FnMut) (TakesPairMut g.F.FnMut) l.f (drop l.at.passed (joined (rows l.slots.items)));

@@ -5,6 +5,7 @@ use Rattle.intmap_table.specs.Tables.Slots.{rows, joined, IsMarkedTable}
 use Rattle.intmap_table.proofs.LeadsLemmas.{Leads}
 use Rattle.intmap_table.proofs.table.closures.retain_slots.Given as goal
 
+-- the pairs that stay so far are in the slots before this one, in their order, and the slots are a table with its marks
 abbrev pub invariant-loop-index : goal.invariant-loop-index
 invariant-loop-index g l = record {
   callable : TakesEach (KeepsAt g.F.FnMut) (TakesPair g.F.FnMut) l.f (joined (drop l.from (rows l.slots.items)));

@@ -6,6 +6,7 @@ use Rattle.intmap_table.specs.Writes.{Writes, WritesAt, TakesPairMut}
 use Rattle.intmap_table.proofs.LeadsLemmas.{Leads}
 use Rattle.intmap_table.proofs.table.closures.write_slots.Given as goal
 
+-- the closure wrote the values in the marked slots before those that are left, and the slots are a table with its marks
 abbrev pub invariant-loop-index : goal.invariant-loop-index
 invariant-loop-index g l = record {
   callable : TakesEach (WritesAt g.F.FnMut) (TakesPairMut g.F.FnMut) l.f (pairs_at (rows l.slots.items) l.index-iterator);

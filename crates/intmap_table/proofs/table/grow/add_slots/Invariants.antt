@@ -2,6 +2,7 @@ use Rattle.std.proofs.Common.{◌≡◌, ◌+◌, ◌≤◌, ◌++◌, length, r
 use Rattle.intmap_table.specs.Tables.Moves.{emptied}
 use Rattle.intmap_table.proofs.table.grow.add_slots.Given as goal
 
+-- so many empty slots are behind the old ones, and the vector has room for all
 abbrev pub invariant-loop : goal.invariant-loop
 invariant-loop g l = record {
   slots : l.slots.items ≡ l.fn.slots.items ++ replicate l.counter emptied;

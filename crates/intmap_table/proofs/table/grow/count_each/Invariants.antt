@@ -2,6 +2,7 @@ use Rattle.std.proofs.Common.{◌≡◌, ℕ, ◌+◌, ◌<◌, length, get_or, 
 use Rattle.intmap_table.proofs.Tables.CountLemmas.{in_part}
 use Rattle.intmap_table.proofs.table.grow.count_each.Given as goal
 
+-- to the count of each part was added how many of the pairs so far go there
 abbrev pub invariant-loop-pair : goal.invariant-loop-pair
 invariant-loop-pair g l = record {
   len : length l.counts ≡ length l.fn.counts;

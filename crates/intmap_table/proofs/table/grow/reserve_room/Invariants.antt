@@ -4,6 +4,7 @@ use Rattle.intmap_table.specs.Tables.Moves.{rooms}
 use Rattle.intmap_table.proofs.Tables.CountLemmas.{IsShared, spare_rooms}
 use Rattle.intmap_table.proofs.table.grow.reserve_room.Given as goal
 
+-- the parts before this one have room for the pairs counted for them, except at most one; no pair has moved, and all other slots have the rooms that they had
 abbrev pub invariant-loop-part : goal.invariant-loop-part
 invariant-loop-part g l = record {
   rows : rows l.slots ≡ rows l.fn.slots;

@@ -3,6 +3,7 @@ use Rattle.intmap_table.specs.Tables.Slots.{rows, joined}
 use Rattle.intmap_table.proofs.Tables.MovingLemmas.{AreMoved}
 use Rattle.intmap_table.proofs.table.place.move_all.Given as goal
 
+-- the old slots before a place are moved, those behind it that aren't left hold no pair, and each moved pair is counted
 abbrev pub invariant-loop-index : goal.invariant-loop-index
 invariant-loop-index g l = record {
   place : ℕ;

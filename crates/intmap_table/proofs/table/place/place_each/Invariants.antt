@@ -2,6 +2,7 @@ use Rattle.std.proofs.Common.{◌≡◌, ◌+◌, ◌≤◌, List, [], ◌++◌,
 use Rattle.intmap_table.specs.Tables.Moves.{IsPlaced, HasRoom, AreSet, AreTold}
 use Rattle.intmap_table.proofs.table.place.place_each.Given as goal
 
+-- the pairs so far are placed, marked and counted, and there is room for those that are still in the buffer
 abbrev pub invariant-loop-pair : goal.invariant-loop-pair
 invariant-loop-pair g l = record {
   done : List (g.row.K.Denot × g.row.X.Denot);

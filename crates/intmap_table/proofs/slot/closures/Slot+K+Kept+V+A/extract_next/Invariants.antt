@@ -5,6 +5,7 @@ use Rattle.intmap_table.specs.Taking.{TakesEach}
 use Rattle.intmap_table.proofs.ExtractLemmas.{StepsTo}
 use Rattle.intmap_table.proofs.slot.closures.Slot+K+Kept+V+A.extract_next.Given as goal
 
+-- a step from this place on is one from the place at the call, and the closure may be called at each pair from here on
 abbrev pub invariant-loop-place : goal.invariant-loop-place
 invariant-loop-place g l = record {
   callable : TakesEach (AsksAt g.F.FnMut) (TakesPairMut g.F.FnMut) l.f (drop l.place l.self.pairs);
