@@ -10,7 +10,7 @@ use Rattle.std.specs.Prelude.{◌↔◌, ◌&&◌, ◌||◌, not, nat_lt, Option
 use Rattle.intmap.specs.Classes.{same_key}
 use Rattle.intmap_set.specs.Sets.{holds}
 use Rattle.intmap_set.specs.Combined.{IsDifference, IsDisjoint, IsIntersection, IsSubset, IsSymmetricDifference, IsUnion, common_of, difference_of, intersection_of, symmetric_difference_of, union_of}
-use Rattle.intmap_set.specs.EqualityLaws.{holds-same_number, same_key-itself}
+use Rattle.intmap_set.proofs.MemberLemmas.{holds-same_number, same_key-itself}
 
 -- what passes neither way round
 or-not : (b c : Bool) → (b || (c && not b)) ≡ (b || c)

@@ -9,7 +9,7 @@ use Rattle.intmap.specs.Bindings.{HasDistinctKeys}
 use Rattle.intmap.specs.Classes.{same_key}
 use Rattle.intmap_set.specs.Sets.{holds, paired}
 use Rattle.intmap_set.specs.Combined.{common_of, difference_of, intersection_of, union_of}
-use Rattle.intmap_set.specs.EqualityLaws.{holds-same_number, same_key-itself}
+use Rattle.intmap_set.proofs.MemberLemmas.{holds-same_number, same_key-itself}
 use Rattle.intmap_set.proofs.ExtendLemmas.{same_key-turned}
 
 module _ {X : Type 0} where

@@ -9,9 +9,10 @@ use Rattle.intmap.specs.Bindings.{HasDistinctKeys}
 use Rattle.intmap.specs.Classes.{same_key}
 use Rattle.intmap_set.specs.Sets.{holds, paired}
 use Rattle.intmap_set.specs.Combined.{IsDisjoint, common_of, difference_of, intersection_of, symmetric_difference_of, union_of}
-use Rattle.intmap_set.specs.EqualityLaws.{holds-same_number, or-second, same_key-itself}
-use Rattle.intmap_set.specs.Extending.{new_keys}
+use Rattle.intmap.specs.Extending.{new_keys}
 use Rattle.intmap_set.proofs.CombinedLemmas.{IsDifference-difference_of}
+use Rattle.intmap_set.proofs.ExtendLemmas.{new_keys-paired}
+use Rattle.intmap_set.proofs.MemberLemmas.{holds-same_number, same_key-itself}
 use Rattle.intmap_set.proofs.CountLemmas.{IsOnce, IsOnce-distinct, count_by-cons, count_by-paired, list_any-uncounted}
 
 module _ {X : Type 0} where
@@ -108,10 +109,10 @@ module _ {K : Type 0} (number : K → ℕ) where
         (IsOnce-filter (λ k. not (holds number V k)) W once_second) (IsDisjoint-alone V W))
 
   -- distinct keys that aren't members are all new
-  all_new : (W ks : List K) → IsDisjoint number ks W → IsOnce number ks → new_keys number W ks ≡ ks
+  all_new : (W ks : List K) → IsDisjoint number ks W → IsOnce number ks → new_keys number (paired W) (paired ks) ≡ ks
   all_new W [] apart once = refl
   all_new W (k ∷ ks) apart once =
-      ap (λ b. cond b (new_keys number W ks) (k ∷ new_keys number (k ∷ W) ks)) (apart k (ap (λ b. b || holds number ks k) (same_key-itself number k)))
+      new_keys-paired number W k ks ∙ ap (λ b. cond b (new_keys number (paired W) (paired ks)) (k ∷ new_keys number (paired (k ∷ W)) (paired ks))) (apart k (ap (λ b. b || holds number ks k) (same_key-itself number k)))
       ∙ ap (λ rest. k ∷ rest) (all_new (k ∷ W) ks others later)
     where
       later : IsOnce number ks
@@ -126,8 +127,8 @@ module _ {K : Type 0} (number : K → ℕ) where
         where
           at : (b : Bool) → same_key number q k ≡ b → (same_key number q k || holds number W q) ≡ false
           at true is = absurd (true≢false (sym has ∙ holds-same_number number ks q k (sym (eqb-true (number k) (number q) is)) ∙ alone))
-          at false is = ap (λ b. b || holds number W q) is ∙ apart q (or-second (same_key number q k) (holds number ks q) has)
+          at false is = ap (λ b. b || holds number W q) is ∙ apart q (ap (λ b. b || holds number ks q) is ∙ has)
 
   -- distinct keys are inserted each as a new one
-  pub new_keys-distinct : (W ks : List K) → IsDisjoint number ks W → HasDistinctKeys number (paired ks) → new_keys number W ks ≡ ks
+  pub new_keys-distinct : (W ks : List K) → IsDisjoint number ks W → HasDistinctKeys number (paired ks) → new_keys number (paired W) (paired ks) ≡ ks
   new_keys-distinct W ks apart distinct = all_new W ks apart (IsOnce-distinct number ks distinct)

@@ -1,45 +1,41 @@
--- Maps without values are equal exactly if their sets are.
-use Rattle.std.proofs.Common.{◌≡◌, ◌∙◌, ℕ, Bool, true, refl, sym}
-use Rattle.std.proofs.lemmas.Bool.{true≢false}
-use Rattle.std.specs.Bool.{one_answer}
-use Rattle.std.specs.Cmp.{IsPartialEquivalence}
+-- Sets are equal exactly if they have the same members.
+use Rattle.std.proofs.Common.{◌≡◌, ◌∙◌, ℕ, Bool, true, false, refl, sym}
+use Rattle.std.specs.Bool.{Decides}
+use Rattle.std.specs.Cmp.{partial_equiv_from_equiv}
 use Rattle.std.specs.Option.{option_eq}
-use Rattle.std.specs.Prelude.{Option, Some, None, is_some}
-use Rattle.intmap.specs.Equality.{maps_equal}
+use Rattle.std.specs.Prelude.{◌↔◌, IsTrue, Option, Some, None, is_some}
 use Rattle.intmap.specs.Laws.EqualityLaws.{maps_equal-iff_BindSame}
-use Rattle.intmap.specs.Map.{MapState}
-use Rattle.intmap_set.specs.EqualityLaws.{sets_equal-iff_members}
-use Rattle.intmap_set.specs.Combined.{sets_equal}
-use Rattle.intmap_set.specs.Sets.{SetState, set_of}
-use Rattle.intmap_set.proofs.MemberLemmas.{holds-keys_of}
+use Rattle.intmap_set.specs.Sets.{SetState, as_map}
+use Rattle.intmap_set.specs.Combined.{IsSubset, HaveSameMembers, sets_equal}
+use Rattle.intmap_set.specs.EqualityLaws.{IsEquivalence-unit}
+use Rattle.intmap_set.proofs.MemberLemmas.{holds-paired}
 
-module _ (equal : Unit {0} → Unit {0} → Bool) (same : equal tt tt ≡ true) where
-  -- options without values that are equal are there alike
-  there_alike : (o p : Option (Unit {0})) → option_eq equal o p ≡ true → is_some o ≡ is_some p
-  there_alike None None is = refl
-  there_alike None (Some v) is = absurd (true≢false (sym is))
-  there_alike (Some v) None is = absurd (true≢false (sym is))
-  there_alike (Some v) (Some w) is = refl
+-- two tests that follow from each other return the same
+both_ways : (b c : Bool) → (b ≡ true → c ≡ true) → (c ≡ true → b ≡ true) → b ≡ c
+both_ways true c there back = sym (there refl)
+both_ways false true there back = back refl
+both_ways false false there back = refl
 
-  -- and the other way round
-  alike_there : (o p : Option (Unit {0})) → is_some o ≡ is_some p → option_eq equal o p ≡ true
-  alike_there None None is = refl
-  alike_there None (Some v) is = absurd (true≢false (sym is))
-  alike_there (Some v) None is = absurd (true≢false is)
-  alike_there (Some v) (Some w) is = same
+-- options without values are equal exactly if they are there alike
+there_alike : (o p : Option (Unit {0})) → option_eq (λ v w. true) o p ≡ true ↔ is_some o ≡ is_some p
+there_alike None None = (λ is. refl, λ is. refl)
+there_alike None (Some v) = (λ is. is, λ is. is)
+there_alike (Some v) None = (sym, sym)
+there_alike (Some v) (Some w) = (λ is. refl, λ is. refl)
 
-  -- all values are equal
-  laws : IsPartialEquivalence equal
-  laws = record { symm = λ x y. refl; trans = λ x y z first second. same }
-
-  module _ {K : Type 0} (number : K → ℕ) where
-    -- the maps are equal exactly if the sets of their keys are
-    pub sets_equal-maps_equal : (m n : MapState K (Unit {0})) (s t : SetState K) → set_of m ≡ s → set_of n ≡ t
-        → maps_equal number equal m n ≡ sets_equal number s t
-    sets_equal-maps_equal m n s t seen other =
-        one_answer _ _ (
-          λ is q. holds-keys_of number m.walk q ∙ there_alike _ _ ((maps_equal-iff_BindSame number equal laws m n).0 is q) ∙ sym (holds-keys_of number n.walk q),
-          λ each. (maps_equal-iff_BindSame number equal laws m n).1 (λ q. alike_there _ _ (sym (holds-keys_of number m.walk q) ∙ each q ∙ holds-keys_of number n.walk q)),
+module _ {K : Type 0} (number : K → ℕ) where
+  module _ (s t : SetState K) where
+    -- sets are equal exactly if they have the same members
+    pub sets_equal-iff_members : Decides (sets_equal number s t) (HaveSameMembers number s.walk t.walk)
+    sets_equal-iff_members =
+        let law = maps_equal-iff_BindSame number (λ v w. true) (partial_equiv_from_equiv IsEquivalence-unit) (as_map s) (as_map t) in (
+          λ is q. holds-paired number s.walk q ∙ (there_alike _ _).0 (law.0 is q) ∙ sym (holds-paired number t.walk q),
+          λ same. law.1 (λ q. (there_alike _ _).1 (sym (holds-paired number s.walk q) ∙ same q ∙ holds-paired number t.walk q)),
         )
-        (sets_equal-iff_members number (set_of m) (set_of n))
-        ∙ (λ i. sets_equal number (seen i) (other i))
+
+    -- and exactly if each is a subset of the other
+    pub sets_equal-iff_subsets : IsTrue (sets_equal number s t) ↔ (IsSubset number s.walk t.walk × IsSubset number t.walk s.walk)
+    sets_equal-iff_subsets = (
+      λ is. (λ q has. sym (sets_equal-iff_members.0 is q) ∙ has, λ q has. sets_equal-iff_members.0 is q ∙ has),
+      λ subs. sets_equal-iff_members.1 (λ q. both_ways _ _ (subs.0 q) (subs.1 q)),
+    )

@@ -5,10 +5,11 @@ use Rattle.std.proofs.lemmas.List.Folds.{list_any-append}
 use Rattle.std.specs.Prelude.{◌||◌}
 use Rattle.intmap.specs.Bindings.{value_of}
 use Rattle.intmap.specs.Classes.{same_key}
+use Rattle.intmap.specs.Extending.{new_keys}
 use Rattle.intmap.proofs.CostLemmas.{capacity-not_less}
 use Rattle.intmap_set.specs.Sets.{SetState, holds, load_factor, paired}
-use Rattle.intmap_set.specs.EqualityLaws.{holds-same_number}
-use Rattle.intmap_set.specs.Extending.{new_keys, Inserts, InsertsAll, IsExtended}
+use Rattle.intmap_set.specs.Extending.{Inserts, InsertsAll, IsExtended}
+use Rattle.intmap_set.proofs.MemberLemmas.{holds-paired, holds-same_number}
 
 -- a second of two that follows from the first adds nothing
 or-absorbed : (a b c : Bool) → (b ≡ true → a ≡ true) → (a || c) ≡ (a || (b || c))
@@ -44,24 +45,35 @@ module _ {K : Type 0} (number : K → ℕ) where
   same_key-holds : (W : List K) (j k : K) → holds number W j ≡ true → same_key number k j ≡ true → holds number W k ≡ true
   same_key-holds W j k here is = holds-same_number number W k j (sym (eqb-true (number j) (number k) is)) ∙ here
 
+  -- the keys of pairs with () that are new, one after another
+  pub new_keys-paired : (W : List K) (k : K) (ks : List K) → new_keys number (paired W) (paired (k ∷ ks))
+      ≡ cond (holds number W k) (new_keys number (paired W) (paired ks)) (k ∷ new_keys number (paired (k ∷ W)) (paired ks))
+  new_keys-paired W k ks = ap (λ b. cond b (new_keys number (paired W) (paired ks)) (k ∷ new_keys number (paired (k ∷ W)) (paired ks))) (sym (holds-paired number W k))
+
+  -- how many keys are new
+  abbrev pub count_new : List K → List K → ℕ
+  count_new W ks = length (new_keys number (paired W) (paired ks))
+
   -- one key more is new if it is neither a member nor among those before
-  pub length-new_keys-push : (W ks : List K) (k : K) → length (new_keys number W (ks ++ k ∷ [])) ≡ length (new_keys number W ks) + cond (holds number W k || holds number ks k) 0 1
-  length-new_keys-push W [] k = at (holds number W k)
+  pub count_new-push : (W ks : List K) (k : K) → count_new W (ks ++ k ∷ []) ≡ count_new W ks + cond (holds number W k || holds number ks k) 0 1
+  count_new-push W [] k = ap length (new_keys-paired W k []) ∙ at (holds number W k)
     where
       at : (b : Bool) → length (cond b [] (k ∷ [])) ≡ 0 + cond {A = ℕ} (b || false) 0 1
       at true = refl
       at false = refl
-  length-new_keys-push W (j ∷ ks) k = at (holds number W j) refl (length-new_keys-push W ks k) (length-new_keys-push (j ∷ W) ks k)
+  count_new-push W (j ∷ ks) k =
+      ap length (new_keys-paired W j (ks ++ k ∷ [])) ∙ at (holds number W j) refl (count_new-push W ks k) (count_new-push (j ∷ W) ks k)
+      ∙ ap (λ l. length l + cond (holds number W k || holds number (j ∷ ks) k) 0 1) (sym (new_keys-paired W j ks))
     where
       at : (b : Bool) → holds number W j ≡ b
-          → length (new_keys number W (ks ++ k ∷ [])) ≡ length (new_keys number W ks) + cond (holds number W k || holds number ks k) 0 1
-          → length (new_keys number (j ∷ W) (ks ++ k ∷ [])) ≡ length (new_keys number (j ∷ W) ks) + cond (holds number (j ∷ W) k || holds number ks k) 0 1
-          → length (cond b (new_keys number W (ks ++ k ∷ [])) (j ∷ new_keys number (j ∷ W) (ks ++ k ∷ [])))
-          ≡ length (cond b (new_keys number W ks) (j ∷ new_keys number (j ∷ W) ks)) + cond (holds number W k || holds number (j ∷ ks) k) 0 1
+          → count_new W (ks ++ k ∷ []) ≡ count_new W ks + cond (holds number W k || holds number ks k) 0 1
+          → count_new (j ∷ W) (ks ++ k ∷ []) ≡ count_new (j ∷ W) ks + cond (holds number (j ∷ W) k || holds number ks k) 0 1
+          → length (cond b (new_keys number (paired W) (paired (ks ++ k ∷ []))) (j ∷ new_keys number (paired (j ∷ W)) (paired (ks ++ k ∷ []))))
+          ≡ length (cond b (new_keys number (paired W) (paired ks)) (j ∷ new_keys number (paired (j ∷ W)) (paired ks))) + cond (holds number W k || holds number (j ∷ ks) k) 0 1
       at true here rest other =
-          rest ∙ ap (λ b. length (new_keys number W ks) + cond b 0 1) (or-absorbed (holds number W k) (same_key number k j) (holds number ks k) (same_key-holds W j k here))
+          rest ∙ ap (λ b. count_new W ks + cond b 0 1) (or-absorbed (holds number W k) (same_key number k j) (holds number ks k) (same_key-holds W j k here))
       at false here other rest =
-          let more = rest ∙ ap (λ b. length (new_keys number (j ∷ W) ks) + cond b 0 1) (or-turned (holds number W k) (same_key number k j) (holds number ks k)) in
+          let more = rest ∙ ap (λ b. count_new (j ∷ W) ks + cond b 0 1) (or-turned (holds number W k) (same_key number k j) (holds number ks k)) in
           omega (arith, more)
 
 module _ {K : Type 0} (number : K → ℕ) (is_valid : K → Type 0) where
@@ -88,7 +100,7 @@ module _ {K : Type 0} (number : K → ℕ) (is_valid : K → Type 0) where
           ∙ or-last (holds number s.walk q) (holds number ks q) (same_key number q k)
           ∙ ap (λ b. holds number s.walk q || b) (sym (list_any-append (same_key number q) ks (k ∷ [])));
       len =
-          (let more = length-new_keys-push number s.walk ks k in
+          (let more = count_new-push number s.walk ks k in
           let counted : cond {A = ℕ} (holds number u.walk k) 0 1 ≡ cond {A = ℕ} (holds number s.walk k || holds number ks k) 0 1 = ap (λ b. cond b 0 1) (before.members k) in
           let start = before.len in
           let one = last.len in

@@ -8,4 +8,3 @@ pub mod CountLemmas
 pub mod DistinctLemmas
 pub mod SizeLemmas
 pub mod OwnedLemmas
-pub mod FrontLemmas

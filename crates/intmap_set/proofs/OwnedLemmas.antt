@@ -15,12 +15,14 @@ use Rattle.intmap.specs.declared.refusal.Cause.TheVariants.{Memory, TooLarge}
 use Rattle.intmap.specs.declared.refusal.RefusedPair.{RefusedPair}
 use Rattle.intmap.specs.Bindings.{HasDistinctKeys}
 use Rattle.intmap.specs.Classes.{IsCapacity}
+use Rattle.intmap.specs.Extending.{new_keys}
 use Rattle.intmap.specs.Growth.{IsNext, IsWanted, MeetsLoad, is_due, last_due}
 use Rattle.intmap.specs.Map.{IsOutOfRange}
 use Rattle.intmap.proofs.LoadFactorLemmas.{IsLoaded-larger, MeetsLoad-fewer, last_due-most}
 use Rattle.intmap_set.specs.Combined.{HaveSameMembers, IsUnion}
-use Rattle.intmap_set.specs.Extending.{Extends, ExtendsUpTo, IsExtended, MayStop, StopsAmong, new_keys}
+use Rattle.intmap_set.specs.Extending.{Extends, ExtendsUpTo, IsExtended, MayStop, StopsAmong}
 use Rattle.intmap_set.specs.Sets.{SetState, IsSet, empty_set, holds, load_factor, paired}
+use Rattle.intmap_set.proofs.ExtendLemmas.{count_new, new_keys-paired}
 use Rattle.intmap_set.proofs.MemberLemmas.{length-paired}
 use Rattle.intmap_set.proofs.SizeLemmas.{length-same_members}
 
@@ -73,12 +75,12 @@ exceeds-greatest C n F D room next above = elim (cases_Bool (is_due n)) [
 
 module _ {K : Type 0} (number : K → ℕ) (is_valid : K → Type 0) where
   -- no more keys are new than there are
-  length-new_keys : (W ks : List K) → length (new_keys number W ks) ≤ length ks
-  length-new_keys W [] = omega arith
-  length-new_keys W (k ∷ ks) = at (holds number W k) (length-new_keys W ks) (length-new_keys (k ∷ W) ks)
+  count_new-most : (W ks : List K) → count_new number W ks ≤ length ks
+  count_new-most W [] = omega arith
+  count_new-most W (k ∷ ks) = subst (λ l. length l ≤ length (k ∷ ks)) (sym (new_keys-paired number W k ks)) (at (holds number W k) (count_new-most W ks) (count_new-most (k ∷ W) ks))
     where
-      at : (b : Bool) → length (new_keys number W ks) ≤ length ks → length (new_keys number (k ∷ W) ks) ≤ length ks
-          → length (cond b (new_keys number W ks) (k ∷ new_keys number (k ∷ W) ks)) ≤ length (k ∷ ks)
+      at : (b : Bool) → count_new number W ks ≤ length ks → count_new number (k ∷ W) ks ≤ length ks
+          → length (cond b (new_keys number (paired W) (paired ks)) (k ∷ new_keys number (paired (k ∷ W)) (paired ks))) ≤ length (k ∷ ks)
       at true rest other = omega (arith, rest)
       at false other rest = omega (arith, rest)
 
@@ -144,7 +146,7 @@ module _ {K : Type 0} (number : K → ℕ) (is_valid : K → Type 0) where
     length-stopped : (refused : RefusedPair K (Unit {0})) (t : SetState K) → ExtendsUpTo number is_valid steps i (empty_set 4) refused t → length t.walk + 1 ≤ length all
     length-stopped refused t told =
         let within = slice_get_within all (length told.keys) refused.key (next-came told.keys refused.key told.rest told.came) in
-        let new = length-new_keys [] told.keys in let len = told.extended.len in
+        let new = count_new-most [] told.keys in let len = told.extended.len in
         omega (arith, within, new, len)
 
     -- it fails as too large only if all keys exceed the load in 2^63 slots

@@ -5,7 +5,8 @@ use Rattle.std.specs.Prelude.{◌||◌, nat_lt, IsTrue}
 use Rattle.intmap.specs.Bindings.{HasDistinctKeys}
 use Rattle.intmap_set.specs.Sets.{SetState, holds, paired}
 use Rattle.intmap_set.specs.Combined.{HaveSameMembers, IsSubset, common_of, difference_of, intersection_of, sets_equal, symmetric_difference_of}
-use Rattle.intmap_set.specs.EqualityLaws.{same_key-itself, sets_equal-iff_subsets}
+use Rattle.intmap_set.proofs.EqualLemmas.{sets_equal-iff_members}
+use Rattle.intmap_set.proofs.MemberLemmas.{same_key-itself}
 use Rattle.intmap_set.proofs.CombinedLemmas.{IsDifference-difference_of, without-other}
 use Rattle.intmap_set.proofs.CountLemmas.{length-common_of, length-parts}
 
@@ -58,7 +59,4 @@ module _ {K : Type 0} (number : K → ℕ) where
   -- equal sets are as long
   pub length-sets_equal : (s t : SetState K) → HasDistinctKeys number (paired s.walk) → HasDistinctKeys number (paired t.walk)
       → IsTrue (sets_equal number s t) → length s.walk ≡ length t.walk
-  length-sets_equal s t first second equal =
-      let subs = (sets_equal-iff_subsets number s t).0 equal in
-      let up = length-subset s.walk t.walk first second subs.0 in let down = length-subset t.walk s.walk second first subs.1 in
-      omega (arith, up, down)
+  length-sets_equal s t first second equal = length-same_members s.walk t.walk first second ((sets_equal-iff_members number s t).0 equal)

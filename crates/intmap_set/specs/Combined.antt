@@ -1,7 +1,7 @@
 -- Two sets: which members both have, or only one, and in which order.
-use Rattle.std.specs.Prelude.{◌≡◌, false, ℕ, Bool, cond, not, ◌&&◌, ◌||◌, nat_lt, List, ◌++◌, filter, length, IsTrue}
-use Rattle.std.specs.List.{list_all}
-use Rattle.intmap_set.specs.Sets.{SetState, holds}
+use Rattle.std.specs.Prelude.{◌≡◌, true, false, ℕ, Bool, cond, not, ◌&&◌, ◌||◌, nat_lt, List, ◌++◌, filter, length, IsTrue}
+use Rattle.intmap.specs.Equality.{maps_equal}
+use Rattle.intmap_set.specs.Sets.{SetState, as_map, holds}
 
 module _ {K : Type 0} (number : K → ℕ) where
   -- each member of V is one of W
@@ -16,9 +16,9 @@ module _ {K : Type 0} (number : K → ℕ) where
   abbrev pub HaveSameMembers : List K → List K → Type 0
   HaveSameMembers V W = (q : K) → holds number V q ≡ holds number W q
 
-  -- each member of either set is one of the other
+  -- the maps from their members to () are equal: each member of either set is one of the other
   abbrev pub sets_equal : SetState K → SetState K → Bool
-  sets_equal s t = list_all (holds number t.walk) s.walk && list_all (holds number s.walk) t.walk
+  sets_equal s t = maps_equal number (λ v w. true) (as_map s) (as_map t)
 
   -- the members of V that aren't in W, in the order of V
   abbrev pub difference_of : List K → List K → List K

@@ -1,10 +1,9 @@
--- A set of integers as contracts see it, its members, and what calls leave of it.
-use Rattle.std.specs.Prelude.{◌≡◌, false, ℕ, ◌≡◌, Bool, cond, List, [], map}
+-- A set of integers as contracts see it, its members, and the map that it stands for.
+use Rattle.std.specs.Prelude.{◌≡◌, false, ℕ, Bool, cond, List, [], map}
 use Rattle.std.specs.List.{list_any}
 use Rattle.std.specs.Map.{keys_of}
 use Rattle.intmap.specs.Classes.{same_key}
-use Rattle.intmap.specs.Map as of_map
-use Rattle.intmap.specs.Walk as of_walk
+use Rattle.intmap.specs.Map.{MapState, IsMap}
 
 -- the members in the order of the walk, and the number of slots
 pub record SetState (K : Type 0) : Type 0 where
@@ -21,20 +20,16 @@ module _ {K : Type 0} where
   paired W = map (λ k. (k, tt)) W
 
   -- the map from each member to (), its counts at zero
-  abbrev pub as_map : SetState K → of_map.MapState K (Unit {0})
+  abbrev pub as_map : SetState K → MapState K (Unit {0})
   as_map s = record { walk = paired s.walk; capacity = s.capacity; factor = load_factor; placed = 0; compared = 0 }
 
   -- the set of the keys of a map
-  abbrev pub set_of : of_map.MapState K (Unit {0}) → SetState K
+  abbrev pub set_of : MapState K (Unit {0}) → SetState K
   set_of m = record { walk = keys_of m.walk; capacity = m.capacity }
 
   -- a new set of C slots
   abbrev pub empty_set : ℕ → SetState K
   empty_set C = record { walk = []; capacity = C }
-
-  -- the set without its members
-  abbrev pub emptied : SetState K → SetState K
-  emptied s = record s { walk = [] }
 
 module _ {K : Type 0} (number : K → ℕ) where
   -- whether a key is a member
@@ -50,20 +45,4 @@ module _ {K : Type 0} (number : K → ℕ) where
 
   -- what holds of every set: its members are the keys of a map
   abbrev pub IsSet : (K → Type 0) → SetState K → Type 0
-  IsSet is_valid s = of_map.IsMap number is_valid (as_map s)
-
-  -- the set with k at the end of its slot, in D slots
-  abbrev pub with_key : SetState K → K → ℕ → SetState K
-  with_key s k D = set_of (of_map.with_pair number (as_map s) k tt D)
-
-  -- the set without k
-  abbrev pub without_key : SetState K → K → SetState K
-  without_key s k = set_of (of_map.without_key number (as_map s) k)
-
-  -- the set in D slots
-  abbrev pub in_slots : SetState K → ℕ → SetState K
-  in_slots s D = set_of (of_map.in_slots number (as_map s) D)
-
-  -- no slot before slot n holds a member
-  abbrev pub ArePassed : SetState K → ℕ → Type 0
-  ArePassed s n = of_walk.ArePassed number (paired s.walk) s.capacity n
+  IsSet is_valid s = IsMap number is_valid (as_map s)

@@ -3,13 +3,20 @@
 //!
 //! A call such as `laws::union_holds::<u64>();` adds its law to the proof of the function that
 //! contains the call.
-ghost use Rattle.std.specs.Prelude.{◌≡◌, ◌+◌, ◌*◌, ◌≤◌, ◌↔◌, List, IsTrue, length};
-ghost use Rattle.intmap.specs.Bindings.{HasDistinctKeys};
-ghost use Rattle.intmap_set.specs.Sets.{SetState, paired};
+ghost use Rattle.std.specs.Prelude.{◌≡◌, ◌+◌, ◌*◌, ◌≤◌, ◌↔◌, List, IsTrue, is_some, length};
+ghost use Rattle.intmap.specs.Bindings.{HasDistinctKeys, value_of};
+ghost use Rattle.intmap_set.specs.Sets.{SetState, holds, paired};
 ghost use Rattle.intmap_set.specs.Combined.{IsSubset, IsDisjoint, HaveSameMembers, IsDifference, IsIntersection, IsUnion, IsSymmetricDifference, sets_equal, difference_of, intersection_of, union_of, symmetric_difference_of};
-ghost use Rattle.intmap_set.specs.Extending.{new_keys};
+ghost use Rattle.intmap.specs.Extending.{new_keys};
 
 use intmap::IntKey;
+
+/// A key is a member exactly if the pairs of the members with `()` have it. The clauses of
+/// insertions speak of these pairs.
+pub fn members_are_keys<K: IntKey>()
+    ensures { (W : List K) (k : K)
+        → holds K.number_of W k ≡ is_some (value_of K.number_of (paired W) k) }
+{}
 
 /// The difference has the members of the first set that are absent from the second.
 pub fn difference_holds<K: IntKey>()
@@ -107,5 +114,5 @@ pub fn combined_keys_are_distinct<K: IntKey>()
 /// the list of the union. The same holds for the other lists of two sets.
 pub fn distinct_keys_are_new<K: IntKey>()
     ensures { (W ks : List K) → IsDisjoint K.number_of ks W
-        → HasDistinctKeys K.number_of (paired ks) → new_keys K.number_of W ks ≡ ks }
+        → HasDistinctKeys K.number_of (paired ks) → new_keys K.number_of (paired W) (paired ks) ≡ ks }
 {}

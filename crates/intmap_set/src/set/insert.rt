@@ -1,9 +1,10 @@
 //! New sets, and the insertion of a key.
 ghost use Rattle.std.specs.Prelude.{◌≡◌, ◌↔◌, ℕ, ◌+◌, ◌^◌, ◌<◌, max, length, not, Err, IfOk, IfErr, OnOk, OnErr, IsOk};
 ghost use Rattle.intmap.specs.Growth.{IsLeastPower};
-ghost use Rattle.intmap.specs.Map.{IsLone};
-ghost use Rattle.intmap_set.specs.Extending.{Inserts, MayRefuse};
-ghost use Rattle.intmap_set.specs.Sets.{IsSet, empty_set, holds, paired, in_slots};
+ghost use Rattle.intmap.specs.Map.{IsLone, in_slots};
+ghost use Rattle.intmap.specs.PlainLists.{RefusalIsDue, list_of};
+ghost use Rattle.intmap_set.specs.Extending.{Inserts};
+ghost use Rattle.intmap_set.specs.Sets.{IsSet, as_map, empty_set, holds, paired, set_of};
 
 use crate::set::IntSet;
 use intmap::{Cause, IntKey, IntMap};
@@ -58,7 +59,7 @@ impl<K: IntKey, A: Allocator + Copy> IntSet<K, A> {
         ensures err { OnErr result (self.new ≡ self.old) }
 
         // when it fails
-        ensures refused { IfErr result (MayRefuse K.number_of self.old key) }
+        ensures refused { IfErr result (RefusalIsDue K.number_of (list_of (as_map self.old)) key) }
         ensures lone { IsLone K.number_of (paired self.old.walk) self.old.capacity key
             → IsOk result }
 
@@ -79,7 +80,7 @@ impl<K: IntKey, A: Allocator + Copy> IntSet<K, A> {
         ensures capacity { OnOk result ((p : ℕ) × IsLeastPower (length self.old.walk + additional) p
             × (self.new.capacity ≡ max self.old.capacity p)) }
         ensures state { OnOk result
-            (self.new ≡ in_slots K.number_of self.old self.new.capacity) }
+            (self.new ≡ set_of (in_slots K.number_of (as_map self.old) self.new.capacity)) }
         ensures err { OnErr result (self.new ≡ self.old) }
         ensures too_large { (result ≡ Err Cause.TooLarge)
             ↔ (2 ^ 63 < length self.old.walk + additional) }

@@ -1,9 +1,11 @@
 //! Removals.
-ghost use Rattle.std.specs.Prelude.{◌≡◌, ◌+◌, ◌⊎◌, ◌≤◌, false, cond, length};
+ghost use Rattle.std.specs.Prelude.{◌≡◌, ◌+◌, ◌⊎◌, ◌≤◌, false, cond, [], length};
 ghost use Rattle.intmap.specs.Retaining.{Retains};
 ghost use Rattle.intmap.specs.Taking.{TakesEach};
 ghost use Rattle.std.specs.Iterator.{YieldsFirst};
-ghost use Rattle.intmap_set.specs.Sets.{ArePassed, IsSet, Updates, holds, without_key, emptied};
+ghost use Rattle.intmap.specs.Map.{without_key};
+ghost use Rattle.intmap.specs.Walk.{ArePassed};
+ghost use Rattle.intmap_set.specs.Sets.{IsSet, Updates, as_map, holds, paired, set_of};
 ghost use Rattle.intmap_set.specs.Retaining.{KeepsKey, TakesKey};
 
 use crate::set::IntSet;
@@ -21,7 +23,7 @@ impl<K: IntKey, A: Allocator + Copy> IntSet<K, A> {
     /// ```
     pub fn remove(&mut self, key: K) -> bool
         ensures value { result ≡ holds K.number_of self.old.walk key }
-        ensures state { self.new ≡ without_key K.number_of self.old key }
+        ensures state { self.new ≡ set_of (without_key K.number_of (as_map self.old) key) }
         ensures updates { Updates K.number_of self.old.walk self.new.walk key false }
         ensures len { length self.new.walk + cond result 1 0 ≡ length self.old.walk }
         ensures valid { IsSet K.number_of K.is_valid self.old }
@@ -33,10 +35,10 @@ impl<K: IntKey, A: Allocator + Copy> IntSet<K, A> {
     /// Removes the first member of the walk and returns it. No slot before `from` holds a member;
     /// `from` moves on to the slot that held the removed one.
     pub(crate) fn take_front(&mut self, from: &mut usize) -> Option<K>
-        requires { ArePassed K.number_of self.old from.old }
+        requires { ArePassed K.number_of (paired self.old.walk) self.old.capacity from.old }
         ensures first { YieldsFirst (λ s. s.walk) self.old result self.new }
         ensures state { self.new ≡ record self.old { walk = self.new.walk } }
-        ensures passed { ArePassed K.number_of self.new from.new }
+        ensures passed { ArePassed K.number_of (paired self.new.walk) self.new.capacity from.new }
         ensures valid { IsSet K.number_of K.is_valid self.old }
         ensures valid_after { IsSet K.number_of K.is_valid self.new }
     {
@@ -47,7 +49,7 @@ impl<K: IntKey, A: Allocator + Copy> IntSet<K, A> {
     /// Removes all members. The capacity and the load factor stay, and the slots keep their memory
     /// for later members. It goes through the slots that hold a member, and never fails.
     pub fn clear(&mut self)
-        ensures state { self.new ≡ emptied self.old }
+        ensures state { self.new ≡ record self.old { walk = [] } }
         ensures none { (q : K) → holds K.number_of self.new.walk q ≡ false }
         ensures len { length self.new.walk ≡ 0 }
         ensures valid { IsSet K.number_of K.is_valid self.old }

@@ -1,4 +1,4 @@
-use Rattle.intmap_set.specs.EqualityLaws.{sets_equal-iff_subsets}
+use Rattle.intmap_set.proofs.EqualLemmas.{sets_equal-iff_subsets}
 use Rattle.intmap_set.proofs.laws.equal_sets_are_mutual_subsets.Goals as goal
 
 pub returns : goal.returns

@@ -1,4 +1,4 @@
-use Rattle.intmap_set.specs.EqualityLaws.{sets_equal-iff_members}
+use Rattle.intmap_set.proofs.EqualLemmas.{sets_equal-iff_members}
 use Rattle.intmap_set.proofs.laws.equal_sets_have_the_same_members.Goals as goal
 
 pub returns : goal.returns

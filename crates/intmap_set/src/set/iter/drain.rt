@@ -1,7 +1,8 @@
 //! Removal of members from the front of the walk, one by one.
 ghost use Rattle.std.specs.Prelude.{◌≡◌};
 ghost use Rattle.std.specs.Iterator.{item_count};
-ghost use Rattle.intmap_set.specs.Sets.{ArePassed, IsSet};
+ghost use Rattle.intmap.specs.Walk.{ArePassed};
+ghost use Rattle.intmap_set.specs.Sets.{IsSet, paired};
 
 use crate::set::IntSet;
 use intmap::IntKey;
@@ -16,17 +17,17 @@ use std::iter::FusedIterator;
 pub struct Drain<'a, K: IntKey, A: Allocator + Copy = Global> {
     set: &'a mut IntSet<K, A>,
     from: usize,
-    ghost passed: { ArePassed K.number_of set.now from },
+    ghost passed: { ArePassed K.number_of (paired set.now.walk) set.now.capacity from },
 }
 
 impl<'a, K: IntKey, A: Allocator + Copy> Iterator for Drain<'a, K, A> {
-    ghost use Rattle.intmap_set.specs.Draining.{DrainsFirst, drain_rest};
+    ghost use Rattle.intmap_set.specs.Draining.{DrainsFirst, drained_set};
 
     type Item = K;
 
     ghost next_gives = { DrainsFirst };
 
-    ghost remaining = { item_count drain_rest };
+    ghost remaining = { item_count (λ it. (drained_set it).walk) };
 
     fn next(&mut self) -> Option<K> {
         self.set.take_front(&mut self.from)

@@ -2,7 +2,9 @@
 use Rattle.std.proofs.Common.{sym, subst, arith, rules}
 use Rattle.std.specs.Iterator.{Yields}
 use Rattle.std.proofs.lemmas.List.{length_push}
-use Rattle.intmap_set.specs.Extending.{IsExtended, MayRefuse}
+use Rattle.intmap.specs.PlainLists.{RefusalIsDue, list_of}
+use Rattle.intmap_set.specs.Extending.{IsExtended}
+use Rattle.intmap_set.specs.Sets.{as_map}
 use Rattle.intmap_set.proofs.ExtendLemmas.{IsExtended-push}
 use Rattle.intmap_set.proofs.set.IntSet.extend.Goals as goal
 
@@ -29,6 +31,6 @@ returns-in-Err-clause-stops g c =
         c.in-Some.ensures.steps,
       );
       extended = subst (λ s. IsExtended g.K.IntKey.number_of g.K.IntKey.is_valid c.args.self.now keys s) (sym e.err) c.loop-key.invariant.1;
-      may_refuse = subst (λ s. MayRefuse g.K.IntKey.number_of s c.in-Some.key c.in-Err.cause) (sym e.err) e.refused;
+      may_refuse = subst (λ s. RefusalIsDue g.K.IntKey.number_of (list_of (as_map s)) c.in-Some.key c.in-Err.cause) (sym e.err) e.refused;
       applied = c.loop-key.invariant.2;
     }

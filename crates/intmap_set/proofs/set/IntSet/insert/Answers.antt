@@ -1,16 +1,16 @@
 use Rattle.std.proofs.Common.{◌∙◌, sym, ap, refl, rules}
 use Rattle.std.specs.Prelude.{not}
 use Rattle.intmap_set.proofs.MemberLemmas.{IsSet-seen, holds-seen, not-is_some}
-use Rattle.intmap_set.proofs.CallLemmas.{Inserts-seen, IsLone-seen, MayRefuse-seen}
+use Rattle.intmap_set.proofs.CallLemmas.{Inserts-seen, IsLone-seen, RefusalIsDue-seen}
 use Rattle.intmap_set.proofs.set.IntSet.insert.Goals as goal
 
 pub returns-in_err-insert_checked-clause-refused : goal.returns-in_err-insert_checked-clause-refused
 returns-in_err-insert_checked-clause-refused g c =
-    MayRefuse-seen _ c.self.inside.map c.insert_checked.new.self _ _ c.self.view_is c.self.invariant c.from_residual.result _ c.from_residual.ensures.1 c.in_err-insert_checked.ensures.refused
+    RefusalIsDue-seen _ c.self.inside.map c.insert_checked.new.self _ c.self.view_is c.self.invariant _ c.from_residual.result _ c.from_residual.ensures.1 c.in_err-insert_checked.ensures.refused
 
 pub returns-in_err-insert_checked-clause-lone : goal.returns-in_err-insert_checked-clause-lone
 returns-in_err-insert_checked-clause-lone g c lone =
-    let ok = c.in_err-insert_checked.ensures.lone (IsLone-seen _ c.self.inside.map c.insert_checked.new.self _ _ c.self.view_is c.self.invariant lone) in cc
+    let ok = c.in_err-insert_checked.ensures.lone (IsLone-seen _ c.self.inside.map c.insert_checked.new.self _ c.self.view_is c.self.invariant _ lone) in cc
 
 pub returns-in_err-insert_checked-clause-valid : goal.returns-in_err-insert_checked-clause-valid
 returns-in_err-insert_checked-clause-valid g c = IsSet-seen _ _ c.self.inside.map _ c.self.view_is c.self.invariant c.insert_checked.ensures.valid
@@ -24,7 +24,7 @@ returns-clause-new g c = c.in_ok-insert_checked.ensures.new ∙ not-is_some _ �
 pub returns-clause-inserted : goal.returns-clause-inserted
 returns-clause-inserted g c =
     let e = c.in_ok-insert_checked.ensures in
-    Inserts-seen _ c.self.inside.map c.insert_checked.new.self _ _ c.self.view_is _ c.self.invariant _ e.new e.state e.inserted
+    Inserts-seen _ c.self.inside.map c.insert_checked.new.self _ c.self.view_is c.self.invariant _ _ _ e.new e.state e.inserted
 
 pub returns-clause-valid : goal.returns-clause-valid
 returns-clause-valid g c = IsSet-seen _ _ c.self.inside.map _ c.self.view_is c.self.invariant c.insert_checked.ensures.valid

@@ -8,7 +8,7 @@ pub returns-clause-value : goal.returns-clause-value
 returns-clause-value g c = c.is_some.ensures ∙ ap is_some c.remove.ensures.value ∙ sym (holds-seen _ c.self.inside.map _ _ c.self.view_is)
 
 pub returns-clause-state : goal.returns-clause-state
-returns-clause-state g c = without_key-seen _ c.self.inside.map c.remove.new.self _ _ c.self.view_is c.remove.ensures.state
+returns-clause-state g c = without_key-seen _ c.self.inside.map c.remove.new.self _ c.self.view_is c.self.invariant _ c.remove.ensures.state
 
 pub returns-clause-updates : goal.returns-clause-updates
 returns-clause-updates g c = Updates-seen _ c.self.inside.map c.remove.new.self _ _ _ c.self.view_is c.remove.ensures.updates

@@ -5,10 +5,10 @@ use Rattle.intmap_set.proofs.CallLemmas.{in_slots-seen, reserved-seen}
 use Rattle.intmap_set.proofs.set.IntSet.reserve.Goals as goal
 
 pub returns-clause-capacity : goal.returns-clause-capacity
-returns-clause-capacity g c = on_ok_weaker c.reserve.result (reserved-seen g.K.IntKey.number_of c.self.inside.map c.reserve.new.self _ c.self.view_is _) c.reserve.ensures.capacity
+returns-clause-capacity g c = on_ok_weaker c.reserve.result (reserved-seen g.K.IntKey.number_of c.self.inside.map c.reserve.new.self _ c.self.view_is c.self.invariant _) c.reserve.ensures.capacity
 
 pub returns-clause-state : goal.returns-clause-state
-returns-clause-state g c = on_ok_weaker c.reserve.result (in_slots-seen _ c.self.inside.map c.reserve.new.self _ c.self.view_is) c.reserve.ensures.state
+returns-clause-state g c = on_ok_weaker c.reserve.result (in_slots-seen _ c.self.inside.map c.reserve.new.self _ c.self.view_is c.self.invariant) c.reserve.ensures.state
 
 pub returns-clause-same : goal.returns-clause-same
 returns-clause-same g c = same-seen _ c.self.inside.map c.reserve.new.self _ c.self.view_is c.reserve.ensures.updates
