@@ -2,12 +2,13 @@
 use Rattle.std.proofs.Common.{◌≡◌, ◌∙◌, inl, inr, ℕ, ◌+◌, ◌-◌, ◌*◌, ◌/◌, ◌%◌, ◌^◌, ◌<◌, ◌≤◌, Bool, true, false, cond, List, [], ◌∷◌, Some, refl, sym, ap, subst, length, take, arith}
 use Rattle.std.proofs.lemmas.Bool.{cases_Bool, eqb-true}
 use Rattle.std.proofs.lemmas.Iterator.{YieldsList, items_from_drains}
-use Rattle.std.proofs.lemmas.Iterator.Consumers.{YieldsList-so_far, nth_from_yields_List}
+use Rattle.std.proofs.lemmas.Iterator.Consumers.{YieldsList-from_copied, YieldsList-from_first, YieldsList-so_far, nth_from_yields_List}
 use Rattle.std.proofs.lemmas.List.{map-id}
 use Rattle.std.proofs.lemmas.Nat.{pow-add}
 use Rattle.std.proofs.Math.Pow.{pow_mono, pow_pos}
 use Rattle.std.proofs.lemmas.Option.{slice_get_within}
-use Rattle.std.specs.Iterator.{YieldsThen}
+use Rattle.std.specs.Iterator.{YieldsFirstBy, YieldsThen}
+use Rattle.std.specs.Iterator.Adapters.{copied_source, copied_steps}
 use Rattle.std.specs.List.{slice_get}
 use Rattle.std.specs.Prelude.{◌⊎◌, min, Option, Result, Ok, Err, IfOk, IfErr, MatchResult}
 use Rattle.intmap.specs.declared.refusal.Cause.{Cause}
@@ -25,6 +26,10 @@ use Rattle.intmap_set.specs.Sets.{SetState, IsSet, empty_set, holds, load_factor
 use Rattle.intmap_set.proofs.ExtendLemmas.{count_new, new_keys-paired}
 use Rattle.intmap_set.proofs.MemberLemmas.{length-paired}
 use Rattle.intmap_set.proofs.SizeLemmas.{length-same_members}
+
+-- the copies of a list's elements are these
+pub copies-came : {K : Type 0} {s : _} {L : List K} → copied_source s ≡ L → YieldsList (copied_steps (YieldsFirstBy (λ key. key.now) (λ rest. rest))) (λ k. k) s L
+copies-came is = YieldsList-from_copied (YieldsList-from_first (λ key. key.now) (λ rest. rest) _ is)
 
 -- what follows of what was made
 pub if_ok : {T E : Type 0} {P Q : T → Type 0} (R : E → Type 0) (r : Result T E) → MatchResult r P R → ((t : T) → P t → Q t) → IfOk r Q

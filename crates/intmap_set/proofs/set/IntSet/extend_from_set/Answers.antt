@@ -1,32 +1,31 @@
 use Rattle.std.proofs.Common.{length, ◌∙◌, sym, ◌^◌, ◌<◌, arith}
-use Rattle.std.proofs.lemmas.Iterator.Consumers.{YieldsList-from_copied, YieldsList-from_first}
 use Rattle.std.proofs.lemmas.Result.{on_ok_weaker}
 use Rattle.intmap_set.specs.Combined.{union_of}
 use Rattle.intmap_set.proofs.CombinedLemmas.{IsUnion-union_of}
 use Rattle.intmap_set.proofs.DistinctLemmas.{HasDistinctKeys-union_of}
 use Rattle.intmap_set.proofs.MemberLemmas.{length-paired}
-use Rattle.intmap_set.proofs.OwnedLemmas.{err_so, extended-all, members-extended, stops-among}
+use Rattle.intmap_set.proofs.OwnedLemmas.{copies-came, err_so, extended-all, members-extended, stops-among}
 use Rattle.intmap_set.proofs.SizeLemmas.{length-same_members}
 use Rattle.intmap_set.proofs.set.IntSet.extend_from_set.Goals as goal
 
 pub returns-clause-members : goal.returns-clause-members
 returns-clause-members g c =
-    on_ok_weaker c.extend.result (members-extended g.K.IntKey.number_of g.K.IntKey.is_valid (YieldsList-from_copied {s = c.copied.result} (YieldsList-from_first (λ key. key.now) (λ rest. rest) c.args.other.now.walk (c.copied.ensures.source ∙ c.iter.ensures.walk))) c.args.self.now c.extend.new.self) c.extend.ensures.extends
+    on_ok_weaker c.extend.result (members-extended g.K.IntKey.number_of g.K.IntKey.is_valid (copies-came (c.copied.ensures.source ∙ c.iter.ensures.walk)) c.args.self.now c.extend.new.self) c.extend.ensures.extends
 
 pub returns-clause-len : goal.returns-clause-len
 returns-clause-len g c =
     let number = g.K.IntKey.number_of in let V = c.args.self.now.walk in let W = c.args.other.now.walk in
     on_ok_weaker c.extend.result (λ told. length-same_members number c.extend.new.self.walk (union_of number V W) c.extend.ensures.valid_after.distinct
     (HasDistinctKeys-union_of number V W c.extend.ensures.valid.distinct c.known.ensures.valid.distinct)
-    (λ q. members-extended number g.K.IntKey.is_valid (YieldsList-from_copied {s = c.copied.result} (YieldsList-from_first (λ key. key.now) (λ rest. rest) c.args.other.now.walk (c.copied.ensures.source ∙ c.iter.ensures.walk))) c.args.self.now c.extend.new.self told q ∙ sym (IsUnion-union_of number V W q)))
+    (λ q. members-extended number g.K.IntKey.is_valid (copies-came (c.copied.ensures.source ∙ c.iter.ensures.walk)) c.args.self.now c.extend.new.self told q ∙ sym (IsUnion-union_of number V W q)))
     c.extend.ensures.extends
 
 pub returns-clause-stops : goal.returns-clause-stops
 returns-clause-stops g c =
     let count : length c.args.other.now.walk < 2 ^ 64 = (let few = c.known.ensures.valid.count in let same = length-paired c.args.other.now.walk in omega (arith, few, same)) in
     err_so c.extend.result c.extend.ensures.stops
-    (λ refused told. stops-among g.K.IntKey.number_of g.K.IntKey.is_valid (YieldsList-from_copied {s = c.copied.result} (YieldsList-from_first (λ key. key.now) (λ rest. rest) c.args.other.now.walk (c.copied.ensures.source ∙ c.iter.ensures.walk))) c.args.self.now refused c.extend.new.self count told)
+    (λ refused told. stops-among g.K.IntKey.number_of g.K.IntKey.is_valid (copies-came (c.copied.ensures.source ∙ c.iter.ensures.walk)) c.args.self.now refused c.extend.new.self count told)
 
 pub returns-clause-inserted : goal.returns-clause-inserted
 returns-clause-inserted g c =
-    on_ok_weaker c.extend.result (extended-all g.K.IntKey.number_of g.K.IntKey.is_valid (YieldsList-from_copied {s = c.copied.result} (YieldsList-from_first (λ key. key.now) (λ rest. rest) c.args.other.now.walk (c.copied.ensures.source ∙ c.iter.ensures.walk))) c.args.self.now c.extend.new.self) c.extend.ensures.extends
+    on_ok_weaker c.extend.result (extended-all g.K.IntKey.number_of g.K.IntKey.is_valid (copies-came (c.copied.ensures.source ∙ c.iter.ensures.walk)) c.args.self.now c.extend.new.self) c.extend.ensures.extends
