@@ -52,7 +52,7 @@ err_so (Ok t) says follows = tt
 err_so (Err e) says follows = follows e says
 
 -- a cause that isn't the one is the other
-only_memory : (cause : Cause) → (cause ≡ TooLarge → ⊥) → cause ≡ Memory
+pub only_memory : (cause : Cause) → (cause ≡ TooLarge → ⊥) → cause ≡ Memory
 only_memory Memory other = refl
 only_memory TooLarge other = absurd (other refl)
 

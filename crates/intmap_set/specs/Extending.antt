@@ -1,15 +1,14 @@
 -- What inserting keys in turn returns and leaves.
-use Rattle.std.specs.Prelude.{◌≡◌, true, ◌⊎◌, ℕ, ◌+◌, ◌-◌, ◌^◌, ◌<◌, ◌≤◌, cond, min, max, List, [], ◌∷◌, length, take, Option, Some}
+use Rattle.std.specs.Prelude.{◌≡◌, true, ◌⊎◌, ℕ, ◌+◌, ◌-◌, ◌^◌, ◌≤◌, cond, min, List, [], ◌∷◌, length, take, Option, Some}
 use Rattle.std.specs.Iterator.{Drains, YieldsThen}
 use Rattle.std.specs.List.{slice_get}
 use Rattle.intmap.specs.declared.refusal.Cause.{Cause}
-use Rattle.intmap.specs.declared.refusal.Cause.TheVariants.{Memory, TooLarge}
+use Rattle.intmap.specs.declared.refusal.Cause.TheVariants.{Memory}
 use Rattle.intmap.specs.declared.refusal.RefusedPair.{RefusedPair}
-use Rattle.intmap.specs.Growth.{IsLeastPower}
 use Rattle.intmap.specs.Extending.{new_keys}
 use Rattle.intmap.specs.Map.{IsOutOfRange, IsCapacityAfter, with_pair}
 use Rattle.intmap.specs.PlainLists.{RefusalIsDue, list_of}
-use Rattle.intmap_set.specs.Sets.{SetState, IsSet, Updates, as_map, empty_set, holds, load_factor, paired, set_of}
+use Rattle.intmap_set.specs.Sets.{SetState, IsSet, Updates, as_map, holds, load_factor, paired, set_of}
 use Rattle.intmap_set.specs.Combined.{IsUnion}
 
 module _ {K : Type 0} (number : K → ℕ) (is_valid : K → Type 0) where
@@ -63,17 +62,3 @@ module _ {K I : Type 0} (number : K → ℕ) (is_valid : K → Type 0) (steps : 
   -- there was no memory for a set, or an insertion into s of a key that the iterator i gave failed with this cause
   abbrev pub MayStop : I → SetState K → Cause → Type 0
   MayStop i s cause = (cause ≡ Memory) ⊎ ((refused : RefusedPair K (Unit {0})) × (t : SetState K) × ExtendsUpTo i s refused t × IsSet number is_valid t × (cause ≡ refused.cause))
-
-  -- an empty set with room for b slots was extended by all keys that the iterator i gave
-  pub record Collects (i : I) (b : ℕ) (t : SetState K) : Type 0 where
-    pub slots : ℕ
-    pub power : IsLeastPower (max b 2) slots
-    pub extends : Extends i (empty_set slots) t
-
-  -- a set with room for b slots could not be made, or the keys that the iterator i gave, up to one that failed, were inserted into it
-  abbrev pub MayRefuseToCollect : I → ℕ → Cause → Type 0
-  MayRefuseToCollect i b cause =
-      ((cause ≡ TooLarge) × (2 ^ 63 < b))
-      ⊎ ((cause ≡ Memory) × (b ≤ 2 ^ 63))
-      ⊎ ((slots : ℕ) × IsLeastPower (max b 2) slots × (refused : RefusedPair K (Unit {0})) × (t : SetState K)
-      × ExtendsUpTo i (empty_set slots) refused t × (cause ≡ refused.cause))

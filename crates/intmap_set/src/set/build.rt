@@ -1,8 +1,9 @@
 //! Sets made of many keys.
-ghost use Rattle.std.specs.Prelude.{◌≡◌, ℕ, ◌≤◌, OnOk, IfOk, IfErr, MatchResult};
+ghost use Rattle.std.specs.Prelude.{◌≡◌, ℕ, ◌^◌, ◌<◌, ◌≤◌, ◌⊎◌, max, OnOk, IfOk, IfErr, MatchResult};
 ghost use Rattle.std.specs.Iterator.{IsFinite, size};
-ghost use Rattle.intmap_set.specs.Sets.{IsSet};
-ghost use Rattle.intmap_set.specs.Extending.{Extends, ExtendsUpTo, Collects, MayRefuseToCollect};
+ghost use Rattle.intmap.specs.Growth.{IsLeastPower};
+ghost use Rattle.intmap_set.specs.Sets.{IsSet, empty_set};
+ghost use Rattle.intmap_set.specs.Extending.{Extends, ExtendsUpTo, MayStop};
 
 use crate::set::IntSet;
 use intmap::{Cause, IntKey, RefusedPair};
@@ -59,9 +60,11 @@ impl<K: IntKey, A: Allocator + Copy> IntSet<K, A> {
     pub fn from_iter<I: Iterator<Item = K> + Drop>(alloc: A, iter: I) -> Result<IntSet<K, A>, Cause>
         requires can { I.can_next iter }
         requires ends { IsFinite (I.remaining iter) }
-        ensures collects { (b : ℕ) × (b ≤ size (I.remaining iter)) × MatchResult result
-            (λ made. Collects K.number_of K.is_valid I.next_gives iter b made)
-            (λ cause. MayRefuseToCollect K.number_of K.is_valid I.next_gives iter b cause) }
+        ensures collects { (b slots : ℕ) × (b ≤ size (I.remaining iter))
+            × IsLeastPower (max b 2) slots × MatchResult result
+            (Extends K.number_of K.is_valid I.next_gives iter (empty_set slots))
+            (λ cause. ((cause ≡ Cause.TooLarge) × (2 ^ 63 < b)) ⊎ ((b ≤ 2 ^ 63)
+            × MayStop K.number_of K.is_valid I.next_gives iter (empty_set slots) cause)) }
         ensures valid { IfOk result (IsSet K.number_of K.is_valid) }
     {
         let (lower, _) = iter.size_hint();
