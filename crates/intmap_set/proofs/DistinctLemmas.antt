@@ -1,7 +1,7 @@
 -- The lists of two sets have each key once, and so a set made of such a list has exactly its keys as members.
 use Rattle.std.proofs.Common.{◌≡◌, ◌∙◌, ℕ, ◌+◌, ◌≤◌, Bool, true, false, cond, List, [], ◌∷◌, ◌++◌, refl, sym, ap, filter, length, arith}
 use Rattle.std.proofs.lemmas.Bool.{eqb-true, true≢false}
-use Rattle.std.proofs.lemmas.List.Sums.{sum_by-append}
+use Rattle.std.proofs.lemmas.List.Sums.{sum_by-append, sum_by-cons}
 use Rattle.std.proofs.Math.Bool.{and_comm}
 use Rattle.std.specs.List.{list_any, count_by}
 use Rattle.std.specs.Prelude.{◌&&◌, ◌||◌, not, nat_lt}
@@ -13,9 +13,21 @@ use Rattle.intmap.specs.Extending.{new_keys}
 use Rattle.intmap_set.proofs.CombinedLemmas.{IsDifference-difference_of}
 use Rattle.intmap_set.proofs.ExtendLemmas.{new_keys-paired}
 use Rattle.intmap_set.proofs.MemberLemmas.{holds-same_number, same_key-itself}
-use Rattle.intmap_set.proofs.CountLemmas.{IsOnce, IsOnce-distinct, count_by-cons, count_by-paired, list_any-uncounted}
 
 module _ {X : Type 0} where
+  -- one element more is counted if it passes
+  count_by-cons : (p : X → Bool) (x : X) (xs : List X) → count_by p (x ∷ xs) ≡ cond (p x) 1 0 + count_by p xs
+  count_by-cons p x xs = sum_by-cons (λ y. cond (p y) 1 0) x xs
+
+  -- if none is counted, none passes
+  list_any-uncounted : (p : X → Bool) (xs : List X) → count_by p xs ≡ 0 → list_any p xs ≡ false
+  list_any-uncounted p [] none = refl
+  list_any-uncounted p (x ∷ xs) none = at (p x) (sym (count_by-cons p x xs) ∙ none) (list_any-uncounted p xs)
+    where
+      at : (b : Bool) → cond b 1 0 + count_by p xs ≡ 0 → (count_by p xs ≡ 0 → list_any p xs ≡ false) → (b || list_any p xs) ≡ false
+      at true is rest = absurd (omega (arith, is))
+      at false is rest = rest (omega (arith, is))
+
   -- if none passes, none is counted
   count_by-none : (p : X → Bool) (xs : List X) → list_any p xs ≡ false → count_by p xs ≡ 0
   count_by-none p [] none = refl
@@ -37,16 +49,34 @@ module _ {X : Type 0} where
       at false rest all kept = omega (arith, rest, all)
 
 module _ {K : Type 0} (number : K → ℕ) where
+  -- no key occurs twice
+  abbrev IsOnce : List K → Type 0
+  IsOnce W = (k : K) → count_by (same_key number k) W ≤ 1
+
+  -- counted along the pairs
+  count_by-paired : (k : K) (W : List K) → count_by (λ p. same_key number k p.0) (paired W) ≡ count_by (same_key number k) W
+  count_by-paired k [] = refl
+  count_by-paired k (w ∷ W) =
+      count_by-cons (λ p. same_key number k p.0) (w, tt) (paired W) ∙ ap (λ n. cond (same_key number k w) 1 0 + n) (count_by-paired k W) ∙ sym (count_by-cons (same_key number k) w W)
+
+  -- distinct keys occur once
+  IsOnce-distinct : (W : List K) → HasDistinctKeys number (paired W) → IsOnce W
+  IsOnce-distinct W distinct k = let is = count_by-paired k W in let most = distinct k in omega (arith, is, most)
+
   -- keys that occur once are distinct
-  distinct-IsOnce : (W : List K) → IsOnce number W → HasDistinctKeys number (paired W)
-  distinct-IsOnce W once k = let is = count_by-paired number k W in let most = once k in omega (arith, is, most)
+  distinct-IsOnce : (W : List K) → IsOnce W → HasDistinctKeys number (paired W)
+  distinct-IsOnce W once k = let is = count_by-paired k W in let most = once k in omega (arith, is, most)
 
   -- and some of them too
-  IsOnce-filter : (test : K → Bool) (W : List K) → IsOnce number W → IsOnce number (filter test W)
+  IsOnce-filter : (test : K → Bool) (W : List K) → IsOnce W → IsOnce (filter test W)
   IsOnce-filter test W once k = let fewer = count_by-filter (same_key number k) test W in let most = once k in omega (arith, fewer, most)
 
-  -- and those of two lists that share none
-  IsOnce-append : (V W : List K) → IsOnce number V → IsOnce number W → IsDisjoint number V W → IsOnce number (V ++ W)
+  -- the keys that a set shares with another are distinct
+  pub HasDistinctKeys-common_of : (V W : List K) → HasDistinctKeys number (paired V) → HasDistinctKeys number (paired (common_of number V W))
+  HasDistinctKeys-common_of V W distinct = distinct-IsOnce (common_of number V W) (IsOnce-filter (holds number W) V (IsOnce-distinct V distinct))
+
+  -- those of two lists that share none occur once
+  IsOnce-append : (V W : List K) → IsOnce V → IsOnce W → IsDisjoint number V W → IsOnce (V ++ W)
   IsOnce-append V W first second apart k = at (holds number V k) refl
     where
       both : count_by (same_key number k) (V ++ W) ≡ count_by (same_key number k) V + count_by (same_key number k) W
@@ -70,11 +100,11 @@ module _ {K : Type 0} (number : K → ℕ) where
       at false c is = absurd (true≢false (sym is))
 
   module _ (V W : List K) (first : HasDistinctKeys number (paired V)) (second : HasDistinctKeys number (paired W)) where
-    once_first : IsOnce number V
-    once_first = IsOnce-distinct number V first
+    once_first : IsOnce V
+    once_first = IsOnce-distinct V first
 
-    once_second : IsOnce number W
-    once_second = IsOnce-distinct number W second
+    once_second : IsOnce W
+    once_second = IsOnce-distinct W second
 
     -- the keys of the difference are distinct
     pub HasDistinctKeys-difference_of : HasDistinctKeys number (paired (difference_of number V W))
@@ -85,14 +115,14 @@ module _ {K : Type 0} (number : K → ℕ) where
     HasDistinctKeys-intersection_of = at (nat_lt (length W) (length V))
       where
         at : (b : Bool) → HasDistinctKeys number (paired (cond b (common_of number W V) (common_of number V W)))
-        at true = distinct-IsOnce (common_of number W V) (IsOnce-filter (holds number V) W once_second)
-        at false = distinct-IsOnce (common_of number V W) (IsOnce-filter (holds number W) V once_first)
+        at true = HasDistinctKeys-common_of W V second
+        at false = HasDistinctKeys-common_of V W first
 
     -- and those of the union
     pub HasDistinctKeys-union_of : HasDistinctKeys number (paired (union_of number V W))
     HasDistinctKeys-union_of = at (nat_lt (length V) (length W))
       where
-        joined : (S T : List K) → IsOnce number S → IsOnce number T → HasDistinctKeys number (paired (S ++ difference_of number T S))
+        joined : (S T : List K) → IsOnce S → IsOnce T → HasDistinctKeys number (paired (S ++ difference_of number T S))
         joined S T one other =
             distinct-IsOnce (S ++ difference_of number T S)
             (IsOnce-append S (difference_of number T S) one (IsOnce-filter (λ k. not (holds number S k)) T other) (IsDisjoint-difference_of S T))
@@ -109,13 +139,13 @@ module _ {K : Type 0} (number : K → ℕ) where
         (IsOnce-filter (λ k. not (holds number V k)) W once_second) (IsDisjoint-alone V W))
 
   -- distinct keys that aren't members are all new
-  all_new : (W ks : List K) → IsDisjoint number ks W → IsOnce number ks → new_keys number (paired W) (paired ks) ≡ ks
+  all_new : (W ks : List K) → IsDisjoint number ks W → IsOnce ks → new_keys number (paired W) (paired ks) ≡ ks
   all_new W [] apart once = refl
   all_new W (k ∷ ks) apart once =
       new_keys-paired number W k ks ∙ ap (λ b. cond b (new_keys number (paired W) (paired ks)) (k ∷ new_keys number (paired (k ∷ W)) (paired ks))) (apart k (ap (λ b. b || holds number ks k) (same_key-itself number k)))
       ∙ ap (λ rest. k ∷ rest) (all_new (k ∷ W) ks others later)
     where
-      later : IsOnce number ks
+      later : IsOnce ks
       later j = let all = count_by-cons (same_key number j) k ks in let most = once j in omega (arith, all, most)
 
       alone : holds number ks k ≡ false
@@ -131,4 +161,4 @@ module _ {K : Type 0} (number : K → ℕ) where
 
   -- distinct keys are inserted each as a new one
   pub new_keys-distinct : (W ks : List K) → IsDisjoint number ks W → HasDistinctKeys number (paired ks) → new_keys number (paired W) (paired ks) ≡ ks
-  new_keys-distinct W ks apart distinct = all_new W ks apart (IsOnce-distinct number ks distinct)
+  new_keys-distinct W ks apart distinct = all_new W ks apart (IsOnce-distinct ks distinct)

@@ -4,7 +4,6 @@ pub mod CombinedLemmas
 pub mod EqualLemmas
 pub mod RetainLemmas
 pub mod ExtendLemmas
-pub mod CountLemmas
 pub mod DistinctLemmas
 pub mod SizeLemmas
 pub mod OwnedLemmas

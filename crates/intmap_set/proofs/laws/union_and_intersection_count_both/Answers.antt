@@ -1,4 +1,4 @@
-use Rattle.intmap_set.proofs.CountLemmas.{length-union_of-intersection_of}
+use Rattle.intmap_set.proofs.SizeLemmas.{length-union_of-intersection_of}
 use Rattle.intmap_set.proofs.laws.union_and_intersection_count_both.Goals as goal
 
 pub returns : goal.returns
