@@ -61,7 +61,7 @@ fn exchange<A: Allocator + Copy, R: Read, W: Write>(
         → Keeps (W.contents output.old) (W.contents output.new)) }
 {
     let text = read_text(alloc, input)?;
-    let lines = answer(alloc, text.as_slice())?;
+    let lines = answer(alloc, text)?;
     send(output, lines.as_bytes()).map_err(|_error| Fault::Output)
 }
 
@@ -79,12 +79,13 @@ fn read_text<A: Allocator, R: Read>(alloc: A, input: &mut R) -> Result<Vec<u8, A
 }
 
 /// The lines of the answers to a text. It runs no command before it knows that every line is a
-/// command or blank.
-fn answer<A: Allocator + Copy>(alloc: A, text: &[u8]) -> Result<String<A>, Fault>
-    ensures ok { IfOk result (λ lines. IsAnswered A text.now (string_bytes lines)) }
-    ensures err { IfErr result (IsRefused A text.now) }
+/// command or blank. The text's memory is free again before the first answer is made.
+fn answer<A: Allocator + Copy>(alloc: A, text: Vec<u8, A>) -> Result<String<A>, Fault>
+    ensures ok { IfOk result (λ lines. IsAnswered A text.items (string_bytes lines)) }
+    ensures err { IfErr result (IsRefused A text.items) }
 {
-    let commands = read_commands(alloc, text)?;
+    let commands = read_commands(alloc, text.as_slice())?;
+    drop(text);
     let mut map = IntMap::new(alloc)?;
     let Ok(answers) = run(alloc, &mut map, commands, &OddJudge) else {
         return Err(Fault::Memory);

@@ -3,7 +3,8 @@ use Rattle.intmap_serve.proofs.session.answer.Goals as goal
 
 pub returns-clause-ok : goal.returns-clause-ok
 returns-clause-ok g c =
-    let printed = rw c.as_slice.ensures.value at c.in_ok-print_answers.ensures in
-    is_answered c.args.text.now c.in_ok-commands.commands.items c.in-Ok.answers.items _
-    c.in_ok-map.map c.run.new.map c.in_ok-commands.ensures.some c.in_ok-map.ensures.state
+    let spelled = rw c.as_slice.ensures.value at c.in_ok-commands.ensures.some in
+    let printed = rw c.as_slice-2.ensures.value at c.in_ok-print_answers.ensures in
+    is_answered c.args.text.items c.in_ok-commands.commands.items c.in-Ok.answers.items _
+    c.in_ok-map.map c.run.new.map spelled c.in_ok-map.ensures.state
     c.in-Ok.ensures.ok printed
