@@ -10,7 +10,7 @@ use Rattle.intmap_table.specs.Bindings.{first_value, value_of, HasDistinctKeys, 
 use Rattle.intmap_table.specs.Classes.{same_key}
 use Rattle.intmap_table.specs.Picking.{ExtractsBehind}
 use Rattle.intmap_table.proofs.ExtractLemmas.{ExtractsNext-end}
-use Rattle.intmap_table.proofs.BindingLemmas.{Updates-from, first_value-none}
+use Rattle.intmap_table.proofs.BindingLemmas.{Updates-from, first_value-unmatched}
 use Rattle.intmap_table.proofs.ExtractLemmas.{length-ExtractsBehind}
 
 -- one is removed, or none
@@ -60,7 +60,7 @@ module _ {K V : Type 0} (test : K → Bool) where
 
   -- without the pair whose key passes, nothing is found
   first_value-cut_out : (A R : List (K × V)) (p : K × V) → test p.0 ≡ true → count_by (λ q. test q.0) (A ++ p ∷ R) ≤ 1 → first_value test (A ++ R) ≡ None
-  first_value-cut_out [] R p is once = let sum = sum_by-cons (λ (q : K × V). cond (test q.0) 1 0) p R in let none = first_value-none test R in grind (arith, sum, none, is, once)
+  first_value-cut_out [] R p is once = let sum = sum_by-cons (λ (q : K × V). cond (test q.0) 1 0) p R in let none = first_value-unmatched test R in grind (arith, sum, none, is, once)
   first_value-cut_out (q ∷ A) R p is once =
       let sum = sum_by-cons (λ (q : K × V). cond (test q.0) 1 0) q (A ++ p ∷ R) in let counted = count_by-within A R p is in let rest = first_value-cut_out A R p is in grind (arith, sum, counted, rest, once)
 

@@ -14,7 +14,7 @@ use Rattle.intmap.specs.Equality.{are_present_alike, maps_equal}
 use Rattle.intmap.specs.Laws.EqualityLaws.{unbound-or_alike, are_present_alike-from_BindSame}
 use Rattle.intmap_table.proofs.BindSameLemmas.{value_of-same_number, option_eq-symm}
 use Rattle.intmap.specs.Map.{MapState}
-use Rattle.intmap_table.proofs.BindingLemmas.{first_value-none, value_of-take_key, value_of-put_pair}
+use Rattle.intmap_table.proofs.BindingLemmas.{first_value-unmatched, value_of-take_key, value_of-put_pair}
 use Rattle.intmap_table.proofs.DistinctLemmas.{length-take_key, length-put_pair, HasDistinctKeys-take_key, HasDistinctKeys-put_pair}
 use Rattle.intmap.proofs.CostLemmas.{HasDistinctKeys-tail}
 
@@ -33,7 +33,7 @@ module _ {K V : Type 0} (number : K → ℕ) where
       let more = sum_by-cons (λ (r : K × V). cond (same_key number q r.0) 1 0) p L in
       let one : ◌≡◌ {A = ℕ} (cond (same_key number q p.0) 1 0) 1 = ap (λ b. cond b 1 0) found in
       let few = once q in
-      first_value-none (same_key number q) L (omega (arith, more, one, few))
+      first_value-unmatched (same_key number q) L (omega (arith, more, one, few))
 
   -- with the first pair's key removed from both, the one is within the other
   KeysWithin-rest : (p : K × V) (L M : List (K × V)) → HasDistinctKeys number (p ∷ L) → HasDistinctKeys number M → KeysWithin (p ∷ L) M → KeysWithin L (take_key number M 2 p.0)

@@ -21,11 +21,11 @@ use Rattle.serde_json.specs.declared.value.Value.{Value}
 use Rattle.serde_json.proofs.Views.{get_member-put, get_member-put_other, member_here, member_later}
 use Rattle.intmap_table.specs.Bindings.{value_of, HasDistinctKeys}
 use Rattle.intmap.specs.Extending.{new_keys}
-use Rattle.intmap.specs.Json.{json_cause, IsKeyText, HasKeyTexts, tree_of, ShowsBindings, BindSameTrees, ArePairsOf, AreCollected, LeavesRange, MayRefuseToRead}
+use Rattle.intmap.specs.Json.{json_cause, IsKeyText, HasKeyTexts, tree_of, ShowsBindings, BindSameTrees, ArePairsOf, AreCollected, MembersLeaveRange, MayRefuseToRead}
 use Rattle.intmap.specs.Map.{MapState}
 use Rattle.intmap.specs.declared.refusal.Cause.{Cause}
 use Rattle.intmap.specs.declared.refusal.Cause.TheVariants.{Memory, TooLarge}
-use Rattle.intmap_table.proofs.BindingLemmas.{first_value-none}
+use Rattle.intmap_table.proofs.BindingLemmas.{first_value-unmatched}
 use Rattle.intmap.proofs.ExtendLemmas.{refusal_of, cause-of_slots, value_of-append}
 use Rattle.intmap.proofs.JsonLemmas.{Entry}
 
@@ -45,7 +45,7 @@ AreApart (p ∷ ps) = (value_at ps p.0 ≡ None) × AreApart ps
 pub AreApart-distinct : (L : Pairs) → HasDistinctKeys (λ key. key) L → AreApart L
 AreApart-distinct [] distinct = tt
 AreApart-distinct (p ∷ L) distinct = (
-  first_value-none (λ q. q == p.0) L
+  first_value-unmatched (λ q. q == p.0) L
       (let more = sum_by-cons (λ (q : ℕ × Value). cond (q.0 == p.0) 1 0) p L in
       let once = distinct p.0 in
       let here : cond {A = ℕ} (p.0 == p.0) 1 0 ≡ 1 = rw (eq-eqb p.0 p.0 refl) refl in
@@ -209,7 +209,7 @@ MayRefuseToRead-slots {T} ms cause b count large = elim (cause-of_slots {T = T} 
 ]
 
 -- an insertion that failed
-pub MayRefuseToRead-insertion : (ms : Members) (cause : Cause) → ((cause ≡ TooLarge) → LeavesRange ms) → members_len ms ≤ 2 ^ 63 → MayRefuseToRead ms (json_cause cause)
+pub MayRefuseToRead-insertion : (ms : Members) (cause : Cause) → ((cause ≡ TooLarge) → MembersLeaveRange ms) → members_len ms ≤ 2 ^ 63 → MayRefuseToRead ms (json_cause cause)
 MayRefuseToRead-insertion ms Memory leaves within = inr (refl, within)
 MayRefuseToRead-insertion ms TooLarge leaves within = inl (refl, inr (leaves refl))
 

@@ -69,7 +69,7 @@ pub record AreRead (ms : Members) (made : MapState ℕ Value) : Type 0 where
   pub collected : AreCollected (members_len ms) pairs made
 
 -- the pairs of the members were inserted in turn into an empty map with room for all of them, up to one that is out of range
-pub record LeavesRange (ms : Members) : Type 0 where
+pub record MembersLeaveRange (ms : Members) : Type 0 where
   pub pairs : List (ℕ × Value)
   pub next : ℕ × Value
   pub rest : List (ℕ × Value)
@@ -80,7 +80,7 @@ pub record LeavesRange (ms : Members) : Type 0 where
 
 -- there are more members than slots can be, or a pair of one is out of range in its turn
 abbrev pub AreTooMany : Members → Type 0
-AreTooMany ms = (2 ^ 63 < members_len ms) ⊎ LeavesRange ms
+AreTooMany ms = (2 ^ 63 < members_len ms) ⊎ MembersLeaveRange ms
 
 -- reading the members may fail with this cause
 abbrev pub MayRefuseToRead : Members → JsonCause → Type 0

@@ -15,10 +15,10 @@ use Rattle.intmap_table.proofs.WalkLemmas.{slot_of-walk_of, value_of-slot_of}
 
 module _ {K V : Type 0} (test : K → Bool) where
   -- if no key passes, nothing is found
-  pub first_value-none : (L : List (K × V)) → count_by (λ p. test p.0) L ≡ 0 → first_value test L ≡ None
-  first_value-none [] none = refl
-  first_value-none (p ∷ L) none =
-      let more = sum_by-cons (λ (q : K × V). cond (test q.0) 1 0) p L in let rest = first_value-none L in grind (arith, more, rest, none)
+  pub first_value-unmatched : (L : List (K × V)) → count_by (λ p. test p.0) L ≡ 0 → first_value test L ≡ None
+  first_value-unmatched [] none = refl
+  first_value-unmatched (p ∷ L) none =
+      let more = sum_by-cons (λ (q : K × V). cond (test q.0) 1 0) p L in let rest = first_value-unmatched L in grind (arith, more, rest, none)
 
   -- with the last of a class in front, the same is found
   first_value-last : (in_class : K × V → Bool) (d : K × V) (L : List (K × V)) → list_any in_class L ≡ true → count_by (λ p. test p.0) L ≤ 1
@@ -27,7 +27,7 @@ module _ {K V : Type 0} (test : K → Bool) where
   first_value-last in_class d (p ∷ L) some once =
       let more = sum_by-cons (λ (q : K × V). cond (test q.0) 1 0) p L in
       let rest = first_value-last in_class (cond (in_class p) p d) L in
-      let none = first_value-none L in
+      let none = first_value-unmatched L in
       let last = last_passing-none (λ _. 1) in_class in_class p L in
       grind (arith, more, rest, none, last, some, once)
 
@@ -49,7 +49,7 @@ module _ {K V : Type 0} (test : K → Bool) where
       let more = sum_by-cons (λ (q : K × V). cond (test q.0) 1 0) p L in
       let rest = first_value-itself_out in_class L in
       let last = first_value-last in_class p L in
-      let none = first_value-none L in
+      let none = first_value-unmatched L in
       grind (arith, more, rest, last, none, once)
 
   -- a pair behind pairs in which nothing is found is found if its key passes

@@ -26,9 +26,9 @@ module _ {A : Type 0} where
       simp (first, rest)
 
 -- what is made of each element, joined, are rows joined
-pub flat_map-map : {X A : Type 0} (g : X → List A) (xs : List X) → flat_map g xs ≡ flat_map (λ s. s) (map g xs)
-flat_map-map g [] = refl
-flat_map-map g (x ∷ xs) = ap (λ rest. g x ++ rest) (flat_map-map g xs)
+pub flat_map-joined : {X A : Type 0} (g : X → List A) (xs : List X) → flat_map g xs ≡ flat_map (λ s. s) (map g xs)
+flat_map-joined g [] = refl
+flat_map-joined g (x ∷ xs) = ap (λ rest. g x ++ rest) (flat_map-joined g xs)
 
 module _ {X : Type 0} (f : X → ℕ) where
   -- the elements of class i
@@ -97,4 +97,4 @@ module _ {X : Type 0} (f : X → ℕ) where
   class-classes xs n i below =
       let S : List (List X) = map (λ i. class i xs) (range_with_len 0 n) in
       let e : class i (flat_map (λ s. s) S) ≡ get_or S i [] = let k = class-joined 0 i S (AreClasses-map xs n) in rw zero-add at k in
-      ap (class i) (flat_map-map (λ i. class i xs) (range_with_len 0 n)) ∙ e ∙ get_or-map-range_with_len (λ i. class i xs) 0 n i i [] below (zero-add i)
+      ap (class i) (flat_map-joined (λ i. class i xs) (range_with_len 0 n)) ∙ e ∙ get_or-map-range_with_len (λ i. class i xs) 0 n i i [] below (zero-add i)

@@ -11,27 +11,27 @@ use Rattle.intmap_table.proofs.Tables.SwapOutLemmas.{any}
 
 module _ {X : Type 0} (test : X → Bool) where
   -- xs ends with ys, and none of the elements before passes
-  pub record ArePassed (xs ys : List X) : Type 0 where
+  pub record FailBefore (xs ys : List X) : Type 0 where
     pub left : length ys ≤ length xs
     pub place : position_or_len test xs + length ys ≡ length xs + position_or_len test ys
     pub reached : length (through_first test xs) + length ys ≡ length xs + length (through_first test ys)
 
-  pub ArePassed-none : (xs : List X) → ArePassed xs xs
-  ArePassed-none xs = record { left = omega arith; place = omega arith; reached = omega arith }
+  pub FailBefore-none : (xs : List X) → FailBefore xs xs
+  FailBefore-none xs = record { left = omega arith; place = omega arith; reached = omega arith }
 
-  pub ArePassed-more : (xs ys : List X) (y : X) → test y ≡ false → ArePassed xs (y ∷ ys) → ArePassed xs ys
-  ArePassed-more xs ys y fails h =
+  pub FailBefore-more : (xs ys : List X) (y : X) → test y ≡ false → FailBefore xs (y ∷ ys) → FailBefore xs ys
+  FailBefore-more xs ys y fails h =
       let a : position_or_len test xs + suc (length ys) ≡ length xs + (1 + position_or_len test ys) = rw fails at h.place in
       let b : length (through_first test xs) + suc (length ys) ≡ length xs + suc (length (through_first test ys)) = rw fails at h.reached in
       record { left = omega (arith, h.left); place = omega (arith, a); reached = omega (arith, b) }
 
   -- the first of ys passes, so it is found there
-  pub record IsFound (xs ys : List X) : Type 0 where
+  pub record IsFirst (xs ys : List X) : Type 0 where
     pub place : position test xs ≡ Some (length xs - length ys)
     pub reached : length (through_first test xs) ≡ length xs - length ys + 1
 
-  pub IsFound-here : (xs ys : List X) (y : X) → test y ≡ true → ArePassed xs (y ∷ ys) → IsFound xs (y ∷ ys)
-  IsFound-here xs ys y passes h =
+  pub IsFirst-here : (xs ys : List X) (y : X) → test y ≡ true → FailBefore xs (y ∷ ys) → IsFirst xs (y ∷ ys)
+  IsFirst-here xs ys y passes h =
       let a : position_or_len test xs + suc (length ys) ≡ length xs + 0 = rw passes at h.place in
       let b : length (through_first test xs) + suc (length ys) ≡ length xs + 1 = rw passes at h.reached in
       let e : position_or_len test xs ≡ length xs - suc (length ys) = omega (arith, a) in
@@ -42,7 +42,7 @@ module _ {X : Type 0} (test : X → Bool) where
     pub place : position test xs ≡ None
     pub reached : length (through_first test xs) ≡ length xs
 
-  pub IsMissed-all : (xs : List X) → ArePassed xs [] → IsMissed xs
+  pub IsMissed-all : (xs : List X) → FailBefore xs [] → IsMissed xs
   IsMissed-all xs h =
       let e : position_or_len test xs ≡ length xs = omega (arith, h.place) in
       record { place = simp (e, le-ltb (length xs) (length xs) (omega arith)); reached = omega (arith, h.reached) }

@@ -26,7 +26,7 @@ pub row-at : {K X : Type 0} (S : List (Held K X)) (i : ℕ) (h : Held K X) → i
 row-at S i h below is = ap (λ (s : Held _ _). s.pairs) is ∙ sym (get_or-rows S i h below)
 
 -- at place j of row i, n elements were passed
-pub record IsAt {P : Type 0} (R : List (List P)) (i j n : ℕ) : Type 0 where
+pub record IsInRows {P : Type 0} (R : List (List P)) (i j n : ℕ) : Type 0 where
   pub within : j ≤ length (get_or R i [])
   pub count : n ≡ length (joined (take i R)) + j
 
@@ -40,7 +40,7 @@ module _ {P : Type 0} (R : List (List P)) (i : ℕ) where
       let outer = length-append (joined (take i R)) (get_or R i [] ++ joined (drop (suc i) R)) in let inner = length-append (get_or R i []) (joined (drop (suc i) R)) in
       let all = ap length joined-parts in omega (arith, all, outer, inner)
 
-module _ {P : Type 0} (R : List (List P)) (i j n : ℕ) (at : IsAt R i j n) where
+module _ {P : Type 0} (R : List (List P)) (i j n : ℕ) (at : IsInRows R i j n) where
   abbrev row : List P
   row = get_or R i []
 
@@ -79,20 +79,20 @@ module _ {K X : Type 0} (number : K → ℕ) (S : List (Held K X)) (table : IsTa
       ap (λ n. flat_map slot (range_with_len 0 n)) more ∙ ap (flat_map slot) (range_with_len-add 0 i 1 ∙ ap (λ h. range_with_len 0 i ++ h ∷ []) (zero-add i)) ∙ flat_map-append slot (range_with_len 0 i) (i ∷ [])
       ∙ (λ k. slots-before i k ++ (append-nil (slot i) ∙ slot_of-joined number S table i) k) ∙ sym (joined-take i (rows S))
 
-  pub IsAt-reached : (i j n : ℕ) → IsReached number (joined (rows S)) (length S) i j n → IsAt (rows S) i j n
-  IsAt-reached i j n reached = record {
+  pub IsInRows-reached : (i j n : ℕ) → IsReached number (joined (rows S)) (length S) i j n → IsInRows (rows S) i j n
+  IsInRows-reached i j n reached = record {
     within = subst (λ ps. j ≤ length ps) (slot_of-joined number S table i) reached.within;
     count = reached.count ∙ ap (λ ps. length ps + j) (slots-before i);
   }
 
-  pub IsReached-at : (i j n : ℕ) → IsAt (rows S) i j n → IsReached number (joined (rows S)) (length S) i j n
+  pub IsReached-at : (i j n : ℕ) → IsInRows (rows S) i j n → IsReached number (joined (rows S)) (length S) i j n
   IsReached-at i j n at = record {
     within = subst (λ ps. j ≤ length ps) (sym (slot_of-joined number S table i)) at.within;
     count = at.count ∙ ap (λ ps. length ps + j) (sym (slots-before i));
     few = reached-few (rows S) i j n at;
   }
 
-module _ {K X : Type 0} (S : List (Held K X)) (marks : List Bool) (are : AreMarked (rows S) marks) (from j n : ℕ) (at : IsAt (rows S) from j n) where
+module _ {K X : Type 0} (S : List (Held K X)) (marks : List Bool) (are : AreMarked (rows S) marks) (from j n : ℕ) (at : IsInRows (rows S) from j n) where
   -- if there is no mark any more, no pair is left
   pub drop-none : ((i : ℕ) → from ≤ i → marked marks i ≡ false) → drop n (joined (rows S)) ≡ []
   drop-none none =
@@ -102,8 +102,8 @@ module _ {K X : Type 0} (S : List (Held K X)) (marks : List Bool) (are : AreMark
 
   module _ (place : ℕ) (next : IsNextMark marks from place) where
     -- the slot of the next mark is the current one: if that isn't this slot, this one is empty
-    pub IsAt-next : IsAt (rows S) place j n
-    IsAt-next = elim (cases_lt from place) as (λ _. IsAt (rows S) place j n) [
+    pub IsInRows-next : IsInRows (rows S) place j n
+    IsInRows-next = elim (cases_lt from place) as (λ _. IsInRows (rows S) place j n) [
       | inl before ↦
           (let none = ap length (empty-between S marks are from place next from (omega arith) before) in
           let behind : from + (place - from) ≡ place = omega (arith, before) in
@@ -111,12 +111,12 @@ module _ {K X : Type 0} (S : List (Held K X)) (marks : List Bool) (are : AreMark
           rw behind at (joined-take_past (place - from) from (rows S) (λ i le lt. empty-between S marks are from place next i le (omega (arith, lt, behind)))) in
           let same = ap length past in
           record { within = omega (arith, none, at.within); count = omega (arith, at.count, same) })
-      | inr up ↦ (let same : from ≡ place = omega (arith, up, next.behind) in subst (λ i. IsAt (rows S) i j n) same at)
+      | inr up ↦ (let same : from ≡ place = omega (arith, up, next.behind) in subst (λ i. IsInRows (rows S) i j n) same at)
     ]
 
 -- of the slot at hand, whose pairs from place j on were asked about, s is left
 module _ {K X F : Type 0} (number : K → ℕ) (R : F → K × X → Bool → F → K × X → Type 0) (same_key : (f : F) (p : K × X) (b : Bool) (g : F) (q : K × X) → R f p b g q → q.0 ≡ p.0)
-    (S : List (Held K X)) (marks : List Bool) (old : IsMarkedTable number S marks) (i j n : ℕ) (below : i < length S) (at : IsAt (rows S) i j n)
+    (S : List (Held K X)) (marks : List Bool) (old : IsMarkedTable number S marks) (i j n : ℕ) (below : i < length S) (at : IsInRows (rows S) i j n)
     (f g : F) (r : Option (K × X)) (s : Held K X) (k : ℕ) (step : ExtractsBehind R f (get_or (rows S) i []) j r g s.pairs k) (within : k ≤ length s.pairs) where
   abbrev T : List (Held K X)
   T = set S i s
@@ -163,18 +163,18 @@ module _ {K X F : Type 0} (number : K → ℕ) (R : F → K × X → Bool → F 
       omega (arith, few, before, after, front, here, back)
 
   -- the place that was reached there
-  pub IsAt-step : (m : ℕ) → m + j ≡ n + k → IsAt (rows T) i k m
-  IsAt-step m count = record {
+  pub IsInRows-step : (m : ℕ) → m + j ≡ n + k → IsInRows (rows T) i k m
+  IsInRows-step m count = record {
     within = subst (λ ps. k ≤ length ps) (sym row-new) within;
     count = let same = ap length before-same in omega (arith, count, at.count, same);
   }
 
   module _ (m : ℕ) (count : m + j ≡ n + k) where
     taken : take m (joined (rows T)) ≡ joined (take i (rows S)) ++ take k s.pairs
-    taken = take-reached (rows T) i k m (IsAt-step m count) ∙ (λ h. before-same h ++ take k (row-new h))
+    taken = take-reached (rows T) i k m (IsInRows-step m count) ∙ (λ h. before-same h ++ take k (row-new h))
 
     left : drop m (joined (rows T)) ≡ drop k s.pairs ++ joined (drop (suc i) (rows S))
-    left = drop-reached (rows T) i k m (IsAt-step m count) ∙ (λ h. drop k (row-new h) ++ behind-same h)
+    left = drop-reached (rows T) i k m (IsInRows-step m count) ∙ (λ h. drop k (row-new h) ++ behind-same h)
 
     taken-more : take m (joined (rows T)) ≡ take n (joined (rows S)) ++ step.0
     taken-more =
@@ -213,8 +213,8 @@ module _ {K X F : Type 0} (number : K → ℕ) (R : F → K × X → Bool → F 
         (subst (TakesEach (λ f p (a : Bool × (K × X)) g. R f p a.0 g a.1) Q f) (drop-reached (rows S) i j n at) takes) first)
 
     -- if none was picked, all pairs of the slot were passed
-    pub IsAt-left : r ≡ None → IsAt (rows T) (i + 1) 0 m
-    IsAt-left is =
+    pub IsInRows-left : r ≡ None → IsInRows (rows T) (i + 1) 0 m
+    IsInRows-left is =
         let first = subst (λ o. ExtractsNext R f (drop j (get_or (rows S) i [])) o g step.0 (drop k s.pairs)) is step.1 in
         let none = ap length (ExtractsNext-end R f g (drop j (get_or (rows S) i [])) step.0 (drop k s.pairs) first) in
         let over = length-drop k s.pairs in

@@ -16,41 +16,41 @@ use Rattle.intmap_table.proofs.Tables.TableLemmas.{slot_of-here}
 
 module _ {K V : Type 0} (test : K → Bool) (P : K → Type 0) where
   -- the key at place i passes the test, and has what all keys of the list have
-  record Passes (L : List (K × V)) (i : ℕ) : Type 0 where
+  record PassesAt (L : List (K × V)) (i : ℕ) : Type 0 where
     pub key : K
     pub here : key_at L i ≡ Some key
     pub passes : test key ≡ true
     pub own : All (λ p. P p.0) L → P key
 
-  behind : (p : K × V) (L : List (K × V)) (i : ℕ) → Passes L i → Passes (p ∷ L) (suc i)
+  behind : (p : K × V) (L : List (K × V)) (i : ℕ) → PassesAt L i → PassesAt (p ∷ L) (suc i)
   behind p L i h = record { key = h.key; here = h.here; passes = h.passes; own = λ all. h.own (All-tail (λ p. P p.0) p L all) }
 
   found_step : (p : K × V) (L : List (K × V)) (t : Bool) → test p.0 ≡ t
-      → (position_or_len (λ q. test q.0) L < length L → Passes L (position_or_len (λ q. test q.0) L))
-      → position_or_len (λ q. test q.0) (p ∷ L) < length (p ∷ L) → Passes (p ∷ L) (position_or_len (λ q. test q.0) (p ∷ L))
+      → (position_or_len (λ q. test q.0) L < length L → PassesAt L (position_or_len (λ q. test q.0) L))
+      → position_or_len (λ q. test q.0) (p ∷ L) < length (p ∷ L) → PassesAt (p ∷ L) (position_or_len (λ q. test q.0) (p ∷ L))
   found_step p L true e rest below =
       let o : position_or_len (λ (q : K × V). test q.0) (p ∷ L) ≡ 0 = rw e refl in
-      subst (Passes (p ∷ L)) (sym o) (record { key = p.0; here = refl; passes = e; own = λ all. All-head (λ p. P p.0) p L all })
+      subst (PassesAt (p ∷ L)) (sym o) (record { key = p.0; here = refl; passes = e; own = λ all. All-head (λ p. P p.0) p L all })
   found_step p L false e rest below =
       let n : ℕ = position_or_len (λ (q : K × V). test q.0) L in
       let w : 1 + n < suc (length L) = rw e at below in
       let o : position_or_len (λ (q : K × V). test q.0) (p ∷ L) ≡ suc n = rw e (omega arith) in
-      subst (Passes (p ∷ L)) (sym o) (behind p L n (rest (omega (arith, w))))
+      subst (PassesAt (p ∷ L)) (sym o) (behind p L n (rest (omega (arith, w))))
 
-  found : (L : List (K × V)) → position_or_len (λ q. test q.0) L < length L → Passes L (position_or_len (λ q. test q.0) L)
+  found : (L : List (K × V)) → position_or_len (λ q. test q.0) L < length L → PassesAt L (position_or_len (λ q. test q.0) L)
   found [] below = absurd (omega arith)
   found (p ∷ L) below = found_step p L (test p.0) refl (found L) below
 
-  Passes-position : (L : List (K × V)) (i : ℕ) → position (λ q. test q.0) L ≡ Some i → Passes L i
-  Passes-position L i e =
-      let p = position-within (λ (q : K × V). test q.0) L i e in subst (Passes L) p.0 (found L (subst (λ n. n < length L) (sym p.0) p.1))
+  PassesAt-position : (L : List (K × V)) (i : ℕ) → position (λ q. test q.0) L ≡ Some i → PassesAt L i
+  PassesAt-position L i e =
+      let p = position-within (λ (q : K × V). test q.0) L i e in subst (PassesAt L) p.0 (found L (subst (λ n. n < length L) (sym p.0) p.1))
 
 module _ {K V : Type 0} (number : K → ℕ) (is_valid : K → Type 0) where
   -- at the place at which a key was found is that key
   pub key_at-located : ((x y : K) → is_valid x → is_valid y → number x ≡ number y → x ≡ y) → (W : List (K × V)) (C : ℕ) (at : Location K)
       → All (λ p. is_valid p.0) W → is_valid at.key → IsAt number W C at → key_at (slot_of number W C at.slot) at.place ≡ Some at.key
   key_at-located number_injective W C at keys known is =
-      let h = Passes-position (same_key number at.key) is_valid (slot_of number W C at.slot) at.place is.place in
+      let h = PassesAt-position (same_key number at.key) is_valid (slot_of number W C at.slot) at.place is.place in
       let own = h.own (All-filter (λ p. slot_number number p.0 C == at.slot) (λ p. is_valid p.0) W keys) in
       h.here ∙ ap (λ q. Some q) (number_injective h.key at.key own known (eqb-true (number h.key) (number at.key) h.passes))
 

@@ -10,7 +10,7 @@ use Rattle.std.proofs.lemmas.Map.Entries.{length-keys_of}
 use Rattle.intmap_table.specs.Classes.{IsCapacity, slot_number}
 use Rattle.intmap_table.specs.Tables.Slots.{Held, rows, AreMarked, IsTable, IsMarkedTable, IsMaskedTable}
 use Rattle.intmap_table.specs.Walk.{slot_of, walk_of}
-use Rattle.intmap_table.proofs.ClassLemmas.{AreClasses, AreClasses-map, flat_map-classes, flat_map-map}
+use Rattle.intmap_table.proofs.ClassLemmas.{AreClasses, AreClasses-map, flat_map-classes, flat_map-joined}
 
 -- the keys of each slot
 abbrev pub row_keys : {K X : Type 0} → List (Held K X) → List (List K)
@@ -72,7 +72,7 @@ module _ {K X Y : Type 0} where
   pub walk_of-same_keys : (number : K → ℕ) (L : List (K × X)) (M : List (K × Y)) (C : ℕ) → keys_of L ≡ keys_of M → walk_of number L C ≡ L → walk_of number M C ≡ M
   walk_of-same_keys number L M C same own =
       let S : List (List (K × X)) = map (slot_of number L C) (range_with_len 0 C) in
-      let rows_same : keys_of (flat_map (λ s. s) S) ≡ keys_of M = ap keys_of (sym (flat_map-map (slot_of number L C) (range_with_len 0 C)) ∙ own) ∙ same in
+      let rows_same : keys_of (flat_map (λ s. s) S) ≡ keys_of M = ap keys_of (sym (flat_map-joined (slot_of number L C) (range_with_len 0 C)) ∙ own) ∙ same in
       let T : List (List (K × Y)) = cut S M in
       let n : length T ≡ C = length-cut S M ∙ length-map-range_with_len (slot_of number L C) 0 C in
       let slot : K × Y → ℕ = λ p. slot_number number p.0 C in

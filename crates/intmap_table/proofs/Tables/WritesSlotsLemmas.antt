@@ -27,8 +27,8 @@ module _ {K X : Type 0} (S : List (Held K X)) (marks : List Bool) (are : AreMark
   ascending = subst (AllPairs (λ i j. i < j)) (sym is) (AllPairs-marked_places marks)
 
   -- the one at hand is that of a slot
-  pub place-within : place < length S
-  place-within =
+  pub slot-within : place < length S
+  slot-within =
       let all = subst (All (λ i. i < length S)) (sym is) (places-within S marks are) in
       subst (λ n. n < length S) (get_or-append_seam before place rest 0) (all (length before) 0 (omega (arith, long)))
 
@@ -54,7 +54,7 @@ module _ {K X : Type 0} (S : List (Held K X)) (marks : List Bool) (are : AreMark
 
     passed : pairs_at (rows (set S place s)) (before ++ place ∷ []) ≡ pairs_at (rows S) before ++ s.pairs
     passed =
-        let row : get_or (rows (set S place s)) place [] ≡ s.pairs = ap (λ Z. get_or Z place []) (map-set (λ (t : Held K X). t.pairs) S place s) ∙ get_or-set_same (rows S) place s.pairs [] (omega (arith, place-within, length-rows S)) in
+        let row : get_or (rows (set S place s)) place [] ≡ s.pairs = ap (λ Z. get_or Z place []) (map-set (λ (t : Held K X). t.pairs) S place s) ∙ get_or-set_same (rows S) place s.pairs [] (omega (arith, slot-within, length-rows S)) in
         flat_map-append (λ i. get_or (rows (set S place s)) i []) before (place ∷ [])
         ∙ ap (λ Z. Z ++ (get_or (rows (set S place s)) place [] ++ [])) (others before apart-before)
         ∙ ap (λ Z. pairs_at (rows S) before ++ Z) (append-nil (get_or (rows (set S place s)) place []) ∙ row)
@@ -78,9 +78,9 @@ module _ {K X : Type 0} (S : List (Held K X)) (marks : List Bool) (are : AreMark
       -- the slot has its keys still, so the table and its marks agree
       pub IsMarkedTable-Writes : (number : K → ℕ) → IsMarkedTable number S marks → IsMarkedTable number (set S place s) marks
       IsMarkedTable-Writes number old = record {
-        table = IsTable-set_at number S place s old.table place-within
-            (All-Writes R (λ k. slot_number number k (length S) ≡ place) f h (get_or (rows S) place []) s.pairs run (old.table.in_place place place-within));
-        marks = marks-kept_at S marks are place place-within s (are.own place ∙ ap (nat_lt 0) (sym (length-Writes R f h (get_or (rows S) place []) s.pairs run)));
+        table = IsTable-set_at number S place s old.table slot-within
+            (All-Writes R (λ k. slot_number number k (length S) ≡ place) f h (get_or (rows S) place []) s.pairs run (old.table.in_place place slot-within));
+        marks = marks-kept_at S marks are place slot-within s (are.own place ∙ ap (nat_lt 0) (sym (length-Writes R f h (get_or (rows S) place []) s.pairs run)));
       }
 
 -- if all marked places were passed, R went over all pairs

@@ -1,14 +1,14 @@
 use Rattle.std.proofs.Common.{◌≡◌, ◌+◌, ◌∷◌, [], ◌<◌, get_or, length, drop, sym, ap, ◌∙◌, refl, subst, arith}
 use Rattle.intmap_table.specs.Tables.Slots.{Grid, rows, joined}
-use Rattle.intmap_table.proofs.Tables.ExtractSlotsLemmas.{IsAt-reached, IsReached-at, IsAt-next, drop-none, row-at, row-few}
+use Rattle.intmap_table.proofs.Tables.ExtractSlotsLemmas.{IsInRows-reached, IsReached-at, IsInRows-next, drop-none, row-at, row-few}
 use Rattle.intmap_table.proofs.Tables.PlacesLemmas.{IsNextMark-first, unmarked-behind}
 use Rattle.intmap_table.proofs.Tables.RetainSlotsLemmas.{next-within}
-use Rattle.intmap_table.proofs.Tables.CursorLemmas.{IsAt-on, IsAt-past, drop-on}
+use Rattle.intmap_table.proofs.Tables.CursorLemmas.{IsInRows-on, IsInRows-past, drop-on}
 use Rattle.intmap_table.proofs.table.Table.step.Goals as goal
 
 pub loop-slot-init : goal.loop-slot-init
 loop-slot-init g c = record {
-  at = IsAt-reached g.K.IntKey.number_of c.self.inside.slots.items c.self.invariant.marked.table c.args.at.now.slot c.args.at.now.place c.args.at.now.passed (rw (← c.self.view_is) at c.requires.reached);
+  at = IsInRows-reached g.K.IntKey.number_of c.self.inside.slots.items c.self.invariant.marked.table c.args.at.now.slot c.args.at.now.place c.args.at.now.passed (rw (← c.self.view_is) at c.requires.reached);
   passed = refl;
 }
 
@@ -17,7 +17,7 @@ slot_at-row-requires g c =
     let S = c.self.inside.slots.items in let marks = c.self.inside.directory.bits in let marked = c.self.invariant.marked in let from = c.loop-slot.at.slot in let i = c.in-Some.slot in let j = c.loop-slot.at.place in let n = c.loop-slot.at.passed in
     let next = IsNextMark-first marks from i c.next.new.self (sym c.iter_from.ensures ∙ c.in-Some.ensures.steps) in
     let below = next-within S marks marked.marks from i next in
-    let at = IsAt-next S marks marked.marks from j n c.loop-slot.invariant.at i next in
+    let at = IsInRows-next S marks marked.marks from j n c.loop-slot.invariant.at i next in
     rw c.deref.ensures.value below
 
 pub len-requires : goal.len-requires
@@ -25,7 +25,7 @@ len-requires g c =
     let S = c.self.inside.slots.items in let marks = c.self.inside.directory.bits in let marked = c.self.invariant.marked in let from = c.loop-slot.at.slot in let i = c.in-Some.slot in let j = c.loop-slot.at.place in let n = c.loop-slot.at.passed in
     let next = IsNextMark-first marks from i c.next.new.self (sym c.iter_from.ensures ∙ c.in-Some.ensures.steps) in
     let below = next-within S marks marked.marks from i next in
-    let at = IsAt-next S marks marked.marks from j n c.loop-slot.invariant.at i next in
+    let at = IsInRows-next S marks marked.marks from j n c.loop-slot.invariant.at i next in
     let held = c.slot_at-row.result.now in let is = subst (λ L. held ≡ get_or L i held) c.deref.ensures.value c.slot_at-row.ensures in let row = row-at S i held below is in
     let len = ap length row in
     let few = row-few (rows S) i j n at in let all = ap (λ (t : Grid _ _). length t.walk) c.self.view_is in omega (arith, len, few, all, at.within, at.count, c.requires.count)
@@ -35,7 +35,7 @@ overflow_add-at-then-place-len g c =
     let S = c.self.inside.slots.items in let marks = c.self.inside.directory.bits in let marked = c.self.invariant.marked in let from = c.loop-slot.at.slot in let i = c.in-Some.slot in let j = c.loop-slot.at.place in let n = c.loop-slot.at.passed in
     let next = IsNextMark-first marks from i c.next.new.self (sym c.iter_from.ensures ∙ c.in-Some.ensures.steps) in
     let below = next-within S marks marked.marks from i next in
-    let at = IsAt-next S marks marked.marks from j n c.loop-slot.invariant.at i next in
+    let at = IsInRows-next S marks marked.marks from j n c.loop-slot.invariant.at i next in
     let held = c.slot_at-row.result.now in let is = subst (λ L. held ≡ get_or L i held) c.deref.ensures.value c.slot_at-row.ensures in let row = row-at S i held below is in
     let len = ap length row in
     let few = row-few (rows S) i j n at in let all = ap (λ (t : Grid _ _). length t.walk) c.self.view_is in let under = c.if-place-len.true in let told = c.len.ensures in omega (arith, len, few, all, at.within, under, told, c.requires.count)
@@ -45,7 +45,7 @@ returns-then-place-len-clause-first g c =
     let S = c.self.inside.slots.items in let marks = c.self.inside.directory.bits in let marked = c.self.invariant.marked in let from = c.loop-slot.at.slot in let i = c.in-Some.slot in let j = c.loop-slot.at.place in let n = c.loop-slot.at.passed in
     let next = IsNextMark-first marks from i c.next.new.self (sym c.iter_from.ensures ∙ c.in-Some.ensures.steps) in
     let below = next-within S marks marked.marks from i next in
-    let at = IsAt-next S marks marked.marks from j n c.loop-slot.invariant.at i next in
+    let at = IsInRows-next S marks marked.marks from j n c.loop-slot.invariant.at i next in
     let held = c.slot_at-row.result.now in let is = subst (λ L. held ≡ get_or L i held) c.deref.ensures.value c.slot_at-row.ensures in let row = row-at S i held below is in
     let len = ap length row in
     let under = c.if-place-len.true in let told = c.len.ensures in let inside : j < length (get_or (rows S) i []) = omega (arith, len, under, told) in
@@ -59,18 +59,18 @@ returns-then-place-len-clause-reached g c =
     let S = c.self.inside.slots.items in let marks = c.self.inside.directory.bits in let marked = c.self.invariant.marked in let from = c.loop-slot.at.slot in let i = c.in-Some.slot in let j = c.loop-slot.at.place in let n = c.loop-slot.at.passed in
     let next = IsNextMark-first marks from i c.next.new.self (sym c.iter_from.ensures ∙ c.in-Some.ensures.steps) in
     let below = next-within S marks marked.marks from i next in
-    let at = IsAt-next S marks marked.marks from j n c.loop-slot.invariant.at i next in
+    let at = IsInRows-next S marks marked.marks from j n c.loop-slot.invariant.at i next in
     let held = c.slot_at-row.result.now in let is = subst (λ L. held ≡ get_or L i held) c.deref.ensures.value c.slot_at-row.ensures in let row = row-at S i held below is in
     let len = ap length row in
     let under = c.if-place-len.true in let told = c.len.ensures in let inside : j < length (get_or (rows S) i []) = omega (arith, len, under, told) in
-    rw (← c.self.view_is) (IsReached-at g.K.IntKey.number_of S marked.table i (j + 1) (n + 1) (IsAt-on S i j n at inside))
+    rw (← c.self.view_is) (IsReached-at g.K.IntKey.number_of S marked.table i (j + 1) (n + 1) (IsInRows-on S i j n at inside))
 
 pub overflow_add-at-in-Some : goal.overflow_add-at-in-Some
 overflow_add-at-in-Some g c =
     let S = c.self.inside.slots.items in let marks = c.self.inside.directory.bits in let marked = c.self.invariant.marked in let from = c.loop-slot.at.slot in let i = c.in-Some.slot in let j = c.loop-slot.at.place in let n = c.loop-slot.at.passed in
     let next = IsNextMark-first marks from i c.next.new.self (sym c.iter_from.ensures ∙ c.in-Some.ensures.steps) in
     let below = next-within S marks marked.marks from i next in
-    let at = IsAt-next S marks marked.marks from j n c.loop-slot.invariant.at i next in
+    let at = IsInRows-next S marks marked.marks from j n c.loop-slot.invariant.at i next in
     omega (arith, below, c.self.inside.slots.ok.0)
 
 pub loop-slot-smaller : goal.loop-slot-smaller
@@ -78,7 +78,7 @@ loop-slot-smaller g c =
     let S = c.self.inside.slots.items in let marks = c.self.inside.directory.bits in let marked = c.self.invariant.marked in let from = c.loop-slot.at.slot in let i = c.in-Some.slot in let j = c.loop-slot.at.place in let n = c.loop-slot.at.passed in
     let next = IsNextMark-first marks from i c.next.new.self (sym c.iter_from.ensures ∙ c.in-Some.ensures.steps) in
     let below = next-within S marks marked.marks from i next in
-    let at = IsAt-next S marks marked.marks from j n c.loop-slot.invariant.at i next in
+    let at = IsInRows-next S marks marked.marks from j n c.loop-slot.invariant.at i next in
     omega (arith, below, next.behind)
 
 pub loop-slot-preserved : goal.loop-slot-preserved
@@ -86,12 +86,12 @@ loop-slot-preserved g c =
     let S = c.self.inside.slots.items in let marks = c.self.inside.directory.bits in let marked = c.self.invariant.marked in let from = c.loop-slot.at.slot in let i = c.in-Some.slot in let j = c.loop-slot.at.place in let n = c.loop-slot.at.passed in
     let next = IsNextMark-first marks from i c.next.new.self (sym c.iter_from.ensures ∙ c.in-Some.ensures.steps) in
     let below = next-within S marks marked.marks from i next in
-    let at = IsAt-next S marks marked.marks from j n c.loop-slot.invariant.at i next in
+    let at = IsInRows-next S marks marked.marks from j n c.loop-slot.invariant.at i next in
     let held = c.slot_at-row.result.now in let is = subst (λ L. held ≡ get_or L i held) c.deref.ensures.value c.slot_at-row.ensures in let row = row-at S i held below is in
     let len = ap length row in
     let past = c.if-place-len.false in let told = c.len.ensures in
     record {
-      at = IsAt-past S i j n at (omega (arith, len, past, told));
+      at = IsInRows-past S i j n at (omega (arith, len, past, told));
       passed = c.loop-slot.invariant.passed;
     }
 

@@ -5,19 +5,19 @@ use Rattle.intmap_table.specs.Writes.{TakesPairMut}
 use Rattle.intmap_table.specs.Tables.Slots.{rows}
 use Rattle.intmap_table.specs.Taking.{TakesEach}
 use Rattle.std.proofs.Common.{drop}
-use Rattle.intmap_table.proofs.Tables.ExtractSlotsLemmas.{row-at, row-few, place-on, IsAt-reached, IsMarkedTable-emptied_slot, IsMarkedTable-filled_slot}
+use Rattle.intmap_table.proofs.Tables.ExtractSlotsLemmas.{row-at, row-few, place-on, IsInRows-reached, IsMarkedTable-emptied_slot, IsMarkedTable-filled_slot}
 use Rattle.intmap_table.proofs.table.closures.extract_in.Goals as goal
 
 pub extract_next-found-requires-clause-within : goal.extract_next-found-requires-clause-within
 extract_next-found-requires-clause-within g c =
     let S = c.args.slots.now.items in let i = c.args.at.now.slot in let j = c.args.at.now.place in let n = c.args.at.now.passed in
-    let at = IsAt-reached g.K.IntKey.number_of S c.requires.table.table i j n c.requires.reached in
+    let at = IsInRows-reached g.K.IntKey.number_of S c.requires.table.table i j n c.requires.reached in
     subst (λ ps. j ≤ length ps) (sym (row-at S i c.index_mut-slot.result.now c.requires.within c.index_mut-slot.ensures.value)) at.within
 
 pub extract_next-found-requires-clause-few : goal.extract_next-found-requires-clause-few
 extract_next-found-requires-clause-few g c =
     let S = c.args.slots.now.items in let i = c.args.at.now.slot in let j = c.args.at.now.place in let n = c.args.at.now.passed in
-    let at = IsAt-reached g.K.IntKey.number_of S c.requires.table.table i j n c.requires.reached in
+    let at = IsInRows-reached g.K.IntKey.number_of S c.requires.table.table i j n c.requires.reached in
     let row = ap length (row-at S i c.index_mut-slot.result.now c.requires.within c.index_mut-slot.ensures.value) in
     let few = row-few (rows S) i j n at in
     omega (arith, at.within, at.count, few, row, c.requires.count)
@@ -30,7 +30,7 @@ extract_next-found-requires-clause-callable g c =
 pub overflow_add-at : goal.overflow_add-at
 overflow_add-at g c =
     let S = c.args.slots.now.items in let i = c.args.at.now.slot in let j = c.args.at.now.place in let n = c.args.at.now.passed in
-    let at = IsAt-reached g.K.IntKey.number_of S c.requires.table.table i j n c.requires.reached in
+    let at = IsInRows-reached g.K.IntKey.number_of S c.requires.table.table i j n c.requires.reached in
     let row = row-at S i c.index_mut-slot.result.now c.requires.within c.index_mut-slot.ensures.value in
     let step = subst (λ ps. ExtractsBehind (PicksAt g.F.FnMut) c.args.f.now ps j c.extract_next-found.result c.extract_next-found.new.f c.extract_next-found.new.self.pairs c.extract_next-found.new.place) row c.extract_next-found.ensures.step in
     let on = place-on g.K.IntKey.number_of (PicksAt g.F.FnMut) (λ f p b h q call. call.0) S c.args.bits.now c.requires.table i j n c.requires.within at _ _ _ c.extract_next-found.new.self c.extract_next-found.new.place step c.extract_next-found.ensures.within in
@@ -54,7 +54,7 @@ returns-else-not-is_filled-clause-step g c =
 pub returns-then-not-is_filled-clause-table : goal.returns-then-not-is_filled-clause-table
 returns-then-not-is_filled-clause-table g c =
     let S = c.args.slots.now.items in let i = c.args.at.now.slot in let j = c.args.at.now.place in let n = c.args.at.now.passed in
-    let at = IsAt-reached g.K.IntKey.number_of S c.requires.table.table i j n c.requires.reached in
+    let at = IsInRows-reached g.K.IntKey.number_of S c.requires.table.table i j n c.requires.reached in
     let row = row-at S i c.index_mut-slot.result.now c.requires.within c.index_mut-slot.ensures.value in
     let step = subst (λ ps. ExtractsBehind (PicksAt g.F.FnMut) c.args.f.now ps j c.extract_next-found.result c.extract_next-found.new.f c.extract_next-found.new.self.pairs c.extract_next-found.new.place) row c.extract_next-found.ensures.step in
     let none : false ≡ nat_lt 0 (length c.extract_next-found.new.self.pairs) = let told = c.is_filled.ensures in let no = c.if-not-is_filled.true in grind (arith, told, no) in
@@ -64,7 +64,7 @@ returns-then-not-is_filled-clause-table g c =
 pub returns-else-not-is_filled-clause-table : goal.returns-else-not-is_filled-clause-table
 returns-else-not-is_filled-clause-table g c =
     let S = c.args.slots.now.items in let i = c.args.at.now.slot in let j = c.args.at.now.place in let n = c.args.at.now.passed in
-    let at = IsAt-reached g.K.IntKey.number_of S c.requires.table.table i j n c.requires.reached in
+    let at = IsInRows-reached g.K.IntKey.number_of S c.requires.table.table i j n c.requires.reached in
     let row = row-at S i c.index_mut-slot.result.now c.requires.within c.index_mut-slot.ensures.value in
     let step = subst (λ ps. ExtractsBehind (PicksAt g.F.FnMut) c.args.f.now ps j c.extract_next-found.result c.extract_next-found.new.f c.extract_next-found.new.self.pairs c.extract_next-found.new.place) row c.extract_next-found.ensures.step in
     let some : true ≡ nat_lt 0 (length c.extract_next-found.new.self.pairs) = let told = c.is_filled.ensures in let filled = c.if-not-is_filled.false in grind (arith, told, filled) in

@@ -6,7 +6,7 @@ use Rattle.intmap_table.specs.Tables.Slots.{rows, joined}
 use Rattle.intmap_table.specs.Taking.{TakesEach}
 use Rattle.intmap_table.proofs.ExtractLemmas.{StepsTo, StepsTo-start, StepsTo-end}
 use Rattle.intmap_table.proofs.TakingLemmas.{TakesEach-front}
-use Rattle.intmap_table.proofs.Tables.ExtractSlotsLemmas.{IsAt, IsAt-reached, IsReached-at, IsAt-next, IsAt-step, IsAt-left, drop-reached, drop-none, joined-few, Extracts-slot, StepsTo-slot, TakesEach-slot}
+use Rattle.intmap_table.proofs.Tables.ExtractSlotsLemmas.{IsInRows, IsInRows-reached, IsReached-at, IsInRows-next, IsInRows-step, IsInRows-left, drop-reached, drop-none, joined-few, Extracts-slot, StepsTo-slot, TakesEach-slot}
 use Rattle.intmap_table.proofs.Tables.PlacesLemmas.{IsNextMark-first, unmarked-behind}
 use Rattle.intmap_table.proofs.Tables.RetainSlotsLemmas.{next-within}
 use Rattle.intmap_table.proofs.table.closures.extract_slots.Goals as goal
@@ -17,7 +17,7 @@ loop-slot-init g c = record {
   table = c.requires.table;
   len = refl;
   few = c.requires.count;
-  at = IsAt-reached g.K.IntKey.number_of c.args.slots.now.items c.requires.table.table c.args.at.now.slot c.args.at.now.place c.args.at.now.passed c.requires.reached;
+  at = IsInRows-reached g.K.IntKey.number_of c.args.slots.now.items c.requires.table.table c.args.at.now.slot c.args.at.now.place c.args.at.now.passed c.requires.reached;
   steps = StepsTo-start (PicksAt g.F.FnMut) c.args.f.now _ _;
 }
 
@@ -33,7 +33,7 @@ extract_in-requires-clause-reached g c =
     let S = c.loop-slot.slots.items in let marks = c.loop-slot.bits in let from = c.loop-slot.at.slot in let loop = c.loop-slot.invariant in let i = c.in-Some.slot in let j = c.loop-slot.at.place in let n = c.loop-slot.at.passed in
     let next = IsNextMark-first marks from i c.next.new.self (sym c.iter_from.ensures ∙ c.in-Some.ensures.steps) in
     let below = next-within S marks loop.table.marks from i next in
-    let at = IsAt-next S marks loop.table.marks from j n loop.at i next in
+    let at = IsInRows-next S marks loop.table.marks from j n loop.at i next in
     IsReached-at g.K.IntKey.number_of S loop.table.table i j n at
 
 pub extract_in-requires-clause-callable : goal.extract_in-requires-clause-callable
@@ -41,7 +41,7 @@ extract_in-requires-clause-callable g c =
     let S = c.loop-slot.slots.items in let marks = c.loop-slot.bits in let from = c.loop-slot.at.slot in let loop = c.loop-slot.invariant in let i = c.in-Some.slot in let j = c.loop-slot.at.place in let n = c.loop-slot.at.passed in
     let next = IsNextMark-first marks from i c.next.new.self (sym c.iter_from.ensures ∙ c.in-Some.ensures.steps) in
     let below = next-within S marks loop.table.marks from i next in
-    let at = IsAt-next S marks loop.table.marks from j n loop.at i next in
+    let at = IsInRows-next S marks loop.table.marks from j n loop.at i next in
     TakesEach-front (AsksAt g.F.FnMut) (TakesPairMut g.F.FnMut) c.loop-slot.f (drop j (get_or (rows S) i [])) (joined (drop (suc i) (rows S)))
     (subst (TakesEach (AsksAt g.F.FnMut) (TakesPairMut g.F.FnMut) c.loop-slot.f) (drop-reached (rows S) i j n at) loop.callable)
 
@@ -50,7 +50,7 @@ returns-in-Some-extract_in-clause-step g c =
     let S = c.loop-slot.slots.items in let marks = c.loop-slot.bits in let from = c.loop-slot.at.slot in let loop = c.loop-slot.invariant in let i = c.in-Some.slot in let j = c.loop-slot.at.place in let n = c.loop-slot.at.passed in
     let next = IsNextMark-first marks from i c.next.new.self (sym c.iter_from.ensures ∙ c.in-Some.ensures.steps) in
     let below = next-within S marks loop.table.marks from i next in
-    let at = IsAt-next S marks loop.table.marks from j n loop.at i next in
+    let at = IsInRows-next S marks loop.table.marks from j n loop.at i next in
     let m = c.extract_in.new.at.passed in let k = c.extract_in.new.at.place in let T = c.extract_in.new.slots.items in let asked = c.extract_in.ensures in let s = asked.step.0 in
     let R = PicksAt g.F.FnMut in let same : (f : _) (p : _) (b : _) (h : _) (q : _) → R f p b h q → q.0 ≡ p.0 = λ f p b h q call. call.0 in
     let D₀ = take c.args.at.now.passed (joined (rows c.args.slots.now.items)) in let L₀ = drop c.args.at.now.passed (joined (rows c.args.slots.now.items)) in
@@ -62,12 +62,12 @@ returns-in-Some-extract_in-clause-reached g c =
     let S = c.loop-slot.slots.items in let marks = c.loop-slot.bits in let from = c.loop-slot.at.slot in let loop = c.loop-slot.invariant in let i = c.in-Some.slot in let j = c.loop-slot.at.place in let n = c.loop-slot.at.passed in
     let next = IsNextMark-first marks from i c.next.new.self (sym c.iter_from.ensures ∙ c.in-Some.ensures.steps) in
     let below = next-within S marks loop.table.marks from i next in
-    let at = IsAt-next S marks loop.table.marks from j n loop.at i next in
+    let at = IsInRows-next S marks loop.table.marks from j n loop.at i next in
     let m = c.extract_in.new.at.passed in let k = c.extract_in.new.at.place in let T = c.extract_in.new.slots.items in let asked = c.extract_in.ensures in let s = asked.step.0 in
     let R = PicksAt g.F.FnMut in let same : (f : _) (p : _) (b : _) (h : _) (q : _) → R f p b h q → q.0 ≡ p.0 = λ f p b h q call. call.0 in
-    let here = IsAt-step g.K.IntKey.number_of R same S marks loop.table i j n below at c.loop-slot.f c.extract_in.new.f c.extract_in.result s k asked.step.2 asked.step.3 m asked.passed in
+    let here = IsInRows-step g.K.IntKey.number_of R same S marks loop.table i j n below at c.loop-slot.f c.extract_in.new.f c.extract_in.result s k asked.step.2 asked.step.3 m asked.passed in
     IsReached-at g.K.IntKey.number_of T asked.table.table c.extract_in.new.at.slot k m
-    (subst (λ Z. IsAt (rows Z) c.extract_in.new.at.slot k m) (sym asked.step.1) (subst (λ h. IsAt (rows (set S i s)) h k m) (sym asked.slot) here))
+    (subst (λ Z. IsInRows (rows Z) c.extract_in.new.at.slot k m) (sym asked.step.1) (subst (λ h. IsInRows (rows (set S i s)) h k m) (sym asked.slot) here))
 
 pub overflow_add-at : goal.overflow_add-at
 overflow_add-at g c =
@@ -89,7 +89,7 @@ loop-slot-preserved g c =
     let S = c.loop-slot.slots.items in let marks = c.loop-slot.bits in let from = c.loop-slot.at.slot in let loop = c.loop-slot.invariant in let i = c.in-Some.slot in let j = c.loop-slot.at.place in let n = c.loop-slot.at.passed in
     let next = IsNextMark-first marks from i c.next.new.self (sym c.iter_from.ensures ∙ c.in-Some.ensures.steps) in
     let below = next-within S marks loop.table.marks from i next in
-    let at = IsAt-next S marks loop.table.marks from j n loop.at i next in
+    let at = IsInRows-next S marks loop.table.marks from j n loop.at i next in
     let m = c.extract_in.new.at.passed in let k = c.extract_in.new.at.place in let T = c.extract_in.new.slots.items in let asked = c.extract_in.ensures in let s = asked.step.0 in
     let R = PicksAt g.F.FnMut in let same : (f : _) (p : _) (b : _) (h : _) (q : _) → R f p b h q → q.0 ≡ p.0 = λ f p b h q call. call.0 in
     let D₀ = take c.args.at.now.passed (joined (rows c.args.slots.now.items)) in let L₀ = drop c.args.at.now.passed (joined (rows c.args.slots.now.items)) in
@@ -101,8 +101,8 @@ loop-slot-preserved g c =
       table = asked.table;
       len = ap length asked.step.1 ∙ length-set S i s ∙ loop.len;
       few = omega (arith, few, fewer, loop.few);
-      at = subst (λ Z. IsAt (rows Z) (i + 1) 0 m) (sym asked.step.1)
-          (IsAt-left g.K.IntKey.number_of R same S marks loop.table i j n below at c.loop-slot.f c.extract_in.new.f c.extract_in.result s k asked.step.2 asked.step.3 m asked.passed c.in_default-extract_in.is);
+      at = subst (λ Z. IsInRows (rows Z) (i + 1) 0 m) (sym asked.step.1)
+          (IsInRows-left g.K.IntKey.number_of R same S marks loop.table i j n below at c.loop-slot.f c.extract_in.new.f c.extract_in.result s k asked.step.2 asked.step.3 m asked.passed c.in_default-extract_in.is);
       steps = subst (λ Z. StepsTo R c.args.f.now D₀ L₀ c.extract_in.new.f (take m (joined (rows Z))) (drop m (joined (rows Z)))) (sym asked.step.1)
           (StepsTo-slot g.K.IntKey.number_of R same S marks loop.table i j n below at c.loop-slot.f c.extract_in.new.f c.extract_in.result s k asked.step.2 asked.step.3 m asked.passed c.args.f.now D₀ L₀ loop.steps c.in_default-extract_in.is);
     }

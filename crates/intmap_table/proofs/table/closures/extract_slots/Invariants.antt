@@ -4,7 +4,7 @@ use Rattle.intmap_table.specs.Writes.{TakesPairMut}
 use Rattle.intmap_table.specs.Tables.Slots.{rows, joined, IsMarkedTable}
 use Rattle.intmap_table.specs.Taking.{TakesEach}
 use Rattle.intmap_table.proofs.ExtractLemmas.{StepsTo}
-use Rattle.intmap_table.proofs.Tables.ExtractSlotsLemmas.{IsAt}
+use Rattle.intmap_table.proofs.Tables.ExtractSlotsLemmas.{IsInRows}
 use Rattle.intmap_table.proofs.table.closures.extract_slots.Given as goal
 
 -- a step from the cursor on is one from where it was at the call, and the slots are a table with its marks
@@ -14,7 +14,7 @@ invariant-loop-slot g l = record {
   table : IsMarkedTable g.K.IntKey.number_of l.slots.items l.bits;
   len : length l.slots.items ≡ length l.initial.slots.items;
   few : length (joined (rows l.slots.items)) < 2 ^ 64;
-  at : IsAt (rows l.slots.items) l.at.slot l.at.place l.at.passed;
+  at : IsInRows (rows l.slots.items) l.at.slot l.at.place l.at.passed;
   steps : StepsTo (PicksAt g.F.FnMut) l.initial.f (take l.initial.at.passed (joined (rows l.initial.slots.items))) (drop l.initial.at.passed (joined (rows l.initial.slots.items)))
       l.f (take l.at.passed (joined (rows l.slots.items))) (drop l.at.passed (joined (rows l.slots.items)));
 }

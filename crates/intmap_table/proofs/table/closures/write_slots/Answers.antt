@@ -6,7 +6,7 @@ use Rattle.intmap_table.specs.Writes.{Writes, WritesAt, TakesPairMut}
 use Rattle.intmap_table.proofs.Tables.FilledLemmas.{pairs_at-marked}
 use Rattle.intmap_table.proofs.Tables.TableLemmas.{get_or-rows}
 use Rattle.intmap_table.proofs.TakingLemmas.{TakesEach-front}
-use Rattle.intmap_table.proofs.Tables.WritesSlotsLemmas.{place-within, Leads-place, TakesEach-place, IsMarkedTable-Writes, Leads-places}
+use Rattle.intmap_table.proofs.Tables.WritesSlotsLemmas.{slot-within, Leads-place, TakesEach-place, IsMarkedTable-Writes, Leads-places}
 use Rattle.intmap_table.proofs.table.closures.write_slots.Goals as goal
 use Rattle.intmap_table.proofs.table.closures.write_slots.Goals.{In-Some}
 
@@ -26,7 +26,7 @@ module _ (g : _) (c : In-Some g) where
   next = rw c.in-Some.ensures.steps at c.loop-index.invariant.passed.1
 
   within : c.in-Some.index < length c.loop-index.slots.items
-  within = place-within c.loop-index.slots.items c.args.bits.now c.loop-index.invariant.table.marks c.loop-index.invariant.passed.0 c.in-Some.index c.next.new.self next
+  within = slot-within c.loop-index.slots.items c.args.bits.now c.loop-index.invariant.table.marks c.loop-index.invariant.passed.0 c.in-Some.index c.next.new.self next
 
 pub index_mut-requires : goal.index_mut-requires
 index_mut-requires g c = let below = within g (goal.at.index_mut-requires g c).In-Some in omega (arith, below, c.loop-index.slots.ok.0)
