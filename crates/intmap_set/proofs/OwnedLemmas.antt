@@ -5,7 +5,6 @@ use Rattle.std.proofs.lemmas.Iterator.{YieldsList, items_from_drains}
 use Rattle.std.proofs.lemmas.Iterator.Consumers.{YieldsList-from_copied, YieldsList-from_first, YieldsList-so_far, nth_from_yields_List}
 use Rattle.std.proofs.lemmas.List.{map-id}
 use Rattle.std.proofs.lemmas.Nat.{pow-add}
-use Rattle.std.proofs.Math.Pow.{pow_mono, pow_pos}
 use Rattle.std.proofs.lemmas.Option.{slice_get_within}
 use Rattle.std.specs.Iterator.{YieldsFirstBy, YieldsThen}
 use Rattle.std.specs.Iterator.Adapters.{copied_source, copied_steps}
@@ -19,6 +18,7 @@ use Rattle.intmap.specs.Classes.{IsCapacity}
 use Rattle.intmap.specs.Extending.{new_keys}
 use Rattle.intmap.specs.Growth.{IsNext, IsWanted, MeetsLoad, is_due, last_due}
 use Rattle.intmap.specs.Map.{IsOutOfRange}
+use Rattle.intmap.proofs.SlotNumberLemmas.{capacity-greatest, capacity-positive}
 use Rattle.intmap.proofs.LoadFactorLemmas.{IsLoaded-larger, MeetsLoad-fewer, last_due-most}
 use Rattle.intmap_set.specs.Combined.{HaveSameMembers, IsUnion}
 use Rattle.intmap_set.specs.Extending.{Extends, ExtendsUpTo, IsExtended, MayStop, StopsAmong}
@@ -46,25 +46,10 @@ pub if_ok_both : {T E : Type 0} {P V Q : T → Type 0} (R : E → Type 0) (r : R
 if_ok_both R (Ok t) says holds follows = follows t says holds
 if_ok_both R (Err e) says holds follows = tt
 
--- what follows of an error alone
-pub err_so : {T E : Type 0} {R Q : E → Type 0} (r : Result T E) → IfErr r R → ((e : E) → R e → Q e) → IfErr r Q
-err_so (Ok t) says follows = tt
-err_so (Err e) says follows = follows e says
-
 -- a cause that isn't the one is the other
 pub only_memory : (cause : Cause) → (cause ≡ TooLarge → ⊥) → cause ≡ Memory
 only_memory Memory other = refl
 only_memory TooLarge other = absurd (other refl)
-
--- a capacity is positive
-capacity-positive : (C : ℕ) → IsCapacity C → 0 < C
-capacity-positive C room = rw room.3 (pow_pos room.0)
-
--- and at most 2^63
-capacity-greatest : (C : ℕ) → IsCapacity C → C ≤ 2 ^ 63
-capacity-greatest C room =
-    let most : room.0 ≤ 63 = (let below = room.2 in omega (arith, below)) in
-    let p : 2 ^ room.0 ≤ 2 ^ 63 = pow_mono most in let q = room.3 in omega (arith, p, q)
 
 -- if more than 2^63 slots follow, 2^63 slots don't meet the load, and growth is tested
 exceeds-greatest : (C n F D : ℕ) → IsCapacity C → IsNext C n F D → 2 ^ 63 < D → (is_due n ≡ true) × (F < n * 1000 / 2 ^ 63)

@@ -1,10 +1,10 @@
 use Rattle.std.proofs.Common.{length, ◌∙◌, sym, ◌^◌, ◌<◌, arith}
-use Rattle.std.proofs.lemmas.Result.{on_ok_weaker}
+use Rattle.std.proofs.lemmas.Result.{IfErr-weaker, on_ok_weaker}
 use Rattle.intmap_set.specs.Combined.{union_of}
 use Rattle.intmap_set.proofs.CombinedLemmas.{IsUnion-union_of}
 use Rattle.intmap_set.proofs.DistinctLemmas.{HasDistinctKeys-union_of}
 use Rattle.intmap_set.proofs.MemberLemmas.{length-paired}
-use Rattle.intmap_set.proofs.OwnedLemmas.{copies-came, err_so, extended-all, members-extended, stops-among}
+use Rattle.intmap_set.proofs.OwnedLemmas.{copies-came, extended-all, members-extended, stops-among}
 use Rattle.intmap_set.proofs.SizeLemmas.{length-same_members}
 use Rattle.intmap_set.proofs.set.IntSet.extend_from_set.Goals as goal
 
@@ -23,8 +23,8 @@ returns-clause-len g c =
 pub returns-clause-stops : goal.returns-clause-stops
 returns-clause-stops g c =
     let count : length c.args.other.now.walk < 2 ^ 64 = (let few = c.known.ensures.valid.count in let same = length-paired c.args.other.now.walk in omega (arith, few, same)) in
-    err_so c.extend.result c.extend.ensures.stops
-    (λ refused told. stops-among g.K.IntKey.number_of g.K.IntKey.is_valid (copies-came (c.copied.ensures.source ∙ c.iter.ensures.walk)) c.args.self.now refused c.extend.new.self count told)
+    IfErr-weaker c.extend.result _ _ (λ refused told. stops-among g.K.IntKey.number_of g.K.IntKey.is_valid (copies-came (c.copied.ensures.source ∙ c.iter.ensures.walk)) c.args.self.now refused c.extend.new.self count told)
+    c.extend.ensures.stops
 
 pub returns-clause-inserted : goal.returns-clause-inserted
 returns-clause-inserted g c =
