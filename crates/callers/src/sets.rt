@@ -5,7 +5,7 @@ ghost use Rattle.intmap.specs.Growth.{IsNext};
 ghost use Rattle.intmap.specs.Map.{IsCapacityAfter, IsOutOfRange};
 ghost use Rattle.intmap.specs.Reach.{class_size};
 ghost use Rattle.intmap_set.specs.Combined.{IsUnion, difference_of, symmetric_difference_of};
-ghost use Rattle.intmap_set.specs.Sets.{holds, paired};
+ghost use Rattle.intmap_set.specs.Sets.{holds, load_factor, paired};
 
 use intmap::{Cause, IntKey};
 use intmap_set::{IntSet, laws};
@@ -20,11 +20,11 @@ pub fn slots_with<K: IntKey, A: Allocator + Copy>(
     key: K,
 ) -> Result<usize, Cause>
     ensures slots { IfOk result (λ slots. IsCapacityAfter K.number_of (paired set.old.walk)
-        set.old.capacity 909 key slots) }
+        set.old.capacity load_factor key slots) }
     ensures too_large { IsErrOf result Cause.TooLarge
-        ↔ IsOutOfRange K.number_of (paired set.old.walk) set.old.capacity 909 key }
+        ↔ IsOutOfRange K.number_of (paired set.old.walk) set.old.capacity load_factor key }
     ensures memory { IsErrOf result Cause.Memory
-        → IsNext set.old.capacity (length set.old.walk + 1) 909 set.old.capacity
+        → IsNext set.old.capacity (length set.old.walk + 1) load_factor set.old.capacity
         → 0 < class_size K.number_of (paired set.old.walk) set.old.capacity key }
 {
     set.insert(key)?;

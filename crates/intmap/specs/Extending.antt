@@ -5,7 +5,7 @@ use Rattle.std.specs.Option.{option_or}
 use Rattle.intmap_table.specs.Bindings.{value_of}
 use Rattle.intmap_table.specs.Figures.{tally_of}
 use Rattle.intmap.specs.Growth.{IsLeastPower}
-use Rattle.intmap.specs.Map.{MapState, IsMap, IsOutOfRange, IsCapacityAfter, empty_map, after_search, after_insert}
+use Rattle.intmap.specs.Map.{MapState, IsMap, IsOutOfRange, IsCapacityAfter, empty_map, after_search, after_insert, first_capacity, least_capacity}
 use Rattle.intmap.specs.PlainLists.{RefusalIsDue, list_of}
 use Rattle.intmap.specs.declared.refusal.Cause.{Cause}
 use Rattle.intmap.specs.declared.refusal.Cause.TheVariants.{Memory, TooLarge}
@@ -42,7 +42,7 @@ module _ {K V : Type 0} (number : K → ℕ) (is_valid : K → Type 0) where
   -- the pairs were inserted in turn, and none failed, into an empty map with the given room
   pub record IsCollected (room : ℕ) (ps : List (K × V)) (m : MapState K V) : Type 0 where
     pub slots : ℕ
-    pub power : IsLeastPower (max room 2) slots
+    pub power : IsLeastPower (max room least_capacity) slots
     pub extended : IsExtended (empty_map slots) ps m
 
   -- the pairs were inserted in turn into an empty map with the given room, up to one that is out of range
@@ -58,7 +58,7 @@ module _ {K V : Type 0} (number : K → ℕ) (is_valid : K → Type 0) where
   -- apart from both counts, the map is what insertions of the pairs in turn into a new map of 4 slots leave
   pub record IsMadeOf (ps : List (K × V)) (m : MapState K V) : Type 0 where
     pub filled : MapState K V
-    pub inserted : MapInsertsAll (empty_map 4) ps filled
+    pub inserted : MapInsertsAll (empty_map first_capacity) ps filled
     pub state : m ≡ record filled { placed = m.placed; compared = m.compared }
 
 module _ {K V S : Type 0} (number : K → ℕ) (is_valid : K → Type 0) (steps : S → Option (K × V) → S → Type 0) where
@@ -83,7 +83,7 @@ module _ {K V S : Type 0} (number : K → ℕ) (is_valid : K → Type 0) (steps 
   -- an empty map with room for b slots was extended by all pairs that the iterator s gave
   pub record Collects (s : S) (b : ℕ) (n : MapState K V) : Type 0 where
     pub slots : ℕ
-    pub power : IsLeastPower (max b 2) slots
+    pub power : IsLeastPower (max b least_capacity) slots
     pub extends : Extends s (empty_map slots) n
 
   -- a map with room for b slots could not be made, or the pairs that the iterator s gave, up to one that failed, were inserted into it
@@ -91,7 +91,7 @@ module _ {K V S : Type 0} (number : K → ℕ) (is_valid : K → Type 0) (steps 
   MayRefuseToCollect s b cause =
       ((cause ≡ TooLarge) × (2 ^ 63 < b))
       ⊎ ((cause ≡ Memory) × (b ≤ 2 ^ 63))
-      ⊎ ((slots : ℕ) × IsLeastPower (max b 2) slots × (refused : RefusedPair K V) × (n : MapState K V)
+      ⊎ ((slots : ℕ) × IsLeastPower (max b least_capacity) slots × (refused : RefusedPair K V) × (n : MapState K V)
       × ExtendsUpTo s (empty_map slots) refused n × (cause ≡ refused.cause))
 
 -- the map has each number of the list with how often it occurs there, as insertions at the first places of these numbers leave it

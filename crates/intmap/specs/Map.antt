@@ -5,6 +5,7 @@ use Rattle.intmap_table.specs.Bindings.{HasDistinctKeys, value_of, take_key, put
 use Rattle.intmap_table.specs.Walk.{walk_of}
 use Rattle.intmap_table.specs.Values.{with_values}
 use Rattle.intmap_table.specs.Reach.{class_size, reach}
+use Rattle.intmap.specs.declared.map.build.TheConstants.{FIRST_FACTOR, FIRST_CAPACITY, LEAST_CAPACITY}
 use Rattle.intmap.specs.Growth.{MeetsLoad, IsNext, GrowsTooMuch, is_due, last_due}
 
 -- the walk, the capacity and the load factor in thousandths; how many pairs insertions put into larger tables, and how many keys were compared
@@ -15,9 +16,21 @@ pub record MapState (K V : Type 0) : Type 0 where
   pub placed : ℕ
   pub compared : ℕ
 
+-- the load factor of a new map: 909 thousandths
+abbrev pub first_factor : ℕ
+first_factor = FIRST_FACTOR
+
+-- the capacity of a map that `new` makes: 4 slots
+abbrev pub first_capacity : ℕ
+first_capacity = FIRST_CAPACITY
+
+-- the least capacity: 2 slots
+abbrev pub least_capacity : ℕ
+least_capacity = LEAST_CAPACITY
+
 -- a new map of C slots
 abbrev pub empty_map : {K V : Type 0} → ℕ → MapState K V
-empty_map C = record { walk = []; capacity = C; factor = 909; placed = 0; compared = 0 }
+empty_map C = record { walk = []; capacity = C; factor = first_factor; placed = 0; compared = 0 }
 
 module _ {K V : Type 0} where
   -- no new key is in range: one more pair would be more than 2^64 - 1, or need more than 2^63 slots

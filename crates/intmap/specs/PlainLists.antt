@@ -3,7 +3,7 @@ use Rattle.std.specs.Prelude.{◌≡◌, ◌↔◌, ℕ, ◌+◌, ◌<◌, List,
 use Rattle.intmap_table.specs.Bindings.{value_of, put_pair}
 use Rattle.intmap_table.specs.Reach.{class_size}
 use Rattle.intmap.specs.Growth.{IsNext}
-use Rattle.intmap.specs.Map.{MapState, IsOutOfRange, IsCapacityAfter}
+use Rattle.intmap.specs.Map.{MapState, first_factor, IsOutOfRange, IsCapacityAfter}
 use Rattle.intmap_table.specs.Walk.{StandsFor}
 use Rattle.intmap.specs.declared.refusal.Cause.{Cause}
 use Rattle.intmap.specs.declared.refusal.Cause.TheVariants.{Memory, TooLarge}
@@ -16,7 +16,7 @@ pub record PlainList (K V : Type 0) : Type 0 where
 
 -- no pairs in C slots, at the load factor of a new map
 abbrev pub empty_list : {K V : Type 0} → ℕ → PlainList K V
-empty_list C = record { pairs = []; capacity = C; factor = 909 }
+empty_list C = record { pairs = []; capacity = C; factor = first_factor }
 
 -- the pairs of a map in the order of its walk
 abbrev pub list_of : {K V : Type 0} → MapState K V → PlainList K V

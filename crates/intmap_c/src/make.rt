@@ -1,7 +1,7 @@
 //! Calls that make and free maps.
 ghost use Rattle.std.specs.Prelude.{◌≡◌, ◌⊎◌, ◌↔◌, ◌^◌, ◌<◌, ℕ, max, None, Some, MatchResult};
 ghost use Rattle.intmap.specs.Growth.{IsLeastPower};
-ghost use Rattle.intmap.specs.Map.{empty_map};
+ghost use Rattle.intmap.specs.Map.{empty_map, first_capacity, least_capacity};
 ghost use Rattle.intmap_c.specs.Answers.{IsFailed};
 ghost use Rattle.intmap_c.specs.declared.answer.TheConstants.{TOO_LARGE};
 
@@ -39,7 +39,7 @@ pub(crate) fn keep(alloc: Global, handle: &mut Handle, made: Result<IntMap<u64, 
 /// ```
 #[unsafe(no_mangle)]
 pub extern "C" fn intmap_new(alloc: Global, handle: &mut Handle) -> i32
-    ensures { ((result ≡ DONE) × (handle.new.value ≡ Some (empty_map 4)))
+    ensures { ((result ≡ DONE) × (handle.new.value ≡ Some (empty_map first_capacity)))
         ⊎ ((result ≡ NO_MEMORY) × (handle.new.value ≡ handle.old.value)) }
 {
     keep(alloc, handle, IntMap::new(alloc))
@@ -57,7 +57,7 @@ pub extern "C" fn intmap_new(alloc: Global, handle: &mut Handle) -> i32
 #[unsafe(no_mangle)]
 pub extern "C" fn intmap_with_capacity(alloc: Global, handle: &mut Handle, capacity: usize) -> i32
     ensures outcome { ((result ≡ DONE)
-        × ((D : ℕ) × IsLeastPower (max capacity 2) D × (handle.new.value ≡ Some (empty_map D))))
+        × ((D : ℕ) × IsLeastPower (max capacity least_capacity) D × (handle.new.value ≡ Some (empty_map D))))
         ⊎ (IsFailed result × (handle.new.value ≡ handle.old.value)) }
     ensures too_large { (result ≡ TOO_LARGE) ↔ (2 ^ 63 < capacity) }
 {

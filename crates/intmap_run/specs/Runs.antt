@@ -8,7 +8,7 @@ use Rattle.intmap.specs.Bindings.{value_of, take_key, write_value, keep_pairs, s
 use Rattle.intmap.specs.Walk.{walk_of, first_of_walk}
 use Rattle.intmap.specs.Reach.{reach}
 use Rattle.intmap.specs.Figures.{load_of, rate_of, collisions_of}
-use Rattle.intmap.specs.Map.{MapState}
+use Rattle.intmap.specs.Map.{MapState, first_capacity}
 use Rattle.intmap.specs.PlainLists.{PlainList, empty_list, Stands, ListInserts, ListInsertsAll, ListInsertsUpTo, RefusalIsDue}
 use Rattle.intmap.specs.declared.refusal.Cause.{Cause}
 use Rattle.intmap.specs.declared.refusal.Cause.TheVariants.{Memory}
@@ -141,7 +141,7 @@ module _ {K V S A : Type 0} (number : K → ℕ) (sees : V → S → Type 0) (ke
   abbrev pub AnswersCollisions : PlainList K V → Answer K V S A → Type 0
   AnswersCollisions s a =
       ((sizes : Vec (ℕ × ℕ) A) × (a ≡ answer.Sizes sizes)
-      × (u : PlainList ℕ ℕ) × ListInsertsAll (λ n. n) (empty_list 4) (collisions_of number s.pairs s.capacity) u
+      × (u : PlainList ℕ ℕ) × ListInsertsAll (λ n. n) (empty_list first_capacity) (collisions_of number s.pairs s.capacity) u
       × (sizes.items ≡ walk_of (λ n. n) u.pairs u.capacity))
       ⊎ (a ≡ answer.Refused Memory None)
 

@@ -1,6 +1,7 @@
 -- What is written for a text.
 use Rattle.std.specs.Prelude.{◌≡◌, ℕ, ◌%◌, ◌==◌, List, Option}
 use Rattle.std.specs.Io.KnownBytes.{Appends}
+use Rattle.intmap.specs.Map.{first_capacity}
 use Rattle.intmap.specs.PlainLists.{PlainList, empty_list}
 use Rattle.intmap_run.specs.declared.command.Command.{Command}
 use Rattle.intmap_run.specs.declared.answer.Answer.{Answer}
@@ -13,7 +14,7 @@ use Rattle.intmap_text.specs.Printing.{lines_of}
 abbrev pub RunsFromEmpty : {A : Type 0} → List (Command ℕ ℕ A) → List (Answer ℕ ℕ ℕ A)
     → PlainList ℕ ℕ → Type 0
 RunsFromEmpty commands answers end =
-    Runs (λ k. k) (λ v s. s ≡ v) (λ k v. (v % 2) == 1) (empty_list 4) commands answers end
+    Runs (λ k. k) (λ v s. s ≡ v) (λ k v. (v % 2) == 1) (empty_list first_capacity) commands answers end
 
 -- the text spells commands, and the lines are those of the answers of a run of them;
 -- the vectors of both are made over A

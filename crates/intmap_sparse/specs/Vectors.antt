@@ -4,7 +4,7 @@ use Rattle.std.specs.List.{fold, list_all, All}
 use Rattle.std.specs.Ordering.{int_eq}
 use Rattle.std.specs.Int.{w128}
 use Rattle.intmap.specs.Bindings.{value_of, HasDistinctKeys, put_pair, take_key}
-use Rattle.intmap.specs.Map.{IsOutOfRange, IsCapacityAfter}
+use Rattle.intmap.specs.Map.{IsOutOfRange, IsCapacityAfter, first_factor}
 use Rattle.intmap.specs.Walk.{walk_of}
 
 -- a sparse vector: the stored places with their values, in the order of the walk, and the number of slots
@@ -80,9 +80,9 @@ partial_sum zs i = fold ◌+ℤ◌ (pos 0) (take i zs)
 abbrev pub HasWideSum : List ℤ → Type 0
 HasWideSum zs = (i : ℕ) × (FitsSigned w128 (partial_sum zs i) → ⊥)
 
--- the load factor of every vector, in thousandths
+-- the load factor of every vector, that of a new map: 909 thousandths
 abbrev pub load_factor : ℕ
-load_factor = 909
+load_factor = first_factor
 
 -- the vector with z as the value of the place, in D slots: if z isn't 0, the place is stored with it as a map inserts a key,
 -- and otherwise it is removed as a map removes a key

@@ -4,7 +4,7 @@ use Rattle.std.specs.Prelude.{filter, ◌==◌}
 use Rattle.std.proofs.Math.Pow.{pow_pos, mod-mod-pow}
 use Rattle.std.proofs.lemmas.Nat.{mod_below, pow_below}
 use Rattle.std.proofs.lemmas.Bool.{eq-eqb, eqb-true, cases_lt}
-use Rattle.intmap_table.specs.Classes.{IsCapacity, slot_number}
+use Rattle.intmap_table.specs.Classes.{multiplier, IsCapacity, slot_number}
 use Rattle.intmap_table.specs.Walk.{slot_of, walk_of}
 use Rattle.intmap_table.proofs.WalkLemmas.{slot_of-walk_of, walk_of-same}
 
@@ -34,7 +34,7 @@ module _ {K V : Type 0} (number : K → ℕ) (C D : ℕ) (small : IsCapacity C) 
   slot_of-slot_of L i =
       filter-wider (λ p. slot_number number p.0 D == i) (λ p. slot_number number p.0 C == i % C)
       (λ p here. eq-eqb (slot_number number p.0 C) (i % C)
-      (sym (mod-mod-capacity (number p.0 * 11400714819323198549) C D small large le) ∙ ap (λ n. n % C) (eqb-true (slot_number number p.0 D) i here))) L
+      (sym (mod-mod-capacity (number p.0 * multiplier) C D small large le) ∙ ap (λ n. n % C) (eqb-true (slot_number number p.0 D) i here))) L
 
 -- the walk of a walk, in at least the same number of slots, is the walk of the list
 pub walk_of-larger : {K V : Type 0} (number : K → ℕ) (L : List (K × V)) (C D : ℕ) → IsCapacity C → IsCapacity D → C ≤ D → walk_of number (walk_of number L C) D ≡ walk_of number L D

@@ -6,35 +6,35 @@ use Rattle.std.proofs.Math.Pow.{pow_pos, pow_mono}
 use Rattle.std.proofs.lemmas.Nat.{mul-mod_first, pow-add, and_mask, mod_below, mod-pow-add, mod-mul-add}
 use Rattle.std.proofs.lemmas.Bool.{eqb-true, eq-eqb}
 use Rattle.std.proofs.lemmas.Bool.Decides.{same_from_decides}
-use Rattle.intmap_table.specs.Classes.{IsCapacity, residue, slot_number, agrees}
+use Rattle.intmap_table.specs.Classes.{multiplier, IsCapacity, residue, slot_number, agrees}
 
 -- the number that undoes the multiplier modulo 2 ^ 64
 abbrev inverse : ℕ
 inverse = 6236490470931210493
 
 -- multiplied by both, a number is itself modulo a power of two up to 2 ^ 64
-undone : (a e : ℕ) → e < 64 → (a * 11400714819323198549 * inverse) % 2 ^ e ≡ a % 2 ^ e
+undone : (a e : ℕ) → e < 64 → (a * multiplier * inverse) % 2 ^ e ≡ a % 2 ^ e
 undone a e small =
     let rest : ℕ = 64 - e in
     let sum : rest + e ≡ 64 = omega arith in
     let whole : 2 ^ rest * 2 ^ e ≡ 2 ^ 64 = sym (pow-add 2 rest e) ∙ ap (λ n. 2 ^ n) sum in
-    let product : a * 11400714819323198549 * inverse ≡ a + a * 3854363081550326191 * 2 ^ 64 = omega arith in
+    let product : a * multiplier * inverse ≡ a + a * 3854363081550326191 * 2 ^ 64 = omega arith in
     let turns : a * 3854363081550326191 * 2 ^ 64 ≡ a * 3854363081550326191 * 2 ^ rest * 2 ^ e =
     ap (λ n. a * 3854363081550326191 * n) (sym whole) ∙ sym (mul_assoc (a * 3854363081550326191) (2 ^ rest) (2 ^ e)) in
     ap (λ n. n % 2 ^ e) (product ∙ ap (λ n. a + n) turns) ∙ add-mul-mod_self_right a (a * 3854363081550326191 * 2 ^ rest) (2 ^ e)
 
 -- numbers with one remainder go to one slot
-slot_from_residue : (a b e : ℕ) → a % 2 ^ e ≡ b % 2 ^ e → (a * 11400714819323198549) % 2 ^ e ≡ (b * 11400714819323198549) % 2 ^ e
+slot_from_residue : (a b e : ℕ) → a % 2 ^ e ≡ b % 2 ^ e → (a * multiplier) % 2 ^ e ≡ (b * multiplier) % 2 ^ e
 slot_from_residue a b e same =
-    sym (mul-mod_first a 11400714819323198549 (2 ^ e)) ∙ ap (λ n. (n * 11400714819323198549) % 2 ^ e) same
-    ∙ mul-mod_first b 11400714819323198549 (2 ^ e)
+    sym (mul-mod_first a multiplier (2 ^ e)) ∙ ap (λ n. (n * multiplier) % 2 ^ e) same
+    ∙ mul-mod_first b multiplier (2 ^ e)
 
 -- numbers of one slot have one remainder
-residue_from_slot : (a b e : ℕ) → e < 64 → (a * 11400714819323198549) % 2 ^ e ≡ (b * 11400714819323198549) % 2 ^ e → a % 2 ^ e ≡ b % 2 ^ e
+residue_from_slot : (a b e : ℕ) → e < 64 → (a * multiplier) % 2 ^ e ≡ (b * multiplier) % 2 ^ e → a % 2 ^ e ≡ b % 2 ^ e
 residue_from_slot a b e small same =
-    sym (undone a e small) ∙ sym (mul-mod_first (a * 11400714819323198549) inverse (2 ^ e))
+    sym (undone a e small) ∙ sym (mul-mod_first (a * multiplier) inverse (2 ^ e))
     ∙ ap (λ n. (n * inverse) % 2 ^ e) same
-    ∙ mul-mod_first (b * 11400714819323198549) inverse (2 ^ e) ∙ undone b e small
+    ∙ mul-mod_first (b * multiplier) inverse (2 ^ e) ∙ undone b e small
 
 module _ {K : Type 0} (number : K → ℕ) where
   -- two keys have one slot exactly if they agree modulo the number of slots
@@ -55,13 +55,13 @@ module _ {K : Type 0} (number : K → ℕ) where
   -- a slot is one of the table's
   pub slot_number-below : (k : K) (C : ℕ) → IsCapacity C → slot_number number k C < C
   slot_number-below k C cap =
-      let some : 0 < C = subst (λ c. 0 < c) (sym cap.3) (pow_pos cap.0) in mod_below (number k * 11400714819323198549) C some
+      let some : 0 < C = subst (λ c. 0 < c) (sym cap.3) (pow_pos cap.0) in mod_below (number k * multiplier) C some
 
 -- a wrapping product and a mask give the slot
-pub bit_and-mask : (n mask : ℕ) → IsCapacity (mask + 1) → bit_and ((n * 11400714819323198549) % 2 ^ 64) mask ≡ (n * 11400714819323198549) % (mask + 1)
+pub bit_and-mask : (n mask : ℕ) → IsCapacity (mask + 1) → bit_and ((n * multiplier) % 2 ^ 64) mask ≡ (n * multiplier) % (mask + 1)
 bit_and-mask n mask cap =
     let e : ℕ = cap.0 in let rest : ℕ = 64 - e in let small : e < 64 = cap.2 in
-    let x : ℕ = n * 11400714819323198549 in
+    let x : ℕ = n * multiplier in
     let sum : rest + e ≡ 64 = omega arith in
     let some : 0 < 2 ^ e = pow_pos e in
     let low : x % 2 ^ e < 2 ^ e = mod_below x (2 ^ e) some in

@@ -4,7 +4,7 @@ use Rattle.std.specs.Prelude.{filter, ◌==◌, count_by}
 use Rattle.std.proofs.lemmas.List.Elements.{filter-append}
 use Rattle.std.proofs.lemmas.List.Sums.{length-filter}
 use Rattle.std.proofs.lemmas.Bool.{eq-eqb, eqb-true, ne_eqb, cases_eq}
-use Rattle.intmap_table.specs.Classes.{IsCapacity, slot_number, same_key, agrees}
+use Rattle.intmap_table.specs.Classes.{multiplier, IsCapacity, slot_number, same_key, agrees}
 use Rattle.intmap_table.specs.Bindings.{swap_out, first_value, value_of, take_key, put_pair}
 use Rattle.intmap_table.specs.Walk.{slot_of, walk_of}
 use Rattle.intmap_table.specs.Reach.{through_first, class_size, reach}
@@ -46,7 +46,7 @@ module _ {K V : Type 0} (number : K → ℕ) (C : ℕ) where
 
   -- a pair of the key k is in the slot of k
   pub same_key-slot : (k : K) (p : K × V) → same_key number k p.0 ≡ true → slot_number number p.0 C ≡ slot_number number k C
-  same_key-slot k p same = ap (λ n. (n * 11400714819323198549) % C) (eqb-true (number p.0) (number k) same)
+  same_key-slot k p same = ap (λ n. (n * multiplier) % C) (eqb-true (number p.0) (number k) same)
 
   -- if a key is present, it is in its slot
   pub value_of-slot_of : (L : List (K × V)) (k : K) → value_of number (slot_of number L C (slot_number number k C)) k ≡ value_of number L k

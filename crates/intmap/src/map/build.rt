@@ -3,7 +3,7 @@ ghost use Rattle.std.specs.Prelude.{◌≡◌, ◌↔◌, ◌^◌, ◌<◌, ◌�
 ghost use Rattle.intmap_table.specs.Bindings.{value_of};
 ghost use Rattle.intmap_table.specs.Classes.{IsCapacity};
 ghost use Rattle.intmap.specs.Growth.{IsLeastPower};
-ghost use Rattle.intmap.specs.Map.{IsMap, empty_map};
+ghost use Rattle.intmap.specs.Map.{IsMap, empty_map, first_capacity, least_capacity};
 ghost use Rattle.std.specs.Iterator.{IsFinite, size};
 ghost use Rattle.intmap.specs.Extending.{Extends, ExtendsUpTo, Collects, MayRefuseToCollect, IsCollected, LeavesRange};
 
@@ -18,6 +18,9 @@ use std::alloc::Allocator;
 /// The number of slots of a map that `new` makes.
 const FIRST_CAPACITY: usize = 4;
 
+/// The least number of slots.
+const LEAST_CAPACITY: usize = 2;
+
 /// The load factor of a new map, in thousandths.
 const FIRST_FACTOR: usize = 909;
 
@@ -25,7 +28,7 @@ impl<K: IntKey, V: Drop, A: Allocator + Copy> IntMap<K, V, A> {
     /// An empty map of 4 slots, with a load factor of 909 thousandths. It allocates the slots and
     /// their bits. It fails only if an allocation fails, with [`Cause::Memory`].
     pub fn new(alloc: A) -> Result<IntMap<K, V, A>, Cause>
-        ensures state { IfOk result (λ made. made ≡ empty_map 4) }
+        ensures state { IfOk result (λ made. made ≡ empty_map first_capacity) }
         ensures memory { IfErr result (λ cause. cause ≡ Cause.Memory) }
         ensures valid { IfOk result (IsMap K.number_of K.is_valid) }
     {
@@ -44,14 +47,15 @@ impl<K: IntKey, V: Drop, A: Allocator + Copy> IntMap<K, V, A> {
     /// ```
     pub fn with_capacity(alloc: A, capacity: usize) -> Result<IntMap<K, V, A>, Cause>
         ensures state { IfOk result (λ made. made ≡ empty_map made.capacity) }
-        ensures capacity { IfOk result (λ made. IsLeastPower (max capacity 2) made.capacity) }
+        ensures capacity { IfOk result (λ made.
+            IsLeastPower (max capacity least_capacity) made.capacity) }
         ensures too_large { (result ≡ Err Cause.TooLarge) ↔ (2 ^ 63 < capacity) }
         ensures valid { IfOk result (IsMap K.number_of K.is_valid) }
     {
         if capacity > GREATEST_CAPACITY {
             return Err(Cause::TooLarge);
         }
-        IntMap::with_slots(alloc, capacity.max(2).next_power_of_two())
+        IntMap::with_slots(alloc, capacity.max(LEAST_CAPACITY).next_power_of_two())
     }
 
     /// An empty map of `slots` slots. It fails only if an allocation fails.

@@ -4,7 +4,7 @@ use Rattle.std.proofs.lemmas.Nat.{pow-add, mod_below, mod-pow-add, mod-mul-add}
 use Rattle.std.proofs.lemmas.Bool.{ne_eqb, cases_eq, cases_lt}
 use Rattle.std.proofs.lemmas.List.{map-set}
 use Rattle.std.proofs.lemmas.List.Elements.{filter-append, All-weaker, All-append, All-nil, All-head, All-tail}
-use Rattle.intmap_table.specs.Classes.{IsCapacity, slot_number}
+use Rattle.intmap_table.specs.Classes.{multiplier, IsCapacity, slot_number}
 use Rattle.intmap_table.specs.Walk.{slot_of}
 use Rattle.intmap_table.specs.Tables.Slots.{Held, rows, joined}
 use Rattle.intmap_table.specs.Tables.Moves.{IsGrown, IsOldRows, IsMidway, IsPlaced}
@@ -15,13 +15,13 @@ use Rattle.intmap_table.proofs.Tables.TableLemmas.{joined-take, length-rows}
 module _ {K : Type 0} (number : K → ℕ) where
   -- how far past the old slots the new slot of a key is, in numbers of old slots
   abbrev part : ℕ → ℕ → K → ℕ
-  part C a k = (number k * 11400714819323198549) / C % 2 ^ a
+  part C a k = (number k * multiplier) / C % 2 ^ a
 
   -- the new slot of a key is so far past its old one
   pub slot_number-split : (C a : ℕ) (k : K) → IsCapacity C → slot_number number k (C * 2 ^ a) ≡ part C a k * C + slot_number number k C
   slot_number-split C a k cap =
       let e : ℕ = cap.0 in
-      let x : ℕ = number k * 11400714819323198549 in
+      let x : ℕ = number k * multiplier in
       let P : ℕ → Type 0 = λ c. x % (c * 2 ^ a) ≡ (x / c % 2 ^ a) * c + x % c in
       let whole : 2 ^ e * 2 ^ a ≡ 2 ^ (a + e) = mul_comm (2 ^ e) (2 ^ a) ∙ sym (pow-add 2 a e) in
       subst P (sym cap.3) (ap (λ m. x % m) whole ∙ mod-pow-add x a e)
@@ -32,7 +32,7 @@ module _ {K : Type 0} (number : K → ℕ) where
 
   -- so it is the old slot of one of the parts
   pub slot_number-parts : (C a : ℕ) (k : K) → IsCapacity C → (t : ℕ) × (t < 2 ^ a) × (slot_number number k (C * 2 ^ a) ≡ t * C + slot_number number k C)
-  slot_number-parts C a k old = (part C a k, mod_below ((number k * 11400714819323198549) / C) (2 ^ a) (pow_pos a), slot_number-split C a k old)
+  slot_number-parts C a k old = (part C a k, mod_below ((number k * multiplier) / C) (2 ^ a) (pow_pos a), slot_number-split C a k old)
 
   pub slot_number-grown : (C D : ℕ) (k : K) → IsGrown C D → slot_number number k D % C ≡ slot_number number k C
   slot_number-grown C D k grown = let a : ℕ = grown.times.0 in subst (λ d. slot_number number k d % C ≡ slot_number number k C) (sym grown.times.1) (slot_number-modulo C a k grown.old)
