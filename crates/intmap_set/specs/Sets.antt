@@ -3,16 +3,16 @@ use Rattle.std.specs.Prelude.{◌≡◌, false, ℕ, Bool, cond, List, [], map}
 use Rattle.std.specs.List.{list_any}
 use Rattle.std.specs.Map.{keys_of}
 use Rattle.intmap.specs.Classes.{same_key}
-use Rattle.intmap.specs.Map.{MapState, IsMap}
+use Rattle.intmap.specs.Map.{MapState, IsMap, first_factor}
 
 -- the members in the order of the walk, and the number of slots
 pub record SetState (K : Type 0) : Type 0 where
   pub walk : List K
   pub capacity : ℕ
 
--- the load factor of every set, in thousandths
+-- the load factor of every set, that of a new map: 909 thousandths
 abbrev pub load_factor : ℕ
-load_factor = 909
+load_factor = first_factor
 
 module _ {K : Type 0} where
   -- each member with the value ()

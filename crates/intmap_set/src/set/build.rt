@@ -2,6 +2,7 @@
 ghost use Rattle.std.specs.Prelude.{◌≡◌, ℕ, ◌^◌, ◌<◌, ◌≤◌, ◌⊎◌, max, OnOk, IfOk, IfErr, MatchResult};
 ghost use Rattle.std.specs.Iterator.{IsFinite, size};
 ghost use Rattle.intmap.specs.Growth.{IsLeastPower};
+ghost use Rattle.intmap.specs.Map.{least_capacity};
 ghost use Rattle.intmap_set.specs.Sets.{IsSet, empty_set};
 ghost use Rattle.intmap_set.specs.Extending.{Extends, ExtendsUpTo, MayStop};
 
@@ -61,7 +62,7 @@ impl<K: IntKey, A: Allocator + Copy> IntSet<K, A> {
         requires can { I.can_next iter }
         requires ends { IsFinite (I.remaining iter) }
         ensures collects { (b slots : ℕ) × (b ≤ size (I.remaining iter))
-            × IsLeastPower (max b 2) slots × MatchResult result
+            × IsLeastPower (max b least_capacity) slots × MatchResult result
             (Extends K.number_of K.is_valid I.next_gives iter (empty_set slots))
             (λ cause. ((cause ≡ Cause.TooLarge) × (2 ^ 63 < b)) ⊎ ((b ≤ 2 ^ 63)
             × MayStop K.number_of K.is_valid I.next_gives iter (empty_set slots) cause)) }

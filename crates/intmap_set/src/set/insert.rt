@@ -1,7 +1,7 @@
 //! New sets, and the insertion of a key.
 ghost use Rattle.std.specs.Prelude.{◌≡◌, ◌↔◌, ℕ, ◌+◌, ◌^◌, ◌<◌, max, length, not, Err, IfOk, IfErr, OnOk, OnErr, IsOk};
 ghost use Rattle.intmap.specs.Growth.{IsLeastPower};
-ghost use Rattle.intmap.specs.Map.{IsLone, in_slots};
+ghost use Rattle.intmap.specs.Map.{IsLone, in_slots, least_capacity};
 ghost use Rattle.intmap.specs.PlainLists.{RefusalIsDue, list_of};
 ghost use Rattle.intmap_set.specs.Extending.{Inserts};
 ghost use Rattle.intmap_set.specs.Sets.{IsSet, as_map, empty_set, holds, paired, set_of};
@@ -29,7 +29,7 @@ impl<K: IntKey, A: Allocator + Copy> IntSet<K, A> {
     /// fails.
     pub fn with_capacity(alloc: A, capacity: usize) -> Result<IntSet<K, A>, Cause>
         ensures state { IfOk result (λ made. made ≡ empty_set made.capacity) }
-        ensures capacity { IfOk result (λ made. IsLeastPower (max capacity 2) made.capacity) }
+        ensures capacity { IfOk result (λ made. IsLeastPower (max capacity least_capacity) made.capacity) }
         ensures too_large { (result ≡ Err Cause.TooLarge) ↔ (2 ^ 63 < capacity) }
         ensures valid { IfOk result (IsSet K.number_of K.is_valid) }
     {

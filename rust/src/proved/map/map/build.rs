@@ -12,6 +12,9 @@ use crate::memory::alloc::Allocator;
 /// The number of slots of a map that `new` makes.
 const FIRST_CAPACITY: usize = 4;
 
+/// The least number of slots.
+const LEAST_CAPACITY: usize = 2;
+
 /// The load factor of a new map, in thousandths.
 const FIRST_FACTOR: usize = 909;
 
@@ -30,7 +33,7 @@ impl<K: IntKey, V, A: Allocator + Copy> IntMap<K, V, A> {
         if capacity > GREATEST_CAPACITY {
             return Err(Cause::TooLarge);
         }
-        IntMap::with_slots(alloc, capacity.max(2).next_power_of_two())
+        IntMap::with_slots(alloc, capacity.max(LEAST_CAPACITY).next_power_of_two())
     }
 
     /// An empty map of `slots` slots. It fails only if an allocation fails.
