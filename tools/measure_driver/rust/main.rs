@@ -14,11 +14,17 @@ std::arch::global_asm!(
 /// The calls that the phases make.
 trait Map {
     fn empty() -> Self;
+    fn sized(count: usize) -> Self;
     fn put(&mut self, key: u64, value: u64) -> Option<u64>;
     fn find(&self, key: u64) -> Option<u64>;
     fn take(&mut self, key: u64) -> Option<u64>;
     fn walk(&self) -> u64;
     fn list(&self) -> Vec<u64>;
+    fn copied(&self) -> Self;
+    fn keep_odd(&mut self);
+    fn wipe(&mut self);
+    fn drained(&mut self) -> u64;
+    fn taken(self) -> u64;
 }
 
 /// The impl of a map, and whether its look-ups take a reference.
@@ -27,6 +33,12 @@ macro_rules! is_map {
         impl Map for $map {
             fn empty() -> Self {
                 <$map>::default()
+            }
+
+            fn sized(count: usize) -> Self {
+                let mut map = <$map>::default();
+                map.reserve(count);
+                map
             }
 
             #[inline]
@@ -51,6 +63,28 @@ macro_rules! is_map {
 
             fn list(&self) -> Vec<u64> {
                 self.iter().map(|(key, _)| *key).collect()
+            }
+
+            fn copied(&self) -> Self {
+                self.clone()
+            }
+
+            fn keep_odd(&mut self) {
+                self.retain(|_, value| *value % 2 == 1);
+            }
+
+            fn wipe(&mut self) {
+                self.clear();
+            }
+
+            fn drained(&mut self) -> u64 {
+                let differing = self.drain().map(|(key, value)| key ^ value);
+                differing.fold(0, u64::wrapping_add)
+            }
+
+            fn taken(self) -> u64 {
+                let differing = self.into_iter().map(|(key, value)| key ^ value);
+                differing.fold(0, u64::wrapping_add)
             }
         }
     };
@@ -119,6 +153,36 @@ fn take<M: Map>(map: &mut M, keys: &[u64]) -> u64 {
     sum
 }
 
+/// A second map with the same pairs.
+#[inline(never)]
+fn copy<M: Map>(map: &M) -> M {
+    map.copied()
+}
+
+/// Keeps the pairs with an odd value.
+#[inline(never)]
+fn keep_odd<M: Map>(map: &mut M) {
+    map.keep_odd();
+}
+
+/// Removes all pairs.
+#[inline(never)]
+fn wipe<M: Map>(map: &mut M) {
+    map.wipe();
+}
+
+/// Removes all pairs by `drain`.
+#[inline(never)]
+fn drain<M: Map>(map: &mut M) -> u64 {
+    map.drained()
+}
+
+/// Takes all pairs by value.
+#[inline(never)]
+fn take_all<M: Map>(map: M) -> u64 {
+    map.taken()
+}
+
 /// Times a phase, and prints its line.
 fn phase(name: &str, work: impl FnOnce() -> u64) {
     let start = Instant::now();
@@ -142,6 +206,26 @@ fn all<M: Map>(keys: &[u64], others: &[u64], only_fills: bool) {
     let order = map.list();
     phase("remove_walk", || take(&mut map, &order));
     put(&mut map, keys);
+    let mut twin = M::empty();
+    phase("clone", || {
+        twin = copy(&map);
+        0
+    });
+    phase("retain", || {
+        keep_odd(&mut twin);
+        0
+    });
+    put(&mut twin, keys);
+    phase("clear", || {
+        wipe(&mut twin);
+        0
+    });
+    put(&mut twin, keys);
+    phase("drain", || drain(&mut twin));
+    put(&mut twin, keys);
+    phase("into_iter", || take_all(twin));
+    let mut sized = M::sized(keys.len());
+    phase("sized", || put(&mut sized, keys));
     phase("drop", || {
         drop(map);
         0
