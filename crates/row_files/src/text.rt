@@ -31,7 +31,7 @@ pub fn write_bool(out: &mut String, value: bool) -> Result<(), AllocError> {
 
 /// A number alone.
 pub fn write_number(out: &mut String, number: u128) -> Result<(), AllocError> {
-    print_answer(out, &Told::Number(number))
+    write!(out, "{number}")
 }
 
 /// `done`, or that the call failed.
