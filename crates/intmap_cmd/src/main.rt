@@ -1,7 +1,7 @@
 //! Reads commands on a map from standard input, runs them, and prints one line for each answer.
 #![tactic(auto)]
 
-use intmap_serve::serve;
+use intmap_text::serve;
 use std::process::ExitCode;
 
 /// Passes the real streams to `serve`, which returns the exit status.

@@ -3,3 +3,5 @@ pub mod Words
 pub mod Commands
 pub mod Reading
 pub mod Printing
+pub mod Faults
+pub mod Serving

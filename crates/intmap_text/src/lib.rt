@@ -1,19 +1,24 @@
-//! Commands and answers of a run as text.
+//! Commands and answers of a run as text, and a session from lines to lines.
 //!
-//! `Lines` splits a text, `read_line` says which command a line spells, and `print_answer` writes
-//! an answer. Keys and values are `u64`. Each contract relates bytes to commands, or answers to
-//! bytes, so it fixes each byte that is read or written.
+//! `read_line` says which command a line spells, and `print_answer` writes an answer. `serve` reads
+//! a text to its end, runs the commands in its lines on an empty map, and writes one line for each
+//! answer. The caller provides the reader, the writers and the allocator: a program passes the real
+//! streams, a test passes streams in memory or streams that fail. Keys and values are `u64`. Each
+//! contract relates bytes to commands, answers to bytes, or bytes to bytes, so it fixes each byte
+//! that is read or written.
 #![tactic(auto)]
 
 mod command;
+mod fault;
 mod judge;
 mod line;
 mod number;
 mod print;
+mod session;
 mod split;
 mod word;
 
 pub use judge::OddJudge;
 pub use line::{Line, read_line};
-pub use print::{print_answer, print_answers};
-pub use split::Lines;
+pub use print::print_answer;
+pub use session::serve;

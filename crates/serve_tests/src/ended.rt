@@ -1,7 +1,7 @@
 //! How sessions end, and what is wanted of them.
 
 use crate::streams::{Limited, MOST};
-use intmap_serve::serve;
+use intmap_text::serve;
 use std::alloc::Allocator;
 use std::io::Read;
 use std::process::Abort;

@@ -1,8 +1,8 @@
 //! Why a session ends before its answers are written.
 ghost use Rattle.std.specs.Prelude.{◌≡◌, OnOk};
 ghost use Rattle.std.specs.Io.KnownBytes.{Appends};
-ghost use Rattle.intmap_serve.specs.declared.fault.Fault.TheVariants.{Memory};
-ghost use Rattle.intmap_serve.specs.Faults.{status_of, report_of};
+ghost use Rattle.intmap_text.specs.declared.fault.Fault.TheVariants.{Memory};
+ghost use Rattle.intmap_text.specs.Faults.{status_of, report_of};
 
 use intmap::Cause;
 use std::alloc::{AllocError, AllocFailed};

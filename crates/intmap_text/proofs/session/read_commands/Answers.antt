@@ -1,7 +1,7 @@
 use Rattle.std.proofs.Common.{append_assoc, arith, refl}
 use Rattle.std.proofs.lemmas.List.{map-append}
-use Rattle.intmap_serve.proofs.LineLemmas.{command_more, blank_more, one_more, few_lines, first_unknown}
-use Rattle.intmap_serve.proofs.session.read_commands.Goals as goal
+use Rattle.intmap_text.proofs.LineLemmas.{command_more, blank_more, one_more, few_lines, first_unknown}
+use Rattle.intmap_text.proofs.session.read_commands.Goals as goal
 
 pub overflow_add-number : goal.overflow_add-number
 overflow_add-number g c =

@@ -1,5 +1,5 @@
-use Rattle.intmap_serve.proofs.ServingLemmas.{is_answered}
-use Rattle.intmap_serve.proofs.session.answer.Goals as goal
+use Rattle.intmap_text.proofs.ServingLemmas.{is_answered}
+use Rattle.intmap_text.proofs.session.answer.Goals as goal
 
 pub returns-clause-ok : goal.returns-clause-ok
 returns-clause-ok g c =

@@ -1,7 +1,7 @@
 use Rattle.std.proofs.Common.{◌≡◌, ◌++◌, map, length}
 use Rattle.intmap_text.specs.Lines.{lines_in}
-use Rattle.intmap_serve.proofs.LineLemmas.{LinesSay}
-use Rattle.intmap_serve.proofs.session.read_commands.Given as goal
+use Rattle.intmap_text.proofs.LineLemmas.{LinesSay}
+use Rattle.intmap_text.proofs.session.read_commands.Given as goal
 
 -- the lines so far are counted, and say what was found and nothing else; the others are left
 abbrev pub invariant-loop-line : goal.invariant-loop-line

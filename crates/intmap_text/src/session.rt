@@ -2,13 +2,16 @@
 ghost use Rattle.std.specs.Prelude.{◌≡◌, ◌≢◌, ◌⊎◌, IfOk, IfErr, IfSome, OnOk, string_bytes};
 ghost use Rattle.std.specs.Io.KnownBytes.{Appends, Keeps};
 ghost use Rattle.intmap_text.specs.Commands.{Spells, SpellsNone};
-ghost use Rattle.intmap_serve.specs.Faults.{IsRefused};
-ghost use Rattle.intmap_serve.specs.Serving.{IsAnswered, Serves};
+ghost use Rattle.intmap_text.specs.Faults.{IsRefused};
+ghost use Rattle.intmap_text.specs.Serving.{IsAnswered, Serves};
 
 use crate::fault::Fault;
+use crate::judge::OddJudge;
+use crate::line::{Line, read_line};
+use crate::print::print_answers;
+use crate::split::Lines;
 use intmap::IntMap;
 use intmap_run::{Command, run};
-use intmap_text::{Line, Lines, OddJudge, print_answers, read_line};
 use std::alloc::Allocator;
 use std::io::{self, ErrorKind, Read, Write};
 

@@ -7,7 +7,7 @@ use Rattle.intmap_run.specs.declared.answer.Answer.{Answer}
 use Rattle.intmap_run.specs.Runs.{RunsFrom}
 use Rattle.intmap_text.specs.Commands.{Spells}
 use Rattle.intmap_text.specs.Printing.{lines_of}
-use Rattle.intmap_serve.specs.Serving.{IsAnswered}
+use Rattle.intmap_text.specs.Serving.{IsAnswered}
 
 -- no pairs in 4 slots stand for a new map
 empty_stands : Stands {K = ℕ} {V = ℕ} (λ k. k) (empty_list 4) (empty_map 4)

@@ -1,5 +1,5 @@
 use Rattle.std.proofs.Common.{append_assoc}
-use Rattle.intmap_serve.proofs.fault.Fault.write_to.Goals as goal
+use Rattle.intmap_text.proofs.fault.Fault.write_to.Goals as goal
 
 pub returns-in-NotACommand : goal.returns-in-NotACommand
 returns-in-NotACommand g c = rw c.in-NotACommand.is (simp append_assoc c.writeln.ensures.bytes)

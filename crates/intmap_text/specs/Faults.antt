@@ -1,8 +1,8 @@
 -- Why a session ends early.
 use Rattle.std.specs.Prelude.{ℕ, List, [], ◌∷◌, ◌++◌, ⊤, codes}
 use Rattle.std.specs.Fmt.{decimal}
-use Rattle.intmap_serve.specs.declared.fault.Fault.{Fault}
-use Rattle.intmap_serve.specs.declared.fault.Fault.TheVariants as fault
+use Rattle.intmap_text.specs.declared.fault.Fault.{Fault}
+use Rattle.intmap_text.specs.declared.fault.Fault.TheVariants as fault
 use Rattle.intmap_text.specs.Commands.{SpellsNone, IsFirstUnknown}
 
 -- the exit status
