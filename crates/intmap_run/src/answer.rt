@@ -5,6 +5,7 @@ use intmap::{Cause, RefusedPair};
 use std::alloc::{Allocator, Global};
 use std::marker::Model;
 
+/// What one of the upper half counts.
 const HALF: u128 = 1 << 64;
 
 /// A number below 2^128, in two halves. A `u128` would double the alignment of every answer.

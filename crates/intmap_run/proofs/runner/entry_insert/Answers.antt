@@ -26,3 +26,9 @@ returns-in-Err-clause-step g c =
 
 pub returns-in-Ok-clause-valid_after : goal.returns-in-Ok-clause-valid_after
 returns-in-Ok-clause-valid_after g c = let h = (c.in-Ok.ensures.inserted c.in-Ok._value.now).valid in search rules
+
+pub returns-in-Occupied-clause-valid_after : goal.returns-in-Occupied-clause-valid_after
+returns-in-Occupied-clause-valid_after g c = let h = c.insert-old.ensures.valid_after in let left = c.leave.ensures.state in search rules
+
+pub returns-in-Err-clause-valid_after : goal.returns-in-Err-clause-valid_after
+returns-in-Err-clause-valid_after g c = let h = c.in-Vacant.ensures.valid in search rules

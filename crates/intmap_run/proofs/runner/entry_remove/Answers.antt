@@ -16,3 +16,9 @@ returns-in-Vacant-clause-step g c =
     λ judge. StepsFrom-equal g.K.IntKey.number_of (g.J.Judge.sees judge) (g.J.Judge.keeps judge) c.args.map.now _ _ _ _
     (StepsFrom-not_removed g.K.IntKey.number_of g.K.IntKey.is_valid c.args.map.now e.valid (g.J.Judge.sees judge) (g.J.Judge.keeps judge) c.args.key
     c.in-Vacant._entry.key c.in-Vacant._entry.map.now e.state e.key c.in-Vacant._entry.missing) (search rules)
+
+pub returns-in-Occupied-clause-valid_after : goal.returns-in-Occupied-clause-valid_after
+returns-in-Occupied-clause-valid_after g c = let h = c.remove.ensures.valid_after in search rules
+
+pub returns-in-Vacant-clause-valid_after : goal.returns-in-Vacant-clause-valid_after
+returns-in-Vacant-clause-valid_after g c = let h = c.in-Vacant.ensures.valid in search rules

@@ -1,4 +1,4 @@
-use Rattle.std.proofs.Common.{◌≡◌, ◌++◌, min, length, refl, sym, ap, ◌∙◌, append_assoc, arith, rules}
+use Rattle.std.proofs.Common.{◌≡◌, ◌++◌, min, length, refl, sym, ap, ◌∙◌, append_assoc, length-append, arith, rules}
 use Rattle.intmap.specs.Draining.{drain_rest}
 use Rattle.intmap.specs.Map.{with_walk}
 use Rattle.intmap_run.proofs.FrontLemmas.{take-joined, drop-joined}
@@ -44,3 +44,12 @@ returns-clause-state g c =
     let all : length c.loop.pairs.items ≡ min c.args.count (length c.args.map.now.walk) = omega (arith, c.min-taken.ensures, c.len.ensures.value, c.loop.invariant.count, c.loop-test.false, c.loop.auto.counter-end) in
     let left = drop-joined c.loop.pairs.items (drain_rest c.loop.drain) c.args.map.now.walk c.args.count c.loop.invariant.front all in
     rw left (search rules)
+
+pub unreachable-requires : goal.unreachable-requires
+unreachable-requires g c = omega (arith, ap length c.loop.invariant.front, length-append c.loop.pairs.items (drain_rest c.loop.drain), ap length c.in_default.ensures.steps.0.0, c.loop.invariant.count, c.loop.invariant.few, c.loop-test.true)
+
+pub push_reserved-requires : goal.push_reserved-requires
+push_reserved-requires g c = omega (arith, c.loop.invariant.count, c.loop.invariant.room, c.loop-test.true)
+
+pub returns-clause-valid_after : goal.returns-clause-valid_after
+returns-clause-valid_after g c = let h = c.drop-drain.ensures.valid_after in search rules
