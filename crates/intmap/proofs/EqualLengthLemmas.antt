@@ -16,11 +16,11 @@ use Rattle.intmap.specs.Laws.EqualityLaws.{maps_equal-iff_BindSame}
 
 module _ {X : Type 0} where
   -- one element more is counted if it passes
-  count_by-cons : (p : X → Bool) (x : X) (xs : List X) → count_by p (x ∷ xs) ≡ cond (p x) 1 0 + count_by p xs
+  pub count_by-cons : (p : X → Bool) (x : X) (xs : List X) → count_by p (x ∷ xs) ≡ cond (p x) 1 0 + count_by p xs
   count_by-cons p x xs = sum_by-cons (λ y. cond (p y) 1 0) x xs
 
   -- if none is counted, none passes
-  list_any-uncounted : (p : X → Bool) (xs : List X) → count_by p xs ≡ 0 → list_any p xs ≡ false
+  pub list_any-uncounted : (p : X → Bool) (xs : List X) → count_by p xs ≡ 0 → list_any p xs ≡ false
   list_any-uncounted p [] none = refl
   list_any-uncounted p (x ∷ xs) none = at (p x) (sym (count_by-cons p x xs) ∙ none) (list_any-uncounted p xs)
     where

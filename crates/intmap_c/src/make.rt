@@ -57,7 +57,8 @@ pub extern "C" fn intmap_new(alloc: Global, handle: &mut Handle) -> i32
 #[unsafe(no_mangle)]
 pub extern "C" fn intmap_with_capacity(alloc: Global, handle: &mut Handle, capacity: usize) -> i32
     ensures outcome { ((result ≡ DONE)
-        × ((D : ℕ) × IsLeastPower (max capacity least_capacity) D × (handle.new.value ≡ Some (empty_map D))))
+        × ((D : ℕ) × IsLeastPower (max capacity least_capacity) D
+        × (handle.new.value ≡ Some (empty_map D))))
         ⊎ (IsFailed result × (handle.new.value ≡ handle.old.value)) }
     ensures too_large { (result ≡ TOO_LARGE) ↔ (2 ^ 63 < capacity) }
 {

@@ -1,7 +1,7 @@
 -- The lists of two sets have each key once, and so a set made of such a list has exactly its keys as members.
 use Rattle.std.proofs.Common.{◌≡◌, ◌∙◌, ℕ, ◌+◌, ◌≤◌, Bool, true, false, cond, List, [], ◌∷◌, ◌++◌, refl, sym, ap, filter, length, arith}
 use Rattle.std.proofs.lemmas.Bool.{eqb-true, true≢false}
-use Rattle.std.proofs.lemmas.List.Sums.{sum_by-append, sum_by-cons}
+use Rattle.std.proofs.lemmas.List.Sums.{sum_by-append}
 use Rattle.std.proofs.Math.Bool.{and_comm}
 use Rattle.std.specs.List.{list_any, count_by}
 use Rattle.std.specs.Prelude.{◌&&◌, ◌||◌, not, nat_lt}
@@ -10,24 +10,12 @@ use Rattle.intmap.specs.Classes.{same_key}
 use Rattle.intmap_set.specs.Sets.{holds, paired}
 use Rattle.intmap_set.specs.Combined.{IsDisjoint, common_of, difference_of, intersection_of, symmetric_difference_of, union_of}
 use Rattle.intmap.specs.Extending.{new_keys}
+use Rattle.intmap.proofs.EqualLengthLemmas.{count_by-cons, list_any-uncounted}
 use Rattle.intmap_set.proofs.CombinedLemmas.{IsDifference-difference_of}
 use Rattle.intmap_set.proofs.ExtendLemmas.{new_keys-paired}
 use Rattle.intmap_set.proofs.MemberLemmas.{holds-same_number, same_key-itself}
 
 module _ {X : Type 0} where
-  -- one element more is counted if it passes
-  count_by-cons : (p : X → Bool) (x : X) (xs : List X) → count_by p (x ∷ xs) ≡ cond (p x) 1 0 + count_by p xs
-  count_by-cons p x xs = sum_by-cons (λ y. cond (p y) 1 0) x xs
-
-  -- if none is counted, none passes
-  list_any-uncounted : (p : X → Bool) (xs : List X) → count_by p xs ≡ 0 → list_any p xs ≡ false
-  list_any-uncounted p [] none = refl
-  list_any-uncounted p (x ∷ xs) none = at (p x) (sym (count_by-cons p x xs) ∙ none) (list_any-uncounted p xs)
-    where
-      at : (b : Bool) → cond b 1 0 + count_by p xs ≡ 0 → (count_by p xs ≡ 0 → list_any p xs ≡ false) → (b || list_any p xs) ≡ false
-      at true is rest = absurd (omega (arith, is))
-      at false is rest = rest (omega (arith, is))
-
   -- if none passes, none is counted
   count_by-none : (p : X → Bool) (xs : List X) → list_any p xs ≡ false → count_by p xs ≡ 0
   count_by-none p [] none = refl

@@ -29,7 +29,8 @@ impl<K: IntKey, A: Allocator + Copy> IntSet<K, A> {
     /// fails.
     pub fn with_capacity(alloc: A, capacity: usize) -> Result<IntSet<K, A>, Cause>
         ensures state { IfOk result (λ made. made ≡ empty_set made.capacity) }
-        ensures capacity { IfOk result (λ made. IsLeastPower (max capacity least_capacity) made.capacity) }
+        ensures capacity { IfOk result
+            (λ made. IsLeastPower (max capacity least_capacity) made.capacity) }
         ensures too_large { (result ≡ Err Cause.TooLarge) ↔ (2 ^ 63 < capacity) }
         ensures valid { IfOk result (IsSet K.number_of K.is_valid) }
     {
