@@ -1,9 +1,10 @@
-use Rattle.std.proofs.Common.{◌≡◌, ◌-◌, ◌<◌, ◌∙◌, [], ◌∷◌, length, get_or, reverse, vec_capacity, set, refl, sym, ap, subst, arith, length-set}
+use Rattle.std.proofs.Common.{◌≡◌, ◌-◌, ◌<◌, ◌∙◌, [], ◌∷◌, length, get_or, reverse, vec_capacity, true, set, refl, sym, ap, subst, arith, length-set}
 use Rattle.std.proofs.lemmas.List.{length-reverse}
 use Rattle.intmap_table.specs.Classes.{IsCapacity, slot_number}
 use Rattle.intmap_table.specs.Tables.Slots.{rows}
 use Rattle.intmap_table.specs.Tables.Moves.{rooms, emptied, HasRoom, AreSet, AreTold}
 use Rattle.intmap_table.proofs.SlotNumberLemmas.{slot_number-below}
+use Rattle.intmap_table.proofs.Tables.CountLemmas.{offset-fits}
 use Rattle.intmap_table.proofs.Tables.RoomLemmas.{HasRoom-first, HasRoom-put, IsPlaced-put, IsPlaced-more}
 use Rattle.intmap_table.proofs.Tables.PutLemmas.{row-before, room-before, AreTold-free, AreTold-first, AreTold-put, AreSet-more, AreSet-put}
 use Rattle.intmap_table.proofs.table.place.move_several.Goals as goal
@@ -40,6 +41,23 @@ module _ (g : _) (c : After-take_out-first g) where
   mark : slot_number g.K.IntKey.number_of c.take_out-first.result.0.0 (length (set c.args.slots.now c.args.index c.take_out-first.new.self)) < length c.args.bits.now
   mark = let b = below in let l = long in let w = c.requires.ready.words in omega (arith, b, l, w)
 
+pub offset_bounds-slots-index : goal.offset_bounds-slots-index
+offset_bounds-slots-index g c = record { fits = offset-fits _ _ _ c.requires.ready.within c.well_formed.1.0.1 }
+
+pub take_out-first-requires-clause-several : goal.take_out-first-requires-clause-several
+take_out-first-requires-clause-several g c =
+    let r = ap length (row-before c.args.slots.now c.args.index c.index-slots-index.result c.requires.ready.within) in omega (arith, r, c.requires.several)
+
+pub take_out-first-requires-clause-enough : goal.take_out-first-requires-clause-enough
+take_out-first-requires-clause-enough g c =
+    let r = ap length (row-before c.args.slots.now c.args.index c.index-slots-index.result c.requires.ready.within) in omega (arith, r, c.requires.ready.enough)
+
+pub place-requires-clause-capacity : goal.place-requires-clause-capacity
+place-requires-clause-capacity g c = capacity g (goal.at.place-requires-clause-capacity g c).After-take_out-first
+
+pub place-requires-clause-words : goal.place-requires-clause-words
+place-requires-clause-words g c = rw (long g (goal.at.place-requires-clause-words g c).After-take_out-first) c.requires.ready.words
+
 pub place-requires-clause-told : goal.place-requires-clause-told
 place-requires-clause-told g c = AreTold-first _ _ _ _ _ (told g (goal.at.place-requires-clause-told g c).After-take_out-first)
 
@@ -47,6 +65,14 @@ pub place-requires-clause-room : goal.place-requires-clause-room
 place-requires-clause-room g c =
     let at = (goal.at.place-requires-clause-room g c).After-take_out-first in
     (c.requires.ready.leave.0, HasRoom-first _ _ _ _ _ _ (room g at))
+
+pub place_each-requires-clause-capacity : goal.place_each-requires-clause-capacity
+place_each-requires-clause-capacity g c = rw c.place.ensures.put.len (capacity g (goal.at.place_each-requires-clause-capacity g c).After-take_out-first)
+
+pub place_each-requires-clause-words : goal.place_each-requires-clause-words
+place_each-requires-clause-words g c =
+    let l = long g (goal.at.place_each-requires-clause-words g c).After-take_out-first in let m = ap length c.place.ensures.marks ∙ length-set c.args.bits.now _ true in
+    omega (arith, l, m, c.place.ensures.put.len, c.requires.ready.words)
 
 pub place_each-requires-clause-told : goal.place_each-requires-clause-told
 place_each-requires-clause-told g c =
