@@ -1,51 +1,49 @@
 -- The place of the first element that passes a test, and what is found and left there.
-use Rattle.std.proofs.Common.{◌≡◌, ℕ, suc, ◌+◌, ◌-◌, ◌<◌, ◌≤◌, Bool, true, false, cond, List, [], ◌∷◌, length, get_or, set, take, Option, Some, None, refl, sym, ap, ◌∙◌, subst, arith}
+use Rattle.std.proofs.Common.{◌≡◌, ℕ, suc, ◌+◌, ◌-◌, ◌<◌, ◌≤◌, Bool, true, false, cond, List, [], ◌∷◌, length, get_or, set, take, drop, Option, Some, None, refl, sym, ap, ◌∙◌, subst, arith}
 use Rattle.std.specs.Prelude.{position, swap_remove, nat_lt}
 use Rattle.std.specs.List.{position_or_len, list_any}
 use Rattle.std.proofs.lemmas.Bool.{lt-ltb, le-ltb, ltb-true}
 use Rattle.std.proofs.lemmas.Bool.Decides.{nat_tests}
+use Rattle.std.proofs.lemmas.List.{drop_more, drop_all}
 use Rattle.std.proofs.lemmas.Option.{cond_some}
 use Rattle.intmap_table.specs.Bindings.{last_passing, without_last, swap_out, first_value}
 use Rattle.intmap_table.specs.Reach.{through_first}
 use Rattle.intmap_table.proofs.Tables.SwapOutLemmas.{any}
 
 module _ {X : Type 0} (test : X → Bool) where
-  -- xs ends with ys, and none of the elements before passes
-  pub record FailBefore (xs ys : List X) : Type 0 where
-    pub left : length ys ≤ length xs
-    pub place : position_or_len test xs + length ys ≡ length xs + position_or_len test ys
-    pub reached : length (through_first test xs) + length ys ≡ length xs + length (through_first test ys)
+  -- none of the first i elements passes
+  pub record FailBefore (xs : List X) (i : ℕ) : Type 0 where
+    pub place : position_or_len test xs ≡ i + position_or_len test (drop i xs)
+    pub reached : length (through_first test xs) ≡ i + length (through_first test (drop i xs))
 
-  pub FailBefore-none : (xs : List X) → FailBefore xs xs
-  FailBefore-none xs = record { left = omega arith; place = omega arith; reached = omega arith }
+  pub FailBefore-none : (xs : List X) → FailBefore xs 0
+  FailBefore-none xs = record { place = omega arith; reached = omega arith }
 
-  pub FailBefore-more : (xs ys : List X) (y : X) → test y ≡ false → FailBefore xs (y ∷ ys) → FailBefore xs ys
-  FailBefore-more xs ys y fails h =
-      let a : position_or_len test xs + suc (length ys) ≡ length xs + (1 + position_or_len test ys) = rw fails at h.place in
-      let b : length (through_first test xs) + suc (length ys) ≡ length xs + suc (length (through_first test ys)) = rw fails at h.reached in
-      record { left = omega (arith, h.left); place = omega (arith, a); reached = omega (arith, b) }
+  module _ (xs : List X) (i : ℕ) (x : X) (below : i < length xs) (is : x ≡ get_or xs i x) (h : FailBefore xs i) where
+    rest : drop i xs ≡ x ∷ drop (i + 1) xs
+    rest = drop_more xs i x below ∙ ap (λ y. y ∷ drop (i + 1) xs) (sym is)
 
-  -- the first of ys passes, so it is found there
-  pub record IsFirst (xs ys : List X) : Type 0 where
-    pub place : position test xs ≡ Some (length xs - length ys)
-    pub reached : length (through_first test xs) ≡ length xs - length ys + 1
+    -- nor does the next one
+    pub FailBefore-next : test x ≡ false → FailBefore xs (i + 1)
+    FailBefore-next fails = record {
+      place = (let a = rw (rest, fails) at h.place in omega (arith, a));
+      reached = (let b = rw (rest, fails) at h.reached in omega (arith, b));
+    }
 
-  pub IsFirst-here : (xs ys : List X) (y : X) → test y ≡ true → FailBefore xs (y ∷ ys) → IsFirst xs (y ∷ ys)
-  IsFirst-here xs ys y passes h =
-      let a : position_or_len test xs + suc (length ys) ≡ length xs + 0 = rw passes at h.place in
-      let b : length (through_first test xs) + suc (length ys) ≡ length xs + 1 = rw passes at h.reached in
-      let e : position_or_len test xs ≡ length xs - suc (length ys) = omega (arith, a) in
-      record { place = simp (e, lt-ltb (length xs - suc (length ys)) (length xs) (omega (arith, h.left))); reached = omega (arith, b, h.left) }
+    -- the next one passes, so it is found there
+    pub position-next : test x ≡ true → position test xs ≡ Some i
+    position-next passes = let a = rw (rest, passes) at h.place in let e : position_or_len test xs ≡ i = omega (arith, a) in simp (e, lt-ltb i (length xs) below)
+
+    pub reached-next : test x ≡ true → length (through_first test xs) ≡ i + 1
+    reached-next passes = rw (rest, passes) at h.reached
 
   -- none passes
-  pub record IsMissed (xs : List X) : Type 0 where
-    pub place : position test xs ≡ None
-    pub reached : length (through_first test xs) ≡ length xs
+  module _ (xs : List X) (i : ℕ) (all : length xs ≤ i) (h : FailBefore xs i) where
+    pub position-all : position test xs ≡ None
+    position-all = let e : position_or_len test xs ≡ i + 0 = rw (drop_all i xs all) at h.place in simp (e, le-ltb (i + 0) (length xs) (omega (arith, all)))
 
-  pub IsMissed-all : (xs : List X) → FailBefore xs [] → IsMissed xs
-  IsMissed-all xs h =
-      let e : position_or_len test xs ≡ length xs = omega (arith, h.place) in
-      record { place = simp (e, le-ltb (length xs) (length xs) (omega arith)); reached = omega (arith, h.reached) }
+    pub reached-all : length (through_first test xs) ≡ i
+    reached-all = let n = rw (drop_all i xs all) at h.reached in omega (arith, n)
 
   position_or_len-le : (xs : List X) → position_or_len test xs ≤ length xs
   position_or_len-le [] = omega arith

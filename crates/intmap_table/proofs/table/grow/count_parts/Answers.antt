@@ -9,6 +9,15 @@ use Rattle.intmap_table.proofs.Tables.CountLemmas.{need-yes, need-no}
 use Rattle.intmap_table.proofs.table.grow.count_parts.Goals as goal
 use Rattle.intmap_table.proofs.table.grow.count_parts.Goals.{in-Some, in_default}
 
+pub count_key-requires-clause-all : goal.count_key-requires-clause-all
+count_key-requires-clause-all g c = rw c.fill.ensures.len c.requires.all
+
+pub count_key-requires-clause-fits : goal.count_key-requires-clause-fits
+count_key-requires-clause-fits g c = λ t lt. let none = c.fill.ensures.clones t 0 (rw c.fill.ensures.len at lt) refl in omega (arith, none)
+
+pub count_each-requires-clause-all : goal.count_each-requires-clause-all
+count_each-requires-clause-all g c = rw (c.match-first.auto.counts, c.fill.ensures.len) c.requires.all
+
 pub returns-clause-counts : goal.returns-clause-counts
 returns-clause-counts g c = λ i t below lt own.
     let number = g.K.IntKey.number_of in let n = length c.args.counts.now in let C = c.args.old in let rest = c.parts.result.1.now in

@@ -2,6 +2,7 @@ use Rattle.std.proofs.Common.{◌≡◌, ℕ, ◌+◌, ◌*◌, ◌<◌, ◌≤�
 use Rattle.std.proofs.lemmas.Result.{IfOk-weaker}
 use Rattle.intmap_table.specs.Tables.Slots.{rows}
 use Rattle.intmap_table.specs.Tables.Moves.{rooms, need}
+use Rattle.intmap_table.proofs.SlotNumberLemmas.{capacity-greatest}
 use Rattle.intmap_table.proofs.Tables.CountLemmas.{offset-fits, AreLeft, AreLeft-marked, AreLeft-rest, AreReady, AreReady-start, AreReady-few, AreReady-parts, CanMoveOn-ready, place-old, place-slot, row-ready, room-ready, filled-ready, few-ready, own-ready, bare-parts-ready}
 use Rattle.intmap_table.proofs.table.grow.reserve_rooms.Goals as goal
 use Rattle.intmap_table.proofs.table.grow.reserve_rooms.Goals.{In-Some, Joined-behind-gt2, then-behind-gt2+in_ok-reserve_room, else-behind-gt2}
@@ -45,11 +46,23 @@ offset_bounds-slots-index-then-behind-gt2 g c = record { fits = offset-fits _ _ 
 pub bounds-slots-index-then-behind-gt2 : goal.bounds-slots-index-then-behind-gt2
 bounds-slots-index-then-behind-gt2 g c = let w = slot g (goal.at.bounds-slots-index-then-behind-gt2 g c).In-Some in omega (arith, w, c.loop-index.auto.slots)
 
+pub overflow_add-old : goal.overflow_add-old
+overflow_add-old g c = record { fits = (let most = capacity-greatest _ c.requires.longer.grown.old in omega (arith, most)) }
+
+pub count_parts-requires-clause-all : goal.count_parts-requires-clause-all
+count_parts-requires-clause-all g c = rw (c.loop-index.auto.counts, ← c.requires.all) c.requires.longer.grown.new
+
 pub count_parts-requires-clause-fits : goal.count_parts-requires-clause-fits
 count_parts-requires-clause-fits g c =
     let at = (goal.at.count_parts-requires-clause-fits g c).In-Some in
     let few = few-ready g.K.IntKey.number_of c.args.slots.now (c.args.old.now.mask + 1) c.requires.longer.grown c.requires.longer.own c.requires.bare c.in-Some.index c.next.new.self (left g at) c.loop-index.longest c.loop-index.slots (ready g at) c.index-slots-index-then-behind-gt2.result in
     omega (arith, few, c.requires.fits)
+
+pub overflow_add-old-then-behind-gt2 : goal.overflow_add-old-then-behind-gt2
+overflow_add-old-then-behind-gt2 g c = record { fits = (let most = capacity-greatest _ c.requires.longer.grown.old in omega (arith, most)) }
+
+pub reserve_room-requires-clause-all : goal.reserve_room-requires-clause-all
+reserve_room-requires-clause-all g c = rw (c.count_parts.ensures.len, c.loop-index.auto.counts) (c.loop-index.auto.slots ∙ c.requires.all)
 
 pub reserve_room-requires-clause-within : goal.reserve_room-requires-clause-within
 reserve_room-requires-clause-within g c = old g (goal.at.reserve_room-requires-clause-within g c).In-Some
