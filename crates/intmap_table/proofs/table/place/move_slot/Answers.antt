@@ -4,6 +4,7 @@ use Rattle.intmap_table.specs.Classes.{slot_number}
 use Rattle.intmap_table.specs.Tables.Slots.{rows}
 use Rattle.intmap_table.specs.Tables.Moves.{emptied, AreFree}
 use Rattle.intmap_table.proofs.SlotNumberLemmas.{slot_number-below}
+use Rattle.intmap_table.proofs.Tables.CountLemmas.{offset-fits}
 use Rattle.intmap_table.proofs.Tables.RoomLemmas.{IsPlaced-put}
 use Rattle.intmap_table.proofs.Tables.PutLemmas.{row-before, AreFree-left, AreSet-put, Held-same}
 use Rattle.intmap_table.proofs.table.place.move_slot.Goals as goal
@@ -28,6 +29,15 @@ same : (g : _) (c : In_default g) → set c.args.slots.now c.args.index c.take_l
 same g c =
     ap (λ s. set c.args.slots.now c.args.index s) (Held-same c.take_lone.new.self (get_or c.args.slots.now c.args.index c.index-slots-index.result) c.in_default.ensures.others c.take_lone.ensures.room)
     ∙ set-get_or c.args.slots.now c.args.index c.index-slots-index.result
+
+pub offset_bounds-slots-index : goal.offset_bounds-slots-index
+offset_bounds-slots-index g c = record { fits = offset-fits _ _ _ c.requires.ready.within c.well_formed.1.0.1 }
+
+pub place_first-requires-clause-capacity : goal.place_first-requires-clause-capacity
+place_first-requires-clause-capacity g c = rw (long g (goal.at.place_first-requires-clause-capacity g c).In-Some) c.requires.ready.capacity
+
+pub place_first-requires-clause-words : goal.place_first-requires-clause-words
+place_first-requires-clause-words g c = rw (long g (goal.at.place_first-requires-clause-words g c).In-Some) c.requires.ready.words
 
 pub place_first-requires-clause-free : goal.place_first-requires-clause-free
 place_first-requires-clause-free g c = free g (goal.at.place_first-requires-clause-free g c).In-Some

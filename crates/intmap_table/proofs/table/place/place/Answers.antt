@@ -5,6 +5,7 @@ use Rattle.intmap_table.specs.Classes.{slot_number}
 use Rattle.intmap_table.specs.Tables.Bits.{marked}
 use Rattle.intmap_table.specs.Tables.Slots.{rows}
 use Rattle.intmap_table.specs.Tables.Moves.{rooms, IsPut, need}
+use Rattle.intmap_table.proofs.Tables.CountLemmas.{offset-fits}
 use Rattle.intmap_table.proofs.Tables.MarkedLemmas.{row-none}
 use Rattle.intmap_table.proofs.Tables.PutLemmas.{IsPut-kept, IsPut-lent, row-before, room-before}
 use Rattle.intmap_table.proofs.Tables.RoomLemmas.{length-first}
@@ -36,6 +37,9 @@ module _ (g : _) (c : After-index-slots-index g) where
   told =
       let one = need-one in
       c.requires.told.told c.index_of-index.result c.index_of-index.ensures.within (omega (arith, one)) ∙ ap (λ ps. nat_lt 0 (length ps)) row
+
+pub offset_bounds-slots-index : goal.offset_bounds-slots-index
+offset_bounds-slots-index g c = record { fits = offset-fits _ _ _ c.index_of-index.ensures.within c.well_formed.1.0.1 }
 
 pub push_with-requires-clause-filled : goal.push_with-requires-clause-filled
 push_with-requires-clause-filled g c =
