@@ -33,3 +33,18 @@ returns-in-Occupied-clause-updates g c =
     let left = c.f.new.arg2 in
     let here = ap (value_of g.K.IntKey.number_of (occupied_with_value c.in-Occupied.entry left).map.now.walk) (occupied_key-written c.in-Occupied.entry left) ∙ (c.get_mut.ensures.updates left).1 in
     rw (here, c.in-Occupied.is) (c.get_mut.ensures.updates left)
+
+pub f-requires : goal.f-requires
+f-requires g c = c.requires c.get_mut.result (ap entry_value c.in-Occupied.is ∙ c.get_mut.ensures.value)
+
+pub returns-in-Occupied-clause-same_reference : goal.returns-in-Occupied-clause-same_reference
+returns-in-Occupied-clause-same_reference g c = rw c.in-Occupied.is refl
+
+pub returns-in-Occupied-clause-len : goal.returns-in-Occupied-clause-len
+returns-in-Occupied-clause-len g c = rw c.in-Occupied.is (c.get_mut.ensures.len c.f.new.arg2)
+
+pub returns-in-Occupied-clause-valid_after : goal.returns-in-Occupied-clause-valid_after
+returns-in-Occupied-clause-valid_after g c = c.get_mut.ensures.valid_after c.f.new.arg2
+
+pub returns-in-Vacant : goal.returns-in-Vacant
+returns-in-Vacant g c = rw (c.in-Vacant.is, c.in-Vacant.entry.missing) record { same_reference = refl; key = refl; value = refl; state = refl; updates = refl; len = refl; valid_after = c.known.ensures.valid }
