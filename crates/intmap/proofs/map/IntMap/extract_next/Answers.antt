@@ -1,4 +1,4 @@
-use Rattle.std.proofs.Common.{ap, arith}
+use Rattle.std.proofs.Common.{ap, arith, refl}
 use Rattle.std.specs.Option.{option_len}
 use Rattle.intmap_table.specs.Picking.{PicksAt}
 use Rattle.intmap_table.proofs.ExtractLemmas.{length-ExtractsBehind}
@@ -11,8 +11,10 @@ invariant_of-self g c =
     IsConsistent-Extracts g.K.IntKey.number_of g.K.IntKey.is_valid (PicksAt g.F.FnMut) (λ f p b h q call. call.0) c.args.f.now c.extract_next.new.f c.self.inside.table.walk c.extract_next.new.self.walk _ _ c.extract_next.result
     _ _ _ c.self.inside.len c.self.inside.len _ asked.step asked.capacity asked.own (omega (arith, none)) c.self.invariant
 
-pub returns-in_default-clause-valid_after : goal.returns-in_default-clause-valid_after
-returns-in_default-clause-valid_after g c = (invariant_of-self g c).map
+pub returns-in_default : goal.returns-in_default
+returns-in_default g c =
+    let asked = c.in_default.ensures in
+    rw (← c.self.view_is) record { step = asked.step; state = rw asked.capacity refl; reached = asked.reached; valid = c.self.invariant.map; valid_after = (invariant_of-self g c).map }
 
 pub invariant_of-self-2 : goal.invariant_of-self-2
 invariant_of-self-2 g c =
@@ -21,5 +23,10 @@ invariant_of-self-2 g c =
     IsConsistent-Extracts g.K.IntKey.number_of g.K.IntKey.is_valid (PicksAt g.F.FnMut) (λ f p b h q call. call.0) c.args.f.now c.extract_next.new.f old c.extract_next.new.self.walk _ _ c.extract_next.result
     _ _ _ c.self.inside.len _ _ asked.step asked.capacity asked.own (omega (arith, one, fewer, c.self.invariant.count)) c.self.invariant
 
-pub returns-clause-valid_after : goal.returns-clause-valid_after
-returns-clause-valid_after g c = (invariant_of-self-2 g c).map
+pub returns : goal.returns
+returns g c =
+    let asked = c.in-Some.ensures in
+    rw (← c.self.view_is) record { step = asked.step; state = rw asked.capacity refl; reached = asked.reached; valid = c.self.invariant.map; valid_after = (invariant_of-self-2 g c).map }
+
+pub extract_next-requires-clause-callable : goal.extract_next-requires-clause-callable
+extract_next-requires-clause-callable g c = rw (← c.self.view_is) at c.requires.callable
