@@ -1,4 +1,4 @@
-use Rattle.std.proofs.Common.{rules, [], None, refl, subst}
+use Rattle.std.proofs.Common.{rules, [], None, refl, subst, sym, ◌∙◌, add-zero}
 use Rattle.intmap_table.specs.Bindings.{Updates}
 use Rattle.intmap.proofs.DrainLemmas.{IsConsistent-rest}
 use Rattle.intmap.proofs.CursorLemmas.{Updates-cut}
@@ -10,11 +10,25 @@ invariant_of-self-2 g c =
     IsConsistent-rest g.K.IntKey.number_of g.K.IntKey.is_valid _ c.self.inside.table.walk c.take_front.new.self.walk _ _ _ _ _
     taken.first taken.capacity taken.own c.self.invariant
 
-pub returns-clause-valid_after : goal.returns-clause-valid_after
-returns-clause-valid_after g c = (invariant_of-self-2 g c).map
-
 pub returns-clause-updates : goal.returns-clause-updates
 returns-clause-updates g c =
     let L = c.self.inside.table.walk in let M = c.take_front.new.self.walk in
     let told = Updates-cut g.K.IntKey.number_of L M [] M _ c.in-Some.ensures'.first refl c.self.invariant.map.distinct in
     rw (← c.self.view_is) (subst (λ k. Updates g.K.IntKey.number_of L M k None) (search rules) told)
+
+pub returns-in_default : goal.returns-in_default
+returns-in_default g c =
+    let told = c.in_default.ensures in let same = told.first.1 ∙ sym told.first.0 in
+    rw (← c.self.view_is) record {
+      first = told.first; state = rw told.capacity refl; updates = same; len = rw same (add-zero _); passed = told.passed; slot = tt;
+      valid = c.self.invariant.map; valid_after = rw (same, told.capacity) c.self.invariant.map;
+    }
+
+pub returns-clause-first : goal.returns-clause-first
+returns-clause-first g c = rw (← c.self.view_is, c.into_value.ensures) c.in-Some.ensures.first
+
+pub returns-clause-state : goal.returns-clause-state
+returns-clause-state g c = rw (← c.self.view_is, c.in-Some.ensures.capacity) refl
+
+pub returns-clause-valid_after : goal.returns-clause-valid_after
+returns-clause-valid_after g c = (invariant_of-self-2 g c).map
