@@ -20,8 +20,14 @@ pub returns-in_default : goal.returns-in_default
 returns-in_default g c =
     let told = c.in_default.ensures in let same = told.first.1 ∙ sym told.first.0 in
     rw (← c.self.view_is) record {
-      first = told.first; state = rw told.capacity refl; updates = same; len = rw same (add-zero _); passed = told.passed; slot = tt;
-      valid = c.self.invariant.map; valid_after = rw (same, told.capacity) c.self.invariant.map;
+      first = told.first;
+      state = rw told.capacity refl;
+      updates = same;
+      len = rw same (add-zero _);
+      passed = told.passed;
+      slot = tt;
+      valid = c.self.invariant.map;
+      valid_after = rw (same, told.capacity) c.self.invariant.map;
     }
 
 pub returns-clause-first : goal.returns-clause-first
