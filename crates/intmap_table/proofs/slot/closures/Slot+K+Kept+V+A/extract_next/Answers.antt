@@ -1,5 +1,5 @@
-use Rattle.std.proofs.Common.{◌<◌, false, length, get_or, sym, subst, arith}
-use Rattle.std.proofs.lemmas.List.{drop_all}
+use Rattle.std.proofs.Common.{◌+◌, ◌<◌, ◌∙◌, false, length, get_or, take, drop, sym, ap, subst, arith, length-append}
+use Rattle.std.proofs.lemmas.List.{drop_all, length-take-le}
 use Rattle.intmap_table.specs.Picking.{AsksAt, PicksAt}
 use Rattle.intmap_table.specs.Writes.{TakesPairMut}
 use Rattle.intmap_table.specs.Taking.{TakesEach}
@@ -19,6 +19,14 @@ returns-then-ask_at-clause-step g c =
     StepsTo-goes R _ c.loop-place.f c.ask_at.new.f _ _ c.loop-place.self.pairs c.ask_at.new.self.pairs c.loop-place.place asked.0 below asked.1 c.loop-place.invariant.steps
     (subst (λ b. R c.loop-place.f (get_or c.loop-place.self.pairs c.loop-place.place asked.0) b c.ask_at.new.f asked.0) c.if-ask_at.true asked.2)
     c.remove_at.result c.remove_at.new.self.pairs c.remove_at.ensures.value c.remove_at.ensures.pairs
+
+pub returns-then-ask_at-clause-within : goal.returns-then-ask_at-clause-within
+returns-then-ask_at-clause-within g c =
+    let i = c.loop-place.place in let qs = c.ask_at.new.self.pairs in
+    let long = length-written c.loop-place.self.pairs qs i c.ask_at.ensures.0 c.ask_at.ensures.1 in
+    let first = length-take-le i qs (omega (arith, c.loop-place-test.true, c.len.ensures, long)) in
+    let left = ap length c.remove_at.ensures.pairs ∙ length-append (take i qs) (drop (i + 1) qs) in
+    omega (arith, first, left)
 
 pub loop-place-preserved : goal.loop-place-preserved
 loop-place-preserved g c =
