@@ -1,4 +1,4 @@
-use Rattle.std.proofs.Common.{◌≡◌, ◌∙◌, sym, arith}
+use Rattle.std.proofs.Common.{◌∙◌, sym, arith}
 use Rattle.intmap_table.proofs.PositionLemmas.{FailBefore-next, position-next, reached-next, position-all, reached-all}
 use Rattle.intmap_table.proofs.slot.find_in.Goals as goal
 
