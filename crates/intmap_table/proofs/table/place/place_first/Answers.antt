@@ -8,9 +8,11 @@ use Rattle.intmap_table.proofs.table.place.place_first.Goals as goal
 use Rattle.intmap_table.proofs.table.place.place_first.Goals.{After-index-slots-index}
 
 module _ (g : _) (c : After-index-slots-index g) where
+  -- the slot that is indexed is that of the pair
   slot : slot_number g.K.IntKey.number_of c.args.pair.0 (length c.args.slots.now) ≡ c.index_of-index.result
   slot = ap (λ k. slot_number g.K.IntKey.number_of k (length c.args.slots.now)) (sym c.key.ensures.value) ∙ sym c.index_of-index.ensures.slot
 
+  -- it holds no pair
   none : (get_or c.args.slots.now c.index_of-index.result c.index-slots-index.result).pairs ≡ []
   none =
       let number = g.K.IntKey.number_of in let S = c.args.slots.now in let j = c.index_of-index.result in let p = c.args.pair in let within = c.index_of-index.ensures.within in
