@@ -109,3 +109,13 @@ returns-then-self-clause-valid_after g c = rw (← c.self.view_is) c.self.invari
 
 pub returns-in-Err-add-clause-valid_after : goal.returns-in-Err-add-clause-valid_after
 returns-in-Err-add-clause-valid_after g c = (invariant_of-self-in-Err-add g c).map
+
+pub returns-in-Ok : goal.returns-in-Ok
+returns-in-Ok g c =
+    let told = c.in-Ok.ensures in
+    record { key = told.key; at = told.at; known = told.known; inserted = told.inserted; state = told.state; err = tt; value_returned = tt; refused = tt; valid = rw (← c.self.view_is) c.self.invariant.map; valid_after = told.valid_after }
+
+pub returns-in-Err : goal.returns-in-Err
+returns-in-Err g c =
+    let told = c.in-Err.ensures in
+    record { key = tt; at = tt; known = tt; inserted = tt; state = tt; err = told.err; value_returned = told.value_returned; refused = told.refused; valid = rw (← c.self.view_is) c.self.invariant.map; valid_after = told.valid_after }
