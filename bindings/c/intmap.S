@@ -3,7 +3,7 @@
  * For Linux on x86-64 or aarch64. A compiler of C takes it like a source: cc program.c intmap.S
  *
  * Each function that intmap.h declares is compiled from Rattle code that is proved to keep its contract.
- * It needs malloc, realloc, free, memmove, memcpy and memset of the C library, and the compiler's own
+ * It needs malloc, realloc, free, memmove and memset of the C library, and the compiler's own
  * library. At the end of each half stand rattle_alloc, rattle_realloc and rattle_dealloc, which call
  * malloc, realloc and free, and aren't proved.
  *
@@ -41,7 +41,6 @@
  * crate's behaviour; its code, contracts, proofs and documents were written anew.
  */
 #if defined(__ELF__) && defined(__x86_64__) && defined(__LP64__)
-	.file	"rattle"
 	.section	.text.intmap_c.make.keep,"ax",@progbits
 	.p2align	4
 	.type	intmap_c.make.keep,@function
@@ -4727,7 +4726,6 @@ intmap_set_load_factor:
 
 	.ident	"rattle logic=dac8208d650f15bf3e2dc313a14fa4c783a3acf887bdfab66e1714b038d9e11b"
 	.section	".note.GNU-stack","",@progbits
-	.file	"heap.c"
 	.section	.text.rattle_alloc,"ax",@progbits
 	.p2align	4
 	.type	rattle_alloc,@function
@@ -4779,7 +4777,6 @@ rattle_dealloc:
 	.ident	"clang version 22.1.8"
 	.section	".note.GNU-stack","",@progbits
 #elif defined(__ELF__) && defined(__aarch64__) && defined(__LP64__) && !defined(__AARCH64EB__)
-	.file	"rattle"
 	.section	.text.intmap_c.make.keep,"ax",@progbits
 	.p2align	2
 	.type	intmap_c.make.keep,@function
@@ -8645,7 +8642,6 @@ intmap_set_load_factor:
 
 	.ident	"rattle logic=dac8208d650f15bf3e2dc313a14fa4c783a3acf887bdfab66e1714b038d9e11b"
 	.section	".note.GNU-stack","",@progbits
-	.file	"heap.c"
 	.section	.text.rattle_alloc,"ax",@progbits
 	.p2align	2
 	.type	rattle_alloc,@function

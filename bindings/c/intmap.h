@@ -17,17 +17,18 @@
 //
 // WHAT THE CALLER OWES. Nothing checks these. If one is broken, anything may happen.
 //
-// - No address that is passed is null. A word is INTMAP_INIT before the first call with it, and
-//   then only calls write it.
+// - No address that is passed is null. A word is INTMAP_INIT, or all zero bits, before the first
+//   call with it, and then only calls write it.
 // - A word isn't copied, since a copy is the same map. It may be moved, if its old place is then
 //   set to INTMAP_NONE.
 // - No signal handler makes a call, and neither does the forked child of a process with several
 //   threads. Nothing jumps out of a call: no longjmp, no exception, no cancellation of its thread.
 // - malloc, realloc and free belong to one allocator, make no call on a map, and align blocks like
 //   the C library.
-// - A cursor is INTMAP_START, or what the last call left in it. Since then no call has changed the
-//   map, except intmap_cut with this cursor, intmap_set and intmap_add.
-// - There is some stack: a call takes less than 1 KB.
+// - A cursor is INTMAP_START, what a call left in it, or a copy of that. Since then no call has
+//   changed the map, except intmap_cut with this cursor, intmap_set and intmap_add.
+// - The two words of intmap_clone differ, and intmap_next has an array for all `room` pairs.
+// - There is some stack: a call takes less than 1 KB, besides malloc's.
 //
 // THREADS. Any number of threads may make calls with `const intmap *` at once, as long as no other
 // call has the map. A call with `intmap *` has it alone: the calls before it have ended, and the
@@ -38,20 +39,25 @@
 //
 // - INTMAP_NO_MEMORY: malloc or realloc returned NULL.
 // - INTMAP_TOO_LARGE: the map would have more than 2^63 slots or 2^64 - 1 pairs.
-// - INTMAP_NO_MAP: the word is null, since no map was made yet, or it was freed.
+// - INTMAP_NO_MAP: the word is INTMAP_INIT, since no map was made yet, or it was freed.
 //
 // ORDER. The pairs lie in slots, whose number is a power of two. The walk is the order of the
 // pairs: slot after slot, and each slot from front to back. It depends only on the calls that were
 // made.
 //
-// COST. A call on one key takes time in the number of pairs that share its slot. That is about one,
-// unless many keys share their low bits: multiples of 4096, or row << 32 | column. Number such keys
-// anew. If strangers choose the keys, they can make each call linear. Then pass each key through a
-// bijection with a secret first, such as a round of splitmix64 on key ^ secret. intmap_filled_slots
-// tells of shared slots. An insertion that adds slots moves all pairs, which is constant time a
-// pair over all insertions.
+// KEYS AND VALUES. Each number of 64 bits is a key, and each is a value. An address is stored as
+// (uint64_t)(uintptr_t)address. No call follows it, so what it leads to is the caller's to free.
 //
-// MEMORY. It comes from malloc: 80 to 110 bytes a pair, and at least 48 a slot.
+// COST. A call on one key takes time in the number of pairs that share its slot. That is about one,
+// unless many keys share their low bits. Shift those away, or number the keys anew: in place of
+// multiples of 4096 take key >> 12, of what malloc returned address >> 4, of row << 32 | column
+// row * columns + column. If strangers choose the keys, they can make each call linear. Then mix
+// each key with a secret; the README has two functions for that. intmap_filled_slots tells of
+// shared slots. An insertion that adds slots moves all pairs, which is constant time a pair over
+// all insertions.
+//
+// MEMORY. It comes from malloc: at least 48 bytes a slot, so some 50 to 120 a pair in a map that
+// has grown, and up to 140 if many keys share slots. A clone has as many slots.
 // intmap_with_capacity writes each slot. So on Linux, where malloc may not fail, too large a number
 // may end the process. Only intmap_free gives memory back, and a call that replaces a map or adds
 // slots.
@@ -85,7 +91,7 @@ typedef struct intmap {
     void *at;
 } intmap;
 
-// No map, to begin with, and as a value to assign.
+// No map: INTMAP_INIT in a definition, INTMAP_NONE in an assignment.
 #define INTMAP_INIT {NULL}
 #ifdef __cplusplus
 #define INTMAP_NONE (intmap{nullptr})
@@ -129,7 +135,8 @@ typedef struct intmap_cursor {
     size_t passed;
 } intmap_cursor;
 
-// The start of a walk, to begin with. To assign it: at = (intmap_cursor)INTMAP_START;
+// The start of a walk, in a definition. To assign it, in C: at = (intmap_cursor)INTMAP_START; and
+// in C++: at = INTMAP_START;
 #define INTMAP_START {0, 0, 0}
 
 // A pair if the status is INTMAP_PRESENT. With every other status its key and value are 0.
@@ -142,14 +149,16 @@ typedef struct intmap_found {
 // third.
 uint32_t intmap_version(void) INTMAP_CALL;
 
-// Makes an empty map of 4 slots, with a load factor of 909 thousandths. It frees a map that the
-// word had. It returns INTMAP_DONE, or INTMAP_NO_MEMORY, which leaves the word as it was.
+// Makes an empty map of 4 slots, with a load factor of 909 thousandths. The word is INTMAP_INIT, or
+// has a map, which is freed. It returns INTMAP_DONE, or INTMAP_NO_MEMORY, which leaves the word as
+// it was.
 INTMAP_NONNULL INTMAP_MUST_USE intmap_status intmap_new(intmap *map) INTMAP_CALL;
 
 // Makes an empty map, with a load factor of 909 thousandths. Its number of slots is the least power
-// of two that is at least `capacity`, and at least 2. It frees a map that the word had. It returns
-// INTMAP_DONE; INTMAP_TOO_LARGE exactly if `capacity` is above 2^63; or INTMAP_NO_MEMORY. If it
-// fails, it leaves the word as it was.
+// of two that is at least `capacity`, and at least 2. For n pairs without growth, ask for
+// n + n / 10 + 1. The word is INTMAP_INIT, or has a map, which is freed. It returns INTMAP_DONE;
+// INTMAP_TOO_LARGE exactly if `capacity` is above 2^63; or INTMAP_NO_MEMORY. If it fails, it leaves
+// the word as it was.
 INTMAP_NONNULL INTMAP_MUST_USE intmap_status intmap_with_capacity(intmap *map, size_t capacity)
     INTMAP_CALL;
 
@@ -178,8 +187,8 @@ INTMAP_NONNULL bool intmap_contains_key(const intmap *map, uint64_t key) INTMAP_
 
 // Puts the pair at the end of its slot. It returns INTMAP_PRESENT with the value before, in whose
 // place the last pair of the slot moves; or INTMAP_ABSENT if the key was absent. If a new key makes
-// the pairs exceed the load factor, the slots are doubled until they don't. That is checked at 4 to
-// 7 pairs, at 12 to 15, at 20 to 23, and so on.
+// the pairs exceed the load factor, the slots are doubled until they don't. That is checked if the
+// pairs, with the new one, are 4 to 7, 12 to 15, 20 to 23, and so on.
 //
 // For a present key it never fails, unless there is no map, and requests no memory. For an absent
 // key it returns INTMAP_TOO_LARGE exactly if there are 2^64 - 1 pairs or growth needs more than
@@ -214,7 +223,7 @@ INTMAP_NONNULL INTMAP_MUST_USE intmap_answer intmap_add_or_insert(intmap *map, u
 INTMAP_NONNULL intmap_answer intmap_remove(intmap *map, uint64_t key) INTMAP_CALL;
 
 // Removes all pairs. The number of slots stays, and the slots keep their memory. It does nothing if
-// there is no map. It takes time in the pairs and, for each 64, in the slots.
+// there is no map. It takes time in the pairs and a 64th of the slots.
 INTMAP_NONNULL void intmap_clear(intmap *map) INTMAP_CALL;
 
 // Returns the number of pairs, 0 if there is no map. Like the next two it takes constant time.
@@ -227,31 +236,33 @@ INTMAP_NONNULL size_t intmap_capacity(const intmap *map) INTMAP_CALL;
 INTMAP_NONNULL size_t intmap_load_factor(const intmap *map) INTMAP_CALL;
 
 // Returns the number of slots that hold a pair, 0 if there is no map. If it is far below the number
-// of pairs, many keys share slots. It takes time in the slots, for each 64.
+// of pairs, many keys share slots. It takes time in a 64th of the slots.
 INTMAP_NONNULL size_t intmap_filled_slots(const intmap *map) INTMAP_CALL;
 
 // Makes the number of slots at least the least power of two that is no less than the number of
 // pairs plus `additional`. It ignores the load factor, so the map may still grow before it has that
-// many pairs. It returns INTMAP_DONE; INTMAP_TOO_LARGE exactly if that sum is above 2^63;
-// INTMAP_NO_MEMORY, but never if there are enough slots already; or INTMAP_NO_MAP.
+// many pairs: for n more without growth, ask for a tenth more, as of intmap_with_capacity. It
+// returns INTMAP_DONE; INTMAP_TOO_LARGE exactly if that sum is above 2^63; INTMAP_NO_MEMORY, but
+// never if there are enough slots already; or INTMAP_NO_MAP.
 INTMAP_NONNULL INTMAP_MUST_USE intmap_status intmap_reserve(intmap *map, size_t additional)
     INTMAP_CALL;
 
-// Sets the load factor, in thousandths: how many pairs per slot there may be when intmap_insert
-// checks it. The number of slots becomes the least of itself and its doublings that meets it. It
-// returns INTMAP_DONE; INTMAP_TOO_LARGE exactly if no number up to 2^63 meets it; INTMAP_NO_MEMORY,
-// but never if the present number meets it; or INTMAP_NO_MAP. If it fails, the load factor stays.
+// Sets the load factor, in thousandths. A number of slots meets it if 1000 * pairs / slots, rounded
+// down, is no more. The number of slots becomes the least of itself and its doublings that meets
+// it: with a factor of 0, some 1000 slots for a pair. It returns INTMAP_DONE; INTMAP_TOO_LARGE
+// exactly if no number up to 2^63 meets it; INTMAP_NO_MEMORY, but never if the present number meets
+// it; or INTMAP_NO_MAP. If it fails, the load factor stays.
 INTMAP_NONNULL INTMAP_MUST_USE intmap_status intmap_set_load_factor(intmap *map, size_t thousandths)
     INTMAP_CALL;
 
 // Returns INTMAP_PRESENT with the first pair of the walk from the cursor on, and moves the cursor
 // behind it; INTMAP_ABSENT if none is left; or INTMAP_NO_MAP. A whole walk takes time in the pairs
-// and, for each 64, in the slots.
+// and a 64th of the slots.
 INTMAP_NONNULL intmap_found intmap_step(const intmap *map, intmap_cursor *at) INTMAP_CALL;
 
 // Copies pairs of the walk from the cursor on, at most `room`, and moves the cursor behind them. It
 // returns how many it copied: fewer than `room` only if none is left, or there is no map. `pairs`
-// needs no values before. The rest of it stays.
+// is an array of at least `room`, which needs no values before. The rest of it stays.
 INTMAP_NONNULL static inline size_t intmap_next(const intmap *map, intmap_cursor *at,
                                                 intmap_pair *pairs, size_t room) INTMAP_CALL {
     size_t count = 0;
@@ -269,11 +280,24 @@ INTMAP_NONNULL static inline size_t intmap_next(const intmap *map, intmap_cursor
 // INTMAP_ABSENT if none is left; or INTMAP_NO_MAP. The pairs before the cursor stay, and those
 // behind it come next, in the same order. The number of slots stays. It requests no memory, and
 // takes time in the pairs that follow in the slot, and in what intmap_step would pass.
+//
+// To remove some pairs of a walk, look with a second cursor:
+//
+//     intmap_cursor at = INTMAP_START, next = INTMAP_START;
+//     intmap_found seen;
+//     while ((seen = intmap_step(&map, &next)).status == INTMAP_PRESENT) {
+//         if (stays(seen.pair)) {
+//             at = next;
+//         } else {
+//             intmap_cut(&map, &at);
+//             next = at;
+//         }
+//     }
 INTMAP_NONNULL intmap_found intmap_cut(intmap *map, intmap_cursor *at) INTMAP_CALL;
 
 // Returns whether the same keys have the same values in both maps, whatever their order, slots and
 // load factors. A word without a map is equal to another without one, and to no map. It takes a
-// lookup for each pair, and time in the slots, for each 64.
+// lookup for each pair, and time in a 64th of the slots.
 INTMAP_NONNULL bool intmap_equal(const intmap *map, const intmap *other) INTMAP_CALL;
 
 #ifdef __cplusplus
