@@ -129,8 +129,8 @@ impl<'a, K: IntKey, V> Entry<'a, K, V> {
         Entry::of(self.proved().and_modify(change))
     }
 
-    /// Inserts `value` if the key is absent, and returns a mutable reference to the value of the
-    /// key.
+    /// Inserts `value` if the key is absent, and drops it if the key is present. Returns a mutable
+    /// reference to the value of the key.
     ///
     /// A failed allocation is handled as std does; [`try_or_insert`](Entry::try_or_insert) returns
     /// it. The cost is *O*(1) if the key is present, and otherwise that of [`IntMap::insert`].

@@ -1,12 +1,12 @@
 //! The iterators of a map.
 //!
 //! All go through the slots in turn, and through each slot from front to back. All stay at their
-//! end. Those that borrow the map know how many items are left. Those that own it only say that
-//! there are at most that many, since a map that is collected from them then begins with the least
-//! capacity, as in Rust's `intmap`.
+//! end. Those that borrow the map know how many items are left, except [`ExtractIf`], which says
+//! that there are at most so many. So do those that own the map: a map that is collected from them
+//! then begins with the least capacity, as in Rust's `intmap`.
 //!
-//! The text of an iterator over references has the items that are left; that of the others says how
-//! many are.
+//! The text of [`Iter`], [`Keys`] and [`Values`] has the items that are left; that of most others
+//! says how many are.
 //!
 //! ```
 //! use intmap_proved::{iter::Iter, IntMap};

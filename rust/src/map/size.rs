@@ -100,8 +100,11 @@ impl<K: IntKey, V> IntMap<K, V> {
         result
     }
 
-    /// Returns the load factor: how many pairs a slot may have on average before the slots are
-    /// doubled. It is 0.909 at first. The cost is *O*(1).
+    /// Returns the load factor: how many pairs there may be for each slot. It is 0.909 at first. The
+    /// cost is *O*(1).
+    ///
+    /// An insertion checks it only if the pairs are then 4 to 7, 12 to 15, 20 to 23, and so on. In
+    /// between there may be more.
     ///
     /// # Examples
     ///

@@ -123,7 +123,8 @@ macro_rules! operators {
 }
 
 operators! {
-    /// The members of either set.
+    /// The members of either set, as [`union`](IntSet::union) and `collect` make them. A failed
+    /// allocation is handled as std does.
     ///
     /// ```
     /// use intmap_proved::IntSet;
@@ -132,7 +133,8 @@ operators! {
     /// ```
     BitOr bitor = union;
 
-    /// The members of both sets.
+    /// The members of both sets, as [`intersection`](IntSet::intersection) and `collect` make them.
+    /// A failed allocation is handled as std does.
     ///
     /// ```
     /// use intmap_proved::IntSet;
@@ -141,7 +143,9 @@ operators! {
     /// ```
     BitAnd bitand = intersection;
 
-    /// The members that exactly one of the sets has.
+    /// The members that exactly one of the sets has, as
+    /// [`symmetric_difference`](IntSet::symmetric_difference) and `collect` make them. A failed
+    /// allocation is handled as std does.
     ///
     /// ```
     /// use intmap_proved::IntSet;
@@ -150,7 +154,9 @@ operators! {
     /// ```
     BitXor bitxor = symmetric_difference;
 
-    /// The members of the first set that are absent from the second.
+    /// The members of the first set that are absent from the second, as
+    /// [`difference`](IntSet::difference) and `collect` make them. A failed allocation is handled as
+    /// std does.
     ///
     /// ```
     /// use intmap_proved::IntSet;

@@ -1,6 +1,7 @@
 //! The types of keys, and those integers that the proved text doesn't have as keys.
 
-/// The types that can be keys: integers of up to 64 bits, and types of your own.
+/// The types that can be keys: integers of up to 64 bits, and types of your own. A `char` or a
+/// `NonZero` is a key in a type of your own.
 ///
 /// # Keys of your own
 ///

@@ -17,6 +17,8 @@
 //! Calls, arguments, order of iteration, capacities and the cut of the load factor are the same.
 //! What differs:
 //!
+//! - [`Entry`](crate::original::Entry) is the name of a type, so a `use` line that names its
+//!   variants takes them from [`intmap_proved::Entry`](crate::Entry).
 //! - A [`drain`](crate::IntMap::drain) that is dropped early leaves the pairs that it didn't
 //!   return; the original may lose them.
 //! - Iterators that borrow know how many items are left, so a map that is collected from them

@@ -2,7 +2,8 @@
 use alloc::alloc::handle_alloc_error;
 use core::alloc::Layout;
 
-/// What the `try_` forms of calls return if they fail.
+/// Why a `try_` form of a call failed. Some return it alone, those that insert into a map as a part
+/// of [`Refused`] or [`RefusedPair`].
 ///
 /// # Examples
 ///
@@ -17,7 +18,10 @@ use core::alloc::Layout;
 ///
 pub use crate::proved::map::Cause;
 
-/// What a failed insertion returns.
+/// What a failed insertion into a map returns.
+///
+/// By `?` it becomes a `Box<dyn Error>` only if the value is `Debug` and borrows nothing. For other
+/// values write `.map_err(Cause::from)?`.
 ///
 /// # Examples
 ///

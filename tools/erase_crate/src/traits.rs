@@ -90,7 +90,7 @@ impl<K: IntKey, V> Extend<(K, V)> for IntMap<K, V> {
     }
 }
 
-/// The same for pairs of references, such as those of another map.
+/// Inserts a copy of each pair, such as those of another map, as `extend` by pairs does.
 ///
 /// ```
 /// use intmap_proved::IntMap;
@@ -121,7 +121,7 @@ impl<K: IntKey, V> FromIterator<(K, V)> for IntMap<K, V> {
     }
 }
 
-/// The same for an array of pairs.
+/// A map of the pairs of an array, as `collect` makes it. So a key keeps its last value.
 ///
 /// ```
 /// use intmap_proved::IntMap;

@@ -95,8 +95,8 @@ impl<K: IntKey, V> IntMap<K, V> {
 
     /// Calls `change` once for each pair, in iteration order. The cost is *O*(*n* + *c*).
     ///
-    /// It does what a loop over [`iter_mut`](IntMap::iter_mut) does, but its text is the proved
-    /// one.
+    /// It does what a loop over [`iter_mut`](IntMap::iter_mut) does. Its code is proved, that of
+    /// `iter_mut` is tested.
     ///
     /// # Examples
     ///

@@ -67,7 +67,7 @@ impl<K: IntKey> Extend<K> for IntSet<K> {
     }
 }
 
-/// The same for references to keys, such as those of another set.
+/// Inserts a copy of each key, such as those of another set, as `extend` by keys does.
 ///
 /// ```
 /// use intmap_proved::IntSet;
@@ -95,7 +95,7 @@ impl<K: IntKey> FromIterator<K> for IntSet<K> {
     }
 }
 
-/// The same for an array of keys.
+/// A set of the keys of an array, as `collect` makes it.
 ///
 /// ```
 /// assert_eq!(intmap_proved::IntSet::from([21u64, 21]).len(), 1);
