@@ -130,7 +130,11 @@ fn all_keys<K: IntKey, V: Drop, A: Allocator + Copy>(
     ensures ok { IfOk result (λ keys. keys.items ≡ keys_of map.now.walk) }
     ensures valid { IsMap K.number_of K.is_valid map.now }
 {
-    map.keys().copied().collect(alloc)
+    let mut keys = Vec::with_capacity(alloc, map.len())?;
+    for key in map.keys() {
+        keys.push_reserved(*key);
+    }
+    Ok(keys)
 }
 
 /// What the judge sees of each value of the walk. It fails if there is no memory for the list.
