@@ -17,7 +17,7 @@
 //! Calls, arguments, order of iteration, capacities and the cut of the load factor are the same.
 //! What differs:
 //!
-//! - [`Entry`](crate::original::Entry) is the name of a type, so a `use` line that names its
+//! - [`Entry`] is the name of a type, so a `use` line that names its
 //!   variants takes them from [`intmap_proved::Entry`](crate::Entry).
 //! - A [`drain`](crate::IntMap::drain) that is dropped early leaves the pairs that it didn't
 //!   return; the original may lose them.
