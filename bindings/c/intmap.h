@@ -242,8 +242,8 @@ INTMAP_NONNULL size_t intmap_filled_slots(const intmap *map) INTMAP_CALL;
 // Makes the number of slots at least the least power of two that is no less than the number of
 // pairs plus `additional`. It ignores the load factor, so the map may still grow before it has that
 // many pairs. For c pairs in all without growth, ask for c + c / 10 + 1, less the pairs that there
-// are. It returns INTMAP_DONE; INTMAP_TOO_LARGE exactly if that sum is above 2^63;
-// INTMAP_NO_MEMORY, but never if there are enough slots already; or INTMAP_NO_MAP.
+// are. It returns INTMAP_DONE; INTMAP_TOO_LARGE exactly if the pairs and `additional` are above
+// 2^63; INTMAP_NO_MEMORY, but never if there are enough slots already; or INTMAP_NO_MAP.
 INTMAP_NONNULL INTMAP_MUST_USE intmap_status intmap_reserve(intmap *map, size_t additional)
     INTMAP_CALL;
 
