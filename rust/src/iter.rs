@@ -2,8 +2,8 @@
 //!
 //! All go through the slots in turn, and through each slot from front to back. All stay at their
 //! end. Those that borrow the map know how many items are left, except [`ExtractIf`], which says
-//! that there are at most so many. So do those that own the map: a map that is collected from them
-//! then begins with the least capacity, as in Rust's `intmap`.
+//! that there are at most so many. Those that own the map say that too: a map that is collected from
+//! them then begins with the least capacity, as in Rust's `intmap`.
 //!
 //! The text of [`Iter`], [`Keys`] and [`Values`] has the items that are left; that of most others
 //! says how many are.
