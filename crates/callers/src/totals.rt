@@ -1,5 +1,5 @@
-//! The sum of all values.
-ghost use Rattle.std.specs.Prelude.{◌≡◌, ◌^◌, ◌≤◌, None, IfSome};
+//! The sum of all values, and the greatest.
+ghost use Rattle.std.specs.Prelude.{◌≡◌, ◌^◌, ◌≤◌, None, IfSome, [], All, Contains};
 ghost use Rattle.std.specs.List.{sum};
 ghost use Rattle.std.specs.Map.{values_of};
 
@@ -16,4 +16,15 @@ pub fn total<K: IntKey, A: Allocator + Copy>(map: &IntMap<K, u64, A>) -> Option<
         total = total.checked_add(*value)?;
     }
     Some(total)
+}
+
+/// The pair with the greatest value; of several, the last of the walk. It is `None` exactly if the
+/// map is empty.
+pub fn greatest<A: Allocator + Copy>(map: &IntMap<u64, u64, A>) -> Option<(u64, u64)>
+    ensures present { IfSome result (λ pair. Contains map.now.walk pair) }
+    ensures greatest { IfSome result (λ greatest. All (λ pair. pair.1 ≤ greatest.1) map.now.walk) }
+    ensures none { result ≡ None → map.now.walk ≡ [] }
+{
+    let (key, value) = map.iter().max_by_key(|(_, value)| **value)?;
+    Some((*key, *value))
 }
