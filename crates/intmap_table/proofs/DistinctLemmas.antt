@@ -12,7 +12,7 @@ use Rattle.intmap_table.specs.Walk.{slot_of, walk_of}
 
 module _ {X : Type 0} (weight : X → ℕ) (is_it in_class : X → Bool) where
   -- the weight of the first element that is the one
-  abbrev taken : List X → ℕ
+  abbrev pub taken : List X → ℕ
   taken [] = 0
   taken (x ∷ xs) = cond (is_it x) (weight x) (taken xs)
 
@@ -44,7 +44,7 @@ module _ {X : Type 0} (weight : X → ℕ) (is_it in_class : X → Bool) where
   take_step x xs false a e f h = let l = sum_by-cons weight x (swap_out is_it in_class xs) in let m = sum_by-cons weight x xs in simp e (omega (arith, h, l, m))
 
   -- what is left and what was taken weigh what all weighed
-  sum_by-swap_out : (xs : List X) → sum_by weight (swap_out is_it in_class xs) + taken xs ≡ sum_by weight xs
+  pub sum_by-swap_out : (xs : List X) → sum_by weight (swap_out is_it in_class xs) + taken xs ≡ sum_by weight xs
   sum_by-swap_out [] = refl
   sum_by-swap_out (x ∷ xs) = take_step x xs (is_it x) (list_any in_class xs) refl refl (sum_by-swap_out xs)
 
@@ -80,7 +80,7 @@ length-sum_by (x ∷ xs) = let h = length-sum_by xs in let m = sum_by-cons (λ _
 
 module _ {X : Type 0} (weight f : X → ℕ) where
   -- the elements of class a, then those of class a + 1, and so on for n classes
-  abbrev classes : List X → ℕ → ℕ → List X
+  abbrev pub classes : List X → ℕ → ℕ → List X
   classes xs a n = flat_map (λ i. filter (λ x. f x == i) xs) (range_with_len a n)
 
   -- the classes of no elements weigh nothing
@@ -119,7 +119,7 @@ module _ {X : Type 0} (weight f : X → ℕ) where
   ]
 
   -- all classes weigh what the list weighs
-  sum_by-classes : (xs : List X) (n : ℕ) → ((x : X) → f x < n) → sum_by weight (classes xs 0 n) ≡ sum_by weight xs
+  pub sum_by-classes : (xs : List X) (n : ℕ) → ((x : X) → f x < n) → sum_by weight (classes xs 0 n) ≡ sum_by weight xs
   sum_by-classes [] n below = classes-none 0 n
   sum_by-classes (x ∷ xs) n below =
       let b = below x in let h = sum_by-classes xs n below in let k = classes-cons x xs 0 n (omega arith) (omega (arith, b)) in let m = sum_by-cons weight x xs in omega (arith, h, k, m)
