@@ -9,7 +9,7 @@
  *
  * Written by tools/assembly of the repository, and not to be edited.
  * Compilers: rattle-kit-13f logic dac8208d650f15bf; clang version 22.1.8
- * Sources: 4760fd41f90134f2b4beeae6c8e2378732c27237c3db12ea3a1af01cb37d9bed
+ * Sources: d36e4a770911bc6d7969eb436c235af5ebad0b28f2a4b23f2b2b9b2c94f9d161
  *     cat $(find crates/intmap_loan/src crates/intmap_table/src crates/intmap/src crates/intmap_c/src -name '*.rt' | LC_ALL=C sort) | sha256sum
  *
  * MIT License

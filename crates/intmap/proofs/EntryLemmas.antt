@@ -1,5 +1,5 @@
 -- Entries once a value was written, and maps into which the pair of a new key was put.
-use Rattle.std.proofs.Common.{◌≡◌, ◌⊎◌, inl, inr, ℕ, ◌+◌, ◌^◌, ◌<◌, Bool, true, false, cond, List, [], ◌∷◌, ◌++◌, length, Option, Some, None, refl, sym, ap, ◌∙◌, subst}
+use Rattle.std.proofs.Common.{◌≡◌, ◌⊎◌, inl, inr, ℕ, ◌+◌, ◌^◌, ◌<◌, true, cond, List, [], ◌∷◌, ◌++◌, length, None, refl, sym, ap, ◌∙◌, subst}
 use Rattle.std.specs.Prelude.{Result, Err}
 use Rattle.std.proofs.lemmas.Bool.{cases_Bool, cases_lt, eq-eqb}
 use Rattle.std.proofs.lemmas.List.{map-append}
@@ -21,6 +21,7 @@ use Rattle.intmap.proofs.GrowthLemmas.{IsWanted-wanted_capacity}
 use Rattle.intmap.proofs.LoadFactorLemmas.{IsNext-unique}
 use Rattle.intmap_table.proofs.LocationLemmas.{walk_of-write_value}
 use Rattle.intmap.proofs.MapLemmas.{MapState-same}
+use Rattle.intmap.proofs.WriteLemmas.{write_value-unbound}
 use Rattle.intmap_table.proofs.PositionLemmas.{swap_out-none, position-from_none}
 use Rattle.intmap_table.proofs.WrittenLemmas.{IsFound-write_value, key_at-written, the_key-same}
 
@@ -50,16 +51,6 @@ module _ {K V : Type 0} (number : K → ℕ) where
       let fits = length-not_too_large m.walk m.capacity m.factor (λ large. did.in_range (rw none refl, large)) in
       IsNext-unique m.capacity (length m.walk + 1) m.factor n.capacity _ next (IsNext-next_capacity m.capacity (length m.walk + 1) m.factor is_map.capacity fits)
 
-  write_value-unbound_step : (p : K × V) (L : List (K × V)) (k : K) (v : V) (t : Bool) → same_key number k p.0 ≡ t → (value_of number L k ≡ None → write_value number L k v ≡ L)
-      → value_of number (p ∷ L) k ≡ None → write_value number (p ∷ L) k v ≡ p ∷ L
-  write_value-unbound_step p L k v true e rest none = let no : ◌≡◌ {A = Option V} (Some p.1) None = rw e at none in cc
-  write_value-unbound_step p L k v false e rest none = let n : value_of number L k ≡ None = rw e at none in simp e (ap (λ M. p ∷ M) (rest n))
-
-  -- writing the value of an absent key changes nothing
-  pub write_value-unbound : (L : List (K × V)) (k : K) (v : V) → value_of number L k ≡ None → write_value number L k v ≡ L
-  write_value-unbound [] k v none = refl
-  write_value-unbound (p ∷ L) k v none = write_value-unbound_step p L k v (same_key number k p.0) refl (write_value-unbound L k v) none
-
   -- a new pair that is written over is the pair with the later value
   pub written-with_pair : (m : MapState K V) (k : K) (x v : V) (D : ℕ) → value_of number m.walk k ≡ None → written number (with_pair number m k x D) k v ≡ with_pair number m k v D
   written-with_pair m k x v D none =
@@ -68,7 +59,7 @@ module _ {K V : Type 0} (number : K → ℕ) where
       let gone : value_of number (take_key number m.walk m.capacity k) k ≡ None = ap (λ L. value_of number L k) kept ∙ none in
       let pair : write_value number (put_pair number m.walk m.capacity k x) k v ≡ put_pair number m.walk m.capacity k v =
       map-append (λ p. cond (same_key number k p.0) (p.0, v) p) (take_key number m.walk m.capacity k) ((k, x) ∷ [])
-      ∙ ap (λ L. L ++ cond (same_key number k k) (k, v) (k, x) ∷ []) (write_value-unbound (take_key number m.walk m.capacity k) k v gone)
+      ∙ ap (λ L. L ++ cond (same_key number k k) (k, v) (k, x) ∷ []) (write_value-unbound number (take_key number m.walk m.capacity k) k v gone)
       ∙ ap (λ b. take_key number m.walk m.capacity k ++ cond b (k, v) (k, x) ∷ []) own in
       MapState-same _ _ _ _ _ _ _ _ _ (sym (walk_of-write_value number (put_pair number m.walk m.capacity k x) D k v) ∙ ap (λ L. walk_of number L D) pair) refl refl refl
 

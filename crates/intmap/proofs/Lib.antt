@@ -37,3 +37,4 @@ pub mod RefusalLemmas
 pub mod InsertionLemmas
 pub mod LendMapLemmas
 pub mod EqualLengthLemmas
+pub mod SumLemmas

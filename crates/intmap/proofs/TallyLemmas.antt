@@ -13,11 +13,10 @@ use Rattle.intmap_table.specs.Figures.{each_once, tally_of}
 use Rattle.intmap.specs.Extending.{IsTally}
 use Rattle.intmap.specs.Map.{MapState, IsMap, IsOutOfRange, IsCapacityAfter}
 use Rattle.intmap_table.specs.Walk.{walk_of}
-use Rattle.intmap.proofs.EntryLemmas.{write_value-unbound}
 use Rattle.intmap.proofs.ExtendLemmas.{value_of-append}
 use Rattle.intmap_table.proofs.LoadLemmas.{times}
 use Rattle.intmap.proofs.MadeLemmas.{IsMadeOf-written, IsMadeOf-inserted}
-use Rattle.intmap.proofs.WriteLemmas.{length-write_value, value_of-write_value}
+use Rattle.intmap.proofs.WriteLemmas.{length-write_value, value_of-write_value, write_value-unbound}
 
 -- whether two numbers are one, asked the other way
 turned : (a n : ℕ) → (n == a) ≡ (a == n)

@@ -86,6 +86,16 @@ module _ {K V : Type 0} (number : K → ℕ) where
         | inr other ↦ rw other refl
       ])
 
+  write_value-unbound_step : (p : K × V) (L : List (K × V)) (k : K) (v : V) (t : Bool) → same_key number k p.0 ≡ t → (value_of number L k ≡ None → write_value number L k v ≡ L)
+      → value_of number (p ∷ L) k ≡ None → write_value number (p ∷ L) k v ≡ p ∷ L
+  write_value-unbound_step p L k v true e rest none = let no : ◌≡◌ {A = Option V} (Some p.1) None = rw e at none in cc
+  write_value-unbound_step p L k v false e rest none = let n : value_of number L k ≡ None = rw e at none in simp e (ap (λ M. p ∷ M) (rest n))
+
+  -- writing the value of an absent key changes nothing
+  pub write_value-unbound : (L : List (K × V)) (k : K) (v : V) → value_of number L k ≡ None → write_value number L k v ≡ L
+  write_value-unbound [] k v none = refl
+  write_value-unbound (p ∷ L) k v none = write_value-unbound_step p L k v (same_key number k p.0) refl (write_value-unbound L k v) none
+
   some_from : (o : Option V) → IsSome o → (v : V) × (o ≡ Some v)
   some_from None bound = let no : ◌≡◌ {A = Bool} false true = bound in cc
   some_from (Some v) bound = (v, refl)

@@ -3,9 +3,10 @@
 //!
 //! A call such as `laws::small_keys_are_found_at_once::<u64, V>();` adds its law to the proof of
 //! the function that contains the call.
-ghost use Rattle.std.specs.Prelude.{◌≡◌, ◌+◌, ◌^◌, ◌<◌, ◌≤◌, ◌↔◌, ℕ, List, All, IsTrue, cond, is_some, length, Some, None, false};
+ghost use Rattle.std.specs.Prelude.{◌≡◌, ◌+◌, ◌^◌, ◌<◌, ◌≤◌, ◌↔◌, ℕ, List, All, IsTrue, cond, is_some, length, sum, unwrap_or, Some, None, false};
+ghost use Rattle.std.specs.Map.{values_of};
 ghost use Rattle.intmap_table.specs.Classes.{IsCapacity};
-ghost use Rattle.intmap_table.specs.Bindings.{value_of, take_key, put_pair, HasDistinctKeys, Updates, BindSame};
+ghost use Rattle.intmap_table.specs.Bindings.{value_of, IsPresent, take_key, put_pair, write_value, HasDistinctKeys, Updates, BindSame};
 ghost use Rattle.intmap_table.specs.Walk.{walk_of};
 ghost use Rattle.intmap_table.specs.Reach.{reach, class_size};
 ghost use Rattle.intmap_table.specs.Figures.{load_of};
@@ -46,6 +47,13 @@ pub fn insertion_updates<K: IntKey, V>()
         → Updates K.number_of L (put_pair K.number_of L C k v) k (Some v) }
 {}
 
+/// Once a value is written at a present key, the key has this value, and every other key is as
+/// before.
+pub fn writing_updates<K: IntKey, V>()
+    ensures { (L : List (K × V)) (k : K) (v : V) → IsPresent K.number_of L k
+        → Updates K.number_of L (write_value K.number_of L k v) k (Some v) }
+{}
+
 /// Removing a present key makes a list one pair shorter. Removing an absent key leaves its length.
 pub fn removal_shortens<K: IntKey, V>()
     ensures { (L : List (K × V)) (C : ℕ) (k : K)
@@ -59,6 +67,36 @@ pub fn insertion_lengthens<K: IntKey, V>()
     ensures { (L : List (K × V)) (C : ℕ) (k : K) (v : V)
         → length (put_pair K.number_of L C k v)
         ≡ length L + cond (is_some (value_of K.number_of L k)) 0 1 }
+{}
+
+/// The values in the walk of a list have the same sum as those in the list.
+pub fn walks_sum_as_lists<K: IntKey>()
+    ensures { (L : List (K × ℕ)) (C : ℕ) → IsCapacity C
+        → sum (values_of (walk_of K.number_of L C)) ≡ sum (values_of L) }
+{}
+
+/// Removing a present key lowers the sum of all values by its value. Removing an absent key leaves
+/// the sum.
+pub fn removal_lowers_sum<K: IntKey>()
+    ensures { (L : List (K × ℕ)) (C : ℕ) (k : K)
+        → sum (values_of (take_key K.number_of L C k)) + unwrap_or (value_of K.number_of L k) 0
+        ≡ sum (values_of L) }
+{}
+
+/// Inserting a pair raises the sum of all values by the new value, and lowers it by the value that
+/// the key had, if it was present.
+pub fn insertion_raises_sum<K: IntKey>()
+    ensures { (L : List (K × ℕ)) (C : ℕ) (k : K) (v : ℕ)
+        → sum (values_of (put_pair K.number_of L C k v)) + unwrap_or (value_of K.number_of L k) 0
+        ≡ sum (values_of L) + v }
+{}
+
+/// Writing a value at a present key raises the sum of all values by the new value, and lowers it by
+/// the old one.
+pub fn writing_changes_sum<K: IntKey>()
+    ensures { (L : List (K × ℕ)) (k : K) (a v : ℕ) → HasDistinctKeys K.number_of L
+        → value_of K.number_of L k ≡ Some a
+        → sum (values_of (write_value K.number_of L k v)) + a ≡ sum (values_of L) + v }
 {}
 
 /// No insertion lowers the capacity.
