@@ -1,6 +1,7 @@
 //! Callers of a map from integer keys. The contract of each says in its own words what it does.
 #![tactic(auto)]
 
+pub mod accounts;
 pub mod bindings;
 pub mod cells;
 pub mod counter;
