@@ -5,7 +5,6 @@ use Rattle.intmap_table.specs.Bindings.{HasDistinctKeys, value_of, take_key, put
 use Rattle.intmap_table.specs.Walk.{walk_of}
 use Rattle.intmap_table.specs.Values.{with_values}
 use Rattle.intmap_table.specs.Reach.{class_size, reach}
-use Rattle.intmap.specs.declared.map.build.TheConstants.{FIRST_FACTOR, FIRST_CAPACITY, LEAST_CAPACITY}
 use Rattle.intmap.specs.Growth.{MeetsLoad, IsNext, GrowsTooMuch, is_due, last_due}
 
 -- the walk, the capacity and the load factor in thousandths; how many pairs insertions put into larger tables, and how many keys were compared
@@ -16,17 +15,17 @@ pub record MapState (K V : Type 0) : Type 0 where
   pub placed : ℕ
   pub compared : ℕ
 
--- the load factor of a new map: 909 thousandths
+-- the load factor of a new map, in thousandths
 abbrev pub first_factor : ℕ
-first_factor = FIRST_FACTOR
+first_factor = 909
 
--- the capacity of a map that `new` makes: 4 slots
+-- the capacity of a map that `new` makes
 abbrev pub first_capacity : ℕ
-first_capacity = FIRST_CAPACITY
+first_capacity = 4
 
--- the least capacity: 2 slots
+-- the least capacity
 abbrev pub least_capacity : ℕ
-least_capacity = LEAST_CAPACITY
+least_capacity = 2
 
 -- a new map of C slots
 abbrev pub empty_map : {K V : Type 0} → ℕ → MapState K V

@@ -1,10 +1,9 @@
 -- Keys by their numbers: which slot a key has, and which keys share a slot.
 use Rattle.std.specs.Prelude.{◌≡◌, ℕ, ◌*◌, ◌%◌, ◌^◌, ◌<◌, ◌≤◌, Bool, ◌==◌}
-use Rattle.intmap_table.specs.declared.table.TheConstants.{MULTIPLIER}
 
--- 11400714819323198549, an odd number, by which the numbers of keys are multiplied: it permutes the slots, and makes no keys share one
+-- an odd number, by which the numbers of keys are multiplied: it permutes the slots, and makes no keys share one
 abbrev pub multiplier : ℕ
-multiplier = MULTIPLIER
+multiplier = 11400714819323198549
 
 -- a number of slots: a power of two from 2 to 2^63
 abbrev pub IsCapacity : ℕ → Type 0
