@@ -7,7 +7,7 @@ use Rattle.std.proofs.lemmas.List.{length-map}
 use Rattle.std.proofs.lemmas.List.Elements.{All-head, All-tail}
 use Rattle.std.proofs.lemmas.List.Sums.{sum_by-cons}
 use Rattle.intmap_table.specs.Classes.{same_key, agrees, residue}
-use Rattle.intmap_table.specs.Bindings.{HasDistinctKeys}
+use Rattle.intmap_table.specs.Bindings.{HasDistinctKeys, value_of}
 use Rattle.intmap_table.specs.Figures.{each_once, load_of}
 use Rattle.intmap.specs.Growth.{IsNext, is_due}
 use Rattle.intmap_table.specs.Reach.{through_first, class_size, reach}
@@ -82,6 +82,24 @@ module _ {K V : Type 0} (number : K → ℕ) where
   -- so at most one of them shares a slot with any key
   pub class_size-below : (L : List (K × V)) (C : ℕ) (k : K) → HasDistinctKeys number L → All (λ p. number p.0 < C) L → class_size number L C k ≤ 1
   class_size-below L C k once below = residues-distinct L C (residue number k C) once below
+
+  -- no key is the same as an absent one
+  same-absent : (L : List (K × V)) (k : K) → value_of number L k ≡ None → count_by (λ p. same_key number k p.0) L ≡ 0
+  same-absent [] k missing = refl
+  same-absent (p ∷ L) k missing =
+      let more = sum_by-cons (λ (q : K × V). cond (same_key number k q.0) 1 0) p L in
+      elim (cases_Bool (same_key number k p.0)) [
+        | inl here ↦ (let no : ◌≡◌ {A = Option V} (Some p.1) None = rw here at missing in cc)
+        | inr apart ↦ (let rest = same-absent L k (rw apart at missing) in grind (arith, more, rest, apart))
+      ]
+
+  -- an absent one below the capacity shares its slot with none of them
+  pub class_size-absent : (L : List (K × V)) (C : ℕ) (k : K) → All (λ p. number p.0 < C) L → number k < C → value_of number L k ≡ None → class_size number L C k ≡ 0
+  class_size-absent L C k below small missing =
+      let within : class_size number L C k ≤ count_by (λ q. same_key number k q.0) L =
+      count_by-within (λ q. number q.0 < C) (λ q. agrees number C k q.0) (λ q. same_key number k q.0)
+      (λ q few same. eq-eqb (number q.0) (number k) (sym (mod-eq_of_lt few) ∙ eqb-true (number q.0 % C) (number k % C) same ∙ mod-eq_of_lt small)) L below in
+      let none = same-absent L k missing in omega (arith, within, none)
 
   -- and they fill as many slots as there are keys
   pub load_of-below : (L : List (K × V)) (C : ℕ) → HasDistinctKeys number L → All (λ p. number p.0 < C) L → load_of number L C ≡ length L

@@ -144,6 +144,13 @@ IsNext-same C F n threshold cap fits lim test = elim (cases_Bool (is_due n)) [
   | inr not ↦ rw not refl
 ]
 
+-- what meets the load leaves the capacity
+pub IsNext-met : (C n F : ℕ) → IsCapacity C → MeetsLoad C n F → IsNext C n F C
+IsNext-met C n F cap meets = elim (cases_Bool (is_due n)) [
+  | inl due ↦ rw due (IsWanted-same C n F cap meets)
+  | inr not ↦ rw not refl
+]
+
 -- if growth is tested, what is wanted follows
 pub IsNext-wanted : (C F n D : ℕ) → is_due n ≡ true → IsWanted C n F D → IsNext C n F D
 IsNext-wanted C F n D due wanted = rw due wanted

@@ -21,10 +21,10 @@ module _ {K V : Type 0} (number : K → ℕ) (s : PlainList K V) (k : K) (missin
     memory = memory;
   }
 
-module _ {K V : Type 0} (number : K → ℕ) (s : PlainList K V) (k : K) (capacity : IsCapacity s.capacity) (lone : IsLone number s.pairs s.capacity k) where
+module _ {K V : Type 0} (number : K → ℕ) (s : PlainList K V) (k : K) (capacity : IsCapacity s.capacity) (lone : IsLone number s.pairs s.capacity s.factor k) where
   pub lone-never_refused : (cause : Cause) → RefusalIsDue number s k cause → ⊥
-  lone-never_refused Memory may = let some = may.memory refl (rw lone.unchecked refl) in omega (arith, lone.alone, some)
+  lone-never_refused Memory may = let some = may.memory refl lone.stays in omega (arith, lone.alone, some)
   lone-never_refused TooLarge may = elim (may.too_large.0 refl).1 [
     | inl many ↦ omega (arith, lone.count, many)
-    | inr grows ↦ GrowsTooMuch-none s.capacity (length s.pairs + 1) s.factor s.capacity capacity (rw lone.unchecked refl) grows
+    | inr grows ↦ GrowsTooMuch-none s.capacity (length s.pairs + 1) s.factor s.capacity capacity lone.stays grows
   ]

@@ -1,11 +1,11 @@
 -- A map as contracts see it, and what calls leave of it.
-use Rattle.std.specs.Prelude.{◌≡◌, ◌⊎◌, ℕ, ◌+◌, ◌^◌, ◌<◌, ◌≤◌, ◌==◌, cond, false, List, [], length, All, IsNone, MatchOption}
+use Rattle.std.specs.Prelude.{◌≡◌, ◌⊎◌, ℕ, ◌+◌, ◌^◌, ◌<◌, ◌≤◌, ◌==◌, cond, List, [], length, All, IsNone, MatchOption}
 use Rattle.intmap_table.specs.Classes.{IsCapacity}
 use Rattle.intmap_table.specs.Bindings.{HasDistinctKeys, value_of, take_key, put_pair, write_value}
 use Rattle.intmap_table.specs.Walk.{walk_of}
 use Rattle.intmap_table.specs.Values.{with_values}
 use Rattle.intmap_table.specs.Reach.{class_size, reach}
-use Rattle.intmap.specs.Growth.{MeetsLoad, IsNext, GrowsTooMuch, is_due, last_due}
+use Rattle.intmap.specs.Growth.{MeetsLoad, IsNext, GrowsTooMuch, last_due}
 
 -- the walk, the capacity and the load factor in thousandths; how many pairs insertions put into larger tables, and how many keys were compared
 pub record MapState (K V : Type 0) : Type 0 where
@@ -69,10 +69,10 @@ module _ {K V : Type 0} (number : K → ℕ) where
   abbrev pub IsOutOfRange : List (K × V) → ℕ → ℕ → K → Type 0
   IsOutOfRange L C F k = IsNone (value_of number L k) × InsertIsTooLarge L C F
 
-  -- k is lone: no key shares its slot, the load isn't checked at the length after it, and that length is below 2^64
-  pub record IsLone (L : List (K × V)) (C : ℕ) (k : K) : Type 0 where
+  -- k is lone: no key shares its slot, the capacity stays at the length after it, and that length is below 2^64
+  pub record IsLone (L : List (K × V)) (C F : ℕ) (k : K) : Type 0 where
     pub alone : class_size number L C k ≡ 0
-    pub unchecked : is_due (length L + 1) ≡ false
+    pub stays : IsNext C (length L + 1) F C
     pub count : length L + 1 < 2 ^ 64
 
   -- D is the capacity after k was inserted

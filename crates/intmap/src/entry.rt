@@ -141,7 +141,8 @@ impl<'a, K: IntKey, V, A: Allocator + Copy> Entry<'a, K, V, A> {
         ensures refused { IfErr result (λ refused. RefusalIsDue K.number_of (entry_list self.entry)
             (entry_key self.entry) refused.cause) }
         ensures lone { IsLone K.number_of (entry_map self.entry).walk
-            (entry_map self.entry).capacity (entry_key self.entry) → IsOk result }
+            (entry_map self.entry).capacity (entry_map self.entry).factor (entry_key self.entry)
+            → IsOk result }
     {
         match self {
             Entry::Occupied(entry) => Ok(entry.into_mut()),

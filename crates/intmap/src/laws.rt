@@ -10,8 +10,8 @@ ghost use Rattle.intmap_table.specs.Bindings.{value_of, IsPresent, take_key, put
 ghost use Rattle.intmap_table.specs.Walk.{walk_of};
 ghost use Rattle.intmap_table.specs.Reach.{reach, class_size};
 ghost use Rattle.intmap_table.specs.Figures.{load_of};
-ghost use Rattle.intmap.specs.Growth.{IsWanted, is_due};
-ghost use Rattle.intmap.specs.Map.{MapState, IsCapacityAfter};
+ghost use Rattle.intmap.specs.Growth.{IsWanted, IsNext, MeetsLoad};
+ghost use Rattle.intmap.specs.Map.{MapState, IsCapacityAfter, IsLone};
 ghost use Rattle.intmap.specs.Equality.{maps_equal};
 ghost use Rattle.intmap.specs.PlainLists.{PlainList, RefusalIsDue};
 ghost use Rattle.intmap.specs.Json.{Shows, BindSameTrees};
@@ -116,13 +116,36 @@ pub fn reach_is_within_class<K: IntKey, V>()
         → reach K.number_of L C k ≤ class_size K.number_of L C k }
 {}
 
+/// If a new key makes a length that meets the load, the capacity stays.
+pub fn met_loads_keep_capacity()
+    ensures stays { (C n F : ℕ) → IsCapacity C → MeetsLoad C n F → IsNext C n F C }
+    ensures same { (C n F D : ℕ) → IsCapacity C → MeetsLoad C n F → IsNext C n F D → D ≡ C }
+{}
+
 /// The insertion of a pair never fails if its slot holds no pair, the new length is below 2^64, and
-/// the load isn't checked at that length.
+/// the capacity stays at that length.
 pub fn lone_pairs_are_never_refused<K: IntKey, V>()
     ensures { (s : PlainList K V) (k : K) (cause : Cause) → IsCapacity s.capacity
-        → length s.pairs + 1 < 2 ^ 64 → is_due (length s.pairs + 1) ≡ false
+        → length s.pairs + 1 < 2 ^ 64
+        → IsNext s.capacity (length s.pairs + 1) s.factor s.capacity
         → class_size K.number_of s.pairs s.capacity k ≡ 0
         → RefusalIsDue K.number_of s k cause → ⊥ }
+{}
+
+/// If `n` pairs meet the load of a map, a key that shares its slot with none is lone in it at each
+/// length below `n`, so its insertion never fails.
+pub fn met_loads_leave_room<K: IntKey, V>()
+    ensures { (L : List (K × V)) (C F n : ℕ) (k : K) → IsCapacity C → MeetsLoad C n F
+        → n < 2 ^ 64 → length L < n → class_size K.number_of L C k ≡ 0
+        → IsLone K.number_of L C F k }
+{}
+
+/// If all keys have numbers below the capacity, an absent key with such a number shares its slot
+/// with none.
+pub fn small_new_keys_are_alone<K: IntKey, V>()
+    ensures { (L : List (K × V)) (C : ℕ) (k : K) → All (λ p. K.number_of p.0 < C) L
+        → K.number_of k < C → value_of K.number_of L k ≡ None
+        → class_size K.number_of L C k ≡ 0 }
 {}
 
 /// If every key with a number of at least `n` is absent, the numbers of all keys are below `n`.

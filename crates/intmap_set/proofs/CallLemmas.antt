@@ -38,8 +38,8 @@ module _ {K : Type 0} (number : K → ℕ) (m n : MapState K (Unit {0})) (s : Se
 
   module _ (k : K) where
     -- a lone key of the set is one of the map
-    pub IsLone-seen : IsLone number (paired s.walk) s.capacity k → IsLone number m.walk m.capacity k
-    IsLone-seen lone = subst (λ x. IsLone number x.walk x.capacity k) (sym (as_map-seen m s seen kept)) lone
+    pub IsLone-seen : IsLone number (paired s.walk) s.capacity load_factor k → IsLone number m.walk m.capacity m.factor k
+    IsLone-seen lone = subst (λ x. IsLone number x.walk x.capacity x.factor k) (sym (as_map-seen m s seen kept)) lone
 
     -- why the map fails is why the set does
     pub RefusalIsDue-seen : (r : Result Bool Cause) (cause : Cause) → IsErrAnd r (λ e. e ≡ cause) → RefusalIsDue number (list_of m) k cause

@@ -40,8 +40,8 @@ impl<'a, K: IntKey, V: Drop, A: Allocator + Copy> VacantEntry<'a, K, V, A> {
         ensures refused { IfErr result (λ refused. RefusalIsDue K.number_of
             (entry_list (Vacant self.entry)) (entry_key (Vacant self.entry)) refused.cause) }
         ensures lone { IsLone K.number_of (entry_map (Vacant self.entry)).walk
-            (entry_map (Vacant self.entry)).capacity (entry_key (Vacant self.entry))
-            → IsOk result }
+            (entry_map (Vacant self.entry)).capacity (entry_map (Vacant self.entry)).factor
+            (entry_key (Vacant self.entry)) → IsOk result }
     {
         let VacantEntry { map, key, slot } = self;
         let at = match map.add(slot, key, value) {
@@ -116,7 +116,8 @@ impl<'a, K: IntKey, V: Drop, A: Allocator + Copy> Entry<'a, K, V, A> {
         ensures refused { IfErr result (λ refused. RefusalIsDue K.number_of (entry_list self.entry)
             (entry_key self.entry) refused.cause) }
         ensures lone { IsLone K.number_of (entry_map self.entry).walk
-            (entry_map self.entry).capacity (entry_key self.entry) → IsOk result }
+            (entry_map self.entry).capacity (entry_map self.entry).factor (entry_key self.entry)
+            → IsOk result }
     {
         match self {
             Entry::Occupied(entry) => Ok(entry.into_mut()),
@@ -152,7 +153,8 @@ impl<'a, K: IntKey, V: Drop, A: Allocator + Copy> Entry<'a, K, V, A> {
         ensures refused { IfErr result (λ refused. RefusalIsDue K.number_of (entry_list self.entry)
             (entry_key self.entry) refused.cause) }
         ensures lone { IsLone K.number_of (entry_map self.entry).walk
-            (entry_map self.entry).capacity (entry_key self.entry) → IsOk result }
+            (entry_map self.entry).capacity (entry_map self.entry).factor (entry_key self.entry)
+            → IsOk result }
     {
         self.or_insert_with_key(|_key| f())
     }
@@ -183,7 +185,8 @@ impl<'a, K: IntKey, V: Drop, A: Allocator + Copy> Entry<'a, K, V, A> {
         ensures refused { IfErr result (λ refused. RefusalIsDue K.number_of (entry_list self.entry)
             (entry_key self.entry) refused.cause) }
         ensures lone { IsLone K.number_of (entry_map self.entry).walk
-            (entry_map self.entry).capacity (entry_key self.entry) → IsOk result }
+            (entry_map self.entry).capacity (entry_map self.entry).factor (entry_key self.entry)
+            → IsOk result }
     {
         let alloc = self.allocator();
         self.or_insert_with(|| V::made_with(alloc))
@@ -259,7 +262,8 @@ impl<'a, K: IntKey, V: Drop, A: Allocator + Copy> Entry<'a, K, V, A> {
         ensures refused { IfErr result (λ refused. RefusalIsDue K.number_of (entry_list self.entry)
             (entry_key self.entry) refused.cause) }
         ensures lone { IsLone K.number_of (entry_map self.entry).walk
-            (entry_map self.entry).capacity (entry_key self.entry) → IsOk result }
+            (entry_map self.entry).capacity (entry_map self.entry).factor (entry_key self.entry)
+            → IsOk result }
     {
         match self {
             Entry::Occupied(entry) => {

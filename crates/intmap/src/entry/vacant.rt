@@ -70,8 +70,8 @@ impl<'a, K: IntKey, V: Drop, A: Allocator + Copy> VacantEntry<'a, K, V, A> {
         ensures refused { IfErr result (λ refused. RefusalIsDue K.number_of
             (entry_list (Vacant self.entry)) (entry_key (Vacant self.entry)) refused.cause) }
         ensures lone { IsLone K.number_of (entry_map (Vacant self.entry)).walk
-            (entry_map (Vacant self.entry)).capacity (entry_key (Vacant self.entry))
-            → IsOk result }
+            (entry_map (Vacant self.entry)).capacity (entry_map (Vacant self.entry)).factor
+            (entry_key (Vacant self.entry)) → IsOk result }
     {
         let VacantEntry { map, key, slot } = self;
         let at = match map.add(slot, key, value) {

@@ -4,7 +4,7 @@ ghost use Rattle.intmap.specs.Growth.{IsLeastPower};
 ghost use Rattle.intmap.specs.Map.{IsLone, in_slots, least_capacity};
 ghost use Rattle.intmap.specs.PlainLists.{RefusalIsDue, list_of};
 ghost use Rattle.intmap_set.specs.Extending.{Inserts};
-ghost use Rattle.intmap_set.specs.Sets.{IsSet, as_map, empty_set, holds, paired, set_of};
+ghost use Rattle.intmap_set.specs.Sets.{IsSet, as_map, empty_set, holds, load_factor, paired, set_of};
 
 use crate::set::IntSet;
 use intmap::{Cause, IntKey, IntMap};
@@ -61,7 +61,7 @@ impl<K: IntKey, A: Allocator + Copy> IntSet<K, A> {
 
         // when it fails
         ensures refused { IfErr result (RefusalIsDue K.number_of (list_of (as_map self.old)) key) }
-        ensures lone { IsLone K.number_of (paired self.old.walk) self.old.capacity key
+        ensures lone { IsLone K.number_of (paired self.old.walk) self.old.capacity load_factor key
             → IsOk result }
 
         ensures valid { IsSet K.number_of K.is_valid self.old }
