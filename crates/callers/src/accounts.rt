@@ -1,9 +1,10 @@
 //! Balances of accounts: what calls change of them, and of their sum.
-ghost use Rattle.std.specs.Prelude.{◌≡◌, ◌+◌, ◌-◌, ◌^◌, ◌<◌, ◌≤◌, ◌↔◌, IfOk, IsTrue, MatchOption, None, OnErr, OnOk, Some, cond, is_none, length, option_map, unwrap_or, false, true};
+ghost use Rattle.std.specs.Prelude.{◌≡◌, ◌+◌, ◌-◌, ◌^◌, ◌<◌, ◌≤◌, ◌↔◌, IfErr, IfOk, IsTrue, MatchOption, None, OnErr, OnOk, Some, cond, is_none, length, option_map, unwrap_or, false, true};
 ghost use Rattle.std.specs.List.{sum};
 ghost use Rattle.std.specs.Map.{values_of};
 ghost use Rattle.intmap.specs.Bindings.{Updates, value_of};
 ghost use Rattle.intmap.specs.Classes.{same_key};
+ghost use Rattle.intmap.specs.PlainLists.{RefusalIsDue, list_of};
 
 use intmap::{Cause, IntKey, IntMap, laws};
 use std::alloc::Allocator;
@@ -69,6 +70,7 @@ pub fn open_account<K: IntKey, A: Allocator + Copy>(
         (Some (unwrap_or (value_of K.number_of accounts.old.walk account) balance))) }
     ensures total { IfOk result (λ new. sum (values_of accounts.new.walk)
         ≡ sum (values_of accounts.old.walk) + cond new balance 0) }
+    ensures refused { IfErr result (RefusalIsDue K.number_of (list_of accounts.old) account) }
     ensures err { OnErr result (accounts.new.walk ≡ accounts.old.walk) }
 {
     laws::insertion_raises_sum::<K>();
