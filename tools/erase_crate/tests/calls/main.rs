@@ -3,6 +3,7 @@
 
 mod against_std;
 mod carried;
+mod counts;
 mod entries;
 mod figures;
 mod iterators;
