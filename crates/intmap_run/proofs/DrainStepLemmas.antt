@@ -28,8 +28,8 @@ module _ {K V S A : Type 0} (number : K → ℕ) (is_valid : K → Type 0) (m : 
             walk = walk_of-strike_keys-stands is_map stands (keys_of pairs.items) ∙ ap (λ L. walk_of number L m.capacity) struck ∙ own;
             capacity = stands.capacity;
             factor = stands.factor;
+            placed = stands.placed;
+            compared = stands.compared;
           };
-          compared = sym (add-zero m.compared);
-          placed = sym (add-zero m.placed);
         }),
       )

@@ -7,22 +7,18 @@ use Rattle.intmap.specs.Bindings.{put_pair}
 use Rattle.intmap.specs.Extending.{MapInserts, MapInsertsAll}
 use Rattle.intmap.specs.Map.{MapState, IsMap, after_search}
 use Rattle.intmap.specs.Reach.{reach}
-use Rattle.intmap.specs.PlainLists.{PlainList, Stands, ListInsertsAll, RefusalIsDue, list_of}
+use Rattle.intmap.specs.PlainLists.{PlainList, Stands, looked_up, ListInsertsAll, RefusalIsDue, list_of}
 use Rattle.intmap.specs.declared.refusal.RefusedPair.{RefusedPair}
 use Rattle.intmap_run.specs.declared.command.Command.TheVariants as command
 use Rattle.intmap_run.specs.declared.answer.Answer.TheVariants as answer
-use Rattle.intmap_run.specs.Runs.{insertion_comparisons, insertion_placements}
 use Rattle.intmap_run.specs.Steps.{StepsFrom}
-use Rattle.intmap_run.proofs.MapStandLemmas.{reach-stands}
-use Rattle.intmap_run.proofs.StepLemmas.{accepted, may}
+use Rattle.intmap_run.proofs.StepLemmas.{accepted, may, with_pair_in, Stands-searched}
 
 module _ {K V : Type 0} (number : K → ℕ) (is_valid : K → Type 0) where
   -- what successful insertions in turn leave of list and map
   pub record AllAccepted (m : MapState K V) (ps : List (K × V)) (n : MapState K V) (s t : PlainList K V) : Type 0 where
     pub inserts : ListInsertsAll number s ps t
     pub stands : Stands number t n
-    compared : n.compared ≡ m.compared + insertion_comparisons number s ps t inserts
-    placed : n.placed ≡ m.placed + insertion_placements number s ps t inserts
     map : IsMap number is_valid n
 
   -- they leave a list with the pairs put in
@@ -30,22 +26,18 @@ module _ {K V : Type 0} (number : K → ℕ) (is_valid : K → Type 0) where
       → (s : PlainList K V) → Stands number s m → (t : PlainList K V) × AllAccepted m ps n s t
   all_accepted m [] n is_map is s stands = (
     s,
-    rw is (record { inserts = refl; stands = stands; compared = sym (add-zero m.compared); placed = sym (add-zero m.placed); map = is_map }),
+    rw is (record { inserts = refl; stands = stands; map = is_map }),
   )
   all_accepted m (p ∷ ps) n is_map inserted s stands =
       let l : MapState K V = inserted.0 in
       let one : MapInserts number is_valid m p.0 p.1 l = inserted.1 in
-      let t : PlainList K V = record s { pairs = put_pair number s.pairs s.capacity p.0 p.1; capacity = l.capacity } in
+      let t : PlainList K V = with_pair_in number s p.0 p.1 l.capacity in
       let first = accepted number is_valid m is_map p.0 p.1 l one.capacity one.in_range one.state s stands in
-      let rest = all_accepted l ps n one.map inserted.2 t first.stands in
-      let compared : ℕ = insertion_comparisons number t ps rest.0 rest.1.inserts in
-      let placed : ℕ = insertion_placements number t ps rest.0 rest.1.inserts in (
+      let rest = all_accepted l ps n one.map inserted.2 t first.stands in (
         rest.0,
         record {
           inserts = (t, first.inserts, rest.1.inserts);
           stands = rest.1.stands;
-          compared = rest.1.compared ∙ ap (λ k. k + compared) first.compared ∙ add_assoc m.compared (reach number s.pairs s.capacity p.0) compared;
-          placed = rest.1.placed ∙ ap (λ k. k + placed) first.placed ∙ add_assoc m.placed (cond (t.capacity == s.capacity) 0 (length t.pairs)) placed;
           map = rest.1.map;
         },
       )
@@ -60,8 +52,6 @@ module _ {K V S A : Type 0} (number : K → ℕ) (is_valid : K → Type 0) (m : 
         record {
           answers = inl (refl, (refl, left.1.inserts));
           stands = left.1.stands;
-          compared = left.1.compared;
-          placed = left.1.placed;
         },
       )
 
@@ -76,17 +66,11 @@ module _ {K V S A : Type 0} (number : K → ℕ) (is_valid : K → Type 0) (m : 
       let t : PlainList K V = left.0 in
       let stands' = left.1.stands in
       let is_map' = left.1.map in
-      let compared : ℕ = insertion_comparisons number s xs t left.1.inserts in
       let refuses = may number is_valid before is_map' refused.key refused.cause due t stands' in (
-        t,
+        looked_up number t refused.key,
         rw searched (record {
-          answers = inr (refused, refl, (xs, rest, split, count, left.1.inserts, refuses));
-          stands = record { walk = stands'.walk; capacity = stands'.capacity; factor = stands'.factor };
-          compared =
-              ap (λ k. k + reach number before.walk before.capacity refused.key) left.1.compared
-              ∙ add_assoc m.compared compared (reach number before.walk before.capacity refused.key)
-              ∙ ap (λ k. m.compared + (compared + k)) (sym (reach-stands is_map' stands' refused.key));
-          placed = left.1.placed;
+          answers = inr (refused, refl, (xs, rest, t, split, count, left.1.inserts, refuses, refl));
+          stands = Stands-searched number is_valid before is_map' refused.key t stands';
         }),
       )
 

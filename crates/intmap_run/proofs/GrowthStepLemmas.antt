@@ -36,9 +36,9 @@ module _ {K V S A : Type 0} (number : K → ℕ) (is_valid : K → Type 0) (m : 
             walk = walk_of-stands is_map stands n.capacity larger ∙ sym (ap (λ x. x.walk) is);
             capacity = refl;
             factor = stands.factor ∙ sym (ap (λ x. x.factor) is);
+            placed = stands.placed ∙ sym (ap (λ x. x.placed) is);
+            compared = stands.compared ∙ sym (ap (λ x. x.compared) is);
           };
-          compared = ap (λ x. x.compared) is ∙ sym (add-zero m.compared);
-          placed = ap (λ x. x.placed) is ∙ sym (add-zero m.placed);
         },
       )
 
@@ -51,7 +51,7 @@ module _ {K V S A : Type 0} (number : K → ℕ) (is_valid : K → Type 0) (m : 
         too_large = rw (length-stands is_map stands) too_large;
         memory = rw (length-stands is_map stands, stands.capacity) memory;
       } in
-      Step-same number sees keeps m s (command.Reserve additional) (answer.Refused cause None) (inr (cause, refl, may, refl)) stands refl refl
+      Step-same number sees keeps m s (command.Reserve additional) (answer.Refused cause None) (inr (cause, refl, may, refl)) stands
 
   -- a reservation
   pub StepsFrom-reserve : (additional : ℕ) (result : Result (Unit {0}) Cause) (a : Answer K V S A) (n : MapState K V)
@@ -89,9 +89,9 @@ module _ {K V S A : Type 0} (number : K → ℕ) (is_valid : K → Type 0) (m : 
             walk = walk_of-stands is_map stands n.capacity larger ∙ sym (ap (λ x. x.walk) is);
             capacity = refl;
             factor = sym (ap (λ x. x.factor) is);
+            placed = stands.placed ∙ sym (ap (λ x. x.placed) is);
+            compared = stands.compared ∙ sym (ap (λ x. x.compared) is);
           };
-          compared = ap (λ x. x.compared) is ∙ sym (add-zero m.compared);
-          placed = ap (λ x. x.placed) is ∙ sym (add-zero m.placed);
         },
       )
 
@@ -105,7 +105,7 @@ module _ {K V S A : Type 0} (number : K → ℕ) (is_valid : K → Type 0) (m : 
         too_large = rw (length-stands is_map stands, stands.capacity) too_large;
         memory = rw (length-stands is_map stands, stands.capacity) memory;
       } in
-      Step-same number sees keeps m s (command.SetLoadFactor factor) (answer.Refused cause None) (inr (cause, refl, may, refl)) stands refl refl
+      Step-same number sees keeps m s (command.SetLoadFactor factor) (answer.Refused cause None) (inr (cause, refl, may, refl)) stands
 
   -- a load factor
   pub StepsFrom-set_load_factor : (factor : ℕ) (result : Result (Unit {0}) Cause) (a : Answer K V S A) (n : MapState K V)

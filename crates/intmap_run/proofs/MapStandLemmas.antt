@@ -44,6 +44,10 @@ module _ {K V : Type 0} {number : K → ℕ} {is_valid : K → Type 0} {m : MapS
   pub reach-stands : (k : K) → reach number s.pairs s.capacity k ≡ reach number m.walk m.capacity k
   reach-stands k = reach-one StandForOne-stands k ∙ ap (λ C. reach number m.walk C k) stands.capacity
 
+  -- a look-up counts the same in both
+  pub compared-stands : (k : K) → s.compared + reach number s.pairs s.capacity k ≡ m.compared + reach number m.walk m.capacity k
+  compared-stands k = ap (λ n. n + reach number s.pairs s.capacity k) stands.compared ∙ ap (λ n. m.compared + n) (reach-stands k)
+
   -- the same keys are out of range
   pub IsOutOfRange-stands : (k : K) → IsOutOfRange number s.pairs s.capacity s.factor k ↔ IsOutOfRange number m.walk m.capacity m.factor k
   IsOutOfRange-stands k = (

@@ -1,18 +1,20 @@
 -- What a run places in larger tables is little for the lengths that it goes through, and so is the capacity that growth leaves.
-use Rattle.std.proofs.Common.{◌≡◌, ◌≢◌, inl, inr, ℕ, ◌+◌, ◌-◌, ◌*◌, ◌/◌, ◌^◌, ◌<◌, ◌≤◌, max, Bool, cond, List, [], ◌∷◌, length, is_some, refl, sym, ap, ◌∙◌, add-zero, add_assoc, arith}
+use Rattle.std.proofs.Common.{◌≡◌, ◌≢◌, inl, inr, ℕ, ◌+◌, ◌-◌, ◌*◌, ◌/◌, ◌^◌, ◌<◌, ◌≤◌, max, Bool, cond, List, [], ◌∷◌, length, is_some, refl, sym, ap, subst, ◌∙◌, add-zero, add_assoc, arith}
 use Rattle.std.specs.Prelude.{◌==◌, ◌⊎◌}
 use Rattle.std.proofs.Math.Nat.{mul-le-mul_left, mul-le-mul_right, div-mul-le_self, lt-div-mul-add, le-max_right}
 use Rattle.std.proofs.Math.Pow.{pow_pos}
 use Rattle.std.proofs.lemmas.Nat.{pow-add}
 use Rattle.std.proofs.lemmas.Bool.{cases_eq, cases_lt, cases_Bool, eq-eqb, ne_eqb}
-use Rattle.intmap.specs.Bindings.{value_of}
+use Rattle.std.specs.Map.{keys_of}
+use Rattle.intmap.specs.Bindings.{value_of, take_key, write_value, keep_pairs, strike_keys}
 use Rattle.intmap.specs.Growth.{IsWanted, IsNext, is_due}
-use Rattle.intmap.specs.PlainLists.{PlainList, ListInserts, ListInsertsAll}
+use Rattle.intmap.specs.PlainLists.{PlainList, looked_up, ListInserts, ListInsertsAll}
 use Rattle.intmap.proofs.DistinctLemmas.{length-put_pair}
 use Rattle.intmap_run.specs.declared.command.Command.{Command}
 use Rattle.intmap_run.specs.declared.command.Command.TheVariants as command
 use Rattle.intmap_run.specs.declared.answer.Answer.{Answer}
-use Rattle.intmap_run.specs.Runs.{Answers, Runs, placements_of, insertion_placements, factors_set_by, factors_set, SetsCapacity, run_placements, greatest_length, WasSet}
+use Rattle.intmap_run.specs.Runs.{Answers, Runs}
+use Rattle.intmap_run.specs.Bounds.{factors_set_by, factors_set, SetsCapacity, greatest_length, WasSet}
 use Rattle.intmap_run.proofs.CapacityLemmas.{IsCapacityAfter-changed}
 
 -- a growth from C to D slots at n pairs, by products with f, which is the load factor and one: half of D was too small, and D isn't
@@ -81,7 +83,9 @@ module _ {K V : Type 0} where
 
   -- insertions led from s to t and placed pairs: if there were few placements before them, there are few after them,
   -- and no more than three times the pairs if they placed any; the capacity stayed, or it is small for the pairs
-  record Grows (s t : PlainList K V) (placements : ℕ) : Type 0 where
+  record Grows (s t : PlainList K V) : Type 0 where
+    placements : ℕ
+    placed : t.placed ≡ s.placed + placements
     factor : t.factor ≡ s.factor
     longer : length s.pairs ≤ length t.pairs
     few : (P : ℕ) → AreFew s P → AreFew t (P + placements)
@@ -98,25 +102,30 @@ module _ {K V : Type 0} where
 
 module _ {K V S A : Type 0} where
   -- a step at which a load factor was set
-  record Resets (c : Command K V A) (a : Answer K V S A) (placements : ℕ) : Type 0 where
-    placed : placements ≡ 0
+  record Resets (s : PlainList K V) (c : Command K V A) (a : Answer K V S A) (t : PlainList K V) : Type 0 where
+    placed : t.placed ≡ s.placed
     counted : factors_set_by c a ≡ 1
     set : SetsCapacity c a
 
   -- any other step
-  record Keeps (s : PlainList K V) (c : Command K V A) (a : Answer K V S A) (t : PlainList K V) (placements : ℕ) : Type 0 where
-    placed : placements ≡ 0
+  record Keeps (s : PlainList K V) (c : Command K V A) (a : Answer K V S A) (t : PlainList K V) : Type 0 where
+    placed : t.placed ≡ s.placed
     factor : t.factor ≡ s.factor
     more : s.capacity ≤ t.capacity
     capacity : (t.capacity ≡ s.capacity) ⊎ SetsCapacity c a
 
   -- a step that changed neither capacity nor load factor
-  Keeps-same : (s : PlainList K V) (c : Command K V A) (a : Answer K V S A) (t : PlainList K V) (placements : ℕ) → placements ≡ 0 → t.capacity ≡ s.capacity → t.factor ≡ s.factor → Keeps s c a t placements
-  Keeps-same s c a t placements placed capacity factor = record { placed = placed; factor = factor; more = omega (arith, capacity); capacity = inl capacity }
+  Keeps-same : (s : PlainList K V) (c : Command K V A) (a : Answer K V S A) (t : PlainList K V) → t.placed ≡ s.placed → t.capacity ≡ s.capacity → t.factor ≡ s.factor → Keeps s c a t
+  Keeps-same s c a t placed capacity factor = record { placed = placed; factor = factor; more = omega (arith, capacity); capacity = inl capacity }
+
+  -- of which the list after is known
+  Keeps-list : (s : PlainList K V) (c : Command K V A) (a : Answer K V S A) (t u : PlainList K V) → t ≡ u → u.placed ≡ s.placed → u.capacity ≡ s.capacity → u.factor ≡ s.factor → Keeps s c a t
+  Keeps-list s c a t u same placed capacity factor =
+      Keeps-same s c a t (ap (λ x. x.placed) same ∙ placed) (ap (λ x. x.capacity) same ∙ capacity) (ap (λ x. x.factor) same ∙ factor)
 
 module _ {K V : Type 0} (number : K → ℕ) where
   -- a successful insertion
-  Grows-inserts : (s : PlainList K V) (k : K) (v : V) (t : PlainList K V) → ListInserts number s k v t → Grows s t (cond (t.capacity == s.capacity) 0 (length t.pairs))
+  Grows-inserts : (s : PlainList K V) (k : K) (v : V) (t : PlainList K V) → ListInserts number s k v t → Grows s t
   Grows-inserts s k v t inserts =
       let factor : t.factor ≡ s.factor = ap (λ x. x.factor) inserts.after in
       let len : length t.pairs ≡ length s.pairs + cond (is_some (value_of number s.pairs k)) 0 1 =
@@ -126,6 +135,8 @@ module _ {K V : Type 0} (number : K → ℕ) where
         | inl same ↦
             (let none = placements-kept s t same in
             record {
+              placements = cond (t.capacity == s.capacity) 0 (length t.pairs);
+              placed = inserts.placed;
               factor = factor;
               longer = longer;
               few = λ P few. rw (none, factor, same, add-zero P) few;
@@ -141,6 +152,8 @@ module _ {K V : Type 0} (number : K → ℕ) where
             let whole : (s.factor + 1) * t.capacity ≡ (s.factor + 1) * growth.half * 2 = ap (λ d. (s.factor + 1) * d) growth.doubled ∙ (let q : (s.factor + 1) * (growth.half * 2) ≡ (s.factor + 1) * growth.half * 2 = omega arith in q) in
             let before = growth.before in
             record {
+              placements = cond (t.capacity == s.capacity) 0 (length t.pairs);
+              placed = inserts.placed;
               factor = factor;
               longer = longer;
               few = λ P few. rw (all, factor) (growth_few s.capacity (length t.pairs) (s.factor + 1) t.capacity P growth few).0;
@@ -150,15 +163,19 @@ module _ {K V : Type 0} (number : K → ℕ) where
       ]
 
   -- no insertion
-  Grows-none : (s : PlainList K V) → Grows s s 0
-  Grows-none s = record { factor = refl; longer = omega arith; few = λ P few. rw (add-zero P) few; most = inl refl; capacity = inl refl }
+  Grows-none : (s : PlainList K V) → Grows s s
+  Grows-none s = record { placements = 0; placed = sym (add-zero s.placed); factor = refl; longer = omega arith; few = λ P few. rw (add-zero P) few; most = inl refl; capacity = inl refl }
 
   -- insertions after others
-  Grows-then : (s m t : PlainList K V) (p q : ℕ) → Grows s m p → Grows m t q → Grows s t (p + q)
-  Grows-then s m t p q one other =
+  Grows-then : (s m t : PlainList K V) → Grows s m → Grows m t → Grows s t
+  Grows-then s m t one other =
+      let p : ℕ = one.placements in
+      let q : ℕ = other.placements in
       let longer = one.longer in
       let more = other.longer in
       record {
+        placements = p + q;
+        placed = other.placed ∙ ap (λ n. n + q) one.placed ∙ add_assoc s.placed p q;
         factor = other.factor ∙ one.factor;
         longer = omega (arith, longer, more);
         few = λ P few. rw (← add_assoc P p q) (other.few (P + p) (one.few P few));
@@ -178,69 +195,72 @@ module _ {K V : Type 0} (number : K → ℕ) where
         ];
       }
 
+  -- insertions after a look-up
+  Grows-searched : (s : PlainList K V) (k : K) (t : PlainList K V) → Grows (looked_up number s k) t → Grows s t
+  Grows-searched s k t grows = record {
+    placements = grows.placements; placed = grows.placed; factor = grows.factor; longer = grows.longer; few = grows.few; most = grows.most; capacity = grows.capacity;
+  }
+
+  -- a look-up after insertions
+  Grows-then_search : (s m : PlainList K V) (k : K) → Grows s m → Grows s (looked_up number m k)
+  Grows-then_search s m k grows = record {
+    placements = grows.placements; placed = grows.placed; factor = grows.factor; longer = grows.longer; few = grows.few; most = grows.most; capacity = grows.capacity;
+  }
+
   -- successful insertions in turn
-  Grows-all : (s : PlainList K V) (ps : List (K × V)) (t : PlainList K V) (all : ListInsertsAll number s ps t) → Grows s t (insertion_placements number s ps t all)
+  Grows-all : (s : PlainList K V) (ps : List (K × V)) (t : PlainList K V) (all : ListInsertsAll number s ps t) → Grows s t
   Grows-all s [] t all = rw all (Grows-none s)
   Grows-all s (p ∷ ps) t all =
-      Grows-then s all.0 t (cond (all.0.capacity == s.capacity) 0 (length all.0.pairs)) (insertion_placements number all.0 ps t all.2)
-      (Grows-inserts s p.0 p.1 all.0 all.1) (Grows-all all.0 ps t all.2)
+      Grows-then s all.0 t (Grows-searched s p.0 all.0 (Grows-inserts (looked_up number s p.0) p.0 p.1 all.0 all.1)) (Grows-all all.0 ps t all.2)
 
 module _ {K V S A : Type 0} (number : K → ℕ) (sees : V → S → Type 0) (keeps : K → V → Bool) where
   -- each step is of one of the three kinds
-  kind : (s : PlainList K V) (c : Command K V A) (a : Answer K V S A) (t : PlainList K V) → (h : Answers number sees keeps s c a t)
-      → Grows s t (placements_of number sees keeps s c a t h) ⊎ (Resets c a (placements_of number sees keeps s c a t h) ⊎ Keeps s c a t (placements_of number sees keeps s c a t h))
-  kind s (command.Insert k v) a t (inl accepted) = inl (Grows-inserts number s k v t accepted.1)
-  kind s (command.Insert k v) a t (inr refused) =
-      let capacity : t.capacity ≡ s.capacity = ap (λ x. x.capacity) refused.3 in
-      inr (inr (Keeps-same s (command.Insert k v) a t _ (placements-kept s t capacity) capacity (ap (λ x. x.factor) refused.3)))
-  kind s (command.InsertChecked k v) a t (inl bound) =
-      let capacity : t.capacity ≡ s.capacity = ap (λ x. x.capacity) bound.2 in
-      inr (inr (Keeps-same s (command.InsertChecked k v) a t _ (placements-kept s t capacity) capacity (ap (λ x. x.factor) bound.2)))
-  kind s (command.InsertChecked k v) a t (inr (inl accepted)) = inl (Grows-inserts number s k v t accepted.2)
-  kind s (command.InsertChecked k v) a t (inr (inr refused)) =
-      let capacity : t.capacity ≡ s.capacity = ap (λ x. x.capacity) refused.3 in
-      inr (inr (Keeps-same s (command.InsertChecked k v) a t _ (placements-kept s t capacity) capacity (ap (λ x. x.factor) refused.3)))
-  kind s (command.Get k) a t h = inr (inr (Keeps-same s (command.Get k) a t _ refl (ap (λ x. x.capacity) h.1) (ap (λ x. x.factor) h.1)))
-  kind s (command.GetMut k v) a t (inl bound) = inr (inr (Keeps-same s (command.GetMut k v) a t _ refl (ap (λ x. x.capacity) bound.2) (ap (λ x. x.factor) bound.2)))
-  kind s (command.GetMut k v) a t (inr back) = inr (inr (Keeps-same s (command.GetMut k v) a t _ refl (ap (λ x. x.capacity) back.2) (ap (λ x. x.factor) back.2)))
-  kind s (command.ContainsKey k) a t h = inr (inr (Keeps-same s (command.ContainsKey k) a t _ refl (ap (λ x. x.capacity) h.1) (ap (λ x. x.factor) h.1)))
-  kind s (command.Remove k) a t h = inr (inr (Keeps-same s (command.Remove k) a t _ refl (ap (λ x. x.capacity) h.1) (ap (λ x. x.factor) h.1)))
-  kind s command.Clear a t h = inr (inr (Keeps-same s command.Clear a t _ refl (ap (λ x. x.capacity) h.1) (ap (λ x. x.factor) h.1)))
-  kind s command.Retain a t h = inr (inr (Keeps-same s command.Retain a t _ refl (ap (λ x. x.capacity) h.1) (ap (λ x. x.factor) h.1)))
-  kind s (command.Reserve n) a t (inl accepted) = inr (inr (record {
-    placed = refl;
-    factor = ap (λ x. x.factor) accepted.1.after;
-    more = let m = accepted.1.capacity.2 in omega (arith, m);
-    capacity = inr (rw accepted.0 tt);
+  kind : (s : PlainList K V) (c : Command K V A) (a : Answer K V S A) (t : PlainList K V) → Answers number sees keeps s c a t → Grows s t ⊎ (Resets s c a t ⊎ Keeps s c a t)
+  kind s (command.Insert k v) a t (inl h) = inl (Grows-searched number s k t (Grows-inserts number (looked_up number s k) k v t h.1))
+  kind s (command.Insert k v) a t (inr h) = inr (inr (Keeps-list s (command.Insert k v) a t (looked_up number s k) h.3 refl refl refl))
+  kind s (command.InsertChecked k v) a t (inl h) = inr (inr (Keeps-list s (command.InsertChecked k v) a t (looked_up number s k) h.2 refl refl refl))
+  kind s (command.InsertChecked k v) a t (inr (inl h)) = inl (Grows-searched number s k t (Grows-inserts number (looked_up number s k) k v t h.2))
+  kind s (command.InsertChecked k v) a t (inr (inr h)) = inr (inr (Keeps-list s (command.InsertChecked k v) a t (looked_up number s k) h.3 refl refl refl))
+  kind s (command.Get k) a t h = inr (inr (Keeps-list s (command.Get k) a t (s) h.1 refl refl refl))
+  kind s (command.GetMut k v) a t (inl h) = inr (inr (Keeps-list s (command.GetMut k v) a t (record (looked_up number s k) { pairs = write_value number s.pairs k v }) h.2 refl refl refl))
+  kind s (command.GetMut k v) a t (inr h) = inr (inr (Keeps-list s (command.GetMut k v) a t (looked_up number s k) h.2 refl refl refl))
+  kind s (command.ContainsKey k) a t h = inr (inr (Keeps-list s (command.ContainsKey k) a t (s) h.1 refl refl refl))
+  kind s (command.Remove k) a t h = inr (inr (Keeps-list s (command.Remove k) a t (record (looked_up number s k) { pairs = take_key number s.pairs s.capacity k }) h.1 refl refl refl))
+  kind s command.Clear a t h = inr (inr (Keeps-list s command.Clear a t (record s { pairs = [] }) h.1 refl refl refl))
+  kind s command.Retain a t h = inr (inr (Keeps-list s command.Retain a t (record s { pairs = keep_pairs keeps s.pairs }) h.1 refl refl refl))
+  kind s (command.Reserve n) a t (inl h) = inr (inr (record {
+    placed = ap (λ x. x.placed) h.1.after;
+    factor = ap (λ x. x.factor) h.1.after;
+    more = let m = h.1.capacity.2 in omega (arith, m);
+    capacity = inr (rw h.0 tt);
   }))
-  kind s (command.Reserve n) a t (inr refused) =
-      inr (inr (Keeps-same s (command.Reserve n) a t _ refl (ap (λ x. x.capacity) refused.3) (ap (λ x. x.factor) refused.3)))
-  kind s (command.SetLoadFactor f) a t (inl accepted) = inr (inl (record { placed = refl; counted = rw accepted.0 refl; set = rw accepted.0 tt }))
-  kind s (command.SetLoadFactor f) a t (inr refused) =
-      inr (inr (Keeps-same s (command.SetLoadFactor f) a t _ refl (ap (λ x. x.capacity) refused.3) (ap (λ x. x.factor) refused.3)))
-  kind s command.GetLoadFactor a t h = inr (inr (Keeps-same s command.GetLoadFactor a t _ refl (ap (λ x. x.capacity) h.1) (ap (λ x. x.factor) h.1)))
-  kind s (command.EntryInsert k v) a t (inl bound) =
-      let capacity : t.capacity ≡ s.capacity = ap (λ x. x.capacity) bound.2 in
-      inr (inr (Keeps-same s (command.EntryInsert k v) a t _ (placements-kept s t capacity) capacity (ap (λ x. x.factor) bound.2)))
-  kind s (command.EntryInsert k v) a t (inr (inl fresh)) = inl (Grows-inserts number s k v t fresh.2)
-  kind s (command.EntryInsert k v) a t (inr (inr refused)) =
-      let capacity : t.capacity ≡ s.capacity = ap (λ x. x.capacity) refused.3 in
-      inr (inr (Keeps-same s (command.EntryInsert k v) a t _ (placements-kept s t capacity) capacity (ap (λ x. x.factor) refused.3)))
-  kind s (command.EntryRemove k) a t h = inr (inr (Keeps-same s (command.EntryRemove k) a t _ refl (ap (λ x. x.capacity) h.1) (ap (λ x. x.factor) h.1)))
-  kind s (command.Extend pairs) a t (inl all) = inl (Grows-all number s pairs.items t all.1.1)
-  kind s (command.Extend pairs) a t (inr stopped) = inl (Grows-all number s stopped.2.0 t stopped.2.4)
-  kind s (command.Drain m) a t (inl drained) = inr (inr (Keeps-same s (command.Drain m) a t _ refl (ap (λ x. x.capacity) drained.3) (ap (λ x. x.factor) drained.3)))
-  kind s (command.Drain m) a t (inr refused) = inr (inr (Keeps-same s (command.Drain m) a t _ refl (ap (λ x. x.capacity) refused.1) (ap (λ x. x.factor) refused.1)))
-  kind s command.Len a t h = inr (inr (Keeps-same s command.Len a t _ refl (ap (λ x. x.capacity) h.1) (ap (λ x. x.factor) h.1)))
-  kind s command.IsEmpty a t h = inr (inr (Keeps-same s command.IsEmpty a t _ refl (ap (λ x. x.capacity) h.1) (ap (λ x. x.factor) h.1)))
-  kind s command.Capacity a t h = inr (inr (Keeps-same s command.Capacity a t _ refl (ap (λ x. x.capacity) h.1) (ap (λ x. x.factor) h.1)))
-  kind s command.Load a t h = inr (inr (Keeps-same s command.Load a t _ refl (ap (λ x. x.capacity) h.1) (ap (λ x. x.factor) h.1)))
-  kind s command.LoadRate a t h = inr (inr (Keeps-same s command.LoadRate a t _ refl (ap (λ x. x.capacity) h.1) (ap (λ x. x.factor) h.1)))
-  kind s command.AssertCount a t h = inr (inr (Keeps-same s command.AssertCount a t _ refl (ap (λ x. x.capacity) h.1) (ap (λ x. x.factor) h.1)))
-  kind s command.Walk a t h = inr (inr (Keeps-same s command.Walk a t _ refl (ap (λ x. x.capacity) h.1) (ap (λ x. x.factor) h.1)))
-  kind s command.Keys a t h = inr (inr (Keeps-same s command.Keys a t _ refl (ap (λ x. x.capacity) h.1) (ap (λ x. x.factor) h.1)))
-  kind s command.Values a t h = inr (inr (Keeps-same s command.Values a t _ refl (ap (λ x. x.capacity) h.1) (ap (λ x. x.factor) h.1)))
-  kind s command.Collisions a t h = inr (inr (Keeps-same s command.Collisions a t _ refl (ap (λ x. x.capacity) h.1) (ap (λ x. x.factor) h.1)))
+  kind s (command.Reserve n) a t (inr h) = inr (inr (Keeps-list s (command.Reserve n) a t (s) h.3 refl refl refl))
+  kind s (command.SetLoadFactor f) a t (inl h) = inr (inl (record { placed = ap (λ x. x.placed) h.1.after; counted = rw h.0 refl; set = rw h.0 tt }))
+  kind s (command.SetLoadFactor f) a t (inr h) = inr (inr (Keeps-list s (command.SetLoadFactor f) a t (s) h.3 refl refl refl))
+  kind s command.GetLoadFactor a t h = inr (inr (Keeps-list s command.GetLoadFactor a t (s) h.1 refl refl refl))
+  kind s (command.EntryInsert k v) a t (inl h) = inr (inr (Keeps-list s (command.EntryInsert k v) a t (record (looked_up number s k) { pairs = write_value number s.pairs k v }) h.2 refl refl refl))
+  kind s (command.EntryInsert k v) a t (inr (inl h)) = inl (Grows-searched number s k t (Grows-inserts number (looked_up number s k) k v t h.2))
+  kind s (command.EntryInsert k v) a t (inr (inr h)) = inr (inr (Keeps-list s (command.EntryInsert k v) a t (looked_up number s k) h.3 refl refl refl))
+  kind s (command.EntryRemove k) a t h = inr (inr (Keeps-list s (command.EntryRemove k) a t (record (looked_up number s k) { pairs = take_key number s.pairs s.capacity k }) h.1 refl refl refl))
+  kind s (command.Extend pairs) a t (inl h) = inl (Grows-all number s pairs.items t h.1.1)
+  kind s (command.Extend pairs) a t (inr h) =
+      inl (subst (Grows s) (sym h.2.7) (Grows-then_search number s h.2.2 (h.0).key (Grows-all number s h.2.0 h.2.2 h.2.5)))
+  kind s (command.Drain m) a t (inl h) = inr (inr (Keeps-list s (command.Drain m) a t (record s { pairs = strike_keys number s.pairs (keys_of (h.0).items) }) h.3 refl refl refl))
+  kind s (command.Drain m) a t (inr h) = inr (inr (Keeps-list s (command.Drain m) a t (s) h.1 refl refl refl))
+  kind s command.Len a t h = inr (inr (Keeps-list s command.Len a t (s) h.1 refl refl refl))
+  kind s command.IsEmpty a t h = inr (inr (Keeps-list s command.IsEmpty a t (s) h.1 refl refl refl))
+  kind s command.Capacity a t h = inr (inr (Keeps-list s command.Capacity a t (s) h.1 refl refl refl))
+  kind s command.Load a t h = inr (inr (Keeps-list s command.Load a t (s) h.1 refl refl refl))
+  kind s command.LoadRate a t h = inr (inr (Keeps-list s command.LoadRate a t (s) h.1 refl refl refl))
+  kind s command.AssertCount a t h = inr (inr (Keeps-list s command.AssertCount a t (s) h.1 refl refl refl))
+  kind s command.Walk a t (inl h) = inr (inr (Keeps-list s command.Walk a t (s) h.3 refl refl refl))
+  kind s command.Walk a t (inr h) = inr (inr (Keeps-list s command.Walk a t (s) h.1 refl refl refl))
+  kind s command.Keys a t (inl h) = inr (inr (Keeps-list s command.Keys a t (s) h.3 refl refl refl))
+  kind s command.Keys a t (inr h) = inr (inr (Keeps-list s command.Keys a t (s) h.1 refl refl refl))
+  kind s command.Values a t (inl h) = inr (inr (Keeps-list s command.Values a t (s) h.3 refl refl refl))
+  kind s command.Values a t (inr h) = inr (inr (Keeps-list s command.Values a t (s) h.1 refl refl refl))
+  kind s command.Collisions a t (inl h) = inr (inr (Keeps-list s command.Collisions a t (s) h.5 refl refl refl))
+  kind s command.Collisions a t (inr h) = inr (inr (Keeps-list s command.Collisions a t (s) h.1 refl refl refl))
 
   -- a run is at least as long as its start
   greatest_length-start : (s : PlainList K V) (cs : List (Command K V A)) (as' : List (Answer K V S A)) (t : PlainList K V) (run : Runs number sees keeps s cs as' t)
@@ -252,19 +272,19 @@ module _ {K V S A : Type 0} (number : K → ℕ) (sees : V → S → Type 0) (ke
   -- if P pairs were placed since the load factor was set, few for the capacity, the run keeps them few, H for each load factor
   few-from : (H P : ℕ) (s : PlainList K V) (cs : List (Command K V A)) (as' : List (Answer K V S A)) (t : PlainList K V) (run : Runs number sees keeps s cs as' t)
       → 1000 * P ≤ 2 * ((s.factor + 1) * s.capacity) → P ≤ H → 3 * greatest_length number sees keeps s cs as' t run ≤ H
-      → P + run_placements number sees keeps s cs as' t run ≤ (factors_set cs as' + 1) * H
-  few-from H P s [] [] t run few low high = omega (arith, low)
+      → t.placed + P ≤ s.placed + (factors_set cs as' + 1) * H
+  few-from H P s [] [] t run few low high = let same : t.placed ≡ s.placed = ap (λ x. x.placed) run in omega (arith, low, same)
   few-from H P s [] (a ∷ as') t run few low high = absurd run
   few-from H P s (c ∷ cs) [] t run few low high = absurd run
   few-from H P s (c ∷ cs) (a ∷ as') t run few low high =
       let m : PlainList K V = run.0 in
-      let placed : ℕ = run_placements number sees keeps m cs as' t run.2 in
       let greatest : ℕ = greatest_length number sees keeps m cs as' t run.2 in
       let start : length m.pairs ≤ greatest = greatest_length-start m cs as' t run.2 in
       let rest : 3 * greatest ≤ H = (let most : greatest ≤ max (length s.pairs) greatest = le-max_right (length s.pairs) greatest in omega (arith, high, most)) in
-      elim (kind s c a m run.1) as (λ _. P + (placements_of number sees keeps s c a m run.1 + placed) ≤ (factors_set_by c a + factors_set cs as' + 1) * H) [
+      elim (kind s c a m run.1) as (λ _. t.placed + P ≤ s.placed + (factors_set_by c a + factors_set cs as' + 1) * H) [
         | inl grows ↦
-            (let p : ℕ = placements_of number sees keeps s c a m run.1 in
+            (let p : ℕ = grows.placements in
+            let rise : m.placed ≡ s.placed + p = grows.placed in
             let low' : P + p ≤ H = elim grows.most [
               | inl none ↦ omega (arith, none, low)
               | inr three ↦ (let h = three P few in omega (arith, h, start, rest))
@@ -272,12 +292,12 @@ module _ {K V S A : Type 0} (number : K → ℕ) (sees : V → S → Type 0) (ke
             let h = few-from H (P + p) m cs as' t run.2 (grows.few P few) low' rest in
             let wide : (factors_set cs as' + 1) * H ≤ (factors_set_by c a + factors_set cs as' + 1) * H =
             mul-le-mul_right H (let le : factors_set cs as' + 1 ≤ factors_set_by c a + factors_set cs as' + 1 = omega arith in le) in
-            omega (arith, h, wide))
+            omega (arith, h, wide, rise))
         | inr other ↦ elim other [
           | inl resets ↦
               (let h = few-from H 0 m cs as' t run.2 (omega arith) (omega arith) rest in
               let more : (factors_set_by c a + factors_set cs as' + 1) * H ≡ H + (factors_set cs as' + 1) * H = rw resets.counted (omega arith) in
-              omega (arith, h, more, low, resets.placed))
+              let rise = resets.placed in omega (arith, h, more, low, rise))
           | inr kept ↦
               (let f : m.factor ≡ s.factor = kept.factor in
               let wide : (s.factor + 1) * s.capacity ≤ (s.factor + 1) * m.capacity = mul-le-mul_left (s.factor + 1) kept.more in
@@ -285,13 +305,13 @@ module _ {K V S A : Type 0} (number : K → ℕ) (sees : V → S → Type 0) (ke
               let h = few-from H P m cs as' t run.2 few' low rest in
               let wide' : (factors_set cs as' + 1) * H ≤ (factors_set_by c a + factors_set cs as' + 1) * H =
               mul-le-mul_right H (let le : factors_set cs as' + 1 ≤ factors_set_by c a + factors_set cs as' + 1 = omega arith in le) in
-              omega (arith, h, wide', kept.placed))
+              let rise = kept.placed in omega (arith, h, wide', rise))
         ]
       ]
 
   -- a run places at most three times its greatest length for each load factor that it had
   pub run_placements-few : (s : PlainList K V) (cs : List (Command K V A)) (as' : List (Answer K V S A)) (t : PlainList K V) (run : Runs number sees keeps s cs as' t)
-      → run_placements number sees keeps s cs as' t run ≤ 3 * (factors_set cs as' + 1) * greatest_length number sees keeps s cs as' t run
+      → t.placed ≤ s.placed + 3 * (factors_set cs as' + 1) * greatest_length number sees keeps s cs as' t run
   run_placements-few s cs as' t run =
       let greatest : ℕ = greatest_length number sees keeps s cs as' t run in
       let h = few-from (3 * greatest) 0 s cs as' t run (omega arith) (omega arith) (omega arith) in

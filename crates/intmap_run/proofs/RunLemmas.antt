@@ -3,9 +3,8 @@ use Rattle.std.proofs.Common.{◌≡◌, ℕ, ◌+◌, Bool, List, [], ◌∷◌
 use Rattle.intmap.specs.Map.{MapState}
 use Rattle.intmap_run.specs.declared.command.Command.{Command}
 use Rattle.intmap_run.specs.declared.answer.Answer.{Answer}
-use Rattle.intmap_run.specs.Runs.{Runs, comparisons_of, placements_of, run_comparisons, run_placements, RunsFrom}
+use Rattle.intmap_run.specs.Runs.{RunsFrom}
 use Rattle.intmap_run.specs.Steps.{StepsFrom}
-use Rattle.intmap_run.proofs.PlacementLemmas.{run_placements-few, last_capacity-from}
 
 module _ {K V S A : Type 0} (number : K → ℕ) (sees : V → S → Type 0) (keeps : K → V → Bool) where
   -- a step and a run from where it leads are a run
@@ -13,34 +12,7 @@ module _ {K V S A : Type 0} (number : K → ℕ) (sees : V → S → Type 0) (ke
       → StepsFrom number sees keeps m c a n → RunsFrom number sees keeps n cs as' o → RunsFrom number sees keeps m (c ∷ cs) (a ∷ as') o
   RunsFrom-cons m n o c cs a as' step run s stands =
       let first = step s stands in
-      let rest = run first.0 first.1.stands in
-      let whole : Runs number sees keeps s (c ∷ cs) (a ∷ as') rest.0 = (first.0, first.1.answers, rest.1) in
-      let compared : ℕ = run_comparisons number sees keeps first.0 cs as' rest.0 rest.1 in
-      let placed : ℕ = run_placements number sees keeps first.0 cs as' rest.0 rest.1 in (
-        rest.0,
-        whole,
-        record {
-          stands = rest.2.stands;
-          compared = rest.2.compared ∙ ap (λ k. k + compared) first.1.compared ∙ add_assoc m.compared (comparisons_of number sees keeps s c a first.0 first.1.answers) compared;
-          placed = rest.2.placed ∙ ap (λ k. k + placed) first.1.placed ∙ add_assoc m.placed (placements_of number sees keeps s c a first.0 first.1.answers) placed;
-          few_placements = run_placements-few number sees keeps s (c ∷ cs) (a ∷ as') rest.0 whole;
-          last_capacity = last_capacity-from number sees keeps s (c ∷ cs) (a ∷ as') rest.0 whole;
-        },
-      )
-
-  -- no commands are a run
-  RunsFrom-nil : (m : MapState K V) → RunsFrom {A = A} number sees keeps m [] [] m
-  RunsFrom-nil m s stands = (
-    s,
-    refl,
-    record {
-      stands = stands;
-      compared = sym (add-zero m.compared);
-      placed = sym (add-zero m.placed);
-      few_placements = run_placements-few {A = A} number sees keeps s [] [] s refl;
-      last_capacity = last_capacity-from {A = A} number sees keeps s [] [] s refl;
-    },
-  )
+      let rest = run first.0 first.1.stands in (rest.0, (first.0, first.1.answers, rest.1), rest.2)
 
   -- each run over the commands that are left, from the map as it is now, ends a run over all of them from its start
   abbrev pub Leads : MapState K V → List (Command K V A) → List (Answer K V S A) → MapState K V → List (Command K V A) → Type 0
@@ -61,5 +33,6 @@ module _ {K V S A : Type 0} (number : K → ℕ) (sees : V → S → Type 0) (ke
   -- after the last command
   pub Leads-end : (start now : MapState K V) (all left : List (Command K V A)) (done : List (Answer K V S A)) → left ≡ [] → Leads start all done now left → RunsFrom number sees keeps start all done now
   Leads-end start now all left done none leads =
-      let rest : RunsFrom {A = A} number sees keeps now left [] now = rw none (RunsFrom-nil now) in
+      let nothing : RunsFrom {A = A} number sees keeps now [] [] now = λ s stands. (s, refl, stands) in
+      let rest : RunsFrom {A = A} number sees keeps now left [] now = rw none nothing in
       rw append-nil at (leads [] now rest)

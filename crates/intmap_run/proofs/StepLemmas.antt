@@ -9,18 +9,17 @@ use Rattle.intmap.specs.Classes.{IsCapacity}
 use Rattle.intmap.specs.Reach.{reach}
 use Rattle.intmap.specs.Figures.{load_of, rate_of}
 use Rattle.intmap.specs.Map.{MapState, IsMap, IsOutOfRange, IsCapacityAfter, after_search, after_insert, after_remove, emptied}
-use Rattle.intmap.specs.PlainLists.{PlainList, Stands, ListInserts, RefusalIsDue, list_of}
+use Rattle.intmap.specs.PlainLists.{PlainList, Stands, looked_up, ListInserts, RefusalIsDue, list_of}
 use Rattle.intmap.specs.declared.refusal.Cause.{Cause}
 use Rattle.intmap_run.specs.declared.command.Command.{Command}
 use Rattle.intmap_run.specs.declared.command.Command.TheVariants as command
 use Rattle.intmap_run.specs.declared.answer.Answer.{Answer}
 use Rattle.intmap_run.specs.declared.answer.Answer.TheVariants as answer
-use Rattle.intmap_run.specs.Runs.{SeesOption, SeesPair, Answers, comparisons_of, placements_of}
+use Rattle.intmap_run.specs.Runs.{SeesOption, SeesPair, Answers}
 use Rattle.intmap_run.specs.Steps.{Step, StepsFrom}
 use Rattle.intmap.proofs.MapLemmas.{IsMapWalk-empty}
 use Rattle.intmap_run.proofs.CapacityLemmas.{IsLarger-after}
-use Rattle.intmap_run.proofs.PlacementLemmas.{placements-kept}
-use Rattle.intmap_run.proofs.MapStandLemmas.{value_of-stands, length-stands, load_of-stands, class_size-stands, reach-stands, IsOutOfRange-stands, placements-stands, walk_of-put_pair-stands, walk_of-take_key-stands}
+use Rattle.intmap_run.proofs.MapStandLemmas.{value_of-stands, length-stands, load_of-stands, class_size-stands, compared-stands, IsOutOfRange-stands, placements-stands, walk_of-put_pair-stands, walk_of-take_key-stands}
 
 none_of : {V : Type 0} (o : Option V) → true ≡ is_none o → IsNone o
 none_of None is = refl
@@ -32,45 +31,45 @@ some_of (Some v) is = refl
 
 -- a command that leaves map and list
 pub Step-same : {K V S A : Type 0} (number : K → ℕ) (sees : V → S → Type 0) (keeps : K → V → Bool) (m : MapState K V) (s : PlainList K V) (c : Command K V A) (a : Answer K V S A)
-    → (answers : Answers number sees keeps s c a s) → Stands number s m → comparisons_of number sees keeps s c a s answers ≡ 0 → placements_of number sees keeps s c a s answers ≡ 0
-    → (t : PlainList K V) × Step number sees keeps m s c a t m
-Step-same number sees keeps m s c a answers stands compares places = (
-  s,
-  record {
-    answers = answers;
-    stands = stands;
-    compared = sym (ap (λ n. m.compared + n) compares ∙ add-zero m.compared);
-    placed = sym (ap (λ n. m.placed + n) places ∙ add-zero m.placed);
-  },
-)
+    → Answers number sees keeps s c a s → Stands number s m → (t : PlainList K V) × Step number sees keeps s c a t m
+Step-same number sees keeps m s c a answers stands = (s, record { answers = answers; stands = stands })
+
+-- the list once k was looked up and inserted with v, in D slots
+abbrev pub with_pair_in : {K V : Type 0} → (K → ℕ) → PlainList K V → K → V → ℕ → PlainList K V
+with_pair_in number s k v D = record (looked_up number s k) {
+  pairs = put_pair number s.pairs s.capacity k v;
+  capacity = D;
+  placed = s.placed + cond (D == s.capacity) 0 (length (put_pair number s.pairs s.capacity k v));
+}
 
 module _ {K V : Type 0} (number : K → ℕ) (is_valid : K → Type 0) (m : MapState K V) (is_map : IsMap number is_valid m) where
   -- what a successful insertion leaves of list and map
   pub record Accepted (k : K) (v : V) (n : MapState K V) (s t : PlainList K V) : Type 0 where
-    pub inserts : ListInserts number s k v t
+    pub inserts : ListInserts number (looked_up number s k) k v t
     pub stands : Stands number t n
-    pub compared : n.compared ≡ m.compared + reach number s.pairs s.capacity k
-    pub placed : n.placed ≡ m.placed + cond (t.capacity == s.capacity) 0 (length t.pairs)
 
   -- it leaves the list with the pair put in
   pub accepted : (k : K) (v : V) (n : MapState K V) → IsCapacityAfter number m.walk m.capacity m.factor k n.capacity
       → (IsOutOfRange number m.walk m.capacity m.factor k → ⊥) → n ≡ after_insert number m k v n.capacity
-      → (s : PlainList K V) → Stands number s m → Accepted k v n s (record s { pairs = put_pair number s.pairs s.capacity k v; capacity = n.capacity })
+      → (s : PlainList K V) → Stands number s m → Accepted k v n s (with_pair_in number s k v n.capacity)
   accepted k v n capacity in_range is s stands =
       let larger = IsLarger-after (value_of number m.walk k) m.capacity (length m.walk + 1) m.factor n.capacity is_map.capacity capacity in_range in
       record {
         inserts = record {
           in_range = λ out. in_range ((IsOutOfRange-stands is_map stands k).0 out);
           capacity = rw (value_of-stands is_map stands k, length-stands is_map stands, stands.capacity, stands.factor) capacity;
+          placed = refl;
           after = refl;
         };
         stands = record {
           walk = walk_of-put_pair-stands is_map stands k v n.capacity larger ∙ sym (ap (λ x. x.walk) is);
           capacity = refl;
           factor = stands.factor ∙ sym (ap (λ x. x.factor) is);
+          placed =
+              ap (λ x. x + cond (n.capacity == s.capacity) 0 (length (put_pair number s.pairs s.capacity k v))) stands.placed
+              ∙ ap (λ x. m.placed + x) (sym (placements-stands is_map stands k v n.capacity capacity)) ∙ sym (ap (λ x. x.placed) is);
+          compared = compared-stands is_map stands k ∙ sym (ap (λ x. x.compared) is);
         };
-        compared = ap (λ x. x.compared) is ∙ ap (λ n. m.compared + n) (sym (reach-stands is_map stands k));
-        placed = ap (λ x. x.placed) is ∙ ap (λ n. m.placed + n) (placements-stands is_map stands k v n.capacity capacity);
       }
 
   -- an insertion may fail at each list with the cause that the map has
@@ -83,6 +82,17 @@ module _ {K V : Type 0} (number : K → ℕ) (is_valid : K → Type 0) (m : MapS
         memory = λ h kept. rw (class_size-stands is_map stands k) (due.memory h (rw (length-stands is_map stands, stands.capacity, stands.factor) at kept));
       }
 
+  -- so it may once the key was looked up
+  pub may_searched : (k : K) (cause : Cause) → RefusalIsDue number (list_of m) k cause → (s : PlainList K V) → Stands number s m → RefusalIsDue number (looked_up number s k) k cause
+  may_searched k cause due s stands =
+      let refuses = may k cause due s stands in record { new_key = refuses.new_key; too_large = refuses.too_large; memory = refuses.memory }
+
+  -- a list that stands for the map stands for it once a key was looked up in both
+  pub Stands-searched : (k : K) (s : PlainList K V) → Stands number s m → Stands number (looked_up number s k) (after_search number m k)
+  Stands-searched k s stands = record {
+    walk = stands.walk; capacity = stands.capacity; factor = stands.factor; placed = stands.placed; compared = compared-stands is_map stands k;
+  }
+
 module _ {K V S A : Type 0} (number : K → ℕ) (is_valid : K → Type 0) (m : MapState K V) (is_map : IsMap number is_valid m) (sees : V → S → Type 0) (keeps : K → V → Bool) where
   -- an insertion that succeeds
   pub StepsFrom-insert : (k : K) (v : V) (n : MapState K V) → IsCapacityAfter number m.walk m.capacity m.factor k n.capacity
@@ -90,12 +100,10 @@ module _ {K V S A : Type 0} (number : K → ℕ) (is_valid : K → Type 0) (m : 
       → StepsFrom {A = A} number sees keeps m (command.Insert k v) (answer.Old (value_of number m.walk k)) n
   StepsFrom-insert k v n capacity in_range is s stands =
       let left = accepted number is_valid m is_map k v n capacity in_range is s stands in (
-        record s { pairs = put_pair number s.pairs s.capacity k v; capacity = n.capacity },
+        with_pair_in number s k v n.capacity,
         record {
           answers = inl (ap (λ o. answer.Old o) (sym (value_of-stands is_map stands k)), left.inserts);
           stands = left.stands;
-          compared = left.compared;
-          placed = left.placed;
         },
       )
 
@@ -105,46 +113,35 @@ module _ {K V S A : Type 0} (number : K → ℕ) (is_valid : K → Type 0) (m : 
       → StepsFrom {A = A} number sees keeps m (command.InsertChecked k v) (answer.Flag true) n
   StepsFrom-insert_new k v n new_key capacity in_range is s stands =
       let left = accepted number is_valid m is_map k v n capacity in_range is s stands in (
-        record s { pairs = put_pair number s.pairs s.capacity k v; capacity = n.capacity },
+        with_pair_in number s k v n.capacity,
         record {
           answers = inr (inl (refl, rw (value_of-stands is_map stands k) new_key, left.inserts));
           stands = left.stands;
-          compared = left.compared;
-          placed = left.placed;
         },
       )
 
   -- a search that leaves the list
-  pub StepsFrom-searched : (k : K) (c : Command K V A) (a : Answer K V S A) (s : PlainList K V) → Stands number s m → (answers : Answers number sees keeps s c a s)
-      → comparisons_of number sees keeps s c a s answers ≡ reach number s.pairs s.capacity k → placements_of number sees keeps s c a s answers ≡ 0
-      → (t : PlainList K V) × Step number sees keeps m s c a t (after_search number m k)
-  StepsFrom-searched k c a s stands answers compares places = (
-    s,
-    record {
-      answers = answers;
-      stands = record { walk = stands.walk; capacity = stands.capacity; factor = stands.factor };
-      compared = ap (λ n. m.compared + n) (sym (reach-stands is_map stands k) ∙ sym compares);
-      placed = sym (ap (λ n. m.placed + n) places ∙ add-zero m.placed);
-    },
-  )
+  pub StepsFrom-searched : (k : K) (c : Command K V A) (a : Answer K V S A) (s : PlainList K V) → Stands number s m → Answers number sees keeps s c a (looked_up number s k)
+      → (t : PlainList K V) × Step number sees keeps s c a t (after_search number m k)
+  StepsFrom-searched k c a s stands answers = (looked_up number s k, record { answers = answers; stands = Stands-searched number is_valid m is_map k s stands })
 
   -- an insertion that fails
   pub StepsFrom-refused : (k : K) (v : V) (cause : Cause) → RefusalIsDue number (list_of m) k cause
       → StepsFrom {A = A} number sees keeps m (command.Insert k v) (answer.Refused cause (Some v)) (after_search number m k)
   StepsFrom-refused k v cause due s stands =
-      StepsFrom-searched k (command.Insert k v) (answer.Refused cause (Some v)) s stands (inr (cause, refl, may number is_valid m is_map k cause due s stands, refl)) refl (placements-kept s s refl)
+      StepsFrom-searched k (command.Insert k v) (answer.Refused cause (Some v)) s stands (inr (cause, refl, may_searched number is_valid m is_map k cause due s stands, refl))
 
   -- a checked insertion that fails
   pub StepsFrom-refused_checked : (k : K) (v : V) (cause : Cause) → RefusalIsDue number (list_of m) k cause
       → StepsFrom {A = A} number sees keeps m (command.InsertChecked k v) (answer.Refused cause (Some v)) (after_search number m k)
   StepsFrom-refused_checked k v cause due s stands =
-      StepsFrom-searched k (command.InsertChecked k v) (answer.Refused cause (Some v)) s stands (inr (inr (cause, refl, may number is_valid m is_map k cause due s stands, refl))) refl (placements-kept s s refl)
+      StepsFrom-searched k (command.InsertChecked k v) (answer.Refused cause (Some v)) s stands (inr (inr (cause, refl, may_searched number is_valid m is_map k cause due s stands, refl)))
 
   -- a checked insertion of a present key
   StepsFrom-bound : (k : K) (v : V) → IsSome (value_of number m.walk k)
       → StepsFrom {A = A} number sees keeps m (command.InsertChecked k v) (answer.Flag false) (after_search number m k)
   StepsFrom-bound k v bound s stands =
-      StepsFrom-searched k (command.InsertChecked k v) (answer.Flag false) s stands (inl (refl, rw (value_of-stands is_map stands k) bound, refl)) refl (placements-kept s s refl)
+      StepsFrom-searched k (command.InsertChecked k v) (answer.Flag false) s stands (inl (refl, rw (value_of-stands is_map stands k) bound, refl))
 
   -- a checked insertion that succeeds, of a present key or not
   pub StepsFrom-insert_checked : (k : K) (v : V) (n : MapState K V) (new : Bool) → new ≡ is_none (value_of number m.walk k) → IsCapacityAfter number m.walk m.capacity m.factor k n.capacity
@@ -156,12 +153,12 @@ module _ {K V S A : Type 0} (number : K → ℕ) (is_valid : K → Type 0) (m : 
   -- whether a key is present
   pub StepsFrom-contains_key : (k : K) → StepsFrom {A = A} number sees keeps m (command.ContainsKey k) (answer.Flag (is_some (value_of number m.walk k))) m
   StepsFrom-contains_key k s stands =
-      Step-same number sees keeps m s (command.ContainsKey k) (answer.Flag (is_some (value_of number m.walk k))) (ap (λ o. answer.Flag (is_some o)) (sym (value_of-stands is_map stands k)), refl) stands refl refl
+      Step-same number sees keeps m s (command.ContainsKey k) (answer.Flag (is_some (value_of number m.walk k))) (ap (λ o. answer.Flag (is_some o)) (sym (value_of-stands is_map stands k)), refl) stands
 
   -- whether there is no pair
   pub StepsFrom-is_empty : StepsFrom {A = A} number sees keeps m command.IsEmpty (answer.Flag (length m.walk == 0)) m
   StepsFrom-is_empty s stands =
-      Step-same number sees keeps m s command.IsEmpty (answer.Flag (length m.walk == 0)) (ap (λ n. answer.Flag (n == 0)) (sym (length-stands is_map stands)), refl) stands refl refl
+      Step-same number sees keeps m s command.IsEmpty (answer.Flag (length m.walk == 0)) (ap (λ n. answer.Flag (n == 0)) (sym (length-stands is_map stands)), refl) stands
 
   -- an emptied map
   pub StepsFrom-clear : StepsFrom {A = A} number sees keeps m command.Clear answer.Done (emptied m)
@@ -173,9 +170,9 @@ module _ {K V S A : Type 0} (number : K → ℕ) (is_valid : K → Type 0) (m : 
         walk = (IsMapWalk-empty number is_valid [] s.capacity 909 refl (subst IsCapacity (sym stands.capacity) is_map.capacity) (lit< tt)).own;
         capacity = stands.capacity;
         factor = stands.factor;
+        placed = stands.placed;
+        compared = stands.compared;
       };
-      compared = sym (add-zero m.compared);
-      placed = sym (add-zero m.placed);
     },
   )
 
@@ -183,54 +180,58 @@ module _ {K V S A : Type 0} (number : K → ℕ) (is_valid : K → Type 0) (m : 
   pub StepsFrom-get : (k : K) (seen : Option S) → SeesOption sees (value_of number m.walk k) seen
       → StepsFrom {A = A} number sees keeps m (command.Get k) (answer.Seen seen) m
   StepsFrom-get k seen h s stands =
-      Step-same number sees keeps m s (command.Get k) (answer.Seen seen) ((seen, refl, rw (value_of-stands is_map stands k) h), refl) stands refl refl
+      Step-same number sees keeps m s (command.Get k) (answer.Seen seen) ((seen, refl, rw (value_of-stands is_map stands k) h), refl) stands
 
   -- a removal
   pub StepsFrom-remove : (k : K) → StepsFrom {A = A} number sees keeps m (command.Remove k) (answer.Old (value_of number m.walk k)) (after_remove number m k)
   StepsFrom-remove k s stands = (
-    record s { pairs = take_key number s.pairs s.capacity k },
+    record (looked_up number s k) { pairs = take_key number s.pairs s.capacity k },
     record {
       answers = (ap (λ o. answer.Old o) (sym (value_of-stands is_map stands k)), refl);
-      stands = record { walk = walk_of-take_key-stands is_map stands k; capacity = stands.capacity; factor = stands.factor };
-      compared = ap (λ n. m.compared + n) (sym (reach-stands is_map stands k));
-      placed = sym (add-zero m.placed);
+      stands = record {
+        walk = walk_of-take_key-stands is_map stands k;
+        capacity = stands.capacity;
+        factor = stands.factor;
+        placed = stands.placed;
+        compared = compared-stands is_map stands k;
+      };
     },
   )
 
   -- the number of pairs
   pub StepsFrom-len : StepsFrom {A = A} number sees keeps m command.Len (answer.Number (length m.walk)) m
   StepsFrom-len s stands =
-      Step-same number sees keeps m s command.Len (answer.Number (length m.walk)) (ap (λ n. answer.Number n) (sym (length-stands is_map stands)), refl) stands refl refl
+      Step-same number sees keeps m s command.Len (answer.Number (length m.walk)) (ap (λ n. answer.Number n) (sym (length-stands is_map stands)), refl) stands
 
   -- the number of slots that hold a pair
   pub StepsFrom-load : StepsFrom {A = A} number sees keeps m command.Load (answer.Number (load_of number m.walk m.capacity)) m
   StepsFrom-load s stands =
       Step-same number sees keeps m s command.Load (answer.Number (load_of number m.walk m.capacity))
-      (ap (λ n. answer.Number n) (sym (load_of-stands is_map stands)), refl) stands refl refl
+      (ap (λ n. answer.Number n) (sym (load_of-stands is_map stands)), refl) stands
 
   -- the pairs to a slot
   pub StepsFrom-load_rate : StepsFrom {A = A} number sees keeps m command.LoadRate (answer.Number (rate_of m.walk m.capacity)) m
   StepsFrom-load_rate s stands =
       Step-same number sees keeps m s command.LoadRate (answer.Number (rate_of m.walk m.capacity))
-      (rw (length-stands is_map stands, stands.capacity) refl, refl) stands refl refl
+      (rw (length-stands is_map stands, stands.capacity) refl, refl) stands
 
 module _ {K V S A : Type 0} (number : K → ℕ) (sees : V → S → Type 0) (keeps : K → V → Bool) (m : MapState K V) where
   -- whether the number of pairs is what the count says
   pub StepsFrom-assert_count : StepsFrom {A = A} number sees keeps m command.AssertCount (answer.Flag true) m
-  StepsFrom-assert_count s stands = Step-same number sees keeps m s command.AssertCount (answer.Flag true) (refl, refl) stands refl refl
+  StepsFrom-assert_count s stands = Step-same number sees keeps m s command.AssertCount (answer.Flag true) (refl, refl) stands
 
   -- a look at the value of each pair of the walk
   pub StepsFrom-walk : (seen : Vec (K × S) A) → AllZip (SeesPair sees) m.walk seen.items
       → StepsFrom {A = A} number sees keeps m command.Walk (answer.Walk seen) m
   StepsFrom-walk seen h s stands =
-      Step-same number sees keeps m s command.Walk (answer.Walk seen) (inl (seen, refl, rw stands.walk h), refl) stands refl refl
+      Step-same number sees keeps m s command.Walk (answer.Walk seen) (inl (seen, refl, rw stands.walk h, refl)) stands
 
   -- the keys of the walk
   pub StepsFrom-keys : (keys : Vec K A) → keys.items ≡ keys_of m.walk → StepsFrom {A = A} number sees keeps m command.Keys (answer.Keys keys) m
   StepsFrom-keys keys is s stands =
-      Step-same number sees keeps m s command.Keys (answer.Keys keys) (inl (keys, refl, rw stands.walk is), refl) stands refl refl
+      Step-same number sees keeps m s command.Keys (answer.Keys keys) (inl (keys, refl, rw stands.walk is, refl)) stands
 
   -- a look at each value of the walk
   pub StepsFrom-values : (seen : Vec S A) → AllZip sees (values_of m.walk) seen.items → StepsFrom number sees keeps m command.Values (answer.Values seen) m
   StepsFrom-values seen h s stands =
-      Step-same number sees keeps m s command.Values (answer.Values seen) (inl (seen, refl, rw stands.walk h), refl) stands refl refl
+      Step-same number sees keeps m s command.Values (answer.Values seen) (inl (seen, refl, rw stands.walk h, refl)) stands

@@ -4,7 +4,7 @@ use Rattle.std.specs.Prelude.{IsNone}
 use Rattle.intmap.specs.Bindings.{value_of, take_key, put_pair, write_value, keep_pairs}
 use Rattle.intmap.specs.Classes.{same_key}
 use Rattle.intmap.specs.Map.{MapState, IsMap, IsCapacityAfter, IsOutOfRange, after_search, after_insert, after_remove, with_pair, without_key, written}
-use Rattle.intmap.specs.PlainLists.{PlainList, Stands, RefusalIsDue, list_of}
+use Rattle.intmap.specs.PlainLists.{PlainList, Stands, looked_up, RefusalIsDue, list_of}
 use Rattle.intmap.specs.declared.refusal.Cause.{Cause}
 use Rattle.intmap_run.specs.declared.command.Command.{Command}
 use Rattle.intmap_run.specs.declared.command.Command.TheVariants as command
@@ -13,19 +13,25 @@ use Rattle.intmap_run.specs.declared.answer.Answer.TheVariants as answer
 use Rattle.intmap_run.specs.Runs.{AnswersWrite}
 use Rattle.intmap_run.specs.Steps.{StepsFrom}
 use Rattle.intmap.proofs.PositionLemmas.{swap_out-none, position-from_none}
-use Rattle.intmap_run.proofs.PlacementLemmas.{placements-kept}
-use Rattle.intmap_run.proofs.MapStandLemmas.{value_of-stands, reach-stands, walk_of-write_value-stands, walk_of-keep_pairs-stands}
-use Rattle.intmap_run.proofs.StepLemmas.{accepted, may, StepsFrom-searched, StepsFrom-remove}
+use Rattle.intmap_run.proofs.MapStandLemmas.{value_of-stands, compared-stands, walk_of-write_value-stands, walk_of-keep_pairs-stands}
+use Rattle.intmap_run.proofs.StepLemmas.{accepted, may_searched, with_pair_in, StepsFrom-searched, StepsFrom-remove}
 
-module _ {K V : Type 0} (number : K → ℕ) (m : MapState K V) where
+module _ {K V : Type 0} (number : K → ℕ) (is_valid : K → Type 0) (m : MapState K V) (is_map : IsMap number is_valid m) where
   -- the list with a value written stands for the map with that value written
-  Stands-written : (k : K) (v : V) (s : PlainList K V) → Stands number s m → Stands number (record s { pairs = write_value number s.pairs k v }) (written number (after_search number m k) k v)
-  Stands-written k v s stands = record { walk = walk_of-write_value-stands stands k v; capacity = stands.capacity; factor = stands.factor }
+  Stands-written : (k : K) (v : V) (s : PlainList K V) → Stands number s m
+      → Stands number (record (looked_up number s k) { pairs = write_value number s.pairs k v }) (written number (after_search number m k) k v)
+  Stands-written k v s stands = record {
+    walk = walk_of-write_value-stands stands k v;
+    capacity = stands.capacity;
+    factor = stands.factor;
+    placed = stands.placed;
+    compared = compared-stands is_map stands k;
+  }
 
 module _ {K V S A : Type 0} (number : K → ℕ) (is_valid : K → Type 0) (m : MapState K V) (is_map : IsMap number is_valid m) (sees : V → S → Type 0) (keeps : K → V → Bool) where
   -- the answer of a value that is written is the value before
   AnswersWrite-bound : (k : K) (v old : V) → value_of number m.walk k ≡ Some old → (s : PlainList K V) → Stands number s m
-      → AnswersWrite {A = A} number sees keeps s k v (answer.Old (Some old)) (record s { pairs = write_value number s.pairs k v })
+      → AnswersWrite {A = A} number sees keeps (looked_up number s k) k v (answer.Old (Some old)) (record (looked_up number s k) { pairs = write_value number s.pairs k v })
   AnswersWrite-bound k v old bound s stands =
       let same : value_of number s.pairs k ≡ Some old = value_of-stands is_map stands k ∙ bound in
       (ap (λ o. answer.Old o) (sym same), rw same refl, refl)
@@ -34,12 +40,10 @@ module _ {K V S A : Type 0} (number : K → ℕ) (is_valid : K → Type 0) (m : 
   pub StepsFrom-get_mut : (k : K) (v old : V) → value_of number m.walk k ≡ Some old
       → StepsFrom {A = A} number sees keeps m (command.GetMut k v) (answer.Old (Some old)) (written number (after_search number m k) k v)
   StepsFrom-get_mut k v old bound s stands = (
-    record s { pairs = write_value number s.pairs k v },
+    record (looked_up number s k) { pairs = write_value number s.pairs k v },
     record {
       answers = inl (AnswersWrite-bound k v old bound s stands);
-      stands = Stands-written number m k v s stands;
-      compared = ap (λ n. m.compared + n) (sym (reach-stands is_map stands k));
-      placed = sym (add-zero m.placed);
+      stands = Stands-written number is_valid m is_map k v s stands;
     },
   )
 
@@ -48,18 +52,16 @@ module _ {K V S A : Type 0} (number : K → ℕ) (is_valid : K → Type 0) (m : 
       → StepsFrom {A = A} number sees keeps m (command.GetMut k v) (answer.Back v) (after_search number m k)
   StepsFrom-back k v missing s stands =
       let none : IsNone (value_of number s.pairs k) = rw (value_of-stands is_map stands k, missing) refl in
-      StepsFrom-searched number is_valid m is_map sees keeps k (command.GetMut k v) (answer.Back v) s stands (inr (refl, none, refl)) refl refl
+      StepsFrom-searched number is_valid m is_map sees keeps k (command.GetMut k v) (answer.Back v) s stands (inr (refl, none, refl))
 
   StepsFrom-entry_bound : (k : K) (v old : V) → value_of number m.walk k ≡ Some old
       → StepsFrom {A = A} number sees keeps m (command.EntryInsert k v) (answer.Old (Some old)) (written number (after_search number m k) k v)
   StepsFrom-entry_bound k v old bound s stands =
-      let t : PlainList K V = record s { pairs = write_value number s.pairs k v } in (
+      let t : PlainList K V = record (looked_up number s k) { pairs = write_value number s.pairs k v } in (
         t,
         record {
           answers = inl (AnswersWrite-bound k v old bound s stands);
-          stands = Stands-written number m k v s stands;
-          compared = ap (λ n. m.compared + n) (sym (reach-stands is_map stands k));
-          placed = sym (ap (λ n. m.placed + n) (placements-kept s t refl) ∙ add-zero m.placed);
+          stands = Stands-written number is_valid m is_map k v s stands;
         },
       )
 
@@ -68,26 +70,24 @@ module _ {K V S A : Type 0} (number : K → ℕ) (is_valid : K → Type 0) (m : 
   StepsFrom-entry_missing k v D missing after in_range s stands =
       let none : IsNone (value_of number s.pairs k) = rw (value_of-stands is_map stands k, missing) refl in
       let left = accepted number is_valid m is_map k v (after_insert number m k v D) after in_range refl s stands in (
-        record s { pairs = put_pair number s.pairs s.capacity k v; capacity = D },
+        with_pair_in number s k v D,
         record {
           answers = inr (inl (refl, none, left.inserts));
           stands = left.stands;
-          compared = left.compared;
-          placed = left.placed;
         },
       )
 
   StepsFrom-entry_refused : (k : K) (v : V) (cause : Cause) → RefusalIsDue number (list_of m) k cause
       → StepsFrom {A = A} number sees keeps m (command.EntryInsert k v) (answer.Refused cause (Some v)) (after_search number m k)
   StepsFrom-entry_refused k v cause due s stands =
-      let refused = may number is_valid m is_map k cause due s stands in
-      StepsFrom-searched number is_valid m is_map sees keeps k (command.EntryInsert k v) (answer.Refused cause (Some v)) s stands (inr (inr (cause, refl, refused, refl))) refl (placements-kept s s refl)
+      let refused = may_searched number is_valid m is_map k cause due s stands in
+      StepsFrom-searched number is_valid m is_map sees keeps k (command.EntryInsert k v) (answer.Refused cause (Some v)) s stands (inr (inr (cause, refl, refused, refl)))
 
   StepsFrom-taken : (k : K) (old : V) → value_of number m.walk k ≡ Some old
       → StepsFrom {A = A} number sees keeps m (command.EntryRemove k) (answer.Old (Some old)) (after_remove number m k)
   StepsFrom-taken k old bound s stands =
       let step = StepsFrom-remove number is_valid m is_map sees keeps k s stands in
-      (step.0, record { answers = (ap (λ o. answer.Old o) (sym bound) ∙ step.1.answers.0, step.1.answers.1); stands = step.1.stands; compared = step.1.compared; placed = step.1.placed })
+      (step.0, record { answers = (ap (λ o. answer.Old o) (sym bound) ∙ step.1.answers.0, step.1.answers.1); stands = step.1.stands })
 
   StepsFrom-not_taken : (k : K) → value_of number m.walk k ≡ None
       → StepsFrom {A = A} number sees keeps m (command.EntryRemove k) (answer.Old None) (after_search number m k)
@@ -95,7 +95,7 @@ module _ {K V S A : Type 0} (number : K → ℕ) (is_valid : K → Type 0) (m : 
       let none : value_of number s.pairs k ≡ None = value_of-stands is_map stands k ∙ missing in
       let same : take_key number s.pairs s.capacity k ≡ s.pairs = swap_out-none _ _ s.pairs (position-from_none (same_key number k) s.pairs none) in
       StepsFrom-searched number is_valid m is_map sees keeps k (command.EntryRemove k) (answer.Old None) s stands
-      (ap (λ o. answer.Old o) (sym none), ap (λ L. record s { pairs = L }) (sym same)) refl refl
+      (ap (λ o. answer.Old o) (sym none), ap (λ L. record (looked_up number s k) { pairs = L }) (sym same))
 
   module _ (k q : K) (x : MapState K V) (searched : x ≡ after_search number m k) (same_key : q ≡ k) where
     -- a value written by an entry, of which x is the map and q the key
@@ -112,7 +112,9 @@ module _ {K V S A : Type 0} (number : K → ℕ) (is_valid : K → Type 0) (m : 
     -- a pair that an entry couldn't put in
     pub StepsFrom-not_fresh : (v : V) (cause : Cause) → RefusalIsDue number (list_of x) q cause
         → StepsFrom {A = A} number sees keeps m (command.EntryInsert k v) (answer.Refused cause (Some v)) x
-    StepsFrom-not_fresh v cause due = rw searched (StepsFrom-entry_refused k v cause (rw (searched, same_key) at due))
+    StepsFrom-not_fresh v cause due =
+        let after : RefusalIsDue number (list_of (after_search number m k)) k cause = rw (searched, same_key) at due in
+        rw searched (StepsFrom-entry_refused k v cause (record { new_key = after.new_key; too_large = after.too_large; memory = after.memory }))
 
     -- a pair that an entry removed
     pub StepsFrom-entry_remove : (old : V) → value_of number x.walk q ≡ Some old
@@ -134,9 +136,7 @@ module _ {K V S A : Type 0} (number : K → ℕ) (sees : V → S → Type 0) (ke
     record s { pairs = keep_pairs keeps s.pairs },
     record {
       answers = (refl, refl);
-      stands = record { walk = walk_of-keep_pairs-stands stands keeps; capacity = stands.capacity; factor = stands.factor };
-      compared = sym (add-zero m.compared);
-      placed = sym (add-zero m.placed);
+      stands = record { walk = walk_of-keep_pairs-stands stands keeps; capacity = stands.capacity; factor = stands.factor; placed = stands.placed; compared = stands.compared };
     },
   )
 

@@ -1,4 +1,5 @@
 pub mod Growing
 pub mod Runs
+pub mod Bounds
 pub mod Steps
 pub mod Laws

@@ -1,15 +1,12 @@
 -- What one command answers and leaves of a plain list, and what lists of commands do.
-use Rattle.std.specs.Prelude.{◌≡◌, ℕ, ◌+◌, ◌*◌, ◌≤◌, ◌==◌, max, cond, Bool, true, false, is_some, IsSome, IsNone, List, [], ◌∷◌, length, Option, Some, None, ◌⊎◌}
+use Rattle.std.specs.Prelude.{◌≡◌, ℕ, ◌==◌, Bool, true, false, is_some, IsSome, IsNone, List, [], ◌∷◌, length, Option, Some, None, ◌⊎◌}
 use Rattle.std.specs.List.{AllZip}
-use Rattle.std.proofs.Common.{inl, inr}
 use Rattle.std.specs.Map.{keys_of, values_of}
 use Rattle.std.specs.declared.vec.Vec.{Vec}
 use Rattle.intmap.specs.Bindings.{value_of, take_key, write_value, keep_pairs, strike_keys}
 use Rattle.intmap.specs.Walk.{walk_of, first_of_walk}
-use Rattle.intmap.specs.Reach.{reach}
 use Rattle.intmap.specs.Figures.{load_of, rate_of, collisions_of}
 use Rattle.intmap.specs.Map.{MapState, first_capacity}
-use Rattle.intmap.specs.PlainLists.{PlainList, empty_list, Stands, ListInserts, ListInsertsAll, ListInsertsUpTo, RefusalIsDue}
 use Rattle.intmap.specs.declared.refusal.Cause.{Cause}
 use Rattle.intmap.specs.declared.refusal.Cause.TheVariants.{Memory}
 use Rattle.intmap.specs.declared.refusal.RefusedPair.{RefusedPair}
@@ -17,6 +14,7 @@ use Rattle.intmap_run.specs.declared.command.Command.{Command}
 use Rattle.intmap_run.specs.declared.command.Command.TheVariants as command
 use Rattle.intmap_run.specs.declared.answer.Answer.{Answer}
 use Rattle.intmap_run.specs.declared.answer.Answer.TheVariants as answer
+use Rattle.intmap.specs.PlainLists.{PlainList, empty_list, Stands, looked_up, ListInserts, ListInsertsAll, ListInsertsUpTo, RefusalIsDue}
 use Rattle.intmap_run.specs.Growing.{Reserves, MayRefuseReserve, SetsFactor, MayRefuseFactor}
 
 -- what a judge sees of a value, if there is one
@@ -29,48 +27,25 @@ SeesOption sees o p = ⊥
 abbrev pub SeesPair : {K V S : Type 0} → (V → S → Type 0) → K × V → K × S → Type 0
 SeesPair sees p q = (q.0 ≡ p.0) × sees p.1 q.1
 
-module _ {K V S A : Type 0} where
-  -- how many load factors a command with this answer set: one or none
-  abbrev pub factors_set_by : Command K V A → Answer K V S A → ℕ
-  factors_set_by (command.SetLoadFactor f) answer.Done = 1
-  factors_set_by other a = 0
-
-  -- how many load factors the commands with these answers set
-  abbrev pub factors_set : List (Command K V A) → List (Answer K V S A) → ℕ
-  factors_set (c ∷ cs) (a ∷ as') = factors_set_by c a + factors_set cs as'
-  factors_set cs as' = 0
-
-  -- the command, with this answer, set the capacity: it is a successful reservation or load factor
-  abbrev pub SetsCapacity : Command K V A → Answer K V S A → Type 0
-  SetsCapacity (command.Reserve n) answer.Done = Unit {0}
-  SetsCapacity (command.SetLoadFactor f) answer.Done = Unit {0}
-  SetsCapacity other a = ⊥
-
-module _ {K V : Type 0} (number : K → ℕ) where
-  -- the keys that insertions in turn compare
-  abbrev pub insertion_comparisons : (s : PlainList K V) (ps : List (K × V)) (t : PlainList K V) → ListInsertsAll number s ps t → ℕ
-  insertion_comparisons s [] t all = 0
-  insertion_comparisons s (p ∷ ps) t all = reach number s.pairs s.capacity p.0 + insertion_comparisons all.0 ps t all.2
-
-  -- the pairs that insertions in turn place in larger tables: at each insertion that changed the capacity, all pairs after it
-  abbrev pub insertion_placements : (s : PlainList K V) (ps : List (K × V)) (t : PlainList K V) → ListInsertsAll number s ps t → ℕ
-  insertion_placements s [] t all = 0
-  insertion_placements s (p ∷ ps) t all = cond (all.0.capacity == s.capacity) 0 (length all.0.pairs) + insertion_placements all.0 ps t all.2
-
 module _ {K V S A : Type 0} (number : K → ℕ) (sees : V → S → Type 0) (keeps : K → V → Bool) where
-  -- an insertion answers the old value, or fails, returns its own value and changes nothing
-  abbrev pub AnswersInsert : PlainList K V → K → V → Answer K V S A → PlainList K V → Type 0
-  AnswersInsert s k v a t =
-      ((a ≡ answer.Old (value_of number s.pairs k)) × ListInserts number s k v t)
-      ⊎ ((cause : Cause) × (a ≡ answer.Refused cause (Some v)) × RefusalIsDue number s k cause × (t ≡ s))
+  -- there is no memory, and nothing changes
+  abbrev pub LacksMemory : PlainList K V → Answer K V S A → PlainList K V → Type 0
+  LacksMemory s a t = (a ≡ answer.Refused Memory None) × (t ≡ s)
 
-  -- a checked insertion of a present key answers false and changes nothing; for a new key it answers true and inserts, or
-  -- fails as an insertion does
+  -- an insertion fails, returns its own value and changes nothing
+  abbrev pub RefusesPair : PlainList K V → K → V → Answer K V S A → PlainList K V → Type 0
+  RefusesPair s k v a t = (cause : Cause) × (a ≡ answer.Refused cause (Some v)) × RefusalIsDue number s k cause × (t ≡ s)
+
+  -- an insertion answers the old value, or fails
+  abbrev pub AnswersInsert : PlainList K V → K → V → Answer K V S A → PlainList K V → Type 0
+  AnswersInsert s k v a t = ((a ≡ answer.Old (value_of number s.pairs k)) × ListInserts number s k v t) ⊎ RefusesPair s k v a t
+
+  -- a checked insertion of a present key answers false and changes nothing; for a new key it answers true and inserts, or fails
   abbrev pub AnswersInsertChecked : PlainList K V → K → V → Answer K V S A → PlainList K V → Type 0
   AnswersInsertChecked s k v a t =
       ((a ≡ answer.Flag false) × IsSome (value_of number s.pairs k) × (t ≡ s))
       ⊎ ((a ≡ answer.Flag true) × IsNone (value_of number s.pairs k) × ListInserts number s k v t)
-      ⊎ ((cause : Cause) × (a ≡ answer.Refused cause (Some v)) × RefusalIsDue number s k cause × (t ≡ s))
+      ⊎ RefusesPair s k v a t
 
   -- the value replaces the old value of the key in its place, and the old value is the answer
   abbrev pub AnswersWrite : PlainList K V → K → V → Answer K V S A → PlainList K V → Type 0
@@ -80,17 +55,19 @@ module _ {K V S A : Type 0} (number : K → ℕ) (sees : V → S → Type 0) (ke
 
   -- a value is written if the key is present, and otherwise is returned, and nothing changes
   abbrev pub AnswersGetMut : PlainList K V → K → V → Answer K V S A → PlainList K V → Type 0
-  AnswersGetMut s k v a t =
-      AnswersWrite s k v a t
-      ⊎ ((a ≡ answer.Back v) × IsNone (value_of number s.pairs k) × (t ≡ s))
+  AnswersGetMut s k v a t = AnswersWrite s k v a t ⊎ ((a ≡ answer.Back v) × IsNone (value_of number s.pairs k) × (t ≡ s))
 
   -- an insertion by an entry writes the value if the key is present; for a new key it answers that it inserts, or fails
-  -- as an insertion does
   abbrev pub AnswersEntryInsert : PlainList K V → K → V → Answer K V S A → PlainList K V → Type 0
   AnswersEntryInsert s k v a t =
       AnswersWrite s k v a t
       ⊎ ((a ≡ answer.Fresh) × IsNone (value_of number s.pairs k) × ListInserts number s k v t)
-      ⊎ ((cause : Cause) × (a ≡ answer.Refused cause (Some v)) × RefusalIsDue number s k cause × (t ≡ s))
+      ⊎ RefusesPair s k v a t
+
+  -- the value of the key, if there is one, is the answer, and its pair is removed
+  abbrev pub AnswersRemove : PlainList K V → K → Answer K V S A → PlainList K V → Type 0
+  AnswersRemove s k a t =
+      (a ≡ answer.Old (value_of number s.pairs k)) × (t ≡ record s { pairs = take_key number s.pairs s.capacity k })
 
   -- the pairs are inserted in turn, all or up to the first that fails, which is then the answer
   abbrev pub AnswersExtend : PlainList K V → List (K × V) → Answer K V S A → PlainList K V → Type 0
@@ -111,58 +88,56 @@ module _ {K V S A : Type 0} (number : K → ℕ) (sees : V → S → Type 0) (ke
       ((a ≡ answer.Done) × SetsFactor s factor t)
       ⊎ ((cause : Cause) × (a ≡ answer.Refused cause None) × MayRefuseFactor s factor cause × (t ≡ s))
 
-  -- the answer is the walk, or the command fails for want of memory
-  abbrev pub AnswersWalk : PlainList K V → Answer K V S A → Type 0
-  AnswersWalk s a =
-      ((seen : Vec (K × S) A) × (a ≡ answer.Walk seen) × AllZip (SeesPair sees) (walk_of number s.pairs s.capacity) seen.items)
-      ⊎ (a ≡ answer.Refused Memory None)
-
-  -- the answer is the keys of the walk, or the command fails for want of memory
-  abbrev pub AnswersKeys : PlainList K V → Answer K V S A → Type 0
-  AnswersKeys s a =
-      ((keys : Vec K A) × (a ≡ answer.Keys keys) × (keys.items ≡ keys_of (walk_of number s.pairs s.capacity)))
-      ⊎ (a ≡ answer.Refused Memory None)
-
-  -- the answer is what is seen of the values of the walk, or the command fails for want of memory
-  abbrev pub AnswersValues : PlainList K V → Answer K V S A → Type 0
-  AnswersValues s a =
-      ((seen : Vec S A) × (a ≡ answer.Values seen) × AllZip sees (values_of (walk_of number s.pairs s.capacity)) seen.items)
-      ⊎ (a ≡ answer.Refused Memory None)
-
-  -- the answer is the first m pairs of the walk, and their keys are removed, or there is no memory, and nothing changes
+  -- the answer is the first m pairs of the walk, and their keys are removed, or there is no memory
   abbrev pub AnswersDrain : PlainList K V → ℕ → Answer K V S A → PlainList K V → Type 0
   AnswersDrain s m a t =
       ((pairs : Vec (K × V) A) × (a ≡ answer.Pairs pairs) × (pairs.items ≡ first_of_walk number m s.pairs s.capacity)
       × (t ≡ record s { pairs = strike_keys number s.pairs (keys_of pairs.items) }))
-      ⊎ ((a ≡ answer.Refused Memory None) × (t ≡ s))
+      ⊎ LacksMemory s a t
+
+  -- the answer is the walk, or there is no memory
+  abbrev pub AnswersWalk : PlainList K V → Answer K V S A → PlainList K V → Type 0
+  AnswersWalk s a t =
+      ((seen : Vec (K × S) A) × (a ≡ answer.Walk seen) × AllZip (SeesPair sees) (walk_of number s.pairs s.capacity) seen.items × (t ≡ s))
+      ⊎ LacksMemory s a t
+
+  -- the answer is the keys of the walk, or there is no memory
+  abbrev pub AnswersKeys : PlainList K V → Answer K V S A → PlainList K V → Type 0
+  AnswersKeys s a t =
+      ((keys : Vec K A) × (a ≡ answer.Keys keys) × (keys.items ≡ keys_of (walk_of number s.pairs s.capacity)) × (t ≡ s))
+      ⊎ LacksMemory s a t
+
+  -- the answer is what is seen of the values of the walk, or there is no memory
+  abbrev pub AnswersValues : PlainList K V → Answer K V S A → PlainList K V → Type 0
+  AnswersValues s a t =
+      ((seen : Vec S A) × (a ≡ answer.Values seen) × AllZip sees (values_of (walk_of number s.pairs s.capacity)) seen.items × (t ≡ s))
+      ⊎ LacksMemory s a t
 
   -- the answer is the sizes above 1 of slots, each with the number of slots that have it: the walk of a list into which they were
-  -- inserted in turn, beginning with no pairs in 4 slots; or the command fails for want of memory
-  abbrev pub AnswersCollisions : PlainList K V → Answer K V S A → Type 0
-  AnswersCollisions s a =
+  -- inserted in turn, beginning with no pairs in 4 slots; or there is no memory
+  abbrev pub AnswersCollisions : PlainList K V → Answer K V S A → PlainList K V → Type 0
+  AnswersCollisions s a t =
       ((sizes : Vec (ℕ × ℕ) A) × (a ≡ answer.Sizes sizes)
       × (u : PlainList ℕ ℕ) × ListInsertsAll (λ n. n) (empty_list first_capacity) (collisions_of number s.pairs s.capacity) u
-      × (sizes.items ≡ walk_of (λ n. n) u.pairs u.capacity))
-      ⊎ (a ≡ answer.Refused Memory None)
+      × (sizes.items ≡ walk_of (λ n. n) u.pairs u.capacity) × (t ≡ s))
+      ⊎ LacksMemory s a t
 
-  -- from the list s a command may answer a and leave the list t
+  -- from the list s a command may answer a and leave the list t; insertions, writes and removals look the key up first
   abbrev pub Answers : PlainList K V → Command K V A → Answer K V S A → PlainList K V → Type 0
-  Answers s (command.Insert k v) a t = AnswersInsert s k v a t
-  Answers s (command.InsertChecked k v) a t = AnswersInsertChecked s k v a t
+  Answers s (command.Insert k v) a t = AnswersInsert (looked_up number s k) k v a t
+  Answers s (command.InsertChecked k v) a t = AnswersInsertChecked (looked_up number s k) k v a t
   Answers s (command.Get k) a t =
       ((seen : Option S) × (a ≡ answer.Seen seen) × SeesOption sees (value_of number s.pairs k) seen) × (t ≡ s)
-  Answers s (command.GetMut k v) a t = AnswersGetMut s k v a t
+  Answers s (command.GetMut k v) a t = AnswersGetMut (looked_up number s k) k v a t
   Answers s (command.ContainsKey k) a t = (a ≡ answer.Flag (is_some (value_of number s.pairs k))) × (t ≡ s)
-  Answers s (command.Remove k) a t =
-      (a ≡ answer.Old (value_of number s.pairs k)) × (t ≡ record s { pairs = take_key number s.pairs s.capacity k })
+  Answers s (command.Remove k) a t = AnswersRemove (looked_up number s k) k a t
   Answers s command.Clear a t = (a ≡ answer.Done) × (t ≡ record s { pairs = [] })
   Answers s command.Retain a t = (a ≡ answer.Done) × (t ≡ record s { pairs = keep_pairs keeps s.pairs })
   Answers s (command.Reserve additional) a t = AnswersReserve s additional a t
   Answers s (command.SetLoadFactor factor) a t = AnswersSetLoadFactor s factor a t
   Answers s command.GetLoadFactor a t = (a ≡ answer.Number s.factor) × (t ≡ s)
-  Answers s (command.EntryInsert k v) a t = AnswersEntryInsert s k v a t
-  Answers s (command.EntryRemove k) a t =
-      (a ≡ answer.Old (value_of number s.pairs k)) × (t ≡ record s { pairs = take_key number s.pairs s.capacity k })
+  Answers s (command.EntryInsert k v) a t = AnswersEntryInsert (looked_up number s k) k v a t
+  Answers s (command.EntryRemove k) a t = AnswersRemove (looked_up number s k) k a t
   Answers s (command.Extend pairs) a t = AnswersExtend s pairs.items a t
   Answers s (command.Drain m) a t = AnswersDrain s m a t
   Answers s command.Len a t = (a ≡ answer.Number (length s.pairs)) × (t ≡ s)
@@ -171,33 +146,10 @@ module _ {K V S A : Type 0} (number : K → ℕ) (sees : V → S → Type 0) (ke
   Answers s command.Load a t = (a ≡ answer.Number (load_of number s.pairs s.capacity)) × (t ≡ s)
   Answers s command.LoadRate a t = (a ≡ answer.Number (rate_of s.pairs s.capacity)) × (t ≡ s)
   Answers s command.AssertCount a t = (a ≡ answer.Flag true) × (t ≡ s)
-  Answers s command.Walk a t = AnswersWalk s a × (t ≡ s)
-  Answers s command.Keys a t = AnswersKeys s a × (t ≡ s)
-  Answers s command.Values a t = AnswersValues s a × (t ≡ s)
-  Answers s command.Collisions a t = AnswersCollisions s a × (t ≡ s)
-
-  -- the keys that a command compares in a step from the list s
-  abbrev pub comparisons_of : (s : PlainList K V) (c : Command K V A) (a : Answer K V S A) (t : PlainList K V) → Answers s c a t → ℕ
-  comparisons_of s (command.Insert k v) a t step = reach number s.pairs s.capacity k
-  comparisons_of s (command.InsertChecked k v) a t step = reach number s.pairs s.capacity k
-  comparisons_of s (command.GetMut k v) a t step = reach number s.pairs s.capacity k
-  comparisons_of s (command.Remove k) a t step = reach number s.pairs s.capacity k
-  comparisons_of s (command.EntryInsert k v) a t step = reach number s.pairs s.capacity k
-  comparisons_of s (command.EntryRemove k) a t step = reach number s.pairs s.capacity k
-  comparisons_of s (command.Extend pairs) a t (inl all) = insertion_comparisons number s pairs.items t all.1.1
-  comparisons_of s (command.Extend pairs) a t (inr stopped) =
-      insertion_comparisons number s stopped.2.0 t stopped.2.4 + reach number t.pairs t.capacity stopped.0.key
-  comparisons_of s other a t step = 0
-
-  -- the pairs that a command places in larger tables in a step from the list s to the list t: all pairs of t, if the command
-  -- is an insertion that changed the capacity (at each pair of several), and otherwise none
-  abbrev pub placements_of : (s : PlainList K V) (c : Command K V A) (a : Answer K V S A) (t : PlainList K V) → Answers s c a t → ℕ
-  placements_of s (command.Insert k v) a t step = cond (t.capacity == s.capacity) 0 (length t.pairs)
-  placements_of s (command.InsertChecked k v) a t step = cond (t.capacity == s.capacity) 0 (length t.pairs)
-  placements_of s (command.EntryInsert k v) a t step = cond (t.capacity == s.capacity) 0 (length t.pairs)
-  placements_of s (command.Extend pairs) a t (inl all) = insertion_placements number s pairs.items t all.1.1
-  placements_of s (command.Extend pairs) a t (inr stopped) = insertion_placements number s stopped.2.0 t stopped.2.4
-  placements_of s other a t step = 0
+  Answers s command.Walk a t = AnswersWalk s a t
+  Answers s command.Keys a t = AnswersKeys s a t
+  Answers s command.Values a t = AnswersValues s a t
+  Answers s command.Collisions a t = AnswersCollisions s a t
 
   -- the commands in order, each from the list that the one before left, with one answer for each command
   abbrev pub Runs : PlainList K V → List (Command K V A) → List (Answer K V S A) → PlainList K V → Type 0
@@ -205,39 +157,6 @@ module _ {K V S A : Type 0} (number : K → ℕ) (sees : V → S → Type 0) (ke
   Runs s (c ∷ cs) (a ∷ as') t = (m : PlainList K V) × Answers s c a m × Runs m cs as' t
   Runs s cs as' t = ⊥
 
-  -- the keys that a run compares
-  abbrev pub run_comparisons : (s : PlainList K V) (cs : List (Command K V A)) (as' : List (Answer K V S A)) (t : PlainList K V) → Runs s cs as' t → ℕ
-  run_comparisons s (c ∷ cs) (a ∷ as') t run = comparisons_of s c a run.0 run.1 + run_comparisons run.0 cs as' t run.2
-  run_comparisons s cs as' t run = 0
-
-  -- the pairs that a run places in larger tables
-  abbrev pub run_placements : (s : PlainList K V) (cs : List (Command K V A)) (as' : List (Answer K V S A)) (t : PlainList K V) → Runs s cs as' t → ℕ
-  run_placements s (c ∷ cs) (a ∷ as') t run = placements_of s c a run.0 run.1 + run_placements run.0 cs as' t run.2
-  run_placements s cs as' t run = 0
-
-  -- the greatest number of pairs at the start of a run or after one of its commands
-  abbrev pub greatest_length : (s : PlainList K V) (cs : List (Command K V A)) (as' : List (Answer K V S A)) (t : PlainList K V) → Runs s cs as' t → ℕ
-  greatest_length s (c ∷ cs) (a ∷ as') t run = max (length s.pairs) (greatest_length run.0 cs as' t run.2)
-  greatest_length s cs as' t run = length s.pairs
-
-  -- a successful reservation or load factor of the run left this capacity
-  abbrev pub WasSet : ℕ → (s : PlainList K V) (cs : List (Command K V A)) (as' : List (Answer K V S A)) (t : PlainList K V) → Runs s cs as' t → Type 0
-  WasSet C s (c ∷ cs) (a ∷ as') t run = (SetsCapacity c a × (run.0.capacity ≡ C)) ⊎ WasSet C run.0 cs as' t run.2
-  WasSet C s cs as' t run = ⊥
-
-  -- what a run from the list s, which stands for the map m, to the list t leaves of the map: t stands for it, it compared and
-  -- placed what the run does, few placements for the lengths that the run went through and the load factors that it set, and
-  -- its capacity is the one at the start, or one that a caller set, or small for these lengths
-  pub record Leaves (m : MapState K V) (s : PlainList K V) (cs : List (Command K V A)) (as' : List (Answer K V S A)) (t : PlainList K V) (run : Runs s cs as' t) (n : MapState K V) : Type 0 where
-    pub stands : Stands number t n
-    pub compared : n.compared ≡ m.compared + run_comparisons s cs as' t run
-    pub placed : n.placed ≡ m.placed + run_placements s cs as' t run
-    pub few_placements : run_placements s cs as' t run ≤ 3 * (factors_set cs as' + 1) * greatest_length s cs as' t run
-    pub last_capacity :
-        (t.capacity ≡ s.capacity) ⊎ WasSet t.capacity s cs as' t run
-        ⊎ ((t.factor + 1) * t.capacity ≤ 2000 * greatest_length s cs as' t run)
-
   -- from every list that stands for the map before, a run leads to a list that stands for the map after
   abbrev pub RunsFrom : MapState K V → List (Command K V A) → List (Answer K V S A) → MapState K V → Type 0
-  RunsFrom m cs as' n =
-      (s : PlainList K V) → Stands number s m → (t : PlainList K V) × (run : Runs s cs as' t) × Leaves m s cs as' t run n
+  RunsFrom m cs as' n = (s : PlainList K V) → Stands number s m → (t : PlainList K V) × Runs s cs as' t × Stands number t n

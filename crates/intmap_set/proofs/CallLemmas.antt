@@ -46,7 +46,8 @@ module _ {K : Type 0} (number : K → ℕ) (m n : MapState K (Unit {0})) (s : Se
         → IfErr r (RefusalIsDue number (list_of (as_map s)) k)
     RefusalIsDue-seen (Ok new) cause is due = absurd is
     RefusalIsDue-seen (Err e) cause is due =
-        subst (RefusalIsDue number (list_of (as_map s)) k) (sym is) (subst (λ x. RefusalIsDue number (list_of x) k cause) (as_map-seen m s seen kept) due)
+        let uncounted : RefusalIsDue number (list_of (record m { placed = 0; compared = 0 })) k cause = record { new_key = due.new_key; too_large = due.too_large; memory = due.memory } in
+        subst (RefusalIsDue number (list_of (as_map s)) k) (sym is) (subst (λ x. RefusalIsDue number (list_of x) k cause) (as_map-seen m s seen kept) uncounted)
 
     -- a new pair of the map is a new member of the set, and otherwise both stay
     inserted-seen : (new : Bool) → MatchBool new (n ≡ after_insert number m k tt n.capacity) (n ≡ after_search number m k)

@@ -11,7 +11,7 @@ use Rattle.intmap_text.specs.Serving.{IsAnswered}
 
 -- no pairs in 4 slots stand for a new map
 empty_stands : Stands {K = ℕ} {V = ℕ} (λ k. k) (empty_list 4) (empty_map 4)
-empty_stands = record { walk = refl; capacity = refl; factor = refl }
+empty_stands = record { walk = refl; capacity = refl; factor = refl; placed = refl; compared = refl }
 
 -- the lines of the answers of a run from a new map, over the commands that a text spells
 pub is_answered : {A : Type 0} (text : List ℕ) (commands : List (Command ℕ ℕ A))

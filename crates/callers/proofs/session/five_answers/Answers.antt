@@ -1,6 +1,6 @@
 use Rattle.std.proofs.Common.{◌≡◌, inl, inr, ℕ, true, false, List, [], ◌∷◌, length, Option, Some, None, refl, ap, ◌∙◌, arith}
 use Rattle.intmap.specs.Bindings.{value_of, take_key, put_pair}
-use Rattle.intmap.specs.PlainLists.{PlainList, empty_list, ListInserts, RefusalIsDue}
+use Rattle.intmap.specs.PlainLists.{PlainList, empty_list, looked_up, ListInserts, RefusalIsDue}
 use Rattle.intmap.specs.declared.refusal.Cause.{Cause}
 use Rattle.intmap_run.specs.declared.command.Command.TheVariants as command
 use Rattle.intmap_run.specs.declared.answer.Answer.{Answer}
@@ -44,7 +44,7 @@ module _ {A : Type 0} (never_refused : NeverRefused) where
   five (a ∷ b ∷ d ∷ e ∷ f ∷ []) t run =
       let one = first a run.0 run.1 in
       let one_left : run.0.pairs ≡ (7, 1) ∷ [] = ap (λ s. s.pairs) one.1.after in
-      let two = second run.0 b run.2.0 (ap (λ L. value_of (λ k. k) L 7) one_left) run.2.1 in
+      let two = second (looked_up (λ k. k) run.0 7) b run.2.0 (ap (λ L. value_of (λ k. k) L 7) one_left) run.2.1 in
       let two_left : run.2.0.pairs ≡ (7, 2) ∷ [] = ap (λ s. s.pairs) two.1.after ∙ ap (λ L. put_pair (λ k. k) L run.0.capacity 7 2) one_left in
       let bound : value_of (λ k. k) run.2.0.pairs 7 ≡ Some 2 = ap (λ L. value_of (λ k. k) L 7) two_left in
       let three = seen_two run.2.2.1.0.0 (rw bound at run.2.2.1.0.2) in
@@ -55,6 +55,6 @@ module _ {A : Type 0} (never_refused : NeverRefused) where
 
 pub returns-in-Ok-run-clause-ok : goal.returns-in-Ok-run-clause-ok
 returns-in-Ok-run-clause-ok c =
-    let run = c.in-Ok-run.ensures.ok (empty_list 4) (rw c.in_ok-map.ensures.state (record { walk = refl; capacity = refl; factor = refl })) in
+    let run = c.in-Ok-run.ensures.ok (empty_list 4) (rw c.in_ok-map.ensures.state (record { walk = refl; capacity = refl; factor = refl; placed = refl; compared = refl })) in
     let never_refused : NeverRefused = λ cause. c.lone_pairs_are_never_refused.ensures (empty_list 4) 7 cause (2, (omega arith), (omega arith), refl) (omega arith) refl refl in
     five never_refused _ run.0 (rw c.in-Ok.ensures.items at run.1)

@@ -8,5 +8,5 @@ returns-in-Err-run-clause-err g c = (rw c.in-Err-run.ensures.err c.in-Ok.ensures
 pub returns-in-Ok-run-clause-ok : goal.returns-in-Ok-run-clause-ok
 returns-in-Ok-run-clause-ok g c s stands =
     let one = c.in-Ok.ensures.ok s stands in
-    let other = c.in-Ok-run.ensures.ok one.0 one.2.stands in
-    (one.0, other.0, one.1, other.1, other.2.stands)
+    let other = c.in-Ok-run.ensures.ok one.0 one.2 in
+    (one.0, other.0, one.1, other.1, other.2)

@@ -7,4 +7,6 @@ returns g c = λ C capacity. record {
   walk = (IsMapWalk-empty g.K.IntKey.number_of g.K.IntKey.is_valid [] C 909 refl capacity (lit< tt)).own;
   capacity = refl;
   factor = refl;
+  placed = refl;
+  compared = refl;
 }

@@ -129,3 +129,9 @@ returns-in-AssertCount-clause-step g c =
 
 pub returns-in-Collisions-clause-step : goal.returns-in-Collisions-clause-step
 returns-in-Collisions-clause-step g c = rw c.in-Collisions.is (c.collisions.ensures.step c.args.judge.now)
+
+pub returns-in-Walk-clause-step : goal.returns-in-Walk-clause-step
+returns-in-Walk-clause-step g c = rw c.in-Walk.is c.walk.ensures.step
+
+pub returns-in-Values-clause-step : goal.returns-in-Values-clause-step
+returns-in-Values-clause-step g c = rw c.in-Values.is c.values.ensures.step

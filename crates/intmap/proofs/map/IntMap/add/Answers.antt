@@ -24,7 +24,7 @@ module _ (g : _) (c : After-add g) where
   seen = c.self.invariant.count
 
   abbrev held : PlainList g.row.K.Denot g.row.V.Denot
-  held = record { pairs = c.self.inside.table.walk; capacity = c.self.inside.table.capacity; factor = c.self.inside.factor }
+  held = record { pairs = c.self.inside.table.walk; capacity = c.self.inside.table.capacity; factor = c.self.inside.factor; placed = c.self.inside.placed; compared = c.self.inside.compared }
 
   -- the capacity stays
   stays : IsNext c.self.inside.table.capacity (length c.self.inside.table.walk + 1) c.self.inside.factor c.self.inside.table.capacity
@@ -68,7 +68,7 @@ pub returns-then-self-clause-refused : goal.returns-then-self-clause-refused
 returns-then-self-clause-refused g c =
     let missing = (rw (← c.self.view_is) at c.requires.missing) in
     let full = c.if-self.true in let counted = c.self.invariant.count in
-    rw (← c.self.view_is) (RefusalIsDue-absent g.K.IntKey.number_of (record { pairs = c.self.inside.table.walk; capacity = c.self.inside.table.capacity; factor = c.self.inside.factor }) c.args.key missing TooLarge
+    rw (← c.self.view_is) (RefusalIsDue-absent g.K.IntKey.number_of (record { pairs = c.self.inside.table.walk; capacity = c.self.inside.table.capacity; factor = c.self.inside.factor; placed = c.self.inside.placed; compared = c.self.inside.compared }) c.args.key missing TooLarge
     ((λ _. inl (omega (arith, full, counted))), λ _. refl) (λ e. cc))
 
 pub add_growing-requires-clause-count : goal.add_growing-requires-clause-count

@@ -44,7 +44,7 @@ invariant_of-self g c =
 
 module _ (g : _) (c : After-grow_with g) where
   abbrev held : PlainList g.row.K.Denot g.row.V.Denot
-  held = record { pairs = c.self.inside.table.walk; capacity = c.self.inside.table.capacity; factor = c.self.inside.factor }
+  held = record { pairs = c.self.inside.table.walk; capacity = c.self.inside.table.capacity; factor = c.self.inside.factor; placed = c.self.inside.placed; compared = c.self.inside.compared }
 
   here : c.args.len ≡ length c.self.inside.table.walk + 1
   here = rw (← c.self.view_is) at c.requires.count
@@ -75,7 +75,7 @@ returns-in_default-clause-refused g c =
     let e = seen g at in
     let due = subst (λ n. is_due n ≡ true) e c.requires.due in
     let much = subst (λ n. WantsTooMuch c.self.inside.table.capacity n c.self.inside.factor) e (rw c.capacity.ensures.value at c.in_default.ensures.none) in
-    rw (← c.self.view_is) (RefusalIsDue-absent g.K.IntKey.number_of (record { pairs = c.self.inside.table.walk; capacity = c.self.inside.table.capacity; factor = c.self.inside.factor }) c.args.key (missing g at) TooLarge
+    rw (← c.self.view_is) (RefusalIsDue-absent g.K.IntKey.number_of (record { pairs = c.self.inside.table.walk; capacity = c.self.inside.table.capacity; factor = c.self.inside.factor; placed = c.self.inside.placed; compared = c.self.inside.compared }) c.args.key (missing g at) TooLarge
     ((λ _. inr (GrowsTooMuch-wants c.self.inside.table.capacity (length c.self.inside.table.walk + 1) c.self.inside.factor due much)), (λ _. refl)) (λ e. cc))
 
 pub returns-in-Err-clause-refused : goal.returns-in-Err-clause-refused

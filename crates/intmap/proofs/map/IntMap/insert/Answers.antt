@@ -39,7 +39,9 @@ returns-in-Err-add-clause-err g c = c.in-Err-add.ensures.err ∙ c.in-Err.ensure
 
 -- the key is absent, and its insertion failed
 due : (g : _) (c : In-Err-add g) → RefusalIsDue g.K.IntKey.number_of (list_of c.args.self.now) c.args.key c.in-Err-add.refused.cause
-due g c = subst (λ (m : MapState g.row.K.Denot g.row.V.Denot). RefusalIsDue g.K.IntKey.number_of (list_of m) c.args.key c.in-Err-add.refused.cause) c.in-Err.ensures.state c.in-Err-add.ensures.refused
+due g c =
+    let searched = subst (λ (m : MapState g.row.K.Denot g.row.V.Denot). RefusalIsDue g.K.IntKey.number_of (list_of m) c.args.key c.in-Err-add.refused.cause) c.in-Err.ensures.state c.in-Err-add.ensures.refused in
+    record { new_key = searched.new_key; too_large = searched.too_large; memory = searched.memory }
 
 pub returns-in-Err-add-clause-refused : goal.returns-in-Err-add-clause-refused
 returns-in-Err-add-clause-refused g c = due g (goal.at.returns-in-Err-add-clause-refused g c).In-Err-add
