@@ -6,7 +6,7 @@ use Rattle.intmap.specs.Map.{after_search, with_pair}
 use Rattle.intmap.specs.PlainLists.{RefusalIsDue, list_of}
 use Rattle.intmap.specs.declared.refusal.Cause.{Cause}
 use Rattle.intmap.specs.declared.refusal.Cause.TheVariants.{TooLarge, Memory}
-use Rattle.intmap_c.specs.declared.answer.TheConstants.{NO_MEMORY, TOO_LARGE}
+use Rattle.intmap_c.specs.Statuses.{no_memory_status, too_large_status}
 use Rattle.intmap_c.specs.Answers.{IsFailed, OnMap}
 use Rattle.intmap.proofs.InsertionLemmas.{IsInsertion-searched}
 use Rattle.intmap_c.specs.Calls.{Binds, Fails, State, bound_to, itself}
@@ -23,7 +23,7 @@ module _ (m v : State) (k q : ℕ) (searched : v ≡ after_search itself m k) (s
 
   -- a refusal that is due is told by the status of its cause
   pub Fails-due : (n : State) (status : ℤ) (cause : Cause) → n ≡ v → RefusalIsDue itself (list_of v) q cause
-      → IsFailed status → ((status ≡ TOO_LARGE) ↔ (cause ≡ TooLarge)) → ((status ≡ NO_MEMORY) ↔ (cause ≡ Memory)) → Fails m n k status
+      → IsFailed status → ((status ≡ too_large_status) ↔ (cause ≡ TooLarge)) → ((status ≡ no_memory_status) ↔ (cause ≡ Memory)) → Fails m n k status
   Fails-due n status cause stayed due failed large memory =
       let was = said_before (λ s key. RefusalIsDue itself (list_of s) key cause) due in
       record {

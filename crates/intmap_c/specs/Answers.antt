@@ -1,6 +1,6 @@
 -- What calls return to C, and with which map.
 use Rattle.std.specs.Prelude.{◌≡◌, ◌⊎◌, ℕ, ℤ, Option, None, Some}
-use Rattle.intmap_c.specs.declared.answer.TheConstants.{PRESENT, ABSENT, NO_MEMORY, TOO_LARGE}
+use Rattle.intmap_c.specs.Statuses.{present_status, absent_status, no_memory_status, too_large_status}
 use Rattle.intmap_c.specs.declared.answer.Answer.{Answer}
 use Rattle.intmap_c.specs.declared.answer.Found.{Found}
 use Rattle.intmap_c.specs.declared.answer.Pair.{Pair}
@@ -11,8 +11,8 @@ no_value why = record { value = 0; status = why }
 
 -- the value that a key had, or that it was absent
 abbrev pub value_found : Option ℕ → Answer
-value_found None = no_value ABSENT
-value_found (Some v) = record { value = v; status = PRESENT }
+value_found None = no_value absent_status
+value_found (Some v) = record { value = v; status = present_status }
 
 -- a pair as C has it
 abbrev pub pair_of : ℕ × ℕ → Pair
@@ -24,12 +24,12 @@ no_pair why = record { pair = pair_of (0, 0); status = why }
 
 -- the pair that was found, or that there was none
 abbrev pub pair_found : Option (ℕ × ℕ) → Found
-pair_found None = no_pair ABSENT
-pair_found (Some p) = record { pair = pair_of p; status = PRESENT }
+pair_found None = no_pair absent_status
+pair_found (Some p) = record { pair = pair_of p; status = present_status }
 
 -- the call failed: for want of memory, or since the map would be too large
 abbrev pub IsFailed : ℤ → Type 0
-IsFailed status = (status ≡ NO_MEMORY) ⊎ (status ≡ TOO_LARGE)
+IsFailed status = (status ≡ no_memory_status) ⊎ (status ≡ too_large_status)
 
 module _ {S : Type 0} where
   -- P of the map before and the map after; if there is no map, there is none after either, and N

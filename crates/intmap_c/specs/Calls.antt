@@ -3,10 +3,10 @@ use Rattle.std.specs.Prelude.{◌≡◌, ◌↔◌, ◌⊎◌, ℕ, ℤ, ◌+◌
 use Rattle.intmap.specs.Bindings.{value_of, IsPresent, Updates}
 use Rattle.intmap.specs.Cloning.{IsClone}
 use Rattle.intmap.specs.Reach.{class_size}
-use Rattle.intmap.specs.Growth.{IsNext, IsLeastPower, IsWanted, WantsTooMuch}
+use Rattle.intmap.specs.Growth.{IsNext, IsLeastPower, IsWanted, NeedsTooMuch}
 use Rattle.intmap.specs.Insertions.{IsInsertion}
 use Rattle.intmap.specs.Map.{MapState, IsOutOfRange, after_search, after_insert, after_remove, written, in_slots}
-use Rattle.intmap_c.specs.declared.answer.TheConstants.{DONE, PRESENT, ABSENT, NO_MEMORY, TOO_LARGE, NO_MAP}
+use Rattle.intmap_c.specs.Statuses.{done_status, present_status, absent_status, no_memory_status, too_large_status, no_map_status}
 use Rattle.intmap_c.specs.declared.answer.Answer.{Answer}
 use Rattle.intmap_c.specs.Answers.{value_found, no_value, IsFailed}
 
@@ -35,10 +35,10 @@ AreEqual (Some m) (Some n) same = (same ≡ true) ↔ ((k : ℕ) → bound_to m 
 
 -- a map with the same pairs in the same order was made in a word that had `old` and has `new`; or it could not be made, and the word is as it was
 abbrev pub Clones : Option State → Option State → Option State → ℤ → Type 0
-Clones None old new status = (status ≡ NO_MAP) × (new ≡ old)
+Clones None old new status = (status ≡ no_map_status) × (new ≡ old)
 Clones (Some m) old new status =
-    ((status ≡ DONE) × ((n : State) × (new ≡ Some n) × IsClone (λ v w. w ≡ v) m n))
-    ⊎ ((status ≡ NO_MEMORY) × (new ≡ old))
+    ((status ≡ done_status) × ((n : State) × (new ≡ Some n) × IsClone (λ v w. w ≡ v) m n))
+    ⊎ ((status ≡ no_memory_status) × (new ≡ old))
 
 -- k was inserted with v, in the number of slots that this needs
 pub record Binds (m n : State) (k v : ℕ) : Type 0 where
@@ -50,8 +50,8 @@ pub record Fails (m n : State) (k : ℕ) (status : ℤ) : Type 0 where
   pub why : IsFailed status
   pub state : n ≡ after_search itself m k
   pub new_key : bound_to m k ≡ None
-  pub too_large : (status ≡ TOO_LARGE) ↔ IsOutOfRange itself m.walk m.capacity m.factor k
-  pub memory : status ≡ NO_MEMORY → IsNext m.capacity (length m.walk + 1) m.factor m.capacity → 0 < class_size itself m.walk m.capacity k
+  pub too_large : (status ≡ too_large_status) ↔ IsOutOfRange itself m.walk m.capacity m.factor k
+  pub memory : status ≡ no_memory_status → IsNext m.capacity (length m.walk + 1) m.factor m.capacity → 0 < class_size itself m.walk m.capacity k
 
 -- k was inserted with v, and its value before is returned; or the insertion failed
 abbrev pub Inserts : State → State → ℕ → ℕ → Answer → Type 0
@@ -62,8 +62,8 @@ Inserts m n k v answer =
 -- k had a value, which stays; or it was absent, and was inserted with v; or the insertion failed
 abbrev pub InsertsNew : State → State → ℕ → ℕ → ℤ → Type 0
 InsertsNew m n k v status =
-    ((status ≡ PRESENT) × IsPresent itself m.walk k × (n ≡ after_search itself m k))
-    ⊎ ((status ≡ ABSENT) × (bound_to m k ≡ None) × Binds m n k v)
+    ((status ≡ present_status) × IsPresent itself m.walk k × (n ≡ after_search itself m k))
+    ⊎ ((status ≡ absent_status) × (bound_to m k ≡ None) × Binds m n k v)
     ⊎ Fails m n k status
 
 -- v was written in the place of the value of k, which is returned; if k is absent, nothing was written
@@ -95,17 +95,17 @@ pub record Removes (m n : State) (k : ℕ) (answer : Answer) : Type 0 where
 -- there are slots for this number of further pairs; or the map is as it was
 pub record Reserves (m n : State) (additional : ℕ) (status : ℤ) : Type 0 where
   pub outcome :
-      ((status ≡ DONE) × (n ≡ in_slots itself m n.capacity)
+      ((status ≡ done_status) × (n ≡ in_slots itself m n.capacity)
       × ((p : ℕ) × IsLeastPower (length m.walk + additional) p × (n.capacity ≡ max m.capacity p)) × BindSame m n)
       ⊎ (IsFailed status × (n ≡ m))
-  pub too_large : (status ≡ TOO_LARGE) ↔ (2 ^ 63 < length m.walk + additional)
-  pub memory : status ≡ NO_MEMORY → m.capacity < length m.walk + additional
+  pub too_large : (status ≡ too_large_status) ↔ (2 ^ 63 < length m.walk + additional)
+  pub memory : status ≡ no_memory_status → m.capacity < length m.walk + additional
 
 -- the load factor is F, and met; or the map is as it was
 pub record SetsFactor (m n : State) (F : ℕ) (status : ℤ) : Type 0 where
   pub outcome :
-      ((status ≡ DONE) × (n ≡ in_slots itself (record m { factor = F }) n.capacity)
+      ((status ≡ done_status) × (n ≡ in_slots itself (record m { factor = F }) n.capacity)
       × IsWanted m.capacity (length m.walk) F n.capacity × BindSame m n)
       ⊎ (IsFailed status × (n ≡ m))
-  pub too_large : (status ≡ TOO_LARGE) ↔ WantsTooMuch m.capacity (length m.walk) F
-  pub memory : status ≡ NO_MEMORY → IsWanted m.capacity (length m.walk) F m.capacity → ⊥
+  pub too_large : (status ≡ too_large_status) ↔ NeedsTooMuch (IsWanted m.capacity (length m.walk) F)
+  pub memory : status ≡ no_memory_status → IsWanted m.capacity (length m.walk) F m.capacity → ⊥

@@ -1,3 +1,4 @@
+pub mod Statuses
 pub mod Answers
 pub mod Calls
 pub mod Handles

@@ -2,6 +2,7 @@
 ghost use Rattle.std.specs.Prelude.{◌≡◌};
 ghost use Rattle.intmap_c.specs.Answers.{OnMap};
 ghost use Rattle.intmap_c.specs.Calls.{Reserves, SetsFactor};
+ghost use Rattle.intmap_c.specs.Statuses.{no_map_status};
 
 use crate::answer::{DONE, NO_MAP, status_of};
 use crate::handle::{Handle, put, take};
@@ -37,7 +38,7 @@ fn set_load_factor(map: &mut IntMap<u64, u64>, thousandths: usize) -> i32
 /// ```
 #[unsafe(no_mangle)]
 pub extern "C" fn intmap_reserve(alloc: Global, handle: &mut Handle, additional: usize) -> i32
-    ensures { OnMap handle.old.value handle.new.value (result ≡ NO_MAP)
+    ensures { OnMap handle.old.value handle.new.value (result ≡ no_map_status)
         (λ m n. Reserves m n additional result) }
 {
     match take(handle, alloc) {
@@ -63,7 +64,7 @@ pub extern "C" fn intmap_set_load_factor(
     handle: &mut Handle,
     thousandths: usize,
 ) -> i32
-    ensures { OnMap handle.old.value handle.new.value (result ≡ NO_MAP)
+    ensures { OnMap handle.old.value handle.new.value (result ≡ no_map_status)
         (λ m n. SetsFactor m n thousandths result) }
 {
     match take(handle, alloc) {

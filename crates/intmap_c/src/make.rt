@@ -3,7 +3,7 @@ ghost use Rattle.std.specs.Prelude.{◌≡◌, ◌⊎◌, ◌↔◌, ◌^◌, �
 ghost use Rattle.intmap.specs.Growth.{IsLeastPower};
 ghost use Rattle.intmap.specs.Map.{empty_map, first_capacity, least_capacity};
 ghost use Rattle.intmap_c.specs.Answers.{IsFailed};
-ghost use Rattle.intmap_c.specs.declared.answer.TheConstants.{TOO_LARGE};
+ghost use Rattle.intmap_c.specs.Statuses.{done_status, no_memory_status, too_large_status};
 
 use crate::answer::{DONE, NO_MEMORY, status_of};
 use crate::handle::{Handle, put, take};
@@ -14,10 +14,10 @@ use std::alloc::Global;
 /// memory for its block, it returns why, and the handle stays.
 pub(crate) fn keep(alloc: Global, handle: &mut Handle, made: Result<IntMap<u64, u64>, Cause>) -> i32
     ensures { MatchResult made
-        (λ map. ((result ≡ DONE) × (handle.new.value ≡ Some map))
-        ⊎ ((result ≡ NO_MEMORY) × (handle.new.value ≡ handle.old.value)))
+        (λ map. ((result ≡ done_status) × (handle.new.value ≡ Some map))
+        ⊎ ((result ≡ no_memory_status) × (handle.new.value ≡ handle.old.value)))
         (λ cause. (handle.new.value ≡ handle.old.value) × IsFailed result
-        × ((result ≡ TOO_LARGE) ↔ (cause ≡ Cause.TooLarge))) }
+        × ((result ≡ too_large_status) ↔ (cause ≡ Cause.TooLarge))) }
 {
     match made {
         Ok(map) => match Box::new(alloc, map) {
@@ -39,8 +39,8 @@ pub(crate) fn keep(alloc: Global, handle: &mut Handle, made: Result<IntMap<u64, 
 /// ```
 #[unsafe(no_mangle)]
 pub extern "C" fn intmap_new(alloc: Global, handle: &mut Handle) -> i32
-    ensures { ((result ≡ DONE) × (handle.new.value ≡ Some (empty_map first_capacity)))
-        ⊎ ((result ≡ NO_MEMORY) × (handle.new.value ≡ handle.old.value)) }
+    ensures { ((result ≡ done_status) × (handle.new.value ≡ Some (empty_map first_capacity)))
+        ⊎ ((result ≡ no_memory_status) × (handle.new.value ≡ handle.old.value)) }
 {
     keep(alloc, handle, IntMap::new(alloc))
 }
@@ -56,11 +56,11 @@ pub extern "C" fn intmap_new(alloc: Global, handle: &mut Handle) -> i32
 /// ```
 #[unsafe(no_mangle)]
 pub extern "C" fn intmap_with_capacity(alloc: Global, handle: &mut Handle, capacity: usize) -> i32
-    ensures outcome { ((result ≡ DONE)
+    ensures outcome { ((result ≡ done_status)
         × ((D : ℕ) × IsLeastPower (max capacity least_capacity) D
         × (handle.new.value ≡ Some (empty_map D))))
         ⊎ (IsFailed result × (handle.new.value ≡ handle.old.value)) }
-    ensures too_large { (result ≡ TOO_LARGE) ↔ (2 ^ 63 < capacity) }
+    ensures too_large { (result ≡ too_large_status) ↔ (2 ^ 63 < capacity) }
 {
     keep(alloc, handle, IntMap::with_capacity(alloc, capacity))
 }

@@ -2,6 +2,7 @@
 ghost use Rattle.std.specs.Prelude.{◌≡◌};
 ghost use Rattle.intmap_c.specs.Answers.{OnMap, no_value};
 ghost use Rattle.intmap_c.specs.Calls.{Adds, AddsOrInserts, Inserts, InsertsNew, Removes, Writes};
+ghost use Rattle.intmap_c.specs.Statuses.{no_map_status};
 
 use crate::answer::{ABSENT, Answer, NO_MAP, PRESENT, status_of};
 use crate::handle::{Handle, put, take};
@@ -96,7 +97,7 @@ fn remove(map: &mut IntMap<u64, u64>, key: u64) -> Answer
 /// ```
 #[unsafe(no_mangle)]
 pub extern "C" fn intmap_insert(alloc: Global, handle: &mut Handle, key: u64, value: u64) -> Answer
-    ensures { OnMap handle.old.value handle.new.value (result ≡ no_value NO_MAP)
+    ensures { OnMap handle.old.value handle.new.value (result ≡ no_value no_map_status)
         (λ m n. Inserts m n key value result) }
 {
     match take(handle, alloc) {
@@ -123,7 +124,7 @@ pub extern "C" fn intmap_insert_checked(
     key: u64,
     value: u64,
 ) -> i32
-    ensures { OnMap handle.old.value handle.new.value (result ≡ NO_MAP)
+    ensures { OnMap handle.old.value handle.new.value (result ≡ no_map_status)
         (λ m n. InsertsNew m n key value result) }
 {
     match take(handle, alloc) {
@@ -144,7 +145,7 @@ pub extern "C" fn intmap_insert_checked(
 /// ```
 #[unsafe(no_mangle)]
 pub extern "C" fn intmap_set(alloc: Global, handle: &mut Handle, key: u64, value: u64) -> Answer
-    ensures { OnMap handle.old.value handle.new.value (result ≡ no_value NO_MAP)
+    ensures { OnMap handle.old.value handle.new.value (result ≡ no_value no_map_status)
         (λ m n. Writes m n key value result) }
 {
     match take(handle, alloc) {
@@ -165,7 +166,7 @@ pub extern "C" fn intmap_set(alloc: Global, handle: &mut Handle, key: u64, value
 /// ```
 #[unsafe(no_mangle)]
 pub extern "C" fn intmap_add(alloc: Global, handle: &mut Handle, key: u64, more: u64) -> Answer
-    ensures { OnMap handle.old.value handle.new.value (result ≡ no_value NO_MAP)
+    ensures { OnMap handle.old.value handle.new.value (result ≡ no_value no_map_status)
         (λ m n. Adds m n key more result) }
 {
     match take(handle, alloc) {
@@ -191,7 +192,7 @@ pub extern "C" fn intmap_add_or_insert(
     key: u64,
     more: u64,
 ) -> Answer
-    ensures { OnMap handle.old.value handle.new.value (result ≡ no_value NO_MAP)
+    ensures { OnMap handle.old.value handle.new.value (result ≡ no_value no_map_status)
         (λ m n. AddsOrInserts m n key more result) }
 {
     match take(handle, alloc) {
@@ -212,7 +213,7 @@ pub extern "C" fn intmap_add_or_insert(
 /// ```
 #[unsafe(no_mangle)]
 pub extern "C" fn intmap_remove(alloc: Global, handle: &mut Handle, key: u64) -> Answer
-    ensures { OnMap handle.old.value handle.new.value (result ≡ no_value NO_MAP)
+    ensures { OnMap handle.old.value handle.new.value (result ≡ no_value no_map_status)
         (λ m n. Removes m n key result) }
 {
     match take(handle, alloc) {

@@ -9,6 +9,7 @@ ghost use Rattle.intmap_c.specs.Answers.{no_value, value_found};
 ghost use Rattle.intmap_c.specs.Calls.{AreEqual, Clones, bound_to, itself};
 ghost use Rattle.intmap_c.specs.Loans.{Loan, is_lent};
 ghost use Rattle.intmap_c.specs.Walks.{MayStep, StepsIfMap};
+ghost use Rattle.intmap_c.specs.Statuses.{no_map_status};
 
 use crate::answer::{Answer, Found, NO_MAP};
 use crate::handle::Handle;
@@ -129,7 +130,7 @@ pub unsafe extern "C" fn intmap_filled_slots(word: &Word) -> usize
 
 /// Returns what [`intmap_get`] returns.
 fn get(lent: Lent<'_>, key: u64) -> Answer
-    ensures { MatchOption lent.entry.value (result ≡ no_value NO_MAP)
+    ensures { MatchOption lent.entry.value (result ≡ no_value no_map_status)
         (λ m. result ≡ value_found (bound_to m key)) }
 {
     match lent.map() {
@@ -149,7 +150,7 @@ pub unsafe extern "C" fn intmap_get(word: &Word, key: u64) -> Answer
     ghost loan: { Loan }
     requires* { sem 𝓛 (is_lent loan word.now.at) }
     ensures* kept { sem 𝓛 (is_lent loan word.now.at) }
-    ensures value { MatchOption loan.value (result ≡ no_value NO_MAP)
+    ensures value { MatchOption loan.value (result ≡ no_value no_map_status)
         (λ m. result ≡ value_found (bound_to m key)) }
 {
     let lent = Lent {

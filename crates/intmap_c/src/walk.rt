@@ -3,6 +3,7 @@ ghost use Rattle.std.specs.Prelude.{◌≡◌, ⊤};
 ghost use Rattle.intmap.specs.Map.{emptied};
 ghost use Rattle.intmap_c.specs.Answers.{OnMap, no_pair};
 ghost use Rattle.intmap_c.specs.Walks.{Cuts, IsOn, MayStep};
+ghost use Rattle.intmap_c.specs.Statuses.{no_map_status};
 
 use crate::answer::{Found, NO_MAP};
 use crate::handle::{Handle, put, take};
@@ -29,7 +30,7 @@ fn cut(map: &mut IntMap<u64, u64>, at: &mut Cursor) -> Found
 pub extern "C" fn intmap_cut(alloc: Global, handle: &mut Handle, at: &mut Cursor) -> Found
     requires { MayStep handle.old.value at.old }
     ensures { OnMap handle.old.value handle.new.value
-        ((result ≡ no_pair NO_MAP) × (at.new ≡ at.old))
+        ((result ≡ no_pair no_map_status) × (at.new ≡ at.old))
         (λ m n. Cuts m n at.old at.new result) }
 {
     match take(handle, alloc) {

@@ -3,7 +3,7 @@ use Rattle.intmap_c.proofs.ReaderWords.{◌≡◌, [], ◌∷◌, refl, sym, Lis
 use Rattle.intmap_c.specs.Answers.{no_value, value_found}
 use Rattle.intmap_c.specs.Calls.{bound_to}
 use Rattle.intmap_c.specs.declared.answer.Answer.{Answer}
-use Rattle.intmap_c.specs.declared.answer.TheConstants.{NO_MAP}
+use Rattle.intmap_c.specs.Statuses.{no_map_status}
 use Rattle.intmap_c.specs.contracts.answer.Answer as answer
 use Rattle.intmap_c.proofs.answer.Answer.TheLaws as answer_laws
 use Rattle.intmap_c.specs.contracts.read.intmap_get as f
@@ -49,7 +49,7 @@ intmap_get_spec {M = M} 𝓤 𝓛 𝓜 𝓡 wired =
     calls_at ! (framed 𝓤 𝓛.H 𝓜 (tables 𝓤 𝓛.H 𝓜 𝓡 𝓡.env)) G (met 𝓤 𝓛 𝓜 𝓡 (code.calls-intmap_c::read::get 𝓡.env wired)) z
     (and_then ! (get ! refl) (and_then ! (get ! refl) (no_more !))) (λ v.
     use1 𝓛 (later (some (λ (r : Answer). ((‵ (flft α loan.share) ⊛ ‵ ftrue) ⊛ ‵ (Out.own_val r (v ∷ []))) ⊛
-    some (λ (ws : Lasts g.ended z.0.0 z.0.3). ‵ (lasts g.ended z.0.0 z.0.3 ws) ⊛ raw (fact 𝓤 (MatchOption m (r ≡ no_value NO_MAP) (λ n. r ≡ value_found (bound_to n k)))))))) (id⊢ 𝓤 _) $
+    some (λ (ws : Lasts g.ended z.0.0 z.0.3). ‵ (lasts g.ended z.0.0 z.0.3 ws) ⊛ raw (fact 𝓤 (MatchOption m (r ≡ no_value no_map_status) (λ n. r ≡ value_found (bound_to n k)))))))) (id⊢ 𝓤 _) $
     await ! tt $ pick ! (λ r. split ! $ split ! $ split ! $ move ! (2 ∷ []) $ peeks ! Out (Is Out) (shows 𝓛 Out) r (v ∷ []) (λ is.
     lands_as ! refl refl ((answer_laws.the_row_laws.lawful 𝓛).typed r (v ∷ []) is).0 $ returns ! (look_at ! 0 refl) $ free_all ! refl $
     -- [the number; the token of the loan; nothing; what the callee left and says; what stays lent; the token of the `&`; ..]

@@ -1,0 +1,26 @@
+-- The numbers by which calls tell C what happened.
+use Rattle.std.specs.Prelude.{ℤ, pos, negsuc}
+
+-- the call did what it says
+abbrev pub done_status : ℤ
+done_status = pos 0
+
+-- the key, or a pair, was present before the call
+abbrev pub present_status : ℤ
+present_status = pos 1
+
+-- the key, or a pair, was absent before the call
+abbrev pub absent_status : ℤ
+absent_status = pos 2
+
+-- -1: an allocation failed
+abbrev pub no_memory_status : ℤ
+no_memory_status = negsuc 0
+
+-- -2: the map would be too large
+abbrev pub too_large_status : ℤ
+too_large_status = negsuc 1
+
+-- -3: there is no map
+abbrev pub no_map_status : ℤ
+no_map_status = negsuc 2
