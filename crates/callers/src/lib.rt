@@ -19,6 +19,7 @@ pub mod pages;
 pub mod prices;
 pub mod refusals;
 pub mod retained;
+pub mod room;
 pub mod scopes;
 pub mod session;
 pub mod sets;

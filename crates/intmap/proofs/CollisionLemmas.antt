@@ -12,7 +12,7 @@ use Rattle.intmap_table.specs.Bindings.{value_of}
 use Rattle.intmap_table.specs.Classes.{IsCapacity}
 use Rattle.intmap_table.specs.Figures.{each_once, tally_of}
 use Rattle.intmap.specs.Extending.{IsTally}
-use Rattle.intmap.specs.Growth.{IsWanted, GrowsTooMuch, is_due}
+use Rattle.intmap.specs.Growth.{IsNext, IsWanted, is_due, NeedsTooMuch}
 use Rattle.intmap.specs.Map.{MapState, IsMap, IsOutOfRange}
 use Rattle.intmap_table.proofs.SlotNumberLemmas.{capacity-greatest}
 use Rattle.intmap.proofs.LoadFactorLemmas.{MeetsLoad-from}
@@ -47,8 +47,8 @@ few_sizes (m ∷ sizes) = elim (cases_Bool (nat_lt 1 m)) [
 ]
 
 -- a new map with that few pairs never needs more than 2^63 slots
-GrowsTooMuch-few : (C n : ℕ) → IsCapacity C → 3 * n ≤ 2 ^ 64 → GrowsTooMuch C n 909 → ⊥
-GrowsTooMuch-few C n cap few much = elim (cases_Bool (is_due n)) [
+NeedsTooMuch-few : (C n : ℕ) → IsCapacity C → 3 * n ≤ 2 ^ 64 → NeedsTooMuch (IsNext C n 909) → ⊥
+NeedsTooMuch-few C n cap few much = elim (cases_Bool (is_due n)) [
   | inl due ↦
       (let wanted : IsWanted C n 909 much.0 = rw due at much.1 in
       let i : ℕ = 63 - cap.0 in
@@ -116,7 +116,7 @@ module _ {X : Type 0} (slot : ℕ → List X) where
         let least : 3 * (length m.walk + 1) ≤ 2 ^ 64 = omega (arith, more, len, few, one, pairs, fits) in
         elim out.1 [
           | inl long ↦ omega (arith, long, least)
-          | inr much ↦ GrowsTooMuch-few m.capacity (length m.walk + 1) is_map.capacity least (rw (IsMadeOf-factor (λ k. k) (λ k. k < 2 ^ 64) (tally_of (collision_sizes_below n)) m tally.made) at much)
+          | inr much ↦ NeedsTooMuch-few m.capacity (length m.walk + 1) is_map.capacity least (rw (IsMadeOf-factor (λ k. k) (λ k. k < 2 ^ 64) (tally_of (collision_sizes_below n)) m tally.made) at much)
         ]
       where
         one-most : (b : Bool) → cond {A = ℕ} b 1 0 ≤ 1

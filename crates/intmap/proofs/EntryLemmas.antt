@@ -15,10 +15,10 @@ use Rattle.intmap.specs.Entries.{occupied_with_value, occupied_key, IsMadeRefusa
 use Rattle.intmap.specs.Growth.{IsNext, is_due, next_capacity}
 use Rattle.intmap_table.specs.Locations.{IsFound}
 use Rattle.intmap.specs.Insertions.{IsInsertion}
-use Rattle.intmap.specs.Map.{MapState, IsMap, InsertIsTooLarge, with_pair, written}
+use Rattle.intmap.specs.Map.{MapState, IsMap, with_pair, written}
 use Rattle.intmap_table.specs.Walk.{walk_of}
 use Rattle.intmap.proofs.GrowthLemmas.{IsWanted-wanted_capacity}
-use Rattle.intmap.proofs.LoadFactorLemmas.{IsNext-unique}
+use Rattle.intmap.proofs.LoadFactorLemmas.{InsertIsTooLarge, IsNext-unique}
 use Rattle.intmap_table.proofs.LocationLemmas.{walk_of-write_value}
 use Rattle.intmap.proofs.MapLemmas.{MapState-same}
 use Rattle.intmap.proofs.WriteLemmas.{write_value-unbound}

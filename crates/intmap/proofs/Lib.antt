@@ -34,6 +34,7 @@ pub mod WritesLemmas
 pub mod ExtractLemmas
 pub mod CursorLemmas
 pub mod RefusalLemmas
+pub mod RoomLemmas
 pub mod InsertionLemmas
 pub mod LendMapLemmas
 pub mod EqualLengthLemmas

@@ -1,6 +1,6 @@
 -- Which numbers of pairs meet a load factor, by products alone.
-use Rattle.std.proofs.Common.{◌≡◌, ◌≢◌, inl, inr, ℕ, ◌+◌, ◌-◌, ◌*◌, ◌/◌, ◌%◌, ◌^◌, ◌<◌, ◌≤◌, true, false, refl, sym, ap, ◌∙◌, subst, arith, bit_and}
-use Rattle.std.specs.Prelude.{nat_lt, ◌==◌, ◌&&◌}
+use Rattle.std.proofs.Common.{◌≡◌, ◌≢◌, inl, inr, ℕ, ◌+◌, ◌-◌, ◌*◌, ◌/◌, ◌%◌, ◌^◌, ◌<◌, ◌≤◌, true, false, List, length, refl, sym, ap, ◌∙◌, subst, arith, bit_and}
+use Rattle.std.specs.Prelude.{◌⊎◌, nat_lt, ◌==◌, ◌&&◌}
 use Rattle.std.proofs.Math.Pow.{pow_pos, pow_mono}
 use Rattle.std.proofs.Math.Nat.{mul-le-mul_left, div-mul-le_self}
 use Rattle.std.proofs.lemmas.Nat.{le-div, div_below, pow-add}
@@ -8,8 +8,12 @@ use Rattle.std.proofs.lemmas.Nat.Bits.{and_pow}
 use Rattle.std.proofs.lemmas.Bool.{cases_lt, cases_eq, cases_order, cases_Bool, ltb-false, eq-eqb, ne_eqb, eqb-true, eqb-false}
 use Rattle.intmap_table.specs.Classes.{IsCapacity}
 use Rattle.intmap_table.proofs.SlotNumberLemmas.{capacity-positive, capacity-greatest}
-use Rattle.intmap.specs.Growth.{IsWanted, IsNext, IsThreshold, MeetsLoad, WantsTooMuch, GrowsTooMuch, is_due, last_due, wanted_capacity}
+use Rattle.intmap.specs.Growth.{IsWanted, IsNext, IsThreshold, MeetsLoad, is_due, last_due, wanted_capacity, NeedsTooMuch}
 use Rattle.intmap.proofs.GrowthLemmas.{IsWanted-unique, IsWanted-wanted_capacity}
+
+-- no new key is in range: one more pair would be more than 2^64 - 1, or need more than 2^63 slots
+abbrev pub InsertIsTooLarge : {K V : Type 0} → List (K × V) → ℕ → ℕ → Type 0
+InsertIsTooLarge L C F = (2 ^ 64 ≤ length L + 1) ⊎ NeedsTooMuch (IsNext C (length L + 1) F)
 
 -- a product below the factor's meets the load
 pub MeetsLoad-from : (n C F : ℕ) → 0 < C → n * 1000 < (F + 1) * C → MeetsLoad C n F
@@ -75,7 +79,7 @@ IsNear-more C n F c cap near over apart =
     }
 
 -- if 2^63 isn't enough, more is needed
-pub IsNear-none : (C n F c : ℕ) → IsCapacity C → n < 2 ^ 64 → IsNear C n F c → (F + 1) * c ≤ n * 1000 → c ≡ 2 ^ 63 → WantsTooMuch C n F
+pub IsNear-none : (C n F c : ℕ) → IsCapacity C → n < 2 ^ 64 → IsNear C n F c → (F + 1) * c ≤ n * 1000 → c ≡ 2 ^ 63 → NeedsTooMuch (IsWanted C n F)
 IsNear-none C n F c cap fits near over top =
     let D : ℕ = wanted_capacity C n F in
     let w : IsWanted C n F D = IsWanted-wanted_capacity C n F cap fits in (
@@ -98,7 +102,7 @@ IsNear-none C n F c cap fits near over top =
     )
 
 -- a wanted capacity up to 2^63 leaves none above it to be wanted
-pub not_too_much : (C n F D : ℕ) → IsWanted C n F D → D ≤ 2 ^ 63 → WantsTooMuch C n F → ⊥
+pub not_too_much : (C n F D : ℕ) → IsWanted C n F D → D ≤ 2 ^ 63 → NeedsTooMuch (IsWanted C n F) → ⊥
 not_too_much C n F D wanted le much =
     let same : D ≡ much.0 = IsWanted-unique C n F D much.0 wanted much.1 in
     let above = much.2 in omega (arith, same, le, above)
@@ -228,11 +232,11 @@ pub IsNext-changes : (C n F D : ℕ) → F < n * 1000 / C → MeetsLoad D n F �
 IsNext-changes C n F D over meets same = let m : MeetsLoad C n F = subst (λ c. MeetsLoad c n F) same meets in omega (arith, over, m)
 
 -- within the threshold no more than 2^63 slots are asked for
-pub GrowsTooMuch-none : (C n F D : ℕ) → IsCapacity D → IsNext C n F D → GrowsTooMuch C n F → ⊥
-GrowsTooMuch-none C n F D cap next much =
+pub NeedsTooMuch-none : (C n F D : ℕ) → IsCapacity D → IsNext C n F D → NeedsTooMuch (IsNext C n F) → ⊥
+NeedsTooMuch-none C n F D cap next much =
     let same : D ≡ much.0 = IsNext-unique C n F D much.0 next much.1 in
     let top = capacity-greatest D cap in let above = much.2 in omega (arith, same, top, above)
 
 -- if growth is tested, needing too much is growing too much
-pub GrowsTooMuch-wants : (C n F : ℕ) → is_due n ≡ true → WantsTooMuch C n F → GrowsTooMuch C n F
-GrowsTooMuch-wants C n F due much = (much.0, IsNext-wanted C F n much.0 due much.1, much.2)
+pub NeedsTooMuch-wanted : (C n F : ℕ) → is_due n ≡ true → NeedsTooMuch (IsWanted C n F) → NeedsTooMuch (IsNext C n F)
+NeedsTooMuch-wanted C n F due much = (much.0, IsNext-wanted C F n much.0 due much.1, much.2)

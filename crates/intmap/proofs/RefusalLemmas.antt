@@ -5,11 +5,11 @@ use Rattle.intmap_table.specs.Bindings.{value_of}
 use Rattle.intmap_table.specs.Classes.{IsCapacity}
 use Rattle.intmap_table.specs.Reach.{class_size}
 use Rattle.intmap.specs.Growth.{IsNext}
-use Rattle.intmap.specs.Map.{InsertIsTooLarge, IsLone}
+use Rattle.intmap.specs.Map.{IsLone}
 use Rattle.intmap.specs.PlainLists.{PlainList, RefusalIsDue}
 use Rattle.intmap.specs.declared.refusal.Cause.{Cause}
 use Rattle.intmap.specs.declared.refusal.Cause.TheVariants.{Memory, TooLarge}
-use Rattle.intmap.proofs.LoadFactorLemmas.{GrowsTooMuch-none}
+use Rattle.intmap.proofs.LoadFactorLemmas.{InsertIsTooLarge, NeedsTooMuch-none}
 
 module _ {K V : Type 0} (number : K → ℕ) (s : PlainList K V) (k : K) (missing : value_of number s.pairs k ≡ None) where
   -- what is said of an absent key alone
@@ -26,5 +26,5 @@ module _ {K V : Type 0} (number : K → ℕ) (s : PlainList K V) (k : K) (capaci
   lone-never_refused Memory may = let some = may.memory refl lone.stays in omega (arith, lone.alone, some)
   lone-never_refused TooLarge may = elim (may.too_large.0 refl).1 [
     | inl many ↦ omega (arith, lone.count, many)
-    | inr grows ↦ GrowsTooMuch-none s.capacity (length s.pairs + 1) s.factor s.capacity capacity lone.stays grows
+    | inr grows ↦ NeedsTooMuch-none s.capacity (length s.pairs + 1) s.factor s.capacity capacity lone.stays grows
   ]

@@ -67,7 +67,7 @@ module _ {K V A : Type 0} {g : key.Ghosts K} {e : eq.Ghosts K} where
     pub map : entry_map y ≡ map_with_value x w
     pub key : entry_key y ≡ entry_key x
 
-  -- the entry o, once w is the value of the key
+  -- the entry o, once w is the value of the key; an entry holds a proof that its pair is there, of which there is only one
   abbrev pub occupied_with_value : OccupiedEntry K V A g e → V → OccupiedEntry K V A g e
   occupied_with_value o w = record {
     map = record o.map { now = map_with_value (Occupied o) w };

@@ -20,9 +20,9 @@ pub record IsWanted (C n F D : ℕ) : Type 0 where
   pub meets : MeetsLoad D n F
   pub least : (i : ℕ) → C * 2 ^ i < D → F < n * 1000 / (C * 2 ^ i)
 
--- n pairs need more than 2^63 slots
-abbrev pub WantsTooMuch : ℕ → ℕ → ℕ → Type 0
-WantsTooMuch C n F = (D : ℕ) × IsWanted C n F D × (2 ^ 63 < D)
+-- more than 2^63 slots are needed
+abbrev pub NeedsTooMuch : (ℕ → Type 0) → Type 0
+NeedsTooMuch needs = (D : ℕ) × needs D × (2 ^ 63 < D)
 
 -- numbers of pairs up to the threshold meet the load F in C slots, and no greater one does
 abbrev pub IsThreshold : ℕ → ℕ → ℕ → Type 0
@@ -31,10 +31,6 @@ IsThreshold C F threshold = (n : ℕ) → n < 2 ^ 64 → (n ≤ threshold → Me
 -- D is the capacity after a new key made the length n
 abbrev pub IsNext : ℕ → ℕ → ℕ → ℕ → Type 0
 IsNext C n F D = MatchBool (is_due n) (IsWanted C n F D) (D ≡ C)
-
--- a new key that makes the length n needs more than 2^63 slots
-abbrev pub GrowsTooMuch : ℕ → ℕ → ℕ → Type 0
-GrowsTooMuch C n F = (D : ℕ) × IsNext C n F D × (2 ^ 63 < D)
 
 -- C, 2C, 4C, .., up to the greatest one that a length below 2^64 may need
 abbrev pub doublings : ℕ → List ℕ

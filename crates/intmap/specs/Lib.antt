@@ -15,6 +15,7 @@ pub mod Growth
 pub mod Map
 pub mod PlainLists
 pub mod Insertions
+pub mod Room
 pub mod Laws
 pub mod Lending
 pub mod Entries

@@ -5,7 +5,7 @@ use Rattle.intmap_table.specs.Bindings.{HasDistinctKeys, value_of, take_key, put
 use Rattle.intmap_table.specs.Walk.{walk_of}
 use Rattle.intmap_table.specs.Values.{with_values}
 use Rattle.intmap_table.specs.Reach.{class_size, reach}
-use Rattle.intmap.specs.Growth.{MeetsLoad, IsNext, GrowsTooMuch, last_due}
+use Rattle.intmap.specs.Growth.{MeetsLoad, IsNext, NeedsTooMuch, last_due}
 
 -- the walk, the capacity and the load factor in thousandths; how many pairs insertions put into larger tables, and how many keys were compared
 pub record MapState (K V : Type 0) : Type 0 where
@@ -30,11 +30,6 @@ least_capacity = 2
 -- a new map of C slots
 abbrev pub empty_map : {K V : Type 0} → ℕ → MapState K V
 empty_map C = record { walk = []; capacity = C; factor = first_factor; placed = 0; compared = 0 }
-
-module _ {K V : Type 0} where
-  -- no new key is in range: one more pair would be more than 2^64 - 1, or need more than 2^63 slots
-  abbrev pub InsertIsTooLarge : List (K × V) → ℕ → ℕ → Type 0
-  InsertIsTooLarge L C F = (2 ^ 64 ≤ length L + 1) ⊎ GrowsTooMuch C (length L + 1) F
 
 module _ {K V : Type 0} where
   -- the map without its pairs
@@ -65,9 +60,9 @@ module _ {K V : Type 0} (number : K → ℕ) where
   abbrev pub IsMap : (K → Type 0) → MapState K V → Type 0
   IsMap is_valid m = IsMapWalk is_valid m.walk m.capacity m.factor
 
-  -- k is a new key, and none is in range
+  -- k is a new key, and one more pair would be more than 2^64 - 1, or need more than 2^63 slots
   abbrev pub IsOutOfRange : List (K × V) → ℕ → ℕ → K → Type 0
-  IsOutOfRange L C F k = IsNone (value_of number L k) × InsertIsTooLarge L C F
+  IsOutOfRange L C F k = IsNone (value_of number L k) × ((2 ^ 64 ≤ length L + 1) ⊎ NeedsTooMuch (IsNext C (length L + 1) F))
 
   -- k is lone: no key shares its slot, the capacity stays at the length after it, and that length is below 2^64
   pub record IsLone (L : List (K × V)) (C F : ℕ) (k : K) : Type 0 where

@@ -3,17 +3,19 @@
 //!
 //! A call such as `laws::small_keys_are_found_at_once::<u64, V>();` adds its law to the proof of
 //! the function that contains the call.
-ghost use Rattle.std.specs.Prelude.{◌≡◌, ◌+◌, ◌^◌, ◌<◌, ◌≤◌, ◌↔◌, ℕ, List, All, IsTrue, cond, is_some, length, sum, unwrap_or, Some, None, false};
+ghost use Rattle.std.specs.Prelude.{◌≡◌, ◌+◌, ◌^◌, ◌<◌, ◌≤◌, ◌↔◌, ℕ, List, ◌∷◌, ◌++◌, All, IsTrue, cond, is_some, length, sum, unwrap_or, Some, None, false};
 ghost use Rattle.std.specs.Map.{values_of};
 ghost use Rattle.intmap_table.specs.Classes.{IsCapacity};
 ghost use Rattle.intmap_table.specs.Bindings.{value_of, IsPresent, take_key, put_pair, write_value, HasDistinctKeys, Updates, BindSame};
 ghost use Rattle.intmap_table.specs.Walk.{walk_of};
 ghost use Rattle.intmap_table.specs.Reach.{reach, class_size};
 ghost use Rattle.intmap_table.specs.Figures.{load_of};
-ghost use Rattle.intmap.specs.Growth.{IsWanted, IsNext, MeetsLoad};
+ghost use Rattle.intmap.specs.Growth.{IsWanted, IsNext, MeetsLoad, NeedsTooMuch};
 ghost use Rattle.intmap.specs.Map.{MapState, IsCapacityAfter, IsLone};
 ghost use Rattle.intmap.specs.Equality.{maps_equal};
-ghost use Rattle.intmap.specs.PlainLists.{PlainList, RefusalIsDue};
+ghost use Rattle.intmap.specs.PlainLists.{PlainList, RefusalIsDue, list_of};
+ghost use Rattle.intmap.specs.Extending.{IsExtended};
+ghost use Rattle.intmap.specs.Room.{HasRoomFor};
 ghost use Rattle.intmap.specs.Json.{Shows, BindSameTrees};
 ghost use Rattle.intmap.specs.declared.refusal.Cause.{Cause};
 ghost use Rattle.serde_json.specs.Data.{Data};
@@ -116,10 +118,13 @@ pub fn reach_is_within_class<K: IntKey, V>()
         → reach K.number_of L C k ≤ class_size K.number_of L C k }
 {}
 
-/// If a new key makes a length that meets the load, the capacity stays.
+/// If a new key makes a length that meets the load, the capacity stays. If the capacity stays, no
+/// more than 2^63 slots are needed.
 pub fn met_loads_keep_capacity()
     ensures stays { (C n F : ℕ) → IsCapacity C → MeetsLoad C n F → IsNext C n F C }
     ensures same { (C n F D : ℕ) → IsCapacity C → MeetsLoad C n F → IsNext C n F D → D ≡ C }
+    ensures in_range { (C n F : ℕ) → IsCapacity C → IsNext C n F C
+        → NeedsTooMuch (IsNext C n F) → ⊥ }
 {}
 
 /// The insertion of a pair never fails if its slot holds no pair, the new length is below 2^64, and
@@ -146,6 +151,36 @@ pub fn small_new_keys_are_alone<K: IntKey, V>()
     ensures { (L : List (K × V)) (C : ℕ) (k : K) → All (λ p. K.number_of p.0 < C) L
         → K.number_of k < C → value_of K.number_of L k ≡ None
         → class_size K.number_of L C k ≡ 0 }
+{}
+
+/// If a map has room for pairs, insertions of them in turn never fail, and leave the capacity. Once
+/// some of them are inserted, from the first on, there is room for the others.
+pub fn pairs_with_room_are_inserted<K: IntKey, V>()
+    ensures never_refused { (m n : MapState K V) (ps qs : List (K × V)) (p : K × V) (cause : Cause)
+        → IsCapacity m.capacity
+        → HasRoomFor K.number_of m.walk m.capacity m.factor (ps ++ p ∷ qs)
+        → IsExtended K.number_of K.is_valid m ps n
+        → RefusalIsDue K.number_of (list_of n) p.0 cause → ⊥ }
+    ensures capacity { (m n : MapState K V) (ps qs : List (K × V)) → IsCapacity m.capacity
+        → HasRoomFor K.number_of m.walk m.capacity m.factor (ps ++ qs)
+        → IsExtended K.number_of K.is_valid m ps n → n.capacity ≡ m.capacity }
+    ensures room { (m n : MapState K V) (ps qs : List (K × V)) → IsCapacity m.capacity
+        → HasRoomFor K.number_of m.walk m.capacity m.factor (ps ++ qs)
+        → IsExtended K.number_of K.is_valid m ps n
+        → HasRoomFor K.number_of n.walk n.capacity n.factor qs }
+{}
+
+/// The first of the pairs for which a map has room is lone.
+pub fn pairs_with_room_are_lone<K: IntKey, V>()
+    ensures { (L : List (K × V)) (C F : ℕ) (p : K × V) (ps : List (K × V)) → IsCapacity C
+        → HasRoomFor K.number_of L C F (p ∷ ps) → IsLone K.number_of L C F p.0 }
+{}
+
+/// Distinct keys with numbers below the capacity each have a slot of their own.
+pub fn small_distinct_keys_share_no_slot<K: IntKey, V>()
+    ensures { (L : List (K × V)) (C : ℕ) (ps : List (K × V))
+        → HasDistinctKeys K.number_of (L ++ ps) → All (λ p. K.number_of p.0 < C) (L ++ ps)
+        → All (λ p. class_size K.number_of (L ++ ps) C p.0 ≡ 1) ps }
 {}
 
 /// If every key with a number of at least `n` is absent, the numbers of all keys are below `n`.

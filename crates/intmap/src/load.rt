@@ -1,7 +1,7 @@
 //! Whether a table has too few slots for its pairs, and how many slots it needs.
 ghost use Rattle.std.specs.Prelude.{◌≡◌, ◌^◌, ◌<◌, ◌&&◌, nat_lt, IfSome, IfNone};
 ghost use Rattle.intmap_table.specs.Classes.{IsCapacity};
-ghost use Rattle.intmap.specs.Growth.{IsWanted, IsThreshold, WantsTooMuch, is_due};
+ghost use Rattle.intmap.specs.Growth.{IsWanted, IsThreshold, is_due, NeedsTooMuch};
 
 /// The greatest number of slots.
 pub(crate) const GREATEST_CAPACITY: usize = 9223372036854775808;
@@ -12,7 +12,7 @@ pub(crate) fn wanted_capacity(len: usize, capacity: usize, factor: usize) -> Opt
     requires { IsCapacity capacity }
     ensures wanted { IfSome result (IsWanted capacity len factor) }
     ensures capacity { IfSome result (λ slots. IsCapacity slots) }
-    ensures none { IfNone result (WantsTooMuch capacity len factor) }
+    ensures none { IfNone result (NeedsTooMuch (IsWanted capacity len factor)) }
 {
     let need = len as u128 * 1000;
     let each = factor as u128 + 1;

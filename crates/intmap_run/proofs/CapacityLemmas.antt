@@ -5,7 +5,7 @@ use Rattle.std.proofs.Math.Pow.{pow_mono}
 use Rattle.std.proofs.lemmas.Nat.{pow-add}
 use Rattle.std.proofs.lemmas.Bool.{cases_lt, cases_Bool}
 use Rattle.intmap.specs.Classes.{IsCapacity}
-use Rattle.intmap.specs.Growth.{IsWanted, IsNext, GrowsTooMuch, WantsTooMuch, IsLeastPower, is_due}
+use Rattle.intmap.specs.Growth.{IsWanted, IsNext, IsLeastPower, is_due, NeedsTooMuch}
 use Rattle.intmap.proofs.GrowthLemmas.{IsCapacity-max}
 use Rattle.intmap.proofs.LoadFactorLemmas.{IsWanted-more}
 
@@ -31,7 +31,7 @@ IsCapacity-doubled C j cap le =
     (e + j, omega (arith, first), top, is)
 
 -- a wanted capacity that isn't too much
-pub IsLarger-wanted : (C n F D : ℕ) → IsCapacity C → IsWanted C n F D → (WantsTooMuch C n F → ⊥) → IsLarger C D
+pub IsLarger-wanted : (C n F D : ℕ) → IsCapacity C → IsWanted C n F D → (NeedsTooMuch (IsWanted C n F) → ⊥) → IsLarger C D
 IsLarger-wanted C n F D cap wanted in_range =
     let is : D ≡ C * 2 ^ wanted.doubled.0 = wanted.doubled.1 in
     let le : D ≤ 2 ^ 63 = elim (cases_lt (2 ^ 63) D) [ inl lt ↦ absurd (in_range (D, wanted, lt)) | inr le ↦ le ] in
@@ -41,14 +41,14 @@ IsLarger-wanted C n F D cap wanted in_range =
     }
 
 -- the capacity that follows a new key, if it isn't too much
-IsLarger-next : (C n F D : ℕ) → IsCapacity C → IsNext C n F D → (GrowsTooMuch C n F → ⊥) → IsLarger C D
+IsLarger-next : (C n F D : ℕ) → IsCapacity C → IsNext C n F D → (NeedsTooMuch (IsNext C n F) → ⊥) → IsLarger C D
 IsLarger-next C n F D cap next in_range = elim (cases_Bool (is_due n)) [
   | inl due ↦ IsLarger-wanted C n F D cap (rw due at next) (λ much. in_range (much.0, rw due much.1, much.2))
   | inr not ↦ IsLarger-same C D cap (rw not at next)
 ]
 
 -- the capacity after a key was inserted, if that was in range
-pub IsLarger-after : {V : Type 0} (o : Option V) (C n F D : ℕ) → IsCapacity C → MatchOption o (IsNext C n F D) (λ _. D ≡ C) → (IsNone o × ((2 ^ 64 ≤ n) ⊎ GrowsTooMuch C n F) → ⊥) → IsLarger C D
+pub IsLarger-after : {V : Type 0} (o : Option V) (C n F D : ℕ) → IsCapacity C → MatchOption o (IsNext C n F D) (λ _. D ≡ C) → (IsNone o × ((2 ^ 64 ≤ n) ⊎ NeedsTooMuch (IsNext C n F)) → ⊥) → IsLarger C D
 IsLarger-after None C n F D cap next in_range = IsLarger-next C n F D cap next (λ much. in_range (refl, inr much))
 IsLarger-after (Some v) C n F D cap same in_range = IsLarger-same C D cap same
 

@@ -2,7 +2,7 @@
 use Rattle.std.proofs.Common.{◌≡◌, inl, inr, ℕ, ◌+◌, ◌^◌, ◌<◌, ◌≤◌, max, Bool, length, None, refl, sym, ap, ◌∙◌, add-zero}
 use Rattle.std.specs.Prelude.{◌↔◌, Result, Ok, Err, OnOk, OnErr, MatchResult}
 use Rattle.std.proofs.lemmas.Bool.{cases_lt}
-use Rattle.intmap.specs.Growth.{IsWanted, WantsTooMuch, IsLeastPower}
+use Rattle.intmap.specs.Growth.{IsWanted, IsLeastPower, NeedsTooMuch}
 use Rattle.intmap.specs.Map.{MapState, IsMap, in_slots}
 use Rattle.intmap.specs.declared.refusal.Cause.{Cause}
 use Rattle.intmap.specs.declared.refusal.Cause.TheVariants.{Memory, TooLarge}
@@ -70,7 +70,7 @@ module _ {K V S A : Type 0} (number : K → ℕ) (is_valid : K → Type 0) (m : 
       rw (done, err) (StepsFrom-not_reserved additional cause ((λ h. too_large.0 (ap (λ e. Err e) h)), (λ h. let e = too_large.1 h in cc)) (λ h. memory (ap (λ e. Err e) h)))
 
   -- a load factor that is set
-  StepsFrom-set_factor : (factor : ℕ) (n : MapState K V) → (WantsTooMuch m.capacity (length m.walk) factor → ⊥)
+  StepsFrom-set_factor : (factor : ℕ) (n : MapState K V) → (NeedsTooMuch (IsWanted m.capacity (length m.walk) factor) → ⊥)
       → IsWanted m.capacity (length m.walk) factor n.capacity → n ≡ in_slots number (record m { factor = factor }) n.capacity
       → StepsFrom {A = A} number sees keeps m (command.SetLoadFactor factor) answer.Done n
   StepsFrom-set_factor factor n in_range capacity is s stands =
@@ -97,7 +97,7 @@ module _ {K V S A : Type 0} (number : K → ℕ) (is_valid : K → Type 0) (m : 
 
   -- a load factor whose setting fails
   StepsFrom-not_set : (factor : ℕ) (cause : Cause)
-      → (cause ≡ TooLarge) ↔ WantsTooMuch m.capacity (length m.walk) factor
+      → (cause ≡ TooLarge) ↔ NeedsTooMuch (IsWanted m.capacity (length m.walk) factor)
       → (cause ≡ Memory → IsWanted m.capacity (length m.walk) factor m.capacity → ⊥)
       → StepsFrom {A = A} number sees keeps m (command.SetLoadFactor factor) (answer.Refused cause None) m
   StepsFrom-not_set factor cause too_large memory s stands =
@@ -111,7 +111,7 @@ module _ {K V S A : Type 0} (number : K → ℕ) (is_valid : K → Type 0) (m : 
   pub StepsFrom-set_load_factor : (factor : ℕ) (result : Result (Unit {0}) Cause) (a : Answer K V S A) (n : MapState K V)
       → OnOk result (IsWanted m.capacity (length m.walk) factor n.capacity)
       → OnOk result (n ≡ in_slots number (record m { factor = factor }) n.capacity) → OnErr result (n ≡ m)
-      → (result ≡ Err TooLarge) ↔ WantsTooMuch m.capacity (length m.walk) factor
+      → (result ≡ Err TooLarge) ↔ NeedsTooMuch (IsWanted m.capacity (length m.walk) factor)
       → (result ≡ Err Memory → IsWanted m.capacity (length m.walk) factor m.capacity → ⊥)
       → MatchResult result (λ _. a ≡ answer.Done) (λ cause. a ≡ answer.Refused cause None)
       → StepsFrom number sees keeps m (command.SetLoadFactor factor) a n

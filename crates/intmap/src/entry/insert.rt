@@ -71,6 +71,9 @@ impl<'a, K: IntKey, V: Drop, A: Allocator + Copy> VacantEntry<'a, K, V, A> {
         ensures err { IfErr result (λ e. (made ≡ Err e) ⊎ IsMadeRefusal (λ m. m ≡ made)
             E.from_gives (RefusalIsDue K.number_of (entry_list (Vacant self.entry))
             (entry_key (Vacant self.entry))) e) }
+        ensures lone { IsLone K.number_of (entry_map (Vacant self.entry)).walk
+            (entry_map (Vacant self.entry)).capacity (entry_map (Vacant self.entry)).factor
+            (entry_key (Vacant self.entry)) → IfErr result (λ e. made ≡ Err e) }
     {
         let VacantEntry { map, key, slot } = self;
         let value = match made {
@@ -231,6 +234,9 @@ impl<'a, K: IntKey, V: Drop, A: Allocator + Copy> Entry<'a, K, V, A> {
         ensures absent { OnErr result (entry_value self.entry ≡ None) }
         ensures err { IfErr result (λ e. F.post f (Err e) ⊎ IsMadeRefusal (F.post f) E.from_gives
             (RefusalIsDue K.number_of (entry_list self.entry) (entry_key self.entry)) e) }
+        ensures lone { IsLone K.number_of (entry_map self.entry).walk
+            (entry_map self.entry).capacity (entry_map self.entry).factor (entry_key self.entry)
+            → IfErr result (λ e. F.post f (Err e)) }
     {
         match self {
             Entry::Occupied(entry) => Ok(entry.into_mut()),

@@ -1,7 +1,7 @@
 //! The capacity and the load factor, as callers set them.
 ghost use Rattle.std.specs.Prelude.{◌≡◌, ◌↔◌, ℕ, ◌+◌, ◌^◌, ◌<◌, max, length, Err, OnOk, OnErr};
 ghost use Rattle.intmap_table.specs.Bindings.{value_of};
-ghost use Rattle.intmap.specs.Growth.{IsWanted, IsLeastPower, WantsTooMuch};
+ghost use Rattle.intmap.specs.Growth.{IsWanted, IsLeastPower, NeedsTooMuch};
 ghost use Rattle.intmap.specs.Map.{IsMap, in_slots};
 
 use crate::load::{GREATEST_CAPACITY, threshold_of, wanted_capacity};
@@ -73,7 +73,7 @@ impl<K: IntKey, V: Drop, A: Allocator + Copy> IntMap<K, V, A> {
             ≡ in_slots K.number_of (record self.old { factor = thousandths }) self.new.capacity) }
         ensures err { OnErr result (self.new ≡ self.old) }
         ensures too_large { (result ≡ Err Cause.TooLarge)
-            ↔ WantsTooMuch self.old.capacity (length self.old.walk) thousandths }
+            ↔ NeedsTooMuch (IsWanted self.old.capacity (length self.old.walk) thousandths) }
         ensures memory { result ≡ Err Cause.Memory
             → IsWanted self.old.capacity (length self.old.walk) thousandths self.old.capacity → ⊥ }
         ensures updates { (q : K)

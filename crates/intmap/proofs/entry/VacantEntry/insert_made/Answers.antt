@@ -2,10 +2,12 @@ use Rattle.std.proofs.Common.{◌≡◌, ◌+◌, Some, Ok, length, refl, sym, a
 use mathlib.Core.Logic.{inl, inr}
 use mathlib.Core.Path.{fun_ext}
 use Rattle.intmap_table.specs.Bindings.{value_of}
+use Rattle.intmap.specs.Entries.{Vacant, entry_list}
 use Rattle.intmap.specs.Growth.{next_capacity}
 use Rattle.intmap.specs.Map.{MapState, IsMap, IsCapacityAfter, with_pair, written}
 use Rattle.intmap.proofs.EntryLemmas.{next_capacity-inserted, written-with_pair}
 use Rattle.intmap.proofs.InsertionLemmas.{IsInsertion-put}
+use Rattle.intmap.proofs.RefusalLemmas.{lone-never_refused}
 use Rattle.intmap.proofs.WriteLemmas.{IsMapWalk-written}
 use Rattle.intmap.proofs.entry.VacantEntry.insert_made.Goals as goal
 use Rattle.intmap.proofs.entry.VacantEntry.insert_made.Goals.{After-value_mut_at}
@@ -24,6 +26,7 @@ returns-in-Err-add g c =
           due = told.refused;
           error = c.from.ensures;
         });
+        lone = λ lone. absurd (lone-never_refused g.K.IntKey.number_of (entry_list (Vacant c.args.self)) c.args.self.key c.add.ensures.valid.capacity lone c.in-Err-add.refused.cause told.refused);
       },
     )
 
@@ -46,5 +49,6 @@ returns g c =
             (subst (IsMap number g.K.IntKey.is_valid) (after v) (IsMapWalk-written number g.K.IntKey.is_valid c.add.new.self.walk c.add.new.self.capacity c.add.new.self.factor c.in-Ok-add.at.key v c.add.ensures.valid_after))
             refl did.in_range (subst (IsCapacityAfter number m.walk m.capacity m.factor k) same did.capacity);
         err = tt;
+        lone = λ lone. tt;
       },
     )

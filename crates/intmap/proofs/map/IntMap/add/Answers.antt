@@ -3,12 +3,11 @@ use Rattle.std.proofs.lemmas.Grind.{common_steps}
 use Rattle.std.specs.Prelude.{◌&&◌, ◌==◌, nat_lt}
 use Rattle.std.proofs.lemmas.Bool.{eq-eqb}
 use Rattle.intmap.specs.Growth.{IsNext, is_due}
-use Rattle.intmap.specs.Map.{InsertIsTooLarge}
 use Rattle.intmap.specs.PlainLists.{PlainList}
 use Rattle.intmap.specs.declared.refusal.Cause.TheVariants.{Memory, TooLarge}
 use Rattle.intmap.proofs.InsertionLemmas.{IsInsertion-put}
 use Rattle.intmap.proofs.RefusalLemmas.{RefusalIsDue-absent}
-use Rattle.intmap.proofs.LoadFactorLemmas.{IsNext-same, GrowsTooMuch-none}
+use Rattle.intmap.proofs.LoadFactorLemmas.{InsertIsTooLarge, IsNext-same, NeedsTooMuch-none}
 use Rattle.intmap.proofs.MapLemmas.{MapState-same, IsConsistent-added}
 use Rattle.intmap.proofs.map.IntMap.add.Goals as goal
 use Rattle.intmap.proofs.map.IntMap.add.Goals.{After-add}
@@ -35,7 +34,7 @@ module _ (g : _) (c : After-add g) where
   in_range : InsertIsTooLarge c.self.inside.table.walk c.self.inside.table.capacity c.self.inside.factor → ⊥
   in_range large = elim large [
     | inl long ↦ (let few = fits in omega (arith, long, few, seen))
-    | inr much ↦ GrowsTooMuch-none c.self.inside.table.capacity (length c.self.inside.table.walk + 1) c.self.inside.factor c.self.inside.table.capacity c.self.invariant.map.capacity stays much
+    | inr much ↦ NeedsTooMuch-none c.self.inside.table.capacity (length c.self.inside.table.walk + 1) c.self.inside.factor c.self.inside.table.capacity c.self.invariant.map.capacity stays much
   ]
 
 pub returns-in-Err-add-clause-refused : goal.returns-in-Err-add-clause-refused

@@ -2,14 +2,13 @@ use Rattle.std.proofs.Common.{◌≡◌, ◌≢◌, ◌+◌, ◌*◌, ◌/◌, �
 use Rattle.std.specs.Prelude.{◌==◌}
 use Rattle.std.proofs.lemmas.Bool.{ne_eqb}
 use Rattle.intmap_table.specs.Bindings.{value_of}
-use Rattle.intmap.specs.Growth.{IsWanted, IsNext, WantsTooMuch, MeetsLoad, is_due}
-use Rattle.intmap.specs.Map.{InsertIsTooLarge}
+use Rattle.intmap.specs.Growth.{IsWanted, IsNext, MeetsLoad, is_due, NeedsTooMuch}
 use Rattle.intmap.specs.Consistency.{IsConsistent}
 use Rattle.intmap.specs.PlainLists.{PlainList}
 use Rattle.intmap.specs.declared.refusal.Cause.TheVariants.{Memory, TooLarge}
 use Rattle.intmap.proofs.InsertionLemmas.{IsInsertion-put}
 use Rattle.intmap.proofs.RefusalLemmas.{RefusalIsDue-absent}
-use Rattle.intmap.proofs.LoadFactorLemmas.{IsNext-changes, IsNext-unique, IsNext-wanted, GrowsTooMuch-none, GrowsTooMuch-wants}
+use Rattle.intmap.proofs.LoadFactorLemmas.{InsertIsTooLarge, IsNext-changes, IsNext-unique, IsNext-wanted, NeedsTooMuch-none, NeedsTooMuch-wanted}
 use Rattle.intmap.proofs.MapLemmas.{MapState-same, IsConsistent-grown_with}
 use Rattle.intmap.proofs.map.IntMap.add_growing.Goals as goal
 use Rattle.intmap.proofs.map.IntMap.add_growing.Goals.{After-capacity, After-grow_with}
@@ -66,7 +65,7 @@ module _ (g : _) (c : After-grow_with g) where
   in_range : InsertIsTooLarge c.self.inside.table.walk c.self.inside.table.capacity c.self.inside.factor → ⊥
   in_range large = elim large [
     | inl long ↦ (let fits = c.ranges.len.fits in let e = here in omega (arith, long, fits, e))
-    | inr much ↦ GrowsTooMuch-none c.self.inside.table.capacity (length c.self.inside.table.walk + 1) c.self.inside.factor c.in-Some.capacity c.in-Some.ensures.capacity next much
+    | inr much ↦ NeedsTooMuch-none c.self.inside.table.capacity (length c.self.inside.table.walk + 1) c.self.inside.factor c.in-Some.capacity c.in-Some.ensures.capacity next much
   ]
 
 pub returns-in_default-clause-refused : goal.returns-in_default-clause-refused
@@ -74,9 +73,9 @@ returns-in_default-clause-refused g c =
     let at = (goal.at.returns-in_default-clause-refused g c).After-capacity in
     let e = seen g at in
     let due = subst (λ n. is_due n ≡ true) e c.requires.due in
-    let much = subst (λ n. WantsTooMuch c.self.inside.table.capacity n c.self.inside.factor) e (rw c.capacity.ensures.value at c.in_default.ensures.none) in
+    let much = subst (λ n. NeedsTooMuch (IsWanted c.self.inside.table.capacity n c.self.inside.factor)) e (rw c.capacity.ensures.value at c.in_default.ensures.none) in
     rw (← c.self.view_is) (RefusalIsDue-absent g.K.IntKey.number_of (record { pairs = c.self.inside.table.walk; capacity = c.self.inside.table.capacity; factor = c.self.inside.factor; placed = c.self.inside.placed; compared = c.self.inside.compared }) c.args.key (missing g at) TooLarge
-    ((λ _. inr (GrowsTooMuch-wants c.self.inside.table.capacity (length c.self.inside.table.walk + 1) c.self.inside.factor due much)), (λ _. refl)) (λ e. cc))
+    ((λ _. inr (NeedsTooMuch-wanted c.self.inside.table.capacity (length c.self.inside.table.walk + 1) c.self.inside.factor due much)), (λ _. refl)) (λ e. cc))
 
 pub returns-in-Err-clause-refused : goal.returns-in-Err-clause-refused
 returns-in-Err-clause-refused g c =

@@ -1,6 +1,6 @@
 use Rattle.std.proofs.Common.{◌≡◌, length, sym, ap, ◌∙◌, subst, arith, refl, rules, tests}
 use Rattle.intmap_table.specs.Bindings.{value_of}
-use Rattle.intmap.specs.Growth.{IsWanted, WantsTooMuch}
+use Rattle.intmap.specs.Growth.{IsWanted, NeedsTooMuch}
 use Rattle.intmap.specs.Map.{MapState}
 use Rattle.intmap.proofs.GrowthLemmas.{IsWanted-unique}
 use Rattle.intmap.proofs.LoadFactorLemmas.{not_too_much, IsLoaded-from}
@@ -20,7 +20,7 @@ module _ (g : _) (c : After-is_err g) where
       subst (λ n. IsWanted c.args.self.now.capacity n c.args.thousandths c.in-Some.capacity) seen
       (rw (c.capacity.ensures.value, ap (λ (m : MapState g.row.K.Denot g.row.V.Denot). m.capacity) c.self.view_is) at c.in-Some.ensures.wanted)
 
-  within : WantsTooMuch c.args.self.now.capacity (length c.args.self.now.walk) c.args.thousandths → ⊥
+  within : NeedsTooMuch (IsWanted c.args.self.now.capacity (length c.args.self.now.walk) c.args.thousandths) → ⊥
   within = not_too_much _ _ _ c.in-Some.capacity wanted (capacity-greatest c.in-Some.capacity c.in-Some.ensures.capacity)
 
 pub returns-then-is_err-clause-too_large : goal.returns-then-is_err-clause-too_large
@@ -61,7 +61,7 @@ returns-clause-len g c =
 pub returns-in_default-clause-too_large : goal.returns-in_default-clause-too_large
 returns-in_default-clause-too_large g c =
     let seen = c.self.invariant.count in
-    let much = subst (λ n. WantsTooMuch c.self.inside.table.capacity n c.args.thousandths) seen (rw c.capacity.ensures.value at c.in_default.ensures.none) in
+    let much = subst (λ n. NeedsTooMuch (IsWanted c.self.inside.table.capacity n c.args.thousandths)) seen (rw c.capacity.ensures.value at c.in_default.ensures.none) in
     rw (← c.self.view_is) ((λ _. much), (λ _. refl))
 
 pub returns-then-is_err-clause-memory : goal.returns-then-is_err-clause-memory

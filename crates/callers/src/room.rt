@@ -1,0 +1,47 @@
+//! Insertions that never fail, since there is room for their pairs.
+ghost use Rattle.std.specs.Prelude.{◌≡◌, ◌+◌, ◌<◌, ◌≤◌, ◌^◌, ℕ, All, [], None, Some, IfErr, length, reverse};
+ghost use Rattle.std.specs.Option.{option_or};
+ghost use Rattle.intmap.specs.Bindings.{value_of, HasDistinctKeys, Updates};
+ghost use Rattle.intmap.specs.Growth.{MeetsLoad, last_due};
+ghost use Rattle.intmap.specs.Room.{HasRoomFor};
+
+use intmap::{IntKey, IntMap, laws};
+use std::alloc::Allocator;
+
+/// Inserts the pairs, each of which has a slot of its own. It never fails, and the capacity stays.
+pub fn insert_all<K: IntKey, V: Drop, A: Allocator + Copy>(
+    map: &mut IntMap<K, V, A>,
+    pairs: Vec<(K, V), A>,
+)
+    requires { HasRoomFor K.number_of map.old.walk map.old.capacity map.old.factor pairs.items }
+    ensures capacity { map.new.capacity ≡ map.old.capacity }
+    ensures values { (q : K) → value_of K.number_of map.new.walk q ≡ option_or
+        (value_of K.number_of (reverse pairs.items) q) (value_of K.number_of map.old.walk q) }
+{
+    laws::pairs_with_room_are_inserted::<K, V>();
+    match map.extend(pairs.into_iter()) {
+        Ok(()) => (),
+        Err(_refused) => unreachable!(),
+    }
+}
+
+/// Inserts a new key below the capacity, where all keys are below it, and one pair more meets the
+/// load. It never fails, and the capacity stays.
+pub fn insert_small<A: Allocator + Copy>(map: &mut IntMap<u64, u64, A>, key: u64, value: u64)
+    requires small_keys { All (λ p. p.0 < map.old.capacity) map.old.walk }
+    requires small { key < map.old.capacity }
+    requires new { value_of (λ k. k) map.old.walk key ≡ None }
+    requires fits { length map.old.walk + 1 < 2 ^ 64 }
+    requires room { MeetsLoad map.old.capacity (length map.old.walk + 1) map.old.factor }
+    ensures capacity { map.new.capacity ≡ map.old.capacity }
+    ensures updates { Updates (λ k. k) map.old.walk map.new.walk key (Some value) }
+    ensures len { length map.new.walk ≡ length map.old.walk + 1 }
+{
+    laws::met_loads_keep_capacity();
+    laws::met_loads_leave_room::<u64, u64>();
+    laws::small_new_keys_are_alone::<u64, u64>();
+    match map.insert(key, value) {
+        Ok(_old) => (),
+        Err(_refused) => unreachable!(),
+    }
+}

@@ -1,0 +1,181 @@
+-- Pairs for which a table has room are inserted in turn, and none fails.
+use Rattle.std.proofs.Common.{◌≡◌, inl, inr, ℕ, ◌+◌, ◌<◌, ◌≤◌, Bool, true, cond, List, [], ◌∷◌, ◌++◌, length, Option, Some, None, refl, sym, ap, subst, ◌∙◌, append_assoc, arith}
+use Rattle.std.specs.Prelude.{◌==◌, ◌/◌, ◌%◌, ◌^◌, All, count_by, MatchOption}
+use Rattle.std.proofs.lemmas.Bool.{cases_Bool, eqb-true, eq-eqb}
+use Rattle.std.proofs.lemmas.List.{length-append}
+use Rattle.std.proofs.lemmas.List.Elements.{All-nil, All-cons, All-head, All-tail}
+use Rattle.std.proofs.lemmas.List.Sums.{sum_by-append, sum_by-cons}
+use Rattle.intmap_table.specs.Classes.{IsCapacity, same_key, agrees, residue}
+use Rattle.intmap_table.specs.Bindings.{HasDistinctKeys, value_of, take_key, put_pair}
+use Rattle.intmap_table.specs.Reach.{class_size}
+use Rattle.intmap_table.specs.Walk.{walk_of}
+use Rattle.intmap_table.proofs.BindingLemmas.{first_value-unmatched}
+use Rattle.intmap_table.proofs.DistinctLemmas.{length-walk_of}
+use Rattle.intmap_table.proofs.PositionLemmas.{position-from_none, swap_out-none}
+use Rattle.intmap_table.proofs.SlotNumberLemmas.{capacity-positive, slot_number-below}
+use Rattle.intmap_table.proofs.WalkLemmas.{class_size-same, walk_of-walk_of}
+use Rattle.intmap.specs.Extending.{MapInserts, MapInsertsAll, IsExtended}
+use Rattle.intmap.specs.Growth.{IsNext, MeetsLoad, is_due, last_due}
+use Rattle.intmap.specs.Map.{MapState, IsLone}
+use Rattle.intmap.specs.PlainLists.{RefusalIsDue, list_of}
+use Rattle.intmap.specs.Room.{HasRoomFor}
+use Rattle.intmap.specs.declared.refusal.Cause.{Cause}
+use Rattle.intmap.proofs.CostLemmas.{class_size-below}
+use Rattle.intmap.proofs.LoadFactorLemmas.{IsNext-unique, IsWanted-same, MeetsLoad-fewer, last_due-most}
+use Rattle.intmap.proofs.RefusalLemmas.{lone-never_refused}
+
+module _ {K V : Type 0} (number : K → ℕ) where
+  -- the class of a key in two lists
+  class_size-append : (L M : List (K × V)) (C : ℕ) (k : K) → class_size number (L ++ M) C k ≡ class_size number L C k + class_size number M C k
+  class_size-append L M C k = sum_by-append (λ p. cond (agrees number C k p.0) 1 0) L M
+
+  -- a key is in its own class
+  class_size-own : (C : ℕ) (p : K × V) (L : List (K × V)) → class_size number (p ∷ L) C p.0 ≡ 1 + class_size number L C p.0
+  class_size-own C p L =
+      let more = sum_by-cons (λ (q : K × V). cond (agrees number C p.0 q.0) 1 0) p L in
+      let own : agrees number C p.0 p.0 ≡ true = eq-eqb (residue number p.0 C) (residue number p.0 C) refl in
+      grind (arith, more, own)
+
+  -- a key that shares its slot with none is absent
+  value_of-alone : (L : List (K × V)) (C : ℕ) (k : K) → class_size number L C k ≡ 0 → value_of number L k ≡ None
+  value_of-alone L C k alone = first_value-unmatched (same_key number k) L (none L alone)
+    where
+      none : (M : List (K × V)) → class_size number M C k ≡ 0 → count_by (λ p. same_key number k p.0) M ≡ 0
+      none [] is = refl
+      none (p ∷ M) is =
+          let all = sum_by-cons (λ (q : K × V). cond (agrees number C k q.0) 1 0) p M in
+          let same = sum_by-cons (λ (q : K × V). cond (same_key number k q.0) 1 0) p M in
+          elim (cases_Bool (same_key number k p.0)) [
+            | inl here ↦
+                (let e : number p.0 ≡ number k = eqb-true (number p.0) (number k) here in
+                let a : agrees number C k p.0 ≡ true = eq-eqb (number p.0 % C) (number k % C) (ap (λ n. n % C) e) in
+                grind (arith, all, is, a))
+            | inr apart ↦
+                (let rest : class_size number M C k ≡ 0 = omega (arith, all, is) in
+                let h = none M rest in grind (arith, same, h, apart))
+          ]
+
+  -- and is put behind all pairs
+  put_pair-alone : (L : List (K × V)) (C : ℕ) (k : K) (v : V) → class_size number L C k ≡ 0 → put_pair number L C k v ≡ L ++ (k, v) ∷ []
+  put_pair-alone L C k v alone =
+      ap (λ M. M ++ (k, v) ∷ []) (swap_out-none (λ p. same_key number k p.0) (λ p. agrees number C k p.0) L (position-from_none (same_key number k) L (value_of-alone L C k alone)))
+
+  -- the first of the pairs for which there is room is lone
+  pub IsLone-room : (L : List (K × V)) (C F : ℕ) (p : K × V) (ps : List (K × V)) → IsCapacity C → HasRoomFor number L C F (p ∷ ps) → IsLone number L C F p.0
+  IsLone-room L C F p ps capacity room =
+      let one : class_size number (L ++ p ∷ ps) C p.0 ≡ 1 = All-head (λ q. class_size number (L ++ p ∷ ps) C q.0 ≡ 1) p ps room.alone in
+      let both = class_size-append L (p ∷ ps) C p.0 in
+      let own = class_size-own C p ps in
+      let len : length (L ++ p ∷ ps) ≡ length L + length (p ∷ ps) = length-append L (p ∷ ps) in
+      let fits = room.count in
+      record {
+        alone = omega (arith, one, both, own);
+        stays = stays (is_due (length L + 1)) refl len;
+        count = omega (arith, len, fits);
+      }
+    where
+      stays : (b : Bool) → is_due (length L + 1) ≡ b → length (L ++ p ∷ ps) ≡ length L + length (p ∷ ps) → IsNext C (length L + 1) F C
+      stays b is len = elim (cases_Bool (is_due (length L + 1))) [
+        | inl due ↦
+            (let some : 4 ≤ length L + 1 = due-some (length L + 1) due in
+            let up : length L + 1 ≤ length (L ++ p ∷ ps) = omega (arith, len) in
+            let all : 4 ≤ length (L ++ p ∷ ps) = omega (arith, some, up) in
+            let last : length L + 1 ≤ last_due (length (L ++ p ∷ ps)) = last_due-most (length L + 1) (length (L ++ p ∷ ps)) up due in
+            rw due (IsWanted-same C (length L + 1) F capacity (MeetsLoad-fewer C (last_due (length (L ++ p ∷ ps))) (length L + 1) F (capacity-positive C capacity) (room.load all) last)))
+        | inr not ↦ rw not refl
+      ]
+        where
+          due-some : (n : ℕ) → is_due n ≡ true → 4 ≤ n
+          due-some n due = let q = eqb-true (n / 4 % 2) 1 due in omega (arith, q)
+
+module _ {K V : Type 0} (number : K → ℕ) (is_valid : K → Type 0) where
+  module _ (m l : MapState K V) (p : K × V) (ps : List (K × V)) (capacity : IsCapacity m.capacity) (room : HasRoomFor number m.walk m.capacity m.factor (p ∷ ps))
+      (step : MapInserts number is_valid m p.0 p.1 l) where
+    lone : IsLone number m.walk m.capacity m.factor p.0
+    lone = IsLone-room number m.walk m.capacity m.factor p ps capacity room
+
+    capacity-kept : l.capacity ≡ m.capacity
+    capacity-kept =
+        let next : IsNext m.capacity (length m.walk + 1) m.factor l.capacity = rw (value_of-alone number m.walk m.capacity p.0 lone.alone) at step.capacity in
+        IsNext-unique m.capacity (length m.walk + 1) m.factor l.capacity m.capacity next lone.stays
+
+    factor-kept : l.factor ≡ m.factor
+    factor-kept = ap (λ n. n.factor) step.state
+
+    walk-after : l.walk ≡ walk_of number (m.walk ++ p ∷ []) m.capacity
+    walk-after =
+        ap (λ n. n.walk) step.state
+        ∙ ap (λ L. walk_of number L l.capacity) (put_pair-alone number m.walk m.capacity p.0 p.1 lone.alone)
+        ∙ ap (λ C. walk_of number (m.walk ++ p ∷ []) C) capacity-kept
+
+    class_size-after : (q : K) → class_size number l.walk m.capacity q ≡ class_size number (m.walk ++ p ∷ []) m.capacity q
+    class_size-after q =
+        ap (λ L. class_size number L m.capacity q) walk-after
+        ∙ class_size-same number m.capacity capacity (walk_of number (m.walk ++ p ∷ []) m.capacity) (m.walk ++ p ∷ []) q (walk_of-walk_of number m.capacity (m.walk ++ p ∷ []))
+
+    length-after : length l.walk ≡ length m.walk + 1
+    length-after =
+        ap length walk-after
+        ∙ length-walk_of number (m.walk ++ p ∷ []) m.capacity (λ k. slot_number-below number k m.capacity capacity)
+        ∙ length-append m.walk (p ∷ [])
+
+    length-all : length (l.walk ++ ps) ≡ length (m.walk ++ p ∷ ps)
+    length-all =
+        let after = length-append l.walk ps in
+        let before = length-append m.walk (p ∷ ps) in
+        let more = length-after in omega (arith, after, before, more)
+
+    class_size-all : (q : K) → class_size number (l.walk ++ ps) m.capacity q ≡ class_size number (m.walk ++ p ∷ ps) m.capacity q
+    class_size-all q =
+        class_size-append number l.walk ps m.capacity q
+        ∙ ap (λ n. n + class_size number ps m.capacity q) (class_size-after q)
+        ∙ sym (class_size-append number (m.walk ++ p ∷ []) ps m.capacity q)
+        ∙ ap (λ L. class_size number L m.capacity q) (append_assoc m.walk (p ∷ []) ps)
+
+    -- behind an insertion there is room for the pairs that are left
+    room-after : HasRoomFor number l.walk l.capacity l.factor ps
+    room-after = rw (capacity-kept, factor-kept) (record {
+      alone = each ps (All-tail (λ q. class_size number (m.walk ++ p ∷ ps) m.capacity q.0 ≡ 1) p ps room.alone);
+      count = rw length-all room.count;
+      load = rw length-all room.load;
+    })
+      where
+        each : (qs : List (K × V)) → All (λ q. class_size number (m.walk ++ p ∷ ps) m.capacity q.0 ≡ 1) qs → All (λ q. class_size number (l.walk ++ ps) m.capacity q.0 ≡ 1) qs
+        each [] all = All-nil (λ x. class_size number (l.walk ++ ps) m.capacity x.0 ≡ 1)
+        each (q ∷ qs) all = All-cons (λ x. class_size number (l.walk ++ ps) m.capacity x.0 ≡ 1) q qs (class_size-all q.0 ∙ All-head (λ x. class_size number (m.walk ++ p ∷ ps) m.capacity x.0 ≡ 1) q qs all) (each qs (All-tail (λ x. class_size number (m.walk ++ p ∷ ps) m.capacity x.0 ≡ 1) q qs all))
+
+  -- what insertions in turn leave: as many slots, the same load factor, and room for the pairs that are left
+  pub record IsRoomLeft (m : MapState K V) (qs : List (K × V)) (n : MapState K V) : Type 0 where
+    pub capacity : n.capacity ≡ m.capacity
+    pub room : HasRoomFor number n.walk n.capacity n.factor qs
+
+  pub IsRoomLeft-from : (m n : MapState K V) (ps qs : List (K × V)) → IsCapacity m.capacity → HasRoomFor number m.walk m.capacity m.factor (ps ++ qs) → MapInsertsAll number is_valid m ps n
+      → IsRoomLeft m qs n
+  IsRoomLeft-from m n [] qs capacity room same = record { capacity = ap (λ s. s.capacity) same; room = rw same room }
+  IsRoomLeft-from m n (p ∷ ps) qs capacity room steps =
+      let kept : steps.0.capacity ≡ m.capacity = capacity-kept m steps.0 p (ps ++ qs) capacity room steps.1 in
+      let left : IsRoomLeft steps.0 qs n =
+      IsRoomLeft-from steps.0 n ps qs (rw kept capacity) (room-after m steps.0 p (ps ++ qs) capacity room steps.1) steps.2 in
+      record { capacity = left.capacity ∙ kept; room = left.room }
+
+  -- the next pair is never refused
+  pub never_refused-room : (m n : MapState K V) (ps qs : List (K × V)) (p : K × V) (cause : Cause) → IsCapacity m.capacity → HasRoomFor number m.walk m.capacity m.factor (ps ++ p ∷ qs)
+      → MapInsertsAll number is_valid m ps n → RefusalIsDue number (list_of n) p.0 cause → ⊥
+  never_refused-room m n ps qs p cause capacity room steps may =
+      let left : IsRoomLeft m (p ∷ qs) n = IsRoomLeft-from m n ps (p ∷ qs) capacity room steps in
+      let here : IsCapacity n.capacity = rw left.capacity capacity in
+      lone-never_refused number (list_of n) p.0 here (IsLone-room number n.walk n.capacity n.factor p qs here left.room) cause may
+
+module _ {K V : Type 0} (number : K → ℕ) where
+  -- distinct keys below the capacity each have a slot of their own
+  pub All-alone : (L : List (K × V)) (C : ℕ) (ps : List (K × V)) → HasDistinctKeys number (L ++ ps) → All (λ p. number p.0 < C) (L ++ ps) → All (λ p. class_size number (L ++ ps) C p.0 ≡ 1) ps
+  All-alone L C ps once below = each [] ps refl
+    where
+      each : (front qs : List (K × V)) → ps ≡ front ++ qs → All (λ p. class_size number (L ++ ps) C p.0 ≡ 1) qs
+      each front [] is = All-nil (λ p. class_size number (L ++ ps) C p.0 ≡ 1)
+      each front (q ∷ qs) is =
+          let most : class_size number (L ++ ps) C q.0 ≤ 1 = class_size-below number (L ++ ps) C q.0 once below in
+          let whole = class_size-append number L ps C q.0 in
+          let part : class_size number ps C q.0 ≡ class_size number front C q.0 + class_size number (q ∷ qs) C q.0 = ap (λ M. class_size number M C q.0) is ∙ class_size-append number front (q ∷ qs) C q.0 in
+          let own = class_size-own number C q qs in
+          All-cons (λ p. class_size number (L ++ ps) C p.0 ≡ 1) q qs (omega (arith, most, whole, part, own)) (each (front ++ q ∷ []) qs (is ∙ sym (append_assoc front (q ∷ []) qs)))

@@ -1,0 +1,12 @@
+-- Which pairs a table has room for.
+use Rattle.std.specs.Prelude.{◌≡◌, ℕ, ◌^◌, ◌<◌, ◌≤◌, List, ◌++◌, length, All}
+use Rattle.intmap_table.specs.Reach.{class_size}
+use Rattle.intmap.specs.Growth.{MeetsLoad, last_due}
+
+module _ {K V : Type 0} (number : K → ℕ) where
+  -- a table of C slots with the pairs L has room for the pairs ps at the load factor F: each key of ps shares its slot with no other
+  -- key of L or ps, the length with all of them is below 2^64, and the last length up to it at which growth is tested meets the load
+  pub record HasRoomFor (L : List (K × V)) (C F : ℕ) (ps : List (K × V)) : Type 0 where
+    pub alone : All (λ p. class_size number (L ++ ps) C p.0 ≡ 1) ps
+    pub count : length (L ++ ps) < 2 ^ 64
+    pub load : 4 ≤ length (L ++ ps) → MeetsLoad C (last_due (length (L ++ ps))) F
