@@ -1,22 +1,32 @@
 -- What a call leaves of the map and returns, as the set shows it.
 use Rattle.std.proofs.Common.{◌≡◌, ◌∙◌, ℕ, ◌+◌, Bool, true, false, cond, Some, refl, sym, ap, subst, length, max}
-use Rattle.std.specs.Prelude.{not, is_none, Result, Ok, Err, IfErr, IsErrAnd, MatchBool}
+use Rattle.std.specs.Prelude.{not, is_none, Result, Ok, Err, IfErr, OnErr, IsErrAnd, MatchBool}
 use Rattle.std.proofs.lemmas.Map.Entries.{length-keys_of}
 use Rattle.intmap.specs.declared.refusal.Cause.{Cause}
 use Rattle.intmap.specs.Bindings.{value_of}
 use Rattle.intmap.specs.Insertions.{IsInsertion}
 use Rattle.intmap.specs.PlainLists.{RefusalIsDue, list_of}
 use Rattle.intmap.specs.Growth.{IsLeastPower}
-use Rattle.intmap.specs.Map.{MapState, IsLone, IsOutOfRange, IsCapacityAfter, after_search, after_insert, after_remove, in_slots, with_pair, without_key}
+use Rattle.intmap.specs.Map.{MapState, IsLone, IsOutOfRange, IsCapacityAfter, after_search, after_insert, after_remove, in_slots}
 use Rattle.intmap.specs.Walk.{ArePassed}
-use Rattle.intmap_set.specs.Sets.{SetState, as_map, load_factor, paired, set_of}
+use Rattle.intmap_set.specs.Sets.{SetState, as_map, load_factor, looked_up, paired, set_of}
 use Rattle.intmap_set.specs.Extending.{Inserts}
-use Rattle.intmap_set.proofs.MemberLemmas.{IsSet-seen, Updates-seen, as_map-seen, holds-seen, length-seen, not-is_none}
+use Rattle.intmap_set.proofs.MemberLemmas.{IsSet-seen, Updates-seen, as_map-seen, holds-seen, length-seen, not-is_none, set_of-as_map}
+
+-- what holds, holds on an error
+pub on_err_given : {T E P : Type 0} (r : Result T E) → P → OnErr r P
+on_err_given (Ok t) given = tt
+on_err_given (Err e) given = given
 
 module _ {K : Type 0} (number : K → ℕ) (m n : MapState K (Unit {0})) (s : SetState K) (seen : set_of m ≡ s) (kept : m.factor ≡ load_factor) where
+  -- a search of the map is one of the set
+  pub looked_up-seen : (k : K) → n ≡ after_search number m k → set_of n ≡ looked_up number s k
+  looked_up-seen k state =
+      ap set_of state ∙ ap (λ x. set_of (after_search number x k)) (as_map-seen m s seen kept) ∙ set_of-as_map (looked_up number s k)
+
   -- a removal from the map is one from the set
-  pub without_key-seen : (k : K) → n ≡ after_remove number m k → set_of n ≡ set_of (without_key number (as_map s) k)
-  without_key-seen k state = ap set_of state ∙ ap (λ x. set_of (without_key number x k)) (as_map-seen m s seen kept)
+  pub after_remove-seen : (k : K) → n ≡ after_remove number m k → set_of n ≡ set_of (after_remove number (as_map s) k)
+  after_remove-seen k state = ap set_of state ∙ ap (λ x. set_of (after_remove number x k)) (as_map-seen m s seen kept)
 
   -- growth of the map is growth of the set
   pub in_slots-seen : n ≡ in_slots number m n.capacity → set_of n ≡ set_of (in_slots number (as_map s) n.capacity)
@@ -46,14 +56,13 @@ module _ {K : Type 0} (number : K → ℕ) (m n : MapState K (Unit {0})) (s : Se
         → IfErr r (RefusalIsDue number (list_of (as_map s)) k)
     RefusalIsDue-seen (Ok new) cause is due = absurd is
     RefusalIsDue-seen (Err e) cause is due =
-        let uncounted : RefusalIsDue number (list_of (record m { placed = 0; compared = 0 })) k cause = record { new_key = due.new_key; too_large = due.too_large; memory = due.memory } in
-        subst (RefusalIsDue number (list_of (as_map s)) k) (sym is) (subst (λ x. RefusalIsDue number (list_of x) k cause) (as_map-seen m s seen kept) uncounted)
+        subst (RefusalIsDue number (list_of (as_map s)) k) (sym is) (subst (λ x. RefusalIsDue number (list_of x) k cause) (as_map-seen m s seen kept) due)
 
-    -- a new pair of the map is a new member of the set, and otherwise both stay
+    -- a new pair of the map is a new member of the set, and otherwise both are searched
     inserted-seen : (new : Bool) → MatchBool new (n ≡ after_insert number m k tt n.capacity) (n ≡ after_search number m k)
-        → (n.factor ≡ m.factor) × (set_of n ≡ cond (not new) s (set_of (with_pair number (as_map s) k tt n.capacity)))
-    inserted-seen true state = (ap (λ x. x.factor) state, ap set_of state ∙ ap (λ x. set_of (with_pair number x k tt n.capacity)) (as_map-seen m s seen kept))
-    inserted-seen false state = (ap (λ x. x.factor) state, ap set_of state ∙ seen)
+        → (n.factor ≡ m.factor) × (set_of n ≡ cond (not new) (looked_up number s k) (set_of (after_insert number (as_map s) k tt n.capacity)))
+    inserted-seen true state = (ap (λ x. x.factor) state, ap set_of state ∙ ap (λ x. set_of (after_insert number x k tt n.capacity)) (as_map-seen m s seen kept))
+    inserted-seen false state = (ap (λ x. x.factor) state, looked_up-seen k state)
 
     -- an insertion into the map is one into the set
     pub Inserts-seen : (is_valid : K → Type 0) (new : Bool) → new ≡ is_none (value_of number m.walk k)
@@ -61,11 +70,11 @@ module _ {K : Type 0} (number : K → ℕ) (m n : MapState K (Unit {0})) (s : Se
     Inserts-seen is_valid new was state did = record {
       in_range = λ beyond. did.in_range (subst (λ x. IsOutOfRange number x.walk x.capacity x.factor k) (sym (as_map-seen m s seen kept)) beyond);
       capacity = subst (λ x. IsCapacityAfter number x.walk x.capacity x.factor k n.capacity) (as_map-seen m s seen kept) did.capacity;
-      state = left.1 ∙ ap (λ b. cond b s (set_of (with_pair number (as_map s) k tt n.capacity))) (ap not was ∙ not-is_none (value_of number m.walk k) ∙ sym (holds-seen number m s k seen));
+      state = left.1 ∙ ap (λ b. cond b (looked_up number s k) (set_of (after_insert number (as_map s) k tt n.capacity))) (ap not was ∙ not-is_none (value_of number m.walk k) ∙ sym (holds-seen number m s k seen));
       updates = Updates-seen number m n s k (Some tt) seen did.updates;
       len = length-keys_of n.walk ∙ did.len ∙ ap (λ (t : ℕ × Bool). t.0 + cond t.1 0 1) (λ i. (length-seen m s seen i, sym (holds-seen number m s k seen) i));
       valid = IsSet-seen number is_valid n (set_of n) refl (left.0 ∙ kept) did.valid;
     }
       where
-        left : (n.factor ≡ m.factor) × (set_of n ≡ cond (not new) s (set_of (with_pair number (as_map s) k tt n.capacity)))
+        left : (n.factor ≡ m.factor) × (set_of n ≡ cond (not new) (looked_up number s k) (set_of (after_insert number (as_map s) k tt n.capacity)))
         left = inserted-seen new state

@@ -25,12 +25,16 @@ module _ {K : Type 0} where
   pub length-paired : (W : List K) → length (paired W) ≡ length W
   length-paired W = sym (length-keys_of (paired W)) ∙ ap length (keys_of-paired W)
 
-  -- apart from its counts, the map of the set that a map shows is this map
-  pub as_map-seen : (m : MapState K (Unit {0})) (s : SetState K) → set_of m ≡ s → m.factor ≡ load_factor → record m { placed = 0; compared = 0 } ≡ as_map s
-  as_map-seen m s seen kept i = record { walk = pairs i; capacity = (seen i).capacity; factor = kept i; placed = 0; compared = 0 }
+  -- the map of the set that a map shows is this map
+  pub as_map-seen : (m : MapState K (Unit {0})) (s : SetState K) → set_of m ≡ s → m.factor ≡ load_factor → m ≡ as_map s
+  as_map-seen m s seen kept i = record { walk = pairs i; capacity = (seen i).capacity; factor = kept i; placed = (seen i).placed; compared = (seen i).compared }
     where
       pairs : m.walk ≡ paired s.walk
       pairs = sym (paired-keys_of m.walk) ∙ ap (λ t. paired t.walk) seen
+
+  -- the set of the map of a set is this set
+  pub set_of-as_map : (s : SetState K) → set_of (as_map s) ≡ s
+  set_of-as_map s i = record s { walk = keys_of-paired s.walk i }
 
   -- there is one member for each pair
   pub length-seen : (m : MapState K (Unit {0})) (s : SetState K) → set_of m ≡ s → length m.walk ≡ length s.walk

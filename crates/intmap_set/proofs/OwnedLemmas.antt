@@ -133,7 +133,7 @@ module _ {K : Type 0} (number : K → ℕ) (is_valid : K → Type 0) where
     first-came ks k rest came = sym (map-id ks) ∙ YieldsList-so_far yields ks came.0 came.1
 
     -- one more than the set then has came
-    length-stopped : (refused : RefusedPair K (Unit {0})) (t : SetState K) → ExtendsUpTo number is_valid steps i (empty_set 4) refused t → length t.walk + 1 ≤ length all
+    length-stopped : (refused : RefusedPair K (Unit {0})) (t : SetState K) (told : ExtendsUpTo number is_valid steps i (empty_set 4) refused t) → length told.before.walk + 1 ≤ length all
     length-stopped refused t told =
         let within = slice_get_within all (length told.keys) refused.key (next-came told.keys refused.key told.rest told.came) in
         let new = count_new-most [] told.keys in let len = told.extended.len in
@@ -146,19 +146,19 @@ module _ {K : Type 0} (number : K → ℕ) (is_valid : K → Type 0) where
         memory≢too_large : Memory ≡ TooLarge → ⊥
         memory≢too_large same = cc
     too_large-made cause (inr (refused, t, told, set, same)) is =
-        let fewer = length-stopped refused t told in
-        at fewer (out_of_range-exceeds t refused.key set (told.may_refuse.too_large.0 (sym same ∙ is)))
+        at told.before.walk (length-stopped refused t told)
+        (out_of_range-exceeds told.before refused.key (subst (IsSet number is_valid) told.after set) (told.may_refuse.too_large.0 (sym same ∙ is)))
       where
-        at : length t.walk + 1 ≤ length all → (2 ^ 64 ≤ length t.walk + 1) ⊎ ((is_due (length t.walk + 1) ≡ true) × (load_factor < (length t.walk + 1) * 1000 / 2 ^ 63))
+        at : (W : List K) → length W + 1 ≤ length all → (2 ^ 64 ≤ length W + 1) ⊎ ((is_due (length W + 1) ≡ true) × (load_factor < (length W + 1) * 1000 / 2 ^ 63))
             → load_factor < length all * 1000 / 2 ^ 63
-        at fewer (inl over) = omega (arith, fewer, over)
-        at fewer (inr (due, over)) = omega (arith, fewer, over)
+        at W fewer (inl over) = omega (arith, fewer, over)
+        at W fewer (inr (due, over)) = omega (arith, fewer, over)
 
     -- and never if a set has as many members
     pub memory-made : (s : SetState K) → IsSet number is_valid s → length all ≤ length s.walk → (cause : Cause) → MayStop number is_valid steps i (empty_set 4) cause → cause ≡ Memory
     memory-made s big fewer cause (inl memory) = memory
     memory-made s big fewer cause (inr (refused, t, told, set, same)) =
-        only_memory cause (λ is. within-range s t refused.key big set (let more = length-stopped refused t told in omega (arith, more, fewer)) (told.may_refuse.too_large.0 (sym same ∙ is)))
+        only_memory cause (λ is. within-range s told.before refused.key big (subst (IsSet number is_valid) told.after set) (let more = length-stopped refused t told in omega (arith, more, fewer)) (told.may_refuse.too_large.0 (sym same ∙ is)))
 
     -- where an extension stopped, in the list of the keys
     pub stops-among : (s : SetState K) (refused : RefusedPair K (Unit {0})) (t : SetState K) → length all < 2 ^ 64 → ExtendsUpTo number is_valid steps i s refused t
@@ -169,8 +169,10 @@ module _ {K : Type 0} (number : K → ℕ) (is_valid : K → Type 0) where
         let many : refused.applied ≡ length told.keys = told.applied ∙ min-below (length told.keys) (2 ^ 64 - 1) (omega (arith, within, count)) in
         record {
           next = ap (slice_get all) many ∙ next;
-          extended = subst (λ ks. IsExtended number is_valid s ks t) (first-came told.keys refused.key told.rest told.came ∙ ap (λ n. take n all) (sym many)) told.extended;
+          before = told.before;
+          extended = subst (λ ks. IsExtended number is_valid s ks told.before) (first-came told.keys refused.key told.rest told.came ∙ ap (λ n. take n all) (sym many)) told.extended;
           may_refuse = told.may_refuse;
+          after = told.after;
         }
       where
         min-below : (m n : ℕ) → m ≤ n → min m n ≡ m

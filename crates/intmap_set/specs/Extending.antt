@@ -6,18 +6,18 @@ use Rattle.intmap.specs.declared.refusal.Cause.{Cause}
 use Rattle.intmap.specs.declared.refusal.Cause.TheVariants.{Memory}
 use Rattle.intmap.specs.declared.refusal.RefusedPair.{RefusedPair}
 use Rattle.intmap.specs.Extending.{new_keys}
-use Rattle.intmap.specs.Map.{IsOutOfRange, IsCapacityAfter, with_pair}
+use Rattle.intmap.specs.Map.{IsOutOfRange, IsCapacityAfter, after_insert}
 use Rattle.intmap.specs.PlainLists.{RefusalIsDue, list_of}
-use Rattle.intmap_set.specs.Sets.{SetState, IsSet, Updates, as_map, holds, load_factor, paired, set_of}
+use Rattle.intmap_set.specs.Sets.{SetState, IsSet, Updates, as_map, holds, load_factor, looked_up, paired, set_of}
 use Rattle.intmap_set.specs.Combined.{IsUnion}
 
 module _ {K : Type 0} (number : K → ℕ) (is_valid : K → Type 0) where
   -- an insertion of k took the set s to t: k is in range, a new key alone may grow the table, and is then the last of its slot,
-  -- each other key is a member exactly if it was one, and there is one member more if k is new
+  -- a member is looked up and nothing more, each other key is a member exactly if it was one, and there is one member more if k is new
   pub record Inserts (s : SetState K) (k : K) (t : SetState K) : Type 0 where
     pub in_range : IsOutOfRange number (paired s.walk) s.capacity load_factor k → ⊥
     pub capacity : IsCapacityAfter number (paired s.walk) s.capacity load_factor k t.capacity
-    pub state : t ≡ cond (holds number s.walk k) s (set_of (with_pair number (as_map s) k tt t.capacity))
+    pub state : t ≡ cond (holds number s.walk k) (looked_up number s k) (set_of (after_insert number (as_map s) k tt t.capacity))
     pub updates : Updates number s.walk t.walk k true
     pub len : length t.walk ≡ length s.walk + cond (holds number s.walk k) 0 1
     pub valid : IsSet number is_valid t
@@ -36,11 +36,13 @@ module _ {K : Type 0} (number : K → ℕ) (is_valid : K → Type 0) where
     pub capacity : s.capacity ≤ t.capacity
 
   -- the keys were inserted in turn up to the first that failed, which is returned with the cause and the number of those
-  -- before it
+  -- before it; then it was looked up
   pub record StopsAmong (s : SetState K) (ks : List K) (refused : RefusedPair K (Unit {0})) (t : SetState K) : Type 0 where
     pub next : slice_get ks refused.applied ≡ Some refused.key
-    pub extended : IsExtended s (take refused.applied ks) t
-    pub may_refuse : RefusalIsDue number (list_of (as_map t)) refused.key refused.cause
+    pub before : SetState K
+    pub extended : IsExtended s (take refused.applied ks) before
+    pub may_refuse : RefusalIsDue number (list_of (as_map before)) refused.key refused.cause
+    pub after : t ≡ looked_up number before refused.key
 
 module _ {K I : Type 0} (number : K → ℕ) (is_valid : K → Type 0) (steps : I → Option K → I → Type 0) where
   -- all keys that the iterator i gave were inserted in turn
@@ -50,13 +52,15 @@ module _ {K I : Type 0} (number : K → ℕ) (is_valid : K → Type 0) (steps : 
     pub extended : IsExtended number is_valid s keys t
 
   -- the keys that the iterator i gave were inserted in turn up to the first that failed, which is returned with the
-  -- cause and the number of those before it, or the greatest number there is if they were more
+  -- cause and the number of those before it, or the greatest number there is if they were more; then it was looked up
   pub record ExtendsUpTo (i : I) (s : SetState K) (refused : RefusedPair K (Unit {0})) (t : SetState K) : Type 0 where
     pub keys : List K
     pub rest : I
     pub came : YieldsThen steps i keys (Some refused.key) rest
-    pub extended : IsExtended number is_valid s keys t
-    pub may_refuse : RefusalIsDue number (list_of (as_map t)) refused.key refused.cause
+    pub before : SetState K
+    pub extended : IsExtended number is_valid s keys before
+    pub may_refuse : RefusalIsDue number (list_of (as_map before)) refused.key refused.cause
+    pub after : t ≡ looked_up number before refused.key
     pub applied : refused.applied ≡ min (length keys) (2 ^ 64 - 1)
 
   -- there was no memory for a set, or an insertion into s of a key that the iterator i gave failed with this cause

@@ -1,14 +1,18 @@
 -- A set of integers as contracts see it, its members, and the map that it stands for.
-use Rattle.std.specs.Prelude.{◌≡◌, false, ℕ, Bool, cond, List, [], map}
+use Rattle.std.specs.Prelude.{◌≡◌, false, ℕ, ◌+◌, Bool, cond, List, [], map}
 use Rattle.std.specs.List.{list_any}
 use Rattle.std.specs.Map.{keys_of}
 use Rattle.intmap.specs.Classes.{same_key}
 use Rattle.intmap.specs.Map.{MapState, IsMap, first_factor}
+use Rattle.intmap.specs.Reach.{reach}
 
--- the members in the order of the walk, and the number of slots
+-- the members in the order of the walk, and the number of slots; how many members insertions put into larger tables, and how many keys were
+-- compared
 pub record SetState (K : Type 0) : Type 0 where
   pub walk : List K
   pub capacity : ℕ
+  pub placed : ℕ
+  pub compared : ℕ
 
 -- the load factor of every set, that of a new map: 909 thousandths
 abbrev pub load_factor : ℕ
@@ -19,22 +23,26 @@ module _ {K : Type 0} where
   abbrev pub paired : List K → List (K × Unit {0})
   paired W = map (λ k. (k, tt)) W
 
-  -- the map from each member to (), its counts at zero
+  -- the map from each member to ()
   abbrev pub as_map : SetState K → MapState K (Unit {0})
-  as_map s = record { walk = paired s.walk; capacity = s.capacity; factor = load_factor; placed = 0; compared = 0 }
+  as_map s = record { walk = paired s.walk; capacity = s.capacity; factor = load_factor; placed = s.placed; compared = s.compared }
 
   -- the set of the keys of a map
   abbrev pub set_of : MapState K (Unit {0}) → SetState K
-  set_of m = record { walk = keys_of m.walk; capacity = m.capacity }
+  set_of m = record { walk = keys_of m.walk; capacity = m.capacity; placed = m.placed; compared = m.compared }
 
   -- a new set of C slots
   abbrev pub empty_set : ℕ → SetState K
-  empty_set C = record { walk = []; capacity = C }
+  empty_set C = record { walk = []; capacity = C; placed = 0; compared = 0 }
 
 module _ {K : Type 0} (number : K → ℕ) where
   -- whether a key is a member
   abbrev pub holds : List K → K → Bool
   holds W k = list_any (same_key number k) W
+
+  -- the set once k was looked up
+  abbrev pub looked_up : SetState K → K → SetState K
+  looked_up s k = record s { compared = s.compared + reach number (paired s.walk) s.capacity k }
 
   -- W has k exactly if b is true, and each other key exactly if V has: so it is at every key, at k itself, and at any other
   abbrev pub Updates : List K → List K → K → Bool → Type 0

@@ -25,9 +25,10 @@ use std::marker::Model;
 /// slot of an `IntMap<u64, u64>` takes 48 bytes and a bit. With keys of at most 4 bytes a slot of a
 /// set takes 32 bytes and a bit.
 ///
-/// Contracts see a set as a [`SetState`](../specs/Sets.antt): its walk and its number of slots. The
-/// load factor of every set is `load_factor`, 909 thousandths. Whether a key is a member is `holds`
-/// of the walk.
+/// Contracts see a set as a [`SetState`](../specs/Sets.antt): its walk, its number of slots and two
+/// counts. One counts the members that insertions put into larger tables, the other the keys that
+/// calls by `&mut` compared. Only contracts see the counts: they take no memory. The load factor of
+/// every set is `load_factor`, 909 thousandths. Whether a key is a member is `holds` of the walk.
 #[derive(Drop)]
 pub struct IntSet<K: IntKey, A: Allocator + Copy = Global> {
     map: IntMap<K, (), A>,
@@ -45,7 +46,7 @@ impl<K: IntKey, A: Allocator + Copy> Model for IntSet<K, A> {
 }
 
 impl<K: IntKey, A: Allocator + Copy> IntSet<K, A> {
-    /// Whether the key is a member. It never fails.
+    /// Whether the key is a member. It never fails, and its comparisons of keys aren't counted.
     ///
     /// ```text
     /// set.contains(21)    true after set.insert(21)?

@@ -4,7 +4,7 @@ ghost use Rattle.intmap.specs.Growth.{IsLeastPower};
 ghost use Rattle.intmap.specs.Map.{IsLone, in_slots, least_capacity};
 ghost use Rattle.intmap.specs.PlainLists.{RefusalIsDue, list_of};
 ghost use Rattle.intmap_set.specs.Extending.{Inserts};
-ghost use Rattle.intmap_set.specs.Sets.{IsSet, as_map, empty_set, holds, load_factor, paired, set_of};
+ghost use Rattle.intmap_set.specs.Sets.{IsSet, as_map, empty_set, holds, load_factor, looked_up, paired, set_of};
 
 use crate::set::IntSet;
 use intmap::{Cause, IntKey, IntMap};
@@ -39,25 +39,27 @@ impl<K: IntKey, A: Allocator + Copy> IntSet<K, A> {
         })
     }
 
-    /// Makes the key a member, and returns whether it is new. If it is a member already, the set
-    /// stays as it is. A new member is put at the end of its slot, and the table grows as the table
-    /// of a map does at a new key.
+    /// Makes the key a member, and returns whether it is new. If it is a member already, only the
+    /// count of compared keys changes. A new member is put at the end of its slot, and the table
+    /// grows as the table of a map does at a new key.
     ///
     /// The insertion of a member never fails. The insertion of a new key fails with
     /// [`Cause::TooLarge`] exactly if the set has 2^64 - 1 members or growth needs more than 2^63
     /// slots, and otherwise with [`Cause::Memory`] if an allocation fails. It allocates nothing if
-    /// the capacity stays and the slot holds no member. A failed call leaves the set as it was.
+    /// the capacity stays and the slot holds no member. A failed call leaves the set as it was. Only
+    /// the count of compared keys, which takes no memory, changes.
     ///
     /// ```text
     /// with 0, 4 and 8, in this order, in 4 slots, where they share one:
-    /// insert(4)     Ok(false), and the same walk
-    /// insert(12)    Ok(true), and 8 slots: four members in four slots exceed 909 thousandths
+    /// insert(4)     Ok(false), and the same walk; 2 keys were compared
+    /// insert(12)    Ok(true), and 8 slots: four members in four slots exceed 909 thousandths; 3
+    ///               keys were compared
     /// ```
     pub fn insert(&mut self, key: K) -> Result<bool, Cause>
         // what is returned and left
         ensures new { IfOk result (λ new. new ≡ not (holds K.number_of self.old.walk key)) }
         ensures inserted { OnOk result (Inserts K.number_of K.is_valid self.old key self.new) }
-        ensures err { OnErr result (self.new ≡ self.old) }
+        ensures err { OnErr result (self.new ≡ looked_up K.number_of self.old key) }
 
         // when it fails
         ensures refused { IfErr result (RefusalIsDue K.number_of (list_of (as_map self.old)) key) }
@@ -76,7 +78,7 @@ impl<K: IntKey, A: Allocator + Copy> IntSet<K, A> {
     ///
     /// It fails with [`Cause::TooLarge`] exactly if the length plus `additional` is above 2^63, and
     /// otherwise with [`Cause::Memory`] if an allocation fails. It never fails if the capacity is
-    /// at least that sum. A failed call leaves the set as it was.
+    /// at least that sum. A failed call leaves the set as it was. Both counts stay.
     pub fn reserve(&mut self, additional: usize) -> Result<(), Cause>
         ensures capacity { OnOk result ((p : ℕ) × IsLeastPower (length self.old.walk + additional) p
             × (self.new.capacity ≡ max self.old.capacity p)) }

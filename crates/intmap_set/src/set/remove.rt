@@ -3,7 +3,7 @@ ghost use Rattle.std.specs.Prelude.{◌≡◌, ◌+◌, ◌⊎◌, ◌≤◌, fa
 ghost use Rattle.intmap.specs.Retaining.{Retains};
 ghost use Rattle.intmap.specs.Taking.{TakesEach};
 ghost use Rattle.std.specs.Iterator.{YieldsFirst};
-ghost use Rattle.intmap.specs.Map.{without_key};
+ghost use Rattle.intmap.specs.Map.{after_remove};
 ghost use Rattle.intmap.specs.Walk.{ArePassed};
 ghost use Rattle.intmap_set.specs.Sets.{IsSet, Updates, as_map, holds, paired, set_of};
 ghost use Rattle.intmap_set.specs.Retaining.{KeepsKey, TakesKey};
@@ -14,7 +14,7 @@ use std::alloc::Allocator;
 
 impl<K: IntKey, A: Allocator + Copy> IntSet<K, A> {
     /// Removes the key, and returns whether it was a member. The last member of the slot takes its
-    /// place. It never fails.
+    /// place. Its search is counted, whether the key was a member or not. It never fails.
     ///
     /// ```text
     /// with 0, 4 and 8, in this order, in 4 slots, where they share one:
@@ -23,7 +23,7 @@ impl<K: IntKey, A: Allocator + Copy> IntSet<K, A> {
     /// ```
     pub fn remove(&mut self, key: K) -> bool
         ensures value { result ≡ holds K.number_of self.old.walk key }
-        ensures state { self.new ≡ set_of (without_key K.number_of (as_map self.old) key) }
+        ensures state { self.new ≡ set_of (after_remove K.number_of (as_map self.old) key) }
         ensures updates { Updates K.number_of self.old.walk self.new.walk key false }
         ensures len { length self.new.walk + cond result 1 0 ≡ length self.old.walk }
         ensures valid { IsSet K.number_of K.is_valid self.old }
@@ -46,8 +46,9 @@ impl<K: IntKey, A: Allocator + Copy> IntSet<K, A> {
         Some(key)
     }
 
-    /// Removes all members. The capacity and the load factor stay, and the slots keep their memory
-    /// for later members. It goes through the slots that hold a member, and never fails.
+    /// Removes all members. The capacity, the load factor and both counts stay, and the slots keep
+    /// their memory for later members. It goes through the slots that hold a member, and never
+    /// fails.
     pub fn clear(&mut self)
         ensures state { self.new ≡ record self.old { walk = [] } }
         ensures none { (q : K) → holds K.number_of self.new.walk q ≡ false }
@@ -65,8 +66,8 @@ impl<K: IntKey, A: Allocator + Copy> IntSet<K, A> {
     /// The closure must be callable at these members in this order, each time in the state that the
     /// call before left. Nothing is required of other keys and calls.
     ///
-    /// The members that stay keep their order. The capacity and the load factor stay, and the slots
-    /// keep their memory for later members. It never fails and allocates nothing.
+    /// The members that stay keep their order. The capacity, the load factor and both counts stay,
+    /// and the slots keep their memory for later members. It never fails and allocates nothing.
     ///
     /// ```text
     /// after insert(0), insert(1) and insert(4) into 4 slots the walk is 0, 4, 1:

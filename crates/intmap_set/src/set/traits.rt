@@ -15,8 +15,8 @@ impl<K: IntKey, A: Allocator + Copy> PartialEq for IntSet<K, A> {
 
     ghost laws = { partial_equiv_from_equiv (IsEquivalence-sets_equal K.number_of) };
 
-    /// Whether both sets have the same members. The order of the walks, the capacities and the load
-    /// factors don't matter. It never fails.
+    /// Whether both sets have the same members. The order of the walks, the capacities and the
+    /// counts don't matter. It never fails, and its comparisons of keys aren't counted.
     fn eq(&self, other: &IntSet<K, A>) -> bool {
         self.map == other.map
     }
@@ -45,10 +45,11 @@ impl<K: IntKey + fmt::Debug, A: Allocator + Copy> fmt::Debug for IntSet<K, A> {
 
 impl<K: IntKey, A: Allocator + Copy> IntSet<K, A> {
     /// A set with the same members in the same order, and with the same capacity and load factor.
-    /// This set stays as it is. No key is compared. Time and memory grow with the number of slots
-    /// and of members. It fails only with [`Cause::Memory`], if an allocation fails.
+    /// Its own counts begin at zero. This set stays as it is. No key is compared. Time and memory
+    /// grow with the number of slots and of members. It fails only with [`Cause::Memory`], if an
+    /// allocation fails.
     pub fn clone(&self) -> Result<IntSet<K, A>, Cause>
-        ensures same { IfOk result (λ made. made ≡ self.now) }
+        ensures same { IfOk result (λ made. made ≡ record self.now { placed = 0; compared = 0 }) }
         ensures memory { IfErr result (λ cause. cause ≡ Cause.Memory) }
         ensures valid { IsSet K.number_of K.is_valid self.now }
     {

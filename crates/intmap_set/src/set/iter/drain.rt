@@ -54,8 +54,9 @@ impl<K: IntKey, A: Allocator + Copy> IntSet<K, A> {
 
     /// An iterator that removes one member at each step and returns it, in iteration order. At every
     /// moment, the members that it returned and then the members that the set has are the walk at the
-    /// start. The capacity and the load factor stay, and the slots keep their memory. Each step moves
-    /// the other members of its slot up by one place. It allocates nothing and never fails.
+    /// start. The capacity, the load factor and both counts stay, and the slots keep their memory.
+    /// Each step moves the other members of its slot up by one place. It allocates nothing and never
+    /// fails.
     ///
     /// ```text
     /// after insert(0), insert(4) and insert(8) into 4 slots, where they share one:

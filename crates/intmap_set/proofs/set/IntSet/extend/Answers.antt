@@ -1,10 +1,7 @@
 -- The keys of an iterator are inserted one after another, and an induction over them is beyond the search.
-use Rattle.std.proofs.Common.{sym, subst, arith, rules}
+use Rattle.std.proofs.Common.{subst, arith, rules}
 use Rattle.std.specs.Iterator.{Yields}
 use Rattle.std.proofs.lemmas.List.{length_push}
-use Rattle.intmap.specs.PlainLists.{RefusalIsDue, list_of}
-use Rattle.intmap_set.specs.Extending.{IsExtended}
-use Rattle.intmap_set.specs.Sets.{as_map}
 use Rattle.intmap_set.proofs.ExtendLemmas.{IsExtended-push}
 use Rattle.intmap_set.proofs.set.IntSet.extend.Goals as goal
 
@@ -30,7 +27,9 @@ returns-in-Err-clause-stops g c =
         subst (λ i. Yields gives i keys c.loop-key.key-iterator) c.into_iter-key-iterator.ensures.into_iter_gives c.loop-key.yielded_by,
         c.in-Some.ensures.steps,
       );
-      extended = subst (λ s. IsExtended g.K.IntKey.number_of g.K.IntKey.is_valid c.args.self.now keys s) (sym e.err) c.loop-key.invariant.1;
-      may_refuse = subst (λ s. RefusalIsDue g.K.IntKey.number_of (list_of (as_map s)) c.in-Some.key c.in-Err.cause) (sym e.err) e.refused;
+      before = c.loop-key.self;
+      extended = c.loop-key.invariant.1;
+      may_refuse = e.refused;
+      after = e.err;
       applied = c.loop-key.invariant.2;
     }

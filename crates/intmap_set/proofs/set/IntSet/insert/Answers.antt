@@ -1,8 +1,12 @@
 use Rattle.std.proofs.Common.{◌∙◌, sym, ap, refl, rules}
 use Rattle.std.specs.Prelude.{not}
 use Rattle.intmap_set.proofs.MemberLemmas.{IsSet-seen, holds-seen, not-is_some}
-use Rattle.intmap_set.proofs.CallLemmas.{Inserts-seen, IsLone-seen, RefusalIsDue-seen}
+use Rattle.intmap_set.proofs.CallLemmas.{Inserts-seen, IsLone-seen, RefusalIsDue-seen, looked_up-seen, on_err_given}
 use Rattle.intmap_set.proofs.set.IntSet.insert.Goals as goal
+
+pub returns-in_err-insert_checked-clause-err : goal.returns-in_err-insert_checked-clause-err
+returns-in_err-insert_checked-clause-err g c =
+    on_err_given c.from_residual.result (looked_up-seen _ c.self.inside.map c.insert_checked.new.self _ c.self.view_is c.self.invariant _ c.in_err-insert_checked.ensures.err)
 
 pub returns-in_err-insert_checked-clause-refused : goal.returns-in_err-insert_checked-clause-refused
 returns-in_err-insert_checked-clause-refused g c =
