@@ -7,3 +7,4 @@ pub mod ExtendLemmas
 pub mod DistinctLemmas
 pub mod SizeLemmas
 pub mod OwnedLemmas
+pub mod RoomLemmas

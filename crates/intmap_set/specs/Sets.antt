@@ -1,8 +1,8 @@
 -- A set of integers as contracts see it, its members, and the map that it stands for.
-use Rattle.std.specs.Prelude.{◌≡◌, false, ℕ, ◌+◌, Bool, cond, List, [], map}
+use Rattle.std.specs.Prelude.{◌≡◌, false, ℕ, ◌+◌, ◌<◌, Bool, cond, List, [], map, IsTrue}
 use Rattle.std.specs.List.{list_any}
 use Rattle.std.specs.Map.{keys_of}
-use Rattle.intmap.specs.Classes.{same_key}
+use Rattle.intmap.specs.Classes.{same_key, agrees}
 use Rattle.intmap.specs.Map.{MapState, IsMap, first_factor}
 use Rattle.intmap.specs.Reach.{reach}
 
@@ -39,6 +39,14 @@ module _ {K : Type 0} (number : K → ℕ) where
   -- whether a key is a member
   abbrev pub holds : List K → K → Bool
   holds W k = list_any (same_key number k) W
+
+  -- the number of each member is below n
+  abbrev pub AreBelow : List K → ℕ → Type 0
+  AreBelow W n = (q : K) → IsTrue (holds W q) → number q < n
+
+  -- no member shares the slot of k in C slots
+  abbrev pub IsAlone : List K → ℕ → K → Type 0
+  IsAlone W C k = (q : K) → IsTrue (holds W q) → agrees number C k q ≡ false
 
   -- the set once k was looked up
   abbrev pub looked_up : SetState K → K → SetState K

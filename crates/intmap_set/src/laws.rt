@@ -3,9 +3,15 @@
 //!
 //! A call such as `laws::union_holds::<u64>();` adds its law to the proof of the function that
 //! contains the call.
-ghost use Rattle.std.specs.Prelude.{◌≡◌, ◌+◌, ◌*◌, ◌≤◌, ◌↔◌, List, IsTrue, is_some, length};
+ghost use Rattle.std.specs.Prelude.{◌≡◌, ◌+◌, ◌*◌, ◌<◌, ◌≤◌, ◌↔◌, ℕ, List, IsTrue, false, is_some, length};
 ghost use Rattle.intmap.specs.Bindings.{HasDistinctKeys, value_of};
-ghost use Rattle.intmap_set.specs.Sets.{SetState, holds, paired};
+ghost use Rattle.intmap.specs.Classes.{IsCapacity};
+ghost use Rattle.intmap.specs.Growth.{MeetsLoad};
+ghost use Rattle.intmap.specs.Map.{IsCapacityAfter, IsLone};
+ghost use Rattle.intmap.specs.PlainLists.{RefusalIsDue, list_of};
+ghost use Rattle.intmap.specs.Reach.{reach};
+ghost use Rattle.intmap.specs.declared.refusal.Cause.{Cause};
+ghost use Rattle.intmap_set.specs.Sets.{SetState, AreBelow, IsAlone, as_map, holds, load_factor, paired};
 ghost use Rattle.intmap_set.specs.Combined.{IsSubset, IsDisjoint, HaveSameMembers, IsDifference, IsIntersection, IsUnion, IsSymmetricDifference, sets_equal, difference_of, intersection_of, union_of, symmetric_difference_of};
 ghost use Rattle.intmap.specs.Extending.{new_keys};
 
@@ -115,4 +121,40 @@ pub fn combined_keys_are_distinct<K: IntKey>()
 pub fn distinct_keys_are_new<K: IntKey>()
     ensures { (W ks : List K) → IsDisjoint K.number_of ks W
         → HasDistinctKeys K.number_of (paired ks) → new_keys K.number_of (paired W) (paired ks) ≡ ks }
+{}
+
+/// If `n` members meet the load of a set, a key that shares its slot with none is lone at each
+/// length below `n`, so its insertion never fails.
+pub fn met_loads_leave_room<K: IntKey>()
+    ensures { (W : List K) (C n : ℕ) (k : K) → IsCapacity C → MeetsLoad C n load_factor
+        → length W < n → IsAlone K.number_of W C k
+        → IsLone K.number_of (paired W) C load_factor k }
+{}
+
+/// If `n` members meet the load of a set, an insertion at a length below `n` leaves its capacity.
+pub fn met_loads_keep_capacity<K: IntKey>()
+    ensures { (W : List K) (C n : ℕ) (k : K) (D : ℕ) → IsCapacity C → MeetsLoad C n load_factor
+        → length W < n → IsCapacityAfter K.number_of (paired W) C load_factor k D → D ≡ C }
+{}
+
+/// The insertion of a lone key never fails. A caller of [`IntSet::extend`](crate::IntSet::extend)
+/// needs this; the contract of [`IntSet::insert`](crate::IntSet::insert) says it by `lone`.
+pub fn lone_keys_are_never_refused<K: IntKey>()
+    ensures { (s : SetState K) (k : K) (cause : Cause) → IsCapacity s.capacity
+        → IsLone K.number_of (paired s.walk) s.capacity load_factor k
+        → RefusalIsDue K.number_of (list_of (as_map s)) k cause → ⊥ }
+{}
+
+/// If all members have numbers below the capacity, a new key with such a number shares its slot
+/// with none.
+pub fn small_new_keys_are_alone<K: IntKey>()
+    ensures { (W : List K) (C : ℕ) (k : K) → AreBelow K.number_of W C → K.number_of k < C
+        → holds K.number_of W k ≡ false → IsAlone K.number_of W C k }
+{}
+
+/// If all members have numbers below the capacity, a search compares at most one of them. The
+/// clause `valid` of a set's calls says that its keys are distinct.
+pub fn small_members_are_found_at_once<K: IntKey>()
+    ensures { (W : List K) (C : ℕ) (k : K) → HasDistinctKeys K.number_of (paired W)
+        → AreBelow K.number_of W C → reach K.number_of (paired W) C k ≤ 1 }
 {}
