@@ -8,6 +8,7 @@ use Rattle.intmap.specs.Insertions.{IsInsertion}
 use Rattle.intmap.specs.PlainLists.{RefusalIsDue, list_of}
 use Rattle.intmap.specs.Growth.{IsLeastPower}
 use Rattle.intmap.specs.Map.{MapState, IsLone, IsOutOfRange, IsCapacityAfter, after_search, after_insert, after_remove, in_slots}
+use Rattle.intmap.specs.Reach.{reach}
 use Rattle.intmap.specs.Walk.{ArePassed}
 use Rattle.intmap_set.specs.Sets.{SetState, as_map, load_factor, looked_up, paired, set_of}
 use Rattle.intmap_set.specs.Extending.{Inserts}
@@ -64,6 +65,12 @@ module _ {K : Type 0} (number : K → ℕ) (m n : MapState K (Unit {0})) (s : Se
     inserted-seen true state = (ap (λ x. x.factor) state, ap set_of state ∙ ap (λ x. set_of (after_insert number x k tt n.capacity)) (as_map-seen m s seen kept))
     inserted-seen false state = (ap (λ x. x.factor) state, looked_up-seen k state)
 
+    -- either way the search is counted
+    compared-seen : (new : Bool) → MatchBool new (n ≡ after_insert number m k tt n.capacity) (n ≡ after_search number m k)
+        → n.compared ≡ s.compared + reach number (paired s.walk) s.capacity k
+    compared-seen true state = ap (λ x. x.compared) state ∙ ap (λ x. x.compared + reach number x.walk x.capacity k) (as_map-seen m s seen kept)
+    compared-seen false state = ap (λ x. x.compared) state ∙ ap (λ x. x.compared + reach number x.walk x.capacity k) (as_map-seen m s seen kept)
+
     -- an insertion into the map is one into the set
     pub Inserts-seen : (is_valid : K → Type 0) (new : Bool) → new ≡ is_none (value_of number m.walk k)
         → MatchBool new (n ≡ after_insert number m k tt n.capacity) (n ≡ after_search number m k) → IsInsertion number is_valid m k tt n → Inserts number is_valid s k (set_of n)
@@ -71,6 +78,7 @@ module _ {K : Type 0} (number : K → ℕ) (m n : MapState K (Unit {0})) (s : Se
       in_range = λ beyond. did.in_range (subst (λ x. IsOutOfRange number x.walk x.capacity x.factor k) (sym (as_map-seen m s seen kept)) beyond);
       capacity = subst (λ x. IsCapacityAfter number x.walk x.capacity x.factor k n.capacity) (as_map-seen m s seen kept) did.capacity;
       state = left.1 ∙ ap (λ b. cond b (looked_up number s k) (set_of (after_insert number (as_map s) k tt n.capacity))) (ap not was ∙ not-is_none (value_of number m.walk k) ∙ sym (holds-seen number m s k seen));
+      compared = compared-seen new state;
       updates = Updates-seen number m n s k (Some tt) seen did.updates;
       len = length-keys_of n.walk ∙ did.len ∙ ap (λ (t : ℕ × Bool). t.0 + cond t.1 0 1) (λ i. (length-seen m s seen i, sym (holds-seen number m s k seen) i));
       valid = IsSet-seen number is_valid n (set_of n) refl (left.0 ∙ kept) did.valid;

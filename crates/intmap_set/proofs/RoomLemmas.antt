@@ -1,5 +1,5 @@
 -- When a new member has a slot of its own, and how far a search then goes.
-use Rattle.std.proofs.Common.{◌≡◌, ◌∙◌, inl, inr, ℕ, ◌+◌, ◌%◌, ◌*◌, ◌/◌, ◌^◌, ◌<◌, ◌≤◌, Bool, true, false, cond, List, [], ◌∷◌, Option, Some, None, refl, sym, ap, subst, length, arith}
+use Rattle.std.proofs.Common.{◌≡◌, ◌∙◌, inl, inr, ℕ, ◌+◌, ◌%◌, ◌*◌, ◌/◌, ◌^◌, ◌<◌, ◌≤◌, Bool, true, false, cond, List, [], ◌∷◌, Option, Some, None, refl, sym, ap, length, arith}
 use Rattle.std.proofs.Math.Nat.{mod-eq_of_lt}
 use Rattle.std.proofs.lemmas.Bool.{cases_Bool, cases_lt, eqb-true, true≢false}
 use Rattle.std.proofs.lemmas.List.Elements.{All-cons, All-nil}
@@ -18,7 +18,7 @@ use Rattle.intmap.proofs.LoadFactorLemmas.{IsNext-met, IsNext-unique, MeetsLoad-
 use Rattle.intmap.proofs.RefusalLemmas.{lone-never_refused}
 use Rattle.intmap.proofs.SlotNumberLemmas.{capacity-greatest, capacity-positive}
 use Rattle.intmap_set.specs.Sets.{SetState, AreBelow, IsAlone, as_map, holds, load_factor, paired}
-use Rattle.intmap_set.proofs.MemberLemmas.{holds-same_number, length-paired, same_key-itself}
+use Rattle.intmap_set.proofs.MemberLemmas.{holds-paired, holds-same_number, length-paired, same_key-itself}
 
 -- what is true beside another is true of both
 or-true : (b c : Bool) → c ≡ true → (b || c) ≡ true
@@ -98,3 +98,10 @@ module _ {K : Type 0} (number : K → ℕ) where
   pub lone-never_due : (s : SetState K) (k : K) (cause : Cause) → IsCapacity s.capacity → IsLone number (paired s.walk) s.capacity load_factor k
       → RefusalIsDue number (list_of (as_map s)) k cause → ⊥
   lone-never_due s k cause capacity lone = lone-never_refused number (list_of (as_map s)) k capacity lone cause
+
+  -- nor does that of any key among members below the capacity, if one member more meets the load
+  pub small-never_due : (s : SetState K) (k : K) (cause : Cause) → IsCapacity s.capacity → AreBelow number s.walk s.capacity → number k < s.capacity
+      → MeetsLoad s.capacity (length s.walk + 1) load_factor → RefusalIsDue number (list_of (as_map s)) k cause → ⊥
+  small-never_due s k cause capacity below small meets due =
+      let alone = IsAlone-below s.walk s.capacity k below small (holds-paired number s.walk k ∙ due.new_key) in
+      lone-never_due s k cause capacity (IsLone-met s.walk s.capacity (length s.walk + 1) k capacity meets (omega arith) alone) due

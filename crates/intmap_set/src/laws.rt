@@ -152,6 +152,15 @@ pub fn small_new_keys_are_alone<K: IntKey>()
         → holds K.number_of W k ≡ false → IsAlone K.number_of W C k }
 {}
 
+/// If all members and the key have numbers below the capacity, and one member more meets the load,
+/// the insertion of the key never fails.
+pub fn small_keys_are_never_refused<K: IntKey>()
+    ensures { (s : SetState K) (k : K) (cause : Cause) → IsCapacity s.capacity
+        → AreBelow K.number_of s.walk s.capacity → K.number_of k < s.capacity
+        → MeetsLoad s.capacity (length s.walk + 1) load_factor
+        → RefusalIsDue K.number_of (list_of (as_map s)) k cause → ⊥ }
+{}
+
 /// If all members have numbers below the capacity, a search compares at most one of them. The
 /// clause `valid` of a set's calls says that its keys are distinct.
 pub fn small_members_are_found_at_once<K: IntKey>()
