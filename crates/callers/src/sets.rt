@@ -1,11 +1,12 @@
 //! Facts of sets that a caller draws from their clauses and laws: when the next member grows the
-//! table, and how many members two sets have together, in common and apart.
-ghost use Rattle.std.specs.Prelude.{◌≡◌, ◌↔◌, ◌+◌, ◌<◌, ◌≤◌, ◌||◌, IfOk, IfErr, IfSome, OnOk, IsErrOf, IsTrue, length};
-ghost use Rattle.intmap.specs.Growth.{IsNext};
+//! table, when there is room for it, and how many members two sets have together, in common and
+//! apart.
+ghost use Rattle.std.specs.Prelude.{◌≡◌, ◌↔◌, ◌+◌, ◌<◌, ◌≤◌, ◌||◌, not, IfOk, IfErr, IfSome, OnOk, IsErrOf, IsTrue, length};
+ghost use Rattle.intmap.specs.Growth.{IsNext, MeetsLoad};
 ghost use Rattle.intmap.specs.Map.{IsCapacityAfter, IsOutOfRange};
 ghost use Rattle.intmap.specs.Reach.{class_size};
 ghost use Rattle.intmap_set.specs.Combined.{IsUnion, difference_of, symmetric_difference_of};
-ghost use Rattle.intmap_set.specs.Sets.{holds, load_factor, paired};
+ghost use Rattle.intmap_set.specs.Sets.{AreBelow, holds, load_factor, paired};
 
 use intmap::{Cause, IntKey};
 use intmap_set::{IntSet, laws};
@@ -29,6 +30,25 @@ pub fn slots_with<K: IntKey, A: Allocator + Copy>(
 {
     set.insert(key)?;
     Ok(set.capacity())
+}
+
+/// Makes a key a member, and returns whether it is new. The numbers of the members and of the key
+/// are below the number of slots, and one member more meets the load. So a new key has a slot to
+/// itself, and the insertion never fails. It compares at most one key.
+pub fn note<K: IntKey, A: Allocator + Copy>(set: &mut IntSet<K, A>, key: K) -> bool
+    requires members { AreBelow K.number_of set.old.walk set.old.capacity }
+    requires small { K.number_of key < set.old.capacity }
+    requires room { MeetsLoad set.old.capacity (length set.old.walk + 1) load_factor }
+    ensures new { result ≡ not (holds K.number_of set.old.walk key) }
+    ensures here { IsTrue (holds K.number_of set.new.walk key) }
+    ensures compared { set.new.compared ≤ set.old.compared + 1 }
+{
+    laws::small_keys_are_never_refused::<K>();
+    laws::small_members_are_found_at_once::<K>();
+    match set.insert(key) {
+        Ok(new) => new,
+        Err(_) => unreachable!(),
+    }
 }
 
 /// Whether two sets are equal. If they are, they have the same number of members.
