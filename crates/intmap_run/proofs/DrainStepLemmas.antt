@@ -1,5 +1,5 @@
 -- A drain is one step of every list that stands for the map.
-use Rattle.std.proofs.Common.{◌≡◌, inl, ℕ, Bool, refl, sym, ap, ◌∙◌, add-zero}
+use Rattle.std.proofs.Common.{◌≡◌, inl, ℕ, Bool, refl, ap, ◌∙◌}
 use Rattle.std.specs.Prelude.{take, drop}
 use Rattle.std.specs.Map.{keys_of}
 use Rattle.std.specs.declared.vec.Vec.{Vec}

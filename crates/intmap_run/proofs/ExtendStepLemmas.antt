@@ -1,12 +1,10 @@
 -- Insertions of several pairs in turn are one step of every list that stands for the map.
-use Rattle.std.proofs.Common.{◌≡◌, inl, inr, ℕ, ◌+◌, ◌<◌, ◌≤◌, ◌-◌, ◌^◌, Bool, List, [], ◌∷◌, ◌++◌, length, refl, sym, ap, ◌∙◌, add-zero, add_assoc, arith}
-use Rattle.std.specs.Prelude.{◌==◌, cond, min}
+use Rattle.std.proofs.Common.{◌≡◌, inl, inr, ℕ, ◌<◌, ◌≤◌, ◌-◌, ◌^◌, Bool, List, [], ◌∷◌, ◌++◌, length, refl, ap, arith}
+use Rattle.std.specs.Prelude.{min}
 use Rattle.std.specs.declared.vec.Vec.{Vec}
 use Rattle.std.proofs.lemmas.List.{length-append}
-use Rattle.intmap.specs.Bindings.{put_pair}
 use Rattle.intmap.specs.Extending.{MapInserts, MapInsertsAll}
 use Rattle.intmap.specs.Map.{MapState, IsMap, after_search}
-use Rattle.intmap.specs.Reach.{reach}
 use Rattle.intmap.specs.PlainLists.{PlainList, Stands, looked_up, ListInsertsAll, RefusalIsDue, list_of}
 use Rattle.intmap.specs.declared.refusal.RefusedPair.{RefusedPair}
 use Rattle.intmap_run.specs.declared.command.Command.TheVariants as command

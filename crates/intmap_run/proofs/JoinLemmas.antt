@@ -1,5 +1,5 @@
 -- Two runs, one after the other, as one.
-use Rattle.std.proofs.Common.{◌≡◌, ℕ, ◌+◌, Bool, List, [], ◌∷◌, ◌++◌, sym, ap, ◌∙◌, subst, zero-add, add_assoc}
+use Rattle.std.proofs.Common.{ℕ, Bool, List, [], ◌∷◌, ◌++◌, subst}
 use Rattle.intmap.specs.Map.{MapState}
 use Rattle.intmap.specs.PlainLists.{PlainList}
 use Rattle.intmap_run.specs.declared.command.Command.{Command}

@@ -198,13 +198,25 @@ module _ {K V : Type 0} (number : K → ℕ) where
   -- insertions after a look-up
   Grows-searched : (s : PlainList K V) (k : K) (t : PlainList K V) → Grows (looked_up number s k) t → Grows s t
   Grows-searched s k t grows = record {
-    placements = grows.placements; placed = grows.placed; factor = grows.factor; longer = grows.longer; few = grows.few; most = grows.most; capacity = grows.capacity;
+    placements = grows.placements;
+    placed = grows.placed;
+    factor = grows.factor;
+    longer = grows.longer;
+    few = grows.few;
+    most = grows.most;
+    capacity = grows.capacity;
   }
 
   -- a look-up after insertions
   Grows-then_search : (s m : PlainList K V) (k : K) → Grows s m → Grows s (looked_up number m k)
   Grows-then_search s m k grows = record {
-    placements = grows.placements; placed = grows.placed; factor = grows.factor; longer = grows.longer; few = grows.few; most = grows.most; capacity = grows.capacity;
+    placements = grows.placements;
+    placed = grows.placed;
+    factor = grows.factor;
+    longer = grows.longer;
+    few = grows.few;
+    most = grows.most;
+    capacity = grows.capacity;
   }
 
   -- successful insertions in turn

@@ -1,12 +1,11 @@
 -- One call on a map is one step of every list that stands for the map.
-use Rattle.std.proofs.Common.{◌≡◌, inl, inr, ℕ, ◌+◌, cond, Bool, true, false, [], length, is_some, Option, Some, None, refl, sym, ap, subst, ◌∙◌, add-zero, lit<}
+use Rattle.std.proofs.Common.{◌≡◌, inl, inr, ℕ, ◌+◌, cond, Bool, true, false, [], length, is_some, Option, Some, None, refl, sym, ap, subst, ◌∙◌, lit<}
 use Rattle.std.specs.Prelude.{◌==◌, IsNone, IsSome, is_none, MatchBool}
 use Rattle.std.specs.List.{AllZip}
 use Rattle.std.specs.Map.{keys_of, values_of}
 use Rattle.std.specs.declared.vec.Vec.{Vec}
 use Rattle.intmap.specs.Bindings.{value_of, take_key, put_pair}
 use Rattle.intmap.specs.Classes.{IsCapacity}
-use Rattle.intmap.specs.Reach.{reach}
 use Rattle.intmap.specs.Figures.{load_of, rate_of}
 use Rattle.intmap.specs.Map.{MapState, IsMap, IsOutOfRange, IsCapacityAfter, after_search, after_insert, after_remove, emptied}
 use Rattle.intmap.specs.PlainLists.{PlainList, Stands, looked_up, ListInserts, RefusalIsDue, list_of}
@@ -90,7 +89,11 @@ module _ {K V : Type 0} (number : K → ℕ) (is_valid : K → Type 0) (m : MapS
   -- a list that stands for the map stands for it once a key was looked up in both
   pub Stands-searched : (k : K) (s : PlainList K V) → Stands number s m → Stands number (looked_up number s k) (after_search number m k)
   Stands-searched k s stands = record {
-    walk = stands.walk; capacity = stands.capacity; factor = stands.factor; placed = stands.placed; compared = compared-stands is_map stands k;
+    walk = stands.walk;
+    capacity = stands.capacity;
+    factor = stands.factor;
+    placed = stands.placed;
+    compared = compared-stands is_map stands k;
   }
 
 module _ {K V S A : Type 0} (number : K → ℕ) (is_valid : K → Type 0) (m : MapState K V) (is_map : IsMap number is_valid m) (sees : V → S → Type 0) (keeps : K → V → Bool) where

@@ -1,7 +1,7 @@
 -- Values written in their places, calls of entries and a walk of which some pairs stay are one step of every list that stands for the map.
-use Rattle.std.proofs.Common.{◌≡◌, inl, inr, ℕ, ◌+◌, Bool, Some, None, refl, sym, ap, ◌∙◌, add-zero}
+use Rattle.std.proofs.Common.{◌≡◌, inl, inr, ℕ, Bool, Some, None, refl, sym, ap, ◌∙◌}
 use Rattle.std.specs.Prelude.{IsNone}
-use Rattle.intmap.specs.Bindings.{value_of, take_key, put_pair, write_value, keep_pairs}
+use Rattle.intmap.specs.Bindings.{value_of, take_key, write_value, keep_pairs}
 use Rattle.intmap.specs.Classes.{same_key}
 use Rattle.intmap.specs.Map.{MapState, IsMap, IsCapacityAfter, IsOutOfRange, after_search, after_insert, after_remove, with_pair, without_key, written}
 use Rattle.intmap.specs.PlainLists.{PlainList, Stands, looked_up, RefusalIsDue, list_of}

@@ -1,5 +1,5 @@
 -- How little a run places, and which capacity it leaves.
-use Rattle.std.specs.Prelude.{◌≡◌, ℕ, ◌+◌, max, Bool, List, [], ◌∷◌, length, ◌⊎◌}
+use Rattle.std.specs.Prelude.{◌≡◌, ℕ, ◌+◌, max, Bool, List, ◌∷◌, length, ◌⊎◌}
 use Rattle.intmap.specs.PlainLists.{PlainList}
 use Rattle.intmap_run.specs.declared.command.Command.{Command}
 use Rattle.intmap_run.specs.declared.command.Command.TheVariants as command
