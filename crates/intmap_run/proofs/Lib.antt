@@ -12,3 +12,4 @@ pub mod ZipLemmas
 pub mod JoinLemmas
 pub mod CollisionStepLemmas
 pub mod FrontLemmas
+pub mod RemovalLemmas

@@ -9,6 +9,7 @@ ghost use Rattle.intmap.specs.Figures.{load_of, rate_of, collisions_of};
 ghost use Rattle.intmap.specs.Map.{MapState, empty_map};
 ghost use Rattle.intmap.specs.PlainLists.{PlainList, Stands, empty_list};
 ghost use Rattle.intmap_run.specs.Laws.{StandForOne};
+ghost use Rattle.intmap_run.specs.Removals.{Takes};
 ghost use Rattle.intmap_run.specs.Runs.{Runs, RunsFrom};
 ghost use Rattle.intmap_run.specs.Bounds.{factors_set, greatest_length, WasSet};
 ghost use Rattle.intmap_run.specs.declared.command.Command.{Command};
@@ -59,6 +60,14 @@ pub fn keys_share_slots_by_residue<K: IntKey>()
     ensures { (C : ℕ) (a b : K) → IsCapacity C
         → (slot_number K.number_of a C ≡ slot_number K.number_of b C)
         ↔ (residue K.number_of a C ≡ residue K.number_of b C) }
+{}
+
+/// A removal takes the first pair of the key out of a list, and the last pair behind it whose key
+/// agrees with that one fills the hole. The relation says so without a recursion, and holds of the
+/// list that `take_key` gives alone.
+pub fn removals_fill_the_hole<K: IntKey, V>()
+    ensures { (C : ℕ) (L M : List (K × V)) (k : K) → Takes K.number_of L C k M
+        ↔ (M ≡ take_key K.number_of L C k) }
 {}
 
 /// If two lists stand for one map, they still do once a key is removed from both.
