@@ -14,7 +14,7 @@ use Rattle.intmap_run.specs.declared.command.Command.{Command}
 use Rattle.intmap_run.specs.declared.command.Command.TheVariants as command
 use Rattle.intmap_run.specs.declared.answer.Answer.{Answer}
 use Rattle.intmap_run.specs.Runs.{Answers, Runs}
-use Rattle.intmap_run.specs.Bounds.{factors_set_by, factors_set, SetsCapacity, greatest_length, WasSet}
+use Rattle.intmap_run.specs.Bounds.{factors_set_by, factors_set, SetsCapacity, greatest_length, WasSet, RunPlacesFew, RunLeavesFewSlots}
 use Rattle.intmap_run.proofs.CapacityLemmas.{IsCapacityAfter-changed}
 
 -- a growth from C to D slots at n pairs, by products with f, which is the load factor and one: half of D was too small, and D isn't
@@ -322,9 +322,9 @@ module _ {K V S A : Type 0} (number : K → ℕ) (sees : V → S → Type 0) (ke
       ]
 
   -- a run places at most three times its greatest length for each load factor that it had
-  pub run_placements-few : (s : PlainList K V) (cs : List (Command K V A)) (as' : List (Answer K V S A)) (t : PlainList K V) (run : Runs number sees keeps s cs as' t)
-      → t.placed ≤ s.placed + 3 * (factors_set cs as' + 1) * greatest_length number sees keeps s cs as' t run
-  run_placements-few s cs as' t run =
+  pub RunPlacesFew-run : (s : PlainList K V) (cs : List (Command K V A)) (as' : List (Answer K V S A)) (t : PlainList K V) (run : Runs number sees keeps s cs as' t)
+      → RunPlacesFew number sees keeps s cs as' t run
+  RunPlacesFew-run s cs as' t run =
       let greatest : ℕ = greatest_length number sees keeps s cs as' t run in
       let h = few-from (3 * greatest) 0 s cs as' t run (omega arith) (omega arith) (omega arith) in
       omega (arith, h)
@@ -364,6 +364,6 @@ module _ {K V S A : Type 0} (number : K → ℕ) (sees : V → S → Type 0) (ke
       ]
 
   -- the capacity at the end of a run is the start's, or one that the caller set, or small for the lengths of the run
-  pub last_capacity-from : (s : PlainList K V) (cs : List (Command K V A)) (as' : List (Answer K V S A)) (t : PlainList K V) (run : Runs number sees keeps s cs as' t)
-      → (t.capacity ≡ s.capacity) ⊎ WasSet number sees keeps t.capacity s cs as' t run ⊎ ((t.factor + 1) * t.capacity ≤ 2000 * greatest_length number sees keeps s cs as' t run)
-  last_capacity-from s cs as' t run = elim (capacity-from s cs as' t run) [ inl stayed ↦ inl stayed.0 | inr later ↦ inr later ]
+  pub RunLeavesFewSlots-run : (s : PlainList K V) (cs : List (Command K V A)) (as' : List (Answer K V S A)) (t : PlainList K V) (run : Runs number sees keeps s cs as' t)
+      → RunLeavesFewSlots number sees keeps s cs as' t run
+  RunLeavesFewSlots-run s cs as' t run = elim (capacity-from s cs as' t run) [ inl stayed ↦ inl stayed.0 | inr later ↦ inr later ]

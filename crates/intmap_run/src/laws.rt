@@ -11,7 +11,7 @@ ghost use Rattle.intmap.specs.PlainLists.{PlainList, Stands, empty_list};
 ghost use Rattle.intmap_run.specs.Laws.{StandForOne};
 ghost use Rattle.intmap_run.specs.Removals.{Takes};
 ghost use Rattle.intmap_run.specs.Runs.{Runs, RunsFrom};
-ghost use Rattle.intmap_run.specs.Bounds.{factors_set, greatest_length, WasSet};
+ghost use Rattle.intmap_run.specs.Bounds.{RunPlacesFew, RunLeavesFewSlots};
 ghost use Rattle.intmap_run.specs.declared.command.Command.{Command};
 ghost use Rattle.intmap_run.specs.declared.answer.Answer.{Answer};
 
@@ -34,25 +34,22 @@ pub fn runs_join<K: IntKey, V, J: Judge<K, V>, A: Allocator>()
         → RunsFrom K.number_of (J.sees judge) (J.keeps judge) m (cs ++ ds) (as' ++ bs) o }
 {}
 
-/// A run that sets n load factors places at most `3 * (n + 1)` times its greatest length.
+/// A run that sets g load factors places at most `3 * (g + 1)` times its greatest length.
 pub fn runs_place_few<K: IntKey, V, J: Judge<K, V>, A: Allocator>()
     ensures { (judge : J) (s t : PlainList K V) (cs : List (Command K V A))
         (as' : List (Answer K V J.Seen A))
         (run : Runs K.number_of (J.sees judge) (J.keeps judge) s cs as' t)
-        → t.placed ≤ s.placed + 3 * (factors_set cs as' + 1)
-        * greatest_length K.number_of (J.sees judge) (J.keeps judge) s cs as' t run }
+        → RunPlacesFew K.number_of (J.sees judge) (J.keeps judge) s cs as' t run }
 {}
 
 /// The capacity at the end of a run is the one at the start, or one that a successful `Reserve` or
-/// `SetLoadFactor` left, or small for the greatest length of the run.
+/// `SetLoadFactor` left, or a C with `(F + 1) * C <= 2000 * length`. Here F is the load factor at
+/// the end, and length the greatest length of the run.
 pub fn runs_leave_few_slots<K: IntKey, V, J: Judge<K, V>, A: Allocator>()
     ensures { (judge : J) (s t : PlainList K V) (cs : List (Command K V A))
         (as' : List (Answer K V J.Seen A))
         (run : Runs K.number_of (J.sees judge) (J.keeps judge) s cs as' t)
-        → (t.capacity ≡ s.capacity)
-        ⊎ WasSet K.number_of (J.sees judge) (J.keeps judge) t.capacity s cs as' t run
-        ⊎ ((t.factor + 1) * t.capacity
-        ≤ 2000 * greatest_length K.number_of (J.sees judge) (J.keeps judge) s cs as' t run) }
+        → RunLeavesFewSlots K.number_of (J.sees judge) (J.keeps judge) s cs as' t run }
 {}
 
 /// Two keys have the same slot exactly if they agree modulo the number of slots.

@@ -2,6 +2,7 @@
 ghost use Rattle.std.specs.Prelude.{◌≡◌, Some, IfOk, IfErr, OnErr, MatchResult, Bool};
 ghost use Rattle.intmap.specs.Map.{IsMap};
 ghost use Rattle.intmap_run.specs.Runs.{RunsFrom};
+ghost use Rattle.intmap_run.specs.Bounds.{PlacesFew, LeavesFewSlots};
 ghost use Rattle.intmap_run.specs.Steps.{StepsFrom};
 ghost use Rattle.intmap_run.specs.declared.command.Command.TheVariants as command;
 ghost use Rattle.intmap.specs.Bindings.{keep_pairs};
@@ -28,7 +29,7 @@ use std::mem;
 /// `EntryInsert`, `EntryRemove` and the pairs of `Extend` compare, failed ones too. The other
 /// commands leave it. Its `placed` rises by the length after each `Insert`, `InsertChecked`,
 /// `EntryInsert` or pair of `Extend` that changed the capacity, and by nothing else. If the run
-/// sets n load factors, this is in all at most `3 * (n + 1)` times the greatest length of the run.
+/// sets g load factors, this is in all at most `3 * (g + 1)` times the greatest length of the run.
 /// At the end the capacity is the same as at the start, or one that a successful `Reserve` or
 /// `SetLoadFactor` left, or a capacity C with `(F + 1) * C <= 2000 * length`. Here F is the load
 /// factor at the end, in thousandths, and length the greatest length.
@@ -51,6 +52,10 @@ pub fn run<K: IntKey, V: Drop, J: Judge<K, V>, A: Allocator + Copy>(
 ) -> Result<Vec<Answer<K, V, J::Seen, A>, A>, Vec<Command<K, V, A>, A>>
     ensures ok { IfOk result (λ answers. RunsFrom K.number_of (J.sees judge.now) (J.keeps judge.now)
         map.old commands.items answers.items map.new) }
+    ensures few_placements { IfOk result (λ answers. PlacesFew K.number_of (J.sees judge.now)
+        (J.keeps judge.now) map.old commands.items answers.items map.new) }
+    ensures last_capacity { IfOk result (λ answers. LeavesFewSlots K.number_of (J.sees judge.now)
+        (J.keeps judge.now) map.old commands.items answers.items map.new) }
     ensures commands_returned { IfErr result (λ returned. returned ≡ commands) }
     ensures err { OnErr result (map.new ≡ map.old) }
     ensures valid { IsMap K.number_of K.is_valid map.old }

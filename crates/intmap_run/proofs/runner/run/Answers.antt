@@ -1,5 +1,6 @@
 use Rattle.std.proofs.Common.{[], sym, ap, length, refl, arith}
 use Rattle.std.proofs.IntoIterSteps.{All-taken}
+use Rattle.intmap_run.proofs.PlacementLemmas.{RunPlacesFew-run, RunLeavesFewSlots-run}
 use Rattle.intmap_run.proofs.RunLemmas.{Leads-start, Leads-step, Leads-end}
 use Rattle.intmap_run.proofs.runner.run.Goals as goal
 
@@ -27,3 +28,11 @@ returns-clause-ok g c =
     let none = sym (All-taken c.loop-command.command-iterator [] (c.next.new.self, (c.loop-command.command-iterator, refl, c.in-None.ensures.steps))) in
     Leads-end g.K.IntKey.number_of (g.J.Judge.sees c.args.judge.now) (g.J.Judge.keeps c.args.judge.now)
     c.args.map.now c.loop-command.map _ _ _ none c.loop-command.invariant.leads
+
+pub returns-clause-few_placements : goal.returns-clause-few_placements
+returns-clause-few_placements g c = λ s t run before after.
+    RunPlacesFew-run g.K.IntKey.number_of (g.J.Judge.sees c.args.judge.now) (g.J.Judge.keeps c.args.judge.now) s _ _ t run
+
+pub returns-clause-last_capacity : goal.returns-clause-last_capacity
+returns-clause-last_capacity g c = λ s t run before after.
+    RunLeavesFewSlots-run g.K.IntKey.number_of (g.J.Judge.sees c.args.judge.now) (g.J.Judge.keeps c.args.judge.now) s _ _ t run
