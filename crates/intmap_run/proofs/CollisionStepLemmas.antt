@@ -51,4 +51,4 @@ module _ {K V S A : Type 0} (number : K → ℕ) (is_valid : K → Type 0) (m : 
       (record { walk = empty.own; capacity = refl; factor = refl; placed = refl; compared = refl }) in
       let walk : sizes.items ≡ walk_of (λ n. n) all.0.pairs all.0.capacity = items ∙ ap (λ x. x.walk) is.state ∙ sym all.1.stands.walk in
       let same = collisions_of-stands number is_valid m is_map s stands in
-      Step-same number sees keeps m s command.Collisions (answer.Sizes sizes) (inl (sizes, refl, all.0, rw same all.1.inserts, walk, refl)) stands
+      Step-same number sees keeps m s command.Collisions (answer.Sizes sizes) (inl (sizes, refl, (all.0, rw same all.1.inserts, walk), refl)) stands

@@ -271,7 +271,7 @@ module _ {K V S A : Type 0} (number : K → ℕ) (sees : V → S → Type 0) (ke
   kind s command.Keys a t (inr h) = inr (inr (Keeps-list s command.Keys a t (s) h.1 refl refl refl))
   kind s command.Values a t (inl h) = inr (inr (Keeps-list s command.Values a t (s) h.3 refl refl refl))
   kind s command.Values a t (inr h) = inr (inr (Keeps-list s command.Values a t (s) h.1 refl refl refl))
-  kind s command.Collisions a t (inl h) = inr (inr (Keeps-list s command.Collisions a t (s) h.5 refl refl refl))
+  kind s command.Collisions a t (inl h) = inr (inr (Keeps-list s command.Collisions a t (s) h.3 refl refl refl))
   kind s command.Collisions a t (inr h) = inr (inr (Keeps-list s command.Collisions a t (s) h.1 refl refl refl))
 
   -- a run is at least as long as its start

@@ -27,25 +27,28 @@ SeesOption sees o p = ⊥
 abbrev pub SeesPair : {K V S : Type 0} → (V → S → Type 0) → K × V → K × S → Type 0
 SeesPair sees p q = (q.0 ≡ p.0) × sees p.1 q.1
 
-module _ {K V S A : Type 0} (number : K → ℕ) (sees : V → S → Type 0) (keeps : K → V → Bool) where
-  -- there is no memory, and nothing changes
-  abbrev pub LacksMemory : PlainList K V → Answer K V S A → PlainList K V → Type 0
-  LacksMemory s a t = (a ≡ answer.Refused Memory None) × (t ≡ s)
+-- W is the walk of a list into which the pairs were inserted in turn, beginning with no pairs in 4 slots
+abbrev pub IsWalkOfInserted : List (ℕ × ℕ) → List (ℕ × ℕ) → Type 0
+IsWalkOfInserted ps W =
+    (u : PlainList ℕ ℕ) × ListInsertsAll (λ n. n) (empty_list first_capacity) ps u × (W ≡ walk_of (λ n. n) u.pairs u.capacity)
 
-  -- an insertion fails, returns its own value and changes nothing
-  abbrev pub RefusesPair : PlainList K V → K → V → Answer K V S A → PlainList K V → Type 0
-  RefusesPair s k v a t = (cause : Cause) × (a ≡ answer.Refused cause (Some v)) × RefusalIsDue number s k cause × (t ≡ s)
+module _ {K V S A : Type 0} (number : K → ℕ) (sees : V → S → Type 0) (keeps : K → V → Bool) where
+  -- the command fails with a cause that is due, returns its own value, if it has one, and changes nothing
+  abbrev pub Refuses : PlainList K V → (Cause → Type 0) → Option V → Answer K V S A → PlainList K V → Type 0
+  Refuses s due own a t = (cause : Cause) × (a ≡ answer.Refused cause own) × due cause × (t ≡ s)
 
   -- an insertion answers the old value, or fails
   abbrev pub AnswersInsert : PlainList K V → K → V → Answer K V S A → PlainList K V → Type 0
-  AnswersInsert s k v a t = ((a ≡ answer.Old (value_of number s.pairs k)) × ListInserts number s k v t) ⊎ RefusesPair s k v a t
+  AnswersInsert s k v a t =
+      ((a ≡ answer.Old (value_of number s.pairs k)) × ListInserts number s k v t)
+      ⊎ Refuses s (RefusalIsDue number s k) (Some v) a t
 
   -- a checked insertion of a present key answers false and changes nothing; for a new key it answers true and inserts, or fails
   abbrev pub AnswersInsertChecked : PlainList K V → K → V → Answer K V S A → PlainList K V → Type 0
   AnswersInsertChecked s k v a t =
       ((a ≡ answer.Flag false) × IsSome (value_of number s.pairs k) × (t ≡ s))
       ⊎ ((a ≡ answer.Flag true) × IsNone (value_of number s.pairs k) × ListInserts number s k v t)
-      ⊎ RefusesPair s k v a t
+      ⊎ Refuses s (RefusalIsDue number s k) (Some v) a t
 
   -- the value replaces the old value of the key in its place, and the old value is the answer
   abbrev pub AnswersWrite : PlainList K V → K → V → Answer K V S A → PlainList K V → Type 0
@@ -62,7 +65,7 @@ module _ {K V S A : Type 0} (number : K → ℕ) (sees : V → S → Type 0) (ke
   AnswersEntryInsert s k v a t =
       AnswersWrite s k v a t
       ⊎ ((a ≡ answer.Fresh) × IsNone (value_of number s.pairs k) × ListInserts number s k v t)
-      ⊎ RefusesPair s k v a t
+      ⊎ Refuses s (RefusalIsDue number s k) (Some v) a t
 
   -- the value of the key, if there is one, is the answer, and its pair is removed
   abbrev pub AnswersRemove : PlainList K V → K → Answer K V S A → PlainList K V → Type 0
@@ -76,50 +79,19 @@ module _ {K V S A : Type 0} (number : K → ℕ) (sees : V → S → Type 0) (ke
       ⊎ ((refused : RefusedPair K V) × (a ≡ answer.Stopped refused)
       × ListInsertsUpTo number s ps refused.applied (Some ((refused.key, refused.value), refused.cause)) t)
 
-  -- a reservation is done, or it fails and changes nothing
-  abbrev pub AnswersReserve : PlainList K V → ℕ → Answer K V S A → PlainList K V → Type 0
-  AnswersReserve s additional a t =
-      ((a ≡ answer.Done) × Reserves s additional t)
-      ⊎ ((cause : Cause) × (a ≡ answer.Refused cause None) × MayRefuseReserve s additional cause × (t ≡ s))
+  -- there is no memory, and nothing changes
+  abbrev pub LacksMemory : PlainList K V → Answer K V S A → PlainList K V → Type 0
+  LacksMemory s a t = (a ≡ answer.Refused Memory None) × (t ≡ s)
 
-  -- a load factor is set, or this fails and changes nothing
-  abbrev pub AnswersSetLoadFactor : PlainList K V → ℕ → Answer K V S A → PlainList K V → Type 0
-  AnswersSetLoadFactor s factor a t =
-      ((a ≡ answer.Done) × SetsFactor s factor t)
-      ⊎ ((cause : Cause) × (a ≡ answer.Refused cause None) × MayRefuseFactor s factor cause × (t ≡ s))
+  -- the answer is a list of which this holds, and nothing changes, or there is no memory
+  abbrev pub AnswersList : {X : Type 0} → PlainList K V → (Vec X A → Answer K V S A) → (List X → Type 0) → Answer K V S A → PlainList K V → Type 0
+  AnswersList {X} s kind holds a t = ((list : Vec X A) × (a ≡ kind list) × holds list.items × (t ≡ s)) ⊎ LacksMemory s a t
 
   -- the answer is the first m pairs of the walk, and their keys are removed, or there is no memory
   abbrev pub AnswersDrain : PlainList K V → ℕ → Answer K V S A → PlainList K V → Type 0
   AnswersDrain s m a t =
       ((pairs : Vec (K × V) A) × (a ≡ answer.Pairs pairs) × (pairs.items ≡ first_of_walk number m s.pairs s.capacity)
       × (t ≡ record s { pairs = strike_keys number s.pairs (keys_of pairs.items) }))
-      ⊎ LacksMemory s a t
-
-  -- the answer is the walk, or there is no memory
-  abbrev pub AnswersWalk : PlainList K V → Answer K V S A → PlainList K V → Type 0
-  AnswersWalk s a t =
-      ((seen : Vec (K × S) A) × (a ≡ answer.Walk seen) × AllZip (SeesPair sees) (walk_of number s.pairs s.capacity) seen.items × (t ≡ s))
-      ⊎ LacksMemory s a t
-
-  -- the answer is the keys of the walk, or there is no memory
-  abbrev pub AnswersKeys : PlainList K V → Answer K V S A → PlainList K V → Type 0
-  AnswersKeys s a t =
-      ((keys : Vec K A) × (a ≡ answer.Keys keys) × (keys.items ≡ keys_of (walk_of number s.pairs s.capacity)) × (t ≡ s))
-      ⊎ LacksMemory s a t
-
-  -- the answer is what is seen of the values of the walk, or there is no memory
-  abbrev pub AnswersValues : PlainList K V → Answer K V S A → PlainList K V → Type 0
-  AnswersValues s a t =
-      ((seen : Vec S A) × (a ≡ answer.Values seen) × AllZip sees (values_of (walk_of number s.pairs s.capacity)) seen.items × (t ≡ s))
-      ⊎ LacksMemory s a t
-
-  -- the answer is the sizes above 1 of slots, each with the number of slots that have it: the walk of a list into which they were
-  -- inserted in turn, beginning with no pairs in 4 slots; or there is no memory
-  abbrev pub AnswersCollisions : PlainList K V → Answer K V S A → PlainList K V → Type 0
-  AnswersCollisions s a t =
-      ((sizes : Vec (ℕ × ℕ) A) × (a ≡ answer.Sizes sizes)
-      × (u : PlainList ℕ ℕ) × ListInsertsAll (λ n. n) (empty_list first_capacity) (collisions_of number s.pairs s.capacity) u
-      × (sizes.items ≡ walk_of (λ n. n) u.pairs u.capacity) × (t ≡ s))
       ⊎ LacksMemory s a t
 
   -- from the list s a command may answer a and leave the list t; insertions, writes and removals look the key up first
@@ -133,8 +105,8 @@ module _ {K V S A : Type 0} (number : K → ℕ) (sees : V → S → Type 0) (ke
   Answers s (command.Remove k) a t = AnswersRemove (looked_up number s k) k a t
   Answers s command.Clear a t = (a ≡ answer.Done) × (t ≡ record s { pairs = [] })
   Answers s command.Retain a t = (a ≡ answer.Done) × (t ≡ record s { pairs = keep_pairs keeps s.pairs })
-  Answers s (command.Reserve additional) a t = AnswersReserve s additional a t
-  Answers s (command.SetLoadFactor factor) a t = AnswersSetLoadFactor s factor a t
+  Answers s (command.Reserve n) a t = ((a ≡ answer.Done) × Reserves s n t) ⊎ Refuses s (MayRefuseReserve s n) None a t
+  Answers s (command.SetLoadFactor f) a t = ((a ≡ answer.Done) × SetsFactor s f t) ⊎ Refuses s (MayRefuseFactor s f) None a t
   Answers s command.GetLoadFactor a t = (a ≡ answer.Number s.factor) × (t ≡ s)
   Answers s (command.EntryInsert k v) a t = AnswersEntryInsert (looked_up number s k) k v a t
   Answers s (command.EntryRemove k) a t = AnswersRemove (looked_up number s k) k a t
@@ -146,10 +118,10 @@ module _ {K V S A : Type 0} (number : K → ℕ) (sees : V → S → Type 0) (ke
   Answers s command.Load a t = (a ≡ answer.Number (load_of number s.pairs s.capacity)) × (t ≡ s)
   Answers s command.LoadRate a t = (a ≡ answer.Number (rate_of s.pairs s.capacity)) × (t ≡ s)
   Answers s command.AssertCount a t = (a ≡ answer.Flag true) × (t ≡ s)
-  Answers s command.Walk a t = AnswersWalk s a t
-  Answers s command.Keys a t = AnswersKeys s a t
-  Answers s command.Values a t = AnswersValues s a t
-  Answers s command.Collisions a t = AnswersCollisions s a t
+  Answers s command.Walk a t = AnswersList s answer.Walk (AllZip (SeesPair sees) (walk_of number s.pairs s.capacity)) a t
+  Answers s command.Keys a t = AnswersList s answer.Keys (λ keys. keys ≡ keys_of (walk_of number s.pairs s.capacity)) a t
+  Answers s command.Values a t = AnswersList s answer.Values (AllZip sees (values_of (walk_of number s.pairs s.capacity))) a t
+  Answers s command.Collisions a t = AnswersList s answer.Sizes (IsWalkOfInserted (collisions_of number s.pairs s.capacity)) a t
 
   -- the commands in order, each from the list that the one before left, with one answer for each command
   abbrev pub Runs : PlainList K V → List (Command K V A) → List (Answer K V S A) → PlainList K V → Type 0
