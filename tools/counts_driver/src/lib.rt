@@ -10,11 +10,35 @@ ghost use Rattle.std.proofs.Common.{rules};
 
 use intmap::IntKey;
 use std::cell::Cell;
+use std::fmt;
+
+/// A row of a table of calls: the text of a call, what is due to it, and a closure that makes it.
+#[cfg(test)]
+macro_rules! row {
+    ([$($name:ident),*] $due:expr => $call:expr) => {
+        (stringify!($call), $due, |$($name),*| {
+            let _returned = $call;
+            Ok(())
+        })
+    };
+}
+
+/// A table of calls, with the names of what each takes.
+#[cfg(test)]
+macro_rules! calls {
+    ($names:tt $($due:expr => $call:expr;)*) => {
+        [$(row!($names $due => $call)),*]
+    };
+}
 
 #[cfg(test)]
-mod calls;
+mod combined;
 #[cfg(test)]
 mod due;
+#[cfg(test)]
+mod keys;
+#[cfg(test)]
+mod pairs;
 #[cfg(test)]
 mod runs;
 #[cfg(test)]
@@ -22,19 +46,19 @@ mod sets;
 
 /// A key that counts how often its number is read. A comparison by `==` counts a thousand.
 #[derive(Clone, Copy)]
-pub struct Counting<'a> {
+pub struct Counting {
     key: u64,
-    reads: &'a Cell<u64>,
+    reads: &'static Cell<u64>,
 }
 
-impl<'a> Counting<'a> {
+impl Counting {
     /// The key of this number.
-    pub fn new(key: u64, reads: &'a Cell<u64>) -> Counting<'a> {
+    pub fn new(key: u64, reads: &'static Cell<u64>) -> Counting {
         Counting { key, reads }
     }
 }
 
-impl PartialEq for Counting<'_> {
+impl PartialEq for Counting {
     ghost eq = { λ x y. x.key == y.key };
 
     ghost laws = { Prim.search (comparing, rules) };
@@ -45,11 +69,17 @@ impl PartialEq for Counting<'_> {
     }
 }
 
-impl Eq for Counting<'_> {
+impl Eq for Counting {
     ghost laws = { Prim.search (comparing, rules) };
 }
 
-impl<'a> IntKey for Counting<'a> {
+impl fmt::Debug for Counting {
+    fn fmt<W: fmt::Write>(&self, f: &mut fmt::Formatter<W>) -> fmt::Result {
+        write!(f, "{}", self.key)
+    }
+}
+
+impl IntKey for Counting {
     ghost use Rattle.std.specs.Prelude.{◌<◌, ◌^◌};
 
     ghost is_valid = { λ it. it.key < 2 ^ 64 };

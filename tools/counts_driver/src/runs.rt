@@ -1,18 +1,18 @@
-//! Each command of a run on one key searches it once.
+//! Commands of a run. Each reads what its call is due to.
 
 use crate::Counting;
-use crate::calls::{multiples, walk_of};
-use crate::due::{Then, due};
+use crate::due::Plain;
+use crate::keys::{Due, Map, counter, multiples, plain_of};
+use crate::pairs::{pairs_of, store_all};
 use intmap::Cause;
 use intmap_run::{Command, Judge, run};
-use std::alloc::Global;
-use std::cell::Cell;
+use std::alloc::{AllocError, Global};
 use std::rt::HostRuntime;
 use std::test::Fail;
 
-struct Plain;
+struct Plainly;
 
-impl<'a> Judge<Counting<'a>, u64> for Plain {
+impl Judge<Counting, u64> for Plainly {
     type Seen = u64;
 
     ghost sees = { λ _ value seen. seen ≡ value };
@@ -23,63 +23,82 @@ impl<'a> Judge<Counting<'a>, u64> for Plain {
         *value
     }
 
-    fn keep(&self, _key: Counting<'a>, _value: &u64) -> bool {
-        true
+    fn keep(&self, key: Counting, _value: &u64) -> bool {
+        key.key % 3 > 0
     }
 }
 
-fn command<'a>(
-    alloc: Global,
-    number: u8,
-    key: Counting<'a>,
-) -> Result<(Command<Counting<'a>, u64>, Then), Cause> {
-    Ok(match number {
-        0 => (Command::Get(key), Then::Nothing),
-        1 => (Command::ContainsKey(key), Then::Nothing),
-        2 => (Command::GetMut(key, 7), Then::Nothing),
-        3 => (Command::Remove(key), Then::Nothing),
-        4 => (Command::EntryRemove(key), Then::Nothing),
-        5 => (Command::Insert(key, 7), Then::Stores),
-        6 => (Command::InsertChecked(key, 7), Then::Adds),
-        7 => (Command::EntryInsert(key, 7), Then::Adds),
-        _ => {
-            let mut pairs = Vec::new(alloc);
-            if pairs.push((key, 7)).is_err() {
-                return Err(Cause::Memory);
-            }
-            (Command::Extend(pairs), Then::Stores)
-        }
-    })
+/// Runs one command.
+fn ask(alloc: Global, map: &mut Map, command: Command<Counting, u64>) -> Result<(), Cause> {
+    let mut commands = Vec::new(alloc);
+    if commands.push(command).is_err() {
+        return Err(Cause::Memory);
+    }
+    match run(alloc, map, commands, &Plainly) {
+        Ok(_answers) => Ok(()),
+        Err(_commands) => Err(Cause::Memory),
+    }
+}
+
+type Call = fn(Global, &mut Map, Counting) -> Result<(), Cause>;
+
+fn reserve(plain: &mut Plain, number: u64) -> Result<u64, AllocError> {
+    Ok(plain.reserve(number))
+}
+
+fn meet(plain: &mut Plain, number: u64) -> Result<u64, AllocError> {
+    Ok(plain.meet(number + 50))
+}
+
+fn commands() -> [(&'static str, Due, Call); 25] {
+    calls! { [alloc, map, key]
+        Plain::find => ask(alloc, map, Command::Get(key))?;
+        Plain::find => ask(alloc, map, Command::ContainsKey(key))?;
+        Plain::find => ask(alloc, map, Command::GetMut(key, 7))?;
+        Plain::find => ask(alloc, map, Command::Remove(key))?;
+        Plain::find => ask(alloc, map, Command::EntryRemove(key))?;
+        Plain::add => ask(alloc, map, Command::InsertChecked(key, 7))?;
+        Plain::add => ask(alloc, map, Command::EntryInsert(key, 7))?;
+        Plain::store => ask(alloc, map, Command::Insert(key, 7))?;
+        store_all => ask(alloc, map, Command::Extend(pairs_of(alloc, key.reads, 24)?))?;
+        reserve => ask(alloc, map, Command::Reserve(key.key as usize))?;
+        meet => ask(alloc, map, Command::SetLoadFactor(key.key as usize + 50))?;
+        Plain::pass => ask(alloc, map, Command::GetLoadFactor)?;
+        Plain::pass => ask(alloc, map, Command::Clear)?;
+        Plain::pass => ask(alloc, map, Command::Retain)?;
+        Plain::pass => ask(alloc, map, Command::Drain(3))?;
+        Plain::pass => ask(alloc, map, Command::Len)?;
+        Plain::pass => ask(alloc, map, Command::IsEmpty)?;
+        Plain::pass => ask(alloc, map, Command::Capacity)?;
+        Plain::pass => ask(alloc, map, Command::Load)?;
+        Plain::pass => ask(alloc, map, Command::LoadRate)?;
+        Plain::pass => ask(alloc, map, Command::AssertCount)?;
+        Plain::pass => ask(alloc, map, Command::Walk)?;
+        Plain::pass => ask(alloc, map, Command::Keys)?;
+        Plain::pass => ask(alloc, map, Command::Values)?;
+        Plain::pass => ask(alloc, map, Command::Collisions)?;
+    }
 }
 
 #[test]
-fn each_command_on_a_key_reads_what_one_search_does(rt: HostRuntime) -> Result<(), Fail> {
+fn each_command_reads_what_its_call_does(rt: HostRuntime) -> Result<(), Fail> {
     let alloc = rt.alloc();
-    let reads = Cell::new(0);
+    let reads = counter(alloc)?;
     for step in [1, 4, 64] {
         for len in [0, 1, 3, 4, 7, 8, 14, 15, 31] {
+            let whole = multiples(alloc, reads, len, step)?;
             for number in [0, step, step * len, 64 * 63, 77] {
-                for it in 0..9u8 {
-                    let mut map = multiples(alloc, &reads, len, step)?;
-                    let walk = walk_of(alloc, &map)?;
-                    let from = map.capacity();
-                    let (asked, then) = command(alloc, it, Counting::new(number, &reads))?;
-                    let mut commands = Vec::new(alloc);
-                    if commands.push(asked).is_err() {
-                        return Err(Fail::new(format_args!("no memory")));
-                    }
+                for (name, due, call) in commands() {
+                    let mut map = whole.clone()?;
+                    let mut plain = plain_of(alloc, &map)?;
                     reads.set(0);
-                    let answers = run(alloc, &mut map, commands, &Plain);
-                    if answers.is_err() {
-                        return Err(Fail::new(format_args!("no memory")));
-                    }
-                    let told = reads.get();
-                    let wanted = due(alloc, &walk, number, then, from, map.capacity())?;
-                    if told != wanted {
-                        return Err(Fail::new(format_args!(
-                            "command {it} on {number} in {len} multiples of {step}: {told}, not {wanted}"
-                        )));
-                    }
+                    call(alloc, &mut map, Counting::new(number, reads))?;
+                    let wanted = due(&mut plain, number)?;
+                    assert_eq!(rt;
+                        reads.get(),
+                        wanted,
+                        "{name} of {number} in {len} multiples of {step}"
+                    );
                 }
             }
         }
