@@ -1,6 +1,7 @@
 //! How many numbers of keys each call reads. A search reads that of the sought key once for its
 //! slot, and a comparison of two keys reads both. So a call that searches or compares more than
-//! it says, by whatever method, reads more numbers than are due here.
+//! it says, by whatever method, reads more numbers than are due here. What is due follows from a
+//! plain list of numbers.
 use intmap_proved::{Entry, IntKey, IntMap, IntSet};
 use std::cell::Cell;
 use std::collections::HashMap;
@@ -42,98 +43,208 @@ fn reads_of<T>(call: impl FnOnce() -> T) -> u64 {
     READS.get()
 }
 
-/// What a search for this number reads: for the slot, and for each key there, up to the sought one.
-fn search(walk: &[u64], capacity: usize, number: u64) -> u64 {
-    let capacity = capacity as u64;
-    let slot = walk.iter().filter(|it| *it % capacity == number % capacity);
-    let before = slot.clone().take_while(|it| **it != number).count();
-    let found = slot.clone().count() > before;
-    1 + 2 * (before as u64 + u64::from(found))
+/// The numbers of the keys of a map or a set, in an order that stands for it, with its slots and
+/// its load factor. Each method makes a call on this list, and returns what the call is due to
+/// read.
+#[derive(Clone)]
+struct Plain {
+    numbers: Vec<u64>,
+    slots: usize,
+    factor: usize,
 }
 
-fn walk_of(map: &Map) -> Vec<u64> {
-    map.keys().map(|it| it.0).collect()
-}
+impl Plain {
+    fn new(slots: usize) -> Plain {
+        Plain { numbers: Vec::new(), slots, factor: 909 }
+    }
 
-fn members_of(set: &Set) -> Vec<u64> {
-    set.iter().map(|it| it.0).collect()
-}
+    fn of<'a>(keys: impl Iterator<Item = &'a Key>, slots: usize) -> Plain {
+        Plain { numbers: keys.map(|it| it.0).collect(), slots, factor: 909 }
+    }
 
-/// What a call reads behind its search: the numbers of the key that it stores, and of those that
-/// move.
-#[derive(Clone, Copy)]
-enum Then {
-    Nothing,
-    /// It stores the key, if it is absent.
-    Adds,
-    /// It stores the key.
-    Stores,
-}
+    fn of_map(map: &Map) -> Plain {
+        Plain::of(map.keys(), map.capacity())
+    }
 
-type Call = (&'static str, Then, fn(&mut Map, Key));
+    fn of_set(set: &Set) -> Plain {
+        Plain::of(set.iter(), set.capacity())
+    }
 
-const CALLS: [Call; 23] = [
-    ("get", Then::Nothing, |map, key| _ = map.get(key)),
-    ("get_mut", Then::Nothing, |map, key| _ = map.get_mut(key)),
-    ("contains_key", Then::Nothing, |map, key| _ = map.contains_key(key)),
-    ("get_key_value", Then::Nothing, |map, key| _ = map.get_key_value(key)),
-    ("remove", Then::Nothing, |map, key| _ = map.remove(key)),
-    ("remove_entry", Then::Nothing, |map, key| _ = map.remove_entry(key)),
-    ("entry", Then::Nothing, |map, key| _ = map.entry(key)),
-    ("entry.key", Then::Nothing, |map, key| _ = map.entry(key).key()),
-    ("entry.and_modify", Then::Nothing, |map, key| _ = map.entry(key).and_modify(|it| *it += 1)),
-    ("entry.get, insert, remove", Then::Nothing, |map, key| {
-        if let Entry::Occupied(mut entry) = map.entry(key) {
-            _ = (*entry.get(), entry.insert(1), *entry.get_mut(), entry.remove_entry());
+    fn slot(&self, number: u64) -> u64 {
+        number % self.slots as u64
+    }
+
+    /// A search: for the slot the sought number, and for each key there, up to the sought one,
+    /// both numbers.
+    fn search(&self, number: u64) -> u64 {
+        let place = self.numbers.iter().position(|it| *it == number);
+        let up_to = place.map_or(self.numbers.len(), |it| it + 1);
+        let met = self.numbers[..up_to].iter().filter(|it| self.slot(**it) == self.slot(number));
+        1 + 2 * met.count() as u64
+    }
+
+    /// A call that finds a key, and may remove it.
+    fn find(&mut self, number: u64) -> u64 {
+        self.search(number)
+    }
+
+    /// A call that stores a key if it is absent.
+    fn add(&mut self, number: u64) -> u64 {
+        if self.numbers.contains(&number) {
+            return self.search(number);
         }
+        self.store(number)
+    }
+
+    /// A call that stores a key. In the place of a present one comes the last one of its slot. A
+    /// new pair that makes the map grow moves with the others, and is then found as the last one
+    /// of its slot.
+    fn store(&mut self, number: u64) -> u64 {
+        let due = self.search(number) + 1;
+        if let Some(place) = self.numbers.iter().position(|it| *it == number) {
+            let slot = self.slot(number);
+            let last = self.numbers.iter().rposition(|it| self.slot(*it) == slot).unwrap();
+            self.numbers.swap(place, last);
+            return due;
+        }
+        self.numbers.push(number);
+        let slots = self.slots;
+        let moved = if self.numbers.len() % 8 < 4 { 0 } else { self.meet(self.factor) };
+        due + moved + u64::from(self.slots > slots)
+    }
+
+    /// Such calls one after another.
+    fn store_all(&mut self, numbers: &[u64]) -> u64 {
+        numbers.iter().map(|it| self.store(*it)).sum()
+    }
+
+    /// The same of calls that store a key if it is absent.
+    fn add_all(&mut self, numbers: &[u64]) -> u64 {
+        numbers.iter().map(|it| self.add(*it)).sum()
+    }
+
+    /// Growth to the least number of slots, among these and their doublings, that meets this load
+    /// factor.
+    fn meet(&mut self, factor: usize) -> u64 {
+        self.factor = factor;
+        let mut slots = self.slots;
+        while self.numbers.len() * 1000 / slots > factor {
+            slots *= 2;
+        }
+        self.grow(slots)
+    }
+
+    /// Room for so many more keys, if each slot held one.
+    fn reserve(&mut self, more: usize) -> u64 {
+        self.grow((self.numbers.len() + more).next_power_of_two())
+    }
+
+    /// Growth to so many slots, if these are more: for each pair, for its slot, and before that for
+    /// each pair of a slot with more than three, for the room of its new slot.
+    fn grow(&mut self, slots: usize) -> u64 {
+        if slots <= self.slots {
+            return 0;
+        }
+        let mut held = HashMap::new();
+        for it in &self.numbers {
+            *held.entry(self.slot(*it)).or_insert(0) += 1;
+        }
+        self.slots = slots;
+        held.values().map(|len| if *len > 3 { 2 * len } else { *len }).sum()
+    }
+
+    /// Look-ups of each of these in another list.
+    fn each_in(&self, other: &Plain) -> u64 {
+        self.numbers.iter().map(|it| other.search(*it)).sum()
+    }
+
+    /// The same, up to the first that is there, or isn't.
+    fn up_to(&self, other: &Plain, is_there: bool) -> u64 {
+        let decides = |it: &u64| other.numbers.contains(it) == is_there;
+        let until = self.numbers.iter().position(decides).map_or(self.numbers.len(), |it| it + 1);
+        self.numbers[..until].iter().map(|it| other.search(*it)).sum()
+    }
+}
+
+type Due = fn(&mut Plain, u64) -> u64;
+type Call = (&'static str, Due, fn(&mut Map, Key));
+
+const CALLS: [Call; 36] = [
+    ("get", Plain::find, |map, key| _ = map.get(key)),
+    ("get_mut", Plain::find, |map, key| _ = map.get_mut(key)),
+    ("contains_key", Plain::find, |map, key| _ = map.contains_key(key)),
+    ("get_key_value", Plain::find, |map, key| _ = map.get_key_value(key)),
+    ("map[key]", Plain::find, |map, key| {
+        let is_present = map.keys().any(|it| it.0 == key.0);
+        _ = if is_present { Some(map[key]) } else { map.get(key).copied() }
     }),
-    ("entry.into_mut", Then::Nothing, |map, key| {
+    ("remove", Plain::find, |map, key| _ = map.remove(key)),
+    ("remove_entry", Plain::find, |map, key| _ = map.remove_entry(key)),
+    ("entry", Plain::find, |map, key| _ = map.entry(key)),
+    ("text of an entry", Plain::find, |map, key| _ = format!("{:?}", map.entry(key))),
+    ("entry.key", Plain::find, |map, key| _ = map.entry(key).key()),
+    ("entry.and_modify", Plain::find, |map, key| _ = map.entry(key).and_modify(|it| *it += 1)),
+    ("calls that leave an entry", Plain::find, |map, key| match map.entry(key) {
+        Entry::Occupied(mut entry) => {
+            _ = (entry.key().0, *entry.get(), entry.insert(1), *entry.get_mut())
+        }
+        Entry::Vacant(entry) => _ = (entry.key().0, entry.into_key()),
+    }),
+    ("entry.remove", Plain::find, |map, key| {
         if let Entry::Occupied(entry) = map.entry(key) {
-            *entry.into_mut() = 1;
+            entry.remove();
         }
     }),
-    ("insert", Then::Stores, |map, key| _ = map.insert(key, 0)),
-    ("try_insert", Then::Stores, |map, key| _ = map.try_insert(key, 0)),
-    ("extend", Then::Stores, |map, key| map.extend([(key, 0)])),
-    ("try_extend", Then::Stores, |map, key| _ = map.try_extend([(key, 0)])),
-    ("insert_checked", Then::Adds, |map, key| _ = map.insert_checked(key, 0)),
-    ("try_insert_checked", Then::Adds, |map, key| _ = map.try_insert_checked(key, 0)),
-    ("or_insert", Then::Adds, |map, key| *map.entry(key).or_insert(0) += 1),
-    ("or_insert_with", Then::Adds, |map, key| *map.entry(key).or_insert_with(|| 0) += 1),
-    ("or_insert_with_key", Then::Adds, |map, key| {
+    ("entry.remove_entry", Plain::find, |map, key| {
+        if let Entry::Occupied(entry) = map.entry(key) {
+            entry.remove_entry();
+        }
+    }),
+    ("entry.into_mut, insert", Plain::add, |map, key| match map.entry(key) {
+        Entry::Occupied(entry) => *entry.into_mut() += 1,
+        Entry::Vacant(entry) => *entry.insert(1) += 1,
+    }),
+    ("vacant.try_insert", Plain::add, |map, key| {
+        if let Entry::Vacant(entry) = map.entry(key) {
+            _ = entry.try_insert(1);
+        }
+    }),
+    ("vacant.insert_entry", Plain::add, |map, key| {
+        if let Entry::Vacant(entry) = map.entry(key) {
+            entry.insert_entry(1);
+        }
+    }),
+    ("vacant.try_insert_entry", Plain::add, |map, key| {
+        if let Entry::Vacant(entry) = map.entry(key) {
+            _ = entry.try_insert_entry(1);
+        }
+    }),
+    ("insert_entry", Plain::add, |map, key| _ = map.entry(key).insert_entry(1)),
+    ("try_insert_entry", Plain::add, |map, key| _ = map.entry(key).try_insert_entry(1)),
+    ("or_insert", Plain::add, |map, key| *map.entry(key).or_insert(0) += 1),
+    ("try_or_insert", Plain::add, |map, key| _ = map.entry(key).try_or_insert(0)),
+    ("or_insert_with", Plain::add, |map, key| *map.entry(key).or_insert_with(|| 0) += 1),
+    ("try_or_insert_with", Plain::add, |map, key| _ = map.entry(key).try_or_insert_with(|| 0)),
+    ("or_insert_with_key", Plain::add, |map, key| {
         *map.entry(key).or_insert_with_key(|it| it.0 as u8) += 1
     }),
-    ("or_default", Then::Adds, |map, key| *map.entry(key).or_default() += 1),
-    ("insert_entry", Then::Adds, |map, key| _ = map.entry(key).insert_entry(1)),
-    ("vacant.insert", Then::Adds, |map, key| {
-        if let Entry::Vacant(entry) = map.entry(key) {
-            *entry.insert(1) += 1;
-        }
+    ("try_or_insert_with_key", Plain::add, |map, key| {
+        _ = map.entry(key).try_or_insert_with_key(|it| it.0 as u8)
     }),
+    ("or_try_insert_with", Plain::add, |map, key| {
+        let made: Result<_, intmap_proved::Refused<u8>> = Ok(0);
+        _ = map.entry(key).or_try_insert_with(|| made)
+    }),
+    ("or_default", Plain::add, |map, key| *map.entry(key).or_default() += 1),
+    ("try_or_default", Plain::add, |map, key| _ = map.entry(key).try_or_default()),
+    ("insert_checked", Plain::add, |map, key| _ = map.insert_checked(key, 0)),
+    ("try_insert_checked", Plain::add, |map, key| _ = map.try_insert_checked(key, 0)),
+    ("insert", Plain::store, |map, key| _ = map.insert(key, 0)),
+    ("try_insert", Plain::store, |map, key| _ = map.try_insert(key, 0)),
+    ("extend", Plain::store, |map, key| map.extend([(key, 0)])),
+    ("extend by references", Plain::store, |map, key| map.extend([(&key, &0)])),
+    ("try_extend", Plain::store, |map, key| _ = map.try_extend([(key, 0)])),
 ];
-
-/// What growth of a table of `from` slots reads: for each pair that moves, for its slot, and before
-/// that for each pair of a slot with more than three, for the room of its new slot.
-fn growth(numbers: &[u64], from: usize) -> u64 {
-    let mut slots = HashMap::new();
-    for it in numbers {
-        *slots.entry(it % from as u64).or_insert(0) += 1;
-    }
-    slots.values().map(|len| if *len > 3 { 2 * len } else { *len }).sum()
-}
-
-/// What is due behind a search for a number in a map with this walk, whose capacity was `from` and
-/// is `to`.
-fn due_behind(then: Then, walk: &[u64], number: u64, from: usize, to: usize) -> u64 {
-    let is_new = !walk.contains(&number) && !matches!(then, Then::Nothing);
-    let stored = u64::from(is_new || matches!(then, Then::Stores));
-    assert!(is_new || from == to, "only a new key grows a table");
-    if from == to {
-        return stored;
-    }
-    // the new pair moves with the others, and is then found as the last one of its slot
-    stored + growth(&[walk, &[number]].concat(), from) + 1
-}
 
 /// Lists of numbers, from none to crowded slots and beyond several growths.
 fn lists() -> Vec<Vec<u64>> {
@@ -151,46 +262,69 @@ fn sought(list: &[u64]) -> impl Iterator<Item = u64> {
     present.into_iter().chain([last, last.wrapping_add(1), last.wrapping_add(64), 1 << 41, 77])
 }
 
+fn map_of(list: &[u64]) -> Map {
+    list.iter().map(|it| (Key(*it), 0)).collect()
+}
+
+fn set_of(list: &[u64]) -> Set {
+    list.iter().map(|it| Key(*it)).collect()
+}
+
 #[test]
 fn each_call_on_a_key_reads_what_one_search_does() {
     let mut growths = 0;
     for list in lists() {
-        let whole: Map = list.iter().map(|it| (Key(*it), 0)).collect();
-        let (walk, from) = (walk_of(&whole), whole.capacity());
+        let whole = map_of(&list);
         for number in sought(&list) {
-            for (name, then, call) in CALLS {
-                let mut map = whole.clone();
+            for (name, due, call) in CALLS {
+                let (mut map, mut plain) = (whole.clone(), Plain::of_map(&whole));
                 let reads = reads_of(|| call(&mut map, Key(number)));
-                let to = map.capacity();
-                growths += u64::from(from != to);
-                let due = search(&walk, from, number) + due_behind(then, &walk, number, from, to);
-                assert_eq!(reads, due, "{name} of {number} in {from} slots of {walk:?}");
+                assert_eq!(reads, due(&mut plain, number), "{name} of {number} in {whole:?}");
+                assert_eq!(map.capacity(), plain.slots, "slots after {name} of {number}");
+                growths += u64::from(map.capacity() > whole.capacity());
             }
         }
     }
     assert!(growths > 100, "only {growths} growths");
 }
 
-type WholeCall = (&'static str, fn(&mut Map));
+type CallOnAll = (&'static str, fn(Map));
+
+const CALLS_ON_ALL: [CallOnAll; 15] = [
+    ("new", |_| _ = (Map::new(), Map::try_new(), Map::default())),
+    ("with_capacity", |_| _ = (Map::with_capacity(20), Map::try_with_capacity(20))),
+    ("first_key_value", |map| _ = map.first_key_value()),
+    ("clone", |map| _ = (map.clone(), map.try_clone())),
+    ("iter", |map| _ = (map.iter().count(), (&map).into_iter().len(), map.keys().clone().count())),
+    ("values", |map| _ = (map.values().count(), map.into_values().count())),
+    ("text", |map| _ = format!("{map:?} {:?} {:?} {:?}", map.iter(), map.keys(), map.values())),
+    ("writes", |mut map| {
+        map.iter_mut().for_each(|(_, it)| *it += 1);
+        map.values_mut().for_each(|it| *it += 1);
+        (&mut map).into_iter().for_each(|(_, it)| *it += 1);
+        map.for_each_mut(|key, it| *it ^= key.0 as u8);
+    }),
+    ("len", |map| _ = (map.len(), map.is_empty(), map.capacity())),
+    ("load", |map| _ = (map.load(), map.load_rate(), map.assert_count())),
+    ("load factor", |map| _ = (map.get_load_factor(), map.load_factor_thousandths())),
+    ("collisions", |map| _ = (map.collisions(), map.try_collisions())),
+    ("retain, clear", |mut map| {
+        map.retain(|key, _| key.0 % 3 > 0);
+        map.clear();
+    }),
+    ("extract_if, drain", |mut map| {
+        _ = map.extract_if(|key, _| key.0 % 5 == 0).count();
+        _ = map.drain().take(2).count();
+    }),
+    ("into_iter", |map| _ = (map.clone().into_keys().count(), map.into_iter().count())),
+];
 
 #[test]
 fn calls_on_all_pairs_read_no_number() {
     for list in lists() {
-        let mut map: Map = list.iter().map(|it| (Key(*it), 0)).collect();
-        let calls: [WholeCall; 10] = [
-            ("clone", |map| _ = map.clone()),
-            ("iter", |map| _ = map.iter().count()),
-            ("iter_mut", |map| map.iter_mut().for_each(|(_, it)| *it += 1)),
-            ("values_mut", |map| map.values_mut().for_each(|it| *it += 1)),
-            ("for_each_mut", |map| map.for_each_mut(|_, it| *it += 1)),
-            ("load", |map| _ = (map.load(), map.load_rate(), map.assert_count())),
-            ("retain", |map| map.retain(|key, _| key.0 % 3 > 0)),
-            ("extract_if", |map| _ = map.extract_if(|key, _| key.0 % 5 == 0).count()),
-            ("drain", |map| _ = map.drain().take(2).count()),
-            ("clear", |map| map.clear()),
-        ];
-        for (name, call) in calls {
-            assert_eq!(reads_of(|| call(&mut map)), 0, "{name} of {list:?}");
+        for (name, call) in CALLS_ON_ALL {
+            let map = map_of(&list);
+            assert_eq!(reads_of(|| call(map)), 0, "{name} of {list:?}");
         }
     }
 }
@@ -198,70 +332,246 @@ fn calls_on_all_pairs_read_no_number() {
 #[test]
 fn growth_reads_numbers_for_room_and_for_slots() {
     for list in lists() {
-        let mut map: Map = list.iter().map(|it| (Key(*it), 0)).collect();
-        let from = map.capacity();
-        assert_eq!(reads_of(|| map.reserve(0)), 0, "no growth of {list:?}");
-        assert_eq!(reads_of(|| map.reserve(3 * from)), growth(&list, from), "reserve of {list:?}");
-        let from = map.capacity();
-        let reads = reads_of(|| map.set_load_factor(0.1));
-        let due = if map.capacity() > from { growth(&list, from) } else { 0 };
-        assert_eq!(reads, due, "load factor of {list:?}");
+        let mut map = map_of(&list);
+        let mut plain = Plain::of_map(&map);
+        for (more, factor) in [(0, 909), (1, 4000), (9, 700), (3 * list.len(), 300), (3, 60)] {
+            let reads = reads_of(|| map.reserve(more));
+            assert_eq!(reads, plain.reserve(more), "reserve({more}) in {list:?}");
+            let reads = reads_of(|| map.try_reserve(2 * more));
+            assert_eq!(reads, plain.reserve(2 * more), "try_reserve of twice {more} in {list:?}");
+            let reads = reads_of(|| map.try_set_load_factor_thousandths(factor));
+            assert_eq!(reads, plain.meet(factor), "at {factor} thousandths in {list:?}");
+            let reads = reads_of(|| map.set_load_factor(factor as f32 / 2000.0));
+            let due = plain.meet(map.load_factor_thousandths());
+            assert_eq!(reads, due, "at half of {factor} in {list:?}");
+            let reads = reads_of(|| map.try_set_load_factor(factor as f32 / 4000.0));
+            let due = plain.meet(map.load_factor_thousandths());
+            assert_eq!(reads, due, "at a quarter of {factor} in {list:?}");
+            assert_eq!(map.capacity(), plain.slots, "{list:?}");
+        }
     }
+}
+
+/// Numbers, some of them several times, and many of one slot.
+const NUMBERS: [u64; 24] =
+    [5, 0, 64, 128, 5, 192, 256, 7, 320, 0, 384, 9, 1, 2, 64, 3, 448, 512, 7, 576, 6, 4, 8, 576];
+
+#[test]
+fn insertions_of_several_pairs_read_the_sum_of_each() {
+    let pairs = NUMBERS.map(|it| (Key(it), 0));
+    for count in 0..=pairs.len() {
+        let (some, numbers) = (pairs.iter().copied().take(count), &NUMBERS[..count]);
+        let mut plain = Plain::new(count.max(2).next_power_of_two());
+        let due = plain.store_all(numbers);
+        assert_eq!(reads_of(|| some.clone().collect::<Map>()), due, "from_iter of {numbers:?}");
+        assert_eq!(reads_of(|| Map::try_from_iter(some.clone())), due, "try_from_iter");
+        // an iterator that says nothing of its length
+        let due = Plain::new(2).store_all(numbers);
+        let unknown = some.clone().filter(|_| true);
+        assert_eq!(reads_of(|| unknown.collect::<Map>()), due, "of unknown length, {numbers:?}");
+        let mut map: Map = some.collect();
+        let due = plain.store_all(&NUMBERS);
+        assert_eq!(reads_of(|| map.extend(pairs)), due, "extend behind {numbers:?}");
+    }
+    let due = Plain::new(32).store_all(&NUMBERS);
+    assert_eq!(reads_of(|| Map::from(pairs)), due, "from an array");
 }
 
 #[test]
-fn equality_searches_each_key_once() {
+fn equality_searches_each_key_up_to_the_first_difference() {
     for list in lists() {
-        let left: Map = list.iter().map(|it| (Key(*it), 0)).collect();
-        let mut right: Map = list.iter().rev().map(|it| (Key(*it), 0)).collect();
-        let walk = walk_of(&right);
-        let due: u64 = list.iter().map(|it| search(&walk, right.capacity(), *it)).sum();
-        assert_eq!(reads_of(|| left == right), due, "{list:?}");
-        right.insert(Key(1 << 50), 0);
-        assert_eq!(reads_of(|| left == right), 0, "{list:?} and one more");
+        let left = map_of(&list);
+        let right: Map = list.iter().rev().map(|it| (Key(*it), 0)).collect();
+        let (walk, plain) = (Plain::of_map(&left), Plain::of_map(&right));
+        assert_eq!(reads_of(|| left == right), walk.each_in(&plain), "{list:?}");
+        let mut longer = right.clone();
+        longer.insert(Key(1 << 50), 0);
+        assert_eq!(reads_of(|| left == longer), 0, "{list:?} and one more");
+        for place in (0..list.len()).step_by(5) {
+            let (number, passed) = (walk.numbers[place], &walk.numbers[..=place]);
+            let up_to = |plain: &Plain| passed.iter().map(|it| plain.search(*it)).sum::<u64>();
+            let mut other = right.clone();
+            other.insert(Key(number), 1);
+            let due = up_to(&Plain::of_map(&other));
+            assert_eq!(reads_of(|| left == other), due, "another value of {number} in {list:?}");
+            other.remove(Key(number));
+            other.insert(Key(1 << 50), 0);
+            let due = up_to(&Plain::of_map(&other));
+            assert_eq!(reads_of(|| left == other), due, "without {number} in {list:?}");
+        }
     }
 }
 
-type SetCall = (&'static str, Then, fn(&mut Set, Key));
+type SetCall = (&'static str, Due, fn(&mut Set, Key));
 
-const SET_CALLS: [SetCall; 4] = [
-    ("contains", Then::Nothing, |set, key| _ = set.contains(key)),
-    ("remove", Then::Nothing, |set, key| _ = set.remove(key)),
-    ("insert", Then::Adds, |set, key| _ = set.insert(key)),
-    ("extend", Then::Adds, |set, key| set.extend([key])),
+const SET_CALLS: [SetCall; 10] = [
+    ("contains", Plain::find, |set, key| _ = set.contains(key)),
+    ("remove", Plain::find, |set, key| _ = set.remove(key)),
+    ("take", Plain::find, |set, key| _ = set.take(key)),
+    ("insert", Plain::add, |set, key| _ = set.insert(key)),
+    ("try_insert", Plain::add, |set, key| _ = set.try_insert(key)),
+    ("extend", Plain::add, |set, key| set.extend([key])),
+    ("extend by references", Plain::add, |set, key| set.extend([&key])),
+    ("try_extend", Plain::add, |set, key| _ = set.try_extend([key])),
+    (
+        "reserve",
+        |plain, it| plain.reserve(it as usize % 99),
+        |set, key| set.reserve(key.0 as usize % 99),
+    ),
+    (
+        "try_reserve",
+        |plain, it| plain.reserve(it as usize % 99),
+        |set, key| _ = set.try_reserve(key.0 as usize % 99),
+    ),
 ];
 
 #[test]
 fn each_call_of_a_set_reads_what_one_search_does() {
     for list in lists() {
-        let whole: Set = list.iter().map(|it| Key(*it)).collect();
-        let (walk, from) = (members_of(&whole), whole.capacity());
+        let whole = set_of(&list);
         for number in sought(&list) {
-            for (name, then, call) in SET_CALLS {
-                let mut set = whole.clone();
+            for (name, due, call) in SET_CALLS {
+                let (mut set, mut plain) = (whole.clone(), Plain::of_set(&whole));
                 let reads = reads_of(|| call(&mut set, Key(number)));
-                let to = set.capacity();
-                let due = search(&walk, from, number) + due_behind(then, &walk, number, from, to);
-                assert_eq!(reads, due, "{name} of {number} in {from} slots of {walk:?}");
+                assert_eq!(reads, due(&mut plain, number), "{name} of {number} in {whole:?}");
+                assert_eq!(set.capacity(), plain.slots, "slots after {name} of {number}");
+            }
+        }
+    }
+}
+
+type SetCallOnAll = (&'static str, fn(Set));
+
+const SET_CALLS_ON_ALL: [SetCallOnAll; 8] = [
+    ("new", |_| _ = (Set::new(), Set::try_new(), Set::default())),
+    ("with_capacity", |_| _ = (Set::with_capacity(20), Set::try_with_capacity(20))),
+    ("len", |set| _ = (set.len(), set.is_empty(), set.capacity())),
+    ("clone", |set| _ = (set.clone(), set.try_clone())),
+    ("iter", |set| _ = (set.iter().clone().count(), (&set).into_iter().len())),
+    ("text", |set| _ = format!("{set:?} {:?}", set.iter())),
+    ("retain, drain, clear", |mut set| {
+        set.retain(|key| key.0 % 3 > 0);
+        _ = set.drain().take(2).count();
+        set.clear();
+    }),
+    ("into_iter", |set| _ = set.into_iter().count()),
+];
+
+#[test]
+fn calls_on_all_members_read_no_number() {
+    for list in lists() {
+        for (name, call) in SET_CALLS_ON_ALL {
+            let set = set_of(&list);
+            assert_eq!(reads_of(|| call(set)), 0, "{name} of {list:?}");
+        }
+    }
+}
+
+/// What is due to look-ups of the shorter list in the other, of two that are as long those of the
+/// first in the second.
+fn shorter_in_other(one: &Plain, other: &Plain, due: fn(&Plain, &Plain) -> u64) -> u64 {
+    if other.numbers.len() < one.numbers.len() { due(other, one) } else { due(one, other) }
+}
+
+type Walk = fn(&Set, &Set) -> Vec<u64>;
+type Combined = (
+    &'static str,
+    fn(&Plain, &Plain) -> u64,
+    Walk,
+    fn(&Set, &Set) -> String,
+    fn(&Set, &Set) -> Set,
+);
+
+/// Four ways to combine two sets: what a walk is due to, that walk, the text of a second iterator
+/// over it, and the set that an operator makes of it. Which of the sets is searched is the way of
+/// the code.
+const COMBINED: [Combined; 4] = [
+    (
+        "difference",
+        Plain::each_in,
+        |one, other| one.difference(other).map(|it| it.0).collect(),
+        |one, other| format!("{:?}", one.difference(other).clone()),
+        |one, other| one - other,
+    ),
+    (
+        "intersection",
+        |one, other| shorter_in_other(one, other, Plain::each_in),
+        |one, other| one.intersection(other).map(|it| it.0).collect(),
+        |one, other| format!("{:?}", one.intersection(other).clone()),
+        |one, other| one & other,
+    ),
+    (
+        "union",
+        |one, other| shorter_in_other(other, one, Plain::each_in),
+        |one, other| one.union(other).map(|it| it.0).collect(),
+        |one, other| format!("{:?}", one.union(other).clone()),
+        |one, other| one | other,
+    ),
+    (
+        "symmetric_difference",
+        |one, other| one.each_in(other) + other.each_in(one),
+        |one, other| one.symmetric_difference(other).map(|it| it.0).collect(),
+        |one, other| format!("{:?}", one.symmetric_difference(other).clone()),
+        |one, other| one ^ other,
+    ),
+];
+
+type Question = (&'static str, fn(&Plain, &Plain) -> u64, fn(&Set, &Set) -> bool);
+
+/// Questions on two sets, which look members up to the first that decides.
+const QUESTIONS: [Question; 4] = [
+    ("is_subset", |one, other| one.up_to(other, false), |one, other| one.is_subset(other)),
+    ("is_superset", |one, other| other.up_to(one, false), |one, other| one.is_superset(other)),
+    (
+        "is_disjoint",
+        |one, other| shorter_in_other(one, other, |one, other| one.up_to(other, true)),
+        |one, other| one.is_disjoint(other),
+    ),
+    (
+        "==",
+        |one, other| {
+            let are_as_long = one.numbers.len() == other.numbers.len();
+            if are_as_long { one.up_to(other, false) } else { 0 }
+        },
+        |one, other| one == other,
+    ),
+];
+
+#[test]
+fn calls_of_two_sets_read_the_sum_of_their_searches() {
+    for list in lists() {
+        let quarters: Vec<u64> = list.iter().map(|it| it / 2 + it / 4).collect();
+        for numbers in [&quarters, &list, &vec![0, 4, 77]] {
+            let (one, other) = (set_of(&list), set_of(numbers));
+            let (plain, with) = (Plain::of_set(&one), Plain::of_set(&other));
+            for (name, due, walk, text, make) in COMBINED {
+                let due = due(&plain, &with);
+                let members = walk(&one, &other);
+                assert_eq!(reads_of(|| walk(&one, &other)), due, "{name}, {list:?}, {numbers:?}");
+                assert_eq!(reads_of(|| text(&one, &other)), due, "text of {name}, {list:?}");
+                let due = due + Plain::new(2).add_all(&members);
+                assert_eq!(reads_of(|| make(&one, &other)), due, "operator of {name}, {list:?}");
+            }
+            for (name, due, question) in QUESTIONS {
+                let reads = reads_of(|| question(&one, &other));
+                assert_eq!(reads, due(&plain, &with), "{name} of {list:?}, {numbers:?}");
             }
         }
     }
 }
 
 #[test]
-fn walks_of_two_sets_search_each_member_once() {
-    for list in lists() {
-        let left: Set = list.iter().map(|it| Key(*it)).collect();
-        let right: Set = list.iter().map(|it| Key(it / 2 + it / 4)).collect();
-        let (walk, other) = (members_of(&left), members_of(&right));
-        let searched: u64 = walk.iter().map(|it| search(&other, right.capacity(), *it)).sum();
-        let back: u64 = other.iter().map(|it| search(&walk, left.capacity(), *it)).sum();
-        assert_eq!(reads_of(|| left.difference(&right).count()), searched, "difference, {list:?}");
-        assert_eq!(reads_of(|| left.union(&right).count()), back, "union, {list:?}");
-        let both = left.symmetric_difference(&right);
-        assert_eq!(reads_of(|| both.count()), searched + back, "symmetric difference, {list:?}");
-        // the shorter set is walked
-        let due = if walk.len() <= other.len() { searched } else { back };
-        assert_eq!(reads_of(|| left.intersection(&right).count()), due, "intersection, {list:?}");
+fn sets_of_several_keys_read_the_sum_of_each() {
+    let keys = NUMBERS.map(Key);
+    for count in 0..=keys.len() {
+        let (some, numbers) = (keys.iter().copied().take(count), &NUMBERS[..count]);
+        let mut plain = Plain::new(count.max(2).next_power_of_two());
+        let due = plain.add_all(numbers);
+        assert_eq!(reads_of(|| some.clone().collect::<Set>()), due, "from_iter of {numbers:?}");
+        assert_eq!(reads_of(|| Set::try_from_iter(some.clone())), due, "try_from_iter");
+        let mut set: Set = some.collect();
+        let due = plain.add_all(&NUMBERS);
+        assert_eq!(reads_of(|| set.extend(keys)), due, "extend behind {numbers:?}");
     }
+    assert_eq!(reads_of(|| Set::from(keys)), Plain::new(32).add_all(&NUMBERS), "from an array");
 }
