@@ -16,7 +16,7 @@ import os
 import re
 
 CRATES = {"table": "intmap_table", "map": "intmap", "set": "intmap_set"}
-BY_HAND = "tools/erase_crate"
+BY_HAND = ("/mending.rs", "/written.rs")
 PAGE = "README.md"
 
 # sources that aren't erased
@@ -151,7 +151,7 @@ def erased_files(folder):
     for path in sorted(glob.glob(f"{folder}/src/proved/**/*.rs", recursive=True)):
         name = os.path.relpath(path, folder)
         home, _, rest = name.removeprefix("src/proved/").removesuffix(".rs").partition("/")
-        if not os.path.exists(f"{BY_HAND}/{name}"):
+        if not name.endswith(BY_HAND):
             yield name, home, f"{CRATES.get(home)}/src/{rest or 'lib'}.rt"
 
 
@@ -185,7 +185,7 @@ def faults(folder):
                 wrong.append(f"{path} is {'' if source in erased else 'not '}erased")
     named = re.findall(r"^proved/\S+\.rs: \w+$", read(f"{folder}/{PAGE}"), re.M)
     if sorted(named) != sorted(asks()):
-        wrong.append(f"{BY_HAND}/{PAGE} doesn't name the functions that `tools/erase --asks` prints")
+        wrong.append(f"rust/{PAGE} doesn't name the functions that `tools/erase --asks` prints")
     return wrong
 
 

@@ -1,9 +1,0 @@
-//! Allocations that fail: each in turn, of each call that makes any. The call then returns an error
-//! and its value, and leaves the map.
-mod allocator;
-mod each_call;
-mod ends;
-#[path = "../shared/random.rs"]
-mod random;
-mod random_calls;
-mod returned;
