@@ -89,10 +89,16 @@ def next_solid(tokens, i):
 
 
 def ghost_end(tokens, i):
-    """The index behind a ghost, whose keyword is at the index `i`."""
-    while tokens[i] not in (";", ","):
-        i = group_end(tokens, i) if tokens[i] in CLOSES else i + 1
-    return i + 1
+    """The index behind a ghost, whose keyword is at the index `i`: a `use`, a member, or a clause of a function."""
+    i = next_solid(tokens, i + 1)
+    if tokens[i] == "use":
+        return tokens.index(";", i) + 1
+    end = group_end(tokens, tokens.index("{", i))
+    i = next_solid(tokens, end)
+    if tokens[i] == "by":
+        end = group_end(tokens, tokens.index("{", i))
+        i = next_solid(tokens, end)
+    return i + 1 if tokens[i] in (";", ",") else end
 
 
 def clause_end(tokens, i):
@@ -134,6 +140,11 @@ def without_ghosts(text):
             kept.append(tokens[i])
             i += 1
     return "".join(kept)
+
+
+def code_of(text):
+    """What of a text the compiler reads, in a line: without contracts, ghosts, comments and layout."""
+    return " ".join(it for it in TOKEN.findall(without_ghosts(text)) if not it.isspace() and not it.startswith("//"))
 
 
 def item_start(text, at):
