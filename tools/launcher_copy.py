@@ -60,9 +60,14 @@ class Copy:
         shutil.copy(launcher, self.launcher)
         for name in ("bin", "scratch", "elsewhere"):
             os.mkdir(f"{room}/{name}")
-        with open(f"{room}/bin/rt", "w", encoding="utf-8") as stub:
-            stub.write(STUB)
-        os.chmod(f"{room}/bin/rt", 0o755)
+        self.write_command("rt", STUB)
+
+    def write_command(self, name, text):
+        """Puts a command of this text before those of the machine."""
+        path = f"{self.room}/bin/{name}"
+        with open(path, "w", encoding="utf-8") as file:
+            file.write(text if text.startswith("#!") else f"#!/usr/bin/env bash\n{text}\n")
+        os.chmod(path, 0o755)
 
     def write(self, path, text, time=None):
         """Writes a file, with a time in seconds or that of now."""
