@@ -82,7 +82,8 @@ impl<K: IntKey, A: Allocator + Copy> IntSet<K, A> {
         self.map.capacity()
     }
 
-    /// Does nothing. Its contract says what holds of every set.
+    /// Does nothing. Its contract says what holds of every set, for a function that calls nothing else
+    /// of which a proof could learn that.
     fn known(&self)
         ensures valid { IsSet K.number_of K.is_valid self.now }
     {
