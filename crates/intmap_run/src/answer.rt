@@ -1,44 +1,7 @@
 //! The answers of commands.
-ghost use Rattle.std.specs.Prelude.{◌≡◌, ◌+◌, ◌*◌, ◌^◌, ℕ};
 
 use intmap::{Cause, RefusedPair};
 use std::alloc::{Allocator, Global};
-use std::marker::Model;
-
-/// What one of the upper half counts.
-const HALF: u128 = 1 << 64;
-
-/// A number below 2^128, in two halves. A `u128` would double the alignment of every answer.
-#[derive(Drop)]
-pub struct Wide {
-    high: u64,
-    low: u64,
-}
-
-impl Model for Wide {
-    ghost Value = { ℕ };
-
-    ghost view = { λ wide. wide.high * 2 ^ 64 + wide.low };
-}
-
-impl Wide {
-    /// The number in two halves.
-    pub(crate) fn new(number: u128) -> Wide
-        ensures { result ≡ number }
-    {
-        Wide {
-            high: (number / HALF) as u64,
-            low: (number % HALF) as u64,
-        }
-    }
-
-    /// The number.
-    pub fn get(&self) -> u128
-        ensures { result ≡ self.now }
-    {
-        self.high as u128 * HALF + self.low as u128
-    }
-}
 
 /// The answer of one command. `S` is the type of what the judge sees of a value.
 #[derive(Drop)]
@@ -58,7 +21,7 @@ pub enum Answer<K, V, S, A: Allocator = Global> {
     Flag(bool),
     /// A number of pairs or slots, a load factor in thousandths, or the number of pairs for each
     /// slot in thousandths.
-    Number(Wide),
+    Number(u128),
     /// Each key of the walk, in its order, with what the judge sees of its value.
     Walk(Vec<(K, S), A>),
     /// Each key of the walk, in its order.

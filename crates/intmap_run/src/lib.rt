@@ -13,7 +13,7 @@ mod judge;
 pub mod laws;
 mod runner;
 
-pub use answer::{Answer, Wide};
+pub use answer::Answer;
 pub use command::Command;
 pub use judge::Judge;
 pub use runner::run;

@@ -9,7 +9,7 @@ ghost use Rattle.intmap.specs.Bindings.{keep_pairs};
 
 mod lists;
 
-use crate::answer::{Answer, Wide};
+use crate::answer::Answer;
 use crate::command::Command;
 use crate::judge::Judge;
 use crate::runner::lists::{collisions, drain, keys, values, walk};
@@ -115,16 +115,16 @@ fn apply<K: IntKey, V: Drop, J: Judge<K, V>, A: Allocator + Copy>(
         }
         Command::Reserve(additional) => done(map.reserve(additional)),
         Command::SetLoadFactor(thousandths) => done(map.set_load_factor(thousandths)),
-        Command::GetLoadFactor => Answer::Number(Wide::new(map.get_load_factor() as u128)),
+        Command::GetLoadFactor => Answer::Number(map.get_load_factor() as u128),
         Command::EntryInsert(key, value) => entry_insert::<K, V, J, A>(map, key, value),
         Command::EntryRemove(key) => entry_remove::<K, V, J, A>(map, key),
         Command::Extend(pairs) => extend::<K, V, J, A>(map, pairs),
         Command::Drain(count) => drain::<K, V, J, A>(alloc, map, count),
-        Command::Len => Answer::Number(Wide::new(map.len() as u128)),
+        Command::Len => Answer::Number(map.len() as u128),
         Command::IsEmpty => Answer::Flag(map.is_empty()),
-        Command::Capacity => Answer::Number(Wide::new(map.capacity() as u128)),
-        Command::Load => Answer::Number(Wide::new(map.load() as u128)),
-        Command::LoadRate => Answer::Number(Wide::new(map.load_rate())),
+        Command::Capacity => Answer::Number(map.capacity() as u128),
+        Command::Load => Answer::Number(map.load() as u128),
+        Command::LoadRate => Answer::Number(map.load_rate()),
         Command::AssertCount => Answer::Flag(map.assert_count()),
         Command::Walk => walk(alloc, map, judge),
         Command::Keys => keys::<K, V, J, A>(alloc, map),

@@ -38,7 +38,7 @@ pub fn print_answer<A: Allocator, B: Allocator>(
         Answer::Done => out.push_str("done"),
         Answer::Flag(true) => out.push_str("true"),
         Answer::Flag(false) => out.push_str("false"),
-        Answer::Number(number) => write!(out, "{}", number.get()),
+        Answer::Number(number) => write!(out, "{number}"),
         Answer::Walk(pairs) | Answer::Pairs(pairs) | Answer::Sizes(pairs) => {
             print_pairs(out, pairs.as_slice())
         }

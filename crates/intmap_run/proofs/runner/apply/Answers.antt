@@ -109,17 +109,17 @@ returns-in-Keys-clause-step g c = rw c.in-Keys.is (c.keys.ensures.step c.args.ju
 
 pub returns-in-Len-clause-step : goal.returns-in-Len-clause-step
 returns-in-Len-clause-step g c =
-    rw (c.in-Len.is, c.new-in-Len.ensures, c.len.ensures.value)
+    rw (c.in-Len.is, c.len.ensures.value)
     (StepsFrom-len g.K.IntKey.number_of g.K.IntKey.is_valid c.args.map.now c.len.ensures.valid (g.J.Judge.sees c.args.judge.now) (g.J.Judge.keeps c.args.judge.now))
 
 pub returns-in-Load-clause-step : goal.returns-in-Load-clause-step
 returns-in-Load-clause-step g c =
-    rw (c.in-Load.is, c.new-in-Load.ensures, c.load.ensures.value)
+    rw (c.in-Load.is, c.load.ensures.value)
     (StepsFrom-load g.K.IntKey.number_of g.K.IntKey.is_valid c.args.map.now c.load.ensures.valid (g.J.Judge.sees c.args.judge.now) (g.J.Judge.keeps c.args.judge.now))
 
 pub returns-in-LoadRate-clause-step : goal.returns-in-LoadRate-clause-step
 returns-in-LoadRate-clause-step g c =
-    rw (c.in-LoadRate.is, c.new-in-LoadRate.ensures, c.load_rate.ensures.value)
+    rw (c.in-LoadRate.is, c.load_rate.ensures.value)
     (StepsFrom-load_rate g.K.IntKey.number_of g.K.IntKey.is_valid c.args.map.now c.load_rate.ensures.valid (g.J.Judge.sees c.args.judge.now) (g.J.Judge.keeps c.args.judge.now))
 
 pub returns-in-AssertCount-clause-step : goal.returns-in-AssertCount-clause-step
