@@ -16,9 +16,6 @@ module _ {X : Type 0} (test : X → Bool) where
     pub place : position_or_len test xs ≡ i + position_or_len test (drop i xs)
     pub reached : length (through_first test xs) ≡ i + length (through_first test (drop i xs))
 
-  pub FailBefore-none : (xs : List X) → FailBefore xs 0
-  FailBefore-none xs = record { place = omega arith; reached = omega arith }
-
   module _ (xs : List X) (i : ℕ) (x : X) (below : i < length xs) (is : x ≡ get_or xs i x) (h : FailBefore xs i) where
     rest : drop i xs ≡ x ∷ drop (i + 1) xs
     rest = drop_more xs i x below ∙ ap (λ y. y ∷ drop (i + 1) xs) (sym is)

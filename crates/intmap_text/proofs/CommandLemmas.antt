@@ -1,13 +1,12 @@
--- Words that say no command, and words that say one.
+-- Words that say no command.
 use Rattle.std.proofs.Common.{rules, ◌≡◌, ◌≢◌, codes, ℕ, List, [], ◌∷◌, Option, Some, None, IfNone}
 use Rattle.std.specs.List.{AllZip}
 use Rattle.std.specs.Fmt.{decimal}
 use Rattle.std.proofs.lemmas.Fmt.{decimal_injective}
 use Rattle.intmap_run.specs.declared.command.Command.{Command}
 use Rattle.intmap_run.specs.declared.command.Command.TheVariants as command
-use Rattle.intmap_text.specs.Words.{name_of, numbers_of, IsSpelled, IsSame}
+use Rattle.intmap_text.specs.Words.{name_of, numbers_of, IsSpelled}
 use Rattle.intmap_text.specs.Commands.{Writes, Says}
-use Rattle.intmap_text.proofs.PairLemmas.{same_pairs}
 
 -- words write one list of numbers alone
 same_numbers : (words : List (List ℕ)) (ms ns : List ℕ) → AllZip Writes words ms
@@ -22,19 +21,6 @@ same_numbers (w ∷ ws) (m ∷ ms) (n ∷ ns) f g =
     let first = decimal_injective m n f.0.1 g.0.1 written in
     let rest = same_numbers ws ms ns f.1 g.1 in
     cc
-
--- no two commands have the same name and numbers
-same_command : {A : Type 0} (c d : Command ℕ ℕ A) → name_of c ≡ name_of d → numbers_of c ≡ numbers_of d → IsSame c d
-same_command (command.Extend pairs) (command.Extend others) names numbers =
-    same_pairs pairs.items others.items numbers
-same_command c d names numbers = search rules
-
--- words say one command alone
-pub says_one : {A : Type 0} (words : List (List ℕ)) (c d : Command ℕ ℕ A) → Says words c → Says words d → IsSame c d
-says_one [] c d one other = absurd one
-says_one (name ∷ words) c d one other =
-    let names : name_of c ≡ name_of d = let n = one.0 in let m = other.0 in cc in
-    same_command c d names (same_numbers words (numbers_of c) (numbers_of d) one.1 other.1)
 
 -- if no command has this name and the numbers that the words write, they say none
 pub says_none : {A : Type 0} (name : List ℕ) (words : List (List ℕ)) (ns : List ℕ) → AllZip Writes words ns

@@ -84,17 +84,3 @@ unread_words words pairs left more rest key value read first second none all h =
     let whole = subst (λ ws. WritesPairs ws all) split h in
     let others = left_pairs read.front (key ∷ value ∷ rest) pairs all read.written whole in
     no_pair key value rest others.0 none others.1
-
--- pairs with the same keys and values in turn are the same
-pub same_pairs : (ps qs : List (ℕ × ℕ)) → keys_and_values ps ≡ keys_and_values qs → ps ≡ qs
-same_pairs [] [] h = refl
-same_pairs [] (q ∷ qs) h = cc
-same_pairs (p ∷ ps) [] h = cc
-same_pairs (p ∷ ps) (q ∷ qs) h =
-    let key : p.0 ≡ q.0 = cc in
-    let value : p.1 ≡ q.1 = cc in
-    let one : p ≡ (q.0, p.1) = ap (λ k. (k, p.1)) key in
-    let two : (q.0, p.1) ≡ q = ap (λ v. (q.0, v)) value in
-    let others : keys_and_values ps ≡ keys_and_values qs = cc in
-    let rest = same_pairs ps qs others in
-    cc

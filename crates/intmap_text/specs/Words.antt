@@ -67,8 +67,3 @@ numbers_of command.Collisions = []
 -- this name and these numbers are the words of the command
 abbrev pub IsSpelled : {A : Type 0} → List ℕ → List ℕ → Command ℕ ℕ A → Type 0
 IsSpelled name numbers c = (name ≡ name_of c) × (numbers_of c ≡ numbers)
-
--- the two are the same command, except for how a vector in them lies in memory
-abbrev pub IsSame : {A : Type 0} → Command ℕ ℕ A → Command ℕ ℕ A → Type 0
-IsSame (command.Extend pairs) (command.Extend others) = pairs.items ≡ others.items
-IsSame c d = c ≡ d

@@ -2,7 +2,7 @@
 ghost use Rattle.std.specs.Prelude.{◌≢◌, ◌≤◌, ℕ, List, ◌∷◌, length, IfOk, IfSome, IfNone, codes};
 ghost use Rattle.std.specs.List.{AllZip};
 ghost use Rattle.intmap_run.specs.declared.command.Command.{Command};
-ghost use Rattle.intmap_text.specs.Words.{keys_and_values, IsSame};
+ghost use Rattle.intmap_text.specs.Words.{keys_and_values};
 ghost use Rattle.intmap_text.specs.Commands.{Writes, Says};
 ghost use Rattle.intmap_text.specs.Reading.{list_of};
 
@@ -53,12 +53,6 @@ fn short_command<A: Allocator>(name: &[u8], words: Words<'_>) -> Option<Command<
         Numbers::Two(key, value) => with_pair(name, key, value),
     }
 }
-
-/// No words say two commands.
-fn words_say_one_command<A: Allocator>()
-    ensures { (words : List (List ℕ)) (c d : Command ℕ ℕ A)
-        → Says words c → Says words d → IsSame c d }
-{}
 
 /// The numbers that the words write, or `None` if there are more than two words or some word writes
 /// no number.

@@ -73,10 +73,6 @@ module _ {K X : Type 0} (S T : List (Held K X)) (same : rows T ≡ rows S) where
   }
 
 module _ {K X : Type 0} where
-  -- the rows of all slots are the rows
-  pub take-own : (S : List (Held K X)) → take (length S) (rows S) ≡ rows S
-  take-own S = take_all (length S) (rows S) (omega (arith, length-rows S))
-
   -- slots cut back to the old ones have the old rows
   pub rows-truncated : (S T U : List (Held K X)) (n : ℕ) → n ≡ length S → U ≡ take n T → take (length S) (rows T) ≡ rows S → rows U ≡ rows S
   rows-truncated S T U n count cut old = ap rows cut ∙ sym (take-map (λ h. h.pairs) n T) ∙ ap (λ m. take m (rows T)) count ∙ old
