@@ -299,6 +299,10 @@ places_from-zero base words =
 pub places_from-none : (base : ℕ) (words : List ℕ) → length words ≡ 0 → places_from base (0 ∷ words) ≡ []
 places_from-none base words none = places_from-zero base words ∙ ap (λ xs. map (λ i. base + 64 + i) xs) (marked_places-none words none)
 
+-- the words from place 0 on
+pub places_from-start : (words : List ℕ) → places_from 0 words ≡ marked_places (marks_of words)
+places_from-start words = map-zero (marked_places (marks_of words))
+
 -- the first place of a word that is not zero, and the others
 pub places_from-word : (base word : ℕ) (words : List ℕ) → 0 < word → word < 2 ^ 64
     → places_from base (word ∷ words) ≡ (base + trailing_zeros w64 word) ∷ places_from base (bit_and word (word - 1) ∷ words)
