@@ -68,10 +68,6 @@ module _ {K X : Type 0} (number : K → ℕ) where
   pub IsPlaced-none : (S : List (Held K X)) → IsPlaced number S [] S
   IsPlaced-none S = record { len = refl; pairs = λ j _. sym (append-nil (get_or (rows S) j [])); rooms = λ j _ _. refl }
 
-  -- a pair goes to its own slot
-  pub need-own : (p : K × X) (D : ℕ) → 0 < need number (p ∷ []) D (slot_number number p.0 D)
-  need-own p D = let one = length-first number p [] D (slot_number number p.0 D) refl in omega (arith, one)
-
   -- a further pair in front needs no less
   need-more : (p : K × X) (M : List (K × X)) (D j : ℕ) → 0 < need number M D j → 0 < need number (p ∷ M) D j
   need-more p M D j some = elim (cases_eq (slot_number number p.0 D) j) as (λ _. 0 < need number (p ∷ M) D j) [

@@ -238,6 +238,27 @@ module _ {K X : Type 0} (number : K → ℕ) where
         ];
   }
 
+  -- a lone pair has room in its slot, which holds none, whatever room the slot has that it was removed from
+  pub HasRoom-lone : (S : List (Held K X)) (i : ℕ) (h : Held K X) (p : K × X) (given x block y : ℕ) → 0 < h.room
+      → ((j : ℕ) → j < length (set S i h) → 0 < need number (p ∷ []) (length (set S i h)) j → get_or (rows (set S i h)) j [] ≡ [])
+      → HasRoom number (set S i emptied) (p ∷ []) given x → HasRoom number (set S i h) (p ∷ []) block y
+  HasRoom-lone S i h p given x block y some_room empty has =
+      let lone : (j : ℕ) → j < length S → 0 < need number (p ∷ []) (length S) j → need number (p ∷ []) (length S) j ≤ get_or (set (rooms S) i h.room) j 0 =
+      λ j lt some.
+      let most = need-most (p ∷ []) (length S) j in
+      elim (cases_eq j i) as (λ _. need number (p ∷ []) (length S) j ≤ get_or (set (rooms S) i h.room) j 0) [
+        | inl q ↦ (let w : i < length (rooms S) = (let l = length-map S (λ (s : Held K X). s.room) in omega (arith, lt, q, l)) in
+            let here : get_or (set (rooms S) i h.room) j 0 ≡ h.room = ap (λ k. get_or (set (rooms S) i h.room) k 0) q ∙ get_or-set_same (rooms S) i h.room 0 w in
+            omega (arith, here, some_room, most))
+        | inr other ↦ (let same = get_or-set_other (rooms S) i j h.room 0 other in let before = get_or-set_other (rooms S) i j 1 0 other in
+            elim ((rw (length-set S i emptied, map-set (λ (s : Held K X). s.room) S i emptied) at has.room) j lt some) [
+              | inl fits ↦ omega (arith, fits, same, before, most)
+              | inr but ↦ (let bare = but.1 in omega (arith, bare, same, before, most))
+            ])
+      ] in
+      HasRoom-ready (set S i h) (p ∷ []) block y (omega arith) empty
+      (rw (length-set S i h, map-set (λ (s : Held K X). s.room) S i h) (λ j lt some. inl (lone j lt some)))
+
   -- past a slot whose pairs were placed
   pub CanMoveOn-next : (R : List (List (K × X))) (C D i longest : ℕ) (S T : List (Held K X)) (h : Held K X) → IsGrown C D → IsOldRows number R C → i < C → h.pairs ≡ []
       → CanMoveOn number R C D i longest S → IsPlaced number (set S i h) (get_or R i []) T → CanMoveOn number R C D (i + 1) longest T

@@ -75,6 +75,7 @@ impl<K: IntKey, X, A: Allocator> Slot<K, X, A> {
         ensures emptied { IfSome result (λ pair. self.new.pairs ≡ []) }
         ensures not_lone { IfNone result (length self.old.pairs ≡ 1 → ⊥) }
         ensures room { self.new.room ≡ self.old.room }
+        ensures some_room { 0 < self.new.room }
         ensures others { IfNone result (self.new.pairs ≡ self.old.pairs) }
     {
         if !self.rest.is_empty() {

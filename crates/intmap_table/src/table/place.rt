@@ -13,17 +13,20 @@ use crate::table::{Directory, index_of};
 use std::alloc::Allocator;
 
 /// Puts a pair at the end of its slot and counts it. The slot's bit is set. If the slot holds a
-/// pair and has no block, it takes this one.
+/// pair and has no block, it takes this one. If `is_alone`, the slot is known to hold no pair.
+#[inline(always)]
 fn place<K: IntKey, X: Drop, A: Allocator>(
     bits: &mut Bits<A>,
     slots: &mut [Slot<K, X, A>],
     pair: (Stored<K>, X),
+    is_alone: bool,
     block: &mut Vec<(Stored<K>, X), A>,
     placed: &mut Steps,
 )
     requires capacity { IsCapacity (length slots.old) }
     requires words { length slots.old ≤ length bits.old }
     requires told { AreTold K.number_of slots.old (pair ∷ []) bits.old }
+    requires alone { is_alone ≡ true → AreFree K.number_of slots.old (pair ∷ []) bits.old }
     requires block { block.old.items ≡ [] }
     requires room { (x : ℕ) × HasRoom K.number_of slots.old (pair ∷ []) (vec_capacity block.old)
         x }
@@ -36,34 +39,11 @@ fn place<K: IntKey, X: Drop, A: Allocator>(
 {
     let index = index_of(pair.0.key(), slots.len());
     let slot = &mut slots[index];
-    if bits.set(index) {
+    if bits.set(index) && !is_alone {
         slot.push_with(pair, block);
     } else {
         slot.put_first(pair);
     }
-    placed.tick();
-}
-
-/// Puts a pair into its slot, which holds none, and counts it. The slot's bit is set.
-#[inline(always)]
-fn place_first<K: IntKey, X: Drop, A: Allocator>(
-    bits: &mut Bits<A>,
-    slots: &mut [Slot<K, X, A>],
-    pair: (Stored<K>, X),
-    placed: &mut Steps,
-)
-    requires capacity { IsCapacity (length slots.old) }
-    requires words { length slots.old ≤ length bits.old }
-    requires free { AreFree K.number_of slots.old (pair ∷ []) bits.old }
-    ensures put { IsPut slots.old (slot_number K.number_of pair.0 (length slots.old))
-        0 pair slots.new 0 }
-    ensures marks { bits.new
-        ≡ slice_set bits.old (slot_number K.number_of pair.0 (length slots.old)) true }
-    ensures placed { placed.new ≡ placed.old + 1 }
-{
-    let index = index_of(pair.0.key(), slots.len());
-    bits.set(index);
-    slots[index].put_first(pair);
     placed.tick();
 }
 
@@ -90,7 +70,7 @@ fn place_each<K: IntKey, X: Drop, A: Allocator>(
     ensures buffer_room { vec_capacity buffer.old ≤ vec_capacity buffer.new }
 {
     while let Some(pair) = buffer.pop() {
-        place(bits, slots, pair, block, placed);
+        place(bits, slots, pair, false, block, placed);
     }
 }
 
@@ -116,7 +96,7 @@ fn move_several<K: IntKey, X: Drop, A: Allocator + Copy>(
     ensures buffer_room { vec_capacity buffer.old ≤ vec_capacity buffer.new }
 {
     let (first, mut block) = slots[index].take_out(buffer);
-    place(bits, slots, first, &mut block, placed);
+    place(bits, slots, first, false, &mut block, placed);
     place_each(bits, slots, buffer, &mut block, placed);
 }
 
@@ -142,7 +122,9 @@ fn move_slot<K: IntKey, X: Drop, A: Allocator + Copy>(
     ensures buffer_room { vec_capacity buffer.old ≤ vec_capacity buffer.new }
 {
     if let Some(lone) = slots[index].take_lone() {
-        place_first(bits, slots, lone, placed);
+        // its new slot holds no pair, so it needs no memory here
+        let mut block = Vec::new(*buffer.allocator());
+        place(bits, slots, lone, true, &mut block, placed);
         return;
     }
     move_several(bits, slots, index, buffer, placed);

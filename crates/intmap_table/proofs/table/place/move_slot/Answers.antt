@@ -1,12 +1,12 @@
-use Rattle.std.proofs.Common.{◌≡◌, ◌<◌, ◌∙◌, [], ◌∷◌, length, get_or, set, refl, ap, arith, length-set}
+use Rattle.std.proofs.Common.{◌≡◌, ◌<◌, ◌∙◌, [], ◌∷◌, length, get_or, set, vec_capacity, refl, ap, arith, length-set}
 use Rattle.std.proofs.lemmas.List.{set-get_or}
 use Rattle.intmap_table.specs.Classes.{slot_number}
 use Rattle.intmap_table.specs.Tables.Slots.{rows}
 use Rattle.intmap_table.specs.Tables.Moves.{emptied, AreFree}
 use Rattle.intmap_table.proofs.SlotNumberLemmas.{slot_number-below}
 use Rattle.intmap_table.proofs.Tables.CountLemmas.{offset-fits}
-use Rattle.intmap_table.proofs.Tables.RoomLemmas.{IsPlaced-put}
-use Rattle.intmap_table.proofs.Tables.PutLemmas.{row-before, AreFree-left, AreSet-put, Held-same}
+use Rattle.intmap_table.proofs.Tables.RoomLemmas.{HasRoom-lone, IsPlaced-put}
+use Rattle.intmap_table.proofs.Tables.PutLemmas.{row-before, AreTold-free, AreFree-left, AreSet-put, Held-same}
 use Rattle.intmap_table.proofs.table.place.move_slot.Goals as goal
 use Rattle.intmap_table.proofs.table.place.move_slot.Goals.{In-Some, In_default}
 
@@ -33,28 +33,37 @@ same g c =
 pub offset_bounds-slots-index : goal.offset_bounds-slots-index
 offset_bounds-slots-index g c = record { fits = offset-fits _ _ _ c.requires.ready.within c.well_formed.1.0.1 }
 
-pub place_first-requires-clause-capacity : goal.place_first-requires-clause-capacity
-place_first-requires-clause-capacity g c = rw (long g (goal.at.place_first-requires-clause-capacity g c).In-Some) c.requires.ready.capacity
+pub place-requires-clause-capacity : goal.place-requires-clause-capacity
+place-requires-clause-capacity g c = rw (long g (goal.at.place-requires-clause-capacity g c).In-Some) c.requires.ready.capacity
 
-pub place_first-requires-clause-words : goal.place_first-requires-clause-words
-place_first-requires-clause-words g c = rw (long g (goal.at.place_first-requires-clause-words g c).In-Some) c.requires.ready.words
+pub place-requires-clause-words : goal.place-requires-clause-words
+place-requires-clause-words g c = rw (long g (goal.at.place-requires-clause-words g c).In-Some) c.requires.ready.words
 
-pub place_first-requires-clause-free : goal.place_first-requires-clause-free
-place_first-requires-clause-free g c = free g (goal.at.place_first-requires-clause-free g c).In-Some
+pub place-requires-clause-told : goal.place-requires-clause-told
+place-requires-clause-told g c = AreTold-free _ _ _ _ (free g (goal.at.place-requires-clause-told g c).In-Some)
+
+pub place-requires-clause-alone : goal.place-requires-clause-alone
+place-requires-clause-alone g c = λ _. free g (goal.at.place-requires-clause-alone g c).In-Some
+
+pub place-requires-clause-room : goal.place-requires-clause-room
+place-requires-clause-room g c =
+    let at = (goal.at.place-requires-clause-room g c).In-Some in
+    let leave = rw (row g at) at c.requires.ready.leave.1 in
+    (0, HasRoom-lone g.K.IntKey.number_of c.args.slots.now c.args.index c.take_lone.new.self c.in-Some.lone _ _ _ 0 c.take_lone.ensures.some_room (free g at).empty leave)
 
 pub returns-in-Some-clause-pairs : goal.returns-in-Some-clause-pairs
 returns-in-Some-clause-pairs g c =
     let at = (goal.at.returns-in-Some-clause-pairs g c).In-Some in let number = g.K.IntKey.number_of in
-    (c.take_lone.new.self, c.in-Some.ensures.emptied, rw (row g at) (IsPlaced-put number _ _ c.in-Some.lone 0 0 _ refl c.place_first.ensures.put))
+    (c.take_lone.new.self, c.in-Some.ensures.emptied, rw (row g at) (IsPlaced-put number _ _ c.in-Some.lone (vec_capacity c.new-block.result) (vec_capacity c.place.new.block) _ refl c.place.ensures.put))
 
 pub returns-in-Some-clause-marks : goal.returns-in-Some-clause-marks
 returns-in-Some-clause-marks g c =
     let at = (goal.at.returns-in-Some-clause-marks g c).In-Some in let number = g.K.IntKey.number_of in let D = length c.args.slots.now in let p = c.in-Some.lone in
     let e : slot_number number p.0 (length (set c.args.slots.now c.args.index c.take_lone.new.self)) ≡ slot_number number p.0 D = ap (λ n. slot_number number p.0 n) (long g at) in
-    rw (row g at, c.place_first.ensures.marks, e) (AreSet-put number D c.args.bits.now p (slot_number number p.0 D) refl (below g at))
+    rw (row g at, c.place.ensures.marks, e) (AreSet-put number D c.args.bits.now p (slot_number number p.0 D) refl (below g at))
 
 pub returns-in-Some-clause-placed : goal.returns-in-Some-clause-placed
-returns-in-Some-clause-placed g c = let n = ap length (row g (goal.at.returns-in-Some-clause-placed g c).In-Some) in omega (arith, n, c.place_first.ensures.placed)
+returns-in-Some-clause-placed g c = let n = ap length (row g (goal.at.returns-in-Some-clause-placed g c).In-Some) in omega (arith, n, c.place.ensures.placed)
 
 pub move_several-requires-clause-several : goal.move_several-requires-clause-several
 move_several-requires-clause-several g c =

@@ -1,4 +1,4 @@
-use Rattle.std.proofs.Common.{◌≡◌, ◌⊎◌, inl, inr, ◌+◌, ◌≤◌, ◌∙◌, get_or, [], ◌∷◌, ◌++◌, length, set, sym, ap, subst, arith, vec_capacity}
+use Rattle.std.proofs.Common.{◌≡◌, ◌⊎◌, inl, inr, ◌+◌, ◌≤◌, ◌∙◌, get_or, [], ◌∷◌, ◌++◌, length, set, true, sym, ap, subst, arith, vec_capacity}
 use Rattle.std.specs.Prelude.{nat_lt}
 use Rattle.std.proofs.lemmas.Bool.{ltb-true, cases_eq}
 use Rattle.intmap_table.specs.Classes.{slot_number}
@@ -10,7 +10,7 @@ use Rattle.intmap_table.proofs.Tables.MarkedLemmas.{row-none}
 use Rattle.intmap_table.proofs.Tables.PutLemmas.{IsPut-kept, IsPut-lent, row-before, room-before}
 use Rattle.intmap_table.proofs.Tables.RoomLemmas.{length-first}
 use Rattle.intmap_table.proofs.table.place.place.Goals as goal
-use Rattle.intmap_table.proofs.table.place.place.Goals.{After-index-slots-index, After-set, then-set, else-set}
+use Rattle.intmap_table.proofs.table.place.place.Goals.{After-index-slots-index, then-set+then-not-is_alone, else-set, else-set-via-then-set+else-not-is_alone, else-set-via-else-set}
 
 module _ (g : _) (c : After-index-slots-index g) where
   -- the slot that is indexed is that of the pair
@@ -64,8 +64,17 @@ push_with-requires-clause-lent g c = λ bare.
       | inr but ↦ (let enough = but.2 in omega (arith, enough, r))
     ]
 
+-- a pair that was alone finds no other there
+alone : (g : _) (c : After-index-slots-index g) → c.args.is_alone ≡ true → (get_or c.args.slots.now c.index_of-index.result c.index-slots-index.result).pairs ≡ []
+alone g c is = let one = need-one g c in sym (row g c) ∙ (c.requires.alone is).empty c.index_of-index.result c.index_of-index.ensures.within (omega (arith, one))
+
 pub put_first-requires : goal.put_first-requires
-put_first-requires g c = row-none _ (sym (told g (goal.at.put_first-requires g c).After-index-slots-index) ∙ sym c.set.ensures.before ∙ c.if-set.false)
+put_first-requires g c =
+    let at = (goal.at.put_first-requires g c).After-index-slots-index in
+    elim c.else-set.branch [
+      | else-set-via-then-set+else-not-is_alone w ↦ alone g at w.if-not-is_alone.false
+      | else-set-via-else-set w ↦ row-none _ (sym (told g at) ∙ sym c.set.ensures.before ∙ w.if-set.false)
+    ]
 
 pub returns-clause-put : goal.returns-clause-put
 returns-clause-put g c =
@@ -73,7 +82,7 @@ returns-clause-put g c =
     let S = c.args.slots.now in let j = c.index_of-index.result in let h = c.index-slots-index.result in let p = c.args.pair in
     let block = vec_capacity c.args.block.now in let within = c.index_of-index.ensures.within in
     subst (λ i. IsPut S i block p c.if-set.slots (vec_capacity c.if-set.block)) (sym (slot g at)) (elim c.if-set.branch as (λ _. IsPut S j block p c.if-set.slots (vec_capacity c.if-set.block)) [
-      | then-set w ↦ (
+      | then-set+then-not-is_alone w ↦ (
           let some = ltb-true 0 _ (sym (told g at) ∙ sym c.set.ensures.before ∙ w.if-set.true) in
           let s = w.push_with.new.self in let done = w.push_with.ensures in
           rw (w.slots-is, w.block-is) (elim (cases_eq (get_or S j h).room 1) as (λ _. IsPut S j block p (set S j s) (vec_capacity w.push_with.new.block)) [
@@ -81,7 +90,10 @@ returns-clause-put g c =
             | inr other ↦ subst (λ n. IsPut S j block p (set S j s) n) (sym (done.own other).1) (IsPut-kept S j h s p within done.pairs block (inr other) (done.own other).0)
           ]))
       | else-set w ↦ (
-          let none = row-none _ (sym (told g at) ∙ sym c.set.ensures.before ∙ w.if-set.false) in
+          let none : (get_or S j h).pairs ≡ [] = elim w.else-set.branch [
+            | else-set-via-then-set+else-not-is_alone v ↦ alone g at v.if-not-is_alone.false
+            | else-set-via-else-set v ↦ row-none _ (sym (told g at) ∙ sym c.set.ensures.before ∙ v.if-set.false)
+          ] in
           let s = w.put_first.new.self in let done = w.put_first.ensures in
           rw (w.slots-is, w.block-is) (IsPut-kept S j h s p within (done.pairs ∙ ap (λ ps. ps ++ p ∷ []) (sym none)) block (inl (ap length none)) done.room))
     ])
