@@ -55,7 +55,8 @@ impl<K: IntKey, V, A: Allocator + Copy> IntMap<K, V, A> {
         self.table.capacity()
     }
 
-    /// Does nothing. Its contract says what holds of every map.
+    /// Does nothing. Its contract says what holds of every map, for a function that calls nothing else
+    /// of which a proof could learn that.
     #[inline(always)]
     pub(in crate::proved::map) fn known(&self) {
         let _ = &self.table;

@@ -23,15 +23,16 @@ use crate::memory::alloc::{Allocator, Global};
 /// slot of an `IntMap<u64, u64>` takes 48 bytes and a bit. With keys of at most 4 bytes a slot of a
 /// set takes 32 bytes and a bit.
 ///
-/// Contracts see a set as a [`SetState`](../specs/Sets.antt): its walk and its number of slots. The
-/// load factor of every set is `load_factor`, 909 thousandths. Whether a key is a member is `holds`
-/// of the walk.
+/// Contracts see a set as a [`SetState`](../specs/Sets.antt): its walk, its number of slots and two
+/// counts. One counts the members that insertions put into larger tables, the other the keys that
+/// calls by `&mut` compared. Only contracts see the counts: they take no memory. The load factor of
+/// every set is `load_factor`, 909 thousandths. Whether a key is a member is `holds` of the walk.
 pub struct IntSet<K: IntKey, A: Allocator + Copy = Global> {
     map: IntMap<K, (), A>,
 }
 
 impl<K: IntKey, A: Allocator + Copy> IntSet<K, A> {
-    /// Whether the key is a member. It never fails.
+    /// Whether the key is a member. It never fails, and its comparisons of keys aren't counted.
     pub fn contains(&self, key: K) -> bool {
         self.map.contains_key(key)
     }
@@ -51,7 +52,8 @@ impl<K: IntKey, A: Allocator + Copy> IntSet<K, A> {
         self.map.capacity()
     }
 
-    /// Does nothing. Its contract says what holds of every set.
+    /// Does nothing. Its contract says what holds of every set, for a function that calls nothing else
+    /// of which a proof could learn that.
     fn known(&self) {
         let _len = self.map.len();
     }

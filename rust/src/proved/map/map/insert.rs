@@ -61,6 +61,7 @@ impl<K: IntKey, V, A: Allocator + Copy> IntMap<K, V, A> {
         }
         let len = self.len + 1;
         if has_outgrown(len, self.threshold) {
+            // taken apart, since the compiler otherwise writes the location byte by byte
             match self.add_growing(len, slot, key, value) {
                 Ok(at) => return Ok(at),
                 Err(refused) => return Err(refused),

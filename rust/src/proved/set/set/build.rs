@@ -10,8 +10,9 @@ impl<K: IntKey, A: Allocator + Copy> IntSet<K, A> {
     /// only as these insertions make it grow: nothing is reserved ahead. The iterator must end.
     ///
     /// It stops at the first insertion that fails, and returns that key with the cause and the
-    /// number of keys before it. Those keys stay members. The iterator is dropped, with the keys
-    /// that it hasn't given. With `?`, a caller that returns a [`Cause`] drops the key.
+    /// number of keys before it. Those keys stay members. Each key that was tried was searched for
+    /// and counted, that key too. The iterator is dropped, with the keys that it hasn't given. With
+    /// `?`, a caller that returns a [`Cause`] drops the key.
     pub fn extend<I: Iterator<Item = K>>(
         &mut self,
         iter: I,
@@ -33,7 +34,8 @@ impl<K: IntKey, A: Allocator + Copy> IntSet<K, A> {
     }
 
     /// A set of the iterator's keys: [`with_capacity`](IntSet::with_capacity) of the lower bound of
-    /// its `size_hint`, and then [`extend`](IntSet::extend). The iterator must end.
+    /// its `size_hint`, and then [`extend`](IntSet::extend), which counts what it compares. The
+    /// iterator must end.
     ///
     /// It fails if either call fails and for the same cause. Then it drops everything.
     pub fn from_iter<I: Iterator<Item = K>>(alloc: A, iter: I) -> Result<IntSet<K, A>, Cause> {

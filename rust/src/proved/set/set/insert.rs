@@ -24,14 +24,15 @@ impl<K: IntKey, A: Allocator + Copy> IntSet<K, A> {
         })
     }
 
-    /// Makes the key a member, and returns whether it is new. If it is a member already, the set
-    /// stays as it is. A new member is put at the end of its slot, and the table grows as the table
-    /// of a map does at a new key.
+    /// Makes the key a member, and returns whether it is new. If it is a member already, only the
+    /// count of compared keys changes. A new member is put at the end of its slot, and the table
+    /// grows as the table of a map does at a new key.
     ///
     /// The insertion of a member never fails. The insertion of a new key fails with
     /// [`Cause::TooLarge`] exactly if the set has 2^64 - 1 members or growth needs more than 2^63
     /// slots, and otherwise with [`Cause::Memory`] if an allocation fails. It allocates nothing if
-    /// the capacity stays and the slot holds no member. A failed call leaves the set as it was.
+    /// the capacity stays and the slot holds no member. A failed call leaves the set as it was. Only
+    /// the count of compared keys, which takes no memory, changes.
     pub fn insert(&mut self, key: K) -> Result<bool, Cause> {
         Ok(self.map.insert_checked(key, ())?)
     }
@@ -42,7 +43,7 @@ impl<K: IntKey, A: Allocator + Copy> IntSet<K, A> {
     ///
     /// It fails with [`Cause::TooLarge`] exactly if the length plus `additional` is above 2^63, and
     /// otherwise with [`Cause::Memory`] if an allocation fails. It never fails if the capacity is
-    /// at least that sum. A failed call leaves the set as it was.
+    /// at least that sum. A failed call leaves the set as it was. Both counts stay.
     pub fn reserve(&mut self, additional: usize) -> Result<(), Cause> {
         self.map.reserve(additional)
     }

@@ -7,8 +7,9 @@ use crate::memory::alloc::Allocator;
 
 impl<K: IntKey, A: Allocator + Copy> IntSet<K, A> {
     /// A new set with the members of either set. It has 4 slots at first, and grows as insertions
-    /// of the members that [`union`](IntSet::union) gives, in their order, make it grow. Both sets
-    /// stay as they are.
+    /// of the members that [`union`](IntSet::union) gives, in their order, make it grow. Its counts
+    /// are those of these insertions. Both sets stay as they are, with their counts: look-ups in
+    /// them aren't counted.
     ///
     /// It fails with [`Cause::Memory`] if an allocation fails. It fails with [`Cause::TooLarge`]
     /// only if so many members exceed 909 thousandths of 2^63 slots. A failed call drops what it
@@ -48,7 +49,7 @@ impl<K: IntKey, A: Allocator + Copy> IntSet<K, A> {
     ///
     /// It stops at the first insertion that fails, as [`extend`](IntSet::extend) does, and returns
     /// that member with the cause and the number of members before it. Those stay members of this
-    /// set.
+    /// set. Each member that was tried was searched for and counted, that one too.
     pub fn extend_from_set(&mut self, other: &IntSet<K, A>) -> Result<(), RefusedPair<K, ()>> {
         other.known();
         self.extend(other.iter().copied())

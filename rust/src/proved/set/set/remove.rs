@@ -7,7 +7,7 @@ use crate::memory::alloc::Allocator;
 
 impl<K: IntKey, A: Allocator + Copy> IntSet<K, A> {
     /// Removes the key, and returns whether it was a member. The last member of the slot takes its
-    /// place. It never fails.
+    /// place. Its search is counted, whether the key was a member or not. It never fails.
     pub fn remove(&mut self, key: K) -> bool {
         self.map.remove(key).is_some()
     }
@@ -19,8 +19,9 @@ impl<K: IntKey, A: Allocator + Copy> IntSet<K, A> {
         Some(key)
     }
 
-    /// Removes all members. The capacity and the load factor stay, and the slots keep their memory
-    /// for later members. It goes through the slots that hold a member, and never fails.
+    /// Removes all members. The capacity, the load factor and both counts stay, and the slots keep
+    /// their memory for later members. It goes through the slots that hold a member, and never
+    /// fails.
     pub fn clear(&mut self) {
         self.map.clear();
     }
@@ -32,8 +33,8 @@ impl<K: IntKey, A: Allocator + Copy> IntSet<K, A> {
     /// The closure must be callable at these members in this order, each time in the state that the
     /// call before left. Nothing is required of other keys and calls.
     ///
-    /// The members that stay keep their order. The capacity and the load factor stay, and the slots
-    /// keep their memory for later members. It never fails and allocates nothing.
+    /// The members that stay keep their order. The capacity, the load factor and both counts stay,
+    /// and the slots keep their memory for later members. It never fails and allocates nothing.
     pub fn retain<F: FnMut(K) -> bool>(&mut self, f: F) {
         let mut f = f;
         self.map.retain(

@@ -7,8 +7,8 @@ use crate::memory::alloc::Allocator;
 use core::fmt;
 
 impl<K: IntKey, A: Allocator + Copy> PartialEq for IntSet<K, A> {
-    /// Whether both sets have the same members. The order of the walks, the capacities and the load
-    /// factors don't matter. It never fails.
+    /// Whether both sets have the same members. The order of the walks, the capacities and the
+    /// counts don't matter. It never fails, and its comparisons of keys aren't counted.
     fn eq(&self, other: &IntSet<K, A>) -> bool {
         self.map == other.map
     }
@@ -35,8 +35,9 @@ impl<K: IntKey + fmt::Debug, A: Allocator + Copy> fmt::Debug for IntSet<K, A> {
 
 impl<K: IntKey, A: Allocator + Copy> IntSet<K, A> {
     /// A set with the same members in the same order, and with the same capacity and load factor.
-    /// This set stays as it is. No key is compared. Time and memory grow with the number of slots
-    /// and of members. It fails only with [`Cause::Memory`], if an allocation fails.
+    /// Its own counts begin at zero. This set stays as it is. No key is compared. Time and memory
+    /// grow with the number of slots and of members. It fails only with [`Cause::Memory`], if an
+    /// allocation fails.
     pub fn clone(&self) -> Result<IntSet<K, A>, Cause> {
         Ok(IntSet {
             map: self.map.clone()?,

@@ -10,35 +10,23 @@ use crate::proved::table::table::{Directory, index_of};
 use crate::memory::alloc::Allocator;
 
 /// Puts a pair at the end of its slot and counts it. The slot's bit is set. If the slot holds a
-/// pair and has no block, it takes this one.
+/// pair and has no block, it takes this one. If `is_alone`, the slot is known to hold no pair.
+#[inline(always)]
 fn place<K: IntKey, X, A: Allocator>(
     bits: &mut Bits<A>,
     slots: &mut [Slot<K, X, A>],
     pair: (Stored<K>, X),
+    is_alone: bool,
     block: &mut Vec<(Stored<K>, X), A>,
     placed: &mut Steps,
 ) {
     let index = index_of(pair.0.key(), slots.len());
     let slot = &mut slots[index];
-    if bits.set(index) {
+    if bits.set(index) && !is_alone {
         slot.push_with(pair, block);
     } else {
         slot.put_first(pair);
     }
-    placed.tick();
-}
-
-/// Puts a pair into its slot, which holds none, and counts it. The slot's bit is set.
-#[inline(always)]
-fn place_first<K: IntKey, X, A: Allocator>(
-    bits: &mut Bits<A>,
-    slots: &mut [Slot<K, X, A>],
-    pair: (Stored<K>, X),
-    placed: &mut Steps,
-) {
-    let index = index_of(pair.0.key(), slots.len());
-    bits.set(index);
-    slots[index].put_first(pair);
     placed.tick();
 }
 
@@ -52,7 +40,7 @@ fn place_each<K: IntKey, X, A: Allocator>(
     placed: &mut Steps,
 ) {
     while let Some(pair) = buffer.pop() {
-        place(bits, slots, pair, block, placed);
+        place(bits, slots, pair, false, block, placed);
     }
 }
 
@@ -67,7 +55,7 @@ fn move_several<K: IntKey, X, A: Allocator + Copy>(
     placed: &mut Steps,
 ) {
     let (first, mut block) = slots[index].take_out(buffer);
-    place(bits, slots, first, &mut block, placed);
+    place(bits, slots, first, false, &mut block, placed);
     place_each(bits, slots, buffer, &mut block, placed);
 }
 
@@ -82,7 +70,9 @@ fn move_slot<K: IntKey, X, A: Allocator + Copy>(
     placed: &mut Steps,
 ) {
     if let Some(lone) = slots[index].take_lone() {
-        place_first(bits, slots, lone, placed);
+        // its new slot holds no pair, so it needs no memory here
+        let mut block = Vec::new(*buffer.allocator());
+        place(bits, slots, lone, true, &mut block, placed);
         return;
     }
     move_several(bits, slots, index, buffer, placed);

@@ -29,8 +29,9 @@ impl<'a, K: IntKey, A: Allocator + Copy> FusedIterator for Drain<'a, K, A> {}
 impl<K: IntKey, A: Allocator + Copy> IntSet<K, A> {
     /// An iterator that removes one member at each step and returns it, in iteration order. At every
     /// moment, the members that it returned and then the members that the set has are the walk at the
-    /// start. The capacity and the load factor stay, and the slots keep their memory. Each step moves
-    /// the other members of its slot up by one place. It allocates nothing and never fails.
+    /// start. The capacity, the load factor and both counts stay, and the slots keep their memory.
+    /// Each step moves the other members of its slot up by one place. It allocates nothing and never
+    /// fails.
     pub fn drain(&mut self) -> Drain<'_, K, A> {
         self.known();
         Drain { set: self, from: 0 }
