@@ -9,8 +9,7 @@
  *
  * Written by tools/assembly of the repository, and not to be edited.
  * Compilers: rattle-kit-13f logic dac8208d650f15bf; clang version 22.1.8
- * Sources: d36e4a770911bc6d7969eb436c235af5ebad0b28f2a4b23f2b2b9b2c94f9d161
- *     cat $(find crates/intmap_loan/src crates/intmap_table/src crates/intmap/src crates/intmap_c/src -name '*.rt' | LC_ALL=C sort) | sha256sum
+ * Sources: 31d60df324406aedf54c98daa9b010d8b1fbfaf8f3925bcac80970dd47183017
  *
  * MIT License
  *
@@ -1588,21 +1587,21 @@ intmap_table.table.place.move_several.8c24c32d6e201e8c:
 	cmpb	$1, %al
 	jne	.LBB6_68
 	movabsq	$-7046029254386353067, %rax
-	movq	(%r13), %rdi
 	decq	%r15
-	movq	%rdx, %r8
-	imulq	%rax, %r8
-	andq	%r15, %r8
-	movq	%r8, %rsi
+	movq	%rdx, %rdi
+	imulq	%rax, %rdi
+	andq	%r15, %rdi
+	movq	%rdi, %rsi
 	shlq	$4, %rsi
 	leaq	(%rsi,%rsi,2), %rsi
-	movq	%r8, %r9
+	movq	(%r13), %r8
+	movq	%rdi, %r9
 	shrq	$6, %r9
-	movq	(%rdi,%r9,8), %r10
+	movq	(%r8,%r9,8), %r10
 	movq	%r10, %r11
-	btsq	%r8, %r11
-	movq	%r11, (%rdi,%r9,8)
-	btq	%r8, %r10
+	btsq	%rdi, %r11
+	movq	%r11, (%r8,%r9,8)
+	btq	%rdi, %r10
 	jae	.LBB6_54
 	cmpq	$0, 40(%r12,%rsi)
 	je	.LBB6_52
@@ -1656,21 +1655,21 @@ intmap_table.table.place.move_several.8c24c32d6e201e8c:
 	shlq	$4, %rdx
 	movq	(%rdi,%rdx), %rsi
 	movq	8(%rdi,%rdx), %rdx
-	movq	(%r13), %r8
-	movq	%rsi, %r9
-	imulq	%rax, %r9
-	andq	%r15, %r9
-	movq	%r9, %rdi
+	movq	%rsi, %r8
+	imulq	%rax, %r8
+	andq	%r15, %r8
+	movq	%r8, %rdi
 	shlq	$4, %rdi
 	leaq	(%rdi,%rdi,2), %rdi
-	movq	%r9, %r10
+	movq	(%r13), %r9
+	movq	%r8, %r10
 	shrq	$3, %r10
 	andq	%rcx, %r10
-	movq	(%r8,%r10), %r11
+	movq	(%r9,%r10), %r11
 	movq	%r11, %rbp
-	btsq	%r9, %rbp
-	movq	%rbp, (%r8,%r10)
-	btq	%r9, %r11
+	btsq	%r8, %rbp
+	movq	%rbp, (%r9,%r10)
+	btq	%r8, %r11
 	jae	.LBB6_62
 	cmpq	$0, 40(%r12,%rdi)
 	je	.LBB6_60
