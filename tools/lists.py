@@ -1,5 +1,6 @@
 """Calls and commands on plain lists of pairs, and what they answer. A list counts the requests for
-memory that a map makes, and so knows which call a refused one belongs to."""
+memory that a map makes, and so knows which call a refused one belongs to. It keeps the room of each slot,
+and so knows how many bytes a map has."""
 import copy
 
 MULTIPLIER = 11400714819323198549
@@ -9,6 +10,9 @@ GREATEST_CAPACITY = 2**63
 REQUESTS_OF_A_NEW_MAP = 2
 # how many pairs behind the first of its slot the second block of a slot has room for
 LEAST_ROOM = 4
+# the bytes of a word, of a pair of two numbers, and of the vector of a slot: three words, and a reference to
+# the allocator of the tests
+WORD, PAIR, VECTOR = 8, 16, 32
 
 
 class TooLarge(Exception):
@@ -242,6 +246,12 @@ class PlainList:
             self.grow(slots)
         self.factor = factor
 
+    def blocks(self, pair):
+        """The bytes of each block that a map has, where a pair takes so many: of the words of bits, of
+        the slots, each with a first pair and a word that says whether it has one, and of the rooms."""
+        rooms = [room * pair for room in self.room.values() if room]
+        return [WORD * -(-self.slots // 64), (pair + WORD + VECTOR) * self.slots, *rooms]
+
     def shown(self, key):
         return key
 
@@ -343,6 +353,20 @@ def sum_of(pairs):
     for key, value in pairs:
         total = ((total * 31 + key) * 31 + value) & GREATEST
     return f"{len(pairs)} pairs, sum {total}"
+
+
+def text_sum(text):
+    """How many bytes a text has, and a sum that tells each of them and their order."""
+    total = 0
+    for byte in text.encode():
+        total = (total * 31 + byte) & GREATEST
+    return f"{len(text.encode())} bytes, sum {total}"
+
+
+def memory_of(lists, pair=PAIR):
+    """How many bytes maps of these lists have, where a pair takes so many, and in how many blocks."""
+    blocks = [block for it in lists for block in it.blocks(pair)]
+    return f"{sum(blocks)} bytes in {len(blocks)} blocks"
 
 
 def cut_alternate(it):

@@ -14,6 +14,7 @@ from lists import (
     brackets,
     keys,
     made,
+    memory_of,
     requests_of,
     sum_of,
     truth,
@@ -21,6 +22,8 @@ from lists import (
 
 GREATEST_KEY = 2**64 - 1
 LEAST_VALUE, GREATEST_VALUE = -(2**63), 2**63 - 1
+# the bytes of a member, which has no value
+MEMBER = 8
 
 
 class Float:
@@ -89,16 +92,22 @@ def many_members(count):
     return f"{one.slots} slots, {sum_of(pairs)}, written {written}"
 
 
-def json_answer(call):
-    """The answer to the call of a row of JSON."""
-    name, _, text = call.partition(" ")
-    if name == "members":
-        return many_members(int(text))
-    try:
-        value = json.loads(text if name == "write" else call, parse_int=number_of, parse_float=Float)
-    except ValueError:
-        return "no JSON"
-    return written(value) if name == "write" else read(value)
+class Json:
+    """Texts, none of which is kept."""
+
+    def memory(self):
+        return memory_of([])
+
+    def answer(self, call):
+        """The answer to the call of a row of JSON."""
+        name, _, text = call.partition(" ")
+        if name == "members":
+            return many_members(int(text))
+        try:
+            value = json.loads(text if name == "write" else call, parse_int=number_of, parse_float=Float)
+        except ValueError:
+            return "no JSON"
+        return written(value) if name == "write" else read(value)
 
 
 class Vectors:
@@ -107,6 +116,9 @@ class Vectors:
     def __init__(self):
         self.vectors = [PlainList(), PlainList()]
         self.armed = 0
+
+    def memory(self):
+        return memory_of(self.vectors)
 
     def answer(self, call):
         """The answer to the call of a row of sparse vectors."""
@@ -203,6 +215,9 @@ class Sets:
     def __init__(self):
         self.set, self.other = PlainList(), PlainList()
         self.armed = 0
+
+    def memory(self):
+        return memory_of([self.set, self.other], MEMBER)
 
     @property
     def asked(self):

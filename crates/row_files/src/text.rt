@@ -81,6 +81,24 @@ pub fn write_list<T: Copy + Display, I: Iterator<Item = T>>(
     out.push(']')
 }
 
+/// How many bytes a text has, and a sum that tells each of them and their order: it begins at 0, and
+/// each byte is added to 31 times what there is, wrapped to 64 bits.
+pub fn write_sum(out: &mut String, text: &str) -> Result<(), AllocError> {
+    let mut sum = 0u64;
+    for byte in text.as_bytes() {
+        sum = sum.wrapping_mul(31).wrapping_add(u64::from(*byte));
+    }
+    let bytes = text.len();
+    write!(out, "{bytes} bytes, sum {sum}")
+}
+
+/// How many bytes are allocated, and in how many blocks.
+pub fn write_memory(out: &mut String, memory: &FailingAlloc<Global>) -> Result<(), AllocError> {
+    let blocks = memory.live_blocks();
+    let bytes = memory.live_bytes();
+    write!(out, "{bytes} bytes in {blocks} blocks")
+}
+
 /// The allocated memory, as text.
 pub fn alive_text(alloc: Global, memory: &FailingAlloc<Global>) -> Result<String, AllocError> {
     let blocks = memory.live_blocks();
