@@ -369,6 +369,34 @@ def memory_of(lists, pair=PAIR):
     return f"{sum(blocks)} bytes in {len(blocks)} blocks"
 
 
+def each_power(it, refuses, name):
+    """For each power of two from 2 to 2048, the slots of a list of two slots and three pairs before and
+    behind one call, which grows it to so many times as many."""
+    if refuses:
+        raise NoMemory
+    told = []
+    for slots in [2 << power for power in range(1, 12)]:
+        one = PlainList(2)
+        if name == "insert":
+            one.set_load_factor(4000 // slots, False)
+        for key in range(3):
+            one.insert(key, ten_more(key), False)
+        before = one.slots
+        GROWTHS[name](one, slots)
+        told.append(f"{before} to {one.slots}")
+        it.asked += REQUESTS_OF_A_NEW_MAP + one.asked
+    return ", ".join(told)
+
+
+# the calls that grow a list of three pairs to so many slots, by their names; an insertion does so by the
+# load factor
+GROWTHS = {
+    "insert": lambda one, _: one.insert(3, ten_more(3), False),
+    "reserve": lambda one, slots: one.reserve(slots - 3, False),
+    "set_load_factor": lambda one, slots: one.set_load_factor(3000 // slots, False),
+}
+
+
 def cut_alternate(it):
     """Takes out the second pair, the fourth, and so on."""
     taken = it.walk()[1::2]
@@ -563,6 +591,10 @@ for _name in ("or_insert_with", "or_insert_with_key", "or_try_insert_with", "vac
     CALLS[f"{_name}_many", 3] = CALLS["or_insert_many", 3]
 for _name in ("or_default", "insert_entry"):
     CALLS[f"{_name}_many", 3] = CALLS["entry_insert_many", 3]
+
+# those that grow new lists by each power of two
+for _name in GROWTHS:
+    CALLS[f"{_name}_each_power", 0] = lambda it, refuses, name=_name: each_power(it, refuses, name)
 
 # those that look for many keys, bound to ten more than themselves, or to a fourth number more
 for _count in (3, 4):

@@ -7,6 +7,7 @@ mod iterator_rest;
 mod iterators;
 mod kept_entries;
 mod key_values;
+mod powers;
 mod sums;
 mod texts;
 
@@ -27,6 +28,7 @@ use crate::maps::single::kept_entries::{insert_entry, insert_vacant_entry, write
 use crate::maps::single::key_values::{
     first_pair, index, look_up, remove_by_its_entry, write_pair,
 };
+use crate::maps::single::powers::{Growth, grow_by_each_power};
 use crate::maps::single::sums::{
     keys_sum, retain_all, retain_alternate, values_sum, walk_sum, write_keys, write_values,
 };
@@ -69,6 +71,11 @@ fn without_number(out: &mut String, maps: &mut Maps<'_>, name: &str) -> Result<(
             write_done(out, Ok(()))
         }
         "left" => write_number(out, maps.memory.left() as u128),
+        "insert_each_power" => grow_by_each_power(out, maps.memory, Growth::Insert),
+        "reserve_each_power" => grow_by_each_power(out, maps.memory, Growth::Reserve),
+        "set_load_factor_each_power" => {
+            grow_by_each_power(out, maps.memory, Growth::SetLoadFactor)
+        }
         "values" => write_values(out, &maps.map),
         "walk_sum" => walk_sum(out, &maps.map),
         "keys_sum" => keys_sum(out, &maps.map),
