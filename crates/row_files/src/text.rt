@@ -1,4 +1,4 @@
-//! Results as text, in the words of the program's lines.
+//! Results as text, in the words that `intmap_cmd` prints.
 //!
 //! Each is written behind what a text holds. The caller owns that text, so nothing has to be
 //! dropped if there is no memory for more of it.
@@ -6,13 +6,8 @@ ghost use Rattle.std.specs.Iterator.{IsFinite};
 
 use failing_alloc::FailingAlloc;
 use intmap::Cause;
-use intmap_run::Answer;
-pub use intmap_text::print_answer;
 use std::alloc::{AllocError, Global};
 use std::fmt::Display;
-
-/// The result of a call whose result is the answer of a command.
-pub type Told = Answer<u64, u64, u64>;
 
 /// What is written for words that are no call.
 pub fn no_call(out: &mut String) -> Result<(), AllocError> {
@@ -21,12 +16,15 @@ pub fn no_call(out: &mut String) -> Result<(), AllocError> {
 
 /// `none`, or `some` and the value.
 pub fn write_option(out: &mut String, value: Option<u64>) -> Result<(), AllocError> {
-    print_answer(out, &Told::Old(value))
+    match value {
+        Some(value) => write!(out, "some {value}"),
+        None => out.push_str("none"),
+    }
 }
 
 /// `true` or `false`.
 pub fn write_bool(out: &mut String, value: bool) -> Result<(), AllocError> {
-    print_answer(out, &Told::Flag(value))
+    out.push_str(if value { "true" } else { "false" })
 }
 
 /// A number alone.
@@ -37,14 +35,21 @@ pub fn write_number(out: &mut String, number: u128) -> Result<(), AllocError> {
 /// `done`, or that the call failed.
 pub fn write_done(out: &mut String, called: Result<(), Cause>) -> Result<(), AllocError> {
     match called {
-        Ok(()) => print_answer(out, &Told::Done),
+        Ok(()) => out.push_str("done"),
         Err(cause) => write_refusal(out, cause, None),
     }
 }
 
 /// That a call failed, with the value that it returned.
 pub fn write_refusal(out: &mut String, cause: Cause, value: Option<u64>) -> Result<(), AllocError> {
-    print_answer(out, &Told::Refused { cause, value })
+    let cause = match cause {
+        Cause::Memory => "memory",
+        Cause::TooLarge => "too large",
+    };
+    match value {
+        Some(value) => write!(out, "refused {value}: {cause}"),
+        None => write!(out, "refused: {cause}"),
+    }
 }
 
 /// Pairs in braces, in their order.

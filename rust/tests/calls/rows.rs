@@ -8,7 +8,7 @@ use std::io::{Write, stderr};
 use std::num::Wrapping;
 use std::path::Path;
 
-const FOLDER: &str = concat!(env!("CARGO_MANIFEST_DIR"), "/../crates/rows");
+const FOLDER: &str = concat!(env!("CARGO_MANIFEST_DIR"), "/../crates/map_rows");
 
 fn text_of<T: Display>(answer: Option<T>) -> String {
     answer.map_or("none".into(), |it| format!("some {it}"))

@@ -10,6 +10,7 @@ mod many;
 mod run_block;
 mod runs;
 mod single;
+mod told;
 mod two;
 
 use crate::maps::kinds::Kinds;

@@ -1,10 +1,11 @@
 //! Calls that put many pairs into a map at once, make a map of pairs or of another map, or compare two.
 ghost use Rattle.std.specs.Iterator.{IsFinite, at_most};
 
+use crate::maps::told::{Told, print_answer};
 use crate::maps::two::{Map, Maps};
 use failing_alloc::FailingAlloc;
 use intmap::{Cause, IntMap};
-use row_files::text::{Told, print_answer, write_done, write_pairs, write_refusal};
+use row_files::text::{write_done, write_pairs, write_refusal};
 use std::alloc::{AllocError, Allocator, Global};
 use std::vec;
 

@@ -1,10 +1,11 @@
 //! Calls that write a value in its place, and calls by an entry.
 
+use crate::maps::told::{Told, print_answer};
 use crate::maps::two::MapOf;
 use failing_alloc::FailingAlloc;
 use intmap::entry::{Entry, OccupiedEntry};
 use intmap::{IntKey, Refused};
-use row_files::text::{Told, print_answer, write_number, write_option, write_refusal};
+use row_files::text::{write_number, write_option, write_refusal};
 use std::alloc::{AllocError, Global};
 use std::fmt::Display;
 use std::mem;

@@ -1,10 +1,11 @@
 //! Entries that are kept behind an insertion, and the key that a vacant one gives back.
 
 use crate::maps::single::entries::write_occupied;
+use crate::maps::told::{Told, print_answer};
 use crate::maps::two::MapOf;
 use intmap::IntKey;
 use intmap::entry::Entry;
-use row_files::text::{Told, print_answer, write_option, write_refusal};
+use row_files::text::{write_option, write_refusal};
 use std::alloc::AllocError;
 use std::fmt::Display;
 

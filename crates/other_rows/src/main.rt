@@ -1,17 +1,14 @@
-//! Makes the calls of rows on maps, sets, sparse vectors and JSON, and reports each result that
-//! differs.
+//! Makes the calls of rows on sets, sparse vectors and JSON, and reports each result that differs.
 //!
 //! Each argument is the name of a file of rows, which begins with what they are about: `sets`,
-//! `vectors` or `json`. All other files are about maps. `docs/ROWS.md` says what a row may be.
+//! `vectors` or `json`. `docs/ROWS.md` says what a row may be.
 #![tactic(auto)]
 
 mod json;
-mod maps;
 mod sets;
 mod vectors;
 
 use crate::json::Json;
-use crate::maps::AllMaps;
 use crate::sets::Sets;
 use crate::vectors::Vectors;
 use failing_alloc::FailingAlloc;
@@ -36,8 +33,5 @@ fn report_rows(rt: &HostRuntime, memory: &FailingAlloc<Global>, file: &str) -> i
     if file.starts_with("vectors") {
         return report_file::<Vectors<'_>>(rt, memory, file);
     }
-    if file.starts_with("json") {
-        return report_file::<Json>(rt, memory, file);
-    }
-    report_file::<AllMaps<'_>>(rt, memory, file)
+    report_file::<Json>(rt, memory, file)
 }
