@@ -1,8 +1,8 @@
 //! Insertions that never fail, since there is room for their pairs.
-ghost use Rattle.std.specs.Prelude.{◌≡◌, ◌+◌, ◌<◌, ◌≤◌, ◌^◌, ℕ, All, [], None, Some, IfErr, length, reverse};
+ghost use Rattle.std.specs.Prelude.{◌≡◌, ◌+◌, ◌<◌, ◌^◌, ℕ, All, None, Some, length, reverse};
 ghost use Rattle.std.specs.Option.{option_or};
-ghost use Rattle.intmap.specs.Bindings.{value_of, HasDistinctKeys, Updates};
-ghost use Rattle.intmap.specs.Growth.{MeetsLoad, last_due};
+ghost use Rattle.intmap.specs.Bindings.{value_of, Updates};
+ghost use Rattle.intmap.specs.Growth.{MeetsLoad};
 ghost use Rattle.intmap.specs.Room.{HasRoomFor};
 
 use intmap::{IntKey, IntMap, laws};
