@@ -26,6 +26,7 @@ LEFT = [
     "intmap/src/map/iter/written.rt",
     "intmap/src/map/json.rt",
     "intmap/src/map/json/read.rt",
+    "intmap_table/src/lent.rt",
     "intmap_set/src/laws.rt",
 ]
 # lines of sources that are left out alone
@@ -33,6 +34,7 @@ LEFT_LINES = {
     "#![tactic(auto)]",
     "#[derive(Drop)]",
     "mod decimal;",
+    "pub mod lent;",
     "pub mod laws;",
     "pub(crate) mod json;",
     "pub use map::json::JsonCause;",

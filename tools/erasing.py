@@ -20,10 +20,11 @@ module that isn't there.
 """
 import re
 
-# a crate of Rattle, and the module that its erased text becomes. Only what is left out uses intmap_loan.
+# a crate of Rattle, and the module that its erased text becomes
 HOMES = {"intmap_table": "table", "intmap": "map", "intmap_set": "set"}
 
 LEFT_OUT = {
+    "intmap_table": ["lent"],
     "intmap": ["decimal", "laws", "map/iter/written", "map/json"],
     "intmap_set": ["laws"],
 }

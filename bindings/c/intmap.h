@@ -117,10 +117,10 @@ static inline bool intmap_failed(intmap_status status) INTMAP_CALL {
 }
 
 // A value if the status is INTMAP_PRESENT. With every other status the value is 0.
-typedef struct intmap_answer {
+typedef struct intmap_found_value {
     uint64_t value;
     intmap_status status;
-} intmap_answer;
+} intmap_found_value;
 
 // A key with its value.
 typedef struct intmap_pair {
@@ -140,10 +140,10 @@ typedef struct intmap_cursor {
 #define INTMAP_START {0, 0, 0}
 
 // A pair if the status is INTMAP_PRESENT. With every other status its key and value are 0.
-typedef struct intmap_found {
+typedef struct intmap_found_pair {
     intmap_pair pair;
     intmap_status status;
-} intmap_found;
+} intmap_found_pair;
 
 // Returns the version of the code: 10000 times the first number, 100 times the second, plus the
 // third.
@@ -173,12 +173,12 @@ INTMAP_NONNULL INTMAP_MUST_USE intmap_status intmap_clone(const intmap *map, int
 INTMAP_NONNULL void intmap_free(intmap *map) INTMAP_CALL;
 
 // Returns INTMAP_PRESENT with the value of the key, INTMAP_ABSENT or INTMAP_NO_MAP.
-INTMAP_NONNULL intmap_answer intmap_get(const intmap *map, uint64_t key) INTMAP_CALL;
+INTMAP_NONNULL intmap_found_value intmap_get(const intmap *map, uint64_t key) INTMAP_CALL;
 
 // Returns the value of the key, or `otherwise` if the key is absent or there is no map.
 INTMAP_NONNULL static inline uint64_t intmap_get_or(const intmap *map, uint64_t key,
                                                     uint64_t otherwise) INTMAP_CALL {
-    intmap_answer answer = intmap_get(map, key);
+    intmap_found_value answer = intmap_get(map, key);
     return answer.status == INTMAP_PRESENT ? answer.value : otherwise;
 }
 
@@ -194,7 +194,7 @@ INTMAP_NONNULL bool intmap_contains_key(const intmap *map, uint64_t key) INTMAP_
 // key it returns INTMAP_TOO_LARGE exactly if there are 2^64 - 1 pairs or growth needs more than
 // 2^63 slots, and otherwise INTMAP_NO_MEMORY if an allocation fails. The key is then absent. It
 // requests no memory if no slots are added and the key's slot holds no pair.
-INTMAP_NONNULL INTMAP_MUST_USE intmap_answer intmap_insert(intmap *map, uint64_t key,
+INTMAP_NONNULL INTMAP_MUST_USE intmap_found_value intmap_insert(intmap *map, uint64_t key,
                                                            uint64_t value) INTMAP_CALL;
 
 // Inserts an absent key with the value. It returns INTMAP_PRESENT if the key was present, which
@@ -206,21 +206,21 @@ INTMAP_NONNULL INTMAP_MUST_USE intmap_status intmap_insert_checked(intmap *map, 
 // Replaces the value of a present key, whose pair keeps its place in the walk. It returns
 // INTMAP_PRESENT with the value before; INTMAP_ABSENT, and inserts nothing; or INTMAP_NO_MAP. It
 // requests no memory.
-INTMAP_NONNULL intmap_answer intmap_set(intmap *map, uint64_t key, uint64_t value) INTMAP_CALL;
+INTMAP_NONNULL intmap_found_value intmap_set(intmap *map, uint64_t key, uint64_t value) INTMAP_CALL;
 
 // Adds to the value of a present key, modulo 2^64. It returns what intmap_set does, by one lookup.
-INTMAP_NONNULL intmap_answer intmap_add(intmap *map, uint64_t key, uint64_t more) INTMAP_CALL;
+INTMAP_NONNULL intmap_found_value intmap_add(intmap *map, uint64_t key, uint64_t more) INTMAP_CALL;
 
 // Adds to the value of a present key, as intmap_add does, and inserts an absent key with `more`, by
 // one lookup. It returns INTMAP_PRESENT with the value before, or INTMAP_ABSENT if the key was
 // absent. For an absent key it fails like intmap_insert.
-INTMAP_NONNULL INTMAP_MUST_USE intmap_answer intmap_add_or_insert(intmap *map, uint64_t key,
+INTMAP_NONNULL INTMAP_MUST_USE intmap_found_value intmap_add_or_insert(intmap *map, uint64_t key,
                                                                   uint64_t more) INTMAP_CALL;
 
 // Removes the pair of the key. It returns INTMAP_PRESENT with its value, and the last pair of the
 // slot moves into its place; INTMAP_ABSENT; or INTMAP_NO_MAP. It requests no memory. The number of
 // slots stays, and the slots keep their memory.
-INTMAP_NONNULL intmap_answer intmap_remove(intmap *map, uint64_t key) INTMAP_CALL;
+INTMAP_NONNULL intmap_found_value intmap_remove(intmap *map, uint64_t key) INTMAP_CALL;
 
 // Removes all pairs. The number of slots stays, and the slots keep their memory. It does nothing if
 // there is no map. It takes time in the pairs and a 64th of the slots.
@@ -258,7 +258,7 @@ INTMAP_NONNULL INTMAP_MUST_USE intmap_status intmap_set_load_factor(intmap *map,
 // Returns INTMAP_PRESENT with the first pair of the walk from the cursor on, and moves the cursor
 // behind it; INTMAP_ABSENT if none is left; or INTMAP_NO_MAP. A whole walk takes time in the pairs
 // and a 64th of the slots.
-INTMAP_NONNULL intmap_found intmap_step(const intmap *map, intmap_cursor *at) INTMAP_CALL;
+INTMAP_NONNULL intmap_found_pair intmap_step(const intmap *map, intmap_cursor *at) INTMAP_CALL;
 
 // Copies pairs of the walk from the cursor on, at most `room`, and moves the cursor behind them. It
 // returns how many it copied: fewer than `room` only if none is left, or there is no map. `pairs`
@@ -267,7 +267,7 @@ INTMAP_NONNULL static inline size_t intmap_next(const intmap *map, intmap_cursor
                                                 intmap_pair *pairs, size_t room) INTMAP_CALL {
     size_t count = 0;
     while (count < room) {
-        intmap_found found = intmap_step(map, at);
+        intmap_found_pair found = intmap_step(map, at);
         if (found.status != INTMAP_PRESENT) {
             break;
         }
@@ -284,7 +284,7 @@ INTMAP_NONNULL static inline size_t intmap_next(const intmap *map, intmap_cursor
 // To remove some pairs of a walk, look with a second cursor:
 //
 //     intmap_cursor at = INTMAP_START, next = INTMAP_START;
-//     intmap_found seen;
+//     intmap_found_pair seen;
 //     while ((seen = intmap_step(&map, &next)).status == INTMAP_PRESENT) {
 //         if (stays(seen.pair)) {
 //             at = next;
@@ -293,7 +293,7 @@ INTMAP_NONNULL static inline size_t intmap_next(const intmap *map, intmap_cursor
 //             next = at;
 //         }
 //     }
-INTMAP_NONNULL intmap_found intmap_cut(intmap *map, intmap_cursor *at) INTMAP_CALL;
+INTMAP_NONNULL intmap_found_pair intmap_cut(intmap *map, intmap_cursor *at) INTMAP_CALL;
 
 // Returns whether the same keys have the same values in both maps, whatever their order, slots and
 // load factors. A word without a map is equal to another without one, and to no map. It takes a

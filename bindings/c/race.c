@@ -37,7 +37,7 @@ static uint64_t key_of(uint64_t number) {
 
 static void read_key(reader *one, uint64_t number) {
     bool is_present = number < KEYS;
-    intmap_answer answer = intmap_get(&map, key_of(number));
+    intmap_found_value answer = intmap_get(&map, key_of(number));
     expect(one, answer.status == (is_present ? INTMAP_PRESENT : INTMAP_ABSENT)
                     && answer.value == (is_present ? number + 1 : 0));
     expect(one, intmap_contains_key(&map, key_of(number)) == is_present);
@@ -55,7 +55,7 @@ static void read_walk(reader *one) {
     intmap_pair pairs[64];
     intmap_cursor at = INTMAP_START, next = INTMAP_START;
     for (size_t passed = 0; passed < KEYS; passed++) {
-        intmap_found seen = intmap_step(&map, &at);
+        intmap_found_pair seen = intmap_step(&map, &at);
         expect(one, seen.status == INTMAP_PRESENT
                         && memcmp(&seen.pair, &walk[passed], sizeof seen.pair) == 0);
     }

@@ -199,7 +199,7 @@ static bool same_pair(intmap_pair one, intmap_pair two) {
     return one.key == two.key && one.value == two.value;
 }
 
-static bool is(intmap_answer answer, intmap_status status, uint64_t value) {
+static bool is(intmap_found_value answer, intmap_status status, uint64_t value) {
     return answer.status == status && answer.value == value;
 }
 
@@ -229,7 +229,7 @@ static void check_walk(const side *one, size_t room) {
         passed += copied;
         EXPECT(at.passed == passed);
     } while (copied > 0);
-    intmap_found end = intmap_step(&one->map, &at);
+    intmap_found_pair end = intmap_step(&one->map, &at);
     EXPECT(end.status == (one->map.at == NULL ? INTMAP_NO_MAP : INTMAP_ABSENT));
     EXPECT(same_pair(end.pair, NO_PAIR) && at.passed == plain->len);
 }
@@ -279,14 +279,14 @@ static bool fails(intmap_status status, side *changed) {
 
 enum { INSERT, INSERT_CHECKED, ADD_OR_INSERT, INSERTIONS };
 
-static intmap_answer insertion(unsigned kind, uint64_t key, uint64_t value) {
+static intmap_found_value insertion(unsigned kind, uint64_t key, uint64_t value) {
     if (kind == INSERT) {
         return intmap_insert(&it->map, key, value);
     }
     if (kind == ADD_OR_INSERT) {
         return intmap_add_or_insert(&it->map, key, value);
     }
-    return (intmap_answer){0, intmap_insert_checked(&it->map, key, value)};
+    return (intmap_found_value){0, intmap_insert_checked(&it->map, key, value)};
 }
 
 // What an insertion does to a present key.
@@ -306,7 +306,7 @@ static void call_insertion(unsigned kind, uint64_t key, uint64_t value) {
     size_t place = place_of(plain, key), slots = slots_with_one_more(plain);
     bool is_new = place == plain->len;
     begin();
-    intmap_answer answer = insertion(kind, key, value);
+    intmap_found_value answer = insertion(kind, key, value);
     EXPECT(!requested() || (is_new && (slots > plain->capacity || shares(plain, key))));
     if (!is_new) {
         EXPECT(is(answer, INTMAP_PRESENT, kind == INSERT_CHECKED ? 0 : plain->pairs[place].value));
@@ -325,7 +325,7 @@ static void call_set_or_add(bool adds, uint64_t key, uint64_t value) {
     bool is_present = place < it->plain.len;
     uint64_t *old = &it->plain.pairs[is_present ? place : 0].value;
     begin();
-    intmap_answer answer =
+    intmap_found_value answer =
         adds ? intmap_add(&it->map, key, value) : intmap_set(&it->map, key, value);
     EXPECT(!requested());
     if (is_present) {
@@ -339,7 +339,7 @@ static void call_set_or_add(bool adds, uint64_t key, uint64_t value) {
 static void call_remove(uint64_t key) {
     size_t place = place_of(&it->plain, key);
     begin();
-    intmap_answer answer = intmap_remove(&it->map, key);
+    intmap_found_value answer = intmap_remove(&it->map, key);
     EXPECT(!requested());
     if (place < it->plain.len) {
         EXPECT(is(answer, INTMAP_PRESENT, it->plain.pairs[place].value));
@@ -393,14 +393,14 @@ static void call_cut(size_t passed, size_t count) {
     for (; count > 0; count--) {
         bool is_left = passed < plain->len;
         intmap_pair wanted = is_left ? plain->pairs[passed] : NO_PAIR;
-        intmap_found cut = intmap_cut(&it->map, &at);
+        intmap_found_pair cut = intmap_cut(&it->map, &at);
         EXPECT(cut.status == (is_left ? INTMAP_PRESENT : INTMAP_ABSENT));
         EXPECT(same_pair(cut.pair, wanted) && at.passed == passed);
         if (is_left) {
             take_at(plain, passed);
         }
     }
-    intmap_found next = intmap_step(&it->map, &at);
+    intmap_found_pair next = intmap_step(&it->map, &at);
     EXPECT(next.status == (passed < plain->len ? INTMAP_PRESENT : INTMAP_ABSENT));
     EXPECT(passed == plain->len || same_pair(next.pair, plain->pairs[passed]));
     EXPECT(!requested());
@@ -411,7 +411,7 @@ static void call_retain(uint64_t mask) {
     intmap_cursor at = INTMAP_START, next = INTMAP_START;
     model *plain = &it->plain;
     while (at.passed < plain->len) {
-        intmap_found seen = intmap_step(&it->map, &next);
+        intmap_found_pair seen = intmap_step(&it->map, &next);
         intmap_pair wanted = plain->pairs[at.passed];
         if (!EXPECT(seen.status == INTMAP_PRESENT && same_pair(seen.pair, wanted))) {
             return;
@@ -419,7 +419,7 @@ static void call_retain(uint64_t mask) {
         EXPECT(next.passed == at.passed + 1);
         if (seen.pair.value & mask) {
             take_at(plain, at.passed);
-            intmap_found cut = intmap_cut(&it->map, &at);
+            intmap_found_pair cut = intmap_cut(&it->map, &at);
             EXPECT(cut.status == INTMAP_PRESENT && same_pair(cut.pair, wanted));
             next = at;
         } else {
@@ -522,7 +522,7 @@ static void test_changes_without_map(void) {
     EXPECT(intmap_reserve(&none, 1) == INTMAP_NO_MAP);
     EXPECT(intmap_reserve(&none, SIZE_MAX) == INTMAP_NO_MAP);
     EXPECT(intmap_set_load_factor(&none, 1) == INTMAP_NO_MAP);
-    intmap_found cut = intmap_cut(&none, &at);
+    intmap_found_pair cut = intmap_cut(&none, &at);
     EXPECT(cut.status == INTMAP_NO_MAP && same_pair(cut.pair, NO_PAIR));
     intmap_clear(&none);
     intmap_free(&none);
@@ -539,7 +539,7 @@ static void test_reads_without_map(void) {
     EXPECT(intmap_len(&none) == 0 && intmap_capacity(&none) == 0);
     EXPECT(intmap_load_factor(&none) == 0);
     EXPECT(intmap_next(&none, &at, &pair, 1) == 0 && pair.key == 1 && pair.value == 2);
-    intmap_found seen = intmap_step(&none, &at);
+    intmap_found_pair seen = intmap_step(&none, &at);
     EXPECT(seen.status == INTMAP_NO_MAP && same_pair(seen.pair, NO_PAIR));
     EXPECT(intmap_equal(&none, &to) && intmap_equal(&none, &none));
     EXPECT(intmap_clone(&none, &to) == INTMAP_NO_MAP && to.at == NULL && !requested());
@@ -779,7 +779,7 @@ static void test_writes_in_walk(void) {
     insert_some(200, 1 << 3);
     intmap_cursor at = INTMAP_START;
     for (size_t passed = 0; passed < it->plain.len; passed++) {
-        intmap_found seen = intmap_step(&it->map, &at);
+        intmap_found_pair seen = intmap_step(&it->map, &at);
         EXPECT(seen.status == INTMAP_PRESENT && same_pair(seen.pair, it->plain.pairs[passed]));
         call_set_or_add(passed % 2, seen.pair.key, number());
     }
@@ -796,7 +796,7 @@ static void free_value(uint64_t value) {
 // Removes the pairs with odd keys, and frees what their values point to.
 static void keep_even(intmap *map) {
     intmap_cursor at = INTMAP_START, next = INTMAP_START;
-    intmap_found seen;
+    intmap_found_pair seen;
     while ((seen = intmap_step(map, &next)).status == INTMAP_PRESENT) {
         if (seen.pair.key % 2 == 0) {
             at = next;
@@ -810,7 +810,7 @@ static void keep_even(intmap *map) {
 // Frees what all values point to, and then the map.
 static void free_all(intmap *map) {
     intmap_cursor at = INTMAP_START;
-    intmap_found cut;
+    intmap_found_pair cut;
     while ((cut = intmap_cut(map, &at)).status == INTMAP_PRESENT) {
         free_value(cut.pair.value);
     }

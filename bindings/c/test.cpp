@@ -5,7 +5,7 @@
 static_assert(noexcept(intmap_get(std::declval<const intmap *>(), 0)), "calls throw nothing");
 static_assert(sizeof(intmap) == sizeof(void *), "a map is one word");
 
-static bool is(intmap_answer answer, intmap_status status, uint64_t value) {
+static bool is(intmap_found_value answer, intmap_status status, uint64_t value) {
     return answer.status == status && answer.value == value;
 }
 
@@ -35,8 +35,8 @@ static bool clones_and_walks(intmap *map) {
     bool is_good = intmap_clone(map, &other) == INTMAP_DONE && intmap_equal(map, &other)
                    && intmap_next(map, &at, pairs, 4) == 2;
     at = INTMAP_START;
-    intmap_found first = intmap_step(map, &at);
-    intmap_found second = intmap_cut(map, &at);
+    intmap_found_pair first = intmap_step(map, &at);
+    intmap_found_pair second = intmap_cut(map, &at);
     is_good = is_good && first.pair.key == pairs[0].key && second.pair.key == pairs[1].key;
     intmap_clear(map);
     intmap_free(&other);

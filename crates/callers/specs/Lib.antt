@@ -1,5 +1,4 @@
 pub mod Numbered
-pub mod Cells
 pub mod Counts
 pub mod Sessions
 pub mod Waiting

@@ -3,7 +3,6 @@
 
 pub mod accounts;
 pub mod bindings;
-pub mod cells;
 pub mod counter;
 pub mod dense;
 pub mod documents;

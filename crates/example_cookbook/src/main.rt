@@ -5,7 +5,7 @@
 
 use crate::fixed::FixedMap;
 use anyhow::Result;
-use callers::cells::{self, Cell};
+use cells::Cell;
 use failing_alloc::FailingAlloc;
 use intmap::IntMap;
 use intmap_set::IntSet;

@@ -26,7 +26,7 @@ use denote.Struct.Pick.{rest_at, record_field_out, record_field_back}
 use Rattle.std.specs.Map.{values_of}
 use Rattle.std.specs.declared.alloc.Allocator as allocator
 use Rattle.std.specs.declared.cmp.PartialEq as eq
-use Rattle.intmap_loan.specs.Apart.{lent_cells}
+use Rattle.intmap_table.specs.Apart.{lent_cells}
 use Rattle.intmap.specs.Map.{MapState, IsMap}
 use Rattle.intmap_table.specs.Values.{lent_pairs, with_values}
 use Rattle.intmap.specs.Map.{map_with_values}
@@ -35,8 +35,8 @@ use Rattle.intmap.specs.contracts.map.IntMap as M-type
 use Rattle.intmap.specs.contracts.map.IntMap.TheInside as I-type
 use Rattle.intmap_table.specs.contracts.steps.Steps as N-type
 use Rattle.intmap.proofs.map.IntMap.TheInside.TheLaws as I-laws
-use Rattle.intmap_loan.proofs.LendByLemmas.{lend_by}
-use Rattle.intmap_loan.proofs.OpensLemmas.{Opens}
+use Rattle.intmap_table.proofs.Lending.LendByLemmas.{lend_by}
+use Rattle.intmap_table.proofs.Lending.OpensLemmas.{Opens}
 use Rattle.intmap_table.proofs.Lending.OpensPairLemmas.{V, K}
 use Rattle.intmap_table.proofs.Lending.OpensSlotLemmas.{A}
 use Rattle.intmap_table.proofs.Lending.OpensTableLemmas.{Tr, THr, table_opens}

@@ -22,8 +22,8 @@ use Rattle.std.specs.contracts.prelude.U64PartialEq.TheImpl as u64_equal
 use Rattle.std.proofs.alloc.Global.TheLaws as heap_laws
 use Rattle.intmap_table.specs.contracts.key.wide.U64IntKey.TheImpl as u64_key
 use Rattle.intmap.proofs.map.IntMap.TheLaws as map_laws
-use Rattle.intmap_c.specs.contracts.lent.Lent as lent
-use Rattle.intmap_c.proofs.lent.Lent.TheLaws.{lowered}
+use Rattle.intmap_c.specs.contracts.lent.LentMap as lent
+use Rattle.intmap_c.proofs.lent.LentMap.TheLaws.{lowered}
 use types.Kit.{flt_l}
 use denote.Memory.{shared_of}
 use Rattle.intmap_c.specs.Handles.{Map}

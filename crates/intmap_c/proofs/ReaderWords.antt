@@ -21,6 +21,6 @@ pub use denote.Steps.{looks, shuts, peeks, heard, owned}
 pub use Rattle.intmap_c.specs.Loans.{shares_map, is_lent}
 pub use Rattle.intmap_c.specs.contracts.lent.Word.{the_row as Word}
 pub use Rattle.intmap_c.proofs.lent.Word.TheLaws.{lowers as word_lowers, the_row_copy as word_copies}
-pub use Rattle.intmap_c.specs.contracts.lent.Lent.{the_row as lent_row}
-pub use Rattle.intmap_c.proofs.lent.Lent.TheLaws.{lowered}
+pub use Rattle.intmap_c.specs.contracts.lent.LentMap.{the_row as lent_row}
+pub use Rattle.intmap_c.proofs.lent.LentMap.TheLaws.{lowered}
 pub use Rattle.intmap_c.proofs.LentSteps.{shares_map_laws, ptr_fits, lent_fits, lent_val, lent_in}

@@ -1,16 +1,16 @@
 -- What calls return to C, and with which map.
 use Rattle.std.specs.Prelude.{◌≡◌, ◌⊎◌, ℕ, ℤ, Option, None, Some}
 use Rattle.intmap_c.specs.Statuses.{present_status, absent_status, no_memory_status, too_large_status}
-use Rattle.intmap_c.specs.declared.answer.Answer.{Answer}
-use Rattle.intmap_c.specs.declared.answer.Found.{Found}
+use Rattle.intmap_c.specs.declared.answer.FoundValue.{FoundValue}
+use Rattle.intmap_c.specs.declared.answer.FoundPair.{FoundPair}
 use Rattle.intmap_c.specs.declared.answer.Pair.{Pair}
 
 -- no value, and why
-abbrev pub no_value : ℤ → Answer
+abbrev pub no_value : ℤ → FoundValue
 no_value why = record { value = 0; status = why }
 
 -- the value that a key had, or that it was absent
-abbrev pub value_found : Option ℕ → Answer
+abbrev pub value_found : Option ℕ → FoundValue
 value_found None = no_value absent_status
 value_found (Some v) = record { value = v; status = present_status }
 
@@ -19,11 +19,11 @@ abbrev pub pair_of : ℕ × ℕ → Pair
 pair_of p = record { key = p.0; value = p.1 }
 
 -- no pair, and why
-abbrev pub no_pair : ℤ → Found
+abbrev pub no_pair : ℤ → FoundPair
 no_pair why = record { pair = pair_of (0, 0); status = why }
 
 -- the pair that was found, or that there was none
-abbrev pub pair_found : Option (ℕ × ℕ) → Found
+abbrev pub pair_found : Option (ℕ × ℕ) → FoundPair
 pair_found None = no_pair absent_status
 pair_found (Some p) = record { pair = pair_of p; status = present_status }
 

@@ -7,7 +7,7 @@ use Rattle.intmap.specs.Growth.{IsNext, IsLeastPower, IsWanted, NeedsTooMuch}
 use Rattle.intmap.specs.Insertions.{IsInsertion}
 use Rattle.intmap.specs.Map.{MapState, IsOutOfRange, after_search, after_insert, after_remove, written, in_slots}
 use Rattle.intmap_c.specs.Statuses.{done_status, present_status, absent_status, no_memory_status, too_large_status, no_map_status}
-use Rattle.intmap_c.specs.declared.answer.Answer.{Answer}
+use Rattle.intmap_c.specs.declared.answer.FoundValue.{FoundValue}
 use Rattle.intmap_c.specs.Answers.{value_found, no_value, IsFailed}
 
 -- such a map, as contracts see it
@@ -54,7 +54,7 @@ pub record Fails (m n : State) (k : ℕ) (status : ℤ) : Type 0 where
   pub memory : status ≡ no_memory_status → IsNext m.capacity (length m.walk + 1) m.factor m.capacity → 0 < class_size itself m.walk m.capacity k
 
 -- k was inserted with v, and its value before is returned; or the insertion failed
-abbrev pub Inserts : State → State → ℕ → ℕ → Answer → Type 0
+abbrev pub Inserts : State → State → ℕ → ℕ → FoundValue → Type 0
 Inserts m n k v answer =
     ((answer ≡ value_found (bound_to m k)) × Binds m n k v)
     ⊎ ((answer ≡ no_value answer.status) × Fails m n k answer.status)
@@ -67,7 +67,7 @@ InsertsNew m n k v status =
     ⊎ Fails m n k status
 
 -- v was written in the place of the value of k, which is returned; if k is absent, nothing was written
-pub record Writes (m n : State) (k v : ℕ) (answer : Answer) : Type 0 where
+pub record Sets (m n : State) (k v : ℕ) (answer : FoundValue) : Type 0 where
   pub told : answer ≡ value_found (bound_to m k)
   pub bound : IsPresent itself m.walk k → n ≡ written itself (after_search itself m k) k v
   pub missing : bound_to m k ≡ None → n ≡ after_search itself m k
@@ -75,18 +75,18 @@ pub record Writes (m n : State) (k v : ℕ) (answer : Answer) : Type 0 where
   pub len : length n.walk ≡ length m.walk
 
 -- `more` was added to the value of k, modulo 2^64, and the value before is returned; if k is absent, nothing was written
-abbrev pub Adds : State → State → ℕ → ℕ → Answer → Type 0
-Adds m n k more answer = Writes m n k ((answer.value + more) % 2 ^ 64) answer
+abbrev pub Adds : State → State → ℕ → ℕ → FoundValue → Type 0
+Adds m n k more answer = Sets m n k ((answer.value + more) % 2 ^ 64) answer
 
 -- `more` was added to the value of k; or k was absent, and was inserted with `more`; or the insertion failed
-abbrev pub AddsOrInserts : State → State → ℕ → ℕ → Answer → Type 0
+abbrev pub AddsOrInserts : State → State → ℕ → ℕ → FoundValue → Type 0
 AddsOrInserts m n k more answer =
     (IsPresent itself m.walk k × Adds m n k more answer)
     ⊎ ((answer ≡ value_found None) × (bound_to m k ≡ None) × Binds m n k more)
     ⊎ ((answer ≡ no_value answer.status) × Fails m n k answer.status)
 
 -- the pair of k was removed, and its value is returned
-pub record Removes (m n : State) (k : ℕ) (answer : Answer) : Type 0 where
+pub record Removes (m n : State) (k : ℕ) (answer : FoundValue) : Type 0 where
   pub told : answer ≡ value_found (bound_to m k)
   pub state : n ≡ after_remove itself m k
   pub updates : Updates itself m.walk n.walk k None

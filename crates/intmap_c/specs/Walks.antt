@@ -5,7 +5,7 @@ use Rattle.intmap_table.specs.declared.table.walk.Cursor.{Cursor}
 use Rattle.intmap.specs.Bindings.{Updates}
 use Rattle.intmap.specs.Map.{with_walk}
 use Rattle.intmap_c.specs.Statuses.{present_status, absent_status, no_map_status}
-use Rattle.intmap_c.specs.declared.answer.Found.{Found}
+use Rattle.intmap_c.specs.declared.answer.FoundPair.{FoundPair}
 use Rattle.intmap_c.specs.Answers.{no_pair}
 use Rattle.intmap_c.specs.Calls.{State, itself}
 
@@ -19,19 +19,19 @@ MayStep None at = Unit {0}
 MayStep (Some m) at = IsOn m at
 
 -- the first pair of the walk from the cursor on is returned, and the cursor is behind it; or none is left
-pub record Steps (m : State) (at to : Cursor) (found : Found) : Type 0 where
+pub record Steps (m : State) (at to : Cursor) (found : FoundPair) : Type 0 where
   pub told :
       ((found.status ≡ present_status) × (drop at.passed m.walk ≡ (found.pair.key, found.pair.value) ∷ drop to.passed m.walk) × (to.passed ≡ at.passed + 1))
       ⊎ ((found ≡ no_pair absent_status) × (drop at.passed m.walk ≡ []) × (to.passed ≡ at.passed))
   pub on : IsOn m to
 
 -- the same, or there is no map
-abbrev pub StepsIfMap : Option State → Cursor → Cursor → Found → Type 0
+abbrev pub StepsIfMap : Option State → Cursor → Cursor → FoundPair → Type 0
 StepsIfMap None at to found = (found ≡ no_pair no_map_status) × (to ≡ at)
 StepsIfMap (Some m) at to found = Steps m at to found
 
 -- the first pair of the walk from the cursor on was removed, and is returned; or none is left. The cursor is behind the same pairs
-pub record Cuts (m n : State) (at to : Cursor) (found : Found) : Type 0 where
+pub record Cuts (m n : State) (at to : Cursor) (found : FoundPair) : Type 0 where
   pub told :
       ((found.status ≡ present_status) × (drop at.passed m.walk ≡ (found.pair.key, found.pair.value) ∷ drop to.passed n.walk)
       × Updates itself m.walk n.walk found.pair.key None × (length n.walk + 1 ≡ length m.walk))

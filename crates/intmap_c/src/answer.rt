@@ -28,7 +28,7 @@ pub const NO_MAP: i32 = -3;
 /// A value, if there is one.
 #[repr(C)]
 #[derive(Drop)]
-pub struct Answer {
+pub struct FoundValue {
     /// The value if the status is `PRESENT`, and otherwise 0.
     pub value: u64,
     /// `PRESENT`, `ABSENT`, or why the call failed.
@@ -48,54 +48,54 @@ pub struct Pair {
 /// A pair, if there is one.
 #[repr(C)]
 #[derive(Drop)]
-pub struct Found {
+pub struct FoundPair {
     /// The pair if the status is `PRESENT`, and otherwise zeros.
     pub pair: Pair,
     /// `PRESENT`, `ABSENT` or `NO_MAP`.
     pub status: i32,
 }
 
-impl Answer {
+impl FoundValue {
     /// The answer of a call that found a value or none.
-    pub(crate) fn of(found: Option<u64>) -> Answer
+    pub(crate) fn of(found: Option<u64>) -> FoundValue
         ensures { result ≡ value_found found }
     {
         match found {
-            Some(value) => Answer {
+            Some(value) => FoundValue {
                 value,
                 status: PRESENT,
             },
-            None => Answer::none(ABSENT),
+            None => FoundValue::none(ABSENT),
         }
     }
 
     /// The answer of a call that has no value.
-    pub(crate) fn none(status: i32) -> Answer
+    pub(crate) fn none(status: i32) -> FoundValue
         ensures { result ≡ no_value status }
     {
-        Answer { value: 0, status }
+        FoundValue { value: 0, status }
     }
 }
 
-impl Found {
+impl FoundPair {
     /// The answer of a call that found a pair or none.
-    pub(crate) fn of(found: Option<(u64, u64)>) -> Found
+    pub(crate) fn of(found: Option<(u64, u64)>) -> FoundPair
         ensures { result ≡ pair_found found }
     {
         match found {
-            Some((key, value)) => Found {
+            Some((key, value)) => FoundPair {
                 pair: Pair { key, value },
                 status: PRESENT,
             },
-            None => Found::none(ABSENT),
+            None => FoundPair::none(ABSENT),
         }
     }
 
     /// The answer of a call that has no pair.
-    pub(crate) fn none(status: i32) -> Found
+    pub(crate) fn none(status: i32) -> FoundPair
         ensures { result ≡ no_pair status }
     {
-        Found {
+        FoundPair {
             pair: Pair { key: 0, value: 0 },
             status,
         }

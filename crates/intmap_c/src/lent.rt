@@ -14,23 +14,23 @@ pub struct Word {
 
 /// A map that is lent, or none.
 #[derive(Drop)]
-pub(crate) struct Lent<'a> {
+pub(crate) struct LentMap<'a> {
     pub(crate) at: *mut u8,
     pub(crate) life: PhantomData<&'a u8>,
     ghost value: { MaybeMap.Denot } by { MaybeMap.coded },
 }
 
-impl<'a> Model for Lent<'a> {
+impl<'a> Model for LentMap<'a> {
     ghost also_owns = { λ lent. shares_map lent.at lent.value 'a };
 }
 
-impl<'a> Lent<'a> {
+impl<'a> LentMap<'a> {
     /// The map, if there is one.
     pub(crate) fn map(self) -> Option<&'a IntMap<u64, u64>>
         ensures { MatchOption result (self.entry.value ≡ None)
             (λ map. self.entry.value ≡ Some map.now) }
     {
-        let Lent { at, life: _ } = self;
+        let LentMap { at, life: _ } = self;
         if at.is_null() {
             return None;
         }

@@ -1,10 +1,10 @@
 //! Calls that write one key.
 ghost use Rattle.std.specs.Prelude.{◌≡◌};
 ghost use Rattle.intmap_c.specs.Answers.{OnMap, no_value};
-ghost use Rattle.intmap_c.specs.Calls.{Adds, AddsOrInserts, Inserts, InsertsNew, Removes, Writes};
+ghost use Rattle.intmap_c.specs.Calls.{Adds, AddsOrInserts, Inserts, InsertsNew, Removes, Sets};
 ghost use Rattle.intmap_c.specs.Statuses.{no_map_status};
 
-use crate::answer::{ABSENT, Answer, NO_MAP, PRESENT, status_of};
+use crate::answer::{ABSENT, FoundValue, NO_MAP, PRESENT, status_of};
 use crate::handle::{Handle, put, take};
 use intmap::IntMap;
 use intmap::entry::Entry;
@@ -12,12 +12,12 @@ use std::alloc::Global;
 use std::mem::replace;
 
 /// Inserts the pair, and returns what [`intmap_insert`] returns if there is a map.
-fn insert(map: &mut IntMap<u64, u64>, key: u64, value: u64) -> Answer
+fn insert(map: &mut IntMap<u64, u64>, key: u64, value: u64) -> FoundValue
     ensures { Inserts map.old map.new key value result }
 {
     match map.insert(key, value) {
-        Ok(old) => Answer::of(old),
-        Err(refused) => Answer::none(status_of(refused.cause)),
+        Ok(old) => FoundValue::of(old),
+        Err(refused) => FoundValue::none(status_of(refused.cause)),
     }
 }
 
@@ -33,33 +33,33 @@ fn insert_checked(map: &mut IntMap<u64, u64>, key: u64, value: u64) -> i32
     }
 }
 
-/// Writes the value of a present key, and returns what [`intmap_set`] returns if there is a map.
-fn set(map: &mut IntMap<u64, u64>, key: u64, value: u64) -> Answer
-    ensures { Writes map.old map.new key value result }
+/// Sets the value of a present key, and returns what [`intmap_set`] returns if there is a map.
+fn set(map: &mut IntMap<u64, u64>, key: u64, value: u64) -> FoundValue
+    ensures { Sets map.old map.new key value result }
 {
     match map.get_mut(key) {
-        Some(place) => Answer::of(Some(replace(place, value))),
-        None => Answer::of(None),
+        Some(place) => FoundValue::of(Some(replace(place, value))),
+        None => FoundValue::of(None),
     }
 }
 
 /// Adds to the value of a present key, and returns what [`intmap_add`] returns if there is a map.
-fn add(map: &mut IntMap<u64, u64>, key: u64, more: u64) -> Answer
+fn add(map: &mut IntMap<u64, u64>, key: u64, more: u64) -> FoundValue
     ensures { Adds map.old map.new key more result }
 {
     match map.get_mut(key) {
         Some(place) => {
             let old = *place;
             *place = old.wrapping_add(more);
-            Answer::of(Some(old))
+            FoundValue::of(Some(old))
         }
-        None => Answer::of(None),
+        None => FoundValue::of(None),
     }
 }
 
 /// Adds to the value of a key, or inserts the key, and returns what [`intmap_add_or_insert`] returns
 /// if there is a map.
-fn add_or_insert(map: &mut IntMap<u64, u64>, key: u64, more: u64) -> Answer
+fn add_or_insert(map: &mut IntMap<u64, u64>, key: u64, more: u64) -> FoundValue
     ensures { AddsOrInserts map.old map.new key more result }
 {
     match map.entry(key) {
@@ -67,23 +67,23 @@ fn add_or_insert(map: &mut IntMap<u64, u64>, key: u64, more: u64) -> Answer
             let old = *entry.get();
             let _ = entry.insert(old.wrapping_add(more));
             entry.leave();
-            Answer::of(Some(old))
+            FoundValue::of(Some(old))
         }
         Entry::Vacant(entry) => match entry.insert_entry(more) {
             Ok(entry) => {
                 entry.leave();
-                Answer::of(None)
+                FoundValue::of(None)
             }
-            Err(refused) => Answer::none(status_of(refused.cause)),
+            Err(refused) => FoundValue::none(status_of(refused.cause)),
         },
     }
 }
 
 /// Removes the pair of the key, and returns what [`intmap_remove`] returns if there is a map.
-fn remove(map: &mut IntMap<u64, u64>, key: u64) -> Answer
+fn remove(map: &mut IntMap<u64, u64>, key: u64) -> FoundValue
     ensures { Removes map.old map.new key result }
 {
-    Answer::of(map.remove(key))
+    FoundValue::of(map.remove(key))
 }
 
 /// Inserts the pair of the key and the value at the end of its slot, and returns the value before.
@@ -96,12 +96,17 @@ fn remove(map: &mut IntMap<u64, u64>, key: u64) -> Answer
 /// intmap_insert(&map, 21, 8)    {7, INTMAP_PRESENT}
 /// ```
 #[unsafe(no_mangle)]
-pub extern "C" fn intmap_insert(alloc: Global, handle: &mut Handle, key: u64, value: u64) -> Answer
+pub extern "C" fn intmap_insert(
+    alloc: Global,
+    handle: &mut Handle,
+    key: u64,
+    value: u64,
+) -> FoundValue
     ensures { OnMap handle.old.value handle.new.value (result ≡ no_value no_map_status)
         (λ m n. Inserts m n key value result) }
 {
     match take(handle, alloc) {
-        None => Answer::none(NO_MAP),
+        None => FoundValue::none(NO_MAP),
         Some(mut map) => {
             let answer = insert(&mut map, key, value);
             put(handle, alloc, map);
@@ -137,19 +142,19 @@ pub extern "C" fn intmap_insert_checked(
     }
 }
 
-/// Writes the value of a present key in its place, and returns the value before. It allocates
+/// Sets the value of a present key in its place, and returns the value before. It allocates
 /// nothing.
 ///
 /// ```text
 /// intmap_set(&map, 21, 8)    {7, INTMAP_PRESENT} after intmap_insert(&map, 21, 7)
 /// ```
 #[unsafe(no_mangle)]
-pub extern "C" fn intmap_set(alloc: Global, handle: &mut Handle, key: u64, value: u64) -> Answer
+pub extern "C" fn intmap_set(alloc: Global, handle: &mut Handle, key: u64, value: u64) -> FoundValue
     ensures { OnMap handle.old.value handle.new.value (result ≡ no_value no_map_status)
-        (λ m n. Writes m n key value result) }
+        (λ m n. Sets m n key value result) }
 {
     match take(handle, alloc) {
-        None => Answer::none(NO_MAP),
+        None => FoundValue::none(NO_MAP),
         Some(mut map) => {
             let answer = set(&mut map, key, value);
             put(handle, alloc, map);
@@ -165,12 +170,12 @@ pub extern "C" fn intmap_set(alloc: Global, handle: &mut Handle, key: u64, value
 /// intmap_add(&map, 21, 1)    {7, INTMAP_PRESENT} after intmap_insert(&map, 21, 7)
 /// ```
 #[unsafe(no_mangle)]
-pub extern "C" fn intmap_add(alloc: Global, handle: &mut Handle, key: u64, more: u64) -> Answer
+pub extern "C" fn intmap_add(alloc: Global, handle: &mut Handle, key: u64, more: u64) -> FoundValue
     ensures { OnMap handle.old.value handle.new.value (result ≡ no_value no_map_status)
         (λ m n. Adds m n key more result) }
 {
     match take(handle, alloc) {
-        None => Answer::none(NO_MAP),
+        None => FoundValue::none(NO_MAP),
         Some(mut map) => {
             let answer = add(&mut map, key, more);
             put(handle, alloc, map);
@@ -191,12 +196,12 @@ pub extern "C" fn intmap_add_or_insert(
     handle: &mut Handle,
     key: u64,
     more: u64,
-) -> Answer
+) -> FoundValue
     ensures { OnMap handle.old.value handle.new.value (result ≡ no_value no_map_status)
         (λ m n. AddsOrInserts m n key more result) }
 {
     match take(handle, alloc) {
-        None => Answer::none(NO_MAP),
+        None => FoundValue::none(NO_MAP),
         Some(mut map) => {
             let answer = add_or_insert(&mut map, key, more);
             put(handle, alloc, map);
@@ -212,12 +217,12 @@ pub extern "C" fn intmap_add_or_insert(
 /// intmap_remove(&map, 21)    {0, INTMAP_ABSENT}
 /// ```
 #[unsafe(no_mangle)]
-pub extern "C" fn intmap_remove(alloc: Global, handle: &mut Handle, key: u64) -> Answer
+pub extern "C" fn intmap_remove(alloc: Global, handle: &mut Handle, key: u64) -> FoundValue
     ensures { OnMap handle.old.value handle.new.value (result ≡ no_value no_map_status)
         (λ m n. Removes m n key result) }
 {
     match take(handle, alloc) {
-        None => Answer::none(NO_MAP),
+        None => FoundValue::none(NO_MAP),
         Some(mut map) => {
             let answer = remove(&mut map, key);
             put(handle, alloc, map);

@@ -11,9 +11,9 @@ ghost use Rattle.intmap_c.specs.Loans.{Loan, is_lent};
 ghost use Rattle.intmap_c.specs.Walks.{MayStep, StepsIfMap};
 ghost use Rattle.intmap_c.specs.Statuses.{no_map_status};
 
-use crate::answer::{Answer, Found, NO_MAP};
+use crate::answer::{FoundPair, FoundValue, NO_MAP};
 use crate::handle::Handle;
-use crate::lent::{Lent, Word};
+use crate::lent::{LentMap, Word};
 use crate::make::keep;
 use intmap::iter::Cursor;
 use intmap::laws;
@@ -21,7 +21,7 @@ use std::alloc::Global;
 use std::marker::PhantomData;
 
 /// Returns what [`intmap_len`] returns.
-fn len(lent: Lent<'_>) -> usize
+fn len(lent: LentMap<'_>) -> usize
     ensures { MatchOption lent.entry.value (result ≡ 0)
         (λ m. result ≡ length m.walk) }
 {
@@ -40,7 +40,7 @@ pub unsafe extern "C" fn intmap_len(word: &Word) -> usize
     ensures value { MatchOption loan.value (result ≡ 0)
         (λ m. result ≡ length m.walk) }
 {
-    let lent = Lent {
+    let lent = LentMap {
         at: word.at,
         life: PhantomData,
     };
@@ -48,7 +48,7 @@ pub unsafe extern "C" fn intmap_len(word: &Word) -> usize
 }
 
 /// Returns what [`intmap_capacity`] returns.
-fn capacity(lent: Lent<'_>) -> usize
+fn capacity(lent: LentMap<'_>) -> usize
     ensures { MatchOption lent.entry.value (result ≡ 0)
         (λ m. result ≡ m.capacity) }
 {
@@ -67,7 +67,7 @@ pub unsafe extern "C" fn intmap_capacity(word: &Word) -> usize
     ensures value { MatchOption loan.value (result ≡ 0)
         (λ m. result ≡ m.capacity) }
 {
-    let lent = Lent {
+    let lent = LentMap {
         at: word.at,
         life: PhantomData,
     };
@@ -75,7 +75,7 @@ pub unsafe extern "C" fn intmap_capacity(word: &Word) -> usize
 }
 
 /// Returns what [`intmap_load_factor`] returns.
-fn load_factor(lent: Lent<'_>) -> usize
+fn load_factor(lent: LentMap<'_>) -> usize
     ensures { MatchOption lent.entry.value (result ≡ 0)
         (λ m. result ≡ m.factor) }
 {
@@ -94,7 +94,7 @@ pub unsafe extern "C" fn intmap_load_factor(word: &Word) -> usize
     ensures value { MatchOption loan.value (result ≡ 0)
         (λ m. result ≡ m.factor) }
 {
-    let lent = Lent {
+    let lent = LentMap {
         at: word.at,
         life: PhantomData,
     };
@@ -102,7 +102,7 @@ pub unsafe extern "C" fn intmap_load_factor(word: &Word) -> usize
 }
 
 /// Returns what [`intmap_filled_slots`] returns.
-fn filled_slots(lent: Lent<'_>) -> usize
+fn filled_slots(lent: LentMap<'_>) -> usize
     ensures { MatchOption lent.entry.value (result ≡ 0)
         (λ m. result ≡ load_of itself m.walk m.capacity) }
 {
@@ -121,7 +121,7 @@ pub unsafe extern "C" fn intmap_filled_slots(word: &Word) -> usize
     ensures value { MatchOption loan.value (result ≡ 0)
         (λ m. result ≡ load_of itself m.walk m.capacity) }
 {
-    let lent = Lent {
+    let lent = LentMap {
         at: word.at,
         life: PhantomData,
     };
@@ -129,13 +129,13 @@ pub unsafe extern "C" fn intmap_filled_slots(word: &Word) -> usize
 }
 
 /// Returns what [`intmap_get`] returns.
-fn get(lent: Lent<'_>, key: u64) -> Answer
+fn get(lent: LentMap<'_>, key: u64) -> FoundValue
     ensures { MatchOption lent.entry.value (result ≡ no_value no_map_status)
         (λ m. result ≡ value_found (bound_to m key)) }
 {
     match lent.map() {
-        None => Answer::none(NO_MAP),
-        Some(map) => Answer::of(map.get(key).copied()),
+        None => FoundValue::none(NO_MAP),
+        Some(map) => FoundValue::of(map.get(key).copied()),
     }
 }
 
@@ -146,14 +146,14 @@ fn get(lent: Lent<'_>, key: u64) -> Answer
 /// intmap_get(&map, 22)    {0, INTMAP_ABSENT}
 /// ```
 #[unsafe(no_mangle)]
-pub unsafe extern "C" fn intmap_get(word: &Word, key: u64) -> Answer
+pub unsafe extern "C" fn intmap_get(word: &Word, key: u64) -> FoundValue
     ghost loan: { Loan }
     requires* { sem 𝓛 (is_lent loan word.now.at) }
     ensures* kept { sem 𝓛 (is_lent loan word.now.at) }
     ensures value { MatchOption loan.value (result ≡ no_value no_map_status)
         (λ m. result ≡ value_found (bound_to m key)) }
 {
-    let lent = Lent {
+    let lent = LentMap {
         at: word.at,
         life: PhantomData,
     };
@@ -161,7 +161,7 @@ pub unsafe extern "C" fn intmap_get(word: &Word, key: u64) -> Answer
 }
 
 /// Returns what [`intmap_contains_key`] returns.
-fn contains_key(lent: Lent<'_>, key: u64) -> bool
+fn contains_key(lent: LentMap<'_>, key: u64) -> bool
     ensures { MatchOption lent.entry.value (result ≡ false)
         (λ m. result ≡ is_some (bound_to m key)) }
 {
@@ -184,7 +184,7 @@ pub unsafe extern "C" fn intmap_contains_key(word: &Word, key: u64) -> bool
     ensures value { MatchOption loan.value (result ≡ false)
         (λ m. result ≡ is_some (bound_to m key)) }
 {
-    let lent = Lent {
+    let lent = LentMap {
         at: word.at,
         life: PhantomData,
     };
@@ -192,15 +192,15 @@ pub unsafe extern "C" fn intmap_contains_key(word: &Word, key: u64) -> bool
 }
 
 /// Returns what [`intmap_step`] returns.
-fn step(lent: Lent<'_>, at: &mut Cursor) -> Found
+fn step(lent: LentMap<'_>, at: &mut Cursor) -> FoundPair
     requires { MayStep lent.value at.old }
     ensures { StepsIfMap lent.entry.value at.old at.new result }
 {
     match lent.map() {
-        None => Found::none(NO_MAP),
+        None => FoundPair::none(NO_MAP),
         Some(map) => match map.step(at) {
-            Some((key, value)) => Found::of(Some((*key, *value))),
-            None => Found::of(None),
+            Some((key, value)) => FoundPair::of(Some((*key, *value))),
+            None => FoundPair::of(None),
         },
     }
 }
@@ -213,14 +213,14 @@ fn step(lent: Lent<'_>, at: &mut Cursor) -> Found
 /// intmap_step(&map, &at)    {{0, 0}, INTMAP_ABSENT}
 /// ```
 #[unsafe(no_mangle)]
-pub unsafe extern "C" fn intmap_step(word: &Word, at: &mut Cursor) -> Found
+pub unsafe extern "C" fn intmap_step(word: &Word, at: &mut Cursor) -> FoundPair
     ghost loan: { Loan }
     requires on { MayStep loan.value at.old }
     requires* lent { sem 𝓛 (is_lent loan word.now.at) }
     ensures* kept { sem 𝓛 (is_lent loan word.now.at) }
     ensures step { StepsIfMap loan.value at.old at.new result }
 {
-    let lent = Lent {
+    let lent = LentMap {
         at: word.at,
         life: PhantomData,
     };
@@ -228,7 +228,7 @@ pub unsafe extern "C" fn intmap_step(word: &Word, at: &mut Cursor) -> Found
 }
 
 /// Returns what [`intmap_equal`] returns.
-fn equal(lent: Lent<'_>, other: Lent<'_>) -> bool
+fn equal(lent: LentMap<'_>, other: LentMap<'_>) -> bool
     ensures { AreEqual lent.entry.value other.entry.value result }
 {
     laws::equal_maps_bind_the_same::<u64, u64>();
@@ -254,11 +254,11 @@ pub unsafe extern "C" fn intmap_equal(word: &Word, other: &Word) -> bool
     ensures* second { sem 𝓛 (is_lent loans.1 other.now.at) }
     ensures value { AreEqual loans.0.value loans.1.value result }
 {
-    let lent = Lent {
+    let lent = LentMap {
         at: word.at,
         life: PhantomData,
     };
-    let other = Lent {
+    let other = LentMap {
         at: other.at,
         life: PhantomData,
     };
@@ -266,7 +266,7 @@ pub unsafe extern "C" fn intmap_equal(word: &Word, other: &Word) -> bool
 }
 
 /// Makes a map, and returns what [`intmap_clone`] returns.
-fn clone(alloc: Global, lent: Lent<'_>, to: &mut Handle) -> i32
+fn clone(alloc: Global, lent: LentMap<'_>, to: &mut Handle) -> i32
     ensures { Clones lent.entry.value to.old.value to.new.value result }
 {
     match lent.map() {
@@ -288,7 +288,7 @@ pub unsafe extern "C" fn intmap_clone(alloc: Global, word: &Word, to: &mut Handl
     ensures* kept { sem 𝓛 (is_lent loan word.now.at) }
     ensures outcome { Clones loan.value to.old.value to.new.value result }
 {
-    let lent = Lent {
+    let lent = LentMap {
         at: word.at,
         life: PhantomData,
     };

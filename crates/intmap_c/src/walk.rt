@@ -5,18 +5,18 @@ ghost use Rattle.intmap_c.specs.Answers.{OnMap, no_pair};
 ghost use Rattle.intmap_c.specs.Walks.{Cuts, IsOn, MayStep};
 ghost use Rattle.intmap_c.specs.Statuses.{no_map_status};
 
-use crate::answer::{Found, NO_MAP};
+use crate::answer::{FoundPair, NO_MAP};
 use crate::handle::{Handle, put, take};
 use intmap::IntMap;
 use intmap::iter::Cursor;
 use std::alloc::Global;
 
 /// Removes a pair, and returns what [`intmap_cut`] returns if there is a map.
-fn cut(map: &mut IntMap<u64, u64>, at: &mut Cursor) -> Found
+fn cut(map: &mut IntMap<u64, u64>, at: &mut Cursor) -> FoundPair
     requires { IsOn map.old at.old }
     ensures { Cuts map.old map.new at.old at.new result }
 {
-    Found::of(map.cut(at))
+    FoundPair::of(map.cut(at))
 }
 
 /// Removes the first pair of the walk from the cursor on and returns it. The other pairs keep their
@@ -27,14 +27,14 @@ fn cut(map: &mut IntMap<u64, u64>, at: &mut Cursor) -> Found
 /// intmap_cut(&map, &at)    {{0, 0}, INTMAP_ABSENT}
 /// ```
 #[unsafe(no_mangle)]
-pub extern "C" fn intmap_cut(alloc: Global, handle: &mut Handle, at: &mut Cursor) -> Found
+pub extern "C" fn intmap_cut(alloc: Global, handle: &mut Handle, at: &mut Cursor) -> FoundPair
     requires { MayStep handle.old.value at.old }
     ensures { OnMap handle.old.value handle.new.value
         ((result ≡ no_pair no_map_status) × (at.new ≡ at.old))
         (λ m n. Cuts m n at.old at.new result) }
 {
     match take(handle, alloc) {
-        None => Found::none(NO_MAP),
+        None => FoundPair::none(NO_MAP),
         Some(mut map) => {
             let found = cut(&mut map, at);
             put(handle, alloc, map);

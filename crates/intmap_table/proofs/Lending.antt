@@ -1,4 +1,10 @@
--- Lemmas on the loan of all values of a table.
+-- Lemmas on the loan of all values of something, of a table last.
+pub mod CellLemmas
+pub mod LendByLemmas
+pub mod OpensLemmas
+pub mod OpensOptionLemmas
+pub mod OpensStructLemmas
+pub mod OpensVecLemmas
 pub mod OpensPairLemmas
 pub mod OpensSlotLemmas
 pub mod OpensTableLemmas

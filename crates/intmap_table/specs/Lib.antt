@@ -13,3 +13,4 @@ pub mod Lending
 pub mod Values
 pub mod Cloning
 pub mod Tables
+pub mod Apart

@@ -1,7 +1,7 @@
-//! One bit for each place.
+//! One bit for each index.
 ghost use Rattle.std.specs.Prelude.{◌≡◌, List, Bool, ◌+◌, ◌*◌, ◌/◌, ◌^◌, ◌<◌, ◌≤◌, true, false, filter, length, nat_le, replicate, slice_set, IfOk, ⊤};
 ghost use Rattle.std.specs.Iterator.{YieldsFirstBy, item_count};
-ghost use Rattle.intmap_table.specs.Tables.Bits.{marked, marked_places, IsWordOf};
+ghost use Rattle.intmap_table.specs.Tables.Bits.{marked, marked_indices, IsWordOf};
 
 use std::alloc::{AllocError, Allocator};
 use std::marker::Model;
@@ -9,7 +9,7 @@ use std::marker::Model;
 /// The number of bits of a word.
 const BITS: usize = 64;
 
-/// One bit for each place: whether it is marked.
+/// One bit for each index: whether it is marked.
 #[derive(Drop)]
 pub(crate) struct Bits<A: Allocator> {
     words: Vec<u64, A>,
@@ -27,54 +27,54 @@ impl<A: Allocator> Model for Bits<A> {
     ghost invariant = { λ bits. 64 * length bits.words.items ≤ 2 ^ 63 };
 }
 
-/// A word without the bit of a place.
+/// A word without the bit of an index.
 #[inline(always)]
-pub(crate) fn without(word: u64, place: usize) -> u64
-    ensures { (marks : List Bool) → place < length marks → IsWordOf marks place word
-        → IsWordOf (slice_set marks place false) place result }
+pub(crate) fn without(word: u64, index: usize) -> u64
+    ensures { (marks : List Bool) → index < length marks → IsWordOf marks index word
+        → IsWordOf (slice_set marks index false) index result }
 {
-    word & !(1 << (place % BITS))
+    word & !(1 << (index % BITS))
 }
 
 impl<A: Allocator> Bits<A> {
-    /// Marks a place, and returns whether it was marked before. No other place changes.
+    /// Marks an index, and returns whether it was marked before. No other index changes.
     #[inline(always)]
-    pub(crate) fn set(&mut self, place: usize) -> bool
-        requires { place < length self.old }
-        ensures before { result ≡ marked self.old place }
-        ensures marks { self.new ≡ slice_set self.old place true }
+    pub(crate) fn set(&mut self, index: usize) -> bool
+        requires { index < length self.old }
+        ensures before { result ≡ marked self.old index }
+        ensures marks { self.new ≡ slice_set self.old index true }
     {
-        let word = self.words[place / BITS];
-        self.words[place / BITS] = word | 1 << (place % BITS);
-        (word >> (place % BITS)) & 1 == 1
+        let word = self.words[index / BITS];
+        self.words[index / BITS] = word | 1 << (index % BITS);
+        (word >> (index % BITS)) & 1 == 1
     }
 
-    /// The word that a place has its bit in.
+    /// The word that an index has its bit in.
     #[inline(always)]
-    pub(crate) fn word(&self, place: usize) -> u64
-        requires { place < length self.now }
-        ensures { IsWordOf self.now place result }
+    pub(crate) fn word(&self, index: usize) -> u64
+        requires { index < length self.now }
+        ensures { IsWordOf self.now index result }
     {
-        self.words[place / BITS]
+        self.words[index / BITS]
     }
 
-    /// Clears the mark of a place in its word, which was read before. No other place changes.
+    /// Clears the mark of an index in its word, which was read before. No other index changes.
     #[inline(always)]
-    pub(crate) fn clear_in(&mut self, word: u64, place: usize)
-        requires within { place < length self.old }
-        requires word { IsWordOf self.old place word }
-        ensures { self.new ≡ slice_set self.old place false }
+    pub(crate) fn clear_in(&mut self, word: u64, index: usize)
+        requires within { index < length self.old }
+        requires word { IsWordOf self.old index word }
+        ensures { self.new ≡ slice_set self.old index false }
     {
-        self.words[place / BITS] = without(word, place);
+        self.words[index / BITS] = without(word, index);
     }
 
-    /// Clears the mark of a place. No other place changes.
+    /// Clears the mark of an index. No other index changes.
     #[inline(always)]
-    pub(crate) fn clear(&mut self, place: usize)
-        requires { place < length self.old }
-        ensures { self.new ≡ slice_set self.old place false }
+    pub(crate) fn clear(&mut self, index: usize)
+        requires { index < length self.old }
+        ensures { self.new ≡ slice_set self.old index false }
     {
-        self.clear_in(self.word(place), place);
+        self.clear_in(self.word(index), index);
     }
 
     /// Clears all marks.
@@ -84,9 +84,9 @@ impl<A: Allocator> Bits<A> {
         self.words.as_mut_slice().fill(0);
     }
 
-    /// The number of marked places.
+    /// The number of marked indices.
     pub(crate) fn count(&self) -> usize
-        ensures { result ≡ length (marked_places self.now) }
+        ensures { result ≡ length (marked_indices self.now) }
     {
         let mut marked = 0;
         for word in &self.words {
@@ -95,18 +95,18 @@ impl<A: Allocator> Bits<A> {
         marked
     }
 
-    /// The marked places, in ascending order.
+    /// The marked indices, in ascending order.
     #[inline(always)]
-    pub(crate) fn iter(&self) -> Places<'_>
-        ensures { result ≡ marked_places self.now }
+    pub(crate) fn iter(&self) -> Indices<'_>
+        ensures { result ≡ marked_indices self.now }
     {
         match self.words.split_first() {
-            Some((word, words)) => Places {
+            Some((word, words)) => Indices {
                 word: *word,
                 base: 0,
                 words,
             },
-            None => Places {
+            None => Indices {
                 word: 0,
                 base: 0,
                 words: &[],
@@ -114,20 +114,20 @@ impl<A: Allocator> Bits<A> {
         }
     }
 
-    /// The marked places from a place on, in ascending order.
+    /// The marked indices from an index on, in ascending order.
     #[inline(always)]
-    pub(crate) fn iter_from(&self, from: usize) -> Places<'_>
-        ensures { result ≡ filter (nat_le from) (marked_places self.now) }
+    pub(crate) fn iter_from(&self, from: usize) -> Indices<'_>
+        ensures { result ≡ filter (nat_le from) (marked_indices self.now) }
     {
         let index = from / BITS;
         if index >= self.words.len() {
-            return Places {
+            return Indices {
                 word: 0,
                 base: 0,
                 words: &[],
             };
         }
-        Places {
+        Indices {
             word: self.words[index] & (u64::MAX << (from % BITS)),
             base: index * BITS,
             words: &self.words[index + 1..],
@@ -136,13 +136,13 @@ impl<A: Allocator> Bits<A> {
 }
 
 impl<A: Allocator + Copy> Bits<A> {
-    /// Bits for `places` places, rounded up to whole words. No place is marked. It allocates these
+    /// Bits for `indices` indices, rounded up to whole words. No index is marked. It allocates these
     /// words alone.
-    pub(crate) fn new(alloc: A, places: usize) -> Result<Bits<A>, AllocError>
-        requires { places ≤ 2 ^ 63 }
-        ensures { IfOk result (λ bits. bits ≡ replicate (64 * ((places + 63) / 64)) false) }
+    pub(crate) fn new(alloc: A, indices: usize) -> Result<Bits<A>, AllocError>
+        requires { indices ≤ 2 ^ 63 }
+        ensures { IfOk result (λ bits. bits ≡ replicate (64 * ((indices + 63) / 64)) false) }
     {
-        let words = vec![in alloc; 0u64; places.div_ceil(BITS)]?;
+        let words = vec![in alloc; 0u64; indices.div_ceil(BITS)]?;
         Ok(Bits { words })
     }
 
@@ -155,34 +155,34 @@ impl<A: Allocator + Copy> Bits<A> {
     }
 }
 
-/// The marked places that are left: those of the current word, whose first place is the base, and
+/// The marked indices that are left: those of the current word, whose first index is the base, and
 /// those of the words behind it.
 #[derive(Drop)]
-pub(crate) struct Places<'a> {
+pub(crate) struct Indices<'a> {
     word: u64,
     base: usize,
     words: &'a [u64],
 }
 
 // Invariant: the words that are left begin at most at bit 2^63.
-impl<'a> Model for Places<'a> {
+impl<'a> Model for Indices<'a> {
     ghost use Rattle.std.specs.Prelude.{List, ℕ, ◌∷◌, ◌+◌, ◌*◌, ◌^◌, ◌≤◌, length};
-    ghost use Rattle.intmap_table.specs.Tables.Bits.{places_from};
+    ghost use Rattle.intmap_table.specs.Tables.Bits.{indices_from};
 
     ghost Value = { List ℕ };
 
-    ghost view = { λ it. places_from it.base (it.word ∷ it.words.now) };
+    ghost view = { λ it. indices_from it.base (it.word ∷ it.words.now) };
 
     ghost invariant = { λ it. it.base + 64 * length it.words.now ≤ 2 ^ 63 };
 }
 
-impl<'a> Clone for Places<'a> {
+impl<'a> Clone for Indices<'a> {
     ghost is_clone = { λ it made. made ≡ it };
 
     ghost is_infallible = { λ _. ⊤ };
 
-    fn clone(&self) -> Result<Places<'a>, AllocError> {
-        Ok(Places {
+    fn clone(&self) -> Result<Indices<'a>, AllocError> {
+        Ok(Indices {
             word: self.word,
             base: self.base,
             words: self.words,
@@ -190,10 +190,10 @@ impl<'a> Clone for Places<'a> {
     }
 }
 
-impl<'a> Iterator for Places<'a> {
+impl<'a> Iterator for Indices<'a> {
     type Item = usize;
 
-    ghost next_gives = { YieldsFirstBy (λ place. place) (λ rest. rest) };
+    ghost next_gives = { YieldsFirstBy (λ index. index) (λ rest. rest) };
 
     ghost remaining = { item_count (λ rest. rest) };
 
@@ -201,9 +201,9 @@ impl<'a> Iterator for Places<'a> {
     fn next(&mut self) -> Option<usize> {
         loop {
             if self.word != 0 {
-                let place = self.base + self.word.trailing_zeros() as usize;
+                let index = self.base + self.word.trailing_zeros() as usize;
                 self.word &= self.word - 1;
-                return Some(place);
+                return Some(index);
             }
             let Some((word, words)) = self.words.split_first() else {
                 return None;

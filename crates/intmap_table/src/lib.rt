@@ -5,6 +5,7 @@
 mod bits;
 pub mod kept;
 mod key;
+pub mod lent;
 mod slot;
 pub mod steps;
 pub mod table;

@@ -6,11 +6,11 @@ use Rattle.std.proofs.lemmas.Fmt.{decimal_injective}
 use Rattle.intmap_run.specs.declared.command.Command.{Command}
 use Rattle.intmap_run.specs.declared.command.Command.TheVariants as command
 use Rattle.intmap_text.specs.Words.{name_of, numbers_of, IsSpelled}
-use Rattle.intmap_text.specs.Commands.{Writes, Says}
+use Rattle.intmap_text.specs.Commands.{IsNumeral, Says}
 
 -- words write one list of numbers alone
-same_numbers : (words : List (List ℕ)) (ms ns : List ℕ) → AllZip Writes words ms
-    → AllZip Writes words ns → ms ≡ ns
+same_numbers : (words : List (List ℕ)) (ms ns : List ℕ) → AllZip IsNumeral words ms
+    → AllZip IsNumeral words ns → ms ≡ ns
 same_numbers [] [] [] f g = cc
 same_numbers [] [] (n ∷ ns) f g = absurd g
 same_numbers [] (m ∷ ms) ns f g = absurd f
@@ -23,7 +23,7 @@ same_numbers (w ∷ ws) (m ∷ ms) (n ∷ ns) f g =
     cc
 
 -- if no command has this name and the numbers that the words write, they say none
-pub says_none : {A : Type 0} (name : List ℕ) (words : List (List ℕ)) (ns : List ℕ) → AllZip Writes words ns
+pub says_none : {A : Type 0} (name : List ℕ) (words : List (List ℕ)) (ns : List ℕ) → AllZip IsNumeral words ns
     → (found : Option (Command ℕ ℕ A)) → IfNone found (name ≢ codes "extend" → (c : Command ℕ ℕ A) → ¬ IsSpelled name ns c)
     → IfNone found (name ≢ codes "extend" → (c : Command ℕ ℕ A) → ¬ Says (name ∷ words) c)
 says_none name words ns written (Some c) none = tt

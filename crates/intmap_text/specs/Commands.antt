@@ -7,13 +7,13 @@ use Rattle.intmap_text.specs.Lines.{lines_in, words_of, rows_of}
 use Rattle.intmap_text.specs.Words.{name_of, numbers_of}
 
 -- the word is the decimal text of a number below 2^64
-abbrev pub Writes : List ℕ → ℕ → Type 0
-Writes word n = (word ≡ decimal n) × (n < 2 ^ 64)
+abbrev pub IsNumeral : List ℕ → ℕ → Type 0
+IsNumeral word n = (word ≡ decimal n) × (n < 2 ^ 64)
 
 -- the words are the name of the command, and one word for each of its numbers
 abbrev pub Says : {A : Type 0} → List (List ℕ) → Command ℕ ℕ A → Type 0
 Says [] c = ⊥
-Says (name ∷ words) c = (name ≡ name_of c) × AllZip Writes words (numbers_of c)
+Says (name ∷ words) c = (name ≡ name_of c) × AllZip IsNumeral words (numbers_of c)
 
 -- the lines of the text that have a word say these commands, one on each line
 abbrev pub Spells : {A : Type 0} → List ℕ → List (Command ℕ ℕ A) → Type 0

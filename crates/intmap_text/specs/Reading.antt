@@ -7,10 +7,10 @@ use Rattle.intmap_text.specs.declared.line.Line.TheVariants as line
 use Rattle.intmap_text.specs.Commands.{Says, IsUnknown}
 
 -- the numbers behind a name, in order
-abbrev pub list_of : Numbers → List ℕ
-list_of numbers.Empty = []
-list_of (numbers.One first) = first ∷ []
-list_of (numbers.Two first second) = first ∷ second ∷ []
+abbrev pub numbers_in : Numbers → List ℕ
+numbers_in numbers.Empty = []
+numbers_in (numbers.One first) = first ∷ []
+numbers_in (numbers.Two first second) = first ∷ second ∷ []
 
 -- a line of these words is blank, says this command, or has words but says none
 abbrev pub Reads : {A : Type 0} → List (List ℕ) → Line A → Type 0

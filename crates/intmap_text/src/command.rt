@@ -3,8 +3,8 @@ ghost use Rattle.std.specs.Prelude.{◌≢◌, ◌≤◌, ℕ, List, ◌∷◌, 
 ghost use Rattle.std.specs.List.{AllZip};
 ghost use Rattle.intmap_run.specs.declared.command.Command.{Command};
 ghost use Rattle.intmap_text.specs.Words.{keys_and_values};
-ghost use Rattle.intmap_text.specs.Commands.{Writes, Says};
-ghost use Rattle.intmap_text.specs.Reading.{list_of};
+ghost use Rattle.intmap_text.specs.Commands.{IsNumeral, Says};
+ghost use Rattle.intmap_text.specs.Reading.{numbers_in};
 
 use crate::number::number;
 use crate::split::Words;
@@ -57,8 +57,8 @@ fn short_command<A: Allocator>(name: &[u8], words: Words<'_>) -> Option<Command<
 /// The numbers that the words write, or `None` if there are more than two words or some word writes
 /// no number.
 fn read_numbers(mut words: Words<'_>) -> Option<Numbers>
-    ensures some { IfSome result (λ found. AllZip Writes words.entry (list_of found)) }
-    ensures none { IfNone result ((ns : List ℕ) → length ns ≤ 2 → ¬ AllZip Writes words.entry ns) }
+    ensures some { IfSome result (λ found. AllZip IsNumeral words.entry (numbers_in found)) }
+    ensures none { IfNone result ((ns : List ℕ) → length ns ≤ 2 → ¬ AllZip IsNumeral words.entry ns) }
 {
     let Some(first) = words.next() else {
         return Some(Numbers::Empty);
@@ -83,9 +83,9 @@ fn read_pairs<A: Allocator>(
     mut words: Words<'_>,
 ) -> Result<Option<Vec<(u64, u64), A>>, AllocError>
     ensures some { IfOk result (λ found. IfSome found
-        (λ pairs. AllZip Writes words.entry (keys_and_values pairs.items))) }
+        (λ pairs. AllZip IsNumeral words.entry (keys_and_values pairs.items))) }
     ensures none { IfOk result (λ found. IfNone found
-        ((pairs : List (ℕ × ℕ)) → ¬ AllZip Writes words.entry (keys_and_values pairs))) }
+        ((pairs : List (ℕ × ℕ)) → ¬ AllZip IsNumeral words.entry (keys_and_values pairs))) }
 {
     let mut pairs = Vec::new(alloc);
     while let Some(key) = words.next() {
@@ -102,8 +102,8 @@ fn read_pairs<A: Allocator>(
 
 /// The pair of the numbers that two words write.
 fn read_pair(key: &[u8], value: &[u8]) -> Option<(u64, u64)>
-    ensures some { IfSome result (λ pair. Writes key.now pair.0 × Writes value.now pair.1) }
-    ensures none { IfNone result ((k v : ℕ) → Writes key.now k → ¬ Writes value.now v) }
+    ensures some { IfSome result (λ pair. IsNumeral key.now pair.0 × IsNumeral value.now pair.1) }
+    ensures none { IfNone result ((k v : ℕ) → IsNumeral key.now k → ¬ IsNumeral value.now v) }
 {
     Some((number(key)?, number(value)?))
 }

@@ -30,15 +30,15 @@ use denote.Struct.Pick.{record_field_out, record_field_back}
 use denote.Struct.Tuple.{Tuple, tuple_type, tuple_laws}
 use Rattle.std.specs.declared.cmp.PartialEq as eq
 use Rattle.intmap_table.specs.declared.key.IntKey as key
-use Rattle.intmap_loan.specs.contracts.lent.Hole as H-type
+use Rattle.intmap_table.specs.contracts.lent.Hole as H-type
 use Rattle.intmap_table.specs.contracts.kept.Kept as K-type
 use Rattle.intmap_table.specs.contracts.kept.Kept.TheInside as I-type
 use Rattle.intmap_table.specs.contracts.table.stored.Stored as S-type
 use Rattle.intmap_table.proofs.table.stored.Stored.TheLaws as S-laws
 use Rattle.intmap_table.proofs.kept.Kept.TheLaws as K-laws
-use Rattle.intmap_loan.specs.Apart.{each_at}
-use Rattle.intmap_loan.proofs.OpensLemmas.{Opens}
-use Rattle.intmap_loan.proofs.OpensStructLemmas.{still, two_opens}
+use Rattle.intmap_table.specs.Apart.{each_at}
+use Rattle.intmap_table.proofs.Lending.OpensLemmas.{Opens}
+use Rattle.intmap_table.proofs.Lending.OpensStructLemmas.{still, two_opens}
 
 module _ (V' : RattleType) where
   abbrev pub V : RattleType

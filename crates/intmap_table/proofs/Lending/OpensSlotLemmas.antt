@@ -37,11 +37,11 @@ use Rattle.intmap_table.specs.Tables.Slots.{Held, all_pairs, HasFirst}
 use Rattle.intmap_table.specs.Values.{lent_pairs, with_values}
 use Rattle.std.proofs.option.Option.TheLaws as O-laws
 use Rattle.intmap_table.proofs.Lending.ValuesLemmas.{refilled_slot, lent_slot}
-use Rattle.intmap_loan.proofs.OpensLemmas.{Opens, row_put, row_count, row_cells_in, row_fill}
-use Rattle.intmap_loan.proofs.OpensVecLemmas.{vec_opens}
-use Rattle.intmap_loan.proofs.OpensStructLemmas.{two_opens, view_opens}
+use Rattle.intmap_table.proofs.Lending.OpensLemmas.{Opens, row_put, row_count, row_cells_in, row_fill}
+use Rattle.intmap_table.proofs.Lending.OpensVecLemmas.{vec_opens}
+use Rattle.intmap_table.proofs.Lending.OpensStructLemmas.{two_opens, view_opens}
 use Rattle.intmap_table.proofs.Lending.OpensPairLemmas.{V, K, Kr, Hr, Pr, PHr, pair_within, pair_laws, pair_opens}
-use Rattle.intmap_loan.proofs.OpensOptionLemmas.{option_opens, option_put, option_fill, option_count, option_cells_in}
+use Rattle.intmap_table.proofs.Lending.OpensOptionLemmas.{option_opens, option_put, option_fill, option_count, option_cells_in}
 
 module _ (K' V' A' : RattleType) (g : key.Ghosts K'.Denot) (e : eq.Ghosts K'.Denot) (a : allocator.Ghosts A'.Denot) where
   abbrev pub A : RattleType

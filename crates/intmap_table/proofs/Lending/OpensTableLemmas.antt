@@ -36,9 +36,9 @@ use Rattle.intmap_table.specs.Tables.Slots.{Held, Grid, rows, joined}
 use Rattle.intmap_table.specs.Values.{lent_pairs, with_values}
 use Rattle.intmap_table.proofs.Tables.SameKeysLemmas.{row_keys, IsMaskedTable-same_keys}
 use Rattle.intmap_table.proofs.Lending.ValuesLemmas.{with_values-append, keys_of-with_values, lent_slot, lent_pairs-joined, row_keys-lent_slots}
-use Rattle.intmap_loan.proofs.OpensLemmas.{Opens, row_put, row_count, row_cells_in, length-row_put}
-use Rattle.intmap_loan.proofs.OpensVecLemmas.{vec_opens}
-use Rattle.intmap_loan.proofs.OpensStructLemmas.{still, two_opens, view_opens}
+use Rattle.intmap_table.proofs.Lending.OpensLemmas.{Opens, row_put, row_count, row_cells_in, length-row_put}
+use Rattle.intmap_table.proofs.Lending.OpensVecLemmas.{vec_opens}
+use Rattle.intmap_table.proofs.Lending.OpensStructLemmas.{still, two_opens, view_opens}
 use Rattle.intmap_table.proofs.Lending.OpensPairLemmas.{V, K, Kr, Hr}
 use Rattle.intmap_table.proofs.Lending.OpensSlotLemmas.{A, Sr, SHr, words_live, slot_opens}
 

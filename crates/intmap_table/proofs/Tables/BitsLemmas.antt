@@ -1,4 +1,4 @@
--- What the bits of words say of the places that they mark.
+-- What the bits of words say of the indices that they mark.
 use Rattle.std.proofs.Common.{◌≡◌, ◌≢◌, inl, inr, ℕ, zero, suc, ◌+◌, ◌-◌, ◌*◌, ◌/◌, ◌%◌, ◌^◌, ◌<◌, Bool, true, false, List, [], ◌∷◌, ◌++◌, length, map, get_or, set, replicate, sum_by, refl, sym, ap, subst, ◌∙◌, arith, zero-add, bit_and, w64, length-set, get_or-set_same, get_or-set_other, length-append}
 use Rattle.std.specs.Prelude.{◌==◌, cond, filter, nat_eq}
 use Rattle.std.specs.Int.RustNames.{count_ones}
@@ -12,10 +12,10 @@ use Rattle.std.proofs.lemmas.List.Sums.{sum_by-cons}
 use Rattle.std.proofs.lemmas.Nat.{ones_cat}
 use Rattle.std.proofs.lemmas.Nat.Bits.{bit_at-zero, bit_at-suc, bit_at_lowest, bit_at_and, bit_at-trailing_zeros}
 use Rattle.std.proofs.Math.Nat.{pow-suc}
-use Rattle.intmap_table.specs.Tables.Bits.{marked, marked_places, has_bit, marks_of, places_from, with_word, IsWordOf}
+use Rattle.intmap_table.specs.Tables.Bits.{marked, marked_indices, has_bit, marks_of, indices_from, with_word, IsWordOf}
 use Rattle.intmap_table.proofs.Tables.MarkedLemmas.{range_with_len-add, filter-same, filter-none, filter-shift, filter-both}
 
--- the places of the bits of a word that are set, of its first n
+-- the indices of the bits of a word that are set, of its first n
 unfoldable pub bits_of : ℕ → ℕ → List ℕ
 bits_of n word = filter (has_bit word) (range_with_len 0 n)
 
@@ -71,7 +71,7 @@ has_bit-without_lowest_other word t lowest i apart =
     ] in
     ap (λ (b : ℕ). nat_eq b 1) same
 
--- the lowest bit that is set is the first place of a word
+-- the lowest bit that is set is the first index of a word
 bits_of-add : (t r word : ℕ) → IsLowest word t → bits_of (t + suc r) word ≡ t ∷ bits_of (t + suc r) (without_lowest word)
 unfolding bits_of
 bits_of-add t r word lowest =
@@ -101,7 +101,7 @@ small_ones zero h = refl
 small_ones (suc zero) h = refl
 small_ones (suc (suc r)) h = absurd (omega arith)
 
--- the number of places of a word that are marked is the number of its set bits
+-- the number of indices of a word that are marked is the number of its set bits
 length-bits_of : (n word : ℕ) → word < 2 ^ n → length (bits_of n word) ≡ count_ones word
 unfolding bits_of
 length-bits_of zero word fits = let z : word ≡ 0 = omega arith in rw z (sym (small_ones 0 (omega arith)))
@@ -129,18 +129,18 @@ length-bits_of (suc n) word fits =
           simp first (omega (arith, rest, low, both, whole, apart)))
     ]
 
--- words have 64 places each
+-- words have 64 indices each
 pub length-marks_of : (words : List ℕ) → length (marks_of words) ≡ 64 * length words
 unfolding marks_of
 length-marks_of words = length-map-range_with_len (λ i. has_bit (get_or words (i / 64) 0) (i % 64)) 0 (64 * length words)
 
--- a place is marked by its bit
+-- an index is marked by its bit
 pub marked-marks_of : (words : List ℕ) (i : ℕ) → i < 64 * length words → marked (marks_of words) i ≡ has_bit (get_or words (i / 64) 0) (i % 64)
 unfolding marks_of
 marked-marks_of words i below =
     get_or-map-range_with_len (λ i. has_bit (get_or words (i / 64) 0) (i % 64)) 0 (64 * length words) i i false below (zero-add i)
 
--- a word has the marks of the places around each of its own
+-- a word has the marks of the indices around each of its own
 pub IsWordOf-marks_of : (words : List ℕ) (i : ℕ) → i < 64 * length words → IsWordOf (marks_of words) i (get_or words (i / 64) 0)
 IsWordOf-marks_of words i below j lt =
     let under : 64 * (i / 64) + j < 64 * length words = omega (arith, below, lt) in
@@ -148,7 +148,7 @@ IsWordOf-marks_of words i below j lt =
     let r : (64 * (i / 64) + j) % 64 ≡ j = omega (arith, lt) in
     sym (marked-marks_of words (64 * (i / 64) + j) under ∙ ap (λ q. has_bit (get_or words q 0) ((64 * (i / 64) + j) % 64)) d ∙ ap (λ q. has_bit (get_or words (i / 64) 0) q) r)
 
--- marks that are those of a word around place i, and some others elsewhere
+-- marks that are those of a word around index i, and some others elsewhere
 pub with_word-is : (marks ns : List Bool) (i word : ℕ) → length ns ≡ length marks → IsWordOf ns i word → ((j : ℕ) → j < length marks → j / 64 ≢ i / 64 → marked ns j ≡ marked marks j)
     → with_word marks i word ≡ ns
 with_word-is marks ns i word same is others =
@@ -169,7 +169,7 @@ pub with_word-unmarked : (marks : List Bool) (i word : ℕ) → IsWordOf (set ma
 with_word-unmarked marks i word is =
     with_word-is marks (set marks i false) i word (length-set marks i false) is (λ j below apart. get_or-set_other marks i j false false (λ q. apart (ap (λ n. n / 64) q)))
 
--- a word without the bit of a place has the marks without that place
+-- a word without the bit of an index has the marks without that index
 pub IsWordOf-unmarked : (marks : List Bool) (i word less : ℕ) → i < length marks → IsWordOf marks i word → bit_at less (i % 64) ≡ 0 → ((j : ℕ) → j < 64 → j ≢ i % 64 → bit_at less j ≡ bit_at word j)
     → IsWordOf (set marks i false) i less
 IsWordOf-unmarked marks i word less below is none others j lt = elim (cases_eq j (i % 64)) [
@@ -179,7 +179,7 @@ IsWordOf-unmarked marks i word less below is none others j lt = elim (cases_eq j
       ap (λ (b : ℕ). nat_eq b 1) (others j lt apart) ∙ is j lt ∙ sym (get_or-set_other marks i (64 * (i / 64) + j) false false other))
 ]
 
--- another word among words has its bits around the place
+-- another word among words has its bits around the index
 pub marks_of-with_word : (words : List ℕ) (i word : ℕ) → i < 64 * length words → marks_of (set words (i / 64) word) ≡ with_word (marks_of words) i word
 marks_of-with_word words i word below =
     let n = length-set words (i / 64) word in
@@ -193,7 +193,7 @@ marks_of-with_word words i word below =
     let there : j < 64 * length (set words (i / 64) word) = omega (arith, here, n) in
     marked-marks_of (set words (i / 64) word) j there ∙ ap (λ w. has_bit w (j % 64)) (get_or-set_other words (i / 64) (j / 64) word 0 apart) ∙ sym (marked-marks_of words j here)))
 
--- words that are zero mark no place
+-- words that are zero mark no index
 pub marks_of-zeros : (n : ℕ) → marks_of (replicate n 0) ≡ replicate (64 * n) false
 marks_of-zeros n =
     let l = length-marks_of (replicate n 0) in
@@ -209,7 +209,7 @@ marks_of-zeros n =
     ∙ ne_eqb (bit_at 0 (i % 64)) 1 (λ e. omega (arith, z, e))
     ∙ sym (get_or-replicate {A = Bool} (64 * n) i false false under))
 
--- a word that differs in one bit changes one place
+-- a word that differs in one bit changes one index
 pub marks_of-set : (words : List ℕ) (i word : ℕ) (b : Bool) → i < 64 * length words → has_bit word (i % 64) ≡ b → ((j : ℕ) → j < 64 → j ≢ i % 64 → bit_at word j ≡ bit_at (get_or words (i / 64) 0) j)
     → marks_of (set words (i / 64) word) ≡ set (marks_of words) i b
 marks_of-set words i word b below is others =
@@ -237,10 +237,10 @@ marks_of-set words i word b below is others =
           left ∙ bit ∙ sym right)
     ])
 
--- the marked places of the first word, of m bits, and those of the words behind it
-marked_places-word : (m : ℕ) → m ≡ 64 → (w : ℕ) (ws : List ℕ) → marked_places (marks_of (w ∷ ws)) ≡ bits_of m w ++ map (λ i. m + i) (marked_places (marks_of ws))
+-- the marked indices of the first word, of m bits, and those of the words behind it
+marked_indices-word : (m : ℕ) → m ≡ 64 → (w : ℕ) (ws : List ℕ) → marked_indices (marks_of (w ∷ ws)) ≡ bits_of m w ++ map (λ i. m + i) (marked_indices (marks_of ws))
 unfolding bits_of
-marked_places-word m bits w ws =
+marked_indices-word m bits w ws =
     let l = length-marks_of ws in
     let n : length (marks_of (w ∷ ws)) ≡ m + length (marks_of ws) = let a = length-marks_of (w ∷ ws) in omega (arith, a, l, bits) in
     let f : ℕ → Bool = marked (marks_of (w ∷ ws)) in
@@ -250,7 +250,7 @@ marked_places-word m bits w ws =
     let d : (0 + i) / 64 ≡ 0 = omega (arith, lt, bits) in
     let r : (0 + i) % 64 ≡ 0 + i = omega (arith, lt, bits) in
     marked-marks_of (w ∷ ws) (0 + i) below ∙ ap (λ q. has_bit (get_or (w ∷ ws) q 0) ((0 + i) % 64)) d ∙ ap (λ q. has_bit w q) r) in
-    let rest : filter f (range_with_len (m + 0) (length (marks_of ws))) ≡ map (λ i. m + i) (marked_places (marks_of ws)) =
+    let rest : filter f (range_with_len (m + 0) (length (marks_of ws))) ≡ map (λ i. m + i) (marked_indices (marks_of ws)) =
     filter-shift f m 0 (length (marks_of ws)) ∙ ap (λ xs. map (λ i. m + i) xs)
     (filter-same (λ i. f (m + i)) (marked (marks_of ws)) 0 (length (marks_of ws)) (λ i lt.
     let below : m + (0 + i) < 64 * length (w ∷ ws) = omega (arith, lt, l, bits) in
@@ -259,27 +259,27 @@ marked_places-word m bits w ws =
     let r : (m + (0 + i)) % 64 ≡ (0 + i) % 64 = omega (arith, bits) in
     marked-marks_of (w ∷ ws) (m + (0 + i)) below ∙ ap (λ q. has_bit (get_or (w ∷ ws) q 0) ((m + (0 + i)) % 64)) d ∙ ap (λ q. has_bit (get_or ws ((0 + i) / 64) 0) q) r
     ∙ sym (marked-marks_of ws (0 + i) under))) in
-    ap (λ k. filter f (range_with_len 0 k)) n ∙ filter-both f m (length (marks_of ws)) (filter (has_bit w) (range_with_len 0 m)) (map (λ i. m + i) (marked_places (marks_of ws))) first rest
+    ap (λ k. filter f (range_with_len 0 k)) n ∙ filter-both f m (length (marks_of ws)) (filter (has_bit w) (range_with_len 0 m)) (map (λ i. m + i) (marked_indices (marks_of ws))) first rest
 
-pub marked_places-cons : (w : ℕ) (ws : List ℕ) → marked_places (marks_of (w ∷ ws)) ≡ bits_of 64 w ++ map (λ i. 64 + i) (marked_places (marks_of ws))
-marked_places-cons w ws = marked_places-word 64 refl w ws
+pub marked_indices-cons : (w : ℕ) (ws : List ℕ) → marked_indices (marks_of (w ∷ ws)) ≡ bits_of 64 w ++ map (λ i. 64 + i) (marked_indices (marks_of ws))
+marked_indices-cons w ws = marked_indices-word 64 refl w ws
 
--- no words mark no place
-pub marked_places-none : (words : List ℕ) → length words ≡ 0 → marked_places (marks_of words) ≡ []
+-- no words mark no index
+pub marked_indices-none : (words : List ℕ) → length words ≡ 0 → marked_indices (marks_of words) ≡ []
 unfolding marks_of
-marked_places-none [] none = refl
-marked_places-none (w ∷ ws) none = absurd (omega arith)
+marked_indices-none [] none = refl
+marked_indices-none (w ∷ ws) none = absurd (omega arith)
 
--- the number of places of these words that are marked is the number of their set bits
-pub length-marked_places-marks_of : (words : List ℕ) → ((k : ℕ) → get_or words k 0 < 2 ^ 64) → length (marked_places (marks_of words)) ≡ sum_by count_ones words
-length-marked_places-marks_of [] fits = ap length (marked_places-none [] refl)
-length-marked_places-marks_of (w ∷ ws) fits =
+-- the number of indices of these words that are marked is the number of their set bits
+pub length-marked_indices-marks_of : (words : List ℕ) → ((k : ℕ) → get_or words k 0 < 2 ^ 64) → length (marked_indices (marks_of words)) ≡ sum_by count_ones words
+length-marked_indices-marks_of [] fits = ap length (marked_indices-none [] refl)
+length-marked_indices-marks_of (w ∷ ws) fits =
     let first = length-bits_of 64 w (fits 0) in
-    let rest = length-marked_places-marks_of ws (λ k. fits (suc k)) in
-    let both = length-append (bits_of 64 w) (map (λ i. 64 + i) (marked_places (marks_of ws))) in
-    let moved = length-map (marked_places (marks_of ws)) (λ i. 64 + i) in
+    let rest = length-marked_indices-marks_of ws (λ k. fits (suc k)) in
+    let both = length-append (bits_of 64 w) (map (λ i. 64 + i) (marked_indices (marks_of ws))) in
+    let moved = length-map (marked_indices (marks_of ws)) (λ i. 64 + i) in
     let sum = sum_by-cons count_ones w ws in
-    ap length (marked_places-cons w ws) ∙ omega (arith, first, rest, both, moved, sum)
+    ap length (marked_indices-cons w ws) ∙ omega (arith, first, rest, both, moved, sum)
 
 pub map-add : (base k : ℕ) (ns : List ℕ) → map (λ i. base + i) (map (λ i. k + i) ns) ≡ map (λ i. base + k + i) ns
 map-add base k [] = refl
@@ -290,24 +290,24 @@ map-zero [] = refl
 map-zero (n ∷ ns) = let e : 0 + n ≡ n = omega arith in simp (e, map-zero ns) refl
 
 -- the words behind a word that is zero
-pub places_from-zero : (base : ℕ) (words : List ℕ) → places_from base (0 ∷ words) ≡ places_from (base + 64) words
-places_from-zero base words =
-    ap (λ xs. map (λ i. base + i) xs) (marked_places-cons 0 words ∙ ap (λ xs. xs ++ map (λ i. 64 + i) (marked_places (marks_of words))) (bits_of-zero 64))
-    ∙ map-add base 64 (marked_places (marks_of words))
+pub indices_from-zero : (base : ℕ) (words : List ℕ) → indices_from base (0 ∷ words) ≡ indices_from (base + 64) words
+indices_from-zero base words =
+    ap (λ xs. map (λ i. base + i) xs) (marked_indices-cons 0 words ∙ ap (λ xs. xs ++ map (λ i. 64 + i) (marked_indices (marks_of words))) (bits_of-zero 64))
+    ∙ map-add base 64 (marked_indices (marks_of words))
 
 -- behind a word that is zero there is nothing
-pub places_from-none : (base : ℕ) (words : List ℕ) → length words ≡ 0 → places_from base (0 ∷ words) ≡ []
-places_from-none base words none = places_from-zero base words ∙ ap (λ xs. map (λ i. base + 64 + i) xs) (marked_places-none words none)
+pub indices_from-none : (base : ℕ) (words : List ℕ) → length words ≡ 0 → indices_from base (0 ∷ words) ≡ []
+indices_from-none base words none = indices_from-zero base words ∙ ap (λ xs. map (λ i. base + 64 + i) xs) (marked_indices-none words none)
 
--- the words from place 0 on
-pub places_from-start : (words : List ℕ) → places_from 0 words ≡ marked_places (marks_of words)
-places_from-start words = map-zero (marked_places (marks_of words))
+-- the words from index 0 on
+pub indices_from-start : (words : List ℕ) → indices_from 0 words ≡ marked_indices (marks_of words)
+indices_from-start words = map-zero (marked_indices (marks_of words))
 
--- the first place of a word that is not zero, and the others
-pub places_from-word : (base word : ℕ) (words : List ℕ) → 0 < word → word < 2 ^ 64
-    → places_from base (word ∷ words) ≡ (base + trailing_zeros w64 word) ∷ places_from base (bit_and word (word - 1) ∷ words)
-places_from-word base word words some fits =
+-- the first index of a word that is not zero, and the others
+pub indices_from-word : (base word : ℕ) (words : List ℕ) → 0 < word → word < 2 ^ 64
+    → indices_from base (word ∷ words) ≡ (base + trailing_zeros w64 word) ∷ indices_from base (bit_and word (word - 1) ∷ words)
+indices_from-word base word words some fits =
     let t = bit_at-trailing_zeros w64 word some fits in
     let first = bits_of-lowest 64 word (trailing_zeros w64 word) t.0 (record { one = t.1; below = t.2 }) in
-    ap (λ xs. map (λ i. base + i) xs) (marked_places-cons word words ∙ ap (λ xs. xs ++ map (λ i. 64 + i) (marked_places (marks_of words))) first)
-    ∙ ap (λ xs. (base + trailing_zeros w64 word) ∷ map (λ i. base + i) xs) (sym (marked_places-cons (without_lowest word) words))
+    ap (λ xs. map (λ i. base + i) xs) (marked_indices-cons word words ∙ ap (λ xs. xs ++ map (λ i. 64 + i) (marked_indices (marks_of words))) first)
+    ∙ ap (λ xs. (base + trailing_zeros w64 word) ∷ map (λ i. base + i) xs) (sym (marked_indices-cons (without_lowest word) words))

@@ -11,13 +11,13 @@ use Rattle.std.proofs.lemmas.List.Sums.{sum_by-cons, length-filter, count_by-le-
 use Rattle.std.proofs.lemmas.List.Elements.{All-head, All-tail}
 use Rattle.intmap_table.specs.Classes.{IsCapacity, slot_number}
 use Rattle.intmap_table.specs.Walk.{slot_of}
-use Rattle.intmap_table.specs.Tables.Bits.{marked, marked_places}
+use Rattle.intmap_table.specs.Tables.Bits.{marked, marked_indices}
 use Rattle.intmap_table.specs.Tables.Slots.{Held, rows, joined, AreMarked}
-use Rattle.intmap_table.specs.Tables.Moves.{rooms, emptied, IsGrown, IsOldRows, need, HasParts, CanLeave, CanMoveOn}
+use Rattle.intmap_table.specs.Tables.Moves.{rooms, bare_slot, IsGrown, IsOldRows, need, HasParts, CanLeave, CanMoveOn}
 use Rattle.intmap_table.proofs.SlotNumberLemmas.{capacity-positive}
 use Rattle.intmap_table.proofs.Tables.TableLemmas.{length-rows, get_or-rows}
-use Rattle.intmap_table.proofs.Tables.MarkedLemmas.{All-marked_places, AllPairs-marked_places}
-use Rattle.intmap_table.proofs.Tables.FilledLemmas.{row-unplaced}
+use Rattle.intmap_table.proofs.Tables.MarkedLemmas.{All-marked_indices, AllPairs-marked_indices}
+use Rattle.intmap_table.proofs.Tables.FilledLemmas.{row-unmarked}
 use Rattle.intmap_table.proofs.Tables.GrownLemmas.{slot_number-parts, modulo-below, grown-more, IsGrown-from, IsMidway-start}
 use Rattle.intmap_table.proofs.Tables.RoomLemmas.{CanLeave-same, CanLeave-short, HasRoom-parts}
 
@@ -98,7 +98,7 @@ offset-fits i n size below all = let le : i ≤ n = omega (arith, below) in let 
 pub part-past : (C t i : ℕ) → 0 < t → C ≤ t * C + i
 part-past C t i some = let more = one_part t C some in omega (arith, more)
 
--- of the parts of old slot i, those from a place on have no block, and those before it have room for the pairs that are counted for them, except part x, which got none and has no block either
+-- of the parts of old slot i, those from an index on have no block, and those before it have room for the pairs that are counted for them, except part x, which got none and has no block either
 pub record IsShared (r counts : List ℕ) (C i part : ℕ) (spared : Bool) (x : ℕ) : Type 0 where
   pub ahead : (t : ℕ) → part ≤ t → t < length counts → get_or r (t * C + i) 0 ≡ 1
   pub room : (t : ℕ) → t < part → (get_or counts t 0 ≤ get_or r (t * C + i) 0) ⊎ ((t ≡ x) × (get_or r (t * C + i) 0 ≡ 1))
@@ -207,16 +207,16 @@ module _ {K X : Type 0} where
 
   -- the parts that share rooms are those of the slots without the old one
   pub HasParts-shared : (S : List (Held K X)) (C i : ℕ) (counts : List ℕ) (part : ℕ) (spared : Bool) (x : ℕ) → length counts ≤ part
-      → IsShared (spare_rooms S i) counts C i part spared x → HasParts (set S i emptied) C i counts x
+      → IsShared (spare_rooms S i) counts C i part spared x → HasParts (set S i bare_slot) C i counts x
   HasParts-shared S C i counts part spared x all is = record {
-    room = rw (map-set (λ (h : Held K X). h.room) S i emptied) (λ t lt. is.room t (omega (arith, lt, all)));
+    room = rw (map-set (λ (h : Held K X). h.room) S i bare_slot) (λ t lt. is.room t (omega (arith, lt, all)));
   }
 
--- places of rows with pairs, in ascending order
-pub record AreLeft {P : Type 0} (R : List (List P)) (places : List ℕ) : Type 0 where
-  pub within : All (λ i. i < length R) places
-  pub filled : All (λ i. 0 < length (get_or R i [])) places
-  pub ascending : AllPairs (λ i j. i < j) places
+-- indices of rows with pairs, in ascending order
+pub record AreLeft {P : Type 0} (R : List (List P)) (indices : List ℕ) : Type 0 where
+  pub within : All (λ i. i < length R) indices
+  pub filled : All (λ i. 0 < length (get_or R i [])) indices
+  pub ascending : AllPairs (λ i j. i < j) indices
 
 module _ {P : Type 0} (R : List (List P)) where
   row-within : (i : ℕ) → 0 < length (get_or R i []) → i < length R
@@ -225,36 +225,36 @@ module _ {P : Type 0} (R : List (List P)) where
     | inr past ↦ (let none = ap length (get_or_past R i [] past) in absurd (omega (arith, some, none)))
   ]
 
-  -- the marked ones are such places
-  pub AreLeft-marked : (marks : List Bool) → AreMarked R marks → AreLeft R (marked_places marks)
+  -- the marked ones are such indices
+  pub AreLeft-marked : (marks : List Bool) → AreMarked R marks → AreLeft R (marked_indices marks)
   AreLeft-marked marks are =
       let some : (i : ℕ) → marked marks i ≡ true → 0 < length (get_or R i []) = λ i is. ltb-true 0 (length (get_or R i [])) (sym (are.own i) ∙ is) in
       record {
-        within = λ k d lt. row-within (get_or (marked_places marks) k d) (some (get_or (marked_places marks) k d) (All-marked_places marks k d lt).1);
-        filled = λ k d lt. some (get_or (marked_places marks) k d) (All-marked_places marks k d lt).1;
-        ascending = AllPairs-marked_places marks;
+        within = λ k d lt. row-within (get_or (marked_indices marks) k d) (some (get_or (marked_indices marks) k d) (All-marked_indices marks k d lt).1);
+        filled = λ k d lt. some (get_or (marked_indices marks) k d) (All-marked_indices marks k d lt).1;
+        ascending = AllPairs-marked_indices marks;
       }
 
-  module _ (place : ℕ) (rest : List ℕ) (left : AreLeft R (place ∷ rest)) where
+  module _ (index : ℕ) (rest : List ℕ) (left : AreLeft R (index ∷ rest)) where
     -- so are those behind the first
     pub AreLeft-rest : AreLeft R rest
     AreLeft-rest = record {
-      within = All-tail (λ i. i < length R) place rest left.within;
-      filled = All-tail (λ i. 0 < length (get_or R i [])) place rest left.filled;
+      within = All-tail (λ i. i < length R) index rest left.within;
+      filled = All-tail (λ i. 0 < length (get_or R i [])) index rest left.filled;
       ascending = λ i j d lt below. left.ascending (suc i) (suc j) d (omega (arith, lt)) (omega (arith, below));
     }
 
     -- the first one is none of them
-    pub first-alone : list_any (λ j. j == place) rest ≡ false
-    first-alone = list_any_none (λ j. j == place) rest (λ k d lt. ne_eqb (get_or rest k d) place (λ q.
+    pub first-alone : list_any (λ j. j == index) rest ≡ false
+    first-alone = list_any_none (λ j. j == index) rest (λ k d lt. ne_eqb (get_or rest k d) index (λ q.
         let less = left.ascending 0 (suc k) d (omega arith) (omega (arith, lt)) in absurd (omega (arith, less, q))))
 
--- old slots that are not among the places that are left can be left, and have no more pairs behind their first than the longest; the parts of those that are have the rooms that they had
-pub record AreReady {K X : Type 0} (number : K → ℕ) (S₀ : List (Held K X)) (C : ℕ) (places : List ℕ) (longest : ℕ) (S : List (Held K X)) : Type 0 where
+-- old slots that are not among the indices that are left can be left, and have no more pairs behind their first than the longest; the parts of those that are have the rooms that they had
+pub record AreReady {K X : Type 0} (number : K → ℕ) (S₀ : List (Held K X)) (C : ℕ) (indices : List ℕ) (longest : ℕ) (S : List (Held K X)) : Type 0 where
   pub kept : rows S ≡ rows S₀
-  pub done : (k : ℕ) → k < C → list_any (λ j. j == k) places ≡ false → CanLeave number S k
-  pub short : (k : ℕ) → k < C → list_any (λ j. j == k) places ≡ false → length (get_or (rows S₀) k []) ≤ 1 + longest
-  pub ahead : (k : ℕ) → k < C → list_any (λ j. j == k) places ≡ true → (j : ℕ) → j % C ≡ k → get_or (rooms S) j 0 ≡ get_or (rooms S₀) j 0
+  pub done : (k : ℕ) → k < C → list_any (λ j. j == k) indices ≡ false → CanLeave number S k
+  pub short : (k : ℕ) → k < C → list_any (λ j. j == k) indices ≡ false → length (get_or (rows S₀) k []) ≤ 1 + longest
+  pub ahead : (k : ℕ) → k < C → list_any (λ j. j == k) indices ≡ true → (j : ℕ) → j % C ≡ k → get_or (rooms S) j 0 ≡ get_or (rooms S₀) j 0
 
 module _ {K X : Type 0} (number : K → ℕ) where
   -- a slot without pairs needs no room elsewhere
@@ -262,12 +262,12 @@ module _ {K X : Type 0} (number : K → ℕ) where
   CanLeave-none S k empty = (
     0,
     record {
-      room = λ j lt some. (let none : need number (get_or (rows S) k []) (length (set S k emptied)) j ≡ 0 = ap (λ (L : List (K × X)). need number L (length (set S k emptied)) j) empty in absurd (omega (arith, some, none)));
+      room = λ j lt some. (let none : need number (get_or (rows S) k []) (length (set S k bare_slot)) j ≡ 0 = ap (λ (L : List (K × X)). need number L (length (set S k bare_slot)) j) empty in absurd (omega (arith, some, none)));
     },
   )
 
   module _ (S₀ : List (Held K X)) (C : ℕ) (grown : IsGrown C (length S₀)) (is : IsOldRows number (take C (rows S₀)) C)
-      (bare : (j : ℕ) → C ≤ j → j < length S₀ → get_or S₀ j emptied ≡ emptied) where
+      (bare : (j : ℕ) → C ≤ j → j < length S₀ → get_or S₀ j bare_slot ≡ bare_slot) where
     old-row : (k : ℕ) → k < C → get_or (take C (rows S₀)) k [] ≡ get_or (rows S₀) k []
     old-row k lt = get_or-take C (rows S₀) k [] lt
 
@@ -281,16 +281,16 @@ module _ {K X : Type 0} (number : K → ℕ) where
     ]
 
     bare-row : (j : ℕ) → C ≤ j → j < length S₀ → get_or (rows S₀) j [] ≡ []
-    bare-row j past lt = get_or-rows S₀ j emptied lt ∙ ap (λ (h : Held K X). h.pairs) (bare j past lt)
+    bare-row j past lt = get_or-rows S₀ j bare_slot lt ∙ ap (λ (h : Held K X). h.pairs) (bare j past lt)
 
     bare-room : (j : ℕ) → C ≤ j → j < length S₀ → get_or (rooms S₀) j 0 ≡ 1
-    bare-room j past lt = get_or-map (λ (h : Held K X). h.room) S₀ j emptied 0 lt ∙ ap (λ (h : Held K X). h.room) (bare j past lt)
+    bare-room j past lt = get_or-map (λ (h : Held K X). h.room) S₀ j bare_slot 0 lt ∙ ap (λ (h : Held K X). h.room) (bare j past lt)
 
-    -- at first all marked places are left
-    pub AreReady-start : (marks : List Bool) → AreMarked (take C (rows S₀)) marks → AreReady number S₀ C (marked_places marks) 0 S₀
+    -- at first all marked indices are left
+    pub AreReady-start : (marks : List Bool) → AreMarked (take C (rows S₀)) marks → AreReady number S₀ C (marked_indices marks) 0 S₀
     AreReady-start marks are =
-        let none : (k : ℕ) → k < C → list_any (λ j. j == k) (marked_places marks) ≡ false → get_or (rows S₀) k [] ≡ [] =
-        λ k lt missed. sym (old-row k lt) ∙ row-unplaced (take C (rows S₀)) marks are k missed in
+        let none : (k : ℕ) → k < C → list_any (λ j. j == k) (marked_indices marks) ≡ false → get_or (rows S₀) k [] ≡ [] =
+        λ k lt missed. sym (old-row k lt) ∙ row-unmarked (take C (rows S₀)) marks are k missed in
         record {
           kept = refl;
           done = λ k lt missed. CanLeave-none S₀ k (none k lt missed);
@@ -308,68 +308,68 @@ module _ {K X : Type 0} (number : K → ℕ) where
       short = λ k lt. (let few = ready.short k lt refl in let row = ap length (old-row k lt) in omega (arith, few, row));
     }
 
-    module _ (place : ℕ) (rest : List ℕ) (left : AreLeft (take C (rows S₀)) (place ∷ rest)) (longest : ℕ) (S : List (Held K X)) (ready : AreReady number S₀ C (place ∷ rest) longest S) where
-      -- the current place is that of an old slot
-      pub place-old : place < C
-      place-old = let w = All-head (λ i. i < length (take C (rows S₀))) place rest left.within in omega (arith, w, is.len)
+    module _ (index : ℕ) (rest : List ℕ) (left : AreLeft (take C (rows S₀)) (index ∷ rest)) (longest : ℕ) (S : List (Held K X)) (ready : AreReady number S₀ C (index ∷ rest) longest S) where
+      -- the current index is that of an old slot
+      pub index-old : index < C
+      index-old = let w = All-head (λ i. i < length (take C (rows S₀))) index rest left.within in omega (arith, w, is.len)
 
       -- the number of slots is as before
       pub len-ready : length S ≡ length S₀
       len-ready = sym (length-rows S) ∙ ap length ready.kept ∙ length-rows S₀
 
       -- which is one of all slots
-      pub place-slot : place < length S₀
-      place-slot = let more = grown-more C (length S₀) grown in let w = place-old in omega (arith, w, more)
+      pub index-slot : index < length S₀
+      index-slot = let more = grown-more C (length S₀) grown in let w = index-old in omega (arith, w, more)
 
       -- its row is as it was
-      pub row-ready : (d : Held K X) → (get_or S place d).pairs ≡ get_or (rows S₀) place []
-      row-ready d = sym (get_or-rows S place d (let w = place-slot in let l = len-ready in omega (arith, w, l))) ∙ ap (λ (R : List (List (K × X))). get_or R place []) ready.kept
+      pub row-ready : (d : Held K X) → (get_or S index d).pairs ≡ get_or (rows S₀) index []
+      row-ready d = sym (get_or-rows S index d (let w = index-slot in let l = len-ready in omega (arith, w, l))) ∙ ap (λ (R : List (List (K × X))). get_or R index []) ready.kept
 
       -- its room is that of the slot
-      pub room-ready : (d : Held K X) → get_or (rooms S) place 0 ≡ (get_or S place d).room
-      room-ready d = get_or-map (λ (h : Held K X). h.room) S place d 0 (let w = place-slot in let l = len-ready in omega (arith, w, l))
+      pub room-ready : (d : Held K X) → get_or (rooms S) index 0 ≡ (get_or S index d).room
+      room-ready d = get_or-map (λ (h : Held K X). h.room) S index d 0 (let w = index-slot in let l = len-ready in omega (arith, w, l))
 
       -- it has pairs
-      pub filled-ready : (d : Held K X) → 0 < length (get_or S place d).pairs
+      pub filled-ready : (d : Held K X) → 0 < length (get_or S index d).pairs
       filled-ready d =
-          let some = All-head (λ i. 0 < length (get_or (take C (rows S₀)) i [])) place rest left.filled in
-          let e = ap length (old-row place place-old) in let q = ap length (row-ready d) in omega (arith, some, e, q)
+          let some = All-head (λ i. 0 < length (get_or (take C (rows S₀)) i [])) index rest left.filled in
+          let e = ap length (old-row index index-old) in let q = ap length (row-ready d) in omega (arith, some, e, q)
 
       -- of its slot alone
-      pub own-ready : (d : Held K X) → All (λ p. slot_number number p.0 C ≡ place) (get_or S place d).pairs
-      own-ready d = subst (λ (row : List (K × X)). All (λ p. slot_number number p.0 C ≡ place) row) (sym (row-ready d)) (own-row place place-old)
+      pub own-ready : (d : Held K X) → All (λ p. slot_number number p.0 C ≡ index) (get_or S index d).pairs
+      own-ready d = subst (λ (row : List (K × X)). All (λ p. slot_number number p.0 C ≡ index) row) (sym (row-ready d)) (own-row index index-old)
 
       -- no more than there are in all
-      pub few-ready : (d : Held K X) → length (get_or S place d).pairs ≤ length (joined (rows S₀))
+      pub few-ready : (d : Held K X) → length (get_or S index d).pairs ≤ length (joined (rows S₀))
       few-ready d =
-          let w : place < length (rows S₀) = (let w = place-slot in let l = length-rows S₀ in omega (arith, w, l)) in
-          let most = length-flat_map-take (λ (s : List (K × X)). s) (rows S₀) place [] w in let e = ap length (row-ready d) in omega (arith, most, e)
+          let w : index < length (rows S₀) = (let w = index-slot in let l = length-rows S₀ in omega (arith, w, l)) in
+          let most = length-flat_map-take (λ (s : List (K × X)). s) (rows S₀) index [] w in let e = ap length (row-ready d) in omega (arith, most, e)
 
       -- its parts past the old slots have no block
-      pub bare-ready : (j : ℕ) → j < length S₀ → j % C ≡ place → j ≢ place → get_or (rooms S) j 0 ≡ 1
+      pub bare-ready : (j : ℕ) → j < length S₀ → j % C ≡ index → j ≢ index → get_or (rooms S) j 0 ≡ 1
       bare-ready j lt part apart =
-          let here : (place == place) ≡ true = eq-eqb place place refl in
-          ready.ahead place place-old (simp here) j part ∙ bare-room j (past-old j place part apart) lt
+          let here : (index == index) ≡ true = eq-eqb index index refl in
+          ready.ahead index index-old (simp here) j part ∙ bare-room j (past-old j index part apart) lt
 
       -- the same by the parts
-      pub bare-parts-ready : (P : ℕ) → length S₀ ≡ P * C → (t : ℕ) → 0 < t → t < P → get_or (rooms S) (t * C + place) 0 ≡ 1
+      pub bare-parts-ready : (P : ℕ) → length S₀ ≡ P * C → (t : ℕ) → 0 < t → t < P → get_or (rooms S) (t * C + index) 0 ≡ 1
       bare-parts-ready P len t some lt =
-          let within : t * C + place < length S₀ = (let w = part-within P C t place lt place-old in omega (arith, w, len)) in
-          let past = part-past C t place some in let w = place-old in
-          bare-ready (t * C + place) within (mod-mul-add t C place place-old) (λ e. absurd (omega (arith, e, past, w)))
+          let within : t * C + index < length S₀ = (let w = part-within P C t index lt index-old in omega (arith, w, len)) in
+          let past = part-past C t index some in let w = index-old in
+          bare-ready (t * C + index) within (mod-mul-add t C index index-old) (λ e. absurd (omega (arith, e, past, w)))
 
-      -- with room made in its parts alone, so that it can be left, the next place is at hand
+      -- with room made in its parts alone, so that it can be left, the next index is at hand
       pub AreReady-next : (T : List (Held K X)) (longer : ℕ) → rows T ≡ rows S
-          → ((j k : ℕ) → k < C → k ≢ place → j % C ≡ k → get_or (rooms T) j 0 ≡ get_or (rooms S) j 0)
-          → CanLeave number T place → longest ≤ longer → length (get_or (rows S₀) place []) ≤ 1 + longer → AreReady number S₀ C rest longer T
+          → ((j k : ℕ) → k < C → k ≢ index → j % C ≡ k → get_or (rooms T) j 0 ≡ get_or (rooms S) j 0)
+          → CanLeave number T index → longest ≤ longer → length (get_or (rows S₀) index []) ≤ 1 + longer → AreReady number S₀ C rest longer T
       AreReady-next T longer same others leave more few =
           let lenT : length T ≡ length S = sym (length-rows T) ∙ ap length same ∙ length-rows S in
           let grownS : IsGrown C (length S) = subst (λ d. IsGrown C d) (sym len-ready) grown in
-          let before : (k : ℕ) → place ≢ k → list_any (λ j. j == k) rest ≡ false → list_any (λ j. j == k) (place ∷ rest) ≡ false =
-          λ k apart missed. (let other : (place == k) ≡ false = ne_eqb place k apart in simp other missed) in
+          let before : (k : ℕ) → index ≢ k → list_any (λ j. j == k) rest ≡ false → list_any (λ j. j == k) (index ∷ rest) ≡ false =
+          λ k apart missed. (let other : (index == k) ≡ false = ne_eqb index k apart in simp other missed) in
           record {
             kept = same ∙ ready.kept;
-            done = λ k lt missed. elim (cases_eq place k) as (λ _. CanLeave number T k) [
+            done = λ k lt missed. elim (cases_eq index k) as (λ _. CanLeave number T k) [
               | inl q ↦ subst (λ n. CanLeave number T n) q leave
               | inr apart ↦ CanLeave-same number S T C k grownS lt
                   (subst (λ (R : List (List (K × X))). All (λ p. slot_number number p.0 C ≡ k) (get_or R k [])) (sym ready.kept) (own-row k lt))
@@ -379,41 +379,41 @@ module _ {K X : Type 0} (number : K → ℕ) where
                   (let all = grown-more C (length S₀) grown in let l = len-ready in omega (arith, lt, all, l))
                   (ready.done k lt (before k apart missed))
             ];
-            short = λ k lt missed. elim (cases_eq place k) as (λ _. length (get_or (rows S₀) k []) ≤ 1 + longer) [
+            short = λ k lt missed. elim (cases_eq index k) as (λ _. length (get_or (rows S₀) k []) ≤ 1 + longer) [
               | inl q ↦ subst (λ n. length (get_or (rows S₀) n []) ≤ 1 + longer) q few
               | inr apart ↦ (let w = ready.short k lt (before k apart missed) in omega (arith, w, more))
             ];
-            ahead = λ k lt found j part. elim (cases_eq place k) as (λ _. get_or (rooms T) j 0 ≡ get_or (rooms S₀) j 0) [
-              | inl q ↦ (let alone = first-alone (take C (rows S₀)) place rest left in
+            ahead = λ k lt found j part. elim (cases_eq index k) as (λ _. get_or (rooms T) j 0 ≡ get_or (rooms S₀) j 0) [
+              | inl q ↦ (let alone = first-alone (take C (rows S₀)) index rest left in
                   let no : true ≡ false = sym found ∙ ap (λ n. list_any (λ j. j == n) rest) (sym q) ∙ alone in absurd (cc))
-              | inr apart ↦ (let other : (place == k) ≡ false = ne_eqb place k apart in
+              | inr apart ↦ (let other : (index == k) ≡ false = ne_eqb index k apart in
                   others j k lt (λ q. apart (sym q)) part ∙ ready.ahead k lt (simp other found) j part)
             ];
           }
 
       -- one of up to three pairs can be left as it is
-      pub AreReady-few : (longer : ℕ) → length (get_or (rows S₀) place []) ≤ 3 → length (get_or (rows S₀) place []) ≤ get_or (rooms S) place 0
-          → longest ≤ longer → length (get_or (rows S₀) place []) ≤ 1 + longer → AreReady number S₀ C rest longer S
+      pub AreReady-few : (longer : ℕ) → length (get_or (rows S₀) index []) ≤ 3 → length (get_or (rows S₀) index []) ≤ get_or (rooms S) index 0
+          → longest ≤ longer → length (get_or (rows S₀) index []) ≤ 1 + longer → AreReady number S₀ C rest longer S
       AreReady-few longer three fits more few =
-          let row : get_or (rows S) place [] ≡ get_or (rows S₀) place [] = ap (λ (R : List (List (K × X))). get_or R place []) ready.kept in
+          let row : get_or (rows S) index [] ≡ get_or (rows S₀) index [] = ap (λ (R : List (List (K × X))). get_or R index []) ready.kept in
           let e = ap length row in
           AreReady-next S longer refl (λ j k _ _ _. refl)
-          (CanLeave-short number S C place (subst (λ d. IsGrown C d) (sym len-ready) grown) place-old
-          (subst (λ (L : List (K × X)). All (λ p. slot_number number p.0 C ≡ place) L) (sym row) (own-row place place-old))
+          (CanLeave-short number S C index (subst (λ d. IsGrown C d) (sym len-ready) grown) index-old
+          (subst (λ (L : List (K × X)). All (λ p. slot_number number p.0 C ≡ index) L) (sym row) (own-row index index-old))
           (omega (arith, e, three)) (omega (arith, e, fits))
           (λ j lt part apart. (let w : j < length S₀ = (let l = len-ready in omega (arith, lt, l)) in
-          (ap (λ (R : List (List (K × X))). get_or R j []) ready.kept ∙ bare-row j (past-old j place part apart) w, bare-ready j w part apart))))
+          (ap (λ (R : List (List (K × X))). get_or R j []) ready.kept ∙ bare-row j (past-old j index part apart) w, bare-ready j w part apart))))
           more few
 
       module _ (T : List (Held K X)) (counts : List ℕ) (x : ℕ) (len : length S₀ ≡ length counts * C) (same : rows T ≡ rows S)
-          (own : get_or (rooms T) place 0 ≡ get_or (rooms S) place 0) (fits : length (get_or (rows S₀) place []) ≤ get_or (rooms S) place 0)
-          (counted : (t : ℕ) → t < length counts → get_or counts t 0 ≡ need number (get_or (rows S₀) place []) (length counts * C) (t * C + place))
-          (parts : HasParts (set T place emptied) C place counts x) where
-        row-T : get_or (rows T) place [] ≡ get_or (rows S₀) place []
-        row-T = ap (λ (R : List (List (K × X))). get_or R place []) (same ∙ ready.kept)
+          (own : get_or (rooms T) index 0 ≡ get_or (rooms S) index 0) (fits : length (get_or (rows S₀) index []) ≤ get_or (rooms S) index 0)
+          (counted : (t : ℕ) → t < length counts → get_or counts t 0 ≡ need number (get_or (rows S₀) index []) (length counts * C) (t * C + index))
+          (parts : HasParts (set T index bare_slot) C index counts x) where
+        row-T : get_or (rows T) index [] ≡ get_or (rows S₀) index []
+        row-T = ap (λ (R : List (List (K × X))). get_or R index []) (same ∙ ready.kept)
 
-        len-T : length (set T place emptied) ≡ length S₀
-        len-T = length-set T place emptied ∙ sym (length-rows T) ∙ ap length same ∙ length-rows S ∙ len-ready
+        len-T : length (set T index bare_slot) ≡ length S₀
+        len-T = length-set T index bare_slot ∙ sym (length-rows T) ∙ ap length same ∙ length-rows S ∙ len-ready
 
         abbrev power : ℕ
         power = grown.times.0
@@ -424,36 +424,36 @@ module _ {K X : Type 0} (number : K → ℕ) where
             let some : 0 < C = capacity-positive C grown.old in
             let n = (same_from_place (length counts) 0 (2 ^ power) 0 C some some e).0 in omega (arith, lt, n)
 
-        empty-part : (t : ℕ) → t < 2 ^ power → get_or (rows (set T place emptied)) (t * C + place) [] ≡ []
+        empty-part : (t : ℕ) → t < 2 ^ power → get_or (rows (set T index bare_slot)) (t * C + index) [] ≡ []
         empty-part t lt =
-            let within : t * C + place < length S₀ = (let w = part-within (length counts) C t place (is-part t lt) place-old in omega (arith, w, len)) in
-            rw (map-set (λ (h : Held K X). h.pairs) T place emptied) (elim (cases_eq (t * C + place) place) as (λ _. get_or (set (rows T) place []) (t * C + place) [] ≡ []) [
-              | inl q ↦ (let w : place < length (rows T) = (let l = length-set T place emptied in let r = length-rows T in let n = len-T in omega (arith, within, q, l, r, n)) in
-                  rw q (get_or-set_same (rows T) place [] [] w))
-              | inr apart ↦ get_or-set_other (rows T) place (t * C + place) [] [] apart
-                  ∙ ap (λ (R : List (List (K × X))). get_or R (t * C + place) []) (same ∙ ready.kept)
-                  ∙ bare-row (t * C + place) (past-old (t * C + place) place (mod-mul-add t C place place-old) apart) within
+            let within : t * C + index < length S₀ = (let w = part-within (length counts) C t index (is-part t lt) index-old in omega (arith, w, len)) in
+            rw (map-set (λ (h : Held K X). h.pairs) T index bare_slot) (elim (cases_eq (t * C + index) index) as (λ _. get_or (set (rows T) index []) (t * C + index) [] ≡ []) [
+              | inl q ↦ (let w : index < length (rows T) = (let l = length-set T index bare_slot in let r = length-rows T in let n = len-T in omega (arith, within, q, l, r, n)) in
+                  rw q (get_or-set_same (rows T) index [] [] w))
+              | inr apart ↦ get_or-set_other (rows T) index (t * C + index) [] [] apart
+                  ∙ ap (λ (R : List (List (K × X))). get_or R (t * C + index) []) (same ∙ ready.kept)
+                  ∙ bare-row (t * C + index) (past-old (t * C + index) index (mod-mul-add t C index index-old) apart) within
             ])
 
-        roomy-part : (t : ℕ) → t < 2 ^ power → (need number (get_or (rows T) place []) (length (set T place emptied)) (t * C + place) ≤ get_or (rooms (set T place emptied)) (t * C + place) 0) ⊎ ((t ≡ x) × (get_or (rooms (set T place emptied)) (t * C + place) 0 ≡ 1))
+        roomy-part : (t : ℕ) → t < 2 ^ power → (need number (get_or (rows T) index []) (length (set T index bare_slot)) (t * C + index) ≤ get_or (rooms (set T index bare_slot)) (t * C + index) 0) ⊎ ((t ≡ x) × (get_or (rooms (set T index bare_slot)) (t * C + index) 0 ≡ 1))
         roomy-part t lt =
             let w = is-part t lt in
-            let e : get_or counts t 0 ≡ need number (get_or (rows T) place []) (length (set T place emptied)) (t * C + place) =
-            counted t w ∙ ap (λ D. need number (get_or (rows S₀) place []) D (t * C + place)) (sym len ∙ sym len-T) ∙ ap (λ (L : List (K × X)). need number L (length (set T place emptied)) (t * C + place)) (sym row-T) in
-            subst (λ n. (n ≤ get_or (rooms (set T place emptied)) (t * C + place) 0) ⊎ ((t ≡ x) × (get_or (rooms (set T place emptied)) (t * C + place) 0 ≡ 1))) e (parts.room t w)
+            let e : get_or counts t 0 ≡ need number (get_or (rows T) index []) (length (set T index bare_slot)) (t * C + index) =
+            counted t w ∙ ap (λ D. need number (get_or (rows S₀) index []) D (t * C + index)) (sym len ∙ sym len-T) ∙ ap (λ (L : List (K × X)). need number L (length (set T index bare_slot)) (t * C + index)) (sym row-T) in
+            subst (λ n. (n ≤ get_or (rooms (set T index bare_slot)) (t * C + index) 0) ⊎ ((t ≡ x) × (get_or (rooms (set T index bare_slot)) (t * C + index) 0 ≡ 1))) e (parts.room t w)
 
-        leave-parts : CanLeave number T place
+        leave-parts : CanLeave number T index
         leave-parts =
-            let few : length (get_or (rows T) place []) ≤ 1 + (get_or (rooms T) place 0 - 1) = (let e = ap length row-T in omega (arith, e, fits, own)) in (
-              x * C + place,
-              HasRoom-parts number (set T place emptied) (get_or (rows T) place []) C power place (get_or (rooms T) place 0 - 1) x grown.old (len-T ∙ grown.times.1)
-                  (subst (λ (L : List (K × X)). All (λ p. slot_number number p.0 C ≡ place) L) (sym row-T) (own-row place place-old))
+            let few : length (get_or (rows T) index []) ≤ 1 + (get_or (rooms T) index 0 - 1) = (let e = ap length row-T in omega (arith, e, fits, own)) in (
+              x * C + index,
+              HasRoom-parts number (set T index bare_slot) (get_or (rows T) index []) C power index (get_or (rooms T) index 0 - 1) x grown.old (len-T ∙ grown.times.1)
+                  (subst (λ (L : List (K × X)). All (λ p. slot_number number p.0 C ≡ index) L) (sym row-T) (own-row index index-old))
                   few empty-part roomy-part,
             )
 
         -- one of more pairs can be left once there is room in its parts
-        pub AreReady-parts : (longer : ℕ) → ((j k t : ℕ) → k < C → (k ≡ place → ⊥) → j ≡ t * C + k → get_or (rooms T) j 0 ≡ get_or (rooms S) j 0)
-            → longest ≤ longer → length (get_or (rows S₀) place []) ≤ 1 + longer → AreReady number S₀ C rest longer T
+        pub AreReady-parts : (longer : ℕ) → ((j k t : ℕ) → k < C → (k ≡ index → ⊥) → j ≡ t * C + k → get_or (rooms T) j 0 ≡ get_or (rooms S) j 0)
+            → longest ≤ longer → length (get_or (rows S₀) index []) ≤ 1 + longer → AreReady number S₀ C rest longer T
         AreReady-parts longer others more few =
             AreReady-next T longer same
             (λ j k lt apart part. others j k (j / C) lt apart (sym (div-add-mod' j C) ∙ ap (λ n. j / C * C + n) part))

@@ -17,7 +17,7 @@ use Rattle.intmap_table.specs.Walk.{slot_of}
 use Rattle.intmap_table.proofs.ExtractLemmas.{StepsTo, StepsTo-on, StepsTo-stop, All-ExtractsBehind, length-ExtractsBehind, TakesEach-on}
 use Rattle.intmap_table.proofs.Tables.FilledLemmas.{marks-set_at, marks-kept_at}
 use Rattle.intmap_table.proofs.Tables.MarkedLemmas.{range_with_len-add}
-use Rattle.intmap_table.proofs.Tables.PlacesLemmas.{IsNextMark}
+use Rattle.intmap_table.proofs.Tables.IndicesLemmas.{IsNextMark}
 use Rattle.intmap_table.proofs.Tables.RetainSlotsLemmas.{joined-cut, joined-drop, joined-none, joined-take_past, empty-between, empty-unmarked, IsTable-set_at}
 use Rattle.intmap_table.proofs.Tables.TableLemmas.{joined-take, get_or-rows, length-rows, slot_of-joined}
 
@@ -100,18 +100,18 @@ module _ {K X : Type 0} (S : List (Held K X)) (marks : List Bool) (are : AreMark
       let long = ap length (joined-cut from (rows S) ∙ ap (λ Z. joined (take from (rows S)) ++ Z) (joined-none from (rows S) empty) ∙ append-nil (joined (take from (rows S)))) in
       drop_all n (joined (rows S)) (omega (arith, long, at.count))
 
-  module _ (place : ℕ) (next : IsNextMark marks from place) where
+  module _ (index : ℕ) (next : IsNextMark marks from index) where
     -- the slot of the next mark is the current one: if that isn't this slot, this one is empty
-    pub IsInRows-next : IsInRows (rows S) place j n
-    IsInRows-next = elim (cases_lt from place) as (λ _. IsInRows (rows S) place j n) [
+    pub IsInRows-next : IsInRows (rows S) index j n
+    IsInRows-next = elim (cases_lt from index) as (λ _. IsInRows (rows S) index j n) [
       | inl before ↦
-          (let none = ap length (empty-between S marks are from place next from (omega arith) before) in
-          let behind : from + (place - from) ≡ place = omega (arith, before) in
-          let past : joined (take place (rows S)) ≡ joined (take from (rows S)) =
-          rw behind at (joined-take_past (place - from) from (rows S) (λ i le lt. empty-between S marks are from place next i le (omega (arith, lt, behind)))) in
+          (let none = ap length (empty-between S marks are from index next from (omega arith) before) in
+          let behind : from + (index - from) ≡ index = omega (arith, before) in
+          let past : joined (take index (rows S)) ≡ joined (take from (rows S)) =
+          rw behind at (joined-take_past (index - from) from (rows S) (λ i le lt. empty-between S marks are from index next i le (omega (arith, lt, behind)))) in
           let same = ap length past in
           record { within = omega (arith, none, at.within); count = omega (arith, at.count, same) })
-      | inr up ↦ (let same : from ≡ place = omega (arith, up, next.behind) in subst (λ i. IsInRows (rows S) i j n) same at)
+      | inr up ↦ (let same : from ≡ index = omega (arith, up, next.behind) in subst (λ i. IsInRows (rows S) i j n) same at)
     ]
 
 -- of the slot at hand, whose pairs from place j on were asked about, s is left

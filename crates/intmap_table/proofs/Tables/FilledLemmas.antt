@@ -5,25 +5,25 @@ use Rattle.std.specs.List.{list_any, range_with_len}
 use Rattle.std.proofs.lemmas.Bool.{cases_Bool, cases_eq, cases_lt, eq-eqb, ne_eqb, lt-ltb, ltb-true}
 use Rattle.std.proofs.lemmas.List.{length-replicate, length_push, map-set, get_or_past}
 use Rattle.std.proofs.lemmas.List.Elements.{All-head, All-tail}
-use Rattle.intmap_table.specs.Tables.Bits.{marked, marked_places}
+use Rattle.intmap_table.specs.Tables.Bits.{marked, marked_indices}
 use Rattle.intmap_table.specs.Tables.Slots.{Held, rows, joined, pairs_at, AreMarked, IsMarkedTable}
 use Rattle.intmap_table.specs.Bindings.{value_of}
 use Rattle.intmap_table.specs.Classes.{IsCapacity}
 use Rattle.intmap_table.proofs.Tables.TableLemmas.{IsSlot, within, length-rows, get_or-rows, IsTable-empty}
-use Rattle.intmap_table.proofs.Tables.MarkedLemmas.{row-none, marked-replicate, All-marked_places, flat_map-marked_places, length-marked_places}
+use Rattle.intmap_table.proofs.Tables.MarkedLemmas.{row-none, marked-replicate, All-marked_indices, flat_map-marked_indices, length-marked_indices}
 
 module _ {P : Type 0} (R : List (List P)) (marks : List Bool) (are : AreMarked R marks) where
   -- each row has a mark
   pub marks-enough : length R ≤ length marks
   marks-enough = omega (arith, are.words)
 
-  -- the rows at the marked places are all pairs
-  pub pairs_at-marked : pairs_at R (marked_places marks) ≡ joined R
-  pairs_at-marked = flat_map-marked_places R marks marks-enough are.own
+  -- the rows at the marked indices are all pairs
+  pub pairs_at-marked : pairs_at R (marked_indices marks) ≡ joined R
+  pairs_at-marked = flat_map-marked_indices R marks marks-enough are.own
 
-  -- the number of marked places is the number of rows that hold a pair
-  pub count-marked : length (marked_places marks) ≡ count_by (λ row. nat_lt 0 (length row)) R
-  count-marked = length-marked_places R marks marks-enough are.own
+  -- the number of marked indices is the number of rows that hold a pair
+  pub count-marked : length (marked_indices marks) ≡ count_by (λ row. nat_lt 0 (length row)) R
+  count-marked = length-marked_indices R marks marks-enough are.own
 
   module _ (i : ℕ) (below : i < length R) where
     -- with row i and its mark changed
@@ -61,13 +61,13 @@ AreMarked-none R C len empty = record {
   own = λ i. marked-replicate (64 * ((C + 63) / 64)) i ∙ rw (empty i) refl;
 }
 
--- a row at none of these places may change
-pub pairs_at-set : {P : Type 0} (R : List (List P)) (i : ℕ) (row : List P) (places : List ℕ) → All (λ j. i ≢ j) places → pairs_at (set R i row) places ≡ pairs_at R places
+-- a row at none of these indices may change
+pub pairs_at-set : {P : Type 0} (R : List (List P)) (i : ℕ) (row : List P) (indices : List ℕ) → All (λ j. i ≢ j) indices → pairs_at (set R i row) indices ≡ pairs_at R indices
 pairs_at-set R i row [] apart = refl
-pairs_at-set R i row (j ∷ places) apart =
-    let other : i ≢ j = All-head (λ j. i ≢ j) j places apart in
+pairs_at-set R i row (j ∷ indices) apart =
+    let other : i ≢ j = All-head (λ j. i ≢ j) j indices apart in
     let here = get_or-set_other R i j row [] (λ q. other (sym q)) in
-    let rest = pairs_at-set R i row places (All-tail (λ j. i ≢ j) j places apart) in
+    let rest = pairs_at-set R i row indices (All-tail (λ j. i ≢ j) j indices apart) in
     rw (here, rest) refl
 
 -- so does one with a pair at its end
@@ -84,8 +84,8 @@ module _ {K X : Type 0} (S : List (Held K X)) (bits : List Bool) (marks : AreMar
   row-below = omega (arith, below, length-rows S)
 
   -- slot i has a mark
-  pub place-below : i < length bits
-  place-below = let e = marks-enough (rows S) bits marks in omega (arith, row-below, e)
+  pub index-below : i < length bits
+  index-below = let e = marks-enough (rows S) bits marks in omega (arith, row-below, e)
 
   -- it says whether the slot holds a pair
   pub marked-at : (h : Held K X) → h ≡ get_or S i h → marked bits i ≡ nat_lt 0 (length h.pairs)
@@ -112,17 +112,17 @@ module _ {K X : Type 0} (number : K → ℕ) (S : List (Held K X)) (h : Held K X
 
   -- there is a mark for it
   pub mark-below : i < length bits
-  mark-below = place-below S bits marks i (within number S h i k at)
+  mark-below = index-below S bits marks i (within number S h i k at)
 
--- the marked places are places of slots
-pub places-within : {K X : Type 0} (S : List (Held K X)) (bits : List Bool) → AreMarked (rows S) bits → All (λ place. place < length S) (marked_places bits)
-places-within S bits marks = λ k d lt.
-    let place = get_or (marked_places bits) k d in
-    let is = (All-marked_places bits k d lt).1 in
-    let row = ltb-true 0 (length (get_or (rows S) place [])) (sym (marks.own place) ∙ is) in
-    elim (cases_lt place (length S)) as (λ _. place < length S) [
+-- the marked indices are indices of slots
+pub indices-within : {K X : Type 0} (S : List (Held K X)) (bits : List Bool) → AreMarked (rows S) bits → All (λ index. index < length S) (marked_indices bits)
+indices-within S bits marks = λ k d lt.
+    let index = get_or (marked_indices bits) k d in
+    let is = (All-marked_indices bits k d lt).1 in
+    let row = ltb-true 0 (length (get_or (rows S) index [])) (sym (marks.own index) ∙ is) in
+    elim (cases_lt index (length S)) as (λ _. index < length S) [
       | inl below ↦ below
-      | inr past ↦ (let none = get_or_past (rows S) place [] (omega (arith, past, length-rows S)) in let e = ap length none in omega (arith, row, e))
+      | inr past ↦ (let none = get_or_past (rows S) index [] (omega (arith, past, length-rows S)) in let e = ap length none in omega (arith, row, e))
     ]
 
 -- a number that a run keeps is found among those that it keeps
@@ -141,14 +141,14 @@ kept-found test i a (suc n) missed from below = elim (cases_eq a i) as (λ _. te
       kept-found test i (a + 1) n rest (let ne = apart in grind (arith, from, ne)) (omega (arith, below)))
 ]
 
--- a row whose place isn't among the marked ones holds no pair
-pub row-unplaced : {P : Type 0} (R : List (List P)) (marks : List Bool) → AreMarked R marks → (i : ℕ) → list_any (λ j. j == i) (marked_places marks) ≡ false → get_or R i [] ≡ []
-row-unplaced R marks are i missed = row-none (get_or R i []) (elim (cases_lt i (length marks)) as (λ _. nat_lt 0 (length (get_or R i [])) ≡ false) [
+-- a row whose index isn't among the marked ones holds no pair
+pub row-unmarked : {P : Type 0} (R : List (List P)) (marks : List Bool) → AreMarked R marks → (i : ℕ) → list_any (λ j. j == i) (marked_indices marks) ≡ false → get_or R i [] ≡ []
+row-unmarked R marks are i missed = row-none (get_or R i []) (elim (cases_lt i (length marks)) as (λ _. nat_lt 0 (length (get_or R i [])) ≡ false) [
   | inl below ↦ sym (are.own i) ∙ kept-found (marked marks) i 0 (length marks) missed (omega arith) (omega (arith, below))
   | inr past ↦ sym (are.own i) ∙ get_or_past marks i false past
 ])
 
--- a table of empty slots, with no place marked
+-- a table of empty slots, with no index marked
 pub IsMarkedTable-empty : {K X : Type 0} (number : K → ℕ) (S : List (Held K X)) (C : ℕ) → IsCapacity C → rows S ≡ replicate C [] → IsMarkedTable number S (replicate (64 * ((C + 63) / 64)) false)
 IsMarkedTable-empty number S C capacity empty =
     let rows-len : length (rows S) ≡ C = ap length empty ∙ length-replicate C [] in

@@ -1,4 +1,4 @@
--- What marked places say of rows, if each row that holds something is marked.
+-- What marked indices say of rows, if each row that holds something is marked.
 use Rattle.std.proofs.Common.{◌≡◌, inl, inr, ℕ, zero, suc, ◌+◌, ◌-◌, ◌<◌, ◌≤◌, Bool, true, false, List, [], ◌∷◌, ◌++◌, length, map, get_or, replicate, refl, sym, ap, ◌∙◌, arith, add-zero, zero-add, append-nil}
 use Rattle.std.specs.Prelude.{filter, All, AllPairs, count_by, nat_lt}
 use Rattle.std.specs.List.{flat_map, range_with_len}
@@ -9,7 +9,7 @@ use Rattle.std.proofs.lemmas.List.Elements.{All-from_get_or, All-get_or, All-fil
 use Rattle.std.proofs.lemmas.List.FromFn.{get_or-range_with_len, length-range_with_len}
 use Rattle.std.proofs.lemmas.List.Kept.{AllPairs-filter}
 use Rattle.std.proofs.lemmas.List.Sums.{length-filter}
-use Rattle.intmap_table.specs.Tables.Bits.{marked, marked_places}
+use Rattle.intmap_table.specs.Tables.Bits.{marked, marked_indices}
 use Rattle.intmap_table.proofs.ClassLemmas.{flat_map-rows}
 use Rattle.intmap_table.proofs.LoadLemmas.{count_by-range_list}
 
@@ -55,32 +55,32 @@ filter-both f m n xs ys first rest =
     let split : range_with_len 0 (m + n) ≡ range_with_len 0 m ++ range_with_len (m + 0) n = rw z at (range_with_len-add 0 m n) in
     ap (filter f) split ∙ filter-append f (range_with_len 0 m) (range_with_len (m + 0) n) ∙ ap (λ zs. zs ++ filter f (range_with_len (m + 0) n)) first ∙ ap (λ zs. xs ++ zs) rest
 
--- places without a mark
+-- indices without a mark
 pub marked-replicate : (n i : ℕ) → marked (replicate n false) i ≡ false
 marked-replicate zero i = refl
 marked-replicate (suc n) zero = refl
 marked-replicate (suc n) (suc i) = marked-replicate n i
 
--- the marked places ascend
-pub AllPairs-marked_places : (marks : List Bool) → AllPairs (λ i j. i < j) (marked_places marks)
-AllPairs-marked_places marks =
+-- the marked indices ascend
+pub AllPairs-marked_indices : (marks : List Bool) → AllPairs (λ i j. i < j) (marked_indices marks)
+AllPairs-marked_indices marks =
     AllPairs-filter (λ i j. i < j) (marked marks) (range_with_len 0 (length marks)) (λ i j d lt below.
     let n = length-range_with_len 0 (length marks) in
     let a = get_or-range_with_len 0 (length marks) i d (omega (arith, lt, below, n)) in
     let b = get_or-range_with_len 0 (length marks) j d (omega (arith, below, n)) in
     omega (arith, a, b, lt))
 
--- each marked place is one of the places, and marked
-pub All-marked_places : (marks : List Bool) → All (λ i. (i < length marks) × (marked marks i ≡ true)) (marked_places marks)
-All-marked_places marks =
+-- each marked index is one of the indices, and marked
+pub All-marked_indices : (marks : List Bool) → All (λ i. (i < length marks) × (marked marks i ≡ true)) (marked_indices marks)
+All-marked_indices marks =
     let ns : List ℕ = range_with_len 0 (length marks) in
     let n = length-range_with_len 0 (length marks) in
     let below : All (λ i. i < length marks) ns = All-from_get_or (λ i. i < length marks) ns 0 (λ i lt.
     let a = get_or-range_with_len 0 (length marks) i 0 (omega (arith, lt, n)) in omega (arith, a, lt, n)) in
     let within = All-filter (marked marks) (λ i. i < length marks) ns below in
     let passed = filter_passes (marked marks) ns in
-    All-from_get_or (λ i. (i < length marks) × (marked marks i ≡ true)) (marked_places marks) 0 (λ i lt.
-    (All-get_or (λ j. j < length marks) (marked_places marks) i 0 lt within, All-get_or (λ j. marked marks j ≡ true) (marked_places marks) i 0 lt passed))
+    All-from_get_or (λ i. (i < length marks) × (marked marks i ≡ true)) (marked_indices marks) 0 (λ i lt.
+    (All-get_or (λ j. j < length marks) (marked_indices marks) i 0 lt within, All-get_or (λ j. marked marks j ≡ true) (marked_indices marks) i 0 lt passed))
 
 -- numbers that a test fails on, and that stand for nothing, may be left out
 flat_map-filter : {P : Type 0} (row : ℕ → List P) (test : ℕ → Bool) → ((i : ℕ) → test i ≡ false → row i ≡ []) → (ns : List ℕ) → flat_map row (filter test ns) ≡ flat_map row ns
@@ -108,9 +108,9 @@ module _ {P : Type 0} (S : List (List P)) (marks : List Bool) (enough : length S
   rest : length marks ≡ length S + (length marks - length S)
   rest = omega (arith, enough)
 
-  -- the rows at the marked places, joined, are all rows joined
-  pub flat_map-marked_places : flat_map (λ i. get_or S i []) (marked_places marks) ≡ flat_map (λ s. s) S
-  flat_map-marked_places =
+  -- the rows at the marked indices, joined, are all rows joined
+  pub flat_map-marked_indices : flat_map (λ i. get_or S i []) (marked_indices marks) ≡ flat_map (λ s. s) S
+  flat_map-marked_indices =
       let more : ℕ = length marks - length S in
       let row : ℕ → List P = λ i. get_or S i [] in
       let split : range_with_len 0 (length marks) ≡ range_with_len 0 (length S) ++ range_with_len (0 + length S) more =
@@ -123,9 +123,9 @@ module _ {P : Type 0} (S : List (List P)) (marks : List Bool) (enough : length S
       ∙ append-nil (flat_map row (range_with_len 0 (length S)))
       ∙ flat_map-rows row 0 S (λ i _. ap row (zero-add i))
 
-  -- the number of marked places is the number of rows that hold something
-  pub length-marked_places : length (marked_places marks) ≡ count_by (λ s. nat_lt 0 (length s)) S
-  length-marked_places =
+  -- the number of marked indices is the number of rows that hold something
+  pub length-marked_indices : length (marked_indices marks) ≡ count_by (λ s. nat_lt 0 (length s)) S
+  length-marked_indices =
       let more : ℕ = length marks - length S in
       let past : filter (marked marks) (range_with_len (length S + 0) more) ≡ [] = filter-none (marked marks) (length S + 0) more (λ i _.
       own (length S + 0 + i) ∙ ap (λ (row : List P). nat_lt 0 (length row)) (get_or_past S (length S + 0 + i) [] (omega arith))) in

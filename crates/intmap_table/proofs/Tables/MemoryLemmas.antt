@@ -7,7 +7,7 @@ use Rattle.std.proofs.lemmas.Grind.{flat_map-append}
 use Rattle.std.proofs.lemmas.List.{replicate_more, length-replicate, get_or-replicate, get_or-append_right, map-append, take-map}
 use Rattle.intmap_table.specs.Classes.{IsCapacity}
 use Rattle.intmap_table.specs.Tables.Slots.{Held, rows, joined, AreMarked, Grid, IsMaskedTable}
-use Rattle.intmap_table.specs.Tables.Moves.{IsGrown, IsLonger, IsOldRows, IsMidway, CanMoveOn, emptied}
+use Rattle.intmap_table.specs.Tables.Moves.{IsGrown, IsLonger, IsOldRows, IsMidway, CanMoveOn, bare_slot}
 use Rattle.intmap_table.proofs.SlotNumberLemmas.{capacity-positive}
 use Rattle.intmap_table.proofs.Tables.FilledLemmas.{IsMarkedTable-empty, joined-emptied, get_or-no_pairs}
 use Rattle.intmap_table.proofs.Tables.GrownLemmas.{grown-more, IsMoved-midway}
@@ -16,23 +16,23 @@ use Rattle.intmap_table.proofs.Tables.TableLemmas.{length-rows}
 
 module _ {K X : Type 0} where
   -- one more empty slot behind the others
-  pub added-more : (S T U : List (Held K X)) (n : ℕ) (h : Held K X) → T ≡ S ++ replicate n emptied → U ≡ T ++ h ∷ [] → h.pairs ≡ [] → h.room ≡ 1 → U ≡ S ++ replicate (n + 1) emptied
+  pub added-more : (S T U : List (Held K X)) (n : ℕ) (h : Held K X) → T ≡ S ++ replicate n bare_slot → U ≡ T ++ h ∷ [] → h.pairs ≡ [] → h.room ≡ 1 → U ≡ S ++ replicate (n + 1) bare_slot
   added-more S T U n h before put none bare =
-      let is : h ≡ emptied = λ i. record { pairs = none i; room = bare i } in
-      put ∙ ap (λ Z. Z ++ h ∷ []) before ∙ ap (λ e. (S ++ replicate n emptied) ++ e ∷ []) is
-      ∙ append_assoc S (replicate n emptied) (emptied ∷ []) ∙ ap (λ Z. S ++ Z) (replicate_more n emptied)
+      let is : h ≡ bare_slot = λ i. record { pairs = none i; room = bare i } in
+      put ∙ ap (λ Z. Z ++ h ∷ []) before ∙ ap (λ e. (S ++ replicate n bare_slot) ++ e ∷ []) is
+      ∙ append_assoc S (replicate n bare_slot) (bare_slot ∷ []) ∙ ap (λ Z. S ++ Z) (replicate_more n bare_slot)
 
   -- empty slots have rows without pairs
-  rows-emptied : (n : ℕ) → rows {K = K} {X = X} (replicate n emptied) ≡ replicate n []
-  rows-emptied zero = refl
-  rows-emptied (suc n) = ap (λ R. [] ∷ R) (rows-emptied n)
+  rows-bare_slots : (n : ℕ) → rows {K = K} {X = X} (replicate n bare_slot) ≡ replicate n []
+  rows-bare_slots zero = refl
+  rows-bare_slots (suc n) = ap (λ R. [] ∷ R) (rows-bare_slots n)
 
-  module _ (S T : List (Held K X)) (C : ℕ) (none : S ≡ []) (is : T ≡ S ++ replicate (C - length S) emptied) where
-    alone : T ≡ replicate C emptied
-    alone = let all : C - 0 ≡ C = omega arith in is ∙ ap (λ Z. Z ++ replicate (C - length Z) emptied) none ∙ ap (λ n. replicate n emptied) all
+  module _ (S T : List (Held K X)) (C : ℕ) (none : S ≡ []) (is : T ≡ S ++ replicate (C - length S) bare_slot) where
+    alone : T ≡ replicate C bare_slot
+    alone = let all : C - 0 ≡ C = omega arith in is ∙ ap (λ Z. Z ++ replicate (C - length Z) bare_slot) none ∙ ap (λ n. replicate n bare_slot) all
 
     rows-alone : rows T ≡ replicate C []
-    rows-alone = ap rows alone ∙ rows-emptied C
+    rows-alone = ap rows alone ∙ rows-bare_slots C
 
     -- behind no slots, empty ones alone are added: no pair is in them
     pub joined-alone : joined (rows T) ≡ []
@@ -40,7 +40,7 @@ module _ {K X : Type 0} where
 
     -- their number is the same
     pub length-alone : length T ≡ C
-    length-alone = ap length alone ∙ length-replicate C emptied
+    length-alone = ap length alone ∙ length-replicate C bare_slot
 
     -- they are a table
     pub IsMaskedTable-alone : (number : K → ℕ) → IsCapacity C → IsMaskedTable number T (replicate (64 * ((C + 63) / 64)) false) (C - 1)
@@ -78,10 +78,10 @@ module _ {K X : Type 0} where
   rows-truncated S T U n count cut old = ap rows cut ∙ sym (take-map (λ h. h.pairs) n T) ∙ ap (λ m. take m (rows T)) count ∙ old
 
   -- behind slots that have become more, each is empty
-  emptied-behind : (S : List (Held K X)) (n j : ℕ) → length S ≤ j → j < length (S ++ replicate n emptied) → get_or (S ++ replicate n emptied) j emptied ≡ emptied
+  emptied-behind : (S : List (Held K X)) (n j : ℕ) → length S ≤ j → j < length (S ++ replicate n bare_slot) → get_or (S ++ replicate n bare_slot) j bare_slot ≡ bare_slot
   emptied-behind S n j past below =
-      let all : length (S ++ replicate n emptied) ≡ length S + n = length-append S (replicate n emptied) ∙ ap (λ m. length S + m) (length-replicate n emptied) in
-      get_or-append_right S (replicate n emptied) (length S) j emptied refl past ∙ get_or-replicate n (j - length S) emptied emptied (omega (arith, past, below, all))
+      let all : length (S ++ replicate n bare_slot) ≡ length S + n = length-append S (replicate n bare_slot) ∙ ap (λ m. length S + m) (length-replicate n bare_slot) in
+      get_or-append_right S (replicate n bare_slot) (length S) j bare_slot refl past ∙ get_or-replicate n (j - length S) bare_slot bare_slot (omega (arith, past, below, all))
 
 -- slots T of a table that has become longer, up to D: the rows of the first of them are those of S, the slots that it had
 pub record IsLongerOf {K X : Type 0} (number : K → ℕ) (S T : List (Held K X)) (bits : List Bool) (mask D : ℕ) : Type 0 where
@@ -90,15 +90,15 @@ pub record IsLongerOf {K X : Type 0} (number : K → ℕ) (S T : List (Held K X)
   pub len : length T ≡ D
   pub old : take (length S) (rows T) ≡ rows S
 
-module _ {K X : Type 0} (S T : List (Held K X)) (D : ℕ) (grown : IsGrown (length S) D) (added : T ≡ S ++ replicate (D - length S) emptied) where
+module _ {K X : Type 0} (S T : List (Held K X)) (D : ℕ) (grown : IsGrown (length S) D) (added : T ≡ S ++ replicate (D - length S) bare_slot) where
   rows-added : rows T ≡ rows S ++ replicate (D - length S) []
-  rows-added = ap rows added ∙ map-append (λ h. h.pairs) S (replicate (D - length S) emptied) ∙ ap (λ R. rows S ++ R) (rows-emptied (D - length S))
+  rows-added = ap rows added ∙ map-append (λ h. h.pairs) S (replicate (D - length S) bare_slot) ∙ ap (λ R. rows S ++ R) (rows-bare_slots (D - length S))
 
   -- with empty ones behind them they are longer
   pub IsLonger-added : (number : K → ℕ) (bits : List Bool) (mask : ℕ) → IsMaskedTable number S bits mask → IsLongerOf number S T bits mask D
   IsLonger-added number bits mask table =
       let more = grown-more (length S) D grown in
-      let n : length T ≡ length S + (D - length S) = ap length added ∙ length-append S (replicate (D - length S) emptied) ∙ ap (λ m. length S + m) (length-replicate (D - length S) emptied) in
+      let n : length T ≡ length S + (D - length S) = ap length added ∙ length-append S (replicate (D - length S) bare_slot) ∙ ap (λ m. length S + m) (length-replicate (D - length S) bare_slot) in
       record {
         grown = grown;
         table = table;
@@ -107,7 +107,7 @@ module _ {K X : Type 0} (S T : List (Held K X)) (D : ℕ) (grown : IsGrown (leng
       }
 
   -- those behind them are empty
-  pub bare-added : (mask : ℕ) → mask + 1 ≡ length S → (j : ℕ) → mask + 1 ≤ j → j < length T → get_or T j emptied ≡ emptied
+  pub bare-added : (mask : ℕ) → mask + 1 ≡ length S → (j : ℕ) → mask + 1 ≤ j → j < length T → get_or T j bare_slot ≡ bare_slot
   bare-added mask count = rw (count, added) (emptied-behind S (D - length S))
 
   -- there are no more pairs

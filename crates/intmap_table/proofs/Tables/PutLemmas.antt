@@ -8,7 +8,7 @@ use Rattle.intmap_table.specs.Classes.{slot_number}
 use Rattle.intmap_table.specs.Walk.{slot_of}
 use Rattle.intmap_table.specs.Tables.Bits.{marked}
 use Rattle.intmap_table.specs.Tables.Slots.{Held, rows}
-use Rattle.intmap_table.specs.Tables.Moves.{rooms, emptied, need, IsPlaced, IsPut, AreSet, AreTold, AreFree}
+use Rattle.intmap_table.specs.Tables.Moves.{rooms, bare_slot, need, IsPlaced, IsPut, AreSet, AreTold, AreFree}
 use Rattle.intmap_table.proofs.Tables.TableLemmas.{length-rows, get_or-rows}
 use Rattle.intmap_table.proofs.Tables.FilledLemmas.{filled-pushed}
 use Rattle.intmap_table.proofs.Tables.RoomLemmas.{slot_of-not_first, need-less, length-first}
@@ -84,11 +84,11 @@ module _ {K X : Type 0} (number : K → ℕ) where
   AreTold-free S L bits are = record { told = λ j below some. are.unmarked j below some ∙ sym (ap (λ ps. nat_lt 0 (length ps)) (are.empty j below some)) }
 
   -- whatever room the slot has that the pairs were removed from
-  pub AreFree-left : (S : List (Held K X)) (i : ℕ) (h : Held K X) (L : List (K × X)) (bits : List Bool) → h.pairs ≡ [] → AreFree number (set S i emptied) L bits → AreFree number (set S i h) L bits
+  pub AreFree-left : (S : List (Held K X)) (i : ℕ) (h : Held K X) (L : List (K × X)) (bits : List Bool) → h.pairs ≡ [] → AreFree number (set S i bare_slot) L bits → AreFree number (set S i h) L bits
   AreFree-left S i h L bits none are =
-      let len : length (set S i h) ≡ length (set S i emptied) = length-set S i h ∙ sym (length-set S i emptied) in
-      let same : rows (set S i h) ≡ rows (set S i emptied) =
-      map-set (λ (s : Held K X). s.pairs) S i h ∙ ap (λ ps. set (rows S) i ps) none ∙ sym (map-set (λ (s : Held K X). s.pairs) S i emptied) in
+      let len : length (set S i h) ≡ length (set S i bare_slot) = length-set S i h ∙ sym (length-set S i bare_slot) in
+      let same : rows (set S i h) ≡ rows (set S i bare_slot) =
+      map-set (λ (s : Held K X). s.pairs) S i h ∙ ap (λ ps. set (rows S) i ps) none ∙ sym (map-set (λ (s : Held K X). s.pairs) S i bare_slot) in
       record {
         empty = rw (len, same) are.empty;
         unmarked = rw len are.unmarked;

@@ -10,7 +10,7 @@ use Rattle.intmap_table.specs.Retaining.{Retains}
 use Rattle.intmap_table.specs.Tables.Slots.{Held, rows, joined, AreMarked, IsTable, IsMarkedTable}
 use Rattle.intmap_table.proofs.Tables.FilledLemmas.{marks-set_at, marks-kept_at, joined-emptied}
 use Rattle.intmap_table.proofs.Tables.MarkedLemmas.{row-none}
-use Rattle.intmap_table.proofs.Tables.PlacesLemmas.{IsNextMark}
+use Rattle.intmap_table.proofs.Tables.IndicesLemmas.{IsNextMark}
 use Rattle.intmap_table.proofs.LeadsLemmas.{Leads, Leads-next, Leads-end}
 use Rattle.intmap_table.proofs.RetainLemmas.{Retains-append, length-Retains, All-Retains}
 use Rattle.intmap_table.proofs.Tables.TableLemmas.{joined-take, length-rows}
@@ -38,11 +38,11 @@ module _ {P : Type 0} where
       ap (λ m. joined (take m R)) on ∙ joined-take_past n (suc i) R (λ j le lt. empty j (omega (arith, le)) (omega (arith, lt)))
       ∙ joined-take i R ∙ ap (λ row. joined (take i R) ++ row) (empty i (omega arith) (omega arith)) ∙ append-nil (joined (take i R))
 
-  -- the rows before a place, and those from there on
+  -- the rows before an index, and those from there on
   pub joined-cut : (i : ℕ) (R : List (List P)) → joined R ≡ joined (take i R) ++ joined (drop i R)
   joined-cut i R = ap joined (sym (take-append-drop i R)) ∙ flat_map-append (λ row. row) (take i R) (drop i R)
 
-  -- if no row holds a pair from place i on
+  -- if no row holds a pair from index i on
   pub joined-none : (i : ℕ) (R : List (List P)) → ((j : ℕ) → i ≤ j → get_or R j [] ≡ []) → joined (drop i R) ≡ []
   joined-none i R empty = joined-emptied (drop i R) (λ j. get_or-drop i R j [] ∙ empty (i + j) (omega arith))
 
@@ -71,17 +71,17 @@ module _ {K X : Type 0} (S : List (Held K X)) (marks : List Bool) (are : AreMark
   empty-unmarked j not_marked = row-none (get_or (rows S) j []) (sym (are.own j) ∙ not_marked)
 
   -- the slot at the next mark is one of the slots
-  pub next-within : (place : ℕ) → IsNextMark marks from place → place < length S
-  next-within place next = elim (cases_lt place (length S)) as (λ _. place < length S) [
+  pub next-within : (index : ℕ) → IsNextMark marks from index → index < length S
+  next-within index next = elim (cases_lt index (length S)) as (λ _. index < length S) [
     | inl below ↦ below
     | inr past ↦
-        (let none = ap length (get_or_past (rows S) place [] (omega (arith, past, length-rows S))) in
-        let some = ltb-true 0 (length (get_or (rows S) place [])) (sym (are.own place) ∙ next.is) in absurd (omega (arith, none, some)))
+        (let none = ap length (get_or_past (rows S) index [] (omega (arith, past, length-rows S))) in
+        let some = ltb-true 0 (length (get_or (rows S) index [])) (sym (are.own index) ∙ next.is) in absurd (omega (arith, none, some)))
   ]
 
   -- slots before the next mark hold no pair
-  pub empty-between : (place : ℕ) → IsNextMark marks from place → (j : ℕ) → from ≤ j → j < place → get_or (rows S) j [] ≡ []
-  empty-between place next j le lt = empty-unmarked j (next.between j le lt)
+  pub empty-between : (index : ℕ) → IsNextMark marks from index → (j : ℕ) → from ≤ j → j < index → get_or (rows S) j [] ≡ []
+  empty-between index next j le lt = empty-unmarked j (next.between j le lt)
 
   -- if there is no mark any more, R went over all
   pub Leads-all : {F : Type 0} (R : F → K × X → Bool → F → Type 0) (f₀ f : F) (L : List (K × X)) → ((j : ℕ) → from ≤ j → marked marks j ≡ false)
@@ -94,80 +94,80 @@ module _ {K X : Type 0} (S : List (Held K X)) (marks : List Bool) (are : AreMark
   pub count-all : ((j : ℕ) → from ≤ j → marked marks j ≡ false) → length (joined (take from (rows S))) ≡ length (joined (rows S))
   count-all none = ap length (joined-before from (rows S) (λ j le. empty-unmarked j (none j le)))
 
-module _ {K X : Type 0} (number : K → ℕ) (S : List (Held K X)) (marks : List Bool) (old : IsMarkedTable number S marks) (from place : ℕ) (next : IsNextMark marks from place) (s : Held K X) where
-  below : place < length S
-  below = next-within S marks old.marks from place next
+module _ {K X : Type 0} (number : K → ℕ) (S : List (Held K X)) (marks : List Bool) (old : IsMarkedTable number S marks) (from index : ℕ) (next : IsNextMark marks from index) (s : Held K X) where
+  below : index < length S
+  below = next-within S marks old.marks from index next
 
-  within : place < length (rows S)
+  within : index < length (rows S)
   within = omega (arith, below, length-rows S)
 
-  empty : (j : ℕ) → from ≤ j → j < place → get_or (rows S) j [] ≡ []
-  empty = empty-between S marks old.marks from place next
+  empty : (j : ℕ) → from ≤ j → j < index → get_or (rows S) j [] ≡ []
+  empty = empty-between S marks old.marks from index next
 
   abbrev row : List (K × X)
-  row = get_or (rows S) place []
+  row = get_or (rows S) index []
 
-  behind : from + (place - from) ≡ place
+  behind : from + (index - from) ≡ index
   behind = let le = next.behind in omega (arith, le)
 
   -- with the slot changed, what was before it and what it holds now
-  pub joined-taken : joined (take (place + 1) (rows (set S place s))) ≡ joined (take from (rows S)) ++ s.pairs
+  pub joined-taken : joined (take (index + 1) (rows (set S index s))) ≡ joined (take from (rows S)) ++ s.pairs
   joined-taken =
-      let one : place + 1 ≡ suc place = omega arith in
-      let past : joined (take place (rows S)) ≡ joined (take from (rows S)) =
-      rw behind at (joined-take_past (place - from) from (rows S) (λ j le lt. empty j le (omega (arith, lt, behind)))) in
-      (λ i. joined (take (one i) (map-set (λ (t : Held K X). t.pairs) S place s i)))
-      ∙ joined-take place (set (rows S) place s.pairs)
-      ∙ (λ i. joined (take-set (rows S) place s.pairs i) ++ get_or-set_same (rows S) place s.pairs [] within i)
+      let one : index + 1 ≡ suc index = omega arith in
+      let past : joined (take index (rows S)) ≡ joined (take from (rows S)) =
+      rw behind at (joined-take_past (index - from) from (rows S) (λ j le lt. empty j le (omega (arith, lt, behind)))) in
+      (λ i. joined (take (one i) (map-set (λ (t : Held K X). t.pairs) S index s i)))
+      ∙ joined-take index (set (rows S) index s.pairs)
+      ∙ (λ i. joined (take-set (rows S) index s.pairs i) ++ get_or-set_same (rows S) index s.pairs [] within i)
       ∙ ap (λ Z. Z ++ s.pairs) past
 
   -- what was left are the pairs that the slot held and those behind it
-  pub joined-left : joined (drop from (rows S)) ≡ row ++ joined (drop (place + 1) (rows (set S place s)))
+  pub joined-left : joined (drop from (rows S)) ≡ row ++ joined (drop (index + 1) (rows (set S index s)))
   joined-left =
-      let one : suc place ≡ place + 1 = omega arith in
-      let past : joined (drop from (rows S)) ≡ joined (drop place (rows S)) =
-      rw behind at (joined-drop_past (place - from) from (rows S) (λ j le lt. empty j le (omega (arith, lt, behind)))) in
-      let same : drop (suc place) (rows S) ≡ drop (place + 1) (rows (set S place s)) =
-      sym (drop-set-lt (suc place) (rows S) place s.pairs (omega arith)) ∙ (λ i. drop (one i) (sym (map-set (λ (t : Held K X). t.pairs) S place s) i)) in
-      past ∙ joined-drop place (rows S) ∙ ap (λ R. row ++ joined R) same
+      let one : suc index ≡ index + 1 = omega arith in
+      let past : joined (drop from (rows S)) ≡ joined (drop index (rows S)) =
+      rw behind at (joined-drop_past (index - from) from (rows S) (λ j le lt. empty j le (omega (arith, lt, behind)))) in
+      let same : drop (suc index) (rows S) ≡ drop (index + 1) (rows (set S index s)) =
+      sym (drop-set-lt (suc index) (rows S) index s.pairs (omega arith)) ∙ (λ i. drop (one i) (sym (map-set (λ (t : Held K X). t.pairs) S index s) i)) in
+      past ∙ joined-drop index (rows S) ∙ ap (λ R. row ++ joined R) same
 
   module _ {F : Type 0} (R : F → K × X → Bool → F → Type 0) (f h : F) (run : Retains R f row s.pairs h) where
     -- R goes over the pairs of the slot
     pub Leads-slot : (f₀ : F) (L : List (K × X)) → Leads (Retains R) f₀ L f (joined (take from (rows S))) (joined (drop from (rows S)))
-        → Leads (Retains R) f₀ L h (joined (take (place + 1) (rows (set S place s)))) (joined (drop (place + 1) (rows (set S place s))))
+        → Leads (Retains R) f₀ L h (joined (take (index + 1) (rows (set S index s)))) (joined (drop (index + 1) (rows (set S index s))))
     Leads-slot f₀ L leads =
-        let left = joined (drop (place + 1) (rows (set S place s))) in
+        let left = joined (drop (index + 1) (rows (set S index s))) in
         subst (λ Z. Leads (Retains R) f₀ L h Z left) (sym joined-taken)
         (Leads-next (Retains R) (Retains-append R) f₀ f h L (joined (take from (rows S))) row s.pairs left (subst (λ Z. Leads (Retains R) f₀ L f (joined (take from (rows S))) Z) joined-left leads) run)
 
     -- no more pairs are left
-    pub fewer : length (joined (rows (set S place s))) ≤ length (joined (rows S))
+    pub fewer : length (joined (rows (set S index s))) ≤ length (joined (rows S))
     fewer =
         let before = ap length (joined-cut from (rows S)) ∙ length-append (joined (take from (rows S))) (joined (drop from (rows S))) in
-        let after = ap length (joined-cut (place + 1) (rows (set S place s))) ∙ length-append (joined (take (place + 1) (rows (set S place s)))) (joined (drop (place + 1) (rows (set S place s)))) in
+        let after = ap length (joined-cut (index + 1) (rows (set S index s))) ∙ length-append (joined (take (index + 1) (rows (set S index s)))) (joined (drop (index + 1) (rows (set S index s)))) in
         let taken = ap length joined-taken ∙ length-append (joined (take from (rows S))) s.pairs in
-        let left = ap length joined-left ∙ length-append row (joined (drop (place + 1) (rows (set S place s)))) in
+        let left = ap length joined-left ∙ length-append row (joined (drop (index + 1) (rows (set S index s)))) in
         let stay = length-Retains R f h row s.pairs run in
         omega (arith, before, after, taken, left, stay)
 
     -- the number of pairs that stay up to the slot
-    pub count-slot : (n : ℕ) → n ≡ length (joined (take from (rows S))) → n + length s.pairs ≡ length (joined (take (place + 1) (rows (set S place s))))
+    pub count-slot : (n : ℕ) → n ≡ length (joined (take from (rows S))) → n + length s.pairs ≡ length (joined (take (index + 1) (rows (set S index s))))
     count-slot n count = let taken = ap length joined-taken ∙ length-append (joined (take from (rows S))) s.pairs in omega (arith, taken, count)
 
     -- which are no more than there were
     pub few-slot : (n : ℕ) → n ≡ length (joined (take from (rows S))) → n + length s.pairs ≤ length (joined (rows S))
     few-slot n count =
-        let after = ap length (joined-cut (place + 1) (rows (set S place s))) ∙ length-append (joined (take (place + 1) (rows (set S place s)))) (joined (drop (place + 1) (rows (set S place s)))) in
+        let after = ap length (joined-cut (index + 1) (rows (set S index s))) ∙ length-append (joined (take (index + 1) (rows (set S index s)))) (joined (drop (index + 1) (rows (set S index s)))) in
         let stay = count-slot n count in
         omega (arith, after, fewer, stay)
 
-    table : IsTable number (set S place s)
-    table = IsTable-set_at number S place s old.table below (All-Retains R (λ p. slot_number number p.0 (length S) ≡ place) f h row s.pairs run (old.table.in_place place below))
+    table : IsTable number (set S index s)
+    table = IsTable-set_at number S index s old.table below (All-Retains R (λ p. slot_number number p.0 (length S) ≡ index) f h row s.pairs run (old.table.in_place index below))
 
     -- the slot was emptied, and its mark taken away
-    pub IsMarkedTable-emptied_at : false ≡ nat_lt 0 (length s.pairs) → IsMarkedTable number (set S place s) (set marks place false)
-    IsMarkedTable-emptied_at none = record { table = table; marks = marks-set_at S marks old.marks place below s false none }
+    pub IsMarkedTable-emptied_at : false ≡ nat_lt 0 (length s.pairs) → IsMarkedTable number (set S index s) (set marks index false)
+    IsMarkedTable-emptied_at none = record { table = table; marks = marks-set_at S marks old.marks index below s false none }
 
     -- the slot holds a pair, as before
-    pub IsMarkedTable-kept_at : true ≡ nat_lt 0 (length s.pairs) → IsMarkedTable number (set S place s) marks
-    IsMarkedTable-kept_at some = record { table = table; marks = marks-kept_at S marks old.marks place below s (next.is ∙ some) }
+    pub IsMarkedTable-kept_at : true ≡ nat_lt 0 (length s.pairs) → IsMarkedTable number (set S index s) marks
+    IsMarkedTable-kept_at some = record { table = table; marks = marks-kept_at S marks old.marks index below s (next.is ∙ some) }

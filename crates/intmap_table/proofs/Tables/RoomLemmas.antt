@@ -7,7 +7,7 @@ use Rattle.std.proofs.lemmas.List.Elements.{filter-append, All-weaker, All-head,
 use Rattle.intmap_table.specs.Classes.{IsCapacity, slot_number}
 use Rattle.intmap_table.specs.Walk.{slot_of}
 use Rattle.intmap_table.specs.Tables.Slots.{Held, rows}
-use Rattle.intmap_table.specs.Tables.Moves.{rooms, IsGrown, emptied, IsOldRows, IsPlaced, need, HasRoom, CanLeave, CanMoveOn, IsPut}
+use Rattle.intmap_table.specs.Tables.Moves.{rooms, IsGrown, bare_slot, IsOldRows, IsPlaced, need, HasRoom, CanLeave, CanMoveOn, IsPut}
 use Rattle.intmap_table.proofs.Tables.TableLemmas.{length-rows}
 use Rattle.intmap_table.proofs.Tables.GrownLemmas.{slot_number-parts, modulo-below, nonempty, no_length, slot_of-apart, grown-more, IsMidway-past, IsMidway-next}
 
@@ -124,7 +124,7 @@ module _ {K X : Type 0} (number : K → ℕ) (S T : List (Held K X)) (C k : ℕ)
     (ownk : All (λ p. slot_number number p.0 C ≡ k) (get_or (rows S) k [])) (lenT : length T ≡ length S)
     (row-same : (j : ℕ) → j < length S → j % C ≡ k → get_or (rows T) j [] ≡ get_or (rows S) j [])
     (room-same : (j : ℕ) → j < length S → j % C ≡ k → get_or (rooms T) j 0 ≡ get_or (rooms S) j 0) where
-  module _ (x : ℕ) (has : HasRoom number (set S k emptied) (get_or (rows S) k []) (get_or (rooms S) k 0 - 1) x) where
+  module _ (x : ℕ) (has : HasRoom number (set S k bare_slot) (get_or (rows S) k []) (get_or (rooms S) k 0 - 1) x) where
     abbrev R : List (K × X)
     R = get_or (rows S) k []
 
@@ -134,14 +134,14 @@ module _ {K X : Type 0} (number : K → ℕ) (S T : List (Held K X)) (C k : ℕ)
     abbrev Fine : List (K × X) → ℕ → ℕ → Type 0
     Fine row room j = (length row + length (slot_of number R (length S) j) ≤ room) ⊎ ((j ≡ x) × (room ≡ 1) × (length row + length (slot_of number R (length S) j) ≤ 1 + b))
 
-    len-k : length (set S k emptied) ≡ length S
-    len-k = length-set S k emptied
+    len-k : length (set S k bare_slot) ≡ length S
+    len-k = length-set S k bare_slot
 
-    len-T : length (set T k emptied) ≡ length S
-    len-T = length-set T k emptied ∙ lenT
+    len-T : length (set T k bare_slot) ≡ length S
+    len-T = length-set T k bare_slot ∙ lenT
 
     fine : (j : ℕ) → j < length S → 0 < length (slot_of number R (length S) j) → Fine (get_or (set (rows S) k []) j []) (get_or (set (rooms S) k 1) j 0) j
-    fine = rw (len-k, map-set (λ (h : Held K X). h.pairs) S k emptied, map-set (λ (h : Held K X). h.room) S k emptied) at has.room
+    fine = rw (len-k, map-set (λ (h : Held K X). h.pairs) S k bare_slot, map-set (λ (h : Held K X). h.room) S k bare_slot) at has.room
 
     is-k : (j : ℕ) → 0 < length (slot_of number R (length S) j) → j % C ≡ k
     is-k j some = elim (cases_eq (j % C) k) as (λ _. j % C ≡ k) [
@@ -167,9 +167,9 @@ module _ {K X : Type 0} (number : K → ℕ) (S T : List (Held K X)) (C k : ℕ)
       | inr other ↦ get_or-set_other (rooms S) k j 1 0 other ∙ sym (room-same j lt is) ∙ sym (get_or-set_other (rooms T) k j 1 0 other)
     ]
 
-    moved-fine : HasRoom number (set T k emptied) R b x
+    moved-fine : HasRoom number (set T k bare_slot) R b x
     moved-fine = record {
-      room = rw (len-T, map-set (λ (h : Held K X). h.pairs) T k emptied, map-set (λ (h : Held K X). h.room) T k emptied) (λ j lt some.
+      room = rw (len-T, map-set (λ (h : Held K X). h.pairs) T k bare_slot, map-set (λ (h : Held K X). h.room) T k bare_slot) (λ j lt some.
           let is : j % C ≡ k = is-k j some in
           let row : Fine (get_or (set (rows T) k []) j []) (get_or (set (rooms S) k 1) j 0) j = subst (λ r. Fine r (get_or (set (rooms S) k 1) j 0) j) (row-k j lt is) (fine j lt some) in
           subst (λ n. Fine (get_or (set (rows T) k []) j []) n j) (room-k j lt is) row);
@@ -178,8 +178,8 @@ module _ {K X : Type 0} (number : K → ℕ) (S T : List (Held K X)) (C k : ℕ)
     CanLeave-as : k < length S → CanLeave number T k
     CanLeave-as lt =
         let is : k % C ≡ k = modulo-below C k ltk in
-        let row : HasRoom number (set T k emptied) (get_or (rows T) k []) b x = subst (λ M. HasRoom number (set T k emptied) M b x) (sym (row-same k lt is)) moved-fine in
-        (x, subst (λ n. HasRoom number (set T k emptied) (get_or (rows T) k []) (n - 1) x) (sym (room-same k lt is)) row)
+        let row : HasRoom number (set T k bare_slot) (get_or (rows T) k []) b x = subst (λ M. HasRoom number (set T k bare_slot) M b x) (sym (row-same k lt is)) moved-fine in
+        (x, subst (λ n. HasRoom number (set T k bare_slot) (get_or (rows T) k []) (n - 1) x) (sym (room-same k lt is)) row)
 
   -- what leaves the parts of an old slot as they are leaves it as it was
   pub CanLeave-same : k < length S → CanLeave number S k → CanLeave number T k
@@ -241,7 +241,7 @@ module _ {K X : Type 0} (number : K → ℕ) where
   -- a lone pair has room in its slot, which holds none, whatever room the slot has that it was removed from
   pub HasRoom-lone : (S : List (Held K X)) (i : ℕ) (h : Held K X) (p : K × X) (given x block y : ℕ) → 0 < h.room
       → ((j : ℕ) → j < length (set S i h) → 0 < need number (p ∷ []) (length (set S i h)) j → get_or (rows (set S i h)) j [] ≡ [])
-      → HasRoom number (set S i emptied) (p ∷ []) given x → HasRoom number (set S i h) (p ∷ []) block y
+      → HasRoom number (set S i bare_slot) (p ∷ []) given x → HasRoom number (set S i h) (p ∷ []) block y
   HasRoom-lone S i h p given x block y some_room empty has =
       let lone : (j : ℕ) → j < length S → 0 < need number (p ∷ []) (length S) j → need number (p ∷ []) (length S) j ≤ get_or (set (rooms S) i h.room) j 0 =
       λ j lt some.
@@ -251,7 +251,7 @@ module _ {K X : Type 0} (number : K → ℕ) where
             let here : get_or (set (rooms S) i h.room) j 0 ≡ h.room = ap (λ k. get_or (set (rooms S) i h.room) k 0) q ∙ get_or-set_same (rooms S) i h.room 0 w in
             omega (arith, here, some_room, most))
         | inr other ↦ (let same = get_or-set_other (rooms S) i j h.room 0 other in let before = get_or-set_other (rooms S) i j 1 0 other in
-            elim ((rw (length-set S i emptied, map-set (λ (s : Held K X). s.room) S i emptied) at has.room) j lt some) [
+            elim ((rw (length-set S i bare_slot, map-set (λ (s : Held K X). s.room) S i bare_slot) at has.room) j lt some) [
               | inl fits ↦ omega (arith, fits, same, before, most)
               | inr but ↦ (let bare = but.1 in omega (arith, bare, same, before, most))
             ])
@@ -381,11 +381,11 @@ module _ {K X : Type 0} (number : K → ℕ) (S : List (Held K X)) (C k : ℕ) (
       let one = few_need_one number Rk (length S) few in
       let x : ℕ = one.0 in
       let most : length Rk ≤ 1 + (get_or (rooms S) k 0 - 1) = omega (arith, fits) in
-      let len : length (set S k emptied) ≡ length S = length-set S k emptied in (
+      let len : length (set S k bare_slot) ≡ length S = length-set S k bare_slot in (
         x,
-        HasRoom-ready number (set S k emptied) Rk (get_or (rooms S) k 0 - 1) x most
-            (rw (len, map-set (λ (h : Held K X). h.pairs) S k emptied) (λ j lt some. bare-row j lt (is-part j some)))
-            (rw (len, map-set (λ (h : Held K X). h.room) S k emptied) (λ j lt some.
+        HasRoom-ready number (set S k bare_slot) Rk (get_or (rooms S) k 0 - 1) x most
+            (rw (len, map-set (λ (h : Held K X). h.pairs) S k bare_slot) (λ j lt some. bare-row j lt (is-part j some)))
+            (rw (len, map-set (λ (h : Held K X). h.room) S k bare_slot) (λ j lt some.
             let room = bare-room j lt (is-part j some) in
             elim (cases_eq j x) as (λ _. (length (slot_of number Rk (length S) j) ≤ get_or (set (rooms S) k 1) j 0) ⊎ ((j ≡ x) × (get_or (set (rooms S) k 1) j 0 ≡ 1))) [
               | inl q ↦ inr (q, room)

@@ -5,87 +5,87 @@ use Rattle.std.proofs.Math.ListN.{get_or-append}
 use Rattle.std.proofs.Math.Seq.{get_or-append_seam}
 use Rattle.std.proofs.lemmas.Grind.{flat_map-append}
 use Rattle.std.proofs.lemmas.List.{map-set, get_or-append-add}
-use Rattle.intmap_table.specs.Tables.Bits.{marked_places}
+use Rattle.intmap_table.specs.Tables.Bits.{marked_indices}
 use Rattle.intmap_table.specs.Classes.{slot_number}
 use Rattle.intmap_table.specs.Tables.Slots.{Held, rows, joined, pairs_at, AreMarked, IsMarkedTable}
 use Rattle.intmap_table.specs.Taking.{TakesEach}
 use Rattle.intmap_table.specs.Writes.{Writes}
-use Rattle.intmap_table.proofs.Tables.FilledLemmas.{pairs_at-marked, pairs_at-set, places-within, marks-kept_at}
+use Rattle.intmap_table.proofs.Tables.FilledLemmas.{pairs_at-marked, pairs_at-set, indices-within, marks-kept_at}
 use Rattle.intmap_table.proofs.LeadsLemmas.{Leads, Leads-next, Leads-end}
-use Rattle.intmap_table.proofs.Tables.MarkedLemmas.{AllPairs-marked_places}
+use Rattle.intmap_table.proofs.Tables.MarkedLemmas.{AllPairs-marked_indices}
 use Rattle.intmap_table.proofs.Tables.RetainSlotsLemmas.{IsTable-set_at}
 use Rattle.intmap_table.proofs.Tables.TableLemmas.{length-rows}
 use Rattle.intmap_table.proofs.TakingLemmas.{TakesEach-behind}
 use Rattle.intmap_table.proofs.WritesLemmas.{Writes-append, FoldsTo-Writes, length-Writes, All-Writes}
 
--- of the marked places, some were passed, one is at hand, and the rest is left
-module _ {K X : Type 0} (S : List (Held K X)) (marks : List Bool) (are : AreMarked (rows S) marks) (before : List ℕ) (place : ℕ) (rest : List ℕ) (is : before ++ place ∷ rest ≡ marked_places marks) where
-  long : length (before ++ place ∷ rest) ≡ length before + suc (length rest)
-  long = length-append before (place ∷ rest)
+-- of the marked indices, some were passed, one is at hand, and the rest is left
+module _ {K X : Type 0} (S : List (Held K X)) (marks : List Bool) (are : AreMarked (rows S) marks) (before : List ℕ) (index : ℕ) (rest : List ℕ) (is : before ++ index ∷ rest ≡ marked_indices marks) where
+  long : length (before ++ index ∷ rest) ≡ length before + suc (length rest)
+  long = length-append before (index ∷ rest)
 
-  ascending : AllPairs (λ i j. i < j) (before ++ place ∷ rest)
-  ascending = subst (AllPairs (λ i j. i < j)) (sym is) (AllPairs-marked_places marks)
+  ascending : AllPairs (λ i j. i < j) (before ++ index ∷ rest)
+  ascending = subst (AllPairs (λ i j. i < j)) (sym is) (AllPairs-marked_indices marks)
 
   -- the one at hand is that of a slot
-  pub slot-within : place < length S
+  pub slot-within : index < length S
   slot-within =
-      let all = subst (All (λ i. i < length S)) (sym is) (places-within S marks are) in
-      subst (λ n. n < length S) (get_or-append_seam before place rest 0) (all (length before) 0 (omega (arith, long)))
+      let all = subst (All (λ i. i < length S)) (sym is) (indices-within S marks are) in
+      subst (λ n. n < length S) (get_or-append_seam before index rest 0) (all (length before) 0 (omega (arith, long)))
 
   -- it is none of the others
-  apart-before : All (λ j. place ≢ j) before
+  apart-before : All (λ j. index ≢ j) before
   apart-before = λ k d below q.
       let less = ascending k (length before) d below (omega (arith, long)) in
-      let one = get_or-append before (place ∷ rest) d k below in
-      let at = get_or-append_seam before place rest d in
+      let one = get_or-append before (index ∷ rest) d k below in
+      let at = get_or-append_seam before index rest d in
       omega (arith, less, one, at, q)
 
-  apart-rest : All (λ j. place ≢ j) rest
+  apart-rest : All (λ j. index ≢ j) rest
   apart-rest = λ k d below q.
       let less = ascending (length before) (length before + suc k) d (omega arith) (omega (arith, below, long)) in
-      let one = get_or-append-add before (place ∷ rest) (suc k) d in
-      let at = get_or-append_seam before place rest d in
+      let one = get_or-append-add before (index ∷ rest) (suc k) d in
+      let at = get_or-append_seam before index rest d in
       omega (arith, less, one, at, q)
 
   -- so the pairs of the others stay where the slot is changed
   module _ (s : Held K X) where
-    others : (places : List ℕ) → All (λ j. place ≢ j) places → pairs_at (rows (set S place s)) places ≡ pairs_at (rows S) places
-    others places apart = ap (λ Z. pairs_at Z places) (map-set (λ (t : Held K X). t.pairs) S place s) ∙ pairs_at-set (rows S) place s.pairs places apart
+    others : (indices : List ℕ) → All (λ j. index ≢ j) indices → pairs_at (rows (set S index s)) indices ≡ pairs_at (rows S) indices
+    others indices apart = ap (λ Z. pairs_at Z indices) (map-set (λ (t : Held K X). t.pairs) S index s) ∙ pairs_at-set (rows S) index s.pairs indices apart
 
-    passed : pairs_at (rows (set S place s)) (before ++ place ∷ []) ≡ pairs_at (rows S) before ++ s.pairs
+    passed : pairs_at (rows (set S index s)) (before ++ index ∷ []) ≡ pairs_at (rows S) before ++ s.pairs
     passed =
-        let row : get_or (rows (set S place s)) place [] ≡ s.pairs = ap (λ Z. get_or Z place []) (map-set (λ (t : Held K X). t.pairs) S place s) ∙ get_or-set_same (rows S) place s.pairs [] (omega (arith, slot-within, length-rows S)) in
-        flat_map-append (λ i. get_or (rows (set S place s)) i []) before (place ∷ [])
-        ∙ ap (λ Z. Z ++ (get_or (rows (set S place s)) place [] ++ [])) (others before apart-before)
-        ∙ ap (λ Z. pairs_at (rows S) before ++ Z) (append-nil (get_or (rows (set S place s)) place []) ∙ row)
+        let row : get_or (rows (set S index s)) index [] ≡ s.pairs = ap (λ Z. get_or Z index []) (map-set (λ (t : Held K X). t.pairs) S index s) ∙ get_or-set_same (rows S) index s.pairs [] (omega (arith, slot-within, length-rows S)) in
+        flat_map-append (λ i. get_or (rows (set S index s)) i []) before (index ∷ [])
+        ∙ ap (λ Z. Z ++ (get_or (rows (set S index s)) index [] ++ [])) (others before apart-before)
+        ∙ ap (λ Z. pairs_at (rows S) before ++ Z) (append-nil (get_or (rows (set S index s)) index []) ∙ row)
 
-    module _ {F : Type 0} (R : F → K × X → X → F → Type 0) (f h : F) (run : Writes R f (get_or (rows S) place []) s.pairs h) where
+    module _ {F : Type 0} (R : F → K × X → X → F → Type 0) (f h : F) (run : Writes R f (get_or (rows S) index []) s.pairs h) where
       -- R goes over the pairs of the slot
-      pub Leads-place : (f₀ : F) (L : List (K × X)) → Leads (Writes R) f₀ L f (pairs_at (rows S) before) (pairs_at (rows S) (place ∷ rest))
-          → Leads (Writes R) f₀ L h (pairs_at (rows (set S place s)) (before ++ place ∷ [])) (pairs_at (rows (set S place s)) rest)
-      Leads-place f₀ L leads =
-          let row = get_or (rows S) place [] in
+      pub Leads-index : (f₀ : F) (L : List (K × X)) → Leads (Writes R) f₀ L f (pairs_at (rows S) before) (pairs_at (rows S) (index ∷ rest))
+          → Leads (Writes R) f₀ L h (pairs_at (rows (set S index s)) (before ++ index ∷ [])) (pairs_at (rows (set S index s)) rest)
+      Leads-index f₀ L leads =
+          let row = get_or (rows S) index [] in
           let next = Leads-next (Writes R) (Writes-append R) f₀ f h L (pairs_at (rows S) before) row s.pairs (pairs_at (rows S) rest) leads run in
-          subst (λ Z. Leads (Writes R) f₀ L h Z (pairs_at (rows (set S place s)) rest)) (sym passed)
+          subst (λ Z. Leads (Writes R) f₀ L h Z (pairs_at (rows (set S index s)) rest)) (sym passed)
           (subst (λ Z. Leads (Writes R) f₀ L h (pairs_at (rows S) before ++ s.pairs) Z) (sym (others rest apart-rest)) next)
 
       -- behind the calls there it takes each pair that is left
-      pub TakesEach-place : (Q : F → K × X → Type 0) → TakesEach R Q f (pairs_at (rows S) (place ∷ rest)) → TakesEach R Q h (pairs_at (rows (set S place s)) rest)
-      TakesEach-place Q takes =
-          let row = get_or (rows S) place [] in
+      pub TakesEach-index : (Q : F → K × X → Type 0) → TakesEach R Q f (pairs_at (rows S) (index ∷ rest)) → TakesEach R Q h (pairs_at (rows (set S index s)) rest)
+      TakesEach-index Q takes =
+          let row = get_or (rows S) index [] in
           subst (TakesEach R Q h) (sym (others rest apart-rest)) (TakesEach-behind R Q f h row (pairs_at (rows S) rest) takes (FoldsTo-Writes R f h row s.pairs run))
 
       -- the slot has its keys still, so the table and its marks agree
-      pub IsMarkedTable-Writes : (number : K → ℕ) → IsMarkedTable number S marks → IsMarkedTable number (set S place s) marks
+      pub IsMarkedTable-Writes : (number : K → ℕ) → IsMarkedTable number S marks → IsMarkedTable number (set S index s) marks
       IsMarkedTable-Writes number old = record {
-        table = IsTable-set_at number S place s old.table slot-within
-            (All-Writes R (λ k. slot_number number k (length S) ≡ place) f h (get_or (rows S) place []) s.pairs run (old.table.in_place place slot-within));
-        marks = marks-kept_at S marks are place slot-within s (are.own place ∙ ap (nat_lt 0) (sym (length-Writes R f h (get_or (rows S) place []) s.pairs run)));
+        table = IsTable-set_at number S index s old.table slot-within
+            (All-Writes R (λ k. slot_number number k (length S) ≡ index) f h (get_or (rows S) index []) s.pairs run (old.table.in_place index slot-within));
+        marks = marks-kept_at S marks are index slot-within s (are.own index ∙ ap (nat_lt 0) (sym (length-Writes R f h (get_or (rows S) index []) s.pairs run)));
       }
 
--- if all marked places were passed, R went over all pairs
-pub Leads-places : {F K X : Type 0} (R : F → K × X → X → F → Type 0) (S : List (Held K X)) (marks : List Bool) (f₀ f : F) (L : List (K × X)) (before : List ℕ) → AreMarked (rows S) marks → before ++ [] ≡ marked_places marks
+-- if all marked indices were passed, R went over all pairs
+pub Leads-indices : {F K X : Type 0} (R : F → K × X → X → F → Type 0) (S : List (Held K X)) (marks : List Bool) (f₀ f : F) (L : List (K × X)) (before : List ℕ) → AreMarked (rows S) marks → before ++ [] ≡ marked_indices marks
     → Leads (Writes R) f₀ L f (pairs_at (rows S) before) [] → Writes R f₀ L (joined (rows S)) f
-Leads-places R S marks f₀ f L before are is leads =
+Leads-indices R S marks f₀ f L before are is leads =
     subst (λ Z. Writes R f₀ L Z f) (ap (pairs_at (rows S)) (sym (append-nil before) ∙ is) ∙ pairs_at-marked (rows S) marks are)
     (Leads-end (Writes R) f₀ f L (pairs_at (rows S) before) (refl, refl) leads)

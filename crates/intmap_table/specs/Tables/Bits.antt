@@ -1,32 +1,32 @@
--- Places that are marked or not, as bits of words. No public clause cites this module.
+-- Indices that are marked or not, as bits of words. No public clause cites this module.
 use Rattle.std.specs.Prelude.{ℕ, Bool, false, ◌*◌, ◌/◌, ◌%◌, ◌+◌, ◌<◌, ◌==◌, ◌≡◌, List, cond, length, map, filter, slice_index, slice_index_or}
 use Rattle.std.specs.Int.{bit_at}
 use Rattle.std.specs.List.{range_with_len}
 
--- whether place i is marked; no place past the last one is
+-- whether index i is marked; no index past the last one is
 abbrev pub marked : List Bool → ℕ → Bool
 marked marks i = slice_index_or marks i false
 
--- the places that are marked, in order
-abbrev pub marked_places : List Bool → List ℕ
-marked_places marks = filter (marked marks) (range_with_len 0 (length marks))
+-- the indices that are marked, in order
+abbrev pub marked_indices : List Bool → List ℕ
+marked_indices marks = filter (marked marks) (range_with_len 0 (length marks))
 
 -- whether bit i of the word is set
 abbrev pub has_bit : ℕ → ℕ → Bool
 has_bit word i = bit_at word i == 1
 
--- a word that has, from its lowest bit up, the marks of the 64 places around place i
+-- a word that has, from its lowest bit up, the marks of the 64 indices around index i
 abbrev pub IsWordOf : List Bool → ℕ → ℕ → Type 0
 IsWordOf marks i word = (j : ℕ) → j < 64 → has_bit word j ≡ marked marks (64 * (i / 64) + j)
 
--- the marks, with the bits of a word in place of the marks of the 64 places around place i
+-- the marks, with the bits of a word in place of the marks of the 64 indices around index i
 abbrev pub with_word : List Bool → ℕ → ℕ → List Bool
 with_word marks i word = map (λ j. cond (j / 64 == i / 64) (has_bit word (j % 64)) (marked marks j)) (range_with_len 0 (length marks))
 
--- whether each place of these words is marked: a word has 64, from its lowest bit up
+-- whether each index of these words is marked: a word has 64, from its lowest bit up
 unfoldable pub marks_of : List ℕ → List Bool
 marks_of words = map (λ i. has_bit (slice_index words (i / 64)) (i % 64)) (range_with_len 0 (64 * length words))
 
--- the marked places of these words, of which the first begins at the base
-abbrev pub places_from : ℕ → List ℕ → List ℕ
-places_from base words = map (λ i. base + i) (marked_places (marks_of words))
+-- the marked indices of these words, of which the first begins at the base
+abbrev pub indices_from : ℕ → List ℕ → List ℕ
+indices_from base words = map (λ i. base + i) (marked_indices (marks_of words))

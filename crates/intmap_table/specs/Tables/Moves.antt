@@ -16,8 +16,8 @@ pub record IsGrown (C D : ℕ) : Type 0 where
   pub times : (a : ℕ) × (D ≡ C * 2 ^ a)
 
 -- a slot without a pair and without a block
-abbrev pub emptied : {K X : Type 0} → Held K X
-emptied = record { pairs = []; room = 1 }
+abbrev pub bare_slot : {K X : Type 0} → Held K X
+bare_slot = record { pairs = []; room = 1 }
 
 module _ {K X : Type 0} (number : K → ℕ) where
   -- each of the C rows has pairs of its slot alone
@@ -31,7 +31,7 @@ module _ {K X : Type 0} (number : K → ℕ) where
     pub own : IsOldRows (take C (rows S)) C
     pub marked : AreMarked (take C (rows S)) marks
 
-  -- the rows before place i are moved into D slots: those from i on are where they were, and all other slots have the pairs that were moved
+  -- the rows before index i are moved into D slots: those from i on are where they were, and all other slots have the pairs that were moved
   pub record IsMidway (R : List (List (K × X))) (D i : ℕ) (S : List (Held K X)) : Type 0 where
     pub len : length S ≡ D
     pub old : (j : ℕ) → i ≤ j → j < length R → get_or (rows S) j [] ≡ get_or R j []
@@ -55,15 +55,15 @@ module _ {K X : Type 0} (number : K → ℕ) where
 
   -- once its pairs and its block are removed, slot k has room for them elsewhere, with the help of that block
   abbrev pub CanLeave : List (Held K X) → ℕ → Type 0
-  CanLeave S k = (x : ℕ) × HasRoom (set S k emptied) (get_or (rows S) k []) (get_or (rooms S) k 0 - 1) x
+  CanLeave S k = (x : ℕ) × HasRoom (set S k bare_slot) (get_or (rows S) k []) (get_or (rooms S) k 0 - 1) x
 
-  -- the rows before place i are moved, and each old slot from i on can be left, and has at most `longest` pairs behind its first
+  -- the rows before index i are moved, and each old slot from i on can be left, and has at most `longest` pairs behind its first
   pub record CanMoveOn (R : List (List (K × X))) (C D i longest : ℕ) (S : List (Held K X)) : Type 0 where
     pub midway : IsMidway R D i S
     pub leave : (k : ℕ) → i ≤ k → k < C → CanLeave S k
     pub short : (k : ℕ) → k < C → length (get_or R k []) ≤ 1 + longest
 
-  -- the marks of places of D that get one of these pairs are set, and no other is changed
+  -- the marks of slots of D that get one of these pairs are set, and no other is changed
   pub record AreSet (marks : List Bool) (L : List (K × X)) (D : ℕ) (new : List Bool) : Type 0 where
     pub len : length new ≡ length marks
     pub set_at : (j : ℕ) → marked new j ≡ (marked marks j || nat_lt 0 (need L D j))
@@ -84,7 +84,7 @@ module _ {K X : Type 0} (number : K → ℕ) where
     pub within : k < length S
     pub enough : length (get_or (rows S) k []) ≤ 1 + buffer
     pub leave : CanLeave S k
-    pub free : AreFree (set S k emptied) (get_or (rows S) k []) marks
+    pub free : AreFree (set S k bare_slot) (get_or (rows S) k []) marks
 
 module _ {K X : Type 0} where
   -- a pair was put at the end of slot j. If the slot had a pair and no block, it took the current block before

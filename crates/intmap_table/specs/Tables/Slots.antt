@@ -38,11 +38,11 @@ pub record Grid (K X : Type 0) : Type 0 where
 abbrev pub joined : {P : Type 0} → List (List P) → List P
 joined S = flat_map (λ s. s) S
 
--- the rows at these places, one after another
+-- the rows at these indices, one after another
 abbrev pub pairs_at : {P : Type 0} → List (List P) → List ℕ → List P
-pairs_at S places = flat_map (λ i. slice_index_or S i []) places
+pairs_at S indices = flat_map (λ i. slice_index_or S i []) indices
 
--- marks in whole words of 64: the place of a row is marked exactly if the row has a pair, and no place behind the last row is marked
+-- marks in whole words of 64: the index of a row is marked exactly if the row has a pair, and no index behind the last row is marked
 pub record AreMarked {P : Type 0} (S : List (List P)) (marks : List Bool) : Type 0 where
   pub words : length marks ≡ 64 * ((length S + 63) / 64)
   pub own : (i : ℕ) → marked marks i ≡ nat_lt 0 (length (slice_index_or S i []))

@@ -1,6 +1,6 @@
 //! Room in slots, and the moves of a growth, which takes all pairs of a slot at once.
 ghost use Rattle.std.specs.Prelude.{◌≡◌, ◌≢◌, ◌+◌, ◌<◌, ◌≤◌, [], ◌∷◌, ◌++◌, length, reverse, vec_capacity, OnOk};
-ghost use Rattle.intmap_table.specs.Tables.Moves.{emptied};
+ghost use Rattle.intmap_table.specs.Tables.Moves.{bare_slot};
 
 use crate::key::IntKey;
 use crate::slot::Slot;
@@ -70,7 +70,7 @@ impl<K: IntKey, X, A: Allocator + Copy> Slot<K, X, A> {
         requires empty { buffer.old.items ≡ [] }
         requires enough { length self.old.pairs ≤ 1 + vec_capacity buffer.old }
         ensures pairs { self.old.pairs ≡ result.0 ∷ reverse buffer.new.items }
-        ensures emptied { self.new ≡ emptied }
+        ensures emptied { self.new ≡ bare_slot }
         ensures block { result.1.items ≡ [] }
         ensures block_room { 1 + vec_capacity result.1 ≡ self.old.room }
         ensures buffer_room { vec_capacity buffer.old ≤ vec_capacity buffer.new }

@@ -5,7 +5,7 @@ ghost use Rattle.intmap_table.specs.Bindings.{value_of, put_pair, take_key};
 ghost use Rattle.intmap_table.specs.Tables.Slots.{rows, joined, IsMaskedTable};
 ghost use Rattle.intmap_table.specs.Walk.{slot_of, walk_of};
 ghost use Rattle.intmap_table.specs.Locations.{IsAt};
-ghost use Rattle.intmap_table.specs.Tables.Moves.{rooms, IsGrown, IsLonger, HasParts, CanMoveOn, emptied, need};
+ghost use Rattle.intmap_table.specs.Tables.Moves.{rooms, IsGrown, IsLonger, HasParts, CanMoveOn, bare_slot, need};
 
 use crate::bits::Bits;
 use crate::key::IntKey;
@@ -87,7 +87,7 @@ fn reserve_room<K: IntKey, X: Drop, A: Allocator>(
     ensures others { (j i t : ℕ) → i < old → (i ≡ index → ⊥) → j ≡ t * old + i
         → get_or (rooms slots.new) j 0 ≡ get_or (rooms slots.old) j 0 }
     ensures room { OnOk result ((x : ℕ)
-        × HasParts (set slots.new index emptied) old index counts.now x) }
+        × HasParts (set slots.new index bare_slot) old index counts.now x) }
 {
     let mut spared = false;
     for part in 0..counts.len() {
@@ -114,7 +114,7 @@ fn reserve_rooms<K: IntKey, X: Drop, A: Allocator + Copy>(
     requires longer { IsLonger K.number_of old.now.bits (old.now.mask + 1) slots.old }
     requires all { length slots.old ≡ length counts.old * (old.now.mask + 1) }
     requires bare { (j : ℕ) → old.now.mask + 1 ≤ j → j < length slots.old
-        → get_or slots.old j emptied ≡ emptied }
+        → get_or slots.old j bare_slot ≡ bare_slot }
     requires fits { length (joined (rows slots.old)) < 2 ^ 64 }
     ensures rows { rows slots.new ≡ rows slots.old }
     ensures buffer { IfOk result (λ buffer. buffer.items ≡ []) }
@@ -143,7 +143,7 @@ pub(super) fn add_slots<K: IntKey, X: Drop, A: Allocator + Copy>(
 ) -> Result<(), AllocError>
     requires { length slots.old.items ≤ capacity }
     ensures slots { OnOk result (slots.new.items
-        ≡ slots.old.items ++ replicate (capacity - length slots.old.items) emptied) }
+        ≡ slots.old.items ++ replicate (capacity - length slots.old.items) bare_slot) }
     ensures err { OnErr result (slots.new.items ≡ slots.old.items) }
 {
     let alloc = *slots.allocator();

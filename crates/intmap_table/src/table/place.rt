@@ -2,7 +2,7 @@
 ghost use Rattle.std.specs.Prelude.{◌≡◌, ◌+◌, ◌*◌, ◌/◌, ◌<◌, ◌≤◌, [], ◌∷◌, length, get_or, set, slice_set, take, reverse, replicate, true, false, vec_capacity, ℕ};
 ghost use Rattle.intmap_table.specs.Classes.{IsCapacity, slot_number};
 ghost use Rattle.intmap_table.specs.Tables.Slots.{Held, rows, joined, AreMarked};
-ghost use Rattle.intmap_table.specs.Tables.Moves.{IsLonger, IsMidway, IsPlaced, IsPut, HasRoom, CanMove, CanMoveOn, AreSet, AreTold, AreFree, emptied};
+ghost use Rattle.intmap_table.specs.Tables.Moves.{IsLonger, IsMidway, IsPlaced, IsPut, HasRoom, CanMove, CanMoveOn, AreSet, AreTold, AreFree, bare_slot};
 
 use crate::bits::Bits;
 use crate::key::IntKey;
@@ -87,7 +87,7 @@ fn move_several<K: IntKey, X: Drop, A: Allocator + Copy>(
     requires ready { CanMove K.number_of slots.old bits.old index (vec_capacity buffer.old) }
     requires several { 1 < length (get_or (rows slots.old) index []) }
     requires buffer { buffer.old.items ≡ [] }
-    ensures pairs { IsPlaced K.number_of (set slots.old index emptied)
+    ensures pairs { IsPlaced K.number_of (set slots.old index bare_slot)
         (get_or (rows slots.old) index []) slots.new }
     ensures marks { AreSet K.number_of bits.old (get_or (rows slots.old) index [])
         (length slots.old) bits.new }

@@ -6,7 +6,7 @@ ghost use Rattle.intmap_table.specs.Picking.{IsReached};
 ghost use Rattle.intmap_table.specs.Walk.{walk_of, ArePassed};
 ghost use Rattle.intmap_table.specs.Classes.{slot_number};
 
-use crate::bits::Places;
+use crate::bits::Indices;
 use crate::key::IntKey;
 use crate::slot::Slot;
 use crate::table::Table;
@@ -45,17 +45,17 @@ fn slot_at<K: IntKey, X, A: Allocator>(slots: &[Slot<K, X, A>], index: usize) ->
     &slots[index]
 }
 
-/// The pairs that are left: those of the current slot, then those of the slots at the places behind
-/// it. Each of these slots holds a pair.
+/// The pairs that are left: those of the current slot, then those of the filled slots behind it, by
+/// their indices.
 #[derive(Drop)]
 pub struct Pairs<'a, K: IntKey, X, A: Allocator> {
     pub(super) first: Option<&'a (Stored<K>, X)>,
     pub(super) rest: &'a [(Stored<K>, X)],
-    pub(super) places: Places<'a>,
+    pub(super) filled: Indices<'a>,
     pub(super) slots: &'a [Slot<K, X, A>],
 }
 
-// Invariant: each place that is left is that of a slot.
+// Invariant: each index that is left is that of a slot.
 impl<'a, K: IntKey, X, A: Allocator> Model for Pairs<'a, K, X, A> {
     ghost use Rattle.std.specs.Prelude.{List, All, ◌<◌, ◌++◌, length};
     ghost use Rattle.std.specs.Option.{option_copied};
@@ -64,9 +64,9 @@ impl<'a, K: IntKey, X, A: Allocator> Model for Pairs<'a, K, X, A> {
     ghost Value = { List (K × X) };
 
     ghost view = { λ it.
-        all_pairs (option_copied it.first) it.rest.now ++ pairs_at (rows it.slots.now) it.places };
+        all_pairs (option_copied it.first) it.rest.now ++ pairs_at (rows it.slots.now) it.filled };
 
-    ghost invariant = { λ it. All (λ place. place < length it.slots.now) it.places };
+    ghost invariant = { λ it. All (λ index. index < length it.slots.now) it.filled };
 }
 
 impl<'a, K: IntKey, X, A: Allocator> Clone for Pairs<'a, K, X, A> {
@@ -78,7 +78,7 @@ impl<'a, K: IntKey, X, A: Allocator> Clone for Pairs<'a, K, X, A> {
         Ok(Pairs {
             first: self.first,
             rest: self.rest,
-            places: self.places.clone()?,
+            filled: self.filled.clone()?,
             slots: self.slots,
         })
     }
@@ -100,7 +100,7 @@ impl<'a, K: IntKey, X, A: Allocator> Iterator for Pairs<'a, K, X, A> {
                 self.rest = rest;
                 return Some((pair.0.key(), &pair.1));
             }
-            let Some(index) = self.places.next() else {
+            let Some(index) = self.filled.next() else {
                 return None;
             };
             (self.first, self.rest) = slot_at(self.slots, index).parts();

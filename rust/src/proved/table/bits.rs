@@ -1,4 +1,4 @@
-//! One bit for each place.
+//! One bit for each index.
 
 use crate::memory::prelude::*;
 use crate::memory::alloc::{AllocError, Allocator};
@@ -6,42 +6,42 @@ use crate::memory::alloc::{AllocError, Allocator};
 /// The number of bits of a word.
 const BITS: usize = 64;
 
-/// One bit for each place: whether it is marked.
+/// One bit for each index: whether it is marked.
 pub(in crate::proved::table) struct Bits<A: Allocator> {
     words: Vec<u64, A>,
 }
 
-/// A word without the bit of a place.
+/// A word without the bit of an index.
 #[inline(always)]
-pub(in crate::proved::table) fn without(word: u64, place: usize) -> u64 {
-    word & !(1 << (place % BITS))
+pub(in crate::proved::table) fn without(word: u64, index: usize) -> u64 {
+    word & !(1 << (index % BITS))
 }
 
 impl<A: Allocator> Bits<A> {
-    /// Marks a place, and returns whether it was marked before. No other place changes.
+    /// Marks an index, and returns whether it was marked before. No other index changes.
     #[inline(always)]
-    pub(in crate::proved::table) fn set(&mut self, place: usize) -> bool {
-        let word = self.words[place / BITS];
-        self.words[place / BITS] = word | 1 << (place % BITS);
-        (word >> (place % BITS)) & 1 == 1
+    pub(in crate::proved::table) fn set(&mut self, index: usize) -> bool {
+        let word = self.words[index / BITS];
+        self.words[index / BITS] = word | 1 << (index % BITS);
+        (word >> (index % BITS)) & 1 == 1
     }
 
-    /// The word that a place has its bit in.
+    /// The word that an index has its bit in.
     #[inline(always)]
-    pub(in crate::proved::table) fn word(&self, place: usize) -> u64 {
-        self.words[place / BITS]
+    pub(in crate::proved::table) fn word(&self, index: usize) -> u64 {
+        self.words[index / BITS]
     }
 
-    /// Clears the mark of a place in its word, which was read before. No other place changes.
+    /// Clears the mark of an index in its word, which was read before. No other index changes.
     #[inline(always)]
-    pub(in crate::proved::table) fn clear_in(&mut self, word: u64, place: usize) {
-        self.words[place / BITS] = without(word, place);
+    pub(in crate::proved::table) fn clear_in(&mut self, word: u64, index: usize) {
+        self.words[index / BITS] = without(word, index);
     }
 
-    /// Clears the mark of a place. No other place changes.
+    /// Clears the mark of an index. No other index changes.
     #[inline(always)]
-    pub(in crate::proved::table) fn clear(&mut self, place: usize) {
-        self.clear_in(self.word(place), place);
+    pub(in crate::proved::table) fn clear(&mut self, index: usize) {
+        self.clear_in(self.word(index), index);
     }
 
     /// Clears all marks.
@@ -49,7 +49,7 @@ impl<A: Allocator> Bits<A> {
         self.words.as_mut_slice().fill(0);
     }
 
-    /// The number of marked places.
+    /// The number of marked indices.
     pub(in crate::proved::table) fn count(&self) -> usize {
         let mut marked = 0;
         for word in &self.words {
@@ -58,16 +58,16 @@ impl<A: Allocator> Bits<A> {
         marked
     }
 
-    /// The marked places, in ascending order.
+    /// The marked indices, in ascending order.
     #[inline(always)]
-    pub(in crate::proved::table) fn iter(&self) -> Places<'_> {
+    pub(in crate::proved::table) fn iter(&self) -> Indices<'_> {
         match self.words.split_first() {
-            Some((word, words)) => Places {
+            Some((word, words)) => Indices {
                 word: *word,
                 base: 0,
                 words,
             },
-            None => Places {
+            None => Indices {
                 word: 0,
                 base: 0,
                 words: &[],
@@ -75,18 +75,18 @@ impl<A: Allocator> Bits<A> {
         }
     }
 
-    /// The marked places from a place on, in ascending order.
+    /// The marked indices from an index on, in ascending order.
     #[inline(always)]
-    pub(in crate::proved::table) fn iter_from(&self, from: usize) -> Places<'_> {
+    pub(in crate::proved::table) fn iter_from(&self, from: usize) -> Indices<'_> {
         let index = from / BITS;
         if index >= self.words.len() {
-            return Places {
+            return Indices {
                 word: 0,
                 base: 0,
                 words: &[],
             };
         }
-        Places {
+        Indices {
             word: self.words[index] & (u64::MAX << (from % BITS)),
             base: index * BITS,
             words: &self.words[index + 1..],
@@ -95,10 +95,10 @@ impl<A: Allocator> Bits<A> {
 }
 
 impl<A: Allocator + Copy> Bits<A> {
-    /// Bits for `places` places, rounded up to whole words. No place is marked. It allocates these
+    /// Bits for `indices` indices, rounded up to whole words. No index is marked. It allocates these
     /// words alone.
-    pub(in crate::proved::table) fn new(alloc: A, places: usize) -> Result<Bits<A>, AllocError> {
-        let words = vec![in alloc; 0u64; places.div_ceil(BITS)]?;
+    pub(in crate::proved::table) fn new(alloc: A, indices: usize) -> Result<Bits<A>, AllocError> {
+        let words = vec![in alloc; 0u64; indices.div_ceil(BITS)]?;
         Ok(Bits { words })
     }
 
@@ -109,17 +109,17 @@ impl<A: Allocator + Copy> Bits<A> {
     }
 }
 
-/// The marked places that are left: those of the current word, whose first place is the base, and
+/// The marked indices that are left: those of the current word, whose first index is the base, and
 /// those of the words behind it.
-pub(in crate::proved::table) struct Places<'a> {
+pub(in crate::proved::table) struct Indices<'a> {
     word: u64,
     base: usize,
     words: &'a [u64],
 }
 
-impl<'a> Clone for Places<'a> {
-    fn clone(&self) -> Result<Places<'a>, AllocError> {
-        Ok(Places {
+impl<'a> Clone for Indices<'a> {
+    fn clone(&self) -> Result<Indices<'a>, AllocError> {
+        Ok(Indices {
             word: self.word,
             base: self.base,
             words: self.words,
@@ -127,16 +127,16 @@ impl<'a> Clone for Places<'a> {
     }
 }
 
-impl<'a> Iterator for Places<'a> {
+impl<'a> Iterator for Indices<'a> {
     type Item = usize;
 
     #[inline(always)]
     fn next(&mut self) -> Option<usize> {
         loop {
             if self.word != 0 {
-                let place = self.base + self.word.trailing_zeros() as usize;
+                let index = self.base + self.word.trailing_zeros() as usize;
                 self.word &= self.word - 1;
-                return Some(place);
+                return Some(index);
             }
             let Some((word, words)) = self.words.split_first() else {
                 return None;

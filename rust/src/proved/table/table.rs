@@ -83,7 +83,7 @@ impl<K: IntKey, X, A: Allocator> Table<K, X, A> {
         Pairs {
             first: None,
             rest: &[],
-            places: self.directory.bits.iter(),
+            filled: self.directory.bits.iter(),
             slots: &self.slots,
         }
     }

@@ -10,8 +10,8 @@ ghost use Rattle.intmap_table.specs.Values.{lent_pairs, with_values};
 ghost use Rattle.intmap.specs.Map.{map_with_values};
 
 use crate::map::IntMap;
-use intmap_loan::lent::{Hole, Lent};
 use intmap_table::IntKey;
+use intmap_table::lent::{Hole, Lent};
 use intmap_table::table::Table;
 use intmap_table::table::walk::Pairs;
 use std::alloc::{Allocator, Global};

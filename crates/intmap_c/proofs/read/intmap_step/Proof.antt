@@ -12,9 +12,9 @@ use denote.Ref.{MutRef, mut_vals, mut_Tells}
 use denote.Triple.Walked.{Goes-ref, stay_ref}
 use Rattle.intmap_table.specs.contracts.table.walk.Cursor.{the_row as Cursor}
 use Rattle.intmap_c.specs.Walks.{MayStep, StepsIfMap}
-use Rattle.intmap_c.specs.declared.answer.Found.{Found}
-use Rattle.intmap_c.specs.contracts.answer.Found as found
-use Rattle.intmap_c.proofs.answer.Found.TheLaws as found_laws
+use Rattle.intmap_c.specs.declared.answer.FoundPair.{FoundPair}
+use Rattle.intmap_c.specs.contracts.answer.FoundPair as found
+use Rattle.intmap_c.proofs.answer.FoundPair.TheLaws as found_laws
 use Rattle.intmap_c.specs.contracts.read.intmap_step as f
 use Rattle.intmap_c.proofs.read.intmap_step.Statement.{statement}
 use Rattle.intmap_c.proofs.read.intmap_step.Code as code
@@ -64,7 +64,7 @@ intmap_step_spec {M = M} 𝓤 𝓛 𝓜 𝓡 wired =
     use0 𝓛 (raw (fact 𝓤 (MayStep m r.now))) (fact_i 𝓤 (MayStep m r.now) (emp 𝓤) on) $ move ! (1 ∷ 0 ∷ []) $ use2 𝓛 (raw (G.pre z)) (id⊢ 𝓤 _) $
     calls_at ! (framed 𝓤 𝓛.H 𝓜 (tables 𝓤 𝓛.H 𝓜 𝓡 𝓡.env)) G (met 𝓤 𝓛 𝓜 𝓡 (code.calls-intmap_c::read::step 𝓡.env wired)) z
     (and_then ! (get ! refl) (and_then ! (get ! refl) (no_more !))) (λ v.
-    use1 𝓛 (later (some (λ (u : Found). ((‵ (flft α loan.share) ⊛ ‵ (flft (β ∷ []) full_share) ⊛ ‵ ftrue) ⊛ ‵ (Out.own_val u (v ∷ []))) ⊛
+    use1 𝓛 (later (some (λ (u : FoundPair). ((‵ (flft α loan.share) ⊛ ‵ (flft (β ∷ []) full_share) ⊛ ‵ ftrue) ⊛ ‵ (Out.own_val u (v ∷ []))) ⊛
     some (λ (ws : Lasts g.ended z.0.0 z.0.3). ‵ (lasts g.ended z.0.0 z.0.3 ws) ⊛ raw (fact 𝓤 (StepsIfMap m r.now ws.1.0 u)))))) (id⊢ 𝓤 _) $
     await ! tt $ pick ! (λ u. split ! $ split ! $ split ! $ move ! (1 ∷ []) $ split ! $ lft_end ! tt $
     -- [that lending is over; nothing; the token of the loan; the result; what the callee left and says; what the lender keeps; ..]

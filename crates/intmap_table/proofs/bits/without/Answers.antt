@@ -5,5 +5,5 @@ use Rattle.intmap_table.proofs.bits.without.Goals as goal
 
 pub returns : goal.returns
 returns g marks below is =
-    let bit : g.args.place % 64 < 64 = omega arith in
-    IsWordOf-unmarked marks g.args.place g.args.word _ below is (bit_at_clear_same w64 g.args.word (g.args.place % 64) bit) (λ j lt apart. bit_at_clear_other w64 g.args.word (g.args.place % 64) bit j lt apart)
+    let bit : g.args.index % 64 < 64 = omega arith in
+    IsWordOf-unmarked marks g.args.index g.args.word _ below is (bit_at_clear_same w64 g.args.word (g.args.index % 64) bit) (λ j lt apart. bit_at_clear_other w64 g.args.word (g.args.index % 64) bit j lt apart)

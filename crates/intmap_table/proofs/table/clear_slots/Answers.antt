@@ -4,7 +4,7 @@ use Rattle.std.proofs.lemmas.Bool.{cases_eq, ne_eqb}
 use Rattle.std.proofs.lemmas.List.{map-set}
 use Rattle.std.proofs.lemmas.List.Elements.{All-head, All-tail}
 use Rattle.intmap_table.specs.Tables.Slots.{rows}
-use Rattle.intmap_table.proofs.Tables.FilledLemmas.{places-within, row-unplaced}
+use Rattle.intmap_table.proofs.Tables.FilledLemmas.{indices-within, row-unmarked}
 use Rattle.intmap_table.proofs.Tables.TableLemmas.{length-rows}
 use Rattle.intmap_table.proofs.table.clear_slots.Goals as goal
 use Rattle.intmap_table.proofs.table.clear_slots.Goals.{In-Some}
@@ -13,13 +13,13 @@ pub loop-index-init : goal.loop-index-init
 loop-index-init g c =
     rw (c.into_iter-index-iterator.ensures.into_iter_gives ∙ c.iter-index-items.ensures) (record {
       len = refl;
-      within = places-within c.args.slots.now.items c.args.bits.now c.requires;
-      empty = row-unplaced (rows c.args.slots.now.items) c.args.bits.now c.requires;
+      within = indices-within c.args.slots.now.items c.args.bits.now c.requires;
+      empty = row-unmarked (rows c.args.slots.now.items) c.args.bits.now c.requires;
     })
 
--- the place at hand is that of a slot
+-- the index at hand is that of a slot
 here : (g : _) (c : In-Some g) → c.in-Some.index < length c.loop-index.slots.items
-here g c = All-head (λ place. place < length c.loop-index.slots.items) c.in-Some.index c.next.new.self (rw c.in-Some.ensures.steps at c.loop-index.invariant.within)
+here g c = All-head (λ index. index < length c.loop-index.slots.items) c.in-Some.index c.next.new.self (rw c.in-Some.ensures.steps at c.loop-index.invariant.within)
 
 pub index_mut-requires : goal.index_mut-requires
 index_mut-requires g c =
@@ -27,16 +27,16 @@ index_mut-requires g c =
 
 pub loop-index-preserved : goal.loop-index-preserved
 loop-index-preserved g c =
-    let loop = c.loop-index.invariant in let slots = c.loop-index.slots.items in let place = c.in-Some.index in let s = c.clear.new.self in
+    let loop = c.loop-index.invariant in let slots = c.loop-index.slots.items in let index = c.in-Some.index in let s = c.clear.new.self in
     let below = here g (goal.at.loop-index-preserved g c).In-Some in
-    let len = length-set slots place s in
+    let len = length-set slots index s in
     record {
       len = len ∙ loop.len;
-      within = rw len (All-tail (λ i. i < length slots) place c.next.new.self (rw c.in-Some.ensures.steps at loop.within));
-      empty = λ i missed. rw (map-set (λ h. h.pairs) slots place s) (elim (cases_eq place i) as (λ _. get_or (set (rows slots) place s.pairs) i [] ≡ []) [
-        | inl q ↦ (let within = length-rows slots in rw (← q) (get_or-set_same (rows slots) place s.pairs [] (omega (arith, below, within)) ∙ c.clear.ensures))
-        | inr apart ↦ (let other : (place == i) ≡ false = ne_eqb place i apart in
-            get_or-set_other (rows slots) place i s.pairs [] (λ q. apart (sym q)) ∙ loop.empty i (rw c.in-Some.ensures.steps (simp other missed)))
+      within = rw len (All-tail (λ i. i < length slots) index c.next.new.self (rw c.in-Some.ensures.steps at loop.within));
+      empty = λ i missed. rw (map-set (λ h. h.pairs) slots index s) (elim (cases_eq index i) as (λ _. get_or (set (rows slots) index s.pairs) i [] ≡ []) [
+        | inl q ↦ (let within = length-rows slots in rw (← q) (get_or-set_same (rows slots) index s.pairs [] (omega (arith, below, within)) ∙ c.clear.ensures))
+        | inr apart ↦ (let other : (index == i) ≡ false = ne_eqb index i apart in
+            get_or-set_other (rows slots) index i s.pairs [] (λ q. apart (sym q)) ∙ loop.empty i (rw c.in-Some.ensures.steps (simp other missed)))
       ]);
     }
 

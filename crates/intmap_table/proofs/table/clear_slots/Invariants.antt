@@ -4,10 +4,10 @@ use Rattle.std.specs.List.{list_any}
 use Rattle.intmap_table.specs.Tables.Slots.{rows}
 use Rattle.intmap_table.proofs.table.clear_slots.Given as goal
 
--- there are as many slots as before, and each slot whose place isn't left holds no pair
+-- there are as many slots as before, and each slot whose index isn't left holds no pair
 abbrev pub invariant-loop-index : goal.invariant-loop-index
 invariant-loop-index g l = record {
   len : length l.slots.items ≡ length l.fn.slots.items;
-  within : All (λ place. place < length l.slots.items) l.index-iterator;
-  empty : (i : ℕ) → list_any (λ place. place == i) l.index-iterator ≡ false → get_or (rows l.slots.items) i [] ≡ [];
+  within : All (λ index. index < length l.slots.items) l.index-iterator;
+  empty : (i : ℕ) → list_any (λ index. index == i) l.index-iterator ≡ false → get_or (rows l.slots.items) i [] ≡ [];
 }

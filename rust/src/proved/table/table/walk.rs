@@ -2,7 +2,7 @@
 //! its front.
 
 use crate::memory::prelude::*;
-use crate::proved::table::bits::Places;
+use crate::proved::table::bits::Indices;
 use crate::proved::table::key::IntKey;
 use crate::proved::table::slot::Slot;
 use crate::proved::table::table::Table;
@@ -35,12 +35,12 @@ fn slot_at<K: IntKey, X, A: Allocator>(slots: &[Slot<K, X, A>], index: usize) ->
     &slots[index]
 }
 
-/// The pairs that are left: those of the current slot, then those of the slots at the places behind
-/// it. Each of these slots holds a pair.
+/// The pairs that are left: those of the current slot, then those of the filled slots behind it, by
+/// their indices.
 pub struct Pairs<'a, K: IntKey, X, A: Allocator> {
     pub(super) first: Option<&'a (Stored<K>, X)>,
     pub(super) rest: &'a [(Stored<K>, X)],
-    pub(super) places: Places<'a>,
+    pub(super) filled: Indices<'a>,
     pub(super) slots: &'a [Slot<K, X, A>],
 }
 
@@ -49,7 +49,7 @@ impl<'a, K: IntKey, X, A: Allocator> Clone for Pairs<'a, K, X, A> {
         Ok(Pairs {
             first: self.first,
             rest: self.rest,
-            places: self.places.clone()?,
+            filled: self.filled.clone()?,
             slots: self.slots,
         })
     }
@@ -67,7 +67,7 @@ impl<'a, K: IntKey, X, A: Allocator> Iterator for Pairs<'a, K, X, A> {
                 self.rest = rest;
                 return Some((pair.0.key(), &pair.1));
             }
-            let Some(index) = self.places.next() else {
+            let Some(index) = self.filled.next() else {
                 return None;
             };
             (self.first, self.rest) = slot_at(self.slots, index).parts();

@@ -1,17 +1,17 @@
 //! The pairs of a table, slot after slot, each with a mutable reference to its value.
 use super::Table;
 use crate::memory::alloc::Allocator;
-use crate::proved::table::bits::Places;
+use crate::proved::table::bits::Indices;
 use crate::proved::table::slot::Slot;
 use crate::proved::table::table::stored::Stored;
 use crate::proved::table::IntKey;
 use core::slice::IterMut;
 
-/// The pairs that are left: those of the current slot, then those of the slots at the places behind
+/// The pairs that are left: those of the current slot, then those of the filled slots behind
 /// it.
 pub struct PairsMut<'a, K: IntKey, X, A: Allocator> {
     rest: IterMut<'a, (Stored<K>, X)>,
-    places: Places<'a>,
+    filled: Indices<'a>,
     slots: IterMut<'a, Slot<K, X, A>>,
     /// How many slots are no longer in `slots`.
     passed: usize,
@@ -26,10 +26,10 @@ impl<'a, K: IntKey, X, A: Allocator> Iterator for PairsMut<'a, K, X, A> {
             if let Some((key, value)) = self.rest.next() {
                 return Some((key.key(), value));
             }
-            let place = self.places.next()?;
-            let (first, rest) = self.slots.nth(place - self.passed)?.parts_mut();
+            let index = self.filled.next()?;
+            let (first, rest) = self.slots.nth(index - self.passed)?.parts_mut();
             self.rest = rest.iter_mut();
-            self.passed = place + 1;
+            self.passed = index + 1;
             if let Some((key, value)) = first {
                 return Some((key.key(), value));
             }
@@ -42,7 +42,7 @@ impl<K: IntKey, X, A: Allocator> Table<K, X, A> {
     pub fn pairs_mut(&mut self) -> PairsMut<'_, K, X, A> {
         PairsMut {
             rest: [].iter_mut(),
-            places: self.directory.bits.iter(),
+            filled: self.directory.bits.iter(),
             slots: self.slots.iter_mut(),
             passed: 0,
         }

@@ -43,10 +43,10 @@ use Rattle.std.specs.declared.cmp.Eq as total
 use Rattle.std.specs.declared.cmp.PartialEq as eq
 use Rattle.intmap.specs.Map.{MapState}
 use Rattle.intmap_table.specs.declared.key.IntKey as key
-use Rattle.intmap_loan.specs.declared.lent.Lent.{Lent}
-use Rattle.intmap_loan.specs.contracts.lent.Lent as L-type
+use Rattle.intmap_table.specs.declared.lent.Lent.{Lent}
+use Rattle.intmap_table.specs.contracts.lent.Lent as L-type
 use Rattle.intmap.specs.contracts.map.IntMap.lend as f
-use Rattle.intmap_loan.proofs.CellLemmas.{lent_value, lent_value-made}
+use Rattle.intmap_table.proofs.Lending.CellLemmas.{lent_value, lent_value-made}
 use Rattle.intmap.proofs.LendMapLemmas.{Mr, Holed, Cut, Shared, table_place, lend_map}
 use Rattle.intmap_table.proofs.Lending.OpensPairLemmas.{V}
 use Rattle.intmap.proofs.map.IntMap.lend.Statement.{statement}

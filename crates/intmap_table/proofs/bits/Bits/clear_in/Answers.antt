@@ -14,6 +14,6 @@ returns g c =
     let words = c.self.inside.words.items in
     let l = length-marks_of words in
     let m = ap (λ (marks : List Bool). length marks) c.self.view_is in
-    let below : c.args.place < 64 * length words = omega (arith, c.requires.within, l, m) in
-    marks_of-with_word words c.args.place c.without.result below ∙ ap (λ (marks : List Bool). with_word marks c.args.place c.without.result) c.self.view_is
-    ∙ with_word-unmarked c.args.self.now c.args.place c.without.result (c.without.ensures c.args.self.now c.requires.within c.requires.word)
+    let below : c.args.index < 64 * length words = omega (arith, c.requires.within, l, m) in
+    marks_of-with_word words c.args.index c.without.result below ∙ ap (λ (marks : List Bool). with_word marks c.args.index c.without.result) c.self.view_is
+    ∙ with_word-unmarked c.args.self.now c.args.index c.without.result (c.without.ensures c.args.self.now c.requires.within c.requires.word)

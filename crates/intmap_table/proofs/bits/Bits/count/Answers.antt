@@ -2,8 +2,8 @@ use Rattle.std.proofs.Common.{◌≡◌, ◌∙◌, sym, ap, arith, ℕ, List, B
 use Rattle.std.proofs.lemmas.List.{take_all}
 use Rattle.std.proofs.lemmas.Grind.{common_steps}
 use Rattle.std.proofs.lemmas.Nat.{ones-le}
-use Rattle.intmap_table.specs.Tables.Bits.{marks_of, marked_places}
-use Rattle.intmap_table.proofs.Tables.BitsLemmas.{length-marked_places-marks_of}
+use Rattle.intmap_table.specs.Tables.Bits.{marks_of, marked_indices}
+use Rattle.intmap_table.proofs.Tables.BitsLemmas.{length-marked_indices-marks_of}
 use Rattle.intmap_table.proofs.bits.Bits.count.Goals as goal
 
 pub loop-word-preserved : goal.loop-word-preserved
@@ -17,4 +17,4 @@ returns g c =
     let words = c.deref-word-items.result.now in
     let total : c.loop-word.marked ≡ sum_by count_ones words = c.loop-word.invariant.total ∙ ap (λ (ws : List ℕ). sum_by count_ones ws) (take_all c.loop-word.word-index words c.loop-word-test.false) in
     let whole : marks_of words ≡ c.args.self.now = ap marks_of c.deref-word-items.ensures.value ∙ c.self.view_is in
-    total ∙ sym (length-marked_places-marks_of words (λ k. search rules)) ∙ ap (λ (marks : List Bool). length (marked_places marks)) whole
+    total ∙ sym (length-marked_indices-marks_of words (λ k. search rules)) ∙ ap (λ (marks : List Bool). length (marked_indices marks)) whole

@@ -24,19 +24,19 @@ returns-clause-before g c =
     let words = c.self.inside.words.items in
     let l = length-marks_of words in
     let m = ap (λ (marks : List Bool). length marks) c.self.view_is in
-    let below : c.args.place < 64 * length words = omega (arith, c.requires, l, m) in
-    let word : c.index-word.result.now ≡ get_or words (c.args.place / 64) 0 = c.index-word.ensures ∙ get_or_default_zero words (c.args.place / 64) c.index-word.result.now (omega (arith, below)) in
-    ap (λ n. n == 1) (shr_and_one c.index-word.result.now (c.args.place % 64)) ∙ ap (λ w. has_bit w (c.args.place % 64)) word ∙ sym (marked-marks_of words c.args.place below)
-    ∙ ap (λ marks. marked marks c.args.place) c.self.view_is
+    let below : c.args.index < 64 * length words = omega (arith, c.requires, l, m) in
+    let word : c.index-word.result.now ≡ get_or words (c.args.index / 64) 0 = c.index-word.ensures ∙ get_or_default_zero words (c.args.index / 64) c.index-word.result.now (omega (arith, below)) in
+    ap (λ n. n == 1) (shr_and_one c.index-word.result.now (c.args.index % 64)) ∙ ap (λ w. has_bit w (c.args.index % 64)) word ∙ sym (marked-marks_of words c.args.index below)
+    ∙ ap (λ marks. marked marks c.args.index) c.self.view_is
 
 pub returns-clause-marks : goal.returns-clause-marks
 returns-clause-marks g c =
     let words = c.self.inside.words.items in
     let l = length-marks_of words in
     let m = ap (λ (marks : List Bool). length marks) c.self.view_is in
-    let below : c.args.place < 64 * length words = omega (arith, c.requires, l, m) in
-    let bit : c.args.place % 64 < 64 = omega arith in
-    let word : c.index-word.result.now ≡ get_or words (c.args.place / 64) 0 = c.index-word.ensures ∙ get_or_default_zero words (c.args.place / 64) c.index-word.result.now (omega (arith, below)) in
-    marks_of-set words c.args.place _ true below (eq-eqb _ 1 (bit_at_set_same w64 c.index-word.result.now (c.args.place % 64) bit))
-    (λ j _ apart. bit_at_set_other w64 c.index-word.result.now (c.args.place % 64) bit j apart ∙ ap (λ w. bit_at w j) word)
-    ∙ ap (λ (marks : List Bool). set marks c.args.place true) c.self.view_is
+    let below : c.args.index < 64 * length words = omega (arith, c.requires, l, m) in
+    let bit : c.args.index % 64 < 64 = omega arith in
+    let word : c.index-word.result.now ≡ get_or words (c.args.index / 64) 0 = c.index-word.ensures ∙ get_or_default_zero words (c.args.index / 64) c.index-word.result.now (omega (arith, below)) in
+    marks_of-set words c.args.index _ true below (eq-eqb _ 1 (bit_at_set_same w64 c.index-word.result.now (c.args.index % 64) bit))
+    (λ j _ apart. bit_at_set_other w64 c.index-word.result.now (c.args.index % 64) bit j apart ∙ ap (λ w. bit_at w j) word)
+    ∙ ap (λ (marks : List Bool). set marks c.args.index true) c.self.view_is

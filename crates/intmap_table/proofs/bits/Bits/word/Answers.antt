@@ -14,7 +14,7 @@ returns g c =
     let words = c.self.inside.words.items in
     let l = length-marks_of words in
     let m = ap (λ (marks : List Bool). length marks) c.self.view_is in
-    let below : c.args.place < 64 * length words = omega (arith, c.requires, l, m) in
-    let word : c.index.result.now ≡ get_or words (c.args.place / 64) 0 =
-    c.index.ensures ∙ get_or_default_zero words (c.args.place / 64) c.index.result.now (omega (arith, below)) in
-    rw (← c.self.view_is, word) (IsWordOf-marks_of words c.args.place below)
+    let below : c.args.index < 64 * length words = omega (arith, c.requires, l, m) in
+    let word : c.index.result.now ≡ get_or words (c.args.index / 64) 0 =
+    c.index.ensures ∙ get_or_default_zero words (c.args.index / 64) c.index.result.now (omega (arith, below)) in
+    rw (← c.self.view_is, word) (IsWordOf-marks_of words c.args.index below)

@@ -1,11 +1,11 @@
 use Rattle.std.proofs.Common.{◌∙◌, ap}
 use Rattle.intmap_table.specs.Tables.Slots.{Grid, rows}
-use Rattle.intmap_table.proofs.Tables.FilledLemmas.{pairs_at-marked, places-within}
+use Rattle.intmap_table.proofs.Tables.FilledLemmas.{pairs_at-marked, indices-within}
 use Rattle.intmap_table.proofs.table.Table.pairs.Goals as goal
 
 pub invariant_of-result : goal.invariant_of-result
 invariant_of-result g c =
-    rw (c.iter.ensures, c.deref.ensures.value) (places-within c.self.inside.slots.items c.self.inside.directory.bits c.self.invariant.marked.marks)
+    rw (c.iter.ensures, c.deref.ensures.value) (indices-within c.self.inside.slots.items c.self.inside.directory.bits c.self.invariant.marked.marks)
 
 pub returns : goal.returns
 returns g c =

@@ -1,7 +1,7 @@
 use Rattle.std.proofs.Common.{◌≡◌, ◌+◌, ◌∷◌, [], ◌<◌, get_or, length, drop, sym, ap, ◌∙◌, refl, subst, arith}
 use Rattle.intmap_table.specs.Tables.Slots.{Grid, rows, joined}
 use Rattle.intmap_table.proofs.Tables.ExtractSlotsLemmas.{IsInRows-reached, IsReached-at, IsInRows-next, drop-none, row-at, row-few}
-use Rattle.intmap_table.proofs.Tables.PlacesLemmas.{IsNextMark-first, unmarked-behind}
+use Rattle.intmap_table.proofs.Tables.IndicesLemmas.{IsNextMark-first, unmarked-behind}
 use Rattle.intmap_table.proofs.Tables.RetainSlotsLemmas.{next-within}
 use Rattle.intmap_table.proofs.Tables.CursorLemmas.{IsInRows-on, IsInRows-past, drop-on}
 use Rattle.intmap_table.proofs.table.Table.step.Goals as goal

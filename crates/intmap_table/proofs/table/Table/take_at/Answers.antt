@@ -8,7 +8,7 @@ use Rattle.intmap_table.specs.Tables.Slots.{rows, joined}
 use Rattle.intmap_table.proofs.LocationLemmas.{slot-at, place-at, place-within}
 use Rattle.intmap_table.proofs.PositionLemmas.{swap_remove-position, first_value-position}
 use Rattle.intmap_table.proofs.SlotNumberLemmas.{slot_number-below}
-use Rattle.intmap_table.proofs.Tables.FilledLemmas.{filled-bound, mark-below, marks-kept, marks-set, place-below}
+use Rattle.intmap_table.proofs.Tables.FilledLemmas.{filled-bound, mark-below, marks-kept, marks-set, index-below}
 use Rattle.intmap_table.proofs.Tables.SlotLemmas.{lone-found}
 use Rattle.intmap_table.proofs.Tables.SwapOutLemmas.{any}
 use Rattle.intmap_table.proofs.Tables.TableLemmas.{IsSlot, value_of-here, walk-taken, Belong-taken, IsTable-set}
@@ -54,7 +54,7 @@ word-word-requires g c =
     let slots = c.self.inside.slots.items in
     let at : IsAt g.K.IntKey.number_of (joined (rows slots)) (length slots) c.args.at = rw (← c.self.view_is) at c.requires in
     let below = slot_number-below g.K.IntKey.number_of c.args.at.key (length slots) c.self.invariant.marked.table.capacity in
-    place-below slots c.self.inside.directory.bits c.self.invariant.marked.marks c.args.at.slot (subst (λ i. i < length slots) (sym at.slot) below)
+    index-below slots c.self.inside.directory.bits c.self.invariant.marked.marks c.args.at.slot (subst (λ i. i < length slots) (sym at.slot) below)
 
 pub take_at-value-requires : goal.take_at-value-requires
 take_at-value-requires g c =

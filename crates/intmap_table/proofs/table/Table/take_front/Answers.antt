@@ -6,9 +6,9 @@ use Rattle.std.proofs.lemmas.Bool.{lt-ltb}
 use Rattle.intmap_table.specs.Walk.{ArePassed}
 use Rattle.intmap_table.specs.Tables.Slots.{Held, rows, joined}
 use Rattle.intmap_table.specs.Walk.{walk_of}
-use Rattle.intmap_table.proofs.Tables.FilledLemmas.{place-below}
+use Rattle.intmap_table.proofs.Tables.FilledLemmas.{index-below}
 use Rattle.intmap_table.proofs.Tables.FrontLemmas.{row-filled, rows-passed, joined-passed, joined-front, IsTable-front, IsMarkedTable-emptied_front, IsMarkedTable-kept_front, ArePassed-front}
-use Rattle.intmap_table.proofs.Tables.PlacesLemmas.{IsNextMark, IsNextMark-first, unmarked-behind}
+use Rattle.intmap_table.proofs.Tables.IndicesLemmas.{IsNextMark, IsNextMark-first, unmarked-behind}
 use Rattle.intmap_table.proofs.Tables.RetainSlotsLemmas.{next-within}
 use Rattle.intmap_table.proofs.Tables.TableLemmas.{get_or-rows, walk_of-joined}
 use Rattle.intmap_table.proofs.table.Table.take_front.Goals as goal
@@ -86,7 +86,7 @@ take_front-key-requires g c =
 
 pub clear-requires : goal.clear-requires
 clear-requires g c =
-    place-below c.self.inside.slots.items c.self.inside.directory.bits c.self.invariant.marked.marks c.in-Some.index (within g (goal.at.clear-requires g c).In-Some)
+    index-below c.self.inside.slots.items c.self.inside.directory.bits c.self.invariant.marked.marks c.in-Some.index (within g (goal.at.clear-requires g c).In-Some)
 
 pub invariant_of-self : goal.invariant_of-self
 invariant_of-self g c =

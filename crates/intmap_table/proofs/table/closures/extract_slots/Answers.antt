@@ -7,7 +7,7 @@ use Rattle.intmap_table.specs.Taking.{TakesEach}
 use Rattle.intmap_table.proofs.ExtractLemmas.{StepsTo, StepsTo-start, StepsTo-end}
 use Rattle.intmap_table.proofs.TakingLemmas.{TakesEach-front}
 use Rattle.intmap_table.proofs.Tables.ExtractSlotsLemmas.{IsInRows, IsInRows-reached, IsReached-at, IsInRows-next, IsInRows-step, IsInRows-left, drop-reached, drop-none, joined-few, Extracts-slot, StepsTo-slot, TakesEach-slot}
-use Rattle.intmap_table.proofs.Tables.PlacesLemmas.{IsNextMark-first, unmarked-behind}
+use Rattle.intmap_table.proofs.Tables.IndicesLemmas.{IsNextMark-first, unmarked-behind}
 use Rattle.intmap_table.proofs.Tables.RetainSlotsLemmas.{next-within}
 use Rattle.intmap_table.proofs.table.closures.extract_slots.Goals as goal
 

@@ -3,9 +3,9 @@ use Rattle.std.specs.Prelude.{nat_lt}
 use Rattle.intmap_table.specs.Retaining.{KeepsAt, Retains, TakesPair}
 use Rattle.intmap_table.specs.Tables.Slots.{rows, joined}
 use Rattle.intmap_table.specs.Taking.{TakesEach}
-use Rattle.intmap_table.proofs.Tables.FilledLemmas.{place-below}
+use Rattle.intmap_table.proofs.Tables.FilledLemmas.{index-below}
 use Rattle.intmap_table.proofs.Tables.ExtractSlotsLemmas.{row-at}
-use Rattle.intmap_table.proofs.Tables.PlacesLemmas.{IsNextMark, IsNextMark-first, unmarked-behind}
+use Rattle.intmap_table.proofs.Tables.IndicesLemmas.{IsNextMark, IsNextMark-first, unmarked-behind}
 use Rattle.intmap_table.proofs.Tables.RetainSlotsLemmas.{next-within, joined-left, Leads-slot, Leads-all, count-all, count-slot, few-slot, fewer, IsMarkedTable-emptied_at, IsMarkedTable-kept_at}
 use Rattle.intmap_table.proofs.RetainLemmas.{FoldsTo-Retains}
 use Rattle.intmap_table.proofs.TakingLemmas.{TakesEach-front, TakesEach-behind}
@@ -13,7 +13,7 @@ use Rattle.intmap_table.proofs.table.closures.retain_slots.Goals as goal
 use Rattle.intmap_table.proofs.table.closures.retain_slots.Goals.{In-Some, After-retain, then-not-is_filled, else-not-is_filled}
 
 module _ (g : _) (c : In-Some g) where
-  -- the place at hand is that of the next mark
+  -- the index at hand is that of the next mark
   next : IsNextMark c.loop-index.bits c.loop-index.from c.in-Some.index
   next = IsNextMark-first c.loop-index.bits c.loop-index.from c.in-Some.index c.next.new.self (sym c.iter_from.ensures ∙ c.in-Some.ensures.steps)
 
@@ -39,7 +39,7 @@ overflow_add-from g c = let below = within g (goal.at.overflow_add-from g c).In-
 pub clear-requires : goal.clear-requires
 clear-requires g c =
     let below = within g (goal.at.clear-requires g c).In-Some in
-    place-below c.loop-index.slots.items c.loop-index.bits c.loop-index.invariant.table.marks c.in-Some.index below
+    index-below c.loop-index.slots.items c.loop-index.bits c.loop-index.invariant.table.marks c.in-Some.index below
 
 -- the closure was asked about the pairs of the slot
 asked : (g : _) (c : After-retain g) → c.in-Some.index < length c.loop-index.slots.items
@@ -51,10 +51,10 @@ asked g c below =
 pub retain-requires : goal.retain-requires
 retain-requires g c =
     let at = goal.at.retain-requires g c in let loop = c.loop-index.invariant in
-    let S = c.loop-index.slots.items in let place = c.in-Some.index in let Q = TakesEach (KeepsAt g.F.FnMut) (TakesPair g.F.FnMut) c.loop-index.f in
+    let S = c.loop-index.slots.items in let index = c.in-Some.index in let Q = TakesEach (KeepsAt g.F.FnMut) (TakesPair g.F.FnMut) c.loop-index.f in
     let is = next g at.In-Some in let s = c.index_mut-slot.result.now in
-    subst Q (sym (row-at S place s (within g at.In-Some) c.index_mut-slot.ensures.value)) (TakesEach-front (KeepsAt g.F.FnMut) (TakesPair g.F.FnMut) c.loop-index.f _ _
-    (subst Q (joined-left g.K.IntKey.number_of S c.loop-index.bits loop.table c.loop-index.from place is s) loop.callable))
+    subst Q (sym (row-at S index s (within g at.In-Some) c.index_mut-slot.ensures.value)) (TakesEach-front (KeepsAt g.F.FnMut) (TakesPair g.F.FnMut) c.loop-index.f _ _
+    (subst Q (joined-left g.K.IntKey.number_of S c.loop-index.bits loop.table c.loop-index.from index is s) loop.callable))
 
 -- up to this slot no more pairs stay than there were in all
 few : (g : _) (c : After-retain g) → IsNextMark c.loop-index.bits c.loop-index.from c.in-Some.index → c.in-Some.index < length c.loop-index.slots.items
@@ -83,26 +83,26 @@ loop-index-smaller g c =
 pub loop-index-preserved : goal.loop-index-preserved
 loop-index-preserved g c =
     let at = goal.at.loop-index-preserved g c in let loop = c.loop-index.invariant in
-    let S = c.loop-index.slots.items in let marks = c.loop-index.bits in let from = c.loop-index.from in let place = c.in-Some.index in let s = c.retain.new.self in
+    let S = c.loop-index.slots.items in let marks = c.loop-index.bits in let from = c.loop-index.from in let index = c.in-Some.index in let s = c.retain.new.self in
     let is = next g at.In-Some in let run = asked g at.After-retain (within g at.In-Some) in
     let number = g.K.IntKey.number_of in
-    let few = fewer number S marks loop.table from place is s _ _ _ run in
+    let few = fewer number S marks loop.table from index is s _ _ _ run in
     record {
       callable = TakesEach-behind (KeepsAt g.F.FnMut) (TakesPair g.F.FnMut) c.loop-index.f c.retain.new.f _ _
-          (subst (TakesEach (KeepsAt g.F.FnMut) (TakesPair g.F.FnMut) c.loop-index.f) (joined-left number S marks loop.table from place is s) loop.callable)
+          (subst (TakesEach (KeepsAt g.F.FnMut) (TakesPair g.F.FnMut) c.loop-index.f) (joined-left number S marks loop.table from index is s) loop.callable)
           (FoldsTo-Retains (KeepsAt g.F.FnMut) _ _ _ s.pairs run);
       table = elim c.if-not-is_filled.branch [
         | then-not-is_filled w ↦
             (let empty : false ≡ nat_lt 0 (length s.pairs) = let told = c.is_filled.ensures in let no = w.if-not-is_filled.true in grind (arith, told, no) in
-            rw (w.bits-is, w.clear.ensures) (IsMarkedTable-emptied_at number S marks loop.table from place is s _ _ _ run empty))
+            rw (w.bits-is, w.clear.ensures) (IsMarkedTable-emptied_at number S marks loop.table from index is s _ _ _ run empty))
         | else-not-is_filled w ↦
             (let filled : true ≡ nat_lt 0 (length s.pairs) = let told = c.is_filled.ensures in let some = w.if-not-is_filled.false in grind (arith, told, some) in
-            rw w.bits-is (IsMarkedTable-kept_at number S marks loop.table from place is s _ _ _ run filled))
+            rw w.bits-is (IsMarkedTable-kept_at number S marks loop.table from index is s _ _ _ run filled))
       ];
-      len = length-set S place s ∙ loop.len;
+      len = length-set S index s ∙ loop.len;
       few = omega (arith, few, loop.few);
-      count = ap (λ n. c.loop-index.count + n) c.len-count.ensures ∙ count-slot number S marks loop.table from place is s _ _ _ run c.loop-index.count loop.count;
-      leads = Leads-slot number S marks loop.table from place is s _ _ _ run _ _ loop.leads;
+      count = ap (λ n. c.loop-index.count + n) c.len-count.ensures ∙ count-slot number S marks loop.table from index is s _ _ _ run c.loop-index.count loop.count;
+      leads = Leads-slot number S marks loop.table from index is s _ _ _ run _ _ loop.leads;
     }
 
 pub returns-clause-pairs : goal.returns-clause-pairs

@@ -1,5 +1,5 @@
 use Rattle.std.proofs.Common.{◌≡◌, ℕ, List, ◌++◌, length}
-use Rattle.intmap_table.specs.Tables.Bits.{marked_places}
+use Rattle.intmap_table.specs.Tables.Bits.{marked_indices}
 use Rattle.intmap_table.specs.Tables.Slots.{rows, joined, pairs_at, IsMarkedTable}
 use Rattle.intmap_table.specs.Taking.{TakesEach}
 use Rattle.intmap_table.specs.Writes.{Writes, WritesAt, TakesPairMut}
@@ -12,6 +12,6 @@ invariant-loop-index g l = record {
   callable : TakesEach (WritesAt g.F.FnMut) (TakesPairMut g.F.FnMut) l.f (pairs_at (rows l.slots.items) l.index-iterator);
   table : IsMarkedTable g.K.IntKey.number_of l.slots.items l.bits;
   len : length l.slots.items ≡ length l.initial.slots.items;
-  passed : (before : List ℕ) × (before ++ l.index-iterator ≡ marked_places l.bits)
+  passed : (before : List ℕ) × (before ++ l.index-iterator ≡ marked_indices l.bits)
       × Leads (Writes (WritesAt g.F.FnMut)) l.initial.f (joined (rows l.initial.slots.items)) l.f (pairs_at (rows l.slots.items) before) (pairs_at (rows l.slots.items) l.index-iterator);
 }

@@ -2,7 +2,7 @@ use Rattle.std.proofs.Common.{◌≡◌, ◌-◌, ◌/◌, ◌++◌, ◌∙◌, 
 use Rattle.std.specs.Vec.{with_items}
 use Rattle.std.proofs.lemmas.List.{with_items_is}
 use Rattle.intmap_table.specs.Tables.Slots.{rows}
-use Rattle.intmap_table.specs.Tables.Moves.{emptied}
+use Rattle.intmap_table.specs.Tables.Moves.{bare_slot}
 use Rattle.intmap_table.proofs.Tables.MemoryLemmas.{IsLongerOf, IsLonger-added, length-same_rows, bare-added, joined-added, IsLonger-of, parts-longer, CanMoveOn-longer, take-kept, rows-truncated}
 use Rattle.intmap_table.proofs.SlotNumberLemmas.{capacity-positive}
 use Rattle.intmap_table.proofs.Tables.GrownLemmas.{grown-more}
@@ -10,7 +10,7 @@ use Rattle.intmap_table.proofs.table.grow.make_room.Goals as goal
 use Rattle.intmap_table.proofs.table.grow.make_room.Goals.{After-deref_mut-2, After-reserve_rooms}
 
 -- the slots that are lent are the old ones with empty ones behind them
-added : (g : _) (c : After-deref_mut-2 g) → c.deref_mut.result.now ≡ c.args.slots.now.items ++ replicate (c.args.capacity - length c.args.slots.now.items) emptied
+added : (g : _) (c : After-deref_mut-2 g) → c.deref_mut.result.now ≡ c.args.slots.now.items ++ replicate (c.args.capacity - length c.args.slots.now.items) bare_slot
 added g c = c.deref_mut.ensures.value ∙ c.in_ok-add_slots.ensures.slots
 
 longer : (g : _) (c : After-deref_mut-2 g) → IsLongerOf g.K.IntKey.number_of c.args.slots.now.items c.deref_mut.result.now c.args.old.now.bits c.args.old.now.mask c.args.capacity

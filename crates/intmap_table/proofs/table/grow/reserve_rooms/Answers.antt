@@ -3,7 +3,7 @@ use Rattle.std.proofs.lemmas.Result.{IfOk-weaker}
 use Rattle.intmap_table.specs.Tables.Slots.{rows}
 use Rattle.intmap_table.specs.Tables.Moves.{rooms, need}
 use Rattle.intmap_table.proofs.SlotNumberLemmas.{capacity-greatest}
-use Rattle.intmap_table.proofs.Tables.CountLemmas.{offset-fits, AreLeft, AreLeft-marked, AreLeft-rest, AreReady, AreReady-start, AreReady-few, AreReady-parts, CanMoveOn-ready, place-old, place-slot, row-ready, room-ready, filled-ready, few-ready, own-ready, bare-parts-ready}
+use Rattle.intmap_table.proofs.Tables.CountLemmas.{offset-fits, AreLeft, AreLeft-marked, AreLeft-rest, AreReady, AreReady-start, AreReady-few, AreReady-parts, CanMoveOn-ready, index-old, index-slot, row-ready, room-ready, filled-ready, few-ready, own-ready, bare-parts-ready}
 use Rattle.intmap_table.proofs.table.grow.reserve_rooms.Goals as goal
 use Rattle.intmap_table.proofs.table.grow.reserve_rooms.Goals.{In-Some, Joined-behind-gt2, then-behind-gt2+in_ok-reserve_room, else-behind-gt2}
 
@@ -16,7 +16,7 @@ loop-index-init g c =
     })
 
 module _ (g : _) (c : In-Some g) where
-  -- the place at hand is the first of those that are left
+  -- the index at hand is the first of those that are left
   left : AreLeft (take (c.args.old.now.mask + 1) (rows c.args.slots.now)) (c.in-Some.index ∷ c.next.new.self)
   left = rw c.in-Some.ensures.steps at c.loop-index.invariant.left
 
@@ -24,10 +24,10 @@ module _ (g : _) (c : In-Some g) where
   ready = rw c.in-Some.ensures.steps at c.loop-index.invariant.ready
 
   old : c.in-Some.index < c.args.old.now.mask + 1
-  old = place-old g.K.IntKey.number_of c.args.slots.now (c.args.old.now.mask + 1) c.requires.longer.grown c.requires.longer.own c.requires.bare c.in-Some.index c.next.new.self left c.loop-index.longest c.loop-index.slots ready
+  old = index-old g.K.IntKey.number_of c.args.slots.now (c.args.old.now.mask + 1) c.requires.longer.grown c.requires.longer.own c.requires.bare c.in-Some.index c.next.new.self left c.loop-index.longest c.loop-index.slots ready
 
   slot : c.in-Some.index < length c.args.slots.now
-  slot = place-slot g.K.IntKey.number_of c.args.slots.now (c.args.old.now.mask + 1) c.requires.longer.grown c.requires.longer.own c.requires.bare c.in-Some.index c.next.new.self left c.loop-index.longest c.loop-index.slots ready
+  slot = index-slot g.K.IntKey.number_of c.args.slots.now (c.args.old.now.mask + 1) c.requires.longer.grown c.requires.longer.own c.requires.bare c.in-Some.index c.next.new.self left c.loop-index.longest c.loop-index.slots ready
 
 pub offset_bounds-slots-index : goal.offset_bounds-slots-index
 offset_bounds-slots-index g c = record { fits = offset-fits _ _ _ (slot g (goal.at.offset_bounds-slots-index g c).In-Some) c.well_formed.0.1 }
@@ -77,37 +77,37 @@ reserve_room-requires-clause-bare g c =
 pub returns-in_err-reserve_room-clause-rows : goal.returns-in_err-reserve_room-clause-rows
 returns-in_err-reserve_room-clause-rows g c = c.in_err-reserve_room.ensures.rows ∙ c.loop-index.invariant.ready.kept
 
--- once the place at hand is done, the next ones are left, with a longest that is no less than before and than here
+-- once the index at hand is done, the next ones are left, with a longest that is no less than before and than here
 done : (g : _) (c : Joined-behind-gt2 g) (longer : ℕ)
     → AreLeft (take (c.args.old.now.mask + 1) (rows c.args.slots.now)) (c.in-Some.index ∷ c.next.new.self)
     → AreReady g.K.IntKey.number_of c.args.slots.now (c.args.old.now.mask + 1) (c.in-Some.index ∷ c.next.new.self) c.loop-index.longest c.loop-index.slots
     → c.loop-index.longest ≤ longer → c.last_place-behind.result ≤ longer
     → AreReady g.K.IntKey.number_of c.args.slots.now (c.args.old.now.mask + 1) c.next.new.self longer c.if-behind-gt2.slots
 done g c longer l r le here =
-    let number = g.K.IntKey.number_of in let S₀ = c.args.slots.now in let C = c.args.old.now.mask + 1 in let place = c.in-Some.index in let rest = c.next.new.self in let S = c.loop-index.slots in
+    let number = g.K.IntKey.number_of in let S₀ = c.args.slots.now in let C = c.args.old.now.mask + 1 in let index = c.in-Some.index in let rest = c.next.new.self in let S = c.loop-index.slots in
     let d = c.index-slots-index.result in
-    let row = ap length (row-ready number S₀ C c.requires.longer.grown c.requires.longer.own c.requires.bare place rest l c.loop-index.longest S r d) in
-    let room = room-ready number S₀ C c.requires.longer.grown c.requires.longer.own c.requires.bare place rest l c.loop-index.longest S r d in
+    let row = ap length (row-ready number S₀ C c.requires.longer.grown c.requires.longer.own c.requires.bare index rest l c.loop-index.longest S r d) in
+    let room = room-ready number S₀ C c.requires.longer.grown c.requires.longer.own c.requires.bare index rest l c.loop-index.longest S r d in
     let behind = c.last_place-behind.ensures.place in let enough = c.last_place-behind.ensures.room in
-    let fits : length (get_or (rows S₀) place []) ≤ get_or (rooms S) place 0 = omega (arith, row, room, enough) in
-    let few : length (get_or (rows S₀) place []) ≤ 1 + longer = omega (arith, row, behind, here) in
+    let fits : length (get_or (rows S₀) index []) ≤ get_or (rooms S) index 0 = omega (arith, row, room, enough) in
+    let few : length (get_or (rows S₀) index []) ≤ 1 + longer = omega (arith, row, behind, here) in
     elim c.if-behind-gt2.branch as (λ _. AreReady number S₀ C rest longer c.if-behind-gt2.slots) [
       | then-behind-gt2+in_ok-reserve_room w ↦ (
           let counts = w.count_parts.new.counts in let T = w.reserve_room.new.slots in let told = w.count_parts.ensures in let made = w.in_ok-reserve_room.ensures in
           let e = w.index-slots-index-then-behind-gt2.result in
           let n : length counts ≡ length c.loop-index.counts = told.len in
           let len : length S₀ ≡ length counts * C = c.requires.all ∙ ap (λ m. m * C) (sym (n ∙ c.loop-index.auto.counts)) in
-          let old = place-old number S₀ C c.requires.longer.grown c.requires.longer.own c.requires.bare place rest l c.loop-index.longest S r in
-          let own = own-ready number S₀ C c.requires.longer.grown c.requires.longer.own c.requires.bare place rest l c.loop-index.longest S r e in
-          let same = row-ready number S₀ C c.requires.longer.grown c.requires.longer.own c.requires.bare place rest l c.loop-index.longest S r e in
-          rw w.slots-is (AreReady-parts number S₀ C c.requires.longer.grown c.requires.longer.own c.requires.bare place rest l c.loop-index.longest S r T counts made.room.0 len made.rows made.own fits
-          (λ t lt. told.counts place t old (omega (arith, lt, n)) own
-          ∙ ap (λ ps. need number ps (length c.loop-index.counts * C) (t * C + place)) same
-          ∙ ap (λ m. need number (get_or (rows S₀) place []) (m * C) (t * C + place)) (sym n))
+          let old = index-old number S₀ C c.requires.longer.grown c.requires.longer.own c.requires.bare index rest l c.loop-index.longest S r in
+          let own = own-ready number S₀ C c.requires.longer.grown c.requires.longer.own c.requires.bare index rest l c.loop-index.longest S r e in
+          let same = row-ready number S₀ C c.requires.longer.grown c.requires.longer.own c.requires.bare index rest l c.loop-index.longest S r e in
+          rw w.slots-is (AreReady-parts number S₀ C c.requires.longer.grown c.requires.longer.own c.requires.bare index rest l c.loop-index.longest S r T counts made.room.0 len made.rows made.own fits
+          (λ t lt. told.counts index t old (omega (arith, lt, n)) own
+          ∙ ap (λ ps. need number ps (length c.loop-index.counts * C) (t * C + index)) same
+          ∙ ap (λ m. need number (get_or (rows S₀) index []) (m * C) (t * C + index)) (sym n))
           made.room.1 longer made.others le few))
       | else-behind-gt2 w ↦ (
-          let three : length (get_or (rows S₀) place []) ≤ 3 = (let two = w.if-behind-gt2.false in omega (arith, row, behind, two)) in
-          rw w.slots-is (AreReady-few number S₀ C c.requires.longer.grown c.requires.longer.own c.requires.bare place rest l c.loop-index.longest S r longer three fits le few))
+          let three : length (get_or (rows S₀) index []) ≤ 3 = (let two = w.if-behind-gt2.false in omega (arith, row, behind, two)) in
+          rw w.slots-is (AreReady-few number S₀ C c.requires.longer.grown c.requires.longer.own c.requires.bare index rest l c.loop-index.longest S r longer three fits le few))
     ]
 
 pub loop-index-preserved-then-behind-longest : goal.loop-index-preserved-then-behind-longest

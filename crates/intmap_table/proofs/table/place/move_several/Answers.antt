@@ -2,7 +2,7 @@ use Rattle.std.proofs.Common.{◌≡◌, ◌-◌, ◌<◌, ◌∙◌, [], ◌∷
 use Rattle.std.proofs.lemmas.List.{length-reverse}
 use Rattle.intmap_table.specs.Classes.{IsCapacity, slot_number}
 use Rattle.intmap_table.specs.Tables.Slots.{rows}
-use Rattle.intmap_table.specs.Tables.Moves.{rooms, emptied, HasRoom, AreSet, AreTold}
+use Rattle.intmap_table.specs.Tables.Moves.{rooms, bare_slot, HasRoom, AreSet, AreTold}
 use Rattle.intmap_table.proofs.SlotNumberLemmas.{slot_number-below}
 use Rattle.intmap_table.proofs.Tables.CountLemmas.{offset-fits}
 use Rattle.intmap_table.proofs.Tables.RoomLemmas.{HasRoom-first, HasRoom-put, IsPlaced-put, IsPlaced-more}
@@ -16,7 +16,7 @@ module _ (g : _) (c : After-take_out-first g) where
   row = row-before c.args.slots.now c.args.index c.index-slots-index.result c.requires.ready.within ∙ c.take_out-first.ensures.pairs
 
   -- the slots without them
-  left : set c.args.slots.now c.args.index c.take_out-first.new.self ≡ set c.args.slots.now c.args.index emptied
+  left : set c.args.slots.now c.args.index c.take_out-first.new.self ≡ set c.args.slots.now c.args.index bare_slot
   left = ap (λ s. set c.args.slots.now c.args.index s) c.take_out-first.ensures.emptied
 
   long : length (set c.args.slots.now c.args.index c.take_out-first.new.self) ≡ length c.args.slots.now

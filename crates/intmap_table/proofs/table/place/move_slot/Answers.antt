@@ -2,7 +2,7 @@ use Rattle.std.proofs.Common.{◌≡◌, ◌<◌, ◌∙◌, [], ◌∷◌, leng
 use Rattle.std.proofs.lemmas.List.{set-get_or}
 use Rattle.intmap_table.specs.Classes.{slot_number}
 use Rattle.intmap_table.specs.Tables.Slots.{rows}
-use Rattle.intmap_table.specs.Tables.Moves.{emptied, AreFree}
+use Rattle.intmap_table.specs.Tables.Moves.{bare_slot, AreFree}
 use Rattle.intmap_table.proofs.SlotNumberLemmas.{slot_number-below}
 use Rattle.intmap_table.proofs.Tables.CountLemmas.{offset-fits}
 use Rattle.intmap_table.proofs.Tables.RoomLemmas.{HasRoom-lone, IsPlaced-put}
@@ -78,7 +78,7 @@ move_several-requires-clause-ready g c = rw (same g (goal.at.move_several-requir
 pub returns-clause-pairs : goal.returns-clause-pairs
 returns-clause-pairs g c =
     let s = same g (goal.at.returns-clause-pairs g c).In_default in
-    (emptied, refl, rw s at c.move_several.ensures.pairs)
+    (bare_slot, refl, rw s at c.move_several.ensures.pairs)
 
 pub returns-clause-marks : goal.returns-clause-marks
 returns-clause-marks g c = rw (same g (goal.at.returns-clause-marks g c).In_default) at c.move_several.ensures.marks

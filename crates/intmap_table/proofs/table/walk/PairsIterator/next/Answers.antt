@@ -5,10 +5,10 @@ use Rattle.intmap_table.proofs.Tables.TableLemmas.{get_or-rows}
 use Rattle.intmap_table.proofs.table.walk.PairsIterator.next.Goals as goal
 use Rattle.intmap_table.proofs.table.walk.PairsIterator.next.Goals.{In-Some-next}
 
--- the place is that of a slot
+-- the index is that of a slot
 within : (g : _) (c : In-Some-next g) → c.in-Some-next.index < length c.loop-pair.self-inside.slots.now
 within g c =
-    All-head (λ place. place < length c.loop-pair.self-inside.slots.now) c.in-Some-next.index c.next.new.self (rw c.in-Some-next.ensures.steps at c.loop-pair.invariant.within)
+    All-head (λ index. index < length c.loop-pair.self-inside.slots.now) c.in-Some-next.index c.next.new.self (rw c.in-Some-next.ensures.steps at c.loop-pair.invariant.within)
 
 pub slot_at-requires : goal.slot_at-requires
 slot_at-requires g c = within g (goal.at.slot_at-requires g c).In-Some-next
@@ -21,5 +21,5 @@ loop-pair-preserved g c = record {
       let row = get_or-rows c.loop-pair.self-inside.slots.now c.in-Some-next.index c.slot_at.result.now (within g (goal.at.loop-pair-preserved g c).In-Some-next) in
       rw (← c.parts.ensures, c.slot_at.ensures, ← row)
       (rw (none, gone, c.in-Some-next.ensures.steps) at c.loop-pair.invariant.pairs);
-  within = All-tail (λ place. place < length c.loop-pair.self-inside.slots.now) c.in-Some-next.index c.next.new.self (rw c.in-Some-next.ensures.steps at c.loop-pair.invariant.within);
+  within = All-tail (λ index. index < length c.loop-pair.self-inside.slots.now) c.in-Some-next.index c.next.new.self (rw c.in-Some-next.ensures.steps at c.loop-pair.invariant.within);
 }
