@@ -28,7 +28,7 @@ use crate::key::IntKey;
 use crate::slot::Slot;
 use crate::steps::Steps;
 use crate::table::stored::Stored;
-use grow::add_slots;
+use grow::{add_slots, reserve_slots};
 use locate::Location;
 use std::alloc::{AllocError, Allocator};
 use std::marker::Model;
@@ -203,15 +203,16 @@ impl<K: IntKey, X: Drop, A: Allocator + Copy> Table<K, X, A> {
         *self.slots.allocator()
     }
 
-    /// A table of `capacity` empty slots. It allocates the slots and their bits.
+    /// A table of `capacity` empty slots. It allocates the slots, then their bits, and writes nothing
+    /// before both.
     pub fn new(alloc: A, capacity: usize) -> Result<Table<K, X, A>, AllocError>
         requires { IsCapacity capacity }
         ensures walk { IfOk result (λ table. table.walk ≡ []) }
         ensures capacity { IfOk result (λ table. table.capacity ≡ capacity) }
     {
-        let bits = Bits::new(alloc, capacity)?;
         let mut slots = Vec::new(alloc);
-        add_slots(&mut slots, capacity)?;
+        let bits = reserve_slots(&mut slots, capacity)?;
+        add_slots(&mut slots, capacity);
         let directory = Directory {
             mask: capacity - 1,
             bits,
@@ -221,8 +222,8 @@ impl<K: IntKey, X: Drop, A: Allocator + Copy> Table<K, X, A> {
 }
 
 impl<K: IntKey, X: Clone, A: Allocator + Copy> Table<K, X, A> {
-    /// The same keys in the same slots, with clones of their values. The bits and the slots are
-    /// allocated before the first value is cloned.
+    /// The same keys in the same slots, with clones of their values. The slots and then their bits
+    /// are allocated before the first value is cloned.
     pub fn clone(&self) -> Result<Table<K, X, A>, AllocError>
         ensures walk { IfOk result
             (λ made. AllZip (IsPairClone X.is_clone) self.now.walk made.walk) }
@@ -230,8 +231,8 @@ impl<K: IntKey, X: Clone, A: Allocator + Copy> Table<K, X, A> {
         ensures own { IfOk result
             (λ made. walk_of K.number_of made.walk made.capacity ≡ made.walk) }
     {
-        let bits = self.directory.bits.clone()?;
         let mut slots = Vec::with_capacity(*self.slots.allocator(), self.slots.len())?;
+        let bits = self.directory.bits.clone()?;
         for slot in &self.slots {
             slots.push_reserved(slot.clone()?);
         }

@@ -1,5 +1,5 @@
 //! Growth in one jump, in the table's own slots. All memory is allocated before the first pair moves.
-ghost use Rattle.std.specs.Prelude.{◌≡◌, ◌+◌, ◌-◌, ◌*◌, ◌/◌, ◌^◌, ◌<◌, ◌≤◌, ℕ, [], ◌∷◌, ◌++◌, length, get_or, set, take, replicate, All, OnOk, OnErr, IfOk, IfErr, IsOk, None, Some, vec_capacity};
+ghost use Rattle.std.specs.Prelude.{◌≡◌, ◌+◌, ◌-◌, ◌*◌, ◌/◌, ◌^◌, ◌<◌, ◌≤◌, ℕ, [], ◌∷◌, ◌++◌, length, get_or, set, take, replicate, false, All, OnOk, OnErr, IfOk, IfErr, IsOk, None, Some, vec_capacity};
 ghost use Rattle.intmap_table.specs.Classes.{IsCapacity, slot_number};
 ghost use Rattle.intmap_table.specs.Bindings.{value_of, put_pair, take_key};
 ghost use Rattle.intmap_table.specs.Tables.Slots.{rows, joined, IsMaskedTable};
@@ -16,6 +16,7 @@ use crate::table::place::move_all;
 use crate::table::stored::Stored;
 use crate::table::{Directory, Table, index_of};
 use std::alloc::{AllocError, Allocator};
+use std::mem;
 
 /// Adds one to the count of the part that the key goes to. A part has `old` slots.
 #[inline(always)]
@@ -136,33 +137,56 @@ fn reserve_rooms<K: IntKey, X: Drop, A: Allocator + Copy>(
     Vec::with_capacity(alloc, longest)
 }
 
-/// Adds empty slots, up to `capacity` slots. It allocates them at once.
+/// Allocates room for `capacity` slots, the largest block by far, and then the bits of all of them.
+/// No slot is written. If an allocation fails, the slots and their memory are as before.
+pub(super) fn reserve_slots<K: IntKey, X: Drop, A: Allocator + Copy>(
+    slots: &mut Vec<Slot<K, X, A>, A>,
+    capacity: usize,
+) -> Result<Bits<A>, AllocError>
+    requires more { length slots.old.items ≤ capacity }
+    requires most { capacity ≤ 2 ^ 63 }
+    ensures slots { slots.new.items ≡ slots.old.items }
+    ensures room { OnOk result (capacity ≤ vec_capacity slots.new) }
+    ensures bits { IfOk result (λ bits. bits ≡ replicate (64 * ((capacity + 63) / 64)) false) }
+{
+    slots.reserve_exact(capacity - slots.len())?;
+    let Ok(bits) = Bits::new(*slots.allocator(), capacity) else {
+        slots.shrink_to_fit();
+        return Err(AllocError);
+    };
+    Ok(bits)
+}
+
+/// Adds empty slots, up to `capacity` slots, for which there is room.
 pub(super) fn add_slots<K: IntKey, X: Drop, A: Allocator + Copy>(
     slots: &mut Vec<Slot<K, X, A>, A>,
     capacity: usize,
-) -> Result<(), AllocError>
-    requires { length slots.old.items ≤ capacity }
-    ensures slots { OnOk result (slots.new.items
-        ≡ slots.old.items ++ replicate (capacity - length slots.old.items) bare_slot) }
-    ensures err { OnErr result (slots.new.items ≡ slots.old.items) }
+)
+    requires more { length slots.old.items ≤ capacity }
+    requires room { capacity ≤ vec_capacity slots.old }
+    ensures { slots.new.items
+        ≡ slots.old.items ++ replicate (capacity - length slots.old.items) bare_slot }
 {
     let alloc = *slots.allocator();
     let more = capacity - slots.len();
-    slots.reserve_exact(more)?;
+    // a vector of its own, whose pointer and length stay in registers
+    let mut longer = mem::replace(slots, Vec::new(alloc));
     for _ in 0..more {
-        slots.push_reserved(Slot::new(alloc));
+        longer.push_reserved(Slot::new(alloc));
     }
-    Ok(())
+    *slots = longer;
 }
 
-/// Allocates all that growth to `capacity` slots needs: empty slots, room in them, and a buffer,
-/// which it returns. If an allocation fails, the slots and their memory are as before.
+/// Allocates what growth to `capacity` slots needs besides the slots, for which there is room, and
+/// their bits: counts, room in slots, and a buffer, which it returns. If an allocation fails, the
+/// slots and their memory are as before.
 fn make_room<K: IntKey, X: Drop, A: Allocator + Copy>(
     slots: &mut Vec<Slot<K, X, A>, A>,
     old: &Directory<A>,
     capacity: usize,
 ) -> Result<Vec<(Stored<K>, X), A>, AllocError>
     requires grown { IsGrown (length slots.old.items) capacity }
+    requires room { capacity ≤ vec_capacity slots.old }
     requires table { IsMaskedTable K.number_of slots.old.items old.now.bits old.now.mask }
     requires fits { length (joined (rows slots.old.items)) < 2 ^ 64 }
     ensures err { OnErr result (rows slots.new.items ≡ rows slots.old.items) }
@@ -175,8 +199,11 @@ fn make_room<K: IntKey, X: Drop, A: Allocator + Copy>(
 {
     let alloc = *slots.allocator();
     let len = slots.len();
-    let mut counts = vec![in alloc; 0usize; capacity / len]?;
-    add_slots(slots, capacity)?;
+    let Ok(mut counts) = vec![in alloc; 0usize; capacity / len] else {
+        slots.shrink_to_fit();
+        return Err(AllocError);
+    };
+    add_slots(slots, capacity);
     let Ok(buffer) = reserve_rooms(slots, old, &mut counts, alloc) else {
         slots.truncate(len);
         slots.shrink_to_fit();
@@ -199,7 +226,7 @@ impl<K: IntKey, X: Drop, A: Allocator + Copy> Table<K, X, A> {
         ensures err { OnErr result (self.new ≡ self.old) }
         ensures none_placed { OnErr result (placed.new ≡ placed.old) }
     {
-        let mut bits = Bits::new(*self.slots.allocator(), capacity)?;
+        let mut bits = reserve_slots(&mut self.slots, capacity)?;
         let mut buffer = make_room(&mut self.slots, &self.directory, capacity)?;
         move_all(
             &mut bits,

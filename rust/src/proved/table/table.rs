@@ -18,7 +18,7 @@ use crate::proved::table::key::IntKey;
 use crate::proved::table::slot::Slot;
 use crate::proved::table::steps::Steps;
 use crate::proved::table::table::stored::Stored;
-use grow::add_slots;
+use grow::{add_slots, reserve_slots};
 use locate::Location;
 use crate::memory::alloc::{AllocError, Allocator};
 use walk::Pairs;
@@ -128,11 +128,12 @@ impl<K: IntKey, X, A: Allocator + Copy> Table<K, X, A> {
         *self.slots.allocator()
     }
 
-    /// A table of `capacity` empty slots. It allocates the slots and their bits.
+    /// A table of `capacity` empty slots. It allocates the slots, then their bits, and writes nothing
+    /// before both.
     pub fn new(alloc: A, capacity: usize) -> Result<Table<K, X, A>, AllocError> {
-        let bits = Bits::new(alloc, capacity)?;
         let mut slots = Vec::new(alloc);
-        add_slots(&mut slots, capacity)?;
+        let bits = reserve_slots(&mut slots, capacity)?;
+        add_slots(&mut slots, capacity);
         let directory = Directory {
             mask: capacity - 1,
             bits,
@@ -142,11 +143,11 @@ impl<K: IntKey, X, A: Allocator + Copy> Table<K, X, A> {
 }
 
 impl<K: IntKey, X: Clone, A: Allocator + Copy> Table<K, X, A> {
-    /// The same keys in the same slots, with clones of their values. The bits and the slots are
-    /// allocated before the first value is cloned.
+    /// The same keys in the same slots, with clones of their values. The slots and then their bits
+    /// are allocated before the first value is cloned.
     pub fn clone(&self) -> Result<Table<K, X, A>, AllocError> {
-        let bits = self.directory.bits.clone()?;
         let mut slots = Vec::with_capacity(*self.slots.allocator(), self.slots.len())?;
+        let bits = self.directory.bits.clone()?;
         for slot in &self.slots {
             slots.push_reserved(slot.clone()?);
         }

@@ -10,6 +10,7 @@ use crate::proved::table::table::place::move_all;
 use crate::proved::table::table::stored::Stored;
 use crate::proved::table::table::{Directory, Table, index_of};
 use crate::memory::alloc::{AllocError, Allocator};
+use core::mem;
 
 /// Adds one to the count of the part that the key goes to. A part has `old` slots.
 #[inline(always)]
@@ -80,22 +81,38 @@ fn reserve_rooms<K: IntKey, X, A: Allocator + Copy>(
     Vec::with_capacity(alloc, longest)
 }
 
-/// Adds empty slots, up to `capacity` slots. It allocates them at once.
+/// Allocates room for `capacity` slots, the largest block by far, and then the bits of all of them.
+/// No slot is written. If an allocation fails, the slots and their memory are as before.
+pub(super) fn reserve_slots<K: IntKey, X, A: Allocator + Copy>(
+    slots: &mut Vec<Slot<K, X, A>, A>,
+    capacity: usize,
+) -> Result<Bits<A>, AllocError> {
+    slots.reserve_exact(capacity - slots.len())?;
+    let Ok(bits) = Bits::new(*slots.allocator(), capacity) else {
+        slots.shrink_to_fit();
+        return Err(AllocError);
+    };
+    Ok(bits)
+}
+
+/// Adds empty slots, up to `capacity` slots, for which there is room.
 pub(super) fn add_slots<K: IntKey, X, A: Allocator + Copy>(
     slots: &mut Vec<Slot<K, X, A>, A>,
     capacity: usize,
-) -> Result<(), AllocError> {
+) {
     let alloc = *slots.allocator();
     let more = capacity - slots.len();
-    slots.reserve_exact(more)?;
+    // a vector of its own, whose pointer and length stay in registers
+    let mut longer = mem::replace(slots, Vec::new(alloc));
     for _ in 0..more {
-        slots.push_reserved(Slot::new(alloc));
+        longer.push_reserved(Slot::new(alloc));
     }
-    Ok(())
+    *slots = longer;
 }
 
-/// Allocates all that growth to `capacity` slots needs: empty slots, room in them, and a buffer,
-/// which it returns. If an allocation fails, the slots and their memory are as before.
+/// Allocates what growth to `capacity` slots needs besides the slots, for which there is room, and
+/// their bits: counts, room in slots, and a buffer, which it returns. If an allocation fails, the
+/// slots and their memory are as before.
 fn make_room<K: IntKey, X, A: Allocator + Copy>(
     slots: &mut Vec<Slot<K, X, A>, A>,
     old: &Directory<A>,
@@ -103,8 +120,11 @@ fn make_room<K: IntKey, X, A: Allocator + Copy>(
 ) -> Result<Vec<(Stored<K>, X), A>, AllocError> {
     let alloc = *slots.allocator();
     let len = slots.len();
-    let mut counts = vec![in alloc; 0usize; capacity / len]?;
-    add_slots(slots, capacity)?;
+    let Ok(mut counts) = vec![in alloc; 0usize; capacity / len] else {
+        slots.shrink_to_fit();
+        return Err(AllocError);
+    };
+    add_slots(slots, capacity);
     let Ok(buffer) = reserve_rooms(slots, old, &mut counts, alloc) else {
         slots.truncate(len);
         slots.shrink_to_fit();
@@ -117,7 +137,7 @@ impl<K: IntKey, X, A: Allocator + Copy> Table<K, X, A> {
     /// Moves all pairs, in the order of the walk, to their slots among `capacity` slots. If an
     /// allocation fails, nothing changes.
     fn grow(&mut self, capacity: usize, placed: &mut Steps) -> Result<(), AllocError> {
-        let mut bits = Bits::new(*self.slots.allocator(), capacity)?;
+        let mut bits = reserve_slots(&mut self.slots, capacity)?;
         let mut buffer = make_room(&mut self.slots, &self.directory, capacity)?;
         move_all(
             &mut bits,

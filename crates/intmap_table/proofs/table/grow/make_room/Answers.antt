@@ -11,7 +11,7 @@ use Rattle.intmap_table.proofs.table.grow.make_room.Goals.{After-deref_mut-2, Af
 
 -- the slots that are lent are the old ones with empty ones behind them
 added : (g : _) (c : After-deref_mut-2 g) → c.deref_mut.result.now ≡ c.args.slots.now.items ++ replicate (c.args.capacity - length c.args.slots.now.items) bare_slot
-added g c = c.deref_mut.ensures.value ∙ c.in_ok-add_slots.ensures.slots
+added g c = c.deref_mut.ensures.value ∙ c.add_slots.ensures
 
 longer : (g : _) (c : After-deref_mut-2 g) → IsLongerOf g.K.IntKey.number_of c.args.slots.now.items c.deref_mut.result.now c.args.old.now.bits c.args.old.now.mask c.args.capacity
 longer g c = IsLonger-added _ _ _ c.requires.grown (added g c) _ _ _ c.requires.table
@@ -21,7 +21,7 @@ reserve_rooms-requires-clause-longer g c = IsLonger-of (longer g (goal.at.reserv
 
 pub reserve_rooms-requires-clause-all : goal.reserve_rooms-requires-clause-all
 reserve_rooms-requires-clause-all g c =
-    parts-longer (longer g (goal.at.reserve_rooms-requires-clause-all g c).After-deref_mut-2) c.deref_mut-2.result.now (c.deref_mut-2.ensures.len ∙ c.in_ok-counts.ensures.len ∙ ap (λ n. c.args.capacity / n) (c.len-len.ensures ∙ c.args.slots.now.ok.0))
+    parts-longer (longer g (goal.at.reserve_rooms-requires-clause-all g c).After-deref_mut-2) c.deref_mut-2.result.now (c.deref_mut-2.ensures.len ∙ c.in-Ok.ensures.len ∙ ap (λ n. c.args.capacity / n) (c.len-len.ensures ∙ c.args.slots.now.ok.0))
 
 pub reserve_rooms-requires-clause-bare : goal.reserve_rooms-requires-clause-bare
 reserve_rooms-requires-clause-bare g c = bare-added _ _ _ c.requires.grown (added g (goal.at.reserve_rooms-requires-clause-bare g c).After-deref_mut-2) _ c.requires.table.count
@@ -55,13 +55,13 @@ returns-clause-rows g c = let at = goal.at.returns-clause-rows g c in kept g at.
 pub returns-clause-ready : goal.returns-clause-ready
 returns-clause-ready g c =
     let at = goal.at.returns-clause-ready g c in
-    let ready = rw (CanMoveOn-longer (longer g at.After-deref_mut-2) (vec_capacity c.in-Ok.buffer) c.reserve_rooms.new.slots) at c.in-Ok.ensures.ready in
+    let ready = rw (CanMoveOn-longer (longer g at.After-deref_mut-2) (vec_capacity c.in-Ok-reserve_rooms.buffer) c.reserve_rooms.new.slots) at c.in-Ok-reserve_rooms.ensures.ready in
     rw (written g at.After-reserve_rooms) ready
 
-pub returns-in_default-clause-err : goal.returns-in_default-clause-err
-returns-in_default-clause-err g c =
-    let at = goal.at.returns-in_default-clause-err g c in
-    rows-truncated _ _ _ _ (c.len-len.ensures ∙ c.args.slots.now.ok.0) (c.shrink_to_fit.ensures.items ∙ c.truncate.ensures.items) (kept g at.After-reserve_rooms (longer g at.After-deref_mut-2))
+pub returns-in_default-reserve_rooms-clause-err : goal.returns-in_default-reserve_rooms-clause-err
+returns-in_default-reserve_rooms-clause-err g c =
+    let at = goal.at.returns-in_default-reserve_rooms-clause-err g c in
+    rows-truncated _ _ _ _ (c.len-len.ensures ∙ c.args.slots.now.ok.0) (c.shrink_to_fit-in_default-reserve_rooms.ensures.items ∙ c.truncate.ensures.items) (kept g at.After-reserve_rooms (longer g at.After-deref_mut-2))
 
 pub nonzero_div-capacity : goal.nonzero_div-capacity
 nonzero_div-capacity g c =
@@ -69,4 +69,4 @@ nonzero_div-capacity g c =
     omega (arith, some, all, n)
 
 pub add_slots-requires : goal.add_slots-requires
-add_slots-requires g c = grown-more _ _ c.requires.grown
+add_slots-requires g c = record { more = grown-more _ _ c.requires.grown; room = c.requires.room }
