@@ -8,6 +8,7 @@ pub(crate) mod asked;
 mod closures;
 mod grow;
 pub mod locate;
+pub mod owned;
 mod place;
 pub(crate) mod stored;
 pub mod walk;

@@ -57,7 +57,8 @@ impl<K: IntKey, V> IntMap<K, V> {
     ///
     /// Unlike std's, it leaves the pairs that it didn't return if it is dropped early: they stay in
     /// the map, in their order. They also stay if it is forgotten. The capacity stays. A step costs
-    /// *O*(*s*), all of them with the look for the next slots *O*(*n s* + *c*).
+    /// *O*(*s*), all of them with the look for the next slots *O*(*n s* + *c*). Where thousands of
+    /// keys share a slot, `mem::take(&mut map).into_iter()` is faster.
     ///
     /// # Examples
     ///
@@ -78,6 +79,7 @@ impl<K: IntKey, V> IntMap<K, V> {
     /// `pick` may change each value that it sees. It is called once for each pair, and only as the
     /// iterator goes on. If the iterator is dropped early or forgotten, the pairs that it didn't
     /// reach stay as they are. All steps together cost *O*(*n s* + *c*) beside the calls of `pick`.
+    /// [`retain`](IntMap::retain) costs *O*(*n* + *c*), however many keys share a slot.
     ///
     /// # Examples
     ///

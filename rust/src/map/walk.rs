@@ -96,7 +96,7 @@ impl<K: IntKey, V> IntMap<K, V> {
     /// Returns an iterator over the keys by value, in iteration order. Each value is dropped as its
     /// key is returned, and the rest as the iterator is dropped.
     ///
-    /// The cost is that of [`drain`](IntMap::drain).
+    /// The cost is that of [`iter`](IntMap::iter).
     ///
     /// # Examples
     ///
@@ -113,7 +113,7 @@ impl<K: IntKey, V> IntMap<K, V> {
 
     /// Returns an iterator over the values by value, in iteration order.
     ///
-    /// The cost is that of [`drain`](IntMap::drain).
+    /// The cost is that of [`iter`](IntMap::iter).
     ///
     /// # Examples
     ///
@@ -167,7 +167,7 @@ impl<'a, K: IntKey, V> IntoIterator for &'a mut IntMap<K, V> {
 }
 
 /// Returns an iterator over the pairs by value, in iteration order. The cost is that of
-/// [`drain`](IntMap::drain).
+/// [`iter`](IntMap::iter).
 ///
 /// ```
 /// let map = intmap_proved::IntMap::from([(0u64, 'a'), (1, 'b')]);

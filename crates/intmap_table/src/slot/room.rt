@@ -58,6 +58,27 @@ impl<K: IntKey, X: Drop, A: Allocator> Slot<K, X, A> {
     }
 }
 
+impl<K: IntKey, X: Drop, A: Allocator> Slot<K, X, A> {
+    /// Removes all pairs, and returns the first of them. The vector `rest` gets the others with their
+    /// block, the last one first. No pair moves but by that turn.
+    #[inline(always)]
+    pub(crate) fn take_all(&mut self, rest: &mut Vec<(Stored<K>, X), A>) -> (Stored<K>, X)
+        requires filled { 0 < length self.old.pairs }
+        requires empty { rest.old.items ≡ [] }
+        ensures pairs { self.old.pairs ≡ result ∷ reverse rest.new.items }
+        ensures emptied { self.new.pairs ≡ [] }
+    {
+        if !self.rest.is_empty() {
+            mem::swap(&mut self.rest, rest);
+            rest.reverse();
+        }
+        match self.first.take() {
+            Some(first) => first,
+            None => unreachable!(),
+        }
+    }
+}
+
 impl<K: IntKey, X, A: Allocator + Copy> Slot<K, X, A> {
     /// Removes all of several pairs. The first one is returned. The others are moved into a buffer,
     /// which has room for them, the last of them first. The block of the others is returned too.

@@ -8,6 +8,7 @@ pub(in crate::proved::table) mod asked;
 mod closures;
 mod grow;
 pub mod locate;
+pub mod owned;
 mod place;
 pub(in crate::proved::table) mod stored;
 pub mod walk;

@@ -3,10 +3,11 @@ ghost use Rattle.std.specs.Iterator.{YieldsFirst, item_count};
 ghost use Rattle.std.specs.Prelude.{◌≡◌};
 ghost use Rattle.std.specs.Map.{keys_of, values_of};
 ghost use Rattle.intmap.specs.Map.{IsMap};
-ghost use Rattle.intmap_table.specs.Walk.{ArePassed};
 
 use crate::map::IntMap;
 use intmap_table::IntKey;
+use intmap_table::kept::Kept;
+use intmap_table::table::owned::IntoPairs;
 use std::alloc::{Allocator, Global};
 use std::marker::Model;
 
@@ -14,9 +15,7 @@ use std::marker::Model;
 /// see it as the list of the pairs that are left.
 #[derive(Drop)]
 pub struct IntoIter<K: IntKey, V, A: Allocator + Copy = Global> {
-    map: IntMap<K, V, A>,
-    from: usize,
-    ghost passed: { ArePassed K.number_of map.walk map.capacity from },
+    pairs: IntoPairs<K, Kept<V>, A>,
 }
 
 impl<K: IntKey, V, A: Allocator + Copy> Model for IntoIter<K, V, A> {
@@ -24,7 +23,7 @@ impl<K: IntKey, V, A: Allocator + Copy> Model for IntoIter<K, V, A> {
 
     ghost Value = { List (K × V) };
 
-    ghost view = { λ it. it.map.walk };
+    ghost view = { λ it. it.pairs };
 }
 
 impl<K: IntKey, V: Drop, A: Allocator + Copy> Iterator for IntoIter<K, V, A> {
@@ -35,7 +34,8 @@ impl<K: IntKey, V: Drop, A: Allocator + Copy> Iterator for IntoIter<K, V, A> {
     ghost remaining = { item_count (λ rest. rest) };
 
     fn next(&mut self) -> Option<(K, V)> {
-        self.map.take_front(&mut self.from)
+        let (key, kept) = self.pairs.next()?;
+        Some((key, kept.into_value()))
     }
 }
 
@@ -105,10 +105,12 @@ impl<K: IntKey, V: Drop, A: Allocator + Copy> IntoIterator for IntMap<K, V, A> {
     ghost into_iter_gives = { λ map it. it ≡ map.walk };
 
     /// An iterator over the pairs by value, in iteration order. Neither this call nor a step of the
-    /// iterator fails. Each step moves the other pairs of its slot up by one place. Dropping the
-    /// iterator drops the pairs that are left.
+    /// iterator fails. The pairs of a slot are taken out together, so the time of a step doesn't depend
+    /// on how many share a slot. Dropping the iterator drops the pairs that are left.
     fn into_iter(self) -> IntoIter<K, V, A> {
-        IntoIter { map: self, from: 0 }
+        IntoIter {
+            pairs: self.table.into_pairs(),
+        }
     }
 }
 

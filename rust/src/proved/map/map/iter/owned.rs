@@ -3,20 +3,22 @@
 use crate::memory::prelude::*;
 use crate::proved::map::map::IntMap;
 use crate::proved::table::IntKey;
+use crate::proved::table::kept::Kept;
+use crate::proved::table::table::owned::IntoPairs;
 use crate::memory::alloc::{Allocator, Global};
 
 /// The pairs of a map by value, made by [`IntMap::into_iter`](crate::proved::map::IntMap::into_iter). Contracts
 /// see it as the list of the pairs that are left.
 pub struct IntoIter<K: IntKey, V, A: Allocator + Copy = Global> {
-    map: IntMap<K, V, A>,
-    from: usize,
+    pairs: IntoPairs<K, Kept<V>, A>,
 }
 
 impl<K: IntKey, V, A: Allocator + Copy> Iterator for IntoIter<K, V, A> {
     type Item = (K, V);
 
     fn next(&mut self) -> Option<(K, V)> {
-        self.map.take_front(&mut self.from)
+        let (key, kept) = self.pairs.next()?;
+        Some((key, kept.into_value()))
     }
 }
 
@@ -56,10 +58,12 @@ impl<K: IntKey, V, A: Allocator + Copy> IntoIterator for IntMap<K, V, A> {
     type IntoIter = IntoIter<K, V, A>;
 
     /// An iterator over the pairs by value, in iteration order. Neither this call nor a step of the
-    /// iterator fails. Each step moves the other pairs of its slot up by one place. Dropping the
-    /// iterator drops the pairs that are left.
+    /// iterator fails. The pairs of a slot are taken out together, so the time of a step doesn't depend
+    /// on how many share a slot. Dropping the iterator drops the pairs that are left.
     fn into_iter(self) -> IntoIter<K, V, A> {
-        IntoIter { map: self, from: 0 }
+        IntoIter {
+            pairs: self.table.into_pairs(),
+        }
     }
 }
 
