@@ -30,7 +30,7 @@ mod-mod-capacity n C D small large le =
 
 module _ {K V : Type 0} (number : K → ℕ) (C D : ℕ) (small : IsCapacity C) (large : IsCapacity D) (le : C ≤ D) where
   -- the pairs of slot i of D are all in one slot of C
-  slot_of-slot_of : (L : List (K × V)) (i : ℕ) → slot_of number (slot_of number L C (i % C)) D i ≡ slot_of number L D i
+  pub slot_of-slot_of : (L : List (K × V)) (i : ℕ) → slot_of number (slot_of number L C (i % C)) D i ≡ slot_of number L D i
   slot_of-slot_of L i =
       filter-wider (λ p. slot_number number p.0 D == i) (λ p. slot_number number p.0 C == i % C)
       (λ p here. eq-eqb (slot_number number p.0 C) (i % C)

@@ -114,10 +114,16 @@ module _ {K X : Type 0} (S : List (Held K X)) (marks : List Bool) (are : AreMark
       | inr up ↦ (let same : from ≡ index = omega (arith, up, next.behind) in subst (λ i. IsInRows (rows S) i j n) same at)
     ]
 
--- of the slot at hand, whose pairs from place j on were asked about, s is left
-module _ {K X F : Type 0} (number : K → ℕ) (R : F → K × X → Bool → F → K × X → Type 0) (same_key : (f : F) (p : K × X) (b : Bool) (g : F) (q : K × X) → R f p b g q → q.0 ≡ p.0)
-    (S : List (Held K X)) (marks : List Bool) (old : IsMarkedTable number S marks) (i j n : ℕ) (below : i < length S) (at : IsInRows (rows S) i j n)
-    (f g : F) (r : Option (K × X)) (s : Held K X) (k : ℕ) (step : ExtractsBehind R f (get_or (rows S) i []) j r g s.pairs k) (within : k ≤ length s.pairs) where
+-- the pairs of the slot at hand from place j on were asked about, and s is left of it, with place k reached
+pub record IsAsked {K X F : Type 0} (number : K → ℕ) (R : F → K × X → Bool → F → K × X → Type 0) (S : List (Held K X)) (marks : List Bool) (i j n : ℕ) (f g : F) (r : Option (K × X)) (s : Held K X) (k : ℕ) : Type 0 where
+  pub same_key : (f : F) (p : K × X) (b : Bool) (g : F) (q : K × X) → R f p b g q → q.0 ≡ p.0
+  pub old : IsMarkedTable number S marks
+  pub below : i < length S
+  pub at : IsInRows (rows S) i j n
+  pub step : ExtractsBehind R f (get_or (rows S) i []) j r g s.pairs k
+  pub within : k ≤ length s.pairs
+
+module _ {K X F : Type 0} {number : K → ℕ} {R : F → K × X → Bool → F → K × X → Type 0} {S : List (Held K X)} {marks : List Bool} {i j n : ℕ} {f g : F} {r : Option (K × X)} {s : Held K X} {k : ℕ} (asked : IsAsked number R S marks i j n f g r s k) where
   abbrev T : List (Held K X)
   T = set S i s
 
@@ -125,7 +131,7 @@ module _ {K X F : Type 0} (number : K → ℕ) (R : F → K × X → Bool → F 
   rows-set = map-set (λ (t : Held K X). t.pairs) S i s
 
   row-new : get_or (rows T) i [] ≡ s.pairs
-  row-new = ap (λ R. get_or R i []) rows-set ∙ get_or-set_same (rows S) i s.pairs [] (omega (arith, below, length-rows S))
+  row-new = ap (λ R. get_or R i []) rows-set ∙ get_or-set_same (rows S) i s.pairs [] (omega (arith, asked.below, length-rows S))
 
   before-same : joined (take i (rows T)) ≡ joined (take i (rows S))
   before-same = ap (λ R. joined (take i R)) rows-set ∙ ap joined (take-set-le i (rows S) i s.pairs (omega arith))
@@ -135,29 +141,29 @@ module _ {K X F : Type 0} (number : K → ℕ) (R : F → K × X → Bool → F 
 
   -- the slots are those of a table
   table : IsTable number T
-  table = IsTable-set_at number S i s old.table below
-      (All-ExtractsBehind R (λ p. slot_number number p.0 (length S) ≡ i) (λ f p b g q call is. ap (λ k. slot_number number k (length S)) (same_key f p b g q call) ∙ is) f g (get_or (rows S) i []) s.pairs j k r step (old.table.in_place i below))
+  table = IsTable-set_at number S i s asked.old.table asked.below
+      (All-ExtractsBehind R (λ p. slot_number number p.0 (length S) ≡ i) (λ f p b g q call is. ap (λ k. slot_number number k (length S)) (asked.same_key f p b g q call) ∙ is) f g (get_or (rows S) i []) s.pairs j k r asked.step (asked.old.table.in_place i asked.below))
 
   -- the slot was emptied, and its mark taken away
   pub IsMarkedTable-emptied_slot : false ≡ nat_lt 0 (length s.pairs) → IsMarkedTable number T (set marks i false)
-  IsMarkedTable-emptied_slot none = record { table = table; marks = marks-set_at S marks old.marks i below s false none }
+  IsMarkedTable-emptied_slot none = record { table = table; marks = marks-set_at S marks asked.old.marks i asked.below s false none }
 
   -- the slot holds a pair, as before
   pub IsMarkedTable-filled_slot : true ≡ nat_lt 0 (length s.pairs) → IsMarkedTable number T marks
   IsMarkedTable-filled_slot some =
-      let few = length-ExtractsBehind R f g (get_or (rows S) i []) s.pairs j k r step in
+      let few = length-ExtractsBehind R f g (get_or (rows S) i []) s.pairs j k r asked.step in
       let filled = ltb-true 0 (length s.pairs) (sym some) in
-      let is = old.marks.own i ∙ lt-ltb 0 (length (get_or (rows S) i [])) (omega (arith, few, filled)) in
-      record { table = table; marks = marks-kept_at S marks old.marks i below s (is ∙ some) }
+      let is = asked.old.marks.own i ∙ lt-ltb 0 (length (get_or (rows S) i [])) (omega (arith, few, filled)) in
+      record { table = table; marks = marks-kept_at S marks asked.old.marks i asked.below s (is ∙ some) }
 
-  -- a place moves on within the pairs that were there
+  -- a place moves on asked.within the pairs that were there
   pub place-on : k ≤ length (get_or (rows S) i [])
-  place-on = let few = length-ExtractsBehind R f g (get_or (rows S) i []) s.pairs j k r step in omega (arith, few, within)
+  place-on = let few = length-ExtractsBehind R f g (get_or (rows S) i []) s.pairs j k r asked.step in omega (arith, few, asked.within)
 
   -- no more pairs are left
   pub joined-few : length (joined (rows T)) ≤ length (joined (rows S))
   joined-few =
-      let few = length-ExtractsBehind R f g (get_or (rows S) i []) s.pairs j k r step in
+      let few = length-ExtractsBehind R f g (get_or (rows S) i []) s.pairs j k r asked.step in
       let before = length-parts (rows S) i in let after = length-parts (rows T) i in
       let front = ap length before-same in let here = ap length row-new in let back = ap length behind-same in
       omega (arith, few, before, after, front, here, back)
@@ -165,8 +171,8 @@ module _ {K X F : Type 0} (number : K → ℕ) (R : F → K × X → Bool → F 
   -- the place that was reached there
   pub IsInRows-step : (m : ℕ) → m + j ≡ n + k → IsInRows (rows T) i k m
   IsInRows-step m count = record {
-    within = subst (λ ps. k ≤ length ps) (sym row-new) within;
-    count = let same = ap length before-same in omega (arith, count, at.count, same);
+    within = subst (λ ps. k ≤ length ps) (sym row-new) asked.within;
+    count = let same = ap length before-same in omega (arith, count, asked.at.count, same);
   }
 
   module _ (m : ℕ) (count : m + j ≡ n + k) where
@@ -176,49 +182,49 @@ module _ {K X F : Type 0} (number : K → ℕ) (R : F → K × X → Bool → F 
     left : drop m (joined (rows T)) ≡ drop k s.pairs ++ joined (drop (suc i) (rows S))
     left = drop-reached (rows T) i k m (IsInRows-step m count) ∙ (λ h. drop k (row-new h) ++ behind-same h)
 
-    taken-more : take m (joined (rows T)) ≡ take n (joined (rows S)) ++ step.0
+    taken-more : take m (joined (rows T)) ≡ take n (joined (rows S)) ++ asked.step.0
     taken-more =
-        taken ∙ ap (λ Z. joined (take i (rows S)) ++ Z) step.2 ∙ sym (append_assoc (joined (take i (rows S))) (take j (get_or (rows S) i [])) step.0)
-        ∙ ap (λ Z. Z ++ step.0) (sym (take-reached (rows S) i j n at))
+        taken ∙ ap (λ Z. joined (take i (rows S)) ++ Z) asked.step.2 ∙ sym (append_assoc (joined (take i (rows S))) (take j (get_or (rows S) i [])) asked.step.0)
+        ∙ ap (λ Z. Z ++ asked.step.0) (sym (take-reached (rows S) i j n asked.at))
 
     module _ (f₀ : F) (D₀ L₀ : List (K × X)) (leads : StepsTo R f₀ D₀ L₀ f (take n (joined (rows S))) (drop n (joined (rows S)))) where
       here : StepsTo R f₀ D₀ L₀ f (take n (joined (rows S))) (drop j (get_or (rows S) i []) ++ joined (drop (suc i) (rows S)))
-      here = subst (λ Z. StepsTo R f₀ D₀ L₀ f (take n (joined (rows S))) Z) (drop-reached (rows S) i j n at) leads
+      here = subst (λ Z. StepsTo R f₀ D₀ L₀ f (take n (joined (rows S))) Z) (drop-reached (rows S) i j n asked.at) leads
 
       -- one of the pairs was picked
       pub Extracts-slot : (p : K × X) → r ≡ Some p → (k₀ : List (K × X)) × ExtractsNext R f₀ L₀ (Some p) g k₀ (drop m (joined (rows T))) × (take m (joined (rows T)) ≡ D₀ ++ k₀)
       Extracts-slot p is =
-          let first = subst (λ o. ExtractsNext R f (drop j (get_or (rows S) i [])) o g step.0 (drop k s.pairs)) is step.1 in
-          let last = StepsTo-stop R f₀ f g D₀ L₀ (take n (joined (rows S))) (drop j (get_or (rows S) i [])) (joined (drop (suc i) (rows S))) step.0 (drop k s.pairs) p here first in
+          let first = subst (λ o. ExtractsNext R f (drop j (get_or (rows S) i [])) o g asked.step.0 (drop k s.pairs)) is asked.step.1 in
+          let last = StepsTo-stop R f₀ f g D₀ L₀ (take n (joined (rows S))) (drop j (get_or (rows S) i [])) (joined (drop (suc i) (rows S))) asked.step.0 (drop k s.pairs) p here first in
           (last.0, subst (λ Z. ExtractsNext R f₀ L₀ (Some p) g last.0 Z) (sym left) last.1, taken-more ∙ last.2)
 
       -- none of them was
       pub StepsTo-slot : r ≡ None → StepsTo R f₀ D₀ L₀ g (take m (joined (rows T))) (drop m (joined (rows T)))
       StepsTo-slot is =
-          let first = subst (λ o. ExtractsNext R f (drop j (get_or (rows S) i [])) o g step.0 (drop k s.pairs)) is step.1 in
-          let none = ExtractsNext-end R f g (drop j (get_or (rows S) i [])) step.0 (drop k s.pairs) first in
+          let first = subst (λ o. ExtractsNext R f (drop j (get_or (rows S) i [])) o g asked.step.0 (drop k s.pairs)) is asked.step.1 in
+          let none = ExtractsNext-end R f g (drop j (get_or (rows S) i [])) asked.step.0 (drop k s.pairs) first in
           let rest = left ∙ ap (λ Z. Z ++ joined (drop (suc i) (rows S))) none in
-          let on = StepsTo-on R f₀ f g D₀ L₀ (take n (joined (rows S))) (drop j (get_or (rows S) i [])) (joined (drop (suc i) (rows S))) step.0 (drop k s.pairs) here first in
-          subst (λ Z. StepsTo R f₀ D₀ L₀ g Z (drop m (joined (rows T)))) (sym taken-more) (subst (λ Z. StepsTo R f₀ D₀ L₀ g (take n (joined (rows S)) ++ step.0) Z) (sym rest) on)
+          let on = StepsTo-on R f₀ f g D₀ L₀ (take n (joined (rows S))) (drop j (get_or (rows S) i [])) (joined (drop (suc i) (rows S))) asked.step.0 (drop k s.pairs) here first in
+          subst (λ Z. StepsTo R f₀ D₀ L₀ g Z (drop m (joined (rows T)))) (sym taken-more) (subst (λ Z. StepsTo R f₀ D₀ L₀ g (take n (joined (rows S)) ++ asked.step.0) Z) (sym rest) on)
 
     -- if none was picked, what the closure takes of the pairs that were left it takes of those that are left now
     pub TakesEach-slot : r ≡ None → (Q : F → K × X → Type 0) → TakesEach (λ f p (a : Bool × (K × X)) g. R f p a.0 g a.1) Q f (drop n (joined (rows S)))
         → TakesEach (λ f p (a : Bool × (K × X)) g. R f p a.0 g a.1) Q g (drop m (joined (rows T)))
     TakesEach-slot is Q takes =
-        let first = subst (λ o. ExtractsNext R f (drop j (get_or (rows S) i [])) o g step.0 (drop k s.pairs)) is step.1 in
-        let none = ExtractsNext-end R f g (drop j (get_or (rows S) i [])) step.0 (drop k s.pairs) first in
+        let first = subst (λ o. ExtractsNext R f (drop j (get_or (rows S) i [])) o g asked.step.0 (drop k s.pairs)) is asked.step.1 in
+        let none = ExtractsNext-end R f g (drop j (get_or (rows S) i [])) asked.step.0 (drop k s.pairs) first in
         let rest = left ∙ ap (λ Z. Z ++ joined (drop (suc i) (rows S))) none in
         subst (TakesEach (λ f p (a : Bool × (K × X)) g. R f p a.0 g a.1) Q g) (sym rest)
-        (TakesEach-on R Q f g (drop j (get_or (rows S) i [])) (joined (drop (suc i) (rows S))) step.0 (drop k s.pairs)
-        (subst (TakesEach (λ f p (a : Bool × (K × X)) g. R f p a.0 g a.1) Q f) (drop-reached (rows S) i j n at) takes) first)
+        (TakesEach-on R Q f g (drop j (get_or (rows S) i [])) (joined (drop (suc i) (rows S))) asked.step.0 (drop k s.pairs)
+        (subst (TakesEach (λ f p (a : Bool × (K × X)) g. R f p a.0 g a.1) Q f) (drop-reached (rows S) i j n asked.at) takes) first)
 
     -- if none was picked, all pairs of the slot were passed
     pub IsInRows-left : r ≡ None → IsInRows (rows T) (i + 1) 0 m
     IsInRows-left is =
-        let first = subst (λ o. ExtractsNext R f (drop j (get_or (rows S) i [])) o g step.0 (drop k s.pairs)) is step.1 in
-        let none = ap length (ExtractsNext-end R f g (drop j (get_or (rows S) i [])) step.0 (drop k s.pairs) first) in
+        let first = subst (λ o. ExtractsNext R f (drop j (get_or (rows S) i [])) o g asked.step.0 (drop k s.pairs)) is asked.step.1 in
+        let none = ap length (ExtractsNext-end R f g (drop j (get_or (rows S) i [])) asked.step.0 (drop k s.pairs) first) in
         let over = length-drop k s.pairs in
         let one : i + 1 ≡ suc i = omega arith in
         let all = ap length (ap (λ h. joined (take h (rows T))) one ∙ joined-take i (rows T) ∙ (λ h. before-same h ++ row-new h)) in
         let both = length-append (joined (take i (rows S))) s.pairs in
-        record { within = omega arith; count = omega (arith, count, at.count, none, over, within, all, both) }
+        record { within = omega arith; count = omega (arith, count, asked.at.count, none, over, asked.within, all, both) }

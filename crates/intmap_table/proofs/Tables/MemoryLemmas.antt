@@ -145,13 +145,13 @@ module _ {K X : Type 0} {number : K → ℕ} {S T : List (Held K X)} {bits : Lis
   take-kept U same = ap (take (length S)) same ∙ is.old
 
   -- to move on, read of the longer slots and of the old ones
-  pub CanMoveOn-longer : (longest : ℕ) (U : List (Held K X)) → CanMoveOn number (take (mask + 1) (rows T)) (mask + 1) (length T) 0 longest U ≡ CanMoveOn number (rows S) (length S) D 0 longest U
-  CanMoveOn-longer longest U = rw (take-longer, is.table.count, is.len) refl
+  pub CanMoveOn-longer : (left : List ℕ) (longest : ℕ) (U : List (Held K X)) → CanMoveOn number (take (mask + 1) (rows T)) (mask + 1) (length T) left longest U ≡ CanMoveOn number (rows S) (length S) D left longest U
+  CanMoveOn-longer left longest U = rw (take-longer, is.table.count, is.len) refl
 
-  module _ (U : List (Held K X)) (end : IsMidway number (take (mask + 1) (rows T)) (length T) (mask + 1) U) where
+  module _ (U : List (Held K X)) (end : IsMidway number (take (mask + 1) (rows T)) (mask + 1) (length T) [] U) where
     -- behind the last move, all pairs are moved
     pub IsMoved-longer : IsMoved number (joined (rows S)) D U
-    IsMoved-longer = IsMoved-midway number (rows S) (length S) D U is.grown old_rows (rw (take-longer, is.table.count, is.len) at end)
+    IsMoved-longer = IsMoved-midway number (length S) D is.grown (rows S) old_rows U (rw (take-longer, is.table.count, is.len) at end)
 
     -- the slots are a table then
     pub IsMaskedTable-longer : (marks : List Bool) → AreMarked (rows U) marks → IsMaskedTable number U marks (D - 1)

@@ -112,7 +112,7 @@ module _ {K X : Type 0} (number : K → ℕ) where
 pub Held-same : {K X : Type 0} (s t : Held K X) → s.pairs ≡ t.pairs → s.room ≡ t.room → s ≡ t
 Held-same s t pairs room = ap (λ ps. record s { pairs = ps }) pairs ∙ ap (λ n. record t { room = n }) room
 
-or-false : (b : Bool) → (b || false) ≡ b
+pub or-false : (b : Bool) → (b || false) ≡ b
 or-false true = refl
 or-false false = refl
 

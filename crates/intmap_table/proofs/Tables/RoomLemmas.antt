@@ -1,15 +1,16 @@
 -- Room for pairs that move: each slot has it, but one that gets the block of the old slot.
-use Rattle.std.proofs.Common.{◌≡◌, ◌≢◌, ◌⊎◌, inl, inr, ℕ, ◌+◌, ◌-◌, ◌*◌, ◌%◌, ◌^◌, ◌<◌, ◌≤◌, Bool, true, false, ◌==◌, List, [], ◌∷◌, ◌++◌, length, get_or, set, sym, ap, ◌∙◌, subst, arith, append-nil, append_assoc, length-append, length-set, get_or-set_same, get_or-set_other, All}
-use Rattle.std.proofs.lemmas.List.Sums.{length-filter, count_by-le-length}
+use Rattle.std.proofs.Common.{◌≡◌, ◌≢◌, ◌⊎◌, inl, inr, ℕ, ◌+◌, ◌-◌, ◌*◌, ◌/◌, ◌%◌, ◌<◌, ◌≤◌, Bool, true, false, cond, ◌==◌, List, [], ◌∷◌, ◌++◌, length, get_or, set, sym, ap, ◌∙◌, subst, arith, append-nil, append_assoc, length-append, length-set, refl, get_or-set_other, get_or-set_same, All}
+use Rattle.std.proofs.lemmas.List.Sums.{length-filter, count_by-le-length, sum_by-cons}
 use Rattle.std.proofs.lemmas.Bool.{eq-eqb, ne_eqb, cases_eq}
+use Rattle.std.proofs.lemmas.Nat.{div-add-mod', div-mul-add, div_below}
+use Rattle.std.proofs.lemmas.Grind.{get_or-set_at}
 use Rattle.std.proofs.lemmas.List.{map-set, length-map}
-use Rattle.std.proofs.lemmas.List.Elements.{filter-append, All-weaker, All-head, All-tail}
-use Rattle.intmap_table.specs.Classes.{IsCapacity, slot_number}
+use Rattle.std.proofs.lemmas.List.Elements.{filter-append, All-head, All-tail}
+use Rattle.intmap_table.specs.Classes.{slot_number}
 use Rattle.intmap_table.specs.Walk.{slot_of}
 use Rattle.intmap_table.specs.Tables.Slots.{Held, rows}
-use Rattle.intmap_table.specs.Tables.Moves.{rooms, IsGrown, bare_slot, IsOldRows, IsPlaced, need, HasRoom, CanLeave, CanMoveOn, IsPut}
-use Rattle.intmap_table.proofs.Tables.TableLemmas.{length-rows}
-use Rattle.intmap_table.proofs.Tables.GrownLemmas.{slot_number-parts, modulo-below, nonempty, no_length, slot_of-apart, grown-more, IsMidway-past, IsMidway-next}
+use Rattle.intmap_table.specs.Tables.Moves.{rooms, room_without, part_room, IsGrown, bare_slot, IsPlaced, need, in_part, HasRoom, HasParts, CanLeave, IsPut}
+use Rattle.intmap_table.proofs.Tables.GrownLemmas.{slot_number-grown, modulo-below, nonempty, no_length, part-of}
 
 module _ {K X : Type 0} (number : K → ℕ) where
   -- a pair in front that goes to slot j is the first there
@@ -120,103 +121,6 @@ module _ {K X : Type 0} (number : K → ℕ) where
         more.rooms j w m ∙ first.rooms j below l;
   }
 
-module _ {K X : Type 0} (number : K → ℕ) (S T : List (Held K X)) (C k : ℕ) (grown : IsGrown C (length S)) (ltk : k < C)
-    (ownk : All (λ p. slot_number number p.0 C ≡ k) (get_or (rows S) k [])) (lenT : length T ≡ length S)
-    (row-same : (j : ℕ) → j < length S → j % C ≡ k → get_or (rows T) j [] ≡ get_or (rows S) j [])
-    (room-same : (j : ℕ) → j < length S → j % C ≡ k → get_or (rooms T) j 0 ≡ get_or (rooms S) j 0) where
-  module _ (x : ℕ) (has : HasRoom number (set S k bare_slot) (get_or (rows S) k []) (get_or (rooms S) k 0 - 1) x) where
-    abbrev R : List (K × X)
-    R = get_or (rows S) k []
-
-    abbrev b : ℕ
-    b = get_or (rooms S) k 0 - 1
-
-    abbrev Fine : List (K × X) → ℕ → ℕ → Type 0
-    Fine row room j = (length row + length (slot_of number R (length S) j) ≤ room) ⊎ ((j ≡ x) × (room ≡ 1) × (length row + length (slot_of number R (length S) j) ≤ 1 + b))
-
-    len-k : length (set S k bare_slot) ≡ length S
-    len-k = length-set S k bare_slot
-
-    len-T : length (set T k bare_slot) ≡ length S
-    len-T = length-set T k bare_slot ∙ lenT
-
-    fine : (j : ℕ) → j < length S → 0 < length (slot_of number R (length S) j) → Fine (get_or (set (rows S) k []) j []) (get_or (set (rooms S) k 1) j 0) j
-    fine = rw (len-k, map-set (λ (h : Held K X). h.pairs) S k bare_slot, map-set (λ (h : Held K X). h.room) S k bare_slot) at has.room
-
-    is-k : (j : ℕ) → 0 < length (slot_of number R (length S) j) → j % C ≡ k
-    is-k j some = elim (cases_eq (j % C) k) as (λ _. j % C ≡ k) [
-      | inl q ↦ q
-      | inr other ↦ (let none = ap length (slot_of-apart number C (length S) grown R j
-          (All-weaker (λ p. slot_number number p.0 C ≡ k) (λ p. slot_number number p.0 C ≢ j % C) (λ p e q. other (sym q ∙ e)) R ownk)) in
-          absurd (omega (arith, none, some)))
-    ]
-
-    row-k : (j : ℕ) → j < length S → j % C ≡ k → get_or (set (rows S) k []) j [] ≡ get_or (set (rows T) k []) j []
-    row-k j lt is = elim (cases_eq j k) as (λ _. get_or (set (rows S) k []) j [] ≡ get_or (set (rows T) k []) j []) [
-      | inl q ↦ (let ws : k < length (rows S) = (let l = length-rows S in omega (arith, lt, q, l)) in
-          let wt : k < length (rows T) = (let l = length-rows T in omega (arith, lt, q, l, lenT)) in
-          rw q (get_or-set_same (rows S) k [] [] ws ∙ sym (get_or-set_same (rows T) k [] [] wt)))
-      | inr other ↦ get_or-set_other (rows S) k j [] [] other ∙ sym (row-same j lt is) ∙ sym (get_or-set_other (rows T) k j [] [] other)
-    ]
-
-    room-k : (j : ℕ) → j < length S → j % C ≡ k → get_or (set (rooms S) k 1) j 0 ≡ get_or (set (rooms T) k 1) j 0
-    room-k j lt is = elim (cases_eq j k) as (λ _. get_or (set (rooms S) k 1) j 0 ≡ get_or (set (rooms T) k 1) j 0) [
-      | inl q ↦ (let ws : k < length (rooms S) = (let l = length-map S (λ (h : Held K X). h.room) in omega (arith, lt, q, l)) in
-          let wt : k < length (rooms T) = (let l = length-map T (λ (h : Held K X). h.room) in omega (arith, lt, q, l, lenT)) in
-          rw q (get_or-set_same (rooms S) k 1 0 ws ∙ sym (get_or-set_same (rooms T) k 1 0 wt)))
-      | inr other ↦ get_or-set_other (rooms S) k j 1 0 other ∙ sym (room-same j lt is) ∙ sym (get_or-set_other (rooms T) k j 1 0 other)
-    ]
-
-    moved-fine : HasRoom number (set T k bare_slot) R b x
-    moved-fine = record {
-      room = rw (len-T, map-set (λ (h : Held K X). h.pairs) T k bare_slot, map-set (λ (h : Held K X). h.room) T k bare_slot) (λ j lt some.
-          let is : j % C ≡ k = is-k j some in
-          let row : Fine (get_or (set (rows T) k []) j []) (get_or (set (rooms S) k 1) j 0) j = subst (λ r. Fine r (get_or (set (rooms S) k 1) j 0) j) (row-k j lt is) (fine j lt some) in
-          subst (λ n. Fine (get_or (set (rows T) k []) j []) n j) (room-k j lt is) row);
-    }
-
-    CanLeave-as : k < length S → CanLeave number T k
-    CanLeave-as lt =
-        let is : k % C ≡ k = modulo-below C k ltk in
-        let row : HasRoom number (set T k bare_slot) (get_or (rows T) k []) b x = subst (λ M. HasRoom number (set T k bare_slot) M b x) (sym (row-same k lt is)) moved-fine in
-        (x, subst (λ n. HasRoom number (set T k bare_slot) (get_or (rows T) k []) (n - 1) x) (sym (room-same k lt is)) row)
-
-  -- what leaves the parts of an old slot as they are leaves it as it was
-  pub CanLeave-same : k < length S → CanLeave number S k → CanLeave number T k
-  CanLeave-same lt can = CanLeave-as can.0 can.1 lt
-
-module _ {K X : Type 0} (number : K → ℕ) (S T : List (Held K X)) (h : Held K X) (L : List (K × X)) (C i k : ℕ) (grown : IsGrown C (length S)) (lti : i < C) (ltk : k < C) (apart : i ≢ k)
-    (ownL : All (λ p. slot_number number p.0 C ≡ i) L) (ownk : All (λ p. slot_number number p.0 C ≡ k) (get_or (rows S) k [])) (placed : IsPlaced number (set S i h) L T) where
-  len-set : length (set S i h) ≡ length S
-  len-set = length-set S i h
-
-  -- a slot that is k modulo C got nothing, and is as it was
-  got-none : (j : ℕ) → j % C ≡ k → slot_of number L (length S) j ≡ []
-  got-none j is =
-      slot_of-apart number C (length S) grown L j
-      (All-weaker (λ p. slot_number number p.0 C ≡ i) (λ p. slot_number number p.0 C ≢ j % C) (λ p e q. apart (sym e ∙ q ∙ is)) L ownL)
-
-  not-i : (j : ℕ) → j % C ≡ k → j ≢ i
-  not-i j is q = apart (sym (modulo-below C i lti) ∙ ap (λ n. n % C) (sym q) ∙ is)
-
-  row-same : (j : ℕ) → j < length S → j % C ≡ k → get_or (rows T) j [] ≡ get_or (rows S) j []
-  row-same j lt is =
-      let w : j < length (set S i h) = omega (arith, lt, len-set) in
-      let row : get_or (rows T) j [] ≡ get_or (set (rows S) i h.pairs) j [] ++ slot_of number L (length S) j = rw (len-set, map-set (λ (s : Held K X). s.pairs) S i h) at (placed.pairs j w) in
-      row ∙ ap (λ M. get_or (set (rows S) i h.pairs) j [] ++ M) (got-none j is) ∙ append-nil (get_or (set (rows S) i h.pairs) j [])
-      ∙ get_or-set_other (rows S) i j h.pairs [] (not-i j is)
-
-  room-same : (j : ℕ) → j < length S → j % C ≡ k → get_or (rooms T) j 0 ≡ get_or (rooms S) j 0
-  room-same j lt is =
-      let w : j < length (set S i h) = omega (arith, lt, len-set) in
-      let none : slot_of number L (length (set S i h)) j ≡ [] = rw len-set (got-none j is) in
-      let room : get_or (rooms T) j 0 ≡ get_or (set (rooms S) i h.room) j 0 = rw (map-set (λ (s : Held K X). s.room) S i h) at (placed.rooms j w none) in
-      room ∙ get_or-set_other (rooms S) i j h.room 0 (not-i j is)
-
-  -- what another old slot needs isn't touched
-  pub CanLeave-kept : k < length S → CanLeave number S k → CanLeave number T k
-  CanLeave-kept lt can = CanLeave-same number S T C k grown ltk ownk (placed.len ∙ len-set) row-same room-same lt can
-
 module _ {K X : Type 0} (number : K → ℕ) where
   -- no slot gets more pairs than there are
   pub need-most : (L : List (K × X)) (D j : ℕ) → length (slot_of number L D j) ≤ length L
@@ -224,18 +128,12 @@ module _ {K X : Type 0} (number : K → ℕ) where
       let q : K × X → Bool = λ p. slot_number number p.0 D == j in
       let same = length-filter q L in let most = count_by-le-length q L in omega (arith, same, most)
 
-  -- if the slots that get pairs are empty, and each has its room or is slot x without a block, the current block serves if it has room for all the pairs except one
-  pub HasRoom-ready : (S : List (Held K X)) (L : List (K × X)) (block x : ℕ) → length L ≤ 1 + block
-      → ((j : ℕ) → j < length S → 0 < need number L (length S) j → get_or (rows S) j [] ≡ [])
-      → ((j : ℕ) → j < length S → 0 < need number L (length S) j → (need number L (length S) j ≤ get_or (rooms S) j 0) ⊎ ((j ≡ x) × (get_or (rooms S) j 0 ≡ 1)))
-      → HasRoom number S L block x
-  HasRoom-ready S L block x few empty ready = record {
-    room = λ j lt some.
-        let none = ap length (empty j lt some) in let most = need-most L (length S) j in
-        elim (ready j lt some) [
-          | inl has ↦ inl (omega (arith, none, has))
-          | inr bare ↦ inr (bare.0, bare.1, omega (arith, none, most, few))
-        ];
+  -- an old slot can be left as long as the rooms of its parts stay
+  pub CanLeave-same : (q r : List ℕ) (L : List (K × X)) (C D k : ℕ) → k < C → C ≤ D → ((j : ℕ) → j < D → j % C ≡ k → get_or q j 0 ≡ get_or r j 0) → CanLeave number r L C D k → CanLeave number q L C D k
+  CanLeave-same q r L C D k below more same can = record {
+    fits = (let room = same k (omega (arith, below, more)) (modulo-below C k below) in let fits = can.fits in omega (arith, room, fits));
+    x = can.x;
+    room = λ j lt part. subst (λ n. (need number L D j ≤ cond (j == k) 1 n) ⊎ ((j ≡ can.x) × (cond (j == k) 1 n ≡ 1))) (sym (same j lt part)) (can.room j lt part);
   }
 
   -- a lone pair has room in its slot, which holds none, whatever room the slot has that it was removed from
@@ -256,32 +154,39 @@ module _ {K X : Type 0} (number : K → ℕ) where
               | inr but ↦ (let bare = but.1 in omega (arith, bare, same, before, most))
             ])
       ] in
-      HasRoom-ready (set S i h) (p ∷ []) block y (omega arith) empty
-      (rw (length-set S i h, map-set (λ (s : Held K X). s.room) S i h) (λ j lt some. inl (lone j lt some)))
+      let fits : (j : ℕ) → j < length (set S i h) → 0 < need number (p ∷ []) (length (set S i h)) j → need number (p ∷ []) (length (set S i h)) j ≤ get_or (rooms (set S i h)) j 0 =
+      rw (length-set S i h, map-set (λ (s : Held K X). s.room) S i h) lone in
+      record { room = λ j lt some. inl (let none = ap length (empty j lt some) in let enough = fits j lt some in omega (arith, none, enough)) }
 
-  -- past a slot whose pairs were placed
-  pub CanMoveOn-next : (R : List (List (K × X))) (C D i longest : ℕ) (S T : List (Held K X)) (h : Held K X) → IsGrown C D → IsOldRows number R C → i < C → h.pairs ≡ []
-      → CanMoveOn number R C D i longest S → IsPlaced number (set S i h) (get_or R i []) T → CanMoveOn number R C D (i + 1) longest T
-  CanMoveOn-next R C D i longest S T h grown is lti none before placed =
-      let here : IsGrown C (length S) = subst (λ d. IsGrown C d) (sym before.midway.len) grown in
-      let more = grown-more C D grown in
-      record {
-        midway = IsMidway-next number C D grown R is i lti S before.midway h none T placed more;
-        leave = λ k le ltk.
-            let r : k < length R = omega (arith, ltk, is.len) in
-            let ownk : All (λ p. slot_number number p.0 C ≡ k) (get_or (rows S) k []) =
-            subst (λ (row : List (K × X)). All (λ p. slot_number number p.0 C ≡ k) row) (sym (before.midway.old k (omega (arith, le)) r)) (is.own k ltk) in
-            CanLeave-kept number S T h (get_or R i []) C i k here lti ltk (λ q. absurd (omega (arith, q, le))) (is.own i lti) ownk placed (omega (arith, ltk, more, before.midway.len)) (before.leave k (omega (arith, le)) ltk);
-        short = before.short;
-      }
+  -- one without pairs can
+  pub CanLeave-none : (r : List ℕ) (L : List (K × X)) (C D k : ℕ) → L ≡ [] → CanLeave number r L C D k
+  CanLeave-none r L C D k none = record {
+    fits = (let n = ap length none in omega (arith, n));
+    x = 0;
+    room = λ j _ _. inl (let most = need-most L D j in let n = ap length none in omega (arith, most, n));
+  }
 
-  -- past a slot without pairs
-  pub CanMoveOn-past : (R : List (List (K × X))) (C D i longest : ℕ) (S : List (Held K X)) → IsGrown C D → IsOldRows number R C → i < C → get_or R i [] ≡ []
-      → CanMoveOn number R C D i longest S → CanMoveOn number R C D (i + 1) longest S
-  CanMoveOn-past R C D i longest S grown is lti none before = record {
-    midway = IsMidway-past number C D grown R is i lti S before.midway none;
-    leave = λ k le ltk. before.leave k (omega (arith, le)) ltk;
-    short = before.short;
+  -- the room of each slot once the block of slot k is taken away
+  pub room-emptied : (S : List (Held K X)) (k j : ℕ) → k < length S → get_or (rooms (set S k bare_slot)) j 0 ≡ room_without (rooms S) k j
+  room-emptied S k j within =
+      let w : k < length (rooms S) = (let l = length-map S (λ (h : Held K X). h.room) in omega (arith, within, l)) in
+      ap (λ r. get_or r j 0) (map-set (λ (h : Held K X). h.room) S k bare_slot) ∙ elim (cases_eq j k) as (λ _. get_or (set (rooms S) k 1) j 0 ≡ room_without (rooms S) k j) [
+        | inl q ↦ get_or-set_at (rooms S) k j 1 0 q w ∙ sym (ap (λ b. cond b 1 (get_or (rooms S) j 0)) (eq-eqb j k q))
+        | inr apart ↦ get_or-set_other (rooms S) k j 1 0 apart ∙ sym (ap (λ b. cond b 1 (get_or (rooms S) j 0)) (ne_eqb j k apart))
+      ]
+
+  -- if its parts hold no pair, its pairs have room there, with the help of its block
+  pub HasRoom-leave : (S : List (Held K X)) (L : List (K × X)) (C k : ℕ) → IsGrown C (length S) → k < length S → All (λ p. slot_number number p.0 C ≡ k) L
+      → ((j : ℕ) → j < length S → j % C ≡ k → get_or (rows (set S k bare_slot)) j [] ≡ []) → (can : CanLeave number (rooms S) L C (length S) k)
+      → HasRoom number (set S k bare_slot) L (get_or (rooms S) k 0 - 1) can.x
+  HasRoom-leave S L C k grown within own free can = record {
+    room = rw (length-set S k bare_slot) (λ j lt some.
+        let part = part-of number C (length S) grown L k j own some in
+        let none = ap length (free j lt part) in let most = need-most L (length S) j in let fits = can.fits in let room = room-emptied S k j within in
+        elim (can.room j lt part) [
+          | inl has ↦ inl (omega (arith, none, has, room))
+          | inr bare ↦ inr (bare.0, room ∙ bare.1, omega (arith, none, most, fits))
+        ]);
   }
 
   -- a list of one pair gives a slot at most one
@@ -321,74 +226,52 @@ module _ {K X : Type 0} (number : K → ℕ) where
   few_need_one (p ∷ q ∷ r ∷ []) D few = three p q r D
   few_need_one (p ∷ q ∷ r ∷ s ∷ L) D few = absurd (omega (arith, few))
 
-  -- the slot that pairs of old slot i go to is one of its parts
-  pub part-of : (L : List (K × X)) (C a i j : ℕ) → IsCapacity C → All (λ p. slot_number number p.0 C ≡ i) L → 0 < length (slot_of number L (C * 2 ^ a) j) → (t : ℕ) × (t < 2 ^ a) × (j ≡ t * C + i)
-  part-of [] C a i j old own some = absurd (omega (arith, some))
-  part-of (p ∷ L) C a i j old own some = elim (cases_eq (slot_number number p.0 (C * 2 ^ a)) j) [
-    | inl q ↦ (let split = slot_number-parts number C a p.0 old in
-        let here : slot_number number p.0 C ≡ i = All-head (λ p. slot_number number p.0 C ≡ i) p L own in
-        (split.0, split.1, sym q ∙ split.2 ∙ ap (λ n. split.0 * C + n) here))
-    | inr apart ↦ (let same = ap length (slot_of-not_first number p L (C * 2 ^ a) j apart) in
-        part-of L C a i j old (All-tail (λ p. slot_number number p.0 C ≡ i) p L own) (omega (arith, same, some)))
-  ]
-
-  -- the same by the parts of old slot i, of which part t is slot t C + i
-  pub HasRoom-parts : (S : List (Held K X)) (L : List (K × X)) (C a i block x : ℕ) → IsCapacity C → length S ≡ C * 2 ^ a
-      → All (λ p. slot_number number p.0 C ≡ i) L → length L ≤ 1 + block
-      → ((t : ℕ) → t < 2 ^ a → get_or (rows S) (t * C + i) [] ≡ [])
-      → ((t : ℕ) → t < 2 ^ a → (need number L (length S) (t * C + i) ≤ get_or (rooms S) (t * C + i) 0) ⊎ ((t ≡ x) × (get_or (rooms S) (t * C + i) 0 ≡ 1)))
-      → HasRoom number S L block (x * C + i)
-  HasRoom-parts S L C a i block x old len own few empty ready =
-      let parts : (j : ℕ) → 0 < length (slot_of number L (length S) j) → (t : ℕ) × (t < 2 ^ a) × (j ≡ t * C + i) =
-      λ j some. part-of L C a i j old own (subst (λ d. 0 < length (slot_of number L d j)) len some) in
-      let Q : ℕ → Type 0 = λ j. (need number L (length S) j ≤ get_or (rooms S) j 0) ⊎ ((j ≡ x * C + i) × (get_or (rooms S) j 0 ≡ 1)) in
-      HasRoom-ready S L block (x * C + i) few
-      (λ j lt some. let t = parts j some in subst (λ n. get_or (rows S) n [] ≡ []) (sym t.2) (empty t.0 t.1))
-      (λ j lt some. let t = parts j some in subst Q (sym t.2) (elim (ready t.0 t.1) as (λ _. Q (t.0 * C + i)) [
-        | inl has ↦ inl has
-        | inr bare ↦ inr (ap (λ n. n * C + i) bare.0, bare.1)
-      ]))
-
-module _ {K X : Type 0} (number : K → ℕ) (S : List (Held K X)) (C k : ℕ) (grown : IsGrown C (length S)) (ltk : k < C) (ownk : All (λ p. slot_number number p.0 C ≡ k) (get_or (rows S) k []))
-    (few : length (get_or (rows S) k []) ≤ 3) (fits : length (get_or (rows S) k []) ≤ get_or (rooms S) k 0)
-    (bare : (j : ℕ) → j < length S → j % C ≡ k → j ≢ k → (get_or (rows S) j [] ≡ []) × (get_or (rooms S) j 0 ≡ 1)) where
-  abbrev Rk : List (K × X)
-  Rk = get_or (rows S) k []
-
-  is-part : (j : ℕ) → 0 < length (slot_of number Rk (length S) j) → j % C ≡ k
-  is-part j some = elim (cases_eq (j % C) k) as (λ _. j % C ≡ k) [
-    | inl q ↦ q
-    | inr other ↦ (let none = ap length (slot_of-apart number C (length S) grown Rk j
-        (All-weaker (λ p. slot_number number p.0 C ≡ k) (λ p. slot_number number p.0 C ≢ j % C) (λ p e q. other (sym q ∙ e)) Rk ownk)) in
-        absurd (omega (arith, none, some)))
-  ]
-
-  bare-row : (j : ℕ) → j < length S → j % C ≡ k → get_or (set (rows S) k []) j [] ≡ []
-  bare-row j lt is = elim (cases_eq j k) as (λ _. get_or (set (rows S) k []) j [] ≡ []) [
-    | inl q ↦ (let w : k < length (rows S) = (let l = length-rows S in omega (arith, lt, q, l)) in rw q (get_or-set_same (rows S) k [] [] w))
-    | inr other ↦ get_or-set_other (rows S) k j [] [] other ∙ (bare j lt is other).0
-  ]
-
-  bare-room : (j : ℕ) → j < length S → j % C ≡ k → get_or (set (rooms S) k 1) j 0 ≡ 1
-  bare-room j lt is = elim (cases_eq j k) as (λ _. get_or (set (rooms S) k 1) j 0 ≡ 1) [
-    | inl q ↦ (let w : k < length (rooms S) = (let l = length-map S (λ (h : Held K X). h.room) in omega (arith, lt, q, l)) in rw q (get_or-set_same (rooms S) k 1 0 w))
-    | inr other ↦ get_or-set_other (rooms S) k j 1 0 other ∙ (bare j lt is other).1
-  ]
-
   -- an old slot of up to three pairs can be left without any reservation
-  pub CanLeave-short : CanLeave number S k
-  CanLeave-short =
-      let one = few_need_one number Rk (length S) few in
-      let x : ℕ = one.0 in
-      let most : length Rk ≤ 1 + (get_or (rooms S) k 0 - 1) = omega (arith, fits) in
-      let len : length (set S k bare_slot) ≡ length S = length-set S k bare_slot in (
-        x,
-        HasRoom-ready number (set S k bare_slot) Rk (get_or (rooms S) k 0 - 1) x most
-            (rw (len, map-set (λ (h : Held K X). h.pairs) S k bare_slot) (λ j lt some. bare-row j lt (is-part j some)))
-            (rw (len, map-set (λ (h : Held K X). h.room) S k bare_slot) (λ j lt some.
-            let room = bare-room j lt (is-part j some) in
-            elim (cases_eq j x) as (λ _. (length (slot_of number Rk (length S) j) ≤ get_or (set (rooms S) k 1) j 0) ⊎ ((j ≡ x) × (get_or (set (rooms S) k 1) j 0 ≡ 1))) [
+  pub CanLeave-short : (r : List ℕ) (L : List (K × X)) (C D k : ℕ) → length L ≤ 3 → length L ≤ get_or r k 0 → ((j : ℕ) → j < D → j % C ≡ k → j ≢ k → get_or r j 0 ≡ 1) → CanLeave number r L C D k
+  CanLeave-short r L C D k few fits bare =
+      let one = few_need_one L D few in
+      record {
+        fits = fits;
+        x = one.0;
+        room = λ j lt part.
+            let room : room_without r k j ≡ 1 = elim (cases_eq j k) as (λ _. room_without r k j ≡ 1) [
+              | inl q ↦ ap (λ b. cond b 1 (get_or r j 0)) (eq-eqb j k q)
+              | inr apart ↦ ap (λ b. cond b 1 (get_or r j 0)) (ne_eqb j k apart) ∙ bare j lt part apart
+            ] in
+            elim (cases_eq j one.0) as (λ _. (need number L D j ≤ room_without r k j) ⊎ ((j ≡ one.0) × (room_without r k j ≡ 1))) [
               | inl q ↦ inr (q, room)
-              | inr other ↦ (let le = one.1 j other in inl (omega (arith, le, room)))
-            ])),
-      )
+              | inr other ↦ inl (let le = one.1 j other in omega (arith, le, room))
+            ];
+      }
+
+  -- pairs of old slot k go to part t exactly if they go to slot t C + k
+  in_part-need : (L : List (K × X)) (C D k t : ℕ) → IsGrown C D → k < C → All (λ p. slot_number number p.0 C ≡ k) L → in_part number L C D t ≡ need number L D (t * C + k)
+  in_part-need [] C D k t grown below own = refl
+  in_part-need (p ∷ L) C D k t grown below own =
+      let n : ℕ = slot_number number p.0 D in
+      let is : n ≡ n / C * C + k = sym (div-add-mod' n C) ∙ ap (λ m. n / C * C + m) (slot_number-grown number C D p.0 grown ∙ All-head (λ p. slot_number number p.0 C ≡ k) p L own) in
+      let rest = in_part-need L C D k t grown below (All-tail (λ p. slot_number number p.0 C ≡ k) p L own) in
+      let first = sum_by-cons (λ (q : K × X). cond (slot_number number q.0 D / C == t) 1 0) p L in
+      elim (cases_eq (n / C) t) as (λ _. in_part number (p ∷ L) C D t ≡ need number (p ∷ L) D (t * C + k)) [
+        | inl q ↦ (let one = length-first number p L D (t * C + k) (is ∙ ap (λ m. m * C + k) q) in let here = ap {B = ℕ} (λ b. cond b 1 0) (eq-eqb (n / C) t q) in omega (arith, first, rest, one, here))
+        | inr apart ↦
+            (let none = ap length (slot_of-not_first number p L D (t * C + k) (λ e. apart (ap (λ m. m / C) e ∙ div-mul-add t C k below))) in
+            let here = ap {B = ℕ} (λ b. cond b 1 0) (ne_eqb (n / C) t apart) in omega (arith, first, rest, none, here))
+      ]
+
+  -- one with room in its parts for the pairs that are counted for them
+  pub CanLeave-parts : (S : List (Held K X)) (L : List (K × X)) (C D k x : ℕ) (counts : List ℕ) → IsGrown C D → k < C → D ≡ length counts * C → All (λ p. slot_number number p.0 C ≡ k) L
+      → length L ≤ get_or (rooms S) k 0 → ((t : ℕ) → t < length counts → get_or counts t 0 ≡ in_part number L C (length counts * C) t) → HasParts S C k counts x → CanLeave number (rooms S) L C D k
+  CanLeave-parts S L C D k x counts grown below all own fits counted parts = record {
+    fits = fits;
+    x = x * C + k;
+    room = λ j lt part.
+        let is : j / C * C + k ≡ j = ap (λ n. j / C * C + n) (sym part) ∙ div-add-mod' j C in
+        let w : j / C < length counts = div_below j C (length counts) (omega (arith, below)) (omega (arith, lt, all)) in
+        let e : get_or counts (j / C) 0 ≡ need number L D j = counted (j / C) w ∙ ap (λ d. in_part number L C d (j / C)) (sym all) ∙ in_part-need L C D k (j / C) grown below own ∙ ap (need number L D) is in
+        let room : part_room (rooms S) C k (j / C) ≡ room_without (rooms S) k j = ap (room_without (rooms S) k) is in
+        elim (parts.room (j / C) w) [
+          | inl has ↦ inl (omega (arith, has, e, room))
+          | inr bare ↦ inr (sym is ∙ ap (λ n. n * C + k) bare.0, sym room ∙ bare.1)
+        ];
+  }

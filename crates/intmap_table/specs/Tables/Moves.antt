@@ -1,13 +1,22 @@
 -- Growth of a table within its own vector of slots: the first slots are the old ones. No public clause cites this module.
-use Rattle.std.specs.Prelude.{◌≡◌, ◌≢◌, ◌⊎◌, ◌||◌, ℕ, ◌+◌, ◌-◌, ◌*◌, ◌^◌, ◌<◌, ◌≤◌, nat_lt, Bool, false, All, List, [], ◌∷◌, ◌++◌, length, map, get_or, set, take}
+use Rattle.std.specs.Prelude.{◌≡◌, ◌≢◌, ◌⊎◌, ◌||◌, ◌==◌, ℕ, ◌+◌, ◌-◌, ◌*◌, ◌/◌, ◌%◌, ◌^◌, ◌<◌, ◌≤◌, nat_lt, Bool, true, false, cond, All, List, [], ◌∷◌, ◌++◌, length, map, get_or, set, take, count_by}
+use Rattle.std.specs.List.{list_any}
 use Rattle.intmap_table.specs.Classes.{IsCapacity, slot_number}
 use Rattle.intmap_table.specs.Walk.{slot_of}
 use Rattle.intmap_table.specs.Tables.Bits.{marked}
-use Rattle.intmap_table.specs.Tables.Slots.{Held, rows, joined, AreMarked}
+use Rattle.intmap_table.specs.Tables.Slots.{Held, rows, AreMarked}
 
 -- how many pairs each slot has room for
 abbrev pub rooms : {K X : Type 0} → List (Held K X) → List ℕ
 rooms slots = map (λ h. h.room) slots
+
+-- the room of slot j once the block of slot k is taken away
+abbrev pub room_without : List ℕ → ℕ → ℕ → ℕ
+room_without r k j = cond (j == k) 1 (get_or r j 0)
+
+-- the same of part t of old slot i of C
+abbrev pub part_room : List ℕ → ℕ → ℕ → ℕ → ℕ
+part_room r C i t = room_without r i (t * C + i)
 
 -- D slots in place of C, and no fewer
 pub record IsGrown (C D : ℕ) : Type 0 where
@@ -31,11 +40,11 @@ module _ {K X : Type 0} (number : K → ℕ) where
     pub own : IsOldRows (take C (rows S)) C
     pub marked : AreMarked (take C (rows S)) marks
 
-  -- the rows before index i are moved into D slots: those from i on are where they were, and all other slots have the pairs that were moved
-  pub record IsMidway (R : List (List (K × X))) (D i : ℕ) (S : List (Held K X)) : Type 0 where
+  -- D slots, of which slot j is a part of old slot j modulo C: the old slots that are left have their rows, and their other parts no pair; each part of all others has the pairs that go there
+  pub record IsMidway (R : List (List (K × X))) (C D : ℕ) (left : List ℕ) (S : List (Held K X)) : Type 0 where
     pub len : length S ≡ D
-    pub old : (j : ℕ) → i ≤ j → j < length R → get_or (rows S) j [] ≡ get_or R j []
-    pub moved : (j : ℕ) → j < D → (j < i) ⊎ (length R ≤ j) → get_or (rows S) j [] ≡ slot_of number (joined (take i R)) D j
+    pub old : (j : ℕ) → j < D → list_any (λ k. k == j % C) left ≡ true → get_or (rows S) j [] ≡ get_or R j []
+    pub moved : (j : ℕ) → j < D → list_any (λ k. k == j % C) left ≡ false → get_or (rows S) j [] ≡ slot_of number (get_or R (j % C) []) D j
 
   -- the pairs are at the ends of their slots, in their order, and each slot that got none has the room that it had
   pub record IsPlaced (S : List (Held K X)) (L : List (K × X)) (T : List (Held K X)) : Type 0 where
@@ -47,20 +56,26 @@ module _ {K X : Type 0} (number : K → ℕ) where
   abbrev pub need : List (K × X) → ℕ → ℕ → ℕ
   need L D j = length (slot_of number L D j)
 
+  -- how many of the pairs go to part t, where a part has C of D slots
+  abbrev pub in_part : List (K × X) → ℕ → ℕ → ℕ → ℕ
+  in_part L C D t = count_by (λ p. slot_number number p.0 D / C == t) L
+
   -- each slot that gets a pair has room for all that it gets, except slot x, which may have no block: the current block, whose room is given, is large enough for it
   pub record HasRoom (S : List (Held K X)) (L : List (K × X)) (block x : ℕ) : Type 0 where
     pub room : (j : ℕ) → j < length S → 0 < need L (length S) j
         → (length (get_or (rows S) j []) + need L (length S) j ≤ get_or (rooms S) j 0)
         ⊎ ((j ≡ x) × (get_or (rooms S) j 0 ≡ 1) × (length (get_or (rows S) j []) + need L (length S) j ≤ 1 + block))
 
-  -- once its pairs and its block are removed, slot k has room for them elsewhere, with the help of that block
-  abbrev pub CanLeave : List (Held K X) → ℕ → Type 0
-  CanLeave S k = (x : ℕ) × HasRoom (set S k bare_slot) (get_or (rows S) k []) (get_or (rooms S) k 0 - 1) x
+  -- with these rooms, the pairs of old slot k can leave it: each of its parts has room for all that it gets, except part x, which may have no block and takes that of the old slot
+  pub record CanLeave (r : List ℕ) (L : List (K × X)) (C D k : ℕ) : Type 0 where
+    pub fits : length L ≤ get_or r k 0
+    pub x : ℕ
+    pub room : (j : ℕ) → j < D → j % C ≡ k → (need L D j ≤ room_without r k j) ⊎ ((j ≡ x) × (room_without r k j ≡ 1))
 
-  -- the rows before index i are moved, and each old slot from i on can be left, and has at most `longest` pairs behind its first
-  pub record CanMoveOn (R : List (List (K × X))) (C D i longest : ℕ) (S : List (Held K X)) : Type 0 where
-    pub midway : IsMidway R D i S
-    pub leave : (k : ℕ) → i ≤ k → k < C → CanLeave S k
+  -- these old slots are left; each of them can be left, and none has more than `longest` pairs behind its first
+  pub record CanMoveOn (R : List (List (K × X))) (C D : ℕ) (left : List ℕ) (longest : ℕ) (S : List (Held K X)) : Type 0 where
+    pub midway : IsMidway R C D left S
+    pub leave : (k : ℕ) → k < C → list_any (λ i. i == k) left ≡ true → CanLeave (rooms S) (get_or R k []) C D k
     pub short : (k : ℕ) → k < C → length (get_or R k []) ≤ 1 + longest
 
   -- the marks of slots of D that get one of these pairs are set, and no other is changed
@@ -83,7 +98,7 @@ module _ {K X : Type 0} (number : K → ℕ) where
     pub words : length S ≤ length marks
     pub within : k < length S
     pub enough : length (get_or (rows S) k []) ≤ 1 + buffer
-    pub leave : CanLeave S k
+    pub leave : (x : ℕ) × HasRoom (set S k bare_slot) (get_or (rows S) k []) (get_or (rooms S) k 0 - 1) x
     pub free : AreFree (set S k bare_slot) (get_or (rows S) k []) marks
 
 module _ {K X : Type 0} where
@@ -96,6 +111,6 @@ module _ {K X : Type 0} where
     pub how : (((length (get_or (rows S) j []) ≡ 0) ⊎ (get_or (rooms S) j 0 ≢ 1)) × (get_or (rooms T) j 0 ≡ get_or (rooms S) j 0) × (left ≡ block))
         ⊎ ((0 < length (get_or (rows S) j [])) × (get_or (rooms S) j 0 ≡ 1) × (get_or (rooms T) j 0 ≡ 1 + block))
 
-  -- each part of an old slot, slot t C + i for part t, has room for the pairs that are counted for it; part x may have no block
+  -- each part of an old slot, slot t C + i for part t, has room for the pairs that are counted for it once the block of the old slot is taken away; part x may have no block
   pub record HasParts (S : List (Held K X)) (C i : ℕ) (counts : List ℕ) (x : ℕ) : Type 0 where
-    pub room : (t : ℕ) → t < length counts → (get_or counts t 0 ≤ get_or (rooms S) (t * C + i) 0) ⊎ ((t ≡ x) × (get_or (rooms S) (t * C + i) 0 ≡ 1))
+    pub room : (t : ℕ) → t < length counts → (get_or counts t 0 ≤ part_room (rooms S) C i t) ⊎ ((t ≡ x) × (part_room (rooms S) C i t ≡ 1))

@@ -1,11 +1,12 @@
 //! Growth in one jump, in the table's own slots. All memory is allocated before the first pair moves.
-ghost use Rattle.std.specs.Prelude.{◌≡◌, ◌+◌, ◌-◌, ◌*◌, ◌/◌, ◌^◌, ◌<◌, ◌≤◌, ℕ, [], ◌∷◌, ◌++◌, length, get_or, set, take, replicate, false, All, OnOk, OnErr, IfOk, IfErr, IsOk, None, Some, vec_capacity};
+ghost use Rattle.std.specs.Prelude.{◌≡◌, ◌+◌, ◌-◌, ◌*◌, ◌/◌, ◌%◌, ◌^◌, ◌<◌, ◌≤◌, ◌==◌, ℕ, cond, [], ◌∷◌, ◌++◌, length, get_or, take, replicate, false, OnOk, OnErr, IfOk, IfErr, IsOk, None, Some, vec_capacity};
 ghost use Rattle.intmap_table.specs.Classes.{IsCapacity, slot_number};
 ghost use Rattle.intmap_table.specs.Bindings.{value_of, put_pair, take_key};
+ghost use Rattle.intmap_table.specs.Tables.Bits.{marked_indices};
 ghost use Rattle.intmap_table.specs.Tables.Slots.{rows, joined, IsMaskedTable};
 ghost use Rattle.intmap_table.specs.Walk.{slot_of, walk_of};
 ghost use Rattle.intmap_table.specs.Locations.{IsAt};
-ghost use Rattle.intmap_table.specs.Tables.Moves.{rooms, IsGrown, IsLonger, HasParts, CanMoveOn, bare_slot, need};
+ghost use Rattle.intmap_table.specs.Tables.Moves.{rooms, IsGrown, IsLonger, HasParts, CanMoveOn, bare_slot, in_part};
 
 use crate::bits::Bits;
 use crate::key::IntKey;
@@ -25,28 +26,22 @@ fn count_key<K: IntKey>(counts: &mut [usize], key: &K, old: usize)
     requires all { IsCapacity (length counts.old * old) }
     requires fits { (t : ℕ) → t < length counts.old → get_or counts.old t 0 + 1 < 2 ^ 64 }
     ensures len { length counts.new ≡ length counts.old }
-    ensures here { (t : ℕ) → t < length counts.old
-        → slot_number K.number_of key.now (length counts.old * old) / old ≡ t
-        → get_or counts.new t 0 ≡ get_or counts.old t 0 + 1 }
-    ensures others { (t : ℕ) → t < length counts.old
-        → (slot_number K.number_of key.now (length counts.old * old) / old ≡ t → ⊥)
-        → get_or counts.new t 0 ≡ get_or counts.old t 0 }
+    ensures counts { (t : ℕ) → t < length counts.old → get_or counts.new t 0 ≡ get_or counts.old t 0
+        + cond (slot_number K.number_of key.now (length counts.old * old) / old == t) 1 0 }
 {
     let part = index_of(key, counts.len() * old) / old;
     counts[part] += 1;
 }
 
-/// Adds to the count of each part, which has `old` slots, the number of these pairs of one old slot
-/// that go there.
+/// Adds to the count of each part, which has `old` slots, the number of these pairs that go there.
 fn count_each<K: IntKey, X>(counts: &mut [usize], pairs: &[(Stored<K>, X)], old: usize)
     requires old { IsCapacity old }
     requires all { IsCapacity (length counts.old * old) }
     requires fits { (t : ℕ) → t < length counts.old
         → get_or counts.old t 0 + length pairs.now < 2 ^ 64 }
     ensures len { length counts.new ≡ length counts.old }
-    ensures counts { (i t : ℕ) → i < old → t < length counts.old
-        → All (λ p. slot_number K.number_of p.0 old ≡ i) pairs.now → get_or counts.new t 0
-        ≡ get_or counts.old t 0 + need K.number_of pairs.now (length counts.old * old) (t * old + i) }
+    ensures counts { (t : ℕ) → t < length counts.old → get_or counts.new t 0
+        ≡ get_or counts.old t 0 + in_part K.number_of pairs.now old (length counts.old * old) t }
 {
     for pair in pairs {
         count_key(counts, pair.0.key(), old);
@@ -59,9 +54,8 @@ fn count_parts<K: IntKey, X, A: Allocator>(counts: &mut [usize], slot: &Slot<K, 
     requires all { IsCapacity (length counts.old * old) }
     requires fits { length slot.now.pairs < 2 ^ 64 }
     ensures len { length counts.new ≡ length counts.old }
-    ensures counts { (i t : ℕ) → i < old → t < length counts.old
-        → All (λ p. slot_number K.number_of p.0 old ≡ i) slot.now.pairs
-        → get_or counts.new t 0 ≡ need K.number_of slot.now.pairs (length counts.old * old) (t * old + i) }
+    ensures counts { (t : ℕ) → t < length counts.old → get_or counts.new t 0
+        ≡ in_part K.number_of slot.now.pairs old (length counts.old * old) t }
 {
     counts.fill(0);
     let (first, rest) = slot.parts();
@@ -85,10 +79,10 @@ fn reserve_room<K: IntKey, X: Drop, A: Allocator>(
         → get_or (rooms slots.old) (t * old + index) 0 ≡ 1 }
     ensures rows { rows slots.new ≡ rows slots.old }
     ensures own { get_or (rooms slots.new) index 0 ≡ get_or (rooms slots.old) index 0 }
-    ensures others { (j i t : ℕ) → i < old → (i ≡ index → ⊥) → j ≡ t * old + i
+    ensures others { (j : ℕ) → (j % old ≡ index → ⊥)
         → get_or (rooms slots.new) j 0 ≡ get_or (rooms slots.old) j 0 }
     ensures room { OnOk result ((x : ℕ)
-        × HasParts (set slots.new index bare_slot) old index counts.now x) }
+        × HasParts slots.new old index counts.now x) }
 {
     let mut spared = false;
     for part in 0..counts.len() {
@@ -120,8 +114,8 @@ fn reserve_rooms<K: IntKey, X: Drop, A: Allocator + Copy>(
     ensures rows { rows slots.new ≡ rows slots.old }
     ensures buffer { IfOk result (λ buffer. buffer.items ≡ []) }
     ensures ready { IfOk result (λ buffer. CanMoveOn K.number_of
-        (take (old.now.mask + 1) (rows slots.old)) (old.now.mask + 1) (length slots.old) 0
-        (vec_capacity buffer) slots.new) }
+        (take (old.now.mask + 1) (rows slots.old)) (old.now.mask + 1) (length slots.old)
+        (marked_indices old.now.bits) (vec_capacity buffer) slots.new) }
 {
     let mut longest = 0;
     for index in old.bits.iter() {
@@ -195,7 +189,8 @@ fn make_room<K: IntKey, X: Drop, A: Allocator + Copy>(
     ensures len { OnOk result (length slots.new.items ≡ capacity) }
     ensures buffer { IfOk result (λ buffer. buffer.items ≡ []) }
     ensures ready { IfOk result (λ buffer. CanMoveOn K.number_of (rows slots.old.items)
-        (length slots.old.items) capacity 0 (vec_capacity buffer) slots.new.items) }
+        (length slots.old.items) capacity (marked_indices old.now.bits) (vec_capacity buffer)
+        slots.new.items) }
 {
     let alloc = *slots.allocator();
     let len = slots.len();

@@ -1,6 +1,7 @@
 //! How pairs get to their slots in a table that has grown.
 ghost use Rattle.std.specs.Prelude.{◌≡◌, ◌+◌, ◌*◌, ◌/◌, ◌<◌, ◌≤◌, [], ◌∷◌, length, get_or, set, slice_set, take, reverse, replicate, true, false, vec_capacity, ℕ};
 ghost use Rattle.intmap_table.specs.Classes.{IsCapacity, slot_number};
+ghost use Rattle.intmap_table.specs.Tables.Bits.{marked_indices};
 ghost use Rattle.intmap_table.specs.Tables.Slots.{Held, rows, joined, AreMarked};
 ghost use Rattle.intmap_table.specs.Tables.Moves.{IsLonger, IsMidway, IsPlaced, IsPut, HasRoom, CanMove, CanMoveOn, AreSet, AreTold, AreFree, bare_slot};
 
@@ -142,9 +143,10 @@ pub(super) fn move_all<K: IntKey, X: Drop, A: Allocator + Copy>(
     requires unmarked { bits.old ≡ replicate (64 * ((length slots.old + 63) / 64)) false }
     requires buffer { buffer.old.items ≡ [] }
     requires ready { CanMoveOn K.number_of (take (old.now.mask + 1) (rows slots.old))
-        (old.now.mask + 1) (length slots.old) 0 (vec_capacity buffer.old) slots.old }
+        (old.now.mask + 1) (length slots.old) (marked_indices old.now.bits)
+        (vec_capacity buffer.old) slots.old }
     ensures moved { IsMidway K.number_of (take (old.now.mask + 1) (rows slots.old))
-        (length slots.old) (old.now.mask + 1) slots.new }
+        (old.now.mask + 1) (length slots.old) [] slots.new }
     ensures marks { AreMarked (rows slots.new) bits.new }
     ensures placed { placed.new
         ≡ placed.old + length (joined (take (old.now.mask + 1) (rows slots.old))) }

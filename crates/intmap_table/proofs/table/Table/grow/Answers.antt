@@ -57,7 +57,7 @@ move_all-requires-clause-longer g c =
 pub move_all-requires-clause-ready : goal.move_all-requires-clause-ready
 move_all-requires-clause-ready g c =
     let at = goal.at.move_all-requires-clause-ready g c in
-    rw (CanMoveOn-longer (longer g at.After-deref_mut (grown g at.After-self)) _ _, c.deref_mut.ensures.value) (rw c.in_ok-bits.ensures.slots at c.in_ok-buffer.ensures.ready)
+    rw (CanMoveOn-longer (longer g at.After-deref_mut (grown g at.After-self)) _ _ _, c.deref_mut.ensures.value) (rw c.in_ok-bits.ensures.slots at c.in_ok-buffer.ensures.ready)
 
 -- the table's slots are those that pairs were moved in
 written : (g : _) (c : After-move_all g) → (with_items c.make_room.new.slots c.move_all.new.slots).items ≡ c.move_all.new.slots

@@ -1,10 +1,29 @@
 use Rattle.std.proofs.Common.{◌≡◌, ◌+◌, ◌∷◌, [], ◌<◌, get_or, length, drop, sym, ap, ◌∙◌, refl, subst, arith}
 use Rattle.intmap_table.specs.Tables.Slots.{Grid, rows, joined}
-use Rattle.intmap_table.proofs.Tables.ExtractSlotsLemmas.{IsInRows-reached, IsReached-at, IsInRows-next, drop-none, row-at, row-few}
-use Rattle.intmap_table.proofs.Tables.IndicesLemmas.{IsNextMark-first, unmarked-behind}
+use Rattle.intmap_table.proofs.Tables.ExtractSlotsLemmas.{IsInRows, IsInRows-reached, IsReached-at, IsInRows-next, drop-none, row-at, row-few}
+use Rattle.intmap_table.proofs.Tables.IndicesLemmas.{IsNextMark, IsNextMark-first, unmarked-behind}
 use Rattle.intmap_table.proofs.Tables.RetainSlotsLemmas.{next-within}
 use Rattle.intmap_table.proofs.Tables.CursorLemmas.{IsInRows-on, IsInRows-past, drop-on}
 use Rattle.intmap_table.proofs.table.Table.step.Goals as goal
+use Rattle.intmap_table.proofs.table.Table.step.Goals.{In-Some, After-slot_at-row}
+
+module _ (g : _) (c : In-Some g) where
+  -- the slot at hand is the next one that holds a pair
+  next : IsNextMark c.self.inside.directory.bits c.loop-slot.at.slot c.in-Some.slot
+  next = IsNextMark-first c.self.inside.directory.bits c.loop-slot.at.slot c.in-Some.slot c.next.new.self (sym c.iter_from.ensures ∙ c.in-Some.ensures.steps)
+
+  below : c.in-Some.slot < length c.self.inside.slots.items
+  below = next-within c.self.inside.slots.items c.self.inside.directory.bits c.self.invariant.marked.marks c.loop-slot.at.slot c.in-Some.slot next
+
+  -- the cursor is at a place of it
+  here : IsInRows (rows c.self.inside.slots.items) c.in-Some.slot c.loop-slot.at.place c.loop-slot.at.passed
+  here = IsInRows-next c.self.inside.slots.items c.self.inside.directory.bits c.self.invariant.marked.marks c.loop-slot.at.slot c.loop-slot.at.place c.loop-slot.at.passed c.loop-slot.invariant.at c.in-Some.slot next
+
+-- its pairs are those of the row
+row : (g : _) (c : After-slot_at-row g) → c.in-Some.slot < length c.self.inside.slots.items → c.slot_at-row.result.now.pairs ≡ get_or (rows c.self.inside.slots.items) c.in-Some.slot []
+row g c under =
+    let held = c.slot_at-row.result.now in
+    row-at c.self.inside.slots.items c.in-Some.slot held under (subst (λ L. held ≡ get_or L c.in-Some.slot held) c.deref.ensures.value c.slot_at-row.ensures)
 
 pub loop-slot-init : goal.loop-slot-init
 loop-slot-init g c = record {
@@ -13,85 +32,48 @@ loop-slot-init g c = record {
 }
 
 pub slot_at-row-requires : goal.slot_at-row-requires
-slot_at-row-requires g c =
-    let S = c.self.inside.slots.items in let marks = c.self.inside.directory.bits in let marked = c.self.invariant.marked in let from = c.loop-slot.at.slot in let i = c.in-Some.slot in let j = c.loop-slot.at.place in let n = c.loop-slot.at.passed in
-    let next = IsNextMark-first marks from i c.next.new.self (sym c.iter_from.ensures ∙ c.in-Some.ensures.steps) in
-    let below = next-within S marks marked.marks from i next in
-    let at = IsInRows-next S marks marked.marks from j n c.loop-slot.invariant.at i next in
-    rw c.deref.ensures.value below
+slot_at-row-requires g c = rw c.deref.ensures.value (below g (goal.at.slot_at-row-requires g c).In-Some)
 
 pub len-requires : goal.len-requires
 len-requires g c =
-    let S = c.self.inside.slots.items in let marks = c.self.inside.directory.bits in let marked = c.self.invariant.marked in let from = c.loop-slot.at.slot in let i = c.in-Some.slot in let j = c.loop-slot.at.place in let n = c.loop-slot.at.passed in
-    let next = IsNextMark-first marks from i c.next.new.self (sym c.iter_from.ensures ∙ c.in-Some.ensures.steps) in
-    let below = next-within S marks marked.marks from i next in
-    let at = IsInRows-next S marks marked.marks from j n c.loop-slot.invariant.at i next in
-    let held = c.slot_at-row.result.now in let is = subst (λ L. held ≡ get_or L i held) c.deref.ensures.value c.slot_at-row.ensures in let row = row-at S i held below is in
-    let len = ap length row in
-    let few = row-few (rows S) i j n at in let all = ap (λ (t : Grid _ _). length t.walk) c.self.view_is in omega (arith, len, few, all, at.within, at.count, c.requires.count)
+    let w = goal.at.len-requires g c in let at = here g w.In-Some in let len = ap length (row g w.After-slot_at-row (below g w.In-Some)) in
+    let few = row-few _ _ _ _ at in let all = ap (λ (t : Grid _ _). length t.walk) c.self.view_is in omega (arith, len, few, all, at.within, at.count, c.requires.count)
 
 pub overflow_add-at-then-place-len : goal.overflow_add-at-then-place-len
 overflow_add-at-then-place-len g c =
-    let S = c.self.inside.slots.items in let marks = c.self.inside.directory.bits in let marked = c.self.invariant.marked in let from = c.loop-slot.at.slot in let i = c.in-Some.slot in let j = c.loop-slot.at.place in let n = c.loop-slot.at.passed in
-    let next = IsNextMark-first marks from i c.next.new.self (sym c.iter_from.ensures ∙ c.in-Some.ensures.steps) in
-    let below = next-within S marks marked.marks from i next in
-    let at = IsInRows-next S marks marked.marks from j n c.loop-slot.invariant.at i next in
-    let held = c.slot_at-row.result.now in let is = subst (λ L. held ≡ get_or L i held) c.deref.ensures.value c.slot_at-row.ensures in let row = row-at S i held below is in
-    let len = ap length row in
-    let few = row-few (rows S) i j n at in let all = ap (λ (t : Grid _ _). length t.walk) c.self.view_is in let under = c.if-place-len.true in let told = c.len.ensures in omega (arith, len, few, all, at.within, under, told, c.requires.count)
+    let w = goal.at.overflow_add-at-then-place-len g c in let at = here g w.In-Some in let len = ap length (row g w.After-slot_at-row (below g w.In-Some)) in
+    let few = row-few _ _ _ _ at in let all = ap (λ (t : Grid _ _). length t.walk) c.self.view_is in let under = c.if-place-len.true in let told = c.len.ensures in
+    omega (arith, len, few, all, at.within, under, told, c.requires.count)
 
 pub returns-then-place-len-clause-first : goal.returns-then-place-len-clause-first
 returns-then-place-len-clause-first g c =
-    let S = c.self.inside.slots.items in let marks = c.self.inside.directory.bits in let marked = c.self.invariant.marked in let from = c.loop-slot.at.slot in let i = c.in-Some.slot in let j = c.loop-slot.at.place in let n = c.loop-slot.at.passed in
-    let next = IsNextMark-first marks from i c.next.new.self (sym c.iter_from.ensures ∙ c.in-Some.ensures.steps) in
-    let below = next-within S marks marked.marks from i next in
-    let at = IsInRows-next S marks marked.marks from j n c.loop-slot.invariant.at i next in
-    let held = c.slot_at-row.result.now in let is = subst (λ L. held ≡ get_or L i held) c.deref.ensures.value c.slot_at-row.ensures in let row = row-at S i held below is in
-    let len = ap length row in
-    let under = c.if-place-len.true in let told = c.len.ensures in let inside : j < length (get_or (rows S) i []) = omega (arith, len, under, told) in
+    let S = c.self.inside.slots.items in let i = c.in-Some.slot in let j = c.loop-slot.at.place in let n = c.loop-slot.at.passed in
+    let w = goal.at.returns-then-place-len-clause-first g c in let same = row g w.After-slot_at-row (below g w.In-Some) in
+    let len = ap length same in let under = c.if-place-len.true in let told = c.len.ensures in let inside : j < length (get_or (rows S) i []) = omega (arith, len, under, told) in
     let p : g.row.K.Denot × g.row.X.Denot = (c.key.result.now, c.value_at.result.now) in
     let key = c.key.ensures.value ∙ c.key_at.ensures p in let value = c.value_at.ensures p in
-    let pair : get_or (get_or (rows S) i []) j p ≡ p = ap (λ ps. get_or ps j p) (sym row) ∙ (λ k. (sym key k, sym value k)) in
-    rw (← c.self.view_is, ← c.loop-slot.invariant.passed) (drop-on S i j n at p inside ∙ ap (λ x. x ∷ drop (n + 1) (joined (rows S))) pair)
+    let pair : get_or (get_or (rows S) i []) j p ≡ p = ap (λ ps. get_or ps j p) (sym same) ∙ (λ k. (sym key k, sym value k)) in
+    rw (← c.self.view_is, ← c.loop-slot.invariant.passed) (drop-on S i j n (here g w.In-Some) p inside ∙ ap (λ x. x ∷ drop (n + 1) (joined (rows S))) pair)
 
 pub returns-then-place-len-clause-reached : goal.returns-then-place-len-clause-reached
 returns-then-place-len-clause-reached g c =
-    let S = c.self.inside.slots.items in let marks = c.self.inside.directory.bits in let marked = c.self.invariant.marked in let from = c.loop-slot.at.slot in let i = c.in-Some.slot in let j = c.loop-slot.at.place in let n = c.loop-slot.at.passed in
-    let next = IsNextMark-first marks from i c.next.new.self (sym c.iter_from.ensures ∙ c.in-Some.ensures.steps) in
-    let below = next-within S marks marked.marks from i next in
-    let at = IsInRows-next S marks marked.marks from j n c.loop-slot.invariant.at i next in
-    let held = c.slot_at-row.result.now in let is = subst (λ L. held ≡ get_or L i held) c.deref.ensures.value c.slot_at-row.ensures in let row = row-at S i held below is in
-    let len = ap length row in
+    let S = c.self.inside.slots.items in let i = c.in-Some.slot in let j = c.loop-slot.at.place in let n = c.loop-slot.at.passed in
+    let w = goal.at.returns-then-place-len-clause-reached g c in let len = ap length (row g w.After-slot_at-row (below g w.In-Some)) in
     let under = c.if-place-len.true in let told = c.len.ensures in let inside : j < length (get_or (rows S) i []) = omega (arith, len, under, told) in
-    rw (← c.self.view_is) (IsReached-at g.K.IntKey.number_of S marked.table i (j + 1) (n + 1) (IsInRows-on S i j n at inside))
+    rw (← c.self.view_is) (IsReached-at g.K.IntKey.number_of S c.self.invariant.marked.table i (j + 1) (n + 1) (IsInRows-on S i j n (here g w.In-Some) inside))
 
 pub overflow_add-at-in-Some : goal.overflow_add-at-in-Some
-overflow_add-at-in-Some g c =
-    let S = c.self.inside.slots.items in let marks = c.self.inside.directory.bits in let marked = c.self.invariant.marked in let from = c.loop-slot.at.slot in let i = c.in-Some.slot in let j = c.loop-slot.at.place in let n = c.loop-slot.at.passed in
-    let next = IsNextMark-first marks from i c.next.new.self (sym c.iter_from.ensures ∙ c.in-Some.ensures.steps) in
-    let below = next-within S marks marked.marks from i next in
-    let at = IsInRows-next S marks marked.marks from j n c.loop-slot.invariant.at i next in
-    omega (arith, below, c.self.inside.slots.ok.0)
+overflow_add-at-in-Some g c = let w = below g (goal.at.overflow_add-at-in-Some g c).In-Some in omega (arith, w, c.self.inside.slots.ok.0)
 
 pub loop-slot-smaller : goal.loop-slot-smaller
-loop-slot-smaller g c =
-    let S = c.self.inside.slots.items in let marks = c.self.inside.directory.bits in let marked = c.self.invariant.marked in let from = c.loop-slot.at.slot in let i = c.in-Some.slot in let j = c.loop-slot.at.place in let n = c.loop-slot.at.passed in
-    let next = IsNextMark-first marks from i c.next.new.self (sym c.iter_from.ensures ∙ c.in-Some.ensures.steps) in
-    let below = next-within S marks marked.marks from i next in
-    let at = IsInRows-next S marks marked.marks from j n c.loop-slot.invariant.at i next in
-    omega (arith, below, next.behind)
+loop-slot-smaller g c = let w = (goal.at.loop-slot-smaller g c).In-Some in let lt = below g w in let up = (next g w).behind in omega (arith, lt, up)
 
 pub loop-slot-preserved : goal.loop-slot-preserved
 loop-slot-preserved g c =
-    let S = c.self.inside.slots.items in let marks = c.self.inside.directory.bits in let marked = c.self.invariant.marked in let from = c.loop-slot.at.slot in let i = c.in-Some.slot in let j = c.loop-slot.at.place in let n = c.loop-slot.at.passed in
-    let next = IsNextMark-first marks from i c.next.new.self (sym c.iter_from.ensures ∙ c.in-Some.ensures.steps) in
-    let below = next-within S marks marked.marks from i next in
-    let at = IsInRows-next S marks marked.marks from j n c.loop-slot.invariant.at i next in
-    let held = c.slot_at-row.result.now in let is = subst (λ L. held ≡ get_or L i held) c.deref.ensures.value c.slot_at-row.ensures in let row = row-at S i held below is in
-    let len = ap length row in
+    let w = goal.at.loop-slot-preserved g c in let len = ap length (row g w.After-slot_at-row (below g w.In-Some)) in
     let past = c.if-place-len.false in let told = c.len.ensures in
     record {
-      at = IsInRows-past S i j n at (omega (arith, len, past, told));
+      at = IsInRows-past c.self.inside.slots.items c.in-Some.slot c.loop-slot.at.place c.loop-slot.at.passed (here g w.In-Some) (omega (arith, len, past, told));
       passed = c.loop-slot.invariant.passed;
     }
 

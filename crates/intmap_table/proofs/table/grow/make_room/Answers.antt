@@ -55,7 +55,7 @@ returns-clause-rows g c = let at = goal.at.returns-clause-rows g c in kept g at.
 pub returns-clause-ready : goal.returns-clause-ready
 returns-clause-ready g c =
     let at = goal.at.returns-clause-ready g c in
-    let ready = rw (CanMoveOn-longer (longer g at.After-deref_mut-2) (vec_capacity c.in-Ok-reserve_rooms.buffer) c.reserve_rooms.new.slots) at c.in-Ok-reserve_rooms.ensures.ready in
+    let ready = rw (CanMoveOn-longer (longer g at.After-deref_mut-2) _ (vec_capacity c.in-Ok-reserve_rooms.buffer) c.reserve_rooms.new.slots) at c.in-Ok-reserve_rooms.ensures.ready in
     rw (written g at.After-reserve_rooms) ready
 
 pub returns-in_default-reserve_rooms-clause-err : goal.returns-in_default-reserve_rooms-clause-err

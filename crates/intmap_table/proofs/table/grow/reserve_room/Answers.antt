@@ -1,5 +1,5 @@
 use Rattle.std.proofs.Common.{◌≡◌, true, ◌+◌, ◌*◌, ◌<◌, ◌≤◌, ◌∙◌, length, get_or, refl, subst, arith}
-use Rattle.intmap_table.proofs.Tables.CountLemmas.{part-within, offset-fits, own-kept, others-kept, IsShared, IsShared-reserved, IsShared-start, IsShared-few, IsShared-spare, HasParts-shared, bare-parts, rows-kept, spare_rooms}
+use Rattle.intmap_table.proofs.Tables.CountLemmas.{part-within, offset-fits, own-kept, others-kept, IsShared, IsShared-start, IsShared-few, IsShared-spare, IsShared-made, rows-kept}
 use Rattle.intmap_table.proofs.table.grow.reserve_room.Goals as goal
 use Rattle.intmap_table.proofs.table.grow.reserve_room.Goals.{Then-spared, then-count-gt1+then-spared+in_ok-reserve_behind, then-count-gt1+else-spared, else-count-gt1}
 
@@ -7,12 +7,8 @@ pub loop-part-init : goal.loop-part-init
 loop-part-init g c = record {
   rows = refl;
   own = refl;
-  others = λ j i t below apart is. refl;
-  shared = (
-    0,
-    IsShared-start (spare_rooms c.args.slots.now c.args.index) c.args.counts.now c.args.old c.args.index
-        (bare-parts c.args.slots.now (length c.args.counts.now) c.args.old c.args.index c.requires.within c.requires.all c.requires.bare),
-  );
+  others = λ j apart. refl;
+  shared = (length c.args.counts.now, IsShared-start c.args.slots.now c.args.old c.args.index c.requires.within c.args.counts.now c.requires.bare);
 }
 
 -- the part at hand is a slot
@@ -42,11 +38,12 @@ returns-in_err-reserve_behind-clause-rows g c =
 
 pub returns-in_err-reserve_behind-clause-own : goal.returns-in_err-reserve_behind-clause-own
 returns-in_err-reserve_behind-clause-own g c =
-    own-kept c.loop-part.slots c.args.old c.args.index c.loop-part.part c.reserve_behind.new.self c.requires.within (c.loop-part.invariant.shared.1.some c.if-spared.true) ∙ c.loop-part.invariant.own
+    let past = c.loop-part.invariant.shared.1.some c.if-spared.true in
+    own-kept c.loop-part.slots c.args.old c.args.index c.requires.within c.loop-part.part c.reserve_behind.new.self (omega (arith, past)) ∙ c.loop-part.invariant.own
 
 pub returns-in_err-reserve_behind-clause-others : goal.returns-in_err-reserve_behind-clause-others
-returns-in_err-reserve_behind-clause-others g c = λ j i t below apart is.
-    others-kept c.loop-part.slots c.args.old c.args.index c.loop-part.part c.reserve_behind.new.self c.requires.within j i t below apart is ∙ c.loop-part.invariant.others j i t below apart is
+returns-in_err-reserve_behind-clause-others g c = λ j apart.
+    others-kept c.loop-part.slots c.args.old c.args.index c.requires.within c.loop-part.part c.reserve_behind.new.self j apart ∙ c.loop-part.invariant.others j apart
 
 pub loop-part-preserved : goal.loop-part-preserved
 loop-part-preserved g c =
@@ -57,28 +54,28 @@ loop-part-preserved g c =
           let s = w.reserve_behind.new.self in let made = w.in_ok-reserve_behind.ensures in
           let len : length S ≡ length counts * C = c.loop-part.auto.slots ∙ c.requires.all in
           let within : part * C + i < length S = (let w = part-within (length counts) C part i c.loop-part-test.true c.requires.within in omega (arith, w, len)) in
-          let spared : IsShared (spare_rooms S i) counts C i part true shared.0 = subst (λ b. IsShared (spare_rooms S i) counts C i part b shared.0) w.if-spared.true shared.1 in
-          let some : 0 < part = spared.some refl in
+          let spared : IsShared S counts C i part true shared.0 = subst (λ b. IsShared S counts C i part b shared.0) w.if-spared.true shared.1 in
+          let some : 0 < part = (let w = spared.some refl in omega (arith, w)) in
           let enough : get_or counts part 0 ≤ s.room = (let r = made.room in omega (arith, r)) in
           rw (w.slots-is, w.spared-is) (record {
             rows = rows-kept S (part * C + i) w.index-slots-part.result s within made.pairs ∙ loop.rows;
-            own = own-kept S C i part s c.requires.within some ∙ loop.own;
-            others = λ j k t below apart is. others-kept S C i part s c.requires.within j k t below apart is ∙ loop.others j k t below apart is;
-            shared = (shared.0, IsShared-reserved S C i part s c.requires.within counts shared.0 c.loop-part-test.true len enough spared);
+            own = own-kept S C i c.requires.within part s some ∙ loop.own;
+            others = λ j apart. others-kept S C i c.requires.within part s j apart ∙ loop.others j apart;
+            shared = (shared.0, IsShared-made S C i c.requires.within counts part shared.0 c.loop-part-test.true s len enough spared);
           }))
       | then-count-gt1+else-spared w ↦ (
           rw (w.slots-is, w.spared-is) (record {
             rows = loop.rows;
             own = loop.own;
             others = loop.others;
-            shared = (part, IsShared-spare (spare_rooms S i) counts C i part shared.0 c.loop-part-test.true (subst (λ b. IsShared (spare_rooms S i) counts C i part b shared.0) w.if-spared.false shared.1));
+            shared = (part, IsShared-spare S C i c.requires.within counts part shared.0 c.loop-part-test.true (subst (λ b. IsShared S counts C i part b shared.0) w.if-spared.false shared.1));
           }))
       | else-count-gt1 w ↦ (
           rw (w.slots-is, w.spared-is) (record {
             rows = loop.rows;
             own = loop.own;
             others = loop.others;
-            shared = (shared.0, IsShared-few (spare_rooms S i) counts C i part shared.0 c.loop-part-test.true c.loop-part.spared w.if-count-gt1.false shared.1);
+            shared = (shared.0, IsShared-few S C i c.requires.within counts part shared.0 c.loop-part-test.true c.loop-part.spared w.if-count-gt1.false shared.1);
           }))
     ]
 
@@ -93,5 +90,5 @@ returns-clause-others g c = c.loop-part.invariant.others
 
 pub returns-clause-room : goal.returns-clause-room
 returns-clause-room g c =
-    let shared = c.loop-part.invariant.shared in
-    (shared.0, HasParts-shared c.loop-part.slots c.args.old c.args.index c.args.counts.now c.loop-part.part c.loop-part.spared shared.0 c.loop-part-test.false shared.1)
+    let shared = c.loop-part.invariant.shared in let all = c.loop-part-test.false in
+    (shared.0, record { room = λ t lt. shared.1.room t (omega (arith, lt, all)) })
