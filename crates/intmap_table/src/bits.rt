@@ -1,7 +1,7 @@
 //! One bit for each index.
-ghost use Rattle.std.specs.Prelude.{◌≡◌, List, Bool, ◌+◌, ◌*◌, ◌/◌, ◌^◌, ◌<◌, ◌≤◌, true, false, filter, length, nat_le, replicate, slice_set, IfOk, ⊤};
+ghost use Rattle.std.specs.Prelude.{◌≡◌, ℕ, List, Bool, ◌+◌, ◌*◌, ◌/◌, ◌^◌, ◌<◌, ◌≤◌, true, false, filter, length, nat_le, replicate, slice_set, IfOk, IfSome, IfNone, ⊤};
 ghost use Rattle.std.specs.Iterator.{YieldsFirstBy, item_count};
-ghost use Rattle.intmap_table.specs.Tables.Bits.{marked, marked_indices, IsWordOf};
+ghost use Rattle.intmap_table.specs.Tables.Bits.{marked, marked_indices, IsNextMark, IsWordOf};
 
 use std::alloc::{AllocError, Allocator};
 use std::marker::Model;
@@ -114,9 +114,18 @@ impl<A: Allocator> Bits<A> {
         }
     }
 
+    /// The first marked index from an index on.
+    #[inline(always)]
+    pub(crate) fn next_from(&self, from: usize) -> Option<usize>
+        ensures some { IfSome result (IsNextMark self.now from) }
+        ensures none { IfNone result ((j : ℕ) → from ≤ j → marked self.now j ≡ false) }
+    {
+        self.iter_from(from).next()
+    }
+
     /// The marked indices from an index on, in ascending order.
     #[inline(always)]
-    pub(crate) fn iter_from(&self, from: usize) -> Indices<'_>
+    fn iter_from(&self, from: usize) -> Indices<'_>
         ensures { result ≡ filter (nat_le from) (marked_indices self.now) }
     {
         let index = from / BITS;

@@ -13,7 +13,7 @@ mod place;
 pub(crate) mod stored;
 pub mod walk;
 
-ghost use Rattle.std.specs.Prelude.{◌≡◌, ℕ, ◌+◌, ◌^◌, ◌<◌, ◌≤◌, slice_index_or, [], OnOk, OnErr, IfOk, IfErr, Some, None, option_copied, length};
+ghost use Rattle.std.specs.Prelude.{◌≡◌, ℕ, ◌+◌, ◌^◌, ◌<◌, ◌≤◌, slice_index_or, slice_set, cond, false, nat_lt, [], OnOk, OnErr, IfOk, IfErr, Some, None, option_copied, length};
 ghost use Rattle.intmap_table.specs.Classes.{IsCapacity, slot_number};
 ghost use Rattle.intmap_table.specs.Bindings.{value_of, put_pair};
 ghost use Rattle.intmap_table.specs.Locations.{IsAt};
@@ -60,6 +60,22 @@ fn index_of<K: IntKey>(key: &K, slots: usize) -> usize
     ensures key { K.is_valid key.now }
 {
     masked_index_of(key, slots - 1)
+}
+
+/// Clears the bit of a slot if it holds no pair.
+#[inline(always)]
+fn unmark_if_empty<K: IntKey, X, A: Allocator>(
+    bits: &mut Bits<A>,
+    slot: &Slot<K, X, A>,
+    index: usize,
+)
+    requires { index < length bits.old }
+    ensures { bits.new
+        ≡ cond (nat_lt 0 (length slot.now.pairs)) bits.old (slice_set bits.old index false) }
+{
+    if !slot.is_filled() {
+        bits.clear(index);
+    }
 }
 
 /// Drops the pairs of all slots. The bits mark the slots that hold a pair.

@@ -1,24 +1,21 @@
 -- What a closure that picks one pair at a step leaves of the slots of a table.
-use Rattle.std.proofs.Common.{◌≡◌, inl, inr, ℕ, zero, suc, ◌+◌, ◌-◌, ◌<◌, ◌≤◌, Bool, true, false, List, [], ◌∷◌, ◌++◌, Option, Some, None, length, get_or, set, take, drop, refl, sym, ap, ◌∙◌, subst, arith, zero-add, append-nil, append_assoc, length-append, get_or-set_same}
+use Rattle.std.proofs.Common.{◌≡◌, inl, inr, ℕ, zero, suc, ◌+◌, ◌-◌, ◌<◌, ◌≤◌, Bool, false, cond, List, [], ◌∷◌, ◌++◌, Option, Some, None, length, get_or, set, take, drop, refl, sym, ap, ◌∙◌, subst, arith, zero-add, append-nil, append_assoc, length-append, get_or-set_same}
 use Rattle.std.specs.Prelude.{nat_lt}
 use Rattle.std.specs.List.{flat_map, range_with_len}
 use Rattle.std.specs.List.Retain.{ExtractsNext}
 use Rattle.std.proofs.Math.Seq.{take-append-add, drop-append-add}
-use Rattle.std.proofs.lemmas.Bool.{cases_lt, lt-ltb, ltb-true}
+use Rattle.std.proofs.lemmas.Bool.{cases_lt}
 use Rattle.std.proofs.lemmas.Grind.{flat_map-append}
 use Rattle.std.proofs.lemmas.List.{drop_all, drop-append-le, drop-set-lt, length-drop, map-set, take-append-le, take-set-le}
 use Rattle.intmap_table.specs.Classes.{slot_number}
 use Rattle.intmap_table.specs.Picking.{ExtractsBehind, IsReached}
 use Rattle.intmap_table.proofs.ExtractLemmas.{ExtractsNext-end}
-use Rattle.intmap_table.specs.Tables.Bits.{marked}
-use Rattle.intmap_table.specs.Tables.Slots.{Held, rows, joined, AreMarked, IsTable, IsMarkedTable}
+use Rattle.intmap_table.specs.Tables.Slots.{Held, rows, joined, IsNextRow, IsTable, IsMarkedTable}
 use Rattle.intmap_table.specs.Taking.{TakesEach}
 use Rattle.intmap_table.specs.Walk.{slot_of}
 use Rattle.intmap_table.proofs.ExtractLemmas.{StepsTo, StepsTo-on, StepsTo-stop, All-ExtractsBehind, length-ExtractsBehind, TakesEach-on}
-use Rattle.intmap_table.proofs.Tables.FilledLemmas.{marks-set_at, marks-kept_at}
 use Rattle.intmap_table.proofs.Tables.MarkedLemmas.{range_with_len-add}
-use Rattle.intmap_table.proofs.Tables.IndicesLemmas.{IsNextMark}
-use Rattle.intmap_table.proofs.Tables.RetainSlotsLemmas.{joined-cut, joined-drop, joined-none, joined-take_past, empty-between, empty-unmarked, IsTable-set_at}
+use Rattle.intmap_table.proofs.Tables.RetainSlotsLemmas.{joined-cut, joined-drop, joined-none, joined-take_past, IsMarkedTable-changed}
 use Rattle.intmap_table.proofs.Tables.TableLemmas.{joined-take, get_or-rows, length-rows, slot_of-joined}
 
 -- the pairs of a slot are its row
@@ -92,27 +89,24 @@ module _ {K X : Type 0} (number : K → ℕ) (S : List (Held K X)) (table : IsTa
     few = reached-few (rows S) i j n at;
   }
 
-module _ {K X : Type 0} (S : List (Held K X)) (marks : List Bool) (are : AreMarked (rows S) marks) (from j n : ℕ) (at : IsInRows (rows S) from j n) where
-  -- if there is no mark any more, no pair is left
-  pub drop-none : ((i : ℕ) → from ≤ i → marked marks i ≡ false) → drop n (joined (rows S)) ≡ []
-  drop-none none =
-      let empty = λ (i : ℕ) (le : from ≤ i). empty-unmarked S marks are from i (none i le) in
-      let long = ap length (joined-cut from (rows S) ∙ ap (λ Z. joined (take from (rows S)) ++ Z) (joined-none from (rows S) empty) ∙ append-nil (joined (take from (rows S)))) in
-      drop_all n (joined (rows S)) (omega (arith, long, at.count))
+module _ {P : Type 0} (R : List (List P)) (from j n : ℕ) (at : IsInRows R from j n) where
+  -- if no row holds an element any more, none is left
+  pub drop-none : ((i : ℕ) → from ≤ i → get_or R i [] ≡ []) → drop n (joined R) ≡ []
+  drop-none empty =
+      let long = ap length (joined-cut from R ∙ ap (λ Z. joined (take from R) ++ Z) (joined-none from R empty) ∙ append-nil (joined (take from R))) in
+      drop_all n (joined R) (omega (arith, long, at.count))
 
-  module _ (index : ℕ) (next : IsNextMark marks from index) where
-    -- the slot of the next mark is the current one: if that isn't this slot, this one is empty
-    pub IsInRows-next : IsInRows (rows S) index j n
-    IsInRows-next = elim (cases_lt from index) as (λ _. IsInRows (rows S) index j n) [
-      | inl before ↦
-          (let none = ap length (empty-between S marks are from index next from (omega arith) before) in
-          let behind : from + (index - from) ≡ index = omega (arith, before) in
-          let past : joined (take index (rows S)) ≡ joined (take from (rows S)) =
-          rw behind at (joined-take_past (index - from) from (rows S) (λ i le lt. empty-between S marks are from index next i le (omega (arith, lt, behind)))) in
-          let same = ap length past in
-          record { within = omega (arith, none, at.within); count = omega (arith, at.count, same) })
-      | inr up ↦ (let same : from ≡ index = omega (arith, up, next.behind) in subst (λ i. IsInRows (rows S) i j n) same at)
-    ]
+  -- the next row that holds one is the current one: if that isn't this row, this one is empty
+  pub IsInRows-next : (i : ℕ) → IsNextRow R from i → IsInRows R i j n
+  IsInRows-next i next = elim (cases_lt from i) as (λ _. IsInRows R i j n) [
+    | inl before ↦
+        (let none = ap length (next.between from (omega arith) before) in
+        let behind : from + (i - from) ≡ i = omega (arith, before) in
+        let past : joined (take i R) ≡ joined (take from R) = rw behind at (joined-take_past (i - from) from R (λ k le lt. next.between k le (omega (arith, lt, behind)))) in
+        let same = ap length past in
+        record { within = omega (arith, none, at.within); count = omega (arith, at.count, same) })
+    | inr up ↦ (let same : from ≡ i = omega (arith, up, next.behind) in subst (λ k. IsInRows R k j n) same at)
+  ]
 
 -- the pairs of the slot at hand from place j on were asked about, and s is left of it, with place k reached
 pub record IsAsked {K X F : Type 0} (number : K → ℕ) (R : F → K × X → Bool → F → K × X → Type 0) (S : List (Held K X)) (marks : List Bool) (i j n : ℕ) (f g : F) (r : Option (K × X)) (s : Held K X) (k : ℕ) : Type 0 where
@@ -139,24 +133,14 @@ module _ {K X F : Type 0} {number : K → ℕ} {R : F → K × X → Bool → F 
   behind-same : joined (drop (suc i) (rows T)) ≡ joined (drop (suc i) (rows S))
   behind-same = ap (λ R. joined (drop (suc i) R)) rows-set ∙ ap joined (drop-set-lt (suc i) (rows S) i s.pairs (omega arith))
 
-  -- the slots are those of a table
-  table : IsTable number T
-  table = IsTable-set_at number S i s asked.old.table asked.below
+  -- the slots are those of a table, with their marks
+  pub IsMarkedTable-asked : IsMarkedTable number T (cond (nat_lt 0 (length s.pairs)) marks (set marks i false))
+  IsMarkedTable-asked =
+      IsMarkedTable-changed number S marks asked.old i asked.below s
+      (λ some. let few = length-ExtractsBehind R f g (get_or (rows S) i []) s.pairs j k r asked.step in omega (arith, few, some))
       (All-ExtractsBehind R (λ p. slot_number number p.0 (length S) ≡ i) (λ f p b g q call is. ap (λ k. slot_number number k (length S)) (asked.same_key f p b g q call) ∙ is) f g (get_or (rows S) i []) s.pairs j k r asked.step (asked.old.table.in_place i asked.below))
 
-  -- the slot was emptied, and its mark taken away
-  pub IsMarkedTable-emptied_slot : false ≡ nat_lt 0 (length s.pairs) → IsMarkedTable number T (set marks i false)
-  IsMarkedTable-emptied_slot none = record { table = table; marks = marks-set_at S marks asked.old.marks i asked.below s false none }
-
-  -- the slot holds a pair, as before
-  pub IsMarkedTable-filled_slot : true ≡ nat_lt 0 (length s.pairs) → IsMarkedTable number T marks
-  IsMarkedTable-filled_slot some =
-      let few = length-ExtractsBehind R f g (get_or (rows S) i []) s.pairs j k r asked.step in
-      let filled = ltb-true 0 (length s.pairs) (sym some) in
-      let is = asked.old.marks.own i ∙ lt-ltb 0 (length (get_or (rows S) i [])) (omega (arith, few, filled)) in
-      record { table = table; marks = marks-kept_at S marks asked.old.marks i asked.below s (is ∙ some) }
-
-  -- a place moves on asked.within the pairs that were there
+  -- a place moves on within the pairs that were there
   pub place-on : k ≤ length (get_or (rows S) i [])
   place-on = let few = length-ExtractsBehind R f g (get_or (rows S) i []) s.pairs j k r asked.step in omega (arith, few, asked.within)
 

@@ -5,8 +5,8 @@ use Rattle.std.specs.List.{list_any, range_with_len}
 use Rattle.std.proofs.lemmas.Bool.{cases_Bool, cases_eq, cases_lt, eq-eqb, ne_eqb, lt-ltb, ltb-true}
 use Rattle.std.proofs.lemmas.List.{length-replicate, length_push, map-set, get_or_past}
 use Rattle.std.proofs.lemmas.List.Elements.{All-head, All-tail}
-use Rattle.intmap_table.specs.Tables.Bits.{marked, marked_indices}
-use Rattle.intmap_table.specs.Tables.Slots.{Held, rows, joined, pairs_at, AreMarked, IsMarkedTable}
+use Rattle.intmap_table.specs.Tables.Bits.{marked, marked_indices, IsNextMark}
+use Rattle.intmap_table.specs.Tables.Slots.{Held, rows, joined, pairs_at, IsNextRow, AreMarked, IsMarkedTable}
 use Rattle.intmap_table.specs.Bindings.{value_of}
 use Rattle.intmap_table.specs.Classes.{IsCapacity}
 use Rattle.intmap_table.proofs.Tables.TableLemmas.{IsSlot, within, length-rows, get_or-rows, IsTable-empty}
@@ -20,6 +20,24 @@ module _ {P : Type 0} (R : List (List P)) (marks : List Bool) (are : AreMarked R
   -- the rows at the marked indices are all pairs
   pub pairs_at-marked : pairs_at R (marked_indices marks) ≡ joined R
   pairs_at-marked = flat_map-marked_indices R marks marks-enough are.own
+
+  -- a row without a mark holds no pair
+  pub empty-unmarked : (j : ℕ) → marked marks j ≡ false → get_or R j [] ≡ []
+  empty-unmarked j bare = row-none (get_or R j []) (sym (are.own j) ∙ bare)
+
+  -- the row of the next mark is the next one that holds a pair
+  pub IsNextRow-marked : (from i : ℕ) → IsNextMark marks from i → IsNextRow R from i
+  IsNextRow-marked from i next =
+      let some = ltb-true 0 (length (get_or R i [])) (sym (are.own i) ∙ next.is) in
+      record {
+        behind = next.behind;
+        within = elim (cases_lt i (length R)) as (λ _. i < length R) [
+          | inl below ↦ below
+          | inr past ↦ (let none = ap length (get_or_past R i [] past) in absurd (omega (arith, none, some)))
+        ];
+        filled = some;
+        between = λ j le lt. empty-unmarked j (next.between j le lt);
+      }
 
   -- the number of marked indices is the number of rows that hold a pair
   pub count-marked : length (marked_indices marks) ≡ count_by (λ row. nat_lt 0 (length row)) R

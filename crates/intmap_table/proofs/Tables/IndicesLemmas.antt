@@ -1,13 +1,14 @@
 -- The marked indices from one on.
-use Rattle.std.proofs.Common.{◌≡◌, inl, inr, ℕ, zero, suc, ◌+◌, ◌-◌, ◌*◌, ◌%◌, ◌^◌, ◌<◌, ◌≤◌, Bool, true, false, List, [], ◌∷◌, ◌++◌, length, map, get_or, drop, refl, sym, ap, ◌∙◌, arith, bit_and, add-zero}
-use Rattle.std.specs.Prelude.{filter, nat_le, nat_eq, ◌&&◌}
+use Rattle.std.proofs.Common.{◌≡◌, inl, inr, ℕ, zero, suc, ◌+◌, ◌-◌, ◌*◌, ◌%◌, ◌^◌, ◌<◌, ◌≤◌, Bool, true, false, List, [], ◌∷◌, ◌++◌, Option, Some, None, length, map, get_or, drop, refl, sym, ap, ◌∙◌, arith, bit_and, add-zero}
+use Rattle.std.specs.Prelude.{filter, nat_le, nat_eq, ◌&&◌, IfSome, IfNone}
+use Rattle.std.specs.Iterator.{YieldsFirstBy}
 use Rattle.std.specs.Int.{bit_at}
 use Rattle.std.specs.List.{range_with_len}
 use Rattle.std.proofs.lemmas.Bool.{cases_Bool, cases_eq, cases_lt, le-leb, leb-true, ne_eqb, false≢true}
 use Rattle.std.proofs.lemmas.List.{get_or_past}
 use Rattle.std.proofs.lemmas.List.Elements.{filter-append}
 use Rattle.std.proofs.lemmas.Nat.Bits.{ones_shl, bit_at_and, bit_at_mask_below, bit_at_mask_inside, bit_at-lt}
-use Rattle.intmap_table.specs.Tables.Bits.{marked, marked_indices, has_bit, marks_of, indices_from}
+use Rattle.intmap_table.specs.Tables.Bits.{marked, marked_indices, IsNextMark, has_bit, marks_of, indices_from}
 use Rattle.intmap_table.proofs.Tables.BitsLemmas.{bits_of, marked_indices-cons, map-add, map-zero}
 
 not_below : (a b : ℕ) → b < a → nat_le a b ≡ false
@@ -150,12 +151,6 @@ none_kept test a (suc n) is j le lt = elim (cases_Bool (test a)) as (λ _. test 
   ]
 ]
 
--- the first marked index from an index on
-pub record IsNextMark (marks : List Bool) (from index : ℕ) : Type 0 where
-  pub behind : from ≤ index
-  pub is : marked marks index ≡ true
-  pub between : (j : ℕ) → from ≤ j → j < index → marked marks j ≡ false
-
 module _ (marks : List Bool) (from : ℕ) where
   -- marked, and not before that index
   abbrev behind_from : ℕ → Bool
@@ -167,7 +162,7 @@ module _ (marks : List Bool) (from : ℕ) where
   unmarked : (j : ℕ) → from ≤ j → behind_from j ≡ false → marked marks j ≡ false
   unmarked j le fails = let t = le-leb from j le in rw t at fails
 
-  pub IsNextMark-first : (index : ℕ) (rest : List ℕ) → filter (nat_le from) (marked_indices marks) ≡ index ∷ rest → IsNextMark marks from index
+  IsNextMark-first : (index : ℕ) (rest : List ℕ) → filter (nat_le from) (marked_indices marks) ≡ index ∷ rest → IsNextMark marks from index
   IsNextMark-first index rest is =
       let first = first_kept behind_from 0 (length marks) index rest (sym both_indices ∙ is) in
       let passes = both_true (nat_le from index) (marked marks index) first.1 in
@@ -182,8 +177,17 @@ module _ (marks : List Bool) (from : ℕ) where
       both_true false b e = absurd (false≢true e)
 
   -- if there is none, no index is marked from there on
-  pub unmarked-behind : filter (nat_le from) (marked_indices marks) ≡ [] → (j : ℕ) → from ≤ j → marked marks j ≡ false
+  unmarked-behind : filter (nat_le from) (marked_indices marks) ≡ [] → (j : ℕ) → from ≤ j → marked marks j ≡ false
   unmarked-behind none j le = elim (cases_lt j (length marks)) as (λ _. marked marks j ≡ false) [
     | inl below ↦ unmarked j le (none_kept behind_from 0 (length marks) (sym both_indices ∙ none) j (omega arith) (omega (arith, below)))
     | inr past ↦ get_or_past marks j false past
   ]
+
+  -- what an iterator over them gives first
+  pub IfSome-next : (o : Option ℕ) (rest : List ℕ) → YieldsFirstBy (λ i. i) (λ r. r) (filter (nat_le from) (marked_indices marks)) o rest → IfSome o (IsNextMark marks from)
+  IfSome-next None rest steps = tt
+  IfSome-next (Some index) rest steps = IsNextMark-first index rest steps
+
+  pub IfNone-next : (o : Option ℕ) (rest : List ℕ) → YieldsFirstBy (λ i. i) (λ r. r) (filter (nat_le from) (marked_indices marks)) o rest → IfNone o ((j : ℕ) → from ≤ j → marked marks j ≡ false)
+  IfNone-next None rest steps = unmarked-behind steps.0
+  IfNone-next (Some index) rest steps = tt

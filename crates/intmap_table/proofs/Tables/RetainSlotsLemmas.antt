@@ -1,18 +1,15 @@
 -- What a closure that is asked about each pair in turn leaves of the slots of a table.
-use Rattle.std.proofs.Common.{◌≡◌, inl, inr, ℕ, zero, suc, ◌+◌, ◌-◌, ◌<◌, ◌≤◌, Bool, true, false, List, [], ◌∷◌, ◌++◌, length, get_or, set, take, drop, refl, sym, ap, ◌∙◌, subst, arith, add-zero, append-nil, length-append, length-set, get_or-set_same, get_or-set_other}
+use Rattle.std.proofs.Common.{◌≡◌, inl, inr, ℕ, zero, suc, ◌+◌, ◌-◌, ◌<◌, ◌≤◌, Bool, false, cond, List, [], ◌∷◌, ◌++◌, length, get_or, set, take, drop, refl, sym, ap, ◌∙◌, subst, arith, add-zero, append-nil, length-append, length-set, get_or-set_same, get_or-set_other}
 use Rattle.std.specs.Prelude.{All, nat_lt}
-use Rattle.std.proofs.lemmas.Bool.{cases_eq, cases_lt, ltb-true}
-use Rattle.std.proofs.lemmas.List.{drop-set-lt, take-set, map-set, get_or_past, get_or-drop, take-append-drop}
+use Rattle.std.proofs.lemmas.Bool.{cases_Bool, cases_eq, lt-ltb, ltb-true}
+use Rattle.std.proofs.lemmas.List.{drop-set-lt, take-set, map-set, get_or-drop, take-append-drop}
 use Rattle.std.proofs.lemmas.Grind.{flat_map-append}
-use Rattle.intmap_table.specs.Tables.Bits.{marked}
 use Rattle.intmap_table.specs.Classes.{IsCapacity, slot_number}
 use Rattle.intmap_table.specs.Retaining.{Retains}
-use Rattle.intmap_table.specs.Tables.Slots.{Held, rows, joined, AreMarked, IsTable, IsMarkedTable}
+use Rattle.intmap_table.specs.Tables.Slots.{Held, rows, joined, IsNextRow, AreMarked, IsTable, IsMarkedTable}
 use Rattle.intmap_table.proofs.Tables.FilledLemmas.{marks-set_at, marks-kept_at, joined-emptied}
-use Rattle.intmap_table.proofs.Tables.MarkedLemmas.{row-none}
-use Rattle.intmap_table.proofs.Tables.IndicesLemmas.{IsNextMark}
 use Rattle.intmap_table.proofs.LeadsLemmas.{Leads, Leads-next, Leads-end}
-use Rattle.intmap_table.proofs.RetainLemmas.{Retains-append, length-Retains, All-Retains}
+use Rattle.intmap_table.proofs.RetainLemmas.{Retains-append, length-Retains}
 use Rattle.intmap_table.proofs.Tables.TableLemmas.{joined-take, length-rows}
 
 module _ {P : Type 0} where
@@ -65,45 +62,31 @@ IsTable-set_at {K} {X} number S i s table below all =
           subst (λ n. Own n j (get_or (rows (set S i s)) j [])) (sym len) (subst (λ R. Own (length S) j (get_or R j [])) (sym (map-set (λ (t : Held K X). t.pairs) S i s)) here);
     }
 
-module _ {K X : Type 0} (S : List (Held K X)) (marks : List Bool) (are : AreMarked (rows S) marks) (from : ℕ) where
-  -- a slot without a mark holds no pair
-  pub empty-unmarked : (j : ℕ) → marked marks j ≡ false → get_or (rows S) j [] ≡ []
-  empty-unmarked j not_marked = row-none (get_or (rows S) j []) (sym (are.own j) ∙ not_marked)
+-- with slot i changed, and its mark taken away if it holds no pair any more
+pub IsMarkedTable-changed : {K X : Type 0} (number : K → ℕ) (S : List (Held K X)) (marks : List Bool) → IsMarkedTable number S marks → (i : ℕ) → i < length S
+    → (s : Held K X) → (0 < length s.pairs → 0 < length (get_or (rows S) i [])) → All (λ p. slot_number number p.0 (length S) ≡ i) s.pairs → IsMarkedTable number (set S i s) (cond (nat_lt 0 (length s.pairs)) marks (set marks i false))
+IsMarkedTable-changed number S marks old i below s filled all = record {
+  table = IsTable-set_at number S i s old.table below all;
+  marks = elim (cases_Bool (nat_lt 0 (length s.pairs))) as (λ _. AreMarked (rows (set S i s)) (cond (nat_lt 0 (length s.pairs)) marks (set marks i false))) [
+    | inl some ↦ rw some (marks-kept_at S marks old.marks i below s (old.marks.own i ∙ lt-ltb 0 (length (get_or (rows S) i [])) (filled (ltb-true 0 (length s.pairs) some)) ∙ sym some))
+    | inr none ↦ rw none (marks-set_at S marks old.marks i below s false (sym none))
+  ];
+}
 
-  -- the slot at the next mark is one of the slots
-  pub next-within : (index : ℕ) → IsNextMark marks from index → index < length S
-  next-within index next = elim (cases_lt index (length S)) as (λ _. index < length S) [
-    | inl below ↦ below
-    | inr past ↦
-        (let none = ap length (get_or_past (rows S) index [] (omega (arith, past, length-rows S))) in
-        let some = ltb-true 0 (length (get_or (rows S) index [])) (sym (are.own index) ∙ next.is) in absurd (omega (arith, none, some)))
-  ]
-
-  -- slots before the next mark hold no pair
-  pub empty-between : (index : ℕ) → IsNextMark marks from index → (j : ℕ) → from ≤ j → j < index → get_or (rows S) j [] ≡ []
-  empty-between index next j le lt = empty-unmarked j (next.between j le lt)
-
-  -- if there is no mark any more, R went over all
-  pub Leads-all : {F : Type 0} (R : F → K × X → Bool → F → Type 0) (f₀ f : F) (L : List (K × X)) → ((j : ℕ) → from ≤ j → marked marks j ≡ false)
+-- R went over all if no row holds a pair from there on
+module _ {K X : Type 0} (S : List (Held K X)) (from : ℕ) (empty : (j : ℕ) → from ≤ j → get_or (rows S) j [] ≡ []) where
+  pub Leads-all : {F : Type 0} (R : F → K × X → Bool → F → Type 0) (f₀ f : F) (L : List (K × X))
       → Leads (Retains R) f₀ L f (joined (take from (rows S))) (joined (drop from (rows S))) → Retains R f₀ L (joined (rows S)) f
-  Leads-all R f₀ f L none leads =
-      let empty = λ (j : ℕ) (le : from ≤ j). empty-unmarked j (none j le) in
+  Leads-all R f₀ f L leads =
       subst (λ Z. Retains R f₀ L Z f) (joined-before from (rows S) empty)
       (Leads-end (Retains R) f₀ f L (joined (take from (rows S))) (refl, refl) (subst (λ Z. Leads (Retains R) f₀ L f (joined (take from (rows S))) Z) (joined-none from (rows S) empty) leads))
 
-  pub count-all : ((j : ℕ) → from ≤ j → marked marks j ≡ false) → length (joined (take from (rows S))) ≡ length (joined (rows S))
-  count-all none = ap length (joined-before from (rows S) (λ j le. empty-unmarked j (none j le)))
+module _ {K X : Type 0} (S : List (Held K X)) (from index : ℕ) (next : IsNextRow (rows S) from index) where
+  -- its index is one of the slots'
+  pub next-within : index < length S
+  next-within = let within = next.within in omega (arith, within, length-rows S)
 
-module _ {K X : Type 0} (number : K → ℕ) (S : List (Held K X)) (marks : List Bool) (old : IsMarkedTable number S marks) (from index : ℕ) (next : IsNextMark marks from index) (s : Held K X) where
-  below : index < length S
-  below = next-within S marks old.marks from index next
-
-  within : index < length (rows S)
-  within = omega (arith, below, length-rows S)
-
-  empty : (j : ℕ) → from ≤ j → j < index → get_or (rows S) j [] ≡ []
-  empty = empty-between S marks old.marks from index next
-
+module _ {K X : Type 0} (S : List (Held K X)) (from index : ℕ) (next : IsNextRow (rows S) from index) (s : Held K X) where
   abbrev row : List (K × X)
   row = get_or (rows S) index []
 
@@ -115,10 +98,10 @@ module _ {K X : Type 0} (number : K → ℕ) (S : List (Held K X)) (marks : List
   joined-taken =
       let one : index + 1 ≡ suc index = omega arith in
       let past : joined (take index (rows S)) ≡ joined (take from (rows S)) =
-      rw behind at (joined-take_past (index - from) from (rows S) (λ j le lt. empty j le (omega (arith, lt, behind)))) in
+      rw behind at (joined-take_past (index - from) from (rows S) (λ j le lt. next.between j le (omega (arith, lt, behind)))) in
       (λ i. joined (take (one i) (map-set (λ (t : Held K X). t.pairs) S index s i)))
       ∙ joined-take index (set (rows S) index s.pairs)
-      ∙ (λ i. joined (take-set (rows S) index s.pairs i) ++ get_or-set_same (rows S) index s.pairs [] within i)
+      ∙ (λ i. joined (take-set (rows S) index s.pairs i) ++ get_or-set_same (rows S) index s.pairs [] next.within i)
       ∙ ap (λ Z. Z ++ s.pairs) past
 
   -- what was left are the pairs that the slot held and those behind it
@@ -126,7 +109,7 @@ module _ {K X : Type 0} (number : K → ℕ) (S : List (Held K X)) (marks : List
   joined-left =
       let one : suc index ≡ index + 1 = omega arith in
       let past : joined (drop from (rows S)) ≡ joined (drop index (rows S)) =
-      rw behind at (joined-drop_past (index - from) from (rows S) (λ j le lt. empty j le (omega (arith, lt, behind)))) in
+      rw behind at (joined-drop_past (index - from) from (rows S) (λ j le lt. next.between j le (omega (arith, lt, behind)))) in
       let same : drop (suc index) (rows S) ≡ drop (index + 1) (rows (set S index s)) =
       sym (drop-set-lt (suc index) (rows S) index s.pairs (omega arith)) ∙ (λ i. drop (one i) (sym (map-set (λ (t : Held K X). t.pairs) S index s) i)) in
       past ∙ joined-drop index (rows S) ∙ ap (λ R. row ++ joined R) same
@@ -160,14 +143,3 @@ module _ {K X : Type 0} (number : K → ℕ) (S : List (Held K X)) (marks : List
         let after = ap length (joined-cut (index + 1) (rows (set S index s))) ∙ length-append (joined (take (index + 1) (rows (set S index s)))) (joined (drop (index + 1) (rows (set S index s)))) in
         let stay = count-slot n count in
         omega (arith, after, fewer, stay)
-
-    table : IsTable number (set S index s)
-    table = IsTable-set_at number S index s old.table below (All-Retains R (λ p. slot_number number p.0 (length S) ≡ index) f h row s.pairs run (old.table.in_place index below))
-
-    -- the slot was emptied, and its mark taken away
-    pub IsMarkedTable-emptied_at : false ≡ nat_lt 0 (length s.pairs) → IsMarkedTable number (set S index s) (set marks index false)
-    IsMarkedTable-emptied_at none = record { table = table; marks = marks-set_at S marks old.marks index below s false none }
-
-    -- the slot holds a pair, as before
-    pub IsMarkedTable-kept_at : true ≡ nat_lt 0 (length s.pairs) → IsMarkedTable number (set S index s) marks
-    IsMarkedTable-kept_at some = record { table = table; marks = marks-kept_at S marks old.marks index below s (next.is ∙ some) }

@@ -1,5 +1,5 @@
 -- Indices that are marked or not, as bits of words. No public clause cites this module.
-use Rattle.std.specs.Prelude.{ℕ, Bool, false, ◌*◌, ◌/◌, ◌%◌, ◌+◌, ◌<◌, ◌==◌, ◌≡◌, List, cond, length, map, filter, slice_index, slice_index_or}
+use Rattle.std.specs.Prelude.{ℕ, Bool, true, false, ◌*◌, ◌/◌, ◌%◌, ◌+◌, ◌<◌, ◌≤◌, ◌==◌, ◌≡◌, List, cond, length, map, filter, slice_index, slice_index_or}
 use Rattle.std.specs.Int.{bit_at}
 use Rattle.std.specs.List.{range_with_len}
 
@@ -10,6 +10,12 @@ marked marks i = slice_index_or marks i false
 -- the indices that are marked, in order
 abbrev pub marked_indices : List Bool → List ℕ
 marked_indices marks = filter (marked marks) (range_with_len 0 (length marks))
+
+-- index i is the first marked one from `from` on
+pub record IsNextMark (marks : List Bool) (from i : ℕ) : Type 0 where
+  pub behind : from ≤ i
+  pub is : marked marks i ≡ true
+  pub between : (j : ℕ) → from ≤ j → j < i → marked marks j ≡ false
 
 -- whether bit i of the word is set
 abbrev pub has_bit : ℕ → ℕ → Bool

@@ -1,5 +1,5 @@
 -- How a table lays its pairs out. No public clause cites this module.
-use Rattle.std.specs.Prelude.{◌≡◌, ℕ, zero, suc, ◌+◌, ◌*◌, ◌/◌, ◌<◌, Bool, nat_lt, List, [], ◌∷◌, ◌++◌, length, map, slice_index_or, Option, Some, None}
+use Rattle.std.specs.Prelude.{◌≡◌, ℕ, zero, suc, ◌+◌, ◌*◌, ◌/◌, ◌<◌, ◌≤◌, Bool, nat_lt, List, [], ◌∷◌, ◌++◌, length, map, slice_index_or, Option, Some, None}
 use Rattle.std.specs.Option.{option_to_list}
 use Rattle.std.specs.List.{All, flat_map}
 use Rattle.intmap_table.specs.Tables.Bits.{marked}
@@ -41,6 +41,13 @@ joined S = flat_map (λ s. s) S
 -- the rows at these indices, one after another
 abbrev pub pairs_at : {P : Type 0} → List (List P) → List ℕ → List P
 pairs_at S indices = flat_map (λ i. slice_index_or S i []) indices
+
+-- row i is the first one from row `from` on that holds something
+pub record IsNextRow {P : Type 0} (R : List (List P)) (from i : ℕ) : Type 0 where
+  pub behind : from ≤ i
+  pub within : i < length R
+  pub filled : 0 < length (slice_index_or R i [])
+  pub between : (j : ℕ) → from ≤ j → j < i → slice_index_or R j [] ≡ []
 
 -- marks in whole words of 64: the index of a row is marked exactly if the row has a pair, and no index behind the last row is marked
 pub record AreMarked {P : Type 0} (S : List (List P)) (marks : List Bool) : Type 0 where

@@ -84,14 +84,16 @@ impl<K: IntKey, X, A: Allocator> Slot<K, X, A> {
         self.first.take()
     }
 
-    /// Removes the first of several pairs. The others move up by one place.
+    /// Removes the first pair. The others move up by one place.
     #[inline(always)]
     pub(crate) fn take_front(&mut self) -> (Stored<K>, X)
-        requires { 1 < length self.old.pairs }
+        requires { 0 < length self.old.pairs }
         ensures pairs { self.old.pairs ≡ result ∷ self.new.pairs }
-        ensures left { 0 < length self.new.pairs }
         ensures room { self.new.room ≡ self.old.room }
     {
+        if let Some(lone) = self.take_lone() {
+            return lone;
+        }
         let next = self.rest.remove(0);
         replace_first(&mut self.first, next)
     }

@@ -12,9 +12,9 @@ use crate::bits::Bits;
 use crate::kept::Kept;
 use crate::key::IntKey;
 use crate::slot::Slot;
-use crate::table::Table;
 use crate::table::stored::Stored;
 use crate::table::walk::Cursor;
+use crate::table::{Table, unmark_if_empty};
 use std::alloc::Allocator;
 
 /// Keeps the pairs for which the closure returns true, slot after slot, and returns their number.
@@ -36,12 +36,10 @@ fn retain_slots<K: IntKey, V: Drop, A: Allocator, F: FnMut(K, &V) -> bool>(
 {
     let mut count = 0;
     let mut from = 0;
-    while let Some(index) = bits.iter_from(from).next() {
+    while let Some(index) = bits.next_from(from) {
         let slot = &mut slots[index];
         slot.retain(f);
-        if !slot.is_filled() {
-            bits.clear(index);
-        }
+        unmark_if_empty(bits, slot, index);
         count += slot.len();
         from = index + 1;
     }
@@ -93,9 +91,7 @@ fn extract_in<K: IntKey, V, A: Allocator, F: FnMut(K, &mut V) -> bool>(
     let before = at.place;
     let found = slot.extract_next(&mut at.place, f);
     at.passed += at.place - before;
-    if !slot.is_filled() {
-        bits.clear(at.slot);
-    }
+    unmark_if_empty(bits, slot, at.slot);
     found
 }
 
@@ -120,7 +116,7 @@ fn extract_slots<K: IntKey, V, A: Allocator, F: FnMut(K, &mut V) -> bool>(
         (length slots.new.items) at.new.slot at.new.place at.new.passed }
     ensures len { length slots.new.items ≡ length slots.old.items }
 {
-    while let Some(slot) = bits.iter_from(at.slot).next() {
+    while let Some(slot) = bits.next_from(at.slot) {
         at.slot = slot;
         if let Some(pair) = extract_in(bits, slots, at, f) {
             return Some(pair);

@@ -42,9 +42,7 @@ impl<K: IntKey, X: Drop, A: Allocator> Table<K, X, A> {
             (λ pair. self.old.walk ≡ pair ∷ (reverse rest.new.items ++ self.new.walk)) }
         ensures passed { ArePassed K.number_of self.new.walk self.new.capacity from.new }
     {
-        let Some(index) = self.directory.bits.iter_from(*from).next() else {
-            return None;
-        };
+        let index = self.directory.bits.next_from(*from)?;
         *from = index;
         let (key, value) = self.slots[index].take_all(rest);
         self.directory.bits.clear(index);

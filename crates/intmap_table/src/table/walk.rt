@@ -9,8 +9,8 @@ ghost use Rattle.intmap_table.specs.Classes.{slot_number};
 use crate::bits::Indices;
 use crate::key::IntKey;
 use crate::slot::Slot;
-use crate::table::Table;
 use crate::table::stored::Stored;
+use crate::table::{Table, unmark_if_empty};
 use std::alloc::{AllocError, Allocator};
 use std::marker::Model;
 
@@ -122,7 +122,7 @@ impl<K: IntKey, X, A: Allocator> Table<K, X, A> {
         ensures reached { IsReached K.number_of self.now.walk self.now.capacity
             at.new.slot at.new.place at.new.passed }
     {
-        while let Some(slot) = self.directory.bits.iter_from(at.slot).next() {
+        while let Some(slot) = self.directory.bits.next_from(at.slot) {
             at.slot = slot;
             let row = slot_at(&self.slots, slot);
             let place = at.place;
@@ -148,16 +148,11 @@ impl<K: IntKey, X, A: Allocator> Table<K, X, A> {
         ensures slot { IfSome result
             (λ pair. from.new ≡ slot_number K.number_of pair.0 self.old.capacity) }
     {
-        let Some(index) = self.directory.bits.iter_from(*from).next() else {
-            return None;
-        };
+        let index = self.directory.bits.next_from(*from)?;
         *from = index;
         let slot = &mut self.slots[index];
-        if let Some((key, value)) = slot.take_lone() {
-            self.directory.bits.clear(index);
-            return Some((*key.key(), value));
-        }
         let (key, value) = slot.take_front();
+        unmark_if_empty(&mut self.directory.bits, slot, index);
         Some((*key.key(), value))
     }
 }

@@ -1,7 +1,7 @@
 use Rattle.std.proofs.Common.{◌≡◌, ◌+◌, ◌∷◌, [], ◌<◌, get_or, length, drop, sym, ap, ◌∙◌, refl, subst, arith}
-use Rattle.intmap_table.specs.Tables.Slots.{Grid, rows, joined}
+use Rattle.intmap_table.specs.Tables.Slots.{Grid, rows, joined, IsNextRow}
 use Rattle.intmap_table.proofs.Tables.ExtractSlotsLemmas.{IsInRows, IsInRows-reached, IsReached-at, IsInRows-next, drop-none, row-at, row-few}
-use Rattle.intmap_table.proofs.Tables.IndicesLemmas.{IsNextMark, IsNextMark-first, unmarked-behind}
+use Rattle.intmap_table.proofs.Tables.FilledLemmas.{empty-unmarked, IsNextRow-marked}
 use Rattle.intmap_table.proofs.Tables.RetainSlotsLemmas.{next-within}
 use Rattle.intmap_table.proofs.Tables.CursorLemmas.{IsInRows-on, IsInRows-past, drop-on}
 use Rattle.intmap_table.proofs.table.Table.step.Goals as goal
@@ -9,15 +9,15 @@ use Rattle.intmap_table.proofs.table.Table.step.Goals.{In-Some, After-slot_at-ro
 
 module _ (g : _) (c : In-Some g) where
   -- the slot at hand is the next one that holds a pair
-  next : IsNextMark c.self.inside.directory.bits c.loop-slot.at.slot c.in-Some.slot
-  next = IsNextMark-first c.self.inside.directory.bits c.loop-slot.at.slot c.in-Some.slot c.next.new.self (sym c.iter_from.ensures ∙ c.in-Some.ensures.steps)
+  next : IsNextRow (rows c.self.inside.slots.items) c.loop-slot.at.slot c.in-Some.slot
+  next = IsNextRow-marked _ _ c.self.invariant.marked.marks _ _ c.in-Some.ensures.some
 
   below : c.in-Some.slot < length c.self.inside.slots.items
-  below = next-within c.self.inside.slots.items c.self.inside.directory.bits c.self.invariant.marked.marks c.loop-slot.at.slot c.in-Some.slot next
+  below = next-within _ _ _ next
 
   -- the cursor is at a place of it
   here : IsInRows (rows c.self.inside.slots.items) c.in-Some.slot c.loop-slot.at.place c.loop-slot.at.passed
-  here = IsInRows-next c.self.inside.slots.items c.self.inside.directory.bits c.self.invariant.marked.marks c.loop-slot.at.slot c.loop-slot.at.place c.loop-slot.at.passed c.loop-slot.invariant.at c.in-Some.slot next
+  here = IsInRows-next _ _ _ _ c.loop-slot.invariant.at _ next
 
 -- its pairs are those of the row
 row : (g : _) (c : After-slot_at-row g) → c.in-Some.slot < length c.self.inside.slots.items → c.slot_at-row.result.now.pairs ≡ get_or (rows c.self.inside.slots.items) c.in-Some.slot []
@@ -79,9 +79,8 @@ loop-slot-preserved g c =
 
 pub returns-clause-first : goal.returns-clause-first
 returns-clause-first g c =
-    let S = c.self.inside.slots.items in let marks = c.self.inside.directory.bits in let from = c.loop-slot.at.slot in
-    let none = unmarked-behind marks from (sym c.iter_from.ensures ∙ c.in_default.ensures.steps.0) in
-    rw (← c.self.view_is, ← c.loop-slot.invariant.passed) (drop-none S marks c.self.invariant.marked.marks from c.loop-slot.at.place c.loop-slot.at.passed c.loop-slot.invariant.at none)
+    rw (← c.self.view_is, ← c.loop-slot.invariant.passed)
+    (drop-none _ _ _ _ c.loop-slot.invariant.at (λ j le. empty-unmarked _ _ c.self.invariant.marked.marks j (c.in_default.ensures.none j le)))
 
 pub returns-clause-reached : goal.returns-clause-reached
 returns-clause-reached g c =

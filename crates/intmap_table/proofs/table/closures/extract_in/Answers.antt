@@ -1,10 +1,10 @@
-use Rattle.std.proofs.Common.{◌≡◌, length, get_or, drop, [], true, false, refl, sym, ap, subst, arith}
-use Rattle.std.specs.Prelude.{nat_lt}
+use Rattle.std.proofs.Common.{◌≡◌, length, get_or, drop, [], refl, sym, ap, subst, arith}
 use Rattle.intmap_table.specs.Picking.{ExtractsBehind, AsksAt, PicksAt}
 use Rattle.intmap_table.specs.Writes.{TakesPairMut}
 use Rattle.intmap_table.specs.Tables.Slots.{rows}
 use Rattle.intmap_table.specs.Taking.{TakesEach}
-use Rattle.intmap_table.proofs.Tables.ExtractSlotsLemmas.{IsInRows, IsAsked, row-at, row-few, place-on, IsInRows-reached, IsMarkedTable-emptied_slot, IsMarkedTable-filled_slot}
+use Rattle.intmap_table.proofs.Tables.ExtractSlotsLemmas.{IsInRows, IsAsked, row-at, row-few, place-on, IsInRows-reached, IsMarkedTable-asked}
+use Rattle.intmap_table.proofs.Tables.FilledLemmas.{index-below}
 use Rattle.intmap_table.proofs.table.closures.extract_in.Goals as goal
 use Rattle.intmap_table.proofs.table.closures.extract_in.Goals.{After-index_mut-slot, After-extract_next-found}
 
@@ -50,24 +50,15 @@ overflow_add-at g c =
     let on = place-on (asked g w.After-extract_next-found at (row g w.After-index_mut-slot)) in let few = row-few _ _ _ _ at in
     omega (arith, on, few, c.requires.count)
 
-pub returns-then-not-is_filled-clause-step : goal.returns-then-not-is_filled-clause-step
-returns-then-not-is_filled-clause-step g c =
-    let w = goal.at.returns-then-not-is_filled-clause-step g c in
+pub unmark_if_empty-requires : goal.unmark_if_empty-requires
+unmark_if_empty-requires g c = index-below _ _ c.requires.table.marks _ c.requires.within
+
+pub returns-clause-step : goal.returns-clause-step
+returns-clause-step g c =
+    let w = goal.at.returns-clause-step g c in
     (c.extract_next-found.new.self, refl, (asked g w.After-extract_next-found (at g w.After-index_mut-slot) (row g w.After-index_mut-slot)).step, c.extract_next-found.ensures.within)
 
-pub returns-else-not-is_filled-clause-step : goal.returns-else-not-is_filled-clause-step
-returns-else-not-is_filled-clause-step g c =
-    let w = goal.at.returns-else-not-is_filled-clause-step g c in
-    (c.extract_next-found.new.self, refl, (asked g w.After-extract_next-found (at g w.After-index_mut-slot) (row g w.After-index_mut-slot)).step, c.extract_next-found.ensures.within)
-
-pub returns-then-not-is_filled-clause-table : goal.returns-then-not-is_filled-clause-table
-returns-then-not-is_filled-clause-table g c =
-    let w = goal.at.returns-then-not-is_filled-clause-table g c in
-    let none : false ≡ nat_lt 0 (length c.extract_next-found.new.self.pairs) = let told = c.is_filled.ensures in let no = c.if-not-is_filled.true in grind (arith, told, no) in
-    rw c.clear.ensures (IsMarkedTable-emptied_slot (asked g w.After-extract_next-found (at g w.After-index_mut-slot) (row g w.After-index_mut-slot)) none)
-
-pub returns-else-not-is_filled-clause-table : goal.returns-else-not-is_filled-clause-table
-returns-else-not-is_filled-clause-table g c =
-    let w = goal.at.returns-else-not-is_filled-clause-table g c in
-    let some : true ≡ nat_lt 0 (length c.extract_next-found.new.self.pairs) = let told = c.is_filled.ensures in let filled = c.if-not-is_filled.false in grind (arith, told, filled) in
-    IsMarkedTable-filled_slot (asked g w.After-extract_next-found (at g w.After-index_mut-slot) (row g w.After-index_mut-slot)) some
+pub returns-clause-table : goal.returns-clause-table
+returns-clause-table g c =
+    let w = goal.at.returns-clause-table g c in
+    rw c.unmark_if_empty.ensures (IsMarkedTable-asked (asked g w.After-extract_next-found (at g w.After-index_mut-slot) (row g w.After-index_mut-slot)))

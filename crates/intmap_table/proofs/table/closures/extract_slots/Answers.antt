@@ -2,12 +2,12 @@ use Rattle.std.proofs.Common.{◌≡◌, ◌+◌, ◌<◌, ◌∙◌, List, ◌+
 use Rattle.std.specs.List.Retain.{ExtractsNext}
 use Rattle.intmap_table.specs.Picking.{AsksAt, PicksAt}
 use Rattle.intmap_table.specs.Writes.{TakesPairMut}
-use Rattle.intmap_table.specs.Tables.Slots.{rows, joined}
+use Rattle.intmap_table.specs.Tables.Slots.{rows, joined, IsNextRow}
 use Rattle.intmap_table.specs.Taking.{TakesEach}
 use Rattle.intmap_table.proofs.ExtractLemmas.{StepsTo, StepsTo-start, StepsTo-end}
 use Rattle.intmap_table.proofs.TakingLemmas.{TakesEach-front}
 use Rattle.intmap_table.proofs.Tables.ExtractSlotsLemmas.{IsInRows, IsAsked, IsInRows-reached, IsReached-at, IsInRows-next, IsInRows-step, IsInRows-left, drop-reached, drop-none, joined-few, Extracts-slot, StepsTo-slot, TakesEach-slot}
-use Rattle.intmap_table.proofs.Tables.IndicesLemmas.{IsNextMark, IsNextMark-first, unmarked-behind}
+use Rattle.intmap_table.proofs.Tables.FilledLemmas.{empty-unmarked, IsNextRow-marked}
 use Rattle.intmap_table.proofs.Tables.RetainSlotsLemmas.{next-within}
 use Rattle.intmap_table.proofs.table.closures.extract_slots.Goals as goal
 use Rattle.intmap_table.proofs.table.closures.extract_slots.Goals.{In-Some, After-extract_in}
@@ -24,15 +24,15 @@ loop-slot-init g c = record {
 
 module _ (g : _) (c : In-Some g) where
   -- the slot at hand is the next one that holds a pair
-  next : IsNextMark c.loop-slot.bits c.loop-slot.at.slot c.in-Some.slot
-  next = IsNextMark-first c.loop-slot.bits c.loop-slot.at.slot c.in-Some.slot c.next.new.self (sym c.iter_from.ensures ∙ c.in-Some.ensures.steps)
+  next : IsNextRow (rows c.loop-slot.slots.items) c.loop-slot.at.slot c.in-Some.slot
+  next = IsNextRow-marked _ _ c.loop-slot.invariant.table.marks _ _ c.in-Some.ensures.some
 
   below : c.in-Some.slot < length c.loop-slot.slots.items
-  below = next-within c.loop-slot.slots.items c.loop-slot.bits c.loop-slot.invariant.table.marks c.loop-slot.at.slot c.in-Some.slot next
+  below = next-within _ _ _ next
 
   -- the cursor is at a place of it
   at : IsInRows (rows c.loop-slot.slots.items) c.in-Some.slot c.loop-slot.at.place c.loop-slot.at.passed
-  at = IsInRows-next c.loop-slot.slots.items c.loop-slot.bits c.loop-slot.invariant.table.marks c.loop-slot.at.slot c.loop-slot.at.place c.loop-slot.at.passed c.loop-slot.invariant.at c.in-Some.slot next
+  at = IsInRows-next _ _ _ _ c.loop-slot.invariant.at _ next
 
 -- what the closure left of it
 asked : (g : _) (c : After-extract_in g) → c.in-Some.slot < length c.loop-slot.slots.items → IsInRows (rows c.loop-slot.slots.items) c.in-Some.slot c.loop-slot.at.place c.loop-slot.at.passed
@@ -104,9 +104,8 @@ loop-slot-preserved g c =
 
 pub returns-clause-step : goal.returns-clause-step
 returns-clause-step g c =
-    let S = c.loop-slot.slots.items in let marks = c.loop-slot.bits in let from = c.loop-slot.at.slot in let loop = c.loop-slot.invariant in
-    let none = unmarked-behind marks from (sym c.iter_from.ensures ∙ c.in_default.ensures.steps.0) in
-    let left = drop-none S marks loop.table.marks from c.loop-slot.at.place c.loop-slot.at.passed loop.at none in
+    let loop = c.loop-slot.invariant in
+    let left = drop-none _ _ _ _ loop.at (λ j le. empty-unmarked _ _ loop.table.marks j (c.in_default.ensures.none j le)) in
     StepsTo-end (PicksAt g.F.FnMut) c.args.f.now c.loop-slot.f _ _ _ _ left loop.steps
 
 pub returns-clause-reached : goal.returns-clause-reached

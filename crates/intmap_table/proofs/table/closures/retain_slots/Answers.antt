@@ -1,24 +1,23 @@
-use Rattle.std.proofs.Common.{◌≡◌, ◌+◌, ◌<◌, ◌≤◌, ◌∙◌, length, length-set, get_or, [], true, false, refl, sym, ap, subst, arith}
-use Rattle.std.specs.Prelude.{nat_lt}
+use Rattle.std.proofs.Common.{◌≡◌, ◌+◌, ◌<◌, ◌≤◌, ◌∙◌, length, length-set, get_or, [], refl, sym, ap, subst, arith}
+use Rattle.intmap_table.specs.Classes.{slot_number}
 use Rattle.intmap_table.specs.Retaining.{KeepsAt, Retains, TakesPair}
-use Rattle.intmap_table.specs.Tables.Slots.{rows, joined}
+use Rattle.intmap_table.specs.Tables.Slots.{rows, joined, IsNextRow}
 use Rattle.intmap_table.specs.Taking.{TakesEach}
-use Rattle.intmap_table.proofs.Tables.FilledLemmas.{index-below}
+use Rattle.intmap_table.proofs.Tables.FilledLemmas.{empty-unmarked, index-below, IsNextRow-marked}
 use Rattle.intmap_table.proofs.Tables.ExtractSlotsLemmas.{row-at}
-use Rattle.intmap_table.proofs.Tables.IndicesLemmas.{IsNextMark, IsNextMark-first, unmarked-behind}
-use Rattle.intmap_table.proofs.Tables.RetainSlotsLemmas.{next-within, joined-left, Leads-slot, Leads-all, count-all, count-slot, few-slot, fewer, IsMarkedTable-emptied_at, IsMarkedTable-kept_at}
-use Rattle.intmap_table.proofs.RetainLemmas.{FoldsTo-Retains}
+use Rattle.intmap_table.proofs.Tables.RetainSlotsLemmas.{next-within, joined-before, joined-left, Leads-slot, Leads-all, count-slot, few-slot, fewer, IsMarkedTable-changed}
+use Rattle.intmap_table.proofs.RetainLemmas.{FoldsTo-Retains, All-Retains}
 use Rattle.intmap_table.proofs.TakingLemmas.{TakesEach-front, TakesEach-behind}
 use Rattle.intmap_table.proofs.table.closures.retain_slots.Goals as goal
-use Rattle.intmap_table.proofs.table.closures.retain_slots.Goals.{In-Some, After-retain, then-not-is_filled, else-not-is_filled}
+use Rattle.intmap_table.proofs.table.closures.retain_slots.Goals.{In-Some, After-retain}
 
 module _ (g : _) (c : In-Some g) where
-  -- the index at hand is that of the next mark
-  next : IsNextMark c.loop-index.bits c.loop-index.from c.in-Some.index
-  next = IsNextMark-first c.loop-index.bits c.loop-index.from c.in-Some.index c.next.new.self (sym c.iter_from.ensures ∙ c.in-Some.ensures.steps)
+  -- the slot at hand is the next one that holds a pair
+  next : IsNextRow (rows c.loop-index.slots.items) c.loop-index.from c.in-Some.index
+  next = IsNextRow-marked _ _ c.loop-index.invariant.table.marks _ _ c.in-Some.ensures.some
 
   within : c.in-Some.index < length c.loop-index.slots.items
-  within = next-within c.loop-index.slots.items c.loop-index.bits c.loop-index.invariant.table.marks c.loop-index.from c.in-Some.index next
+  within = next-within _ _ _ next
 
 pub index_mut-slot-requires : goal.index_mut-slot-requires
 index_mut-slot-requires g c = let below = within g (goal.at.index_mut-slot-requires g c).In-Some in omega (arith, below, c.loop-index.slots.ok.0)
@@ -36,9 +35,9 @@ loop-index-init g c = record {
 pub overflow_add-from : goal.overflow_add-from
 overflow_add-from g c = let below = within g (goal.at.overflow_add-from g c).In-Some in omega (arith, below, c.loop-index.slots.ok.0)
 
-pub clear-requires : goal.clear-requires
-clear-requires g c =
-    let below = within g (goal.at.clear-requires g c).In-Some in
+pub unmark_if_empty-requires : goal.unmark_if_empty-requires
+unmark_if_empty-requires g c =
+    let below = within g (goal.at.unmark_if_empty-requires g c).In-Some in
     index-below c.loop-index.slots.items c.loop-index.bits c.loop-index.invariant.table.marks c.in-Some.index below
 
 -- the closure was asked about the pairs of the slot
@@ -54,14 +53,14 @@ retain-requires g c =
     let S = c.loop-index.slots.items in let index = c.in-Some.index in let Q = TakesEach (KeepsAt g.F.FnMut) (TakesPair g.F.FnMut) c.loop-index.f in
     let is = next g at.In-Some in let s = c.index_mut-slot.result.now in
     subst Q (sym (row-at S index s (within g at.In-Some) c.index_mut-slot.ensures.value)) (TakesEach-front (KeepsAt g.F.FnMut) (TakesPair g.F.FnMut) c.loop-index.f _ _
-    (subst Q (joined-left g.K.IntKey.number_of S c.loop-index.bits loop.table c.loop-index.from index is s) loop.callable))
+    (subst Q (joined-left S c.loop-index.from index is s) loop.callable))
 
 -- up to this slot no more pairs stay than there were in all
-few : (g : _) (c : After-retain g) → IsNextMark c.loop-index.bits c.loop-index.from c.in-Some.index → c.in-Some.index < length c.loop-index.slots.items
+few : (g : _) (c : After-retain g) → IsNextRow (rows c.loop-index.slots.items) c.loop-index.from c.in-Some.index → c.in-Some.index < length c.loop-index.slots.items
     → c.loop-index.count + length c.retain.new.self.pairs ≤ length (joined (rows c.loop-index.slots.items))
 few g c is below =
     let loop = c.loop-index.invariant in
-    few-slot g.K.IntKey.number_of c.loop-index.slots.items c.loop-index.bits loop.table c.loop-index.from c.in-Some.index is c.retain.new.self _ _ _ (asked g c below) c.loop-index.count loop.count
+    few-slot c.loop-index.slots.items c.loop-index.from c.in-Some.index is c.retain.new.self _ _ _ (asked g c below) c.loop-index.count loop.count
 
 pub len-count-requires : goal.len-count-requires
 len-count-requires g c =
@@ -86,34 +85,28 @@ loop-index-preserved g c =
     let S = c.loop-index.slots.items in let marks = c.loop-index.bits in let from = c.loop-index.from in let index = c.in-Some.index in let s = c.retain.new.self in
     let is = next g at.In-Some in let run = asked g at.After-retain (within g at.In-Some) in
     let number = g.K.IntKey.number_of in
-    let few = fewer number S marks loop.table from index is s _ _ _ run in
+    let few = fewer S from index is s _ _ _ run in
     record {
       callable = TakesEach-behind (KeepsAt g.F.FnMut) (TakesPair g.F.FnMut) c.loop-index.f c.retain.new.f _ _
-          (subst (TakesEach (KeepsAt g.F.FnMut) (TakesPair g.F.FnMut) c.loop-index.f) (joined-left number S marks loop.table from index is s) loop.callable)
+          (subst (TakesEach (KeepsAt g.F.FnMut) (TakesPair g.F.FnMut) c.loop-index.f) (joined-left S from index is s) loop.callable)
           (FoldsTo-Retains (KeepsAt g.F.FnMut) _ _ _ s.pairs run);
-      table = elim c.if-not-is_filled.branch [
-        | then-not-is_filled w ↦
-            (let empty : false ≡ nat_lt 0 (length s.pairs) = let told = c.is_filled.ensures in let no = w.if-not-is_filled.true in grind (arith, told, no) in
-            rw (w.bits-is, w.clear.ensures) (IsMarkedTable-emptied_at number S marks loop.table from index is s _ _ _ run empty))
-        | else-not-is_filled w ↦
-            (let filled : true ≡ nat_lt 0 (length s.pairs) = let told = c.is_filled.ensures in let some = w.if-not-is_filled.false in grind (arith, told, some) in
-            rw w.bits-is (IsMarkedTable-kept_at number S marks loop.table from index is s _ _ _ run filled))
-      ];
+      table = rw c.unmark_if_empty.ensures (IsMarkedTable-changed number S marks loop.table index (within g at.In-Some) s (λ _. is.filled)
+          (All-Retains (KeepsAt g.F.FnMut) (λ p. slot_number number p.0 (length S) ≡ index) _ _ _ s.pairs run (loop.table.table.in_place index (within g at.In-Some))));
       len = length-set S index s ∙ loop.len;
       few = omega (arith, few, loop.few);
-      count = ap (λ n. c.loop-index.count + n) c.len-count.ensures ∙ count-slot number S marks loop.table from index is s _ _ _ run c.loop-index.count loop.count;
-      leads = Leads-slot number S marks loop.table from index is s _ _ _ run _ _ loop.leads;
+      count = ap (λ n. c.loop-index.count + n) c.len-count.ensures ∙ count-slot S from index is s _ _ _ run c.loop-index.count loop.count;
+      leads = Leads-slot S from index is s _ _ _ run _ _ loop.leads;
     }
 
 pub returns-clause-pairs : goal.returns-clause-pairs
 returns-clause-pairs g c =
-    let none = unmarked-behind c.loop-index.bits c.loop-index.from (sym c.iter_from.ensures ∙ c.in_default.ensures.steps.0) in
-    Leads-all c.loop-index.slots.items c.loop-index.bits c.loop-index.invariant.table.marks c.loop-index.from (KeepsAt g.F.FnMut) _ _ _ none c.loop-index.invariant.leads
+    let loop = c.loop-index.invariant in
+    Leads-all _ _ (λ j le. empty-unmarked _ _ loop.table.marks j (c.in_default.ensures.none j le)) (KeepsAt g.F.FnMut) _ _ _ loop.leads
 
 pub returns-clause-count : goal.returns-clause-count
 returns-clause-count g c =
-    let none = unmarked-behind c.loop-index.bits c.loop-index.from (sym c.iter_from.ensures ∙ c.in_default.ensures.steps.0) in
-    c.loop-index.invariant.count ∙ count-all c.loop-index.slots.items c.loop-index.bits c.loop-index.invariant.table.marks c.loop-index.from none
+    let loop = c.loop-index.invariant in
+    loop.count ∙ ap length (joined-before _ _ (λ j le. empty-unmarked _ _ loop.table.marks j (c.in_default.ensures.none j le)))
 
 pub returns-clause-table : goal.returns-clause-table
 returns-clause-table g c = c.loop-index.invariant.table
