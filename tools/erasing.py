@@ -40,7 +40,7 @@ FMT = "fn fmt<W: fmt::Write>(&self, f: &mut fmt::Formatter<W>)"
 FMT_OF_RUST = "fn fmt(&self, f: &mut fmt::Formatter<'_>)"
 
 # modules of Rattle's std that `memory` has. The others are those of Rust's `core`.
-OF_MEMORY = ["alloc", "clone", "default"]
+OF_MEMORY = ["alloc", "clone", "default", "vec"]
 # traits of Rattle's `std::marker` that are ghosts, or that Rust has in its prelude
 MARKERS = ["Model", "Owns", "Move", "Send", "Sync"]
 PRELUDE = "use crate::memory::prelude::*;"

@@ -3,7 +3,7 @@
 //! Rust's `Vec` and `Clone` end the process if an allocation fails. Rattle's return an error. These
 //! stand in for them, over Rust's own.
 
-mod vec;
+pub mod vec;
 
 pub use vec::Vec;
 

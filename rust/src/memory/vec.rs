@@ -1,5 +1,6 @@
 //! A vector whose allocations may fail.
 use crate::memory::alloc::{AllocError, Allocator, Global};
+use core::marker::PhantomData;
 use core::ops::{Deref, DerefMut};
 
 /// Rust's `Vec` with the handle of an allocator beside it. Each call that allocates may fail.
@@ -157,10 +158,26 @@ impl<T, A: Allocator> DerefMut for Vec<T, A> {
 
 impl<T, A: Allocator> IntoIterator for Vec<T, A> {
     type Item = T;
-    type IntoIter = alloc::vec::IntoIter<T>;
+    type IntoIter = IntoIter<T, A>;
 
-    fn into_iter(self) -> alloc::vec::IntoIter<T> {
-        self.items.into_iter()
+    #[inline]
+    fn into_iter(self) -> IntoIter<T, A> {
+        IntoIter { items: self.items.into_iter(), allocator: PhantomData }
+    }
+}
+
+/// The elements of a vector by value.
+pub struct IntoIter<T, A: Allocator> {
+    items: alloc::vec::IntoIter<T>,
+    allocator: PhantomData<A>,
+}
+
+impl<T, A: Allocator> Iterator for IntoIter<T, A> {
+    type Item = T;
+
+    #[inline]
+    fn next(&mut self) -> Option<T> {
+        self.items.next()
     }
 }
 

@@ -1,5 +1,6 @@
 //! Room in slots, and the moves of a growth, which takes all pairs of a slot at once.
 ghost use Rattle.std.specs.Prelude.{◌≡◌, ◌≢◌, ◌+◌, ◌<◌, ◌≤◌, [], ◌∷◌, ◌++◌, length, reverse, vec_capacity, OnOk};
+ghost use Rattle.std.specs.Vec.Iter.{into_iter_items};
 ghost use Rattle.intmap_table.specs.Tables.Moves.{bare_slot};
 
 use crate::key::IntKey;
@@ -7,6 +8,7 @@ use crate::slot::Slot;
 use crate::table::stored::Stored;
 use std::alloc::{AllocError, Allocator};
 use std::mem;
+use std::vec::IntoIter;
 
 impl<K: IntKey, X: Drop, A: Allocator> Slot<K, X, A> {
     /// Makes room for `count` pairs behind the first one, and allocates for exactly those. It fails
@@ -58,28 +60,27 @@ impl<K: IntKey, X: Drop, A: Allocator> Slot<K, X, A> {
     }
 }
 
-impl<K: IntKey, X: Drop, A: Allocator> Slot<K, X, A> {
-    /// Removes all pairs, and returns the first of them. The vector `rest` gets the others with their
-    /// block, the last one first. No pair moves but by that turn.
+impl<K: IntKey, X: Drop, A: Allocator + Copy> Slot<K, X, A> {
+    /// Removes all pairs, and returns the first of them. `rest`, which has none, gets the others
+    /// with their block. No pair moves.
     #[inline(always)]
-    pub(crate) fn take_all(&mut self, rest: &mut Vec<(Stored<K>, X), A>) -> (Stored<K>, X)
+    pub(crate) fn take_all(&mut self, rest: &mut IntoIter<(Stored<K>, X), A>) -> (Stored<K>, X)
         requires filled { 0 < length self.old.pairs }
-        requires empty { rest.old.items ≡ [] }
-        ensures pairs { self.old.pairs ≡ result ∷ reverse rest.new.items }
+        requires empty { into_iter_items rest.old ≡ [] }
+        ensures pairs { self.old.pairs ≡ result ∷ into_iter_items rest.new }
         ensures emptied { self.new.pairs ≡ [] }
     {
-        if !self.rest.is_empty() {
-            mem::swap(&mut self.rest, rest);
-            rest.reverse();
+        if let Some(lone) = self.take_lone() {
+            return lone;
         }
+        let alloc = *self.rest.allocator();
+        *rest = mem::replace(&mut self.rest, Vec::new(alloc)).into_iter();
         match self.first.take() {
             Some(first) => first,
             None => unreachable!(),
         }
     }
-}
 
-impl<K: IntKey, X, A: Allocator + Copy> Slot<K, X, A> {
     /// Removes all of several pairs. The first one is returned. The others are moved into a buffer,
     /// which has room for them, the last of them first. The block of the others is returned too.
     #[inline(always)]

@@ -1,5 +1,5 @@
 //! Growth in one jump, in the table's own slots. All memory is allocated before the first pair moves.
-ghost use Rattle.std.specs.Prelude.{◌≡◌, ◌+◌, ◌-◌, ◌*◌, ◌/◌, ◌%◌, ◌^◌, ◌<◌, ◌≤◌, ◌==◌, ℕ, cond, [], ◌∷◌, ◌++◌, length, get_or, take, replicate, false, OnOk, OnErr, IfOk, IfErr, IsOk, None, Some, vec_capacity};
+ghost use Rattle.std.specs.Prelude.{◌≡◌, ◌+◌, ◌-◌, ◌*◌, ◌/◌, ◌%◌, ◌^◌, ◌<◌, ◌≤◌, ℕ, cond, nat_eq, [], ◌∷◌, ◌++◌, length, get_or, take, replicate, false, OnOk, OnErr, IfOk, IfErr, IsOk, None, Some, vec_capacity};
 ghost use Rattle.intmap_table.specs.Classes.{IsCapacity, slot_number};
 ghost use Rattle.intmap_table.specs.Bindings.{value_of, put_pair, take_key};
 ghost use Rattle.intmap_table.specs.Tables.Bits.{marked_indices};
@@ -27,7 +27,7 @@ fn count_key<K: IntKey>(counts: &mut [usize], key: &K, old: usize)
     requires fits { (t : ℕ) → t < length counts.old → get_or counts.old t 0 + 1 < 2 ^ 64 }
     ensures len { length counts.new ≡ length counts.old }
     ensures counts { (t : ℕ) → t < length counts.old → get_or counts.new t 0 ≡ get_or counts.old t 0
-        + cond (slot_number K.number_of key.now (length counts.old * old) / old == t) 1 0 }
+        + cond (nat_eq (slot_number K.number_of key.now (length counts.old * old) / old) t) 1 0 }
 {
     let part = index_of(key, counts.len() * old) / old;
     counts[part] += 1;

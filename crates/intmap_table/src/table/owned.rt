@@ -1,6 +1,7 @@
 //! The pairs of a table by value, a whole slot at a time.
-ghost use Rattle.std.specs.Prelude.{◌≡◌, [], ◌∷◌, ◌++◌, reverse, MatchOption};
+ghost use Rattle.std.specs.Prelude.{◌≡◌, [], ◌∷◌, ◌++◌, MatchOption};
 ghost use Rattle.std.specs.Iterator.{YieldsFirst, item_count};
+ghost use Rattle.std.specs.Vec.Iter.{into_iter_items};
 ghost use Rattle.intmap_table.specs.Walk.{walk_of, ArePassed};
 
 use crate::key::IntKey;
@@ -8,38 +9,42 @@ use crate::table::Table;
 use crate::table::stored::Stored;
 use std::alloc::Allocator;
 use std::marker::Model;
+use std::vec::IntoIter;
 
 /// The pairs of a table by value, in the order of the walk. Contracts see it as the list of the pairs
 /// that are left: those of the slot at hand, which were taken out of the table together, and those
-/// that are still in it. Each slot is turned round once, so a step takes the same time however many
-/// pairs share the slot.
+/// that are still in it. So a step takes the same time however many pairs share the slot.
 #[derive(Drop)]
 pub struct IntoPairs<K: IntKey, X, A: Allocator + Copy> {
-    /// The pairs that are left of the slot at hand, the last of them first.
-    rest: Vec<(Stored<K>, X), A>,
+    rest: IntoIter<(Stored<K>, X), A>,
     table: Table<K, X, A>,
     from: usize,
     ghost passed: { ArePassed K.number_of table.walk table.capacity from },
 }
 
 impl<K: IntKey, X, A: Allocator + Copy> Model for IntoPairs<K, X, A> {
-    ghost use Rattle.std.specs.Prelude.{List, ◌++◌, reverse};
+    ghost use Rattle.std.specs.Prelude.{List, ◌++◌};
+    ghost use Rattle.std.specs.Vec.Iter.{into_iter_items};
 
     ghost Value = { List (K × X) };
 
-    ghost view = { λ it. reverse it.rest.items ++ it.table.walk };
+    ghost view = { λ it. into_iter_items it.rest ++ it.table.walk };
 }
 
-impl<K: IntKey, X: Drop, A: Allocator> Table<K, X, A> {
-    /// Removes all pairs of the first slot that holds one. The first of them is returned, the others
-    /// are left in `rest`, the last of them first. No slot before `from` holds a pair. `from` moves
-    /// on to the slot that held the removed pairs.
-    fn take_slot(&mut self, from: &mut usize, rest: &mut Vec<(Stored<K>, X), A>) -> Option<(K, X)>
+impl<K: IntKey, X: Drop, A: Allocator + Copy> Table<K, X, A> {
+    /// Removes all pairs of the first slot that holds one. The first of them is returned, and `rest`
+    /// gets the others. No slot before `from` holds a pair. `from` moves on to the slot that held
+    /// the removed pairs.
+    fn take_slot(
+        &mut self,
+        from: &mut usize,
+        rest: &mut IntoIter<(Stored<K>, X), A>,
+    ) -> Option<(K, X)>
         requires passed { ArePassed K.number_of self.old.walk self.old.capacity from.old }
-        requires empty { rest.old.items ≡ [] }
-        ensures first { MatchOption result
-            ((self.old.walk ≡ []) × ((self.new.walk ≡ []) × (rest.new.items ≡ [])))
-            (λ pair. self.old.walk ≡ pair ∷ (reverse rest.new.items ++ self.new.walk)) }
+        requires empty { into_iter_items rest.old ≡ [] }
+        ensures first { MatchOption result ((self.old.walk ≡ [])
+            × (into_iter_items rest.new ++ self.new.walk ≡ []))
+            (λ pair. self.old.walk ≡ pair ∷ (into_iter_items rest.new ++ self.new.walk)) }
         ensures passed { ArePassed K.number_of self.new.walk self.new.capacity from.new }
     {
         let index = self.directory.bits.next_from(*from)?;
@@ -48,15 +53,13 @@ impl<K: IntKey, X: Drop, A: Allocator> Table<K, X, A> {
         self.directory.bits.clear(index);
         Some((*key.key(), value))
     }
-}
 
-impl<K: IntKey, X: Drop, A: Allocator + Copy> Table<K, X, A> {
     /// The pairs by value, in the order of the walk. It allocates nothing.
     pub fn into_pairs(self) -> IntoPairs<K, X, A>
         ensures { result ≡ self.walk }
     {
         IntoPairs {
-            rest: Vec::new(*self.slots.allocator()),
+            rest: Vec::new(*self.slots.allocator()).into_iter(),
             table: self,
             from: 0,
         }
@@ -71,7 +74,7 @@ impl<K: IntKey, X: Drop, A: Allocator + Copy> Iterator for IntoPairs<K, X, A> {
     ghost remaining = { item_count (λ rest. rest) };
 
     fn next(&mut self) -> Option<(K, X)> {
-        if let Some((key, value)) = self.rest.pop() {
+        if let Some((key, value)) = self.rest.next() {
             return Some((*key.key(), value));
         }
         self.table.take_slot(&mut self.from, &mut self.rest)

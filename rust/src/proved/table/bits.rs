@@ -75,9 +75,15 @@ impl<A: Allocator> Bits<A> {
         }
     }
 
+    /// The first marked index from an index on.
+    #[inline(always)]
+    pub(in crate::proved::table) fn next_from(&self, from: usize) -> Option<usize> {
+        self.iter_from(from).next()
+    }
+
     /// The marked indices from an index on, in ascending order.
     #[inline(always)]
-    pub(in crate::proved::table) fn iter_from(&self, from: usize) -> Indices<'_> {
+    fn iter_from(&self, from: usize) -> Indices<'_> {
         let index = from / BITS;
         if index >= self.words.len() {
             return Indices {

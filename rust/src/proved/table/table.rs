@@ -41,6 +41,18 @@ fn index_of<K: IntKey>(key: &K, slots: usize) -> usize {
     masked_index_of(key, slots - 1)
 }
 
+/// Clears the bit of a slot if it holds no pair.
+#[inline(always)]
+fn unmark_if_empty<K: IntKey, X, A: Allocator>(
+    bits: &mut Bits<A>,
+    slot: &Slot<K, X, A>,
+    index: usize,
+) {
+    if !slot.is_filled() {
+        bits.clear(index);
+    }
+}
+
 /// Drops the pairs of all slots. The bits mark the slots that hold a pair.
 fn clear_slots<K: IntKey, X, A: Allocator>(bits: &Bits<A>, slots: &mut Vec<Slot<K, X, A>, A>) {
     for index in bits.iter() {

@@ -43,7 +43,7 @@ impl<K: IntKey, V, A: Allocator> Slot<K, Kept<V>, A> {
         };
         let stays = keeps_pair(first, f);
         retain_in(&mut self.rest, f);
-        if !stays && self.take_lone().is_none() {
+        if !stays {
             self.take_front();
         }
     }
@@ -54,9 +54,6 @@ impl<K: IntKey, X, A: Allocator> Slot<K, X, A> {
     fn remove_at(&mut self, place: usize) -> (Stored<K>, X) {
         if place > 0 {
             return self.rest.remove(place - 1);
-        }
-        if let Some(pair) = self.take_lone() {
-            return pair;
         }
         self.take_front()
     }

@@ -60,9 +60,12 @@ impl<K: IntKey, X, A: Allocator> Slot<K, X, A> {
         self.first.take()
     }
 
-    /// Removes the first of several pairs. The others move up by one place.
+    /// Removes the first pair. The others move up by one place.
     #[inline(always)]
     pub(in crate::proved::table) fn take_front(&mut self) -> (Stored<K>, X) {
+        if let Some(lone) = self.take_lone() {
+            return lone;
+        }
         let next = self.rest.remove(0);
         replace_first(&mut self.first, next)
     }

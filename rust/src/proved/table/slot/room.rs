@@ -6,6 +6,7 @@ use crate::proved::table::slot::Slot;
 use crate::proved::table::table::stored::Stored;
 use crate::memory::alloc::{AllocError, Allocator};
 use core::mem;
+use crate::memory::vec::IntoIter;
 
 impl<K: IntKey, X, A: Allocator> Slot<K, X, A> {
     /// Makes room for `count` pairs behind the first one, and allocates for exactly those. It fails
@@ -40,23 +41,22 @@ impl<K: IntKey, X, A: Allocator> Slot<K, X, A> {
     }
 }
 
-impl<K: IntKey, X, A: Allocator> Slot<K, X, A> {
-    /// Removes all pairs, and returns the first of them. The vector `rest` gets the others with their
-    /// block, the last one first. No pair moves but by that turn.
+impl<K: IntKey, X, A: Allocator + Copy> Slot<K, X, A> {
+    /// Removes all pairs, and returns the first of them. `rest`, which has none, gets the others
+    /// with their block. No pair moves.
     #[inline(always)]
-    pub(in crate::proved::table) fn take_all(&mut self, rest: &mut Vec<(Stored<K>, X), A>) -> (Stored<K>, X) {
-        if !self.rest.is_empty() {
-            mem::swap(&mut self.rest, rest);
-            rest.reverse();
+    pub(in crate::proved::table) fn take_all(&mut self, rest: &mut IntoIter<(Stored<K>, X), A>) -> (Stored<K>, X) {
+        if let Some(lone) = self.take_lone() {
+            return lone;
         }
+        let alloc = *self.rest.allocator();
+        *rest = mem::replace(&mut self.rest, Vec::new(alloc)).into_iter();
         match self.first.take() {
             Some(first) => first,
             None => unreachable!(),
         }
     }
-}
 
-impl<K: IntKey, X, A: Allocator + Copy> Slot<K, X, A> {
     /// Removes all of several pairs. The first one is returned. The others are moved into a buffer,
     /// which has room for them, the last of them first. The block of the others is returned too.
     #[inline(always)]

@@ -6,9 +6,9 @@ use crate::proved::table::bits::Bits;
 use crate::proved::table::kept::Kept;
 use crate::proved::table::key::IntKey;
 use crate::proved::table::slot::Slot;
-use crate::proved::table::table::Table;
 use crate::proved::table::table::stored::Stored;
 use crate::proved::table::table::walk::Cursor;
+use crate::proved::table::table::{Table, unmark_if_empty};
 use crate::memory::alloc::Allocator;
 
 /// Keeps the pairs for which the closure returns true, slot after slot, and returns their number.
@@ -20,12 +20,10 @@ fn retain_slots<K: IntKey, V, A: Allocator, F: FnMut(K, &V) -> bool>(
 ) -> usize {
     let mut count = 0;
     let mut from = 0;
-    while let Some(index) = bits.iter_from(from).next() {
+    while let Some(index) = bits.next_from(from) {
         let slot = &mut slots[index];
         slot.retain(f);
-        if !slot.is_filled() {
-            bits.clear(index);
-        }
+        unmark_if_empty(bits, slot, index);
         count += slot.len();
         from = index + 1;
     }
@@ -52,9 +50,7 @@ fn extract_in<K: IntKey, V, A: Allocator, F: FnMut(K, &mut V) -> bool>(
     let before = at.place;
     let found = slot.extract_next(&mut at.place, f);
     at.passed += at.place - before;
-    if !slot.is_filled() {
-        bits.clear(at.slot);
-    }
+    unmark_if_empty(bits, slot, at.slot);
     found
 }
 
@@ -66,7 +62,7 @@ fn extract_slots<K: IntKey, V, A: Allocator, F: FnMut(K, &mut V) -> bool>(
     at: &mut Cursor,
     f: &mut F,
 ) -> Option<(Stored<K>, Kept<V>)> {
-    while let Some(slot) = bits.iter_from(at.slot).next() {
+    while let Some(slot) = bits.next_from(at.slot) {
         at.slot = slot;
         if let Some(pair) = extract_in(bits, slots, at, f) {
             return Some(pair);

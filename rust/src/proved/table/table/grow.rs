@@ -19,8 +19,7 @@ fn count_key<K: IntKey>(counts: &mut [usize], key: &K, old: usize) {
     counts[part] += 1;
 }
 
-/// Adds to the count of each part, which has `old` slots, the number of these pairs of one old slot
-/// that go there.
+/// Adds to the count of each part, which has `old` slots, the number of these pairs that go there.
 fn count_each<K: IntKey, X>(counts: &mut [usize], pairs: &[(Stored<K>, X)], old: usize) {
     for pair in pairs {
         count_key(counts, pair.0.key(), old);

@@ -5,38 +5,37 @@ use crate::proved::table::key::IntKey;
 use crate::proved::table::table::Table;
 use crate::proved::table::table::stored::Stored;
 use crate::memory::alloc::Allocator;
+use crate::memory::vec::IntoIter;
 
 /// The pairs of a table by value, in the order of the walk. Contracts see it as the list of the pairs
 /// that are left: those of the slot at hand, which were taken out of the table together, and those
-/// that are still in it. Each slot is turned round once, so a step takes the same time however many
-/// pairs share the slot.
+/// that are still in it. So a step takes the same time however many pairs share the slot.
 pub struct IntoPairs<K: IntKey, X, A: Allocator + Copy> {
-    /// The pairs that are left of the slot at hand, the last of them first.
-    rest: Vec<(Stored<K>, X), A>,
+    rest: IntoIter<(Stored<K>, X), A>,
     table: Table<K, X, A>,
     from: usize,
 }
 
-impl<K: IntKey, X, A: Allocator> Table<K, X, A> {
-    /// Removes all pairs of the first slot that holds one. The first of them is returned, the others
-    /// are left in `rest`, the last of them first. No slot before `from` holds a pair. `from` moves
-    /// on to the slot that held the removed pairs.
-    fn take_slot(&mut self, from: &mut usize, rest: &mut Vec<(Stored<K>, X), A>) -> Option<(K, X)> {
-        let Some(index) = self.directory.bits.iter_from(*from).next() else {
-            return None;
-        };
+impl<K: IntKey, X, A: Allocator + Copy> Table<K, X, A> {
+    /// Removes all pairs of the first slot that holds one. The first of them is returned, and `rest`
+    /// gets the others. No slot before `from` holds a pair. `from` moves on to the slot that held
+    /// the removed pairs.
+    fn take_slot(
+        &mut self,
+        from: &mut usize,
+        rest: &mut IntoIter<(Stored<K>, X), A>,
+    ) -> Option<(K, X)> {
+        let index = self.directory.bits.next_from(*from)?;
         *from = index;
         let (key, value) = self.slots[index].take_all(rest);
         self.directory.bits.clear(index);
         Some((*key.key(), value))
     }
-}
 
-impl<K: IntKey, X, A: Allocator + Copy> Table<K, X, A> {
     /// The pairs by value, in the order of the walk. It allocates nothing.
     pub fn into_pairs(self) -> IntoPairs<K, X, A> {
         IntoPairs {
-            rest: Vec::new(*self.slots.allocator()),
+            rest: Vec::new(*self.slots.allocator()).into_iter(),
             table: self,
             from: 0,
         }
@@ -47,7 +46,7 @@ impl<K: IntKey, X, A: Allocator + Copy> Iterator for IntoPairs<K, X, A> {
     type Item = (K, X);
 
     fn next(&mut self) -> Option<(K, X)> {
-        if let Some((key, value)) = self.rest.pop() {
+        if let Some((key, value)) = self.rest.next() {
             return Some((*key.key(), value));
         }
         self.table.take_slot(&mut self.from, &mut self.rest)

@@ -5,8 +5,8 @@ use crate::memory::prelude::*;
 use crate::proved::table::bits::Indices;
 use crate::proved::table::key::IntKey;
 use crate::proved::table::slot::Slot;
-use crate::proved::table::table::Table;
 use crate::proved::table::table::stored::Stored;
+use crate::proved::table::table::{Table, unmark_if_empty};
 use crate::memory::alloc::{AllocError, Allocator};
 
 /// The position of a walk: a place in a slot, and the number of pairs of the walk before it.
@@ -79,7 +79,7 @@ impl<K: IntKey, X, A: Allocator> Table<K, X, A> {
     /// The first pair from the cursor on, or `None` if no pair is left. The cursor moves on behind
     /// that pair. The bits tell which slots to look at.
     pub fn step(&self, at: &mut Cursor) -> Option<(&K, &X)> {
-        while let Some(slot) = self.directory.bits.iter_from(at.slot).next() {
+        while let Some(slot) = self.directory.bits.next_from(at.slot) {
             at.slot = slot;
             let row = slot_at(&self.slots, slot);
             let place = at.place;
@@ -97,16 +97,11 @@ impl<K: IntKey, X, A: Allocator> Table<K, X, A> {
     /// Removes the first pair of the walk and returns it. No slot before `from` holds a
     /// pair. `from` moves on to the slot that held the removed pair.
     pub fn take_front(&mut self, from: &mut usize) -> Option<(K, X)> {
-        let Some(index) = self.directory.bits.iter_from(*from).next() else {
-            return None;
-        };
+        let index = self.directory.bits.next_from(*from)?;
         *from = index;
         let slot = &mut self.slots[index];
-        if let Some((key, value)) = slot.take_lone() {
-            self.directory.bits.clear(index);
-            return Some((*key.key(), value));
-        }
         let (key, value) = slot.take_front();
+        unmark_if_empty(&mut self.directory.bits, slot, index);
         Some((*key.key(), value))
     }
 }
