@@ -15,7 +15,7 @@ pub mod GrownLemmas
 pub mod RoomLemmas
 pub mod PutLemmas
 pub mod MovingLemmas
-pub mod IndicesLemmas
+pub mod NextMarkLemmas
 pub mod RetainSlotsLemmas
 pub mod SameKeysLemmas
 pub mod SlotLemmas

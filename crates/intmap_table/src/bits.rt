@@ -1,5 +1,5 @@
 //! One bit for each index.
-ghost use Rattle.std.specs.Prelude.{◌≡◌, ℕ, List, Bool, ◌+◌, ◌*◌, ◌/◌, ◌^◌, ◌<◌, ◌≤◌, true, false, filter, length, nat_le, replicate, slice_set, IfOk, IfSome, IfNone, ⊤};
+ghost use Rattle.std.specs.Prelude.{◌≡◌, ℕ, List, Bool, ◌+◌, ◌*◌, ◌/◌, ◌^◌, ◌<◌, ◌≤◌, true, false, length, replicate, slice_set, IfOk, IfSome, IfNone, ⊤};
 ghost use Rattle.std.specs.Iterator.{YieldsFirstBy, item_count};
 ghost use Rattle.intmap_table.specs.Tables.Bits.{marked, marked_indices, IsNextMark, IsWordOf};
 
@@ -120,27 +120,19 @@ impl<A: Allocator> Bits<A> {
         ensures some { IfSome result (IsNextMark self.now from) }
         ensures none { IfNone result ((j : ℕ) → from ≤ j → marked self.now j ≡ false) }
     {
-        self.iter_from(from).next()
-    }
-
-    /// The marked indices from an index on, in ascending order.
-    #[inline(always)]
-    fn iter_from(&self, from: usize) -> Indices<'_>
-        ensures { result ≡ filter (nat_le from) (marked_indices self.now) }
-    {
-        let index = from / BITS;
-        if index >= self.words.len() {
-            return Indices {
-                word: 0,
-                base: 0,
-                words: &[],
-            };
+        let mut at = from / BITS;
+        if at >= self.words.len() {
+            return None;
         }
-        Indices {
-            word: self.words[index] & (u64::MAX << (from % BITS)),
-            base: index * BITS,
-            words: &self.words[index + 1..],
+        let mut word = self.words[at] & (u64::MAX << (from % BITS));
+        while word == 0 {
+            at += 1;
+            if at == self.words.len() {
+                return None;
+            }
+            word = self.words[at];
         }
+        Some(at * BITS + word.trailing_zeros() as usize)
     }
 }
 

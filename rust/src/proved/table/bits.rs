@@ -78,25 +78,19 @@ impl<A: Allocator> Bits<A> {
     /// The first marked index from an index on.
     #[inline(always)]
     pub(in crate::proved::table) fn next_from(&self, from: usize) -> Option<usize> {
-        self.iter_from(from).next()
-    }
-
-    /// The marked indices from an index on, in ascending order.
-    #[inline(always)]
-    fn iter_from(&self, from: usize) -> Indices<'_> {
-        let index = from / BITS;
-        if index >= self.words.len() {
-            return Indices {
-                word: 0,
-                base: 0,
-                words: &[],
-            };
+        let mut at = from / BITS;
+        if at >= self.words.len() {
+            return None;
         }
-        Indices {
-            word: self.words[index] & (u64::MAX << (from % BITS)),
-            base: index * BITS,
-            words: &self.words[index + 1..],
+        let mut word = self.words[at] & (u64::MAX << (from % BITS));
+        while word == 0 {
+            at += 1;
+            if at == self.words.len() {
+                return None;
+            }
+            word = self.words[at];
         }
+        Some(at * BITS + word.trailing_zeros() as usize)
     }
 }
 
