@@ -97,3 +97,62 @@ fn what_the_allocator_inside_refuses_is_not_alive(rt: HostRuntime) {
     let inner = FailingAlloc::new(rt.alloc(), 0);
     assert_eq!(rt; refused_inside(&inner), (true, (0, 0)));
 }
+
+// makes a list with room for so many numbers: whether that failed, how many allocations did, and how many
+// bytes were granted
+fn list_of(memory: &FailingAlloc<Global>, room: usize) -> (bool, u64, u64) {
+    let has_failed = Vec::<u64, _>::with_capacity(memory, room).is_err();
+    (has_failed, memory.failures(), memory.granted_bytes())
+}
+
+#[test]
+fn each_allocation_above_a_size_fails(rt: HostRuntime) {
+    let memory = FailingAlloc::new(rt.alloc(), 0);
+    assert_eq!(rt; list_of(&memory, 100), (false, 0, 800), "none is too large");
+    memory.fail_above(40);
+    assert_eq!(rt; list_of(&memory, 5), (false, 0, 40));
+    assert_eq!(rt; list_of(&memory, 3), (false, 0, 64));
+    assert_eq!(rt; list_of(&memory, 6), (true, 1, 64));
+    assert_eq!(rt; list_of(&memory, 5), (false, 1, 64), "behind a failure");
+    memory.arm(1);
+    assert_eq!(rt;
+        list_of(&memory, 5),
+        (true, 2, 64),
+        "the armed one fails too"
+    );
+    memory.fail_above(u64::MAX);
+    assert_eq!(rt; list_of(&memory, 6), (false, 0, 48), "counted from here on");
+    assert_eq!(rt; alive(&memory), (0, 0), "each list is let go");
+}
+
+// whether a call failed, and how many bytes were granted before; then no allocation is too large
+fn refused<B: Allocator>(memory: &FailingAlloc<B>, has_failed: bool) -> (bool, u64) {
+    let granted = memory.granted_bytes();
+    memory.fail_above(u64::MAX);
+    (has_failed, granted)
+}
+
+// what a new map of 4096 slots, a reservation of as many and a clone get before their slots are refused
+fn refused_slots(memory: &FailingAlloc<Global>) -> Result<[(bool, u64); 3], Fail> {
+    memory.fail_above(100_000);
+    let has_failed = IntMap::<u64, u64, _>::with_capacity(memory, 4096).is_err();
+    let made = refused(memory, has_failed);
+    let mut map = IntMap::<u64, u64, _>::new(memory)?;
+    memory.fail_above(100_000);
+    let has_failed = map.reserve(4096).is_err();
+    let grown = refused(memory, has_failed);
+    map.reserve(4096)?;
+    memory.fail_above(100_000);
+    let has_failed = map.clone().is_err();
+    let cloned = refused(memory, has_failed);
+    Ok([made, grown, cloned])
+}
+
+#[test]
+fn a_map_gets_no_byte_before_its_slots_are_refused(rt: HostRuntime) -> Result<(), Fail> {
+    let memory = FailingAlloc::new(rt.alloc(), 0);
+    let counts = refused_slots(&memory)?;
+    assert_eq!(rt; counts, [(true, 0), (true, 0), (true, 0)]);
+    assert_eq!(rt; alive(&memory), (0, 0), "the map is let go");
+    Ok(())
+}

@@ -54,12 +54,14 @@ allocate_spec 𝓤 𝓛 𝓜 𝓡 wired B laws ghosts methods drops met _ =
     enter ! _ _ _ _ _ $ alloc_all ! (λ l. pass_all ! refl ((tt, tt), ((tt, record { fits = are.1.0.1 }), ((tt, record { fits = are.1.1.0.1 }), tt))) $
     sets ! (addr ! (through ! refl (fld ! refl (stop !)))) refl (tt, tt) $
     let Count = triple_of 𝓛 counted.signature (counted.spec 𝓛 𝓜.mem 𝓡.returns) in
-    let z : Count.Ghost = (((κ, tt), (q, tt), tt, (record { ref_ptr = p; now = r.now.counts }, tt), (pointer, tt)), tt) in
-    feq_i ! (List Val) pointer pointer refl $ fjoin ! $ nothing ! $ move ! (1 ∷ 0 ∷ []) $ fjoin ! $
+    let number = vint w64 bytes ∷ [] in
+    let z : Count.Ghost = (((κ, tt), (q, tt), tt, (record { ref_ptr = p; now = r.now.counts }, (bytes, tt)), (pointer, (number, tt))), tt) in
+    nothing ! $ flt_i ! bytes (2 ^ 64) are.1.0.1 $ feq_i ! (List Val) number number refl $ fjoin ! $ fjoin ! $
+    move ! (1 ∷ []) $ feq_i ! (List Val) pointer pointer refl $ fjoin ! $ fjoin ! $
     nothing ! $ move ! (2 ∷ 0 ∷ []) $ join ! $ join ! $ nothing ! $ move ! (1 ∷ 0 ∷ []) $ use2 𝓛 (raw (Count.pre z)) (id⊢ 𝓤 _) $
-    calls_at ! (framed 𝓤 𝓛.H 𝓜 𝓣) Count (counted_proof.met 𝓤 𝓛 𝓜 𝓡 (code.calls-failing_alloc::Counts::request 𝓡.env wired)) z (and_then ! (get ! refl) (no_more !)) (λ v.
+    calls_at ! (framed 𝓤 𝓛.H 𝓜 𝓣) Count (counted_proof.met 𝓤 𝓛 𝓜 𝓡 (code.calls-failing_alloc::Counts::request 𝓡.env wired)) z (and_then ! (get ! refl) (and_then ! (get ! refl) (no_more !))) (λ v.
     use1 𝓛 (later (some (λ (refused : Bool). ((‵ (flft κ q) ⊛ ‵ ftrue) ⊛ ‵ (bool.own_val refused (v ∷ []))) ⊛
-    some (λ (ws : Unit {0} × Unit {0}). ‵ (lasts counted.ended (κ, tt) z.0.3 ws) ⊛ ‵ ftrue)))) (id⊢ 𝓤 _) $
+    some (λ (ws : Unit {0} × (Unit {0} × Unit {0})). ‵ (lasts counted.ended (κ, tt) z.0.3 ws) ⊛ ‵ ftrue)))) (id⊢ 𝓤 _) $
     await ! tt $ pick ! (λ refused. split ! $ split ! $ split ! $ move ! (2 ∷ []) $ feq_l ! (λ answer. move ! (2 ∷ []) $ drop ! $ move ! (1 ∷ []) $ drop ! $
     lands_as ! (ap only answer) refl (tt, tt) $ move ! (1 ∷ []) $
     -- [the inner allocator; the token; the other tokens; the counts]
@@ -84,7 +86,6 @@ allocate_spec 𝓤 𝓛 𝓜 𝓡 wired B laws ghosts methods drops met _ =
     sets ! (addr ! (through ! refl (fld ! refl (stop !)))) refl (tt, tt) $
     -- [the block, with the right to free it; the token; the other tokens; the counts]
     let Grant = triple_of 𝓛 granted.signature (granted.spec 𝓛 𝓜.mem 𝓡.returns) in
-    let number = vint w64 bytes ∷ [] in
     let g : Grant.Ghost = (((κ, tt), (q, tt), tt, (record { ref_ptr = p; now = r.now.counts }, (bytes, tt)), (pointer, (number, tt))), tt) in
     nothing ! $ flt_i ! bytes (2 ^ 64) are.1.0.1 $ feq_i ! (List Val) number number refl $ fjoin ! $ fjoin ! $
     move ! (5 ∷ []) $ feq_i ! (List Val) pointer pointer refl $ fjoin ! $ fjoin ! $
