@@ -1,13 +1,12 @@
-"""Calls and commands on plain lists of pairs, and what they answer. A list counts the requests for
-memory that a map makes, and so knows which call a refused one belongs to. It keeps the room of each slot,
-and so knows how many bytes a map has."""
+"""Calls and commands on plain lists of pairs, and what they answer. A list has the bytes of each request for
+memory that a map makes, in their order, and so knows which call a refused one belongs to, and how much the
+call got before it. It keeps the room of each slot, and so knows how many bytes a map has."""
 import copy
+import itertools
 
 MULTIPLIER = 11400714819323198549
 GREATEST = 2**64 - 1
 GREATEST_CAPACITY = 2**63
-# for the words of bits and the slots
-REQUESTS_OF_A_NEW_MAP = 2
 # how many pairs behind the first of its slot the second block of a slot has room for
 LEAST_ROOM = 4
 # the bytes of a word, of a pair of two numbers, and of the vector of a slot: three words, and a reference to
@@ -24,16 +23,18 @@ class NoMemory(Exception):
 
 
 class PlainList:
-    """Pairs by their places in a list that no growth touches, a number of slots and a load factor.
-    And how many requests for memory a map would have made, since `asked` was last set to 0."""
+    """Pairs by their places in a list that no growth touches, a number of slots and a load factor. A pair
+    takes `pair` bytes. And the bytes of each request for memory that a map would have made, `asked`: those of
+    a new one, and those of its calls since then, or since it was last emptied."""
 
-    def __init__(self, slots=4):
+    def __init__(self, slots=4, pair=PAIR):
         self.pairs = {}
         self.place_of = {}
         self.next_place = 0
         self.factor = 909
-        self.asked = 0
+        self.pair = pair
         self.set_slots(slots)
+        self.asked = self.table()
 
     def slot_of(self, key):
         return key * MULTIPLIER % self.slots
@@ -50,21 +51,25 @@ class PlainList:
         self.room = {slot: len(places) - 1 for slot, places in self.classes.items()}
 
     def grow(self, slots):
-        """The words of bits are asked for, the counts, the slots, a block for each further slot that
-        is to hold several pairs of an old one, and a buffer where an old slot holds several. The
-        first slot that is to hold several of them takes the block of the old slot."""
-        several = [(slot, places) for slot, places in self.classes.items() if len(places) > 1]
+        """The slots are asked for, their words of bits, a count for each part of the size before, a block
+        for each further slot that is to hold several pairs of an old one, and a buffer where an old slot
+        holds several, for the most behind a first one. The first slot that is to hold several of them
+        takes the block of the old slot."""
+        several = [(slot, places) for slot, places in sorted(self.classes.items()) if len(places) > 1]
+        parts = slots // self.slots
         self.slots = slots
         self.sort_into_slots()
-        self.asked += 3 + bool(several)
+        self.asked += [*self.table(), WORD * parts]
         for old, places in several:
             block = self.room.pop(old)
             numbers = {self.slot_of(self.pairs[place][0]) for place in places}
             needing = sorted(slot for slot in numbers if len(self.classes[slot]) > 1)
             self.room.update((slot, len(self.classes[slot]) - 1) for slot in needing)
+            self.asked += [self.room[slot] * self.pair for slot in needing[1:]]
             if needing:
                 self.room[needing[0]] = block
-                self.asked += len(needing) - 1
+        if several:
+            self.asked.append((max(len(places) for _, places in several) - 1) * self.pair)
 
     def make_room(self, key, grows):
         """A block is asked for where the slot holds a pair and is full. It has room for one pair more
@@ -73,8 +78,8 @@ class PlainList:
         held = len(self.classes.get(slot, []))
         room = self.room.get(slot, 0)
         if held and held > room:
-            self.asked += 1
             self.room[slot] = held if held == 1 or grows else max(2 * room, LEAST_ROOM)
+            self.asked.append(self.room[slot] * self.pair)
 
     def get(self, key):
         return self.pairs[self.place_of[key]][1] if key in self.place_of else None
@@ -144,8 +149,8 @@ class PlainList:
         if refuses:
             raise NoMemory
         taken, asked = self.walk(), self.asked
-        self.__init__()
-        self.asked = asked + REQUESTS_OF_A_NEW_MAP
+        self.__init__(pair=self.pair)
+        self.asked = asked + self.asked
         return taken
 
     def cloned(self):
@@ -155,8 +160,10 @@ class PlainList:
         return made
 
     def requests_of_a_clone(self):
-        """The words of bits, the slots, and a block for each slot that holds two pairs or more."""
-        return REQUESTS_OF_A_NEW_MAP + sum(len(places) > 1 for places in self.classes.values())
+        """The bytes of the slots, of the words of bits, and of a block for each slot that holds two pairs
+        or more."""
+        behind = [len(places) - 1 for _, places in sorted(self.classes.items())]
+        return [*self.table(), *[count * self.pair for count in behind if count > 0]]
 
     def bindings(self):
         return dict(self.pairs.values())
@@ -246,11 +253,14 @@ class PlainList:
             self.grow(slots)
         self.factor = factor
 
-    def blocks(self, pair):
-        """The bytes of each block that a map has, where a pair takes so many: of the words of bits, of
-        the slots, each with a first pair and a word that says whether it has one, and of the rooms."""
-        rooms = [room * pair for room in self.room.values() if room]
-        return [WORD * -(-self.slots // 64), (pair + WORD + VECTOR) * self.slots, *rooms]
+    def table(self):
+        """The bytes of the slots, each with a first pair and a word that says whether it has one, and of
+        the words of bits."""
+        return [(self.pair + WORD + VECTOR) * self.slots, WORD * -(-self.slots // 64)]
+
+    def blocks(self):
+        """The bytes of each block that a map has: of its table, and of the rooms."""
+        return [*self.table(), *[room * self.pair for room in self.room.values() if room]]
 
     def shown(self, key):
         return key
@@ -363,9 +373,9 @@ def text_sum(text):
     return f"{len(text.encode())} bytes, sum {total}"
 
 
-def memory_of(lists, pair=PAIR):
-    """How many bytes maps of these lists have, where a pair takes so many, and in how many blocks."""
-    blocks = [block for it in lists for block in it.blocks(pair)]
+def memory_of(lists):
+    """How many bytes maps of these lists have, and in how many blocks."""
+    blocks = [block for it in lists for block in it.blocks()]
     return f"{sum(blocks)} bytes in {len(blocks)} blocks"
 
 
@@ -384,7 +394,7 @@ def each_power(it, refuses, name):
         before = one.slots
         GROWTHS[name](one, slots)
         told.append(f"{before} to {one.slots}")
-        it.asked += REQUESTS_OF_A_NEW_MAP + one.asked
+        it.asked += one.asked
     return ", ".join(told)
 
 
@@ -478,7 +488,7 @@ def collisions(it, refuses, shown):
     if refuses:
         raise NoMemory
     one = collisions_of(it)
-    it.asked += REQUESTS_OF_A_NEW_MAP + one.asked
+    it.asked += one.asked
     return shown(one)
 
 
@@ -725,23 +735,41 @@ def answer(it, call, refuses):
 
 
 def command_answer(it, command, refuses):
-    """A list is asked for where the answer is one and has an item."""
+    """A list is asked for where the answer is one and has an item. Its bytes aren't known."""
     name, *numbers = command.split(" ")
     if it.pairs and (name in ("walk", "keys", "values") or name == "drain" and int(numbers[0])):
         if refuses:
             return "refused: memory"
-        it.asked += 1
+        it.asked.append(None)
     if name == "collisions" and collisions_of(it).pairs:
-        it.asked += 1
+        it.asked.append(None)
     return answer(it, command, refuses)
 
 
 def requests_of(answers, it, call):
-    """How many requests the call makes where none is refused. The list stays as it is."""
+    """The bytes of each request that the call makes where none is refused. The list stays as it is."""
     tried = copy.deepcopy(it)
-    tried.asked = 0
+    tried.asked = []
     answers(tried, call, False)
     return tried.asked
+
+
+def refused_text(requests, called):
+    """What is told of a call with each of its requests refused in turn. `called` gives its answer where
+    one is refused and where none is."""
+    times = len(requests)
+    if not times:
+        return f"{called(False)} at once"
+    refusal = called(True)
+    return f"{times} times {refusal}, then {called(False)}"
+
+
+def above_text(most, requests, called):
+    """What is told of a call with each request for more bytes than these refused."""
+    if None in requests:
+        raise Unknown("a call whose requests have bytes that no list knows")
+    granted = list(itertools.takewhile(lambda size: size <= most, requests))
+    return f"{called(len(granted) < len(requests))}, granted {sum(granted)} bytes"
 
 
 def armed_answer(answers, it, call, armed):
@@ -749,7 +777,7 @@ def armed_answer(answers, it, call, armed):
     that one is afterwards."""
     if not armed:
         return answers(it, call, False), 0
-    requests = requests_of(answers, it, call)
+    requests = len(requests_of(answers, it, call))
     if requests >= armed:
         return answers(it, call, True), 0
     return answers(it, call, False), armed - requests
@@ -782,9 +810,9 @@ def run_answers(it, commands, armed):
     return texts, armed
 
 
-def made(call):
+def made(call, pair=PAIR):
     """The list that a call makes; None where no memory has room for it, or the call makes none."""
     if call == "new":
-        return PlainList()
+        return PlainList(pair=pair)
     slots = int(call.removeprefix("with_capacity "))
-    return PlainList(1 << (max(slots, 2) - 1).bit_length()) if slots < 2**40 else None
+    return PlainList(1 << (max(slots, 2) - 1).bit_length(), pair) if slots < 2**40 else None

@@ -7,14 +7,15 @@ from lists import (
     GREATEST_CAPACITY,
     NoMemory,
     PlainList,
-    REQUESTS_OF_A_NEW_MAP,
     TooLarge,
     Unknown,
+    above_text,
     armed_answer,
     brackets,
     keys,
     made,
     memory_of,
+    refused_text,
     requests_of,
     sum_of,
     truth,
@@ -124,7 +125,9 @@ class Vectors:
         """The answer to the call of a row of sparse vectors."""
         name, *words = call.split(" ")
         if name == "refused":
-            return self.refused(call.removeprefix("refused "))
+            return refused_text(*self.calling(call.removeprefix("refused ")))
+        if name == "above":
+            return above_text(int(words[0]), *self.calling(" ".join(words[1:])))
         if name == "arm":
             self.armed = int(words[0])
             return "done"
@@ -141,11 +144,11 @@ class Vectors:
         found, self.armed = armed_answer(vector_answer, self.vectors[0], call, self.armed)
         return found
 
-    def refused(self, call):
-        """The answer where each request of the call is refused in turn, and then none."""
-        times = REQUESTS_OF_A_NEW_MAP if call == "new" else requests_of(vector_answer, self.vectors[0], call)
-        found = self.answer(call)
-        return f"{times} times Memory, then {found}" if times else f"{found} at once"
+    def calling(self, call):
+        """The bytes of each request of a call, and what gives its answer where one is refused and where none
+        is."""
+        requests = PlainList().asked if call == "new" else requests_of(vector_answer, self.vectors[0], call)
+        return requests, lambda refuses: "Memory" if refuses else self.answer(call)
 
 
 def product(one, other):
@@ -213,25 +216,27 @@ class Sets:
     """Two sets as plain lists of pairs with the value 0: the one that calls are made on, and another."""
 
     def __init__(self):
-        self.set, self.other = PlainList(), PlainList()
+        self.set, self.other = PlainList(pair=MEMBER), PlainList(pair=MEMBER)
         self.armed = 0
 
     def memory(self):
-        return memory_of([self.set, self.other], MEMBER)
+        return memory_of([self.set, self.other])
 
     @property
     def asked(self):
         return self.set.asked + self.other.asked
 
     @asked.setter
-    def asked(self, count):
-        self.set.asked, self.other.asked = count, 0
+    def asked(self, requests):
+        self.set.asked, self.other.asked = requests, []
 
     def answer(self, call):
         """The answer to the call of a row of sets."""
         name, *words = call.split(" ")
         if name == "refused":
-            return self.refused(call.removeprefix("refused "))
+            return refused_text(*self.calling(call.removeprefix("refused ")))
+        if name == "above":
+            return above_text(int(words[0]), *self.calling(" ".join(words[1:])))
         if name == "arm":
             self.armed = int(words[0])
             return "done"
@@ -242,11 +247,11 @@ class Sets:
         found, self.armed = armed_answer(set_answer, self, call, self.armed)
         return found
 
-    def refused(self, call):
-        """The answer where each request of the call is refused in turn, and then none."""
-        times = requests_of(lambda it, call, _: it.answer(call), self, call)
-        found = self.answer(call)
-        return f"{times} times refused: memory, then {found}" if times else f"{found} at once"
+    def calling(self, call):
+        """The bytes of each request of a call, and what gives its answer where one is refused and where none
+        is."""
+        requests = requests_of(lambda it, call, _: it.answer(call), self, call)
+        return requests, lambda refuses: "refused: memory" if refuses else self.answer(call)
 
     def insert_each(self, name, members):
         """Inserts keys in turn. The first refusal ends it, and the keys before that one stay."""
@@ -262,12 +267,11 @@ class Sets:
         """Puts a set with so many slots at first, and with these members, in the place of the one."""
         if slots > GREATEST_CAPACITY:
             raise TooLarge
-        one = made(f"with_capacity {slots}")
+        one = made(f"with_capacity {slots}", MEMBER)
         if refuses or not one:
             raise NoMemory
         for key in members:
             one.insert_checked(key, 0, False)
-        one.asked += REQUESTS_OF_A_NEW_MAP
         self.set = one
         return "done"
 

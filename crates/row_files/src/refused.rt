@@ -1,7 +1,7 @@
-//! Calls with each of their allocations failing in turn.
+//! Calls with allocations that fail: each in turn, or each above a size.
 
 use crate::subject::Subject;
-use crate::text::alive_text;
+use crate::text::{alive_text, no_call};
 use failing_alloc::FailingAlloc;
 use std::alloc::{AllocError, Global};
 
@@ -39,6 +39,38 @@ pub fn answer_to_refused<S: Subject>(
         }
     }
     write!(out, "{refusal}, again and again")
+}
+
+/// Makes a call with each allocation above a size failing, where the words are the size and the call.
+/// Writes its result, and how many bytes were granted before the first failure, or in all where there
+/// was none; behind a failure also that the state or the memory changed.
+pub fn answer_above<S: Subject>(
+    out: &mut String,
+    memory: &FailingAlloc<Global>,
+    subject: &mut S,
+    words: &str,
+) -> Result<(), AllocError> {
+    let Some((most, call)) = size_and_call(words) else {
+        return no_call(out);
+    };
+    let before = held(*out.allocator(), memory, subject)?;
+    memory.fail_above(most);
+    subject.answer_to(out, call)?;
+    let granted = memory.granted_bytes();
+    let has_failed = memory.failures() > 0;
+    memory.fail_above(u64::MAX);
+    write!(out, ", granted {granted} bytes")?;
+    let after = held(*out.allocator(), memory, subject)?;
+    if has_failed && after.as_str() != before.as_str() {
+        return write!(out, ", and it changed to {after}");
+    }
+    Ok(())
+}
+
+// a number of bytes, and the call behind it
+fn size_and_call(words: &str) -> Option<(u64, &str)> {
+    let (most, call) = words.split_once(' ')?;
+    Some((most.parse::<u64>().ok()?, call))
 }
 
 // the state of what calls are made on, and the memory that is allocated

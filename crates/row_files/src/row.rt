@@ -1,6 +1,6 @@
 //! One row: a call, and the result that it must have.
 
-use crate::refused::answer_to_refused;
+use crate::refused::{answer_above, answer_to_refused};
 use crate::report::Report;
 use crate::subject::Subject;
 use crate::text::{write_memory, write_sum};
@@ -23,7 +23,8 @@ pub fn compare_row<S: Subject>(
 }
 
 // writes the result of a call: of `memory` what is allocated, behind `refused` that with each allocation of
-// the call failing in turn, behind `sum` how long the result is and the sum of its bytes
+// the call failing in turn, behind `above` that with each allocation above a size failing, behind `sum` how
+// long the result is and the sum of its bytes
 fn write_answer<S: Subject>(
     out: &mut String,
     memory: &FailingAlloc<Global>,
@@ -35,6 +36,9 @@ fn write_answer<S: Subject>(
     }
     if let Some(call) = call.strip_prefix("refused ") {
         return answer_to_refused(out, memory, subject, call);
+    }
+    if let Some(words) = call.strip_prefix("above ") {
+        return answer_above(out, memory, subject, words);
     }
     let Some(call) = call.strip_prefix("sum ") else {
         return subject.answer_to(out, call);
