@@ -3,6 +3,7 @@
 mod allocator;
 mod each_call;
 mod ends;
+mod large;
 #[path = "../shared/random.rs"]
 mod random;
 mod random_calls;
