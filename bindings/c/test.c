@@ -20,15 +20,17 @@ void __real_free(void *block);
 
 // Requests until the refused one; with 0, none is refused.
 static uint64_t until_refused;
-static uint64_t requests, refused, live_blocks;
+static uint64_t requests, refused, granted_bytes, live_blocks;
 
 // Larger requests are refused too, so that a map of 2^32 slots costs nothing.
-static const size_t LARGEST_REQUEST = (size_t)1 << 28;
+enum { LARGEST_REQUEST = 1 << 28 };
+static size_t largest_request = LARGEST_REQUEST;
 
 static bool is_refused(size_t size) {
-    bool is_now = size > LARGEST_REQUEST || (until_refused > 0 && --until_refused == 0);
+    bool is_now = size > largest_request || (until_refused > 0 && --until_refused == 0);
     requests++;
     refused += is_now;
+    granted_bytes += is_now ? 0 : size;
     return is_now;
 }
 
@@ -250,12 +252,13 @@ static void check(const side *one) {
 
 // Calls on both, each behind begin().
 
-static uint64_t requests_before, refused_before, blocks_before;
+static uint64_t requests_before, refused_before, granted_before, blocks_before;
 
 static void begin(void) {
     blocks_before = live_blocks;
     requests_before = requests;
     refused_before = refused;
+    granted_before = granted_bytes;
 }
 
 static bool was_refused(void) {
@@ -264,6 +267,11 @@ static bool was_refused(void) {
 
 static bool requested(void) {
     return requests > requests_before;
+}
+
+// Whether a request was refused, and none granted before.
+static bool was_refused_at_once(void) {
+    return was_refused() && granted_bytes == granted_before;
 }
 
 // Whether a call failed, which it has to exactly if a request was refused. Then nothing changes.
@@ -630,6 +638,69 @@ static void test_growth(void) {
     end_test();
 }
 
+// A call asks for its slots first, each of 48 bytes. So with larger requests refused it gets them, and
+// with one byte less nothing is granted, and so nothing written.
+static void test_slots_first(size_t slots, void (*call)(void)) {
+    const size_t slot = 48, all = slot * slots, bits = slots / 8 < 8 ? 8 : slots / 8;
+    const size_t bounds[] = {0, bits, all / 2, all - 1};
+    for (size_t at = 0; at < sizeof bounds / sizeof bounds[0]; at++) {
+        largest_request = bounds[at];
+        call();
+        EXPECT(was_refused_at_once());
+    }
+    largest_request = all;
+    call();
+    EXPECT(!was_refused() && granted_bytes - granted_before >= all + bits);
+    largest_request = LARGEST_REQUEST;
+    check(it);
+}
+
+static void make_4_slots(void) {
+    call_make(true, 0);
+}
+
+static void make_4096_slots(void) {
+    call_make(false, 4096);
+}
+
+static void insert_new_key(void) {
+    call_insertion(INSERT, it->plain.len, 5);
+}
+
+static void reserve_4096_slots(void) {
+    call_reserve(4096 - it->plain.len);
+}
+
+static void set_load_factor_10(void) {
+    call_set_load_factor(10);
+}
+
+static void test_large_requests(void) {
+    test_slots_first(4, make_4_slots);
+    insert_some(14, 1);
+    test_slots_first(32, insert_new_key);
+    test_slots_first(32, call_clone);
+    test_slots_first(2048, set_load_factor_10);
+    test_slots_first(4096, reserve_4096_slots);
+    test_slots_first(4096, call_clone);
+    test_slots_first(4096, make_4096_slots);
+    end_test();
+}
+
+// The bits of 2^32 slots are 512 MB. They aren't granted before the slots are refused.
+static void test_too_many_slots(void) {
+    const size_t slots = (size_t)1 << 32;
+    call_make(true, 0);
+    largest_request = (size_t)1 << 30;
+    begin();
+    EXPECT(intmap_with_capacity(&it->map, slots) == INTMAP_NO_MEMORY && was_refused_at_once());
+    begin();
+    EXPECT(intmap_reserve(&it->map, slots) == INTMAP_NO_MEMORY && was_refused_at_once());
+    largest_request = LARGEST_REQUEST;
+    check(it);
+    end_test();
+}
+
 // Numbers that don't fit into 32 bits, or lie at a limit.
 static void test_limits(void) {
     const size_t half = (size_t)1 << 63, above_32_bits = (size_t)1 << 32;
@@ -891,6 +962,8 @@ static void test_each(void) {
         RUN(test_insertions(kind, 1 << 6));
     }
     RUN(test_growth());
+    RUN(test_large_requests());
+    RUN(test_too_many_slots());
     RUN(test_limits());
     RUN(test_great_numbers());
     RUN(test_equal());
