@@ -50,7 +50,7 @@ impl<K: IntKey, A: Allocator + Copy> IntoIterator for IntSet<K, A> {
     ghost into_iter_gives = { λ set it. it ≡ set.walk };
 
     /// An iterator over the members by value, in iteration order. Neither this call nor a step of
-    /// the iterator fails. Each step moves the other members of its slot up by one place.
+    /// the iterator fails. The members of a slot are taken out together.
     fn into_iter(self) -> IntoKeys<K, (), A> {
         self.map.into_keys()
     }
