@@ -1,6 +1,6 @@
 -- What the equality of maps is once their lengths are compared.
 use Rattle.std.proofs.Common.{◌≡◌, inl, inr, ℕ, ◌≤◌, Bool, true, false, cond, ◌&&◌, List, [], ◌∷◌, length, Option, Some, None, refl, sym, ap, ◌∙◌, arith}
-use Rattle.std.specs.Prelude.{All}
+use Rattle.std.specs.Prelude.{All, IsTrue}
 use Rattle.std.specs.Cmp.{IsPartialEquivalence, first_so, second_so}
 use Rattle.std.specs.List.{list_all}
 use Rattle.std.specs.Option.{option_eq}
@@ -140,14 +140,13 @@ module _ {K V : Type 0} (number : K → ℕ) (equal : V → V → Bool) where
       and-implied (are_present_alike number equal m.walk n.walk) (are_present_alike number equal n.walk m.walk) (are_present_alike-turned values m.walk n.walk once distinct same)
       ∙ are_present_alike-part m.walk n.walk m.walk (All-found number m.walk once)
 
-  -- maps of other lengths aren't equal
-  pub maps_equal-other_length : (m n : MapState K V) → HasDistinctKeys number m.walk → HasDistinctKeys number n.walk → (length m.walk ≡ length n.walk → ⊥)
-      → maps_equal number equal m n ≡ false
-  maps_equal-other_length m n once distinct other =
-      elim (cases_Bool (maps_equal number equal m n)) [
-        | inl both ↦
-            (let there = length-KeysWithin number m.walk n.walk once distinct (KeysWithin-alike m.walk n.walk (first_so (are_present_alike number equal m.walk n.walk) _ both)) in
-            let back = length-KeysWithin number n.walk m.walk distinct once (KeysWithin-alike n.walk m.walk (second_so (are_present_alike number equal m.walk n.walk) _ both)) in
-            absurd (other (omega (arith, there, back))))
-        | inr differ ↦ differ
-      ]
+  -- equal maps are as long
+  pub length-maps_equal : (m n : MapState K V) → HasDistinctKeys number m.walk → HasDistinctKeys number n.walk → IsTrue (maps_equal number equal m n) → length m.walk ≡ length n.walk
+  length-maps_equal m n once distinct both =
+      let there = length-KeysWithin number m.walk n.walk once distinct (KeysWithin-alike m.walk n.walk (first_so (are_present_alike number equal m.walk n.walk) _ both)) in
+      let back = length-KeysWithin number n.walk m.walk distinct once (KeysWithin-alike n.walk m.walk (second_so (are_present_alike number equal m.walk n.walk) _ both)) in
+      omega (arith, there, back)
+
+  -- so maps of other lengths aren't equal
+  pub maps_equal-other_length : (m n : MapState K V) → HasDistinctKeys number m.walk → HasDistinctKeys number n.walk → (length m.walk ≡ length n.walk → ⊥) → maps_equal number equal m n ≡ false
+  maps_equal-other_length m n once distinct other = elim (cases_Bool (maps_equal number equal m n)) [ inl both ↦ absurd (other (length-maps_equal m n once distinct both)) | inr differ ↦ differ ]

@@ -10,7 +10,6 @@ pub use Rattle.intmap_table.proofs.RegroupLemmas
 pub use Rattle.intmap_table.proofs.Tables.CloneLemmas
 pub mod RewrittenLemmas
 pub mod GrowthLemmas
-pub mod DrainLemmas
 pub mod KeepLemmas
 pub mod MapLemmas
 pub mod WriteLemmas
@@ -30,12 +29,11 @@ pub mod CollisionLemmas
 pub mod Examples
 pub mod SameKeysLemmas
 pub mod RetainLemmas
-pub mod WritesLemmas
 pub mod ExtractLemmas
 pub mod CursorLemmas
 pub mod RefusalLemmas
 pub mod RoomLemmas
 pub mod InsertionLemmas
 pub mod LendMapLemmas
-pub mod EqualLengthLemmas
+pub mod CountLemmas
 pub mod SumLemmas

@@ -10,7 +10,7 @@ use Rattle.intmap.specs.Classes.{same_key}
 use Rattle.intmap_set.specs.Sets.{holds, paired}
 use Rattle.intmap_set.specs.Combined.{IsDisjoint, common_of, difference_of, intersection_of, symmetric_difference_of, union_of}
 use Rattle.intmap.specs.Extending.{new_keys}
-use Rattle.intmap.proofs.EqualLengthLemmas.{count_by-cons, list_any-uncounted}
+use Rattle.intmap.proofs.CountLemmas.{count_by-cons, list_any-uncounted}
 use Rattle.intmap_set.proofs.CombinedLemmas.{IsDifference-difference_of}
 use Rattle.intmap_set.proofs.ExtendLemmas.{new_keys-paired}
 use Rattle.intmap_set.proofs.MemberLemmas.{holds-same_number, same_key-itself}

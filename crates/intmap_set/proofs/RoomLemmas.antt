@@ -13,7 +13,7 @@ use Rattle.intmap.specs.PlainLists.{RefusalIsDue, list_of}
 use Rattle.intmap.specs.Reach.{class_size, reach}
 use Rattle.intmap.specs.declared.refusal.Cause.{Cause}
 use Rattle.intmap.proofs.CostLemmas.{class_size-below, reach-within_class}
-use Rattle.intmap.proofs.EqualLengthLemmas.{count_by-cons}
+use Rattle.intmap.proofs.CountLemmas.{count_by-cons}
 use Rattle.intmap.proofs.LoadFactorLemmas.{IsNext-met, IsNext-unique, MeetsLoad-fewer}
 use Rattle.intmap.proofs.RefusalLemmas.{lone-never_refused}
 use Rattle.intmap.proofs.SlotNumberLemmas.{capacity-greatest, capacity-positive}

@@ -4,13 +4,11 @@ use Rattle.std.proofs.lemmas.Bool.{true≢false}
 use Rattle.std.specs.Prelude.{◌||◌, not, nat_lt, IsTrue}
 use Rattle.std.proofs.lemmas.List.Filters.{length-filter_both}
 use Rattle.std.proofs.Math.Bool.{and_comm}
-use Rattle.std.specs.Cmp.{partial_equiv_from_equiv}
-use Rattle.intmap.proofs.EqualLengthLemmas.{length-maps_equal}
+use Rattle.intmap.proofs.EqualityLemmas.{length-maps_equal}
 use Rattle.intmap.specs.Bindings.{HasDistinctKeys}
 use Rattle.intmap_set.specs.Sets.{SetState, as_map, holds, paired}
 use Rattle.intmap_set.specs.Combined.{HaveSameMembers, IsSubset, common_of, difference_of, intersection_of, sets_equal, symmetric_difference_of, union_of}
 use Rattle.intmap_set.proofs.EqualLemmas.{sets_equal-iff_members}
-use Rattle.intmap_set.specs.EqualityLaws.{IsEquivalence-unit}
 use Rattle.intmap_set.proofs.DistinctLemmas.{HasDistinctKeys-common_of}
 use Rattle.intmap_set.proofs.MemberLemmas.{length-paired, same_key-itself}
 use Rattle.intmap_set.proofs.CombinedLemmas.{IsDifference-difference_of, IsIntersection-common_of, without-other}
@@ -20,7 +18,7 @@ module _ {K : Type 0} (number : K → ℕ) where
   pub length-sets_equal : (s t : SetState K) → HasDistinctKeys number (paired s.walk) → HasDistinctKeys number (paired t.walk)
       → IsTrue (sets_equal number s t) → length s.walk ≡ length t.walk
   length-sets_equal s t first second equal =
-      sym (length-paired s.walk) ∙ length-maps_equal number (λ v w. true) (partial_equiv_from_equiv IsEquivalence-unit) (as_map s) (as_map t) first second equal ∙ length-paired t.walk
+      sym (length-paired s.walk) ∙ length-maps_equal number (λ v w. true) (as_map s) (as_map t) first second equal ∙ length-paired t.walk
 
   -- and so are sets with the same members
   pub length-same_members : (V W : List K) → HasDistinctKeys number (paired V) → HasDistinctKeys number (paired W) → HaveSameMembers number V W → length V ≡ length W
