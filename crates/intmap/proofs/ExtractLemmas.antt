@@ -15,35 +15,22 @@ use Rattle.intmap_table.specs.Walk.{walk_of}
 use Rattle.intmap.specs.Consistency.{IsConsistent}
 use Rattle.intmap.specs.Growth.{IsThreshold}
 use Rattle.intmap.specs.Map.{IsMapWalk}
-use Rattle.intmap.proofs.LoadFactorLemmas.{IsLoaded-fewer}
+use Rattle.intmap.proofs.MapLemmas.{IsConsistent-fewer}
 use Rattle.intmap_table.proofs.ExtractLemmas.{sum_by-ExtractsBehind, length-ExtractsNext, length-ExtractsBehind, All-ExtractsBehind, TakesEach-rest}
 use Rattle.intmap_table.proofs.SlotNumberLemmas.{capacity-positive}
 
 module _ {F K V : Type 0} (number : K → ℕ) (is_valid : K → Type 0) (R : F → K × V → Bool → F → K × V → Type 0) (same : (f : F) (p : K × V) (b : Bool) (g : F) (q : K × V) → R f p b g q → q.0 ≡ p.0) where
-  -- what stays of a map's walk is the walk of a map
-  pub IsMapWalk-Extracts : (f g : F) (W M : List (K × V)) (i j : ℕ) (r : Option (K × V)) (C E : ℕ) → ExtractsBehind R f W i r g M j → walk_of number M C ≡ M → IsMapWalk number is_valid W C E → IsMapWalk number is_valid M C E
-  IsMapWalk-Extracts f g W M i j r C E step own old =
-      let len = length-ExtractsBehind R f g W M i j r step in
-      record {
-        capacity = old.capacity;
-        own = own;
-        distinct = λ k.
-            let count = sum_by-ExtractsBehind R (λ (p : K × V). cond (same_key number k p.0) 1 0) (λ f p b g q call. ap (λ h. cond (same_key number k h) 1 0) (same f p b g q call)) f g W M i j r step in
-            let once = old.distinct k in omega (arith, count, once);
-        keys = All-ExtractsBehind R (λ p. is_valid p.0) (λ f p b g q call is. subst is_valid (sym (same f p b g q call)) is) f g W M i j r step old.keys;
-        count = omega (arith, len, old.count);
-        factor = old.factor;
-        load = IsLoaded-fewer C (length W) (length M) E (capacity-positive C old.capacity) old.load (omega (arith, len));
-      }
-
-  -- and what a map keeps agrees
+  -- what a map keeps agrees
   pub IsConsistent-Extracts : (f g : F) (W M : List (K × V)) (i j : ℕ) (r : Option (K × V)) (C D E n n' most : ℕ) → ExtractsBehind R f W i r g M j → D ≡ C → walk_of number M D ≡ M
       → n ≡ n' + option_len r → IsConsistent number is_valid W C E n most → IsConsistent number is_valid M D E n' most
-  IsConsistent-Extracts f g W M i j r C D E n n' most step same_size own count old = record {
-    map = IsMapWalk-Extracts f g W M i j r D E step own (subst (λ m. IsMapWalk number is_valid W m E) (sym same_size) old.map);
-    count = let len = length-ExtractsBehind R f g W M i j r step in omega (arith, count, old.count, len);
-    threshold = subst (λ m. IsThreshold m E most) (sym same_size) old.threshold;
-  }
+  IsConsistent-Extracts f g W M i j r C D E n n' most step same_size own count old =
+      let len = length-ExtractsBehind R f g W M i j r step in
+      IsConsistent-fewer number is_valid W M C E n most old D n' same_size own (omega (arith, count, old.count, len)) (omega (arith, len))
+      (λ k.
+      let once = old.map.distinct k in
+      let counted = sum_by-ExtractsBehind R (λ (p : K × V). cond (same_key number k p.0) 1 0) (λ f p b g q call. ap (λ h. cond (same_key number k h) 1 0) (same f p b g q call)) f g W M i j r step in
+      omega (arith, counted, once))
+      (All-ExtractsBehind R (λ p. is_valid p.0) (λ f p b g q call is. subst is_valid (sym (same f p b g q call)) is) f g W M i j r step old.map.keys)
 
 module _ {F X S : Type 0} (R : F → X → Bool → F → X → Type 0) (Q : F → X → Type 0) (test : S → F) (rest : S → List X) where
   -- the closure may be called at each element that is left

@@ -1,8 +1,8 @@
 -- What calls leave of a map: its walk stays that of a map, and its count that of its walk.
-use Rattle.std.proofs.Common.{◌≡◌, ℕ, ◌+◌, ◌-◌, ◌^◌, ◌<◌, cond, true, false, List, [], ◌∷◌, length, Option, Some, None, is_some, refl, sym, ap, ◌∙◌, subst, arith}
+use Rattle.std.proofs.Common.{◌≡◌, ℕ, ◌+◌, ◌-◌, ◌^◌, ◌<◌, ◌≤◌, cond, true, false, List, [], ◌∷◌, length, Option, Some, None, is_some, refl, sym, ap, ◌∙◌, subst, arith}
 use Rattle.std.specs.Prelude.{All, ◌&&◌, nat_lt, Result, Ok, Err, IsOk}
 use Rattle.std.specs.Result.{is_err}
-use Rattle.std.proofs.lemmas.List.Elements.{All-nil}
+use Rattle.std.proofs.lemmas.List.Elements.{All-nil, All-tail}
 use Rattle.intmap_table.specs.Classes.{IsCapacity}
 use Rattle.intmap_table.specs.Bindings.{HasDistinctKeys, value_of, take_key, put_pair}
 use Rattle.intmap_table.specs.Walk.{walk_of}
@@ -10,6 +10,7 @@ use Rattle.intmap.specs.Growth.{IsThreshold, MeetsLoad, is_due}
 use Rattle.intmap.specs.Map.{MapState, IsMapWalk}
 use Rattle.intmap.specs.Consistency.{IsConsistent}
 use Rattle.intmap_table.proofs.SlotNumberLemmas.{slot_number-below}
+use Rattle.intmap.proofs.CostLemmas.{HasDistinctKeys-tail}
 use Rattle.intmap.proofs.LoadFactorLemmas.{IsLoaded, IsLoaded-from, IsLoaded-fewer, IsLoaded-more}
 use Rattle.intmap_table.proofs.SlotNumberLemmas.{capacity-positive}
 use Rattle.intmap_table.proofs.WalkLemmas.{walk_of-walk_of}
@@ -59,13 +60,6 @@ module _ {K V : Type 0} (number : K → ℕ) (is_valid : K → Type 0) where
   pub IsMapWalk-put : (W : List (K × V)) (C F D : ℕ) (k : K) (v : V) → IsMapWalk number is_valid W C F → IsCapacity D → is_valid k → length (put_pair number W C k v) < 2 ^ 64 → IsLoaded D (length (put_pair number W C k v)) F → IsMapWalk number is_valid (walk_of number (put_pair number W C k v) D) D F
   IsMapWalk-put W C F D k v m cap key fits loaded =
       IsMapWalk-walk_of (put_pair number W C k v) D F cap (HasDistinctKeys-put_pair number W C k v m.distinct) (All-put_pair number (λ p. is_valid p.0) W C k v m.keys key) fits m.factor loaded
-
-  -- a map out of which a key was taken
-  pub IsMapWalk-take : (W : List (K × V)) (C F : ℕ) (k : K) → IsMapWalk number is_valid W C F → IsMapWalk number is_valid (walk_of number (take_key number W C k) C) C F
-  IsMapWalk-take W C F k m =
-      let fewer = length-take_key number W C k in let old = m.count in
-      IsMapWalk-walk_of (take_key number W C k) C F m.capacity (HasDistinctKeys-take_key number W C k m.distinct) (All-take_key number (λ p. is_valid p.0) W C k m.keys) (omega (arith, fewer, old)) m.factor
-      (IsLoaded-fewer C (length W) (length (take_key number W C k)) F (capacity-positive C m.capacity) m.load (omega (arith, fewer)))
 
   -- a map whose pairs went into D slots
   pub IsMapWalk-grown : (W : List (K × V)) (C F D G : ℕ) → IsMapWalk number is_valid W C F → IsCapacity D → G < 2 ^ 64 → IsLoaded D (length W) G → IsMapWalk number is_valid (walk_of number W D) D G
@@ -122,17 +116,39 @@ module _ {K V : Type 0} (number : K → ℕ) where
     IsConsistent-grown_with D D' most' k x same cap key missing fits meets threshold is =
         put D D' (n + 1) most' k x same cap key is (longer k x missing) fits (IsLoaded-from D (n + 1) F (capacity-positive D cap) meets) threshold
 
+    -- pairs were let go
+    pub IsConsistent-fewer : (C' n' : ℕ) → C' ≡ C → walk_of number W' C' ≡ W' → n' ≡ length W' → length W' ≤ length W → HasDistinctKeys number W' → All (λ p. is_valid p.0) W' → IsConsistent number is_valid W' C' F n' most
+    IsConsistent-fewer C' n' same own count less distinct keys = record {
+      map = rw same (record {
+        capacity = old.map.capacity;
+        own = subst (λ D. walk_of number W' D ≡ W') same own;
+        distinct = distinct;
+        keys = keys;
+        count = omega (arith, less, old.map.count);
+        factor = old.map.factor;
+        load = IsLoaded-fewer C (length W) (length W') F (capacity-positive C old.map.capacity) old.map.load less;
+      });
+      count = count;
+      threshold = rw same old.threshold;
+    }
+
+    -- the first pair was removed
+    pub IsConsistent-rest : (C' : ℕ) (p : K × V) → W ≡ p ∷ W' → C' ≡ C → walk_of number W' C' ≡ W' → IsConsistent number is_valid W' C' F (n - 1) most
+    IsConsistent-rest C' p first same own =
+        let all = ap length first in
+        IsConsistent-fewer C' (n - 1) same own (omega (arith, all, old.count)) (omega (arith, all)) (HasDistinctKeys-tail number p W' (rw first at old.map.distinct))
+        (All-tail (λ q. is_valid q.0) p W' (rw first at old.map.keys))
+
     -- a key was removed
     pub IsConsistent-taken : (C' : ℕ) (k : K) (n' : ℕ) → C' ≡ C → W' ≡ walk_of number (take_key number W C k) C → n' ≡ n - cond (is_some (value_of number W k)) 1 0 → IsConsistent number is_valid W' C' F n' most
     IsConsistent-taken C' k n' same is len =
-        let here : length (walk_of number (take_key number W C k) C) ≡ length (take_key number W C k) = length-walk_of number (take_key number W C k) C (λ k. slot_number-below number k C old.map.capacity) in
+        let below = λ (q : K). slot_number-below number q C old.map.capacity in
+        let L : List (K × V) = take_key number W C k in
         let left = length-take_key number W C k in
-        let same_len : length W' ≡ length (take_key number W C k) = ap length is ∙ here in
-        record {
-          map = rw (same, is) (IsMapWalk-take number is_valid W C F k old.map);
-          count = omega (arith, same_len, left, len, old.count);
-          threshold = rw same old.threshold;
-        }
+        let same_len : length W' ≡ length L = ap length is ∙ length-walk_of number L C below in
+        IsConsistent-fewer C' n' same (rw (same, is) (walk_of-walk_of number C L)) (omega (arith, same_len, left, len, old.count)) (omega (arith, same_len, left))
+        (rw is (HasDistinctKeys-walk_of number L C below (HasDistinctKeys-take_key number W C k old.map.distinct)))
+        (rw is (All-walk_of number (λ p. is_valid p.0) L C (All-take_key number (λ p. is_valid p.0) W C k old.map.keys)))
 
     -- the pairs went into D slots, at the load factor G
     pub IsConsistent-grown : (D D' G most' : ℕ) → D' ≡ D → IsCapacity D → G < 2 ^ 64 → IsLoaded D n G → IsThreshold D G most' → W' ≡ walk_of number W D → IsConsistent number is_valid W' D' G n most'

@@ -9,7 +9,7 @@ use Rattle.intmap.specs.Consistency.{IsConsistent}
 use Rattle.intmap.specs.Map.{IsMapWalk}
 use Rattle.intmap_table.specs.Retaining.{Retains}
 use Rattle.intmap_table.specs.Walk.{walk_of}
-use Rattle.intmap.proofs.LoadFactorLemmas.{IsLoaded-fewer}
+use Rattle.intmap.proofs.MapLemmas.{IsConsistent-fewer}
 use Rattle.intmap_table.proofs.SlotNumberLemmas.{capacity-positive}
 use Rattle.intmap_table.proofs.RetainLemmas.{length-Retains, All-Retains, count_by-Retains}
 
@@ -49,25 +49,9 @@ module _ {F K V : Type 0} (number : K → ℕ) (R : F → K × V → Bool → F 
       subst (λ Z. (value_of number Z k ≡ value_of number (p ∷ L) k) ⊎ (value_of number Z k ≡ None)) (sym r.5)
       (value_step k p L r.2 r.0 (same_key number k p.0) refl gone (value_of-Retains k r.1 g L r.2 r.4 later))
 
-  -- what stays of a map's walk is the walk of a map
-  pub IsMapWalk-Retains : (is_valid : K → Type 0) (f g : F) (W M : List (K × V)) (C E : ℕ) → Retains R f W M g → walk_of number M C ≡ M → IsMapWalk number is_valid W C E → IsMapWalk number is_valid M C E
-  IsMapWalk-Retains is_valid f g W M C E r own old =
-      let few = length-Retains R f g W M r in
-      record {
-        capacity = old.capacity;
-        own = own;
-        distinct = HasDistinctKeys-Retains f g W M r old.distinct;
-        keys = All-Retains R (λ p. is_valid p.0) f g W M r old.keys;
-        count = omega (arith, few, old.count);
-        factor = old.factor;
-        load = IsLoaded-fewer C (length W) (length M) E (capacity-positive C old.capacity) old.load few;
-      }
-
--- and what a map keeps agrees
+-- what a map keeps agrees once pairs were let go
 pub IsConsistent-Retains : {F K V : Type 0} (number : K → ℕ) (is_valid : K → Type 0) (R : F → K × V → Bool → F → Type 0) (f g : F) (W M : List (K × V)) (C D E n n' most : ℕ)
     → Retains R f W M g → D ≡ C → walk_of number M D ≡ M → n' ≡ length M → IsConsistent number is_valid W C E n most → IsConsistent number is_valid M D E n' most
-IsConsistent-Retains number is_valid R f g W M C D E n n' most r same own count old = record {
-  map = IsMapWalk-Retains number R is_valid f g W M D E r own (subst (λ m. IsMapWalk number is_valid W m E) (sym same) old.map);
-  count = count;
-  threshold = subst (λ m. IsThreshold m E most) (sym same) old.threshold;
-}
+IsConsistent-Retains number is_valid R f g W M C D E n n' most r same own count old =
+    IsConsistent-fewer number is_valid W M C E n most old D n' same own count (length-Retains R f g W M r)
+    (HasDistinctKeys-Retains number R f g W M r old.map.distinct) (All-Retains R (λ p. is_valid p.0) f g W M r old.map.keys)

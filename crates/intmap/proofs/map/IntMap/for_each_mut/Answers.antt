@@ -3,14 +3,13 @@ use Rattle.intmap.specs.Map.{MapState}
 use Rattle.intmap_table.specs.Taking.{TakesEach}
 use Rattle.intmap_table.specs.Writes.{WritesAt, TakesPairMut}
 use Rattle.intmap_table.proofs.WritesLemmas.{keys_of-Writes, is_some-Writes, length-Writes}
-use Rattle.intmap.proofs.WritesLemmas.{IsConsistent-Writes}
+use Rattle.intmap.proofs.SameKeysLemmas.{IsConsistent-same_keys}
 use Rattle.intmap.proofs.map.IntMap.for_each_mut.Goals as goal
 
 pub invariant_of-self : goal.invariant_of-self
 invariant_of-self g c =
     let left = c.write_each.ensures in
-    IsConsistent-Writes g.K.IntKey.number_of g.K.IntKey.is_valid (WritesAt g.F.FnMut) c.args.f c.write_each.new.f c.self.inside.table.walk c.write_each.new.self.walk _ _ _ _ _
-    left.pairs left.capacity left.own c.self.invariant
+    rw left.capacity (IsConsistent-same_keys g.K.IntKey.number_of g.K.IntKey.is_valid c.self.inside.table.walk c.write_each.new.self.walk _ _ _ _ (sym (keys_of-Writes (WritesAt g.F.FnMut) _ _ _ _ left.pairs)) c.self.invariant)
 
 pub returns-clause-keys : goal.returns-clause-keys
 returns-clause-keys g c = rw (← c.self.view_is) (keys_of-Writes (WritesAt g.F.FnMut) _ _ _ _ c.write_each.ensures.pairs)
@@ -24,10 +23,7 @@ pub returns-clause-len : goal.returns-clause-len
 returns-clause-len g c = rw (← c.self.view_is) (length-Writes (WritesAt g.F.FnMut) _ _ _ _ c.write_each.ensures.pairs)
 
 pub returns-clause-valid_after : goal.returns-clause-valid_after
-returns-clause-valid_after g c =
-    let left = c.write_each.ensures in
-    (IsConsistent-Writes g.K.IntKey.number_of g.K.IntKey.is_valid (WritesAt g.F.FnMut) c.args.f c.write_each.new.f c.self.inside.table.walk c.write_each.new.self.walk _ _ _ _ _
-    left.pairs left.capacity left.own c.self.invariant).map
+returns-clause-valid_after g c = (invariant_of-self g c).map
 
 pub write_each-requires : goal.write_each-requires
 write_each-requires g c =

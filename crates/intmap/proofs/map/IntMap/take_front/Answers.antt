@@ -1,14 +1,13 @@
 use Rattle.std.proofs.Common.{rules, [], None, refl, subst, sym, ◌∙◌, add-zero}
 use Rattle.intmap_table.specs.Bindings.{Updates}
-use Rattle.intmap.proofs.DrainLemmas.{IsConsistent-rest}
+use Rattle.intmap.proofs.MapLemmas.{IsConsistent-rest}
 use Rattle.intmap.proofs.CursorLemmas.{Updates-cut}
 use Rattle.intmap.proofs.map.IntMap.take_front.Goals as goal
 
 pub invariant_of-self-2 : goal.invariant_of-self-2
 invariant_of-self-2 g c =
     let taken = c.in-Some.ensures' in
-    IsConsistent-rest g.K.IntKey.number_of g.K.IntKey.is_valid _ c.self.inside.table.walk c.take_front.new.self.walk _ _ _ _ _
-    taken.first taken.capacity taken.own c.self.invariant
+    IsConsistent-rest _ _ _ _ _ _ _ _ c.self.invariant c.take_front.new.self.capacity _ taken.first taken.capacity taken.own
 
 pub returns-clause-updates : goal.returns-clause-updates
 returns-clause-updates g c =
