@@ -61,10 +61,6 @@ module _ {K V : Type 0} (number : K → ℕ) (is_valid : K → Type 0) where
   IsMapWalk-put W C F D k v m cap key fits loaded =
       IsMapWalk-walk_of (put_pair number W C k v) D F cap (HasDistinctKeys-put_pair number W C k v m.distinct) (All-put_pair number (λ p. is_valid p.0) W C k v m.keys key) fits m.factor loaded
 
-  -- a map whose pairs went into D slots
-  pub IsMapWalk-grown : (W : List (K × V)) (C F D G : ℕ) → IsMapWalk number is_valid W C F → IsCapacity D → G < 2 ^ 64 → IsLoaded D (length W) G → IsMapWalk number is_valid (walk_of number W D) D G
-  IsMapWalk-grown W C F D G m cap factor loaded = IsMapWalk-walk_of W D G cap m.distinct m.keys m.count factor loaded
-
 -- a value that is there, or isn't, adds so much
 pub one_less : {V : Type 0} (o : Option V) (x : V) → o ≡ Some x → ◌≡◌ {A = ℕ} (cond (is_some o) 1 0) 1
 one_less o x e = ap (λ (o : Option _). cond (is_some o) 1 0) e
@@ -151,15 +147,12 @@ module _ {K V : Type 0} (number : K → ℕ) where
         (rw is (All-walk_of number (λ p. is_valid p.0) L C (All-take_key number (λ p. is_valid p.0) W C k old.map.keys)))
 
     -- the pairs went into D slots, at the load factor G
-    pub IsConsistent-grown : (D D' G most' : ℕ) → D' ≡ D → IsCapacity D → G < 2 ^ 64 → IsLoaded D n G → IsThreshold D G most' → W' ≡ walk_of number W D → IsConsistent number is_valid W' D' G n most'
-    IsConsistent-grown D D' G most' same cap factor loaded threshold is =
-        let here : length (walk_of number W D) ≡ length W = length-walk_of number W D (λ k. slot_number-below number k D cap) in
-        let all : length W' ≡ length W = ap length is ∙ here in
-        record {
-          map = rw (same, is) (IsMapWalk-grown number is_valid W C F D G old.map cap factor (subst (λ m. IsLoaded D m G) old.count loaded));
-          count = omega (arith, all, old.count);
-          threshold = rw same threshold;
-        }
+    pub IsConsistent-grown : (D G most' : ℕ) → IsCapacity D → G < 2 ^ 64 → IsLoaded D (length W) G → IsThreshold D G most' → W' ≡ walk_of number W D → IsConsistent number is_valid W' D G n most'
+    IsConsistent-grown D G most' cap factor loaded threshold is = record {
+      map = rw is (IsMapWalk-walk_of number is_valid W D G cap old.map.distinct old.map.keys old.map.count factor loaded);
+      count = old.count ∙ sym (ap length is ∙ length-walk_of number W D (λ k. slot_number-below number k D cap));
+      threshold = threshold;
+    }
 
 -- a failed call isn't a successful one
 pub IsOk-at_err : {T E : Type 0} (r : Result T E) → is_err r ≡ true → IsOk r → ⊥
