@@ -61,7 +61,7 @@ module _ {K V : Type 0} (number : K → ℕ) where
       map-append (λ p. cond (same_key number k p.0) (p.0, v) p) (take_key number m.walk m.capacity k) ((k, x) ∷ [])
       ∙ ap (λ L. L ++ cond (same_key number k k) (k, v) (k, x) ∷ []) (write_value-unbound number (take_key number m.walk m.capacity k) k v gone)
       ∙ ap (λ b. take_key number m.walk m.capacity k ++ cond b (k, v) (k, x) ∷ []) own in
-      MapState-same _ _ _ _ _ _ _ _ _ (sym (walk_of-write_value number (put_pair number m.walk m.capacity k x) D k v) ∙ ap (λ L. walk_of number L D) pair) refl refl refl
+      MapState-same (sym (walk_of-write_value number (put_pair number m.walk m.capacity k x) D k v) ∙ ap (λ L. walk_of number L D) pair) refl refl
 
 -- that a pair was found holds in one way
 IsFound-prop : {K V : Type 0} (number : K → ℕ) (W : List (K × V)) (C slot place : ℕ) → IsProp (IsFound number W C slot place)

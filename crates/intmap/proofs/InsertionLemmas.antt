@@ -1,11 +1,13 @@
 -- What insertions do to a map.
-use Rattle.std.proofs.Common.{◌≡◌, ℕ, length, true, false, Some, refl, sym, ap, arith}
+use Rattle.std.proofs.Common.{◌≡◌, ℕ, ◌+◌, ◌^◌, ◌<◌, length, true, false, None, Some, refl, sym, ap, arith}
 use Rattle.intmap_table.specs.Bindings.{value_of, put_pair, Updates}
 use Rattle.intmap_table.specs.Walk.{walk_of}
+use Rattle.intmap.specs.Growth.{IsNext}
 use Rattle.intmap.specs.Insertions.{IsInsertion}
 use Rattle.intmap.specs.Map.{MapState, IsMap, IsOutOfRange, IsCapacityAfter, after_search, written}
 use Rattle.intmap_table.proofs.BindingLemmas.{Updates-same}
 use Rattle.intmap.proofs.AfterLemmas.{Updates-put, length-put}
+use Rattle.intmap.proofs.LoadFactorLemmas.{in_range-next}
 use Rattle.intmap.proofs.WriteLemmas.{Updates-written, length-write_value, IsMapWalk-written}
 
 module _ {K V : Type 0} (number : K → ℕ) (is_valid : K → Type 0) where
@@ -25,6 +27,12 @@ module _ {K V : Type 0} (number : K → ℕ) (is_valid : K → Type 0) where
     len = length-put number is_valid m n.walk n.capacity k v new.capacity put;
     valid = new;
   }
+
+  -- the pair of a new key was added, with the next capacity
+  pub IsInsertion-added : (m n : MapState K V) (k : K) (v : V) → value_of number m.walk k ≡ None → IsMap number is_valid m → IsMap number is_valid n
+      → n.walk ≡ walk_of number (put_pair number m.walk m.capacity k v) n.capacity → length m.walk + 1 < 2 ^ 64 → IsNext m.capacity (length m.walk + 1) m.factor n.capacity → IsInsertion number is_valid m k v n
+  IsInsertion-added m n k v missing old new put few next =
+      IsInsertion-put m n k v old new put (λ out. in_range-next m.walk m.capacity m.factor n.capacity few new.capacity next out.1) (rw missing next)
 
   -- the pair of a present key was replaced
   pub IsInsertion-replaced : (m n : MapState K V) (k : K) (v x : V) → value_of number m.walk k ≡ Some x → IsMap number is_valid m → IsMap number is_valid n

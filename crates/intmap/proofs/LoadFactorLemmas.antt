@@ -240,3 +240,8 @@ NeedsTooMuch-none C n F D cap next much =
 -- if growth is tested, needing too much is growing too much
 pub NeedsTooMuch-wanted : (C n F : ℕ) → is_due n ≡ true → NeedsTooMuch (IsWanted C n F) → NeedsTooMuch (IsNext C n F)
 NeedsTooMuch-wanted C n F due much = (much.0, IsNext-wanted C F n much.0 due much.1, much.2)
+
+-- with a length below 2^64 and a next capacity, no insertion is too large
+pub in_range-next : {K V : Type 0} (L : List (K × V)) (C F D : ℕ) → length L + 1 < 2 ^ 64 → IsCapacity D → IsNext C (length L + 1) F D → InsertIsTooLarge L C F → ⊥
+in_range-next L C F D few cap next (inl long) = omega arith
+in_range-next L C F D few cap next (inr much) = NeedsTooMuch-none C (length L + 1) F D cap next much

@@ -1,7 +1,8 @@
 -- What calls leave of a map: its walk stays that of a map, and its count that of its walk.
-use Rattle.std.proofs.Common.{◌≡◌, ℕ, ◌+◌, ◌-◌, ◌^◌, ◌<◌, ◌≤◌, cond, true, false, List, [], ◌∷◌, length, Option, Some, None, is_some, refl, sym, ap, ◌∙◌, subst, arith}
-use Rattle.std.specs.Prelude.{All, ◌&&◌, nat_lt, Result, Ok, Err, IsOk}
+use Rattle.std.proofs.Common.{◌≡◌, ℕ, ◌+◌, ◌-◌, ◌^◌, ◌<◌, ◌≤◌, cond, true, false, List, [], ◌∷◌, length, Option, Some, None, is_some, refl, sym, ap, ◌∙◌, add-zero, subst, arith}
+use Rattle.std.specs.Prelude.{All, ◌==◌, ◌&&◌, nat_lt, Result, Ok, Err, IsOk}
 use Rattle.std.specs.Result.{is_err}
+use Rattle.std.proofs.lemmas.Bool.{eq-eqb}
 use Rattle.std.proofs.lemmas.List.Elements.{All-nil, All-tail}
 use Rattle.intmap_table.specs.Classes.{IsCapacity}
 use Rattle.intmap_table.specs.Bindings.{HasDistinctKeys, value_of, take_key, put_pair}
@@ -17,9 +18,13 @@ use Rattle.intmap_table.proofs.WalkLemmas.{walk_of-walk_of}
 use Rattle.intmap_table.proofs.DistinctLemmas.{length-walk_of, length-take_key, length-put_pair, HasDistinctKeys-nil, HasDistinctKeys-walk_of, HasDistinctKeys-take_key, HasDistinctKeys-put_pair, All-walk_of, All-take_key, All-put_pair}
 
 -- maps whose changed parts are the same are the same
-pub MapState-same : {K V : Type 0} (W W' : List (K × V)) (C C' F p p' c c' : ℕ) → W ≡ W' → C ≡ C' → p ≡ p' → c ≡ c'
-    → ◌≡◌ {A = MapState K V} (record { walk = W; capacity = C; factor = F; placed = p; compared = c }) (record { walk = W'; capacity = C'; factor = F; placed = p'; compared = c' })
-MapState-same W W' C C' F p p' c c' walk capacity placed compared = rw (walk, capacity, placed, compared) refl
+pub MapState-same : {K V : Type 0} {W W' : List (K × V)} {C C' F p p' c : ℕ} → W ≡ W' → C ≡ C' → p ≡ p'
+    → ◌≡◌ {A = MapState K V} (record { walk = W; capacity = C; factor = F; placed = p; compared = c }) (record { walk = W'; capacity = C'; factor = F; placed = p'; compared = c })
+MapState-same walk capacity placed = rw (walk, capacity, placed) refl
+
+-- a pair that is put into as many slots is no pair in a larger table
+pub placed-same : (C p n : ℕ) → p ≡ p + cond (C == C) 0 n
+placed-same C p n = sym (ap (λ b. p + cond b 0 n) (eq-eqb C C refl) ∙ add-zero p)
 
 module _ {K V : Type 0} (number : K → ℕ) (is_valid : K → Type 0) where
   -- the walk of any list of distinct keys, in enough slots for the load

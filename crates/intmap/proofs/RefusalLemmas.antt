@@ -1,30 +1,36 @@
 -- Why insertions fail, and which can't.
-use Rattle.std.proofs.Common.{◌≡◌, ℕ, ◌+◌, ◌<◌, None, inl, inr, length, refl, arith}
-use Rattle.std.specs.Prelude.{◌↔◌}
+use Rattle.std.proofs.Common.{◌≡◌, ℕ, ◌+◌, ◌<◌, ◌^◌, None, length, refl, arith}
 use Rattle.intmap_table.specs.Bindings.{value_of}
 use Rattle.intmap_table.specs.Classes.{IsCapacity}
 use Rattle.intmap_table.specs.Reach.{class_size}
 use Rattle.intmap.specs.Growth.{IsNext}
-use Rattle.intmap.specs.Map.{IsLone}
-use Rattle.intmap.specs.PlainLists.{PlainList, RefusalIsDue}
+use Rattle.intmap.specs.Map.{MapState, IsLone, after_search}
+use Rattle.intmap.specs.PlainLists.{PlainList, RefusalIsDue, list_of}
 use Rattle.intmap.specs.declared.refusal.Cause.{Cause}
 use Rattle.intmap.specs.declared.refusal.Cause.TheVariants.{Memory, TooLarge}
-use Rattle.intmap.proofs.LoadFactorLemmas.{InsertIsTooLarge, NeedsTooMuch-none}
+use Rattle.intmap.proofs.LoadFactorLemmas.{InsertIsTooLarge, in_range-next}
 
-module _ {K V : Type 0} (number : K → ℕ) (s : PlainList K V) (k : K) (missing : value_of number s.pairs k ≡ None) where
-  -- what is said of an absent key alone
-  pub RefusalIsDue-absent : (cause : Cause) → (cause ≡ TooLarge) ↔ InsertIsTooLarge s.pairs s.capacity s.factor
-      → (cause ≡ Memory → IsNext s.capacity (length s.pairs + 1) s.factor s.capacity → 0 < class_size number s.pairs s.capacity k) → RefusalIsDue number s k cause
-  RefusalIsDue-absent cause large memory = record {
-    new_key = rw missing refl;
-    too_large = (λ is. (rw missing refl, large.0 is), λ out. large.1 out.1);
-    memory = memory;
-  }
+module _ {K V : Type 0} (number : K → ℕ) (s : PlainList K V) (k : K) where
+  module _ (missing : value_of number s.pairs k ≡ None) where
+    -- of an absent key the insertion was too large
+    pub RefusalIsDue-too_large : InsertIsTooLarge s.pairs s.capacity s.factor → RefusalIsDue number s k TooLarge
+    RefusalIsDue-too_large large = record { new_key = rw missing refl; too_large = (λ _. (rw missing refl, large), λ _. refl); memory = λ e. cc }
 
-module _ {K V : Type 0} (number : K → ℕ) (s : PlainList K V) (k : K) (capacity : IsCapacity s.capacity) (lone : IsLone number s.pairs s.capacity s.factor k) where
-  pub lone-never_refused : (cause : Cause) → RefusalIsDue number s k cause → ⊥
-  lone-never_refused Memory may = let some = may.memory refl lone.stays in omega (arith, lone.alone, some)
-  lone-never_refused TooLarge may = elim (may.too_large.0 refl).1 [
-    | inl many ↦ omega (arith, lone.count, many)
-    | inr grows ↦ NeedsTooMuch-none s.capacity (length s.pairs + 1) s.factor s.capacity capacity lone.stays grows
-  ]
+    -- or there was too little memory for the next capacity
+    pub RefusalIsDue-memory : (D : ℕ) → length s.pairs + 1 < 2 ^ 64 → IsCapacity D → IsNext s.capacity (length s.pairs + 1) s.factor D
+        → (IsNext s.capacity (length s.pairs + 1) s.factor s.capacity → 0 < class_size number s.pairs s.capacity k) → RefusalIsDue number s k Memory
+    RefusalIsDue-memory D few cap next shared = record {
+      new_key = rw missing refl;
+      too_large = (λ e. cc, λ out. absurd (in_range-next s.pairs s.capacity s.factor D few cap next out.1));
+      memory = λ _. shared;
+    }
+
+  pub lone-never_refused : IsCapacity s.capacity → IsLone number s.pairs s.capacity s.factor k → (cause : Cause) → RefusalIsDue number s k cause → ⊥
+  lone-never_refused capacity lone Memory may = let some = may.memory refl lone.stays in omega (arith, lone.alone, some)
+  lone-never_refused capacity lone TooLarge may = in_range-next s.pairs s.capacity s.factor s.capacity lone.count capacity lone.stays (may.too_large.0 refl).1
+
+-- an insertion that fails behind a look-up may fail before it
+pub RefusalIsDue-searched : {K V : Type 0} (number : K → ℕ) (m n : MapState K V) (q k : K) (cause : Cause) → n ≡ after_search number m q → RefusalIsDue number (list_of n) k cause → RefusalIsDue number (list_of m) k cause
+RefusalIsDue-searched number m n q k cause searched due =
+    let h : RefusalIsDue number (list_of (after_search number m q)) k cause = rw searched at due in
+    record { new_key = h.new_key; too_large = h.too_large; memory = h.memory }

@@ -1,113 +1,82 @@
-use Rattle.std.proofs.Common.{◌≡◌, ◌+◌, ◌<◌, ◌^◌, inl, inr, length, cond, true, false, sym, ap, ◌∙◌, subst, arith, refl, add-zero, rules, tests}
+use Rattle.std.proofs.Common.{◌≡◌, ◌+◌, ◌<◌, ◌^◌, inl, length, None, refl, sym, ◌∙◌, arith, rules, tests}
 use Rattle.std.proofs.lemmas.Grind.{common_steps}
-use Rattle.std.specs.Prelude.{◌&&◌, ◌==◌, nat_lt}
-use Rattle.std.proofs.lemmas.Bool.{eq-eqb}
-use Rattle.intmap.specs.Growth.{IsNext, is_due}
+use Rattle.intmap_table.specs.Bindings.{value_of}
+use Rattle.intmap.specs.Growth.{IsNext}
 use Rattle.intmap.specs.PlainLists.{PlainList}
-use Rattle.intmap.specs.declared.refusal.Cause.TheVariants.{Memory, TooLarge}
-use Rattle.intmap.proofs.InsertionLemmas.{IsInsertion-put}
-use Rattle.intmap.proofs.RefusalLemmas.{RefusalIsDue-absent}
-use Rattle.intmap.proofs.LoadFactorLemmas.{InsertIsTooLarge, IsNext-same, NeedsTooMuch-none}
-use Rattle.intmap.proofs.MapLemmas.{MapState-same, IsConsistent-added}
+use Rattle.intmap.proofs.InsertionLemmas.{IsInsertion-added}
+use Rattle.intmap.proofs.RefusalLemmas.{RefusalIsDue-too_large, RefusalIsDue-memory}
+use Rattle.intmap.proofs.LoadFactorLemmas.{IsNext-same}
+use Rattle.intmap.proofs.MapLemmas.{MapState-same, placed-same, IsConsistent-added}
 use Rattle.intmap.proofs.map.IntMap.add.Goals as goal
 use Rattle.intmap.proofs.map.IntMap.add.Goals.{After-add}
 
 module _ (g : _) (c : After-add g) where
-  fits : c.self.inside.len + 1 < 2 ^ 64
-  fits = let apart = c.if-self.false in omega (arith, apart)
+  missing : value_of g.K.IntKey.number_of c.self.inside.table.walk c.args.key ≡ None
+  missing = rw (← c.self.view_is) at c.requires.missing
 
-  test : (is_due (c.self.inside.len + 1) && nat_lt c.self.inside.threshold (c.self.inside.len + 1)) ≡ false
-  test = sym c.if-has_outgrown.ensures
-
-  seen : c.self.inside.len ≡ length c.self.inside.table.walk
-  seen = c.self.invariant.count
-
-  abbrev held : PlainList g.row.K.Denot g.row.V.Denot
-  held = record { pairs = c.self.inside.table.walk; capacity = c.self.inside.table.capacity; factor = c.self.inside.factor; placed = c.self.inside.placed; compared = c.self.inside.compared }
+  few : length c.self.inside.table.walk + 1 < 2 ^ 64
+  few = let apart = c.if-self.false in let counted = c.self.invariant.count in omega (arith, apart, counted)
 
   -- the capacity stays
   stays : IsNext c.self.inside.table.capacity (length c.self.inside.table.walk + 1) c.self.inside.factor c.self.inside.table.capacity
   stays =
-      subst (λ n. IsNext c.self.inside.table.capacity (n + 1) c.self.inside.factor c.self.inside.table.capacity) seen
-      (IsNext-same c.self.inside.table.capacity c.self.inside.factor (c.self.inside.len + 1) c.self.inside.threshold c.self.invariant.map.capacity fits c.self.invariant.threshold test)
+      IsNext-same c.self.inside.table.capacity c.self.inside.factor (length c.self.inside.table.walk + 1) c.self.inside.threshold c.self.invariant.map.capacity few c.self.invariant.threshold
+      (rw c.self.invariant.count at (sym c.if-has_outgrown.ensures))
 
-  in_range : InsertIsTooLarge c.self.inside.table.walk c.self.inside.table.capacity c.self.inside.factor → ⊥
-  in_range large = elim large [
-    | inl long ↦ (let few = fits in omega (arith, long, few, seen))
-    | inr much ↦ NeedsTooMuch-none c.self.inside.table.capacity (length c.self.inside.table.walk + 1) c.self.inside.factor c.self.inside.table.capacity c.self.invariant.map.capacity stays much
-  ]
-
-pub returns-in-Err-add-clause-refused : goal.returns-in-Err-add-clause-refused
-returns-in-Err-add-clause-refused g c =
-    let at = (goal.at.returns-in-Err-add-clause-refused g c).After-add in
-    rw (← c.self.view_is) (RefusalIsDue-absent g.K.IntKey.number_of (held g at) c.args.key (rw (← c.self.view_is) at c.requires.missing) Memory
-    ((λ e. cc), λ large. absurd (in_range g at large)) (λ _ _. c.in-Err-add.ensures.memory))
-
-pub invariant_of-self : goal.invariant_of-self
-invariant_of-self g c =
-    let here = (goal.at.invariant_of-self g c).After-add in
-    let missing = (rw (← c.self.view_is) at c.requires.missing) in
-    IsConsistent-added _ _ _ _ _ _ _ _ c.self.invariant c.add.new.self.capacity c.args.key c.new.result c.in-Ok-add.ensures.capacity c.in-Ok-add.ensures.known missing (fits g here) (test g here) c.in-Ok-add.ensures.walk
-
-pub returns-in-Ok-add-clause-inserted : goal.returns-in-Ok-add-clause-inserted
-returns-in-Ok-add-clause-inserted g c =
-    let at = (goal.at.returns-in-Ok-add-clause-inserted g c).After-add in
-    let missing = (rw (← c.self.view_is) at c.requires.missing) in
-    rw (← c.self.view_is) (IsInsertion-put g.K.IntKey.number_of g.K.IntKey.is_valid _ _ c.args.key c.args.value c.self.invariant.map (invariant_of-self g c).map
-    (rw c.in-Ok-add.ensures.capacity (rw c.new.ensures at c.in-Ok-add.ensures.walk)) (λ out. in_range g at out.1) (rw (missing, c.in-Ok-add.ensures.capacity) (stays g at)))
-
-pub returns-in-Ok-add-clause-state : goal.returns-in-Ok-add-clause-state
-returns-in-Ok-add-clause-state g c =
-    let same : (c.self.inside.table.capacity == c.self.inside.table.capacity) ≡ true = eq-eqb c.self.inside.table.capacity c.self.inside.table.capacity refl in
-    rw (c.in-Ok-add.ensures.capacity, ← c.self.view_is) (MapState-same _ _ _ _ _ _ _ _ _
-    (rw c.new.ensures at c.in-Ok-add.ensures.walk)
-    refl (sym (ap (λ b. c.self.inside.placed + cond b 0 (length c.self.inside.table.walk + 1)) same ∙ add-zero c.self.inside.placed)) refl)
-
-pub returns-then-self-clause-refused : goal.returns-then-self-clause-refused
-returns-then-self-clause-refused g c =
-    let missing = (rw (← c.self.view_is) at c.requires.missing) in
-    let full = c.if-self.true in let counted = c.self.invariant.count in
-    rw (← c.self.view_is) (RefusalIsDue-absent g.K.IntKey.number_of (record { pairs = c.self.inside.table.walk; capacity = c.self.inside.table.capacity; factor = c.self.inside.factor; placed = c.self.inside.placed; compared = c.self.inside.compared }) c.args.key missing TooLarge
-    ((λ _. inl (omega (arith, full, counted))), λ _. refl) (λ e. cc))
-
-pub add_growing-requires-clause-count : goal.add_growing-requires-clause-count
-add_growing-requires-clause-count g c = grind (arith, common_steps)
+pub returns-then-self : goal.returns-then-self
+returns-then-self g c =
+    rw (← c.self.view_is) record {
+      key = tt;
+      at = tt;
+      known = tt;
+      inserted = tt;
+      state = tt;
+      err = refl;
+      value_returned = refl;
+      refused = RefusalIsDue-too_large g.K.IntKey.number_of _ c.args.key (rw (← c.self.view_is) at c.requires.missing) (inl (let full = c.if-self.true in let counted = c.self.invariant.count in omega (arith, full, counted)));
+      valid = c.self.invariant.map;
+      valid_after = c.self.invariant.map;
+    }
 
 pub invariant_of-self-in-Err-add : goal.invariant_of-self-in-Err-add
 invariant_of-self-in-Err-add g c = rw (c.in-Err-add.ensures.err, c.in-Err-add.ensures.capacity) c.self.invariant
 
-pub returns-in-Err-add-clause-err : goal.returns-in-Err-add-clause-err
-returns-in-Err-add-clause-err g c = search (tests, rules)
+pub returns-in-Err-add : goal.returns-in-Err-add
+returns-in-Err-add g c =
+    let at = (goal.at.returns-in-Err-add g c).After-add in let told = c.in-Err-add.ensures in
+    rw (← c.self.view_is, told.err, told.capacity) record {
+      key = tt;
+      at = tt;
+      known = tt;
+      inserted = tt;
+      state = tt;
+      err = refl;
+      value_returned = c.into_value.ensures ∙ told.value_returned ∙ c.new.ensures;
+      refused = RefusalIsDue-memory g.K.IntKey.number_of _ c.args.key (missing g at) c.self.inside.table.capacity (few g at) c.self.invariant.map.capacity (stays g at) (λ _. told.memory);
+      valid = c.self.invariant.map;
+      valid_after = c.self.invariant.map;
+    }
 
-pub add_growing-requires-clause-missing : goal.add_growing-requires-clause-missing
-add_growing-requires-clause-missing g c = c.requires.missing
+pub invariant_of-self : goal.invariant_of-self
+invariant_of-self g c =
+    let at = (goal.at.invariant_of-self g c).After-add in let told = c.in-Ok-add.ensures in let fits = few g at in
+    IsConsistent-added _ _ _ _ _ _ _ _ c.self.invariant c.add.new.self.capacity c.args.key c.new.result told.capacity told.known (missing g at) (omega (arith, fits, c.self.invariant.count)) (sym c.if-has_outgrown.ensures) told.walk
 
-pub add_growing-requires-clause-due : goal.add_growing-requires-clause-due
-add_growing-requires-clause-due g c = let h = c.if-has_outgrown.ensures in search (tests, rules)
-
-pub add_growing-requires-clause-exceeds : goal.add_growing-requires-clause-exceeds
-add_growing-requires-clause-exceeds g c = let h = c.if-has_outgrown.ensures in search (tests, rules)
-
-pub returns-in-Ok-add-clause-valid_after : goal.returns-in-Ok-add-clause-valid_after
-returns-in-Ok-add-clause-valid_after g c = (invariant_of-self g c).map
-
-pub returns-then-self-clause-valid : goal.returns-then-self-clause-valid
-returns-then-self-clause-valid g c = rw (← c.self.view_is) c.self.invariant.map
-
-pub returns-in-Err-add-clause-valid : goal.returns-in-Err-add-clause-valid
-returns-in-Err-add-clause-valid g c = rw (← c.self.view_is) c.self.invariant.map
-
-pub returns-in-Ok-add-clause-valid : goal.returns-in-Ok-add-clause-valid
-returns-in-Ok-add-clause-valid g c = rw (← c.self.view_is) c.self.invariant.map
-
-pub returns-then-self-clause-err : goal.returns-then-self-clause-err
-returns-then-self-clause-err g c = refl
-
-pub returns-then-self-clause-valid_after : goal.returns-then-self-clause-valid_after
-returns-then-self-clause-valid_after g c = rw (← c.self.view_is) c.self.invariant.map
-
-pub returns-in-Err-add-clause-valid_after : goal.returns-in-Err-add-clause-valid_after
-returns-in-Err-add-clause-valid_after g c = (invariant_of-self-in-Err-add g c).map
+pub returns-in-Ok-add : goal.returns-in-Ok-add
+returns-in-Ok-add g c =
+    let at = (goal.at.returns-in-Ok-add g c).After-add in let told = c.in-Ok-add.ensures in let after = (invariant_of-self g c).map in
+    rw (← c.self.view_is) record {
+      key = told.key;
+      at = told.at;
+      known = told.known;
+      inserted = IsInsertion-added g.K.IntKey.number_of g.K.IntKey.is_valid _ _ c.args.key c.args.value (missing g at) c.self.invariant.map after (rw told.capacity (rw c.new.ensures at told.walk)) (few g at) (rw told.capacity (stays g at));
+      state = rw told.capacity (MapState-same (rw c.new.ensures at told.walk) refl (placed-same c.self.inside.table.capacity c.self.inside.placed (length c.self.inside.table.walk + 1)));
+      err = tt;
+      value_returned = tt;
+      refused = tt;
+      valid = c.self.invariant.map;
+      valid_after = after;
+    }
 
 pub returns-in-Ok : goal.returns-in-Ok
 returns-in-Ok g c =

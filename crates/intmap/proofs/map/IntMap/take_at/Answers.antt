@@ -13,4 +13,4 @@ returns-clause-valid_after g c = (invariant_of-self g c).map
 
 pub returns-clause-state : goal.returns-clause-state
 returns-clause-state g c =
-    rw (← c.self.view_is) (MapState-same _ _ _ _ _ _ _ _ _ c.take_at-kept.ensures.walk c.take_at-kept.ensures.capacity refl refl)
+    rw (← c.self.view_is) (MapState-same c.take_at-kept.ensures.walk c.take_at-kept.ensures.capacity refl)
