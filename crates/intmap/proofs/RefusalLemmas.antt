@@ -30,7 +30,5 @@ module _ {K V : Type 0} (number : K → ℕ) (s : PlainList K V) (k : K) where
   lone-never_refused capacity lone TooLarge may = in_range-next s.pairs s.capacity s.factor s.capacity lone.count capacity lone.stays (may.too_large.0 refl).1
 
 -- an insertion that fails behind a look-up may fail before it
-pub RefusalIsDue-searched : {K V : Type 0} (number : K → ℕ) (m n : MapState K V) (q k : K) (cause : Cause) → n ≡ after_search number m q → RefusalIsDue number (list_of n) k cause → RefusalIsDue number (list_of m) k cause
-RefusalIsDue-searched number m n q k cause searched due =
-    let h : RefusalIsDue number (list_of (after_search number m q)) k cause = rw searched at due in
-    record { new_key = h.new_key; too_large = h.too_large; memory = h.memory }
+pub RefusalIsDue-searched : {K V : Type 0} (number : K → ℕ) (m : MapState K V) (q k : K) (cause : Cause) → RefusalIsDue number (list_of (after_search number m q)) k cause → RefusalIsDue number (list_of m) k cause
+RefusalIsDue-searched number m q k cause due = record { new_key = due.new_key; too_large = due.too_large; memory = due.memory }
