@@ -2,10 +2,12 @@
 use Rattle.std.proofs.Common.{◌≡◌, ◌≢◌, inl, inr, ℕ, ◌+◌, ◌<◌, ◌^◌, ◌||◌, Bool, true, false, not, cond, List, [], ◌∷◌, ◌++◌, length, map, option_map, Option, Some, None, refl, sym, ap, ◌∙◌, arith}
 use Rattle.std.specs.Prelude.{◌==◌, ◌⊎◌, filter}
 use Rattle.std.specs.List.{list_any}
-use Rattle.std.proofs.lemmas.Bool.{cases_eq, cases_Bool, eq-eqb, ne_eqb}
+use Rattle.std.proofs.lemmas.Bool.{cases_eq, eq-eqb, eqb-true, ne_eqb}
+use Rattle.std.proofs.lemmas.Bool.Decides.{nat_tests}
+use Rattle.std.proofs.lemmas.Map.Views.{any-filter_same}
 use Rattle.std.proofs.lemmas.List.{append-nil, map-append}
 use Rattle.std.proofs.lemmas.List.Elements.{filter-append}
-use Rattle.std.proofs.lemmas.List.Sums.{sum_by-cons, sum_by_push}
+use Rattle.std.proofs.lemmas.List.Sums.{sum_by_push}
 use Rattle.std.proofs.lemmas.List.{length-append}
 use Rattle.std.specs.Option.{option_or}
 use Rattle.intmap_table.specs.Bindings.{value_of, put_pair, write_value, Updates}
@@ -13,101 +15,46 @@ use Rattle.intmap_table.specs.Figures.{each_once, tally_of}
 use Rattle.intmap.specs.Extending.{IsTally}
 use Rattle.intmap.specs.Map.{MapState, IsMap, IsOutOfRange, IsCapacityAfter}
 use Rattle.intmap_table.specs.Walk.{walk_of}
+use Rattle.intmap.proofs.CountLemmas.{count_by-cons}
 use Rattle.intmap.proofs.ExtendLemmas.{value_of-append}
 use Rattle.intmap_table.proofs.LoadLemmas.{times}
 use Rattle.intmap.proofs.MadeLemmas.{IsMadeOf-written, IsMadeOf-inserted}
 use Rattle.intmap.proofs.WriteLemmas.{length-write_value, value_of-write_value, write_value-unbound}
 
--- whether two numbers are one, asked the other way
-turned : (a n : ℕ) → (n == a) ≡ (a == n)
-turned a n = elim (cases_eq a n) [
-  | inl same ↦ eq-eqb n a (sym same) ∙ sym (eq-eqb a n same)
-  | inr apart ↦ ne_eqb n a (λ same. apart (sym same)) ∙ sym (ne_eqb a n apart)
-]
-
-each_once_step : (a : ℕ) (ns : List ℕ) (n : ℕ) (s t : Bool) → list_any (λ m. m == n) ns ≡ s → (a == n) ≡ t
-    → each_once (ns ++ n ∷ []) ≡ cond (list_any (λ m. m == n) ns) (each_once ns) (each_once ns ++ n ∷ [])
-    → each_once (a ∷ ns ++ n ∷ []) ≡ cond (list_any (λ m. m == n) (a ∷ ns)) (each_once (a ∷ ns)) (each_once (a ∷ ns) ++ n ∷ [])
-each_once_step a ns n true true e f rest = simp (e, f) (ap (λ xs. a ∷ filter (λ m. not (m == a)) xs) (rw e at rest))
-each_once_step a ns n true false e f rest = simp (e, f) (ap (λ xs. a ∷ filter (λ m. not (m == a)) xs) (rw e at rest))
-each_once_step a ns n false true e f rest =
-    let here : (n == a) ≡ true = turned a n ∙ f in
-    simp (e, f) (ap (λ xs. a ∷ filter (λ m. not (m == a)) xs) (rw e at rest) ∙ ap (λ xs. a ∷ xs) (filter-append (λ m. not (m == a)) (each_once ns) (n ∷ []) ∙ simp here (append-nil (filter (λ m. not (m == a)) (each_once ns)))))
-each_once_step a ns n false false e f rest =
-    let here : (n == a) ≡ false = turned a n ∙ f in
-    simp (e, f) (ap (λ xs. a ∷ filter (λ m. not (m == a)) xs) (rw e at rest) ∙ ap (λ xs. a ∷ xs) (filter-append (λ m. not (m == a)) (each_once ns) (n ∷ []) ∙ simp here refl))
-
 -- a number at the end is new, or not
 pub each_once-push : (ns : List ℕ) (n : ℕ) → each_once (ns ++ n ∷ []) ≡ cond (list_any (λ m. m == n) ns) (each_once ns) (each_once ns ++ n ∷ [])
 each_once-push [] n = refl
-each_once-push (a ∷ ns) n = each_once_step a ns n (list_any (λ m. m == n) ns) (a == n) refl refl (each_once-push ns n)
-
--- to strike another number doesn't hide one
-list_any-struck_other : (n a : ℕ) (ns : List ℕ) → a ≢ n → list_any (λ m. m == n) (filter (λ m. not (m == a)) ns) ≡ list_any (λ m. m == n) ns
-list_any-struck_other n a [] apart = refl
-list_any-struck_other n a (m ∷ ns) apart = elim (cases_eq m a) [
-  | inl same ↦
-      (let t = eq-eqb m a same in
-      let other : (m == n) ≡ false = ne_eqb m n (λ q. apart (sym same ∙ q)) in
-      simp (t, other) (list_any-struck_other n a ns apart))
-  | inr other ↦ (let t = ne_eqb m a other in simp t (ap (λ b. (m == n) || b) (list_any-struck_other n a ns apart)))
-]
+each_once-push (a ∷ ns) n =
+    let rest = each_once-push ns n in let f = filter-append (λ m. not (m == a)) (each_once ns) (n ∷ []) in let l = append-nil (filter (λ m. not (m == a)) (each_once ns)) in
+    grind (arith, nat_tests, rest, f, l)
 
 -- each number of a list is among those that occur once
 list_any-each_once : (n : ℕ) (ns : List ℕ) → list_any (λ m. m == n) (each_once ns) ≡ list_any (λ m. m == n) ns
 list_any-each_once n [] = refl
-list_any-each_once n (a ∷ ns) = elim (cases_eq a n) [
-  | inl same ↦ (let t = eq-eqb a n same in simp t)
-  | inr apart ↦ (let t = ne_eqb a n apart in simp t (list_any-struck_other n a (each_once ns) apart ∙ list_any-each_once n ns))
-]
+list_any-each_once n (a ∷ ns) =
+    let rest = list_any-each_once n ns in
+    let other = λ (apart : a ≢ n). any-filter_same (λ m. m == n) (λ m. not (m == a)) true (λ m is. ap not (ne_eqb m a (λ same. apart (sym same ∙ eqb-true m n is)))) (each_once ns) in
+    grind (arith, nat_tests, rest, other)
 
 -- a number that isn't there occurs nowhere
 times-none : (n : ℕ) (ns : List ℕ) → list_any (λ m. m == n) ns ≡ false → times n ns ≡ 0
 times-none n [] none = refl
-times-none n (a ∷ ns) none = elim (cases_Bool (a == n)) [
-  | inl here ↦ (let no : true ≡ false = simp here at none in cc)
-  | inr away ↦
-      (let rest : list_any (λ m. m == n) ns ≡ false = simp away at none in
-      let h = times-none n ns rest in
-      let more = sum_by-cons (λ m. cond (m == n) 1 0) a ns in
-      let zero_here = ap (λ (b : Bool). cond {A = ℕ} b 1 0) away in
-      omega (arith, h, more, zero_here))
-]
-
--- one number more
-times-push : (q : ℕ) (ns : List ℕ) (n : ℕ) → times q (ns ++ n ∷ []) ≡ times q ns + cond (n == q) 1 0
-times-push q ns n = sum_by_push (λ m. cond (m == q) 1 0) ns n
-
-module _ (g : ℕ → ℕ) where
-  -- numbers with what each is given
-  value_of-tabled : (es : List ℕ) (q : ℕ) → value_of (λ n. n) (map (λ m. (m, g m)) es) q ≡ cond (list_any (λ m. m == q) es) (Some (g q)) None
-  value_of-tabled [] q = refl
-  value_of-tabled (e ∷ es) q = elim (cases_eq e q) [
-    | inl same ↦ (let t = eq-eqb e q same in simp t (ap (λ n. Some (g n)) same))
-    | inr apart ↦ (let t = ne_eqb e q apart in simp t (value_of-tabled es q))
-  ]
+times-none n (a ∷ ns) none = let rest = times-none n ns in let more = count_by-cons (λ m. m == n) a ns in grind (arith, none, rest, more)
 
 -- a number is present if it is in the list, with how often it occurs there
 pub value_of-tally_of : (ns : List ℕ) (q : ℕ) → value_of (λ n. n) (tally_of ns) q ≡ cond (list_any (λ m. m == q) ns) (Some (times q ns)) None
 value_of-tally_of ns q =
-    value_of-tabled (λ m. times m ns) (each_once ns) q ∙ ap (λ (b : Bool). cond {A = Option ℕ} b (Some (times q ns)) None) (list_any-each_once q ns)
+    tabled (each_once ns) ∙ ap (λ (b : Bool). cond {A = Option ℕ} b (Some (times q ns)) None) (list_any-each_once q ns)
+  where
+    tabled : (es : List ℕ) → value_of (λ n. n) (map (λ m. (m, times m ns)) es) q ≡ cond (list_any (λ m. m == q) es) (Some (times q ns)) None
+    tabled [] = refl
+    tabled (e ∷ es) = let rest = tabled es in grind (arith, nat_tests, rest)
 
 module _ (ns : List ℕ) (n : ℕ) where
   -- the count of n is one more, the others stay
   tabled-push : (es : List ℕ) → map (λ m. (m, times m (ns ++ n ∷ []))) es ≡ write_value (λ k. k) (map (λ m. (m, times m ns)) es) n (times n ns + 1)
   tabled-push [] = refl
-  tabled-push (e ∷ es) = elim (cases_eq e n) [
-    | inl same ↦
-        (let t = eq-eqb e n same in
-        let count : times e (ns ++ n ∷ []) ≡ times n ns + 1 =
-        times-push e ns n ∙ ap (λ (b : Bool). times e ns + cond {A = ℕ} b 1 0) (eq-eqb n e (sym same)) ∙ ap (λ k. times k ns + 1) same in
-        simp t (ap (λ k. (e, k) ∷ map (λ m. (m, times m (ns ++ n ∷ []))) es) count ∙ ap (λ xs. (e, times n ns + 1) ∷ xs) (tabled-push es)))
-    | inr apart ↦
-        (let t = ne_eqb e n apart in
-        let count : times e (ns ++ n ∷ []) ≡ times e ns =
-        times-push e ns n ∙ (let z = ap (λ (b : Bool). cond {A = ℕ} b 1 0) (ne_eqb n e (λ same. apart (sym same))) in omega (arith, z)) in
-        simp t (ap (λ k. (e, k) ∷ map (λ m. (m, times m (ns ++ n ∷ []))) es) count ∙ ap (λ xs. (e, times e ns) ∷ xs) (tabled-push es)))
-  ]
+  tabled-push (e ∷ es) = let rest = tabled-push es in let count = sum_by_push (λ m. cond (m == e) 1 0) ns n in grind (arith, nat_tests, rest, count)
 
   -- a number that is there already counts once more, in its place
   pub tally_of-push-old : list_any (λ m. m == n) ns ≡ true → tally_of (ns ++ n ∷ []) ≡ write_value (λ k. k) (tally_of ns) n (times n ns + 1)
@@ -121,7 +68,7 @@ module _ (ns : List ℕ) (n : ℕ) where
       let longer : each_once (ns ++ n ∷ []) ≡ each_once ns ++ n ∷ [] = each_once-push ns n ∙ rw away refl in
       let none : value_of (λ k. k) (tally_of ns) n ≡ None = value_of-tally_of ns n ∙ rw away refl in
       let count : times n (ns ++ n ∷ []) ≡ 1 =
-      (let z = times-none n ns away in let one = ap (λ (b : Bool). cond {A = ℕ} b 1 0) (eq-eqb n n refl) in let p = times-push n ns n in omega (arith, z, one, p)) in
+      (let z = times-none n ns away in let one = ap (λ (b : Bool). cond {A = ℕ} b 1 0) (eq-eqb n n refl) in let p = sum_by_push (λ m. cond (m == n) 1 0) ns n in omega (arith, z, one, p)) in
       ap (map (λ m. (m, times m (ns ++ n ∷ [])))) longer
       ∙ map-append (λ m. (m, times m (ns ++ n ∷ []))) (each_once ns) (n ∷ [])
       ∙ ap (λ xs. xs ++ (n, times n (ns ++ n ∷ [])) ∷ []) (tabled-push (each_once ns) ∙ write_value-unbound (λ k. k) (tally_of ns) n (times n ns + 1) none)
