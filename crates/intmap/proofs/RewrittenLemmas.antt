@@ -1,5 +1,5 @@
 -- Lists with one walk, after a value was written or keys were struck in each.
-use Rattle.std.proofs.Common.{◌≡◌, ℕ, Bool, true, false, List, [], ◌∷◌, refl, ap, sym, ◌∙◌}
+use Rattle.std.proofs.Common.{◌≡◌, ℕ, Bool, true, false, List, [], ◌∷◌, refl, ap, sym, ◌∙◌, arith}
 use Rattle.std.specs.Prelude.{◌==◌, filter, not}
 use Rattle.std.specs.List.{list_any}
 use Rattle.intmap_table.specs.Classes.{slot_number, same_key}
@@ -9,16 +9,10 @@ use Rattle.intmap_table.proofs.WrittenLemmas.{slot_of-write_value}
 use Rattle.intmap_table.proofs.WalkLemmas.{SameSlots-from_walk_of, walk_of-same}
 
 module _ {X : Type 0} (keep test : X → Bool) where
-  filter-filter_step : (x : X) (xs : List X) (k t : Bool) → keep x ≡ k → test x ≡ t → filter test (filter keep xs) ≡ filter keep (filter test xs) → filter test (filter keep (x ∷ xs)) ≡ filter keep (filter test (x ∷ xs))
-  filter-filter_step x xs true true e f rest = simp (e, f, rest)
-  filter-filter_step x xs true false e f rest = simp (e, f, rest)
-  filter-filter_step x xs false true e f rest = simp (e, f, rest)
-  filter-filter_step x xs false false e f rest = simp (e, f, rest)
-
   -- two filters, in either order
   pub filter-filter : (xs : List X) → filter test (filter keep xs) ≡ filter keep (filter test xs)
   filter-filter [] = refl
-  filter-filter (x ∷ xs) = filter-filter_step x xs (keep x) (test x) refl refl (filter-filter xs)
+  filter-filter (x ∷ xs) = let rest = filter-filter xs in grind (arith, rest)
 
 module _ {K V : Type 0} (number : K → ℕ) (C : ℕ) where
   -- lists with one walk have one after a value was written

@@ -23,18 +23,11 @@ module _ {K V : Type 0} (number : K → ℕ) (f : V → ℕ) where
   sum_by-walk_of L C below =
       sum_by-values_of (walk_of number L C) ∙ sum_by-classes (λ p. f p.1) (λ p. slot_number number p.0 C) L C (λ p. below p.0) ∙ sym (sum_by-values_of L)
 
-  -- one more pair in front of those that `taken-weight` takes from
-  taken-weight_step : (C : ℕ) (k : K) (p : K × V) (L : List (K × V)) (t : Bool) → same_key number k p.0 ≡ t
-      → taken (λ q. f q.1) (λ q. same_key number k q.0) (λ q. agrees number C k q.0) L ≡ unwrap_or (option_map f (value_of number L k)) 0
-      → taken (λ q. f q.1) (λ q. same_key number k q.0) (λ q. agrees number C k q.0) (p ∷ L) ≡ unwrap_or (option_map f (value_of number (p ∷ L) k)) 0
-  taken-weight_step C k p L true e h = simp e
-  taken-weight_step C k p L false e h = simp e h
-
   -- a removal takes the weight of the key's value
   taken-weight : (L : List (K × V)) (C : ℕ) (k : K)
       → taken (λ p. f p.1) (λ p. same_key number k p.0) (λ p. agrees number C k p.0) L ≡ unwrap_or (option_map f (value_of number L k)) 0
   taken-weight [] C k = refl
-  taken-weight (p ∷ L) C k = taken-weight_step C k p L (same_key number k p.0) refl (taken-weight L C k)
+  taken-weight (p ∷ L) C k = let rest = taken-weight L C k in grind (arith, rest)
 
   -- a removal lowers the sum by the old value
   pub sum_by-take_key : (L : List (K × V)) (C : ℕ) (k : K)
@@ -56,25 +49,12 @@ module _ {K V : Type 0} (number : K → ℕ) (f : V → ℕ) where
       let m = sum_by-values_of (put_pair number L C k v) in
       omega (arith, s, t, l, m)
 
-  -- one more pair in front of those that `sum_by-write_value` weighs
-  write_step : (p : K × V) (L : List (K × V)) (k : K) (a v : V) (t : Bool) → same_key number k p.0 ≡ t → HasDistinctKeys number (p ∷ L)
-      → (value_of number L k ≡ Some a → sum_by f (values_of (write_value number L k v)) + f a ≡ sum_by f (values_of L) + f v)
-      → value_of number (p ∷ L) k ≡ Some a → sum_by f (values_of (write_value number (p ∷ L) k v)) + f a ≡ sum_by f (values_of (p ∷ L)) + f v
-  write_step p L k a v true e once h bound =
-      let here : ◌≡◌ {A = Option V} (Some p.1) (Some a) = rw e at bound in
-      let same : f p.1 ≡ f a = cc in
-      let kept = write_value-unbound number L k v (value_of-rest number p L once k e) in
-      let l = sum_by-cons f v (values_of L) in
-      let m = sum_by-cons f p.1 (values_of L) in
-      simp (e, kept) (omega (arith, same, l, m))
-  write_step p L k a v false e once h bound =
-      let more = h (rw e at bound) in
-      let l = sum_by-cons f p.1 (values_of (write_value number L k v)) in
-      let m = sum_by-cons f p.1 (values_of L) in
-      simp e (omega (arith, more, l, m))
-
   -- a write puts the new value in the place of the old one
   pub sum_by-write_value : (L : List (K × V)) (k : K) (a v : V) → HasDistinctKeys number L → value_of number L k ≡ Some a
       → sum_by f (values_of (write_value number L k v)) + f a ≡ sum_by f (values_of L) + f v
   sum_by-write_value [] k a v once bound = cc
-  sum_by-write_value (p ∷ L) k a v once bound = write_step p L k a v (same_key number k p.0) refl once (sum_by-write_value L k a v (HasDistinctKeys-tail number p L once)) bound
+  sum_by-write_value (p ∷ L) k a v once bound =
+      let rest = sum_by-write_value L k a v (HasDistinctKeys-tail number p L once) in
+      let kept = λ (here : same_key number k p.0 ≡ true). write_value-unbound number L k v (value_of-rest number p L once k here) in
+      let more = sum_by-cons f p.1 (values_of L) in let new = sum_by-cons f v (values_of L) in let written = sum_by-cons f p.1 (values_of (write_value number L k v)) in
+      grind (arith, rest, bound, kept, more, new, written)

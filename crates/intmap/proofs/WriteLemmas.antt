@@ -10,6 +10,8 @@ use Rattle.intmap_table.specs.Classes.{same_key}
 use Rattle.intmap_table.specs.Bindings.{first_value, value_of, IsPresent, write_value, HasDistinctKeys, Updates}
 use Rattle.intmap.specs.Consistency.{IsConsistent}
 use Rattle.intmap.specs.Map.{IsMapWalk}
+use Rattle.std.proofs.lemmas.Bool.Decides.{nat_tests}
+use Rattle.intmap_table.proofs.BindSameLemmas.{value_of-same_number}
 use Rattle.intmap_table.proofs.BindingLemmas.{Updates-from}
 use Rattle.intmap.proofs.LoadFactorLemmas.{IsLoaded}
 use Rattle.intmap.proofs.SameKeysLemmas.{IsMapWalk-same_keys, IsConsistent-same_keys}
@@ -33,43 +35,21 @@ module _ {K V : Type 0} (number : K → ℕ) where
   pub IsConsistent-written : (is_valid : K → Type 0) (W : List (K × V)) (C F n most : ℕ) (k : K) (x : V) → IsConsistent number is_valid W C F n most → IsConsistent number is_valid (write_value number W k x) C F n most
   IsConsistent-written is_valid W C F n most k x old = IsConsistent-same_keys number is_valid W (write_value number W k x) C F n most (sym (keys_of-write_value W k x)) old
 
-  value_of-write_step : (p : K × V) (L : List (K × V)) (k q : K) (v : V) (s t : Bool) → same_key number k p.0 ≡ s → same_key number q p.0 ≡ t
-      → value_of number (write_value number L k v) q ≡ cond (same_key number k q) (option_map (λ _. v) (value_of number L q)) (value_of number L q)
-      → value_of number (write_value number (p ∷ L) k v) q ≡ cond (same_key number k q) (option_map (λ _. v) (value_of number (p ∷ L) q)) (value_of number (p ∷ L) q)
-  value_of-write_step p L k q v true true e f rest =
-      let same : same_key number k q ≡ true = eq-eqb (number q) (number k) (sym (eqb-true (number p.0) (number q) f) ∙ eqb-true (number p.0) (number k) e) in
-      simp (e, f, same)
-  value_of-write_step p L k q v true false e f rest = simp (e, f) rest
-  value_of-write_step p L k q v false true e f rest = elim (same_key number k q) as (λ b. same_key number k q ≡ b → value_of number (write_value number (p ∷ L) k v) q ≡ cond b (option_map (λ _. v) (value_of number (p ∷ L) q)) (value_of number (p ∷ L) q)) [
-    | true ↦ (λ same. let w : same_key number k p.0 ≡ true = eq-eqb (number p.0) (number k) (eqb-true (number p.0) (number q) f ∙ eqb-true (number q) (number k) same) in let no : true ≡ false = sym w ∙ e in cc)
-    | false ↦ (λ other. simp (e, f))
-  ] refl
-  value_of-write_step p L k q v false false e f rest = simp (e, f) rest
-
   -- a write gives its key the value, if it was present, and leaves each other key with its own
   pub value_of-write_value : (L : List (K × V)) (k q : K) (v : V) → value_of number (write_value number L k v) q ≡ cond (same_key number k q) (option_map (λ _. v) (value_of number L q)) (value_of number L q)
   value_of-write_value [] k q v = elim (same_key number k q) as (λ b. ◌≡◌ {A = Option V} None (cond b None None)) [ true ↦ refl | false ↦ refl ]
-  value_of-write_value (p ∷ L) k q v = value_of-write_step p L k q v (same_key number k p.0) (same_key number q p.0) refl refl (value_of-write_value L k q v)
+  value_of-write_value (p ∷ L) k q v = let rest = value_of-write_value L k q v in grind (arith, nat_tests, rest)
 
   -- a write of a present key gives it the value, and leaves each other key with its own
   pub Updates-written : (L : List (K × V)) (k : K) (v old : V) → value_of number L k ≡ Some old → Updates number L (write_value number L k v) k (Some v)
   Updates-written L k v old bound =
-      Updates-from number L (write_value number L k v) k (Some v) (λ q. value_of-write_value L k q v ∙ elim (cases_Bool (same_key number k q)) as (λ _. cond (same_key number k q) (option_map (λ _. v) (value_of number L q)) (value_of number L q) ≡ cond (same_key number k q) (Some v) (value_of number L q)) [
-        | inl same ↦ (let e : number q ≡ number k = eqb-true (number q) (number k) same in
-            let here : value_of number L q ≡ Some old = ap (λ n. first_value (λ r. number r == n) L) e ∙ bound in
-            rw (same, here) refl)
-        | inr other ↦ rw other refl
-      ])
-
-  write_value-unbound_step : (p : K × V) (L : List (K × V)) (k : K) (v : V) (t : Bool) → same_key number k p.0 ≡ t → (value_of number L k ≡ None → write_value number L k v ≡ L)
-      → value_of number (p ∷ L) k ≡ None → write_value number (p ∷ L) k v ≡ p ∷ L
-  write_value-unbound_step p L k v true e rest none = let no : ◌≡◌ {A = Option V} (Some p.1) None = rw e at none in cc
-  write_value-unbound_step p L k v false e rest none = let n : value_of number L k ≡ None = rw e at none in simp e (ap (λ M. p ∷ M) (rest n))
+      Updates-from number L (write_value number L k v) k (Some v)
+      (λ q. let same = value_of-same_number number L q k in let written = value_of-write_value L k q v in grind (arith, nat_tests, same, written, bound))
 
   -- writing the value of an absent key changes nothing
   pub write_value-unbound : (L : List (K × V)) (k : K) (v : V) → value_of number L k ≡ None → write_value number L k v ≡ L
   write_value-unbound [] k v none = refl
-  write_value-unbound (p ∷ L) k v none = write_value-unbound_step p L k v (same_key number k p.0) refl (write_value-unbound L k v) none
+  write_value-unbound (p ∷ L) k v none = let rest = write_value-unbound L k v in grind (arith, rest, none)
 
   some_from : (o : Option V) → IsSome o → (v : V) × (o ≡ Some v)
   some_from None bound = let no : ◌≡◌ {A = Bool} false true = bound in cc
