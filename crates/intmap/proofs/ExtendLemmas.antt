@@ -5,7 +5,8 @@ use Rattle.std.specs.Iterator.{Yields, YieldsThen}
 use Rattle.std.specs.Option.{option_or}
 use Rattle.std.specs.Vec.Iter.{into_iter_items, into_iter_steps}
 use Rattle.std.specs.declared.vec.IntoIter.{IntoIter}
-use Rattle.std.proofs.lemmas.Bool.{cases_eq, cases_lt, eqb-true, eq-eqb, ne_eqb}
+use Rattle.std.proofs.lemmas.Bool.{cases_lt}
+use Rattle.std.proofs.lemmas.Bool.Decides.{nat_tests}
 use Rattle.std.proofs.lemmas.List.{reverse-append}
 use Rattle.intmap_table.specs.Bindings.{value_of}
 use Rattle.intmap_table.specs.Classes.{same_key}
@@ -20,72 +21,21 @@ module _ {K V : Type 0} (number : K → ℕ) where
   -- a list in front of another
   pub value_of-append : (L M : List (K × V)) (q : K) → value_of number (L ++ M) q ≡ option_or (value_of number L q) (value_of number M q)
   value_of-append [] M q = refl
-  value_of-append (p ∷ L) M q = by_case (same_key number q p.0) refl (value_of-append L M q)
-    where
-      by_case : (b : Bool) → same_key number q p.0 ≡ b → value_of number (L ++ M) q ≡ option_or (value_of number L q) (value_of number M q)
-          → value_of number (p ∷ L ++ M) q ≡ option_or (value_of number (p ∷ L) q) (value_of number M q)
-      by_case true is rest = rw is refl
-      by_case false is rest = rw is rest
+  value_of-append (p ∷ L) M q = let rest = value_of-append L M q in grind (arith, rest)
 
   -- the last pair is the first from the back
   value_of-reverse_push : (ps : List (K × V)) (k q : K) (v : V) → value_of number (reverse (ps ++ (k, v) ∷ [])) q ≡ cond (same_key number q k) (Some v) (value_of number (reverse ps) q)
   value_of-reverse_push ps k q v = ap (λ L. value_of number L q) (reverse-append ps ((k, v) ∷ []))
 
-  -- if one is found of two, it is found with either in place of the other
-  is_some-or : (o a b : Option V) → is_some a ≡ is_some b → is_some (option_or o a) ≡ is_some (option_or o b)
-  is_some-or None a b same = same
-  is_some-or (Some v) a b same = refl
-
-  -- two that are in front of a third are found one after another
-  option_or-assoc : (a b c : Option V) → option_or (option_or a b) c ≡ option_or a (option_or b c)
-  option_or-assoc None b c = refl
-  option_or-assoc (Some v) b c = refl
-
   -- one key more is new if it is neither present nor among those before
   length-new_keys-push : (L ps : List (K × V)) (k : K) (v : V)
       → length (new_keys number L (ps ++ (k, v) ∷ [])) ≡ length (new_keys number L ps) + cond (is_some (option_or (value_of number (reverse ps) k) (value_of number L k))) 0 1
-  length-new_keys-push L [] k v = by_case (is_some (value_of number L k)) refl
-    where
-      by_case : (b : Bool) → is_some (value_of number L k) ≡ b → length (new_keys number L ((k, v) ∷ [])) ≡ 0 + cond {A = ℕ} (is_some (value_of number L k)) 0 1
-      by_case true is = rw is refl
-      by_case false is = rw is refl
-  length-new_keys-push L (p ∷ ps) k v = by_case (is_some (value_of number L p.0)) refl (length-new_keys-push L ps k v) (length-new_keys-push (p ∷ L) ps k v)
-    where
-      A : Option V
-      A = value_of number (reverse ps) k
-
-      C : Option V
-      C = value_of number L k
-
-      B : Option V
-      B = cond (same_key number k p.0) (Some p.1) None
-
-      there : value_of number (reverse (p ∷ ps)) k ≡ option_or A B
-      there = ap (λ M. value_of number M k) (reverse-append (p ∷ []) ps) ∙ value_of-append (reverse ps) (p ∷ []) k
-
-      whole : option_or (value_of number (reverse (p ∷ ps)) k) C ≡ option_or A (option_or B C)
-      whole = ap (λ o. option_or o C) there ∙ option_or-assoc A B C
-
-      behind : (s : Bool) → same_key number k p.0 ≡ s → value_of number (p ∷ L) k ≡ option_or (cond (same_key number k p.0) (Some p.1) None) C
-      behind true is = rw is refl
-      behind false is = rw is refl
-
-      bound : (s : Bool) → same_key number k p.0 ≡ s → is_some (value_of number L p.0) ≡ true → is_some C ≡ is_some (option_or (cond (same_key number k p.0) (Some p.1) None) C)
-      bound true is some = rw is (ap is_some (value_of-same_number number L k p.0 (sym (eqb-true (number p.0) (number k) is))) ∙ some)
-      bound false is some = rw is refl
-
-      by_case : (b : Bool) → is_some (value_of number L p.0) ≡ b
-          → length (new_keys number L (ps ++ (k, v) ∷ [])) ≡ length (new_keys number L ps) + cond (is_some (option_or A C)) 0 1
-          → length (new_keys number (p ∷ L) (ps ++ (k, v) ∷ [])) ≡ length (new_keys number (p ∷ L) ps) + cond (is_some (option_or A (value_of number (p ∷ L) k))) 0 1
-          → length (new_keys number L (p ∷ ps ++ (k, v) ∷ [])) ≡ length (new_keys number L (p ∷ ps)) + cond (is_some (option_or (value_of number (reverse (p ∷ ps)) k) C)) 0 1
-      by_case true is rest other =
-          let same : is_some (option_or A C) ≡ is_some (option_or (value_of number (reverse (p ∷ ps)) k) C) =
-          is_some-or A C (option_or B C) (bound (same_key number k p.0) refl is) ∙ sym (ap is_some whole) in
-          rw is (rest ∙ ap (λ b. length (new_keys number L ps) + cond b 0 1) same)
-      by_case false is other rest =
-          let same : is_some (option_or A (value_of number (p ∷ L) k)) ≡ is_some (option_or (value_of number (reverse (p ∷ ps)) k) C) =
-          ap (λ o. is_some (option_or A o)) (behind (same_key number k p.0) refl) ∙ sym (ap is_some whole) in
-          rw is (let h = rest ∙ ap (λ b. length (new_keys number (p ∷ L) ps) + cond b 0 1) same in omega (arith, h))
+  length-new_keys-push L [] k v = grind arith
+  length-new_keys-push L (p ∷ ps) k v =
+      let here = length-new_keys-push L ps k v in let later = length-new_keys-push (p ∷ L) ps k v in
+      let there = ap (λ M. value_of number M k) (reverse-append (p ∷ []) ps) ∙ value_of-append (reverse ps) (p ∷ []) k in
+      let same = value_of-same_number number L k p.0 in
+      grind (arith, nat_tests, here, later, there, same)
 
 module _ {K V : Type 0} (number : K → ℕ) (is_valid : K → Type 0) where
   -- one accepted insertion more
@@ -104,7 +54,9 @@ module _ {K V : Type 0} (number : K → ℕ) (is_valid : K → Type 0) where
         → length n.walk ≡ length l.walk + cond (is_some (value_of number l.walk k)) 0 1 → IsExtended number is_valid m (ps ++ (k, v) ∷ []) n
     IsExtended-push updates len = record {
       inserted = MapInsertsAll-push m l n ps k v before.inserted last;
-      updates = λ q. updates q ∙ by_case q (same_key number k q) refl;
+      updates = λ q.
+          let after = updates q in let turned = value_of-reverse_push number ps k q v in let old = before.updates q in
+          grind (arith, nat_tests, after, turned, old);
       len =
           (let more = length-new_keys-push number m.walk ps k v in
           let bound : cond {A = ℕ} (is_some (value_of number l.walk k)) 0 1 ≡ cond {A = ℕ} (is_some (option_or (value_of number (reverse ps) k) (value_of number m.walk k))) 0 1 =
@@ -117,17 +69,6 @@ module _ {K V : Type 0} (number : K → ℕ) (is_valid : K → Type 0) where
           let start = before.capacity in
           omega (arith, kept, start));
     }
-      where
-        turned : (q : K) (b : Bool) → same_key number k q ≡ b → same_key number q k ≡ b
-        turned q b is = elim (cases_eq (number k) (number q)) [
-          | inl same ↦ eq-eqb (number k) (number q) same ∙ sym (eq-eqb (number q) (number k) (sym same)) ∙ is
-          | inr apart ↦ ne_eqb (number k) (number q) apart ∙ sym (ne_eqb (number q) (number k) (λ same. apart (sym same))) ∙ is
-        ]
-
-        by_case : (q : K) (b : Bool) → same_key number k q ≡ b
-            → cond (same_key number k q) (Some v) (value_of number l.walk q) ≡ option_or (value_of number (reverse (ps ++ (k, v) ∷ [])) q) (value_of number m.walk q)
-        by_case q true is = rw (is, value_of-reverse_push number ps k q v, turned q true is) refl
-        by_case q false is = rw (is, value_of-reverse_push number ps k q v, turned q false is) (before.updates q)
 
 -- a result that fails with a cause that meets R fails with one that meets what follows of R
 pub MatchResult-refused : {T : Type 0} (r : Result T Cause) (R P : Cause → Type 0) (Q : T → Type 0) → IsErrAnd r R → ((cause : Cause) → R cause → P cause) → MatchResult r Q P
