@@ -5,7 +5,8 @@ use Rattle.std.proofs.Math.Nat.{mod-eq_of_lt}
 use Rattle.std.proofs.lemmas.Bool.{cases_Bool, eqb-true, eq-eqb}
 use Rattle.std.proofs.lemmas.List.{length-map}
 use Rattle.std.proofs.lemmas.List.Elements.{All-head, All-tail}
-use Rattle.std.proofs.lemmas.List.Sums.{sum_by-cons}
+use Rattle.std.proofs.lemmas.Bool.Decides.{nat_tests}
+use Rattle.intmap.proofs.CountLemmas.{count_by-cons}
 use Rattle.intmap_table.specs.Classes.{same_key, agrees, residue}
 use Rattle.intmap_table.specs.Bindings.{HasDistinctKeys, value_of}
 use Rattle.intmap_table.specs.Figures.{each_once, load_of}
@@ -14,16 +15,13 @@ use Rattle.intmap_table.specs.Reach.{through_first, class_size, reach}
 use Rattle.intmap.proofs.LoadFactorLemmas.{IsWanted-more}
 use Rattle.intmap_table.proofs.MappedLemmas.{count_by-map}
 
-module _ {X : Type 0} (test stop : X → Bool) where
-  -- up to the first that stops, no more pass than of all
-  count_by-through_first : (xs : List X) → count_by test (through_first stop xs) ≤ count_by test xs
-  count_by-through_first [] = omega arith
-  count_by-through_first (x ∷ xs) =
-      let rest = count_by-through_first xs in
-      let all = sum_by-cons (λ y. cond (test y) 1 0) x xs in
-      let some = sum_by-cons (λ y. cond (test y) 1 0) x (through_first stop xs) in
-      let one = sum_by-cons (λ y. cond (test y) 1 0) x [] in
-      grind (arith, rest, all, some, one)
+-- up to the first that stops, no more pass than of all
+count_by-through_first : {X : Type 0} (test stop : X → Bool) (xs : List X) → count_by test (through_first stop xs) ≤ count_by test xs
+count_by-through_first test stop [] = omega arith
+count_by-through_first test stop (x ∷ xs) =
+    let rest = count_by-through_first test stop xs in
+    let all = count_by-cons test x xs in let some = count_by-cons test x (through_first stop xs) in let one = count_by-cons test x [] in
+    grind (arith, rest, all, some, one)
 
 -- if each that passes one test passes another, no more pass the one
 count_by-within : {X : Type 0} (P : X → Type 0) (one other : X → Bool) → ((x : X) → P x → one x ≡ true → other x ≡ true) → (xs : List X) → All P xs → count_by one xs ≤ count_by other xs
@@ -31,20 +29,19 @@ count_by-within P one other within [] all = omega arith
 count_by-within P one other within (x ∷ xs) all =
     let rest = count_by-within P one other within xs (All-tail P x xs all) in
     let here = within x (All-head P x xs all) in
-    let few = sum_by-cons (λ y. cond (one y) 1 0) x xs in
-    let more = sum_by-cons (λ y. cond (other y) 1 0) x xs in
+    let few = count_by-cons one x xs in let more = count_by-cons other x xs in
     grind (arith, rest, here, few, more)
 
 -- a number that isn't there is filtered out for nothing
 filter-missing : (n : ℕ) (ns : List ℕ) → count_by (λ m. m == n) ns ≡ 0 → filter (λ m. not (m == n)) ns ≡ ns
 filter-missing n [] none = refl
-filter-missing n (m ∷ ns) none = let rest = filter-missing n ns in let more = sum_by-cons (λ i. cond (i == n) 1 0) m ns in grind (arith, rest, more, none)
+filter-missing n (m ∷ ns) none = let rest = filter-missing n ns in let more = count_by-cons (λ i. i == n) m ns in grind (arith, rest, more, none)
 
 -- numbers of which none is there twice all stay
 each_once-distinct : (ns : List ℕ) → ((n : ℕ) → count_by (λ m. m == n) ns ≤ 1) → each_once ns ≡ ns
 each_once-distinct [] once = refl
 each_once-distinct (m ∷ ns) once =
-    let more = λ (n : ℕ). sum_by-cons (λ i. cond (i == n) 1 0) m ns in
+    let more = λ (n : ℕ). count_by-cons (λ i. i == n) m ns in
     let rest : each_once ns ≡ ns = each_once-distinct ns (λ n. let d = more n in let o = once n in omega (arith, d, o)) in
     let own : (m == m) ≡ true = eq-eqb m m refl in
     let none : count_by (λ i. i == m) ns ≡ 0 = (let d = more m in let o = once m in grind (arith, d, o, own)) in
@@ -57,27 +54,21 @@ module _ {K V : Type 0} (number : K → ℕ) where
 
   -- of distinct keys the rest is distinct
   pub HasDistinctKeys-tail : (p : K × V) (L : List (K × V)) → HasDistinctKeys number (p ∷ L) → HasDistinctKeys number L
-  HasDistinctKeys-tail p L once k = let all = once k in let more = sum_by-cons (λ (q : K × V). cond (same_key number k q.0) 1 0) p L in omega (arith, all, more)
+  HasDistinctKeys-tail p L once k = let all = once k in let more = count_by-cons (λ q. same_key number k q.0) p L in omega (arith, all, more)
 
   -- distinct keys below the capacity leave each residue once at most
   residues-distinct : (L : List (K × V)) (C n : ℕ) → HasDistinctKeys number L → All (λ p. number p.0 < C) L → count_by (λ p. residue number p.0 C == n) L ≤ 1
   residues-distinct [] C n once below = omega arith
   residues-distinct (p ∷ L) C n once below =
-      let all = sum_by-cons (λ (q : K × V). cond (residue number q.0 C == n) 1 0) p L in
-      let rest : All (λ q. number q.0 < C) L = All-tail (λ q. number q.0 < C) p L below in
-      elim (cases_Bool (residue number p.0 C == n)) [
-        | inl here ↦
-            (let e : number p.0 % C ≡ n = eqb-true (number p.0 % C) n here in
-            let f : number p.0 % C ≡ number p.0 = mod-eq_of_lt (All-head (λ q. number q.0 < C) p L below) in
-            let within : count_by (λ q. residue number q.0 C == n) L ≤ count_by (λ q. same_key number p.0 q.0) L =
-            count_by-within (λ q. number q.0 < C) (λ q. residue number q.0 C == n) (λ q. same_key number p.0 q.0)
-            (λ q small same. eq-eqb (number q.0) (number p.0) (sym (mod-eq_of_lt small) ∙ eqb-true (number q.0 % C) n same ∙ sym e ∙ f)) L rest in
-            let one = once p.0 in
-            let more = sum_by-cons (λ (q : K × V). cond (same_key number p.0 q.0) 1 0) p L in
-            let own : (number p.0 == number p.0) ≡ true = eq-eqb (number p.0) (number p.0) refl in
-            grind (arith, all, more, within, one, own, here))
-        | inr apart ↦ (let fewer = residues-distinct L C n (HasDistinctKeys-tail p L once) rest in grind (arith, all, fewer, apart))
-      ]
+      let all = count_by-cons (λ q. residue number q.0 C == n) p L in
+      let more = count_by-cons (λ q. same_key number p.0 q.0) p L in
+      let rest = All-tail (λ q. number q.0 < C) p L below in
+      let fewer = residues-distinct L C n (HasDistinctKeys-tail p L once) rest in
+      let one = once p.0 in
+      let f : number p.0 % C ≡ number p.0 = mod-eq_of_lt (All-head (λ q. number q.0 < C) p L below) in
+      let within = λ (here : number p.0 % C ≡ n). count_by-within (λ q. number q.0 < C) (λ q. residue number q.0 C == n) (λ q. same_key number p.0 q.0)
+      (λ q small same. eq-eqb (number q.0) (number p.0) (sym (mod-eq_of_lt small) ∙ eqb-true (number q.0 % C) n same ∙ sym here ∙ f)) L rest in
+      grind (arith, nat_tests, all, more, fewer, one, within)
 
   -- so at most one of them shares a slot with any key
   pub class_size-below : (L : List (K × V)) (C : ℕ) (k : K) → HasDistinctKeys number L → All (λ p. number p.0 < C) L → class_size number L C k ≤ 1
@@ -86,12 +77,7 @@ module _ {K V : Type 0} (number : K → ℕ) where
   -- no key is the same as an absent one
   same-absent : (L : List (K × V)) (k : K) → value_of number L k ≡ None → count_by (λ p. same_key number k p.0) L ≡ 0
   same-absent [] k missing = refl
-  same-absent (p ∷ L) k missing =
-      let more = sum_by-cons (λ (q : K × V). cond (same_key number k q.0) 1 0) p L in
-      elim (cases_Bool (same_key number k p.0)) [
-        | inl here ↦ (let no : ◌≡◌ {A = Option V} (Some p.1) None = rw here at missing in cc)
-        | inr apart ↦ (let rest = same-absent L k (rw apart at missing) in grind (arith, more, rest, apart))
-      ]
+  same-absent (p ∷ L) k missing = let rest = same-absent L k in let more = count_by-cons (λ q. same_key number k q.0) p L in grind (arith, missing, rest, more)
 
   -- an absent one below the capacity shares its slot with none of them
   pub class_size-absent : (L : List (K × V)) (C : ℕ) (k : K) → All (λ p. number p.0 < C) L → number k < C → value_of number L k ≡ None → class_size number L C k ≡ 0

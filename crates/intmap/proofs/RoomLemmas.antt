@@ -4,7 +4,9 @@ use Rattle.std.specs.Prelude.{◌==◌, ◌/◌, ◌%◌, ◌^◌, All, count_by
 use Rattle.std.proofs.lemmas.Bool.{cases_Bool, eqb-true, eq-eqb}
 use Rattle.std.proofs.lemmas.List.{length-append}
 use Rattle.std.proofs.lemmas.List.Elements.{All-nil, All-cons, All-head, All-tail}
-use Rattle.std.proofs.lemmas.List.Sums.{sum_by-append, sum_by-cons}
+use Rattle.std.proofs.lemmas.Bool.Decides.{nat_tests}
+use Rattle.std.proofs.lemmas.List.Sums.{sum_by-append}
+use Rattle.intmap.proofs.CountLemmas.{count_by-cons}
 use Rattle.intmap_table.specs.Classes.{IsCapacity, same_key, agrees, residue}
 use Rattle.intmap_table.specs.Bindings.{HasDistinctKeys, value_of, take_key, put_pair}
 use Rattle.intmap_table.specs.Reach.{class_size}
@@ -31,29 +33,12 @@ module _ {K V : Type 0} (number : K → ℕ) where
 
   -- a key is in its own class
   class_size-own : (C : ℕ) (p : K × V) (L : List (K × V)) → class_size number (p ∷ L) C p.0 ≡ 1 + class_size number L C p.0
-  class_size-own C p L =
-      let more = sum_by-cons (λ (q : K × V). cond (agrees number C p.0 q.0) 1 0) p L in
-      let own : agrees number C p.0 p.0 ≡ true = eq-eqb (residue number p.0 C) (residue number p.0 C) refl in
-      grind (arith, more, own)
+  class_size-own C p L = let more = count_by-cons (λ q. agrees number C p.0 q.0) p L in grind (arith, nat_tests, more)
 
   -- a key that shares its slot with none is absent
   value_of-alone : (L : List (K × V)) (C : ℕ) (k : K) → class_size number L C k ≡ 0 → value_of number L k ≡ None
-  value_of-alone L C k alone = first_value-unmatched (same_key number k) L (none L alone)
-    where
-      none : (M : List (K × V)) → class_size number M C k ≡ 0 → count_by (λ p. same_key number k p.0) M ≡ 0
-      none [] is = refl
-      none (p ∷ M) is =
-          let all = sum_by-cons (λ (q : K × V). cond (agrees number C k q.0) 1 0) p M in
-          let same = sum_by-cons (λ (q : K × V). cond (same_key number k q.0) 1 0) p M in
-          elim (cases_Bool (same_key number k p.0)) [
-            | inl here ↦
-                (let e : number p.0 ≡ number k = eqb-true (number p.0) (number k) here in
-                let a : agrees number C k p.0 ≡ true = eq-eqb (number p.0 % C) (number k % C) (ap (λ n. n % C) e) in
-                grind (arith, all, is, a))
-            | inr apart ↦
-                (let rest : class_size number M C k ≡ 0 = omega (arith, all, is) in
-                let h = none M rest in grind (arith, same, h, apart))
-          ]
+  value_of-alone [] C k alone = refl
+  value_of-alone (p ∷ L) C k alone = let rest = value_of-alone L C k in let more = count_by-cons (λ q. agrees number C k q.0) p L in grind (arith, nat_tests, alone, rest, more)
 
   -- and is put behind all pairs
   put_pair-alone : (L : List (K × V)) (C : ℕ) (k : K) (v : V) → class_size number L C k ≡ 0 → put_pair number L C k v ≡ L ++ (k, v) ∷ []
