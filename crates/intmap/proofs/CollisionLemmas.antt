@@ -3,7 +3,8 @@ use Rattle.std.proofs.Common.{◌≡◌, inl, inr, ℕ, ◌+◌, ◌*◌, ◌-�
 use Rattle.std.specs.Prelude.{◌==◌, nat_lt, filter, IsNone}
 use Rattle.std.specs.List.{list_any, flat_map, range_with_len, sum}
 use Rattle.std.proofs.lemmas.Nat.{pow-add}
-use Rattle.std.proofs.lemmas.Bool.{cases_eq, cases_Bool, eq-eqb, ne_eqb, ltb-true}
+use Rattle.std.proofs.lemmas.Bool.{cases_Bool}
+use Rattle.std.proofs.lemmas.Bool.Decides.{nat_tests}
 use Rattle.std.proofs.lemmas.List.{append-nil, length-append, length-map}
 use Rattle.std.proofs.lemmas.List.Concat.{length-flat_map}
 use Rattle.std.proofs.lemmas.List.FromFn.{length-map-range_with_len, take-map-range_with_len, filter_of_map_range_with_len_more}
@@ -20,31 +21,12 @@ use Rattle.intmap_table.proofs.LoadLemmas.{length-each_once, times}
 use Rattle.intmap.proofs.MadeLemmas.{IsMadeOf-factor}
 use Rattle.intmap.proofs.TallyLemmas.{found, missing, value_of-tally_of, each_once-push}
 
-few_step : (m : ℕ) (sizes : List ℕ) → 3 * length (each_once (filter (nat_lt 1) sizes)) ≤ sum sizes + cond (list_any (λ n. n == 2) (filter (nat_lt 1) sizes)) 1 0
-    → nat_lt 1 m ≡ true → 3 * length (each_once (m ∷ filter (nat_lt 1) sizes)) ≤ sum (m ∷ sizes) + cond (list_any (λ n. n == 2) (m ∷ filter (nat_lt 1) sizes)) 1 0
-few_step m sizes rest crowded =
-    let once = length-each_once m (filter (nat_lt 1) sizes) in
-    let more = sum_by-cons (λ n. n) m sizes in
-    elim (cases_eq m 2) [
-      | inl same ↦
-          (let t = eq-eqb m 2 same in
-          let here : ◌≡◌ {A = ℕ} (cond (list_any (λ n. n == 2) (m ∷ filter (nat_lt 1) sizes)) 1 0) 1 = simp t in
-          let alike = ap (λ k. cond {A = ℕ} (list_any (λ n. n == k) (filter (nat_lt 1) sizes)) 1 0) same in
-          omega (arith, once, more, here, alike, rest, same))
-      | inr apart ↦
-          (let t = ne_eqb m 2 apart in
-          let here : ◌≡◌ {A = ℕ} (cond (list_any (λ n. n == 2) (m ∷ filter (nat_lt 1) sizes)) 1 0) (cond (list_any (λ n. n == 2) (filter (nat_lt 1) sizes)) 1 0) = simp t in
-          let above = ltb-true 1 m crowded in
-          omega (arith, once, more, here, above, rest, apart))
-    ]
-
 -- three times the different sizes above 1 are hardly more than the pairs
 few_sizes : (sizes : List ℕ) → 3 * length (each_once (filter (nat_lt 1) sizes)) ≤ sum sizes + cond (list_any (λ m. m == 2) (filter (nat_lt 1) sizes)) 1 0
 few_sizes [] = omega arith
-few_sizes (m ∷ sizes) = elim (cases_Bool (nat_lt 1 m)) [
-  | inl crowded ↦ (let h = few_step m sizes (few_sizes sizes) crowded in rw crowded h)
-  | inr alone ↦ (let h = few_sizes sizes in let more = sum_by-cons (λ n. n) m sizes in rw alone (omega (arith, h, more)))
-]
+few_sizes (m ∷ sizes) =
+    let rest = few_sizes sizes in let once = length-each_once m (filter (nat_lt 1) sizes) in let more = sum_by-cons (λ n. n) m sizes in
+    grind (arith, nat_tests, rest, once, more)
 
 -- a new map with that few pairs never needs more than 2^63 slots
 NeedsTooMuch-few : (C n : ℕ) → IsCapacity C → 3 * n ≤ 2 ^ 64 → NeedsTooMuch (IsNext C n 909) → ⊥
@@ -106,7 +88,8 @@ module _ {X : Type 0} (slot : ℕ → List X) where
         → IsOutOfRange (λ k. k) m.walk m.capacity m.factor (length (slot n)) → ⊥
     size-in_range fits is_map crowded out =
         let q : ℕ = length (slot n) in
-        let away = missing (list_any (λ k. k == q) (collision_sizes_below n)) (times q (collision_sizes_below n)) (sym (none_from (value_of (λ k. k) m.walk q) out.0) ∙ tally.counts q ∙ value_of-tally_of (collision_sizes_below n) q) in
+        let none : value_of (λ k. k) m.walk q ≡ None = (let absent = out.0 in grind (arith, absent)) in
+        let away = missing (list_any (λ k. k == q) (collision_sizes_below n)) (times q (collision_sizes_below n)) (sym none ∙ tally.counts q ∙ value_of-tally_of (collision_sizes_below n) q) in
         let once : each_once (collision_sizes_below n ++ q ∷ []) ≡ each_once (collision_sizes_below n) ++ q ∷ [] = each_once-push (collision_sizes_below n) q ∙ rw away refl in
         let more = ap length (ap each_once (collision_sizes_below-crowded n crowded) ∙ once) ∙ length-append (each_once (collision_sizes_below n)) (q ∷ []) in
         let len = tally.len ∙ length-map (each_once (collision_sizes_below n)) (λ k. (k, times k (collision_sizes_below n))) in
@@ -122,7 +105,3 @@ module _ {X : Type 0} (slot : ℕ → List X) where
         one-most : (b : Bool) → cond {A = ℕ} b 1 0 ≤ 1
         one-most true = omega arith
         one-most false = omega arith
-
-        none_from : (o : Option ℕ) → IsNone o → o ≡ None
-        none_from None none = refl
-        none_from (Some v) none = let no : true ≡ false = none in cc

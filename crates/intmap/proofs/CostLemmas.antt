@@ -75,7 +75,7 @@ module _ {K V : Type 0} (number : K → ℕ) where
   class_size-below L C k once below = residues-distinct L C (residue number k C) once below
 
   -- no key is the same as an absent one
-  same-absent : (L : List (K × V)) (k : K) → value_of number L k ≡ None → count_by (λ p. same_key number k p.0) L ≡ 0
+  pub same-absent : (L : List (K × V)) (k : K) → value_of number L k ≡ None → count_by (λ p. same_key number k p.0) L ≡ 0
   same-absent [] k missing = refl
   same-absent (p ∷ L) k missing = let rest = same-absent L k in let more = count_by-cons (λ q. same_key number k q.0) p L in grind (arith, missing, rest, more)
 

@@ -3,7 +3,7 @@ use Rattle.std.proofs.Common.{◌≡◌, inl, inr, ℕ, ◌+◌, ◌≤◌, Bool
 use Rattle.std.specs.Prelude.{count_by, is_some, MatchOption}
 use Rattle.std.specs.Bool.{MatchBool}
 use Rattle.std.specs.List.Retain.{ExtractsNext}
-use Rattle.std.proofs.lemmas.Bool.{cases_Bool, eqb-true, eq-eqb, ne_eqb}
+use Rattle.std.proofs.lemmas.Bool.Decides.{nat_tests}
 use Rattle.std.proofs.lemmas.List.{length-take-le, take-append-drop}
 use Rattle.std.proofs.lemmas.List.Sums.{sum_by-cons}
 use Rattle.intmap_table.specs.Bindings.{first_value, value_of, HasDistinctKeys, Updates}
@@ -15,8 +15,7 @@ use Rattle.intmap_table.proofs.ExtractLemmas.{length-ExtractsBehind}
 
 -- one is removed, or none
 pub length-cut : {F X : Type 0} (R : F → X → Bool → F → X → Type 0) (f g : F) (L M : List X) (i j : ℕ) (r : Option X) → ExtractsBehind R f L i r g M j → length M + cond (is_some r) 1 0 ≡ length L
-length-cut R f g L M i j None step = let all = length-ExtractsBehind R f g L M i j None step in omega (arith, all)
-length-cut R f g L M i j (Some x) step = let all = length-ExtractsBehind R f g L M i j (Some x) step in omega (arith, all)
+length-cut R f g L M i j r step = let all = length-ExtractsBehind R f g L M i j r step in grind (arith, all)
 
 -- if R picks whatever it is asked about and leaves it as it is, the first element from place i on is removed
 module _ {F X : Type 0} (R : F → X → Bool → F → X → Type 0) (always : (f : F) (x : X) (b : Bool) (g : F) (y : X) → R f x b g y → (b ≡ true) × (y ≡ x)) where
@@ -73,14 +72,11 @@ module _ {K V : Type 0} (number : K → ℕ) where
   -- a pair that is cut out leaves its key without a value, and each other key with its own
   pub Updates-cut : (L M A R : List (K × V)) (p : K × V) → L ≡ A ++ p ∷ R → M ≡ A ++ R → HasDistinctKeys number L → Updates number L M p.0 None
   Updates-cut L M A R p whole less once =
-      Updates-from number L M p.0 None (λ q. ap (λ N. value_of number N q) less ∙ elim (cases_Bool (same_key number p.0 q)) as (λ _. value_of number (A ++ R) q ≡ cond (same_key number p.0 q) None (value_of number L q)) [
-        | inl same ↦
-            (let here : same_key number q p.0 ≡ true = eq-eqb (number p.0) (number q) (sym (eqb-true (number q) (number p.0) same)) in
-            rw same (first_value-cut_out (same_key number q) A R p here (subst (λ N. count_by (λ r. same_key number q r.0) N ≤ 1) whole (once q))))
-        | inr apart ↦
-            (let other : same_key number q p.0 ≡ false = ne_eqb (number p.0) (number q) (λ g. let s = eq-eqb (number q) (number p.0) (sym g) in cc) in
-            rw apart (first_value-cut_other (same_key number q) A R p other ∙ ap (λ N. value_of number N q) (sym whole)))
-      ])
+      Updates-from number L M p.0 None (λ q.
+      let gone = λ (here : same_key number q p.0 ≡ true). first_value-cut_out (same_key number q) A R p here (subst (λ N. count_by (λ r. same_key number q r.0) N ≤ 1) whole (once q)) in
+      let other = first_value-cut_other (same_key number q) A R p in
+      let before = ap (λ N. value_of number N q) whole in let after = ap (λ N. value_of number N q) less in
+      grind (arith, nat_tests, gone, other, before, after))
 
   -- so the key of a removed pair is absent, and each other key has its value; if none was removed, the list is the same
   pub Updates-parts : (L M A R : List (K × V)) (r : Option (K × V)) → MatchOption r (M ≡ L) (λ p. (L ≡ A ++ p ∷ R) × (M ≡ A ++ R)) → HasDistinctKeys number L

@@ -1,5 +1,5 @@
 -- What the equality of maps is once their lengths are compared.
-use Rattle.std.proofs.Common.{◌≡◌, inl, inr, ℕ, ◌≤◌, Bool, true, false, cond, ◌&&◌, List, [], ◌∷◌, length, Option, Some, None, refl, sym, ap, ◌∙◌, arith}
+use Rattle.std.proofs.Common.{◌≡◌, inl, inr, ℕ, ◌≤◌, Bool, true, false, cond, ◌&&◌, List, [], ◌∷◌, length, get_or, Option, Some, None, refl, sym, ap, ◌∙◌, arith}
 use Rattle.std.specs.Prelude.{All, IsTrue}
 use Rattle.std.specs.Cmp.{IsPartialEquivalence, first_so, second_so}
 use Rattle.std.specs.List.{list_all}
@@ -7,7 +7,8 @@ use Rattle.std.specs.Option.{option_eq}
 use Rattle.std.proofs.lemmas.Bool.{true≢false, cases_Bool, eqb-true, eq-eqb}
 use Rattle.std.proofs.lemmas.Grind.{common_steps}
 use Rattle.std.proofs.lemmas.List.Elements.{All-nil, All-cons, All-head, All-tail}
-use Rattle.std.proofs.lemmas.List.Sums.{sum_by-cons}
+use Rattle.std.proofs.lemmas.Bool.Decides.{nat_tests}
+use Rattle.intmap.proofs.CountLemmas.{count_by-cons}
 use Rattle.intmap_table.specs.Classes.{same_key}
 use Rattle.intmap_table.specs.Bindings.{value_of, HasDistinctKeys, take_key, put_pair}
 use Rattle.intmap.specs.Equality.{are_present_alike, maps_equal}
@@ -30,22 +31,12 @@ module _ {K V : Type 0} (number : K → ℕ) where
   -- the first pair's key is absent behind it
   pub value_of-rest : (p : K × V) (L : List (K × V)) → HasDistinctKeys number (p ∷ L) → (q : K) → same_key number q p.0 ≡ true → value_of number L q ≡ None
   value_of-rest p L once q found =
-      let more = sum_by-cons (λ (r : K × V). cond (same_key number q r.0) 1 0) p L in
-      let one : ◌≡◌ {A = ℕ} (cond (same_key number q p.0) 1 0) 1 = ap (λ b. cond b 1 0) found in
-      let few = once q in
-      first_value-unmatched (same_key number q) L (omega (arith, more, one, few))
+      let more = count_by-cons (λ r. same_key number q r.0) p L in let few = once q in first_value-unmatched (same_key number q) L (grind (arith, more, few, found))
 
   -- with the first pair's key removed from both, the one is within the other
   KeysWithin-rest : (p : K × V) (L M : List (K × V)) → HasDistinctKeys number (p ∷ L) → HasDistinctKeys number M → KeysWithin (p ∷ L) M → KeysWithin L (take_key number M 2 p.0)
   KeysWithin-rest p L M once distinct within q none =
-      let taken = value_of-take_key number M 2 p.0 q distinct in
-      elim (cases_Bool (same_key number p.0 q)) [
-        | inl same ↦ value_of-rest p L once q (eq-eqb (number p.0) (number q) (sym (eqb-true (number q) (number p.0) same)))
-        | inr apart ↦
-            (let missing : value_of number M q ≡ None = sym (rw apart at taken) ∙ none in
-            let gone = within q missing in
-            grind (arith, common_steps, gone))
-      ]
+      let taken = value_of-take_key number M 2 p.0 q distinct in let first = value_of-rest p L once q in let gone = within q in grind (arith, nat_tests, taken, first, gone, none)
 
   -- if M has each key that L has, it is no shorter
   length-KeysWithin : (L M : List (K × V)) → HasDistinctKeys number L → HasDistinctKeys number M → KeysWithin L M → length L ≤ length M
@@ -65,31 +56,19 @@ module _ {K V : Type 0} (number : K → ℕ) where
       at None is = refl
       at (Some v) is =
           let within_too : KeysWithin (put_pair number L 2 q v) M = λ j missing.
-          let put = value_of-put_pair number L 2 q j v once in
-          let before = within j missing in
-          let as_q = value_of-same_number number M j q in
-          elim (cases_Bool (same_key number q j)) [
-            | inl at_q ↦ absurd (let e = as_q (eqb-true (number j) (number q) at_q) in cc)
-            | inr apart ↦ (rw apart at put) ∙ before
-          ] in
+          let put = value_of-put_pair number L 2 q j v once in let before = within j missing in let as_q = value_of-same_number number M j q in
+          grind (arith, nat_tests, put, before, as_q, missing, is) in
           let longer = length-KeysWithin (put_pair number L 2 q v) M (HasDistinctKeys-put_pair number L 2 q v once) distinct within_too in
           let more = length-put_pair number L 2 q v in
           absurd (grind (arith, common_steps, longer, more, none, same))
-
-  -- a pair that is found behind the first one is found behind it still
-  value_of-behind : (p : K × V) (L : List (K × V)) → HasDistinctKeys number (p ∷ L) → (r : K × V) → value_of number L r.0 ≡ Some r.1 → value_of number (p ∷ L) r.0 ≡ Some r.1
-  value_of-behind p L once r found = at (same_key number r.0 p.0) refl
-    where
-      at : (b : Bool) → same_key number r.0 p.0 ≡ b → value_of number (p ∷ L) r.0 ≡ Some r.1
-      at true same = absurd (let none = value_of-rest p L once r.0 same in cc)
-      at false apart = ap (λ b. cond b (Some p.1) (value_of number L r.0)) apart ∙ found
 
   -- each pair is found
   All-found : (L : List (K × V)) → HasDistinctKeys number L → All (λ p. value_of number L p.0 ≡ Some p.1) L
   All-found [] once = All-nil (λ p. value_of number [] p.0 ≡ Some p.1)
   All-found (p ∷ L) once =
       let rest = All-found L (HasDistinctKeys-tail number p L once) in
-      All-cons (λ q. value_of number (p ∷ L) q.0 ≡ Some q.1) p L (value_of-first p L) (λ i d below. value_of-behind p L once _ (rest i d below))
+      All-cons (λ q. value_of number (p ∷ L) q.0 ≡ Some q.1) p L (value_of-first p L)
+      (λ i d below. let found = rest i d below in let none = value_of-rest p L once (get_or L i d).0 in grind (arith, found, none))
 
 -- what a test implies adds nothing to it
 and-implied : (a b : Bool) → (a ≡ true → b ≡ true) → (a && b) ≡ a

@@ -2,8 +2,9 @@
 use Rattle.std.proofs.Common.{◌≡◌, inl, inr, ℕ, ◌+◌, Bool, true, false, cond, List, [], ◌∷◌, ◌++◌, Option, Some, None, length, take, drop, refl, sym, ap, ◌∙◌, subst, arith}
 use Rattle.std.specs.Prelude.{IfSome, unwrap_or}
 use Rattle.std.specs.Bool.{MatchBool}
-use Rattle.std.proofs.lemmas.Bool.{cases_Bool, eq-eqb}
-use Rattle.std.proofs.lemmas.List.{take-append-drop}
+use Rattle.std.proofs.lemmas.Bool.Decides.{nat_tests}
+use Rattle.intmap.proofs.CostLemmas.{same-absent}
+use Rattle.intmap.proofs.CountLemmas.{count_by-cons}
 use Rattle.std.specs.Iterator.{MakesProgress, at_most}
 use Rattle.std.specs.List.Retain.{ExtractsNext}
 use Rattle.std.specs.Option.{option_len}
@@ -45,32 +46,11 @@ module _ {F X S : Type 0} (R : F → X → Bool → F → X → Type 0) (Q : F �
       let len = length-ExtractsNext R (test s) (test t) (rest s) kept (rest t) (Some x) step in
       record { on = λ _. (next, tt, omega (arith, len)); keeps = next; rests = λ _. tt }
 
-module _ {K V : Type 0} (number : K → ℕ) where
-  IsPresent-first : (x : K × V) (L : List (K × V)) → IsPresent number (x ∷ L) x.0
-  IsPresent-first x L = let here = eq-eqb (number x.0) (number x.0) refl in rw here refl
-
-  IsPresent-behind : (k : K) (x : K × V) (L : List (K × V)) → IsPresent number L k → IsPresent number (x ∷ L) k
-  IsPresent-behind k x L there = elim (cases_Bool (same_key number k x.0)) [
-    | inl same ↦ rw same refl
-    | inr apart ↦ rw apart there
-  ]
-
-  IsPresent-append : (k : K) (L M : List (K × V)) → IsPresent number M k → IsPresent number (L ++ M) k
-  IsPresent-append k [] M there = there
-  IsPresent-append k (x ∷ L) M there = IsPresent-behind k x (L ++ M) (IsPresent-append k L M there)
-
-  module _ {F : Type 0} (R : F → K × V → Bool → F → K × V → Type 0) (same : (f : F) (p : K × V) (b : Bool) (g : F) (q : K × V) → R f p b g q → q.0 ≡ p.0) where
-    IsPresent-ExtractsNext : (f g : F) (L kept rest : List (K × V)) (r : K × V) → ExtractsNext R f L (Some r) g kept rest → IsPresent number L r.0
-    IsPresent-ExtractsNext f g [] kept rest r e = let no : Some r ≡ None = e.0 in cc
-    IsPresent-ExtractsNext f g (x ∷ L) kept rest r e = either e.0 e.4 (λ k step. IsPresent-ExtractsNext e.1 g L k rest r step)
-      where
-        either : (b : Bool) → MatchBool b ((Some r ≡ Some e.2) × (g ≡ e.1) × (kept ≡ []) × (rest ≡ L)) ((k : List (K × V)) × ExtractsNext R e.1 L (Some r) g k rest × (kept ≡ e.2 ∷ k))
-            → ((k : List (K × V)) → ExtractsNext R e.1 L (Some r) g k rest → IsPresent number L r.0) → IsPresent number (x ∷ L) r.0
-        either true m on = let picked = ap (λ o. unwrap_or o x) m.0 in subst (λ k. IsPresent number (x ∷ L) k) (sym (ap (λ p. p.0) picked ∙ same f x e.0 e.1 e.2 e.3)) (IsPresent-first x L)
-        either false m on = IsPresent-behind r.0 x L (on m.0 m.1)
-
-    -- the key of a removed pair was present
-    pub IsPresent-ExtractsBehind : (f g : F) (L M : List (K × V)) (i j : ℕ) (r : Option (K × V)) → ExtractsBehind R f L i r g M j → IfSome r (λ p. IsPresent number L p.0)
-    IsPresent-ExtractsBehind f g L M i j None step = tt
-    IsPresent-ExtractsBehind f g L M i j (Some r) step =
-        subst (λ W. IsPresent number W r.0) (take-append-drop i L) (IsPresent-append r.0 (take i L) (drop i L) (IsPresent-ExtractsNext f g (drop i L) step.0 (drop j M) r step.1))
+module _ {F K V : Type 0} (number : K → ℕ) (R : F → K × V → Bool → F → K × V → Type 0) (same : (f : F) (p : K × V) (b : Bool) (g : F) (q : K × V) → R f p b g q → q.0 ≡ p.0) where
+  -- the key of a removed pair was present
+  pub IsPresent-ExtractsBehind : (f g : F) (L M : List (K × V)) (i j : ℕ) (r : Option (K × V)) → ExtractsBehind R f L i r g M j → IfSome r (λ p. IsPresent number L p.0)
+  IsPresent-ExtractsBehind f g L M i j None step = tt
+  IsPresent-ExtractsBehind f g L M i j (Some r) step =
+      let counted = sum_by-ExtractsBehind R (λ (p : K × V). cond (same_key number r.0 p.0) 1 0) (λ f p b g q call. ap (λ h. cond (same_key number r.0 h) 1 0) (same f p b g q call)) f g L M i j (Some r) step in
+      let own = count_by-cons (λ (p : K × V). same_key number r.0 p.0) r [] in let absent = same-absent number L r.0 in
+      grind (arith, nat_tests, counted, own, absent)
