@@ -1,5 +1,5 @@
 -- The members of objects beside pairs of numbers and values.
-use Rattle.std.proofs.Common.{◌≡◌, inl, inr, ℕ, suc, ◌^◌, ◌<◌, ◌≤◌, Bool, true, false, cond, List, ◌∷◌, [], length, reverse, is_some, Option, Some, None, option_map, Ordering, Less, Equal, Greater, string_bytes, string_cmp, nat_cmp, refl, ap, sym, ◌∙◌, subst, arith}
+use Rattle.std.proofs.Common.{◌≡◌, ◌≢◌, inl, inr, ℕ, suc, ◌^◌, ◌<◌, ◌≤◌, Bool, true, false, cond, List, ◌∷◌, [], length, reverse, is_some, Option, Some, None, option_map, Ordering, Less, Equal, Greater, string_bytes, string_cmp, nat_cmp, refl, ap, sym, ◌∙◌, subst, arith}
 use Rattle.std.specs.Prelude.{◌==◌, ◌↔◌, ⊤, Result, Ok, Err, IsErrAnd, IfErr, IsSomeAnd}
 use Rattle.std.specs.Fmt.{decimal}
 use Rattle.std.specs.Cmp.Lexicographic.{slice_cmp}
@@ -8,11 +8,11 @@ use Rattle.std.specs.List.Sorted.{IsStrictlySortedBy}
 use Rattle.std.specs.Map.{keys_of}
 use Rattle.std.specs.Option.{option_or}
 use Rattle.std.specs.Ordering.{match_ordering}
-use Rattle.std.proofs.lemmas.Bool.{cases_lt, eqb-true, eq-eqb}
+use Rattle.std.proofs.lemmas.Bool.{cases_lt, eq-eqb}
+use Rattle.std.proofs.lemmas.Bool.Decides.{nat_tests}
 use Rattle.std.proofs.lemmas.Cmp.{nat_list_cmp_total, tied_itself}
 use Rattle.std.proofs.lemmas.Fmt.{decimal_injective}
 use Rattle.std.proofs.lemmas.List.{reverse-append}
-use Rattle.std.proofs.lemmas.List.Sums.{sum_by-cons}
 use Rattle.serde_json.specs.Data.{Data, Members, no_members, member, put}
 use Rattle.serde_json.specs.Events.{members_len}
 use Rattle.serde_json.specs.Find.{get_member}
@@ -25,7 +25,9 @@ use Rattle.intmap.specs.Json.{json_cause, IsKeyText, HasKeyTexts, tree_of, Shows
 use Rattle.intmap.specs.Map.{MapState}
 use Rattle.intmap.specs.declared.refusal.Cause.{Cause}
 use Rattle.intmap.specs.declared.refusal.Cause.TheVariants.{Memory, TooLarge}
-use Rattle.intmap_table.proofs.BindingLemmas.{first_value-unmatched}
+use Rattle.intmap_table.proofs.BindSameLemmas.{value_of-same_number}
+use Rattle.intmap.proofs.CostLemmas.{HasDistinctKeys-tail}
+use Rattle.intmap.proofs.EqualityLemmas.{value_of-rest}
 use Rattle.intmap.proofs.ExtendLemmas.{refusal_of, cause-of_slots, value_of-append}
 use Rattle.intmap.proofs.JsonLemmas.{Entry}
 
@@ -44,16 +46,8 @@ AreApart (p ∷ ps) = (value_at ps p.0 ≡ None) × AreApart ps
 -- pairs of distinct keys are apart
 pub AreApart-distinct : (L : Pairs) → HasDistinctKeys (λ key. key) L → AreApart L
 AreApart-distinct [] distinct = tt
-AreApart-distinct (p ∷ L) distinct = (
-  first_value-unmatched (λ q. q == p.0) L
-      (let more = sum_by-cons (λ (q : ℕ × Value). cond (q.0 == p.0) 1 0) p L in
-      let once = distinct p.0 in
-      let here : cond {A = ℕ} (p.0 == p.0) 1 0 ≡ 1 = rw (eq-eqb p.0 p.0 refl) refl in
-      omega (arith, more, once, here)),
-  AreApart-distinct L
-      (λ k. let more = sum_by-cons (λ (q : ℕ × Value). cond (q.0 == k) 1 0) p L in
-      let once = distinct k in omega (arith, more, once)),
-)
+AreApart-distinct (p ∷ L) distinct =
+    (value_of-rest (λ key. key) p L distinct p.0 (eq-eqb p.0 p.0 refl), AreApart-distinct L (HasDistinctKeys-tail (λ key. key) p L distinct))
 
 -- the same of none behind it
 option_or-none : {T : Type 0} (o : Option T) → option_or o None ≡ o
@@ -82,20 +76,10 @@ AreShownWith-all L q small = option_or-none (tree_of L q)
 -- one pair less that is left, one member more that is there
 pub AreShownWith-put : (rest L : Pairs) (ms : Members) (k : ℕ) (v : Value) → k < 2 ^ 64 → value_at rest k ≡ None
     → AreShownWith ((k, v) ∷ rest) ms L → AreShownWith rest (put (decimal k) (view v) ms) L
-AreShownWith-put rest L ms k v small apart shown q below = by_case (k == q) refl (shown q below)
-  where
-    by_case : (b : Bool) → (k == q) ≡ b → option_or (tree_of ((k, v) ∷ rest) q) (get_member (decimal q) ms) ≡ tree_of L q
-        → option_or (tree_of rest q) (get_member (decimal q) (put (decimal k) (view v) ms)) ≡ tree_of L q
-    by_case true is before =
-        let same : k ≡ q = eqb-true k q is in
-        let none : tree_of rest q ≡ None = ap (option_map view) (subst (λ x. value_at rest x ≡ None) same apart) in
-        let there : get_member (decimal q) (put (decimal k) (view v) ms) ≡ Some (view v) =
-        subst (λ x. get_member (decimal x) (put (decimal k) (view v) ms) ≡ Some (view v)) same (get_member-put (decimal k) (view v) ms) in
-        rw none (there ∙ rw is at before)
-    by_case false is before =
-        let other : decimal q ≡ decimal k → ⊥ =
-        λ text. let wrong : false ≡ true = sym is ∙ eq-eqb k q (decimal_injective k q small below (sym text)) in cc in
-        rw (get_member-put_other (decimal q) (decimal k) (view v) ms other) (rw is at before)
+AreShownWith-put rest L ms k v small apart shown q below =
+    let before = shown q below in let here = get_member-put (decimal k) (view v) ms in
+    let other = λ (away : k ≢ q). get_member-put_other (decimal q) (decimal k) (view v) ms (λ text. away (decimal_injective k q small below (sym text))) in
+    grind (arith, nat_tests, before, here, other, apart)
 
 -- there are as many pairs as members
 pub length-ArePairsOf : (ms : Members) (ps : Pairs) → ArePairsOf ms ps → length ps ≡ members_len ms
@@ -109,16 +93,11 @@ pub get_member-ArePairsOf : (es : List Entry) (ps : Pairs) (q : ℕ) → q < 2 ^
 get_member-ArePairsOf [] [] q small are = refl
 get_member-ArePairsOf [] (p ∷ ps) q small are = absurd are
 get_member-ArePairsOf (e ∷ es) [] q small are = absurd are
-get_member-ArePairsOf (e ∷ es) (p ∷ ps) q small are = by_case (p.0 == q) refl (get_member-ArePairsOf es ps q small are.2)
-  where
-    by_case : (b : Bool) → (p.0 == q) ≡ b → get_member (decimal q) (members_view es) ≡ tree_of ps q → get_member (decimal q) (members_view (e ∷ es)) ≡ tree_of (p ∷ ps) q
-    by_case true is rest =
-        let here : decimal q ≡ string_bytes e.0 = ap decimal (sym (eqb-true p.0 q is)) ∙ sym are.0.0 in
-        member_here (decimal q) e es here ∙ ap Some (sym are.1) ∙ rw is refl
-    by_case false is rest =
-        let other : decimal q ≡ string_bytes e.0 → ⊥ =
-        λ text. let wrong : false ≡ true = sym is ∙ eq-eqb p.0 q (decimal_injective p.0 q are.0.1 small (sym (text ∙ are.0.0))) in cc in
-        member_later (decimal q) e es other ∙ rest ∙ rw is refl
+get_member-ArePairsOf (e ∷ es) (p ∷ ps) q small are =
+    let rest = get_member-ArePairsOf es ps q small are.2 in let text = are.0.0 in let value = are.1 in
+    let here = member_here (decimal q) e es in
+    let other = λ (away : p.0 ≢ q). member_later (decimal q) e es (λ same. away (decimal_injective p.0 q are.0.1 small (sym (same ∙ text)))) in
+    grind (arith, nat_tests, rest, text, value, here, other)
 
 -- what comes behind a text that is below all others isn't at its number
 value_at-below : (text : List ℕ) (es : List Entry) (ps : Pairs) (k : ℕ) → IsKeyText text k → AllByRecursion (λ y. slice_cmp nat_cmp text (string_bytes y) ≡ Less) (keys_of es)
@@ -126,14 +105,10 @@ value_at-below : (text : List ℕ) (es : List Entry) (ps : Pairs) (k : ℕ) → 
 value_at-below text [] [] k is below are = refl
 value_at-below text [] (p ∷ ps) k is below are = absurd are
 value_at-below text (e ∷ es) [] k is below are = absurd are
-value_at-below text (e ∷ es) (p ∷ ps) k is below are = by_case (p.0 == k) refl (value_at-below text es ps k is below.1 are.2)
-  where
-    by_case : (b : Bool) → (p.0 == k) ≡ b → value_at ps k ≡ None → value_at (p ∷ ps) k ≡ None
-    by_case true same rest =
-        let texts : string_bytes e.0 ≡ text = are.0.0 ∙ ap decimal (eqb-true p.0 k same) ∙ sym is.0 in
-        let tied = subst (λ t. slice_cmp nat_cmp text t ≡ Equal) (sym texts) (tied_itself nat_list_cmp_total text) in
-        let less = below.0 in cc
-    by_case false other rest = rw other rest
+value_at-below text (e ∷ es) (p ∷ ps) k is below are =
+    let rest = value_at-below text es ps k is below.1 are.2 in let here = are.0.0 in let own = is.0 in let less = below.0 in
+    let tied = tied_itself nat_list_cmp_total text in
+    grind (arith, nat_tests, rest, here, own, less, tied)
 
 -- the pairs of the members of a `Map` are apart
 pub AreApart-sorted : (es : List Entry) (ps : Pairs) → IsStrictlySortedBy string_cmp (keys_of es) → ArePairsOf (members_view es) ps → AreApart ps
@@ -143,29 +118,25 @@ AreApart-sorted [] (p ∷ ps) sorted are = absurd are
 AreApart-sorted (e ∷ es) [] sorted are = absurd are
 AreApart-sorted (e ∷ es) (p ∷ ps) sorted are = (value_at-below (string_bytes e.0) es ps p.0 are.0 sorted.0 are.2, AreApart-sorted es ps sorted.1 are.2)
 
--- separate pairs bind the same from the back
+-- a pair whose key is absent in others may be behind them
+value_at-behind : (p : ℕ × Value) (ps : Pairs) (q : ℕ) → value_at ps p.0 ≡ None → option_or (value_at ps q) (value_at (p ∷ []) q) ≡ value_at (p ∷ ps) q
+value_at-behind p ps q none = let at = value_of-same_number (λ key. key) ps q p.0 in grind (arith, nat_tests, none, at)
+
+-- so separate pairs bind the same from the back
 pub value_at-reverse : (ps : Pairs) (q : ℕ) → AreApart ps → value_at (reverse ps) q ≡ value_at ps q
 value_at-reverse [] q apart = refl
-value_at-reverse (p ∷ ps) q apart = ap (λ L. value_at L q) (reverse-append (p ∷ []) ps) ∙ value_of-append (λ key. key) (reverse ps) (p ∷ []) q ∙ by_case (p.0 == q) refl (value_at-reverse ps q apart.1)
-  where
-    by_case : (b : Bool) → (p.0 == q) ≡ b → value_at (reverse ps) q ≡ value_at ps q → option_or (value_at (reverse ps) q) (value_at (p ∷ []) q) ≡ value_at (p ∷ ps) q
-    by_case true is rest =
-        let none : value_at ps q ≡ None = subst (λ x. value_at ps x ≡ None) (eqb-true p.0 q is) apart.0 in
-        rw (is, rest ∙ none) refl
-    by_case false is rest = rw is (option_or-none (value_at (reverse ps) q) ∙ rest)
+value_at-reverse (p ∷ ps) q apart =
+    ap (λ L. value_at L q) (reverse-append (p ∷ []) ps) ∙ value_of-append (λ key. key) (reverse ps) (p ∷ []) q
+    ∙ ap (λ o. option_or o (value_at (p ∷ []) q)) (value_at-reverse ps q apart.1) ∙ value_at-behind p ps q apart.0
 
 -- all of them are new if none is present
 length-new_keys : (L ps : Pairs) → AreApart ps → ((q : ℕ) → is_some (value_at ps q) ≡ true → value_at L q ≡ None) → length (new_keys (λ key. key) L ps) ≡ length ps
 length-new_keys L [] apart unbound = refl
 length-new_keys L (p ∷ ps) apart unbound =
-    rw (unbound p.0 (rw (eq-eqb p.0 p.0 refl) refl)) (ap suc (length-new_keys (p ∷ L) ps apart.1 (λ q bound. by_case q (p.0 == q) refl bound)))
-  where
-    by_case : (q : ℕ) (b : Bool) → (p.0 == q) ≡ b → is_some (value_at ps q) ≡ true → value_at (p ∷ L) q ≡ None
-    by_case q true is bound =
-        let none : value_at ps q ≡ None = subst (λ x. value_at ps x ≡ None) (eqb-true p.0 q is) apart.0 in
-        let wrong : false ≡ true = ap is_some (sym none) ∙ bound in cc
-    by_case q false is bound =
-        let there : is_some (value_at (p ∷ ps) q) ≡ true = rw is bound in rw is (unbound q there)
+    let none = apart.0 in
+    let rest = length-new_keys (p ∷ L) ps apart.1 (λ q bound. let absent = unbound q in grind (arith, nat_tests, absent, bound, none)) in
+    let new = unbound p.0 in
+    grind (arith, nat_tests, rest, new)
 
 module _ (es : List Entry) (ps : Pairs) (made : MapState ℕ Value) (n : ℕ) (are : ArePairsOf (members_view es) ps) (apart : AreApart ps) (collected : AreCollected n ps made) where
   -- a map of separate pairs has as many pairs
