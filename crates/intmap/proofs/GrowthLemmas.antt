@@ -79,34 +79,33 @@ IsLeastPower-unique n p q a b =
     let upper : q ≤ 2 ^ a.power.0 = b.least a.power.0 (subst (λ x. n ≤ x) a.power.1 a.enough) in
     omega (arith, lower, upper, a.power.1, b.power.1)
 
--- the next power of two is the least
-pub IsLeastPower-from_next : (n p : ℕ) → 1 ≤ n → IsPowerOfTwo p → n ≤ p → p / 2 < max 1 n → IsLeastPower n p
-IsLeastPower-from_next n p one pow lo hi = record {
-  power = pow;
-  enough = lo;
-  least = λ e h. elim (cases_lt e pow.0) [
-    | inr ge ↦ let m : 2 ^ pow.0 ≤ 2 ^ e = pow_mono ge in omega (arith, m, pow.1)
+-- what `next_power_of_two` returns is the least
+pub IsLeastPower-up : (n p : ℕ) → IsPowerOfTwo p → n ≤ p → p / 2 < max 1 n → IsLeastPower n p
+IsLeastPower-up n p power enough below = record {
+  power = power;
+  enough = enough;
+  least = λ e h. elim (cases_lt e power.0) [
+    | inr ge ↦ let m : 2 ^ power.0 ≤ 2 ^ e = pow_mono ge in omega (arith, m, power.1)
     | inl lt ↦
-        let m : 2 ^ (e + 1) ≤ 2 ^ pow.0 = pow_mono (let w : e + 1 ≤ pow.0 = omega arith in w) in
+        let m : 2 ^ (e + 1) ≤ 2 ^ power.0 = pow_mono (let w : e + 1 ≤ power.0 = omega arith in w) in
         let d : 2 ^ (e + 1) ≡ 2 ^ e * 2 = pow-add 2 e 1 in
-        absurd (omega (arith, m, d, pow.1, hi, h))
+        let some : 0 < 2 ^ e = pow_pos e in
+        absurd (omega (arith, m, d, power.1, below, h, some))
   ];
 }
 
--- a power of two below 2^64 has a small exponent
-power_below : (k : ℕ) → 2 ^ k < 2 ^ 64 → k < 64
-power_below k lt = elim (cases_lt k 64) [ inl h ↦ h | inr ge ↦ let m : 2 ^ 64 ≤ 2 ^ k = pow_mono {i = 64} {j = k} ge in absurd (omega arith) ]
+-- a power of two from 2 up to 2^63 is a capacity
+IsCapacity-power : (p : ℕ) → IsPowerOfTwo p → 2 ≤ p → p < 2 ^ 64 → IsCapacity p
+IsCapacity-power p power two below =
+    let k : ℕ = power.0 in
+    let is : p ≡ 2 ^ k = power.1 in
+    let some : 1 ≤ k = elim (cases_lt 0 k) [ inl h ↦ h | inr z ↦ (let o : k ≡ 0 = omega arith in let q = ap (λ n. 2 ^ n) o in absurd (omega (arith, is, q, two))) ] in
+    let top : k < 64 = elim (cases_lt k 64) [ inl h ↦ h | inr ge ↦ (let m : 2 ^ 64 ≤ 2 ^ k = pow_mono ge in absurd (omega (arith, m, below, is))) ] in
+    (k, some, top, is)
 
 -- the next power of two, from 2 on, is a capacity
 pub IsCapacity-from_next : (c p : ℕ) → c ≤ 2 ^ 63 → IsPowerOfTwo p → max c 2 ≤ p → p / 2 < max 1 (max c 2) → IsCapacity p
-IsCapacity-from_next c p small pow lo hi =
-    let k : ℕ = pow.0 in
-    let e : p ≡ 2 ^ k = pow.1 in
-    let two : 2 ≤ p = omega (arith, lo) in
-    let below : p < 2 ^ 64 = omega (arith, hi, small) in
-    let top : k < 64 = power_below k (rw e at below) in
-    let more : 1 ≤ k = elim (cases_lt 0 k) [ inl h ↦ h | inr z ↦ let o : k ≡ 0 = omega arith in let q : p ≡ 1 = e ∙ ap (λ n. 2 ^ n) o in absurd (omega arith) ] in
-    (k, more, top, e)
+IsCapacity-from_next c p small power low high = IsCapacity-power p power (omega (arith, low)) (omega (arith, high, small))
 
 -- the function gives the least power
 pub IsLeastPower-least_power : (n : ℕ) → n ≤ 2 ^ 64 → IsLeastPower n (least_power n)
@@ -122,32 +121,13 @@ IsLeastPower-least_power n small =
       ]);
     }
 
--- what `next_power_of_two` returns, at 0 too
-pub IsLeastPower-up : (n p : ℕ) → IsPowerOfTwo p → n ≤ p → p / 2 < max 1 n → IsLeastPower n p
-IsLeastPower-up n p power enough below = elim (cases_lt 0 n) [
-  | inl some ↦ IsLeastPower-from_next n p some power enough below
-  | inr none ↦ record {
-    power = power;
-    enough = enough;
-    least = λ e _. let one : 0 < 2 ^ e = pow_pos e in omega (arith, one, below, none);
-  }
-]
-
 -- a power of two below 2^64 and a capacity: the greater is a capacity
 pub IsCapacity-max : (p C : ℕ) → IsPowerOfTwo p → p < 2 ^ 64 → IsCapacity C → IsCapacity (max p C)
 IsCapacity-max p C power below cap = elim (cases_lt C p) [
   | inr le ↦ (let e : max p C ≡ C = omega arith in rw e cap)
   | inl more ↦
-      (let e : max p C ≡ p = omega arith in
-      let k : ℕ = power.0 in
-      let is : p ≡ 2 ^ k = power.1 in
-      let two : 2 ≤ C = (let m : 2 ^ 1 ≤ 2 ^ cap.0 = pow_mono cap.1 in let q = cap.3 in omega (arith, m, q)) in
-      let some : 1 ≤ k = elim (cases_lt 0 k) [
-        | inl h ↦ h
-        | inr z ↦ (let o : k ≡ 0 = omega arith in let q : p ≡ 1 = is ∙ ap (λ n. 2 ^ n) o in absurd (omega (arith, q, more, two)))
-      ] in
-      let top : k < 64 = elim (cases_lt k 64) [ inl h ↦ h | inr ge ↦ (let m : 2 ^ 64 ≤ 2 ^ k = pow_mono ge in absurd (omega (arith, m, below, is))) ] in
-      rw e (k, some, top, is))
+      (let e : max p C ≡ p = omega arith in let m : 2 ^ 1 ≤ 2 ^ cap.0 = pow_mono cap.1 in let q = cap.3 in
+      rw e (IsCapacity-power p power (omega (arith, m, q, more)) below))
 ]
 
 -- if a number fits, its least power of two fits

@@ -2,10 +2,11 @@
 use Rattle.std.proofs.Common.{◌≡◌, ◌≢◌, inl, inr, ℕ, ◌+◌, ◌-◌, ◌*◌, ◌/◌, ◌%◌, ◌^◌, ◌<◌, ◌≤◌, true, false, List, length, refl, sym, ap, ◌∙◌, subst, arith, bit_and}
 use Rattle.std.specs.Prelude.{◌⊎◌, nat_lt, ◌==◌, ◌&&◌}
 use Rattle.std.proofs.Math.Pow.{pow_pos, pow_mono}
-use Rattle.std.proofs.Math.Nat.{mul-le-mul_left, div-mul-le_self}
+use Rattle.std.proofs.Math.Nat.{mul-le-mul_left, mul_comm, div-mul-le_self, lt-mul-div-succ}
 use Rattle.std.proofs.lemmas.Nat.{le-div, div_below, pow-add}
 use Rattle.std.proofs.lemmas.Nat.Bits.{and_pow}
-use Rattle.std.proofs.lemmas.Bool.{cases_lt, cases_eq, cases_order, cases_Bool, ltb-false, eq-eqb, ne_eqb, eqb-true, eqb-false}
+use Rattle.std.proofs.lemmas.Bool.{cases_lt, cases_order, cases_Bool, ltb-false, eqb-false}
+use Rattle.std.proofs.lemmas.Bool.Decides.{nat_tests}
 use Rattle.intmap_table.specs.Classes.{IsCapacity}
 use Rattle.intmap_table.proofs.SlotNumberLemmas.{capacity-positive, capacity-greatest}
 use Rattle.intmap.specs.Growth.{IsWanted, IsNext, IsThreshold, MeetsLoad, is_due, last_due, wanted_capacity, NeedsTooMuch}
@@ -35,27 +36,18 @@ pub record IsNear (C n F c : ℕ) : Type 0 where
   pub capacity : IsCapacity c
   pub least : (i : ℕ) → C * 2 ^ i < c → F < n * 1000 / (C * 2 ^ i)
 
-double : (j : ℕ) → 2 ^ (j + 1) ≡ 2 ^ j * 2
-double j = pow-add 2 j 1
+-- a later doubling is twice an earlier one at least
+doubled-less : (C i j : ℕ) → i < j → C * 2 ^ i * 2 ≤ C * 2 ^ j
+doubled-less C i j less =
+    let m : C * 2 ^ (i + 1) ≤ C * 2 ^ j = mul-le-mul_left C (pow_mono (let z : i + 1 ≤ j = omega (arith, less) in z)) in
+    let p : 2 ^ (i + 1) ≡ 2 ^ i * 2 = pow-add 2 i 1 in omega (arith, m, ap (λ x. C * x) p)
 
 -- of the doublings of C none lies between c and 2 c
 same_doubling : (C c i j : ℕ) → 0 < C → c ≡ C * 2 ^ j → c ≤ C * 2 ^ i → C * 2 ^ i < c * 2 → C * 2 ^ i ≡ c
 same_doubling C c i j some is low high = elim (cases_order i j) [
   | inl q ↦ ap (λ x. C * 2 ^ x) q ∙ sym is
-  | inr o ↦ elim o [
-    | inl w ↦
-        (let d : 2 ^ (i + 1) ≤ 2 ^ j = pow_mono (let z : i + 1 ≤ j = omega (arith, w) in z) in
-        let m : C * 2 ^ (i + 1) ≤ C * 2 ^ j = mul-le-mul_left C d in
-        let p : 2 ^ (i + 1) ≡ 2 ^ i * 2 = double i in
-        let u : 0 < 2 ^ i = pow_pos i in
-        let v : C * 1 ≤ C * 2 ^ i = mul-le-mul_left C u in
-        absurd (omega (arith, m, is, low, some, v, ap (λ x. C * x) p)))
-    | inr w ↦
-        (let d : 2 ^ (j + 1) ≤ 2 ^ i = pow_mono (let z : j + 1 ≤ i = omega (arith, w) in z) in
-        let m : C * 2 ^ (j + 1) ≤ C * 2 ^ i = mul-le-mul_left C d in
-        let p : 2 ^ (j + 1) ≡ 2 ^ j * 2 = double j in
-        absurd (omega (arith, m, is, high, ap (λ x. C * x) p)))
-  ]
+  | inr (inl w) ↦ (let m = doubled-less C i j w in let v : C * 1 ≤ C * 2 ^ i = mul-le-mul_left C (pow_pos i) in absurd (omega (arith, m, is, low, some, v)))
+  | inr (inr w) ↦ (let m = doubled-less C j i w in absurd (omega (arith, m, is, high)))
 ]
 
 pub IsNear-more : (C n F c : ℕ) → IsCapacity C → IsNear C n F c → (F + 1) * c ≤ n * 1000 → c ≢ 2 ^ 63 → IsNear C n F (c * 2)
@@ -68,8 +60,8 @@ IsNear-more C n F c cap near over apart =
     ] in
     let one = near.capacity.1 in
     record {
-      doubled = (j + 1, rw double (ap (λ x. x * 2) near.doubled.1 ∙ omega arith));
-      capacity = (e + 1, omega (arith, one), omega (arith, below), rw double (ap (λ x. x * 2) near.capacity.3));
+      doubled = (j + 1, rw (pow-add 2 j 1) (ap (λ x. x * 2) near.doubled.1 ∙ omega arith));
+      capacity = (e + 1, omega (arith, one), omega (arith, below), rw (pow-add 2 e 1) (ap (λ x. x * 2) near.capacity.3));
       least = λ i less. elim (cases_lt (C * 2 ^ i) c) [
         | inl w ↦ near.least i w
         | inr ge ↦
@@ -101,20 +93,16 @@ IsNear-none C n F c cap fits near over top =
       ],
     )
 
--- a wanted capacity up to 2^63 leaves none above it to be wanted
+-- of capacities of which one is needed, one up to 2^63 leaves none above it to be needed
+not_needed : (needs : ℕ → Type 0) → ((D E : ℕ) → needs D → needs E → D ≡ E) → (D : ℕ) → needs D → D ≤ 2 ^ 63 → NeedsTooMuch needs → ⊥
+not_needed needs unique D need le much = let same = unique D much.0 need much.1 in let above = much.2 in omega (arith, same, le, above)
+
 pub not_too_much : (C n F D : ℕ) → IsWanted C n F D → D ≤ 2 ^ 63 → NeedsTooMuch (IsWanted C n F) → ⊥
-not_too_much C n F D wanted le much =
-    let same : D ≡ much.0 = IsWanted-unique C n F D much.0 wanted much.1 in
-    let above = much.2 in omega (arith, same, le, above)
+not_too_much C n F D wanted le much = not_needed (IsWanted C n F) (IsWanted-unique C n F) D wanted le much
 
 -- the bit of value four says whether growth is tested
 pub bit_and-four : (n : ℕ) → (bit_and n 4 == 4) ≡ is_due n
-bit_and-four n =
-    let a : bit_and n 4 ≡ n / 4 % 2 * 4 = and_pow n 2 in
-    elim (cases_eq (n / 4 % 2) 1) [
-      | inl e ↦ eq-eqb (bit_and n 4) 4 (omega (arith, a, e)) ∙ sym (eq-eqb (n / 4 % 2) 1 e)
-      | inr apart ↦ ne_eqb (bit_and n 4) 4 (λ q. apart (omega (arith, a, q))) ∙ sym (ne_eqb (n / 4 % 2) 1 apart)
-    ]
+bit_and-four n = let a : bit_and n 4 ≡ n / 4 % 2 * 4 = and_pow n 2 in grind (arith, nat_tests, a)
 
 -- if C meets the load, it is what is wanted
 pub IsWanted-same : (C n F : ℕ) → IsCapacity C → MeetsLoad C n F → IsWanted C n F C
@@ -161,31 +149,14 @@ IsNext-wanted C F n D due wanted = rw due wanted
 
 -- a number at which growth is tested is at most the last such number
 pub last_due-most : (m n : ℕ) → m ≤ n → is_due m ≡ true → m ≤ last_due n
-last_due-most m n le due = elim (cases_Bool (is_due n)) [
-  | inl t ↦ rw t le
-  | inr f ↦
-      (let a : m / 4 % 2 ≡ 1 = eqb-true (m / 4 % 2) 1 due in
-      let b = eqb-false (n / 4 % 2) 1 f in
-      rw f (omega (arith, le, a, b)))
-]
+last_due-most m n le due = grind (arith, nat_tests, due, le)
 
 -- and growth is tested there
 pub last_due-is_due : (n : ℕ) → 4 ≤ n → is_due (last_due n) ≡ true
-last_due-is_due n some = elim (cases_Bool (is_due n)) [
-  | inl t ↦ rw t t
-  | inr f ↦
-      (let b = eqb-false (n / 4 % 2) 1 f in
-      rw f (eq-eqb ((n - (n % 4 + 1)) / 4 % 2) 1 (omega (arith, some, b))))
-]
+last_due-is_due n some = grind (arith, nat_tests, some)
 
 pub last_due-le : (n : ℕ) → last_due n ≤ n
-last_due-le n = elim (cases_Bool (is_due n)) [ inl t ↦ rw t (omega arith) | inr f ↦ rw f (omega arith) ]
-
-below_next : (x C : ℕ) → 0 < C → x < (x / C + 1) * C
-below_next x C some = elim (cases_lt x ((x / C + 1) * C)) [
-  | inl lt ↦ lt
-  | inr ge ↦ (let q = le-div (x / C + 1) x C some ge in absurd (omega (arith, q)))
-]
+last_due-le n = grind arith
 
 -- the load of the type: the last length up to n at which growth was tested meets it
 abbrev pub IsLoaded : ℕ → ℕ → ℕ → Type 0
@@ -222,7 +193,7 @@ pub IsLoaded-larger : (C D n F : ℕ) → 0 < C → C ≤ D → IsLoaded C n F �
 IsLoaded-larger C D n F some le loaded four =
     let m : ℕ = last_due n in
     let meets = loaded four in
-    let up : m * 1000 < (m * 1000 / C + 1) * C = below_next (m * 1000) C some in
+    let up : m * 1000 < (m * 1000 / C + 1) * C = rw (mul_comm (m * 1000 / C + 1) C) (lt-mul-div-succ (m * 1000) some) in
     let wide : (m * 1000 / C + 1) * C ≤ (m * 1000 / C + 1) * D = mul-le-mul_left (m * 1000 / C + 1) le in
     let q : m * 1000 / D < m * 1000 / C + 1 = div_below (m * 1000) D (m * 1000 / C + 1) (omega (arith, some, le)) (omega (arith, up, wide)) in
     omega (arith, q, meets)
@@ -233,9 +204,7 @@ IsNext-changes C n F D over meets same = let m : MeetsLoad C n F = subst (λ c. 
 
 -- within the threshold no more than 2^63 slots are asked for
 pub NeedsTooMuch-none : (C n F D : ℕ) → IsCapacity D → IsNext C n F D → NeedsTooMuch (IsNext C n F) → ⊥
-NeedsTooMuch-none C n F D cap next much =
-    let same : D ≡ much.0 = IsNext-unique C n F D much.0 next much.1 in
-    let top = capacity-greatest D cap in let above = much.2 in omega (arith, same, top, above)
+NeedsTooMuch-none C n F D cap next much = not_needed (IsNext C n F) (IsNext-unique C n F) D next (capacity-greatest D cap) much
 
 -- if growth is tested, needing too much is growing too much
 pub NeedsTooMuch-wanted : (C n F : ℕ) → is_due n ≡ true → NeedsTooMuch (IsWanted C n F) → NeedsTooMuch (IsNext C n F)
