@@ -37,3 +37,5 @@ pub mod InsertionLemmas
 pub mod LendMapLemmas
 pub mod CountLemmas
 pub mod SumLemmas
+pub mod UpdateSumLemmas
+pub mod PutBackLemmas

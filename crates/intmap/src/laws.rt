@@ -3,7 +3,7 @@
 //!
 //! A call such as `laws::small_keys_are_found_at_once::<u64, V>();` adds its law to the proof of
 //! the function that contains the call.
-ghost use Rattle.std.specs.Prelude.{◌≡◌, ◌+◌, ◌^◌, ◌<◌, ◌≤◌, ◌↔◌, ℕ, List, ◌∷◌, ◌++◌, All, IsTrue, cond, is_some, length, sum, unwrap_or, Some, None, false};
+ghost use Rattle.std.specs.Prelude.{◌≡◌, ◌+◌, ◌^◌, ◌<◌, ◌≤◌, ◌↔◌, ℕ, List, ◌∷◌, ◌++◌, Option, All, IsTrue, cond, is_none, is_some, length, sum, unwrap_or, Some, None, false};
 ghost use Rattle.std.specs.Map.{values_of};
 ghost use Rattle.intmap_table.specs.Classes.{IsCapacity};
 ghost use Rattle.intmap_table.specs.Bindings.{value_of, IsPresent, take_key, put_pair, write_value, HasDistinctKeys, Updates, BindSame};
@@ -11,17 +11,21 @@ ghost use Rattle.intmap_table.specs.Walk.{walk_of};
 ghost use Rattle.intmap_table.specs.Reach.{reach, class_size};
 ghost use Rattle.intmap_table.specs.Figures.{load_of};
 ghost use Rattle.intmap.specs.Growth.{IsWanted, IsNext, MeetsLoad, NeedsTooMuch};
-ghost use Rattle.intmap.specs.Map.{MapState, IsCapacityAfter, IsLone};
+ghost use Rattle.intmap.specs.Entries.{entry_map, entry_key, map_with_value};
+ghost use Rattle.intmap.specs.Insertions.{IsInsertion};
+ghost use Rattle.intmap.specs.Map.{MapState, IsCapacityAfter, IsLone, IsMap, after_remove};
 ghost use Rattle.intmap.specs.Equality.{maps_equal};
 ghost use Rattle.intmap.specs.PlainLists.{PlainList, RefusalIsDue, list_of};
 ghost use Rattle.intmap.specs.Extending.{IsExtended};
 ghost use Rattle.intmap.specs.Room.{HasRoomFor};
 ghost use Rattle.intmap.specs.Json.{Shows, BindSameTrees};
+ghost use Rattle.intmap.specs.declared.entry.Entry.{Entry};
 ghost use Rattle.intmap.specs.declared.refusal.Cause.{Cause};
 ghost use Rattle.serde_json.specs.Data.{Data};
 ghost use Rattle.serde_json.specs.declared.value.Value.{Value};
 
 use intmap_table::IntKey;
+use std::alloc::Allocator;
 
 /// In the walk of a list, each key has the value that it has in the list.
 pub fn walks_bind_as_lists<K: IntKey, V>()
@@ -99,6 +103,51 @@ pub fn writing_changes_sum<K: IntKey>()
     ensures { (L : List (K × ℕ)) (k : K) (a v : ℕ) → HasDistinctKeys K.number_of L
         → value_of K.number_of L k ≡ Some a
         → sum (values_of (write_value K.number_of L k v)) + a ≡ sum (values_of L) + v }
+{}
+
+/// An insertion raises the sum of all values by the new value, and lowers it by the value that the
+/// key had, if it was present. `inserted` of `insert` is such an insertion.
+pub fn insertions_change_sum<K: IntKey>()
+    ensures { (m n : MapState K ℕ) (k : K) (v : ℕ) → IsMap K.number_of K.is_valid m
+        → IsInsertion K.number_of K.is_valid m k v n
+        → sum (values_of n.walk) + unwrap_or (value_of K.number_of m.walk k) 0
+        ≡ sum (values_of m.walk) + v }
+{}
+
+/// An insertion that leaves the value of a present key raises the sum of all values by the value of
+/// a new key. `inserted` of `insert_checked` is such an insertion.
+pub fn checked_insertions_change_sum<K: IntKey>()
+    ensures { (m n : MapState K ℕ) (k : K) (v : ℕ) → IsMap K.number_of K.is_valid m
+        → IsInsertion K.number_of K.is_valid m k (unwrap_or (value_of K.number_of m.walk k) v) n
+        → sum (values_of n.walk)
+        ≡ sum (values_of m.walk) + cond (is_none (value_of K.number_of m.walk k)) v 0 }
+{}
+
+/// The value that is written last through the reference of an entry changes the sum of all values
+/// as its insertion does.
+pub fn entries_change_sum<K: IntKey, A: Allocator + Copy>()
+    ensures { (entry : Entry K ℕ A K.IntKey.own K.PartialEq) (v : ℕ)
+        → IsMap K.number_of K.is_valid (entry_map entry)
+        → IsInsertion K.number_of K.is_valid (entry_map entry) (entry_key entry) v
+        (map_with_value entry v)
+        → sum (values_of (map_with_value entry v).walk)
+        + unwrap_or (value_of K.number_of (entry_map entry).walk (entry_key entry)) 0
+        ≡ sum (values_of (entry_map entry).walk) + v }
+{}
+
+/// Once a key has another value, or none, the sum of all values is higher by the new value and
+/// lower by the old one. So it is after every call of which `updates` is a clause.
+pub fn updates_change_sum<K: IntKey>()
+    ensures { (L M : List (K × ℕ)) (k : K) (w : Option ℕ) → HasDistinctKeys K.number_of L
+        → HasDistinctKeys K.number_of M → Updates K.number_of L M k w
+        → sum (values_of M) + unwrap_or (value_of K.number_of L k) 0
+        ≡ sum (values_of L) + unwrap_or w 0 }
+{}
+
+/// The value of a key is at most the sum of all values.
+pub fn values_are_within_sum<K: IntKey>()
+    ensures { (L : List (K × ℕ)) (k : K)
+        → unwrap_or (value_of K.number_of L k) 0 ≤ sum (values_of L) }
 {}
 
 /// No insertion lowers the capacity.
@@ -181,6 +230,19 @@ pub fn small_distinct_keys_share_no_slot<K: IntKey, V>()
     ensures { (L : List (K × V)) (C : ℕ) (ps : List (K × V))
         → HasDistinctKeys K.number_of (L ++ ps) → All (λ p. K.number_of p.0 < C) (L ++ ps)
         → All (λ p. class_size K.number_of (L ++ ps) C p.0 ≡ 1) ps }
+{}
+
+/// A removed pair goes in again if no other shares its slot, whatever the length: a map that became
+/// shorter doesn't grow at a length that it had.
+pub fn put_backs_are_never_refused<K: IntKey, V>()
+    ensures shorter { (m n : MapState K V) (k : K) → IsMap K.number_of K.is_valid m
+        → length n.walk < length m.walk → n.capacity ≡ m.capacity → n.factor ≡ m.factor
+        → class_size K.number_of n.walk n.capacity k ≡ 0
+        → IsLone K.number_of n.walk n.capacity n.factor k }
+    ensures removed { (m n : MapState K V) (k : K) (v : V) → IsMap K.number_of K.is_valid m
+        → n ≡ after_remove K.number_of m k → value_of K.number_of m.walk k ≡ Some v
+        → class_size K.number_of m.walk m.capacity k ≡ 1
+        → IsLone K.number_of n.walk n.capacity n.factor k }
 {}
 
 /// If every key with a number of at least `n` is absent, the numbers of all keys are below `n`.
