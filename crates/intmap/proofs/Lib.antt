@@ -39,3 +39,4 @@ pub mod CountLemmas
 pub mod SumLemmas
 pub mod UpdateSumLemmas
 pub mod PutBackLemmas
+pub mod AnsweringLemmas

@@ -16,6 +16,7 @@ pub mod Map
 pub mod PlainLists
 pub mod Insertions
 pub mod Room
+pub mod Answering
 pub mod Laws
 pub mod Lending
 pub mod Entries

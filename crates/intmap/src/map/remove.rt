@@ -1,5 +1,5 @@
 //! Removals.
-ghost use Rattle.std.specs.Prelude.{◌≡◌, ◌+◌, None, IfSome, MatchOption, cond, is_some, length, ◌⊎◌, ◌≤◌};
+ghost use Rattle.std.specs.Prelude.{◌≡◌, ◌+◌, Bool, None, Some, IfSome, MatchOption, cond, filter, is_some, length, ◌⊎◌, ◌≤◌};
 ghost use Rattle.std.specs.Option.{option_map};
 ghost use Rattle.std.specs.Iterator.{YieldsFirst};
 ghost use Rattle.intmap_table.specs.Bindings.{value_of, Updates};
@@ -9,6 +9,7 @@ ghost use Rattle.intmap_table.specs.Walk.{ArePassed};
 ghost use Rattle.intmap.specs.Map.{with_walk};
 ghost use Rattle.intmap_table.specs.Retaining.{KeepsAt, Retains, TakesPair};
 ghost use Rattle.intmap_table.specs.Taking.{TakesEach};
+ghost use Rattle.intmap.specs.Answering.{AnswersKey, AnswersPair, TestsPairs};
 
 use crate::map::IntMap;
 use intmap_table::IntKey;
@@ -135,12 +136,24 @@ impl<K: IntKey, V: Drop, A: Allocator + Copy> IntMap<K, V, A> {
     /// ```
     pub fn retain<F: FnMut(K, &V) -> bool>(&mut self, f: F)
         requires { TakesEach (KeepsAt F.FnMut) (TakesPair F.FnMut) f self.old.walk }
+        // what stays if the closure answers alike in each call; the search reads these in this order
+        ensures by_pair { (q : K) (v : V) (b : Bool) → AnswersPair F.FnMut f K.number_of q v b
+            → value_of K.number_of self.old.walk q ≡ Some v
+            → value_of K.number_of self.new.walk q ≡ cond b (Some v) None }
+        ensures by_key { (q : K) (b : Bool) → AnswersKey {V = V} F.FnMut f K.number_of q b
+            → value_of K.number_of self.new.walk q
+            ≡ cond b (value_of K.number_of self.old.walk q) None }
+        ensures filtered { (test : K × V → Bool) → TestsPairs F.FnMut f test
+            → self.new.walk ≡ filter test self.old.walk }
+
+        // what stays of any closure
         ensures pairs { (last : F) × Retains (KeepsAt F.FnMut) f self.old.walk self.new.walk last }
         ensures state { self.new ≡ record self.old { walk = self.new.walk } }
         ensures updates { (q : K)
             → (value_of K.number_of self.new.walk q ≡ value_of K.number_of self.old.walk q)
             ⊎ (value_of K.number_of self.new.walk q ≡ None) }
         ensures len { length self.new.walk ≤ length self.old.walk }
+
         ensures valid { IsMap K.number_of K.is_valid self.old }
         ensures valid_after { IsMap K.number_of K.is_valid self.new }
     {

@@ -1,8 +1,9 @@
-use Rattle.std.proofs.Common.{◌∙◌, sym, subst}
+use Rattle.std.proofs.Common.{◌∙◌, refl, sym, subst}
 use Rattle.intmap.specs.Map.{MapState}
 use Rattle.intmap_table.specs.Taking.{TakesEach}
 use Rattle.intmap_table.specs.Writes.{WritesAt, TakesPairMut}
 use Rattle.intmap_table.proofs.WritesLemmas.{keys_of-Writes, is_some-Writes, length-Writes}
+use Rattle.intmap.proofs.AnsweringLemmas.{Writes-made}
 use Rattle.intmap.proofs.SameKeysLemmas.{IsConsistent-same_keys}
 use Rattle.intmap.proofs.map.IntMap.for_each_mut.Goals as goal
 
@@ -10,6 +11,9 @@ pub invariant_of-self : goal.invariant_of-self
 invariant_of-self g c =
     let left = c.write_each.ensures in
     rw left.capacity (IsConsistent-same_keys g.K.IntKey.number_of g.K.IntKey.is_valid c.self.inside.table.walk c.write_each.new.self.walk _ _ _ _ (sym (keys_of-Writes (WritesAt g.F.FnMut) _ _ _ _ left.pairs)) c.self.invariant)
+
+pub returns-clause-mapped : goal.returns-clause-mapped
+returns-clause-mapped g c made each = rw (← c.self.view_is) (Writes-made (WritesAt g.F.FnMut) c.args.f made each _ _ _ _ refl c.write_each.ensures.pairs)
 
 pub returns-clause-keys : goal.returns-clause-keys
 returns-clause-keys g c = rw (← c.self.view_is) (keys_of-Writes (WritesAt g.F.FnMut) _ _ _ _ c.write_each.ensures.pairs)

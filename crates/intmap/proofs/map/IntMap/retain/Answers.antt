@@ -1,6 +1,7 @@
 use Rattle.std.proofs.Common.{length, refl}
 use Rattle.intmap_table.specs.Retaining.{KeepsAt}
 use Rattle.intmap_table.proofs.RetainLemmas.{length-Retains}
+use Rattle.intmap.proofs.AnsweringLemmas.{Retains-tested, value_of-answered_key, value_of-answered_pair}
 use Rattle.intmap.proofs.RetainLemmas.{value_of-Retains, IsConsistent-Retains}
 use Rattle.intmap.proofs.map.IntMap.retain.Goals as goal
 
@@ -9,6 +10,17 @@ invariant_of-self g c =
     let kept = c.retain-self-inside.ensures in
     IsConsistent-Retains g.K.IntKey.number_of g.K.IntKey.is_valid (KeepsAt g.F.FnMut) c.args.f c.retain-self-inside.new.f c.self.inside.table.walk c.retain-self-inside.new.self.walk _ _ _ _ _ _
     kept.pairs kept.capacity kept.own kept.count c.self.invariant
+
+pub returns-clause-by_pair : goal.returns-clause-by_pair
+returns-clause-by_pair g c q v b each is =
+    value_of-answered_pair g.K.IntKey.number_of (KeepsAt g.F.FnMut) c.args.f q v b each _ _ _ c.retain-self-inside.ensures.pairs c.self.invariant.map.distinct (rw (← c.self.view_is) at is)
+
+pub returns-clause-by_key : goal.returns-clause-by_key
+returns-clause-by_key g c q b each =
+    rw (← c.self.view_is) (value_of-answered_key g.K.IntKey.number_of (KeepsAt g.F.FnMut) c.args.f q b each _ _ _ c.retain-self-inside.ensures.pairs c.self.invariant.map.distinct)
+
+pub returns-clause-filtered : goal.returns-clause-filtered
+returns-clause-filtered g c test each = rw (← c.self.view_is) (Retains-tested (KeepsAt g.F.FnMut) c.args.f test each _ _ _ c.retain-self-inside.ensures.pairs)
 
 pub returns-clause-updates : goal.returns-clause-updates
 returns-clause-updates g c q =
