@@ -37,6 +37,16 @@ module _ {K V : Type 0} (number : K → ℕ) where
       let same = value_of-same_number number L k p.0 in
       grind (arith, nat_tests, here, later, there, same)
 
+  -- no more keys are new than there are pairs
+  pub length-new_keys : (L ps : List (K × V)) → length (new_keys number L ps) ≤ length ps
+  length-new_keys L [] = omega arith
+  length-new_keys L (p ∷ ps) = by_case (is_some (value_of number L p.0)) refl (length-new_keys L ps) (length-new_keys (p ∷ L) ps)
+    where
+      by_case : (b : Bool) → is_some (value_of number L p.0) ≡ b → length (new_keys number L ps) ≤ length ps → length (new_keys number (p ∷ L) ps) ≤ length ps
+          → length (new_keys number L (p ∷ ps)) ≤ length (p ∷ ps)
+      by_case true is rest more = rw is (omega (arith, rest))
+      by_case false is rest more = rw is (omega (arith, more))
+
 module _ {K V : Type 0} (number : K → ℕ) (is_valid : K → Type 0) where
   -- one accepted insertion more
   pub MapInsertsAll-push : (m l n : MapState K V) (ps : List (K × V)) (k : K) (v : V) → MapInsertsAll number is_valid m ps l → MapInserts number is_valid l k v n
@@ -69,6 +79,11 @@ module _ {K V : Type 0} (number : K → ℕ) (is_valid : K → Type 0) where
           let start = before.capacity in
           omega (arith, kept, start));
     }
+
+-- nothing stands behind what is found
+pub option_or-none : {T : Type 0} (o : Option T) → option_or o None ≡ o
+option_or-none None = refl
+option_or-none (Some t) = refl
 
 -- a result that fails with a cause that meets R fails with one that meets what follows of R
 pub MatchResult-refused : {T : Type 0} (r : Result T Cause) (R P : Cause → Type 0) (Q : T → Type 0) → IsErrAnd r R → ((cause : Cause) → R cause → P cause) → MatchResult r Q P

@@ -40,3 +40,4 @@ pub mod SumLemmas
 pub mod UpdateSumLemmas
 pub mod PutBackLemmas
 pub mod AnsweringLemmas
+pub mod IteratingLemmas

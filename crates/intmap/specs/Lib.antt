@@ -21,6 +21,7 @@ pub mod Laws
 pub mod Lending
 pub mod Entries
 pub mod Draining
+pub mod Iterating
 pub mod Extracting
 pub mod Extending
 pub mod Cloning

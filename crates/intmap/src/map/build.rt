@@ -1,10 +1,12 @@
 //! New maps, and insertion of many pairs.
-ghost use Rattle.std.specs.Prelude.{◌≡◌, ◌↔◌, ◌^◌, ◌<◌, ◌⊎◌, max, IfOk, IfErr, Err, ℕ, ◌≤◌, OnOk, MatchResult, reverse};
+ghost use Rattle.std.specs.Prelude.{◌≡◌, ◌↔◌, ◌+◌, ◌^◌, ◌<◌, ◌⊎◌, max, length, IfOk, IfErr, Err, ℕ, ◌≤◌, OnOk, MatchResult, reverse};
+ghost use Rattle.std.specs.Option.{option_or};
 ghost use Rattle.intmap_table.specs.Bindings.{value_of};
 ghost use Rattle.intmap_table.specs.Classes.{IsCapacity};
 ghost use Rattle.intmap.specs.Growth.{IsLeastPower};
 ghost use Rattle.intmap.specs.Map.{IsMap, empty_map, first_capacity, least_capacity};
 ghost use Rattle.std.specs.Iterator.{IsFinite, size};
+ghost use Rattle.std.specs.Iterator.Runs.{WholeRun};
 ghost use Rattle.intmap.specs.Extending.{Extends, ExtendsUpTo, Collects, MayRefuseToCollect, IsCollected, LeavesRange};
 
 use crate::load::{GREATEST_CAPACITY, threshold_of};
@@ -105,6 +107,12 @@ impl<K: IntKey, V: Drop, A: Allocator + Copy> IntMap<K, V, A> {
         requires ends { IsFinite (I.remaining iter) }
         ensures extends { OnOk result
             (Extends K.number_of K.is_valid I.next_gives iter self.old self.new) }
+        ensures runs { OnOk result (WholeRun I.next_gives iter (λ run. (q : K)
+            → value_of K.number_of self.new.walk q
+            ≡ option_or (value_of K.number_of (reverse run.items) q)
+            (value_of K.number_of self.old.walk q))) }
+        ensures len { OnOk result
+            (length self.new.walk ≤ length self.old.walk + size (I.remaining iter)) }
         ensures stops { IfErr result (λ refused.
             ExtendsUpTo K.number_of K.is_valid I.next_gives iter self.old refused self.new) }
         ensures valid { IsMap K.number_of K.is_valid self.old }
@@ -146,6 +154,9 @@ impl<K: IntKey, V: Drop, A: Allocator + Copy> IntMap<K, V, A> {
         ensures collects { (b : ℕ) × (b ≤ size (I.remaining iter)) × MatchResult result
             (λ made. Collects K.number_of K.is_valid I.next_gives iter b made)
             (λ cause. MayRefuseToCollect {V = V} K.number_of K.is_valid I.next_gives iter b cause) }
+        ensures runs { IfOk result (λ made. WholeRun I.next_gives iter (λ run. (q : K)
+            → value_of K.number_of made.walk q ≡ value_of K.number_of (reverse run.items) q)) }
+        ensures len { IfOk result (λ made. length made.walk ≤ size (I.remaining iter)) }
         ensures valid { IfOk result (IsMap K.number_of K.is_valid) }
     {
         let (lower, _) = iter.size_hint();
@@ -174,6 +185,7 @@ impl<K: IntKey, V: Drop, A: Allocator + Copy> IntMap<K, V, A> {
         ensures collects { IfOk result (IsCollected K.number_of K.is_valid N pairs) }
         ensures updates { IfOk result (λ made. (q : K) → value_of K.number_of made.walk q
             ≡ value_of K.number_of (reverse pairs) q) }
+        ensures len { IfOk result (λ made. length made.walk ≤ N) }
         ensures too_large { IfErr result (λ cause. cause ≡ Cause.TooLarge
             → (2 ^ 63 < N) ⊎ LeavesRange K.number_of K.is_valid N pairs) }
         ensures valid { IfOk result (IsMap K.number_of K.is_valid) }

@@ -3,6 +3,7 @@
 ghost use Rattle.std.specs.Iterator.{YieldsFirstBy, item_count};
 ghost use Rattle.std.specs.Prelude.{◌≡◌};
 ghost use Rattle.std.specs.Map.{keys_of, values_of};
+ghost use Rattle.intmap.specs.Iterating.{ShowsEach, shown, shown_pair};
 ghost use Rattle.intmap.specs.Map.{IsMap};
 
 mod cursor;
@@ -130,6 +131,7 @@ impl<K: IntKey, V, A: Allocator + Copy> IntMap<K, V, A> {
     /// ```
     pub fn iter(&self) -> Iter<'_, K, V, A>
         ensures walk { result ≡ self.now.walk }
+        ensures runs { ShowsEach (shown_pair {K = K} {V = V}) }
         ensures valid { IsMap K.number_of K.is_valid self.now }
     {
         Iter {
@@ -141,6 +143,7 @@ impl<K: IntKey, V, A: Allocator + Copy> IntMap<K, V, A> {
     /// the iterator fails.
     pub fn keys(&self) -> Keys<'_, K, V, A>
         ensures walk { result ≡ keys_of self.now.walk }
+        ensures runs { ShowsEach (shown {X = K}) }
         ensures valid { IsMap K.number_of K.is_valid self.now }
     {
         Keys { pairs: self.iter() }
@@ -150,6 +153,7 @@ impl<K: IntKey, V, A: Allocator + Copy> IntMap<K, V, A> {
     /// of the iterator fails.
     pub fn values(&self) -> Values<'_, K, V, A>
         ensures walk { result ≡ values_of self.now.walk }
+        ensures runs { ShowsEach (shown {X = V}) }
         ensures valid { IsMap K.number_of K.is_valid self.now }
     {
         Values { pairs: self.iter() }

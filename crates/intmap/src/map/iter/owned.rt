@@ -2,6 +2,7 @@
 ghost use Rattle.std.specs.Iterator.{YieldsFirst, item_count};
 ghost use Rattle.std.specs.Prelude.{◌≡◌};
 ghost use Rattle.std.specs.Map.{keys_of, values_of};
+ghost use Rattle.intmap.specs.Iterating.{GivesEach};
 ghost use Rattle.intmap.specs.Map.{IsMap};
 
 use crate::map::IntMap;
@@ -107,7 +108,10 @@ impl<K: IntKey, V: Drop, A: Allocator + Copy> IntoIterator for IntMap<K, V, A> {
     /// An iterator over the pairs by value, in iteration order. Neither this call nor a step of the
     /// iterator fails. The pairs of a slot are taken out together, so the time of a step doesn't depend
     /// on how many share a slot. Dropping the iterator drops the pairs that are left.
-    fn into_iter(self) -> IntoIter<K, V, A> {
+    fn into_iter(self) -> IntoIter<K, V, A>
+        ensures into_iter_gives { result ≡ self.walk }
+        ensures runs { GivesEach (K × V) }
+    {
         IntoIter {
             pairs: self.table.into_pairs(),
         }
@@ -125,6 +129,7 @@ impl<K: IntKey, V: Drop, A: Allocator + Copy> IntMap<K, V, A> {
     /// ```
     pub fn into_keys(self) -> IntoKeys<K, V, A>
         ensures walk { result ≡ keys_of self.walk }
+        ensures runs { GivesEach K }
         ensures valid { IsMap K.number_of K.is_valid self }
     {
         self.known();
@@ -143,6 +148,7 @@ impl<K: IntKey, V: Drop, A: Allocator + Copy> IntMap<K, V, A> {
     /// ```
     pub fn into_values(self) -> IntoValues<K, V, A>
         ensures walk { result ≡ values_of self.walk }
+        ensures runs { GivesEach V }
         ensures valid { IsMap K.number_of K.is_valid self }
     {
         self.known();

@@ -1,13 +1,14 @@
 -- The pairs of an iterator are inserted one after another, and an induction over them is beyond the search.
 use Rattle.std.proofs.Common.{Some, refl, sym, subst, arith, rules}
 use Rattle.std.specs.Iterator.{Yields}
+use Rattle.std.proofs.iter.runs.Consumers.{total_runs}
 use Rattle.std.proofs.lemmas.List.{length_push}
 use Rattle.intmap.specs.Extending.{MapInserts}
-use Rattle.intmap.proofs.ExtendLemmas.{IsExtended-nil, IsExtended-push}
+use Rattle.intmap.proofs.ExtendLemmas.{IsExtended-nil, IsExtended-push, length-new_keys}
 use Rattle.intmap.proofs.map.IntMap.extend.Goals as goal
 
 pub loop-key-init : goal.loop-key-init
-loop-key-init g c = (search rules, IsExtended-nil g.K.IntKey.number_of g.K.IntKey.is_valid c.args.self.now, refl, c.known.ensures.valid, c.known.ensures.valid)
+loop-key-init g c = (search rules, IsExtended-nil g.K.IntKey.number_of g.K.IntKey.is_valid c.args.self.now, refl, c.known.ensures.valid, c.known.ensures.valid, search (arith, rules))
 
 pub loop-key-preserved : goal.loop-key-preserved
 loop-key-preserved g c =
@@ -21,6 +22,7 @@ loop-key-preserved g c =
       omega (arith, c.saturating_add-applied.ensures, kept.2, length_push c.loop-key.yielded (c.in-Some.key, c.in-Some.value)),
       c.insert.ensures.valid_after,
       kept.4,
+      (let goes = c.in-Some.ensures.goes.on kept.0.1 in let more = length_push c.loop-key.yielded (c.in-Some.key, c.in-Some.value) in omega (arith, goes, more, kept.5)),
     )
 
 pub returns-in-Err-clause-stops : goal.returns-in-Err-clause-stops
@@ -59,3 +61,14 @@ returns-clause-extends g c =
       );
       extended = c.loop-key.invariant.1;
     }
+
+pub returns-clause-runs : goal.returns-clause-runs
+returns-clause-runs g c =
+    let all = returns-clause-extends g c in
+    total_runs g.I.Iterator.next_gives c.args.iter (Unit {0}) _ (all.pairs, λ _. all.came, all.extended.updates) tt
+
+pub returns-clause-len : goal.returns-clause-len
+returns-clause-len g c =
+    let kept = c.loop-key.invariant in
+    let few = length-new_keys g.K.IntKey.number_of c.args.self.now.walk c.loop-key.yielded in
+    omega (arith, kept.1.len, few, kept.5)

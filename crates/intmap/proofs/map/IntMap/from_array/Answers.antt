@@ -1,12 +1,11 @@
-use Rattle.std.proofs.Common.{◌≡◌, List, Option, Some, None, inr, refl, sym, ◌∙◌, subst}
+use Rattle.std.proofs.Common.{◌≡◌, List, Some, inr, refl, sym, ◌∙◌, subst}
 use Rattle.std.specs.Prelude.{reverse}
-use Rattle.std.specs.Option.{option_or}
 use Rattle.intmap_table.specs.Bindings.{value_of}
 use Rattle.std.proofs.IntoIterSteps.{All-taken}
 use Rattle.std.specs.Vec.Iter.{into_iter_items}
 use Rattle.intmap.specs.Extending.{IsCollected, IsExtended}
 use Rattle.intmap.specs.Map.{MapState}
-use Rattle.intmap.proofs.ExtendLemmas.{items-yielded_then}
+use Rattle.intmap.proofs.ExtendLemmas.{items-yielded_then, option_or-none}
 use Rattle.intmap.proofs.map.IntMap.from_array.Goals as goal
 use Rattle.intmap.proofs.map.IntMap.from_array.Goals.{After-into_iter, In-Ok-extend}
 
@@ -25,11 +24,6 @@ all_collected g c =
 
 pub returns-in-Ok-extend-clause-collects : goal.returns-in-Ok-extend-clause-collects
 returns-in-Ok-extend-clause-collects g c = all_collected g c
-
--- nothing is behind what is found
-option_or-none : {T : Type 0} (o : Option T) → option_or o None ≡ o
-option_or-none None = refl
-option_or-none (Some t) = refl
 
 pub returns-in-Ok-extend-clause-updates : goal.returns-in-Ok-extend-clause-updates
 returns-in-Ok-extend-clause-updates g c q =
