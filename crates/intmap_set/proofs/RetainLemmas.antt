@@ -1,9 +1,11 @@
 -- A closure that asks another one about the keys of pairs goes as that one does over the keys.
-use Rattle.std.proofs.Common.{◌≡◌, ◌∙◌, Bool, true, false, cond, List, [], ◌∷◌, ℕ, refl, sym, ap}
+use Rattle.std.proofs.Common.{◌≡◌, ◌∙◌, Bool, true, false, cond, ◌&&◌, ◌||◌, List, [], ◌∷◌, ℕ, refl, sym, ap, subst}
+use Rattle.std.proofs.lemmas.Bool.{eqb-true, true≢false}
 use Rattle.std.specs.Map.{keys_of}
 use Rattle.std.specs.Prelude.{◌⊎◌, None, is_some}
 use Rattle.std.proofs.Common.{inl, inr}
 use Rattle.intmap.specs.Bindings.{value_of}
+use Rattle.intmap.specs.Classes.{same_key}
 use Rattle.intmap.specs.Map.{MapState}
 use Rattle.intmap.specs.Retaining.{Retains}
 use Rattle.intmap.specs.Taking.{TakesEach, TakesEach-from}
@@ -45,3 +47,31 @@ module _ {K : Type 0} (number : K → ℕ) where
           → (holds number (keys_of n.walk) q ≡ holds number s.walk q) ⊎ (holds number (keys_of n.walk) q ≡ false)
       at (inl same) = inl (holds-keys_of number n.walk q ∙ ap is_some same ∙ sym (holds-seen number m s q seen))
       at (inr none) = inr (holds-keys_of number n.walk q ∙ ap is_some none)
+
+-- whether a key stays, by whether it is the one that is asked about
+stays-step : (same c b n l : Bool) → (same ≡ true → c ≡ b) → n ≡ (b && l) → cond c (same || n) n ≡ (b && (same || l))
+stays-step true true true n l told rest = refl
+stays-step true true false n l told rest = absurd (true≢false (told refl))
+stays-step true false true n l told rest = absurd (true≢false (sym (told refl)))
+stays-step true false false n l told rest = rest
+stays-step false true b n l told rest = rest
+stays-step false false b n l told rest = rest
+
+module _ {F K : Type 0} (number : K → ℕ) (R : F → K → Bool → F → Type 0) (f : F) where
+  holds-cond : (c : Bool) (k : K) (N : List K) (q : K) → holds number (cond c (k ∷ N) N) q ≡ cond c (same_key number q k || holds number N q) (holds number N q)
+  holds-cond true k N q = refl
+  holds-cond false k N q = refl
+
+  and-false : (b : Bool) → false ≡ (b && false)
+  and-false true = refl
+  and-false false = refl
+
+  -- if each answer at a key is b, the key stays or goes by b
+  pub holds-answered : (q : K) (b : Bool) → ((k : K) (c : Bool) (g : F) → R f k c g → (number k ≡ number q → c ≡ b) × (g ≡ f))
+      → (g h : F) (L M : List K) → g ≡ f → Retains R g L M h → holds number M q ≡ (b && holds number L q)
+  holds-answered q b each g h [] M own r = ap (λ W. holds number W q) r.0 ∙ and-false b
+  holds-answered q b each g h (k ∷ L) M own r =
+      let here = each k r.0 r.1 (subst (λ z. R z k r.0 r.1) own r.3) in
+      let rest = holds-answered q b each r.1 h L r.2 here.1 r.4 in
+      ap (λ W. holds number W q) r.5 ∙ holds-cond r.0 k r.2 q
+      ∙ stays-step (same_key number q k) r.0 b (holds number r.2 q) (holds number L q) (λ same. here.0 (eqb-true (number k) (number q) same)) rest

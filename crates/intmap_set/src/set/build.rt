@@ -1,9 +1,10 @@
 //! Sets made of many keys.
-ghost use Rattle.std.specs.Prelude.{◌≡◌, ℕ, ◌^◌, ◌<◌, ◌≤◌, ◌⊎◌, max, OnOk, IfOk, IfErr, MatchResult};
+ghost use Rattle.std.specs.Prelude.{◌≡◌, ℕ, ◌+◌, ◌^◌, ◌<◌, ◌≤◌, ◌⊎◌, ◌||◌, length, max, OnOk, IfOk, IfErr, MatchResult};
 ghost use Rattle.std.specs.Iterator.{IsFinite, size};
+ghost use Rattle.std.specs.Iterator.Runs.{WholeRun};
 ghost use Rattle.intmap.specs.Growth.{IsLeastPower};
 ghost use Rattle.intmap.specs.Map.{least_capacity};
-ghost use Rattle.intmap_set.specs.Sets.{IsSet, empty_set};
+ghost use Rattle.intmap_set.specs.Sets.{IsSet, empty_set, holds};
 ghost use Rattle.intmap_set.specs.Extending.{Extends, ExtendsUpTo, MayStop};
 
 use crate::set::IntSet;
@@ -30,6 +31,11 @@ impl<K: IntKey, A: Allocator + Copy> IntSet<K, A> {
         requires ends { IsFinite (I.remaining iter) }
         ensures extends { OnOk result
             (Extends K.number_of K.is_valid I.next_gives iter self.old self.new) }
+        ensures runs { OnOk result (WholeRun I.next_gives iter (λ run. (q : K)
+            → holds K.number_of self.new.walk q
+            ≡ (holds K.number_of self.old.walk q || holds K.number_of run.items q))) }
+        ensures len { OnOk result
+            (length self.new.walk ≤ length self.old.walk + size (I.remaining iter)) }
         ensures stops { IfErr result (λ refused.
             ExtendsUpTo K.number_of K.is_valid I.next_gives iter self.old refused self.new) }
         ensures valid { IsSet K.number_of K.is_valid self.old }
@@ -68,6 +74,9 @@ impl<K: IntKey, A: Allocator + Copy> IntSet<K, A> {
             (Extends K.number_of K.is_valid I.next_gives iter (empty_set slots))
             (λ cause. ((cause ≡ Cause.TooLarge) × (2 ^ 63 < b)) ⊎ ((b ≤ 2 ^ 63)
             × MayStop K.number_of K.is_valid I.next_gives iter (empty_set slots) cause)) }
+        ensures runs { IfOk result (λ made. WholeRun I.next_gives iter (λ run. (q : K)
+            → holds K.number_of made.walk q ≡ holds K.number_of run.items q)) }
+        ensures len { IfOk result (λ made. length made.walk ≤ size (I.remaining iter)) }
         ensures valid { IfOk result (IsSet K.number_of K.is_valid) }
     {
         let (lower, _) = iter.size_hint();

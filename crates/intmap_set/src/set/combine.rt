@@ -1,5 +1,6 @@
 //! Two sets: their union, their intersection, their differences, and whether one is within another.
 ghost use Rattle.std.specs.Prelude.{◌≡◌, ◌↔◌, IsTrue};
+ghost use Rattle.intmap.specs.Iterating.{ShowsEach, shown};
 ghost use Rattle.intmap_set.specs.Sets.{IsSet};
 ghost use Rattle.intmap_set.specs.Combined.{IsSubset, IsDisjoint, IsDifference, IsIntersection, IsUnion, IsSymmetricDifference, difference_of, intersection_of, union_of, symmetric_difference_of};
 
@@ -24,6 +25,7 @@ impl<K: IntKey, A: Allocator + Copy> IntSet<K, A> {
     pub fn difference<'a>(&'a self, other: &'a IntSet<K, A>) -> Difference<'a, K, A>
         ensures walk { result ≡ difference_of K.number_of self.now.walk other.now.walk }
         ensures members { IsDifference K.number_of self.now.walk other.now.walk result }
+        ensures runs { ShowsEach (shown {X = K}) }
         ensures valid { IsSet K.number_of K.is_valid self.now }
         ensures valid_other { IsSet K.number_of K.is_valid other.now }
     {
@@ -45,6 +47,7 @@ impl<K: IntKey, A: Allocator + Copy> IntSet<K, A> {
     pub fn intersection<'a>(&'a self, other: &'a IntSet<K, A>) -> Intersection<'a, K, A>
         ensures walk { result ≡ intersection_of K.number_of self.now.walk other.now.walk }
         ensures members { IsIntersection K.number_of self.now.walk other.now.walk result }
+        ensures runs { ShowsEach (shown {X = K}) }
         ensures valid { IsSet K.number_of K.is_valid self.now }
         ensures valid_other { IsSet K.number_of K.is_valid other.now }
     {
@@ -71,6 +74,7 @@ impl<K: IntKey, A: Allocator + Copy> IntSet<K, A> {
     pub fn union<'a>(&'a self, other: &'a IntSet<K, A>) -> Union<'a, K, A>
         ensures walk { result ≡ union_of K.number_of self.now.walk other.now.walk }
         ensures members { IsUnion K.number_of self.now.walk other.now.walk result }
+        ensures runs { ShowsEach (shown {X = K}) }
         ensures valid { IsSet K.number_of K.is_valid self.now }
         ensures valid_other { IsSet K.number_of K.is_valid other.now }
     {
@@ -99,6 +103,7 @@ impl<K: IntKey, A: Allocator + Copy> IntSet<K, A> {
     ) -> SymmetricDifference<'a, K, A>
         ensures walk { result ≡ symmetric_difference_of K.number_of self.now.walk other.now.walk }
         ensures members { IsSymmetricDifference K.number_of self.now.walk other.now.walk result }
+        ensures runs { ShowsEach (shown {X = K}) }
         ensures valid { IsSet K.number_of K.is_valid self.now }
         ensures valid_other { IsSet K.number_of K.is_valid other.now }
     {

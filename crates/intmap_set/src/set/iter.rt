@@ -1,6 +1,7 @@
 //! The iterators of a set. Each goes through the slots in turn, and through each slot from front to
 //! back.
 ghost use Rattle.std.specs.Prelude.{◌≡◌};
+ghost use Rattle.intmap.specs.Iterating.{GivesEach, ShowsEach, shown};
 ghost use Rattle.intmap_set.specs.Sets.{IsSet};
 
 mod combined;
@@ -24,6 +25,7 @@ impl<K: IntKey, A: Allocator + Copy> IntSet<K, A> {
     /// ```
     pub fn iter(&self) -> Keys<'_, K, (), A>
         ensures walk { result ≡ self.now.walk }
+        ensures runs { ShowsEach (shown {X = K}) }
         ensures valid { IsSet K.number_of K.is_valid self.now }
     {
         self.map.keys()
@@ -51,7 +53,10 @@ impl<K: IntKey, A: Allocator + Copy> IntoIterator for IntSet<K, A> {
 
     /// An iterator over the members by value, in iteration order. Neither this call nor a step of
     /// the iterator fails. The members of a slot are taken out together.
-    fn into_iter(self) -> IntoKeys<K, (), A> {
+    fn into_iter(self) -> IntoKeys<K, (), A>
+        ensures into_iter_gives { result ≡ self.walk }
+        ensures runs { GivesEach K }
+    {
         self.map.into_keys()
     }
 }

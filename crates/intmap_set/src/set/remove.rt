@@ -1,12 +1,12 @@
 //! Removals.
-ghost use Rattle.std.specs.Prelude.{◌≡◌, ◌+◌, ◌⊎◌, ◌≤◌, false, cond, [], length};
+ghost use Rattle.std.specs.Prelude.{◌≡◌, ◌+◌, ◌⊎◌, ◌≤◌, ◌&&◌, Bool, false, cond, filter, [], length};
 ghost use Rattle.intmap.specs.Retaining.{Retains};
 ghost use Rattle.intmap.specs.Taking.{TakesEach};
 ghost use Rattle.std.specs.Iterator.{YieldsFirst};
 ghost use Rattle.intmap.specs.Map.{after_remove};
 ghost use Rattle.intmap.specs.Walk.{ArePassed};
 ghost use Rattle.intmap_set.specs.Sets.{IsSet, Updates, as_map, holds, paired, set_of};
-ghost use Rattle.intmap_set.specs.Retaining.{KeepsKey, TakesKey};
+ghost use Rattle.intmap_set.specs.Retaining.{AnswersMember, KeepsKey, TakesKey, TestsKeys};
 
 use crate::set::IntSet;
 use intmap::IntKey;
@@ -75,12 +75,20 @@ impl<K: IntKey, A: Allocator + Copy> IntSet<K, A> {
     /// ```
     pub fn retain<F: FnMut(K) -> bool>(&mut self, f: F)
         requires { TakesEach (KeepsKey F.FnMut) (TakesKey F.FnMut) f self.old.walk }
+        // what stays if the closure answers alike in each call
+        ensures by_key { (q : K) (b : Bool) → AnswersMember F.FnMut f K.number_of q b
+            → holds K.number_of self.new.walk q ≡ (b && holds K.number_of self.old.walk q) }
+        ensures filtered { (test : K → Bool) → TestsKeys F.FnMut f test
+            → self.new.walk ≡ filter test self.old.walk }
+
+        // what stays of any closure
         ensures keys { (last : F) × Retains (KeepsKey F.FnMut) f self.old.walk self.new.walk last }
         ensures state { self.new ≡ record self.old { walk = self.new.walk } }
         ensures updates { (q : K)
             → (holds K.number_of self.new.walk q ≡ holds K.number_of self.old.walk q)
             ⊎ (holds K.number_of self.new.walk q ≡ false) }
         ensures len { length self.new.walk ≤ length self.old.walk }
+
         ensures valid { IsSet K.number_of K.is_valid self.old }
         ensures valid_after { IsSet K.number_of K.is_valid self.new }
     {

@@ -1,7 +1,10 @@
 -- The keys of an iterator are inserted one after another, and an induction over them is beyond the search.
 use Rattle.std.proofs.Common.{subst, arith, rules}
 use Rattle.std.specs.Iterator.{Yields}
-use Rattle.std.proofs.lemmas.List.{length_push}
+use Rattle.std.proofs.iter.runs.Consumers.{total_runs}
+use Rattle.std.proofs.lemmas.List.{length_push, length-map}
+use Rattle.intmap.proofs.ExtendLemmas.{length-new_keys}
+use Rattle.intmap_set.specs.Sets.{paired}
 use Rattle.intmap_set.proofs.ExtendLemmas.{IsExtended-push}
 use Rattle.intmap_set.proofs.set.IntSet.extend.Goals as goal
 
@@ -14,6 +17,7 @@ loop-key-preserved g c =
       omega (arith, c.saturating_add-applied.ensures, kept.2, length_push c.loop-key.yielded key),
       c.insert.ensures.valid_after,
       kept.4,
+      (let goes = c.in-Some.ensures.goes.on kept.0.1 in let more = length_push c.loop-key.yielded key in omega (arith, goes, more, kept.5)),
     )
 
 pub returns-in-Err-clause-stops : goal.returns-in-Err-clause-stops
@@ -33,3 +37,16 @@ returns-in-Err-clause-stops g c =
       after = e.err;
       applied = c.loop-key.invariant.2;
     }
+
+pub returns-clause-len : goal.returns-clause-len
+returns-clause-len g c =
+    let kept = c.loop-key.invariant in
+    let few = length-new_keys g.K.IntKey.number_of (paired c.args.self.now.walk) (paired c.loop-key.yielded) in
+    let same = length-map {B = g.row.K.Denot × Unit {0}} c.loop-key.yielded (λ k. (k, tt)) in
+    omega (arith, kept.1.len, few, same, kept.5)
+
+pub returns-clause-runs : goal.returns-clause-runs
+returns-clause-runs g c =
+    let gives = g.I.Iterator.next_gives in let keys = c.loop-key.yielded in
+    let came = subst (λ i. Yields gives i keys c.loop-key.key-iterator) c.into_iter-key-iterator.ensures.into_iter_gives c.loop-key.yielded_by in
+    total_runs gives c.args.iter (Unit {0}) _ (keys, λ _. (c.next.new.self, (c.loop-key.key-iterator, came, c.in-None.ensures.steps)), c.loop-key.invariant.1.members) tt

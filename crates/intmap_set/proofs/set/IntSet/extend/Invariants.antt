@@ -1,4 +1,5 @@
-use Rattle.std.proofs.Common.{◌≡◌, ◌-◌, ◌^◌, length}
+use Rattle.std.proofs.Common.{◌≡◌, ◌+◌, ◌-◌, ◌^◌, ◌≤◌, length}
+use Rattle.std.specs.Iterator.{size}
 use Rattle.std.specs.Prelude.{min}
 use Rattle.intmap_set.specs.Extending.{IsExtended}
 use Rattle.intmap_set.specs.Sets.{IsSet}
@@ -11,3 +12,4 @@ invariant-loop-key g l =
     × (l.applied ≡ min (length l.yielded) (2 ^ 64 - 1))
     × IsSet g.K.IntKey.number_of g.K.IntKey.is_valid l.self
     × IsSet g.K.IntKey.number_of g.K.IntKey.is_valid l.fn.self
+    × (length l.yielded + (goal.iterator-loop-key g).remaining l.key-iterator ≤ size (g.I.Iterator.remaining l.fn.iter))

@@ -1,12 +1,13 @@
 -- The search does not see which of the two calls failed.
-use Rattle.std.proofs.Common.{inl, inr, ◌^◌, ◌≤◌, max, ap, refl, subst, arith}
+use Rattle.std.proofs.Common.{◌≡◌, inl, inr, ◌^◌, ◌≤◌, ◌||◌, max, ap, ◌∙◌, refl, subst, arith}
+use Rattle.std.proofs.iter.runs.Consumers.{total_runs}
 use Rattle.std.proofs.lemmas.Bool.{cases_lt}
 use Rattle.std.specs.Prelude.{Err}
 use Rattle.std.proofs.lemmas.Result.{err_from_is_err_and}
 use Rattle.intmap.specs.Growth.{least_power}
 use Rattle.intmap.proofs.GrowthLemmas.{IsLeastPower-least_power}
 use Rattle.intmap_set.specs.Extending.{Extends, ExtendsUpTo}
-use Rattle.intmap_set.specs.Sets.{SetState}
+use Rattle.intmap_set.specs.Sets.{SetState, holds}
 use Rattle.intmap_set.proofs.OwnedLemmas.{only_memory}
 use Rattle.intmap_set.proofs.set.IntSet.from_iter.Goals as goal
 
@@ -44,3 +45,11 @@ returns-in-Ok-clause-collects g c =
     let Extended : SetState g.row.K.Denot → Type 0 =
     λ s. Extends g.K.IntKey.number_of g.K.IntKey.is_valid g.I.Iterator.next_gives c.args.iter s c.extend.new.self in
     (c.size_hint-lower.result.0, c.in_ok-set.set.capacity, c.size_hint-lower.ensures.lower c.requires.ends, made.capacity, subst Extended made.state c.in-Ok.ensures.extends)
+
+pub returns-in-Ok-clause-runs : goal.returns-in-Ok-clause-runs
+returns-in-Ok-clause-runs g c =
+    let number = g.K.IntKey.number_of in
+    let all = c.in-Ok.ensures.extends in
+    let none = ap (λ (s : SetState g.row.K.Denot). s.walk) c.in_ok-set.ensures.state in
+    total_runs g.I.Iterator.next_gives c.args.iter (Unit {0}) (λ items. (q : g.row.K.Denot) → holds number c.extend.new.self.walk q ≡ holds number items q)
+    (all.keys, λ _. all.came, λ q. all.extended.members q ∙ ap (λ W. holds number W q || holds number all.keys q) none) tt
