@@ -58,7 +58,8 @@ fn short_command<A: Allocator>(name: &[u8], words: Words<'_>) -> Option<Command<
 /// no number.
 fn read_numbers(mut words: Words<'_>) -> Option<Numbers>
     ensures some { IfSome result (λ found. AllZip IsNumeral words.entry (numbers_in found)) }
-    ensures none { IfNone result ((ns : List ℕ) → length ns ≤ 2 → ¬ AllZip IsNumeral words.entry ns) }
+    ensures none { IfNone result ((ns : List ℕ) → length ns ≤ 2
+        → ¬ AllZip IsNumeral words.entry ns) }
 {
     let Some(first) = words.next() else {
         return Some(Numbers::Empty);
