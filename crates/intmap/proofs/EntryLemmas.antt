@@ -15,13 +15,14 @@ use Rattle.intmap.specs.Entries.{occupied_with_value, occupied_key, IsMadeRefusa
 use Rattle.intmap.specs.Growth.{IsNext, is_due, next_capacity}
 use Rattle.intmap_table.specs.Locations.{IsFound}
 use Rattle.intmap.specs.Insertions.{IsInsertion}
-use Rattle.intmap.specs.Map.{MapState, IsMap, with_pair, written}
+use Rattle.intmap.specs.Map.{MapState, IsMap, IsCapacityAfter, with_pair, written}
 use Rattle.intmap_table.specs.Walk.{walk_of}
 use Rattle.intmap.proofs.GrowthLemmas.{IsWanted-wanted_capacity}
 use Rattle.intmap.proofs.LoadFactorLemmas.{InsertIsTooLarge, IsNext-unique}
 use Rattle.intmap_table.proofs.LocationLemmas.{walk_of-write_value}
 use Rattle.intmap.proofs.MapLemmas.{MapState-same}
-use Rattle.intmap.proofs.WriteLemmas.{write_value-unbound}
+use Rattle.intmap.proofs.InsertionLemmas.{IsInsertion-put}
+use Rattle.intmap.proofs.WriteLemmas.{write_value-unbound, IsMapWalk-written}
 use Rattle.intmap_table.proofs.PositionLemmas.{swap_out-none, position-from_none}
 use Rattle.intmap_table.proofs.WrittenLemmas.{IsFound-write_value, key_at-written, the_key-same}
 
@@ -62,6 +63,24 @@ module _ {K V : Type 0} (number : K → ℕ) where
       ∙ ap (λ L. L ++ cond (same_key number k k) (k, v) (k, x) ∷ []) (write_value-unbound number (take_key number m.walk m.capacity k) k v gone)
       ∙ ap (λ b. take_key number m.walk m.capacity k ++ cond b (k, v) (k, x) ∷ []) own in
       MapState-same (sym (walk_of-write_value number (put_pair number m.walk m.capacity k x) D k v) ∙ ap (λ L. walk_of number L D) pair) refl refl
+
+-- a new pair was added, and its value is lent
+module _ {K V : Type 0} (number : K → ℕ) (is_valid : K → Type 0) (m n : MapState K V) (k : K) (x : V) (missing : value_of number m.walk k ≡ None) (old : IsMap number is_valid m)
+    (did : IsInsertion number is_valid m k x n) (state : n ≡ with_pair number m k x n.capacity) where
+  abbrev D : ℕ
+  D = next_capacity m.capacity (length m.walk + 1) m.factor
+
+  -- with another value it is the map with that one in the first place
+  pub written-added : (v : V) → written number n k v ≡ with_pair number m k v D
+  written-added v =
+      ap (λ s. written number s k v) state ∙ written-with_pair number m k x v n.capacity missing
+      ∙ ap (λ C. with_pair number m k v C) (next_capacity-inserted number is_valid m n k x missing old did)
+
+  -- and its insertion is one with that value
+  pub IsInsertion-lent : (v : V) → IsInsertion number is_valid m k v (with_pair number m k v D)
+  IsInsertion-lent v =
+      IsInsertion-put number is_valid m (with_pair number m k v D) k v old (subst (IsMap number is_valid) (written-added v) (IsMapWalk-written number is_valid n.walk n.capacity n.factor k v did.valid)) refl did.in_range
+      (subst (IsCapacityAfter number m.walk m.capacity m.factor k) (next_capacity-inserted number is_valid m n k x missing old did) did.capacity)
 
 -- that a pair was found holds in one way
 IsFound-prop : {K V : Type 0} (number : K → ℕ) (W : List (K × V)) (C slot place : ℕ) → IsProp (IsFound number W C slot place)
