@@ -1,7 +1,6 @@
 -- What a map is once a closure was asked about some of its pairs, of which it picked at most one.
-use Rattle.std.proofs.Common.{◌≡◌, inl, inr, ℕ, ◌+◌, Bool, true, false, cond, List, [], ◌∷◌, ◌++◌, Option, Some, None, length, take, drop, refl, sym, ap, ◌∙◌, subst, arith}
-use Rattle.std.specs.Prelude.{IfSome, unwrap_or}
-use Rattle.std.specs.Bool.{MatchBool}
+use Rattle.std.proofs.Common.{◌≡◌, ℕ, ◌+◌, Bool, cond, List, [], Option, Some, None, length, sym, ap, subst, arith}
+use Rattle.std.specs.Prelude.{IfSome}
 use Rattle.std.proofs.lemmas.Bool.Decides.{nat_tests}
 use Rattle.intmap.proofs.CostLemmas.{same-absent}
 use Rattle.intmap.proofs.CountLemmas.{count_by-cons}
@@ -14,11 +13,8 @@ use Rattle.intmap_table.specs.Picking.{ExtractsBehind}
 use Rattle.intmap_table.specs.Taking.{TakesEach}
 use Rattle.intmap_table.specs.Walk.{walk_of}
 use Rattle.intmap.specs.Consistency.{IsConsistent}
-use Rattle.intmap.specs.Growth.{IsThreshold}
-use Rattle.intmap.specs.Map.{IsMapWalk}
 use Rattle.intmap.proofs.MapLemmas.{IsConsistent-fewer}
 use Rattle.intmap_table.proofs.ExtractLemmas.{sum_by-ExtractsBehind, length-ExtractsNext, length-ExtractsBehind, All-ExtractsBehind, TakesEach-rest}
-use Rattle.intmap_table.proofs.SlotNumberLemmas.{capacity-positive}
 
 module _ {F K V : Type 0} (number : K → ℕ) (is_valid : K → Type 0) (R : F → K × V → Bool → F → K × V → Type 0) (same : (f : F) (p : K × V) (b : Bool) (g : F) (q : K × V) → R f p b g q → q.0 ≡ p.0) where
   -- what a map keeps agrees

@@ -1,6 +1,6 @@
 -- The members of objects beside pairs of numbers and values.
-use Rattle.std.proofs.Common.{◌≡◌, ◌≢◌, inl, inr, ℕ, suc, ◌^◌, ◌<◌, ◌≤◌, Bool, true, false, cond, List, ◌∷◌, [], length, reverse, is_some, Option, Some, None, option_map, Ordering, Less, Equal, Greater, string_bytes, string_cmp, nat_cmp, refl, ap, sym, ◌∙◌, subst, arith}
-use Rattle.std.specs.Prelude.{◌==◌, ◌↔◌, ⊤, Result, Ok, Err, IsErrAnd, IfErr, IsSomeAnd}
+use Rattle.std.proofs.Common.{◌≡◌, ◌≢◌, inl, inr, ℕ, suc, ◌^◌, ◌<◌, ◌≤◌, true, List, ◌∷◌, [], length, reverse, is_some, Option, Some, None, option_map, Ordering, Less, Equal, Greater, string_bytes, string_cmp, nat_cmp, refl, ap, sym, ◌∙◌, subst, arith}
+use Rattle.std.specs.Prelude.{◌↔◌, ⊤, Result, Ok, Err, IsErrAnd, IfErr, IsSomeAnd}
 use Rattle.std.specs.Fmt.{decimal}
 use Rattle.std.specs.Cmp.Lexicographic.{slice_cmp}
 use Rattle.std.specs.List.{AllByRecursion}

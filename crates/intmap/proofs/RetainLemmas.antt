@@ -1,18 +1,15 @@
 -- What a map is once pairs were let go.
-use Rattle.std.proofs.Common.{◌≡◌, inl, inr, ℕ, Bool, true, false, cond, List, [], ◌∷◌, length, None, refl, sym, ap, subst, arith}
-use Rattle.std.specs.Prelude.{◌⊎◌, count_by}
+use Rattle.std.proofs.Common.{◌≡◌, inr, ℕ, Bool, cond, List, [], ◌∷◌, length, None, sym, ap, subst, arith}
+use Rattle.std.specs.Prelude.{◌⊎◌}
 use Rattle.intmap_table.proofs.BindingLemmas.{first_value-unmatched}
 use Rattle.intmap.proofs.CostLemmas.{HasDistinctKeys-tail}
 use Rattle.intmap.proofs.CountLemmas.{count_by-cons}
 use Rattle.intmap_table.specs.Bindings.{HasDistinctKeys, value_of}
 use Rattle.intmap_table.specs.Classes.{same_key}
-use Rattle.intmap.specs.Growth.{IsThreshold}
 use Rattle.intmap.specs.Consistency.{IsConsistent}
-use Rattle.intmap.specs.Map.{IsMapWalk}
 use Rattle.intmap_table.specs.Retaining.{Retains}
 use Rattle.intmap_table.specs.Walk.{walk_of}
 use Rattle.intmap.proofs.MapLemmas.{IsConsistent-fewer}
-use Rattle.intmap_table.proofs.SlotNumberLemmas.{capacity-positive}
 use Rattle.intmap_table.proofs.RetainLemmas.{length-Retains, All-Retains, count_by-Retains}
 
 module _ {F K V : Type 0} (number : K → ℕ) (R : F → K × V → Bool → F → Type 0) where

@@ -1,23 +1,22 @@
 -- Pairs for which a table has room are inserted in turn, and none fails.
-use Rattle.std.proofs.Common.{◌≡◌, inl, inr, ℕ, ◌+◌, ◌<◌, ◌≤◌, Bool, true, cond, List, [], ◌∷◌, ◌++◌, length, Option, Some, None, refl, sym, ap, subst, ◌∙◌, append_assoc, arith}
-use Rattle.std.specs.Prelude.{◌==◌, ◌/◌, ◌%◌, ◌^◌, All, count_by, MatchOption}
-use Rattle.std.proofs.lemmas.Bool.{cases_Bool, eqb-true, eq-eqb}
+use Rattle.std.proofs.Common.{◌≡◌, inl, inr, ℕ, ◌+◌, ◌<◌, ◌≤◌, Bool, true, cond, List, [], ◌∷◌, ◌++◌, length, None, refl, sym, ap, ◌∙◌, append_assoc, arith}
+use Rattle.std.specs.Prelude.{◌/◌, ◌%◌, All}
+use Rattle.std.proofs.lemmas.Bool.{cases_Bool, eqb-true}
 use Rattle.std.proofs.lemmas.List.{length-append}
 use Rattle.std.proofs.lemmas.List.Elements.{All-nil, All-cons, All-head, All-tail}
 use Rattle.std.proofs.lemmas.Bool.Decides.{nat_tests}
 use Rattle.std.proofs.lemmas.List.Sums.{sum_by-append}
 use Rattle.intmap.proofs.CountLemmas.{count_by-cons}
-use Rattle.intmap_table.specs.Classes.{IsCapacity, same_key, agrees, residue}
-use Rattle.intmap_table.specs.Bindings.{HasDistinctKeys, value_of, take_key, put_pair}
+use Rattle.intmap_table.specs.Classes.{IsCapacity, same_key, agrees}
+use Rattle.intmap_table.specs.Bindings.{HasDistinctKeys, value_of, put_pair}
 use Rattle.intmap_table.specs.Reach.{class_size}
 use Rattle.intmap_table.specs.Walk.{walk_of}
-use Rattle.intmap_table.proofs.BindingLemmas.{first_value-unmatched}
 use Rattle.intmap_table.proofs.DistinctLemmas.{length-walk_of}
 use Rattle.intmap_table.proofs.PositionLemmas.{position-from_none, swap_out-none}
 use Rattle.intmap_table.proofs.SlotNumberLemmas.{capacity-positive, slot_number-below}
 use Rattle.intmap_table.proofs.WalkLemmas.{class_size-same, walk_of-walk_of}
-use Rattle.intmap.specs.Extending.{MapInserts, MapInsertsAll, IsExtended}
-use Rattle.intmap.specs.Growth.{IsNext, MeetsLoad, is_due, last_due}
+use Rattle.intmap.specs.Extending.{MapInserts, MapInsertsAll}
+use Rattle.intmap.specs.Growth.{IsNext, is_due, last_due}
 use Rattle.intmap.specs.Map.{MapState, IsLone}
 use Rattle.intmap.specs.PlainLists.{RefusalIsDue, list_of}
 use Rattle.intmap.specs.Room.{HasRoomFor}

@@ -1,5 +1,5 @@
 -- The sum over all values, each by a weight, through a walk, a removal, an insertion and a write.
-use Rattle.std.proofs.Common.{◌≡◌, ℕ, ◌+◌, ◌<◌, Bool, true, false, List, [], ◌∷◌, Option, Some, refl, sym, ◌∙◌, arith}
+use Rattle.std.proofs.Common.{◌≡◌, ℕ, ◌+◌, ◌<◌, true, List, [], ◌∷◌, Some, refl, sym, ◌∙◌, arith}
 use Rattle.std.specs.Prelude.{sum_by, option_map, unwrap_or}
 use Rattle.std.specs.Map.{values_of}
 use Rattle.std.proofs.lemmas.List.Sums.{sum_by-cons, sum_by_push}

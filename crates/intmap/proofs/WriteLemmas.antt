@@ -1,19 +1,15 @@
 -- What a write of a value leaves of a map: its walk stays that of a map, and each other key keeps its value.
-use Rattle.std.proofs.Common.{◌≡◌, inl, inr, ℕ, Bool, true, false, cond, List, [], ◌∷◌, length, Option, Some, None, IsSome, refl, sym, ap, ◌∙◌, subst, arith}
+use Rattle.std.proofs.Common.{◌≡◌, ℕ, Bool, true, false, cond, List, [], ◌∷◌, length, Option, Some, None, IsSome, refl, sym, ap, arith}
 use Rattle.std.specs.Map.{keys_of}
-use Rattle.std.specs.Prelude.{◌==◌, All, count_by, option_map}
-use Rattle.std.proofs.lemmas.Bool.{cases_Bool, eqb-true, eq-eqb}
+use Rattle.std.specs.Prelude.{option_map}
 use Rattle.std.proofs.lemmas.List.{length-map}
-use Rattle.std.proofs.lemmas.List.Elements.{All-cons, All-head, All-tail}
-use Rattle.std.proofs.lemmas.List.Sums.{sum_by-cons}
 use Rattle.intmap_table.specs.Classes.{same_key}
-use Rattle.intmap_table.specs.Bindings.{first_value, value_of, IsPresent, write_value, HasDistinctKeys, Updates}
+use Rattle.intmap_table.specs.Bindings.{value_of, IsPresent, write_value, Updates}
 use Rattle.intmap.specs.Consistency.{IsConsistent}
 use Rattle.intmap.specs.Map.{IsMapWalk}
 use Rattle.std.proofs.lemmas.Bool.Decides.{nat_tests}
 use Rattle.intmap_table.proofs.BindSameLemmas.{value_of-same_number}
 use Rattle.intmap_table.proofs.BindingLemmas.{Updates-from}
-use Rattle.intmap.proofs.LoadFactorLemmas.{IsLoaded}
 use Rattle.intmap.proofs.SameKeysLemmas.{IsMapWalk-same_keys, IsConsistent-same_keys}
 
 module _ {K V : Type 0} (number : K → ℕ) where

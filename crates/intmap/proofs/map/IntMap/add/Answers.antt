@@ -1,8 +1,6 @@
-use Rattle.std.proofs.Common.{◌≡◌, ◌+◌, ◌<◌, ◌^◌, inl, length, None, refl, sym, ◌∙◌, arith, rules, tests}
-use Rattle.std.proofs.lemmas.Grind.{common_steps}
+use Rattle.std.proofs.Common.{◌≡◌, ◌+◌, ◌<◌, ◌^◌, inl, length, None, refl, sym, ◌∙◌, arith}
 use Rattle.intmap_table.specs.Bindings.{value_of}
 use Rattle.intmap.specs.Growth.{IsNext}
-use Rattle.intmap.specs.PlainLists.{PlainList}
 use Rattle.intmap.proofs.InsertionLemmas.{IsInsertion-added}
 use Rattle.intmap.proofs.RefusalLemmas.{RefusalIsDue-too_large, RefusalIsDue-memory}
 use Rattle.intmap.proofs.LoadFactorLemmas.{IsNext-same}

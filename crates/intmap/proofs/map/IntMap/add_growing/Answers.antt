@@ -1,7 +1,7 @@
-use Rattle.std.proofs.Common.{◌≡◌, ◌≢◌, ◌+◌, ◌*◌, ◌/◌, ◌<◌, ◌^◌, ℕ, None, inr, length, cond, sym, ap, ◌∙◌, arith, refl}
+use Rattle.std.proofs.Common.{◌≡◌, ◌≢◌, ◌+◌, ◌*◌, ◌/◌, ◌<◌, ◌^◌, None, inr, length, cond, sym, ap, ◌∙◌, arith, refl}
 use Rattle.std.proofs.lemmas.Bool.{ne_eqb}
 use Rattle.intmap_table.specs.Bindings.{value_of}
-use Rattle.intmap.specs.Growth.{IsNext, NeedsTooMuch, is_due}
+use Rattle.intmap.specs.Growth.{IsNext}
 use Rattle.intmap.proofs.InsertionLemmas.{IsInsertion-added}
 use Rattle.intmap.proofs.RefusalLemmas.{RefusalIsDue-too_large, RefusalIsDue-memory}
 use Rattle.intmap.proofs.LoadFactorLemmas.{IsNext-changes, IsNext-unique, IsNext-wanted, NeedsTooMuch-wanted}

@@ -1,7 +1,7 @@
 use Rattle.std.proofs.Common.{◌≡◌, ◌∙◌, true, false, Option, Some, None, refl, sym, ap}
 use Rattle.std.specs.Prelude.{is_ok, is_some}
 use Rattle.intmap_table.specs.Bindings.{value_of}
-use Rattle.intmap.specs.PlainLists.{RefusalIsDue, list_of}
+use Rattle.intmap.specs.PlainLists.{list_of}
 use Rattle.intmap.proofs.InsertionLemmas.{IsInsertion-kept, IsInsertion-searched}
 use Rattle.intmap.proofs.RefusalLemmas.{RefusalIsDue-searched, lone-never_refused}
 use Rattle.intmap.proofs.map.IntMap.insert_checked.Goals as goal

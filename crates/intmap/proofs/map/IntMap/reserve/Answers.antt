@@ -1,5 +1,5 @@
 use Rattle.std.specs.Prelude.{is_err}
-use Rattle.std.proofs.Common.{◌≡◌, false, ◌+◌, ◌<◌, ◌≤◌, max, inl, inr, length, sym, ap, ◌∙◌, subst, arith, refl, rules, tests}
+use Rattle.std.proofs.Common.{◌≡◌, false, ◌+◌, ◌≤◌, max, inl, inr, length, sym, ap, ◌∙◌, arith, refl}
 use Rattle.std.proofs.lemmas.Grind.{common_steps}
 use Rattle.std.proofs.lemmas.Bool.{cases_lt}
 use Rattle.intmap_table.specs.Classes.{IsCapacity}

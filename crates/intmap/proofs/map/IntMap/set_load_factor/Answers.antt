@@ -1,4 +1,4 @@
-use Rattle.std.proofs.Common.{◌≡◌, length, false, sym, ap, ◌∙◌, arith, refl, rules, tests}
+use Rattle.std.proofs.Common.{◌≡◌, length, false, sym, ◌∙◌, arith, refl}
 use Rattle.std.specs.Prelude.{is_err}
 use Rattle.intmap_table.specs.Walk.{walk_of}
 use Rattle.intmap.specs.Growth.{IsWanted, NeedsTooMuch}
