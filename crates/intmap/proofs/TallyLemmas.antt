@@ -17,6 +17,7 @@ use Rattle.intmap.specs.Map.{MapState, IsMap, IsOutOfRange, IsCapacityAfter}
 use Rattle.intmap_table.specs.Walk.{walk_of}
 use Rattle.intmap.proofs.CountLemmas.{count_by-cons}
 use Rattle.intmap.proofs.ExtendLemmas.{value_of-append}
+use Rattle.intmap_table.proofs.BindSameLemmas.{value_of-same_number}
 use Rattle.intmap_table.proofs.LoadLemmas.{times}
 use Rattle.intmap.proofs.MadeLemmas.{IsMadeOf-written, IsMadeOf-inserted}
 use Rattle.intmap.proofs.WriteLemmas.{length-write_value, value_of-write_value, write_value-unbound}
@@ -112,20 +113,9 @@ module _ (ns : List ℕ) (n : ℕ) (m o : MapState ℕ ℕ) (tally : IsTally ns 
       let longer : tally_of (ns ++ n ∷ []) ≡ tally_of ns ++ (n, 1) ∷ [] = tally_of-push-new ns n away in
       record {
         made = rw longer (IsMadeOf-inserted (λ k. k) (λ k. k < 2 ^ 64) (tally_of ns) n 1 m o tally.made in_range capacity put same is_map);
-        counts = λ q. updates.0 q ∙ by_case q unbound (cases_eq q n) ∙ sym (value_of-append (λ k. k) (tally_of ns) ((n, 1) ∷ []) q) ∙ sym (ap (λ ps. value_of (λ k. k) ps q) longer);
+        counts = λ q.
+            let after = updates.0 q in let old = tally.counts q in let more = value_of-append (λ k. k) (tally_of ns) ((n, 1) ∷ []) q in
+            let same = value_of-same_number (λ k. k) (tally_of ns) q n in let here = ap (λ ps. value_of (λ k. k) ps q) longer in
+            grind (arith, nat_tests, after, old, more, same, here, unbound);
         len = (let more = length-append (tally_of ns) ((n, 1) ∷ []) in let l = ap length longer in let t = tally.len in omega (arith, more, l, t, len));
       }
-    where
-      beside : (w : Option ℕ) → option_or w None ≡ w
-      beside None = refl
-      beside (Some v) = refl
-
-      by_case : (q : ℕ) → None ≡ value_of (λ k. k) (tally_of ns) n → ◌⊎◌ (q ≡ n) (q ≢ n)
-          → cond (q == n) (Some 1) (value_of (λ k. k) m.walk q) ≡ option_or (value_of (λ k. k) (tally_of ns) q) (value_of (λ k. k) ((n, 1) ∷ []) q)
-      by_case q unbound (inl same) =
-          let t = eq-eqb q n same in let s = eq-eqb n q (sym same) in
-          let gone : value_of (λ k. k) (tally_of ns) q ≡ None = ap (value_of (λ k. k) (tally_of ns)) same ∙ sym unbound in
-          simp (t, s, gone)
-      by_case q unbound (inr apart) =
-          let t = ne_eqb q n apart in let s = ne_eqb n q (λ same. apart (sym same)) in
-          simp (t, s) (tally.counts q ∙ sym (beside (value_of (λ k. k) (tally_of ns) q)))

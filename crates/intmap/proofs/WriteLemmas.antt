@@ -12,6 +12,11 @@ use Rattle.intmap_table.proofs.BindSameLemmas.{value_of-same_number}
 use Rattle.intmap_table.proofs.BindingLemmas.{Updates-from}
 use Rattle.intmap.proofs.SameKeysLemmas.{IsMapWalk-same_keys, IsConsistent-same_keys}
 
+-- an option that holds something holds this
+pub some_from : {V : Type 0} (o : Option V) → IsSome o → (v : V) × (o ≡ Some v)
+some_from None bound = let no : ◌≡◌ {A = Bool} false true = bound in cc
+some_from (Some v) bound = (v, refl)
+
 module _ {K V : Type 0} (number : K → ℕ) where
   pub length-write_value : (L : List (K × V)) (k : K) (v : V) → length (write_value number L k v) ≡ length L
   length-write_value L k v = length-map L (λ p. cond (same_key number k p.0) (p.0, v) p)
@@ -46,10 +51,6 @@ module _ {K V : Type 0} (number : K → ℕ) where
   pub write_value-unbound : (L : List (K × V)) (k : K) (v : V) → value_of number L k ≡ None → write_value number L k v ≡ L
   write_value-unbound [] k v none = refl
   write_value-unbound (p ∷ L) k v none = let rest = write_value-unbound L k v in grind (arith, rest, none)
-
-  some_from : (o : Option V) → IsSome o → (v : V) × (o ≡ Some v)
-  some_from None bound = let no : ◌≡◌ {A = Bool} false true = bound in cc
-  some_from (Some v) bound = (v, refl)
 
   pub Updates-bound : (L : List (K × V)) (k : K) (v : V) → IsPresent number L k → Updates number L (write_value number L k v) k (Some v)
   Updates-bound L k v bound = let some = some_from (value_of number L k) bound in Updates-written L k v some.0 some.1

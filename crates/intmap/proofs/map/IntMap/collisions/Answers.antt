@@ -2,7 +2,7 @@ use Rattle.std.proofs.Common.{◌≡◌, ◌^◌, ◌<◌, ◌≤◌, ℕ, lengt
 use Rattle.std.specs.Prelude.{Result, Ok, Err, IsErrAnd, IfErr}
 use Rattle.std.proofs.lemmas.Bool.{lt-ltb, le-ltb}
 use Rattle.intmap_table.specs.Bindings.{value_of}
-use Rattle.intmap.specs.Extending.{IsMadeOf}
+use Rattle.intmap.specs.Extending.{IsTally}
 use Rattle.intmap_table.specs.Figures.{tally_of}
 use Rattle.intmap_table.specs.Walk.{slot_of, walk_of}
 use Rattle.intmap.specs.declared.refusal.Cause.{Cause}
@@ -94,21 +94,15 @@ loop-slot-preserved g c =
 whole : (g : _) (c : After-loop-slot g) → c.loop-slot.slot ≡ c.args.self.now.capacity
 whole g c = rw (← c.self.view_is) (let test = c.loop-slot-test.false in let last = c.loop-slot.auto.slot-end in let cap = c.capacity-slot-end.ensures.value in omega (arith, test, last, cap))
 
-pub returns-clause-sizes : goal.returns-clause-sizes
-returns-clause-sizes g c =
+pub returns : goal.returns
+returns g c =
     let slot = slot_of g.K.IntKey.number_of c.args.self.now.walk c.args.self.now.capacity in
-    subst (λ n. IsMadeOf (λ (size : ℕ). size) (λ size. size < 2 ^ 64) (tally_of (collision_sizes_below slot n)) c.loop-slot.sizes) (whole g c) c.loop-slot.invariant.tally.made
-
-pub returns-clause-bindings : goal.returns-clause-bindings
-returns-clause-bindings g c = λ size.
-    c.loop-slot.invariant.tally.counts size ∙ ap (λ n. value_of (λ k. k) (tally_of (collision_sizes_below (slot_of g.K.IntKey.number_of c.args.self.now.walk c.args.self.now.capacity) n)) size) (whole g c)
-
-pub returns-clause-len : goal.returns-clause-len
-returns-clause-len g c =
-    c.loop-slot.invariant.tally.len ∙ ap (λ n. length (tally_of (collision_sizes_below (slot_of g.K.IntKey.number_of c.args.self.now.walk c.args.self.now.capacity) n))) (whole g c)
-
-pub returns-clause-valid : goal.returns-clause-valid
-returns-clause-valid g c = rw (← c.self.view_is) c.self.invariant.map
-
-pub returns-clause-valid_after : goal.returns-clause-valid_after
-returns-clause-valid_after g c = c.loop-slot.invariant.map
+    let tally = subst (λ n. IsTally (collision_sizes_below slot n) c.loop-slot.sizes) (whole g c) c.loop-slot.invariant.tally in
+    record {
+      sizes = tally.made;
+      bindings = tally.counts;
+      len = tally.len;
+      memory = tt;
+      valid = rw (← c.self.view_is) c.self.invariant.map;
+      valid_after = c.loop-slot.invariant.map;
+    }

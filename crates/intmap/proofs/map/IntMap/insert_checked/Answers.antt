@@ -4,16 +4,13 @@ use Rattle.intmap_table.specs.Bindings.{value_of}
 use Rattle.intmap.specs.PlainLists.{list_of}
 use Rattle.intmap.proofs.InsertionLemmas.{IsInsertion-kept, IsInsertion-searched}
 use Rattle.intmap.proofs.RefusalLemmas.{RefusalIsDue-searched, lone-never_refused}
+use Rattle.intmap.proofs.WriteLemmas.{some_from}
 use Rattle.intmap.proofs.map.IntMap.insert_checked.Goals as goal
-
-some_of : {X : Type 0} (o : Option X) → is_some o ≡ true → (x : X) × (o ≡ Some x)
-some_of None found = let w : false ≡ true = found in absurd (cc)
-some_of (Some x) found = (x, refl)
 
 -- the key is present
 pub returns-in_default : goal.returns-in_default
 returns-in_default g c =
-    let had = some_of (value_of g.K.IntKey.number_of c.args.self.now.walk c.args.key) (sym c.locate.ensures.bound ∙ ap is_ok c.in_default.is) in
+    let had = some_from (value_of g.K.IntKey.number_of c.args.self.now.walk c.args.key) (sym c.locate.ensures.bound ∙ ap is_ok c.in_default.is) in
     rw (had.1, c.locate.ensures.state) record {
       new = refl;
       inserted = IsInsertion-kept g.K.IntKey.number_of g.K.IntKey.is_valid c.args.self.now _ c.args.key had.0 had.1 refl refl c.locate.ensures.valid;
