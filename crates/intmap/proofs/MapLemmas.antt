@@ -61,32 +61,25 @@ module _ {K V : Type 0} (number : K → ℕ) (is_valid : K → Type 0) where
         load = λ four. absurd (omega (arith, four, zero_long));
       }
 
-  -- a map into which a pair was put, in D slots
-  pub IsMapWalk-put : (W : List (K × V)) (C F D : ℕ) (k : K) (v : V) → IsMapWalk number is_valid W C F → IsCapacity D → is_valid k → length (put_pair number W C k v) < 2 ^ 64 → IsLoaded D (length (put_pair number W C k v)) F → IsMapWalk number is_valid (walk_of number (put_pair number W C k v) D) D F
-  IsMapWalk-put W C F D k v m cap key fits loaded =
-      IsMapWalk-walk_of (put_pair number W C k v) D F cap (HasDistinctKeys-put_pair number W C k v m.distinct) (All-put_pair number (λ p. is_valid p.0) W C k v m.keys key) fits m.factor loaded
-
--- a value that is there, or isn't, adds so much
+-- a value that is there counts once
 pub one_less : {V : Type 0} (o : Option V) (x : V) → o ≡ Some x → ◌≡◌ {A = ℕ} (cond (is_some o) 1 0) 1
 one_less o x e = ap (λ (o : Option _). cond (is_some o) 1 0) e
 
-pub none_more : {V : Type 0} (o : Option V) (x : V) → o ≡ Some x → ◌≡◌ {A = ℕ} (cond (is_some o) 0 1) 0
-none_more o x e = ap (λ (o : Option _). cond (is_some o) 0 1) e
-
-pub one_more : {V : Type 0} (o : Option V) → o ≡ None → ◌≡◌ {A = ℕ} (cond (is_some o) 0 1) 1
-one_more o e = ap (λ (o : Option _). cond (is_some o) 0 1) e
-
 module _ {K V : Type 0} (number : K → ℕ) where
   module _ (is_valid : K → Type 0) (W W' : List (K × V)) (C F n most : ℕ) (old : IsConsistent number is_valid W C F n most) where
+    -- the pairs of a list of distinct keys went into D slots, at the load factor G
+    filled : (L : List (K × V)) (D D' G n' most' : ℕ) → HasDistinctKeys number L → All (λ p. is_valid p.0) L → D' ≡ D → IsCapacity D → G < 2 ^ 64 → W' ≡ walk_of number L D → length L ≡ n' → n' < 2 ^ 64
+        → IsLoaded D n' G → IsThreshold D G most' → IsConsistent number is_valid W' D' G n' most'
+    filled L D D' G n' most' distinct keys same cap factor is len fits loaded threshold = record {
+      map = rw (same, is) (IsMapWalk-walk_of number is_valid L D G cap distinct keys (omega (arith, len, fits)) factor (subst (λ m. IsLoaded D m G) (sym len) loaded));
+      count = sym (ap length is ∙ length-walk_of number L D (λ k. slot_number-below number k D cap) ∙ len);
+      threshold = rw same threshold;
+    }
+
     -- a pair was put in, in D slots
     put : (D D' n' most' : ℕ) (k : K) (x : V) → D' ≡ D → IsCapacity D → is_valid k → W' ≡ walk_of number (put_pair number W C k x) D → length (put_pair number W C k x) ≡ n' → n' < 2 ^ 64 → IsLoaded D n' F → IsThreshold D F most' → IsConsistent number is_valid W' D' F n' most'
     put D D' n' most' k x same cap key is len fits loaded threshold =
-        let here : length (walk_of number (put_pair number W C k x) D) ≡ n' = length-walk_of number (put_pair number W C k x) D (λ k. slot_number-below number k D cap) ∙ len in
-        record {
-          map = rw (same, is) (IsMapWalk-put number is_valid W C F D k x old.map cap key (omega (arith, len, fits)) (subst (λ m. IsLoaded D m F) (sym len) loaded));
-          count = sym (ap length is ∙ here);
-          threshold = rw same threshold;
-        }
+        filled (put_pair number W C k x) D D' F n' most' (HasDistinctKeys-put_pair number W C k x old.map.distinct) (All-put_pair number (λ p. is_valid p.0) W C k x old.map.keys key) same cap old.map.factor is len fits loaded threshold
 
     loaded-old : IsLoaded C n F
     loaded-old = subst (λ m. IsLoaded C m F) (sym old.count) old.map.load
@@ -97,14 +90,10 @@ module _ {K V : Type 0} (number : K → ℕ) where
     -- the pair of a present key was replaced
     pub IsConsistent-replaced : (C' : ℕ) (k : K) (x y : V) → C' ≡ C → is_valid k → value_of number W k ≡ Some y → W' ≡ walk_of number (put_pair number W C k x) C → IsConsistent number is_valid W' C' F n most
     IsConsistent-replaced C' k x y same key bound is =
-        let len = length-put_pair number W C k x in
-        let more = none_more (value_of number W k) y bound in
-        put C C' n most k x same old.map.capacity key is (omega (arith, len, more, old.count)) fits-old loaded-old old.threshold
+        put C C' n most k x same old.map.capacity key is (let len = length-put_pair number W C k x in let all = old.count in grind (arith, len, bound, all)) fits-old loaded-old old.threshold
 
     longer : (k : K) (x : V) → value_of number W k ≡ None → length (put_pair number W C k x) ≡ n + 1
-    longer k x missing =
-        let len = length-put_pair number W C k x in
-        let more = one_more (value_of number W k) missing in omega (arith, len, more, old.count)
+    longer k x missing = let len = length-put_pair number W C k x in let all = old.count in grind (arith, len, missing, all)
 
     -- the pair of an absent key was added, if the table needn't grow
     pub IsConsistent-added : (C' : ℕ) (k : K) (x : V) → C' ≡ C → is_valid k → value_of number W k ≡ None → n + 1 < 2 ^ 64 → (is_due (n + 1) && nat_lt most (n + 1)) ≡ false → W' ≡ walk_of number (put_pair number W C k x) C → IsConsistent number is_valid W' C' F (n + 1) most
@@ -153,11 +142,8 @@ module _ {K V : Type 0} (number : K → ℕ) where
 
     -- the pairs went into D slots, at the load factor G
     pub IsConsistent-grown : (D G most' : ℕ) → IsCapacity D → G < 2 ^ 64 → IsLoaded D (length W) G → IsThreshold D G most' → W' ≡ walk_of number W D → IsConsistent number is_valid W' D G n most'
-    IsConsistent-grown D G most' cap factor loaded threshold is = record {
-      map = rw is (IsMapWalk-walk_of number is_valid W D G cap old.map.distinct old.map.keys old.map.count factor loaded);
-      count = old.count ∙ sym (ap length is ∙ length-walk_of number W D (λ k. slot_number-below number k D cap));
-      threshold = threshold;
-    }
+    IsConsistent-grown D G most' cap factor loaded threshold is =
+        filled W D D G n most' old.map.distinct old.map.keys refl cap factor is (sym old.count) fits-old (subst (λ m. IsLoaded D m G) (sym old.count) loaded) threshold
 
 -- a failed call isn't a successful one
 pub IsOk-at_err : {T E : Type 0} (r : Result T E) → is_err r ≡ true → IsOk r → ⊥
