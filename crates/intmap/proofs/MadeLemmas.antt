@@ -1,5 +1,5 @@
 -- Maps that insertions in turn made: with one pair more, and with a value written.
-use Rattle.std.proofs.Common.{◌≡◌, ℕ, ◌+◌, Bool, true, false, cond, List, [], ◌∷◌, ◌++◌, length, map, option_map, Option, Some, None, refl, sym, ap, ◌∙◌, subst}
+use Rattle.std.proofs.Common.{◌≡◌, ℕ, ◌+◌, Bool, true, false, cond, List, [], ◌∷◌, ◌++◌, length, map, option_map, Option, Some, None, refl, sym, ap, ◌∙◌, subst, arith}
 use Rattle.std.specs.Prelude.{is_some, IsNone, MatchOption}
 use Rattle.std.proofs.lemmas.List.{map-append}
 use Rattle.intmap_table.specs.Bindings.{value_of, take_key, put_pair, write_value, swap_out}
@@ -58,9 +58,7 @@ MatchOption-alike (Some v) None P Q same holds = let no : false ≡ true = same 
 MatchOption-alike (Some v) (Some w) P Q same holds = holds
 
 IsNone-alike : {V : Type 0} (o p : Option V) → is_some p ≡ is_some o → IsNone p → IsNone o
-IsNone-alike None p same none = refl
-IsNone-alike (Some v) None same none = let no : false ≡ true = same in cc
-IsNone-alike (Some v) (Some w) same none = none
+IsNone-alike o p same none = grind (arith, same, none)
 
 module _ {K V : Type 0} (number : K → ℕ) (is_valid : K → Type 0) where
   -- maps with one walk, one capacity and one load factor are maps alike

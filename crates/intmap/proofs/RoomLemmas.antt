@@ -1,5 +1,5 @@
 -- Pairs for which a table has room are inserted in turn, and none fails.
-use Rattle.std.proofs.Common.{◌≡◌, inl, inr, ℕ, ◌+◌, ◌<◌, ◌≤◌, Bool, true, cond, List, [], ◌∷◌, ◌++◌, length, None, refl, sym, ap, ◌∙◌, append_assoc, arith}
+use Rattle.std.proofs.Common.{◌≡◌, inl, inr, ℕ, ◌+◌, ◌<◌, ◌≤◌, Bool, true, cond, List, [], ◌∷◌, ◌++◌, length, get_or, None, refl, sym, ap, ◌∙◌, append_assoc, arith}
 use Rattle.std.specs.Prelude.{◌/◌, ◌%◌, All}
 use Rattle.std.proofs.lemmas.Bool.{cases_Bool, eqb-true}
 use Rattle.std.proofs.lemmas.List.{length-append}
@@ -119,14 +119,10 @@ module _ {K V : Type 0} (number : K → ℕ) (is_valid : K → Type 0) where
     -- behind an insertion there is room for the pairs that are left
     room-after : HasRoomFor number l.walk l.capacity l.factor ps
     room-after = rw (capacity-kept, factor-kept) (record {
-      alone = each ps (All-tail (λ q. class_size number (m.walk ++ p ∷ ps) m.capacity q.0 ≡ 1) p ps room.alone);
+      alone = λ i d below. class_size-all (get_or ps i d).0 ∙ All-tail (λ q. class_size number (m.walk ++ p ∷ ps) m.capacity q.0 ≡ 1) p ps room.alone i d below;
       count = rw length-all room.count;
       load = rw length-all room.load;
     })
-      where
-        each : (qs : List (K × V)) → All (λ q. class_size number (m.walk ++ p ∷ ps) m.capacity q.0 ≡ 1) qs → All (λ q. class_size number (l.walk ++ ps) m.capacity q.0 ≡ 1) qs
-        each [] all = All-nil (λ x. class_size number (l.walk ++ ps) m.capacity x.0 ≡ 1)
-        each (q ∷ qs) all = All-cons (λ x. class_size number (l.walk ++ ps) m.capacity x.0 ≡ 1) q qs (class_size-all q.0 ∙ All-head (λ x. class_size number (m.walk ++ p ∷ ps) m.capacity x.0 ≡ 1) q qs all) (each qs (All-tail (λ x. class_size number (m.walk ++ p ∷ ps) m.capacity x.0 ≡ 1) q qs all))
 
   -- what insertions in turn leave: as many slots, the same load factor, and room for the pairs that are left
   pub record IsRoomLeft (m : MapState K V) (qs : List (K × V)) (n : MapState K V) : Type 0 where
