@@ -5,7 +5,8 @@ use Rattle.std.specs.List.{list_any, flat_map, range_with_len}
 use Rattle.std.proofs.lemmas.List.Elements.{All-nil, All-cons, All-head, All-tail, All-append, All-push, All-filter}
 use Rattle.std.proofs.lemmas.List.{length_push}
 use Rattle.std.proofs.lemmas.List.Sums.{sum_by-cons, sum_by-append}
-use Rattle.std.proofs.lemmas.Bool.{eq-eqb, ne_eqb, cases_eq, cond_both, cond-true, cond-false}
+use Rattle.std.proofs.lemmas.Bool.{cond_both}
+use Rattle.std.proofs.lemmas.Bool.Decides.{nat_tests}
 use Rattle.intmap_table.specs.Classes.{slot_number, same_key, agrees}
 use Rattle.intmap_table.specs.Bindings.{last_passing, without_last, swap_out, value_of, HasDistinctKeys, take_key, put_pair}
 use Rattle.intmap_table.specs.Walk.{slot_of, walk_of}
@@ -21,53 +22,25 @@ module _ {X : Type 0} (weight : X → ℕ) (is_it in_class : X → Bool) where
   last_passing-none d [] h = refl
   last_passing-none d (x ∷ xs) h = let k = last_passing-none d xs in let l = last_passing-none x xs in grind (arith, h, k, l)
 
-  -- one more element in front of those that `sum_by-last` weighs
-  last_step : (d x : X) (xs : List X) (a b : Bool) → list_any in_class xs ≡ a → in_class x ≡ b
-      → (list_any in_class xs ≡ true → (e : X) → weight (last_passing in_class e xs) + sum_by weight (without_last in_class xs) ≡ sum_by weight xs)
-      → list_any in_class (x ∷ xs) ≡ true → weight (last_passing in_class d (x ∷ xs)) + sum_by weight (without_last in_class (x ∷ xs)) ≡ sum_by weight (x ∷ xs)
-  last_step d x xs true b e f h t =
-      let k = h e (cond b x d) in let l = sum_by-cons weight x (without_last in_class xs) in let m = sum_by-cons weight x xs in simp (e, f) (omega (arith, k, l, m))
-  last_step d x xs false true e f h t = let n : last_passing in_class x xs ≡ x = last_passing-none x xs e in let m = sum_by-cons weight x xs in simp (e, f, n) (omega (arith, m))
-  last_step d x xs false false e f h t = let w : false ≡ true = rw (f, e) at t in absurd (let z : false ≡ true = w in cc)
-
   -- the last of a class and the rest weigh what all weigh
   sum_by-last : (d : X) (xs : List X) → list_any in_class xs ≡ true → weight (last_passing in_class d xs) + sum_by weight (without_last in_class xs) ≡ sum_by weight xs
-  sum_by-last d [] t = absurd (let w : false ≡ true = t in cc)
-  sum_by-last d (x ∷ xs) t = last_step d x xs (list_any in_class xs) (in_class x) refl refl (λ h e. sum_by-last e xs h) t
-
-  -- one more element in front of those that `sum_by-swap_out` weighs
-  take_step : (x : X) (xs : List X) (i a : Bool) → is_it x ≡ i → list_any in_class xs ≡ a → sum_by weight (swap_out is_it in_class xs) + taken xs ≡ sum_by weight xs
-      → sum_by weight (swap_out is_it in_class (x ∷ xs)) + taken (x ∷ xs) ≡ sum_by weight (x ∷ xs)
-  take_step x xs true true e f h =
-      let k = sum_by-last x xs f in let l = sum_by-cons weight (last_passing in_class x xs) (without_last in_class xs) in let m = sum_by-cons weight x xs in simp (e, f) (omega (arith, k, l, m))
-  take_step x xs true false e f h = let m = sum_by-cons weight x xs in simp (e, f) (omega (arith, m))
-  take_step x xs false a e f h = let l = sum_by-cons weight x (swap_out is_it in_class xs) in let m = sum_by-cons weight x xs in simp e (omega (arith, h, l, m))
+  sum_by-last d [] t = cc
+  sum_by-last d (x ∷ xs) t =
+      let rest = sum_by-last d xs in let behind = sum_by-last x xs in let none = last_passing-none x xs in
+      let more = sum_by-cons weight x (without_last in_class xs) in let all = sum_by-cons weight x xs in grind (arith, t, rest, behind, none, more, all)
 
   -- what is left and what was taken weigh what all weighed
   pub sum_by-swap_out : (xs : List X) → sum_by weight (swap_out is_it in_class xs) + taken xs ≡ sum_by weight xs
   sum_by-swap_out [] = refl
-  sum_by-swap_out (x ∷ xs) = take_step x xs (is_it x) (list_any in_class xs) refl refl (sum_by-swap_out xs)
+  sum_by-swap_out (x ∷ xs) =
+      let rest = sum_by-swap_out xs in let last = sum_by-last x xs in let moved = sum_by-cons weight (last_passing in_class x xs) (without_last in_class xs) in
+      let more = sum_by-cons weight x (swap_out is_it in_class xs) in let all = sum_by-cons weight x xs in grind (arith, rest, last, moved, more, all)
 
 module _ {X : Type 0} (test in_class : X → Bool) where
-  -- one more element in front of those that `taken-itself` takes from
-  itself_step : (x : X) (xs : List X) (a : Bool) → test x ≡ a → (count_by test xs ≤ 1 → taken (λ y. cond (test y) 1 0) test in_class xs ≡ count_by test xs)
-      → count_by test (x ∷ xs) ≤ 1 → taken (λ y. cond (test y) 1 0) test in_class (x ∷ xs) ≡ count_by test (x ∷ xs)
-  itself_step x xs true e h le =
-      let t : taken (λ y. cond (test y) 1 0) test in_class (x ∷ xs) ≡ 1 = simp e in
-      let c = cond-true {A = ℕ} (test x) 1 0 e in
-      let m = sum_by-cons (λ y. cond (test y) 1 0) x xs in
-      omega (arith, t, c, m, le)
-  itself_step x xs false e h le =
-      let t : taken (λ y. cond (test y) 1 0) test in_class (x ∷ xs) ≡ taken (λ y. cond (test y) 1 0) test in_class xs = simp e in
-      let c = cond-false {A = ℕ} (test x) 1 0 e in
-      let m = sum_by-cons (λ y. cond (test y) 1 0) x xs in
-      let k = h (omega (arith, c, m, le)) in
-      omega (arith, t, c, m, k)
-
   -- of one that passes at most, all that pass are taken
   taken-itself : (xs : List X) → count_by test xs ≤ 1 → taken (λ y. cond (test y) 1 0) test in_class xs ≡ count_by test xs
   taken-itself [] le = refl
-  taken-itself (x ∷ xs) le = itself_step x xs (test x) refl (taken-itself xs) le
+  taken-itself (x ∷ xs) le = let rest = taken-itself xs in let more = sum_by-cons (λ y. cond (test y) 1 0) x xs in grind (arith, rest, more, le)
 
   -- so none is left
   count_by-swap_out : (xs : List X) → count_by test xs ≤ 1 → count_by test (swap_out test in_class xs) ≡ 0
@@ -92,31 +65,16 @@ module _ {X : Type 0} (weight f : X → ℕ) where
   classes-above : (x : X) (xs : List X) (a n : ℕ) → f x < a → sum_by weight (classes (x ∷ xs) a n) ≡ sum_by weight (classes xs a n)
   classes-above x xs a zero lt = refl
   classes-above x xs a (suc n) lt =
-      let t : (f x == a) ≡ false = ne_eqb (f x) a (λ e. omega arith) in
-      let h = classes-above x xs (a + 1) n (omega arith) in
-      let l = sum_by-append weight (filter (λ y. f y == a) xs) (classes (x ∷ xs) (a + 1) n) in
-      let m = sum_by-append weight (filter (λ y. f y == a) xs) (classes xs (a + 1) n) in
-      simp t (omega (arith, h, l, m))
+      let rest = classes-above x xs (a + 1) n (omega arith) in let joined = sum_by-append weight (filter (λ y. f y == a) xs) in
+      let more = joined (classes (x ∷ xs) (a + 1) n) in let old = joined (classes xs (a + 1) n) in grind (arith, nat_tests, lt, rest, more, old)
 
   -- an element of one of these classes adds its weight
   classes-cons : (x : X) (xs : List X) (a n : ℕ) → a ≤ f x → f x < a + n → sum_by weight (classes (x ∷ xs) a n) ≡ weight x + sum_by weight (classes xs a n)
   classes-cons x xs a zero le lt = absurd (omega arith)
-  classes-cons x xs a (suc n) le lt = elim (cases_eq (f x) a) [
-    | inl e ↦
-        (let t : (f x == a) ≡ true = eq-eqb (f x) a e in
-        let h = classes-above x xs (a + 1) n (omega arith) in
-        let k = sum_by-cons weight x (filter (λ y. f y == a) xs ++ classes (x ∷ xs) (a + 1) n) in
-        let l = sum_by-append weight (filter (λ y. f y == a) xs) (classes (x ∷ xs) (a + 1) n) in
-        let m = sum_by-append weight (filter (λ y. f y == a) xs) (classes xs (a + 1) n) in
-        simp t (omega (arith, h, k, l, m)))
-    | inr ne ↦
-        (let t : (f x == a) ≡ false = ne_eqb (f x) a ne in
-        let w : a + 1 ≤ f x = omega (arith, le, ne) in
-        let h = classes-cons x xs (a + 1) n w (omega (arith, lt)) in
-        let l = sum_by-append weight (filter (λ y. f y == a) xs) (classes (x ∷ xs) (a + 1) n) in
-        let m = sum_by-append weight (filter (λ y. f y == a) xs) (classes xs (a + 1) n) in
-        simp t (omega (arith, h, l, m)))
-  ]
+  classes-cons x xs a (suc n) le lt =
+      let above = classes-above x xs (a + 1) n in let rest = classes-cons x xs (a + 1) n in let joined = sum_by-append weight (filter (λ y. f y == a) xs) in
+      let here = sum_by-cons weight x (filter (λ y. f y == a) xs ++ classes (x ∷ xs) (a + 1) n) in
+      let more = joined (classes (x ∷ xs) (a + 1) n) in let old = joined (classes xs (a + 1) n) in grind (arith, nat_tests, le, lt, above, rest, here, more, old)
 
   -- all classes weigh what the list weighs
   pub sum_by-classes : (xs : List X) (n : ℕ) → ((x : X) → f x < n) → sum_by weight (classes xs 0 n) ≡ sum_by weight xs
@@ -188,30 +146,13 @@ module _ {K V : Type 0} (number : K → ℕ) where
       let T : List (K × V) = take_key number L C k in
       let d = HasDistinctKeys-take_key L C k h j in
       let s = sum_by-append (λ p. cond (same_key number j p.0) 1 0) T ((k, v) ∷ []) in
-      elim (cases_eq (number k) (number j)) [
-        | inl e ↦
-            (let none : count_by (λ p. same_key number k p.0) T ≡ 0 = count_by-swap_out (λ p. same_key number k p.0) (λ p. agrees number C k p.0) L (h k) in
-            let gone : count_by (λ p. number p.0 == number j) T ≡ 0 = subst (λ n. count_by (λ p. number p.0 == n) T ≡ 0) e none in
-            let t : (number k == number j) ≡ true = eq-eqb (number k) (number j) e in
-            let u = rw t at s in
-            omega (arith, u, gone))
-        | inr ne ↦
-            (let t : (number k == number j) ≡ false = ne_eqb (number k) (number j) ne in
-            let u = rw t at s in
-            omega (arith, u, d))
-      ]
-
-  -- one more pair in front of those that `taken-value_of` takes from
-  taken-value_step : (C : ℕ) (k : K) (p : K × V) (L : List (K × V)) (a : Bool) → same_key number k p.0 ≡ a
-      → taken (λ _. 1) (λ q. same_key number k q.0) (λ q. agrees number C k q.0) L ≡ cond (is_some (value_of number L k)) 1 0
-      → taken (λ _. 1) (λ q. same_key number k q.0) (λ q. agrees number C k q.0) (p ∷ L) ≡ cond (is_some (value_of number (p ∷ L) k)) 1 0
-  taken-value_step C k p L true e h = simp e
-  taken-value_step C k p L false e h = simp e h
+      let gone = λ (e : number k ≡ number j). subst (λ n. count_by (λ p. number p.0 == n) T ≡ 0) e (count_by-swap_out (λ p. same_key number k p.0) (λ p. agrees number C k p.0) L (h k)) in
+      grind (arith, nat_tests, d, s, gone)
 
   -- a present key weighs one
   taken-value_of : (L : List (K × V)) (C : ℕ) (k : K) → taken (λ _. 1) (λ p. same_key number k p.0) (λ p. agrees number C k p.0) L ≡ cond (is_some (value_of number L k)) 1 0
   taken-value_of [] C k = refl
-  taken-value_of (p ∷ L) C k = taken-value_step C k p L (same_key number k p.0) refl (taken-value_of L C k)
+  taken-value_of (p ∷ L) C k = let rest = taken-value_of L C k in grind (arith, rest)
 
   -- a removal leaves one pair less if the key was present
   pub length-take_key : (L : List (K × V)) (C : ℕ) (k : K) → length (take_key number L C k) + cond (is_some (value_of number L k)) 1 0 ≡ length L
