@@ -4,7 +4,8 @@ use Rattle.std.specs.Prelude.{◌==◌, filter, count_by}
 use Rattle.std.specs.List.{list_any, range_with_len}
 use Rattle.std.proofs.lemmas.List.Sums.{sum_by-cons, length-filter}
 use Rattle.std.proofs.lemmas.List.Filters.{length-filter_both}
-use Rattle.std.proofs.lemmas.Bool.{eq-eqb, ne_eqb, cases_eq, cond-true, cond-false}
+use Rattle.std.proofs.lemmas.Bool.{ne_eqb}
+use Rattle.std.proofs.lemmas.Bool.Decides.{nat_tests}
 use Rattle.intmap_table.specs.Classes.{residue, slot_number, agrees}
 use Rattle.intmap_table.specs.Walk.{slot_of}
 use Rattle.intmap_table.specs.Figures.{each_once, load_of}
@@ -18,50 +19,27 @@ is_filled (x ∷ xs) = true
 abbrev pub times : ℕ → List ℕ → ℕ
 times n ns = count_by (λ m. m == n) ns
 
--- the number itself in front adds one
-times-cons_same : (n m : ℕ) (ns : List ℕ) → m ≡ n → times n (m ∷ ns) ≡ suc (times n ns)
-times-cons_same n m ns e =
-    let t = sum_by-cons (λ m. cond (m == n) 1 0) m ns in let c = cond-true {A = ℕ} (m == n) 1 0 (eq-eqb m n e) in omega (arith, t, c)
-
--- another number in front adds nothing
-times-cons_other : (n m : ℕ) (ns : List ℕ) → m ≢ n → times n (m ∷ ns) ≡ times n ns
-times-cons_other n m ns ne =
-    let t = sum_by-cons (λ m. cond (m == n) 1 0) m ns in let c = cond-false {A = ℕ} (m == n) 1 0 (ne_eqb m n ne) in omega (arith, t, c)
-
 -- a number that is struck occurs nowhere
 times-struck : (n : ℕ) (ns : List ℕ) → times n (filter (λ m. not (m == n)) ns) ≡ 0
 times-struck n [] = refl
-times-struck n (m ∷ ns) = elim (cases_eq m n) [
-  | inl e ↦ (let t = eq-eqb m n e in simp t (times-struck n ns))
-  | inr ne ↦ (let t = ne_eqb m n ne in simp t (times-struck n ns))
-]
+times-struck n (m ∷ ns) = let rest = times-struck n ns in grind (arith, nat_tests, rest)
 
 -- to strike another number changes nothing
 times-struck_other : (n a : ℕ) (ns : List ℕ) → a ≢ n → times n (filter (λ m. not (m == a)) ns) ≡ times n ns
 times-struck_other n a [] ne = refl
-times-struck_other n a (m ∷ ns) ne = elim (cases_eq m a) [
-  | inl e ↦ (let t = eq-eqb m a e in let o : m ≢ n = λ q. ne (sym e ∙ q) in simp t (times-struck_other n a ns ne ∙ sym (times-cons_other n m ns o)))
-  | inr other ↦
-      (let t = ne_eqb m a other in
-      let h = times-struck_other n a ns ne in
-      let k = sum_by-cons (λ m. cond (m == n) 1 0) m (filter (λ m. not (m == a)) ns) in
-      let l = sum_by-cons (λ m. cond (m == n) 1 0) m ns in
-      simp t (omega (arith, h, k, l)))
-]
+times-struck_other n a (m ∷ ns) ne =
+    let rest = times-struck_other n a ns ne in
+    let left = sum_by-cons (λ m. cond (m == n) 1 0) m (filter (λ m. not (m == a)) ns) in let all = sum_by-cons (λ m. cond (m == n) 1 0) m ns in
+    grind (arith, nat_tests, ne, rest, left, all)
 
 -- a number of the list occurs once
 times-each_once : (n : ℕ) (ns : List ℕ) → times n (each_once ns) ≡ cond (list_any (λ m. m == n) ns) 1 0
 times-each_once n [] = refl
-times-each_once n (a ∷ ns) = elim (cases_eq a n) [
-  | inl e ↦
-      (let t : (a == n) ≡ true = eq-eqb a n e in
-      let s : times n (filter (λ m. not (m == a)) (each_once ns)) ≡ 0 = subst (λ b. times n (filter (λ m. not (m == b)) (each_once ns)) ≡ 0) (sym e) (times-struck n (each_once ns)) in
-      let k = times-cons_same n a (filter (λ m. not (m == a)) (each_once ns)) e in
-      k ∙ simp (s, t))
-  | inr ne ↦
-      (let t : (a == n) ≡ false = ne_eqb a n ne in
-      times-cons_other n a (filter (λ m. not (m == a)) (each_once ns)) ne ∙ times-struck_other n a (each_once ns) ne ∙ simp t (times-each_once n ns))
-]
+times-each_once n (a ∷ ns) =
+    let struck = subst (λ b. times n (filter (λ m. not (m == b)) (each_once ns)) ≡ 0) {x = n} {y = a} in
+    let none = λ (e : n ≡ a). struck e (times-struck n (each_once ns)) in let other = times-struck_other n a (each_once ns) in
+    let first = sum_by-cons (λ m. cond (m == n) 1 0) a (filter (λ m. not (m == a)) (each_once ns)) in
+    let rest = times-each_once n ns in grind (arith, nat_tests, none, other, first, rest)
 
 -- a number in front is new, or not
 pub length-each_once : (n : ℕ) (ns : List ℕ) → length (each_once (n ∷ ns)) + cond (list_any (λ m. m == n) ns) 1 0 ≡ suc (length (each_once ns))
@@ -112,36 +90,15 @@ module _ {X : Type 0} (f : X → ℕ) (x : X) (xs : List X) where
   has-cons : (a n : ℕ) → a ≤ f x → f x < a + n → count_by (has (x ∷ xs)) (range_with_len a n) + cond (has xs (f x)) 1 0 ≡ suc (count_by (has xs) (range_with_len a n))
   has-cons a zero le lt = absurd (omega arith)
   has-cons a (suc n) le lt =
-      let l = sum_by-cons (λ i. cond (has (x ∷ xs) i) 1 0) a (range_with_len (a + 1) n) in
-      let m = sum_by-cons (λ i. cond (has xs i) 1 0) a (range_with_len (a + 1) n) in
-      elim (cases_eq (f x) a) [
-        | inl e ↦
-            (let t = eq-eqb (f x) a e in
-            let now : has (x ∷ xs) a ≡ true = simp t in
-            let c = cond-true {A = ℕ} (has (x ∷ xs) a) 1 0 now in
-            let same = ap (λ (i : ℕ). cond {A = ℕ} (has xs i) 1 0) e in
-            let rest = has-above (a + 1) n (omega arith) in
-            omega (arith, l, m, c, same, rest))
-        | inr ne ↦
-            (let t = ne_eqb (f x) a ne in
-            let now : has (x ∷ xs) a ≡ has xs a = simp t in
-            let c = ap (λ (b : Bool). cond {A = ℕ} b 1 0) now in
-            let rest = has-cons (a + 1) n (let w : a + 1 ≤ f x = omega (arith, le, ne) in w) (omega (arith, lt)) in
-            omega (arith, l, m, c, rest))
-      ]
+      let more = sum_by-cons (λ i. cond (has (x ∷ xs) i) 1 0) a (range_with_len (a + 1) n) in
+      let old = sum_by-cons (λ i. cond (has xs i) 1 0) a (range_with_len (a + 1) n) in
+      let above = has-above (a + 1) n in let rest = has-cons (a + 1) n in grind (arith, nat_tests, le, lt, more, old, above, rest)
 
 module _ {K V : Type 0} (number : K → ℕ) (C : ℕ) (spread : (a k : K) → agrees number C k a ≡ (slot_number number a C == slot_number number k C)) where
-  -- one more pair in front of those that `among` looks through
-  among_step : (k : K) (p : K × V) (L : List (K × V)) (b : Bool) → agrees number C k p.0 ≡ b → (slot_number number p.0 C == slot_number number k C) ≡ b
-      → list_any (λ m. m == residue number k C) (map (λ q. residue number q.0 C) L) ≡ is_filled (slot_of number L C (slot_number number k C))
-      → list_any (λ m. m == residue number k C) (map (λ q. residue number q.0 C) (p ∷ L)) ≡ is_filled (slot_of number (p ∷ L) C (slot_number number k C))
-  among_step k p L true e f h = simp (e, f)
-  among_step k p L false e f h = simp (e, f) h
-
   -- a residue is among those left if its slot has a pair
   among : (k : K) (L : List (K × V)) → list_any (λ m. m == residue number k C) (map (λ p. residue number p.0 C) L) ≡ is_filled (slot_of number L C (slot_number number k C))
   among k [] = refl
-  among k (p ∷ L) = among_step k p L (agrees number C k p.0) refl (sym (spread p.0 k)) (among k L)
+  among k (p ∷ L) = let rest = among k L in let same = spread p.0 k in grind (arith, rest, same)
 
   module _ (below : (k : K) → slot_number number k C < C) where
     -- the load is the number of slots that have a pair

@@ -2,7 +2,8 @@
 use Rattle.std.proofs.Common.{◌≡◌, ◌≢◌, ℕ, zero, suc, ◌+◌, ◌<◌, ◌≤◌, Bool, true, false, cond, List, [], ◌∷◌, ◌++◌, length, get_or, set, Option, Some, None, IsSome, is_some, Result, Ok, Err, refl, sym, ap, ◌∙◌, subst, arith, length-set, get_or-set_same}
 use Rattle.std.specs.Prelude.{◌==◌, All, IfOk, OnErr, is_ok, count_by, filter, nat_lt, position}
 use Rattle.std.specs.List.{position_or_len, range_with_len}
-use Rattle.std.proofs.lemmas.Bool.{eqb-true, lt-ltb, eq-eqb}
+use Rattle.std.proofs.lemmas.Bool.{eq-eqb}
+use Rattle.std.proofs.lemmas.Bool.Decides.{nat_tests}
 use Rattle.std.proofs.lemmas.List.{length_push}
 use Rattle.std.proofs.lemmas.List.Elements.{All-cons, All-head, All-tail, filter-append}
 use Rattle.std.proofs.lemmas.List.Folds.{position_or_len_push}
@@ -33,12 +34,8 @@ count_by-filter-le keep test (x ∷ xs) =
 -- the one that a push adds is found if none was found before
 position-push : {X : Type 0} (test : X → Bool) (xs : List X) (x : X) → position test xs ≡ None → test x ≡ true → position test (xs ++ x ∷ []) ≡ Some (length xs)
 position-push test xs x none passes =
-    let all = position_or_len-none test xs none in
-    let same : (position_or_len test xs == length xs) ≡ true = eq-eqb (position_or_len test xs) (length xs) all in
-    let z : length xs + 0 ≡ length xs = omega arith in
-    let e : position_or_len test (xs ++ x ∷ []) ≡ length xs = position_or_len_push test xs x ∙ simp (same, passes) z in
-    let longer = length_push xs x in
-    simp (e, lt-ltb (length xs) (length (xs ++ x ∷ [])) (omega (arith, longer)))
+    let all = position_or_len-none test xs none in let at = position_or_len_push test xs x in let longer = length_push xs x in
+    grind (arith, nat_tests, all, at, longer, passes)
 
 module _ {K X : Type 0} where
   length-write_at : (ps : List (K × X)) (i : ℕ) (v : X) → length (write_at ps i v) ≡ length ps
@@ -62,26 +59,12 @@ module _ {K X : Type 0} (number : K → ℕ) where
       let rest = write_value-missing L k v in
       grind (arith, more, rest, none)
 
-  write_at-found_step : (p : K × X) (L : List (K × X)) (k : K) (v : X) (t : Bool) → same_key number k p.0 ≡ t
-      → (position_or_len (λ q. same_key number k q.0) L < length L → count_by (λ q. same_key number k q.0) L ≤ 1 → write_at L (position_or_len (λ q. same_key number k q.0) L) v ≡ write_value number L k v)
-      → position_or_len (λ q. same_key number k q.0) (p ∷ L) < length (p ∷ L) → count_by (λ q. same_key number k q.0) (p ∷ L) ≤ 1
-      → write_at (p ∷ L) (position_or_len (λ q. same_key number k q.0) (p ∷ L)) v ≡ write_value number (p ∷ L) k v
-  write_at-found_step p L k v true e rest below once =
-      let more = sum_by-cons (λ (q : K × X). cond (same_key number k q.0) 1 0) p L in
-      let none : count_by (λ q. same_key number k q.0) L ≡ 0 = grind (arith, more, once, e) in
-      rw e (ap (λ M. (p.0, v) ∷ M) (sym (write_value-missing L k v none)))
-  write_at-found_step p L k v false e rest below once =
-      let more = sum_by-cons (λ (q : K × X). cond (same_key number k q.0) 1 0) p L in
-      let fewer : count_by (λ q. same_key number k q.0) L ≤ 1 = grind (arith, more, once, e) in
-      let n : ℕ = position_or_len (λ (q : K × X). same_key number k q.0) L in
-      let w : 1 + n < suc (length L) = rw e at below in
-      let o : 1 + n ≡ suc n = omega arith in
-      rw e (ap (λ i. write_at (p ∷ L) i v) o ∙ ap (λ M. p ∷ M) (rest (omega (arith, w)) fewer))
-
   write_at-found : (L : List (K × X)) (k : K) (v : X) → position_or_len (λ q. same_key number k q.0) L < length L → count_by (λ q. same_key number k q.0) L ≤ 1
       → write_at L (position_or_len (λ q. same_key number k q.0) L) v ≡ write_value number L k v
   write_at-found [] k v below once = refl
-  write_at-found (p ∷ L) k v below once = write_at-found_step p L k v (same_key number k p.0) refl (write_at-found L k v) below once
+  write_at-found (p ∷ L) k v below once =
+      let more = sum_by-cons (λ (q : K × X). cond (same_key number k q.0) 1 0) p L in
+      let missing = write_value-missing L k v in let rest = write_at-found L k v in grind (arith, below, once, more, missing, rest)
 
   -- if the key occurs once, a write at its place is a write of its value
   write_at-position : (L : List (K × X)) (k : K) (v : X) (i : ℕ) → position (λ q. same_key number k q.0) L ≡ Some i → count_by (λ q. same_key number k q.0) L ≤ 1 → write_at L i v ≡ write_value number L k v
@@ -89,18 +72,11 @@ module _ {K X : Type 0} (number : K → ℕ) where
       let p = position-within (λ (q : K × X). same_key number k q.0) L i found in
       ap (λ n. write_at L n v) (sym p.0) ∙ write_at-found L k v (subst (λ n. n < length L) (sym p.0) p.1) once
 
-  slot_of-other_step : (p : K × X) (L : List (K × X)) (C : ℕ) (k : K) (v : X) (j : ℕ) (s t : Bool) → same_key number k p.0 ≡ s → (slot_number number p.0 C == j) ≡ t → slot_number number k C ≢ j
-      → slot_of number (write_value number L k v) C j ≡ slot_of number L C j → slot_of number (write_value number (p ∷ L) k v) C j ≡ slot_of number (p ∷ L) C j
-  slot_of-other_step p L C k v j true true e f apart rest = absurd (apart (sym (same_key-slot number C k p e) ∙ eqb-true (slot_number number p.0 C) j f))
-  slot_of-other_step p L C k v j true false e f apart rest = simp (e, f, rest)
-  slot_of-other_step p L C k v j false true e f apart rest = simp (e, f, rest)
-  slot_of-other_step p L C k v j false false e f apart rest = simp (e, f, rest)
-
   -- another slot keeps its values
   slot_of-write_value-other : (L : List (K × X)) (C : ℕ) (k : K) (v : X) (j : ℕ) → slot_number number k C ≢ j → slot_of number (write_value number L k v) C j ≡ slot_of number L C j
   slot_of-write_value-other [] C k v j apart = refl
   slot_of-write_value-other (p ∷ L) C k v j apart =
-      slot_of-other_step p L C k v j (same_key number k p.0) (slot_number number p.0 C == j) refl refl apart (slot_of-write_value-other L C k v j apart)
+      let same = same_key-slot number C k p in let rest = slot_of-write_value-other L C k v j apart in grind (arith, nat_tests, apart, same, rest)
 
   -- the walk of a list with a value written is the walk with it written
   pub walk_of-write_value : (L : List (K × X)) (C : ℕ) (k : K) (v : X) → walk_of number (write_value number L k v) C ≡ write_value number (walk_of number L C) k v

@@ -53,9 +53,7 @@ module _ {X : Type 0} (test : X → Bool) where
   -- behind an element that fails
   pub position-cons_none : (x : X) (xs : List X) → test x ≡ false → position test xs ≡ None → position test (x ∷ xs) ≡ None
   position-cons_none x xs fails none =
-      let l : position_or_len test xs ≡ length xs = position_or_len-none xs none in
-      let e : position_or_len test (x ∷ xs) ≡ length (x ∷ xs) = rw fails (omega (arith, l)) in
-      simp (e, le-ltb (length (x ∷ xs)) (length (x ∷ xs)) (omega arith))
+      let l = position_or_len-none xs none in grind (arith, nat_tests, fails, l)
 
   pub length-through_first-cons : (x : X) (xs : List X) → test x ≡ false → length (through_first test (x ∷ xs)) ≡ length (through_first test xs) + 1
   length-through_first-cons x xs fails = rw fails (omega arith)
@@ -111,9 +109,7 @@ module _ {X : Type 0} (test : X → Bool) where
   -- behind an element that fails, the place is one greater
   pub position-cons_some : (x : X) (xs : List X) (i : ℕ) → test x ≡ false → position test xs ≡ Some i → position test (x ∷ xs) ≡ Some (i + 1)
   position-cons_some x xs i fails found =
-      let p = position-within xs i found in
-      let e : position_or_len test (x ∷ xs) ≡ i + 1 = rw fails (let at = p.0 in omega (arith, at)) in
-      simp (e, lt-ltb (i + 1) (length (x ∷ xs)) (let below = p.1 in omega (arith, below)))
+      let p = position-within xs i found in let at = p.0 in let below = p.1 in grind (arith, nat_tests, fails, at, below)
 
   -- the last element fills the place that was found
   pub swap_remove-position : (xs : List X) (i : ℕ) (x : X) → position test xs ≡ Some i → x ≡ get_or xs i x → swap_remove xs i x ≡ swap_out test any xs
@@ -121,32 +117,18 @@ module _ {X : Type 0} (test : X → Bool) where
       let p = position-within xs i e in
       ap (λ n. swap_remove xs n x) (sym p.0) ∙ swap_remove-position_or_len x xs (subst (λ n. n < length xs) (sym p.0) p.1) (is ∙ ap (λ n. get_or xs n x) (sym p.0))
 
-  swap_out-none-step : (in_class : X → Bool) (ys : List X) (y : X) (t : Bool) → test y ≡ t → (position_or_len test ys ≡ length ys → swap_out test in_class ys ≡ ys) → position_or_len test (y ∷ ys) ≡ length (y ∷ ys) → swap_out test in_class (y ∷ ys) ≡ y ∷ ys
-  swap_out-none-step in_class ys y true t h e = let w : 0 ≡ suc (length ys) = rw t at e in absurd (omega arith)
-  swap_out-none-step in_class ys y false t h e = let w : 1 + position_or_len test ys ≡ suc (length ys) = rw t at e in simp (t, h (omega arith))
-
   swap_out-position_or_len : (in_class : X → Bool) (xs : List X) → position_or_len test xs ≡ length xs → swap_out test in_class xs ≡ xs
   swap_out-position_or_len in_class [] e = refl
-  swap_out-position_or_len in_class (y ∷ ys) e = swap_out-none-step in_class ys y (test y) refl (swap_out-position_or_len in_class ys) e
+  swap_out-position_or_len in_class (y ∷ ys) e = let rest = swap_out-position_or_len in_class ys in grind (arith, e, rest)
 
   -- if none passes, none is taken
   pub swap_out-none : (in_class : X → Bool) (xs : List X) → position test xs ≡ None → swap_out test in_class xs ≡ xs
   swap_out-none in_class xs e = swap_out-position_or_len in_class xs (position_or_len-none test xs e)
 
 module _ {K V : Type 0} (test : K → Bool) where
-  first_value-step : (p : K × V) (L : List (K × V)) (d : K × V) (t : Bool) → test p.0 ≡ t
-      → (position_or_len (λ q. test q.0) L < length L → first_value test L ≡ Some (get_or L (position_or_len (λ q. test q.0) L) d).1)
-      → position_or_len (λ q. test q.0) (p ∷ L) < length (p ∷ L) → first_value test (p ∷ L) ≡ Some (get_or (p ∷ L) (position_or_len (λ q. test q.0) (p ∷ L)) d).1
-  first_value-step p L d true t h below = simp t
-  first_value-step p L d false t h below =
-      let n : ℕ = position_or_len (λ (q : K × V). test q.0) L in
-      let w : 1 + n < suc (length L) = rw t at below in
-      let o : 1 + n ≡ suc n = omega arith in
-      rw t (h (omega arith) ∙ ap (λ k. Some (get_or (p ∷ L) k d).1) (sym o))
-
   first_value-position_or_len : (L : List (K × V)) (d : K × V) → position_or_len (λ q. test q.0) L < length L → first_value test L ≡ Some (get_or L (position_or_len (λ q. test q.0) L) d).1
   first_value-position_or_len [] d below = absurd (omega arith)
-  first_value-position_or_len (p ∷ L) d below = first_value-step p L d (test p.0) refl (first_value-position_or_len L d) below
+  first_value-position_or_len (p ∷ L) d below = let rest = first_value-position_or_len L d in grind (arith, below, rest)
 
   -- the value at the place that was found
   pub first_value-position : (L : List (K × V)) (i : ℕ) (d : K × V) → position (λ q. test q.0) L ≡ Some i → first_value test L ≡ Some (get_or L i d).1
@@ -154,13 +136,9 @@ module _ {K V : Type 0} (test : K → Bool) where
       let p = position-within (λ (q : K × V). test q.0) L i e in
       first_value-position_or_len L d (subst (λ n. n < length L) (sym p.0) p.1) ∙ ap (λ n. Some (get_or L n d).1) p.0
 
-  first_value-none-step : (L : List (K × V)) (p : K × V) (t : Bool) → test p.0 ≡ t → (position_or_len (λ q. test q.0) L ≡ length L → first_value test L ≡ None) → position_or_len (λ q. test q.0) (p ∷ L) ≡ length (p ∷ L) → first_value test (p ∷ L) ≡ None
-  first_value-none-step L p true t h e = let w : 0 ≡ suc (length L) = rw t at e in absurd (omega arith)
-  first_value-none-step L p false t h e = let w : 1 + position_or_len (λ (q : K × V). test q.0) L ≡ suc (length L) = rw t at e in simp (t, h (omega arith))
-
   first_value-all : (L : List (K × V)) → position_or_len (λ q. test q.0) L ≡ length L → first_value test L ≡ None
   first_value-all [] e = refl
-  first_value-all (p ∷ L) e = first_value-none-step L p (test p.0) refl (first_value-all L) e
+  first_value-all (p ∷ L) e = let rest = first_value-all L in grind (arith, e, rest)
 
   -- if none is found, there is no value
   pub first_value-none : (L : List (K × V)) → position (λ q. test q.0) L ≡ None → first_value test L ≡ None
