@@ -31,6 +31,19 @@ module _ {X : Type 0} (ps qs : List X) (i : ℕ) (q : X) (left : qs ≡ set ps i
   pub length-written : length qs ≡ length ps
   length-written = ap length left ∙ length-set ps i q
 
+module _ {F X : Type 0} (R : F → X → Bool → F → X → Type 0) (P : F → List X → Option X → F → List X → List X → Type 0)
+    (none : (f : F) → P f [] None f [] []) (picks : (f g : F) (x y : X) (L : List X) → R f x true g y → P f (x ∷ L) (Some y) g [] L)
+    (keeps : (f h g : F) (x y : X) (L kept rest : List X) (r : Option X) → R f x false h y → P h L r g kept rest → P f (x ∷ L) r g (y ∷ kept) rest) where
+  -- what holds at the end, of a step that picks the first element, and of one behind an element that isn't picked holds of each step
+  pub ExtractsNext-induct : (f g : F) (L kept rest : List X) (r : Option X) → ExtractsNext R f L r g kept rest → P f L r g kept rest
+  ExtractsNext-induct f g [] kept rest r e = rw (e.0, e.1, e.2, e.3) (none f)
+  ExtractsNext-induct f g (x ∷ L) kept rest r e = either e.0 e.3 e.4 (λ k step. ExtractsNext-induct e.1 g L k rest r step)
+    where
+      either : (b : Bool) → R f x b e.1 e.2 → MatchBool b ((r ≡ Some e.2) × (g ≡ e.1) × (kept ≡ []) × (rest ≡ L)) ((k : List X) × ExtractsNext R e.1 L r g k rest × (kept ≡ e.2 ∷ k))
+          → ((k : List X) → ExtractsNext R e.1 L r g k rest → P e.1 L r g k rest) → P f (x ∷ L) r g kept rest
+      either true call m on = rw (m.0, m.1, m.2, m.3) (picks f e.1 x e.2 L call)
+      either false call m on = rw m.2 (keeps f e.1 g x e.2 L m.0 rest r call (on m.0 m.1))
+
 module _ {F X : Type 0} (R : F → X → Bool → F → X → Type 0) where
   -- a step through L behind D is one through L₀ behind D₀
   abbrev pub StepsTo : F → List X → List X → F → List X → List X → Type 0
@@ -86,27 +99,15 @@ module _ {F X : Type 0} (R : F → X → Bool → F → X → Type 0) where
 
   -- none of the front is picked, so the step goes on behind it
   pub ExtractsNext-on : (f g h : F) (xs ys ks zs kept rest : List X) (r : Option X) → ExtractsNext R f xs None g ks zs → ExtractsNext R g ys r h kept rest → ExtractsNext R f (xs ++ ys) r h (ks ++ kept) rest
-  ExtractsNext-on f g h [] ys ks zs kept rest r first more = subst (λ Z. ExtractsNext R f ys r h (Z ++ kept) rest) (sym first.2) (subst (λ z. ExtractsNext R z ys r h kept rest) first.1 more)
-  ExtractsNext-on f g h (x ∷ xs) ys ks zs kept rest r first more =
-      (first.0, first.1, first.2, first.3, either first.0 first.4 (λ k step. ExtractsNext-on first.1 g h xs ys k zs kept rest r step more))
-    where
-      either : (b : Bool) → MatchBool b ((None ≡ Some first.2) × (g ≡ first.1) × (ks ≡ []) × (zs ≡ xs)) ((k : List X) × ExtractsNext R first.1 xs None g k zs × (ks ≡ first.2 ∷ k))
-          → ((k : List X) → ExtractsNext R first.1 xs None g k zs → ExtractsNext R first.1 (xs ++ ys) r h (k ++ kept) rest)
-          → MatchBool b ((r ≡ Some first.2) × (h ≡ first.1) × (ks ++ kept ≡ []) × (rest ≡ xs ++ ys)) ((k : List X) × ExtractsNext R first.1 (xs ++ ys) r h k rest × (ks ++ kept ≡ first.2 ∷ k))
-      either true m on = let no : ◌≡◌ {A = Option X} None (Some first.2) = m.0 in cc
-      either false m on = (m.0 ++ kept, on m.0 m.1, ap (λ Z. Z ++ kept) m.2)
+  ExtractsNext-on f g h xs ys ks zs kept rest r first more =
+      ExtractsNext-induct R (λ f xs o g ks zs. o ≡ None → ExtractsNext R g ys r h kept rest → ExtractsNext R f (xs ++ ys) r h (ks ++ kept) rest) (λ f _ more. more) (λ f g x y L call no. cc)
+      (λ f u g x y L ks zs o call on none more. (false, u, y, call, (ks ++ kept, on none more, refl))) f g xs ks zs None first refl more
 
   -- one of the front is picked, so what is behind the front stays
   pub ExtractsNext-stop : (f g : F) (xs ys ks zs : List X) (z : X) → ExtractsNext R f xs (Some z) g ks zs → ExtractsNext R f (xs ++ ys) (Some z) g ks (zs ++ ys)
-  ExtractsNext-stop f g [] ys ks zs z first = let no : ◌≡◌ {A = Option X} (Some z) None = first.0 in cc
-  ExtractsNext-stop f g (x ∷ xs) ys ks zs z first =
-      (first.0, first.1, first.2, first.3, either first.0 first.4 (λ k step. ExtractsNext-stop first.1 g xs ys k zs z step))
-    where
-      either : (b : Bool) → MatchBool b ((Some z ≡ Some first.2) × (g ≡ first.1) × (ks ≡ []) × (zs ≡ xs)) ((k : List X) × ExtractsNext R first.1 xs (Some z) g k zs × (ks ≡ first.2 ∷ k))
-          → ((k : List X) → ExtractsNext R first.1 xs (Some z) g k zs → ExtractsNext R first.1 (xs ++ ys) (Some z) g k (zs ++ ys))
-          → MatchBool b ((Some z ≡ Some first.2) × (g ≡ first.1) × (ks ≡ []) × (zs ++ ys ≡ xs ++ ys)) ((k : List X) × ExtractsNext R first.1 (xs ++ ys) (Some z) g k (zs ++ ys) × (ks ≡ first.2 ∷ k))
-      either true m on = (m.0, m.1, m.2, ap (λ Z. Z ++ ys) m.3)
-      either false m on = (m.0, on m.0 m.1, m.2)
+  ExtractsNext-stop f g xs ys ks zs z first =
+      ExtractsNext-induct R (λ f xs o g ks zs. o ≡ Some z → ExtractsNext R f (xs ++ ys) o g ks (zs ++ ys)) (λ f no. cc) (λ f g x y L call _. (true, g, y, call, (refl, refl, refl, refl)))
+      (λ f u g x y L ks zs o call on some. (false, u, y, call, (ks, on some, refl))) f g xs ks zs (Some z) first refl
 
   -- a step through the front of what is left, if it picks none
   pub StepsTo-on : (f₀ f h : F) (D₀ L₀ D xs ys ks zs : List X) → StepsTo f₀ D₀ L₀ f D (xs ++ ys) → ExtractsNext R f xs None h ks zs → StepsTo f₀ D₀ L₀ h (D ++ ks) ys
@@ -119,53 +120,32 @@ module _ {F X : Type 0} (R : F → X → Bool → F → X → Type 0) where
       → (k₀ : List X) × ExtractsNext R f₀ L₀ (Some z) h k₀ (zs ++ ys) × (D ++ ks ≡ D₀ ++ k₀)
   StepsTo-stop f₀ f h D₀ L₀ D xs ys ks zs z leads first = leads (Some z) h ks (zs ++ ys) (ExtractsNext-stop f h xs ys ks zs z first)
 
-  -- what the closure takes of the elements before a step it takes of those that are left
-  pub TakesEach-rest : (Q : F → X → Type 0) (f g : F) (L kept rest : List X) (r : Option X) → TakesEach (λ f x (a : Bool × X) g. R f x a.0 g a.1) Q f L → ExtractsNext R f L r g kept rest
-      → TakesEach (λ f x (a : Bool × X) g. R f x a.0 g a.1) Q g rest
-  TakesEach-rest Q f g [] kept rest r takes e = subst (λ Z. TakesEach (λ f x (a : Bool × X) g. R f x a.0 g a.1) Q g Z) (sym e.3) (subst (λ h. TakesEach (λ f x (a : Bool × X) g. R f x a.0 g a.1) Q h []) (sym e.1) takes)
-  TakesEach-rest Q f g (x ∷ L) kept rest r takes e =
-      let next = TakesEach-next (λ f x (a : Bool × X) g. R f x a.0 g a.1) Q f e.1 x (e.0, e.2) L takes e.3 in
-      either e.0 e.4 next (λ k step. TakesEach-rest Q e.1 g L k rest r next step)
-    where
-      Takes : F → List X → Type 0
-      Takes = TakesEach (λ f x (a : Bool × X) g. R f x a.0 g a.1) Q
+  -- Q gives what each call takes
+  abbrev pub Takes : (F → X → Type 0) → F → List X → Type 0
+  Takes Q = TakesEach (λ f x (a : Bool × X) g. R f x a.0 g a.1) Q
 
-      either : (b : Bool) → MatchBool b ((r ≡ Some e.2) × (g ≡ e.1) × (kept ≡ []) × (rest ≡ L)) ((k : List X) × ExtractsNext R e.1 L r g k rest × (kept ≡ e.2 ∷ k)) → Takes e.1 L
-          → ((k : List X) → ExtractsNext R e.1 L r g k rest → Takes g rest) → Takes g rest
-      either true m next on = subst (λ Z. Takes g Z) (sym m.3) (subst (λ h. Takes h L) (sym m.1) next)
-      either false m next on = on m.0 m.1
+  next : (Q : F → X → Type 0) (f g : F) (x : X) (a : Bool × X) (L : List X) → Takes Q f (x ∷ L) → R f x a.0 g a.1 → Takes Q g L
+  next Q f g x a L takes call = TakesEach-next (λ f x (a : Bool × X) g. R f x a.0 g a.1) Q f g x a L takes call
+
+  -- what the closure takes of the elements before a step it takes of those that are left
+  pub TakesEach-rest : (Q : F → X → Type 0) (f g : F) (L kept rest : List X) (r : Option X) → Takes Q f L → ExtractsNext R f L r g kept rest → Takes Q g rest
+  TakesEach-rest Q f g L kept rest r takes e =
+      ExtractsNext-induct R (λ f L r g kept rest. Takes Q f L → Takes Q g rest) (λ f takes. takes) (λ f g x y L call takes. next Q f g x (true, y) L takes call)
+      (λ f h g x y L kept rest r call more takes. more (next Q f h x (false, y) L takes call)) f g L kept rest r e takes
 
   -- and if none is picked, of those behind
-  pub TakesEach-on : (Q : F → X → Type 0) (f g : F) (xs ys kept rest : List X) → TakesEach (λ f x (a : Bool × X) g. R f x a.0 g a.1) Q f (xs ++ ys) → ExtractsNext R f xs None g kept rest
-      → TakesEach (λ f x (a : Bool × X) g. R f x a.0 g a.1) Q g ys
-  TakesEach-on Q f g [] ys kept rest takes e = subst (λ h. TakesEach (λ f x (a : Bool × X) g. R f x a.0 g a.1) Q h ys) (sym e.1) takes
-  TakesEach-on Q f g (x ∷ xs) ys kept rest takes e =
-      let next = TakesEach-next (λ f x (a : Bool × X) g. R f x a.0 g a.1) Q f e.1 x (e.0, e.2) (xs ++ ys) takes e.3 in
-      either e.0 e.4 (λ k step. TakesEach-on Q e.1 g xs ys k rest next step)
-    where
-      Takes : F → List X → Type 0
-      Takes = TakesEach (λ f x (a : Bool × X) g. R f x a.0 g a.1) Q
-
-      either : (b : Bool) → MatchBool b ((None ≡ Some e.2) × (g ≡ e.1) × (kept ≡ []) × (rest ≡ xs)) ((k : List X) × ExtractsNext R e.1 xs None g k rest × (kept ≡ e.2 ∷ k))
-          → ((k : List X) → ExtractsNext R e.1 xs None g k rest → Takes g ys) → Takes g ys
-      either true m on = let no : ◌≡◌ {A = Option X} None (Some e.2) = m.0 in cc
-      either false m on = on m.0 m.1
+  pub TakesEach-on : (Q : F → X → Type 0) (f g : F) (xs ys kept rest : List X) → Takes Q f (xs ++ ys) → ExtractsNext R f xs None g kept rest → Takes Q g ys
+  TakesEach-on Q f g xs ys kept rest takes e =
+      ExtractsNext-induct R (λ f xs r g kept rest. r ≡ None → Takes Q f (xs ++ ys) → Takes Q g ys) (λ f _ takes. takes) (λ f g x y L call no. cc)
+      (λ f h g x y L kept rest r call more none takes. more none (next Q f h x (false, y) (L ++ ys) takes call)) f g xs kept rest None e refl takes
 
   -- a weight that R leaves alone is the weight of what stays and of what is removed
   module _ (w : X → ℕ) (same : (f : F) (x : X) (b : Bool) (g : F) (y : X) → R f x b g y → w y ≡ w x) where
     pub sum_by-ExtractsNext : (f g : F) (L kept rest : List X) (r : Option X) → ExtractsNext R f L r g kept rest → sum_by w L ≡ sum_by w kept + sum_by w (option_to_list r) + sum_by w rest
-    sum_by-ExtractsNext f g [] kept rest r e = (λ i. sum_by w (sym e.2 i) + sum_by w (option_to_list (sym e.0 i)) + sum_by w (sym e.3 i))
-    sum_by-ExtractsNext f g (x ∷ L) kept rest r e = either e.0 e.4 (λ k step. sum_by-ExtractsNext e.1 g L k rest r step)
-      where
-        here : sum_by w (x ∷ L) ≡ w e.2 + sum_by w L
-        here = let cons = sum_by-cons w x L in let is = same f x e.0 e.1 e.2 e.3 in omega (arith, cons, is)
-
-        either : (b : Bool) → MatchBool b ((r ≡ Some e.2) × (g ≡ e.1) × (kept ≡ []) × (rest ≡ L)) ((k : List X) × ExtractsNext R e.1 L r g k rest × (kept ≡ e.2 ∷ k))
-            → ((k : List X) → ExtractsNext R e.1 L r g k rest → sum_by w L ≡ sum_by w k + sum_by w (option_to_list r) + sum_by w rest) → sum_by w (x ∷ L) ≡ sum_by w kept + sum_by w (option_to_list r) + sum_by w rest
-        either true m on =
-            let none = ap (sum_by w) m.2 in let one = ap (λ o. sum_by w (option_to_list o)) m.0 in let cons = sum_by-cons w e.2 [] in let left = ap (sum_by w) m.3 in
-            omega (arith, here, none, one, cons, left)
-        either false m on = let more = on m.0 m.1 in let k = ap (sum_by w) m.2 in let cons = sum_by-cons w e.2 m.0 in omega (arith, here, more, k, cons)
+    sum_by-ExtractsNext =
+        ExtractsNext-induct R (λ f L r g kept rest. sum_by w L ≡ sum_by w kept + sum_by w (option_to_list r) + sum_by w rest) (λ f. refl)
+        (λ f g x y L call. let is = same f x true g y call in let cons = sum_by-cons w x L in let one = sum_by-cons w y [] in grind (arith, is, cons, one))
+        (λ f h g x y L kept rest r call more. let is = same f x false h y call in let cons = sum_by-cons w x L in let stay = sum_by-cons w y kept in omega (arith, is, cons, stay, more))
 
     pub sum_by-ExtractsBehind : (f g : F) (L M : List X) (i j : ℕ) (r : Option X) → ExtractsBehind R f L i r g M j → sum_by w L ≡ sum_by w M + sum_by w (option_to_list r)
     sum_by-ExtractsBehind f g L M i j r e =
@@ -176,13 +156,9 @@ module _ {F X : Type 0} (R : F → X → Bool → F → X → Type 0) where
 
   -- no element is added, and only the removed one is lost
   pub length-ExtractsNext : (f g : F) (L kept rest : List X) (r : Option X) → ExtractsNext R f L r g kept rest → length L ≡ length kept + option_len r + length rest
-  length-ExtractsNext f g [] kept rest r e = (λ i. length (sym e.2 i) + option_len (sym e.0 i) + length (sym e.3 i))
-  length-ExtractsNext f g (x ∷ L) kept rest r e = either e.0 e.4 (λ k step. length-ExtractsNext e.1 g L k rest r step)
-    where
-      either : (b : Bool) → MatchBool b ((r ≡ Some e.2) × (g ≡ e.1) × (kept ≡ []) × (rest ≡ L)) ((k : List X) × ExtractsNext R e.1 L r g k rest × (kept ≡ e.2 ∷ k))
-          → ((k : List X) → ExtractsNext R e.1 L r g k rest → length L ≡ length k + option_len r + length rest) → length (x ∷ L) ≡ length kept + option_len r + length rest
-      either true m on = let none = ap length m.2 in let one = ap option_len m.0 in let left = ap length m.3 in omega (arith, none, one, left)
-      either false m on = let more = on m.0 m.1 in let k = ap length m.2 in omega (arith, more, k)
+  length-ExtractsNext =
+      ExtractsNext-induct R (λ f L r g kept rest. length L ≡ length kept + option_len r + length rest) (λ f. refl) (λ f g x y L call. omega arith)
+      (λ f h g x y L kept rest r call more. omega (arith, more))
 
   pub length-ExtractsBehind : (f g : F) (L M : List X) (i j : ℕ) (r : Option X) → ExtractsBehind R f L i r g M j → length L ≡ length M + option_len r
   length-ExtractsBehind f g L M i j r e =
@@ -195,13 +171,9 @@ module _ {F X : Type 0} (R : F → X → Bool → F → X → Type 0) where
   -- what holds of all elements, and R leaves, holds of those that stay
   module _ (P : X → Type 0) (same : (f : F) (x : X) (b : Bool) (g : F) (y : X) → R f x b g y → P x → P y) where
     All-ExtractsNext : (f g : F) (L kept rest : List X) (r : Option X) → ExtractsNext R f L r g kept rest → All P L → All P (kept ++ rest)
-    All-ExtractsNext f g [] kept rest r e all = subst (All P) (sym (λ i. e.2 i ++ e.3 i)) (All-nil P)
-    All-ExtractsNext f g (x ∷ L) kept rest r e all = either e.0 e.4 (λ k step. All-ExtractsNext e.1 g L k rest r step (All-tail P x L all))
-      where
-        either : (b : Bool) → MatchBool b ((r ≡ Some e.2) × (g ≡ e.1) × (kept ≡ []) × (rest ≡ L)) ((k : List X) × ExtractsNext R e.1 L r g k rest × (kept ≡ e.2 ∷ k))
-            → ((k : List X) → ExtractsNext R e.1 L r g k rest → All P (k ++ rest)) → All P (kept ++ rest)
-        either true m on = subst (All P) (sym (λ i. m.2 i ++ m.3 i)) (All-tail P x L all)
-        either false m on = subst (λ Z. All P (Z ++ rest)) (sym m.2) (All-cons P e.2 (m.0 ++ rest) (same f x e.0 e.1 e.2 e.3 (All-head P x L all)) (on m.0 m.1))
+    All-ExtractsNext =
+        ExtractsNext-induct R (λ f L r g kept rest. All P L → All P (kept ++ rest)) (λ f all. all) (λ f g x y L call all. All-tail P x L all)
+        (λ f h g x y L kept rest r call more all. All-cons P y (kept ++ rest) (same f x false h y call (All-head P x L all)) (more (All-tail P x L all)))
 
     pub All-ExtractsBehind : (f g : F) (L M : List X) (i j : ℕ) (r : Option X) → ExtractsBehind R f L i r g M j → All P L → All P M
     All-ExtractsBehind f g L M i j r e all =
@@ -220,39 +192,18 @@ module _ {F X : Type 0} (R : F → X → Bool → F → X → Type 0) where
 module _ {F X : Type 0} (R : F → X → Bool → F → X → Type 0) where
   -- a step that removes none goes to the end
   pub ExtractsNext-end : (f g : F) (L kept rest : List X) → ExtractsNext R f L None g kept rest → rest ≡ []
-  ExtractsNext-end f g [] kept rest e = e.3
-  ExtractsNext-end f g (x ∷ L) kept rest e = either e.0 e.4 (λ k step. ExtractsNext-end e.1 g L k rest step)
-    where
-      either : (b : Bool) → MatchBool b ((None ≡ Some e.2) × (g ≡ e.1) × (kept ≡ []) × (rest ≡ L)) ((k : List X) × ExtractsNext R e.1 L None g k rest × (kept ≡ e.2 ∷ k)) → ((k : List X) → ExtractsNext R e.1 L None g k rest → rest ≡ []) → rest ≡ []
-      either true m on = let no : ◌≡◌ {A = Option X} None (Some e.2) = m.0 in cc
-      either false m on = on m.0 m.1
+  ExtractsNext-end f g L kept rest e =
+      ExtractsNext-induct R (λ f L r g kept rest. r ≡ None → rest ≡ []) (λ f _. refl) (λ f g x y L call no. cc) (λ f h g x y L kept rest r call more. more) f g L kept rest None e refl
 
   -- a step if each answer is a test of the element alone, no element is changed, and `Own` holds of the closure throughout: of the elements
   -- that pass, the first is removed; the others stay as they are; and `Own` holds behind it
   pub ExtractsNext-filter : (Own : F → Type 0) (test : X → Bool) → ((f : F) (x : X) (b : Bool) (g : F) (y : X) → Own f → R f x b g y → (b ≡ test x) × (y ≡ x) × Own g)
       → (f g : F) (L kept rest : List X) (r : Option X) → Own f → ExtractsNext R f L r g kept rest
       → (filter test L ≡ option_to_list r ++ filter test rest) × (filter (λ x. not (test x)) L ≡ kept ++ filter (λ x. not (test x)) rest) × Own g
-  ExtractsNext-filter Own test each f g [] kept rest r own e =
-      ((λ i. option_to_list (sym e.0 i) ++ filter test (sym e.3 i)), (λ i. sym e.2 i ++ filter (λ x. not (test x)) (sym e.3 i)), subst Own (sym e.1) own)
-  ExtractsNext-filter Own test each f g (x ∷ L) kept rest r own e =
-      either e.0 (test x) here.0 e.4 (λ k step. ExtractsNext-filter Own test each e.1 g L k rest r here.2 step)
-    where
-      here : (e.0 ≡ test x) × (e.2 ≡ x) × Own e.1
-      here = each f x e.0 e.1 e.2 own e.3
-
-      fails : X → Bool
-      fails x = not (test x)
-
-      either : (b c : Bool) → b ≡ c → MatchBool b ((r ≡ Some e.2) × (g ≡ e.1) × (kept ≡ []) × (rest ≡ L)) ((k : List X) × ExtractsNext R e.1 L r g k rest × (kept ≡ e.2 ∷ k))
-          → ((k : List X) → ExtractsNext R e.1 L r g k rest → (filter test L ≡ option_to_list r ++ filter test rest) × (filter fails L ≡ k ++ filter fails rest) × Own g)
-          → (cond c (x ∷ filter test L) (filter test L) ≡ option_to_list r ++ filter test rest) × (cond (not c) (x ∷ filter fails L) (filter fails L) ≡ kept ++ filter fails rest) × Own g
-      either true true same m on = (
-        (λ i. sym here.1 i ∷ filter test L) ∙ (λ i. option_to_list (sym m.0 i) ++ filter test (sym m.3 i)),
-        (λ i. sym m.2 i ++ filter fails (sym m.3 i)),
-        subst Own (sym m.1) here.2,
-      )
-      either true false same m on = let no : true ≡ false = same in cc
-      either false true same m on = let no : false ≡ true = same in cc
-      either false false same m on =
-          let more = on m.0 m.1 in
-          (more.0, (λ i. x ∷ more.1 i) ∙ (λ i. sym here.1 i ∷ (m.0 ++ filter fails rest)) ∙ (λ i. sym m.2 i ++ filter fails rest), more.2)
+  ExtractsNext-filter Own test each f g L kept rest r own e =
+      ExtractsNext-induct R
+      (λ f L r g kept rest. Own f → (filter test L ≡ option_to_list r ++ filter test rest) × (filter (λ x. not (test x)) L ≡ kept ++ filter (λ x. not (test x)) rest) × Own g)
+      (λ f own. (refl, refl, own))
+      (λ f g x y L call own. let here = each f x true g y own call in rw (← here.0, here.1) (refl, refl, here.2))
+      (λ f h g x y L kept rest r call more own. let here = each f x false h y own call in let on = more here.2 in rw (← here.0, here.1) (on.0, ap (λ xs. x ∷ xs) on.1, on.2))
+      f g L kept rest r e own
