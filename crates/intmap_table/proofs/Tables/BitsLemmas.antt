@@ -164,19 +164,18 @@ with_word-is marks ns i word same is others =
           ap (λ b. cond b (has_bit word (j % 64)) (marked marks j)) no ∙ sym (others j below apart))
     ]))
 
--- a word that has the marks without one takes that one away
-pub with_word-unmarked : (marks : List Bool) (i word : ℕ) → IsWordOf (set marks i false) i word → with_word marks i word ≡ set marks i false
-with_word-unmarked marks i word is =
-    with_word-is marks (set marks i false) i word (length-set marks i false) is (λ j below apart. get_or-set_other marks i j false false (λ q. apart (ap (λ n. n / 64) q)))
+-- a word that has the marks with one index marked or not marks it so
+pub with_word-set : (marks : List Bool) (i word : ℕ) (b : Bool) → IsWordOf (set marks i b) i word → with_word marks i word ≡ set marks i b
+with_word-set marks i word b is =
+    with_word-is marks (set marks i b) i word (length-set marks i b) is (λ j below apart. get_or-set_other marks i j b false (λ q. apart (ap (λ n. n / 64) q)))
 
--- a word without the bit of an index has the marks without that index
-pub IsWordOf-unmarked : (marks : List Bool) (i word less : ℕ) → i < length marks → IsWordOf marks i word → bit_at less (i % 64) ≡ 0 → ((j : ℕ) → j < 64 → j ≢ i % 64 → bit_at less j ≡ bit_at word j)
-    → IsWordOf (set marks i false) i less
-IsWordOf-unmarked marks i word less below is none others j lt = elim (cases_eq j (i % 64)) [
-  | inl e ↦ (let at : 64 * (i / 64) + j ≡ i = omega (arith, e) in
-      ap (has_bit less) e ∙ ne_eqb (bit_at less (i % 64)) 1 (λ q. omega (arith, none, q)) ∙ sym (ap (marked (set marks i false)) at ∙ get_or-set_same marks i false false below))
+-- a word with the bit of an index changed has the marks with that index changed
+pub IsWordOf-set : (marks : List Bool) (i word new : ℕ) (b : Bool) → i < length marks → IsWordOf marks i word → has_bit new (i % 64) ≡ b → ((j : ℕ) → j < 64 → j ≢ i % 64 → bit_at new j ≡ bit_at word j)
+    → IsWordOf (set marks i b) i new
+IsWordOf-set marks i word new b below is here others j lt = elim (cases_eq j (i % 64)) [
+  | inl e ↦ (let at : 64 * (i / 64) + j ≡ i = omega (arith, e) in ap (has_bit new) e ∙ here ∙ sym (ap (marked (set marks i b)) at ∙ get_or-set_same marks i b false below))
   | inr apart ↦ (let other : 64 * (i / 64) + j ≢ i = λ q. apart (omega (arith, q, lt)) in
-      ap (λ (b : ℕ). nat_eq b 1) (others j lt apart) ∙ is j lt ∙ sym (get_or-set_other marks i (64 * (i / 64) + j) false false other))
+      ap (λ (b : ℕ). nat_eq b 1) (others j lt apart) ∙ is j lt ∙ sym (get_or-set_other marks i (64 * (i / 64) + j) b false other))
 ]
 
 -- another word among words has its bits around the index
@@ -213,29 +212,8 @@ marks_of-zeros n =
 pub marks_of-set : (words : List ℕ) (i word : ℕ) (b : Bool) → i < 64 * length words → has_bit word (i % 64) ≡ b → ((j : ℕ) → j < 64 → j ≢ i % 64 → bit_at word j ≡ bit_at (get_or words (i / 64) 0) j)
     → marks_of (set words (i / 64) word) ≡ set (marks_of words) i b
 marks_of-set words i word b below is others =
-    let l = length-marks_of words in
-    let m = length-marks_of (set words (i / 64) word) in
-    let n = length-set words (i / 64) word in
-    let o = length-set (marks_of words) i b in
-    let within : i / 64 < length words = omega arith in
-    let inside : i < length (marks_of words) = omega (arith, below, l) in
-    ext_get_or false (marks_of (set words (i / 64) word)) (set (marks_of words) i b) (omega (arith, l, m, n, o)) (λ j lt.
-    let under : j < 64 * length words = omega (arith, lt, m, n) in
-    let under_set : j < 64 * length (set words (i / 64) word) = omega (arith, lt, m) in
-    let left = marked-marks_of (set words (i / 64) word) j under_set in
-    elim (cases_eq j i) [
-      | inl e ↦ left ∙ rw e (ap (λ w. has_bit w (i % 64)) (get_or-set_same words (i / 64) word 0 within) ∙ is ∙ sym (get_or-set_same (marks_of words) i b false inside))
-      | inr apart ↦
-          (let right : marked (set (marks_of words) i b) j ≡ has_bit (get_or words (j / 64) 0) (j % 64) =
-          get_or-set_other (marks_of words) i j b false apart ∙ marked-marks_of words j under in
-          let bit : has_bit (get_or (set words (i / 64) word) (j / 64) 0) (j % 64) ≡ has_bit (get_or words (j / 64) 0) (j % 64) =
-          elim (cases_eq (j / 64) (i / 64)) [
-            | inl e ↦ (let d : j % 64 ≢ i % 64 = λ q. apart (omega (arith, e, q)) in
-                rw e (ap (λ w. has_bit w (j % 64)) (get_or-set_same words (i / 64) word 0 within) ∙ ap (λ (b : ℕ). nat_eq b 1) (others (j % 64) (omega arith) d)))
-            | inr d ↦ ap (λ w. has_bit w (j % 64)) (get_or-set_other words (i / 64) (j / 64) word 0 d)
-          ] in
-          left ∙ bit ∙ sym right)
-    ])
+    let within : i < length (marks_of words) = omega (arith, below, length-marks_of words) in
+    marks_of-with_word words i word below ∙ with_word-set (marks_of words) i word b (IsWordOf-set (marks_of words) i (get_or words (i / 64) 0) word b within (IsWordOf-marks_of words i below) is others)
 
 -- the marked indices of the first word, of m bits, and those of the words behind it
 marked_indices-word : (m : ℕ) → m ≡ 64 → (w : ℕ) (ws : List ℕ) → marked_indices (marks_of (w ∷ ws)) ≡ bits_of m w ++ map (λ i. m + i) (marked_indices (marks_of ws))

@@ -15,7 +15,7 @@ use Rattle.intmap_table.specs.Tables.Slots.{Held, rows, joined, AreMarked}
 use Rattle.intmap_table.specs.Tables.Moves.{rooms, part_room, bare_slot, IsLonger, CanLeave, CanMoveOn}
 use Rattle.intmap_table.proofs.Tables.TableLemmas.{length-rows, get_or-rows}
 use Rattle.intmap_table.proofs.Tables.MarkedLemmas.{All-marked_indices, AllPairs-marked_indices}
-use Rattle.intmap_table.proofs.Tables.FilledLemmas.{row-unmarked}
+use Rattle.intmap_table.proofs.Tables.FilledLemmas.{row-unmarked, row-within}
 use Rattle.intmap_table.proofs.Tables.GrownLemmas.{modulo-below, grown-more}
 use Rattle.intmap_table.proofs.Tables.RoomLemmas.{CanLeave-same, CanLeave-none}
 
@@ -135,18 +135,12 @@ pub list_any-past : (index k : ℕ) (rest : List ℕ) → index ≢ k → list_a
 list_any-past index k rest apart = let other : (index == k) ≡ false = ne_eqb index k apart in simp other
 
 module _ {P : Type 0} (R : List (List P)) where
-  row-within : (i : ℕ) → 0 < length (get_or R i []) → i < length R
-  row-within i some = elim (cases_lt i (length R)) as (λ _. i < length R) [
-    | inl below ↦ below
-    | inr past ↦ (let none = ap length (get_or_past R i [] past) in absurd (omega (arith, some, none)))
-  ]
-
   -- the marked ones are such indices
   pub AreLeft-marked : (marks : List Bool) → AreMarked R marks → AreLeft R (marked_indices marks)
   AreLeft-marked marks are =
       let some : (i : ℕ) → marked marks i ≡ true → 0 < length (get_or R i []) = λ i is. ltb-true 0 (length (get_or R i [])) (sym (are.own i) ∙ is) in
       record {
-        within = λ k d lt. row-within (get_or (marked_indices marks) k d) (some (get_or (marked_indices marks) k d) (All-marked_indices marks k d lt).1);
+        within = λ k d lt. row-within R (get_or (marked_indices marks) k d) (some (get_or (marked_indices marks) k d) (All-marked_indices marks k d lt).1);
         filled = λ k d lt. some (get_or (marked_indices marks) k d) (All-marked_indices marks k d lt).1;
         ascending = AllPairs-marked_indices marks;
       }

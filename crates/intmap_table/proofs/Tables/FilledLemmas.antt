@@ -1,16 +1,21 @@
 -- The marks of a table say which of its slots hold a pair.
-use Rattle.std.proofs.Common.{◌≡◌, ◌≢◌, inl, inr, ℕ, zero, suc, ◌+◌, ◌*◌, ◌/◌, ◌<◌, ◌≤◌, Bool, true, false, Option, Some, None, List, [], ◌∷◌, ◌++◌, length, get_or, set, replicate, refl, sym, ap, ◌∙◌, arith, length-set, get_or-set_same, get_or-set_other}
+use Rattle.std.proofs.Common.{◌≡◌, ◌≢◌, inl, inr, ℕ, zero, suc, ◌+◌, ◌*◌, ◌/◌, ◌<◌, ◌≤◌, Bool, true, false, Option, Some, None, List, [], ◌∷◌, ◌++◌, length, get_or, set, replicate, refl, sym, ap, ◌∙◌, subst, arith, length-set, get_or-set_same, get_or-set_other}
 use Rattle.std.specs.Prelude.{◌==◌, filter, All, count_by, nat_lt}
 use Rattle.std.specs.List.{list_any, range_with_len}
 use Rattle.std.proofs.lemmas.Bool.{cases_Bool, cases_eq, cases_lt, eq-eqb, ne_eqb, lt-ltb, ltb-true}
-use Rattle.std.proofs.lemmas.List.{length-replicate, length_push, map-set, get_or_past}
+use Rattle.std.proofs.lemmas.Bool.Decides.{nat_tests}
+use Rattle.std.proofs.lemmas.List.{length-replicate, length_push, map-set, get_or_past, set-get_or}
 use Rattle.std.proofs.lemmas.List.Elements.{All-head, All-tail}
 use Rattle.intmap_table.specs.Tables.Bits.{marked, marked_indices, IsNextMark}
 use Rattle.intmap_table.specs.Tables.Slots.{Held, rows, joined, pairs_at, IsNextRow, AreMarked, IsMarkedTable}
 use Rattle.intmap_table.specs.Bindings.{value_of}
 use Rattle.intmap_table.specs.Classes.{IsCapacity}
 use Rattle.intmap_table.proofs.Tables.TableLemmas.{IsSlot, within, length-rows, get_or-rows, IsTable-empty}
-use Rattle.intmap_table.proofs.Tables.MarkedLemmas.{row-none, marked-replicate, All-marked_indices, flat_map-marked_indices, length-marked_indices}
+use Rattle.intmap_table.proofs.Tables.MarkedLemmas.{get_or-of_default, row-none, marked-replicate, All-marked_indices, flat_map-marked_indices, length-marked_indices}
+
+-- a row that holds a pair is one of the rows
+pub row-within : {P : Type 0} (R : List (List P)) (i : ℕ) → 0 < length (get_or R i []) → i < length R
+row-within R i some = let past = get_or_past R i [] in grind (arith, past, some)
 
 module _ {P : Type 0} (R : List (List P)) (marks : List Bool) (are : AreMarked R marks) where
   -- each row has a mark
@@ -31,10 +36,7 @@ module _ {P : Type 0} (R : List (List P)) (marks : List Bool) (are : AreMarked R
       let some = ltb-true 0 (length (get_or R i [])) (sym (are.own i) ∙ next.is) in
       record {
         behind = next.behind;
-        within = elim (cases_lt i (length R)) as (λ _. i < length R) [
-          | inl below ↦ below
-          | inr past ↦ (let none = ap length (get_or_past R i [] past) in absurd (omega (arith, none, some)))
-        ];
+        within = row-within R i some;
         filled = some;
         between = λ j le lt. empty-unmarked j (next.between j le lt);
       }
@@ -58,19 +60,11 @@ module _ {P : Type 0} (R : List (List P)) (marks : List Bool) (are : AreMarked R
 
     -- with row i changed, but not whether it holds a pair
     pub AreMarked-kept : (row : List P) → marked marks i ≡ nat_lt 0 (length row) → AreMarked (set R i row) marks
-    AreMarked-kept row is = record {
-      words = rw (length-set R i row) are.words;
-      own = λ j. elim (cases_eq i j) as (λ _. marked marks j ≡ nat_lt 0 (length (get_or (set R i row) j []))) [
-        | inl q ↦ rw (← q) (is ∙ ap (λ (ps : List P). nat_lt 0 (length ps)) (sym (get_or-set_same R i row [] below)))
-        | inr apart ↦ are.own j ∙ ap (λ (ps : List P). nat_lt 0 (length ps)) (sym (get_or-set_other R i j row [] (λ q. apart (sym q))))
-      ];
-    }
+    AreMarked-kept row is = subst (AreMarked (set R i row)) (set-get_or marks i false) (AreMarked-set row (marked marks i) is)
 
 -- rows without pairs, one by one
 pub get_or-no_pairs : {P : Type 0} (n i : ℕ) → get_or (replicate {A = List P} n []) i [] ≡ []
-get_or-no_pairs zero i = refl
-get_or-no_pairs (suc n) zero = refl
-get_or-no_pairs (suc n) (suc i) = get_or-no_pairs n i
+get_or-no_pairs n i = get_or-of_default n i []
 
 -- if no row holds a pair, none is marked
 pub AreMarked-none : {P : Type 0} (R : List (List P)) (C : ℕ) → length R ≡ C → ((i : ℕ) → get_or R i [] ≡ []) → AreMarked R (replicate (64 * ((C + 63) / 64)) false)
@@ -138,26 +132,12 @@ indices-within S bits marks = λ k d lt.
     let index = get_or (marked_indices bits) k d in
     let is = (All-marked_indices bits k d lt).1 in
     let row = ltb-true 0 (length (get_or (rows S) index [])) (sym (marks.own index) ∙ is) in
-    elim (cases_lt index (length S)) as (λ _. index < length S) [
-      | inl below ↦ below
-      | inr past ↦ (let none = get_or_past (rows S) index [] (omega (arith, past, length-rows S)) in let e = ap length none in omega (arith, row, e))
-    ]
+    let within = row-within (rows S) index row in omega (arith, within, length-rows S)
 
 -- a number that a run keeps is found among those that it keeps
 kept-found : (test : ℕ → Bool) (i a n : ℕ) → list_any (λ j. j == i) (filter test (range_with_len a n)) ≡ false → a ≤ i → i < a + n → test i ≡ false
 kept-found test i a zero missed from below = absurd (omega (arith, from, below))
-kept-found test i a (suc n) missed from below = elim (cases_eq a i) as (λ _. test i ≡ false) [
-  | inl q ↦ rw (← q) (elim (cases_Bool (test a)) as (λ _. test a ≡ false) [
-    | inl is ↦ (let hit : (a == i) ≡ true = eq-eqb a i q in let no : true ≡ false = simp (is, hit) at missed in cc)
-    | inr is ↦ is
-  ])
-  | inr apart ↦ (let other : (a == i) ≡ false = ne_eqb a i apart in
-      let rest : list_any (λ j. j == i) (filter test (range_with_len (a + 1) n)) ≡ false = elim (cases_Bool (test a)) as (λ _. list_any (λ j. j == i) (filter test (range_with_len (a + 1) n)) ≡ false) [
-        | inl is ↦ simp (is, other) at missed
-        | inr is ↦ simp is at missed
-      ] in
-      kept-found test i (a + 1) n rest (let ne = apart in grind (arith, from, ne)) (omega (arith, below)))
-]
+kept-found test i a (suc n) missed from below = let rest = kept-found test i (a + 1) n in grind (arith, nat_tests, missed, from, below, rest)
 
 -- a row whose index isn't among the marked ones holds no pair
 pub row-unmarked : {P : Type 0} (R : List (List P)) (marks : List Bool) → AreMarked R marks → (i : ℕ) → list_any (λ j. j == i) (marked_indices marks) ≡ false → get_or R i [] ≡ []

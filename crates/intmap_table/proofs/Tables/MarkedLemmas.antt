@@ -37,16 +37,12 @@ filter-none f a (suc n) none =
     let rest = filter-none f (a + 1) n (λ i lt. let q : a + 1 + i ≡ a + suc i = omega arith in rw q (none (suc i) (omega arith))) in
     simp (first, rest)
 
-filter-shift_step : (f : ℕ → Bool) (k a : ℕ) (b : Bool) → f (k + a) ≡ b → (xs ys : List ℕ) → filter f xs ≡ map (λ i. k + i) (filter (λ i. f (k + i)) ys) → filter f ((k + a) ∷ xs) ≡ map (λ i. k + i) (filter (λ i. f (k + i)) (a ∷ ys))
-filter-shift_step f k a true is xs ys rest = simp (is, rest)
-filter-shift_step f k a false is xs ys rest = simp (is, rest)
-
 -- a run that begins k later has the same numbers, k more each
 pub filter-shift : (f : ℕ → Bool) (k a n : ℕ) → filter f (range_with_len (k + a) n) ≡ map (λ i. k + i) (filter (λ i. f (k + i)) (range_with_len a n))
 filter-shift f k a zero = refl
 filter-shift f k a (suc n) =
     let q : k + a + 1 ≡ k + (a + 1) = omega arith in
-    filter-shift_step f k a (f (k + a)) refl (range_with_len (k + a + 1) n) (range_with_len (a + 1) n) (rw q (filter-shift f k (a + 1) n))
+    let rest : filter f (range_with_len (k + a + 1) n) ≡ map (λ i. k + i) (filter (λ i. f (k + i)) (range_with_len (a + 1) n)) = rw q (filter-shift f k (a + 1) n) in grind (arith, rest)
 
 -- what a test keeps of a run of numbers, and of the next one
 pub filter-both : (f : ℕ → Bool) (m n : ℕ) (xs ys : List ℕ) → filter f (range_with_len 0 m) ≡ xs → filter f (range_with_len (m + 0) n) ≡ ys → filter f (range_with_len 0 (m + n)) ≡ xs ++ ys
@@ -55,11 +51,15 @@ filter-both f m n xs ys first rest =
     let split : range_with_len 0 (m + n) ≡ range_with_len 0 m ++ range_with_len (m + 0) n = rw z at (range_with_len-add 0 m n) in
     ap (filter f) split ∙ filter-append f (range_with_len 0 m) (range_with_len (m + 0) n) ∙ ap (λ zs. zs ++ filter f (range_with_len (m + 0) n)) first ∙ ap (λ zs. xs ++ zs) rest
 
+-- a list of the default alone has it everywhere
+pub get_or-of_default : {X : Type 0} (n i : ℕ) (d : X) → get_or (replicate n d) i d ≡ d
+get_or-of_default zero i d = refl
+get_or-of_default (suc n) zero d = refl
+get_or-of_default (suc n) (suc i) d = get_or-of_default n i d
+
 -- indices without a mark
 pub marked-replicate : (n i : ℕ) → marked (replicate n false) i ≡ false
-marked-replicate zero i = refl
-marked-replicate (suc n) zero = refl
-marked-replicate (suc n) (suc i) = marked-replicate n i
+marked-replicate n i = get_or-of_default n i false
 
 -- the marked indices ascend
 pub AllPairs-marked_indices : (marks : List Bool) → AllPairs (λ i j. i < j) (marked_indices marks)
@@ -85,10 +85,7 @@ All-marked_indices marks =
 -- numbers that a test fails on, and that stand for nothing, may be left out
 flat_map-filter : {P : Type 0} (row : ℕ → List P) (test : ℕ → Bool) → ((i : ℕ) → test i ≡ false → row i ≡ []) → (ns : List ℕ) → flat_map row (filter test ns) ≡ flat_map row ns
 flat_map-filter row test empty [] = refl
-flat_map-filter row test empty (n ∷ ns) = elim (cases_Bool (test n)) [
-  | inl is ↦ simp is (ap (λ rest. row n ++ rest) (flat_map-filter row test empty ns))
-  | inr is ↦ simp (is, empty n is) (flat_map-filter row test empty ns)
-]
+flat_map-filter row test empty (n ∷ ns) = let rest = flat_map-filter row test empty ns in let none = empty n in grind (arith, rest, none)
 
 flat_map-none : {P : Type 0} (row : ℕ → List P) (a n : ℕ) → ((i : ℕ) → i < n → row (a + i) ≡ []) → flat_map row (range_with_len a n) ≡ []
 flat_map-none row a zero none = refl

@@ -2,6 +2,7 @@
 use Rattle.std.proofs.Common.{◌≡◌, ◌≢◌, ◌⊎◌, inl, inr, ℕ, ◌+◌, ◌-◌, ◌*◌, ◌/◌, ◌%◌, ◌<◌, ◌≤◌, Bool, true, false, cond, ◌==◌, List, [], ◌∷◌, ◌++◌, length, get_or, set, sym, ap, ◌∙◌, subst, arith, append-nil, append_assoc, length-append, length-set, refl, get_or-set_other, get_or-set_same, All}
 use Rattle.std.proofs.lemmas.List.Sums.{length-filter, count_by-le-length, sum_by-cons}
 use Rattle.std.proofs.lemmas.Bool.{eq-eqb, ne_eqb, cases_eq}
+use Rattle.std.proofs.lemmas.Bool.Decides.{nat_tests}
 use Rattle.std.proofs.lemmas.Nat.{div-add-mod', div-mul-add, div_below}
 use Rattle.std.proofs.lemmas.Grind.{get_or-set_at}
 use Rattle.std.proofs.lemmas.List.{map-set, length-map}
@@ -189,41 +190,15 @@ module _ {K X : Type 0} (number : K → ℕ) where
         ]);
   }
 
-  -- a list of one pair gives a slot at most one
-  one-at_most : (r : K × X) (D j : ℕ) → length (slot_of number (r ∷ []) D j) ≤ 1
-  one-at_most r D j = need-most (r ∷ []) D j
-
-  skip : (p : K × X) (M : List (K × X)) (D j : ℕ) → slot_number number p.0 D ≢ j → length (slot_of number M D j) ≤ 1 → length (slot_of number (p ∷ M) D j) ≤ 1
-  skip p M D j apart le = rw (slot_of-not_first number p M D j apart) le
-
-  last_out : (q r : K × X) (D j : ℕ) → slot_number number r.0 D ≢ j → length (slot_of number (q ∷ r ∷ []) D j) ≤ 1
-  last_out q r D j apart = rw (filter-append (λ p. slot_number number p.0 D == j) (q ∷ []) (r ∷ []), slot_of-not_first number r [] D j apart, append-nil) (one-at_most q D j)
-
-  three : (p q r : K × X) (D : ℕ) → (x : ℕ) × ((j : ℕ) → j ≢ x → length (slot_of number (p ∷ q ∷ r ∷ []) D j) ≤ 1)
-  three p q r D =
-      let a : ℕ = slot_number number p.0 D in let b : ℕ = slot_number number q.0 D in let c : ℕ = slot_number number r.0 D in
-      elim (cases_eq a b) [
-        | inl ab ↦ (a, λ j apart. skip p (q ∷ r ∷ []) D j (λ e. apart (sym e)) (skip q (r ∷ []) D j (λ e. apart (sym (ab ∙ e))) (one-at_most r D j)))
-        | inr ab ↦ elim (cases_eq a c) [
-          | inl ac ↦ (a, λ j apart. skip p (q ∷ r ∷ []) D j (λ e. apart (sym e)) (last_out q r D j (λ e. apart (sym (ac ∙ e)))))
-          | inr ac ↦ (
-            b,
-            λ j apart. elim (cases_eq a j) as (λ _. length (slot_of number (p ∷ q ∷ r ∷ []) D j) ≤ 1) [
-              | inl aj ↦ (let first = length-first number p (q ∷ r ∷ []) D j aj in
-                  let none = ap length (slot_of-not_first number q (r ∷ []) D j (λ e. apart (sym e)) ∙ slot_of-not_first number r [] D j (λ e. ac (aj ∙ sym e))) in
-                  omega (arith, first, none))
-              | inr aj ↦ skip p (q ∷ r ∷ []) D j aj (skip q (r ∷ []) D j (λ e. apart (sym e)) (one-at_most r D j))
-            ],
-          )
-        ]
-      ]
-
   -- of up to three pairs at most one slot gets several
   pub few_need_one : (L : List (K × X)) (D : ℕ) → length L ≤ 3 → (x : ℕ) × ((j : ℕ) → j ≢ x → length (slot_of number L D j) ≤ 1)
   few_need_one [] D few = (0, λ j _. omega arith)
-  few_need_one (p ∷ []) D few = (0, λ j _. one-at_most p D j)
-  few_need_one (p ∷ q ∷ []) D few = (slot_number number p.0 D, λ j apart. skip p (q ∷ []) D j (λ e. apart (sym e)) (one-at_most q D j))
-  few_need_one (p ∷ q ∷ r ∷ []) D few = three p q r D
+  few_need_one (p ∷ []) D few = (0, λ j _. need-most (p ∷ []) D j)
+  few_need_one (p ∷ q ∷ []) D few = (slot_number number p.0 D, λ j apart. let most = need-most (q ∷ []) D j in grind (arith, nat_tests, apart, most))
+  few_need_one (p ∷ q ∷ r ∷ []) D few = (
+    cond (slot_number number q.0 D == slot_number number r.0 D) (slot_number number q.0 D) (slot_number number p.0 D),
+    λ j apart. grind (arith, nat_tests, apart),
+  )
   few_need_one (p ∷ q ∷ r ∷ s ∷ L) D few = absurd (omega (arith, few))
 
   -- an old slot of up to three pairs can be left without any reservation
