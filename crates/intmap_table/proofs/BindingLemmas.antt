@@ -53,7 +53,7 @@ module _ {K V : Type 0} (test : K → Bool) where
       grind (arith, more, rest, last, none, once)
 
   -- a pair behind pairs in which nothing is found is found if its key passes
-  first_value-behind_none : (L : List (K × V)) (p : K × V) → first_value test L ≡ None → first_value test (L ++ p ∷ []) ≡ cond (test p.0) (Some p.1) None
+  pub first_value-behind_none : (L : List (K × V)) (p : K × V) → first_value test L ≡ None → first_value test (L ++ p ∷ []) ≡ cond (test p.0) (Some p.1) None
   first_value-behind_none [] p none = refl
   first_value-behind_none (q ∷ L) p none = let rest = first_value-behind_none L p in grind (arith, rest, none)
 
@@ -85,27 +85,14 @@ module _ {K V : Type 0} (number : K → ℕ) where
         let gone : value_of number (take_key number L C k) k ≡ None = first_value-itself_out (same_key number k) (λ p. agrees number C k p.0) L (once k) in
         rw same (ap (λ n. first_value (λ r. number r == n) (take_key number L C k)) e ∙ gone))
     | inr apart ↦
-        (let other = λ (p : K × V) (is : same_key number k p.0 ≡ true).
-        let e = eqb-true (number p.0) (number k) is in
-        let f = eq-eqb (number q) (number k) in
-        ne_eqb (number p.0) (number q) (λ g. let w = f (sym g ∙ e) in cc) in
-        rw apart (first_value-other_out (same_key number q) (λ p. same_key number k p.0) (λ p. agrees number C k p.0) other L (once q)))
+        rw apart (first_value-other_out (same_key number q) (λ p. same_key number k p.0) (λ p. agrees number C k p.0) (λ p is. grind (arith, nat_tests, apart, is)) L (once q))
   ]
 
   -- an insertion leaves its key with the value, and each other key with its own
   pub value_of-put_pair : (L : List (K × V)) (C : ℕ) (k q : K) (v : V) → HasDistinctKeys number L → value_of number (put_pair number L C k v) q ≡ cond (same_key number k q) (Some v) (value_of number L q)
   value_of-put_pair L C k q v once =
-      let taken = value_of-take_key L C k q once in
-      elim (cases_Bool (same_key number k q)) [
-        | inl same ↦
-            (let found : (number k == number q) ≡ true = eq-eqb (number k) (number q) (sym (eqb-true (number q) (number k) same)) in
-            let none : value_of number (take_key number L C k) q ≡ None = rw same at taken in
-            rw same (first_value-behind_none (same_key number q) (take_key number L C k) (k, v) none ∙ simp found))
-        | inr apart ↦
-            (let other : (number k == number q) ≡ false = ne_eqb (number k) (number q) (λ g. let s = eq-eqb (number q) (number k) (sym g) in cc) in
-            let kept : value_of number (take_key number L C k) q ≡ value_of number L q = rw apart at taken in
-            rw apart (first_value-other_behind (same_key number q) (take_key number L C k) (k, v) other ∙ kept))
-      ]
+      let taken = value_of-take_key L C k q once in let T = take_key number L C k in
+      let found = first_value-behind_none (same_key number q) T (k, v) in let kept = first_value-other_behind (same_key number q) T (k, v) in grind (arith, nat_tests, taken, found, kept)
 
   -- if each key has its value, so have the key itself and any other
   pub Updates-from : (L M : List (K × V)) (k : K) (w : Option V) → ((q : K) → value_of number M q ≡ cond (same_key number k q) w (value_of number L q)) → Updates number L M k w

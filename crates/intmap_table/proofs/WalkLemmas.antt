@@ -80,25 +80,23 @@ module _ {K V : Type 0} (number : K → ℕ) (C : ℕ) where
         let away : (slot_number number k C == i) ≡ false = ne_eqb (slot_number number k C) i apart in
         filter-append (λ p. slot_number number p.0 C == i) (take_key number L C k) ((k, v) ∷ []) ∙ simp (away, slot_of-take_key-other L k i apart, append-nil)
 
-    -- lists with one walk have one after a key was removed
-    pub walk_of-take_key-same : (L M : List (K × V)) (k : K) → walk_of number L C ≡ walk_of number M C → walk_of number (take_key number L C k) C ≡ walk_of number (take_key number M C k) C
-    walk_of-take_key-same L M k same =
+    -- lists with one walk have the same slots after a key was removed, so they have one walk
+    SameSlots-take_key : (L M : List (K × V)) (k : K) → walk_of number L C ≡ walk_of number M C → SameSlots (take_key number L C k) (take_key number M C k)
+    SameSlots-take_key L M k same i below =
         let slots = SameSlots-from_walk_of L M same in
-        walk_of-same (take_key number L C k) (take_key number M C k) (λ i below.
         elim (cases_eq (slot_number number k C) i) [
           | inl at ↦ slot_of-take_key L k i at ∙ ap (swap_out (λ p. same_key number k p.0) any) (slots i below) ∙ sym (slot_of-take_key M k i at)
           | inr apart ↦ slot_of-take_key-other L k i apart ∙ slots i below ∙ sym (slot_of-take_key-other M k i apart)
-        ])
+        ]
+
+    pub walk_of-take_key-same : (L M : List (K × V)) (k : K) → walk_of number L C ≡ walk_of number M C → walk_of number (take_key number L C k) C ≡ walk_of number (take_key number M C k) C
+    walk_of-take_key-same L M k same = walk_of-same (take_key number L C k) (take_key number M C k) (SameSlots-take_key L M k same)
 
     -- lists with one walk have one after a pair was put in
     pub walk_of-put_pair-same : (L M : List (K × V)) (k : K) (v : V) → walk_of number L C ≡ walk_of number M C → walk_of number (put_pair number L C k v) C ≡ walk_of number (put_pair number M C k v) C
-    walk_of-put_pair-same L M k v same =
-        let slots = SameSlots-from_walk_of L M same in
-        walk_of-same (put_pair number L C k v) (put_pair number M C k v) (λ i below.
-        elim (cases_eq (slot_number number k C) i) [
-          | inl at ↦ slot_of-put_pair L k v i at ∙ ap (λ xs. swap_out (λ p. same_key number k p.0) any xs ++ (k, v) ∷ []) (slots i below) ∙ sym (slot_of-put_pair M k v i at)
-          | inr apart ↦ slot_of-put_pair-other L k v i apart ∙ slots i below ∙ sym (slot_of-put_pair-other M k v i apart)
-        ])
+    walk_of-put_pair-same L M k v same = walk_of-same (put_pair number L C k v) (put_pair number M C k v) (λ i below.
+        let split = λ (T : List (K × V)). filter-append (λ (p : K × V). slot_number number p.0 C == i) T ((k, v) ∷ []) in
+        split (take_key number L C k) ∙ ap (λ xs. xs ++ slot_of number ((k, v) ∷ []) C i) (SameSlots-take_key L M k same i below) ∙ sym (split (take_key number M C k)))
 
     -- in lists with one walk a key has one value
     pub value_of-same : (L M : List (K × V)) (k : K) → walk_of number L C ≡ walk_of number M C → value_of number L k ≡ value_of number M k

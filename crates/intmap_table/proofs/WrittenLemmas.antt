@@ -1,5 +1,5 @@
 -- Where pairs are once a value was written: each where it was.
-use Rattle.std.proofs.Common.{◌≡◌, ℕ, Bool, true, false, cond, zero, suc, List, [], ◌∷◌, Option, Some, None, IsSome, refl, sym, ap, ◌∙◌, subst}
+use Rattle.std.proofs.Common.{◌≡◌, ℕ, Bool, true, false, cond, zero, suc, List, [], ◌∷◌, Option, Some, None, IsSome, refl, sym, ap, ◌∙◌, subst, arith}
 use Rattle.std.specs.Prelude.{◌==◌, position}
 use Rattle.std.specs.List.{position_or_len}
 use Rattle.std.proofs.lemmas.List.{length-map}
@@ -10,31 +10,14 @@ use Rattle.intmap_table.specs.Locations.{IsAt, IsFound, key_at, the_key}
 use Rattle.intmap_table.specs.declared.table.locate.Location.{Location}
 
 module _ {K V : Type 0} (number : K → ℕ) where
-  slot_of-write_step : (p : K × V) (L : List (K × V)) (C : ℕ) (k : K) (v : V) (i : ℕ) (s t : Bool) → same_key number k p.0 ≡ s → (slot_number number p.0 C == i) ≡ t
-      → slot_of number (write_value number L k v) C i ≡ write_value number (slot_of number L C i) k v
-      → slot_of number (write_value number (p ∷ L) k v) C i ≡ write_value number (slot_of number (p ∷ L) C i) k v
-  slot_of-write_step p L C k v i true true e f rest = simp (e, f, rest)
-  slot_of-write_step p L C k v i true false e f rest = simp (e, f, rest)
-  slot_of-write_step p L C k v i false true e f rest = simp (e, f, rest)
-  slot_of-write_step p L C k v i false false e f rest = simp (e, f, rest)
-
   -- a slot of a list with a value written is the slot with it written
   pub slot_of-write_value : (L : List (K × V)) (C : ℕ) (k : K) (v : V) (i : ℕ) → slot_of number (write_value number L k v) C i ≡ write_value number (slot_of number L C i) k v
   slot_of-write_value [] C k v i = refl
-  slot_of-write_value (p ∷ L) C k v i = slot_of-write_step p L C k v i (same_key number k p.0) (slot_number number p.0 C == i) refl refl (slot_of-write_value L C k v i)
-
-  position_or_len-write_step : (p : K × V) (L : List (K × V)) (k q : K) (v : V) (s t : Bool) → same_key number k p.0 ≡ s → same_key number q p.0 ≡ t
-      → position_or_len (λ p. same_key number q p.0) (write_value number L k v) ≡ position_or_len (λ p. same_key number q p.0) L
-      → position_or_len (λ p. same_key number q p.0) (write_value number (p ∷ L) k v) ≡ position_or_len (λ p. same_key number q p.0) (p ∷ L)
-  position_or_len-write_step p L k q v true true e f rest = simp (e, f)
-  position_or_len-write_step p L k q v true false e f rest = simp (e, f, rest)
-  position_or_len-write_step p L k q v false true e f rest = simp (e, f)
-  position_or_len-write_step p L k q v false false e f rest = simp (e, f, rest)
+  slot_of-write_value (p ∷ L) C k v i = let rest = slot_of-write_value L C k v i in grind (arith, rest)
 
   position_or_len-write_value : (L : List (K × V)) (k q : K) (v : V) → position_or_len (λ p. same_key number q p.0) (write_value number L k v) ≡ position_or_len (λ p. same_key number q p.0) L
   position_or_len-write_value [] k q v = refl
-  position_or_len-write_value (p ∷ L) k q v =
-      position_or_len-write_step p L k q v (same_key number k p.0) (same_key number q p.0) refl refl (position_or_len-write_value L k q v)
+  position_or_len-write_value (p ∷ L) k q v = let rest = position_or_len-write_value L k q v in grind (arith, rest)
 
   -- each key is where it was
   pub position-write_value : (L : List (K × V)) (k q : K) (v : V) → position (λ p. same_key number q p.0) (write_value number L k v) ≡ position (λ p. same_key number q p.0) L

@@ -8,6 +8,7 @@ use Rattle.intmap_table.specs.Classes.{IsCapacity, slot_number, same_key}
 use Rattle.intmap_table.specs.Bindings.{swap_out, value_of, take_key, put_pair}
 use Rattle.intmap_table.specs.Walk.{slot_of, walk_of}
 use Rattle.intmap_table.specs.Tables.Slots.{Held, Grid, rows, joined, IsMaskedTable}
+use Rattle.intmap_table.proofs.BindingLemmas.{first_value-behind_none}
 use Rattle.intmap_table.proofs.DistinctLemmas.{length-walk_of, length-put_pair}
 use Rattle.intmap_table.proofs.PositionLemmas.{swap_out-none, position-from_none}
 use Rattle.intmap_table.proofs.SlotNumberLemmas.{slot_number-below}
@@ -42,26 +43,14 @@ module _ {K X : Type 0} (S : List (Held K X)) (i : ℕ) (h s : Held K X) (below 
   Grid-room t is = ap (λ R. grid_of R (length (set S i s))) rows-room ∙ ap (λ n. grid_of (rows S) n) (length-set S i s) ∙ is
 
 module _ {K X : Type 0} (number : K → ℕ) where
-  swap_out-step : (p : K × X) (R : List (K × X)) (k : K) (v : X) (t : Bool) → same_key number k p.0 ≡ t → value_of number (p ∷ R) k ≡ None
-      → (value_of number R k ≡ None → swap_out (λ p. same_key number k p.0) any (R ++ (k, v) ∷ []) ≡ R)
-      → swap_out (λ p. same_key number k p.0) any ((p ∷ R) ++ (k, v) ∷ []) ≡ p ∷ R
-  swap_out-step p R k v true e none rest = let w : Some p.1 ≡ None = rw e at none in absurd (cc)
-  swap_out-step p R k v false e none rest = let w : value_of number R k ≡ None = rw e at none in simp (e, rest w)
-
   -- a pair that is last, and is the only one of its key, leaves the others as they were
   swap_out-last : (R : List (K × X)) (k : K) (v : X) → value_of number R k ≡ None → swap_out (λ p. same_key number k p.0) any (R ++ (k, v) ∷ []) ≡ R
   swap_out-last [] k v none = let own : same_key number k k ≡ true = eq-eqb (number k) (number k) refl in simp own refl
-  swap_out-last (p ∷ R) k v none = swap_out-step p R k v (same_key number k p.0) refl none (λ w. swap_out-last R k v w)
-
-  value_of-step : (p : K × X) (R : List (K × X)) (k : K) (v : X) (t : Bool) → same_key number k p.0 ≡ t → value_of number (p ∷ R) k ≡ None
-      → (value_of number R k ≡ None → value_of number (R ++ (k, v) ∷ []) k ≡ Some v) → value_of number ((p ∷ R) ++ (k, v) ∷ []) k ≡ Some v
-  value_of-step p R k v true e none rest = let w : Some p.1 ≡ None = rw e at none in absurd (cc)
-  value_of-step p R k v false e none rest = let w : value_of number R k ≡ None = rw e at none in simp (e, rest w)
+  swap_out-last (p ∷ R) k v none = let rest = swap_out-last R k v in grind (arith, none, rest)
 
   -- and it has the value of its key
   value_of-last : (R : List (K × X)) (k : K) (v : X) → value_of number R k ≡ None → value_of number (R ++ (k, v) ∷ []) k ≡ Some v
-  value_of-last [] k v none = let own : same_key number k k ≡ true = eq-eqb (number k) (number k) refl in simp own refl
-  value_of-last (p ∷ R) k v none = value_of-step p R k v (same_key number k p.0) refl none (λ w. value_of-last R k v w)
+  value_of-last R k v none = let own : same_key number k k ≡ true = eq-eqb (number k) (number k) refl in first_value-behind_none (same_key number k) R (k, v) none ∙ simp own refl
 
   module _ (W : List (K × X)) (C : ℕ) (cap : IsCapacity C) (k : K) (v : X) (missing : value_of number W k ≡ None) where
     abbrev i : ℕ

@@ -3,7 +3,8 @@ use Rattle.std.proofs.Common.{◌≡◌, ◌≢◌, ◌⊎◌, inl, inr, ℕ, ze
 use Rattle.std.specs.Prelude.{nat_lt, ◌||◌, ◌==◌}
 use Rattle.std.proofs.lemmas.List.{map-set, length-map, get_or-map}
 use Rattle.std.proofs.lemmas.List.Elements.{filter-append}
-use Rattle.std.proofs.lemmas.Bool.{cases_eq, lt-ltb}
+use Rattle.std.proofs.lemmas.Bool.{cases_eq}
+use Rattle.std.proofs.lemmas.Bool.Decides.{nat_tests}
 use Rattle.intmap_table.specs.Classes.{slot_number}
 use Rattle.intmap_table.specs.Walk.{slot_of}
 use Rattle.intmap_table.specs.Tables.Bits.{marked}
@@ -70,10 +71,7 @@ module _ {K X : Type 0} (number : K → ℕ) where
 
   -- a further pair in front needs no less
   need-more : (p : K × X) (M : List (K × X)) (D j : ℕ) → 0 < need number M D j → 0 < need number (p ∷ M) D j
-  need-more p M D j some = elim (cases_eq (slot_number number p.0 D) j) as (λ _. 0 < need number (p ∷ M) D j) [
-    | inl here ↦ (let one = length-first number p M D j here in omega (arith, one))
-    | inr apart ↦ (let same = ap length (slot_of-not_first number p M D j apart) in omega (arith, same, some))
-  ]
+  need-more p M D j some = grind (arith, some)
 
   -- and others behind it neither
   need-first : (p : K × X) (M : List (K × X)) (D j : ℕ) → 0 < need number (p ∷ []) D j → 0 < need number (p ∷ M) D j
@@ -116,20 +114,6 @@ pub or-false : (b : Bool) → (b || false) ≡ b
 or-false true = refl
 or-false false = refl
 
-or-true : (a b : Bool) → b ≡ true → (a || b) ≡ true
-or-true true b e = refl
-or-true false b e = e
-
-or-or : (a b c d : Bool) → (b || c) ≡ d → ((a || b) || c) ≡ (a || d)
-or-or true b c d e = refl
-or-or false b c d e = e
-
--- one of two numbers is positive exactly if their sum is
-positive-sum : (m n : ℕ) → (nat_lt 0 m || nat_lt 0 n) ≡ nat_lt 0 (m + n)
-positive-sum zero zero = refl
-positive-sum zero (suc n) = lt-ltb 0 (suc n) (omega arith) ∙ sym (lt-ltb 0 (zero + suc n) (omega arith))
-positive-sum (suc m) n = ap (λ b. b || nat_lt 0 n) (lt-ltb 0 (suc m) (omega arith)) ∙ sym (lt-ltb 0 (suc m + n) (omega arith))
-
 module _ {K X : Type 0} (number : K → ℕ) (D : ℕ) where
   -- no pair sets no mark
   pub AreSet-none : (bits : List Bool) → AreSet {X = X} number bits [] D bits
@@ -142,19 +126,14 @@ module _ {K X : Type 0} (number : K → ℕ) (D : ℕ) where
     set_at = λ j.
         let sum : need number (L ++ M) D j ≡ need number L D j + need number M D j =
         ap length (filter-append (λ p. slot_number number p.0 D == j) L M) ∙ length-append (slot_of number L D j) (slot_of number M D j) in
-        more.set_at j ∙ ap (λ b. b || nat_lt 0 (need number M D j)) (first.set_at j)
-        ∙ or-or (marked bits j) (nat_lt 0 (need number L D j)) (nat_lt 0 (need number M D j)) (nat_lt 0 (need number (L ++ M) D j))
-        (positive-sum (need number L D j) (need number M D j) ∙ ap (λ n. nat_lt 0 n) (sym sum));
+        let last = more.set_at j in let before = first.set_at j in grind (arith, nat_tests, sum, last, before);
   }
 
   -- the mark of the slot of a pair
   pub AreSet-put : (bits : List Bool) (p : K × X) (j : ℕ) → slot_number number p.0 D ≡ j → j < length bits → AreSet number bits (p ∷ []) D (set bits j true)
   AreSet-put bits p j is below = record {
     len = length-set bits j true;
-    set_at = λ i. elim (cases_eq i j) as (λ _. marked (set bits j true) i ≡ (marked bits i || nat_lt 0 (need number (p ∷ []) D i))) [
-      | inl q ↦ (let one = length-first number p [] D j is in
-          rw q (get_or-set_same bits j true false below ∙ sym (or-true (marked bits j) (nat_lt 0 (need number (p ∷ []) D j)) (lt-ltb 0 (need number (p ∷ []) D j) (omega (arith, one))))))
-      | inr apart ↦ (let none = ap (λ ps. nat_lt 0 (length ps)) (slot_of-not_first number p [] D i (λ q. apart (sym q ∙ is))) in
-          get_or-set_other bits j i true false apart ∙ sym (or-false (marked bits i)) ∙ ap (λ b. marked bits i || b) (sym none))
-    ];
+    set_at = λ i.
+        let same = get_or-set_same bits j true false below in let other = get_or-set_other bits j i true false in
+        let one = length-first number p [] D j is in let none = slot_of-not_first number p [] D i in grind (arith, nat_tests, is, same, other, one, none);
   }

@@ -24,10 +24,7 @@ module _ {K X : Type 0} (number : K → ℕ) where
 
   -- further pairs need no less
   pub need-less : (p : K × X) (M : List (K × X)) (D j : ℕ) → need number (p ∷ []) D j ≤ need number (p ∷ M) D j
-  need-less p M D j = elim (cases_eq (slot_number number p.0 D) j) as (λ _. need number (p ∷ []) D j ≤ need number (p ∷ M) D j) [
-    | inl here ↦ (let one = ap length (slot_of-first p [] D j here) in let more = ap length (slot_of-first p M D j here) in omega (arith, one, more))
-    | inr apart ↦ (let none = ap length (slot_of-not_first p [] D j apart) in omega (arith, none))
-  ]
+  need-less p M D j = grind arith
 
   pub length-first : (p : K × X) (M : List (K × X)) (D j : ℕ) → slot_number number p.0 D ≡ j → length (slot_of number (p ∷ M) D j) ≡ length (slot_of number M D j) + 1
   length-first p M D j is = let e = ap length (slot_of-first p M D j is) in omega (arith, e)

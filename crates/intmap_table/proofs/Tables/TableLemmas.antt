@@ -186,14 +186,8 @@ module _ {K X : Type 0} (number : K → ℕ) (S : List (Held K X)) (h : Held K X
       let below : i < length (rows S) = omega (arith, within, length-rows S) in
       record {
         capacity = subst IsCapacity (sym len) cap;
-        in_place = λ j w.
-            let P : List (K × X) → Type 0 = λ ps. All (λ p. slot_number number p.0 (length S) ≡ j) ps in
-            let here : P (get_or (set (rows S) i s.pairs) j []) =
-            elim (cases_eq i j) [
-              | inl q ↦ (let Q : ℕ → Type 0 = λ n. All (λ p. slot_number number p.0 (length S) ≡ n) (get_or (set (rows S) i s.pairs) n []) in
-                  subst Q q (subst Belong (sym (get_or-set_same (rows S) i s.pairs [] below)) all))
-              | inr apart ↦ subst P (sym (get_or-set_other (rows S) i j s.pairs [] (λ q. apart (sym q)))) (at.table.in_place j (omega (arith, w, len)))
-            ] in
-            let R : ℕ → List (List (K × X)) → Type 0 = λ n T. All (λ p. slot_number number p.0 n ≡ j) (get_or T j []) in
-            subst (λ n. R n (rows (set S i s))) (sym len) (subst (R (length S)) (sym (map-set (λ (t : Held K X). t.pairs) S i s)) here);
+        in_place = rw (len, map-set (λ (t : Held K X). t.pairs) S i s) (λ j w. elim (cases_eq i j) as (λ _. All (λ p. slot_number number p.0 (length S) ≡ j) (get_or (set (rows S) i s.pairs) j [])) [
+          | inl q ↦ rw (← q) (subst Belong (sym (get_or-set_same (rows S) i s.pairs [] below)) all)
+          | inr apart ↦ rw (get_or-set_other (rows S) i j s.pairs [] (λ q. apart (sym q))) (at.table.in_place j w)
+        ]);
       }
