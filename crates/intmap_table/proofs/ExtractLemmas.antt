@@ -14,6 +14,11 @@ use Rattle.intmap_table.specs.Picking.{ExtractsBehind}
 use Rattle.intmap_table.specs.Taking.{TakesEach}
 use Rattle.intmap_table.proofs.TakingLemmas.{TakesEach-next}
 
+-- what holds of all elements of two lists in a row holds of those of the second
+pub All-behind : {X : Type 0} (P : X → Type 0) (xs ys : List X) → All P (xs ++ ys) → All P ys
+All-behind P [] ys all = all
+All-behind P (x ∷ xs) ys all = All-behind P xs ys (All-tail P x (xs ++ ys) all)
+
 module _ {X : Type 0} (i : ℕ) (xs ys : List X) (within : i ≤ length xs) where
   -- the first i elements and others behind them
   pub take-cut : take i (take i xs ++ ys) ≡ take i xs
@@ -178,16 +183,12 @@ module _ {F X : Type 0} (R : F → X → Bool → F → X → Type 0) where
     pub All-ExtractsBehind : (f g : F) (L M : List X) (i j : ℕ) (r : Option X) → ExtractsBehind R f L i r g M j → All P L → All P M
     All-ExtractsBehind f g L M i j r e all =
         let both : All P (take i L ++ drop i L) = subst (All P) (sym (take-append-drop i L)) all in
-        let stay = All-append P (take i L) (e.0 ++ drop j M) (All-front (take i L) (drop i L) both) (All-ExtractsNext f g (drop i L) e.0 (drop j M) r e.1 (All-back (take i L) (drop i L) both)) in
+        let stay = All-append P (take i L) (e.0 ++ drop j M) (All-front (take i L) (drop i L) both) (All-ExtractsNext f g (drop i L) e.0 (drop j M) r e.1 (All-behind P (take i L) (drop i L) both)) in
         subst (All P) (sym (append_assoc (take i L) e.0 (drop j M)) ∙ ap (λ Z. Z ++ drop j M) (sym e.2) ∙ take-append-drop j M) stay
       where
         All-front : (xs ys : List X) → All P (xs ++ ys) → All P xs
         All-front [] ys all = All-nil P
         All-front (x ∷ xs) ys all = All-cons P x xs (All-head P x (xs ++ ys) all) (All-front xs ys (All-tail P x (xs ++ ys) all))
-
-        All-back : (xs ys : List X) → All P (xs ++ ys) → All P ys
-        All-back [] ys all = all
-        All-back (x ∷ xs) ys all = All-back xs ys (All-tail P x (xs ++ ys) all)
 
 module _ {F X : Type 0} (R : F → X → Bool → F → X → Type 0) where
   -- a step that removes none goes to the end

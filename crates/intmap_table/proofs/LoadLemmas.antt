@@ -1,6 +1,6 @@
 -- How many residues the keys leave is how many slots hold a pair.
 use Rattle.std.proofs.Common.{◌≡◌, ◌≢◌, inl, inr, ℕ, zero, suc, ◌+◌, ◌<◌, ◌≤◌, Bool, true, false, not, cond, List, [], ◌∷◌, length, get_or, map, refl, sym, ap, ◌∙◌, subst, arith, zero-add, add-zero}
-use Rattle.std.specs.Prelude.{◌==◌, filter, count_by}
+use Rattle.std.specs.Prelude.{◌==◌, filter, count_by, nat_lt}
 use Rattle.std.specs.List.{list_any, range_with_len}
 use Rattle.std.proofs.lemmas.List.Sums.{sum_by-cons, length-filter}
 use Rattle.std.proofs.lemmas.List.Filters.{length-filter_both}
@@ -12,8 +12,7 @@ use Rattle.intmap_table.specs.Figures.{each_once, load_of}
 
 -- whether a list has an element
 abbrev pub is_filled : {X : Type 0} → List X → Bool
-is_filled [] = false
-is_filled (x ∷ xs) = true
+is_filled xs = nat_lt 0 (length xs)
 
 -- how often n occurs in a list
 abbrev pub times : ℕ → List ℕ → ℕ
@@ -98,7 +97,7 @@ module _ {K V : Type 0} (number : K → ℕ) (C : ℕ) (spread : (a k : K) → a
   -- a residue is among those left if its slot has a pair
   among : (k : K) (L : List (K × V)) → list_any (λ m. m == residue number k C) (map (λ p. residue number p.0 C) L) ≡ is_filled (slot_of number L C (slot_number number k C))
   among k [] = refl
-  among k (p ∷ L) = let rest = among k L in let same = spread p.0 k in grind (arith, rest, same)
+  among k (p ∷ L) = let rest = among k L in let same = spread p.0 k in grind (arith, nat_tests, rest, same)
 
   module _ (below : (k : K) → slot_number number k C < C) where
     -- the load is the number of slots that have a pair

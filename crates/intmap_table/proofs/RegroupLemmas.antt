@@ -14,11 +14,8 @@ filter-wider keep wider own [] = refl
 filter-wider keep wider own (x ∷ xs) = let h = filter-wider keep wider own xs in let o = own x in grind (arith, h, o)
 
 -- the lesser power of two has the lesser exponent
-exponent_from_power : (d e : ℕ) → 2 ^ d ≤ 2 ^ e → d ≤ e
-exponent_from_power d e le = elim (cases_lt e d) [
-  | inl above ↦ let lt = pow_below e d above in absurd (omega (arith, lt, le))
-  | inr within ↦ within
-]
+pub exponent_from_power : (d e : ℕ) → 2 ^ d ≤ 2 ^ e → d ≤ e
+exponent_from_power d e le = let more = pow_below e d in grind (arith, le, more)
 
 -- what a number leaves modulo a power of two is what its rest modulo a greater one leaves
 mod-mod-capacity : (n C D : ℕ) → IsCapacity C → IsCapacity D → C ≤ D → n % D % C ≡ n % C

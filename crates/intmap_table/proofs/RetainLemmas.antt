@@ -16,11 +16,7 @@ module _ {F X : Type 0} (R : F → X → Bool → F → Type 0) where
   pub Retains-append : (f g h : F) (L L' M M' : List X) → Retains R f L M g → Retains R g L' M' h → Retains R f (L ++ L') (M ++ M') h
   Retains-append f g h [] L' M M' first more = subst (λ Z. Retains R f L' (Z ++ M') h) (sym first.0) (subst (λ z. Retains R z L' M' h) (sym first.1) more)
   Retains-append f g h (x ∷ L) L' M M' first more =
-      (first.0, first.1, first.2 ++ M', first.3, Retains-append first.1 g h L L' first.2 M' first.4 more, ap (λ Z. Z ++ M') first.5 ∙ cond-append first.0)
-    where
-      cond-append : (b : Bool) → cond b (x ∷ first.2) first.2 ++ M' ≡ cond b (x ∷ (first.2 ++ M')) (first.2 ++ M')
-      cond-append true = refl
-      cond-append false = refl
+      (first.0, first.1, first.2 ++ M', first.3, Retains-append first.1 g h L L' first.2 M' first.4 more, ap (λ Z. Z ++ M') first.5 ∙ grind arith)
 
   -- one element
   pub Retains-one : (f g : F) (x : X) (b : Bool) → R f x b g → Retains R f (x ∷ []) (cond b (x ∷ []) []) g
@@ -35,14 +31,7 @@ module _ {F X : Type 0} (R : F → X → Bool → F → Type 0) where
   pub length-Retains : (f g : F) (L M : List X) → Retains R f L M g → length M ≤ length L
   length-Retains f g [] M r = let e = ap length r.0 in omega (arith, e)
   length-Retains f g (x ∷ L) M r =
-      let rest = length-Retains r.1 g L r.2 r.4 in
-      let e = ap length r.5 in
-      let more : length (cond r.0 (x ∷ r.2) r.2) ≤ suc (length r.2) = either r.0 in
-      omega (arith, rest, e, more)
-    where
-      either : (b : Bool) → length (cond b (x ∷ r.2) r.2) ≤ suc (length r.2)
-      either true = omega arith
-      either false = omega arith
+      let rest = length-Retains r.1 g L r.2 r.4 in let e = ap length r.5 in grind (arith, rest, e)
 
   -- what holds of all holds of all that stay
   pub All-Retains : (P : X → Type 0) (f g : F) (L M : List X) → Retains R f L M g → All P L → All P M
@@ -55,15 +44,8 @@ module _ {F X : Type 0} (R : F → X → Bool → F → Type 0) where
   pub count_by-Retains : (test : X → Bool) (f g : F) (L M : List X) → Retains R f L M g → count_by test M ≤ count_by test L
   count_by-Retains test f g [] M r = let e = ap (count_by test) r.0 in omega (arith, e)
   count_by-Retains test f g (x ∷ L) M r =
-      let rest = count_by-Retains test r.1 g L r.2 r.4 in
-      let e = ap (count_by test) r.5 in
-      let before = sum_by-cons (λ (y : X). cond (test y) 1 0) x L in
-      let more = either r.0 in
-      omega (arith, rest, e, before, more)
-    where
-      either : (b : Bool) → count_by test (cond b (x ∷ r.2) r.2) ≤ cond (test x) 1 0 + count_by test r.2
-      either true = let after = sum_by-cons (λ (y : X). cond (test y) 1 0) x r.2 in omega (arith, after)
-      either false = omega arith
+      let rest = count_by-Retains test r.1 g L r.2 r.4 in let e = ap (count_by test) r.5 in
+      let before = sum_by-cons (λ (y : X). cond (test y) 1 0) x L in let after = sum_by-cons (λ (y : X). cond (test y) 1 0) x r.2 in grind (arith, rest, e, before, after)
 
 module _ {X : Type 0} (xs : List X) (k i : ℕ) (d : X) (before : k ≤ i) (below : i < length xs) where
   swap-sets : swap xs k i ≡ set (set xs k (get_or xs i d)) i (get_or xs k d)

@@ -15,7 +15,7 @@ use Rattle.intmap_table.proofs.SlotNumberLemmas.{slot_number-below}
 use Rattle.intmap_table.proofs.WalkLemmas.{slot_of-walk_of, walk_of-same, value_of-slot_of, slot_of-take_key, slot_of-take_key-other, slot_of-put_pair, slot_of-put_pair-other}
 use Rattle.intmap_table.proofs.Tables.SwapOutLemmas.{any}
 use Rattle.intmap_table.proofs.Tables.SameKeysLemmas.{row_keys, IsMaskedTable-same_keys}
-use Rattle.intmap_table.proofs.Tables.TableLemmas.{get_or-rows}
+use Rattle.intmap_table.proofs.Tables.TableLemmas.{get_or-rows, rows-set_at}
 
 -- the table of these rows
 abbrev pub grid_of : {K X : Type 0} → List (List (K × X)) → ℕ → Grid K X
@@ -24,9 +24,7 @@ grid_of R n = record { walk = joined R; capacity = n }
 module _ {K X : Type 0} (S : List (Held K X)) (i : ℕ) (h s : Held K X) (below : i < length S) (here : h ≡ get_or S i h) (same : s.pairs ≡ h.pairs) where
   -- the rows stay
   pub rows-room : rows (set S i s) ≡ rows S
-  rows-room =
-      map-set (λ (t : Held K X). t.pairs) S i s
-      ∙ ap (λ ps. set (rows S) i ps) (same ∙ ap (λ (t : Held K X). t.pairs) here ∙ sym (get_or-rows S i h below)) ∙ set-get_or (rows S) i []
+  rows-room = rows-set_at S i s (same ∙ ap (λ (t : Held K X). t.pairs) here ∙ sym (get_or-rows S i h below))
 
   keys-room : row_keys S ≡ row_keys (set S i s)
   keys-room =

@@ -13,7 +13,7 @@ use Rattle.intmap_table.specs.Walk.{slot_of}
 use Rattle.intmap_table.specs.Tables.Bits.{marked, marked_indices}
 use Rattle.intmap_table.specs.Tables.Slots.{Held, rows, joined, AreMarked}
 use Rattle.intmap_table.specs.Tables.Moves.{rooms, part_room, bare_slot, IsLonger, CanLeave, CanMoveOn}
-use Rattle.intmap_table.proofs.Tables.TableLemmas.{length-rows, get_or-rows}
+use Rattle.intmap_table.proofs.Tables.TableLemmas.{length-rows, get_or-rows, rows-set_at, room-set, room-set_other}
 use Rattle.intmap_table.proofs.Tables.MarkedLemmas.{All-marked_indices, AllPairs-marked_indices}
 use Rattle.intmap_table.proofs.Tables.FilledLemmas.{row-unmarked, row-within}
 use Rattle.intmap_table.proofs.Tables.GrownLemmas.{modulo-below, grown-more}
@@ -46,12 +46,7 @@ pub record IsShared {K X : Type 0} (S : List (Held K X)) (counts : List ℕ) (C 
 module _ {K X : Type 0} where
   -- a slot with room made keeps the rows
   pub rows-kept : (S : List (Held K X)) (j : ℕ) (d s : Held K X) → j < length S → s.pairs ≡ (get_or S j d).pairs → rows (set S j s) ≡ rows S
-  rows-kept S j d s below same =
-      map-set (λ (t : Held K X). t.pairs) S j s ∙ ap (λ ps. set (rows S) j ps) (same ∙ sym (get_or-rows S j d below)) ∙ set-get_or (rows S) j []
-
-  -- it alone has another room
-  pub room-other : (S : List (Held K X)) (j k : ℕ) (s : Held K X) → k ≢ j → get_or (rooms (set S j s)) k 0 ≡ get_or (rooms S) k 0
-  room-other S j k s apart = ap (λ r. get_or r k 0) (map-set (λ (t : Held K X). t.room) S j s) ∙ get_or-set_other (rooms S) j k s.room 0 apart
+  rows-kept S j d s below same = rows-set_at S j s (same ∙ sym (get_or-rows S j d below))
 
 module _ {K X : Type 0} (S : List (Held K X)) (C i : ℕ) (below : i < C) where
   -- past part 0 it is another slot than the old one
@@ -102,12 +97,10 @@ module _ {K X : Type 0} (S : List (Held K X)) (C i : ℕ) (below : i < C) where
       pub IsShared-made : (s : Held K X) → length S ≡ length counts * C → get_or counts part 0 ≤ s.room → IsShared S counts C i part true x → IsShared (set S (part * C + i) s) counts C i (part + 1) true x
       IsShared-made s len made is =
           let some : 0 < part = (let w = is.some refl in omega (arith, w)) in
-          let set_rooms : rooms (set S (part * C + i) s) ≡ set (rooms S) (part * C + i) s.room = map-set (λ (t : Held K X). t.room) S (part * C + i) s in
-          let within : part * C + i < length (rooms S) = (let w = part-within (length counts) C part i here below in let n = length-map S (λ (h : Held K X). h.room) in omega (arith, w, len, n)) in
-          let at : part_room (rooms (set S (part * C + i) s)) C i part ≡ s.room =
-          part_room-past (rooms (set S (part * C + i) s)) part some ∙ ap (λ r. get_or r (part * C + i) 0) set_rooms ∙ get_or-set_same (rooms S) (part * C + i) s.room 0 within in
+          let within : part * C + i < length S = (let w = part-within (length counts) C part i here below in omega (arith, w, len)) in
+          let at : part_room (rooms (set S (part * C + i) s)) C i part ≡ s.room = part_room-past (rooms (set S (part * C + i) s)) part some ∙ room-set S (part * C + i) s within in
           let other : (t : ℕ) → t ≢ part → part_room (rooms S) C i t ≡ part_room (rooms (set S (part * C + i) s)) C i t = λ t apart.
-          ap (λ n. cond (t * C + i == i) 1 n) (sym (ap (λ r. get_or r (t * C + i) 0) set_rooms ∙ get_or-set_other (rooms S) (part * C + i) (t * C + i) s.room 0 (λ e. apart (same_from_place t i part i C below below e).0))) in
+          ap (λ n. cond (t * C + i == i) 1 n) (sym (room-set_other S (part * C + i) s (t * C + i) (λ e. apart (same_from_place t i part i C below below e).0))) in
           record {
             ahead = λ t le lt. sym (other t (λ e. absurd (omega (arith, le, e)))) ∙ is.ahead t (omega (arith, le)) lt;
             room = below_more _ part (λ t lt. subst (λ n. (get_or counts t 0 ≤ n) ⊎ ((t ≡ x) × (n ≡ 1))) (other t (λ e. absurd (omega (arith, lt, e)))) (is.room t lt)) (inl (omega (arith, made, at)));
@@ -118,11 +111,11 @@ module _ {K X : Type 0} (S : List (Held K X)) (C i : ℕ) (below : i < C) where
   module _ (part : ℕ) (s : Held K X) where
     -- the old slot keeps its room if a further part changes
     pub own-kept : 0 < part → get_or (rooms (set S (part * C + i) s)) i 0 ≡ get_or (rooms S) i 0
-    own-kept some = room-other S (part * C + i) i s (λ e. part-apart part some (sym e))
+    own-kept some = room-set_other S (part * C + i) s i (λ e. part-apart part some (sym e))
 
     -- and so do the parts of other old slots
     pub others-kept : (j : ℕ) → j % C ≢ i → get_or (rooms (set S (part * C + i) s)) j 0 ≡ get_or (rooms S) j 0
-    others-kept j apart = room-other S (part * C + i) j s (λ e. apart (ap (λ n. n % C) e ∙ mod-mul-add part C i below))
+    others-kept j apart = room-set_other S (part * C + i) s j (λ e. apart (ap (λ n. n % C) e ∙ mod-mul-add part C i below))
 
 -- indices of rows with pairs, in ascending order
 pub record AreLeft {P : Type 0} (R : List (List P)) (indices : List ℕ) : Type 0 where

@@ -16,7 +16,7 @@ use Rattle.intmap_table.specs.Walk.{slot_of}
 use Rattle.intmap_table.proofs.ExtractLemmas.{StepsTo, StepsTo-on, StepsTo-stop, All-ExtractsBehind, length-ExtractsBehind, TakesEach-on}
 use Rattle.intmap_table.proofs.Tables.MarkedLemmas.{range_with_len-add}
 use Rattle.intmap_table.proofs.Tables.RetainSlotsLemmas.{joined-cut, joined-drop, joined-none, joined-take_past, IsMarkedTable-changed}
-use Rattle.intmap_table.proofs.Tables.TableLemmas.{joined-take, get_or-rows, length-rows, slot_of-joined}
+use Rattle.intmap_table.proofs.Tables.TableLemmas.{joined-take, get_or-rows, length-rows, slot_of-joined, row-set}
 
 -- the pairs of a slot are its row
 pub row-at : {K X : Type 0} (S : List (Held K X)) (i : ℕ) (h : Held K X) → i < length S → h ≡ get_or S i h → h.pairs ≡ get_or (rows S) i []
@@ -125,7 +125,7 @@ module _ {K X F : Type 0} {number : K → ℕ} {R : F → K × X → Bool → F 
   rows-set = map-set (λ (t : Held K X). t.pairs) S i s
 
   row-new : get_or (rows T) i [] ≡ s.pairs
-  row-new = ap (λ R. get_or R i []) rows-set ∙ get_or-set_same (rows S) i s.pairs [] (omega (arith, asked.below, length-rows S))
+  row-new = row-set S i s asked.below
 
   before-same : joined (take i (rows T)) ≡ joined (take i (rows S))
   before-same = ap (λ R. joined (take i R)) rows-set ∙ ap joined (take-set-le i (rows S) i s.pairs (omega arith))

@@ -6,14 +6,10 @@ use Rattle.std.proofs.lemmas.List.{map-set}
 use Rattle.intmap_table.specs.Classes.{slot_number}
 use Rattle.intmap_table.specs.Walk.{ArePassed}
 use Rattle.intmap_table.specs.Tables.Slots.{Held, rows, joined, IsNextRow, IsTable, IsMarkedTable}
+use Rattle.intmap_table.proofs.ExtractLemmas.{All-behind}
 use Rattle.intmap_table.proofs.Tables.FilledLemmas.{joined-emptied}
 use Rattle.intmap_table.proofs.Tables.RetainSlotsLemmas.{joined-cut, joined-take_past, joined-taken, joined-left, next-within, IsMarkedTable-changed}
-use Rattle.intmap_table.proofs.Tables.TableLemmas.{slot_of-joined}
-
--- what holds of all elements of two lists in a row holds of those of the second
-All-behind : {X : Type 0} (P : X → Type 0) (xs ys : List X) → All P (xs ++ ys) → All P ys
-All-behind P [] ys all = all
-All-behind P (x ∷ xs) ys all = All-behind P xs ys (λ k d lt. all (suc k) d (omega (arith, lt)))
+use Rattle.intmap_table.proofs.Tables.TableLemmas.{slot_of-joined, row-set_other}
 
 module _ {K X : Type 0} (number : K → ℕ) (S : List (Held K X)) (table : IsTable number S) (n : ℕ) where
   -- the rows of slots that were passed are empty
@@ -54,8 +50,7 @@ module _ {K X : Type 0} (number : K → ℕ) (S : List (Held K X)) (marks : List
         | inl before ↦ passed j before
         | inr behind ↦ next.between j behind lt
       ] in
-      let apart : j ≡ index → ⊥ = λ q. omega (arith, lt, q) in
-      ap (λ R. get_or R j []) (map-set (λ (t : Held K X). t.pairs) S index s) ∙ get_or-set_other (rows S) index j s.pairs [] apart ∙ empty
+      row-set_other S index s j (λ q. omega (arith, lt, q)) ∙ empty
 
   -- the slots are those of a table, with their marks
   pub IsMarkedTable-front : IsMarkedTable number (set S index s) (cond (nat_lt 0 (length s.pairs)) marks (set marks index false))

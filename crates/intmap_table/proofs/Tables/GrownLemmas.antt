@@ -10,7 +10,7 @@ use Rattle.intmap_table.specs.Tables.Moves.{IsGrown, IsOldRows, IsMidway}
 use Rattle.intmap_table.proofs.SlotNumberLemmas.{slot_number-below}
 use Rattle.intmap_table.proofs.Tables.MoveLemmas.{IsMoved}
 use Rattle.intmap_table.proofs.ClassLemmas.{class-joined}
-use Rattle.intmap_table.proofs.RegroupLemmas.{slot_of-slot_of}
+use Rattle.intmap_table.proofs.RegroupLemmas.{exponent_from_power, slot_of-slot_of}
 
 module _ {K : Type 0} (number : K → ℕ) where
   -- how far past the old slots the new slot of a key is, in numbers of old slots
@@ -41,13 +41,7 @@ module _ {K : Type 0} (number : K → ℕ) where
 pub IsGrown-from : (C D : ℕ) → IsCapacity C → IsCapacity D → C ≤ D → IsGrown C D
 IsGrown-from C D old new le =
     let e : ℕ = old.0 in let f : ℕ = new.0 in
-    let small : e ≤ f = elim (cases_lt f e) as (λ _. e ≤ f) [
-      | inl w ↦ (let m : f + 1 ≤ e = omega (arith, w) in
-          let big = pow_mono m in let twice : 2 ^ (f + 1) ≡ 2 ^ f * 2 ^ 1 = pow-add 2 f 1 in let some = pow_pos f in
-          let c = old.3 in let d = new.3 in
-          absurd (omega (arith, big, twice, some, c, d, le)))
-      | inr w ↦ w
-    ] in
+    let small : e ≤ f = exponent_from_power e f (rw (old.3, new.3) at le) in
     let sum : (f - e) + e ≡ f = omega (arith, small) in
     record {
       old = old;

@@ -10,7 +10,7 @@ use Rattle.intmap_table.specs.Walk.{slot_of}
 use Rattle.intmap_table.specs.Tables.Bits.{marked}
 use Rattle.intmap_table.specs.Tables.Slots.{Held, rows}
 use Rattle.intmap_table.specs.Tables.Moves.{rooms, bare_slot, need, IsPlaced, IsPut, AreSet, AreTold, AreFree}
-use Rattle.intmap_table.proofs.Tables.TableLemmas.{length-rows, get_or-rows}
+use Rattle.intmap_table.proofs.Tables.TableLemmas.{get_or-rows, row-set, room-set, row-set_other, room-set_other}
 use Rattle.intmap_table.proofs.Tables.FilledLemmas.{filled-pushed}
 use Rattle.intmap_table.proofs.Tables.RoomLemmas.{slot_of-not_first, need-less, length-first}
 
@@ -25,20 +25,7 @@ module _ {K X : Type 0} (S : List (Held K X)) (j : ℕ) (d : Held K X) (within :
 
 module _ {K X : Type 0} (S : List (Held K X)) (j : ℕ) (d s : Held K X) (p : K × X) (within : j < length S) (pairs : s.pairs ≡ (get_or S j d).pairs ++ p ∷ []) where
   row-after : get_or (rows (set S j s)) j [] ≡ get_or (rows S) j [] ++ p ∷ []
-  row-after =
-      let w : j < length (rows S) = (let l = length-rows S in omega (arith, within, l)) in
-      ap (λ R. get_or R j []) (map-set (λ (h : Held K X). h.pairs) S j s) ∙ get_or-set_same (rows S) j s.pairs [] w ∙ pairs ∙ ap (λ ps. ps ++ p ∷ []) (sym (row-before S j d within))
-
-  room-after : get_or (rooms (set S j s)) j 0 ≡ s.room
-  room-after =
-      let w : j < length (rooms S) = (let l = length-map S (λ (h : Held K X). h.room) in omega (arith, within, l)) in
-      ap (λ r. get_or r j 0) (map-set (λ (h : Held K X). h.room) S j s) ∙ get_or-set_same (rooms S) j s.room 0 w
-
-  row-elsewhere : (i : ℕ) → i ≢ j → get_or (rows (set S j s)) i [] ≡ get_or (rows S) i []
-  row-elsewhere i apart = ap (λ R. get_or R i []) (map-set (λ (h : Held K X). h.pairs) S j s) ∙ get_or-set_other (rows S) j i s.pairs [] apart
-
-  room-elsewhere : (i : ℕ) → i ≢ j → get_or (rooms (set S j s)) i 0 ≡ get_or (rooms S) i 0
-  room-elsewhere i apart = ap (λ r. get_or r i 0) (map-set (λ (h : Held K X). h.room) S j s) ∙ get_or-set_other (rooms S) j i s.room 0 apart
+  row-after = row-set S j s within ∙ pairs ∙ ap (λ ps. ps ++ p ∷ []) (sym (row-before S j d within))
 
   -- a pair that was put into a slot without others, or into its own room
   pub IsPut-kept : (block : ℕ) → (length (get_or S j d).pairs ≡ 0) ⊎ ((get_or S j d).room ≢ 1) → s.room ≡ (get_or S j d).room → IsPut S j block p (set S j s) block
@@ -47,9 +34,9 @@ module _ {K X : Type 0} (S : List (Held K X)) (j : ℕ) (d s : Held K X) (p : K 
       record {
         len = length-set S j s;
         row = row-after;
-        others = row-elsewhere;
-        other_rooms = room-elsewhere;
-        how = inl (how, room-after ∙ same ∙ sym (room-before S j d within), refl);
+        others = row-set_other S j s;
+        other_rooms = room-set_other S j s;
+        how = inl (how, room-set S j s within ∙ same ∙ sym (room-before S j d within), refl);
       }
 
   -- a pair that was put behind others into the block at hand
@@ -59,9 +46,9 @@ module _ {K X : Type 0} (S : List (Held K X)) (j : ℕ) (d s : Held K X) (p : K 
       record {
         len = length-set S j s;
         row = row-after;
-        others = row-elsewhere;
-        other_rooms = room-elsewhere;
-        how = inr (filled, room-before S j d within ∙ bare, room-after ∙ made);
+        others = row-set_other S j s;
+        other_rooms = room-set_other S j s;
+        how = inr (filled, room-before S j d within ∙ bare, room-set S j s within ∙ made);
       }
 
 module _ {K X : Type 0} (number : K → ℕ) where

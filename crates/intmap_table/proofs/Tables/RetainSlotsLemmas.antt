@@ -10,7 +10,7 @@ use Rattle.intmap_table.specs.Tables.Slots.{Held, rows, joined, IsNextRow, AreMa
 use Rattle.intmap_table.proofs.Tables.FilledLemmas.{marks-set_at, marks-kept_at, joined-emptied}
 use Rattle.intmap_table.proofs.LeadsLemmas.{Leads, Leads-next, Leads-end}
 use Rattle.intmap_table.proofs.RetainLemmas.{Retains-append, length-Retains}
-use Rattle.intmap_table.proofs.Tables.TableLemmas.{joined-take, length-rows}
+use Rattle.intmap_table.proofs.Tables.TableLemmas.{joined-take, length-rows, IsTable-set_at}
 
 module _ {P : Type 0} where
   pub joined-drop : (i : ℕ) (R : List (List P)) → joined (drop i R) ≡ get_or R i [] ++ joined (drop (suc i) R)
@@ -45,22 +45,6 @@ module _ {P : Type 0} where
 
   pub joined-before : (i : ℕ) (R : List (List P)) → ((j : ℕ) → i ≤ j → get_or R j [] ≡ []) → joined (take i R) ≡ joined R
   joined-before i R empty = sym (joined-cut i R ∙ ap (λ Z. joined (take i R) ++ Z) (joined-none i R empty) ∙ append-nil (joined (take i R)))
-
--- a table with the pairs of slot i changed
-pub IsTable-set_at : {K X : Type 0} (number : K → ℕ) (S : List (Held K X)) (i : ℕ) (s : Held K X) → IsTable number S → i < length S → All (λ p. slot_number number p.0 (length S) ≡ i) s.pairs → IsTable number (set S i s)
-IsTable-set_at {K} {X} number S i s table below all =
-    let len : length (set S i s) ≡ length S = length-set S i s in
-    let within : i < length (rows S) = omega (arith, below, length-rows S) in
-    let Own : ℕ → ℕ → List (K × X) → Type 0 = λ n j ps. All (λ p. slot_number number p.0 n ≡ j) ps in
-    record {
-      capacity = subst IsCapacity (sym len) table.capacity;
-      in_place = λ j under.
-          let here : Own (length S) j (get_or (set (rows S) i s.pairs) j []) = elim (cases_eq i j) as (λ _. Own (length S) j (get_or (set (rows S) i s.pairs) j [])) [
-            | inl q ↦ subst (λ n. Own (length S) n (get_or (set (rows S) i s.pairs) n [])) q (subst (Own (length S) i) (sym (get_or-set_same (rows S) i s.pairs [] within)) all)
-            | inr apart ↦ subst (Own (length S) j) (sym (get_or-set_other (rows S) i j s.pairs [] (λ q. apart (sym q)))) (table.in_place j (omega (arith, under, len)))
-          ] in
-          subst (λ n. Own n j (get_or (rows (set S i s)) j [])) (sym len) (subst (λ R. Own (length S) j (get_or R j [])) (sym (map-set (λ (t : Held K X). t.pairs) S i s)) here);
-    }
 
 -- with slot i changed, and its mark taken away if it holds no pair any more
 pub IsMarkedTable-changed : {K X : Type 0} (number : K → ℕ) (S : List (Held K X)) (marks : List Bool) → IsMarkedTable number S marks → (i : ℕ) → i < length S

@@ -29,22 +29,6 @@ module _ {K X : Type 0} where
   set-write_at (q ∷ ps) zero p v is = ap (λ (r : K × X). (r.0, v) ∷ ps) is
   set-write_at (q ∷ ps) (suc i) p v is = ap (λ qs. q ∷ qs) (set-write_at ps i p v is)
 
-  -- a place behind the first is one of the rest
-  pub write_at-behind : (first : Option (K × X)) (rest : List (K × X)) (i : ℕ) (p : K × X) (v : X) → 0 < i → i < length (all_pairs first rest) → HasFirst first rest → p ≡ get_or rest (i - 1) p
-      → all_pairs first (set rest (i - 1) (p.0, v)) ≡ write_at (all_pairs first rest) i v
-  write_at-behind None rest i p v some below filled is = let none : length rest ≡ 0 = ap length filled in absurd (omega (arith, below, none, some))
-  write_at-behind (Some f) rest i p v some below filled is =
-      let step : i ≡ suc (i - 1) = omega (arith, some) in
-      ap (λ ps. f ∷ ps) (set-write_at rest (i - 1) p v is) ∙ ap (λ n. write_at (f ∷ rest) n v) (sym step)
-
-  pub value_at-behind : (first : Option (K × X)) (rest : List (K × X)) (i : ℕ) (p d : K × X) → 0 < i → i < length (all_pairs first rest) → HasFirst first rest → p ≡ get_or rest (i - 1) p
-      → p.1 ≡ (get_or (all_pairs first rest) i d).1
-  value_at-behind None rest i p d some below filled is = let none : length rest ≡ 0 = ap length filled in absurd (omega (arith, below, none, some))
-  value_at-behind (Some f) rest i p d some below filled is =
-      let step : i ≡ suc (i - 1) = omega (arith, some) in
-      let within : i - 1 < length rest = omega (arith, below, some) in
-      ap (λ (q : K × X). q.1) (is ∙ get_or_default rest (i - 1) p d within ∙ ap (λ n. get_or (f ∷ rest) n d) (sym step))
-
   -- the pair at a place behind the first
   pub get_or-behind : (first : Option (K × X)) (rest : List (K × X)) (i : ℕ) (p d : K × X) → 0 < i → i < length (all_pairs first rest) → HasFirst first rest → p ≡ get_or rest (i - 1) p → p ≡ get_or (all_pairs first rest) i d
   get_or-behind None rest i p d some below filled is = let none : length rest ≡ 0 = ap length filled in absurd (omega (arith, below, none, some))
@@ -57,6 +41,16 @@ module _ {K X : Type 0} where
   pub set-behind : (first : Option (K × X)) (rest : List (K × X)) (i : ℕ) (q : K × X) → 0 < i → i < length (all_pairs first rest) → HasFirst first rest → all_pairs first (set rest (i - 1) q) ≡ set (all_pairs first rest) i q
   set-behind None rest i q some below filled = let none : length rest ≡ 0 = ap length filled in absurd (omega (arith, below, none, some))
   set-behind (Some f) rest i q some below filled = let step : i ≡ suc (i - 1) = omega (arith, some) in ap (λ n. set (f ∷ rest) n q) (sym step)
+
+  -- as is its value, and its pair with another value
+  pub value_at-behind : (first : Option (K × X)) (rest : List (K × X)) (i : ℕ) (p d : K × X) → 0 < i → i < length (all_pairs first rest) → HasFirst first rest → p ≡ get_or rest (i - 1) p
+      → p.1 ≡ (get_or (all_pairs first rest) i d).1
+  value_at-behind first rest i p d some below filled is = ap (λ (q : K × X). q.1) (get_or-behind first rest i p d some below filled is)
+
+  pub write_at-behind : (first : Option (K × X)) (rest : List (K × X)) (i : ℕ) (p : K × X) (v : X) → 0 < i → i < length (all_pairs first rest) → HasFirst first rest → p ≡ get_or rest (i - 1) p
+      → all_pairs first (set rest (i - 1) (p.0, v)) ≡ write_at (all_pairs first rest) i v
+  write_at-behind first rest i p v some below filled is =
+      set-behind first rest i (p.0, v) some below filled ∙ set-write_at (all_pairs first rest) i p v (get_or-behind first rest i p p some below filled is)
 
 module _ {P : Type 0} where
   set-last : (z y : P) (zs : List P) → set (z ∷ zs) (length zs) y ≡ take (length zs) (z ∷ zs) ++ y ∷ []

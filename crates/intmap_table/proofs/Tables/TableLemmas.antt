@@ -12,6 +12,7 @@ use Rattle.intmap_table.specs.Walk.{slot_of, walk_of}
 use Rattle.intmap_table.specs.Reach.{through_first, class_size, reach}
 use Rattle.intmap_table.specs.Figures.{load_of}
 use Rattle.intmap_table.specs.Tables.Slots.{Grid, Held, rows, joined, IsTable}
+use Rattle.intmap_table.specs.Tables.Moves.{rooms}
 use Rattle.intmap_table.proofs.SlotNumberLemmas.{agrees-slot_number, slot_number-below}
 use Rattle.intmap_table.proofs.Tables.SwapOutLemmas.{any}
 use Rattle.intmap_table.proofs.ClassLemmas.{class-joined, flat_map-rows}
@@ -39,19 +40,24 @@ module _ {K X : Type 0} where
   pub get_or-rows : (S : List (Held K X)) (i : ℕ) (d : Held K X) → i < length S → get_or (rows S) i [] ≡ (get_or S i d).pairs
   get_or-rows S i d below = get_or-map (λ h. h.pairs) S i d [] below
 
-  nat_lt-length : (ps : List (K × X)) → nat_lt 0 (length ps) ≡ is_filled ps
-  nat_lt-length [] = refl
-  nat_lt-length (p ∷ ps) = lt-ltb 0 (suc (length ps)) (omega arith)
+module _ {K X : Type 0} (S : List (Held K X)) (i : ℕ) (s : Held K X) where
+  -- with slot i changed, its row and its room are those of the new slot
+  pub row-set : i < length S → get_or (rows (set S i s)) i [] ≡ s.pairs
+  row-set below = ap (λ R. get_or R i []) (map-set (λ (t : Held K X). t.pairs) S i s) ∙ get_or-set_same (rows S) i s.pairs [] (omega (arith, below, length-rows S))
 
-  -- the rows that hold a pair
-  pub count_by-filled : (R : List (List (K × X))) → count_by (λ row. nat_lt 0 (length row)) R ≡ count_by is_filled R
-  count_by-filled [] = refl
-  count_by-filled (ps ∷ R) =
-      let first = sum_by-cons (λ (ps : List (K × X)). cond (nat_lt 0 (length ps)) 1 0) ps R in
-      let last = sum_by-cons (λ (ps : List (K × X)). cond (is_filled ps) 1 0) ps R in
-      let one : ◌≡◌ {A = ℕ} (cond (nat_lt 0 (length ps)) 1 0) (cond (is_filled ps) 1 0) = ap (λ b. cond b 1 0) (nat_lt-length ps) in
-      let rest = count_by-filled R in
-      omega (arith, first, last, one, rest)
+  pub room-set : i < length S → get_or (rooms (set S i s)) i 0 ≡ s.room
+  room-set below = ap (λ r. get_or r i 0) (map-set (λ (t : Held K X). t.room) S i s) ∙ get_or-set_same (rooms S) i s.room 0 (let n = length-map S (λ (t : Held K X). t.room) in omega (arith, below, n))
+
+  -- and the others are as before
+  pub row-set_other : (j : ℕ) → j ≢ i → get_or (rows (set S i s)) j [] ≡ get_or (rows S) j []
+  row-set_other j apart = ap (λ R. get_or R j []) (map-set (λ (t : Held K X). t.pairs) S i s) ∙ get_or-set_other (rows S) i j s.pairs [] apart
+
+  pub room-set_other : (j : ℕ) → j ≢ i → get_or (rooms (set S i s)) j 0 ≡ get_or (rooms S) j 0
+  room-set_other j apart = ap (λ r. get_or r j 0) (map-set (λ (t : Held K X). t.room) S i s) ∙ get_or-set_other (rooms S) i j s.room 0 apart
+
+  -- a slot that keeps its pairs keeps the rows
+  pub rows-set_at : s.pairs ≡ get_or (rows S) i [] → rows (set S i s) ≡ rows S
+  rows-set_at same = map-set (λ (t : Held K X). t.pairs) S i s ∙ ap (λ ps. set (rows S) i ps) same ∙ set-get_or (rows S) i []
 
 module _ {K X : Type 0} (number : K → ℕ) where
   -- a list whose slots are these rows has them, joined, as its walk
@@ -101,6 +107,16 @@ module _ {K X : Type 0} (number : K → ℕ) (S : List (Held K X)) (table : IsTa
       sym (walk_of-rows number L (length S) (set S i h) (sym (length-set S i h)) (λ j _.
       row j ∙ ap (λ R. get_or R j []) (sym (map-set (λ (s : Held K X). s.pairs) S i h))))
 
+-- a table with the pairs of slot i changed
+pub IsTable-set_at : {K X : Type 0} (number : K → ℕ) (S : List (Held K X)) (i : ℕ) (s : Held K X) → IsTable number S → i < length S → All (λ p. slot_number number p.0 (length S) ≡ i) s.pairs → IsTable number (set S i s)
+IsTable-set_at number S i s table below all = record {
+  capacity = rw (length-set S i s) table.capacity;
+  in_place = rw (length-set S i s) (λ j w. elim (cases_eq j i) as (λ _. All (λ p. slot_number number p.0 (length S) ≡ j) (get_or (rows (set S i s)) j [])) [
+    | inl q ↦ rw (q, row-set S i s below) all
+    | inr apart ↦ rw (row-set_other S i s j apart) (table.in_place j w)
+  ]);
+}
+
 -- h is slot i of the table, and k belongs there
 pub record IsSlot {K X : Type 0} (number : K → ℕ) (S : List (Held K X)) (h : Held K X) (i : ℕ) (k : K) : Type 0 where
   pub table : IsTable number S
@@ -120,8 +136,7 @@ module _ {K X : Type 0} (number : K → ℕ) (S : List (Held K X)) (h : Held K X
 
   -- a slot that keeps its pairs keeps the rows
   pub rows-set : (s : Held K X) → s.pairs ≡ h.pairs → rows (set S i s) ≡ rows S
-  rows-set s same =
-      map-set (λ (t : Held K X). t.pairs) S i s ∙ ap (λ ps. set (rows S) i ps) (same ∙ row-here) ∙ set-get_or (rows S) i []
+  rows-set s same = rows-set_at S i s (same ∙ row-here)
 
   pub slot_of-here : slot_of number (joined (rows S)) (length S) i ≡ h.pairs
   slot_of-here = slot_of-joined number S at.table i ∙ sym row-here
@@ -181,13 +196,4 @@ module _ {K X : Type 0} (number : K → ℕ) (S : List (Held K X)) (h : Held K X
 
   -- the table with the slot changed
   pub IsTable-set : (s : Held K X) → Belong s.pairs → IsTable number (set S i s)
-  IsTable-set s all =
-      let len : length (set S i s) ≡ length S = length-set S i s in
-      let below : i < length (rows S) = omega (arith, within, length-rows S) in
-      record {
-        capacity = subst IsCapacity (sym len) cap;
-        in_place = rw (len, map-set (λ (t : Held K X). t.pairs) S i s) (λ j w. elim (cases_eq i j) as (λ _. All (λ p. slot_number number p.0 (length S) ≡ j) (get_or (set (rows S) i s.pairs) j [])) [
-          | inl q ↦ rw (← q) (subst Belong (sym (get_or-set_same (rows S) i s.pairs [] below)) all)
-          | inr apart ↦ rw (get_or-set_other (rows S) i j s.pairs [] (λ q. apart (sym q))) (at.table.in_place j w)
-        ]);
-      }
+  IsTable-set s all = IsTable-set_at number S i s at.table within all

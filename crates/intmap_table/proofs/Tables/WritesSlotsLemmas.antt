@@ -13,8 +13,7 @@ use Rattle.intmap_table.specs.Writes.{Writes}
 use Rattle.intmap_table.proofs.Tables.FilledLemmas.{pairs_at-marked, pairs_at-set, indices-within, marks-kept_at}
 use Rattle.intmap_table.proofs.LeadsLemmas.{Leads, Leads-next, Leads-end}
 use Rattle.intmap_table.proofs.Tables.MarkedLemmas.{AllPairs-marked_indices}
-use Rattle.intmap_table.proofs.Tables.RetainSlotsLemmas.{IsTable-set_at}
-use Rattle.intmap_table.proofs.Tables.TableLemmas.{length-rows}
+use Rattle.intmap_table.proofs.Tables.TableLemmas.{row-set, IsTable-set_at}
 use Rattle.intmap_table.proofs.TakingLemmas.{TakesEach-behind}
 use Rattle.intmap_table.proofs.WritesLemmas.{Writes-append, FoldsTo-Writes, length-Writes, All-Writes}
 
@@ -54,10 +53,9 @@ module _ {K X : Type 0} (S : List (Held K X)) (marks : List Bool) (are : AreMark
 
     passed : pairs_at (rows (set S index s)) (before ++ index ∷ []) ≡ pairs_at (rows S) before ++ s.pairs
     passed =
-        let row : get_or (rows (set S index s)) index [] ≡ s.pairs = ap (λ Z. get_or Z index []) (map-set (λ (t : Held K X). t.pairs) S index s) ∙ get_or-set_same (rows S) index s.pairs [] (omega (arith, slot-within, length-rows S)) in
         flat_map-append (λ i. get_or (rows (set S index s)) i []) before (index ∷ [])
         ∙ ap (λ Z. Z ++ (get_or (rows (set S index s)) index [] ++ [])) (others before apart-before)
-        ∙ ap (λ Z. pairs_at (rows S) before ++ Z) (append-nil (get_or (rows (set S index s)) index []) ∙ row)
+        ∙ ap (λ Z. pairs_at (rows S) before ++ Z) (append-nil (get_or (rows (set S index s)) index []) ∙ row-set S index s slot-within)
 
     module _ {F : Type 0} (R : F → K × X → X → F → Type 0) (f h : F) (run : Writes R f (get_or (rows S) index []) s.pairs h) where
       -- R goes over the pairs of the slot
