@@ -6,24 +6,22 @@ use Rattle.std.proofs.lemmas.List.Elements.{All-head, All-tail, All-weaker, filt
 use Rattle.std.proofs.lemmas.List.FromFn.{get_or-map-range_with_len, length-map-range_with_len}
 use Rattle.std.proofs.lemmas.Bool.{eq-eqb, eqb-true, ne_eqb}
 
+-- what holds along a run of numbers holds of the first, and along the rest
+pub range-next : (P : ℕ → ℕ → Type 0) (a n : ℕ) → ((i : ℕ) → i < suc n → P (a + i) i) → P a 0 × ((i : ℕ) → i < n → P (a + 1 + i) (suc i))
+range-next P a n all =
+    (subst (λ k. P k 0) (add-zero a) (all 0 (omega arith)), λ i lt. let q : a + suc i ≡ a + 1 + i = omega arith in subst (λ k. P k (suc i)) q (all (suc i) (omega arith)))
+
 module _ {A : Type 0} where
   -- two functions that agree at each index give one list
   pub flat_map-same : (g h : ℕ → List A) (a n : ℕ) → ((i : ℕ) → i < n → g (a + i) ≡ h (a + i)) → flat_map g (range_with_len a n) ≡ flat_map h (range_with_len a n)
   flat_map-same g h a zero same = refl
-  flat_map-same g h a (suc n) same =
-      let first : g a ≡ h a = let k = same 0 (omega arith) in rw add-zero at k in
-      let rest : flat_map g (range_with_len (a + 1) n) ≡ flat_map h (range_with_len (a + 1) n) =
-      flat_map-same g h (a + 1) n (λ i below. let q : a + 1 + i ≡ a + suc i = omega arith in rw q (same (suc i) (omega arith))) in
-      simp (first, rest)
+  flat_map-same g h a (suc n) same = let on = range-next (λ k _. g k ≡ h k) a n same in simp (on.0, flat_map-same g h (a + 1) n on.1)
 
   -- rows joined in order are the lists at their indices joined in order
   pub flat_map-rows : (g : ℕ → List A) (a : ℕ) (S : List (List A)) → ((i : ℕ) → i < length S → g (a + i) ≡ get_or S i []) → flat_map g (range_with_len a (length S)) ≡ flat_map (λ s. s) S
   flat_map-rows g a [] same = refl
   flat_map-rows g a (s ∷ S) same =
-      let first : g a ≡ s = rw add-zero at (same 0 (omega arith)) in
-      let rest : flat_map g (range_with_len (a + 1) (length S)) ≡ flat_map (λ s. s) S =
-      flat_map-rows g (a + 1) S (λ i below. let q : a + 1 + i ≡ a + suc i = omega arith in rw q (same (suc i) (omega arith))) in
-      simp (first, rest)
+      let on = range-next (λ k i. g k ≡ get_or (s ∷ S) i []) a (length S) same in let first : g a ≡ s = on.0 in simp (first, flat_map-rows g (a + 1) S on.1)
 
 -- what is made of each element, joined, are rows joined
 pub flat_map-joined : {X A : Type 0} (g : X → List A) (xs : List X) → flat_map g xs ≡ flat_map (λ s. s) (map g xs)

@@ -1,6 +1,6 @@
 -- What a closure that picks one element at a step leaves of lists.
 use Rattle.std.proofs.Common.{◌≡◌, ℕ, ◌+◌, ◌<◌, ◌≤◌, Bool, true, false, List, [], ◌∷◌, ◌++◌, Option, Some, None, length, get_or, set, take, drop, refl, sym, ap, ◌∙◌, subst, arith, append-nil, append_assoc, length-append, length-set, get_or-set_same}
-use Rattle.std.specs.Prelude.{All, not, cond, filter}
+use Rattle.std.specs.Prelude.{All, not, filter}
 use Rattle.std.specs.Bool.{MatchBool}
 use Rattle.std.specs.List.{sum_by}
 use Rattle.std.specs.Option.{option_len, option_to_list}

@@ -1,11 +1,12 @@
 -- How many residues the keys leave is how many slots hold a pair.
-use Rattle.std.proofs.Common.{◌≡◌, ◌≢◌, inl, inr, ℕ, zero, suc, ◌+◌, ◌<◌, ◌≤◌, Bool, true, false, not, cond, List, [], ◌∷◌, length, get_or, map, refl, sym, ap, ◌∙◌, subst, arith, zero-add, add-zero}
+use Rattle.std.proofs.Common.{◌≡◌, ◌≢◌, ℕ, zero, suc, ◌+◌, ◌<◌, ◌≤◌, Bool, false, not, cond, List, [], ◌∷◌, length, get_or, map, refl, sym, ap, ◌∙◌, subst, arith, zero-add}
 use Rattle.std.specs.Prelude.{◌==◌, filter, count_by, nat_lt}
 use Rattle.std.specs.List.{list_any, range_with_len}
 use Rattle.std.proofs.lemmas.List.Sums.{sum_by-cons, length-filter}
 use Rattle.std.proofs.lemmas.List.Filters.{length-filter_both}
 use Rattle.std.proofs.lemmas.Bool.{ne_eqb}
 use Rattle.std.proofs.lemmas.Bool.Decides.{nat_tests}
+use Rattle.intmap_table.proofs.ClassLemmas.{range-next}
 use Rattle.intmap_table.specs.Classes.{residue, slot_number, agrees}
 use Rattle.intmap_table.specs.Walk.{slot_of}
 use Rattle.intmap_table.specs.Figures.{each_once, load_of}
@@ -52,12 +53,8 @@ length-each_once n ns =
 count_by-range_same : (g h : ℕ → Bool) (a n : ℕ) → ((i : ℕ) → i < n → g (a + i) ≡ h (a + i)) → count_by g (range_with_len a n) ≡ count_by h (range_with_len a n)
 count_by-range_same g h a zero e = refl
 count_by-range_same g h a (suc n) e =
-    let first : g a ≡ h a = let k = e 0 (omega arith) in rw add-zero at k in
-    let c = ap (λ (b : Bool). cond {A = ℕ} b 1 0) first in
-    let rest = count_by-range_same g h (a + 1) n (λ i lt. let q : a + 1 + i ≡ a + suc i = omega arith in rw q (e (suc i) (omega arith))) in
-    let l = sum_by-cons (λ i. cond (g i) 1 0) a (range_with_len (a + 1) n) in
-    let m = sum_by-cons (λ i. cond (h i) 1 0) a (range_with_len (a + 1) n) in
-    omega (arith, c, rest, l, m)
+    let on = range-next (λ k _. g k ≡ h k) a n e in let first = on.0 in let rest = count_by-range_same g h (a + 1) n on.1 in
+    let l = sum_by-cons (λ i. cond (g i) 1 0) a (range_with_len (a + 1) n) in let m = sum_by-cons (λ i. cond (h i) 1 0) a (range_with_len (a + 1) n) in grind (arith, first, rest, l, m)
 
 -- a test that no number passes counts none
 count_by-range_none : (a n : ℕ) → count_by (λ (i : ℕ). false) (range_with_len a n) ≡ 0
@@ -69,12 +66,8 @@ module _ {X : Type 0} where
   pub count_by-range_list : (test : X → Bool) (g : ℕ → Bool) (d : X) (a : ℕ) (xs : List X) → ((i : ℕ) → i < length xs → g (a + i) ≡ test (get_or xs i d)) → count_by g (range_with_len a (length xs)) ≡ count_by test xs
   count_by-range_list test g d a [] e = refl
   count_by-range_list test g d a (x ∷ xs) e =
-      let first : g a ≡ test x = let k = e 0 (omega arith) in rw add-zero at k in
-      let c = ap (λ (b : Bool). cond {A = ℕ} b 1 0) first in
-      let rest = count_by-range_list test g d (a + 1) xs (λ i lt. let q : a + 1 + i ≡ a + suc i = omega arith in rw q (e (suc i) (omega arith))) in
-      let l = sum_by-cons (λ i. cond (g i) 1 0) a (range_with_len (a + 1) (length xs)) in
-      let m = sum_by-cons (λ x. cond (test x) 1 0) x xs in
-      omega (arith, c, rest, l, m)
+      let on = range-next (λ k i. g k ≡ test (get_or (x ∷ xs) i d)) a (length xs) e in let first : g a ≡ test x = on.0 in let rest = count_by-range_list test g d (a + 1) xs on.1 in
+      let l = sum_by-cons (λ i. cond (g i) 1 0) a (range_with_len (a + 1) (length xs)) in let m = sum_by-cons (λ x. cond (test x) 1 0) x xs in grind (arith, first, rest, l, m)
 
 module _ {X : Type 0} (f : X → ℕ) (x : X) (xs : List X) where
   -- whether class i has an element

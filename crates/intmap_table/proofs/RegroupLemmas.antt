@@ -1,9 +1,9 @@
 -- The walk of a walk, in at least the same number of slots.
-use Rattle.std.proofs.Common.{◌≡◌, inl, inr, ℕ, ◌+◌, ◌-◌, ◌*◌, ◌%◌, ◌^◌, ◌<◌, ◌≤◌, Bool, true, List, [], ◌∷◌, refl, sym, ap, ◌∙◌, arith}
+use Rattle.std.proofs.Common.{◌≡◌, ℕ, ◌+◌, ◌-◌, ◌*◌, ◌%◌, ◌^◌, ◌<◌, ◌≤◌, Bool, true, List, [], ◌∷◌, refl, sym, ap, ◌∙◌, arith}
 use Rattle.std.specs.Prelude.{filter, ◌==◌}
 use Rattle.std.proofs.Math.Pow.{pow_pos, mod-mod-pow}
 use Rattle.std.proofs.lemmas.Nat.{mod_below, pow_below}
-use Rattle.std.proofs.lemmas.Bool.{eq-eqb, eqb-true, cases_lt}
+use Rattle.std.proofs.lemmas.Bool.{eq-eqb, eqb-true}
 use Rattle.intmap_table.specs.Classes.{multiplier, IsCapacity, slot_number}
 use Rattle.intmap_table.specs.Walk.{slot_of, walk_of}
 use Rattle.intmap_table.proofs.WalkLemmas.{slot_of-walk_of, walk_of-same}

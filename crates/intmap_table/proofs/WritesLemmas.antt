@@ -1,5 +1,5 @@
 -- What a closure that writes each value in turn leaves of lists, of slots and of tables.
-use Rattle.std.proofs.Common.{Bool, true, false, cond, Some, is_some, ◌≡◌, ℕ, ◌+◌, ◌<◌, List, [], ◌∷◌, ◌++◌, length, get_or, set, take, drop, refl, sym, ap, ◌∙◌, subst, arith}
+use Rattle.std.proofs.Common.{is_some, ◌≡◌, ℕ, ◌+◌, ◌<◌, List, [], ◌∷◌, ◌++◌, length, get_or, set, take, drop, refl, sym, ap, ◌∙◌, subst, arith}
 use Rattle.std.specs.Prelude.{All, map}
 use Rattle.std.specs.List.{FoldsTo}
 use Rattle.std.specs.Map.{keys_of}
@@ -7,7 +7,6 @@ use Rattle.std.proofs.lemmas.List.{drop_more, take_more_set, drop-set-lt}
 use Rattle.std.proofs.lemmas.List.Elements.{All-cons, All-head, All-tail}
 use Rattle.std.proofs.lemmas.Map.Entries.{length-keys_of}
 use Rattle.intmap_table.specs.Bindings.{value_of}
-use Rattle.intmap_table.specs.Classes.{same_key}
 use Rattle.intmap_table.specs.Taking.{Passes}
 use Rattle.intmap_table.specs.Retaining.{state_after}
 use Rattle.intmap_table.specs.Writes.{Writes, written_from}

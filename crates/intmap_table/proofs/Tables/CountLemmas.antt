@@ -1,10 +1,10 @@
 -- Pairs of an old slot, counted by the part of the longer table that they go to, and room for them there.
-use Rattle.std.proofs.Common.{◌≡◌, ◌≢◌, ◌⊎◌, inl, inr, ℕ, zero, suc, ◌+◌, ◌*◌, ◌%◌, ◌^◌, ◌<◌, ◌≤◌, Bool, true, false, cond, ◌==◌, List, [], ◌∷◌, length, get_or, set, take, refl, sym, ap, ◌∙◌, subst, arith, mul_comm, below_more, get_or-set_same, get_or-set_other, All}
+use Rattle.std.proofs.Common.{◌≡◌, ◌≢◌, ◌⊎◌, inl, inr, ℕ, zero, suc, ◌+◌, ◌*◌, ◌%◌, ◌^◌, ◌<◌, ◌≤◌, Bool, true, false, cond, ◌==◌, List, [], ◌∷◌, length, get_or, set, take, refl, sym, ap, ◌∙◌, subst, arith, mul_comm, below_more, All}
 use Rattle.std.specs.Prelude.{AllPairs}
 use Rattle.std.specs.List.{list_any}
 use Rattle.std.proofs.Math.Nat.{mul-le-mul_right}
 use Rattle.std.proofs.lemmas.Nat.{mod-mul-add, mul-add-lt, same_from_place}
-use Rattle.std.proofs.lemmas.List.{map-set, length-map, get_or-map, get_or-take, get_or_past, set-get_or}
+use Rattle.std.proofs.lemmas.List.{get_or-map, get_or-take, get_or_past}
 use Rattle.std.proofs.lemmas.Bool.{eq-eqb, ne_eqb, ltb-true, cases_eq, cases_lt}
 use Rattle.std.proofs.lemmas.List.Folds.{list_any_none, length-flat_map-take}
 use Rattle.std.proofs.lemmas.List.Elements.{All-head, All-tail}

@@ -1,5 +1,5 @@
 -- What a closure that picks one pair at a step leaves of the slots of a table.
-use Rattle.std.proofs.Common.{◌≡◌, inl, inr, ℕ, zero, suc, ◌+◌, ◌-◌, ◌<◌, ◌≤◌, Bool, false, cond, List, [], ◌∷◌, ◌++◌, Option, Some, None, length, get_or, set, take, drop, refl, sym, ap, ◌∙◌, subst, arith, zero-add, append-nil, append_assoc, length-append, get_or-set_same}
+use Rattle.std.proofs.Common.{◌≡◌, inl, inr, ℕ, zero, suc, ◌+◌, ◌-◌, ◌<◌, ◌≤◌, Bool, false, cond, List, [], ◌∷◌, ◌++◌, Option, Some, None, length, get_or, set, take, drop, refl, sym, ap, ◌∙◌, subst, arith, zero-add, append-nil, append_assoc, length-append}
 use Rattle.std.specs.Prelude.{nat_lt}
 use Rattle.std.specs.List.{flat_map, range_with_len}
 use Rattle.std.specs.List.Retain.{ExtractsNext}
@@ -16,7 +16,7 @@ use Rattle.intmap_table.specs.Walk.{slot_of}
 use Rattle.intmap_table.proofs.ExtractLemmas.{StepsTo, StepsTo-on, StepsTo-stop, All-ExtractsBehind, length-ExtractsBehind, TakesEach-on}
 use Rattle.intmap_table.proofs.Tables.MarkedLemmas.{range_with_len-add}
 use Rattle.intmap_table.proofs.Tables.RetainSlotsLemmas.{joined-cut, joined-drop, joined-none, joined-take_past, IsMarkedTable-changed}
-use Rattle.intmap_table.proofs.Tables.TableLemmas.{joined-take, get_or-rows, length-rows, slot_of-joined, row-set}
+use Rattle.intmap_table.proofs.Tables.TableLemmas.{joined-take, get_or-rows, slot_of-joined, row-set}
 
 -- the pairs of a slot are its row
 pub row-at : {K X : Type 0} (S : List (Held K X)) (i : ℕ) (h : Held K X) → i < length S → h ≡ get_or S i h → h.pairs ≡ get_or (rows S) i []

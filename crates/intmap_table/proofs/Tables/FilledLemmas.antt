@@ -2,7 +2,7 @@
 use Rattle.std.proofs.Common.{◌≡◌, ◌≢◌, inl, inr, ℕ, zero, suc, ◌+◌, ◌*◌, ◌/◌, ◌<◌, ◌≤◌, Bool, true, false, Option, Some, None, List, [], ◌∷◌, ◌++◌, length, get_or, set, replicate, refl, sym, ap, ◌∙◌, subst, arith, length-set, get_or-set_same, get_or-set_other}
 use Rattle.std.specs.Prelude.{◌==◌, filter, All, count_by, nat_lt}
 use Rattle.std.specs.List.{list_any, range_with_len}
-use Rattle.std.proofs.lemmas.Bool.{cases_Bool, cases_eq, cases_lt, eq-eqb, ne_eqb, lt-ltb, ltb-true}
+use Rattle.std.proofs.lemmas.Bool.{cases_lt, lt-ltb, ltb-true}
 use Rattle.std.proofs.lemmas.Bool.Decides.{nat_tests}
 use Rattle.std.proofs.lemmas.List.{length-replicate, length_push, map-set, get_or_past, set-get_or}
 use Rattle.std.proofs.lemmas.List.Elements.{All-head, All-tail}
@@ -50,12 +50,9 @@ module _ {P : Type 0} (R : List (List P)) (marks : List Bool) (are : AreMarked R
     pub AreMarked-set : (row : List P) (b : Bool) → b ≡ nat_lt 0 (length row) → AreMarked (set R i row) (set marks i b)
     AreMarked-set row b is = record {
       words = rw (length-set R i row) (length-set marks i b ∙ are.words);
-      own = λ j. elim (cases_eq i j) as (λ _. marked (set marks i b) j ≡ nat_lt 0 (length (get_or (set R i row) j []))) [
-        | inl q ↦ rw (← q) (get_or-set_same marks i b false (omega (arith, below, marks-enough)) ∙ is
-            ∙ ap (λ (ps : List P). nat_lt 0 (length ps)) (sym (get_or-set_same R i row [] below)))
-        | inr apart ↦ get_or-set_other marks i j b false (λ q. apart (sym q)) ∙ are.own j
-            ∙ ap (λ (ps : List P). nat_lt 0 (length ps)) (sym (get_or-set_other R i j row [] (λ q. apart (sym q))))
-      ];
+      own = λ j.
+          let mark = get_or-set_same marks i b false (omega (arith, below, marks-enough)) in let filled = get_or-set_same R i row [] below in
+          let other_mark = get_or-set_other marks i j b false in let other = get_or-set_other R i j row [] in let own = are.own j in grind (arith, is, mark, filled, other_mark, other, own);
     }
 
     -- with row i changed, but not whether it holds a pair

@@ -1,8 +1,8 @@
 -- What marked indices say of rows, if each row that holds something is marked.
-use Rattle.std.proofs.Common.{◌≡◌, inl, inr, ℕ, zero, suc, ◌+◌, ◌-◌, ◌<◌, ◌≤◌, Bool, true, false, List, [], ◌∷◌, ◌++◌, length, map, get_or, replicate, refl, sym, ap, ◌∙◌, arith, add-zero, zero-add, append-nil}
+use Rattle.std.proofs.Common.{◌≡◌, ℕ, zero, suc, ◌+◌, ◌-◌, ◌<◌, ◌≤◌, Bool, true, false, List, [], ◌∷◌, ◌++◌, length, map, get_or, replicate, refl, sym, ap, ◌∙◌, arith, add-zero, zero-add, append-nil}
 use Rattle.std.specs.Prelude.{filter, All, AllPairs, count_by, nat_lt}
 use Rattle.std.specs.List.{flat_map, range_with_len}
-use Rattle.std.proofs.lemmas.Bool.{cases_Bool, lt-ltb, false≢true}
+use Rattle.std.proofs.lemmas.Bool.{lt-ltb, false≢true}
 use Rattle.std.proofs.lemmas.Grind.{flat_map-append}
 use Rattle.std.proofs.lemmas.List.{get_or_past}
 use Rattle.std.proofs.lemmas.List.Elements.{All-from_get_or, All-get_or, All-filter, filter-append, filter_passes}
@@ -10,7 +10,7 @@ use Rattle.std.proofs.lemmas.List.FromFn.{get_or-range_with_len, length-range_wi
 use Rattle.std.proofs.lemmas.List.Kept.{AllPairs-filter}
 use Rattle.std.proofs.lemmas.List.Sums.{length-filter}
 use Rattle.intmap_table.specs.Tables.Bits.{marked, marked_indices}
-use Rattle.intmap_table.proofs.ClassLemmas.{flat_map-rows}
+use Rattle.intmap_table.proofs.ClassLemmas.{range-next, flat_map-rows}
 use Rattle.intmap_table.proofs.LoadLemmas.{count_by-range_list}
 
 -- a run of numbers, and the next one
@@ -24,18 +24,12 @@ range_with_len-add a (suc m) n =
 -- tests that agree on a run of numbers keep the same of them
 pub filter-same : (f g : ℕ → Bool) (a n : ℕ) → ((i : ℕ) → i < n → f (a + i) ≡ g (a + i)) → filter f (range_with_len a n) ≡ filter g (range_with_len a n)
 filter-same f g a zero same = refl
-filter-same f g a (suc n) same =
-    let first : f a ≡ g a = let k = same 0 (omega arith) in rw add-zero at k in
-    let rest = filter-same f g (a + 1) n (λ i lt. let q : a + 1 + i ≡ a + suc i = omega arith in rw q (same (suc i) (omega arith))) in
-    simp (first, rest)
+filter-same f g a (suc n) same = let on = range-next (λ k _. f k ≡ g k) a n same in simp (on.0, filter-same f g (a + 1) n on.1)
 
 -- a test that no number of a run passes keeps none
 pub filter-none : (f : ℕ → Bool) (a n : ℕ) → ((i : ℕ) → i < n → f (a + i) ≡ false) → filter f (range_with_len a n) ≡ []
 filter-none f a zero none = refl
-filter-none f a (suc n) none =
-    let first : f a ≡ false = let k = none 0 (omega arith) in rw add-zero at k in
-    let rest = filter-none f (a + 1) n (λ i lt. let q : a + 1 + i ≡ a + suc i = omega arith in rw q (none (suc i) (omega arith))) in
-    simp (first, rest)
+filter-none f a (suc n) none = let on = range-next (λ k _. f k ≡ false) a n none in simp (on.0, filter-none f (a + 1) n on.1)
 
 -- a run that begins k later has the same numbers, k more each
 pub filter-shift : (f : ℕ → Bool) (k a n : ℕ) → filter f (range_with_len (k + a) n) ≡ map (λ i. k + i) (filter (λ i. f (k + i)) (range_with_len a n))
@@ -89,10 +83,7 @@ flat_map-filter row test empty (n ∷ ns) = let rest = flat_map-filter row test 
 
 flat_map-none : {P : Type 0} (row : ℕ → List P) (a n : ℕ) → ((i : ℕ) → i < n → row (a + i) ≡ []) → flat_map row (range_with_len a n) ≡ []
 flat_map-none row a zero none = refl
-flat_map-none row a (suc n) none =
-    let first : row a ≡ [] = let k = none 0 (omega arith) in rw add-zero at k in
-    let rest = flat_map-none row (a + 1) n (λ i lt. let q : a + 1 + i ≡ a + suc i = omega arith in rw q (none (suc i) (omega arith))) in
-    simp (first, rest) refl
+flat_map-none row a (suc n) none = let on = range-next (λ k _. row k ≡ []) a n none in simp (on.0, flat_map-none row (a + 1) n on.1) refl
 
 pub row-none : {P : Type 0} (row : List P) → nat_lt 0 (length row) ≡ false → row ≡ []
 row-none [] none = refl

@@ -1,16 +1,15 @@
 -- Room for pairs that move: each slot has it, but one that gets the block of the old slot.
-use Rattle.std.proofs.Common.{◌≡◌, ◌≢◌, ◌⊎◌, inl, inr, ℕ, ◌+◌, ◌-◌, ◌*◌, ◌/◌, ◌%◌, ◌<◌, ◌≤◌, Bool, true, false, cond, ◌==◌, List, [], ◌∷◌, ◌++◌, length, get_or, set, sym, ap, ◌∙◌, subst, arith, append-nil, append_assoc, length-append, length-set, refl, get_or-set_other, get_or-set_same, All}
+use Rattle.std.proofs.Common.{◌≡◌, ◌≢◌, ◌⊎◌, inl, inr, ℕ, ◌+◌, ◌-◌, ◌*◌, ◌/◌, ◌%◌, ◌<◌, ◌≤◌, Bool, true, false, cond, ◌==◌, List, [], ◌∷◌, ◌++◌, length, get_or, set, sym, ap, ◌∙◌, subst, arith, append-nil, append_assoc, length-append, length-set, refl, All}
 use Rattle.std.proofs.lemmas.List.Sums.{length-filter, count_by-le-length, sum_by-cons}
 use Rattle.std.proofs.lemmas.Bool.{eq-eqb, ne_eqb, cases_eq}
 use Rattle.std.proofs.lemmas.Bool.Decides.{nat_tests}
 use Rattle.std.proofs.lemmas.Nat.{div-add-mod', div-mul-add, div_below}
-use Rattle.std.proofs.lemmas.Grind.{get_or-set_at}
-use Rattle.std.proofs.lemmas.List.{map-set, length-map}
 use Rattle.std.proofs.lemmas.List.Elements.{filter-append, All-head, All-tail}
 use Rattle.intmap_table.specs.Classes.{slot_number}
 use Rattle.intmap_table.specs.Walk.{slot_of}
 use Rattle.intmap_table.specs.Tables.Slots.{Held, rows}
 use Rattle.intmap_table.specs.Tables.Moves.{rooms, room_without, part_room, IsGrown, bare_slot, IsPlaced, need, in_part, HasRoom, HasParts, CanLeave, IsPut}
+use Rattle.intmap_table.proofs.Tables.TableLemmas.{room-set, room-set_other}
 use Rattle.intmap_table.proofs.Tables.GrownLemmas.{slot_number-grown, modulo-below, nonempty, no_length, part-of}
 
 module _ {K X : Type 0} (number : K → ℕ) where
@@ -52,35 +51,14 @@ module _ {K X : Type 0} (number : K → ℕ) where
     After i = (length (get_or (rows T) i []) + length (slot_of number M (length S) i) ≤ get_or (rooms T) i 0)
         ⊎ ((i ≡ x) × (get_or (rooms T) i 0 ≡ 1) × (length (get_or (rows T) i []) + length (slot_of number M (length S) i) ≤ 1 + left))
 
-    -- if the block was taken, slot j was the one
-    taken : 0 < length (get_or (rows S) j []) → get_or (rooms S) j 0 ≡ 1 → (j ≡ x) × (length (get_or (rows S) j []) + length (slot_of number (p ∷ M) (length S) j) ≤ 1 + block)
-    taken some bare = elim (has.room j below (omega (arith, one))) [
-      | inl fits ↦ absurd (omega (arith, fits, one, bare, some))
-      | inr but ↦ (but.0, but.2)
-    ]
-
     here : After j
-    here = elim put.how [
-      | inl kept ↦ (let same = kept.1 in let rest = kept.2 in
-          elim (has.room j below (omega (arith, one))) as (λ _. After j) [
-            | inl fits ↦ inl (omega (arith, fits, one, longer, same))
-            | inr but ↦ (let bare = but.1 in let enough = but.2 in
-                inr (but.0, omega (arith, same, bare), omega (arith, enough, one, longer, rest)))
-          ])
-      | inr swapped ↦ (let new = swapped.2 in let enough = (taken swapped.0 swapped.1).1 in inl (omega (arith, new, enough, one, longer)))
-    ]
+    here = let fits = has.room j below (omega (arith, one)) in let how = put.how in grind (arith, fits, how, one, longer)
 
     elsewhere : (i : ℕ) → i < length S → i ≢ j → 0 < length (slot_of number M (length S) i) → After i
     elsewhere i lt apart some =
         let needs : length (slot_of number (p ∷ M) (length S) i) ≡ length (slot_of number M (length S) i) = ap length (slot_of-not_first p M (length S) i (λ q. apart (sym q ∙ is))) in
-        let row = ap length (put.others i apart) in let room = put.other_rooms i apart in
-        elim (has.room i lt (omega (arith, needs, some))) as (λ _. After i) [
-          | inl fits ↦ inl (omega (arith, fits, needs, row, room))
-          | inr but ↦ (let bare = but.1 in let enough = but.2 in elim put.how as (λ _. After i) [
-            | inl kept ↦ (let rest = kept.2 in inr (but.0, omega (arith, room, bare), omega (arith, enough, needs, row, rest)))
-            | inr swapped ↦ absurd (apart (but.0 ∙ sym (taken swapped.0 swapped.1).0))
-          ])
-        ]
+        let row = ap length (put.others i apart) in let room = put.other_rooms i apart in let how = put.how in
+        let fits = has.room i lt (omega (arith, needs, some)) in let first = has.room j below (omega (arith, one)) in grind (arith, apart, how, fits, first, one, needs, row, room)
 
     -- and the others still have room then
     pub HasRoom-put : HasRoom number T M left x
@@ -139,22 +117,12 @@ module _ {K X : Type 0} (number : K → ℕ) where
       → ((j : ℕ) → j < length (set S i h) → 0 < need number (p ∷ []) (length (set S i h)) j → get_or (rows (set S i h)) j [] ≡ [])
       → HasRoom number (set S i bare_slot) (p ∷ []) given x → HasRoom number (set S i h) (p ∷ []) block y
   HasRoom-lone S i h p given x block y some_room empty has =
-      let lone : (j : ℕ) → j < length S → 0 < need number (p ∷ []) (length S) j → need number (p ∷ []) (length S) j ≤ get_or (set (rooms S) i h.room) j 0 =
-      λ j lt some.
-      let most = need-most (p ∷ []) (length S) j in
-      elim (cases_eq j i) as (λ _. need number (p ∷ []) (length S) j ≤ get_or (set (rooms S) i h.room) j 0) [
-        | inl q ↦ (let w : i < length (rooms S) = (let l = length-map S (λ (s : Held K X). s.room) in omega (arith, lt, q, l)) in
-            let here : get_or (set (rooms S) i h.room) j 0 ≡ h.room = ap (λ k. get_or (set (rooms S) i h.room) k 0) q ∙ get_or-set_same (rooms S) i h.room 0 w in
-            omega (arith, here, some_room, most))
-        | inr other ↦ (let same = get_or-set_other (rooms S) i j h.room 0 other in let before = get_or-set_other (rooms S) i j 1 0 other in
-            elim ((rw (length-set S i bare_slot, map-set (λ (s : Held K X). s.room) S i bare_slot) at has.room) j lt some) [
-              | inl fits ↦ omega (arith, fits, same, before, most)
-              | inr but ↦ (let bare = but.1 in omega (arith, bare, same, before, most))
-            ])
-      ] in
-      let fits : (j : ℕ) → j < length (set S i h) → 0 < need number (p ∷ []) (length (set S i h)) j → need number (p ∷ []) (length (set S i h)) j ≤ get_or (rooms (set S i h)) j 0 =
-      rw (length-set S i h, map-set (λ (s : Held K X). s.room) S i h) lone in
-      record { room = λ j lt some. inl (let none = ap length (empty j lt some) in let enough = fits j lt some in omega (arith, none, enough)) }
+      let free = rw (length-set S i h) at empty in let before = rw (length-set S i bare_slot) at has.room in
+      record {
+        room = rw (length-set S i h) (λ j lt some.
+            let most = need-most (p ∷ []) (length S) j in let none = ap length (free j lt some) in let fits = before j lt some in
+            let own = room-set S i h in let other = room-set_other S i h j in let bare = room-set_other S i bare_slot j in inl (grind (arith, lt, most, none, some_room, own, other, bare, fits)));
+      }
 
   -- one without pairs can
   pub CanLeave-none : (r : List ℕ) (L : List (K × X)) (C D k : ℕ) → L ≡ [] → CanLeave number r L C D k
@@ -167,11 +135,7 @@ module _ {K X : Type 0} (number : K → ℕ) where
   -- the room of each slot once the block of slot k is taken away
   pub room-emptied : (S : List (Held K X)) (k j : ℕ) → k < length S → get_or (rooms (set S k bare_slot)) j 0 ≡ room_without (rooms S) k j
   room-emptied S k j within =
-      let w : k < length (rooms S) = (let l = length-map S (λ (h : Held K X). h.room) in omega (arith, within, l)) in
-      ap (λ r. get_or r j 0) (map-set (λ (h : Held K X). h.room) S k bare_slot) ∙ elim (cases_eq j k) as (λ _. get_or (set (rooms S) k 1) j 0 ≡ room_without (rooms S) k j) [
-        | inl q ↦ get_or-set_at (rooms S) k j 1 0 q w ∙ sym (ap (λ b. cond b 1 (get_or (rooms S) j 0)) (eq-eqb j k q))
-        | inr apart ↦ get_or-set_other (rooms S) k j 1 0 apart ∙ sym (ap (λ b. cond b 1 (get_or (rooms S) j 0)) (ne_eqb j k apart))
-      ]
+      let own : get_or (rooms (set S k bare_slot)) k 0 ≡ 1 = room-set S k bare_slot within in let other = room-set_other S k bare_slot j in grind (arith, nat_tests, own, other)
 
   -- if its parts hold no pair, its pairs have room there, with the help of its block
   pub HasRoom-leave : (S : List (Held K X)) (L : List (K × X)) (C k : ℕ) → IsGrown C (length S) → k < length S → All (λ p. slot_number number p.0 C ≡ k) L

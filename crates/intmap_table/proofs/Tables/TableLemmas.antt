@@ -1,11 +1,10 @@
 -- What calls of a table do to its slots, read as its walk.
-use Rattle.std.proofs.Common.{◌≡◌, ◌≢◌, inl, inr, ℕ, zero, suc, ◌<◌, cond, List, [], ◌∷◌, ◌++◌, length, get_or, set, take, None, refl, sym, ap, ◌∙◌, subst, arith, zero-add, append_assoc, append-nil, length-set, get_or-set_same, get_or-set_other}
-use Rattle.std.specs.Prelude.{All, count_by, nat_lt}
+use Rattle.std.proofs.Common.{◌≡◌, ◌≢◌, inl, inr, ℕ, zero, suc, ◌<◌, List, [], ◌∷◌, ◌++◌, length, get_or, set, take, None, refl, sym, ap, ◌∙◌, subst, arith, zero-add, append_assoc, append-nil, length-set, get_or-set_same, get_or-set_other}
+use Rattle.std.specs.Prelude.{All, count_by}
 use Rattle.std.specs.List.{flat_map, range_with_len}
 use Rattle.std.proofs.lemmas.List.{set-get_or, get_or-map, map-set, length-map}
 use Rattle.std.proofs.lemmas.List.Elements.{All-push, All-nil}
-use Rattle.std.proofs.lemmas.Bool.{cases_eq, lt-ltb}
-use Rattle.std.proofs.lemmas.List.Sums.{sum_by-cons}
+use Rattle.std.proofs.lemmas.Bool.{cases_eq}
 use Rattle.intmap_table.specs.Classes.{IsCapacity, slot_number, same_key}
 use Rattle.intmap_table.specs.Bindings.{swap_out, value_of, take_key, put_pair}
 use Rattle.intmap_table.specs.Walk.{slot_of, walk_of}
