@@ -64,6 +64,9 @@ module _ {X : Type 0} where
       let e : suc (length zs) - 1 ≡ length zs = omega arith in
       ap (λ n. take n (set (z ∷ zs) i (get_or (z ∷ zs) n x))) e
 
+  swap_remove-behind : (y z : X) (zs : List X) (i : ℕ) (x : X) → swap_remove (y ∷ z ∷ zs) (suc i) x ≡ y ∷ swap_remove (z ∷ zs) i x
+  swap_remove-behind y z zs i x = swap_remove-cons y (z ∷ zs) (suc i) x ∙ ap (λ l. y ∷ l) (sym (swap_remove-cons z zs i x))
+
   last_passing-any : (d z : X) (zs : List X) (e : X) → last_passing any d (z ∷ zs) ≡ get_or (z ∷ zs) (length zs) e
   last_passing-any d z [] e = refl
   last_passing-any d z (y ∷ zs) e = last_passing-any z y zs e
@@ -78,26 +81,12 @@ module _ {X : Type 0} where
       swap_remove-cons y (z ∷ zs) 0 x ∙ simp (last_passing-any y z zs x, without_last-any z zs)
 
 module _ {X : Type 0} (test : X → Bool) where
-  swap_remove-step : (y x : X) (ys : List X) (t : Bool) → test y ≡ t
-      → (position_or_len test ys < length ys → x ≡ get_or ys (position_or_len test ys) x → swap_remove ys (position_or_len test ys) x ≡ swap_out test any ys)
-      → position_or_len test (y ∷ ys) < length (y ∷ ys) → x ≡ get_or (y ∷ ys) (position_or_len test (y ∷ ys)) x
-      → swap_remove (y ∷ ys) (position_or_len test (y ∷ ys)) x ≡ swap_out test any (y ∷ ys)
-  swap_remove-step y x ys true t h below is =
-      let q : x ≡ y = rw t at is in rw t (swap_remove-first y x ys q)
-  swap_remove-step y x [] false t h below is =
-      let w : 1 + 0 < 1 = rw t at below in absurd (omega arith)
-  swap_remove-step y x (z ∷ zs) false t h below is =
-      let n : ℕ = position_or_len test (z ∷ zs) in
-      let w : 1 + n < suc (length (z ∷ zs)) = rw t at below in
-      let o : 1 + n ≡ suc n = omega arith in
-      let i : x ≡ get_or (y ∷ z ∷ zs) (1 + n) x = rw t at is in
-      let j : x ≡ get_or (z ∷ zs) n x = rw o at i in
-      let r : swap_remove (z ∷ zs) n x ≡ swap_out test any (z ∷ zs) = h (omega arith) j in
-      rw t (ap (λ k. swap_remove (y ∷ z ∷ zs) k x) o ∙ swap_remove-cons y (z ∷ zs) (suc n) x ∙ ap (λ l. y ∷ l) (sym (swap_remove-cons z zs n x) ∙ r))
-
   swap_remove-position_or_len : (x : X) (xs : List X) → position_or_len test xs < length xs → x ≡ get_or xs (position_or_len test xs) x → swap_remove xs (position_or_len test xs) x ≡ swap_out test any xs
   swap_remove-position_or_len x [] below is = absurd (omega arith)
-  swap_remove-position_or_len x (y ∷ ys) below is = swap_remove-step y x ys (test y) refl (swap_remove-position_or_len x ys) below is
+  swap_remove-position_or_len x (y ∷ []) below is = let first = swap_remove-first y x [] in grind (arith, below, is, first)
+  swap_remove-position_or_len x (y ∷ z ∷ zs) below is =
+      let first = swap_remove-first y x (z ∷ zs) in let rest = swap_remove-position_or_len x (z ∷ zs) in
+      let behind = swap_remove-behind y z zs (position_or_len test (z ∷ zs)) x in grind (arith, below, is, first, rest, behind)
 
   -- a place that was found is the first that passes, and within the list
   pub position-within : (xs : List X) (i : ℕ) → position test xs ≡ Some i → (position_or_len test xs ≡ i) × (i < length xs)

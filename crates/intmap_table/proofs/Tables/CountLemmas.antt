@@ -85,10 +85,7 @@ module _ {K X : Type 0} (S : List (Held K X)) (C i : ℕ) (below : i < C) where
       pub IsShared-spare : IsShared S counts C i part false x → IsShared S counts C i (part + 1) true part
       IsShared-spare is = record {
         ahead = λ t le lt. is.ahead t (omega (arith, le)) lt;
-        room = below_more _ part (λ t lt. elim (is.room t lt) [
-          | inl has ↦ inl has
-          | inr bare ↦ (let past = is.none refl in let q = bare.0 in absurd (omega (arith, past, q, lt, here)))
-        ]) (inr (refl, is.ahead part (omega arith) here));
+        room = below_more _ part (λ t lt. let past = is.none refl in let has = is.room t lt in grind (arith, past, lt, here, has)) (inr (refl, is.ahead part (omega arith) here));
         none = λ q. absurd (cc);
         some = λ _. omega arith;
       }
@@ -234,10 +231,7 @@ module _ {K X : Type 0} (number : K → ℕ) (S₀ : List (Held K X)) (marks : L
           own = longer.own.own index old;
           bare = λ j lt part apart.
               let here : (index == j % C) ≡ true = eq-eqb index (j % C) (sym part) in
-              let past : C ≤ j = elim (cases_lt j C) as (λ _. C ≤ j) [
-                | inl w ↦ absurd (apart (sym (modulo-below C j w) ∙ part))
-                | inr w ↦ w
-              ] in
+              let past : C ≤ j = (let own = modulo-below C j in grind (arith, apart, part, own)) in
               ready.ahead j (simp here) ∙ get_or-map (λ (h : Held K X). h.room) S₀ j bare_slot 0 lt ∙ ap (λ (h : Held K X). h.room) (bare j past lt);
         }
 

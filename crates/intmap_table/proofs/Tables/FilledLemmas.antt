@@ -138,10 +138,8 @@ kept-found test i a (suc n) missed from below = let rest = kept-found test i (a 
 
 -- a row whose index isn't among the marked ones holds no pair
 pub row-unmarked : {P : Type 0} (R : List (List P)) (marks : List Bool) → AreMarked R marks → (i : ℕ) → list_any (λ j. j == i) (marked_indices marks) ≡ false → get_or R i [] ≡ []
-row-unmarked R marks are i missed = row-none (get_or R i []) (elim (cases_lt i (length marks)) as (λ _. nat_lt 0 (length (get_or R i [])) ≡ false) [
-  | inl below ↦ sym (are.own i) ∙ kept-found (marked marks) i 0 (length marks) missed (omega arith) (omega (arith, below))
-  | inr past ↦ sym (are.own i) ∙ get_or_past marks i false past
-])
+row-unmarked R marks are i missed =
+    let own = are.own i in let kept = kept-found (marked marks) i 0 (length marks) missed in let past = get_or_past marks i false in row-none (get_or R i []) (grind (arith, own, kept, past))
 
 -- a table of empty slots, with no index marked
 pub IsMarkedTable-empty : {K X : Type 0} (number : K → ℕ) (S : List (Held K X)) (C : ℕ) → IsCapacity C → rows S ≡ replicate C [] → IsMarkedTable number S (replicate (64 * ((C + 63) / 64)) false)

@@ -3,7 +3,9 @@ use Rattle.std.proofs.Common.{◌≡◌, ℕ, zero, suc, ◌+◌, ◌<◌, Bool,
 use Rattle.std.specs.Prelude.{◌==◌, All, position}
 use Rattle.std.specs.List.{position_or_len}
 use Rattle.std.proofs.lemmas.Bool.{eqb-true}
-use Rattle.std.proofs.lemmas.List.Elements.{All-head, All-tail, All-filter}
+use Rattle.std.proofs.lemmas.List.{get_or_default}
+use Rattle.std.proofs.lemmas.List.Sums.{passes_at_first}
+use Rattle.std.proofs.lemmas.List.Elements.{All-filter}
 use Rattle.intmap_table.specs.Classes.{slot_number, same_key}
 use Rattle.intmap_table.specs.Locations.{IsAt, IsFound, key_at}
 use Rattle.intmap_table.specs.Tables.Slots.{Held, rows, joined, IsTable}
@@ -14,6 +16,12 @@ use Rattle.intmap_table.proofs.LocationLemmas.{slot-at, place-within}
 use Rattle.intmap_table.proofs.PositionLemmas.{position-within}
 use Rattle.intmap_table.proofs.Tables.TableLemmas.{slot_of-here}
 
+module _ {K X : Type 0} where
+  key_at-get_or : (L : List (K × X)) (i : ℕ) (k : K) → i < length L → ((p : K × X) → k ≡ (get_or L i p).0) → Some k ≡ key_at L i
+  key_at-get_or [] i k below is = absurd (omega arith)
+  key_at-get_or (p ∷ L) zero k below is = ap (λ q. Some q) (is p)
+  key_at-get_or (p ∷ L) (suc i) k below is = key_at-get_or L i k (omega arith) is
+
 module _ {K V : Type 0} (test : K → Bool) (P : K → Type 0) where
   -- the key at place i passes the test, and has what all keys of the list have
   record PassesAt (L : List (K × V)) (i : ℕ) : Type 0 where
@@ -22,28 +30,16 @@ module _ {K V : Type 0} (test : K → Bool) (P : K → Type 0) where
     pub passes : test key ≡ true
     pub own : All (λ p. P p.0) L → P key
 
-  behind : (p : K × V) (L : List (K × V)) (i : ℕ) → PassesAt L i → PassesAt (p ∷ L) (suc i)
-  behind p L i h = record { key = h.key; here = h.here; passes = h.passes; own = λ all. h.own (All-tail (λ p. P p.0) p L all) }
-
-  found_step : (p : K × V) (L : List (K × V)) (t : Bool) → test p.0 ≡ t
-      → (position_or_len (λ q. test q.0) L < length L → PassesAt L (position_or_len (λ q. test q.0) L))
-      → position_or_len (λ q. test q.0) (p ∷ L) < length (p ∷ L) → PassesAt (p ∷ L) (position_or_len (λ q. test q.0) (p ∷ L))
-  found_step p L true e rest below =
-      let o : position_or_len (λ (q : K × V). test q.0) (p ∷ L) ≡ 0 = rw e refl in
-      subst (PassesAt (p ∷ L)) (sym o) (record { key = p.0; here = refl; passes = e; own = λ all. All-head (λ p. P p.0) p L all })
-  found_step p L false e rest below =
-      let n : ℕ = position_or_len (λ (q : K × V). test q.0) L in
-      let w : 1 + n < suc (length L) = rw e at below in
-      let o : position_or_len (λ (q : K × V). test q.0) (p ∷ L) ≡ suc n = rw e (omega arith) in
-      subst (PassesAt (p ∷ L)) (sym o) (behind p L n (rest (omega (arith, w))))
-
-  found : (L : List (K × V)) → position_or_len (λ q. test q.0) L < length L → PassesAt L (position_or_len (λ q. test q.0) L)
-  found [] below = absurd (omega arith)
-  found (p ∷ L) below = found_step p L (test p.0) refl (found L) below
-
   PassesAt-position : (L : List (K × V)) (i : ℕ) → position (λ q. test q.0) L ≡ Some i → PassesAt L i
-  PassesAt-position L i e =
-      let p = position-within (λ (q : K × V). test q.0) L i e in subst (PassesAt L) p.0 (found L (subst (λ n. n < length L) (sym p.0) p.1))
+  PassesAt-position [] i e = let within = (position-within (λ (q : K × V). test q.0) [] i e).1 in absurd (omega (arith, within))
+  PassesAt-position (p ∷ L) i e =
+      let at = position-within (λ (q : K × V). test q.0) (p ∷ L) i e in let q = get_or (p ∷ L) i p in
+      record {
+        key = q.0;
+        here = sym (key_at-get_or (p ∷ L) i q.0 at.1 (λ d. ap (λ (r : K × V). r.0) (get_or_default (p ∷ L) i p d at.1)));
+        passes = subst (λ n. test (get_or (p ∷ L) n p).0 ≡ true) at.0 (passes_at_first (λ (r : K × V). test r.0) (p ∷ L) p (subst (λ n. n < length (p ∷ L)) (sym at.0) at.1));
+        own = λ all. all i p at.1;
+      }
 
 module _ {K V : Type 0} (number : K → ℕ) (is_valid : K → Type 0) where
   -- at the place at which a key was found is that key
@@ -57,12 +53,6 @@ module _ {K V : Type 0} (number : K → ℕ) (is_valid : K → Type 0) where
 some-from : {K : Type 0} (o : Option K) (k : K) → o ≡ Some k → IsSome o
 some-from (Some x) k e = refl
 some-from None k e = absurd cc
-
-module _ {K X : Type 0} where
-  key_at-get_or : (L : List (K × X)) (i : ℕ) (k : K) → i < length L → ((p : K × X) → k ≡ (get_or L i p).0) → Some k ≡ key_at L i
-  key_at-get_or [] i k below is = absurd (omega arith)
-  key_at-get_or (p ∷ L) zero k below is = ap (λ q. Some q) (is p)
-  key_at-get_or (p ∷ L) (suc i) k below is = key_at-get_or L i k (omega arith) is
 
 module _ {K V : Type 0} (number : K → ℕ) where
   -- a pair that was located by the key that it has is found

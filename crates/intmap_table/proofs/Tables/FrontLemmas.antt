@@ -21,10 +21,7 @@ module _ {K X : Type 0} (number : K → ℕ) (S : List (Held K X)) (table : IsTa
 
 -- if no row holds a pair from the first one on that wasn't passed, there is none
 pub joined-passed : {P : Type 0} (R : List (List P)) (from : ℕ) → ((j : ℕ) → j < from → get_or R j [] ≡ []) → ((j : ℕ) → from ≤ j → get_or R j [] ≡ []) → joined R ≡ []
-joined-passed R from passed none = joined-emptied R (λ j. elim (cases_lt j from) as (λ _. get_or R j [] ≡ []) [
-  | inl before ↦ passed j before
-  | inr behind ↦ none j behind
-])
+joined-passed R from passed none = joined-emptied R (λ j. let before = passed j in let behind = none j in grind (arith, before, behind))
 
 module _ {K X : Type 0} (number : K → ℕ) (S : List (Held K X)) (marks : List Bool) (old : IsMarkedTable number S marks) (from index : ℕ) (next : IsNextRow (rows S) from index)
     (passed : (j : ℕ) → j < from → get_or (rows S) j [] ≡ []) (ps : List (K × X)) (s : Held K X) (taken : get_or (rows S) index [] ≡ ps ++ s.pairs) where
@@ -45,10 +42,7 @@ module _ {K X : Type 0} (number : K → ℕ) (S : List (Held K X)) (marks : List
   -- the slots before it hold no pair
   pub rows-before : (j : ℕ) → j < index → get_or (rows (set S index s)) j [] ≡ []
   rows-before j lt =
-      let empty : get_or (rows S) j [] ≡ [] = elim (cases_lt j from) as (λ _. get_or (rows S) j [] ≡ []) [
-        | inl before ↦ passed j before
-        | inr behind ↦ next.between j behind lt
-      ] in
+      let empty : get_or (rows S) j [] ≡ [] = (let before = passed j in let behind = next.between j in grind (arith, lt, before, behind)) in
       row-set_other S index s j (λ q. omega (arith, lt, q)) ∙ empty
 
   -- the slots are those of a table, with their marks

@@ -82,10 +82,7 @@ module _ {K X : Type 0} (number : K → ℕ) (C D : ℕ) (grown : IsGrown C D) w
 
   -- so a slot that gets some is a part of it
   pub part-of : (L : List (K × X)) (k j : ℕ) → All (λ p. slot_number number p.0 C ≡ k) L → 0 < length (slot_of number L D j) → j % C ≡ k
-  part-of L k j own some = elim (cases_eq (j % C) k) as (λ _. j % C ≡ k) [
-    | inl q ↦ q
-    | inr apart ↦ (let none = ap length (slot_of-apart L k j own apart) in absurd (omega (arith, none, some)))
-  ]
+  part-of L k j own some = let none = slot_of-apart L k j own in grind (arith, none, some)
 
   module _ (R : List (List (K × X))) (is : IsOldRows number R C) where
     -- the pairs of a slot are all of its old row

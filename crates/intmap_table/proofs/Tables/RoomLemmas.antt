@@ -32,11 +32,7 @@ module _ {K X : Type 0} (number : K → ℕ) where
   pub HasRoom-first : (S : List (Held K X)) (p : K × X) (M : List (K × X)) (block x : ℕ) → HasRoom number S (p ∷ M) block x → HasRoom number S (p ∷ []) block x
   HasRoom-first S p M block x has = record {
     room = λ j below some.
-        let less = need-less p M (length S) j in
-        elim (has.room j below (omega (arith, less, some))) [
-          | inl fits ↦ inl (omega (arith, fits, less))
-          | inr but ↦ inr (but.0, but.1, (let enough = but.2 in omega (arith, enough, less)))
-        ];
+        let less = need-less p M (length S) j in let fits = has.room j below (omega (arith, less, some)) in grind (arith, less, fits);
   }
 
   module _ (S T : List (Held K X)) (p : K × X) (M : List (K × X)) (block left x j : ℕ) (below : j < length S) (is : slot_number number p.0 (length S) ≡ j) (has : HasRoom number S (p ∷ M) block x) (put : IsPut S j block p T left) where
@@ -46,37 +42,19 @@ module _ {K X : Type 0} (number : K → ℕ) where
     longer : length (get_or (rows T) j []) ≡ length (get_or (rows S) j []) + 1
     longer = ap length put.row ∙ length-append (get_or (rows S) j []) (p ∷ [])
 
-    -- what holds of a slot
-    abbrev After : ℕ → Type 0
-    After i = (length (get_or (rows T) i []) + length (slot_of number M (length S) i) ≤ get_or (rooms T) i 0)
-        ⊎ ((i ≡ x) × (get_or (rooms T) i 0 ≡ 1) × (length (get_or (rows T) i []) + length (slot_of number M (length S) i) ≤ 1 + left))
-
-    here : After j
-    here = let fits = has.room j below (omega (arith, one)) in let how = put.how in grind (arith, fits, how, one, longer)
-
-    elsewhere : (i : ℕ) → i < length S → i ≢ j → 0 < length (slot_of number M (length S) i) → After i
-    elsewhere i lt apart some =
-        let needs : length (slot_of number (p ∷ M) (length S) i) ≡ length (slot_of number M (length S) i) = ap length (slot_of-not_first p M (length S) i (λ q. apart (sym q ∙ is))) in
-        let row = ap length (put.others i apart) in let room = put.other_rooms i apart in let how = put.how in
-        let fits = has.room i lt (omega (arith, needs, some)) in let first = has.room j below (omega (arith, one)) in grind (arith, apart, how, fits, first, one, needs, row, room)
-
     -- and the others still have room then
     pub HasRoom-put : HasRoom number T M left x
     HasRoom-put = record {
-      room = rw put.len (λ i lt some. elim (cases_eq i j) as (λ _. After i) [
-        | inl q ↦ subst After (sym q) here
-        | inr apart ↦ elsewhere i lt apart some
-      ]);
+      room = rw put.len (λ i lt some.
+          let first = has.room j below (omega (arith, one)) in let fits = has.room i lt in let needs = slot_of-not_first p M (length S) i in
+          let row = put.others i in let room = put.other_rooms i in let how = put.how in grind (arith, is, some, first, fits, needs, row, room, how, one, longer));
     }
 
   -- a pair that was put is placed
   pub IsPlaced-put : (S T : List (Held K X)) (p : K × X) (block left j : ℕ) → slot_number number p.0 (length S) ≡ j → IsPut S j block p T left → IsPlaced number S (p ∷ []) T
   IsPlaced-put S T p block left j is put = record {
     len = put.len;
-    pairs = λ i lt. elim (cases_eq i j) as (λ _. get_or (rows T) i [] ≡ get_or (rows S) i [] ++ slot_of number (p ∷ []) (length S) i) [
-      | inl q ↦ rw q (put.row ∙ ap (λ L. get_or (rows S) j [] ++ L) (sym (slot_of-first p [] (length S) j is)))
-      | inr apart ↦ put.others i apart ∙ sym (ap (λ L. get_or (rows S) i [] ++ L) (slot_of-not_first p [] (length S) i (λ q. apart (sym q ∙ is))) ∙ append-nil (get_or (rows S) i []))
-    ];
+    pairs = λ i lt. let own = put.row in let others = put.others i in let nil = append-nil (get_or (rows S) i []) in grind (arith, nat_tests, is, own, others, nil);
     rooms = λ i lt none. put.other_rooms i (λ q. nonempty p (slot_of number [] (length S) i) (sym (slot_of-first p [] (length S) i (is ∙ sym q)) ∙ none));
   }
 
@@ -145,10 +123,7 @@ module _ {K X : Type 0} (number : K → ℕ) where
     room = rw (length-set S k bare_slot) (λ j lt some.
         let part = part-of number C (length S) grown L k j own some in
         let none = ap length (free j lt part) in let most = need-most L (length S) j in let fits = can.fits in let room = room-emptied S k j within in
-        elim (can.room j lt part) [
-          | inl has ↦ inl (omega (arith, none, has, room))
-          | inr bare ↦ inr (bare.0, room ∙ bare.1, omega (arith, none, most, fits))
-        ]);
+        let has = can.room j lt part in grind (arith, none, most, fits, room, has));
   }
 
   -- of up to three pairs at most one slot gets several
@@ -169,15 +144,7 @@ module _ {K X : Type 0} (number : K → ℕ) where
       record {
         fits = fits;
         x = one.0;
-        room = λ j lt part.
-            let room : room_without r k j ≡ 1 = elim (cases_eq j k) as (λ _. room_without r k j ≡ 1) [
-              | inl q ↦ ap (λ b. cond b 1 (get_or r j 0)) (eq-eqb j k q)
-              | inr apart ↦ ap (λ b. cond b 1 (get_or r j 0)) (ne_eqb j k apart) ∙ bare j lt part apart
-            ] in
-            elim (cases_eq j one.0) as (λ _. (need number L D j ≤ room_without r k j) ⊎ ((j ≡ one.0) × (room_without r k j ≡ 1))) [
-              | inl q ↦ inr (q, room)
-              | inr other ↦ inl (let le = one.1 j other in omega (arith, le, room))
-            ];
+        room = λ j lt part. let alone = bare j lt part in let le = one.1 j in grind (arith, nat_tests, alone, le);
       }
 
   -- pairs of old slot k go to part t exactly if they go to slot t C + k
@@ -188,12 +155,8 @@ module _ {K X : Type 0} (number : K → ℕ) where
       let is : n ≡ n / C * C + k = sym (div-add-mod' n C) ∙ ap (λ m. n / C * C + m) (slot_number-grown number C D p.0 grown ∙ All-head (λ p. slot_number number p.0 C ≡ k) p L own) in
       let rest = in_part-need L C D k t grown below (All-tail (λ p. slot_number number p.0 C ≡ k) p L own) in
       let first = sum_by-cons (λ (q : K × X). cond (slot_number number q.0 D / C == t) 1 0) p L in
-      elim (cases_eq (n / C) t) as (λ _. in_part number (p ∷ L) C D t ≡ need number (p ∷ L) D (t * C + k)) [
-        | inl q ↦ (let one = length-first number p L D (t * C + k) (is ∙ ap (λ m. m * C + k) q) in let here = ap {B = ℕ} (λ b. cond b 1 0) (eq-eqb (n / C) t q) in omega (arith, first, rest, one, here))
-        | inr apart ↦
-            (let none = ap length (slot_of-not_first number p L D (t * C + k) (λ e. apart (ap (λ m. m / C) e ∙ div-mul-add t C k below))) in
-            let here = ap {B = ℕ} (λ b. cond b 1 0) (ne_eqb (n / C) t apart) in omega (arith, first, rest, none, here))
-      ]
+      let one = λ (q : n / C ≡ t). length-first number p L D (t * C + k) (is ∙ ap (λ m. m * C + k) q) in
+      let none = λ (apart : n / C ≢ t). slot_of-not_first number p L D (t * C + k) (λ e. apart (ap (λ m. m / C) e ∙ div-mul-add t C k below)) in grind (arith, nat_tests, first, rest, one, none)
 
   -- one with room in its parts for the pairs that are counted for them
   pub CanLeave-parts : (S : List (Held K X)) (L : List (K × X)) (C D k x : ℕ) (counts : List ℕ) → IsGrown C D → k < C → D ≡ length counts * C → All (λ p. slot_number number p.0 C ≡ k) L
