@@ -1,7 +1,7 @@
 //! The iterators of a map. Each goes through the slots in turn, and through each slot from front to
 //! back.
 ghost use Rattle.std.specs.Iterator.{YieldsFirstBy, item_count};
-ghost use Rattle.std.specs.Prelude.{◌≡◌};
+ghost use Rattle.std.specs.Prelude.{◌≡◌, length};
 ghost use Rattle.std.specs.Map.{keys_of, values_of};
 ghost use Rattle.intmap.specs.Iterating.{ShowsEach, shown, shown_pair};
 ghost use Rattle.intmap.specs.Map.{IsMap};
@@ -143,6 +143,7 @@ impl<K: IntKey, V, A: Allocator + Copy> IntMap<K, V, A> {
     /// the iterator fails.
     pub fn keys(&self) -> Keys<'_, K, V, A>
         ensures walk { result ≡ keys_of self.now.walk }
+        ensures len { length result ≡ length self.now.walk }
         ensures runs { ShowsEach (shown {X = K}) }
         ensures valid { IsMap K.number_of K.is_valid self.now }
     {
@@ -153,6 +154,7 @@ impl<K: IntKey, V, A: Allocator + Copy> IntMap<K, V, A> {
     /// of the iterator fails.
     pub fn values(&self) -> Values<'_, K, V, A>
         ensures walk { result ≡ values_of self.now.walk }
+        ensures len { length result ≡ length self.now.walk }
         ensures runs { ShowsEach (shown {X = V}) }
         ensures valid { IsMap K.number_of K.is_valid self.now }
     {

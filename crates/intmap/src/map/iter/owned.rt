@@ -1,6 +1,6 @@
 //! The iterators that own a map: they remove its pairs by value, from the front of the walk.
 ghost use Rattle.std.specs.Iterator.{YieldsFirst, item_count};
-ghost use Rattle.std.specs.Prelude.{◌≡◌};
+ghost use Rattle.std.specs.Prelude.{◌≡◌, length};
 ghost use Rattle.std.specs.Map.{keys_of, values_of};
 ghost use Rattle.intmap.specs.Iterating.{GivesEach};
 ghost use Rattle.intmap.specs.Map.{IsMap};
@@ -129,6 +129,7 @@ impl<K: IntKey, V: Drop, A: Allocator + Copy> IntMap<K, V, A> {
     /// ```
     pub fn into_keys(self) -> IntoKeys<K, V, A>
         ensures walk { result ≡ keys_of self.walk }
+        ensures len { length result ≡ length self.walk }
         ensures runs { GivesEach K }
         ensures valid { IsMap K.number_of K.is_valid self }
     {
@@ -148,6 +149,7 @@ impl<K: IntKey, V: Drop, A: Allocator + Copy> IntMap<K, V, A> {
     /// ```
     pub fn into_values(self) -> IntoValues<K, V, A>
         ensures walk { result ≡ values_of self.walk }
+        ensures len { length result ≡ length self.walk }
         ensures runs { GivesEach V }
         ensures valid { IsMap K.number_of K.is_valid self }
     {
