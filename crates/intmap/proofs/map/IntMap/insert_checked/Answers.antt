@@ -1,5 +1,5 @@
-use Rattle.std.proofs.Common.{◌≡◌, ◌∙◌, true, false, Option, Some, None, refl, sym, ap}
-use Rattle.std.specs.Prelude.{is_ok, is_some}
+use Rattle.std.proofs.Common.{◌∙◌, refl, sym, ap}
+use Rattle.std.specs.Prelude.{is_ok}
 use Rattle.intmap_table.specs.Bindings.{value_of}
 use Rattle.intmap.specs.PlainLists.{list_of}
 use Rattle.intmap.proofs.InsertionLemmas.{IsInsertion-kept, IsInsertion-searched}
