@@ -4,7 +4,8 @@ use Rattle.std.specs.Prelude.{filter, ◌==◌, All}
 use Rattle.std.specs.List.{flat_map, range_with_len}
 use Rattle.std.proofs.lemmas.List.Elements.{All-head, All-tail, All-weaker, filter-append, filter_passes}
 use Rattle.std.proofs.lemmas.List.FromFn.{get_or-map-range_with_len, length-map-range_with_len}
-use Rattle.std.proofs.lemmas.Bool.{eq-eqb, eqb-true, ne_eqb}
+use Rattle.std.proofs.lemmas.Bool.{eqb-true}
+use Rattle.std.proofs.lemmas.Bool.Decides.{nat_tests}
 
 -- what holds along a run of numbers holds of the first, and along the rest
 pub range-next : (P : ℕ → ℕ → Type 0) (a n : ℕ) → ((i : ℕ) → i < suc n → P (a + i) i) → P a 0 × ((i : ℕ) → i < n → P (a + 1 + i) (suc i))
@@ -39,30 +40,22 @@ module _ {X : Type 0} (f : X → ℕ) where
 
   class-whole : (i : ℕ) (xs : List X) → All (λ x. f x ≡ i) xs → class i xs ≡ xs
   class-whole i [] all = refl
-  class-whole i (x ∷ xs) all =
-      let e : (f x == i) ≡ true = eq-eqb (f x) i (All-head (λ x. f x ≡ i) x xs all) in
-      simp (e, class-whole i xs (All-tail (λ x. f x ≡ i) x xs all))
+  class-whole i (x ∷ xs) all = let here = All-head (λ x. f x ≡ i) x xs all in let rest = class-whole i xs (All-tail (λ x. f x ≡ i) x xs all) in grind (arith, nat_tests, here, rest)
 
   class-none : (i j : ℕ) (xs : List X) → i ≢ j → All (λ x. f x ≡ j) xs → class i xs ≡ []
   class-none i j [] apart all = refl
   class-none i j (x ∷ xs) apart all =
-      let e : (f x == i) ≡ false = ne_eqb (f x) i (λ q. apart (sym q ∙ All-head (λ x. f x ≡ j) x xs all)) in
-      simp (e, class-none i j xs apart (All-tail (λ x. f x ≡ j) x xs all))
+      let here = All-head (λ x. f x ≡ j) x xs all in let rest = class-none i j xs apart (All-tail (λ x. f x ≡ j) x xs all) in grind (arith, nat_tests, apart, here, rest)
 
-  AreClasses-first : (a : ℕ) (s : List X) (S : List (List X)) → AreClasses a (s ∷ S) → All (λ x. f x ≡ a) s
-  AreClasses-first a s S all = let h : All (λ x. f x ≡ a + 0) s = all 0 (omega arith) in rw add-zero at h
-
-  AreClasses-rest : (a : ℕ) (s : List X) (S : List (List X)) → AreClasses a (s ∷ S) → AreClasses (a + 1) S
-  AreClasses-rest a s S all i below =
-      let q : a + suc i ≡ a + 1 + i = omega arith in
-      let h : All (λ x. f x ≡ a + suc i) (get_or S i []) = all (suc i) (omega arith) in rw q at h
+  AreClasses-parts : (a : ℕ) (s : List X) (S : List (List X)) → AreClasses a (s ∷ S) → All (λ x. f x ≡ a) s × AreClasses (a + 1) S
+  AreClasses-parts a s S all = range-next (λ k i. All (λ x. f x ≡ k) (get_or (s ∷ S) i [])) a (length S) all
 
   class-joined-before : (a i : ℕ) (S : List (List X)) → AreClasses a S → i < a → class i (flat_map (λ s. s) S) ≡ []
   class-joined-before a i [] all before = refl
   class-joined-before a i (s ∷ S) all before =
       let apart : i ≢ a = omega arith in let up : i < a + 1 = omega arith in
       filter-append (λ x. f x == i) s (flat_map (λ s. s) S)
-      ∙ simp (class-none i a s apart (AreClasses-first a s S all), class-joined-before (a + 1) i S (AreClasses-rest a s S all) up)
+      ∙ simp (class-none i a s apart (AreClasses-parts a s S all).0, class-joined-before (a + 1) i S (AreClasses-parts a s S all).1 up)
 
   -- a class of joined rows is its row
   pub class-joined : (a i : ℕ) (S : List (List X)) → AreClasses a S → class (a + i) (flat_map (λ s. s) S) ≡ get_or S i []
@@ -70,11 +63,11 @@ module _ {X : Type 0} (f : X → ℕ) where
   class-joined a zero (s ∷ S) all =
       let up : a < a + 1 = omega arith in
       rw add-zero (filter-append (λ x. f x == a) s (flat_map (λ s. s) S)
-      ∙ simp (class-whole a s (AreClasses-first a s S all), class-joined-before (a + 1) a S (AreClasses-rest a s S all) up, append-nil))
+      ∙ simp (class-whole a s (AreClasses-parts a s S all).0, class-joined-before (a + 1) a S (AreClasses-parts a s S all).1 up, append-nil))
   class-joined a (suc i) (s ∷ S) all =
       let apart : a + suc i ≢ a = omega arith in let q : a + suc i ≡ a + 1 + i = omega arith in
       filter-append (λ x. f x == a + suc i) s (flat_map (λ s. s) S)
-      ∙ (simp (class-none (a + suc i) a s apart (AreClasses-first a s S all)) (rw q (class-joined (a + 1) i S (AreClasses-rest a s S all))))
+      ∙ (simp (class-none (a + suc i) a s apart (AreClasses-parts a s S all).0) (rw q (class-joined (a + 1) i S (AreClasses-parts a s S all).1)))
 
   -- the classes of a list are rows of one class each
   pub AreClasses-map : (xs : List X) (n : ℕ) → AreClasses 0 (map (λ i. class i xs) (range_with_len 0 n))

@@ -115,11 +115,6 @@ module _ {X : Type 0} (P : X → Type 0) where
   All-flat_map g [] h = All-nil P
   All-flat_map g (n ∷ ns) h = All-append P (g n) (flat_map g ns) (h n) (All-flat_map g ns h)
 
--- one less where b holds is one more where b does not
-one_more : (b : Bool) (m n : ℕ) → m + cond b 1 0 ≡ n → m + 1 ≡ n + cond b 0 1
-one_more true m n e = omega (arith, e)
-one_more false m n e = omega (arith, e)
-
 module _ {K V : Type 0} (number : K → ℕ) where
   -- the walk has as many pairs
   pub length-walk_of : (L : List (K × V)) (C : ℕ) → ((k : K) → slot_number number k C < C) → length (walk_of number L C) ≡ length L
@@ -165,8 +160,7 @@ module _ {K V : Type 0} (number : K → ℕ) where
 
   -- an insertion leaves one pair more if the key was absent
   pub length-put_pair : (L : List (K × V)) (C : ℕ) (k : K) (v : V) → length (put_pair number L C k v) ≡ length L + cond (is_some (value_of number L k)) 0 1
-  length-put_pair L C k v =
-      length_push (take_key number L C k) (k, v) ∙ one_more (is_some (value_of number L k)) (length (take_key number L C k)) (length L) (length-take_key L C k)
+  length-put_pair L C k v = let taken = length-take_key L C k in let more = length_push (take_key number L C k) (k, v) in grind (arith, taken, more)
 
   module _ (P : K × V → Type 0) where
     -- what holds of all pairs holds of all after a removal

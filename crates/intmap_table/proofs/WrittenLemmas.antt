@@ -30,13 +30,9 @@ module _ {K V : Type 0} (number : K → ℕ) where
     place = ap (position (λ p. same_key number at.key p.0)) (slot_of-write_value W C k v at.slot) ∙ position-write_value (slot_of number W C at.slot) k at.key v ∙ is.place;
   }
 
-  first-written : (p : K × V) (v : V) (s : Bool) → (cond s (p.0, v) p).0 ≡ p.0
-  first-written p v true = refl
-  first-written p v false = refl
-
   key_at-write_value : (L : List (K × V)) (k : K) (v : V) (i : ℕ) → key_at (write_value number L k v) i ≡ key_at L i
   key_at-write_value [] k v i = refl
-  key_at-write_value (p ∷ L) k v zero = ap (λ q. Some q) (first-written p v (same_key number k p.0))
+  key_at-write_value (p ∷ L) k v zero = grind arith
   key_at-write_value (p ∷ L) k v (suc i) = key_at-write_value L k v i
 
   -- each place has the key that it had

@@ -5,6 +5,7 @@ use Rattle.std.specs.Int.RustNames.{count_ones}
 use Rattle.std.specs.Int.{bit_at, trailing_zeros}
 use Rattle.std.specs.List.{range_with_len}
 use Rattle.std.proofs.lemmas.Bool.{cases_eq, cases_lt, eq-eqb, ne_eqb}
+use Rattle.std.proofs.lemmas.Bool.Decides.{nat_tests}
 use Rattle.std.proofs.lemmas.List.{ext_get_or, get_or-replicate, length-replicate, length-map}
 use Rattle.std.proofs.lemmas.List.Elements.{filter-append}
 use Rattle.std.proofs.lemmas.List.FromFn.{length-map-range_with_len, get_or-map-range_with_len}
@@ -118,16 +119,7 @@ length-bits_of (suc n) word fits =
     let q : 1 + (0 + i) ≡ suc (0 + i) = omega arith in rw q (ap (λ (b : ℕ). nat_eq b 1) (bit_at-suc word (0 + i)))) in
     let rest : length (filter (has_bit word) (range_with_len (0 + 1) n)) ≡ count_ones (word / 2) =
     ap length shift ∙ length-map (filter (λ i. has_bit word (1 + i)) (range_with_len 0 n)) (λ i. 1 + i) ∙ ap length same ∙ high in
-    elim (cases_eq (word % 2) 1) [
-      | inl odd ↦
-          (let b = bit_at_lowest word in
-          let first : has_bit word 0 ≡ true = eq-eqb (bit_at word 0) 1 (b ∙ odd) in
-          simp first (omega (arith, rest, low, both, whole, odd)))
-      | inr apart ↦
-          (let b = bit_at_lowest word in
-          let first : has_bit word 0 ≡ false = ne_eqb (bit_at word 0) 1 (λ q. apart (sym b ∙ q)) in
-          simp first (omega (arith, rest, low, both, whole, apart)))
-    ]
+    let b = bit_at_lowest word in grind (arith, nat_tests, b, rest, low, both, whole)
 
 -- words have 64 indices each
 pub length-marks_of : (words : List ℕ) → length (marks_of words) ≡ 64 * length words

@@ -1,5 +1,5 @@
 -- All old slots moved, one after another.
-use Rattle.std.proofs.Common.{◌≡◌, ◌≢◌, inl, inr, ℕ, ◌+◌, ◌*◌, ◌/◌, ◌%◌, ◌<◌, ◌≤◌, Bool, true, false, List, [], ◌∷◌, ◌++◌, length, get_or, set, replicate, refl, sym, ap, ◌∙◌, subst, arith, append-nil, length-set, get_or-set_other}
+use Rattle.std.proofs.Common.{◌≡◌, ◌≢◌, inl, inr, ℕ, ◌+◌, ◌*◌, ◌/◌, ◌%◌, ◌<◌, ◌≤◌, Bool, true, false, List, [], ◌∷◌, ◌++◌, length, get_or, set, replicate, refl, sym, ap, ◌∙◌, subst, arith, append-nil, length-set, get_or-set_same, get_or-set_other}
 use Rattle.std.specs.Prelude.{nat_lt, ◌==◌, ◌||◌}
 use Rattle.std.specs.List.{list_any}
 use Rattle.std.proofs.lemmas.Bool.{eq-eqb, ne_eqb, cases_eq, cases_lt}
@@ -53,10 +53,9 @@ module _ {K X : Type 0} (number : K → ℕ) (R : List (List (K × X))) (C D lon
       let len : length (rows S) ≡ D = length-rows S ∙ end.can.midway.len in
       record {
         words = end.words ∙ ap (λ m. 64 * ((m + 63) / 64)) (sym len);
-        own = λ j. end.told j refl ∙ ap (λ (L : List (K × X)). nat_lt 0 (length L)) (elim (cases_lt j D) as (λ _. slot_of number (get_or R (j % C) []) D j ≡ get_or (rows S) j []) [
-          | inl below ↦ sym (end.can.midway.moved j below refl)
-          | inr past ↦ need-past number (get_or R (j % C) []) D j grown.new past ∙ sym (get_or_past (rows S) j [] (omega (arith, past, len)))
-        ]);
+        own = λ j.
+            let told = end.told j refl in let moved = λ (below : j < D). end.can.midway.moved j below refl in
+            let none = need-past number (get_or R (j % C) []) D j grown.new in let past = get_or_past (rows S) j [] in grind (arith, len, told, moved, none, past);
       }
 
   -- an old slot that holds pairs, in its turn
@@ -80,13 +79,9 @@ module _ {K X : Type 0} (number : K → ℕ) (R : List (List (K × X))) (C D lon
 
     -- once it is empty, so are all its parts
     free-row : (j : ℕ) → j < D → j % C ≡ index → get_or (set (rows S) index []) j [] ≡ []
-    free-row j lt part = elim (cases_eq j index) as (λ _. get_or (set (rows S) index []) j [] ≡ []) [
-      | inl q ↦ get_or-set_at (rows S) index j [] [] q (let w = index-slot in let n = length-rows S in omega (arith, w, n))
-      | inr apart ↦ get_or-set_other (rows S) index j [] [] apart ∙ before.can.midway.old j lt (here j part) ∙ elim (cases_lt j C) as (λ _. get_or R j [] ≡ []) [
-        | inl w ↦ absurd (apart (sym (modulo-below C j w) ∙ part))
-        | inr past ↦ get_or_past R j [] (let n = is.len in omega (arith, past, n))
-      ]
-    ]
+    free-row j lt part =
+        let n = length-rows S in let long = is.len in let own = modulo-below C j in let past = get_or_past R j [] in let old = before.can.midway.old j lt (here j part) in
+        let none = get_or-set_same (rows S) index [] [] (let w = index-slot in omega (arith, w, n)) in let other = get_or-set_other (rows S) index j [] [] in grind (arith, part, long, own, past, old, none, other)
 
     -- and its pairs can be moved
     pub CanMove-moved : (buffer : ℕ) → longest ≤ buffer → CanMove number S bits index buffer

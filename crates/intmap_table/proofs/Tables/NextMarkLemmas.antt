@@ -68,10 +68,7 @@ module _ (words : List ℕ) (from : ℕ) where
 
     -- if it is the last word, no index is marked
     pub none-left : length words ≤ at + 1 → (j : ℕ) → from ≤ j → marked (marks_of words) j ≡ false
-    none-left last j le = elim (cases_lt j (64 * suc at)) as (λ _. marked (marks_of words) j ≡ false) [
-      | inl below ↦ none-before j le below
-      | inr past ↦ get_or_past (marks_of words) j false (omega (arith, past, last, length-marks_of words))
-    ]
+    none-left last j le = let before = none-before j le in let past = get_or_past (marks_of words) j false in let n = length-marks_of words in grind (arith, last, before, past, n)
 
   -- the lowest bit of a word that is not zero is that of the next mark
   pub IsNextMark-word : (at word : ℕ) → IsWordFrom words from at word → 0 < word → word < 2 ^ 64 → IsNextMark (marks_of words) from (at * 64 + trailing_zeros w64 word)
@@ -82,10 +79,7 @@ module _ (words : List ℕ) (from : ℕ) where
       let is : i / 64 ≡ at = omega (arith, t.0) in
       let rest : i % 64 ≡ low = omega (arith, t.0) in
       let one : has_bit word (i % 64) ≡ true = ap (has_bit word) rest ∙ eq-eqb (bit_at word low) 1 t.1 in
-      let behind : from ≤ i = elim (cases_lt i from) as (λ _. from ≤ i) [
-        | inl before ↦ (let no = sym (here.none i is before) ∙ one in let wrong : false ≡ true = no in cc)
-        | inr le ↦ le
-      ] in
+      let behind : from ≤ i = (let none = here.none i is in grind (arith, none, one)) in
       record {
         behind = behind;
         is = here.bit i is behind ∙ one;

@@ -97,14 +97,8 @@ module _ {K X : Type 0} (number : K → ℕ) (S : List (Held K X)) (table : IsTa
       → slot_of number L (length S) i ≡ h.pairs → ((j : ℕ) → i ≢ j → slot_of number L (length S) j ≡ slot_of number (joined (rows S)) (length S) j)
       → joined (rows (set S i h)) ≡ walk_of number L (length S)
   joined-set i h L below here there =
-      let within : i < length (rows S) = omega (arith, below, length-rows S) in
-      let row : (j : ℕ) → slot_of number L (length S) j ≡ get_or (set (rows S) i h.pairs) j [] = λ j.
-      elim (cases_eq i j) as (λ _. slot_of number L (length S) j ≡ get_or (set (rows S) i h.pairs) j []) [
-        | inl q ↦ rw (← q) (here ∙ sym (get_or-set_same (rows S) i h.pairs [] within))
-        | inr apart ↦ there j apart ∙ slot_of-joined j ∙ sym (get_or-set_other (rows S) i j h.pairs [] (λ q. apart (sym q)))
-      ] in
       sym (walk_of-rows number L (length S) (set S i h) (sym (length-set S i h)) (λ j _.
-      row j ∙ ap (λ R. get_or R j []) (sym (map-set (λ (s : Held K X). s.pairs) S i h))))
+      let own = row-set S i h below in let other = row-set_other S i h j in let away = there j in let old = slot_of-joined j in grind (arith, here, own, other, away, old)))
 
 -- a table with the pairs of slot i changed
 pub IsTable-set_at : {K X : Type 0} (number : K → ℕ) (S : List (Held K X)) (i : ℕ) (s : Held K X) → IsTable number S → i < length S → All (λ p. slot_number number p.0 (length S) ≡ i) s.pairs → IsTable number (set S i s)

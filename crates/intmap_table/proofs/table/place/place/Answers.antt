@@ -48,21 +48,13 @@ push_with-requires-clause-filled g c =
 pub push_with-requires-clause-own : goal.push_with-requires-clause-own
 push_with-requires-clause-own g c = λ other.
     let at = (goal.at.push_with-requires-clause-own g c).After-index-slots-index in
-    let r = ap length (row g at) in let n = room g at in
-    elim (fits g at) [
-      | inl has ↦ omega (arith, has, r, n)
-      | inr but ↦ absurd (other (sym n ∙ but.1))
-    ]
+    let r = ap length (row g at) in let n = room g at in let has = fits g at in grind (arith, r, n, has, other)
 
 pub push_with-requires-clause-lent : goal.push_with-requires-clause-lent
 push_with-requires-clause-lent g c = λ bare.
     let at = (goal.at.push_with-requires-clause-lent g c).After-index-slots-index in
     let some = ltb-true 0 _ (sym (told g at) ∙ sym c.set.ensures.before ∙ c.if-set.true) in
-    let r = ap length (row g at) in let n = room g at in
-    elim (fits g at) [
-      | inl has ↦ absurd (omega (arith, has, r, n, bare, some))
-      | inr but ↦ (let enough = but.2 in omega (arith, enough, r))
-    ]
+    let r = ap length (row g at) in let n = room g at in let has = fits g at in grind (arith, r, n, has, bare, some)
 
 -- a pair that was alone finds no other there
 alone : (g : _) (c : After-index-slots-index g) → c.args.is_alone ≡ true → (get_or c.args.slots.now c.index_of-index.result c.index-slots-index.result).pairs ≡ []
