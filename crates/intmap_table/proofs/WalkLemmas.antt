@@ -83,11 +83,8 @@ module _ {K V : Type 0} (number : K → ℕ) (C : ℕ) where
     -- lists with one walk have the same slots after a key was removed, so they have one walk
     SameSlots-take_key : (L M : List (K × V)) (k : K) → walk_of number L C ≡ walk_of number M C → SameSlots (take_key number L C k) (take_key number M C k)
     SameSlots-take_key L M k same i below =
-        let slots = SameSlots-from_walk_of L M same in
-        elim (cases_eq (slot_number number k C) i) [
-          | inl at ↦ slot_of-take_key L k i at ∙ ap (swap_out (λ p. same_key number k p.0) any) (slots i below) ∙ sym (slot_of-take_key M k i at)
-          | inr apart ↦ slot_of-take_key-other L k i apart ∙ slots i below ∙ sym (slot_of-take_key-other M k i apart)
-        ]
+        let slots = SameSlots-from_walk_of L M same i below in let own = slot_of-take_key L k i in let own' = slot_of-take_key M k i in
+        let other = slot_of-take_key-other L k i in let other' = slot_of-take_key-other M k i in grind (arith, slots, own, own', other, other')
 
     pub walk_of-take_key-same : (L M : List (K × V)) (k : K) → walk_of number L C ≡ walk_of number M C → walk_of number (take_key number L C k) C ≡ walk_of number (take_key number M C k) C
     walk_of-take_key-same L M k same = walk_of-same (take_key number L C k) (take_key number M C k) (SameSlots-take_key L M k same)

@@ -177,10 +177,9 @@ module _ {K X : Type 0} (number : K → ℕ) (S₀ : List (Held K X)) (marks : L
 
   -- the rows are the old ones, and those past them have no pair
   old-row : (j : ℕ) → j < length S₀ → get_or (rows S₀) j [] ≡ get_or R j []
-  old-row j lt = elim (cases_lt j C) as (λ _. get_or (rows S₀) j [] ≡ get_or R j []) [
-    | inl below ↦ sym (get_or-take C (rows S₀) j [] below)
-    | inr past ↦ get_or-rows S₀ j bare_slot lt ∙ ap (λ (h : Held K X). h.pairs) (bare j past lt) ∙ sym (get_or_past R j [] (let n = longer.own.len in omega (arith, n, past)))
-  ]
+  old-row j lt =
+      let before = get_or-take C (rows S₀) j [] in let past = get_or_past R j [] in let n = longer.own.len in
+      let none = λ (le : C ≤ j). get_or-rows S₀ j bare_slot lt ∙ ap (λ (h : Held K X). h.pairs) (bare j le lt) in grind (arith, before, past, n, none)
 
   -- at first all marked indices are left
   pub AreReady-start : AreReady number S₀ C (marked_indices marks) 0 S₀
@@ -202,10 +201,7 @@ module _ {K X : Type 0} (number : K → ℕ) (S₀ : List (Held K X)) (marks : L
           old = λ j lt _. row j lt;
           moved = λ j lt missed.
               let none : get_or R (j % C) [] ≡ [] = row-unmarked R marks longer.marked (j % C) missed in
-              let nothing : get_or R j [] ≡ [] = elim (cases_lt j C) as (λ _. get_or R j [] ≡ []) [
-                | inl below ↦ rw (modulo-below C j below) at none
-                | inr past ↦ get_or_past R j [] (let n = longer.own.len in omega (arith, n, past))
-              ] in
+              let nothing : get_or R j [] ≡ [] = (let own = modulo-below C j in let past = get_or_past R j [] in let n = longer.own.len in grind (arith, none, own, past, n)) in
               row j lt ∙ nothing ∙ ap (λ (L : List (K × X)). slot_of number L (length S₀) j) (sym none);
         };
         leave = λ k lt _. ready.done k lt refl;

@@ -7,10 +7,10 @@ use Rattle.std.proofs.lemmas.Bool.Decides.{nat_tests}
 use Rattle.std.proofs.lemmas.List.{length-replicate, length_push, map-set, get_or_past, set-get_or}
 use Rattle.std.proofs.lemmas.List.Elements.{All-head, All-tail}
 use Rattle.intmap_table.specs.Tables.Bits.{marked, marked_indices, IsNextMark}
-use Rattle.intmap_table.specs.Tables.Slots.{Held, rows, joined, pairs_at, IsNextRow, AreMarked, IsMarkedTable}
+use Rattle.intmap_table.specs.Tables.Slots.{Held, rows, joined, pairs_at, IsNextRow, AreMarked, IsMarkedTable, IsMaskedTable}
 use Rattle.intmap_table.specs.Bindings.{value_of}
 use Rattle.intmap_table.specs.Classes.{IsCapacity}
-use Rattle.intmap_table.proofs.Tables.TableLemmas.{IsSlot, within, length-rows, get_or-rows, IsTable-empty}
+use Rattle.intmap_table.proofs.Tables.TableLemmas.{IsSlot, Belong, IsTable-set, within, length-rows, get_or-rows, IsTable-empty}
 use Rattle.intmap_table.proofs.Tables.MarkedLemmas.{get_or-of_default, row-none, marked-replicate, All-marked_indices, flat_map-marked_indices, length-marked_indices}
 
 -- a row that holds a pair is one of the rows
@@ -122,6 +122,21 @@ module _ {K X : Type 0} (number : K → ℕ) (S : List (Held K X)) (h : Held K X
   -- there is a mark for it
   pub mark-below : i < length bits
   mark-below = index-below S bits marks i (within number S h i k at)
+
+-- the table with the slot of a key changed, and its mark or not
+module _ {K X : Type 0} (number : K → ℕ) (S : List (Held K X)) (h : Held K X) (i : ℕ) (k : K) (at : IsSlot number S h i k) {bits : List Bool} {mask : ℕ} (old : IsMaskedTable number S bits mask)
+    (s : Held K X) (own : Belong number S h i k at s.pairs) where
+  pub IsMaskedTable-set : (b : Bool) → b ≡ nat_lt 0 (length s.pairs) → IsMaskedTable number (set S i s) (set bits i b) mask
+  IsMaskedTable-set b is = record {
+    marked = record { table = IsTable-set number S h i k at s own; marks = marks-set number S h i k at bits old.marked.marks s b is };
+    count = old.count ∙ sym (length-set S i s);
+  }
+
+  pub IsMaskedTable-kept : nat_lt 0 (length h.pairs) ≡ nat_lt 0 (length s.pairs) → IsMaskedTable number (set S i s) bits mask
+  IsMaskedTable-kept is = record {
+    marked = record { table = IsTable-set number S h i k at s own; marks = marks-kept number S h i k at bits old.marked.marks s is };
+    count = old.count ∙ sym (length-set S i s);
+  }
 
 -- the marked indices are indices of slots
 pub indices-within : {K X : Type 0} (S : List (Held K X)) (bits : List Bool) → AreMarked (rows S) bits → All (λ index. index < length S) (marked_indices bits)

@@ -1,11 +1,10 @@
 use Rattle.std.proofs.Common.{◌≡◌, ◌<◌, ◌∙◌, inl, inr, [], false, length, get_or, set, refl, sym, arith, length-set, get_or-set_same, get_or-set_other}
 use Rattle.std.specs.Prelude.{◌==◌}
-use Rattle.std.proofs.lemmas.Bool.{cases_eq, ne_eqb}
-use Rattle.std.proofs.lemmas.List.{map-set}
+use Rattle.std.proofs.lemmas.Bool.Decides.{nat_tests}
 use Rattle.std.proofs.lemmas.List.Elements.{All-head, All-tail}
 use Rattle.intmap_table.specs.Tables.Slots.{rows}
 use Rattle.intmap_table.proofs.Tables.FilledLemmas.{indices-within, row-unmarked}
-use Rattle.intmap_table.proofs.Tables.TableLemmas.{length-rows}
+use Rattle.intmap_table.proofs.Tables.TableLemmas.{row-set, row-set_other}
 use Rattle.intmap_table.proofs.table.clear_slots.Goals as goal
 use Rattle.intmap_table.proofs.table.clear_slots.Goals.{In-Some}
 
@@ -33,11 +32,9 @@ loop-index-preserved g c =
     record {
       len = len ∙ loop.len;
       within = rw len (All-tail (λ i. i < length slots) index c.next.new.self (rw c.in-Some.ensures.steps at loop.within));
-      empty = λ i missed. rw (map-set (λ h. h.pairs) slots index s) (elim (cases_eq index i) as (λ _. get_or (set (rows slots) index s.pairs) i [] ≡ []) [
-        | inl q ↦ (let within = length-rows slots in rw (← q) (get_or-set_same (rows slots) index s.pairs [] (omega (arith, below, within)) ∙ c.clear.ensures))
-        | inr apart ↦ (let other : (index == i) ≡ false = ne_eqb index i apart in
-            get_or-set_other (rows slots) index i s.pairs [] (λ q. apart (sym q)) ∙ loop.empty i (rw c.in-Some.ensures.steps (simp other missed)))
-      ]);
+      empty = λ i missed.
+          let own = row-set slots index s below ∙ c.clear.ensures in let other = row-set_other slots index s i in
+          let old = (rw c.in-Some.ensures.steps at loop.empty) i in grind (arith, nat_tests, missed, own, other, old);
     }
 
 pub returns-clause-empty : goal.returns-clause-empty

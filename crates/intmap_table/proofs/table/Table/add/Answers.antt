@@ -4,9 +4,9 @@ use Rattle.std.proofs.lemmas.Bool.{ltb-true}
 use Rattle.intmap_table.specs.Classes.{slot_number}
 use Rattle.intmap_table.specs.Tables.Slots.{Grid, joined}
 use Rattle.intmap_table.proofs.LocationLemmas.{IsAt-added}
-use Rattle.intmap_table.proofs.Tables.FilledLemmas.{filled-pushed, mark-below, marked-here, marks-set}
+use Rattle.intmap_table.proofs.Tables.FilledLemmas.{filled-pushed, mark-below, marked-here, IsMaskedTable-set}
 use Rattle.intmap_table.proofs.Tables.MarkedLemmas.{row-none}
-use Rattle.intmap_table.proofs.Tables.TableLemmas.{IsSlot, rows-set, walk-added, class_size-here, Belong-here, Belong-push, IsTable-set}
+use Rattle.intmap_table.proofs.Tables.TableLemmas.{IsSlot, rows-set, walk-added, class_size-here, Belong-here, Belong-push}
 use Rattle.intmap_table.proofs.table.Table.add.Goals as goal
 use Rattle.intmap_table.proofs.table.Table.add.Goals.{After-index_mut-row, After-put_first, After-set}
 
@@ -34,25 +34,14 @@ pub invariant_of-self : goal.invariant_of-self
 invariant_of-self g c =
     let at = here g (goal.at.invariant_of-self g c).After-index_mut-row in
     let left = (rw c.new-stored.ensures.value at c.in-Ok.ensures.ok) in
-    record {
-      marked = record {
-        table = IsTable-set _ _ _ _ _ at c.push.new.self (rw left (Belong-push _ _ _ _ _ at _ c.args.value (Belong-here _ _ _ _ _ at)));
-        marks = rw c.set.ensures.marks (marks-set _ _ _ _ _ at c.self.inside.directory.bits c.self.invariant.marked.marks c.push.new.self true (sym (ap (λ ps. nat_lt 0 (length ps)) left ∙ filled-pushed _ (c.args.key, c.args.value))));
-      };
-      count = c.self.invariant.count ∙ sym (length-set _ _ _);
-    }
+    rw c.set.ensures.marks (IsMaskedTable-set _ _ _ _ _ at c.self.invariant c.push.new.self (rw left (Belong-push _ _ _ _ _ at _ c.args.value (Belong-here _ _ _ _ _ at)))
+    true (sym (ap (λ ps. nat_lt 0 (length ps)) left ∙ filled-pushed _ (c.args.key, c.args.value))))
 
 pub invariant_of-self-in-Err : goal.invariant_of-self-in-Err
 invariant_of-self-in-Err g c =
     let after = goal.at.invariant_of-self-in-Err g c in let at = here g after.After-index_mut-row in
     let full = ap (λ ps. nat_lt 0 (length ps)) c.in-Err.ensures.err ∙ sym (marked g after.After-set at) ∙ c.if-set.true in
-    record {
-      marked = record {
-        table = IsTable-set _ _ _ _ _ at c.push.new.self (rw c.in-Err.ensures.err (Belong-here _ _ _ _ _ at));
-        marks = rw c.set.ensures.marks (marks-set _ _ _ _ _ at c.self.inside.directory.bits c.self.invariant.marked.marks c.push.new.self true (sym full));
-      };
-      count = c.self.invariant.count ∙ sym (length-set _ _ _);
-    }
+    rw c.set.ensures.marks (IsMaskedTable-set _ _ _ _ _ at c.self.invariant c.push.new.self (rw c.in-Err.ensures.err (Belong-here _ _ _ _ _ at)) true (sym full))
 
 pub returns-in-Ok-clause-at : goal.returns-in-Ok-clause-at
 returns-in-Ok-clause-at g c =
@@ -86,13 +75,8 @@ pub invariant_of-self-2 : goal.invariant_of-self-2
 invariant_of-self-2 g c =
     let after = goal.at.invariant_of-self-2 g c in let at = here g after.After-index_mut-row in
     let left = alone g after.After-put_first (none g after.After-set at c.if-set.false) in
-    record {
-      marked = record {
-        table = IsTable-set _ _ _ _ _ at c.put_first.new.self (rw left (Belong-push _ _ _ _ _ at _ c.args.value (Belong-here _ _ _ _ _ at)));
-        marks = rw c.set.ensures.marks (marks-set _ _ _ _ _ at c.self.inside.directory.bits c.self.invariant.marked.marks c.put_first.new.self true (sym (ap (λ ps. nat_lt 0 (length ps)) left ∙ filled-pushed _ (c.args.key, c.args.value))));
-      };
-      count = c.self.invariant.count ∙ sym (length-set _ _ _);
-    }
+    rw c.set.ensures.marks (IsMaskedTable-set _ _ _ _ _ at c.self.invariant c.put_first.new.self (rw left (Belong-push _ _ _ _ _ at _ c.args.value (Belong-here _ _ _ _ _ at)))
+    true (sym (ap (λ ps. nat_lt 0 (length ps)) left ∙ filled-pushed _ (c.args.key, c.args.value))))
 
 pub returns-clause-at : goal.returns-clause-at
 returns-clause-at g c =

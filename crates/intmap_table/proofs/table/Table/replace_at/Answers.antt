@@ -6,9 +6,9 @@ use Rattle.intmap_table.specs.Locations.{IsAt}
 use Rattle.intmap_table.specs.Tables.Slots.{rows, joined}
 use Rattle.intmap_table.proofs.LocationLemmas.{slot-at, place-at, place-within}
 use Rattle.intmap_table.proofs.PositionLemmas.{swap_remove-position, first_value-position}
-use Rattle.intmap_table.proofs.Tables.FilledLemmas.{filled-bound, filled-pushed, marks-kept}
+use Rattle.intmap_table.proofs.Tables.FilledLemmas.{filled-bound, filled-pushed, IsMaskedTable-kept}
 use Rattle.intmap_table.proofs.Tables.SwapOutLemmas.{any}
-use Rattle.intmap_table.proofs.Tables.TableLemmas.{IsSlot, value_of-here, walk-put, Belong-taken, Belong-push, IsTable-set}
+use Rattle.intmap_table.proofs.Tables.TableLemmas.{IsSlot, value_of-here, walk-put, Belong-taken, Belong-push}
 use Rattle.intmap_table.proofs.table.Table.replace_at.Goals as goal
 use Rattle.intmap_table.proofs.table.Table.replace_at.Goals.{After-replace_at-old}
 
@@ -43,13 +43,7 @@ invariant_of-self g c =
     let taken = swap_out (λ p. same_key g.K.IntKey.number_of c.args.at.key p.0) any c.index_mut.result.now.pairs in
     let before = filled-bound g.K.IntKey.number_of c.index_mut.result.now.pairs c.args.at.key c.replace_at-old.result.1 (bound g after) in
     let filled = ap (λ ps. nat_lt 0 (length ps)) (left g after) ∙ filled-pushed taken (c.args.at.key, c.args.value) in
-    record {
-      marked = record {
-        table = IsTable-set _ _ _ _ _ (slot g after) c.replace_at-old.new.self (rw (left g after) (Belong-push _ _ _ _ _ (slot g after) _ c.args.value (Belong-taken _ _ _ _ _ (slot g after))));
-        marks = marks-kept _ _ _ _ _ (slot g after) c.self.inside.directory.bits c.self.invariant.marked.marks c.replace_at-old.new.self (before ∙ sym filled);
-      };
-      count = c.self.invariant.count ∙ sym (length-set _ _ _);
-    }
+    IsMaskedTable-kept _ _ _ _ _ (slot g after) c.self.invariant c.replace_at-old.new.self (rw (left g after) (Belong-push _ _ _ _ _ (slot g after) _ c.args.value (Belong-taken _ _ _ _ _ (slot g after)))) (before ∙ sym filled)
 
 pub returns-clause-value : goal.returns-clause-value
 returns-clause-value g c =

@@ -8,10 +8,10 @@ use Rattle.intmap_table.specs.Tables.Slots.{rows, joined}
 use Rattle.intmap_table.proofs.LocationLemmas.{slot-at, place-at, place-within}
 use Rattle.intmap_table.proofs.PositionLemmas.{swap_remove-position, first_value-position}
 use Rattle.intmap_table.proofs.SlotNumberLemmas.{slot_number-below}
-use Rattle.intmap_table.proofs.Tables.FilledLemmas.{filled-bound, mark-below, marks-kept, marks-set, index-below}
+use Rattle.intmap_table.proofs.Tables.FilledLemmas.{filled-bound, mark-below, index-below, IsMaskedTable-set, IsMaskedTable-kept}
 use Rattle.intmap_table.proofs.Tables.SlotLemmas.{lone-found}
 use Rattle.intmap_table.proofs.Tables.SwapOutLemmas.{any}
-use Rattle.intmap_table.proofs.Tables.TableLemmas.{IsSlot, value_of-here, walk-taken, Belong-taken, IsTable-set}
+use Rattle.intmap_table.proofs.Tables.TableLemmas.{IsSlot, value_of-here, walk-taken, Belong-taken}
 use Rattle.intmap_table.proofs.table.Table.take_at.Goals as goal
 use Rattle.intmap_table.proofs.table.Table.take_at.Goals.{After-index_mut-slot, In-Some, After-take_at-value}
 
@@ -71,26 +71,17 @@ clear_in-requires g c = record {
 pub invariant_of-self : goal.invariant_of-self
 invariant_of-self g c =
     let at = (goal.at.invariant_of-self g c).After-index_mut-slot in
-    record {
-      marked = record {
-        table = IsTable-set _ _ _ _ _ (slot g at) c.take_lone.new.self (rw (none g (goal.at.invariant_of-self g c).In-Some at (found g at)) (Belong-taken _ _ _ _ _ (slot g at)));
-        marks = rw c.clear_in.ensures (marks-set _ _ _ _ _ (slot g at) c.self.inside.directory.bits c.self.invariant.marked.marks c.take_lone.new.self false (ap (λ ps. nat_lt 0 (length ps)) (sym c.in-Some.ensures.emptied)));
-      };
-      count = c.self.invariant.count ∙ sym (length-set _ _ _);
-    }
+    rw c.clear_in.ensures
+    (IsMaskedTable-set _ _ _ _ _ (slot g at) c.self.invariant c.take_lone.new.self (rw (none g (goal.at.invariant_of-self g c).In-Some at (found g at)) (Belong-taken _ _ _ _ _ (slot g at)))
+    false (ap (λ ps. nat_lt 0 (length ps)) (sym c.in-Some.ensures.emptied)))
 
 pub invariant_of-self-2 : goal.invariant_of-self-2
 invariant_of-self-2 g c =
     let at = (goal.at.invariant_of-self-2 g c).After-index_mut-slot in
     let after = (goal.at.invariant_of-self-2 g c).After-take_at-value in
     let before = filled-bound g.K.IntKey.number_of c.index_mut-slot.result.now.pairs c.args.at.key c.take_at-value.result.1 (bound g after (found g at)) in
-    record {
-      marked = record {
-        table = IsTable-set _ _ _ _ _ (slot g at) c.take_at-value.new.self (rw (taken g after (found g at)) (Belong-taken _ _ _ _ _ (slot g at)));
-        marks = marks-kept _ _ _ _ _ (slot g at) c.self.inside.directory.bits c.self.invariant.marked.marks c.take_at-value.new.self (before ∙ sym (lt-ltb 0 (length c.take_at-value.new.self.pairs) c.take_at-value.ensures.left));
-      };
-      count = c.self.invariant.count ∙ sym (length-set _ _ _);
-    }
+    IsMaskedTable-kept _ _ _ _ _ (slot g at) c.self.invariant c.take_at-value.new.self (rw (taken g after (found g at)) (Belong-taken _ _ _ _ _ (slot g at)))
+    (before ∙ sym (lt-ltb 0 (length c.take_at-value.new.self.pairs) c.take_at-value.ensures.left))
 
 pub returns-in-Some-clause-value : goal.returns-in-Some-clause-value
 returns-in-Some-clause-value g c =
