@@ -92,7 +92,8 @@ module _ {K V : Type 0} (number : K → ℕ) where
   pub value_of-put_pair : (L : List (K × V)) (C : ℕ) (k q : K) (v : V) → HasDistinctKeys number L → value_of number (put_pair number L C k v) q ≡ cond (same_key number k q) (Some v) (value_of number L q)
   value_of-put_pair L C k q v once =
       let taken = value_of-take_key L C k q once in let T = take_key number L C k in
-      let found = first_value-behind_none (same_key number q) T (k, v) in let kept = first_value-other_behind (same_key number q) T (k, v) in grind (arith, nat_tests, taken, found, kept)
+      let found = first_value-behind_none (same_key number q) T (k, v) in let kept = first_value-other_behind (same_key number q) T (k, v) in
+      grind (arith, nat_tests, taken, found, kept)
 
   -- if each key has its value, so have the key itself and any other
   pub Updates-from : (L M : List (K × V)) (k : K) (w : Option V) → ((q : K) → value_of number M q ≡ cond (same_key number k q) w (value_of number L q)) → Updates number L M k w

@@ -40,7 +40,8 @@ module _ {X : Type 0} (f : X → ℕ) where
 
   class-whole : (i : ℕ) (xs : List X) → All (λ x. f x ≡ i) xs → class i xs ≡ xs
   class-whole i [] all = refl
-  class-whole i (x ∷ xs) all = let here = All-head (λ x. f x ≡ i) x xs all in let rest = class-whole i xs (All-tail (λ x. f x ≡ i) x xs all) in grind (arith, nat_tests, here, rest)
+  class-whole i (x ∷ xs) all =
+      let here = All-head (λ x. f x ≡ i) x xs all in let rest = class-whole i xs (All-tail (λ x. f x ≡ i) x xs all) in grind (arith, nat_tests, here, rest)
 
   class-none : (i j : ℕ) (xs : List X) → i ≢ j → All (λ x. f x ≡ j) xs → class i xs ≡ []
   class-none i j [] apart all = refl

@@ -141,7 +141,8 @@ module _ {K V : Type 0} (number : K → ℕ) where
       let T : List (K × V) = take_key number L C k in
       let d = HasDistinctKeys-take_key L C k h j in
       let s = sum_by-append (λ p. cond (same_key number j p.0) 1 0) T ((k, v) ∷ []) in
-      let gone = λ (e : number k ≡ number j). subst (λ n. count_by (λ p. number p.0 == n) T ≡ 0) e (count_by-swap_out (λ p. same_key number k p.0) (λ p. agrees number C k p.0) L (h k)) in
+      let gone = λ (e : number k ≡ number j). subst (λ n. count_by (λ p. number p.0 == n) T ≡ 0) e
+      (count_by-swap_out (λ p. same_key number k p.0) (λ p. agrees number C k p.0) L (h k)) in
       grind (arith, nat_tests, d, s, gone)
 
   -- a present key weighs one

@@ -105,13 +105,15 @@ module _ {F X : Type 0} (R : F → X → Bool → F → X → Type 0) where
   -- none of the front is picked, so the step goes on behind it
   pub ExtractsNext-on : (f g h : F) (xs ys ks zs kept rest : List X) (r : Option X) → ExtractsNext R f xs None g ks zs → ExtractsNext R g ys r h kept rest → ExtractsNext R f (xs ++ ys) r h (ks ++ kept) rest
   ExtractsNext-on f g h xs ys ks zs kept rest r first more =
-      ExtractsNext-induct R (λ f xs o g ks zs. o ≡ None → ExtractsNext R g ys r h kept rest → ExtractsNext R f (xs ++ ys) r h (ks ++ kept) rest) (λ f _ more. more) (λ f g x y L call no. cc)
+      ExtractsNext-induct R (λ f xs o g ks zs. o ≡ None → ExtractsNext R g ys r h kept rest → ExtractsNext R f (xs ++ ys) r h (ks ++ kept) rest) (λ f _ more. more)
+      (λ f g x y L call no. cc)
       (λ f u g x y L ks zs o call on none more. (false, u, y, call, (ks ++ kept, on none more, refl))) f g xs ks zs None first refl more
 
   -- one of the front is picked, so what is behind the front stays
   pub ExtractsNext-stop : (f g : F) (xs ys ks zs : List X) (z : X) → ExtractsNext R f xs (Some z) g ks zs → ExtractsNext R f (xs ++ ys) (Some z) g ks (zs ++ ys)
   ExtractsNext-stop f g xs ys ks zs z first =
-      ExtractsNext-induct R (λ f xs o g ks zs. o ≡ Some z → ExtractsNext R f (xs ++ ys) o g ks (zs ++ ys)) (λ f no. cc) (λ f g x y L call _. (true, g, y, call, (refl, refl, refl, refl)))
+      ExtractsNext-induct R (λ f xs o g ks zs. o ≡ Some z → ExtractsNext R f (xs ++ ys) o g ks (zs ++ ys)) (λ f no. cc)
+      (λ f g x y L call _. (true, g, y, call, (refl, refl, refl, refl)))
       (λ f u g x y L ks zs o call on some. (false, u, y, call, (ks, on some, refl))) f g xs ks zs (Some z) first refl
 
   -- a step through the front of what is left, if it picks none
@@ -150,7 +152,8 @@ module _ {F X : Type 0} (R : F → X → Bool → F → X → Type 0) where
     sum_by-ExtractsNext =
         ExtractsNext-induct R (λ f L r g kept rest. sum_by w L ≡ sum_by w kept + sum_by w (option_to_list r) + sum_by w rest) (λ f. refl)
         (λ f g x y L call. let is = same f x true g y call in let cons = sum_by-cons w x L in let one = sum_by-cons w y [] in grind (arith, is, cons, one))
-        (λ f h g x y L kept rest r call more. let is = same f x false h y call in let cons = sum_by-cons w x L in let stay = sum_by-cons w y kept in omega (arith, is, cons, stay, more))
+        (λ f h g x y L kept rest r call more.
+        let is = same f x false h y call in let cons = sum_by-cons w x L in let stay = sum_by-cons w y kept in omega (arith, is, cons, stay, more))
 
     pub sum_by-ExtractsBehind : (f g : F) (L M : List X) (i j : ℕ) (r : Option X) → ExtractsBehind R f L i r g M j → sum_by w L ≡ sum_by w M + sum_by w (option_to_list r)
     sum_by-ExtractsBehind f g L M i j r e =
@@ -194,7 +197,8 @@ module _ {F X : Type 0} (R : F → X → Bool → F → X → Type 0) where
   -- a step that removes none goes to the end
   pub ExtractsNext-end : (f g : F) (L kept rest : List X) → ExtractsNext R f L None g kept rest → rest ≡ []
   ExtractsNext-end f g L kept rest e =
-      ExtractsNext-induct R (λ f L r g kept rest. r ≡ None → rest ≡ []) (λ f _. refl) (λ f g x y L call no. cc) (λ f h g x y L kept rest r call more. more) f g L kept rest None e refl
+      ExtractsNext-induct R (λ f L r g kept rest. r ≡ None → rest ≡ []) (λ f _. refl) (λ f g x y L call no. cc)
+      (λ f h g x y L kept rest r call more. more) f g L kept rest None e refl
 
   -- a step if each answer is a test of the element alone, no element is changed, and `Own` holds of the closure throughout: of the elements
   -- that pass, the first is removed; the others stay as they are; and `Own` holds behind it

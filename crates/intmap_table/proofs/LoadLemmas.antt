@@ -54,7 +54,8 @@ count_by-range_same : (g h : ℕ → Bool) (a n : ℕ) → ((i : ℕ) → i < n 
 count_by-range_same g h a zero e = refl
 count_by-range_same g h a (suc n) e =
     let on = range-next (λ k _. g k ≡ h k) a n e in let first = on.0 in let rest = count_by-range_same g h (a + 1) n on.1 in
-    let l = sum_by-cons (λ i. cond (g i) 1 0) a (range_with_len (a + 1) n) in let m = sum_by-cons (λ i. cond (h i) 1 0) a (range_with_len (a + 1) n) in grind (arith, first, rest, l, m)
+    let l = sum_by-cons (λ i. cond (g i) 1 0) a (range_with_len (a + 1) n) in let m = sum_by-cons (λ i. cond (h i) 1 0) a (range_with_len (a + 1) n) in
+    grind (arith, first, rest, l, m)
 
 -- a test that no number passes counts none
 count_by-range_none : (a n : ℕ) → count_by (λ (i : ℕ). false) (range_with_len a n) ≡ 0
@@ -66,8 +67,10 @@ module _ {X : Type 0} where
   pub count_by-range_list : (test : X → Bool) (g : ℕ → Bool) (d : X) (a : ℕ) (xs : List X) → ((i : ℕ) → i < length xs → g (a + i) ≡ test (get_or xs i d)) → count_by g (range_with_len a (length xs)) ≡ count_by test xs
   count_by-range_list test g d a [] e = refl
   count_by-range_list test g d a (x ∷ xs) e =
-      let on = range-next (λ k i. g k ≡ test (get_or (x ∷ xs) i d)) a (length xs) e in let first : g a ≡ test x = on.0 in let rest = count_by-range_list test g d (a + 1) xs on.1 in
-      let l = sum_by-cons (λ i. cond (g i) 1 0) a (range_with_len (a + 1) (length xs)) in let m = sum_by-cons (λ x. cond (test x) 1 0) x xs in grind (arith, first, rest, l, m)
+      let on = range-next (λ k i. g k ≡ test (get_or (x ∷ xs) i d)) a (length xs) e in let first : g a ≡ test x = on.0 in
+      let rest = count_by-range_list test g d (a + 1) xs on.1 in
+      let l = sum_by-cons (λ i. cond (g i) 1 0) a (range_with_len (a + 1) (length xs)) in let m = sum_by-cons (λ x. cond (test x) 1 0) x xs in
+      grind (arith, first, rest, l, m)
 
 module _ {X : Type 0} (f : X → ℕ) (x : X) (xs : List X) where
   -- whether class i has an element

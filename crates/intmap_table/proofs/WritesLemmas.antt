@@ -43,7 +43,8 @@ module _ {F K V : Type 0} (R : F → K × V → V → F → Type 0) where
   -- a key is present if it was, and no other is
   pub is_some-Writes : (number : K → ℕ) (k : K) (f g : F) (L M : List (K × V)) → Writes R f L M g → is_some (value_of number M k) ≡ is_some (value_of number L k)
   is_some-Writes number k f g [] M r = ap (λ Z. is_some (value_of number Z k)) r.0
-  is_some-Writes number k f g (p ∷ L) M r = let rest = is_some-Writes number k r.1 g L r.2 r.4 in let e = ap (λ Z. is_some (value_of number Z k)) r.5 in grind (arith, rest, e)
+  is_some-Writes number k f g (p ∷ L) M r =
+      let rest = is_some-Writes number k r.1 g L r.2 r.4 in let e = ap (λ Z. is_some (value_of number Z k)) r.5 in grind (arith, rest, e)
 
   -- the first i pairs of a list that is `ps` now were written, and so is the next one
   pub Leads-written : (f₀ f h : F) (L ps : List (K × V)) (i : ℕ) (d p : K × V) → i < length ps → p.0 ≡ (get_or ps i d).0 → R f (get_or ps i d) p.1 h

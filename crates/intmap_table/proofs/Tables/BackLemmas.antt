@@ -48,7 +48,8 @@ module _ {K X : Type 0} (number : K → ℕ) where
 
   -- and it has the value of its key
   value_of-last : (R : List (K × X)) (k : K) (v : X) → value_of number R k ≡ None → value_of number (R ++ (k, v) ∷ []) k ≡ Some v
-  value_of-last R k v none = let own : same_key number k k ≡ true = eq-eqb (number k) (number k) refl in first_value-behind_none (same_key number k) R (k, v) none ∙ simp own refl
+  value_of-last R k v none =
+      let own : same_key number k k ≡ true = eq-eqb (number k) (number k) refl in first_value-behind_none (same_key number k) R (k, v) none ∙ simp own refl
 
   module _ (W : List (K × X)) (C : ℕ) (cap : IsCapacity C) (k : K) (v : X) (missing : value_of number W k ≡ None) where
     abbrev i : ℕ

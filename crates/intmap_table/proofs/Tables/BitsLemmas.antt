@@ -205,7 +205,8 @@ pub marks_of-set : (words : List ℕ) (i word : ℕ) (b : Bool) → i < 64 * len
     → marks_of (set words (i / 64) word) ≡ set (marks_of words) i b
 marks_of-set words i word b below is others =
     let within : i < length (marks_of words) = omega (arith, below, length-marks_of words) in
-    marks_of-with_word words i word below ∙ with_word-set (marks_of words) i word b (IsWordOf-set (marks_of words) i (get_or words (i / 64) 0) word b within (IsWordOf-marks_of words i below) is others)
+    marks_of-with_word words i word below ∙ with_word-set (marks_of words) i word b
+    (IsWordOf-set (marks_of words) i (get_or words (i / 64) 0) word b within (IsWordOf-marks_of words i below) is others)
 
 -- the marked indices of the first word, of m bits, and those of the words behind it
 marked_indices-word : (m : ℕ) → m ≡ 64 → (w : ℕ) (ws : List ℕ) → marked_indices (marks_of (w ∷ ws)) ≡ bits_of m w ++ map (λ i. m + i) (marked_indices (marks_of ws))

@@ -85,7 +85,8 @@ module _ {K X : Type 0} (S : List (Held K X)) (C i : ℕ) (below : i < C) where
       pub IsShared-spare : IsShared S counts C i part false x → IsShared S counts C i (part + 1) true part
       IsShared-spare is = record {
         ahead = λ t le lt. is.ahead t (omega (arith, le)) lt;
-        room = below_more _ part (λ t lt. let past = is.none refl in let has = is.room t lt in grind (arith, past, lt, here, has)) (inr (refl, is.ahead part (omega arith) here));
+        room = below_more _ part (λ t lt. let past = is.none refl in let has = is.room t lt in grind (arith, past, lt, here, has))
+            (inr (refl, is.ahead part (omega arith) here));
         none = λ q. absurd (cc);
         some = λ _. omega arith;
       }
@@ -95,7 +96,8 @@ module _ {K X : Type 0} (S : List (Held K X)) (C i : ℕ) (below : i < C) where
       IsShared-made s len made is =
           let some : 0 < part = (let w = is.some refl in omega (arith, w)) in
           let within : part * C + i < length S = (let w = part-within (length counts) C part i here below in omega (arith, w, len)) in
-          let at : part_room (rooms (set S (part * C + i) s)) C i part ≡ s.room = part_room-past (rooms (set S (part * C + i) s)) part some ∙ room-set S (part * C + i) s within in
+          let at : part_room (rooms (set S (part * C + i) s)) C i part ≡ s.room =
+          part_room-past (rooms (set S (part * C + i) s)) part some ∙ room-set S (part * C + i) s within in
           let other : (t : ℕ) → t ≢ part → part_room (rooms S) C i t ≡ part_room (rooms (set S (part * C + i) s)) C i t = λ t apart.
           ap (λ n. cond (t * C + i == i) 1 n) (sym (room-set_other S (part * C + i) s (t * C + i) (λ e. apart (same_from_place t i part i C below below e).0))) in
           record {
@@ -201,7 +203,8 @@ module _ {K X : Type 0} (number : K → ℕ) (S₀ : List (Held K X)) (marks : L
           old = λ j lt _. row j lt;
           moved = λ j lt missed.
               let none : get_or R (j % C) [] ≡ [] = row-unmarked R marks longer.marked (j % C) missed in
-              let nothing : get_or R j [] ≡ [] = (let own = modulo-below C j in let past = get_or_past R j [] in let n = longer.own.len in grind (arith, none, own, past, n)) in
+              let nothing : get_or R j [] ≡ [] =
+              (let own = modulo-below C j in let past = get_or_past R j [] in let n = longer.own.len in grind (arith, none, own, past, n)) in
               row j lt ∙ nothing ∙ ap (λ (L : List (K × X)). slot_of number L (length S₀) j) (sym none);
         };
         leave = λ k lt _. ready.done k lt refl;

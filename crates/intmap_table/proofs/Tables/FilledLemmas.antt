@@ -52,7 +52,8 @@ module _ {P : Type 0} (R : List (List P)) (marks : List Bool) (are : AreMarked R
       words = rw (length-set R i row) (length-set marks i b ∙ are.words);
       own = λ j.
           let mark = get_or-set_same marks i b false (omega (arith, below, marks-enough)) in let filled = get_or-set_same R i row [] below in
-          let other_mark = get_or-set_other marks i j b false in let other = get_or-set_other R i j row [] in let own = are.own j in grind (arith, is, mark, filled, other_mark, other, own);
+          let other_mark = get_or-set_other marks i j b false in let other = get_or-set_other R i j row [] in let own = are.own j in
+          grind (arith, is, mark, filled, other_mark, other, own);
     }
 
     -- with row i changed, but not whether it holds a pair
@@ -124,8 +125,8 @@ module _ {K X : Type 0} (number : K → ℕ) (S : List (Held K X)) (h : Held K X
   mark-below = index-below S bits marks i (within number S h i k at)
 
 -- the table with the slot of a key changed, and its mark or not
-module _ {K X : Type 0} (number : K → ℕ) (S : List (Held K X)) (h : Held K X) (i : ℕ) (k : K) (at : IsSlot number S h i k) {bits : List Bool} {mask : ℕ} (old : IsMaskedTable number S bits mask)
-    (s : Held K X) (own : Belong number S h i k at s.pairs) where
+module _ {K X : Type 0} (number : K → ℕ) (S : List (Held K X)) (h : Held K X) (i : ℕ) (k : K) (at : IsSlot number S h i k) {bits : List Bool} {mask : ℕ}
+    (old : IsMaskedTable number S bits mask) (s : Held K X) (own : Belong number S h i k at s.pairs) where
   pub IsMaskedTable-set : (b : Bool) → b ≡ nat_lt 0 (length s.pairs) → IsMaskedTable number (set S i s) (set bits i b) mask
   IsMaskedTable-set b is = record {
     marked = record { table = IsTable-set number S h i k at s own; marks = marks-set number S h i k at bits old.marked.marks s b is };
@@ -154,7 +155,8 @@ kept-found test i a (suc n) missed from below = let rest = kept-found test i (a 
 -- a row whose index isn't among the marked ones holds no pair
 pub row-unmarked : {P : Type 0} (R : List (List P)) (marks : List Bool) → AreMarked R marks → (i : ℕ) → list_any (λ j. j == i) (marked_indices marks) ≡ false → get_or R i [] ≡ []
 row-unmarked R marks are i missed =
-    let own = are.own i in let kept = kept-found (marked marks) i 0 (length marks) missed in let past = get_or_past marks i false in row-none (get_or R i []) (grind (arith, own, kept, past))
+    let own = are.own i in let kept = kept-found (marked marks) i 0 (length marks) missed in let past = get_or_past marks i false in
+    row-none (get_or R i []) (grind (arith, own, kept, past))
 
 -- a table of empty slots, with no index marked
 pub IsMarkedTable-empty : {K X : Type 0} (number : K → ℕ) (S : List (Held K X)) (C : ℕ) → IsCapacity C → rows S ≡ replicate C [] → IsMarkedTable number S (replicate (64 * ((C + 63) / 64)) false)

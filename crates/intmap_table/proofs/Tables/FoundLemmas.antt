@@ -37,7 +37,8 @@ module _ {K V : Type 0} (test : K → Bool) (P : K → Type 0) where
       record {
         key = q.0;
         here = sym (key_at-get_or (p ∷ L) i q.0 at.1 (λ d. ap (λ (r : K × V). r.0) (get_or_default (p ∷ L) i p d at.1)));
-        passes = subst (λ n. test (get_or (p ∷ L) n p).0 ≡ true) at.0 (passes_at_first (λ (r : K × V). test r.0) (p ∷ L) p (subst (λ n. n < length (p ∷ L)) (sym at.0) at.1));
+        passes =
+            subst (λ n. test (get_or (p ∷ L) n p).0 ≡ true) at.0 (passes_at_first (λ (r : K × V). test r.0) (p ∷ L) p (subst (λ n. n < length (p ∷ L)) (sym at.0) at.1));
         own = λ all. all i p at.1;
       }
 

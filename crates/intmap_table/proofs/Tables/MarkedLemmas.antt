@@ -36,7 +36,8 @@ pub filter-shift : (f : ℕ → Bool) (k a n : ℕ) → filter f (range_with_len
 filter-shift f k a zero = refl
 filter-shift f k a (suc n) =
     let q : k + a + 1 ≡ k + (a + 1) = omega arith in
-    let rest : filter f (range_with_len (k + a + 1) n) ≡ map (λ i. k + i) (filter (λ i. f (k + i)) (range_with_len (a + 1) n)) = rw q (filter-shift f k (a + 1) n) in grind (arith, rest)
+    let rest : filter f (range_with_len (k + a + 1) n) ≡ map (λ i. k + i) (filter (λ i. f (k + i)) (range_with_len (a + 1) n)) = rw q (filter-shift f k (a + 1) n) in
+    grind (arith, rest)
 
 -- what a test keeps of a run of numbers, and of the next one
 pub filter-both : (f : ℕ → Bool) (m n : ℕ) (xs ys : List ℕ) → filter f (range_with_len 0 m) ≡ xs → filter f (range_with_len (m + 0) n) ≡ ys → filter f (range_with_len 0 (m + n)) ≡ xs ++ ys

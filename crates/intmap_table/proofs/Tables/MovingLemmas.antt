@@ -81,7 +81,8 @@ module _ {K X : Type 0} (number : K → ℕ) (R : List (List (K × X))) (C D lon
     free-row : (j : ℕ) → j < D → j % C ≡ index → get_or (set (rows S) index []) j [] ≡ []
     free-row j lt part =
         let n = length-rows S in let long = is.len in let own = modulo-below C j in let past = get_or_past R j [] in let old = before.can.midway.old j lt (here j part) in
-        let none = get_or-set_same (rows S) index [] [] (let w = index-slot in omega (arith, w, n)) in let other = get_or-set_other (rows S) index j [] [] in grind (arith, part, long, own, past, old, none, other)
+        let none = get_or-set_same (rows S) index [] [] (let w = index-slot in omega (arith, w, n)) in let other = get_or-set_other (rows S) index j [] [] in
+        grind (arith, part, long, own, past, old, none, other)
 
     -- and its pairs can be moved
     pub CanMove-moved : (buffer : ℕ) → longest ≤ buffer → CanMove number S bits index buffer

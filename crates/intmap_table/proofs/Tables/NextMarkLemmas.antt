@@ -68,7 +68,8 @@ module _ (words : List ℕ) (from : ℕ) where
 
     -- if it is the last word, no index is marked
     pub none-left : length words ≤ at + 1 → (j : ℕ) → from ≤ j → marked (marks_of words) j ≡ false
-    none-left last j le = let before = none-before j le in let past = get_or_past (marks_of words) j false in let n = length-marks_of words in grind (arith, last, before, past, n)
+    none-left last j le =
+        let before = none-before j le in let past = get_or_past (marks_of words) j false in let n = length-marks_of words in grind (arith, last, before, past, n)
 
   -- the lowest bit of a word that is not zero is that of the next mark
   pub IsNextMark-word : (at word : ℕ) → IsWordFrom words from at word → 0 < word → word < 2 ^ 64 → IsNextMark (marks_of words) from (at * 64 + trailing_zeros w64 word)

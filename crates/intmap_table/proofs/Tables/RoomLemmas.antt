@@ -99,7 +99,8 @@ module _ {K X : Type 0} (number : K → ℕ) where
       record {
         room = rw (length-set S i h) (λ j lt some.
             let most = need-most (p ∷ []) (length S) j in let none = ap length (free j lt some) in let fits = before j lt some in
-            let own = room-set S i h in let other = room-set_other S i h j in let bare = room-set_other S i bare_slot j in inl (grind (arith, lt, most, none, some_room, own, other, bare, fits)));
+            let own = room-set S i h in let other = room-set_other S i h j in let bare = room-set_other S i bare_slot j in
+            inl (grind (arith, lt, most, none, some_room, own, other, bare, fits)));
       }
 
   -- one without pairs can
@@ -113,7 +114,8 @@ module _ {K X : Type 0} (number : K → ℕ) where
   -- the room of each slot once the block of slot k is taken away
   pub room-emptied : (S : List (Held K X)) (k j : ℕ) → k < length S → get_or (rooms (set S k bare_slot)) j 0 ≡ room_without (rooms S) k j
   room-emptied S k j within =
-      let own : get_or (rooms (set S k bare_slot)) k 0 ≡ 1 = room-set S k bare_slot within in let other = room-set_other S k bare_slot j in grind (arith, nat_tests, own, other)
+      let own : get_or (rooms (set S k bare_slot)) k 0 ≡ 1 = room-set S k bare_slot within in let other = room-set_other S k bare_slot j in
+      grind (arith, nat_tests, own, other)
 
   -- if its parts hold no pair, its pairs have room there, with the help of its block
   pub HasRoom-leave : (S : List (Held K X)) (L : List (K × X)) (C k : ℕ) → IsGrown C (length S) → k < length S → All (λ p. slot_number number p.0 C ≡ k) L
@@ -156,7 +158,8 @@ module _ {K X : Type 0} (number : K → ℕ) where
       let rest = in_part-need L C D k t grown below (All-tail (λ p. slot_number number p.0 C ≡ k) p L own) in
       let first = sum_by-cons (λ (q : K × X). cond (slot_number number q.0 D / C == t) 1 0) p L in
       let one = λ (q : n / C ≡ t). length-first number p L D (t * C + k) (is ∙ ap (λ m. m * C + k) q) in
-      let none = λ (apart : n / C ≢ t). slot_of-not_first number p L D (t * C + k) (λ e. apart (ap (λ m. m / C) e ∙ div-mul-add t C k below)) in grind (arith, nat_tests, first, rest, one, none)
+      let none = λ (apart : n / C ≢ t). slot_of-not_first number p L D (t * C + k) (λ e. apart (ap (λ m. m / C) e ∙ div-mul-add t C k below)) in
+      grind (arith, nat_tests, first, rest, one, none)
 
   -- one with room in its parts for the pairs that are counted for them
   pub CanLeave-parts : (S : List (Held K X)) (L : List (K × X)) (C D k x : ℕ) (counts : List ℕ) → IsGrown C D → k < C → D ≡ length counts * C → All (λ p. slot_number number p.0 C ≡ k) L

@@ -55,5 +55,6 @@ module _ {X : Type 0} (keep : X → Bool) where
   pub filter-swap_out-other : (is_it other : X → Bool) → ((x : X) → is_it x ≡ true → other x ≡ true) → ((x : X) → other x ≡ true → keep x ≡ false) → (xs : List X) → filter keep (swap_out is_it other xs) ≡ filter keep xs
   filter-swap_out-other is_it other own apart [] = refl
   filter-swap_out-other is_it other own apart (x ∷ xs) =
-      let o = own x in let a = apart x in let last = λ (is : other x ≡ true). last_passing-other other x xs is apart in let left = filter-without_last-other other apart xs in
+      let o = own x in let a = apart x in let last = λ (is : other x ≡ true). last_passing-other other x xs is apart in
+      let left = filter-without_last-other other apart xs in
       let h = filter-swap_out-other is_it other own apart xs in grind (arith, o, a, last, left, h)

@@ -45,7 +45,9 @@ module _ {K X : Type 0} (S : List (Held K X)) (i : ℕ) (s : Held K X) where
   row-set below = ap (λ R. get_or R i []) (map-set (λ (t : Held K X). t.pairs) S i s) ∙ get_or-set_same (rows S) i s.pairs [] (omega (arith, below, length-rows S))
 
   pub room-set : i < length S → get_or (rooms (set S i s)) i 0 ≡ s.room
-  room-set below = ap (λ r. get_or r i 0) (map-set (λ (t : Held K X). t.room) S i s) ∙ get_or-set_same (rooms S) i s.room 0 (let n = length-map S (λ (t : Held K X). t.room) in omega (arith, below, n))
+  room-set below =
+      ap (λ r. get_or r i 0) (map-set (λ (t : Held K X). t.room) S i s)
+      ∙ get_or-set_same (rooms S) i s.room 0 (let n = length-map S (λ (t : Held K X). t.room) in omega (arith, below, n))
 
   -- and the others are as before
   pub row-set_other : (j : ℕ) → j ≢ i → get_or (rows (set S i s)) j [] ≡ get_or (rows S) j []
@@ -98,7 +100,8 @@ module _ {K X : Type 0} (number : K → ℕ) (S : List (Held K X)) (table : IsTa
       → joined (rows (set S i h)) ≡ walk_of number L (length S)
   joined-set i h L below here there =
       sym (walk_of-rows number L (length S) (set S i h) (sym (length-set S i h)) (λ j _.
-      let own = row-set S i h below in let other = row-set_other S i h j in let away = there j in let old = slot_of-joined j in grind (arith, here, own, other, away, old)))
+      let own = row-set S i h below in let other = row-set_other S i h j in let away = there j in let old = slot_of-joined j in
+      grind (arith, here, own, other, away, old)))
 
 -- a table with the pairs of slot i changed
 pub IsTable-set_at : {K X : Type 0} (number : K → ℕ) (S : List (Held K X)) (i : ℕ) (s : Held K X) → IsTable number S → i < length S → All (λ p. slot_number number p.0 (length S) ≡ i) s.pairs → IsTable number (set S i s)

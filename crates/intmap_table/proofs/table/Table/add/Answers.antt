@@ -75,7 +75,8 @@ pub invariant_of-self-2 : goal.invariant_of-self-2
 invariant_of-self-2 g c =
     let after = goal.at.invariant_of-self-2 g c in let at = here g after.After-index_mut-row in
     let left = alone g after.After-put_first (none g after.After-set at c.if-set.false) in
-    rw c.set.ensures.marks (IsMaskedTable-set _ _ _ _ _ at c.self.invariant c.put_first.new.self (rw left (Belong-push _ _ _ _ _ at _ c.args.value (Belong-here _ _ _ _ _ at)))
+    rw c.set.ensures.marks
+    (IsMaskedTable-set _ _ _ _ _ at c.self.invariant c.put_first.new.self (rw left (Belong-push _ _ _ _ _ at _ c.args.value (Belong-here _ _ _ _ _ at)))
     true (sym (ap (λ ps. nat_lt 0 (length ps)) left ∙ filled-pushed _ (c.args.key, c.args.value))))
 
 pub returns-clause-at : goal.returns-clause-at

@@ -43,7 +43,8 @@ invariant_of-self g c =
     let taken = swap_out (λ p. same_key g.K.IntKey.number_of c.args.at.key p.0) any c.index_mut.result.now.pairs in
     let before = filled-bound g.K.IntKey.number_of c.index_mut.result.now.pairs c.args.at.key c.replace_at-old.result.1 (bound g after) in
     let filled = ap (λ ps. nat_lt 0 (length ps)) (left g after) ∙ filled-pushed taken (c.args.at.key, c.args.value) in
-    IsMaskedTable-kept _ _ _ _ _ (slot g after) c.self.invariant c.replace_at-old.new.self (rw (left g after) (Belong-push _ _ _ _ _ (slot g after) _ c.args.value (Belong-taken _ _ _ _ _ (slot g after)))) (before ∙ sym filled)
+    IsMaskedTable-kept _ _ _ _ _ (slot g after) c.self.invariant c.replace_at-old.new.self
+    (rw (left g after) (Belong-push _ _ _ _ _ (slot g after) _ c.args.value (Belong-taken _ _ _ _ _ (slot g after)))) (before ∙ sym filled)
 
 pub returns-clause-value : goal.returns-clause-value
 returns-clause-value g c =

@@ -72,7 +72,8 @@ pub invariant_of-self : goal.invariant_of-self
 invariant_of-self g c =
     let at = (goal.at.invariant_of-self g c).After-index_mut-slot in
     rw c.clear_in.ensures
-    (IsMaskedTable-set _ _ _ _ _ (slot g at) c.self.invariant c.take_lone.new.self (rw (none g (goal.at.invariant_of-self g c).In-Some at (found g at)) (Belong-taken _ _ _ _ _ (slot g at)))
+    (IsMaskedTable-set _ _ _ _ _ (slot g at) c.self.invariant c.take_lone.new.self
+    (rw (none g (goal.at.invariant_of-self g c).In-Some at (found g at)) (Belong-taken _ _ _ _ _ (slot g at)))
     false (ap (λ ps. nat_lt 0 (length ps)) (sym c.in-Some.ensures.emptied)))
 
 pub invariant_of-self-2 : goal.invariant_of-self-2
