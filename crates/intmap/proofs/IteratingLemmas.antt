@@ -1,6 +1,6 @@
 -- The runs of an iterator that is seen as the list of what is left.
 use Rattle.std.proofs.Common.{ap, length}
-use Rattle.std.specs.Iterator.{YieldsFirst, YieldsFirstBy}
+use Rattle.std.specs.Iterator.{YieldsFirstBy}
 use Rattle.std.proofs.iter.runs.Sources.{as_is, from_front}
 use Rattle.intmap.specs.Iterating.{GivesEach, ShowsEach}
 

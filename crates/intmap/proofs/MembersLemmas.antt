@@ -28,7 +28,7 @@ use Rattle.intmap.specs.declared.refusal.Cause.TheVariants.{Memory, TooLarge}
 use Rattle.intmap_table.proofs.BindSameLemmas.{value_of-same_number}
 use Rattle.intmap.proofs.CostLemmas.{HasDistinctKeys-tail}
 use Rattle.intmap.proofs.EqualityLemmas.{value_of-rest}
-use Rattle.intmap.proofs.ExtendLemmas.{refusal_of, cause-of_slots, value_of-append}
+use Rattle.intmap.proofs.ExtendLemmas.{refusal_of, cause-of_slots, option_or-none, value_of-append}
 use Rattle.intmap.proofs.JsonLemmas.{Entry}
 
 abbrev pub Pairs : Type 0
@@ -48,11 +48,6 @@ pub AreApart-distinct : (L : Pairs) → HasDistinctKeys (λ key. key) L → AreA
 AreApart-distinct [] distinct = tt
 AreApart-distinct (p ∷ L) distinct =
     (value_of-rest (λ key. key) p L distinct p.0 (eq-eqb p.0 p.0 refl), AreApart-distinct L (HasDistinctKeys-tail (λ key. key) p L distinct))
-
--- the same of none behind it
-option_or-none : {T : Type 0} (o : Option T) → option_or o None ≡ o
-option_or-none None = refl
-option_or-none (Some x) = refl
 
 -- a member more, at the text of a number
 pub HasKeyTexts-put : (ms : Members) (k : ℕ) (d : Data) → k < 2 ^ 64 → HasKeyTexts ms → HasKeyTexts (put (decimal k) d ms)

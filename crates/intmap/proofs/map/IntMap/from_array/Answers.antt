@@ -1,4 +1,4 @@
-use Rattle.std.proofs.Common.{◌≡◌, List, Some, inr, refl, sym, ◌∙◌, subst}
+use Rattle.std.proofs.Common.{List, inr, sym, ◌∙◌, subst}
 use Rattle.std.specs.Prelude.{reverse}
 use Rattle.intmap_table.specs.Bindings.{value_of}
 use Rattle.std.proofs.IntoIterSteps.{All-taken}
