@@ -119,15 +119,43 @@ where
     K::Err: Drop,
 {
     if name == "insert_range" {
-        return match (key.parse::<i64>(), number.parse::<i64>()) {
-            (Ok(first), Ok(last)) => insert_range(out, map, first, last),
-            _ => no_call(out),
+        return match ends_of(key, number) {
+            Some((first, last)) => insert_range(out, map, first, last),
+            None => no_call(out),
         };
     }
-    match (key.parse::<K>(), number.parse::<u64>()) {
-        (Ok(key), Ok(value)) => with_pair(out, map, name, key, value),
-        _ => no_call(out),
+    match pair_of(key, number) {
+        Some((key, value)) => with_pair(out, map, name, key, value),
+        None => no_call(out),
     }
+}
+
+// the two ends of a range
+fn ends_of(first: &str, last: &str) -> Option<(i64, i64)> {
+    let first = first.parse::<i64>().ok()?;
+    let last = last.parse::<i64>().ok()?;
+    Some((first, last))
+}
+
+// a key and a value
+fn pair_of<K>(key: &str, value: &str) -> Option<(K, u64)>
+where
+    K: IntKey + FromStr,
+    K::Err: Drop,
+{
+    let key = key.parse::<K>().ok()?;
+    let value = value.parse::<u64>().ok()?;
+    Some((key, value))
+}
+
+// the key that is written as this number, if there is one
+fn key_of<K>(alloc: Global, number: i64) -> Result<Option<K>, AllocError>
+where
+    K: IntKey + FromStr,
+    K::Err: Drop,
+{
+    let word = format!(in alloc; "{number}")?;
+    Ok(word.as_str().parse::<K>().ok())
 }
 
 // binds each key that is written as a number of the range to ten more than that number, wrapped to 64
@@ -145,8 +173,7 @@ where
     let alloc = *out.allocator();
     let mut new = 0u64;
     for number in first..=last {
-        let word = format!(in alloc; "{number}")?;
-        let Ok(key) = word.as_str().parse::<K>() else {
+        let Some(key) = key_of(alloc, number)? else {
             return no_call(out);
         };
         match map.insert(key, value_of(number.cast_unsigned())) {
