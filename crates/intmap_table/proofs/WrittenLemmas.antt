@@ -39,13 +39,9 @@ module _ {K V : Type 0} (number : K → ℕ) where
   pub key_at-written : (W : List (K × V)) (C slot place : ℕ) (k : K) (v : V) → key_at (slot_of number (write_value number W k v) C slot) place ≡ key_at (slot_of number W C slot) place
   key_at-written W C slot place k v = ap (λ L. key_at L place) (slot_of-write_value W C k v slot) ∙ key_at-write_value (slot_of number W C slot) k v place
 
-abbrev key_or : {K : Type 0} → Option K → K → K
-key_or (Some k) d = k
-key_or None d = d
-
 -- the keys of equal options are equal
 pub the_key-same : {K : Type 0} (o p : Option K) (s : IsSome o) (t : IsSome p) → o ≡ p → the_key o s ≡ the_key p t
-the_key-same (Some x) (Some y) s t e = ap (λ o. key_or o x) e
+the_key-same (Some x) (Some y) s t e = let same : x ≡ y = cc in same
 the_key-same (Some x) None s t e = absurd cc
 the_key-same None p s t e = absurd cc
 

@@ -1,5 +1,5 @@
 -- What the bits of words say of the indices that they mark.
-use Rattle.std.proofs.Common.{◌≡◌, ◌≢◌, inl, inr, ℕ, zero, suc, ◌+◌, ◌-◌, ◌*◌, ◌/◌, ◌%◌, ◌^◌, ◌<◌, Bool, true, false, List, [], ◌∷◌, ◌++◌, length, map, get_or, set, replicate, sum_by, refl, sym, ap, subst, ◌∙◌, arith, zero-add, bit_and, w64, length-set, get_or-set_same, get_or-set_other, length-append}
+use Rattle.std.proofs.Common.{◌≡◌, ◌≢◌, inl, inr, ℕ, zero, suc, ◌+◌, ◌-◌, ◌*◌, ◌/◌, ◌%◌, ◌^◌, ◌<◌, ◌≤◌, Bool, true, false, List, [], ◌∷◌, ◌++◌, length, map, get_or, set, replicate, sum_by, refl, sym, ap, subst, ◌∙◌, arith, zero-add, bit_and, w64, length-set, get_or-set_same, get_or-set_other, length-append}
 use Rattle.std.specs.Prelude.{◌==◌, cond, filter, nat_eq}
 use Rattle.std.specs.Int.RustNames.{count_ones}
 use Rattle.std.specs.Int.{bit_at, trailing_zeros}
@@ -20,15 +20,10 @@ use Rattle.intmap_table.proofs.Tables.MarkedLemmas.{range_with_len-add, filter-s
 unfoldable pub bits_of : ℕ → ℕ → List ℕ
 bits_of n word = filter (has_bit word) (range_with_len 0 n)
 
--- numbers with one half have the same bits from the second one on
-bit_at-half : (m n : ℕ) → m / 2 ≡ n / 2 → (j : ℕ) → 0 < j → bit_at m j ≡ bit_at n j
-bit_at-half m n half zero up = absurd (omega arith)
-bit_at-half m n half (suc j) up = bit_at-suc m j ∙ ap (λ h. bit_at h j) half ∙ sym (bit_at-suc n j)
-
-bit_at-pred_above : (t word : ℕ) → (word - 1) / 2 ≡ word / 2 - 1 → ((j : ℕ) → t < j → bit_at (word / 2 - 1) j ≡ bit_at (word / 2) j) → (j : ℕ) → suc t < j → bit_at (word - 1) j ≡ bit_at word j
-bit_at-pred_above t word half same zero up = absurd (omega arith)
-bit_at-pred_above t word half same (suc j) up =
-    bit_at-suc (word - 1) j ∙ ap (λ n. bit_at n j) half ∙ same j (omega arith) ∙ sym (bit_at-suc word j)
+-- numbers whose halves have the same bits from t on have the same bits behind t
+bit_at-above : (m n t : ℕ) → ((j : ℕ) → t ≤ j → bit_at (m / 2) j ≡ bit_at (n / 2) j) → (j : ℕ) → t < j → bit_at m j ≡ bit_at n j
+bit_at-above m n t half zero up = absurd (omega arith)
+bit_at-above m n t half (suc j) up = bit_at-suc m j ∙ half j (omega arith) ∙ sym (bit_at-suc n j)
 
 -- one less than a word: the lowest bit that is set is not, and those above it stay
 bit_at-pred : (t word : ℕ) → bit_at word t ≡ 1 → ((i : ℕ) → i < t → bit_at word i ≡ 0) → (bit_at (word - 1) t ≡ 0) × ((j : ℕ) → t < j → bit_at (word - 1) j ≡ bit_at word j)
@@ -36,17 +31,14 @@ bit_at-pred zero word one below =
     let odd : word % 2 ≡ 1 = sym (bit_at_lowest word) ∙ one in
     let half : (word - 1) / 2 ≡ word / 2 = omega (arith, odd) in
     let even : (word - 1) % 2 ≡ 0 = omega (arith, odd) in
-    (bit_at_lowest (word - 1) ∙ even, λ j up. bit_at-half (word - 1) word half j up)
+    (bit_at_lowest (word - 1) ∙ even, bit_at-above (word - 1) word 0 (λ j _. ap (λ h. bit_at h j) half))
 bit_at-pred (suc t) word one below =
     let even : word % 2 ≡ 0 = sym (bit_at_lowest word) ∙ below 0 (omega arith) in
     let one_half : bit_at (word / 2) t ≡ 1 = sym (bit_at-suc word t) ∙ one in
-    let some : 0 < word / 2 = elim (cases_eq (word / 2) 0) [
-      | inl none ↦ (let z = bit_at-zero t in let o : bit_at 0 t ≡ 1 = rw none at one_half in absurd (omega (arith, z, o)))
-      | inr apart ↦ omega (arith, apart)
-    ] in
+    let some : 0 < word / 2 = (let z = bit_at-zero t in grind (arith, one_half, z)) in
     let half : (word - 1) / 2 ≡ word / 2 - 1 = omega (arith, even, some) in
     let h = bit_at-pred t (word / 2) one_half (λ i lt. sym (bit_at-suc word i) ∙ below (suc i) (omega arith)) in
-    (bit_at-suc (word - 1) t ∙ ap (λ n. bit_at n t) half ∙ h.0, λ j up. bit_at-pred_above t word half h.1 j up)
+    (bit_at-suc (word - 1) t ∙ ap (λ n. bit_at n t) half ∙ h.0, bit_at-above (word - 1) word (suc t) (λ j le. ap (λ n. bit_at n j) half ∙ h.1 j (omega (arith, le))))
 
 -- t is the lowest bit of the word that is set
 record IsLowest (word t : ℕ) : Type 0 where

@@ -11,7 +11,7 @@ use Rattle.intmap_table.specs.Tables.Slots.{Held, rows, joined, pairs_at, IsNext
 use Rattle.intmap_table.specs.Bindings.{value_of}
 use Rattle.intmap_table.specs.Classes.{IsCapacity}
 use Rattle.intmap_table.proofs.Tables.TableLemmas.{IsSlot, Belong, IsTable-set, within, length-rows, get_or-rows, IsTable-empty}
-use Rattle.intmap_table.proofs.Tables.MarkedLemmas.{get_or-of_default, row-none, marked-replicate, All-marked_indices, flat_map-marked_indices, length-marked_indices}
+use Rattle.intmap_table.proofs.Tables.MarkedLemmas.{get_or-of_default, row-none, All-marked_indices, flat_map-marked_indices, length-marked_indices}
 
 -- a row that holds a pair is one of the rows
 pub row-within : {P : Type 0} (R : List (List P)) (i : ℕ) → 0 < length (get_or R i []) → i < length R
@@ -60,15 +60,11 @@ module _ {P : Type 0} (R : List (List P)) (marks : List Bool) (are : AreMarked R
     pub AreMarked-kept : (row : List P) → marked marks i ≡ nat_lt 0 (length row) → AreMarked (set R i row) marks
     AreMarked-kept row is = subst (AreMarked (set R i row)) (set-get_or marks i false) (AreMarked-set row (marked marks i) is)
 
--- rows without pairs, one by one
-pub get_or-no_pairs : {P : Type 0} (n i : ℕ) → get_or (replicate {A = List P} n []) i [] ≡ []
-get_or-no_pairs n i = get_or-of_default n i []
-
 -- if no row holds a pair, none is marked
 pub AreMarked-none : {P : Type 0} (R : List (List P)) (C : ℕ) → length R ≡ C → ((i : ℕ) → get_or R i [] ≡ []) → AreMarked R (replicate (64 * ((C + 63) / 64)) false)
 AreMarked-none R C len empty = record {
   words = rw len (length-replicate (64 * ((C + 63) / 64)) false);
-  own = λ i. marked-replicate (64 * ((C + 63) / 64)) i ∙ rw (empty i) refl;
+  own = λ i. get_or-of_default (64 * ((C + 63) / 64)) i false ∙ rw (empty i) refl;
 }
 
 -- a row at none of these indices may change
@@ -163,7 +159,7 @@ pub IsMarkedTable-empty : {K X : Type 0} (number : K → ℕ) (S : List (Held K 
 IsMarkedTable-empty number S C capacity empty =
     let rows-len : length (rows S) ≡ C = ap length empty ∙ length-replicate C [] in
     let len : length S ≡ C = sym (length-rows S) ∙ rows-len in
-    let none : (i : ℕ) → get_or (rows S) i [] ≡ [] = λ i. rw empty (get_or-no_pairs C i) in
+    let none : (i : ℕ) → get_or (rows S) i [] ≡ [] = λ i. rw empty (get_or-of_default C i []) in
     record {
       table = IsTable-empty number S (rw len capacity) (λ i _. none i);
       marks = AreMarked-none (rows S) C rows-len none;
@@ -181,6 +177,6 @@ IsMarkedTable-emptied number S T bits old len empty = record {
   table = IsTable-empty number T (rw len old.table.capacity) (λ i _. empty i);
   marks = record {
     words = length-replicate (length bits) false ∙ old.marks.words ∙ ap (λ n. 64 * ((n + 63) / 64)) (length-rows S ∙ sym len ∙ sym (length-rows T));
-    own = λ i. marked-replicate (length bits) i ∙ rw (empty i) refl;
+    own = λ i. get_or-of_default (length bits) i false ∙ rw (empty i) refl;
   };
 }

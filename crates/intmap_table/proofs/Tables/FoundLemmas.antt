@@ -51,15 +51,11 @@ module _ {K V : Type 0} (number : K → ℕ) (is_valid : K → Type 0) where
       let own = h.own (All-filter (λ p. slot_number number p.0 C == at.slot) (λ p. is_valid p.0) W keys) in
       h.here ∙ ap (λ q. Some q) (number_injective h.key at.key own known (eqb-true (number h.key) (number at.key) h.passes))
 
-some-from : {K : Type 0} (o : Option K) (k : K) → o ≡ Some k → IsSome o
-some-from (Some x) k e = refl
-some-from None k e = absurd cc
-
 module _ {K V : Type 0} (number : K → ℕ) where
   -- a pair that was located by the key that it has is found
   pub IsFound-located : (W : List (K × V)) (C : ℕ) (at : Location K) (k : K) → at.key ≡ k → IsAt number W C at → key_at (slot_of number W C at.slot) at.place ≡ Some k → IsFound number W C at.slot at.place
   IsFound-located W C at k is located here =
-      let some = some-from (key_at (slot_of number W C at.slot) at.place) k here in
+      let some = subst IsSome (sym here) refl in
       record {
         some = some;
         at = subst (λ q. IsAt number W C (record { key = q; slot = at.slot; place = at.place })) (is ∙ sym (the_key-same _ (Some k) some refl here)) located;

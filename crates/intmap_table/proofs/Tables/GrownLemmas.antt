@@ -54,9 +54,6 @@ pub modulo-below : (C j : ℕ) → j < C → j % C ≡ j
 modulo-below C j below = ap (λ n. n % C) (sym (zero-add j) ∙ ap (λ n. n + j) (sym (zero-mul C))) ∙ mod-mul-add 0 C j below
 
 module _ {P : Type 0} where
-  pub nonempty : (p : P) (L : List P) → p ∷ L ≡ [] → ⊥
-  nonempty p L q = let n : suc (length L) ≡ 0 = ap length q in omega (arith, n)
-
   pub no_length : (L : List P) → length L ≡ 0 → L ≡ []
   no_length [] q = refl
   no_length (p ∷ L) q = absurd (omega (arith, q))

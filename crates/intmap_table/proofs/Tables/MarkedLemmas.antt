@@ -52,10 +52,6 @@ get_or-of_default zero i d = refl
 get_or-of_default (suc n) zero d = refl
 get_or-of_default (suc n) (suc i) d = get_or-of_default n i d
 
--- indices without a mark
-pub marked-replicate : (n i : ℕ) → marked (replicate n false) i ≡ false
-marked-replicate n i = get_or-of_default n i false
-
 -- the marked indices ascend
 pub AllPairs-marked_indices : (marks : List Bool) → AllPairs (λ i j. i < j) (marked_indices marks)
 AllPairs-marked_indices marks =

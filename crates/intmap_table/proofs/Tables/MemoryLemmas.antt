@@ -9,7 +9,8 @@ use Rattle.intmap_table.specs.Classes.{IsCapacity}
 use Rattle.intmap_table.specs.Tables.Slots.{Held, rows, joined, AreMarked, Grid, IsMaskedTable}
 use Rattle.intmap_table.specs.Tables.Moves.{IsGrown, IsLonger, IsOldRows, IsMidway, CanMoveOn, bare_slot}
 use Rattle.intmap_table.proofs.SlotNumberLemmas.{capacity-positive}
-use Rattle.intmap_table.proofs.Tables.FilledLemmas.{IsMarkedTable-empty, joined-emptied, get_or-no_pairs}
+use Rattle.intmap_table.proofs.Tables.FilledLemmas.{IsMarkedTable-empty, joined-emptied}
+use Rattle.intmap_table.proofs.Tables.MarkedLemmas.{get_or-of_default}
 use Rattle.intmap_table.proofs.Tables.GrownLemmas.{grown-more, IsMoved-midway}
 use Rattle.intmap_table.proofs.Tables.MoveLemmas.{IsMoved, IsTable-moved}
 use Rattle.intmap_table.proofs.Tables.TableLemmas.{length-rows}
@@ -36,7 +37,7 @@ module _ {K X : Type 0} where
 
     -- behind no slots, empty ones alone are added: no pair is in them
     pub joined-alone : joined (rows T) ≡ []
-    joined-alone = ap joined rows-alone ∙ joined-emptied (replicate C []) (get_or-no_pairs C)
+    joined-alone = ap joined rows-alone ∙ joined-emptied (replicate C []) (λ i. get_or-of_default C i [])
 
     -- their number is the same
     pub length-alone : length T ≡ C
@@ -114,7 +115,7 @@ module _ {K X : Type 0} (S T : List (Held K X)) (D : ℕ) (grown : IsGrown (leng
   pub joined-added : joined (rows T) ≡ joined (rows S)
   joined-added =
       ap joined rows-added ∙ flat_map-append (λ s. s) (rows S) (replicate (D - length S) [])
-      ∙ ap (λ L. joined (rows S) ++ L) (joined-emptied (replicate (D - length S) []) (get_or-no_pairs (D - length S))) ∙ append-nil (joined (rows S))
+      ∙ ap (λ L. joined (rows S) ++ L) (joined-emptied (replicate (D - length S) []) (λ i. get_or-of_default (D - length S) i [])) ∙ append-nil (joined (rows S))
 
 module _ {K X : Type 0} {number : K → ℕ} {S T : List (Held K X)} {bits : List Bool} {mask D : ℕ} (is : IsLongerOf number S T bits mask D) where
   -- the rows of the old slots are the old rows

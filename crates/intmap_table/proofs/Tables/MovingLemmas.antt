@@ -13,7 +13,7 @@ use Rattle.intmap_table.specs.Tables.Slots.{Held, rows, AreMarked}
 use Rattle.intmap_table.specs.Tables.Moves.{rooms, IsGrown, bare_slot, IsOldRows, IsPlaced, need, CanLeave, CanMove, CanMoveOn, AreSet}
 use Rattle.intmap_table.proofs.SlotNumberLemmas.{slot_number-below}
 use Rattle.intmap_table.proofs.Tables.TableLemmas.{length-rows}
-use Rattle.intmap_table.proofs.Tables.MarkedLemmas.{marked-replicate}
+use Rattle.intmap_table.proofs.Tables.MarkedLemmas.{get_or-of_default}
 use Rattle.intmap_table.proofs.Tables.FilledLemmas.{row-unmarked}
 use Rattle.intmap_table.proofs.Tables.CountLemmas.{AreLeft, AreLeft-marked, AreLeft-rest, first-apart, list_any-past}
 use Rattle.intmap_table.proofs.Tables.GrownLemmas.{modulo-below, grown-more, filter_none, slot_of-apart, part-of}
@@ -38,7 +38,7 @@ module _ {K X : Type 0} (number : K → ℕ) (R : List (List (K × X))) (C D lon
   pub AreMoved-start : (old : List Bool) (n : ℕ) (bits : List Bool) (S : List (Held K X)) → AreMarked R old → n ≡ 64 * ((D + 63) / 64) → bits ≡ replicate n false
       → CanMoveOn number R C D (marked_indices old) longest S → AreMoved number R C D longest (marked_indices old) bits S
   AreMoved-start old n bits S are words all can =
-      let unmarked : (j : ℕ) → marked bits j ≡ false = λ j. ap (λ marks. marked marks j) all ∙ marked-replicate n j in
+      let unmarked : (j : ℕ) → marked bits j ≡ false = λ j. ap (λ marks. marked marks j) all ∙ get_or-of_default n j false in
       record {
         at = AreLeft-marked R old are;
         can = can;

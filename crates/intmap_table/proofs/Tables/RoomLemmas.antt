@@ -10,7 +10,7 @@ use Rattle.intmap_table.specs.Walk.{slot_of}
 use Rattle.intmap_table.specs.Tables.Slots.{Held, rows}
 use Rattle.intmap_table.specs.Tables.Moves.{rooms, room_without, part_room, IsGrown, bare_slot, IsPlaced, need, in_part, HasRoom, HasParts, CanLeave, IsPut}
 use Rattle.intmap_table.proofs.Tables.TableLemmas.{room-set, room-set_other}
-use Rattle.intmap_table.proofs.Tables.GrownLemmas.{slot_number-grown, modulo-below, nonempty, no_length, part-of}
+use Rattle.intmap_table.proofs.Tables.GrownLemmas.{slot_number-grown, modulo-below, no_length, part-of}
 
 module _ {K X : Type 0} (number : K → ℕ) where
   -- a pair in front that goes to slot j is the first there
@@ -55,7 +55,7 @@ module _ {K X : Type 0} (number : K → ℕ) where
   IsPlaced-put S T p block left j is put = record {
     len = put.len;
     pairs = λ i lt. let own = put.row in let others = put.others i in let nil = append-nil (get_or (rows S) i []) in grind (arith, nat_tests, is, own, others, nil);
-    rooms = λ i lt none. put.other_rooms i (λ q. nonempty p (slot_of number [] (length S) i) (sym (slot_of-first p [] (length S) i (is ∙ sym q)) ∙ none));
+    rooms = λ i lt none. put.other_rooms i (λ q. let n = ap length none in grind (arith, nat_tests, is, q, n));
   }
 
   -- pairs placed after others are placed together
