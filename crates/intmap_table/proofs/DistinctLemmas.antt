@@ -153,11 +153,8 @@ module _ {K V : Type 0} (number : K → ℕ) where
   -- a removal leaves one pair less if the key was present
   pub length-take_key : (L : List (K × V)) (C : ℕ) (k : K) → length (take_key number L C k) + cond (is_some (value_of number L k)) 1 0 ≡ length L
   length-take_key L C k =
-      let s = sum_by-swap_out (λ _. 1) (λ p. same_key number k p.0) (λ p. agrees number C k p.0) L in
-      let t = taken-value_of L C k in
-      let l = length-sum_by L in
-      let m = length-sum_by (take_key number L C k) in
-      omega (arith, s, t, l, m)
+      let s = sum_by-swap_out (λ _. 1) (λ p. same_key number k p.0) (λ p. agrees number C k p.0) L in let t = taken-value_of L C k in
+      let l = length-sum_by L in let m = length-sum_by (take_key number L C k) in omega (arith, s, t, l, m)
 
   -- an insertion leaves one pair more if the key was absent
   pub length-put_pair : (L : List (K × V)) (C : ℕ) (k : K) (v : V) → length (put_pair number L C k v) ≡ length L + cond (is_some (value_of number L k)) 0 1

@@ -44,10 +44,8 @@ times-each_once n (a ∷ ns) =
 -- a number in front is new, or not
 pub length-each_once : (n : ℕ) (ns : List ℕ) → length (each_once (n ∷ ns)) + cond (list_any (λ m. m == n) ns) 1 0 ≡ suc (length (each_once ns))
 length-each_once n ns =
-    let t = times-each_once n ns in
-    let l = length-filter (λ m. m == n) (each_once ns) in
-    let b = length-filter_both (λ m. m == n) (λ m. not (m == n)) (λ _. refl) (each_once ns) in
-    omega (arith, t, l, b)
+    let t = times-each_once n ns in let l = length-filter (λ m. m == n) (each_once ns) in
+    let b = length-filter_both (λ m. m == n) (λ m. not (m == n)) (λ _. refl) (each_once ns) in omega (arith, t, l, b)
 
 -- tests that agree at each number count alike
 count_by-range_same : (g h : ℕ → Bool) (a n : ℕ) → ((i : ℕ) → i < n → g (a + i) ≡ h (a + i)) → count_by g (range_with_len a n) ≡ count_by h (range_with_len a n)
@@ -100,12 +98,9 @@ module _ {K V : Type 0} (number : K → ℕ) (C : ℕ) (spread : (a k : K) → a
     pub load_of-slots : (L : List (K × V)) → load_of number L C ≡ count_by (λ i. is_filled (slot_of number L C i)) (range_with_len 0 C)
     load_of-slots [] = sym (count_by-range_none 0 C)
     load_of-slots (p ∷ L) =
-        let h = load_of-slots L in
-        let b = below p.0 in
+        let h = load_of-slots L in let b = below p.0 in let found = among p.0 L in
         let once = length-each_once (residue number p.0 C) (map (λ q. residue number q.0 C) L) in
-        let slots = has-cons (λ q. slot_number number q.0 C) p L 0 C (omega arith) (omega (arith, b)) in
-        let same = ap (λ (b : Bool). cond {A = ℕ} b 1 0) (among p.0 L) in
-        omega (arith, h, once, slots, same)
+        let slots = has-cons (λ q. slot_number number q.0 C) p L 0 C (omega arith) (omega (arith, b)) in grind (arith, h, once, slots, found)
 
     -- lists with the same slots have the same load
     pub load_of-same : (L M : List (K × V)) → ((i : ℕ) → i < C → slot_of number L C i ≡ slot_of number M C i) → load_of number L C ≡ load_of number M C

@@ -133,11 +133,10 @@ module _ {K V : Type 0} (test : K → Bool) where
   pub first_value-none : (L : List (K × V)) → position (λ q. test q.0) L ≡ None → first_value test L ≡ None
   first_value-none L e = first_value-all L (position_or_len-none (λ (q : K × V). test q.0) L e)
 
-  none_from : (o : Option ℕ) (L : List (K × V)) → position (λ q. test q.0) L ≡ o → first_value test L ≡ None → o ≡ None
-  none_from None L e h = refl
-  none_from (Some i) [] e h = cc
-  none_from (Some i) (p ∷ L) e h = let v = first_value-position (p ∷ L) i p e in cc
+  position_or_len-from_none : (L : List (K × V)) → first_value test L ≡ None → position_or_len (λ q. test q.0) L ≡ length L
+  position_or_len-from_none [] h = refl
+  position_or_len-from_none (p ∷ L) h = let rest = position_or_len-from_none L in grind (arith, h, rest)
 
   -- if there is no value, none is found
   pub position-from_none : (L : List (K × V)) → first_value test L ≡ None → position (λ q. test q.0) L ≡ None
-  position-from_none L h = none_from (position (λ (q : K × V). test q.0) L) L refl h
+  position-from_none L h = let all = position_or_len-from_none L h in grind (arith, nat_tests, all)

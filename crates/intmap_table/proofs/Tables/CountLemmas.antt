@@ -247,10 +247,7 @@ module _ {K X : Type 0} (number : K → ℕ) (S₀ : List (Held K X)) (marks : L
             | inr apart ↦ CanLeave-same number (rooms T) (rooms S) (get_or R k []) C (length S₀) k lt (grown-more C (length S₀) longer.grown)
                 (λ j _ part. others j (λ q. apart (sym q ∙ part))) (ready.done k lt (past k apart ∙ missed))
           ];
-          short = λ k lt missed. elim (cases_eq index k) as (λ _. length (get_or R k []) ≤ 1 + longer') [
-            | inl q ↦ subst (λ n. length (get_or R n []) ≤ 1 + longer') q few
-            | inr apart ↦ (let w = ready.short k lt (past k apart ∙ missed) in omega (arith, w, more))
-          ];
+          short = λ k lt missed. let old = ready.short k lt in let same = past k in grind (arith, missed, old, same, more, few);
           ahead = λ j found.
               let apart : index ≢ j % C = first-apart R index rest ready.left (j % C) found in
               others j (λ q. apart (sym q)) ∙ ready.ahead j (past (j % C) apart ∙ found);

@@ -68,7 +68,7 @@ module _ {K X : Type 0} (S : List (Held K X)) (from : ℕ) (empty : (j : ℕ) �
 module _ {K X : Type 0} (S : List (Held K X)) (from index : ℕ) (next : IsNextRow (rows S) from index) where
   -- its index is one of the slots'
   pub next-within : index < length S
-  next-within = let within = next.within in omega (arith, within, length-rows S)
+  next-within = omega (arith, next.within, length-rows S)
 
 module _ {K X : Type 0} (S : List (Held K X)) (from index : ℕ) (next : IsNextRow (rows S) from index) (s : Held K X) where
   abbrev row : List (K × X)

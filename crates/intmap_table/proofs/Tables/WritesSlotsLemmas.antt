@@ -34,17 +34,13 @@ module _ {K X : Type 0} (S : List (Held K X)) (marks : List Bool) (are : AreMark
   -- it is none of the others
   apart-before : All (λ j. index ≢ j) before
   apart-before = λ k d below q.
-      let less = ascending k (length before) d below (omega (arith, long)) in
-      let one = get_or-append before (index ∷ rest) d k below in
-      let at = get_or-append_seam before index rest d in
-      omega (arith, less, one, at, q)
+      let less = ascending k (length before) d below (omega (arith, long)) in let one = get_or-append before (index ∷ rest) d k below in
+      let at = get_or-append_seam before index rest d in omega (arith, less, one, at, q)
 
   apart-rest : All (λ j. index ≢ j) rest
   apart-rest = λ k d below q.
       let less = ascending (length before) (length before + suc k) d (omega arith) (omega (arith, below, long)) in
-      let one = get_or-append-add before (index ∷ rest) (suc k) d in
-      let at = get_or-append_seam before index rest d in
-      omega (arith, less, one, at, q)
+      let one = get_or-append-add before (index ∷ rest) (suc k) d in let at = get_or-append_seam before index rest d in omega (arith, less, one, at, q)
 
   -- so the pairs of the others stay where the slot is changed
   module _ (s : Held K X) where
