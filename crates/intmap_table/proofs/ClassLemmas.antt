@@ -77,8 +77,7 @@ module _ {X : Type 0} (f : X → ℕ) where
       let row : get_or (map (λ i. class i xs) (range_with_len 0 n)) i [] ≡ class i xs = get_or-map-range_with_len (λ i. class i xs) 0 n i i [] below_n (zero-add i) in
       let all : All (λ x. f x ≡ i) (class i xs) =
       All-weaker (λ x. (f x == i) ≡ true) (λ x. f x ≡ i) (λ x h. eqb-true (f x) i h) (class i xs) (filter_passes (λ x. f x == i) xs) in
-      let P : List X → Type 0 = λ r. All (λ x. f x ≡ 0 + i) r in
-      subst P (sym row) (rw zero-add all)
+      rw (row, zero-add) all
 
   -- the classes of joined rows, joined, are the rows joined
   pub flat_map-classes : (S : List (List X)) → AreClasses 0 S → flat_map (λ i. class i (flat_map (λ s. s) S)) (range_with_len 0 (length S)) ≡ flat_map (λ s. s) S

@@ -48,21 +48,15 @@ module _ {K X : Type 0} (clones : X → X → Type 0) where
   row_keys-AllZip (h ∷ S) (g ∷ T) all = λ i. keys_of-AreClones h.pairs g.pairs all.0 i ∷ row_keys-AllZip S T all.1 i
 
 module _ {K V : Type 0} (clones : V → V → Type 0) where
-  -- a clone of the first pair is looked at as the pair is
-  value_of-clone : (number : K → ℕ) (k : K) (p q : K × V) (M : List (K × V)) (b : Bool) → same_key number k p.0 ≡ b → q.0 ≡ p.0 → value_of number (q ∷ M) k ≡ cond b (Some q.1) (value_of number M k)
-  value_of-clone number k p q M b is key = ap (λ j. cond (same_key number k j) (Some q.1) (value_of number M k)) key ∙ ap (λ c. cond c (Some q.1) (value_of number M k)) is
-
-  -- if in the rest a key has a clone of its value, it has one too with the clone of the first pair in front
-  binds_first : (number : K → ℕ) (k : K) (p q : K × V) (L M : List (K × V)) (b : Bool) → same_key number k p.0 ≡ b → IsPairClone clones p q
-      → MatchOption (value_of number L k) (value_of number M k ≡ None) (λ v. (w : V) × (value_of number M k ≡ Some w) × clones v w)
-      → MatchOption (cond b (Some p.1) (value_of number L k)) (value_of number (q ∷ M) k ≡ None) (λ v. (w : V) × (value_of number (q ∷ M) k ≡ Some w) × clones v w)
-  binds_first number k p q L M true is one rest = (q.1, value_of-clone number k p q M true is one.0, one.1)
-  binds_first number k p q L M false is one rest =
-      subst (λ o. MatchOption (value_of number L k) (o ≡ None) (λ v. (w : V) × (o ≡ Some w) × clones v w)) (sym (value_of-clone number k p q M false is one.0)) rest
-
-  -- so each key has a clone of its value
+  -- each key has a clone of its value
   pub BindsClones-AreClones : (number : K → ℕ) (L M : List (K × V)) → AreClones clones L M → BindsClones number clones L M
   BindsClones-AreClones number [] [] all k = refl
   BindsClones-AreClones number [] (q ∷ M) all k = absurd all
   BindsClones-AreClones number (p ∷ L) [] all k = absurd all
-  BindsClones-AreClones number (p ∷ L) (q ∷ M) all k = binds_first number k p q L M (same_key number k p.0) refl all.0 (BindsClones-AreClones number L M all.1 k)
+  BindsClones-AreClones number (p ∷ L) (q ∷ M) all k =
+      let Binds : Bool → Bool → Type 0 = λ a b.
+      MatchOption (cond a (Some p.1) (value_of number L k)) (cond b (Some q.1) (value_of number M k) ≡ None) (λ v. (w : V) × (cond b (Some q.1) (value_of number M k) ≡ Some w) × clones v w) in
+      subst (λ j. Binds (same_key number k p.0) (same_key number k j)) (sym all.0.0) (elim (same_key number k p.0) as (λ b. Binds b b) [
+        | true ↦ (q.1, refl, all.0.1)
+        | false ↦ BindsClones-AreClones number L M all.1 k
+      ])

@@ -23,9 +23,7 @@ module _ {K X : Type 0} (number : K → ℕ) where
   pub IsTable-moved : (L : List (K × X)) (C : ℕ) (T : List (Held K X)) → IsMoved number L C T → IsTable number T
   IsTable-moved L C T moved = record {
     capacity = subst IsCapacity (sym moved.len) moved.capacity;
-    in_place = rw moved.len (λ j below.
-        let P : List (K × X) → Type 0 = λ row. All (λ p. slot_number number p.0 C ≡ j) row in
-        subst P (sym (moved.rows j below))
+    in_place = rw moved.len (λ j below. rw (moved.rows j below)
         (All-weaker (λ p. (slot_number number p.0 C == j) ≡ true) (λ p. slot_number number p.0 C ≡ j) (λ p e. eqb-true (slot_number number p.0 C) j e)
         (slot_of number L C j) (filter_passes (λ p. slot_number number p.0 C == j) L)));
   }

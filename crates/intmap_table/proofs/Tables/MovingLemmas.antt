@@ -12,7 +12,7 @@ use Rattle.intmap_table.specs.Tables.Bits.{marked, marked_indices}
 use Rattle.intmap_table.specs.Tables.Slots.{Held, rows, AreMarked}
 use Rattle.intmap_table.specs.Tables.Moves.{rooms, IsGrown, bare_slot, IsOldRows, IsPlaced, need, CanLeave, CanMove, CanMoveOn, AreSet}
 use Rattle.intmap_table.proofs.SlotNumberLemmas.{slot_number-below}
-use Rattle.intmap_table.proofs.Tables.TableLemmas.{length-rows}
+use Rattle.intmap_table.proofs.Tables.TableLemmas.{length-rows, room-set_other}
 use Rattle.intmap_table.proofs.Tables.MarkedLemmas.{get_or-of_default}
 use Rattle.intmap_table.proofs.Tables.FilledLemmas.{row-unmarked}
 use Rattle.intmap_table.proofs.Tables.CountLemmas.{AreLeft, AreLeft-marked, AreLeft-rest, first-apart, list_any-past}
@@ -126,8 +126,7 @@ module _ {K X : Type 0} (number : K → ℕ) (R : List (List (K × X))) (C D lon
 
       other-room : (j : ℕ) → j < D → j % C ≢ index → get_or (rooms T) j 0 ≡ get_or (rooms S) j 0
       other-room j lt apart =
-          placed.rooms j (omega (arith, lt, len-set)) (rw len-set (other j apart))
-          ∙ ap (λ r. get_or r j 0) (map-set (λ (s : Held K X). s.room) S index h) ∙ get_or-set_other (rooms S) index j h.room 0 (not-place j apart)
+          placed.rooms j (omega (arith, lt, len-set)) (rw len-set (other j apart)) ∙ room-set_other S index h j (not-place j apart)
 
       other-mark : (j : ℕ) → j % C ≢ index → marked bits' j ≡ marked bits j
       other-mark j apart = marks.set_at j ∙ ap (λ (L : List (K × X)). marked bits j || nat_lt 0 (length L)) (other j apart) ∙ or-false (marked bits j)

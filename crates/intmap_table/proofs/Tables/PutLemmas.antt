@@ -98,8 +98,7 @@ pub Held-same : {K X : Type 0} (s t : Held K X) → s.pairs ≡ t.pairs → s.ro
 Held-same s t pairs room = ap (λ ps. record s { pairs = ps }) pairs ∙ ap (λ n. record t { room = n }) room
 
 pub or-false : (b : Bool) → (b || false) ≡ b
-or-false true = refl
-or-false false = refl
+or-false b = grind arith
 
 module _ {K X : Type 0} (number : K → ℕ) (D : ℕ) where
   -- no pair sets no mark

@@ -72,9 +72,7 @@ module _ {K X : Type 0} (number : K → ℕ) where
   pub IsTable-empty : (S : List (Held K X)) → IsCapacity (length S) → ((i : ℕ) → i < length S → get_or (rows S) i [] ≡ []) → IsTable number S
   IsTable-empty S cap empty = record {
     capacity = cap;
-    in_place = λ i below.
-        let P : List (K × X) → Type 0 = λ row. All (λ p. slot_number number p.0 (length S) ≡ i) row in
-        subst P (sym (empty i below)) (All-nil (λ p. slot_number number p.0 (length S) ≡ i));
+    in_place = λ i below. rw (empty i below) (All-nil (λ p. slot_number number p.0 (length S) ≡ i));
   }
 
 module _ {K X : Type 0} (number : K → ℕ) (S : List (Held K X)) (table : IsTable number S) where

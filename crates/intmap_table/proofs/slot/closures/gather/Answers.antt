@@ -17,13 +17,6 @@ keeps_pair-requires g c =
 cut : {X : Type 0} (P : List X → List X → Type 0) (n k i : ℕ) (ys xs : List X) → n ≡ k → ys ≡ xs → P (take k xs) (drop i xs) → P (take n ys) (drop i ys)
 cut P n k i ys xs place items p = rw (place, items) p
 
--- no more are kept than were asked about
-kept-more : (n k i : ℕ) → k ≤ i → n ≡ k + 1 → n ≤ i + 1
-kept-more n k i before is = omega arith
-
-kept-same : (n k i : ℕ) → k ≤ i → n ≡ k → n ≤ i + 1
-kept-same n k i before is = omega arith
-
 pub loop-i-preserved : goal.loop-i-preserved
 loop-i-preserved g c =
     let loop = c.loop-i.invariant in let R = KeepsAt g.F.FnMut in let g' = c.keeps_pair.new.f in
@@ -38,14 +31,14 @@ loop-i-preserved g c =
           let left = w.pairs-is ∙ w.swap.ensures.after in
           record {
             callable = subst T (sym (ap (drop (i + 1)) left ∙ drop-swap pairs c.loop-i.kept i pair loop.before below)) rest;
-            before = kept-more _ _ _ loop.before w.kept-is;
+            before = (let le = loop.before in let is = w.kept-is in omega (arith, le, is));
             leads = cut P _ _ _ _ _ w.kept-is left stays;
           })
       | else-keeps_pair w ↦
           (let goes = Leads-goes pairs c.loop-i.kept i pair loop.before below R _ _ _ _ loop.leads (subst (λ b. R c.loop-i.f (get_or pairs i pair) b g') w.if-keeps_pair.false c.keeps_pair.ensures) in
           record {
             callable = subst T (sym (ap (drop (i + 1)) w.pairs-is)) rest;
-            before = kept-same _ _ _ loop.before w.kept-is;
+            before = (let le = loop.before in let is = w.kept-is in omega (arith, le, is));
             leads = cut P _ _ _ _ _ w.kept-is w.pairs-is goes;
           })
     ]
