@@ -9,7 +9,7 @@ use Rattle.std.proofs.lemmas.List.{drop_more, take_more_set, take-set-le, drop-s
 use Rattle.std.proofs.Math.ListN.{get_or-append}
 use Rattle.std.proofs.Math.Seq.{drop-append_seam}
 use Rattle.std.proofs.lemmas.List.{take-append-drop}
-use Rattle.std.proofs.lemmas.List.Elements.{All-append, All-cons, All-head, All-nil, All-tail}
+use Rattle.std.proofs.lemmas.List.Elements.{All-append, All-cons, All-head, All-tail}
 use Rattle.std.proofs.lemmas.List.Sums.{sum_by-append, sum_by-cons, sum_by-take-drop}
 use Rattle.intmap_table.specs.Picking.{ExtractsBehind}
 use Rattle.intmap_table.specs.Taking.{TakesEach}

@@ -1,9 +1,9 @@
 -- A slot whose room changes alone, and a pair that is put into a table and taken back.
-use Rattle.std.proofs.Common.{◌≡◌, inl, inr, ℕ, ◌+◌, ◌<◌, List, [], ◌∷◌, ◌++◌, Bool, true, false, cond, length, get_or, set, Option, Some, None, Result, Ok, Err, OnOk, OnErr, refl, sym, ap, ◌∙◌, arith, length-set}
+use Rattle.std.proofs.Common.{◌≡◌, ℕ, ◌+◌, ◌<◌, List, [], ◌∷◌, ◌++◌, Bool, true, false, cond, length, get_or, set, Option, Some, None, Result, Ok, Err, OnOk, OnErr, refl, sym, ap, ◌∙◌, arith, length-set}
 use Rattle.std.specs.Prelude.{is_some, is_err}
 use Rattle.std.specs.Map.{keys_of}
 use Rattle.std.proofs.lemmas.List.{map-set, set-get_or, get_or-map}
-use Rattle.std.proofs.lemmas.Bool.{eq-eqb, cases_eq}
+use Rattle.std.proofs.lemmas.Bool.{eq-eqb}
 use Rattle.intmap_table.specs.Classes.{IsCapacity, slot_number, same_key}
 use Rattle.intmap_table.specs.Bindings.{swap_out, value_of, take_key, put_pair}
 use Rattle.intmap_table.specs.Walk.{slot_of, walk_of}
@@ -73,10 +73,10 @@ module _ {K X : Type 0} (number : K → ℕ) where
 
     -- and once it is removed again, the walk is as before
     pub walk_of-take_new : walk_of number (take_key number L C k) C ≡ walk_of number W C
-    walk_of-take_new = walk_of-same number C (take_key number L C k) W (λ j below. elim (cases_eq i j) as (λ _. slot_of number (take_key number L C k) C j ≡ slot_of number W C j) [
-      | inl q ↦ rw (← q) (slot_of-take_key number C cap L k i refl ∙ ap (λ R. swap_out (λ p. same_key number k p.0) any R) row ∙ swap_out-last (slot_of number W C i) k v none)
-      | inr apart ↦ slot_of-take_key-other number C cap L k j apart ∙ slot_of-walk_of number C (put_pair number W C k v) j below ∙ slot_of-put_pair-other number C cap W k v j apart
-    ])
+    walk_of-take_new = walk_of-same number C (take_key number L C k) W (λ j below.
+        let own = slot_of-take_key number C cap L k i refl ∙ ap (λ R. swap_out (λ p. same_key number k p.0) any R) row ∙ swap_out-last (slot_of number W C i) k v none in
+        let other = slot_of-take_key-other number C cap L k j in let there = slot_of-walk_of number C (put_pair number W C k v) j below in
+        let before = slot_of-put_pair-other number C cap W k v j in grind (arith, own, other, there, before))
 
     -- there is one pair more
     pub length-put_new : length L ≡ length W + 1

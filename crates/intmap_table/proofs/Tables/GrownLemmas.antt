@@ -1,7 +1,7 @@
 -- Slots in a table that has become longer: which of them keys have, and which of them the pairs of an old slot go to.
-use Rattle.std.proofs.Common.{◌≡◌, ◌≢◌, inl, inr, ℕ, suc, ◌+◌, ◌-◌, ◌*◌, ◌/◌, ◌%◌, ◌^◌, ◌<◌, ◌≤◌, Bool, false, ◌==◌, filter, List, [], ◌∷◌, length, get_or, refl, sym, ap, ◌∙◌, subst, arith, mul_comm, zero-mul, zero-add, pow_pos, mul-one, mul-le-mul_left, All}
+use Rattle.std.proofs.Common.{◌≡◌, ◌≢◌, ℕ, ◌+◌, ◌-◌, ◌*◌, ◌/◌, ◌%◌, ◌^◌, ◌<◌, ◌≤◌, Bool, false, ◌==◌, filter, List, [], ◌∷◌, length, get_or, refl, sym, ap, ◌∙◌, subst, arith, mul_comm, zero-mul, zero-add, pow_pos, mul-one, mul-le-mul_left, All}
 use Rattle.std.proofs.lemmas.Nat.{pow-add, mod_below, mod-pow-add, mod-mul-add}
-use Rattle.std.proofs.lemmas.Bool.{ne_eqb, cases_eq}
+use Rattle.std.proofs.lemmas.Bool.{ne_eqb}
 use Rattle.std.proofs.lemmas.List.Elements.{All-weaker, All-head, All-tail}
 use Rattle.intmap_table.specs.Classes.{multiplier, IsCapacity, slot_number}
 use Rattle.intmap_table.specs.Walk.{slot_of}

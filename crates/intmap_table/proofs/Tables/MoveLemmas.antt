@@ -1,6 +1,6 @@
 -- The pairs of a list, once each has moved to its slot of a table.
 use Rattle.std.proofs.Common.{◌≡◌, ℕ, ◌<◌, true, List, [], length, get_or, sym, subst}
-use Rattle.std.specs.Prelude.{◌==◌, All}
+use Rattle.std.specs.Prelude.{◌==◌}
 use Rattle.std.proofs.lemmas.List.Elements.{All-weaker, filter_passes}
 use Rattle.std.proofs.lemmas.Bool.{eqb-true}
 use Rattle.intmap_table.specs.Classes.{IsCapacity, slot_number}

@@ -107,11 +107,13 @@ module _ {K X : Type 0} (S : List (Held K X)) (from index : ℕ) (next : IsNextR
         subst (λ Z. Leads (Retains R) f₀ L h Z left) (sym joined-taken)
         (Leads-next (Retains R) (Retains-append R) f₀ f h L (joined (take from (rows S))) row s.pairs left (subst (λ Z. Leads (Retains R) f₀ L f (joined (take from (rows S))) Z) joined-left leads) run)
 
+    after : length (joined (rows (set S index s))) ≡ length (joined (take (index + 1) (rows (set S index s)))) + length (joined (drop (index + 1) (rows (set S index s))))
+    after = ap length (joined-cut (index + 1) (rows (set S index s))) ∙ length-append (joined (take (index + 1) (rows (set S index s)))) (joined (drop (index + 1) (rows (set S index s))))
+
     -- no more pairs are left
     pub fewer : length (joined (rows (set S index s))) ≤ length (joined (rows S))
     fewer =
         let before = ap length (joined-cut from (rows S)) ∙ length-append (joined (take from (rows S))) (joined (drop from (rows S))) in
-        let after = ap length (joined-cut (index + 1) (rows (set S index s))) ∙ length-append (joined (take (index + 1) (rows (set S index s)))) (joined (drop (index + 1) (rows (set S index s)))) in
         let taken = ap length joined-taken ∙ length-append (joined (take from (rows S))) s.pairs in
         let left = ap length joined-left ∙ length-append row (joined (drop (index + 1) (rows (set S index s)))) in
         let stay = length-Retains R f h row s.pairs run in
@@ -123,7 +125,4 @@ module _ {K X : Type 0} (S : List (Held K X)) (from index : ℕ) (next : IsNextR
 
     -- which are no more than there were
     pub few-slot : (n : ℕ) → n ≡ length (joined (take from (rows S))) → n + length s.pairs ≤ length (joined (rows S))
-    few-slot n count =
-        let after = ap length (joined-cut (index + 1) (rows (set S index s))) ∙ length-append (joined (take (index + 1) (rows (set S index s)))) (joined (drop (index + 1) (rows (set S index s)))) in
-        let stay = count-slot n count in
-        omega (arith, after, fewer, stay)
+    few-slot n count = let stay = count-slot n count in omega (arith, after, fewer, stay)

@@ -1,4 +1,4 @@
-use Rattle.std.proofs.Common.{◌≡◌, ◌∷◌, [], ◌++◌, ◌∙◌, Some, length, length-set, sym, ap}
+use Rattle.std.proofs.Common.{◌≡◌, ◌∷◌, [], ◌++◌, ◌∙◌, Some, length, sym, ap}
 use Rattle.std.specs.Prelude.{nat_lt}
 use Rattle.intmap_table.specs.Bindings.{swap_out, value_of}
 use Rattle.intmap_table.specs.Classes.{same_key}

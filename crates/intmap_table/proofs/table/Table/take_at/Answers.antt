@@ -1,4 +1,4 @@
-use Rattle.std.proofs.Common.{◌≡◌, ◌<◌, ◌∙◌, Some, false, [], length, get_or, length-set, sym, ap, subst, arith}
+use Rattle.std.proofs.Common.{◌≡◌, ◌<◌, ◌∙◌, Some, false, [], length, get_or, sym, ap, subst, arith}
 use Rattle.std.specs.Prelude.{nat_lt, position, swap_remove}
 use Rattle.std.proofs.lemmas.Bool.{lt-ltb}
 use Rattle.intmap_table.specs.Bindings.{swap_out, value_of}

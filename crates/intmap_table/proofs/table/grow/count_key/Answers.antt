@@ -1,4 +1,4 @@
-use Rattle.std.proofs.Common.{◌≡◌, ℕ, inl, inr, ◌+◌, ◌/◌, ◌==◌, cond, get_or, set, sym, ap, arith, get_or-set_same, get_or-set_other}
+use Rattle.std.proofs.Common.{◌+◌, ◌/◌, get_or, arith, get_or-set_same, get_or-set_other}
 use Rattle.std.proofs.lemmas.Bool.Decides.{nat_tests}
 use Rattle.intmap_table.proofs.table.grow.count_key.Goals as goal
 
