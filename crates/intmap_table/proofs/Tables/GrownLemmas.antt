@@ -1,6 +1,6 @@
 -- Slots in a table that has become longer: which of them keys have, and which of them the pairs of an old slot go to.
 use Rattle.std.proofs.Common.{◌≡◌, ◌≢◌, ℕ, ◌+◌, ◌-◌, ◌*◌, ◌/◌, ◌%◌, ◌^◌, ◌<◌, ◌≤◌, Bool, false, ◌==◌, filter, List, [], ◌∷◌, length, get_or, refl, sym, ap, ◌∙◌, subst, arith, mul_comm, zero-mul, zero-add, pow_pos, mul-one, mul-le-mul_left, All}
-use Rattle.std.proofs.lemmas.Nat.{pow-add, mod_below, mod-pow-add, mod-mul-add}
+use Rattle.std.proofs.lemmas.Nat.{pow-add, mod-pow-add, mod-mul-add}
 use Rattle.std.proofs.lemmas.Bool.{ne_eqb}
 use Rattle.std.proofs.lemmas.List.Elements.{All-weaker, All-head, All-tail}
 use Rattle.intmap_table.specs.Classes.{multiplier, IsCapacity, slot_number}
@@ -29,10 +29,6 @@ module _ {K : Type 0} (number : K → ℕ) where
   -- and the old one is what the new one leaves
   pub slot_number-modulo : (C a : ℕ) (k : K) → IsCapacity C → slot_number number k (C * 2 ^ a) % C ≡ slot_number number k C
   slot_number-modulo C a k cap = ap (λ m. m % C) (slot_number-split C a k cap) ∙ mod-mul-add (part C a k) C (slot_number number k C) (slot_number-below number k C cap)
-
-  -- so it is the old slot of one of the parts
-  pub slot_number-parts : (C a : ℕ) (k : K) → IsCapacity C → (t : ℕ) × (t < 2 ^ a) × (slot_number number k (C * 2 ^ a) ≡ t * C + slot_number number k C)
-  slot_number-parts C a k old = (part C a k, mod_below ((number k * multiplier) / C) (2 ^ a) (pow_pos a), slot_number-split C a k old)
 
   pub slot_number-grown : (C D : ℕ) (k : K) → IsGrown C D → slot_number number k D % C ≡ slot_number number k C
   slot_number-grown C D k grown = let a : ℕ = grown.times.0 in subst (λ d. slot_number number k d % C ≡ slot_number number k C) (sym grown.times.1) (slot_number-modulo C a k grown.old)
