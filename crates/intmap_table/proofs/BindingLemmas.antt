@@ -85,7 +85,8 @@ module _ {K V : Type 0} (number : K → ℕ) where
         let gone : value_of number (take_key number L C k) k ≡ None = first_value-itself_out (same_key number k) (λ p. agrees number C k p.0) L (once k) in
         rw same (ap (λ n. first_value (λ r. number r == n) (take_key number L C k)) e ∙ gone))
     | inr apart ↦
-        rw apart (first_value-other_out (same_key number q) (λ p. same_key number k p.0) (λ p. agrees number C k p.0) (λ p is. grind (arith, nat_tests, apart, is)) L (once q))
+        rw apart (first_value-other_out (same_key number q) (λ p. same_key number k p.0) (λ p. agrees number C k p.0)
+        (λ p is. grind (arith, nat_tests, apart, is)) L (once q))
   ]
 
   -- an insertion leaves its key with the value, and each other key with its own

@@ -55,7 +55,8 @@ module _ {K V : Type 0} (clones : V → V → Type 0) where
   BindsClones-AreClones number (p ∷ L) [] all k = absurd all
   BindsClones-AreClones number (p ∷ L) (q ∷ M) all k =
       let Binds : Bool → Bool → Type 0 = λ a b.
-      MatchOption (cond a (Some p.1) (value_of number L k)) (cond b (Some q.1) (value_of number M k) ≡ None) (λ v. (w : V) × (cond b (Some q.1) (value_of number M k) ≡ Some w) × clones v w) in
+      MatchOption (cond a (Some p.1) (value_of number L k)) (cond b (Some q.1) (value_of number M k) ≡ None)
+      (λ v. (w : V) × (cond b (Some q.1) (value_of number M k) ≡ Some w) × clones v w) in
       subst (λ j. Binds (same_key number k p.0) (same_key number k j)) (sym all.0.0) (elim (same_key number k p.0) as (λ b. Binds b b) [
         | true ↦ (q.1, refl, all.0.1)
         | false ↦ BindsClones-AreClones number L M all.1 k

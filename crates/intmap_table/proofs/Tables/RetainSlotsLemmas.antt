@@ -108,7 +108,9 @@ module _ {K X : Type 0} (S : List (Held K X)) (from index : ℕ) (next : IsNextR
         (Leads-next (Retains R) (Retains-append R) f₀ f h L (joined (take from (rows S))) row s.pairs left (subst (λ Z. Leads (Retains R) f₀ L f (joined (take from (rows S))) Z) joined-left leads) run)
 
     after : length (joined (rows (set S index s))) ≡ length (joined (take (index + 1) (rows (set S index s)))) + length (joined (drop (index + 1) (rows (set S index s))))
-    after = ap length (joined-cut (index + 1) (rows (set S index s))) ∙ length-append (joined (take (index + 1) (rows (set S index s)))) (joined (drop (index + 1) (rows (set S index s))))
+    after =
+        ap length (joined-cut (index + 1) (rows (set S index s)))
+        ∙ length-append (joined (take (index + 1) (rows (set S index s)))) (joined (drop (index + 1) (rows (set S index s))))
 
     -- no more pairs are left
     pub fewer : length (joined (rows (set S index s))) ≤ length (joined (rows S))
