@@ -5,7 +5,6 @@ pub mod Waiting
 pub mod Dense
 pub mod Table
 pub mod Floors
-pub mod Retained
 pub mod Scopes
 pub mod Values
 pub mod Interned

@@ -73,8 +73,7 @@ pub fn open_account<K: IntKey, A: Allocator + Copy>(
     ensures refused { IfErr result (RefusalIsDue K.number_of (list_of accounts.old) account) }
     ensures err { OnErr result (accounts.new.walk ≡ accounts.old.walk) }
 {
-    laws::insertion_raises_sum::<K>();
-    laws::walks_sum_as_lists::<K>();
+    laws::checked_insertions_change_sum::<K>();
     Ok(accounts.insert_checked(account, balance)?)
 }
 
@@ -89,7 +88,6 @@ pub fn close_account<K: IntKey, A: Allocator + Copy>(
     ensures total { sum (values_of accounts.new.walk) + unwrap_or result 0
         ≡ sum (values_of accounts.old.walk) }
 {
-    laws::removal_lowers_sum::<K>();
-    laws::walks_sum_as_lists::<K>();
+    laws::updates_change_sum::<K>();
     accounts.remove(account)
 }

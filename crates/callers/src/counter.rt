@@ -1,5 +1,5 @@
 //! How often each key occurs.
-ghost use Rattle.std.specs.Prelude.{◌≡◌, ◌↔◌, ℕ, ◌+◌, ◌-◌, ◌^◌, ◌==◌, IfOk, OnOk, OnErr, IsErrOf, count_by, cond, false, length};
+ghost use Rattle.std.specs.Prelude.{◌≡◌, ◌↔◌, ◌+◌, ◌-◌, ◌^◌, ◌==◌, IfOk, OnOk, OnErr, IsErrOf, cond, false, length};
 ghost use Rattle.intmap.specs.Classes.{same_key};
 ghost use Rattle.callers.specs.Counts.{count_of};
 ghost use Rattle.callers.specs.declared.counter.Uncounted.TheVariants.{TooOften};
@@ -95,22 +95,4 @@ impl<K: IntKey, A: Allocator + Copy> Counter<K, A> {
         self.counts.insert(key, count)?;
         Ok(count)
     }
-}
-
-/// How often each number occurs in the slice.
-///
-/// It fails if the insertion of a new number fails.
-pub fn count_all<A: Allocator + Copy>(alloc: A, numbers: &[u64]) -> Result<Counter<u64, A>, Cause>
-    ensures { IfOk result (λ counter. (q : ℕ)
-        → count_of (λ key. key) counter q ≡ count_by (λ number. number == q) numbers.now) }
-{
-    let mut counter: Counter<u64, A> = Counter::new(alloc)?;
-    for number in numbers {
-        match counter.count(*number) {
-            Ok(_) => (),
-            Err(Uncounted::Refused(cause)) => return Err(cause),
-            Err(Uncounted::TooOften) => unreachable!(),
-        }
-    }
-    Ok(counter)
 }

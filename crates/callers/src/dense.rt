@@ -51,6 +51,7 @@ impl<V: Drop, A: Allocator + Copy> Dense<V, A> {
         ensures err_len { OnErr result (length self.new ≡ length self.old) }
     {
         laws::insertions_keep_capacity::<u64, V>();
+        laws::present_keys_are_below::<u64, V>();
         if let Err(cause) = self.values.reserve(1) {
             return Err(Refused { value, cause });
         }
@@ -68,7 +69,6 @@ impl<V: Drop, A: Allocator + Copy> Dense<V, A> {
         ensures given { IsSome result ↔ (number < length self.now) }
         ensures counted { steps.new ≤ steps.old + 1 }
     {
-        laws::present_keys_are_below::<u64, V>();
         laws::small_keys_are_found_at_once::<u64, V>();
         self.values.get_counted(number, steps)
     }
@@ -78,7 +78,6 @@ impl<V: Drop, A: Allocator + Copy> Dense<V, A> {
     pub fn slots_in_use(&self) -> u64
         ensures { result ≡ length self.now }
     {
-        laws::present_keys_are_below::<u64, V>();
         laws::small_keys_fill_slots::<u64, V>();
         self.values.load()
     }

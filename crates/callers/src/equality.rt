@@ -1,5 +1,6 @@
 //! Maps that are compared: the order of the insertions doesn't matter, and the pairs do.
-ghost use Rattle.std.specs.Prelude.{◌≡◌, ◌≢◌, ◌==◌, true, IfOk, IsTrue, length};
+ghost use Rattle.std.specs.Prelude.{◌≡◌, ◌≢◌, ◌==◌, ℕ, true, IfOk, OnOk, IsTrue, length};
+ghost use Rattle.intmap.specs.Bindings.{value_of};
 ghost use Rattle.intmap.specs.Equality.{maps_equal};
 
 use intmap::{Cause, IntKey, IntMap, laws};
@@ -51,6 +52,20 @@ pub fn cloned_and_compared<A: Allocator + Copy>(map: &IntMap<u64, u64, A>) -> Re
     Ok(clone == *map)
 }
 
+/// Gives the map more slots and another load factor. Each key keeps its value.
+///
+/// It fails if the map can't grow.
+fn grow<A: Allocator + Copy>(
+    map: &mut IntMap<u64, u64, A>,
+    additional: usize,
+    thousandths: usize,
+) -> Result<(), Cause>
+    ensures { (q : ℕ) → value_of (λ k. k) map.new.walk q ≡ value_of (λ k. k) map.old.walk q }
+{
+    map.reserve(additional)?;
+    map.set_load_factor(thousandths)
+}
+
 /// Clones the map, gives the clone more slots and another load factor, and returns whether it is
 /// still equal to the map, which it is.
 ///
@@ -64,8 +79,7 @@ pub fn grown_and_compared<A: Allocator + Copy>(
 {
     laws::equal_maps_bind_the_same::<u64, u64>();
     let mut clone = map.clone()?;
-    clone.reserve(additional)?;
-    clone.set_load_factor(thousandths)?;
+    grow(&mut clone, additional, thousandths)?;
     Ok(clone == *map)
 }
 

@@ -22,8 +22,7 @@ pub fn members_of_both<K: IntKey, A: Allocator + Copy>(
     group.to_intersection(alloc, other)
 }
 
-/// The members of either group, by the iterator over them. `to_union` makes the same set, with a
-/// contract that needs no lemma.
+/// The members of either group, by the iterator over them. `to_union` makes the same set.
 ///
 /// It fails if the set can't be made or an insertion fails.
 pub fn members_of_either<K: IntKey, A: Allocator + Copy>(

@@ -1,6 +1,5 @@
 //! Pairs that stay: by a test of the pair, and by a closure that counts its calls.
 ghost use Rattle.std.specs.Prelude.{◌≡◌, ◌+◌, ◌<◌, ◌^◌, ◌%◌, ◌==◌, All, false, filter, length, not, slice_index_or, take};
-ghost use Rattle.callers.specs.Retained.{every_other};
 
 use intmap::{IntKey, IntMap};
 use std::alloc::Allocator;
@@ -21,27 +20,13 @@ pub fn drop_value<A: Allocator + Copy>(map: &mut IntMap<u64, u64, A>, value: u64
     map.retain(|_, stored| *stored != value);
 }
 
-/// Keeps the first pair of the walk, the third, the fifth and so on.
-pub fn keep_every_other<K: IntKey, V: Drop, A: Allocator + Copy>(map: &mut IntMap<K, V, A>)
-    ensures walk { map.new.walk ≡ every_other map.old.walk }
-    ensures capacity { map.new.capacity ≡ map.old.capacity }
-{
-    let mut stays = false;
-    map.retain(move |_, _| {
-        stays = !stays;
-        stays
-    });
-}
-
-/// Keeps the pairs for whose keys the table has true, and drops the others. All keys are indices of
-/// the table, so each look into it is safe: the closure is called at no other key.
+/// Keeps the pairs for whose keys the table has true, and drops the others.
 pub fn keep_listed<V: Drop, A: Allocator + Copy>(map: &mut IntMap<u64, V, A>, keeps: &[bool])
-    requires { All (λ pair. pair.0 < length keeps.now) map.old.walk }
     ensures walk { map.new.walk
         ≡ filter (λ pair. slice_index_or keeps.now pair.0 false) map.old.walk }
     ensures capacity { map.new.capacity ≡ map.old.capacity }
 {
-    map.retain(|key, _| keeps[key as usize]);
+    map.retain(|key, _| keeps.get(key as usize).copied().unwrap_or(false));
 }
 
 /// Keeps the first `count` pairs of the walk, or all if there are fewer. The closure counts its
@@ -65,6 +50,7 @@ pub fn keep_first<K: IntKey, V: Drop, A: Allocator + Copy>(map: &mut IntMap<K, V
 }
 
 /// Keeps the pairs for which the caller's closure returns true, and returns how many were removed.
+#[tactic(auto, using(intmap::proofs::Callers::keeps_each_callable))]
 pub fn retain_counted<K: IntKey, V: Drop, A: Allocator + Copy, F: FnMut(K, &V) -> bool>(
     map: &mut IntMap<K, V, A>,
     keeps: F,

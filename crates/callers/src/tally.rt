@@ -47,7 +47,7 @@ pub fn count_by_closure<A: Allocator + Copy>(
 /// Counts one occurrence of the number, whose count is written in place.
 ///
 /// It fails if the insertion of a new number fails.
-fn count_by_get_mut<A: Allocator + Copy>(
+pub fn count_by_get_mut<A: Allocator + Copy>(
     tally: &mut IntMap<u64, u64, A>,
     number: u64,
 ) -> Result<(), Cause>
@@ -76,23 +76,6 @@ pub fn tally_by_entry<A: Allocator + Copy>(
     let mut tally = IntMap::new(alloc)?;
     for number in numbers {
         count_by_entry(&mut tally, *number)?;
-    }
-    Ok(tally)
-}
-
-/// The same map, made by writing counts in place.
-///
-/// It fails if the insertion of a new number fails.
-pub fn tally_by_get_mut<A: Allocator + Copy>(
-    alloc: A,
-    numbers: &[u64],
-) -> Result<IntMap<u64, u64, A>, Cause>
-    ensures { IfOk result (λ tally. (q : ℕ)
-        → count_of (λ key. key) tally.walk q ≡ count_by (λ number. number == q) numbers.now) }
-{
-    let mut tally = IntMap::new(alloc)?;
-    for number in numbers {
-        count_by_get_mut(&mut tally, *number)?;
     }
     Ok(tally)
 }

@@ -39,6 +39,7 @@ pub fn add_keys<A: Allocator + Copy>(map: &mut IntMap<u64, u64, A>)
 }
 
 /// Lets the caller's closure write each value, and returns how many values it wrote.
+#[tactic(auto, using(intmap::proofs::Callers::writes_each_callable))]
 pub fn write_counted<K: IntKey, V, A: Allocator + Copy, F: FnMut(K, &mut V)>(
     map: &mut IntMap<K, V, A>,
     write: F,

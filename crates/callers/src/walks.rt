@@ -32,7 +32,7 @@ pub fn walk_each_way<K: IntKey, V: Copy, A: Allocator + Copy>(
     ensures keys { IfOk result (λ walks. walks.keys.items ≡ keys_of walks.pairs.items) }
     ensures values { IfOk result (λ walks. walks.values.items ≡ values_of walks.pairs.items) }
     ensures handed_out { IfOk result (λ walks. walks.handed_out.items ≡ walks.pairs.items) }
-    ensures once { IfOk result (λ walks. HasDistinctKeys K.number_of walks.pairs.items) }
+    ensures once { HasDistinctKeys K.number_of map.walk }
 {
     Ok(Walks {
         pairs: list_pairs(alloc, &map)?,
@@ -50,11 +50,7 @@ fn list_pairs<K: IntKey, V: Copy, A: Allocator + Copy>(
     ensures walk { IfOk result (λ pairs. pairs.items ≡ map.now.walk) }
     ensures distinct { HasDistinctKeys K.number_of map.now.walk }
 {
-    let mut pairs = Vec::new(alloc);
-    for (key, value) in map.iter() {
-        pairs.push((*key, *value))?;
-    }
-    Ok(pairs)
+    map.iter().map(|(key, value)| (*key, *value)).collect(alloc)
 }
 
 /// The keys of the map. It fails if there is no memory for them.

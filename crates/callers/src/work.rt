@@ -68,9 +68,9 @@ pub fn take_first<V: Drop, A: Allocator + Copy>(
 {
     let wanted = count.min(queue.len());
     let mut taken = Vec::with_capacity(alloc, wanted)?;
-    let mut jobs = queue.drain();
+    let mut from = 0;
     for _ in 0..wanted {
-        let Some(job) = jobs.next() else {
+        let Some(job) = queue.take_front(&mut from) else {
             unreachable!();
         };
         taken.push_reserved(job);

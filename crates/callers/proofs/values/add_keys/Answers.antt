@@ -1,7 +1,6 @@
 use Rattle.std.proofs.Common.{rules, ◌+◌, ◌<◌, ◌^◌, ℕ, All}
 use Rattle.std.proofs.lemmas.List.Elements.{All-head, All-tail}
 use Rattle.intmap.specs.Taking.{TakesEach-from}
-use Rattle.intmap.proofs.Callers.{Writes-map}
 use Rattle.callers.proofs.values.add_keys.Goals as goal
 
 -- the sums that are still to come are no larger than a value may be
@@ -11,9 +10,3 @@ for_each_mut-requires g c =
     TakesEach-from _ _ (λ f rest. All HasSum rest)
     (λ f pair rest own. let here = All-head HasSum pair rest own in (λ value is. search rules, λ w f' left. All-tail HasSum pair rest own))
     _ _ c.requires
-
-pub returns-clause-walk : goal.returns-clause-walk
-returns-clause-walk g c =
-    let told = c.for_each_mut.ensures.values in
-    Writes-map _ (λ f. Unit {0}) (λ pair. pair.0 + pair.1) (λ f pair w f' own left. let shows = left.shows in let leaves = left.leaves in let met = left.called.met in (search rules, tt))
-    _ told.0 c.args.map.now.walk c.for_each_mut.new.self.walk tt told.1

@@ -1,0 +1,133 @@
+//! Pairs that move: to another key, to another map, and back.
+ghost use Rattle.std.specs.Prelude.{◌≡◌, ◌≢◌, ◌+◌, ℕ, None, Some, IfOk, IfErr, OnOk, OnErr, true, false, length, is_some};
+ghost use Rattle.intmap.specs.Bindings.{Updates, value_of};
+ghost use Rattle.intmap.specs.Reach.{class_size};
+
+use intmap::{Cause, IntMap, Refused, laws};
+use std::alloc::Allocator;
+
+/// Sets the value of a present key, and returns whether it is present.
+fn set<A: Allocator + Copy>(map: &mut IntMap<u64, u64, A>, key: u64, value: u64) -> bool
+    ensures there { result ≡ is_some (value_of (λ k. k) map.old.walk key) }
+    ensures updates { result ≡ true
+        → Updates (λ k. k) map.old.walk map.new.walk key (Some value) }
+    ensures refused { result ≡ false → map.new.walk ≡ map.old.walk }
+{
+    match map.get_mut(key) {
+        Some(place) => {
+            *place = value;
+            true
+        }
+        None => false,
+    }
+}
+
+/// Swaps the values of two keys, if both are present, and returns whether they are.
+pub fn swap_values<A: Allocator + Copy>(map: &mut IntMap<u64, u64, A>, a: u64, b: u64) -> bool
+    ensures first { result ≡ true
+        → value_of (λ k. k) map.new.walk a ≡ value_of (λ k. k) map.old.walk b }
+    ensures second { result ≡ true
+        → value_of (λ k. k) map.new.walk b ≡ value_of (λ k. k) map.old.walk a }
+    ensures others { (q : ℕ) → q ≢ a → q ≢ b
+        → value_of (λ k. k) map.new.walk q ≡ value_of (λ k. k) map.old.walk q }
+{
+    let Some(first) = map.get(a).copied() else {
+        return false;
+    };
+    let Some(second) = map.get(b).copied() else {
+        return false;
+    };
+    set(map, a, second);
+    set(map, b, first);
+    true
+}
+
+/// Removes two keys.
+pub fn forget_both<V: Drop, A: Allocator + Copy>(map: &mut IntMap<u64, V, A>, a: u64, b: u64)
+    ensures first { value_of (λ k. k) map.new.walk a ≡ None }
+    ensures second { value_of (λ k. k) map.new.walk b ≡ None }
+    ensures others { (q : ℕ) → q ≢ a → q ≢ b
+        → value_of (λ k. k) map.new.walk q ≡ value_of (λ k. k) map.old.walk q }
+{
+    map.remove(a);
+    map.remove(b);
+}
+
+/// Gives the value of a key to a new key, and returns whether the first was present.
+///
+/// It fails if the insertion of the new key fails, and returns the value.
+pub fn rename<V: Drop, A: Allocator + Copy>(
+    map: &mut IntMap<u64, V, A>,
+    from: u64,
+    to: u64,
+) -> Result<bool, Refused<V>>
+    requires { from ≢ to }
+    ensures gone { OnOk result (value_of (λ k. k) map.new.walk from ≡ None) }
+    ensures there { IfOk result (λ moved. moved ≡ true
+        → value_of (λ k. k) map.new.walk to ≡ value_of (λ k. k) map.old.walk from) }
+    ensures others { (q : ℕ) → q ≢ from → q ≢ to
+        → value_of (λ k. k) map.new.walk q ≡ value_of (λ k. k) map.old.walk q }
+    ensures err { IfErr result (λ refused. value_of (λ k. k) map.old.walk from ≡ Some refused.value) }
+{
+    let Some(value) = map.remove(from) else {
+        return Ok(false);
+    };
+    map.insert(to, value)?;
+    Ok(true)
+}
+
+/// Moves a number to another map: it is inserted there before it is removed here.
+///
+/// It fails if the insertion fails. Both maps then stay.
+pub fn move_number<A: Allocator + Copy>(
+    from: &mut IntMap<u64, u64, A>,
+    to: &mut IntMap<u64, u64, A>,
+    key: u64,
+) -> Result<bool, Cause>
+    ensures moved { IfOk result
+        (λ moved. moved ≡ is_some (value_of (λ k. k) from.old.walk key)) }
+    ensures gone { OnOk result (value_of (λ k. k) from.new.walk key ≡ None) }
+    ensures there { IfOk result (λ moved. moved ≡ true
+        → value_of (λ k. k) to.new.walk key ≡ value_of (λ k. k) from.old.walk key) }
+    ensures from_stays { OnErr result (from.new.walk ≡ from.old.walk) }
+    ensures to_stays { OnErr result (to.new.walk ≡ to.old.walk) }
+{
+    let Some(value) = from.get(key).copied() else {
+        return Ok(false);
+    };
+    to.insert(key, value)?;
+    from.remove(key);
+    Ok(true)
+}
+
+/// Moves an owned value to another map. Its key shares its slot with none, so the value goes back
+/// if it can't be inserted there, and nothing is lost.
+///
+/// It fails if the insertion fails. Each key then has the value that it had.
+pub fn move_owned<V: Drop, A: Allocator + Copy>(
+    from: &mut IntMap<u64, V, A>,
+    to: &mut IntMap<u64, V, A>,
+    key: u64,
+) -> Result<bool, Cause>
+    requires { class_size (λ k. k) from.old.walk from.old.capacity key ≡ 1 }
+    ensures moved { IfOk result
+        (λ moved. moved ≡ is_some (value_of (λ k. k) from.old.walk key)) }
+    ensures gone { OnOk result (Updates (λ k. k) from.old.walk from.new.walk key None) }
+    ensures there { IfOk result (λ moved. moved ≡ true
+        → value_of (λ k. k) to.new.walk key ≡ value_of (λ k. k) from.old.walk key) }
+    ensures from_stays { OnErr result ((q : ℕ)
+        → value_of (λ k. k) from.new.walk q ≡ value_of (λ k. k) from.old.walk q) }
+    ensures to_stays { OnErr result (to.new.walk ≡ to.old.walk) }
+{
+    laws::put_backs_are_never_refused::<u64, V>();
+    let Some(value) = from.remove(key) else {
+        return Ok(false);
+    };
+    let Err(refused) = to.insert(key, value) else {
+        return Ok(true);
+    };
+    if from.insert(key, refused.value).is_err() {
+        unreachable!();
+    }
+    Err(refused.cause)
+}

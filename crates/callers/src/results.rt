@@ -1,0 +1,67 @@
+//! Tables of results: each number has its square, or no value yet.
+ghost use Rattle.std.specs.Prelude.{◌≡◌, ◌*◌, ◌^◌, ◌%◌, ℕ, IfOk, OnErr, Some, unwrap_or};
+ghost use Rattle.intmap.specs.Bindings.{Updates, value_of};
+
+use intmap::{Cause, IntMap};
+use std::alloc::Allocator;
+
+/// The square of a number, modulo 2^64.
+fn squared(x: u64) -> u64
+    ensures { result ≡ (x * x) % 2 ^ 64 }
+{
+    x.wrapping_mul(x)
+}
+
+/// The square of a number, from the table or computed and then kept there.
+///
+/// It fails if the insertion of a new number fails.
+pub fn square_by_get<A: Allocator + Copy>(
+    table: &mut IntMap<u64, u64, A>,
+    x: u64,
+) -> Result<u64, Cause>
+    requires { (q v : ℕ) → value_of (λ key. key) table.old.walk q ≡ Some v → v ≡ (q * q) % 2 ^ 64 }
+    ensures answer { IfOk result (λ r. r ≡ (x * x) % 2 ^ 64) }
+    ensures right { (q v : ℕ) → value_of (λ key. key) table.new.walk q ≡ Some v
+        → v ≡ (q * q) % 2 ^ 64 }
+{
+    if let Some(known) = table.get(x) {
+        return Ok(*known);
+    }
+    let made = squared(x);
+    table.insert(x, made)?;
+    Ok(made)
+}
+
+/// The value that the table has for a number. If it has none, the number's square becomes its
+/// value first.
+///
+/// It fails if the insertion of a new number fails. All values then stay.
+fn known_or_squared<A: Allocator + Copy>(
+    table: &mut IntMap<u64, u64, A>,
+    x: u64,
+) -> Result<u64, Cause>
+    ensures value { IfOk result (λ r. r
+        ≡ unwrap_or (value_of (λ key. key) table.old.walk x) ((x * x) % 2 ^ 64)) }
+    ensures updates { IfOk result (λ r.
+        Updates (λ key. key) table.old.walk table.new.walk x (Some r)) }
+    ensures err { OnErr result (table.new.walk ≡ table.old.walk) }
+{
+    let found = table.entry(x).or_insert_with_key(|key| squared(key))?;
+    Ok(*found)
+}
+
+/// The square of a number, by one search. The function before says what it changes of the table,
+/// and this one what that means.
+///
+/// It fails if the insertion of a new number fails.
+pub fn square_by_entry<A: Allocator + Copy>(
+    table: &mut IntMap<u64, u64, A>,
+    x: u64,
+) -> Result<u64, Cause>
+    requires { (q v : ℕ) → value_of (λ key. key) table.old.walk q ≡ Some v → v ≡ (q * q) % 2 ^ 64 }
+    ensures answer { IfOk result (λ r. r ≡ (x * x) % 2 ^ 64) }
+    ensures right { (q v : ℕ) → value_of (λ key. key) table.new.walk q ≡ Some v
+        → v ≡ (q * q) % 2 ^ 64 }
+{
+    known_or_squared(table, x)
+}
