@@ -15,7 +15,7 @@ use Rattle.intmap.specs.Entries.{occupied_with_value, occupied_key, IsMadeRefusa
 use Rattle.intmap.specs.Growth.{IsNext, is_due, next_capacity}
 use Rattle.intmap_table.specs.Locations.{IsFound}
 use Rattle.intmap.specs.Insertions.{IsInsertion}
-use Rattle.intmap.specs.Map.{MapState, IsMap, IsCapacityAfter, with_pair, written}
+use Rattle.intmap.specs.Map.{MapState, IsMap, Fits, with_pair, written}
 use Rattle.intmap_table.specs.Walk.{walk_of}
 use Rattle.intmap.proofs.GrowthLemmas.{IsWanted-wanted_capacity}
 use Rattle.intmap.proofs.LoadFactorLemmas.{InsertIsTooLarge, IsNext-unique}
@@ -48,9 +48,9 @@ module _ {K V : Type 0} (number : K → ℕ) where
   pub next_capacity-inserted : (is_valid : K → Type 0) (m n : MapState K V) (k : K) (v : V) → value_of number m.walk k ≡ None → IsMap number is_valid m → IsInsertion number is_valid m k v n
       → n.capacity ≡ next_capacity m.capacity (length m.walk + 1) m.factor
   next_capacity-inserted is_valid m n k v none is_map did =
-      let next : IsNext m.capacity (length m.walk + 1) m.factor n.capacity = rw none at did.capacity in
-      let fits = length-not_too_large m.walk m.capacity m.factor (λ large. did.in_range (rw none refl, large)) in
-      IsNext-unique m.capacity (length m.walk + 1) m.factor n.capacity _ next (IsNext-next_capacity m.capacity (length m.walk + 1) m.factor is_map.capacity fits)
+      let next : IsNext m.capacity (length m.walk + 1) m.factor n.capacity = rw none at did.fits.capacity in
+      let few = length-not_too_large m.walk m.capacity m.factor (λ large. did.fits.in_range (rw none refl, large)) in
+      IsNext-unique m.capacity (length m.walk + 1) m.factor n.capacity _ next (IsNext-next_capacity m.capacity (length m.walk + 1) m.factor is_map.capacity few)
 
   -- a new pair that is written over is the pair with the later value
   pub written-with_pair : (m : MapState K V) (k : K) (x v : V) (D : ℕ) → value_of number m.walk k ≡ None → written number (with_pair number m k x D) k v ≡ with_pair number m k v D
@@ -79,8 +79,8 @@ module _ {K V : Type 0} (number : K → ℕ) (is_valid : K → Type 0) (m n : Ma
   -- and its insertion is one with that value
   pub IsInsertion-lent : (v : V) → IsInsertion number is_valid m k v (with_pair number m k v D)
   IsInsertion-lent v =
-      IsInsertion-put number is_valid m (with_pair number m k v D) k v old (subst (IsMap number is_valid) (written-added v) (IsMapWalk-written number is_valid n.walk n.capacity n.factor k v did.valid)) refl did.in_range
-      (subst (IsCapacityAfter number m.walk m.capacity m.factor k) (next_capacity-inserted number is_valid m n k x missing old did) did.capacity)
+      IsInsertion-put number is_valid m (with_pair number m k v D) k v old (subst (IsMap number is_valid) (written-added v) (IsMapWalk-written number is_valid n.walk n.capacity n.factor k v did.valid)) refl
+      (subst (Fits number m.walk m.capacity m.factor k) (next_capacity-inserted number is_valid m n k x missing old did) did.fits)
 
 -- that a pair was found holds in one way
 IsFound-prop : {K V : Type 0} (number : K → ℕ) (W : List (K × V)) (C slot place : ℕ) → IsProp (IsFound number W C slot place)

@@ -11,7 +11,8 @@ use Rattle.std.proofs.lemmas.List.{reverse-append}
 use Rattle.intmap_table.specs.Bindings.{value_of}
 use Rattle.intmap_table.specs.Classes.{same_key}
 use Rattle.intmap_table.proofs.BindSameLemmas.{value_of-same_number}
-use Rattle.intmap.specs.Extending.{MapInserts, MapInsertsAll, new_keys, IsExtended}
+use Rattle.intmap.specs.Extending.{MapInsertsAll, new_keys, IsExtended}
+use Rattle.intmap.specs.Insertions.{MapInserts}
 use Rattle.intmap.specs.Map.{MapState}
 use Rattle.intmap.specs.declared.refusal.Cause.{Cause}
 use Rattle.intmap.specs.declared.refusal.Cause.TheVariants.{Memory, TooLarge}
@@ -59,23 +60,22 @@ module _ {K V : Type 0} (number : K → ℕ) (is_valid : K → Type 0) where
   IsExtended-nil m = record { inserted = refl; updates = λ q. refl; len = sym (add-zero (length m.walk)); factor = refl; capacity = omega arith }
 
   module _ (m l n : MapState K V) (ps : List (K × V)) (k : K) (v : V) (before : IsExtended number is_valid m ps l) (last : MapInserts number is_valid l k v n) where
-    -- one insertion more that returned this, by what it says of keys and length
-    pub IsExtended-push : ((q : K) → value_of number n.walk q ≡ cond (same_key number k q) (Some v) (value_of number l.walk q))
-        → length n.walk ≡ length l.walk + cond (is_some (value_of number l.walk k)) 0 1 → IsExtended number is_valid m (ps ++ (k, v) ∷ []) n
-    IsExtended-push updates len = record {
+    -- one insertion more
+    pub IsExtended-push : IsExtended number is_valid m (ps ++ (k, v) ∷ []) n
+    IsExtended-push = record {
       inserted = MapInsertsAll-push m l n ps k v before.inserted last;
       updates = λ q.
-          let after = updates q in let turned = value_of-reverse_push number ps k q v in let old = before.updates q in
+          let after = last.inserted.updates.0 q in let turned = value_of-reverse_push number ps k q v in let old = before.updates q in
           grind (arith, nat_tests, after, turned, old);
       len =
           (let more = length-new_keys-push number m.walk ps k v in
           let bound : cond {A = ℕ} (is_some (value_of number l.walk k)) 0 1 ≡ cond {A = ℕ} (is_some (option_or (value_of number (reverse ps) k) (value_of number m.walk k))) 0 1 =
           ap (λ o. cond (is_some o) 0 1) (before.updates k) in
           let start = before.len in
-          omega (arith, len, more, bound, start));
+          omega (arith, last.inserted.len, more, bound, start));
       factor = ap (λ x. x.factor) last.state ∙ before.factor;
       capacity =
-          (let kept = capacity-not_less (value_of number l.walk k) l.capacity (length l.walk + 1) l.factor n.capacity last.capacity in
+          (let kept = capacity-not_less (value_of number l.walk k) l.capacity (length l.walk + 1) l.factor n.capacity last.inserted.fits.capacity in
           let start = before.capacity in
           omega (arith, kept, start));
     }

@@ -4,25 +4,23 @@ use Rattle.intmap_table.specs.Bindings.{value_of, put_pair, Updates}
 use Rattle.intmap_table.specs.Walk.{walk_of}
 use Rattle.intmap.specs.Growth.{IsNext}
 use Rattle.intmap.specs.Insertions.{IsInsertion}
-use Rattle.intmap.specs.Map.{MapState, IsMap, IsOutOfRange, IsCapacityAfter, after_search, written}
+use Rattle.intmap.specs.Map.{MapState, IsMap, IsOutOfRange, Fits, after_search, written}
 use Rattle.intmap_table.proofs.BindingLemmas.{Updates-same}
 use Rattle.intmap.proofs.AfterLemmas.{Updates-put, length-put}
 use Rattle.intmap.proofs.LoadFactorLemmas.{in_range-next}
 use Rattle.intmap.proofs.WriteLemmas.{Updates-written, length-write_value, IsMapWalk-written}
 
 module _ {K V : Type 0} (number : K → ℕ) (is_valid : K → Type 0) where
-  -- a present key is in range
-  present-in_range : (m : MapState K V) (k : K) (x : V) → value_of number m.walk k ≡ Some x → IsOutOfRange number m.walk m.capacity m.factor k → ⊥
-  present-in_range m k x had out = let w : true ≡ false = rw had at out.0 in cc
+  -- an insertion of a present key isn't too large, and the capacity stays
+  present-fits : (m n : MapState K V) (k : K) (x : V) → value_of number m.walk k ≡ Some x → n.capacity ≡ m.capacity → Fits number m.walk m.capacity m.factor k n.capacity
+  present-fits m n k x had same = record { in_range = λ out. (let w : true ≡ false = rw had at out.0 in cc); capacity = rw had same }
 
   -- a pair was put into the map
   pub IsInsertion-put : (m n : MapState K V) (k : K) (v : V) → IsMap number is_valid m → IsMap number is_valid n
-      → n.walk ≡ walk_of number (put_pair number m.walk m.capacity k v) n.capacity
-      → (IsOutOfRange number m.walk m.capacity m.factor k → ⊥) → IsCapacityAfter number m.walk m.capacity m.factor k n.capacity
+      → n.walk ≡ walk_of number (put_pair number m.walk m.capacity k v) n.capacity → Fits number m.walk m.capacity m.factor k n.capacity
       → IsInsertion number is_valid m k v n
-  IsInsertion-put m n k v old new put fits capacity = record {
-    in_range = fits;
-    capacity = capacity;
+  IsInsertion-put m n k v old new put fits = record {
+    fits = fits;
     updates = Updates-put number is_valid m n.walk n.capacity k v old new.capacity put;
     len = length-put number is_valid m n.walk n.capacity k v new.capacity put;
     valid = new;
@@ -32,19 +30,21 @@ module _ {K V : Type 0} (number : K → ℕ) (is_valid : K → Type 0) where
   pub IsInsertion-added : (m n : MapState K V) (k : K) (v : V) → value_of number m.walk k ≡ None → IsMap number is_valid m → IsMap number is_valid n
       → n.walk ≡ walk_of number (put_pair number m.walk m.capacity k v) n.capacity → length m.walk + 1 < 2 ^ 64 → IsNext m.capacity (length m.walk + 1) m.factor n.capacity → IsInsertion number is_valid m k v n
   IsInsertion-added m n k v missing old new put few next =
-      IsInsertion-put m n k v old new put (λ out. in_range-next m.walk m.capacity m.factor n.capacity few new.capacity next out.1) (rw missing next)
+      IsInsertion-put m n k v old new put (record {
+        in_range = λ out. in_range-next m.walk m.capacity m.factor n.capacity few new.capacity next out.1;
+        capacity = rw missing next;
+      })
 
   -- the pair of a present key was replaced
   pub IsInsertion-replaced : (m n : MapState K V) (k : K) (v x : V) → value_of number m.walk k ≡ Some x → IsMap number is_valid m → IsMap number is_valid n
       → n.walk ≡ walk_of number (put_pair number m.walk m.capacity k v) n.capacity → n.capacity ≡ m.capacity → IsInsertion number is_valid m k v n
-  IsInsertion-replaced m n k v x had old new put same = IsInsertion-put m n k v old new put (present-in_range m k x had) (rw had same)
+  IsInsertion-replaced m n k v x had old new put same = IsInsertion-put m n k v old new put (present-fits m n k x had same)
 
   -- a present key got the value v, and the pairs stayed in their slots
   pub IsInsertion-present : (m n : MapState K V) (k : K) (v x : V) → value_of number m.walk k ≡ Some x → n.capacity ≡ m.capacity → Updates number m.walk n.walk k (Some v)
       → length n.walk ≡ length m.walk → IsMap number is_valid n → IsInsertion number is_valid m k v n
   IsInsertion-present m n k v x had same updates len new = record {
-    in_range = present-in_range m k x had;
-    capacity = rw had same;
+    fits = present-fits m n k x had same;
     updates = updates;
     len = rw had (omega (arith, len));
     valid = new;
@@ -61,4 +61,4 @@ module _ {K V : Type 0} (number : K → ℕ) (is_valid : K → Type 0) where
 
   -- the key was looked up before
   pub IsInsertion-searched : (m n : MapState K V) (q k : K) (v : V) → IsInsertion number is_valid (after_search number m q) k v n → IsInsertion number is_valid m k v n
-  IsInsertion-searched m n q k v did = record { in_range = did.in_range; capacity = did.capacity; updates = did.updates; len = did.len; valid = did.valid }
+  IsInsertion-searched m n q k v did = record { fits = did.fits; updates = did.updates; len = did.len; valid = did.valid }

@@ -1,14 +1,17 @@
 -- Maps that insertions in turn made: with one pair more, and with a value written.
-use Rattle.std.proofs.Common.{◌≡◌, ℕ, ◌+◌, Bool, true, false, cond, List, [], ◌∷◌, ◌++◌, length, map, option_map, Option, Some, None, refl, sym, ap, ◌∙◌, subst, arith}
+use Rattle.std.proofs.Common.{◌≡◌, ℕ, ◌+◌, Bool, true, false, cond, List, [], ◌∷◌, ◌++◌, length, map, option_map, Option, Some, None, refl, sym, ap, ◌∙◌, subst, lit≤, lit<, arith}
 use Rattle.std.specs.Prelude.{is_some, IsNone, MatchOption}
 use Rattle.std.proofs.lemmas.List.{map-append}
 use Rattle.intmap_table.specs.Bindings.{value_of, take_key, put_pair, write_value, swap_out}
 use Rattle.intmap_table.specs.Classes.{same_key, agrees}
-use Rattle.intmap.specs.Extending.{MapInserts, MapInsertsAll, IsMadeOf}
+use Rattle.intmap.specs.Extending.{MapInsertsAll, IsMadeOf}
 use Rattle.intmap.specs.Growth.{IsNext}
-use Rattle.intmap.specs.Map.{MapState, IsMap, IsOutOfRange, IsCapacityAfter, empty_map, after_insert, written}
+use Rattle.intmap.specs.Insertions.{IsInsertion, MapInserts}
+use Rattle.intmap.specs.Map.{MapState, IsMap, empty_map, after_insert, written}
 use Rattle.intmap_table.specs.Walk.{walk_of}
 use Rattle.intmap.proofs.ExtendLemmas.{MapInsertsAll-push}
+use Rattle.intmap.proofs.InsertionLemmas.{IsInsertion-put}
+use Rattle.intmap.proofs.MapLemmas.{IsMapWalk-empty}
 use Rattle.intmap_table.proofs.LocationLemmas.{walk_of-write_value}
 use Rattle.intmap_table.proofs.MappedLemmas.{swap_out-map}
 use Rattle.intmap.proofs.WriteLemmas.{length-write_value, value_of-write_value, IsMapWalk-written}
@@ -72,11 +75,15 @@ module _ {K V : Type 0} (number : K → ℕ) (is_valid : K → Type 0) where
       capacity : n.capacity ≡ m.capacity
       factor : n.factor ≡ m.factor
 
+    -- it is a map too
+    IsMap-written : (m n : MapState K V) → IsMap number is_valid m → IsWrittenTo m n → IsMap number is_valid n
+    IsMap-written m n old is = IsMap-alike (written number m k v) n is.walk is.capacity is.factor (IsMapWalk-written number is_valid m.walk m.capacity m.factor k v old)
+
     -- what insertions leave of it, if they insert the same pairs with the value written
-    MapInsertsAll-written : (ps : List (K × V)) (m l n : MapState K V) → IsWrittenTo m n → MapInsertsAll number is_valid m ps l
+    MapInsertsAll-written : (ps : List (K × V)) (m l n : MapState K V) → IsMap number is_valid m → IsWrittenTo m n → MapInsertsAll number is_valid m ps l
         → (o : MapState K V) × MapInsertsAll number is_valid n (write_value number ps k v) o × IsWrittenTo l o
-    MapInsertsAll-written [] m l n is same = (n, refl, rw same is)
-    MapInsertsAll-written (p ∷ ps) m l n is all =
+    MapInsertsAll-written [] m l n old is same = (n, refl, rw same is)
+    MapInsertsAll-written (p ∷ ps) m l n old is all =
         let j : MapState K V = all.0 in
         let one : MapInserts number is_valid m p.0 p.1 j = all.1 in
         let w : V = cond (same_key number k p.0) v p.1 in
@@ -91,19 +98,20 @@ module _ {K V : Type 0} (number : K → ℕ) (is_valid : K → Type 0) where
         ∙ ap (λ W. write_value number W k v) (sym (ap (λ x. x.walk) one.state)) in
         let factor : i.factor ≡ j.factor = is.factor ∙ sym (ap (λ x. x.factor) one.state) in
         let inserted : MapInserts number is_valid n p.0 w i = record {
-          in_range = λ out. one.in_range (IsNone-alike (value_of number m.walk p.0) (value_of number n.walk p.0) bound out.0, rw (len, is.capacity, is.factor) at out.1);
-          capacity = rw (len, is.capacity, is.factor) (MatchOption-alike (value_of number m.walk p.0) (value_of number n.walk p.0) (IsNext m.capacity (length m.walk + 1) m.factor j.capacity) (j.capacity ≡ m.capacity) bound one.capacity);
+          inserted = IsInsertion-put number is_valid n i p.0 w (IsMap-written m n old is) (IsMap-written j i one.inserted.valid (record { walk = walk; capacity = refl; factor = factor })) refl (record {
+            in_range = λ out. one.inserted.fits.in_range (IsNone-alike (value_of number m.walk p.0) (value_of number n.walk p.0) bound out.0, rw (len, is.capacity, is.factor) at out.1);
+            capacity = rw (len, is.capacity, is.factor) (MatchOption-alike (value_of number m.walk p.0) (value_of number n.walk p.0) (IsNext m.capacity (length m.walk + 1) m.factor j.capacity) (j.capacity ≡ m.capacity) bound one.inserted.fits.capacity);
+          });
           state = refl;
-          map = IsMap-alike (written number j k v) i walk refl factor (IsMapWalk-written number is_valid j.walk j.capacity j.factor k v one.map);
         } in
-        let rest = MapInsertsAll-written ps j l i (record { walk = walk; capacity = refl; factor = factor }) all.2 in
+        let rest = MapInsertsAll-written ps j l i one.inserted.valid (record { walk = walk; capacity = refl; factor = factor }) all.2 in
         (rest.0, (i, subst (λ (r : K × V). MapInserts number is_valid n r.0 r.1 i) (sym (rewritten-pair number k v p.0 p.1)) inserted, rest.1), rest.2)
 
     -- a map that was made of pairs, once the value of a key was written in its place
     pub IsMadeOf-written : (ps : List (K × V)) (m n : MapState K V) → IsMadeOf number is_valid ps m → n.walk ≡ write_value number m.walk k v → n.capacity ≡ m.capacity → n.factor ≡ m.factor
         → IsMadeOf number is_valid (write_value number ps k v) n
     IsMadeOf-written ps m n made walk capacity factor =
-        let after = MapInsertsAll-written ps (empty_map 4) made.filled (empty_map 4) (record { walk = refl; capacity = refl; factor = refl }) made.inserted in
+        let after = MapInsertsAll-written ps (empty_map 4) made.filled (empty_map 4) (IsMapWalk-empty number is_valid [] 4 909 refl (2, lit≤ tt, lit< tt, refl) (lit< tt)) (record { walk = refl; capacity = refl; factor = refl }) made.inserted in
         let w : n.walk ≡ after.0.walk = walk ∙ ap (λ x. write_value number x.walk k v) made.state ∙ sym after.2.walk in
         let c : n.capacity ≡ after.0.capacity = capacity ∙ ap (λ x. x.capacity) made.state ∙ sym after.2.capacity in
         let f : n.factor ≡ after.0.factor = factor ∙ ap (λ x. x.factor) made.state ∙ sym after.2.factor in
@@ -124,24 +132,20 @@ module _ {K V : Type 0} (number : K → ℕ) (is_valid : K → Type 0) where
   IsMadeOf-factor ps m made = ap (λ x. x.factor) made.state ∙ MapInsertsAll-factor ps (empty_map 4) made.filled made.inserted
 
   -- a map that was made of pairs, once one more was inserted
-  pub IsMadeOf-inserted : (ps : List (K × V)) (k : K) (v : V) (m n : MapState K V) → IsMadeOf number is_valid ps m → (IsOutOfRange number m.walk m.capacity m.factor k → ⊥)
-      → IsCapacityAfter number m.walk m.capacity m.factor k n.capacity → n.walk ≡ walk_of number (put_pair number m.walk m.capacity k v) n.capacity → n.factor ≡ m.factor → IsMap number is_valid n
-      → IsMadeOf number is_valid (ps ++ (k, v) ∷ []) n
-  IsMadeOf-inserted ps k v m n made in_range capacity put same is_map =
+  pub IsMadeOf-inserted : (ps : List (K × V)) (k : K) (v : V) (m n : MapState K V) → IsMadeOf number is_valid ps m → IsInsertion number is_valid m k v n
+      → n.walk ≡ walk_of number (put_pair number m.walk m.capacity k v) n.capacity → n.factor ≡ m.factor → IsMadeOf number is_valid (ps ++ (k, v) ∷ []) n
+  IsMadeOf-inserted ps k v m n made last put same =
       let f : MapState K V = made.filled in
       let o : MapState K V = after_insert number f k v n.capacity in
-      let walk : m.walk ≡ f.walk = ap (λ x. x.walk) made.state in
-      let slots : m.capacity ≡ f.capacity = ap (λ x. x.capacity) made.state in
-      let load : m.factor ≡ f.factor = ap (λ x. x.factor) made.state in
-      let w : n.walk ≡ o.walk = put ∙ ap (λ (x : List (K × V) × ℕ). walk_of number (put_pair number x.0 x.1 k v) n.capacity) (λ t. (walk t, slots t)) in
-      let l : n.factor ≡ o.factor = same ∙ load in
+      let w : n.walk ≡ o.walk = put ∙ ap (λ x. walk_of number (put_pair number x.walk x.capacity k v) n.capacity) made.state in
+      let l : n.factor ≡ o.factor = same ∙ ap (λ x. x.factor) made.state in
+      let state : n ≡ record o { placed = n.placed; compared = n.compared } = λ t. record n { walk = w t; factor = l t } in
+      let did = subst (λ x. IsInsertion number is_valid (record f { placed = m.placed; compared = m.compared }) k v x) state (subst (λ x. IsInsertion number is_valid x k v n) made.state last) in
       record {
         filled = o;
         inserted = MapInsertsAll-push number is_valid (empty_map 4) f o ps k v made.inserted (record {
-          in_range = λ out. in_range (rw (walk, slots, load) out);
-          capacity = rw (walk, slots, load) at capacity;
+          inserted = record { fits = did.fits; updates = did.updates; len = did.len; valid = did.valid };
           state = refl;
-          map = IsMap-alike n o (sym w) refl (sym l) is_map;
         });
-        state = λ t. record n { walk = w t; factor = l t };
+        state = state;
       }

@@ -15,7 +15,8 @@ use Rattle.intmap_table.proofs.DistinctLemmas.{length-walk_of}
 use Rattle.intmap_table.proofs.PositionLemmas.{position-from_none, swap_out-none}
 use Rattle.intmap_table.proofs.SlotNumberLemmas.{capacity-positive, slot_number-below}
 use Rattle.intmap_table.proofs.WalkLemmas.{class_size-same, walk_of-walk_of}
-use Rattle.intmap.specs.Extending.{MapInserts, MapInsertsAll}
+use Rattle.intmap.specs.Extending.{MapInsertsAll}
+use Rattle.intmap.specs.Insertions.{MapInserts}
 use Rattle.intmap.specs.Growth.{IsNext, is_due, last_due}
 use Rattle.intmap.specs.Map.{MapState, IsLone}
 use Rattle.intmap.specs.PlainLists.{RefusalIsDue, list_of}
@@ -80,7 +81,7 @@ module _ {K V : Type 0} (number : K → ℕ) (is_valid : K → Type 0) where
 
     capacity-kept : l.capacity ≡ m.capacity
     capacity-kept =
-        let next : IsNext m.capacity (length m.walk + 1) m.factor l.capacity = rw (value_of-alone number m.walk m.capacity p.0 lone.alone) at step.capacity in
+        let next : IsNext m.capacity (length m.walk + 1) m.factor l.capacity = rw (value_of-alone number m.walk m.capacity p.0 lone.alone) at step.inserted.fits.capacity in
         IsNext-unique m.capacity (length m.walk + 1) m.factor l.capacity m.capacity next lone.stays
 
     factor-kept : l.factor ≡ m.factor

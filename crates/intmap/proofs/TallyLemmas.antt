@@ -12,7 +12,8 @@ use Rattle.std.proofs.lemmas.List.{length-append}
 use Rattle.intmap_table.specs.Bindings.{value_of, put_pair, write_value, Updates}
 use Rattle.intmap_table.specs.Figures.{each_once, tally_of}
 use Rattle.intmap.specs.Extending.{IsTally}
-use Rattle.intmap.specs.Map.{MapState, IsMap, IsOutOfRange, IsCapacityAfter}
+use Rattle.intmap.specs.Insertions.{IsInsertion}
+use Rattle.intmap.specs.Map.{MapState}
 use Rattle.intmap_table.specs.Walk.{walk_of}
 use Rattle.intmap.proofs.CountLemmas.{count_by-cons}
 use Rattle.intmap.proofs.ExtendLemmas.{value_of-append}
@@ -102,19 +103,17 @@ module _ (ns : List ℕ) (n : ℕ) (m o : MapState ℕ ℕ) (tally : IsTally ns 
       }
 
   -- a map of counts, once an absent number was inserted
-  pub IsTally-inserted : None ≡ value_of (λ k. k) m.walk n → (IsOutOfRange (λ k. k) m.walk m.capacity m.factor n → ⊥)
-      → IsCapacityAfter (λ k. k) m.walk m.capacity m.factor n o.capacity → o.walk ≡ walk_of (λ k. k) (put_pair (λ k. k) m.walk m.capacity n 1) o.capacity → o.factor ≡ m.factor
-      → IsMap (λ k. k) (λ k. k < 2 ^ 64) o
-      → Updates (λ k. k) m.walk o.walk n (Some 1) → length o.walk ≡ length m.walk + 1 → IsTally (ns ++ n ∷ []) o
-  IsTally-inserted none in_range capacity put same is_map updates len =
+  pub IsTally-inserted : None ≡ value_of (λ k. k) m.walk n → IsInsertion (λ k. k) (λ k. k < 2 ^ 64) m n 1 o
+      → o.walk ≡ walk_of (λ k. k) (put_pair (λ k. k) m.walk m.capacity n 1) o.capacity → o.factor ≡ m.factor → IsTally (ns ++ n ∷ []) o
+  IsTally-inserted none last put same =
       let unbound : None ≡ value_of (λ k. k) (tally_of ns) n = none ∙ tally.counts n in
       let away = missing (list_any (λ k. k == n) ns) (times n ns) (unbound ∙ value_of-tally_of ns n) in
       let longer : tally_of (ns ++ n ∷ []) ≡ tally_of ns ++ (n, 1) ∷ [] = tally_of-push-new ns n away in
       record {
-        made = rw longer (IsMadeOf-inserted (λ k. k) (λ k. k < 2 ^ 64) (tally_of ns) n 1 m o tally.made in_range capacity put same is_map);
+        made = rw longer (IsMadeOf-inserted (λ k. k) (λ k. k < 2 ^ 64) (tally_of ns) n 1 m o tally.made last put same);
         counts = λ q.
-            let after = updates.0 q in let old = tally.counts q in let more = value_of-append (λ k. k) (tally_of ns) ((n, 1) ∷ []) q in
+            let after = last.updates.0 q in let old = tally.counts q in let more = value_of-append (λ k. k) (tally_of ns) ((n, 1) ∷ []) q in
             let same = value_of-same_number (λ k. k) (tally_of ns) q n in let here = ap (λ ps. value_of (λ k. k) ps q) longer in
             grind (arith, nat_tests, after, old, more, same, here, unbound);
-        len = (let more = length-append (tally_of ns) ((n, 1) ∷ []) in let l = ap length longer in let t = tally.len in omega (arith, more, l, t, len));
+        len = (let more = length-append (tally_of ns) ((n, 1) ∷ []) in let l = ap length longer in let t = tally.len in let one = rw (← none) at last.len in omega (arith, more, l, t, one));
       }

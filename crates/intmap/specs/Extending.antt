@@ -5,7 +5,8 @@ use Rattle.std.specs.Option.{option_or}
 use Rattle.intmap_table.specs.Bindings.{value_of}
 use Rattle.intmap_table.specs.Figures.{tally_of}
 use Rattle.intmap.specs.Growth.{IsLeastPower}
-use Rattle.intmap.specs.Map.{MapState, IsMap, IsOutOfRange, IsCapacityAfter, empty_map, after_search, after_insert, first_capacity, least_capacity}
+use Rattle.intmap.specs.Insertions.{MapInserts}
+use Rattle.intmap.specs.Map.{MapState, IsOutOfRange, empty_map, after_search, first_capacity, least_capacity}
 use Rattle.intmap.specs.PlainLists.{RefusalIsDue, list_of}
 use Rattle.intmap.specs.declared.refusal.Cause.{Cause}
 use Rattle.intmap.specs.declared.refusal.Cause.TheVariants.{Memory, TooLarge}
@@ -18,17 +19,10 @@ module _ {K V : Type 0} (number : K → ℕ) where
   new_keys L (p ∷ ps) = cond (is_some (value_of number L p.0)) (new_keys L ps) (p.0 ∷ new_keys (p ∷ L) ps)
 
 module _ {K V : Type 0} (number : K → ℕ) (is_valid : K → Type 0) where
-  -- a successful insertion of the pair of k and v took the map m to n
-  pub record MapInserts (m : MapState K V) (k : K) (v : V) (n : MapState K V) : Type 0 where
-    pub in_range : IsOutOfRange number m.walk m.capacity m.factor k → ⊥
-    pub capacity : IsCapacityAfter number m.walk m.capacity m.factor k n.capacity
-    pub state : n ≡ after_insert number m k v n.capacity
-    pub map : IsMap number is_valid n
-
   -- the pairs were inserted in turn, and none failed
   abbrev pub MapInsertsAll : MapState K V → List (K × V) → MapState K V → Type 0
   MapInsertsAll m [] n = n ≡ m
-  MapInsertsAll m (p ∷ ps) n = (l : MapState K V) × MapInserts m p.0 p.1 l × MapInsertsAll l ps n
+  MapInsertsAll m (p ∷ ps) n = (l : MapState K V) × MapInserts number is_valid m p.0 p.1 l × MapInsertsAll l ps n
 
   -- the pairs were inserted in turn, and none failed: each of their keys has its last value, each other key what it had, there is
   -- one pair more for each new key, the load factor stays, and there are no fewer slots

@@ -15,6 +15,7 @@ pub mod Growth
 pub mod Map
 pub mod PlainLists
 pub mod Insertions
+pub mod Growing
 pub mod Room
 pub mod Answering
 pub mod Laws

@@ -74,6 +74,11 @@ module _ {K V : Type 0} (number : K → ℕ) where
   abbrev pub IsCapacityAfter : List (K × V) → ℕ → ℕ → K → ℕ → Type 0
   IsCapacityAfter L C F k D = MatchOption (value_of number L k) (IsNext C (length L + 1) F D) (λ _. D ≡ C)
 
+  -- an insertion of k isn't too large, and leaves D slots
+  pub record Fits (L : List (K × V)) (C F : ℕ) (k : K) (D : ℕ) : Type 0 where
+    pub in_range : IsOutOfRange L C F k → ⊥
+    pub capacity : IsCapacityAfter L C F k D
+
   -- the map once k was looked up
   abbrev pub after_search : MapState K V → K → MapState K V
   after_search m k = record m { compared = m.compared + reach number m.walk m.capacity k }

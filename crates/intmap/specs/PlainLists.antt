@@ -3,7 +3,7 @@ use Rattle.std.specs.Prelude.{◌≡◌, ◌↔◌, ℕ, ◌+◌, ◌<◌, ◌==
 use Rattle.intmap_table.specs.Bindings.{value_of, put_pair}
 use Rattle.intmap_table.specs.Reach.{class_size, reach}
 use Rattle.intmap.specs.Growth.{IsNext}
-use Rattle.intmap.specs.Map.{MapState, first_factor, IsOutOfRange, IsCapacityAfter}
+use Rattle.intmap.specs.Map.{MapState, first_factor, IsOutOfRange, Fits}
 use Rattle.intmap_table.specs.Walk.{StandsFor}
 use Rattle.intmap.specs.declared.refusal.Cause.{Cause}
 use Rattle.intmap.specs.declared.refusal.Cause.TheVariants.{Memory, TooLarge}
@@ -38,11 +38,10 @@ module _ {K V : Type 0} (number : K → ℕ) where
   abbrev pub looked_up : PlainList K V → K → PlainList K V
   looked_up s k = record s { compared = s.compared + reach number s.pairs s.capacity k }
 
-  -- a successful insertion: the key is in range, the pair is last, and growth changes the capacity alone; if it does, all pairs
+  -- a successful insertion: it isn't too large, the pair is last, and growth changes the capacity alone; if it does, all pairs
   -- are put into the larger table
   pub record ListInserts (s : PlainList K V) (k : K) (v : V) (t : PlainList K V) : Type 0 where
-    pub in_range : IsOutOfRange number s.pairs s.capacity s.factor k → ⊥
-    pub capacity : IsCapacityAfter number s.pairs s.capacity s.factor k t.capacity
+    pub fits : Fits number s.pairs s.capacity s.factor k t.capacity
     pub placed : t.placed ≡ s.placed + cond (t.capacity == s.capacity) 0 (length t.pairs)
     pub after : t ≡ record s { pairs = put_pair number s.pairs s.capacity k v; capacity = t.capacity; placed = t.placed }
 

@@ -1,6 +1,7 @@
 -- What calls return to C, and with which map.
 use Rattle.std.specs.Prelude.{◌≡◌, ◌⊎◌, ℕ, ℤ, Option, None, Some}
-use Rattle.intmap_c.specs.Statuses.{present_status, absent_status, no_memory_status, too_large_status}
+use Rattle.intmap.specs.declared.refusal.Cause.{Cause}
+use Rattle.intmap_c.specs.Statuses.{present_status, absent_status, no_memory_status, too_large_status, failed_status}
 use Rattle.intmap_c.specs.declared.answer.FoundValue.{FoundValue}
 use Rattle.intmap_c.specs.declared.answer.FoundPair.{FoundPair}
 use Rattle.intmap_c.specs.declared.answer.Pair.{Pair}
@@ -32,6 +33,10 @@ abbrev pub IsFailed : ℤ → Type 0
 IsFailed status = (status ≡ no_memory_status) ⊎ (status ≡ too_large_status)
 
 module _ {S : Type 0} where
+  -- the call failed with a cause that is due, and left n, which is m
+  abbrev pub Fails : (Cause → Type 0) → S → S → ℤ → Type 0
+  Fails due m n status = (cause : Cause) × (status ≡ failed_status cause) × due cause × (n ≡ m)
+
   -- P of the map before and the map after; if there is no map, there is none after either, and N
   abbrev pub OnMap : Option S → Option S → Type 0 → (S → S → Type 0) → Type 0
   OnMap None None N P = N

@@ -1,14 +1,14 @@
 -- What calls make of a map from 64-bit keys to 64-bit values, m before and n after, and what they return.
-use Rattle.std.specs.Prelude.{◌≡◌, ◌↔◌, ◌⊎◌, ℕ, ℤ, ◌+◌, ◌^◌, ◌<◌, ◌%◌, max, cond, Bool, true, false, length, Option, None, Some, is_some}
+use Rattle.std.specs.Prelude.{◌≡◌, ◌↔◌, ◌⊎◌, ℕ, ℤ, ◌+◌, ◌^◌, ◌<◌, ◌%◌, cond, Bool, true, false, length, Option, None, Some, is_some}
 use Rattle.intmap.specs.Bindings.{value_of, IsPresent, Updates}
 use Rattle.intmap.specs.Cloning.{IsClone}
-use Rattle.intmap.specs.Reach.{class_size}
-use Rattle.intmap.specs.Growth.{IsNext, IsLeastPower, IsWanted, NeedsTooMuch}
-use Rattle.intmap.specs.Insertions.{IsInsertion}
-use Rattle.intmap.specs.Map.{MapState, IsOutOfRange, after_search, after_insert, after_remove, written, in_slots}
-use Rattle.intmap_c.specs.Statuses.{done_status, present_status, absent_status, no_memory_status, too_large_status, no_map_status}
+use Rattle.intmap.specs.Growing.{IsReservation, IsNewFactor, MayRefuseReserve, MayRefuseFactor}
+use Rattle.intmap.specs.Insertions.{MapInserts}
+use Rattle.intmap.specs.Map.{MapState, after_search, after_remove, written}
+use Rattle.intmap.specs.PlainLists.{RefusalIsDue, list_of}
+use Rattle.intmap_c.specs.Statuses.{done_status, present_status, absent_status, no_memory_status, no_map_status}
 use Rattle.intmap_c.specs.declared.answer.FoundValue.{FoundValue}
-use Rattle.intmap_c.specs.Answers.{value_found, no_value, IsFailed}
+use Rattle.intmap_c.specs.Answers.{value_found, no_value, Fails}
 
 -- such a map, as contracts see it
 abbrev pub State : Type 0
@@ -40,31 +40,26 @@ Clones (Some m) old new status =
     ((status ≡ done_status) × ((n : State) × (new ≡ Some n) × IsClone (λ v w. w ≡ v) m n))
     ⊎ ((status ≡ no_memory_status) × (new ≡ old))
 
--- k was inserted with v, in the number of slots that this needs
-pub record Binds (m n : State) (k v : ℕ) : Type 0 where
-  pub inserted : IsInsertion itself (λ n. n < 2 ^ 64) m k v n
-  pub state : n ≡ after_insert itself m k v n.capacity
+-- k was inserted with v
+abbrev pub Binds : State → State → ℕ → ℕ → Type 0
+Binds m n k v = MapInserts itself (λ n. n < 2 ^ 64) m k v n
 
--- the insertion of the new key k failed, and the map is as it was except for the count of comparisons
-pub record Fails (m n : State) (k : ℕ) (status : ℤ) : Type 0 where
-  pub why : IsFailed status
-  pub state : n ≡ after_search itself m k
-  pub new_key : bound_to m k ≡ None
-  pub too_large : (status ≡ too_large_status) ↔ IsOutOfRange itself m.walk m.capacity m.factor k
-  pub memory : status ≡ no_memory_status → IsNext m.capacity (length m.walk + 1) m.factor m.capacity → 0 < class_size itself m.walk m.capacity k
+-- the insertion of k failed, and the map is as it was except for the count of comparisons
+abbrev pub FailsToBind : State → State → ℕ → ℤ → Type 0
+FailsToBind m n k status = Fails (RefusalIsDue itself (list_of m) k) (after_search itself m k) n status
 
 -- k was inserted with v, and its value before is returned; or the insertion failed
 abbrev pub Inserts : State → State → ℕ → ℕ → FoundValue → Type 0
 Inserts m n k v answer =
     ((answer ≡ value_found (bound_to m k)) × Binds m n k v)
-    ⊎ ((answer ≡ no_value answer.status) × Fails m n k answer.status)
+    ⊎ ((answer ≡ no_value answer.status) × FailsToBind m n k answer.status)
 
 -- k had a value, which stays; or it was absent, and was inserted with v; or the insertion failed
 abbrev pub InsertsNew : State → State → ℕ → ℕ → ℤ → Type 0
 InsertsNew m n k v status =
     ((status ≡ present_status) × IsPresent itself m.walk k × (n ≡ after_search itself m k))
     ⊎ ((status ≡ absent_status) × (bound_to m k ≡ None) × Binds m n k v)
-    ⊎ Fails m n k status
+    ⊎ FailsToBind m n k status
 
 -- v was written in the place of the value of k, which is returned; if k is absent, nothing was written
 pub record Sets (m n : State) (k v : ℕ) (answer : FoundValue) : Type 0 where
@@ -83,7 +78,7 @@ abbrev pub AddsOrInserts : State → State → ℕ → ℕ → FoundValue → Ty
 AddsOrInserts m n k more answer =
     (IsPresent itself m.walk k × Adds m n k more answer)
     ⊎ ((answer ≡ value_found None) × (bound_to m k ≡ None) × Binds m n k more)
-    ⊎ ((answer ≡ no_value answer.status) × Fails m n k answer.status)
+    ⊎ ((answer ≡ no_value answer.status) × FailsToBind m n k answer.status)
 
 -- the pair of k was removed, and its value is returned
 pub record Removes (m n : State) (k : ℕ) (answer : FoundValue) : Type 0 where
@@ -92,20 +87,14 @@ pub record Removes (m n : State) (k : ℕ) (answer : FoundValue) : Type 0 where
   pub updates : Updates itself m.walk n.walk k None
   pub len : length n.walk + cond (is_some (bound_to m k)) 1 0 ≡ length m.walk
 
--- there are slots for this number of further pairs; or the map is as it was
-pub record Reserves (m n : State) (additional : ℕ) (status : ℤ) : Type 0 where
-  pub outcome :
-      ((status ≡ done_status) × (n ≡ in_slots itself m n.capacity)
-      × ((p : ℕ) × IsLeastPower (length m.walk + additional) p × (n.capacity ≡ max m.capacity p)) × BindSame m n)
-      ⊎ (IsFailed status × (n ≡ m))
-  pub too_large : (status ≡ too_large_status) ↔ (2 ^ 63 < length m.walk + additional)
-  pub memory : status ≡ no_memory_status → m.capacity < length m.walk + additional
+-- there are slots for this number of further pairs; or the call failed
+abbrev pub Reserves : State → State → ℕ → ℤ → Type 0
+Reserves m n additional status =
+    ((status ≡ done_status) × IsReservation itself m additional n × BindSame m n)
+    ⊎ Fails (MayRefuseReserve m.capacity (length m.walk + additional)) m n status
 
--- the load factor is F, and met; or the map is as it was
-pub record SetsFactor (m n : State) (F : ℕ) (status : ℤ) : Type 0 where
-  pub outcome :
-      ((status ≡ done_status) × (n ≡ in_slots itself (record m { factor = F }) n.capacity)
-      × IsWanted m.capacity (length m.walk) F n.capacity × BindSame m n)
-      ⊎ (IsFailed status × (n ≡ m))
-  pub too_large : (status ≡ too_large_status) ↔ NeedsTooMuch (IsWanted m.capacity (length m.walk) F)
-  pub memory : status ≡ no_memory_status → IsWanted m.capacity (length m.walk) F m.capacity → ⊥
+-- the load factor is F, and met; or the call failed
+abbrev pub SetsFactor : State → State → ℕ → ℤ → Type 0
+SetsFactor m n F status =
+    ((status ≡ done_status) × IsNewFactor itself m F n × BindSame m n)
+    ⊎ Fails (MayRefuseFactor m.capacity (length m.walk) F) m n status

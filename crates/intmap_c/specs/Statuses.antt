@@ -1,5 +1,7 @@
 -- The numbers by which calls tell C what happened.
 use Rattle.std.specs.Prelude.{ℤ, pos, negsuc}
+use Rattle.intmap.specs.declared.refusal.Cause.{Cause}
+use Rattle.intmap.specs.declared.refusal.Cause.TheVariants.{Memory, TooLarge}
 
 -- the call did what it says
 abbrev pub done_status : ℤ
@@ -20,6 +22,11 @@ no_memory_status = negsuc 0
 -- -2: the map would be too large
 abbrev pub too_large_status : ℤ
 too_large_status = negsuc 1
+
+-- the status of a failed call
+abbrev pub failed_status : Cause → ℤ
+failed_status Memory = no_memory_status
+failed_status TooLarge = too_large_status
 
 -- -3: there is no map
 abbrev pub no_map_status : ℤ

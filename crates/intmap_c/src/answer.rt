@@ -1,7 +1,7 @@
 //! What calls return to C.
-ghost use Rattle.std.specs.Prelude.{◌≡◌, ◌↔◌};
-ghost use Rattle.intmap_c.specs.Answers.{IsFailed, no_pair, no_value, pair_found, value_found};
-ghost use Rattle.intmap_c.specs.Statuses.{no_memory_status, too_large_status};
+ghost use Rattle.std.specs.Prelude.{◌≡◌};
+ghost use Rattle.intmap_c.specs.Answers.{no_pair, no_value, pair_found, value_found};
+ghost use Rattle.intmap_c.specs.Statuses.{failed_status};
 
 use intmap::Cause;
 
@@ -104,9 +104,7 @@ impl FoundPair {
 
 /// The status of a failed call.
 pub(crate) fn status_of(cause: Cause) -> i32
-    ensures failed { IsFailed result }
-    ensures too_large { (result ≡ too_large_status) ↔ (cause ≡ Cause.TooLarge) }
-    ensures memory { (result ≡ no_memory_status) ↔ (cause ≡ Cause.Memory) }
+    ensures { result ≡ failed_status cause }
 {
     match cause {
         Cause::Memory => NO_MEMORY,

@@ -5,7 +5,8 @@ use Rattle.std.proofs.Math.Pow.{pow_mono}
 use Rattle.std.proofs.lemmas.Nat.{pow-add}
 use Rattle.std.proofs.lemmas.Bool.{cases_lt, cases_Bool}
 use Rattle.intmap.specs.Classes.{IsCapacity}
-use Rattle.intmap.specs.Growth.{IsWanted, IsNext, IsLeastPower, is_due, NeedsTooMuch}
+use Rattle.intmap.specs.Growing.{IsEnough}
+use Rattle.intmap.specs.Growth.{IsWanted, IsNext, is_due, NeedsTooMuch}
 use Rattle.intmap.proofs.GrowthLemmas.{IsCapacity-max}
 use Rattle.intmap.proofs.LoadFactorLemmas.{IsWanted-more}
 
@@ -31,10 +32,9 @@ IsCapacity-doubled C j cap le =
     (e + j, omega (arith, first), top, is)
 
 -- a wanted capacity that isn't too much
-pub IsLarger-wanted : (C n F D : ℕ) → IsCapacity C → IsWanted C n F D → (NeedsTooMuch (IsWanted C n F) → ⊥) → IsLarger C D
-IsLarger-wanted C n F D cap wanted in_range =
+pub IsLarger-wanted : (C n F D : ℕ) → IsCapacity C → IsWanted C n F D → D ≤ 2 ^ 63 → IsLarger C D
+IsLarger-wanted C n F D cap wanted le =
     let is : D ≡ C * 2 ^ wanted.doubled.0 = wanted.doubled.1 in
-    let le : D ≤ 2 ^ 63 = elim (cases_lt (2 ^ 63) D) [ inl lt ↦ absurd (in_range (D, wanted, lt)) | inr le ↦ le ] in
     record {
       capacity = rw is (IsCapacity-doubled C wanted.doubled.0 cap (omega (arith, is, le)));
       more = IsWanted-more C n F D wanted;
@@ -43,7 +43,7 @@ IsLarger-wanted C n F D cap wanted in_range =
 -- the capacity that follows a new key, if it isn't too much
 IsLarger-next : (C n F D : ℕ) → IsCapacity C → IsNext C n F D → (NeedsTooMuch (IsNext C n F) → ⊥) → IsLarger C D
 IsLarger-next C n F D cap next in_range = elim (cases_Bool (is_due n)) [
-  | inl due ↦ IsLarger-wanted C n F D cap (rw due at next) (λ much. in_range (much.0, rw due much.1, much.2))
+  | inl due ↦ IsLarger-wanted C n F D cap (rw due at next) (elim (cases_lt (2 ^ 63) D) [ inl lt ↦ absurd (in_range (D, next, lt)) | inr le ↦ le ])
   | inr not ↦ IsLarger-same C D cap (rw not at next)
 ]
 
@@ -58,8 +58,9 @@ IsCapacityAfter-changed None C n F D next apart = (refl, next)
 IsCapacityAfter-changed (Some v) C n F D same apart = absurd (apart same)
 
 -- the capacity that a reservation of n slots leaves, if that was in range
-pub IsLarger-reserved : (C n p D : ℕ) → IsCapacity C → n ≤ 2 ^ 63 → IsLeastPower n p → D ≡ max C p → IsLarger C D
-IsLarger-reserved C n p D cap in_range least is =
-    let le : p ≤ 2 ^ 63 = least.least 63 in_range in
-    let turned : D ≡ max p C = omega (arith, is) in
-    record { capacity = rw turned (IsCapacity-max p C least.power (omega (arith, le)) cap); more = omega (arith, is) }
+pub IsLarger-reserved : (C n D : ℕ) → IsCapacity C → IsEnough C n D → IsLarger C D
+IsLarger-reserved C n D cap enough =
+    let le : enough.power ≤ 2 ^ 63 = enough.least.least 63 enough.in_range in
+    let is = enough.capacity in
+    let turned : D ≡ max enough.power C = omega (arith, is) in
+    record { capacity = rw turned (IsCapacity-max enough.power C enough.least.power (omega (arith, le)) cap); more = omega (arith, is) }

@@ -3,7 +3,8 @@ use Rattle.std.proofs.Common.{◌≡◌, inl, inr, ℕ, ◌<◌, ◌≤◌, ◌-
 use Rattle.std.specs.Prelude.{min}
 use Rattle.std.specs.declared.vec.Vec.{Vec}
 use Rattle.std.proofs.lemmas.List.{length-append}
-use Rattle.intmap.specs.Extending.{MapInserts, MapInsertsAll}
+use Rattle.intmap.specs.Extending.{MapInsertsAll}
+use Rattle.intmap.specs.Insertions.{MapInserts}
 use Rattle.intmap.specs.Map.{MapState, IsMap, after_search}
 use Rattle.intmap.specs.PlainLists.{PlainList, Stands, looked_up, ListInsertsAll, RefusalIsDue, list_of}
 use Rattle.intmap.specs.declared.refusal.RefusedPair.{RefusedPair}
@@ -30,8 +31,8 @@ module _ {K V : Type 0} (number : K → ℕ) (is_valid : K → Type 0) where
       let l : MapState K V = inserted.0 in
       let one : MapInserts number is_valid m p.0 p.1 l = inserted.1 in
       let t : PlainList K V = with_pair_in number s p.0 p.1 l.capacity in
-      let first = accepted number is_valid m is_map p.0 p.1 l one.capacity one.in_range one.state s stands in
-      let rest = all_accepted l ps n one.map inserted.2 t first.stands in (
+      let first = accepted number is_valid m is_map p.0 p.1 l one.inserted.fits one.state s stands in
+      let rest = all_accepted l ps n one.inserted.valid inserted.2 t first.stands in (
         rest.0,
         record {
           inserts = (t, first.inserts, rest.1.inserts);

@@ -144,7 +144,7 @@ module _ {K V : Type 0} (number : K → ℕ) where
               capacity = inl same;
             })
         | inr apart ↦
-            (let next = IsCapacityAfter-changed (value_of number s.pairs k) s.capacity (length s.pairs + 1) s.factor t.capacity inserts.capacity apart in
+            (let next = IsCapacityAfter-changed (value_of number s.pairs k) s.capacity (length s.pairs + 1) s.factor t.capacity inserts.fits.capacity apart in
             let one : length t.pairs ≡ length s.pairs + 1 = len ∙ ap (λ o. length s.pairs + cond (is_some o) 0 1) next.0 in
             let all = placements-changed s t apart in
             let growth : IsGrowth s.capacity (length t.pairs) (s.factor + 1) t.capacity =
@@ -243,7 +243,7 @@ module _ {K V S A : Type 0} (number : K → ℕ) (sees : V → S → Type 0) (ke
   kind s (command.Reserve n) a t (inl h) = inr (inr (record {
     placed = ap (λ x. x.placed) h.1.after;
     factor = ap (λ x. x.factor) h.1.after;
-    more = let m = h.1.capacity.2 in omega (arith, m);
+    more = let m = h.1.enough.capacity in omega (arith, m);
     capacity = inr (rw h.0 tt);
   }))
   kind s (command.Reserve n) a t (inr h) = inr (inr (Keeps-list s (command.Reserve n) a t (s) h.3 refl refl refl))

@@ -7,7 +7,7 @@ use Rattle.std.specs.declared.vec.Vec.{Vec}
 use Rattle.intmap.specs.Bindings.{value_of, take_key, put_pair}
 use Rattle.intmap.specs.Classes.{IsCapacity}
 use Rattle.intmap.specs.Figures.{load_of, rate_of}
-use Rattle.intmap.specs.Map.{MapState, IsMap, IsOutOfRange, IsCapacityAfter, after_search, after_insert, after_remove, emptied}
+use Rattle.intmap.specs.Map.{MapState, IsMap, Fits, after_search, after_insert, after_remove, emptied}
 use Rattle.intmap.specs.PlainLists.{PlainList, Stands, looked_up, ListInserts, RefusalIsDue, list_of}
 use Rattle.intmap.specs.declared.refusal.Cause.{Cause}
 use Rattle.intmap_run.specs.declared.command.Command.{Command}
@@ -48,15 +48,16 @@ module _ {K V : Type 0} (number : K → ℕ) (is_valid : K → Type 0) (m : MapS
     pub stands : Stands number t n
 
   -- it leaves the list with the pair put in
-  pub accepted : (k : K) (v : V) (n : MapState K V) → IsCapacityAfter number m.walk m.capacity m.factor k n.capacity
-      → (IsOutOfRange number m.walk m.capacity m.factor k → ⊥) → n ≡ after_insert number m k v n.capacity
+  pub accepted : (k : K) (v : V) (n : MapState K V) → Fits number m.walk m.capacity m.factor k n.capacity → n ≡ after_insert number m k v n.capacity
       → (s : PlainList K V) → Stands number s m → Accepted k v n s (with_pair_in number s k v n.capacity)
-  accepted k v n capacity in_range is s stands =
-      let larger = IsLarger-after (value_of number m.walk k) m.capacity (length m.walk + 1) m.factor n.capacity is_map.capacity capacity in_range in
+  accepted k v n fits is s stands =
+      let larger = IsLarger-after (value_of number m.walk k) m.capacity (length m.walk + 1) m.factor n.capacity is_map.capacity fits.capacity fits.in_range in
       record {
         inserts = record {
-          in_range = λ out. in_range ((IsOutOfRange-stands is_map stands k).0 out);
-          capacity = rw (value_of-stands is_map stands k, length-stands is_map stands, stands.capacity, stands.factor) capacity;
+          fits = record {
+            in_range = λ out. fits.in_range ((IsOutOfRange-stands is_map stands k).0 out);
+            capacity = rw (value_of-stands is_map stands k, length-stands is_map stands, stands.capacity, stands.factor) fits.capacity;
+          };
           placed = refl;
           after = refl;
         };
@@ -66,7 +67,7 @@ module _ {K V : Type 0} (number : K → ℕ) (is_valid : K → Type 0) (m : MapS
           factor = stands.factor ∙ sym (ap (λ x. x.factor) is);
           placed =
               ap (λ x. x + cond (n.capacity == s.capacity) 0 (length (put_pair number s.pairs s.capacity k v))) stands.placed
-              ∙ ap (λ x. m.placed + x) (sym (placements-stands is_map stands k v n.capacity capacity)) ∙ sym (ap (λ x. x.placed) is);
+              ∙ ap (λ x. m.placed + x) (sym (placements-stands is_map stands k v n.capacity fits.capacity)) ∙ sym (ap (λ x. x.placed) is);
           compared = compared-stands is_map stands k ∙ sym (ap (λ x. x.compared) is);
         };
       }
@@ -98,11 +99,10 @@ module _ {K V : Type 0} (number : K → ℕ) (is_valid : K → Type 0) (m : MapS
 
 module _ {K V S A : Type 0} (number : K → ℕ) (is_valid : K → Type 0) (m : MapState K V) (is_map : IsMap number is_valid m) (sees : V → S → Type 0) (keeps : K → V → Bool) where
   -- an insertion that succeeds
-  pub StepsFrom-insert : (k : K) (v : V) (n : MapState K V) → IsCapacityAfter number m.walk m.capacity m.factor k n.capacity
-      → (IsOutOfRange number m.walk m.capacity m.factor k → ⊥) → n ≡ after_insert number m k v n.capacity
+  pub StepsFrom-insert : (k : K) (v : V) (n : MapState K V) → Fits number m.walk m.capacity m.factor k n.capacity → n ≡ after_insert number m k v n.capacity
       → StepsFrom {A = A} number sees keeps m (command.Insert k v) (answer.Old (value_of number m.walk k)) n
-  StepsFrom-insert k v n capacity in_range is s stands =
-      let left = accepted number is_valid m is_map k v n capacity in_range is s stands in (
+  StepsFrom-insert k v n fits is s stands =
+      let left = accepted number is_valid m is_map k v n fits is s stands in (
         with_pair_in number s k v n.capacity,
         record {
           answers = inl (ap (λ o. answer.Old o) (sym (value_of-stands is_map stands k)), left.inserts);
@@ -111,11 +111,11 @@ module _ {K V S A : Type 0} (number : K → ℕ) (is_valid : K → Type 0) (m : 
       )
 
   -- a checked insertion of a new key that succeeds
-  StepsFrom-insert_new : (k : K) (v : V) (n : MapState K V) → IsNone (value_of number m.walk k) → IsCapacityAfter number m.walk m.capacity m.factor k n.capacity
-      → (IsOutOfRange number m.walk m.capacity m.factor k → ⊥) → n ≡ after_insert number m k v n.capacity
+  StepsFrom-insert_new : (k : K) (v : V) (n : MapState K V) → IsNone (value_of number m.walk k) → Fits number m.walk m.capacity m.factor k n.capacity
+      → n ≡ after_insert number m k v n.capacity
       → StepsFrom {A = A} number sees keeps m (command.InsertChecked k v) (answer.Flag true) n
-  StepsFrom-insert_new k v n new_key capacity in_range is s stands =
-      let left = accepted number is_valid m is_map k v n capacity in_range is s stands in (
+  StepsFrom-insert_new k v n new_key fits is s stands =
+      let left = accepted number is_valid m is_map k v n fits is s stands in (
         with_pair_in number s k v n.capacity,
         record {
           answers = inr (inl (refl, rw (value_of-stands is_map stands k) new_key, left.inserts));
@@ -147,11 +147,11 @@ module _ {K V S A : Type 0} (number : K → ℕ) (is_valid : K → Type 0) (m : 
       StepsFrom-searched k (command.InsertChecked k v) (answer.Flag false) s stands (inl (refl, rw (value_of-stands is_map stands k) bound, refl))
 
   -- a checked insertion that succeeds, of a present key or not
-  pub StepsFrom-insert_checked : (k : K) (v : V) (n : MapState K V) (new : Bool) → new ≡ is_none (value_of number m.walk k) → IsCapacityAfter number m.walk m.capacity m.factor k n.capacity
-      → (IsOutOfRange number m.walk m.capacity m.factor k → ⊥) → MatchBool new (n ≡ after_insert number m k v n.capacity) (n ≡ after_search number m k)
+  pub StepsFrom-insert_checked : (k : K) (v : V) (n : MapState K V) (new : Bool) → new ≡ is_none (value_of number m.walk k) → Fits number m.walk m.capacity m.factor k n.capacity
+      → MatchBool new (n ≡ after_insert number m k v n.capacity) (n ≡ after_search number m k)
       → StepsFrom {A = A} number sees keeps m (command.InsertChecked k v) (answer.Flag new) n
-  StepsFrom-insert_checked k v n true new capacity in_range is = StepsFrom-insert_new k v n (none_of (value_of number m.walk k) new) capacity in_range is
-  StepsFrom-insert_checked k v n false new capacity in_range is = rw is (StepsFrom-bound k v (some_of (value_of number m.walk k) new))
+  StepsFrom-insert_checked k v n true new fits is = StepsFrom-insert_new k v n (none_of (value_of number m.walk k) new) fits is
+  StepsFrom-insert_checked k v n false new fits is = rw is (StepsFrom-bound k v (some_of (value_of number m.walk k) new))
 
   -- whether a key is present
   pub StepsFrom-contains_key : (k : K) → StepsFrom {A = A} number sees keeps m (command.ContainsKey k) (answer.Flag (is_some (value_of number m.walk k))) m

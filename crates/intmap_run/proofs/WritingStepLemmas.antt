@@ -1,9 +1,9 @@
 -- Values written in their places, calls of entries and a walk of which some pairs stay are one step of every list that stands for the map.
-use Rattle.std.proofs.Common.{◌≡◌, inl, inr, ℕ, Bool, Some, None, refl, sym, ap, ◌∙◌}
+use Rattle.std.proofs.Common.{◌≡◌, inl, inr, ℕ, Bool, Some, None, refl, sym, ap, subst, ◌∙◌}
 use Rattle.std.specs.Prelude.{IsNone}
 use Rattle.intmap.specs.Bindings.{value_of, take_key, write_value, keep_pairs}
 use Rattle.intmap.specs.Classes.{same_key}
-use Rattle.intmap.specs.Map.{MapState, IsMap, IsCapacityAfter, IsOutOfRange, after_search, after_insert, after_remove, with_pair, without_key, written}
+use Rattle.intmap.specs.Map.{MapState, IsMap, Fits, after_search, after_insert, after_remove, with_pair, without_key, written}
 use Rattle.intmap.specs.PlainLists.{PlainList, Stands, looked_up, RefusalIsDue, list_of}
 use Rattle.intmap.specs.declared.refusal.Cause.{Cause}
 use Rattle.intmap_run.specs.declared.command.Command.{Command}
@@ -65,11 +65,11 @@ module _ {K V S A : Type 0} (number : K → ℕ) (is_valid : K → Type 0) (m : 
         },
       )
 
-  StepsFrom-entry_missing : (k : K) (v : V) (D : ℕ) → value_of number m.walk k ≡ None → IsCapacityAfter number m.walk m.capacity m.factor k D → (IsOutOfRange number m.walk m.capacity m.factor k → ⊥)
+  StepsFrom-entry_missing : (k : K) (v : V) (D : ℕ) → value_of number m.walk k ≡ None → Fits number m.walk m.capacity m.factor k D
       → StepsFrom {A = A} number sees keeps m (command.EntryInsert k v) answer.Fresh (after_insert number m k v D)
-  StepsFrom-entry_missing k v D missing after in_range s stands =
+  StepsFrom-entry_missing k v D missing fits s stands =
       let none : IsNone (value_of number s.pairs k) = rw (value_of-stands is_map stands k, missing) refl in
-      let left = accepted number is_valid m is_map k v (after_insert number m k v D) after in_range refl s stands in (
+      let left = accepted number is_valid m is_map k v (after_insert number m k v D) fits refl s stands in (
         with_pair_in number s k v D,
         record {
           answers = inr (inl (refl, none, left.inserts));
@@ -104,10 +104,10 @@ module _ {K V S A : Type 0} (number : K → ℕ) (is_valid : K → Type 0) (m : 
     StepsFrom-entry_insert v old bound = rw (searched, same_key) (StepsFrom-entry_bound k v old (rw (searched, same_key) at bound))
 
     -- a pair put in by an entry
-    pub StepsFrom-fresh : (v w : V) (D : ℕ) → value_of number x.walk q ≡ None → w ≡ v → IsCapacityAfter number x.walk x.capacity x.factor q D → (IsOutOfRange number x.walk x.capacity x.factor q → ⊥)
+    pub StepsFrom-fresh : (v w : V) (D : ℕ) → value_of number x.walk q ≡ None → w ≡ v → Fits number x.walk x.capacity x.factor q D
         → StepsFrom {A = A} number sees keeps m (command.EntryInsert k v) answer.Fresh (with_pair number x q w D)
-    StepsFrom-fresh v w D missing value next in_range =
-        rw (searched, same_key, value) (StepsFrom-entry_missing k v D (rw (searched, same_key) at missing) (rw (searched, same_key) at next) (rw (searched, same_key) at in_range))
+    StepsFrom-fresh v w D missing value fits =
+        rw (searched, same_key, value) (StepsFrom-entry_missing k v D (rw (searched, same_key) at missing) (subst (λ (r : MapState K V × K). Fits number r.0.walk r.0.capacity r.0.factor r.1 D) (λ i. (searched i, same_key i)) fits))
 
     -- a pair that an entry couldn't put in
     pub StepsFrom-not_fresh : (v : V) (cause : Cause) → RefusalIsDue number (list_of x) q cause

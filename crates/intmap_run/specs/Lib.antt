@@ -1,4 +1,3 @@
-pub mod Growing
 pub mod Runs
 pub mod Bounds
 pub mod Steps

@@ -1,5 +1,5 @@
 -- What one command answers and leaves of a plain list, and what lists of commands do.
-use Rattle.std.specs.Prelude.{◌≡◌, ℕ, ◌==◌, Bool, true, false, is_some, IsSome, IsNone, List, [], ◌∷◌, length, Option, Some, None, ◌⊎◌}
+use Rattle.std.specs.Prelude.{◌≡◌, ℕ, ◌+◌, ◌==◌, Bool, true, false, is_some, IsSome, IsNone, List, [], ◌∷◌, length, Option, Some, None, ◌⊎◌}
 use Rattle.std.specs.List.{AllZip}
 use Rattle.std.specs.Map.{keys_of, values_of}
 use Rattle.std.specs.declared.vec.Vec.{Vec}
@@ -14,8 +14,8 @@ use Rattle.intmap_run.specs.declared.command.Command.{Command}
 use Rattle.intmap_run.specs.declared.command.Command.TheVariants as command
 use Rattle.intmap_run.specs.declared.answer.Answer.{Answer}
 use Rattle.intmap_run.specs.declared.answer.Answer.TheVariants as answer
+use Rattle.intmap.specs.Growing.{ListReserves, MayRefuseReserve, ListSetsFactor, MayRefuseFactor}
 use Rattle.intmap.specs.PlainLists.{PlainList, empty_list, Stands, looked_up, ListInserts, ListInsertsAll, ListInsertsUpTo, RefusalIsDue}
-use Rattle.intmap_run.specs.Growing.{Reserves, MayRefuseReserve, SetsFactor, MayRefuseFactor}
 
 -- what a judge sees of a value, if there is one
 abbrev pub SeesOption : {V S : Type 0} → (V → S → Type 0) → Option V → Option S → Type 0
@@ -105,8 +105,10 @@ module _ {K V S A : Type 0} (number : K → ℕ) (sees : V → S → Type 0) (ke
   Answers s (command.Remove k) a t = AnswersRemove (looked_up number s k) k a t
   Answers s command.Clear a t = (a ≡ answer.Done) × (t ≡ record s { pairs = [] })
   Answers s command.Retain a t = (a ≡ answer.Done) × (t ≡ record s { pairs = keep_pairs keeps s.pairs })
-  Answers s (command.Reserve n) a t = ((a ≡ answer.Done) × Reserves s n t) ⊎ Refuses s (MayRefuseReserve s n) None a t
-  Answers s (command.SetLoadFactor f) a t = ((a ≡ answer.Done) × SetsFactor s f t) ⊎ Refuses s (MayRefuseFactor s f) None a t
+  Answers s (command.Reserve n) a t =
+      ((a ≡ answer.Done) × ListReserves s n t) ⊎ Refuses s (MayRefuseReserve s.capacity (length s.pairs + n)) None a t
+  Answers s (command.SetLoadFactor f) a t =
+      ((a ≡ answer.Done) × ListSetsFactor s f t) ⊎ Refuses s (MayRefuseFactor s.capacity (length s.pairs) f) None a t
   Answers s command.GetLoadFactor a t = (a ≡ answer.Number s.factor) × (t ≡ s)
   Answers s (command.EntryInsert k v) a t = AnswersEntryInsert (looked_up number s k) k v a t
   Answers s (command.EntryRemove k) a t = AnswersRemove (looked_up number s k) k a t

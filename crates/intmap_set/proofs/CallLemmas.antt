@@ -1,18 +1,18 @@
 -- What a call leaves of the map and returns, as the set shows it.
-use Rattle.std.proofs.Common.{◌≡◌, ◌∙◌, ℕ, ◌+◌, Bool, true, false, cond, Some, refl, sym, ap, subst, length, max}
+use Rattle.std.proofs.Common.{◌≡◌, ◌∙◌, ℕ, ◌+◌, Bool, true, false, cond, Some, refl, sym, ap, subst, length}
 use Rattle.std.specs.Prelude.{not, is_none, Result, Ok, Err, IfErr, OnErr, IsErrAnd, MatchBool}
 use Rattle.std.proofs.lemmas.Map.Entries.{length-keys_of}
 use Rattle.intmap.specs.declared.refusal.Cause.{Cause}
 use Rattle.intmap.specs.Bindings.{value_of}
 use Rattle.intmap.specs.Insertions.{IsInsertion}
 use Rattle.intmap.specs.PlainLists.{RefusalIsDue, list_of}
-use Rattle.intmap.specs.Growth.{IsLeastPower}
-use Rattle.intmap.specs.Map.{MapState, IsLone, IsOutOfRange, IsCapacityAfter, after_search, after_insert, after_remove, in_slots}
+use Rattle.intmap.specs.Growing.{IsReservation, IsEnough, MayRefuseReserve}
+use Rattle.intmap.specs.Map.{MapState, IsLone, after_search, after_insert, after_remove, in_slots}
 use Rattle.intmap.specs.Reach.{reach}
 use Rattle.intmap.specs.Walk.{ArePassed}
 use Rattle.intmap_set.specs.Sets.{SetState, as_map, load_factor, looked_up, paired, set_of}
 use Rattle.intmap_set.specs.Extending.{Inserts}
-use Rattle.intmap_set.proofs.MemberLemmas.{IsSet-seen, Updates-seen, as_map-seen, holds-seen, length-seen, not-is_none, set_of-as_map}
+use Rattle.intmap_set.proofs.MemberLemmas.{Updates-seen, as_map-seen, holds-seen, length-seen, not-is_none, set_of-as_map}
 
 -- what holds, holds on an error
 pub on_err_given : {T E P : Type 0} (r : Result T E) → P → OnErr r P
@@ -34,10 +34,12 @@ module _ {K : Type 0} (number : K → ℕ) (m n : MapState K (Unit {0})) (s : Se
   in_slots-seen state = ap set_of state ∙ ap (λ x. set_of (in_slots number x n.capacity)) (as_map-seen m s seen kept)
 
   -- room for n members is room for n pairs
-  pub reserved-seen : (d : ℕ) → ((p : ℕ) × IsLeastPower (length m.walk + d) p × (n.capacity ≡ max m.capacity p))
-      → (p : ℕ) × IsLeastPower (length s.walk + d) p × (n.capacity ≡ max s.capacity p)
-  reserved-seen d made =
-      (made.0, subst (λ l. IsLeastPower (l + d) made.0) (length-seen m s seen) made.1, made.2 ∙ ap (λ t. max t.capacity made.0) seen)
+  pub reserved-seen : (d : ℕ) → IsReservation number m d n → IsEnough s.capacity (length s.walk + d) n.capacity
+  reserved-seen d did = subst (λ (t : ℕ × ℕ). IsEnough t.0 (t.1 + d) n.capacity) (λ i. ((seen i).capacity, length-seen m s seen i)) did.enough
+
+  -- and why that fails is why the set does
+  pub MayRefuseReserve-seen : (d : ℕ) (r : Result (Unit {0}) Cause) → IfErr r (MayRefuseReserve m.capacity (length m.walk + d)) → IfErr r (MayRefuseReserve s.capacity (length s.walk + d))
+  MayRefuseReserve-seen d r = subst (λ (t : ℕ × ℕ). IfErr r (MayRefuseReserve t.0 (t.1 + d))) (λ i. ((seen i).capacity, length-seen m s seen i))
 
   -- slots without a member are slots without a pair
   pub ArePassed-seen : (i : ℕ) → ArePassed number m.walk m.capacity i → ArePassed number (paired s.walk) s.capacity i
@@ -75,13 +77,12 @@ module _ {K : Type 0} (number : K → ℕ) (m n : MapState K (Unit {0})) (s : Se
     pub Inserts-seen : (is_valid : K → Type 0) (new : Bool) → new ≡ is_none (value_of number m.walk k)
         → MatchBool new (n ≡ after_insert number m k tt n.capacity) (n ≡ after_search number m k) → IsInsertion number is_valid m k tt n → Inserts number is_valid s k (set_of n)
     Inserts-seen is_valid new was state did = record {
-      in_range = λ beyond. did.in_range (subst (λ x. IsOutOfRange number x.walk x.capacity x.factor k) (sym (as_map-seen m s seen kept)) beyond);
-      capacity = subst (λ x. IsCapacityAfter number x.walk x.capacity x.factor k n.capacity) (as_map-seen m s seen kept) did.capacity;
+      inserted = subst (λ x. IsInsertion number is_valid x k tt (as_map (set_of n))) (as_map-seen m s seen kept)
+          (subst (IsInsertion number is_valid m k tt) (as_map-seen n (set_of n) refl (left.0 ∙ kept)) did);
       state = left.1 ∙ ap (λ b. cond b (looked_up number s k) (set_of (after_insert number (as_map s) k tt n.capacity))) (ap not was ∙ not-is_none (value_of number m.walk k) ∙ sym (holds-seen number m s k seen));
       compared = compared-seen new state;
       updates = Updates-seen number m n s k (Some tt) seen did.updates;
       len = length-keys_of n.walk ∙ did.len ∙ ap (λ (t : ℕ × Bool). t.0 + cond t.1 0 1) (λ i. (length-seen m s seen i, sym (holds-seen number m s k seen) i));
-      valid = IsSet-seen number is_valid n (set_of n) refl (left.0 ∙ kept) did.valid;
     }
       where
         left : (n.factor ≡ m.factor) × (set_of n ≡ cond (not new) (looked_up number s k) (set_of (after_insert number (as_map s) k tt n.capacity)))

@@ -106,7 +106,7 @@ module _ {K : Type 0} (number : K → ℕ) (is_valid : K → Type 0) where
           let one = last.len in
           omega (arith, one, more, counted, start));
       capacity =
-          (let kept = capacity-not_less (value_of number (paired u.walk) k) u.capacity (length (paired u.walk) + 1) load_factor t.capacity last.capacity in
+          (let kept = capacity-not_less (value_of number (paired u.walk) k) u.capacity (length (paired u.walk) + 1) load_factor t.capacity last.inserted.fits.capacity in
           let start = before.capacity in
           omega (arith, kept, start));
     }

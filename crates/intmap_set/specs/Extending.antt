@@ -6,24 +6,22 @@ use Rattle.intmap.specs.declared.refusal.Cause.{Cause}
 use Rattle.intmap.specs.declared.refusal.Cause.TheVariants.{Memory}
 use Rattle.intmap.specs.declared.refusal.RefusedPair.{RefusedPair}
 use Rattle.intmap.specs.Extending.{new_keys}
-use Rattle.intmap.specs.Map.{IsOutOfRange, IsCapacityAfter, after_insert}
+use Rattle.intmap.specs.Insertions.{IsInsertion}
+use Rattle.intmap.specs.Map.{after_insert}
 use Rattle.intmap.specs.PlainLists.{RefusalIsDue, list_of}
 use Rattle.intmap.specs.Reach.{reach}
-use Rattle.intmap_set.specs.Sets.{SetState, IsSet, Updates, as_map, holds, load_factor, looked_up, paired, set_of}
+use Rattle.intmap_set.specs.Sets.{SetState, IsSet, Updates, as_map, holds, looked_up, paired, set_of}
 use Rattle.intmap_set.specs.Combined.{IsUnion}
 
 module _ {K : Type 0} (number : K → ℕ) (is_valid : K → Type 0) where
-  -- an insertion of k took the set s to t: k is in range, a new key alone may grow the table, and is then the last of its slot,
-  -- a member is looked up and nothing more, the search is counted, each other key is a member exactly if it was one, and there is one
-  -- member more if k is new
+  -- an insertion of k took the set s to t: it is one into the map, a new key is the last of its slot, a member is looked up and nothing
+  -- more, the search is counted, each other key is a member exactly if it was one, and there is one member more if k is new
   pub record Inserts (s : SetState K) (k : K) (t : SetState K) : Type 0 where
-    pub in_range : IsOutOfRange number (paired s.walk) s.capacity load_factor k → ⊥
-    pub capacity : IsCapacityAfter number (paired s.walk) s.capacity load_factor k t.capacity
+    pub inserted : IsInsertion number is_valid (as_map s) k tt (as_map t)
     pub state : t ≡ cond (holds number s.walk k) (looked_up number s k) (set_of (after_insert number (as_map s) k tt t.capacity))
     pub compared : t.compared ≡ s.compared + reach number (paired s.walk) s.capacity k
     pub updates : Updates number s.walk t.walk k true
     pub len : length t.walk ≡ length s.walk + cond (holds number s.walk k) 0 1
-    pub valid : IsSet number is_valid t
 
   -- the keys were inserted in turn, and none failed
   abbrev pub InsertsAll : SetState K → List K → SetState K → Type 0

@@ -1,8 +1,8 @@
 //! The capacity and the load factor, as callers set them.
-ghost use Rattle.std.specs.Prelude.{◌≡◌, ◌↔◌, ℕ, ◌+◌, ◌^◌, ◌<◌, max, length, Err, OnOk, OnErr};
+ghost use Rattle.std.specs.Prelude.{◌≡◌, ◌+◌, length, IfErr, OnOk, OnErr};
 ghost use Rattle.intmap_table.specs.Bindings.{value_of};
-ghost use Rattle.intmap.specs.Growth.{IsWanted, IsLeastPower, NeedsTooMuch};
-ghost use Rattle.intmap.specs.Map.{IsMap, in_slots};
+ghost use Rattle.intmap.specs.Growing.{IsReservation, IsNewFactor, MayRefuseReserve, MayRefuseFactor};
+ghost use Rattle.intmap.specs.Map.{IsMap};
 
 use crate::load::{GREATEST_CAPACITY, threshold_of, wanted_capacity};
 use crate::map::IntMap;
@@ -26,15 +26,11 @@ impl<K: IntKey, V: Drop, A: Allocator + Copy> IntMap<K, V, A> {
     /// reserve(9223372036854775808)    Err(Cause::TooLarge)
     /// ```
     pub fn reserve(&mut self, additional: usize) -> Result<(), Cause>
-        ensures capacity { OnOk result ((p : ℕ) × IsLeastPower (length self.old.walk + additional) p
-            × (self.new.capacity ≡ max self.old.capacity p)) }
-        ensures state { OnOk result
-            (self.new ≡ in_slots K.number_of self.old self.new.capacity) }
+        ensures reserved { OnOk result
+            (IsReservation K.number_of self.old additional self.new) }
         ensures err { OnErr result (self.new ≡ self.old) }
-        ensures too_large { (result ≡ Err Cause.TooLarge)
-            ↔ (2 ^ 63 < length self.old.walk + additional) }
-        ensures memory { result ≡ Err Cause.Memory
-            → self.old.capacity < length self.old.walk + additional }
+        ensures refused { IfErr result
+            (MayRefuseReserve self.old.capacity (length self.old.walk + additional)) }
         ensures updates { (q : K)
             → value_of K.number_of self.new.walk q ≡ value_of K.number_of self.old.walk q }
         ensures len { length self.new.walk ≡ length self.old.walk }
@@ -67,15 +63,10 @@ impl<K: IntKey, V: Drop, A: Allocator + Copy> IntMap<K, V, A> {
     /// set_load_factor(909)    Ok(()), and still 32 slots
     /// ```
     pub fn set_load_factor(&mut self, thousandths: usize) -> Result<(), Cause>
-        ensures capacity { OnOk result (IsWanted self.old.capacity (length self.old.walk)
-            thousandths self.new.capacity) }
-        ensures state { OnOk result (self.new
-            ≡ in_slots K.number_of (record self.old { factor = thousandths }) self.new.capacity) }
+        ensures set { OnOk result (IsNewFactor K.number_of self.old thousandths self.new) }
         ensures err { OnErr result (self.new ≡ self.old) }
-        ensures too_large { (result ≡ Err Cause.TooLarge)
-            ↔ NeedsTooMuch (IsWanted self.old.capacity (length self.old.walk) thousandths) }
-        ensures memory { result ≡ Err Cause.Memory
-            → IsWanted self.old.capacity (length self.old.walk) thousandths self.old.capacity → ⊥ }
+        ensures refused { IfErr result
+            (MayRefuseFactor self.old.capacity (length self.old.walk) thousandths) }
         ensures updates { (q : K)
             → value_of K.number_of self.new.walk q ≡ value_of K.number_of self.old.walk q }
         ensures len { length self.new.walk ≡ length self.old.walk }

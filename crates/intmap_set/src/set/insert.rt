@@ -1,5 +1,6 @@
 //! New sets, and the insertion of a key.
 ghost use Rattle.std.specs.Prelude.{◌≡◌, ◌↔◌, ℕ, ◌+◌, ◌^◌, ◌<◌, max, length, not, Err, IfOk, IfErr, OnOk, OnErr, IsOk};
+ghost use Rattle.intmap.specs.Growing.{IsEnough, MayRefuseReserve};
 ghost use Rattle.intmap.specs.Growth.{IsLeastPower};
 ghost use Rattle.intmap.specs.Map.{IsLone, in_slots, least_capacity};
 ghost use Rattle.intmap.specs.PlainLists.{RefusalIsDue, list_of};
@@ -80,15 +81,13 @@ impl<K: IntKey, A: Allocator + Copy> IntSet<K, A> {
     /// otherwise with [`Cause::Memory`] if an allocation fails. It never fails if the capacity is
     /// at least that sum. A failed call leaves the set as it was. Both counts stay.
     pub fn reserve(&mut self, additional: usize) -> Result<(), Cause>
-        ensures capacity { OnOk result ((p : ℕ) × IsLeastPower (length self.old.walk + additional) p
-            × (self.new.capacity ≡ max self.old.capacity p)) }
+        ensures capacity { OnOk result (IsEnough self.old.capacity
+            (length self.old.walk + additional) self.new.capacity) }
         ensures state { OnOk result
             (self.new ≡ set_of (in_slots K.number_of (as_map self.old) self.new.capacity)) }
         ensures err { OnErr result (self.new ≡ self.old) }
-        ensures too_large { (result ≡ Err Cause.TooLarge)
-            ↔ (2 ^ 63 < length self.old.walk + additional) }
-        ensures memory { result ≡ Err Cause.Memory
-            → self.old.capacity < length self.old.walk + additional }
+        ensures refused { IfErr result
+            (MayRefuseReserve self.old.capacity (length self.old.walk + additional)) }
         ensures same { (q : K)
             → holds K.number_of self.new.walk q ≡ holds K.number_of self.old.walk q }
         ensures len { length self.new.walk ≡ length self.old.walk }

@@ -1,6 +1,6 @@
 use Rattle.std.proofs.Common.{rules, inl, inr, sym, subst, ap, ◌∙◌}
 use Rattle.std.proofs.Math.Facts.{to_z-of_z}
-use Rattle.intmap_c.specs.Calls.{Binds, Fails}
+use Rattle.intmap_c.specs.Calls.{Binds, FailsToBind}
 use Rattle.intmap_c.proofs.AnswerLemmas.{Binds-new, Fails-due}
 use Rattle.intmap_c.proofs.pairs.add_or_insert.Goals as goal
 
@@ -15,11 +15,11 @@ returns-in-Ok c =
       c.of-in-Ok.ensures,
       v.occupied,
       subst (λ n. Binds c.args.map.now n c.args.key c.args.more) (sym (c.map-in-Ok-1.given.1 name ∙ left))
-          (Binds-new c.args.map.now _ c.args.key _ v.state v.key v.occupied _ c.args.more _ made.written.map made.inserted),
+          (Binds-new c.args.map.now _ c.args.key _ v.state v.key _ c.args.more _ made.written.map made.inserted),
     ))
 
 pub returns-in-Err : goal.returns-in-Err
 returns-in-Err c =
-    let v = c.in-Vacant.ensures in let told = rw (to_z-of_z (record { sfits = c.status_of.type_inv })) at c.none.ensures in let status = ap (λ a. a.status) told in let why = c.status_of.ensures in
-    let due = Fails-due c.args.map.now _ c.args.key _ v.state v.key v.occupied _ _ _ (search rules) c.in-Err.ensures.refused why.failed why.too_large why.memory in
-    inr (inr (told ∙ ap (λ s. record { value = 0; status = s }) (sym status), subst (Fails c.args.map.now _ c.args.key) (sym status) due))
+    let v = c.in-Vacant.ensures in let told = rw (to_z-of_z (record { sfits = c.status_of.type_inv })) at c.none.ensures in let status = ap (λ a. a.status) told in
+    let due = Fails-due c.args.map.now _ c.args.key _ v.state v.key _ _ _ (search rules) c.in-Err.ensures.refused c.status_of.ensures in
+    inr (inr (told ∙ ap (λ s. record { value = 0; status = s }) (sym status), subst (FailsToBind c.args.map.now _ c.args.key) (sym status) due))

@@ -8,7 +8,7 @@ pub returns-in-Ok-clause-step : goal.returns-in-Ok-clause-step
 returns-in-Ok-clause-step g c =
     rw (c.in-Insert.is, c.in-Ok.ensures.old)
     (StepsFrom-insert g.K.IntKey.number_of g.K.IntKey.is_valid c.args.map.now c.insert.ensures.valid (g.J.Judge.sees c.args.judge.now) (g.J.Judge.keeps c.args.judge.now)
-    c.in-Insert.key c.in-Insert.value c.insert.new.self c.in-Ok.ensures.inserted.capacity c.in-Ok.ensures.inserted.in_range c.in-Ok.ensures.state)
+    c.in-Insert.key c.in-Insert.value c.insert.new.self c.in-Ok.ensures.inserted.fits c.in-Ok.ensures.state)
 
 pub returns-in-Err-clause-step : goal.returns-in-Err-clause-step
 returns-in-Err-clause-step g c =
@@ -21,7 +21,7 @@ returns-in-Ok-insert_checked-clause-step g c =
     let e = c.in-Ok-insert_checked.ensures in
     rw c.in-InsertChecked.is
     (StepsFrom-insert_checked g.K.IntKey.number_of g.K.IntKey.is_valid c.args.map.now c.insert_checked.ensures.valid (g.J.Judge.sees c.args.judge.now) (g.J.Judge.keeps c.args.judge.now)
-    c.in-InsertChecked.key c.in-InsertChecked.value c.insert_checked.new.self c.in-Ok-insert_checked.new e.new e.inserted.capacity e.inserted.in_range e.state)
+    c.in-InsertChecked.key c.in-InsertChecked.value c.insert_checked.new.self c.in-Ok-insert_checked.new e.new e.inserted.fits e.state)
 
 pub returns-in-Err-insert_checked-clause-step : goal.returns-in-Err-insert_checked-clause-step
 returns-in-Err-insert_checked-clause-step g c =
@@ -83,14 +83,14 @@ returns-in-Reserve-clause-step g c =
     let e = c.reserve.ensures in
     rw c.in-Reserve.is
     (StepsFrom-reserve g.K.IntKey.number_of g.K.IntKey.is_valid c.args.map.now e.valid (g.J.Judge.sees c.args.judge.now) (g.J.Judge.keeps c.args.judge.now)
-    c.in-Reserve.additional c.reserve.result c.done.result c.reserve.new.self e.capacity e.state e.err e.too_large e.memory c.done.ensures)
+    c.in-Reserve.additional c.reserve.result c.done.result c.reserve.new.self e.reserved e.err e.refused c.done.ensures)
 
 pub returns-in-SetLoadFactor-clause-step : goal.returns-in-SetLoadFactor-clause-step
 returns-in-SetLoadFactor-clause-step g c =
     let e = c.set_load_factor.ensures in
     rw c.in-SetLoadFactor.is
     (StepsFrom-set_load_factor g.K.IntKey.number_of g.K.IntKey.is_valid c.args.map.now e.valid (g.J.Judge.sees c.args.judge.now) (g.J.Judge.keeps c.args.judge.now)
-    c.in-SetLoadFactor.thousandths c.set_load_factor.result c.done-in-SetLoadFactor.result c.set_load_factor.new.self e.capacity e.state e.err e.too_large e.memory c.done-in-SetLoadFactor.ensures)
+    c.in-SetLoadFactor.thousandths c.set_load_factor.result c.done-in-SetLoadFactor.result c.set_load_factor.new.self e.set e.err e.refused c.done-in-SetLoadFactor.ensures)
 
 pub returns-in-EntryInsert-clause-step : goal.returns-in-EntryInsert-clause-step
 returns-in-EntryInsert-clause-step g c = rw c.in-EntryInsert.is (c.entry_insert.ensures.step c.args.judge.now)

@@ -15,7 +15,7 @@ returns-in-Ok-clause-step g c =
     let e = c.in-Vacant.ensures in
     λ judge. StepsFrom-equal g.K.IntKey.number_of (g.J.Judge.sees judge) (g.J.Judge.keeps judge) c.args.map.now _ _ _ _
     (StepsFrom-fresh g.K.IntKey.number_of g.K.IntKey.is_valid c.args.map.now e.valid (g.J.Judge.sees judge) (g.J.Judge.keeps judge) c.args.key
-    c.in-Vacant.entry.key c.in-Vacant.entry.map.now e.state e.key c.args.value c.in-Ok._value.now _ c.in-Vacant.entry.missing c.in-Ok.ensures.value (c.in-Ok.ensures.inserted c.in-Ok._value.now).capacity (c.in-Ok.ensures.inserted c.in-Ok._value.now).in_range) (search rules)
+    c.in-Vacant.entry.key c.in-Vacant.entry.map.now e.state e.key c.args.value c.in-Ok._value.now _ c.in-Vacant.entry.missing c.in-Ok.ensures.value (c.in-Ok.ensures.inserted c.in-Ok._value.now).fits) (search rules)
 
 pub returns-in-Err-clause-step : goal.returns-in-Err-clause-step
 returns-in-Err-clause-step g c =

@@ -3,7 +3,6 @@ use Rattle.std.proofs.Common.{Some, refl, sym, subst, arith, rules}
 use Rattle.std.specs.Iterator.{Yields}
 use Rattle.std.proofs.iter.runs.Consumers.{total_runs}
 use Rattle.std.proofs.lemmas.List.{length_push}
-use Rattle.intmap.specs.Extending.{MapInserts}
 use Rattle.intmap.proofs.ExtendLemmas.{IsExtended-nil, IsExtended-push, length-new_keys}
 use Rattle.intmap.proofs.map.IntMap.extend.Goals as goal
 
@@ -13,12 +12,10 @@ loop-key-init g c = (search rules, IsExtended-nil g.K.IntKey.number_of g.K.IntKe
 pub loop-key-preserved : goal.loop-key-preserved
 loop-key-preserved g c =
     let e = c.in-Ok.ensures in
-    let kept = c.loop-key.invariant in
-    let last : MapInserts g.K.IntKey.number_of g.K.IntKey.is_valid c.loop-key.self c.in-Some.key c.in-Some.value c.insert.new.self =
-    record { in_range = e.inserted.in_range; capacity = e.inserted.capacity; state = e.state; map = e.inserted.valid } in (
+    let kept = c.loop-key.invariant in (
       search rules,
       IsExtended-push g.K.IntKey.number_of g.K.IntKey.is_valid c.args.self.now c.loop-key.self c.insert.new.self c.loop-key.yielded c.in-Some.key c.in-Some.value
-          kept.1 last e.inserted.updates.0 e.inserted.len,
+          kept.1 (record { inserted = e.inserted; state = e.state }),
       omega (arith, c.saturating_add-applied.ensures, kept.2, length_push c.loop-key.yielded (c.in-Some.key, c.in-Some.value)),
       c.insert.ensures.valid_after,
       kept.4,

@@ -40,11 +40,9 @@ threshold_of-self-inside-requires g c = cap g (goal.at.threshold_of-self-inside-
 
 pub returns-then-self-gt-GREATEST_CAPACITY : goal.returns-then-self-gt-GREATEST_CAPACITY
 returns-then-self-gt-GREATEST_CAPACITY g c = record {
-  capacity = tt;
-  state = tt;
+  reserved = tt;
   err = refl;
-  too_large = grind (arith, common_steps);
-  memory = λ e. cc;
+  refused = record { too_large = grind (arith, common_steps); memory = λ e. cc };
   updates = λ q. refl;
   len = refl;
   valid = rw (← c.self.view_is) c.self.invariant.map;
@@ -58,15 +56,16 @@ returns-then-is_err g c =
     let kept = OnErr-at c.grow_to.result _ refused c.grow_to.ensures.err in
     let long = seen g at in
     rw (← c.self.view_is, kept) record {
-      capacity = tt;
-      state = tt;
+      reserved = tt;
       err = refl;
-      too_large = (λ e. cc, λ much. absurd (let small = c.if-additional-self.false in omega (arith, much, long, small)));
-      memory = λ _. elim (cases_lt c.self.inside.table.capacity (length c.self.inside.table.walk + c.args.additional)) [
-        | inl more ↦ more
-        | inr fits ↦ (let low = IsLeastPower-fits _ _ c.self.inside.table.capacity (least g at) c.self.invariant.map.capacity fits in
-            absurd (IsOk-at_err c.grow_to.result refused (c.grow_to.ensures.free (omega (arith, low, most g at)))))
-      ];
+      refused = record {
+        too_large = (λ e. cc, λ much. absurd (let small = c.if-additional-self.false in omega (arith, much, long, small)));
+        memory = λ _. elim (cases_lt c.self.inside.table.capacity (length c.self.inside.table.walk + c.args.additional)) [
+          | inl more ↦ more
+          | inr fits ↦ (let low = IsLeastPower-fits _ _ c.self.inside.table.capacity (least g at) c.self.invariant.map.capacity fits in
+              absurd (IsOk-at_err c.grow_to.result refused (c.grow_to.ensures.free (omega (arith, low, most g at)))))
+        ];
+      };
       updates = λ q. refl;
       len = refl;
       valid = c.self.invariant.map;
@@ -96,11 +95,17 @@ returns g c =
     let at = (goal.at.returns g c).After-max-capacity in let w = (goal.at.returns g c).After-threshold_of-self-inside in
     let after = (invariant_of-self-2 g c).map in
     rw (← c.self.view_is) record {
-      capacity = (c.next_power_of_two-slots.result, least g at, omega (arith, capacity g w, most g at));
-      state = rw (← walk g w) refl;
+      reserved = record {
+        enough = record {
+          in_range = (let long = seen g at in let small = c.if-additional-self.false in omega (arith, long, small));
+          power = c.next_power_of_two-slots.result;
+          least = least g at;
+          capacity = omega (arith, capacity g w, most g at);
+        };
+        state = rw (← walk g w) refl;
+      };
       err = tt;
-      too_large = (λ e. cc, λ much. absurd (let long = seen g at in let small = c.if-additional-self.false in omega (arith, much, long, small)));
-      memory = λ e. cc;
+      refused = tt;
       updates = λ q. value_of-in_slots g.K.IntKey.number_of g.K.IntKey.is_valid _ _ _ q after.capacity (walk g w);
       len = length-in_slots g.K.IntKey.number_of g.K.IntKey.is_valid _ _ _ after.capacity (walk g w);
       valid = c.self.invariant.map;

@@ -15,18 +15,13 @@ module _ (g : _) (c : After-is_err g) where
   wanted : IsWanted c.self.inside.table.capacity (length c.self.inside.table.walk) c.args.thousandths c.in-Some.capacity
   wanted = rw (← c.self.invariant.count) (rw c.capacity.ensures.value at c.in-Some.ensures.wanted)
 
-  within : NeedsTooMuch (IsWanted c.self.inside.table.capacity (length c.self.inside.table.walk) c.args.thousandths) → ⊥
-  within = not_too_much _ _ _ c.in-Some.capacity wanted (capacity-greatest c.in-Some.capacity c.in-Some.ensures.capacity)
-
 pub returns-in_default : goal.returns-in_default
 returns-in_default g c =
     let much : NeedsTooMuch (IsWanted c.self.inside.table.capacity (length c.self.inside.table.walk) c.args.thousandths) = rw (← c.self.invariant.count) (rw c.capacity.ensures.value at c.in_default.ensures.none) in
     rw (← c.self.view_is) record {
-      capacity = tt;
-      state = tt;
+      set = tt;
       err = refl;
-      too_large = (λ _. much, λ _. refl);
-      memory = λ e. cc;
+      refused = record { too_large = (λ _. much, λ _. refl); memory = λ e. cc };
       updates = λ q. refl;
       len = refl;
       valid = c.self.invariant.map;
@@ -38,11 +33,12 @@ returns-then-is_err g c =
     let at = (goal.at.returns-then-is_err g c).After-is_err in
     let refused = sym c.is_err.ensures.value ∙ c.if-is_err.true in
     rw (← c.self.view_is, OnErr-at c.grow_to.result _ refused c.grow_to.ensures.err) record {
-      capacity = tt;
-      state = tt;
+      set = tt;
       err = refl;
-      too_large = (λ e. cc, λ much. absurd (within g at much));
-      memory = λ _ enough. IsOk-at_err c.grow_to.result refused (c.grow_to.ensures.free (IsWanted-unique _ _ _ _ _ enough (wanted g at)));
+      refused = record {
+        too_large = (λ e. cc, λ much. absurd (not_too_much _ _ _ c.in-Some.capacity (wanted g at) (capacity-greatest c.in-Some.capacity c.in-Some.ensures.capacity) much));
+        memory = λ _ enough. IsOk-at_err c.grow_to.result refused (c.grow_to.ensures.free (IsWanted-unique _ _ _ _ _ enough (wanted g at)));
+      };
       updates = λ q. refl;
       len = refl;
       valid = c.self.invariant.map;
@@ -72,11 +68,12 @@ returns g c =
     let at = (goal.at.returns g c).After-is_err in let w = (goal.at.returns g c).After-threshold_of-self-inside in
     let after = (invariant_of-self-2 g c).map in
     rw (← c.self.view_is) record {
-      capacity = rw (capacity g w) (wanted g at);
-      state = rw (← walk g w) refl;
+      set = record {
+        meets = rw (capacity g w) (record { in_range = capacity-greatest c.in-Some.capacity c.in-Some.ensures.capacity; wanted = wanted g at });
+        state = rw (← walk g w) refl;
+      };
       err = tt;
-      too_large = (λ e. cc, λ much. absurd (within g at much));
-      memory = λ e. cc;
+      refused = tt;
       updates = λ q. value_of-in_slots g.K.IntKey.number_of g.K.IntKey.is_valid _ _ _ q after.capacity (walk g w);
       len = length-in_slots g.K.IntKey.number_of g.K.IntKey.is_valid _ _ _ after.capacity (walk g w);
       valid = c.self.invariant.map;

@@ -3,7 +3,7 @@ use Rattle.std.proofs.Common.{inr, ◌^◌, ◌<◌, ◌≤◌, [], ◌∷◌, �
 use Rattle.std.proofs.lemmas.List.{append-nil}
 use Rattle.serde_json.specs.View.{members_view}
 use Rattle.serde_json.proofs.Views.{members_len-members_view}
-use Rattle.intmap.specs.Extending.{MapInserts, IsExtended}
+use Rattle.intmap.specs.Extending.{IsExtended}
 use Rattle.intmap.specs.Growth.{IsLeastPower}
 use Rattle.intmap.specs.Json.{IsKeyText, HasKeyTexts, ArePairsOf, AreCollected, MayRefuseToRead}
 use Rattle.intmap.specs.Map.{empty_map}
@@ -77,9 +77,7 @@ loop-text-preserved c =
     let kept = c.loop-text.invariant in
     let first = c.in-Some.ensures.steps in
     let e = c.in_ok-insert.ensures in
-    let text : IsKeyText (string_bytes c.in-Some.text.now) k = subst (λ t. IsKeyText t k) c.as_str.ensures.value c.known_key-key.ensures.value in
-    let last : MapInserts (λ key. key) (λ key. key < 2 ^ 64) c.loop-text.map k v c.insert.new.self =
-    record { in_range = e.inserted.in_range; capacity = e.inserted.capacity; state = e.state; map = e.inserted.valid } in record {
+    let text : IsKeyText (string_bytes c.in-Some.text.now) k = subst (λ t. IsKeyText t k) c.as_str.ensures.value c.known_key-key.ensures.value in record {
       can = tt;
       ends = tt;
       texts = (subst (λ es. HasKeyTexts (members_view es)) first kept.texts).1;
@@ -88,7 +86,7 @@ loop-text-preserved c =
           let here = subst (λ es. ArePairsOf (members_view es) ((k, v) ∷ rest)) (sym first) (text, c.in_ok-clone.ensures.cases, are) in
           subst (λ ps. ArePairsOf ms ps) (sym (append_assoc kept.pairs ((k, v) ∷ []) rest)) (kept.are ((k, v) ∷ rest) here);
       extended = IsExtended-push (λ key. key) (λ key. key < 2 ^ 64) (empty_map c.in_ok-map.map.capacity) c.loop-text.map c.insert.new.self kept.pairs k v
-          kept.extended last e.inserted.updates.0 e.inserted.len;
+          kept.extended (record { inserted = e.inserted; state = e.state });
       map = c.insert.ensures.valid_after;
     }
 
