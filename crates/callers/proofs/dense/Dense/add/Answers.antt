@@ -14,9 +14,9 @@ invariant_of-self-in-Ok g c =
     let next : c.len-number.result ≡ length c.self.inside.values.walk = c.len-number.ensures.value ∙ c.reserve.ensures.len in
     let none = c.reserve.ensures.updates c.len-number.result ∙ is.not_given c.len-number.result (omega arith) in
     let long = rw none at put.inserted.len in
-    let roomy = c.in_default.ensures.capacity in
-    let kept = c.insertions_keep_capacity.ensures c.reserve.new.self.walk c.reserve.new.self.capacity c.reserve.new.self.factor c.len-number.result c.insert.new.self.capacity put.inserted.capacity in
-    let room : length c.insert.new.self.walk ≤ c.insert.new.self.capacity = omega (arith, long, c.reserve.ensures.len, kept, roomy.1.enough, roomy.2) in
+    let roomy = c.in_default.ensures.reserved.enough in
+    let kept = c.insertions_keep_capacity.ensures c.reserve.new.self.walk c.reserve.new.self.capacity c.reserve.new.self.factor c.len-number.result c.insert.new.self.capacity put.inserted.fits.capacity in
+    let room : length c.insert.new.self.walk ≤ c.insert.new.self.capacity = omega (arith, long, c.reserve.ensures.len, kept, roomy.least.enough, roomy.capacity) in
     let not_given : (n : ℕ) → length c.insert.new.self.walk ≤ n → value_at c.insert.new.self.walk n ≡ None =
     λ n above. let each = put.inserted.updates.0 n in let same = c.reserve.ensures.updates n in let had = is.not_given n in grind (arith, common_steps, nat_tests, each, same, had, long, next) in
     record {
@@ -41,7 +41,7 @@ pub invariant_of-self-2 : goal.invariant_of-self-2
 invariant_of-self-2 g c =
     let is = c.self.invariant in
     let more = c.reserve.ensures in
-    let room : length c.reserve.new.self.walk ≤ c.reserve.new.self.capacity = omega (arith, more.len, is.room, c.in_default.ensures.capacity.2) in
+    let room : length c.reserve.new.self.walk ≤ c.reserve.new.self.capacity = omega (arith, more.len, is.room, c.in_default.ensures.reserved.enough.capacity) in
     let absent : (n : ℕ) → length c.reserve.new.self.walk ≤ n → value_at c.reserve.new.self.walk n ≡ None = λ n above. more.updates n ∙ is.not_given n (omega (arith, more.len, above)) in
     rw c.in-Err-insert.ensures.err (record {
       room = room;

@@ -30,4 +30,4 @@ returns-in-Ok-clause-capacity c =
       | else-is_full-via-then-is_full+else-not-contains_key w ↦ λ absent. search (rules, absent, w.if-not-contains_key.false, w.contains_key.ensures.value)
       | else-is_full-via-else-is_full w ↦ λ absent. (let below = w.if-is_full.false in let len = c.len.ensures.value in let slots = c.capacity.ensures.value in grind (arith, common_steps, nat_tests, below, len, slots))
     ])
-    c.in-Ok.ensures.inserted.capacity
+    c.in-Ok.ensures.inserted.fits.capacity
