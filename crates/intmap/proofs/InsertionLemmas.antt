@@ -4,7 +4,7 @@ use Rattle.intmap_table.specs.Bindings.{value_of, put_pair, Updates}
 use Rattle.intmap_table.specs.Walk.{walk_of}
 use Rattle.intmap.specs.Growth.{IsNext}
 use Rattle.intmap.specs.Insertions.{IsInsertion}
-use Rattle.intmap.specs.Map.{MapState, IsMap, IsOutOfRange, Fits, after_search, written}
+use Rattle.intmap.specs.Map.{MapState, IsMap, Fits, after_search, written}
 use Rattle.intmap_table.proofs.BindingLemmas.{Updates-same}
 use Rattle.intmap.proofs.AfterLemmas.{Updates-put, length-put}
 use Rattle.intmap.proofs.LoadFactorLemmas.{in_range-next}

@@ -9,7 +9,7 @@ use Rattle.std.proofs.lemmas.List.{append-nil, map-append}
 use Rattle.std.proofs.lemmas.List.Elements.{filter-append}
 use Rattle.std.proofs.lemmas.List.Sums.{sum_by_push}
 use Rattle.std.proofs.lemmas.List.{length-append}
-use Rattle.intmap_table.specs.Bindings.{value_of, put_pair, write_value, Updates}
+use Rattle.intmap_table.specs.Bindings.{value_of, put_pair, write_value}
 use Rattle.intmap_table.specs.Figures.{each_once, tally_of}
 use Rattle.intmap.specs.Extending.{IsTally}
 use Rattle.intmap.specs.Insertions.{IsInsertion}

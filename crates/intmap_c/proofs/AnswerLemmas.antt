@@ -1,5 +1,5 @@
 -- What a call did to the map of a handle.
-use Rattle.std.proofs.Common.{◌≡◌, ◌∙◌, ℕ, ℤ, ◌^◌, ◌<◌, None, Some, Option, sym, ap, subst}
+use Rattle.std.proofs.Common.{◌≡◌, ◌∙◌, ℕ, ℤ, ◌^◌, ◌<◌, Some, Option, sym, ap, subst}
 use Rattle.intmap.specs.Insertions.{IsInsertion}
 use Rattle.intmap.specs.Map.{after_search, with_pair}
 use Rattle.intmap.specs.PlainLists.{RefusalIsDue, list_of}

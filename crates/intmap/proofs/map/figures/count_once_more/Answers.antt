@@ -1,4 +1,4 @@
-use Rattle.std.proofs.Common.{ℕ, ◌+◌, ◌<◌, ◌^◌, refl, ap}
+use Rattle.std.proofs.Common.{◌+◌, ◌<◌, ◌^◌, refl, ap}
 use Rattle.intmap.proofs.InsertionLemmas.{IsInsertion-searched}
 use Rattle.intmap.proofs.TallyLemmas.{IsTally-written, IsTally-inserted}
 use Rattle.intmap.proofs.map.figures.count_once_more.Goals as goal
