@@ -106,6 +106,7 @@ impl<K: IntKey, X, A: Allocator> Slot<K, X, A> {
         ensures value { result ≡ slice_index_or self.old.pairs place result }
         ensures pairs { self.new.pairs ≡ swap_remove self.old.pairs place result }
         ensures left { 0 < length self.new.pairs }
+        ensures room { length self.new.pairs < self.new.room }
     {
         if place > 0 {
             return self.rest.swap_remove(place - 1);
@@ -113,6 +114,28 @@ impl<K: IntKey, X, A: Allocator> Slot<K, X, A> {
         // a `pop` would check whether there is one
         let last = self.rest.swap_remove(self.rest.len() - 1);
         replace_first(&mut self.first, last)
+    }
+
+    /// Puts the first pair into a slot out of which the only one was taken. It allocates nothing.
+    #[inline(always)]
+    pub(crate) fn put_back_first(&mut self, pair: (Stored<K>, X))
+        requires { self.old.pairs ≡ [] }
+        ensures pairs { self.new.pairs ≡ pair ∷ [] }
+    {
+        match self.first.replace(pair) {
+            None => {}
+            Some(_) => unreachable!(),
+        }
+    }
+
+    /// Puts a pair behind others, in room that is there. It allocates nothing.
+    #[inline(always)]
+    pub(crate) fn put_back(&mut self, pair: (Stored<K>, X))
+        requires filled { 0 < length self.old.pairs }
+        requires room { length self.old.pairs < self.old.room }
+        ensures pairs { self.new.pairs ≡ self.old.pairs ++ pair ∷ [] }
+    {
+        self.rest.push_reserved(pair);
     }
 
     /// Removes the pair at a place, moves the last pair into that place, and puts a new pair at the

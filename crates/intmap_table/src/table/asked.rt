@@ -1,4 +1,5 @@
-//! Closures that are asked about a pair. They get its key, which no search of a slot can read.
+//! Closures that are asked about a pair. They get its key, which no search of a slot can read. And the
+//! closure that a stored value is handed to.
 ghost use Rattle.std.specs.Prelude.{◌≡◌};
 ghost use Rattle.intmap_table.specs.Picking.{PicksAt};
 ghost use Rattle.intmap_table.specs.Retaining.{KeepsAt, TakesPair};
@@ -43,4 +44,20 @@ pub(crate) fn write_pair<K: IntKey, V, F: FnMut(K, &mut V)>(
     ensures value { WritesAt F.FnMut f.old pair.old pair.new.1 f.new }
 {
     f(*pair.0.key(), pair.1.get_mut());
+}
+
+/// Hands a stored value to the closure. A value that the closure returns as its error is stored
+/// again.
+#[inline(always)]
+pub(crate) fn hand_value<V, R, F: FnOnce(V) -> Result<R, V>>(
+    value: Kept<V>,
+    f: F,
+) -> Result<R, Kept<V>>
+    requires { F.pre f value }
+    ensures { F.post f value result }
+{
+    match f(value.into_value()) {
+        Ok(handed) => Ok(handed),
+        Err(back) => Err(Kept::new(back)),
+    }
 }

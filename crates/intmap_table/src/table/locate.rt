@@ -1,14 +1,17 @@
 //! Where the pair of a key is, and calls on a located pair, which compare no key.
-ghost use Rattle.std.specs.Prelude.{◌≡◌, ◌+◌, IfOk, IfErr, OnErr, Some, None};
+ghost use Rattle.std.specs.Prelude.{◌≡◌, ◌+◌, IfOk, IfErr, IfNone, OnErr, Some, None};
 ghost use Rattle.intmap_table.specs.Classes.{slot_number};
 ghost use Rattle.intmap_table.specs.Bindings.{HasDistinctKeys, value_of, take_key, put_pair};
+ghost use Rattle.intmap_table.specs.HandingOver.{HandsOver};
 ghost use Rattle.intmap_table.specs.Locations.{IsAt, IsLast, IsFound, key_at};
 ghost use Rattle.intmap_table.specs.Reach.{reach};
 ghost use Rattle.intmap_table.specs.Walk.{walk_of, slot_of};
 
+use crate::kept::Kept;
 use crate::key::IntKey;
 use crate::steps::Steps;
 use crate::table::Table;
+use crate::table::asked::hand_value;
 use crate::table::stored::Stored;
 use std::alloc::Allocator;
 
@@ -118,5 +121,46 @@ impl<K: IntKey, X, A: Allocator> Table<K, X, A> {
         let pair = (Stored::new(at.key), value);
         let (_, old) = self.slots[at.slot].replace_at(at.place, pair);
         old
+    }
+}
+
+impl<K: IntKey, V, A: Allocator> Table<K, Kept<V>, A> {
+    /// Removes a located pair, as `take_at` does, and hands its value to the closure. If the closure
+    /// returns an error, the pair of the key and the value in it is put at the end of the slot. It
+    /// allocates nothing. While the closure runs, the pair is in no slot.
+    pub fn hand_over<R, F: FnOnce(V) -> Result<R, V>>(&mut self, at: Location<K>, f: F) -> Option<R>
+        requires at { IsAt K.number_of self.old.walk self.old.capacity at }
+        requires callable { (value : V)
+            → value_of K.number_of self.old.walk at.key ≡ Some value → F.pre f value }
+        ensures handed { (value : V) × (value_of K.number_of self.old.walk at.key ≡ Some value)
+            × HandsOver (F.post f value) result
+            (self.new.walk ≡ walk_of K.number_of
+            (take_key K.number_of self.old.walk self.old.capacity at.key) self.old.capacity)
+            (λ back. self.new.walk ≡ walk_of K.number_of
+            (put_pair K.number_of self.old.walk self.old.capacity at.key back) self.old.capacity) }
+        ensures capacity { self.new.capacity ≡ self.old.capacity }
+        ensures key { IfNone result (K.is_valid at.key) }
+    {
+        let word = self.directory.bits.word(at.slot);
+        let slot = &mut self.slots[at.slot];
+        if let Some((_, value)) = slot.take_lone() {
+            self.directory.bits.clear_in(word, at.slot);
+            match hand_value(value, f) {
+                Ok(handed) => return Some(handed),
+                Err(back) => {
+                    slot.put_back_first((Stored::new(at.key), back));
+                    self.directory.bits.set(at.slot);
+                    return None;
+                }
+            }
+        }
+        let (_, value) = slot.take_at(at.place);
+        match hand_value(value, f) {
+            Ok(handed) => Some(handed),
+            Err(back) => {
+                slot.put_back((Stored::new(at.key), back));
+                None
+            }
+        }
     }
 }
