@@ -19,6 +19,7 @@ pub mod LoadFactorLemmas
 pub mod EqualityLemmas
 pub mod StrikeLemmas
 pub mod AfterLemmas
+pub mod HandingOverLemmas
 pub mod CostLemmas
 pub mod JsonLemmas
 pub mod MembersLemmas

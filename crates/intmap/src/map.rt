@@ -4,6 +4,7 @@ ghost use Rattle.std.specs.Prelude.{◌≡◌, ◌==◌, length, is_some, is_ok,
 ghost use Rattle.intmap.specs.Map.{IsMap, after_search, with_pair, without_key};
 ghost use Rattle.intmap_table.specs.Bindings.{value_of};
 ghost use Rattle.intmap_table.specs.Classes.{slot_number};
+ghost use Rattle.intmap_table.specs.HandingOver.{HandsOver};
 ghost use Rattle.intmap_table.specs.Locations.{IsAt, IsFound, key_at};
 ghost use Rattle.intmap_table.specs.Walk.{slot_of};
 
@@ -188,5 +189,33 @@ impl<K: IntKey, V, A: Allocator + Copy> IntMap<K, V, A> {
         ensures valid_after { IsMap K.number_of K.is_valid self.new }
     {
         self.table.replace_at(at, Kept::new(value)).into_value()
+    }
+
+    /// Removes a located pair and hands its value to the closure. If the closure returns an error,
+    /// the pair of the key and the value in it is put at the end of the slot. It allocates nothing.
+    /// While the closure runs, the map is one without the pair.
+    pub(crate) fn hand_over_at<R, F: FnOnce(V) -> Result<R, V>>(
+        &mut self,
+        at: Location<K>,
+        f: F,
+    ) -> Option<R>
+        requires at { IsAt K.number_of self.old.walk self.old.capacity at }
+        requires callable { (value : V)
+            → value_of K.number_of self.old.walk at.key ≡ Some value → F.pre f value }
+        ensures state { (value : V) × (value_of K.number_of self.old.walk at.key ≡ Some value)
+            × HandsOver (F.post f value) result (self.new ≡ without_key K.number_of self.old at.key)
+            (λ back. self.new ≡ with_pair K.number_of self.old at.key back self.old.capacity) }
+        ensures valid { IsMap K.number_of K.is_valid self.old }
+        ensures valid_after { IsMap K.number_of K.is_valid self.new }
+    {
+        // before the closure runs, so that the number of pairs is right meanwhile
+        self.len -= 1;
+        match self.table.hand_over(at, f) {
+            Some(handed) => Some(handed),
+            None => {
+                self.len += 1;
+                None
+            }
+        }
     }
 }

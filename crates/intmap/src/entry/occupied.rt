@@ -1,9 +1,11 @@
 //! Entries of present keys.
-ghost use Rattle.std.specs.Prelude.{◌≡◌, ◌+◌, length, Some, None};
+ghost use Rattle.std.specs.Prelude.{◌≡◌, ◌+◌, length, Some, None, cond, false, is_some};
 ghost use Rattle.std.specs.Borrow.{sem};
-ghost use Rattle.intmap_table.specs.Bindings.{Updates};
+ghost use Rattle.intmap_table.specs.Bindings.{Updates, value_of};
+ghost use Rattle.intmap_table.specs.Classes.{same_key};
+ghost use Rattle.intmap_table.specs.HandingOver.{HandsOver};
 ghost use Rattle.intmap.specs.Entries.{Occupied, entry_reference, entry_map, entry_key, entry_value, map_with_value, entry_lends, occupied_lends, IsWritten};
-ghost use Rattle.intmap.specs.Map.{IsMap, without_key};
+ghost use Rattle.intmap.specs.Map.{IsMap, with_pair, without_key};
 
 use crate::entry::OccupiedEntry;
 use crate::map::IntMap;
@@ -119,6 +121,54 @@ impl<'a, K: IntKey, V, A: Allocator + Copy> OccupiedEntry<'a, K, V, A> {
         let place = self.place;
         let at = self.map.location(slot, place);
         (at.key, self.map.take_at(at))
+    }
+
+    /// Removes the pair of the key, and hands its value to the closure, which is called once. If the
+    /// closure returns `Ok`, the call returns what is in it, and the pair is gone as after
+    /// [`remove`](OccupiedEntry::remove).
+    ///
+    /// If the closure returns a value as its error, that one or another, the call returns `None`,
+    /// and the key has that value. Its pair is then at the end of its slot, where
+    /// [`IntMap::insert`](crate::IntMap::insert) of a present key puts it. That needs no memory, so
+    /// the call never fails. The closure must be callable at the value of the key.
+    ///
+    /// ```text
+    /// at 0 in {0: 'a', 4: 'b', 8: 'c'}:
+    /// hand_over(|value| Ok(value))     Some('a'), and then {8: 'c', 4: 'b'}
+    /// hand_over(|value| Err(value))    None, and then {8: 'c', 4: 'b', 0: 'a'}
+    /// ```
+    pub fn hand_over<R, F: FnOnce(V) -> Result<R, V>>(self, f: F) -> Option<R>
+        requires callable { (value : V) → entry_value (Occupied self) ≡ Some value → F.pre f value }
+
+        // what the closure returned, and what is left for it
+        ensures updates { (value : V) × (entry_value (Occupied self.entry) ≡ Some value)
+            × HandsOver (F.post f value) result
+            (Updates K.number_of (entry_map (Occupied self.entry)).walk self.exit.0.now.walk
+            (entry_key (Occupied self.entry)) None)
+            (λ back. Updates K.number_of (entry_map (Occupied self.entry)).walk
+            self.exit.0.now.walk (entry_key (Occupied self.entry)) (Some back)) }
+        ensures state { (value : V) × (entry_value (Occupied self.entry) ≡ Some value)
+            × HandsOver (F.post f value) result
+            (self.exit.0.now ≡ without_key K.number_of (entry_map (Occupied self.entry))
+            (entry_key (Occupied self.entry)))
+            (λ back. self.exit.0.now ≡ with_pair K.number_of (entry_map (Occupied self.entry))
+            (entry_key (Occupied self.entry)) back (entry_map (Occupied self.entry)).capacity) }
+
+        // what is left in either case
+        ensures others { (q : K) → same_key K.number_of (entry_key (Occupied self.entry)) q ≡ false
+            → value_of K.number_of self.exit.0.now.walk q
+            ≡ value_of K.number_of (entry_map (Occupied self.entry)).walk q }
+        ensures len { length self.exit.0.now.walk + cond (is_some result) 1 0
+            ≡ length (entry_map (Occupied self.entry)).walk }
+        ensures capacity { self.exit.0.now.capacity ≡ (entry_map (Occupied self.entry)).capacity }
+        ensures factor { self.exit.0.now.factor ≡ (entry_map (Occupied self.entry)).factor }
+        ensures valid { IsMap K.number_of K.is_valid (entry_map (Occupied self.entry)) }
+        ensures valid_after { IsMap K.number_of K.is_valid self.exit.0.now }
+    {
+        let slot = self.slot;
+        let place = self.place;
+        let at = self.map.location(slot, place);
+        self.map.hand_over_at(at, f)
     }
 
     /// Ends the entry, and leaves the map as the calls on the entry left it. It removes no pair and

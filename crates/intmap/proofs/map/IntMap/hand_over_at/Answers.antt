@@ -1,0 +1,44 @@
+use Rattle.std.proofs.Common.{◌≡◌, ◌+◌, ◌-◌, length, refl, subst, arith}
+use Rattle.intmap_table.specs.Bindings.{value_of}
+use Rattle.intmap.specs.Consistency.{IsConsistent}
+use Rattle.intmap.proofs.MapLemmas.{MapState-same, placed-same, one_less, IsConsistent-taken, IsConsistent-replaced}
+use Rattle.intmap_table.proofs.DistinctLemmas.{length-take_key}
+use Rattle.intmap.proofs.map.IntMap.hand_over_at.Goals as goal
+
+pub invariant_of-self : goal.invariant_of-self
+invariant_of-self g c =
+    let told = c.in-Some.ensures.handed in
+    let one = one_less (value_of g.K.IntKey.number_of c.self.inside.table.walk c.args.at.key) told.0 told.1 in
+    IsConsistent-taken _ _ _ _ _ _ _ _ c.self.invariant c.hand_over.new.self.capacity c.args.at.key (c.self.inside.len - 1) c.in-Some.ensures.capacity told.2.1 (omega (arith, one))
+
+pub returns-in-Some-clause-state : goal.returns-in-Some-clause-state
+returns-in-Some-clause-state g c =
+    let told = c.in-Some.ensures.handed in
+    rw (← c.self.view_is) (told.0, told.1, (told.2.0, MapState-same told.2.1 c.in-Some.ensures.capacity refl))
+
+pub returns-in-Some-clause-valid_after : goal.returns-in-Some-clause-valid_after
+returns-in-Some-clause-valid_after g c = (invariant_of-self g c).map
+
+-- a present key is counted, so the count is as before
+pub invariant_of-self-in-None : goal.invariant_of-self-in-None
+invariant_of-self-in-None g c =
+    let told = c.in-None.ensures.handed in
+    let number = g.K.IntKey.number_of in
+    let walk = c.self.inside.table.walk in
+    let one = one_less (value_of number walk c.args.at.key) told.0 told.1 in
+    let taken = length-take_key number walk c.self.inside.table.capacity c.args.at.key in
+    let count : c.self.inside.len ≡ c.self.inside.len - 1 + 1 = omega (arith, one, taken, c.self.invariant.count) in
+    subst (λ n. IsConsistent number g.K.IntKey.is_valid c.hand_over.new.self.walk c.hand_over.new.self.capacity c.self.inside.factor n c.self.inside.threshold) count
+    (IsConsistent-replaced _ _ _ _ _ _ _ _ c.self.invariant c.hand_over.new.self.capacity c.args.at.key told.2.0 told.0 c.in-None.ensures.capacity c.in-None.ensures.key told.1 told.2.2)
+
+pub returns-in-None-clause-state : goal.returns-in-None-clause-state
+returns-in-None-clause-state g c =
+    let told = c.in-None.ensures.handed in
+    rw (← c.self.view_is) (
+      told.0,
+      told.1,
+      (told.2.0, told.2.1, MapState-same told.2.2 c.in-None.ensures.capacity (placed-same c.self.inside.table.capacity c.self.inside.placed (length c.self.inside.table.walk + 1))),
+    )
+
+pub returns-in-None-clause-valid_after : goal.returns-in-None-clause-valid_after
+returns-in-None-clause-valid_after g c = (invariant_of-self-in-None g c).map
