@@ -128,6 +128,37 @@ impl<'a, K: IntKey, V> OccupiedEntry<'a, K, V> {
     pub fn remove_entry(self) -> (K, V) {
         self.0.remove_entry()
     }
+
+    /// Removes the pair as [`remove`](OccupiedEntry::remove) does, and calls `f` with the value.
+    /// If `f` returns `Ok`, returns what is in it.
+    ///
+    /// If `f` returns a value as its error, the key has that value, and the call returns `None`.
+    /// The pair is then at the end of its slot, where an
+    /// [`insert`](crate::IntMap::insert) of a present key leaves it. This allocates nothing, so a
+    /// value that can't be moved to another place is not lost. The cost is *O*(1), apart from `f`.
+    ///
+    /// # Panics
+    ///
+    /// If `f` panics. The map is then one without the pair.
+    ///
+    /// # Examples
+    ///
+    /// ```
+    /// use intmap_proved::{Entry, IntMap};
+    ///
+    /// let mut from = IntMap::from([(21u64, String::from("a name"))]);
+    /// let mut to = IntMap::new();
+    /// if let Entry::Occupied(entry) = from.entry(21) {
+    ///     let moved = entry.hand_over(|value| {
+    ///         to.try_insert(21u64, value).map_err(|refused| refused.value)
+    ///     });
+    ///     assert_eq!(moved, Some(None), "there was memory, and 21 was new");
+    /// }
+    /// assert_eq!((from.len(), to[21].as_str()), (0, "a name"));
+    /// ```
+    pub fn hand_over<R>(self, f: impl FnOnce(V) -> Result<R, V>) -> Option<R> {
+        self.0.hand_over(f)
+    }
 }
 
 impl<K: IntKey + Debug, V: Debug> Debug for OccupiedEntry<'_, K, V> {

@@ -113,7 +113,15 @@ impl Plain {
         due + moved + u64::from(self.slots > slots)
     }
 
-    /// Such calls one after another.
+    /// A call that stores a present key again.
+    fn store_again(&mut self, number: u64) -> u64 {
+        if self.numbers.contains(&number) {
+            return self.store(number);
+        }
+        self.search(number)
+    }
+
+    /// Calls that store a key, one after another.
     fn store_all(&mut self, numbers: &[u64]) -> u64 {
         numbers.iter().map(|it| self.store(*it)).sum()
     }
@@ -169,7 +177,7 @@ impl Plain {
 type Due = fn(&mut Plain, u64) -> u64;
 type Call = (&'static str, Due, fn(&mut Map, Key));
 
-const CALLS: [Call; 36] = [
+const CALLS: [Call; 38] = [
     ("get", Plain::find, |map, key| _ = map.get(key)),
     ("get_mut", Plain::find, |map, key| _ = map.get_mut(key)),
     ("contains_key", Plain::find, |map, key| _ = map.contains_key(key)),
@@ -198,6 +206,16 @@ const CALLS: [Call; 36] = [
     ("entry.remove_entry", Plain::find, |map, key| {
         if let Entry::Occupied(entry) = map.entry(key) {
             entry.remove_entry();
+        }
+    }),
+    ("entry.hand_over", Plain::find, |map, key| {
+        if let Entry::Occupied(entry) = map.entry(key) {
+            _ = entry.hand_over(Ok);
+        }
+    }),
+    ("entry.hand_over, back", Plain::store_again, |map, key| {
+        if let Entry::Occupied(entry) = map.entry(key) {
+            _ = entry.hand_over(Err::<(), _>);
         }
     }),
     ("entry.into_mut, insert", Plain::add, |map, key| match map.entry(key) {

@@ -78,6 +78,17 @@ fn an_occupied_entry_reads_writes_and_removes() {
 }
 
 #[test]
+fn an_entry_hands_its_value_over_or_keeps_it() {
+    let mut map = IntMap::from([(1_u64, 10), (2, 20)]);
+    let Entry::Occupied(entry) = map.entry(1) else { panic!("1 is present") };
+    assert_eq!(entry.hand_over(|value| Ok(value + 1)), Some(11));
+    assert_eq!(map, IntMap::from([(2, 20)]), "1 was handed over");
+    let Entry::Occupied(entry) = map.entry(2) else { panic!("2 is present") };
+    assert_eq!(entry.hand_over(|value| Err::<(), _>(value + 1)), None);
+    assert_eq!(map, IntMap::from([(2, 21)]), "2 has the value that came back");
+}
+
+#[test]
 fn a_vacant_entry_inserts_or_leaves_the_map() {
     let mut map = IntMap::new();
     let Entry::Vacant(entry) = map.entry(7_u64) else { panic!("7 is absent") };

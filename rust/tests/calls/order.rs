@@ -42,6 +42,33 @@ fn an_entry_leaves_a_pair_in_its_place() {
 }
 
 #[test]
+fn a_value_that_comes_back_is_the_last_of_its_slot() {
+    let orders: [(u64, u64, &[u64]); 6] = [
+        (1, 0, &[0]),
+        (2, 0, &[2, 0]),
+        (2, 2, &[0, 2]),
+        (4, 0, &[6, 2, 4, 0]),
+        (4, 4, &[0, 2, 6, 4]),
+        (4, 6, &[0, 2, 4, 6]),
+    ];
+    for (keys, key, wanted) in orders {
+        let mut map = crowded(keys);
+        let Entry::Occupied(entry) = map.entry(key) else { panic!("{key} is present") };
+        assert_eq!(entry.hand_over(|value| Err::<(), _>(value + 50)), None, "{key} of {keys}");
+        assert_eq!(keys_of(&map), wanted, "{key} of {keys} came back");
+        assert_eq!(map.get(key), Some(&(key / 2 + 50)), "{key} of {keys}");
+        let mut again = crowded(keys);
+        again.insert(key, key / 2 + 50);
+        assert!(map.iter().eq(again.iter()), "as an insertion of {key} into {keys}");
+        let Entry::Occupied(entry) = map.entry(key) else { panic!("{key} is present") };
+        assert_eq!(entry.hand_over(Ok), Some(key / 2 + 50), "{key} of {keys}");
+        again.remove(key);
+        assert!(map.iter().eq(again.iter()), "as a removal of {key} from {keys}");
+        assert!(map.assert_count(), "the count without {key} of {keys}");
+    }
+}
+
+#[test]
 fn pairs_that_are_kept_keep_their_order() {
     for kept in 0_u64..128 {
         let mut map = crowded(7);

@@ -1,6 +1,6 @@
 //! A panic at each place of a call in turn.
 use crate::fuse::{Value, burn, is_whole, live, panics_at};
-use intmap_proved::{IntMap, IntSet};
+use intmap_proved::{Entry, IntMap, IntSet};
 
 const KEYS: u64 = 40;
 
@@ -11,7 +11,7 @@ fn map_of(shift: u32) -> IntMap<u64, Value> {
 
 type Call = fn(&mut IntMap<u64, Value>);
 
-const CALLS: [(&str, Call); 8] = [
+const CALLS: [(&str, Call); 9] = [
     ("retain, closure and drops", |map| {
         map.retain(|_, value| {
             burn();
@@ -26,6 +26,17 @@ const CALLS: [(&str, Call); 8] = [
             value.0 % 2 == 0
         });
         picked.take(15).for_each(drop);
+    }),
+    ("hand_over", |map| {
+        let keys: Vec<u64> = map.keys().copied().collect();
+        for key in keys {
+            if let Entry::Occupied(entry) = map.entry(key) {
+                entry.hand_over(|value| {
+                    burn();
+                    if value.0 % 2 == 0 { Ok(value) } else { Err(value) }
+                });
+            }
+        }
     }),
     ("drain", |map| map.drain().take(25).for_each(|_| burn())),
     ("clone", |map| drop(map.clone())),
@@ -91,6 +102,30 @@ fn a_panic_of_the_closure_of_retain_loses_no_pair() {
             let mut wanted = (0..KEYS).filter(|key| key % 2 == 0).map(|key| key << shift);
             assert!(panicked, "at place {number}");
             assert!(wanted.all(|key| map.contains_key(key)), "place {number}: {map:?}");
+        }
+    }
+}
+
+#[test]
+fn a_panic_of_the_closure_of_hand_over_loses_that_pair_alone() {
+    for shift in [0, 1, 2, 3, 5, 20] {
+        for key in (0..KEYS).map(|key| key << shift) {
+            let mut map = map_of(shift);
+            let panicked = panics_at(1, || {
+                let Entry::Occupied(entry) = map.entry(key) else { panic!("{key} is present") };
+                entry.hand_over(|value| {
+                    burn();
+                    Ok::<Value, Value>(value)
+                });
+            });
+            let after = format!("after a panic at {key}, shift {shift}");
+            assert!(panicked, "{after}");
+            assert!(!map.contains_key(key), "{after}");
+            let mut others = (0..KEYS).map(|it| it << shift).filter(|it| *it != key);
+            assert!(others.all(|it| map.contains_key(it)), "{after}");
+            assert_eq!(map.len() as u64, KEYS - 1, "{after}");
+            is_usable(map, &after);
+            assert_eq!(live(), 0, "values that live {after}");
         }
     }
 }

@@ -50,7 +50,17 @@ fn call_on_key(map: &mut IntMap<u64, Value>, call: u64, given: &Given) {
                 entry.remove_entry();
             }
         }
-        _ => drop(map.entry(key).insert_entry(Value::new(number)).remove()),
+        9 => drop(map.entry(key).insert_entry(Value::new(number)).remove()),
+        _ => {
+            if let Entry::Occupied(entry) = map.entry(key) {
+                let handed = entry.hand_over(|value| {
+                    burn();
+                    if number.is_multiple_of(3) { Ok(value) } else { Err(value) }
+                });
+                burn();
+                drop(handed);
+            }
+        }
     }
 }
 
@@ -92,10 +102,10 @@ fn call_on_all(map: &mut IntMap<u64, Value>, call: u64, given: &Given) {
 fn call(map: &mut IntMap<u64, Value>, random: &mut Random, keys: u64, shift: u64) -> bool {
     let given = Given { key: random.below(keys) << shift, number: random.next() >> 1, shift };
     let number = if random.below(2) == 0 { 0 } else { random.below(12) };
-    let (is_on_key, call) = (random.below(5) < 3, random.below(10));
+    let (is_on_key, call) = (random.below(5) < 3, random.below(110));
     let panicked = panics_at(number, || match is_on_key {
-        true => call_on_key(map, call, &given),
-        false => call_on_all(map, call, &given),
+        true => call_on_key(map, call % 11, &given),
+        false => call_on_all(map, call % 10, &given),
     });
     is_whole(map, &format!("after call {call}, on a key: {is_on_key}, place {number}"));
     panicked

@@ -19,10 +19,15 @@ fn call_on_key(map: &mut Map, call: u64, key: Key, value: &Rc<()>) {
         6 => _ = map.entry(key).or_try_insert_with(|| Ok::<_, Cause>(value.clone())),
         7 => _ = map.entry(key).insert_entry(value.clone()),
         8 => drop(map.entry(key).insert_entry(value.clone()).remove()),
-        _ => match map.entry(key) {
+        9 => match map.entry(key) {
             Entry::Occupied(entry) => drop(entry.remove_entry()),
             Entry::Vacant(entry) => _ = entry.insert(value.clone()),
         },
+        _ => {
+            if let Entry::Occupied(entry) = map.entry(key) {
+                _ = entry.hand_over(Err::<(), _>);
+            }
+        }
     }
 }
 
@@ -50,9 +55,9 @@ fn a_panic_of_a_key_in_any_call_leaves_a_whole_map() {
         for _ in 0..CALLS {
             let key = Key(random.below(keys) << zeros);
             let place = if random.below(3) > 0 { 0 } else { random.below(20) };
-            let (is_on_key, call) = (random.below(5) > 0, random.below(40));
+            let (is_on_key, call) = (random.below(5) > 0, random.below(88));
             panics += u64::from(panics_at(place, || match is_on_key {
-                true => call_on_key(&mut map, call % 10, key, &value),
+                true => call_on_key(&mut map, call % 11, key, &value),
                 false => call_on_all(&mut map, call % 8, key, &value),
             }));
             is_whole(&map, &value, &format!("after call {call}, on a key: {is_on_key}, {round}"));

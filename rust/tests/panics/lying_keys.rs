@@ -38,6 +38,12 @@ fn call(map: &mut IntMap<Liar, Rc<()>>, call: u64, key: Liar, value: &Rc<()>) {
         8 => map.drain().take(3).for_each(drop),
         9 => drop(map.clone()),
         10 => drop(map.extract_if(|key, _| key.0 % 2 == 0).next()),
+        11 => {
+            if let Entry::Occupied(entry) = map.entry(key) {
+                let handed = entry.hand_over(|it| if key.0 % 2 == 0 { Ok(it) } else { Err(it) });
+                drop(handed);
+            }
+        }
         _ => map.extend((0..5).map(|number| (Liar(key.0 + number), value.clone()))),
     }
 }
@@ -48,7 +54,7 @@ fn keys_that_lie_drop_each_value_once() {
     for round in 0..ROUNDS {
         let mut map = IntMap::new();
         for _ in 0..CALLS {
-            let (key, number) = (Liar(random.below(200)), random.below(12));
+            let (key, number) = (Liar(random.below(200)), random.below(13));
             let place = if random.below(5) == 0 { random.below(16) } else { 0 };
             panics += u64::from(panics_at(place, || call(&mut map, number, key, &value)));
         }

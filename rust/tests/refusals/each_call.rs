@@ -122,7 +122,7 @@ fn a_failed_call_leaves_the_set() {
 
 type Quiet = fn(&mut IntMap<u64, u64>);
 
-const QUIET: [(&str, Quiet); 14] = [
+const QUIET: [(&str, Quiet); 15] = [
     ("get", |map| assert!(map.get(3).is_some())),
     ("get_mut", |map| assert!(map.get_mut(3).is_some())),
     ("insert again", |map| assert!(map.insert(3, 1).is_some())),
@@ -134,6 +134,10 @@ const QUIET: [(&str, Quiet); 14] = [
     ("remove by an entry", |map| {
         let Entry::Occupied(entry) = map.entry(3) else { panic!("3 is present") };
         entry.remove();
+    }),
+    ("a value that comes back", |map| {
+        let Entry::Occupied(entry) = map.entry(3) else { panic!("3 is present") };
+        assert_eq!(entry.hand_over(Err::<(), _>), None);
     }),
     ("retain", |map| map.retain(|key, _| key % 2 == 0)),
     ("extract_if", |map| assert_eq!(map.extract_if(|key, _| key % 2 == 0).count(), 500)),

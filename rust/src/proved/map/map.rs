@@ -106,6 +106,25 @@ impl<K: IntKey, V, A: Allocator + Copy> IntMap<K, V, A> {
     pub(in crate::proved::map) fn replace_at(&mut self, at: Location<K>, value: V) -> V {
         self.table.replace_at(at, Kept::new(value)).into_value()
     }
+
+    /// Removes a located pair and hands its value to the closure. If the closure returns an error,
+    /// the pair of the key and the value in it is put at the end of the slot. It allocates nothing.
+    /// While the closure runs, the map is one without the pair.
+    pub(in crate::proved::map) fn hand_over_at<R, F: FnOnce(V) -> Result<R, V>>(
+        &mut self,
+        at: Location<K>,
+        f: F,
+    ) -> Option<R> {
+        // before the closure runs, so that the number of pairs is right meanwhile
+        self.len -= 1;
+        match self.table.hand_over(at, f) {
+            Some(handed) => Some(handed),
+            None => {
+                self.len += 1;
+                None
+            }
+        }
+    }
 }
 
 // Only Rust has what follows. It is tested, not proved.

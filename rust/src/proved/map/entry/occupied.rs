@@ -60,6 +60,21 @@ impl<'a, K: IntKey, V, A: Allocator + Copy> OccupiedEntry<'a, K, V, A> {
         (at.key, self.map.take_at(at))
     }
 
+    /// Removes the pair of the key, and hands its value to the closure, which is called once. If the
+    /// closure returns `Ok`, the call returns what is in it, and the pair is gone as after
+    /// [`remove`](OccupiedEntry::remove).
+    ///
+    /// If the closure returns a value as its error, that one or another, the call returns `None`,
+    /// and the key has that value. Its pair is then at the end of its slot, where
+    /// [`IntMap::insert`](crate::proved::map::IntMap::insert) of a present key puts it. That needs no memory, so
+    /// the call never fails. The closure must be callable at the value of the key.
+    pub fn hand_over<R, F: FnOnce(V) -> Result<R, V>>(self, f: F) -> Option<R> {
+        let slot = self.slot;
+        let place = self.place;
+        let at = self.map.location(slot, place);
+        self.map.hand_over_at(at, f)
+    }
+
     /// Ends the entry, and leaves the map as the calls on the entry left it. It removes no pair and
     /// compares no key.
     pub fn leave(self) {

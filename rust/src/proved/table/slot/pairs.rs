@@ -81,6 +81,21 @@ impl<K: IntKey, X, A: Allocator> Slot<K, X, A> {
         replace_first(&mut self.first, last)
     }
 
+    /// Puts the first pair into a slot out of which the only one was taken. It allocates nothing.
+    #[inline(always)]
+    pub(in crate::proved::table) fn put_back_first(&mut self, pair: (Stored<K>, X)) {
+        match self.first.replace(pair) {
+            None => {}
+            Some(_) => unreachable!(),
+        }
+    }
+
+    /// Puts a pair behind others, in room that is there. It allocates nothing.
+    #[inline(always)]
+    pub(in crate::proved::table) fn put_back(&mut self, pair: (Stored<K>, X)) {
+        self.rest.push_reserved(pair);
+    }
+
     /// Removes the pair at a place, moves the last pair into that place, and puts a new pair at the
     /// end. It allocates nothing.
     #[inline(always)]

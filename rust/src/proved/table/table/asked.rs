@@ -1,4 +1,5 @@
-//! Closures that are asked about a pair. They get its key, which no search of a slot can read.
+//! Closures that are asked about a pair. They get its key, which no search of a slot can read. And the
+//! closure that a stored value is handed to.
 
 use crate::memory::prelude::*;
 use crate::proved::table::kept::Kept;
@@ -30,4 +31,17 @@ pub(in crate::proved::table) fn write_pair<K: IntKey, V, F: FnMut(K, &mut V)>(
     f: &mut F,
 ) {
     f(*pair.0.key(), pair.1.get_mut());
+}
+
+/// Hands a stored value to the closure. A value that the closure returns as its error is stored
+/// again.
+#[inline(always)]
+pub(in crate::proved::table) fn hand_value<V, R, F: FnOnce(V) -> Result<R, V>>(
+    value: Kept<V>,
+    f: F,
+) -> Result<R, Kept<V>> {
+    match f(value.into_value()) {
+        Ok(handed) => Ok(handed),
+        Err(back) => Err(Kept::new(back)),
+    }
 }

@@ -1,9 +1,11 @@
 //! Where the pair of a key is, and calls on a located pair, which compare no key.
 
 use crate::memory::prelude::*;
+use crate::proved::table::kept::Kept;
 use crate::proved::table::key::IntKey;
 use crate::proved::table::steps::Steps;
 use crate::proved::table::table::Table;
+use crate::proved::table::table::asked::hand_value;
 use crate::proved::table::table::stored::Stored;
 use crate::memory::alloc::Allocator;
 
@@ -71,5 +73,34 @@ impl<K: IntKey, X, A: Allocator> Table<K, X, A> {
         let pair = (Stored::new(at.key), value);
         let (_, old) = self.slots[at.slot].replace_at(at.place, pair);
         old
+    }
+}
+
+impl<K: IntKey, V, A: Allocator> Table<K, Kept<V>, A> {
+    /// Removes a located pair, as `take_at` does, and hands its value to the closure. If the closure
+    /// returns an error, the pair of the key and the value in it is put at the end of the slot. It
+    /// allocates nothing. While the closure runs, the pair is in no slot.
+    pub fn hand_over<R, F: FnOnce(V) -> Result<R, V>>(&mut self, at: Location<K>, f: F) -> Option<R> {
+        let word = self.directory.bits.word(at.slot);
+        let slot = &mut self.slots[at.slot];
+        if let Some((_, value)) = slot.take_lone() {
+            self.directory.bits.clear_in(word, at.slot);
+            match hand_value(value, f) {
+                Ok(handed) => return Some(handed),
+                Err(back) => {
+                    slot.put_back_first((Stored::new(at.key), back));
+                    self.directory.bits.set(at.slot);
+                    return None;
+                }
+            }
+        }
+        let (_, value) = slot.take_at(at.place);
+        match hand_value(value, f) {
+            Ok(handed) => Some(handed),
+            Err(back) => {
+                slot.put_back((Stored::new(at.key), back));
+                None
+            }
+        }
     }
 }
