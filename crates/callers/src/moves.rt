@@ -3,6 +3,7 @@ ghost use Rattle.std.specs.Prelude.{◌≡◌, ◌≢◌, ◌+◌, ℕ, None, So
 ghost use Rattle.intmap.specs.Bindings.{Updates, value_of};
 ghost use Rattle.intmap.specs.Reach.{class_size};
 
+use intmap::entry::Entry;
 use intmap::{Cause, IntMap, Refused, laws};
 use std::alloc::Allocator;
 
@@ -130,4 +131,39 @@ pub fn move_owned<V: Drop, A: Allocator + Copy>(
         unreachable!();
     }
     Err(refused.cause)
+}
+
+/// Moves an owned value to another map, and returns whether it did. If it can't be inserted there,
+/// it stays here, and no value is lost.
+pub fn hand_over_owned<V: Drop, A: Allocator + Copy>(
+    from: &mut IntMap<u64, V, A>,
+    to: &mut IntMap<u64, V, A>,
+    key: u64,
+) -> bool
+    ensures gone { result ≡ true → Updates (λ k. k) from.old.walk from.new.walk key None }
+    ensures there { result ≡ true → Updates (λ k. k) to.old.walk to.new.walk key
+        (value_of (λ k. k) from.old.walk key) }
+    ensures from_stays { result ≡ false → (q : ℕ)
+        → value_of (λ k. k) from.new.walk q ≡ value_of (λ k. k) from.old.walk q }
+{
+    let Entry::Occupied(entry) = from.entry(key) else {
+        return false;
+    };
+    let handed = entry.hand_over(
+        move |value: V|
+            ensures same_reference { IfOk result (λ left. left.ghost_name ≡ to.entry.ghost_name) }
+            ensures there { IfOk result
+                (λ left. Updates (λ k. k) to.entry.now.walk left.now.walk key (Some value)) }
+            ensures back { IfErr result (λ back. back ≡ value) }
+        {
+            match to.insert(key, value) {
+                Ok(_) => Ok(to),
+                Err(refused) => Err(refused.value),
+            }
+        },
+    );
+    match handed {
+        Some(_left) => true,
+        None => false,
+    }
 }
