@@ -461,6 +461,14 @@ def find_many(find, first, count, step, more=10):
     return f"{sum(value == key + more & GREATEST for key, value in bound)} of {len(bound)}"
 
 
+def hand_back(it, key, more):
+    """The value comes back with more added, at the end of its slot. Answers it."""
+    old = it.get(key)
+    if old is not None:
+        it.insert(key, old + more & GREATEST, False)
+    return it.get(key)
+
+
 def entry_replace_many(it, first, count, step, more):
     return str(sum(it.write(key, key + more & GREATEST) == ten_more(key) for key in keys(first, count, step)))
 
@@ -512,6 +520,8 @@ CALLS = {
     ("entry_into_key", 1): lambda it, _, k: option(None if k in it.place_of else it.shown(k)),
     ("entry_remove", 1): lambda it, _, k: option(it.remove(k)),
     ("entry_remove_entry", 1): lambda it, _, k: pair(it, k, it.remove(k)),
+    ("entry_hand_over", 1): lambda it, _, k: option(it.remove(k)),
+    ("entry_hand_back", 2): lambda it, _, k, more: option(hand_back(it, k, more)),
     ("entry_get_mut", 2): lambda it, _, k, v: written(it.write(k, v), v),
     ("entry_insert", 2): lambda it, refuses, k, v: entered(it.entry_insert(k, v, refuses)),
     ("entry_add", 2): lambda it, refuses, k, v: str(it.add_to(k, v, refuses)),
@@ -613,6 +623,8 @@ for _count in (3, 4):
         ("get_mut_many", _count): lambda it, _, *numbers: find_many(it.get, *numbers),
         ("remove_many", _count): lambda it, _, *numbers: find_many(it.remove, *numbers),
         ("entry_remove_many", _count): lambda it, _, *numbers: find_many(it.remove, *numbers),
+        ("entry_hand_over_many", _count): lambda it, _, *numbers: find_many(it.remove, *numbers),
+        ("entry_hand_back_many", _count): lambda it, _, *numbers: find_many(lambda k: hand_back(it, k, 0), *numbers),
     }
 
 

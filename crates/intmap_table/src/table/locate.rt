@@ -141,11 +141,10 @@ impl<K: IntKey, V, A: Allocator> Table<K, Kept<V>, A> {
         ensures capacity { self.new.capacity ≡ self.old.capacity }
         ensures key { IfNone result (K.is_valid at.key) }
     {
-        let word = self.directory.bits.word(at.slot);
         let slot = &mut self.slots[at.slot];
-        if let Some((_, value)) = slot.take_lone() {
-            self.directory.bits.clear_in(word, at.slot);
-            match hand_value(value, f) {
+        if let Some((_, kept)) = slot.take_lone() {
+            self.directory.bits.clear(at.slot);
+            match hand_value(kept, f) {
                 Ok(handed) => return Some(handed),
                 Err(back) => {
                     slot.put_back_first((Stored::new(at.key), back));
@@ -154,8 +153,8 @@ impl<K: IntKey, V, A: Allocator> Table<K, Kept<V>, A> {
                 }
             }
         }
-        let (_, value) = slot.take_at(at.place);
-        match hand_value(value, f) {
+        let (_, kept) = slot.take_at(at.place);
+        match hand_value(kept, f) {
             Ok(handed) => Some(handed),
             Err(back) => {
                 slot.put_back((Stored::new(at.key), back));

@@ -100,6 +100,8 @@ fn with_keys(
         ("get_mut_many", _) => find_many(out, map, Search::GetMut, keys, distance),
         ("remove_many", _) => find_many(out, map, Search::Remove, keys, distance),
         ("entry_remove_many", _) => find_many(out, map, Search::EntryRemove, keys, distance),
+        ("entry_hand_over_many", _) => find_many(out, map, Search::HandOver, keys, distance),
+        ("entry_hand_back_many", _) => find_many(out, map, Search::HandBack, keys, distance),
         ("entry_replace_many", Some(_)) => {
             write_number(out, replace_many(map, keys, distance) as u128)
         }

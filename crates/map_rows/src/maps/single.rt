@@ -33,7 +33,10 @@ use crate::maps::single::sums::{
     keys_sum, retain_all, retain_alternate, values_sum, walk_sum, write_keys, write_values,
 };
 use crate::maps::single::texts::{insert_checked_items, insert_items};
-use crate::maps::two::{Map, MapOf, Maps, remove_by_entry, write_state, write_walk};
+use crate::maps::two::{
+    Map, MapOf, Maps, hand_back_by_entry, hand_over_by_entry, remove_by_entry, write_state,
+    write_walk,
+};
 use intmap::steps::Steps;
 use intmap::{IntKey, IntMap};
 use row_files::text::{
@@ -276,6 +279,7 @@ fn with_entry<K: IntKey + Display>(
         "entry_into_key" => write_into_key(out, map, key),
         "entry_remove" => write_option(out, remove_by_entry(map, key)),
         "entry_remove_entry" => write_pair(out, remove_by_its_entry(map, key)),
+        "entry_hand_over" => write_option(out, hand_over_by_entry(map, key)),
         _ => no_call(out),
     }
 }
@@ -342,6 +346,7 @@ fn with_entry_and_value<K: IntKey + Display>(
         "or_default_add" => add(out, map.entry(key).or_default(), value),
         "insert_entry" => insert_entry(out, map, key, value),
         "vacant_insert_entry" => insert_vacant_entry(out, map, key, value),
+        "entry_hand_back" => write_option(out, hand_back_by_entry(map, key, value)),
         "and_modify" => add(out, more_or(map.entry(key), value), 0),
         _ => no_call(out),
     }

@@ -36,6 +36,26 @@ pub fn remove_by_entry<K: IntKey>(map: &mut MapOf<'_, K>, key: K) -> Option<u64>
     }
 }
 
+/// Hands the value of the key over by its entry, if it has one, and answers it.
+pub fn hand_over_by_entry<K: IntKey>(map: &mut MapOf<'_, K>, key: K) -> Option<u64> {
+    match map.entry(key) {
+        Entry::Occupied(entry) => entry.hand_over(|value: u64| Ok(value)),
+        Entry::Vacant(_entry) => None,
+    }
+}
+
+/// Has the value of the key come back with more added, if it has one, and answers what it is then.
+pub fn hand_back_by_entry<K: IntKey>(map: &mut MapOf<'_, K>, key: K, more: u64) -> Option<u64> {
+    let handed: Option<u64> = match map.entry(key) {
+        Entry::Occupied(entry) => entry.hand_over(|value: u64| Err(value.wrapping_add(more))),
+        Entry::Vacant(_entry) => return None,
+    };
+    match handed {
+        Some(_) => None,
+        None => map.get(key).copied(),
+    }
+}
+
 /// The map that calls are made on, another one, and the memory of both.
 #[derive(Drop)]
 pub struct Maps<'a> {

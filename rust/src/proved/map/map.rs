@@ -115,12 +115,13 @@ impl<K: IntKey, V, A: Allocator + Copy> IntMap<K, V, A> {
         at: Location<K>,
         f: F,
     ) -> Option<R> {
+        let len = self.len;
         // before the closure runs, so that the number of pairs is right meanwhile
-        self.len -= 1;
+        self.len = len - 1;
         match self.table.hand_over(at, f) {
             Some(handed) => Some(handed),
             None => {
-                self.len += 1;
+                self.len = len;
                 None
             }
         }

@@ -1,6 +1,6 @@
 //! Calls with many keys: a first one, and others at equal distances behind it.
 
-use crate::maps::two::{Map, remove_by_entry, value_of};
+use crate::maps::two::{Map, hand_back_by_entry, hand_over_by_entry, remove_by_entry, value_of};
 use intmap::Refused;
 use intmap::entry::Entry;
 use row_files::text::write_refusal;
@@ -173,6 +173,10 @@ pub enum Search {
     Remove,
     /// It is taken out by its entry.
     EntryRemove,
+    /// Its value is handed over by its entry.
+    HandOver,
+    /// The same with a value that comes back.
+    HandBack,
 }
 
 impl Search {
@@ -183,6 +187,8 @@ impl Search {
             Search::GetMut => map.get_mut(key).copied(),
             Search::Remove => map.remove(key),
             Search::EntryRemove => remove_by_entry(map, key),
+            Search::HandOver => hand_over_by_entry(map, key),
+            Search::HandBack => hand_back_by_entry(map, key, 0),
         }
     }
 }

@@ -81,11 +81,10 @@ impl<K: IntKey, V, A: Allocator> Table<K, Kept<V>, A> {
     /// returns an error, the pair of the key and the value in it is put at the end of the slot. It
     /// allocates nothing. While the closure runs, the pair is in no slot.
     pub fn hand_over<R, F: FnOnce(V) -> Result<R, V>>(&mut self, at: Location<K>, f: F) -> Option<R> {
-        let word = self.directory.bits.word(at.slot);
         let slot = &mut self.slots[at.slot];
-        if let Some((_, value)) = slot.take_lone() {
-            self.directory.bits.clear_in(word, at.slot);
-            match hand_value(value, f) {
+        if let Some((_, kept)) = slot.take_lone() {
+            self.directory.bits.clear(at.slot);
+            match hand_value(kept, f) {
                 Ok(handed) => return Some(handed),
                 Err(back) => {
                     slot.put_back_first((Stored::new(at.key), back));
@@ -94,8 +93,8 @@ impl<K: IntKey, V, A: Allocator> Table<K, Kept<V>, A> {
                 }
             }
         }
-        let (_, value) = slot.take_at(at.place);
-        match hand_value(value, f) {
+        let (_, kept) = slot.take_at(at.place);
+        match hand_value(kept, f) {
             Ok(handed) => Some(handed),
             Err(back) => {
                 slot.put_back((Stored::new(at.key), back));

@@ -1,8 +1,6 @@
 use Rattle.std.proofs.Common.{◌≡◌, Some, refl, subst}
 use Rattle.intmap_table.specs.Bindings.{value_of}
-use Rattle.intmap_table.specs.HandingOver.{HandsOver}
 use Rattle.intmap.specs.Entries.{occupied_key}
-use Rattle.intmap.specs.Map.{with_pair, without_key}
 use Rattle.intmap_table.proofs.WrittenLemmas.{the_key-same}
 use Rattle.intmap.proofs.HandingOverLemmas.{IsLeft, IsUpdated-left, others-updated, length-left}
 use Rattle.intmap.proofs.entry.OccupiedEntry.hand_over.Goals as goal

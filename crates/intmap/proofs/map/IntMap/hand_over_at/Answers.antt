@@ -1,8 +1,6 @@
-use Rattle.std.proofs.Common.{◌≡◌, ◌+◌, ◌-◌, length, refl, subst, arith}
+use Rattle.std.proofs.Common.{◌+◌, ◌-◌, length, refl, arith}
 use Rattle.intmap_table.specs.Bindings.{value_of}
-use Rattle.intmap.specs.Consistency.{IsConsistent}
 use Rattle.intmap.proofs.MapLemmas.{MapState-same, placed-same, one_less, IsConsistent-taken, IsConsistent-replaced}
-use Rattle.intmap_table.proofs.DistinctLemmas.{length-take_key}
 use Rattle.intmap.proofs.map.IntMap.hand_over_at.Goals as goal
 
 pub invariant_of-self : goal.invariant_of-self
@@ -19,17 +17,10 @@ returns-in-Some-clause-state g c =
 pub returns-in-Some-clause-valid_after : goal.returns-in-Some-clause-valid_after
 returns-in-Some-clause-valid_after g c = (invariant_of-self g c).map
 
--- a present key is counted, so the count is as before
 pub invariant_of-self-in-None : goal.invariant_of-self-in-None
 invariant_of-self-in-None g c =
     let told = c.in-None.ensures.handed in
-    let number = g.K.IntKey.number_of in
-    let walk = c.self.inside.table.walk in
-    let one = one_less (value_of number walk c.args.at.key) told.0 told.1 in
-    let taken = length-take_key number walk c.self.inside.table.capacity c.args.at.key in
-    let count : c.self.inside.len ≡ c.self.inside.len - 1 + 1 = omega (arith, one, taken, c.self.invariant.count) in
-    subst (λ n. IsConsistent number g.K.IntKey.is_valid c.hand_over.new.self.walk c.hand_over.new.self.capacity c.self.inside.factor n c.self.inside.threshold) count
-    (IsConsistent-replaced _ _ _ _ _ _ _ _ c.self.invariant c.hand_over.new.self.capacity c.args.at.key told.2.0 told.0 c.in-None.ensures.capacity c.in-None.ensures.key told.1 told.2.2)
+    IsConsistent-replaced _ _ _ _ _ _ _ _ c.self.invariant c.hand_over.new.self.capacity c.args.at.key told.2.0 told.0 c.in-None.ensures.capacity c.in-None.ensures.key told.1 told.2.2
 
 pub returns-in-None-clause-state : goal.returns-in-None-clause-state
 returns-in-None-clause-state g c =
