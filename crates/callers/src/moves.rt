@@ -134,7 +134,8 @@ pub fn move_owned<V: Drop, A: Allocator + Copy>(
 }
 
 /// Moves an owned value to another map, and returns whether it did. If it can't be inserted there,
-/// it stays here, and no value is lost.
+/// it stays here, and no value is lost. Nothing is said of the other map then, since the closure
+/// returns it with a success alone.
 pub fn hand_over_owned<V: Drop, A: Allocator + Copy>(
     from: &mut IntMap<u64, V, A>,
     to: &mut IntMap<u64, V, A>,
