@@ -40,7 +40,7 @@ fn call(map: &mut IntMap<Liar, Rc<()>>, call: u64, key: Liar, value: &Rc<()>) {
         10 => drop(map.extract_if(|key, _| key.0 % 2 == 0).next()),
         11 => {
             if let Entry::Occupied(entry) = map.entry(key) {
-                let handed = entry.hand_over(|it| if key.0 % 2 == 0 { Ok(it) } else { Err(it) });
+                let handed = entry.hand_over(|it| if key.0 > 99 { Ok(it) } else { Err(it) });
                 drop(handed);
             }
         }
