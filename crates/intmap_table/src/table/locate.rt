@@ -125,9 +125,9 @@ impl<K: IntKey, X, A: Allocator> Table<K, X, A> {
 }
 
 impl<K: IntKey, V, A: Allocator> Table<K, Kept<V>, A> {
-    /// Removes a located pair, as `take_at` does, and hands its value to the closure. If the closure
-    /// returns an error, the pair of the key and the value in it is put at the end of the slot. It
-    /// allocates nothing. While the closure runs, the pair is in no slot.
+    /// Removes a located pair, as `take_at` does, and hands its value to the closure. If the
+    /// closure returns an error, the pair of the key and the value in it is put at the end of the
+    /// slot. It allocates nothing. While the closure runs, the pair is in no slot.
     pub fn hand_over<R, F: FnOnce(V) -> Result<R, V>>(&mut self, at: Location<K>, f: F) -> Option<R>
         requires at { IsAt K.number_of self.old.walk self.old.capacity at }
         requires callable { (value : V)

@@ -60,8 +60,8 @@ impl<'a, K: IntKey, V, A: Allocator + Copy> OccupiedEntry<'a, K, V, A> {
         (at.key, self.map.take_at(at))
     }
 
-    /// Removes the pair of the key, and hands its value to the closure, which is called once. If the
-    /// closure returns `Ok`, the call returns what is in it, and the pair is gone as after
+    /// Removes the pair of the key, and hands its value to the closure, which is called once. If
+    /// the closure returns `Ok`, the call returns what is in it, and the pair is gone as after
     /// [`remove`](OccupiedEntry::remove).
     ///
     /// If the closure returns a value as its error, that one or another, the call returns `None`,
