@@ -2,9 +2,9 @@
 // has a contract in crates/intmap_c, and its code is proved to keep it. The functions that are
 // defined here, and that memory is given back, are tested.
 //
-// For C11 and C++11, on Linux with x86-64 or aarch64. Take this file and intmap.S:
+// For C99 and C++11, on machines with addresses of 64 bits. Take this file and intmap.c:
 //
-//     cc program.c intmap.S
+//     cc -O2 program.c intmap.c
 //
 // A map is one word. Start it as INTMAP_INIT, hand its address to the calls, and free it:
 //

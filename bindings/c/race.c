@@ -1,6 +1,6 @@
 // Several threads read one map at once, by all calls that take `const intmap *`.
 //
-//     cc -pthread race.c intmap.S -o race
+//     cc -pthread race.c intmap.c -o race
 //     ./race ROUNDS THREADS
 //
 // Each answer is compared with what the map holds, since nobody changes it. It ends with one line

@@ -1,6 +1,6 @@
 // Calls beside a plain model that knows the order, with requests for memory that are refused.
 //
-//     cc test.c intmap.S -Wl,--wrap=malloc,--wrap=realloc,--wrap=free -o test
+//     cc test.c intmap.c -Wl,--wrap=malloc,--wrap=realloc,--wrap=free -o test
 //     ./test CALLS SEED
 //
 // It compares each answer, the figures and the walk with the model's. A failed call must change

@@ -1,6 +1,6 @@
 // Times of the calls, in nanoseconds a key, beside GLib's GHashTable and uthash if they are there.
 //
-//     cc -O2 times.c intmap.S $(pkg-config --cflags --libs glib-2.0) -o times
+//     cc -O2 times.c intmap.c $(pkg-config --cflags --libs glib-2.0) -o times
 //     ./times KEYS
 //
 // Each figure is the least of many runs, each on a new map, until KEYS keys were inserted. Fewer

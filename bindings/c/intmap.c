@@ -1,0 +1,3850 @@
+// intmap 1.0.0: a hash map from 64-bit keys to 64-bit values, as portable C. intmap.h declares it.
+//
+//     cc -O2 program.c intmap.c
+//
+// It is C99 and C++11, and later ones of both, for machines with addresses of 64 bits.
+//
+// Each function that intmap.h declares is compiled from Rattle code that is proved to keep its
+// contract. This file is that code as its compiler hands it to LLVM, behind LLVM's optimiser, printed as
+// C by tools/assembly of the repository. It isn't to be edited. Above each function of the module stands
+// where its source is. What comes before and behind these functions is written by hand, and isn't proved.
+//
+// A map is a block of 80 bytes, in words of 8: at 0 the number of slots less one; at 8, 16 and 24 the
+// bits that tell which slots hold a pair, by address, number of words and room; at 32, 40 and 48 the
+// slots, by address, number and room; at 56 the number of pairs, at 64 up to how many the load factor
+// is met, and at 72 the load factor. A slot has 48 bytes: at 0 whether it has a first pair, at 8 and 16
+// that pair's key and value, at 24, 32 and 40 the pairs behind it, by address, number and room. These
+// have 16 bytes each.
+//
+// Compilers: rattle-kit-13f logic dac8208d650f15bf; clang version 22.1.8
+// Sources: d0e6b61fdb6442400ce6b9c68bb55ca7cbac735c26e1cd5a9a8253dbc8636ed9
+//
+// SPDX-License-Identifier: MIT
+//
+// MIT License
+//
+// Copyright (c) 2026 the intmap authors
+//
+// Permission is hereby granted, free of charge, to any person obtaining a copy
+// of this software and associated documentation files (the "Software"), to deal
+// in the Software without restriction, including without limitation the rights
+// to use, copy, modify, merge, publish, distribute, sublicense, and/or sell
+// copies of the Software, and to permit persons to whom the Software is
+// furnished to do so, subject to the following conditions:
+//
+// The above copyright notice and this permission notice shall be included in all
+// copies or substantial portions of the Software.
+//
+// THE SOFTWARE IS PROVIDED "AS IS", WITHOUT WARRANTY OF ANY KIND, EXPRESS OR
+// IMPLIED, INCLUDING BUT NOT LIMITED TO THE WARRANTIES OF MERCHANTABILITY,
+// FITNESS FOR A PARTICULAR PURPOSE AND NONINFRINGEMENT. IN NO EVENT SHALL THE
+// AUTHORS OR COPYRIGHT HOLDERS BE LIABLE FOR ANY CLAIM, DAMAGES OR OTHER
+// LIABILITY, WHETHER IN AN ACTION OF CONTRACT, TORT OR OTHERWISE, ARISING FROM,
+// OUT OF OR IN CONNECTION WITH THE SOFTWARE OR THE USE OR OTHER DEALINGS IN THE
+// SOFTWARE.
+//
+// Origin
+//
+// This software is a port of the crate `intmap`, version 2.0.0, for Rust, which
+// is under the MIT License, copyright 2016 Jesper Axelsson. It takes over that
+// crate's behaviour; its code, contracts, proofs and documents were written anew.
+
+#include "intmap.h"
+#include <stdlib.h>
+#include <string.h>
+
+#if UINTPTR_MAX != UINT64_MAX
+#error "intmap.c is for processors with addresses of 64 bits"
+#endif
+
+// What the optimiser knew of a function is told to the compiler. Some loops take a tenth longer if
+// their function starts in the middle of a line of the cache.
+#if defined(__GNUC__) || defined(__clang__)
+#define ALWAYS_INLINE inline __attribute__((always_inline))
+#define NOINLINE __attribute__((noinline))
+#define COLD __attribute__((noinline, cold))
+#define ALIGNED __attribute__((aligned(64)))
+#elif defined(_MSC_VER)
+#define ALWAYS_INLINE __forceinline
+#define NOINLINE __declspec(noinline)
+#define COLD __declspec(noinline)
+#define ALIGNED
+#else
+#define ALWAYS_INLINE inline
+#define NOINLINE
+#define COLD
+#define ALIGNED
+#endif
+
+// A map's bytes are the same on every machine: the low byte of a number comes first.
+#if defined(__BYTE_ORDER__) && __BYTE_ORDER__ == __ORDER_BIG_ENDIAN__
+#define HIGH_BYTE_FIRST 1
+#define LOW_FIRST_16(x) __builtin_bswap16(x)
+#define LOW_FIRST_32(x) __builtin_bswap32(x)
+#define LOW_FIRST_64(x) __builtin_bswap64(x)
+#else
+#define HIGH_BYTE_FIRST 0
+#define LOW_FIRST_16(x) (x)
+#define LOW_FIRST_32(x) (x)
+#define LOW_FIRST_64(x) (x)
+#endif
+
+static inline uint8_t load8(const char *at) {
+    return (uint8_t)*at;
+}
+
+
+
+static inline uint64_t load64(const char *at) {
+    uint64_t x;
+    memcpy(&x, at, 8);
+    return LOW_FIRST_64(x);
+}
+
+// A key that is hashed. clang would load it with its value as one vector, which makes an insertion
+// a fifth slower.
+static inline uint64_t load_key(const char *at) {
+    uint64_t x = load64(at);
+#if defined(__clang__)
+    __asm__("" : "+r"(x));
+#endif
+    return x;
+}
+
+static inline void store8(char *at, uint8_t x) {
+    *at = (char)x;
+}
+
+
+static inline void store32(char *at, uint32_t x) {
+    x = LOW_FIRST_32(x);
+    memcpy(at, &x, 4);
+}
+
+static inline void store64(char *at, uint64_t x) {
+    x = LOW_FIRST_64(x);
+    memcpy(at, &x, 8);
+}
+
+#if HIGH_BYTE_FIRST
+static inline char *load_address(const char *at) {
+    return (char *)(uintptr_t)load64(at);
+}
+
+static inline void store_address(char *at, char *x) {
+    store64(at, (uint64_t)(uintptr_t)x);
+}
+#else
+static inline char *load_address(const char *at) {
+    char *x;
+    memcpy(&x, at, 8);
+    return x;
+}
+
+static inline void store_address(char *at, char *x) {
+    memcpy(at, &x, 8);
+}
+#endif
+
+// The low bytes of a number, at most 8.
+
+static inline void store_bytes(char *at, uint64_t x, size_t count) {
+    x = LOW_FIRST_64(x);
+    memcpy(at, &x, count);
+}
+
+// Bits.
+
+#if defined(__GNUC__) || defined(__clang__)
+static inline uint64_t low_zeros(uint64_t x) {
+    return x != 0 ? (uint64_t)__builtin_ctzll(x) : 64;
+}
+
+static inline uint64_t high_zeros(uint64_t x) {
+    return x != 0 ? (uint64_t)__builtin_clzll(x) : 64;
+}
+
+static inline uint64_t ones_in(uint64_t x) {
+    return (uint64_t)__builtin_popcountll(x);
+}
+#else
+static inline uint64_t ones_in(uint64_t x) {
+    x -= x >> 1 & 0x5555555555555555u;
+    x = (x & 0x3333333333333333u) + (x >> 2 & 0x3333333333333333u);
+    return ((x + (x >> 4)) & 0x0F0F0F0F0F0F0F0Fu) * 0x0101010101010101u >> 56;
+}
+
+static inline uint64_t low_zeros(uint64_t x) {
+    return ones_in(~x & (x - 1));
+}
+
+static inline uint64_t high_zeros(uint64_t x) {
+    x |= x >> 1;
+    x |= x >> 2;
+    x |= x >> 4;
+    x |= x >> 8;
+    x |= x >> 16;
+    x |= x >> 32;
+    return ones_in(~x);
+}
+#endif
+
+static inline uint64_t greater(uint64_t one, uint64_t other) {
+    return one > other ? one : other;
+}
+
+// Numbers of 128 bits, which only the load factor needs. INTMAP_NO_INT128 takes those by parts.
+
+#if defined(__SIZEOF_INT128__) && !defined(INTMAP_NO_INT128)
+__extension__ typedef unsigned __int128 u128;
+
+static inline u128 u128_of(uint64_t x) {
+    return x;
+}
+
+static inline u128 u128_two(uint64_t high, uint64_t low) {
+    return (u128)high << 64 | low;
+}
+
+static inline uint64_t u128_low(u128 x) {
+    return (uint64_t)x;
+}
+
+static inline bool u128_above(u128 one, u128 other) {
+    return one > other;
+}
+
+static inline u128 u128_add(u128 one, u128 other) {
+    return one + other;
+}
+
+static inline u128 u128_less_one(u128 x) {
+    return x - 1;
+}
+
+static inline u128 u128_mul(u128 one, u128 other) {
+    return one * other;
+}
+
+
+static inline u128 u128_div(u128 x, u128 by) {
+    return x / by;
+}
+#else
+typedef struct u128 {
+    uint64_t high, low;
+} u128;
+
+static inline u128 u128_two(uint64_t high, uint64_t low) {
+    u128 x;
+    x.high = high;
+    x.low = low;
+    return x;
+}
+
+static inline u128 u128_of(uint64_t x) {
+    return u128_two(0, x);
+}
+
+static inline uint64_t u128_low(u128 x) {
+    return x.low;
+}
+
+static inline bool u128_above(u128 one, u128 other) {
+    return one.high > other.high || (one.high == other.high && one.low > other.low);
+}
+
+static inline u128 u128_add(u128 one, u128 other) {
+    uint64_t low = one.low + other.low;
+    return u128_two(one.high + other.high + (low < one.low), low);
+}
+
+static inline u128 u128_less_one(u128 x) {
+    return u128_two(x.high - (x.low == 0), x.low - 1);
+}
+
+
+static inline u128 u128_mul(u128 one, u128 other) {
+    uint64_t half = 0xFFFFFFFFu;
+    uint64_t a = one.low & half, b = one.low >> 32, c = other.low & half, d = other.low >> 32;
+    uint64_t first = a * c, second = b * c + (first >> 32), third = a * d + (second & half);
+    uint64_t high = b * d + (second >> 32) + (third >> 32);
+    return u128_two(high + one.high * other.low + one.low * other.high,
+                    third << 32 | (first & half));
+}
+
+// The divisor is from 1 to 2^63 - 1.
+static inline u128 u128_div(u128 x, u128 by) {
+    u128 found = u128_of(0);
+    uint64_t left = 0;
+    for (int at = 127; at >= 0; at--) {
+        found = u128_add(found, found);
+        left = left << 1 | ((at >= 64 ? x.high >> (at - 64) : x.low >> at) & 1);
+        if (left >= by.low) {
+            left -= by.low;
+            found.low |= 1;
+        }
+    }
+    return found;
+}
+#endif
+
+// Where things without bytes lie.
+static uint64_t no_bytes[1];
+#define address_of(x) ((char *)(uintptr_t)(x))
+
+// What functions return. The fields have no names in the module.
+
+struct byte_word {
+    uint8_t first;
+    uint64_t second;
+};
+static inline struct byte_word made_byte_word(uint8_t first, uint64_t second) {
+    struct byte_word made;
+    made.first = first;
+    made.second = second;
+    return made;
+}
+struct word_word {
+    uint64_t first;
+    uint64_t second;
+};
+static inline struct word_word made_word_word(uint64_t first, uint64_t second) {
+    struct word_word made;
+    made.first = first;
+    made.second = second;
+    return made;
+}
+
+// Requests for memory. A success has 1 and the block.
+static inline struct word_word granted(void *block) {
+    char *at = block != NULL ? (char *)block : (char *)no_bytes;
+    return made_word_word(block != NULL, (uint64_t)(uintptr_t)at);
+}
+
+static inline struct word_word rattle_alloc(uint64_t size, uint64_t align) {
+    return granted(malloc((size_t)(size != 0 ? size : align)));
+}
+
+static inline struct word_word rattle_realloc(char *block, uint64_t before, uint64_t size,
+                                              uint64_t align) {
+    (void)before;
+    return granted(realloc(block, (size_t)(size != 0 ? size : align)));
+}
+
+static inline void rattle_dealloc(char *block) {
+    free(block);
+}
+
+// The functions of the module.
+
+static ALIGNED uint32_t make_keep(char *a0, char *a1);
+static ALIGNED void intmap_with_slots(char *a0, uint64_t a1);
+static ALIGNED void grow_reserve_slots(char *a0, char *a1, uint64_t a2);
+static ALIGNED NOINLINE void intmap_add_growing(char *a0, char *a1, uint64_t a2, uint64_t a3, uint64_t a4, uint64_t a5);
+static ALIGNED NOINLINE struct byte_word slot_push(char *a0, uint64_t a1, uint64_t a2);
+static COLD bool vec_grow_amortized(char *a0, uint64_t a1);
+static ALIGNED uint8_t table_grow(char *a0, uint64_t a1);
+static ALIGNED NOINLINE uint8_t slot_reserve_behind(char *a0, uint64_t a1);
+static ALIGNED NOINLINE void place_move_several(char *a0, char *a1, uint64_t a2, uint64_t a3, char *a4);
+static ALIGNED NOINLINE void edits_mirror(char *a0, char *a3, uint64_t a5);
+static ALIGNED NOINLINE uint8_t slot_push_2(char *a0, uint64_t a1, uint64_t a2);
+static COLD bool vec_grow_amortized_2(char *a0);
+static ALWAYS_INLINE uint32_t do_intmap_version(void);
+static ALWAYS_INLINE uint64_t do_intmap_capacity(char *map);
+static ALWAYS_INLINE bool do_intmap_contains_key(char *map, uint64_t key);
+static ALWAYS_INLINE bool do_intmap_equal(char *map, char *other);
+static ALWAYS_INLINE uint64_t do_intmap_filled_slots(char *map);
+static ALWAYS_INLINE uint64_t do_intmap_len(char *map);
+static ALWAYS_INLINE uint64_t do_intmap_load_factor(char *map);
+static ALWAYS_INLINE struct word_word do_intmap_get(char *map, uint64_t key);
+static ALWAYS_INLINE uint32_t do_intmap_clone(char *map, char *to);
+static ALWAYS_INLINE uint32_t do_intmap_new(char *map);
+static ALWAYS_INLINE uint32_t do_intmap_with_capacity(char *map, uint64_t capacity);
+static ALWAYS_INLINE char *do_intmap_step(char *found, char *map, char *at);
+static ALWAYS_INLINE struct word_word do_intmap_add(char *map, uint64_t key, uint64_t more);
+static ALWAYS_INLINE struct word_word do_intmap_add_or_insert(char *map, uint64_t key, uint64_t more);
+static ALWAYS_INLINE void do_intmap_clear(char *map);
+static ALWAYS_INLINE char *do_intmap_cut(char *found, char *map, char *at);
+static ALWAYS_INLINE void do_intmap_free(char *map);
+static ALWAYS_INLINE struct word_word do_intmap_insert(char *map, uint64_t key, uint64_t value);
+static ALWAYS_INLINE uint32_t do_intmap_insert_checked(char *map, uint64_t key, uint64_t value);
+static ALWAYS_INLINE struct word_word do_intmap_remove(char *map, uint64_t key);
+static ALWAYS_INLINE uint32_t do_intmap_reserve(char *map, uint64_t additional);
+static ALWAYS_INLINE struct word_word do_intmap_set(char *map, uint64_t key, uint64_t value);
+static ALWAYS_INLINE uint32_t do_intmap_set_load_factor(char *map, uint64_t thousandths);
+
+// intmap_c::make::keep, in crates/intmap_c/src/make.rt
+static ALIGNED uint32_t make_keep(char *a0, char *a1) {
+    char *r2_2, *r2_3, *r2_6, *x1, *x2, *r4, *r4_2, *r9, *r9_2;
+    uint64_t r2_4, r2_5, r2_7, r2_8, r3, r4_3, r4_4, r4_5, r0_06, r12, r0_06_2, r12_2;
+    struct word_word r0;
+    uint32_t common_ret_op;
+    uint64_t r2_room[3];
+    char *r2 = (char *)r2_room;
+    r2_2 = load_address(a1 + 8);
+    r2_3 = load_address(a1 + 16);
+    r2_4 = load64(a1 + 24);
+    r2_5 = load64(a1 + 32);
+    r2_6 = load_address(a1 + 40);
+    r2_7 = load64(a1 + 48);
+    r2_8 = load64(a1 + 56);
+    if (load8(a1) == 0) {
+        memcpy(r2, a1 + 64, 24);
+        r0 = rattle_alloc(80, 8);
+        if ((r0.first & 1) != 0) {
+            x1 = (char *)(uintptr_t)r0.second;
+            store_address(x1, r2_2);
+            store_address(x1 + 8, r2_3);
+            store64(x1 + 16, r2_4);
+            store64(x1 + 24, r2_5);
+            store_address(x1 + 32, r2_6);
+            store64(x1 + 40, r2_7);
+            store64(x1 + 48, r2_8);
+            memcpy(x1 + 56, r2, 24);
+            r3 = load64(a0);
+            store64(a0, r0.second);
+            if (r3 == 0) {
+                common_ret_op = 0;
+            } else {
+                x2 = (char *)(uintptr_t)r3;
+                r4 = load_address(x2 + 8);
+                r4_2 = load_address(x2 + 32);
+                r4_3 = load64(x2 + 40);
+                r4_4 = load64(x2 + 48);
+                r4_5 = load64(x2 + 24);
+                rattle_dealloc(x2);
+                if (r4_5 != 0) {
+                    rattle_dealloc(r4);
+                }
+                if (r4_3 != 0) {
+                    r0_06 = 0;
+                    for (;;) {
+                        r9 = r4_2 + (r0_06 * 48);
+                        if (load64(r9 + 40) != 0) {
+                            rattle_dealloc(load_address(r9 + 24));
+                        }
+                        r12 = r0_06 + 1;
+                        if (r12 == r4_3) {
+                            break;
+                        }
+                        r0_06 = r12;
+                    }
+                }
+                if (r4_4 == 0) {
+                    common_ret_op = 0;
+                } else {
+                    rattle_dealloc(r4_2);
+                    common_ret_op = 0;
+                }
+            }
+        } else {
+            if (r2_5 != 0) {
+                rattle_dealloc(r2_3);
+            }
+            if (r2_7 != 0) {
+                r0_06_2 = 0;
+                for (;;) {
+                    r9_2 = r2_6 + (r0_06_2 * 48);
+                    if (load64(r9_2 + 40) != 0) {
+                        rattle_dealloc(load_address(r9_2 + 24));
+                    }
+                    r12_2 = r0_06_2 + 1;
+                    if (r12_2 == r2_7) {
+                        break;
+                    }
+                    r0_06_2 = r12_2;
+                }
+            }
+            if (r2_8 == 0) {
+                common_ret_op = 4294967295u;
+            } else {
+                rattle_dealloc(r2_6);
+                common_ret_op = 4294967295u;
+            }
+        }
+    } else {
+        common_ret_op = (load8(a1 + 1) == 0) ? 4294967295u : 4294967294u;
+    }
+    return common_ret_op;
+}
+
+// intmap::map::IntMap::with_slots, in crates/intmap/src/map/build.rt
+static ALIGNED void intmap_with_slots(char *a0, uint64_t a1) {
+    uint64_t r2_3, r22, r10_014, r2_4, r32, r4_3, r4_4, r4_5, r18_2, r0_06, r12;
+    char *r0, *r20, *r18, *r9_2;
+    u128 r17;
+    uint8_t r3;
+    char *r2 = (char *)no_bytes;
+    uint64_t r2_2_room[3];
+    char *r2_2 = (char *)r2_2_room;
+    uint64_t r9_room[4];
+    char *r9 = (char *)r9_room;
+    uint64_t r3_7_room[3];
+    char *r3_7 = (char *)r3_7_room;
+    uint64_t r3_8_room[3];
+    char *r3_8 = (char *)r3_8_room;
+    uint64_t r4_room[3];
+    char *r4 = (char *)r4_room;
+    uint64_t r4_2_room[3];
+    char *r4_2 = (char *)r4_2_room;
+    memset(r4, 0, 24);
+    memset(r4_2, 0, 24);
+    memset(r9, 0, 32);
+    store_address(r2_2, r2);
+    memset(r2_2 + 8, 0, 16);
+    grow_reserve_slots(r9, r2_2, a1);
+    r2_3 = load64(r2_2 + 8);
+    if (load8(r9) == 0) {
+        r22 = a1 - r2_3;
+        r0 = load_address(r2_2);
+        if (a1 != r2_3) {
+            r10_014 = 0;
+            r2_4 = r2_3;
+            for (;;) {
+                r20 = r0 + (r2_4 * 48);
+                memset(r20, 0, 24);
+                store_address(r20 + 24, r2);
+                memset(r20 + 32, 0, 16);
+                r32 = r10_014 + 1;
+                if (r32 == r22) {
+                    break;
+                }
+                r10_014 = r32;
+                r2_4 = r2_4 + 1;
+            }
+        }
+        store64(r2_2 + 8, a1);
+        memcpy(r3_7, r9 + 8, 24);
+        memcpy(r3_8, r2_2, 24);
+        r17 = u128_less_one(u128_mul(u128_of(a1), u128_of(910u)));
+        memcpy(r4, r3_7, 24);
+        memcpy(r4_2, r3_8, 24);
+        r3 = 0;
+        r4_3 = a1 - 1;
+        r4_4 = u128_above(r17, u128_two(UINT64_C(999), UINT64_C(18446744073709551615))) ? UINT64_C(18446744073709551615) : u128_low(u128_div(r17, u128_of(1000u)));
+        r4_5 = 909;
+    } else {
+        r18 = load_address(r2_2);
+        r18_2 = load64(r2_2 + 16);
+        if (r2_3 != 0) {
+            r0_06 = 0;
+            for (;;) {
+                r9_2 = r18 + (r0_06 * 48);
+                if (load64(r9_2 + 40) != 0) {
+                    rattle_dealloc(load_address(r9_2 + 24));
+                }
+                r12 = r0_06 + 1;
+                if (r12 == r2_3) {
+                    break;
+                }
+                r0_06 = r12;
+            }
+        }
+        if (r18_2 != 0) {
+            rattle_dealloc(r18);
+        }
+        r3 = 1;
+        r4_3 = 0;
+        r4_4 = 0;
+        r4_5 = 0;
+    }
+    store8(a0, r3);
+    store8(a0 + 1, 0);
+    store64(a0 + 8, r4_3);
+    memcpy(a0 + 16, r4, 24);
+    memcpy(a0 + 40, r4_2, 24);
+    store64(a0 + 64, 0);
+    store64(a0 + 72, r4_4);
+    store64(a0 + 80, r4_5);
+    return;
+}
+
+// intmap_table::table::grow::reserve_slots, in crates/intmap_table/src/table/grow.rt
+static ALIGNED void grow_reserve_slots(char *a0, char *a1, uint64_t a2) {
+    uint64_t r2_2, r19, r2_3, r4_0, r9_2, r19_2, r3, r2_4, r12;
+    struct word_word r0, r0_2, r0_3, r0_4, r0_5;
+    char *r9, *r8;
+    char *r2 = (char *)no_bytes;
+    r2_2 = load64(a1 + 8);
+    r19 = a2 - r2_2;
+    r2_3 = load64(a1 + 16);
+    if (r19 > (r2_3 - r2_2)) {
+        if ((a2 < UINT64_C(192153584101141163)) & (r19 <= (r2_2 ^ UINT64_C(18446744073709551615)))) {
+            if (r2_3 == 0) {
+                r0 = rattle_alloc(a2 * 48, 8);
+                if ((r0.first & 1) == 0) {
+                    goto arm_2;
+                }
+                r0_2 = r0;
+            } else {
+                r0_3 = rattle_realloc(load_address(a1), r2_2 * 48, a2 * 48, 8);
+                if ((r0_3.first & 1) == 0) {
+                    goto arm_2;
+                }
+                r0_2 = r0_3;
+            }
+            store_address(a1, (char *)(uintptr_t)r0_2.second);
+            store64(a1 + 16, a2);
+            goto arm_1;
+        }
+    arm_2:;
+        store8(a0, 1);
+        memset(a0 + 8, 0, 24);
+        goto common_ret;
+    }
+arm_1:;
+    r4_0 = (a2 >> 6) + ((uint64_t)((a2 & 63) != 0));
+    if (a2 == 0) {
+        r9 = r2;
+        r9_2 = 0;
+    } else {
+        r19_2 = r4_0 << 3;
+        r0_4 = rattle_alloc(r19_2, 8);
+        if ((r0_4.first & 1) == 0) {
+            r2_4 = load64(a1 + 8);
+            if (load64(a1 + 16) > r2_4) {
+                if (r2_4 == 0) {
+                    rattle_dealloc(load_address(a1));
+                    store_address(a1, r2);
+                    memset(a1 + 8, 0, 16);
+                } else {
+                    r12 = r2_4 * 48;
+                    r0_5 = rattle_realloc(load_address(a1), r12, r12, 8);
+                    if ((r0_5.first & 1) != 0) {
+                        store_address(a1, (char *)(uintptr_t)r0_5.second);
+                        store64(a1 + 16, r2_4);
+                    }
+                }
+            }
+            store8(a0, 1);
+            memset(a0 + 8, 0, 24);
+            goto common_ret;
+        }
+        r8 = (char *)(uintptr_t)r0_4.second;
+        if (r4_0 == 1) {
+            r3 = 0;
+        } else {
+            memset(r8, 0, r19_2 - 8);
+            r3 = r4_0 - 1;
+        }
+        store64(r8 + (r3 << 3), 0);
+        r9 = r8;
+        r9_2 = r3 + 1;
+    }
+    store8(a0, 0);
+    store_address(a0 + 8, r9);
+    store64(a0 + 16, r9_2);
+    store64(a0 + 24, r4_0);
+common_ret:;
+    return;
+}
+
+// intmap::map::IntMap::add_growing, in crates/intmap/src/map/insert.rt
+static ALIGNED NOINLINE void intmap_add_growing(char *a0, char *a1, uint64_t a2, uint64_t a3, uint64_t a4, uint64_t a5) {
+    uint64_t r2_2, r0, r3_09, r31, r8_0, r6, r2_3, r2_4, r12, r12_2, r17_4, r33, r8, r16, r20, r8_2, r9_3, r3, r0_6,
+        r0_7, r28, r2_5, r4, r2_6, r4_2, r2_7, r12_3, r10_2, r2_8, r17_2;
+    u128 r10, r13, r187, r15, r18, r17;
+    char *r5, *r9, *r5_2, *r9_2, *r11, *r5_3, *r9_4, *r23, *r18_2, *r23_2, *x5, *r9_5;
+    bool r0_2;
+    uint8_t r17_3, r53, r11_2;
+    struct word_word r0_3, r0_4, r0_5, r0_8;
+    struct byte_word r36;
+    char *r2 = (char *)no_bytes;
+    r2_2 = load64(a1 + 40);
+    r10 = u128_mul(u128_of(a2), u128_of(1000u));
+    r13 = u128_add(u128_of(load64(a1 + 72)), u128_of(1u));
+    r187 = u128_mul(r13, u128_of(r2_2));
+    if (u128_above(r187, r10)) {
+        r15 = r187;
+        r0 = r2_2;
+    } else {
+        r3_09 = r2_2;
+        for (;;) {
+            if (r3_09 == UINT64_C(9223372036854775808)) {
+                store64(a0, 1);
+                store64(a0 + 8, a5);
+                store8(a0 + 16, 1);
+                store_bytes(a0 + 17, 0, 7);
+                store64(a0 + 24, 0);
+                goto common_ret;
+            }
+            r31 = r3_09 << 1;
+            r18 = u128_mul(r13, u128_of(r31));
+            if (u128_above(r18, r10)) {
+                r15 = r18;
+                r0 = r31;
+                break;
+            }
+            r3_09 = r31;
+        }
+    }
+    r17 = u128_less_one(r15);
+    r8_0 = u128_above(r17, u128_two(UINT64_C(999), UINT64_C(18446744073709551615))) ? UINT64_C(18446744073709551615) : u128_low(u128_div(r17, u128_of(1000u)));
+    r5 = load_address(a1 + 32);
+    r6 = a3 * 48;
+    r9 = r5 + r6;
+    if (load8(r9) == 1) {
+        r2_3 = load64(r9 + 32);
+        r2_4 = load64(r9 + 40);
+        if (r2_3 < r2_4) {
+            r5_2 = r5;
+            r0_2 = false;
+        } else {
+            if (r2_4 == r2_3) {
+                if (r2_3 == UINT64_C(18446744073709551615)) {
+                    r12 = a5;
+                    r12_2 = 1;
+                    r17_2 = 0;
+                    r17_3 = 0;
+                    r17_4 = 0;
+                    goto join_7_2;
+                }
+                r33 = r2_3 + 1;
+                if (r2_3 >= UINT64_C(576460752303423487)) {
+                    r12 = a5;
+                    r12_2 = 1;
+                    r17_2 = 0;
+                    r17_3 = 0;
+                    r17_4 = 0;
+                    goto join_7_2;
+                }
+                if (r2_3 == 0) {
+                    r0_3 = rattle_alloc(16, 8);
+                    if ((r0_3.first & 1) == 0) {
+                        r12 = a5;
+                        r12_2 = 1;
+                        r17_2 = 0;
+                        r17_3 = 0;
+                        r17_4 = 0;
+                        goto join_7_2;
+                    }
+                    r0_4 = r0_3;
+                } else {
+                    r0_5 = rattle_realloc(load_address(r9 + 24), r2_3 << 4, r33 << 4, 8);
+                    if ((r0_5.first & 1) == 0) {
+                        r12 = a5;
+                        r12_2 = 1;
+                        r17_2 = 0;
+                        r17_3 = 0;
+                        r17_4 = 0;
+                        goto join_7_2;
+                    }
+                    r0_4 = r0_5;
+                }
+                store_address(r9 + 24, (char *)(uintptr_t)r0_4.second);
+                store64(r9 + 40, r33);
+                r5_2 = load_address(a1 + 32);
+                r0_2 = true;
+            } else {
+                r5_2 = r5;
+                r0_2 = true;
+            }
+        }
+    } else {
+        r5_2 = r5;
+        r0_2 = false;
+    }
+    r9_2 = r5_2 + r6;
+    r8 = (a3 >> 3) & UINT64_C(2305843009213693944);
+    r11 = load_address(a1 + 8) + r8;
+    r16 = load64(r11);
+    r20 = (uint64_t)1 << (a3 & 63);
+    store64(r11, r16 | r20);
+    if ((r16 & r20) == 0) {
+        store64(r9_2, 1);
+        store64(r9_2 + 8, a4);
+        store64(r9_2 + 16, a5);
+        r8_2 = 0;
+    } else {
+        r36 = slot_push(r9_2, a4, a5);
+        if (r36.first != 0) {
+            r12 = r36.second;
+            r12_2 = 1;
+            r17_2 = 0;
+            r17_3 = 0;
+            r17_4 = 0;
+            goto join_7_2;
+        }
+        r8_2 = r36.second;
+    }
+    r53 = table_grow(a1, r0);
+    r5_3 = load_address(a1 + 32);
+    if ((r53 & 1) != 0) {
+        r9_3 = load64(load_address(a1 + 8) + r8);
+        r9_4 = r5_3 + r6;
+        r3 = load64(r9_4 + 32);
+        if (r3 == 0) {
+            r0_6 = load64(r9_4 + 16);
+            r11_2 = load8(r9_4);
+            memset(r9_4, 0, 24);
+            if (r11_2 == 1) {
+                store64(load_address(a1 + 8) + r8, r9_3 & (r20 ^ UINT64_C(18446744073709551615)));
+                r0_7 = r0_6;
+                goto after_Table_take_at;
+            }
+        }
+        r28 = r3 - 1;
+        store64(r9_4 + 32, r28);
+        if (r8_2 == 0) {
+            if (load8(r9_4) != 1) {
+                abort();
+            }
+            r23 = load_address(r9_4 + 24) + (r28 << 4);
+            r2_5 = load64(r23 + 8);
+            r4 = load64(r9_4 + 16);
+            store64(r9_4 + 8, load64(r23));
+            store64(r9_4 + 16, r2_5);
+            r0_7 = r4;
+        } else {
+            r18_2 = load_address(r9_4 + 24);
+            r23_2 = r18_2 + (r28 << 4);
+            r2_6 = load64(r23_2 + 8);
+            if (r8_2 == r3) {
+                r0_7 = r2_6;
+            } else {
+                x5 = r18_2 + (r8_2 << 4);
+                r4_2 = load64(x5 - 8);
+                store64(x5 - 16, load64(r23_2));
+                store64(x5 - 8, r2_6);
+                r0_7 = r4_2;
+            }
+        }
+    after_Table_take_at:;
+        if (r0_2) {
+            r9_5 = load_address(a1 + 32) + r6;
+            r2_7 = load64(r9_5 + 32);
+            if (load64(r9_5 + 40) > r2_7) {
+                if (r2_7 == 0) {
+                    rattle_dealloc(load_address(r9_5 + 24));
+                    store_address(r9_5 + 24, r2);
+                    memset(r9_5 + 32, 0, 16);
+                    r12 = r0_7;
+                    r12_2 = 1;
+                    r17_2 = 0;
+                    r17_3 = 0;
+                    r17_4 = 0;
+                } else {
+                    r12_3 = r2_7 << 4;
+                    r0_8 = rattle_realloc(load_address(r9_5 + 24), r12_3, r12_3, 8);
+                    if ((r0_8.first & 1) != 0) {
+                        store_address(r9_5 + 24, (char *)(uintptr_t)r0_8.second);
+                        store64(r9_5 + 40, r2_7);
+                        r12 = r0_7;
+                        r12_2 = 1;
+                        r17_2 = 0;
+                        r17_3 = 0;
+                        r17_4 = 0;
+                    } else {
+                        r12 = r0_7;
+                        r12_2 = 1;
+                        r17_2 = 0;
+                        r17_3 = 0;
+                        r17_4 = 0;
+                    }
+                }
+            } else {
+                r12 = r0_7;
+                r12_2 = 1;
+                r17_2 = 0;
+                r17_3 = 0;
+                r17_4 = 0;
+            }
+        } else {
+            r12 = r0_7;
+            r12_2 = 1;
+            r17_2 = 0;
+            r17_3 = 0;
+            r17_4 = 0;
+        }
+    } else {
+        r10_2 = load64(a1) & (a4 * UINT64_C(11400714819323198549));
+        r2_8 = load64((r5_3 + (r10_2 * 48)) + 32);
+        store64(a1 + 56, a2);
+        store64(a1 + 64, r8_0);
+        r12 = a4;
+        r12_2 = 0;
+        r17_2 = (uint64_t)((r10_2 >> 8) & UINT64_C(72057594037927935));
+        r17_3 = (uint8_t)r10_2;
+        r17_4 = r2_8;
+    }
+join_7_2:;
+    store64(a0, r12_2);
+    store64(a0 + 8, r12);
+    store8(a0 + 16, r17_3);
+    store_bytes(a0 + 17, r17_2, 7);
+    store64(a0 + 24, r17_4);
+common_ret:;
+    return;
+}
+
+// intmap_table::slot::Slot::push, in crates/intmap_table/src/slot/pairs.rt
+static ALIGNED NOINLINE struct byte_word slot_push(char *a0, uint64_t a1, uint64_t a2) {
+    uint64_t r3, r2, r0_2, r9, r18;
+    struct word_word r0;
+    uint8_t r0_3;
+    bool r24;
+    char *r15;
+    r3 = load64(a0 + 32);
+    r2 = load64(a0 + 40);
+    if (r3 == 0) {
+        if (r2 == 0) {
+            r0 = rattle_alloc(16, 8);
+            if ((r0.first & 1) == 0) {
+                r0_2 = a2;
+                r0_3 = 1;
+                goto return_7;
+            }
+            store_address(a0 + 24, (char *)(uintptr_t)r0.second);
+            store64(a0 + 40, 1);
+        }
+    } else {
+        if (r2 == r3) {
+            r24 = vec_grow_amortized(a0 + 24, 1);
+            if (!r24) {
+                r0_2 = a2;
+                r0_3 = 1;
+                goto return_7;
+            }
+        }
+    }
+    r9 = load64(a0 + 32);
+    r15 = load_address(a0 + 24) + (r9 << 4);
+    store64(r15, a1);
+    store64(r15 + 8, a2);
+    r18 = r9 + 1;
+    store64(a0 + 32, r18);
+    r0_2 = r18;
+    r0_3 = 0;
+return_7:;
+    return made_byte_word(r0_3, r0_2);
+}
+
+// std_alloc::vec::Vec::grow_amortized, in Rattle's library std_alloc
+static COLD bool vec_grow_amortized(char *a0, uint64_t a1) {
+    uint64_t r2, r2_2, a2_a1, x0, common_ret_op_2;
+    bool common_ret_op;
+    struct word_word r0, r0_2, r0_3;
+    r2 = load64(a0 + 8);
+    if (a1 > (r2 ^ UINT64_C(18446744073709551615))) {
+        common_ret_op = false;
+    } else {
+        r2_2 = load64(a0 + 16);
+        a2_a1 = greater(r2 + a1, 4);
+        x0 = greater(a2_a1, r2_2 << 1);
+        common_ret_op_2 = (r2_2 < UINT64_C(4611686018427387904)) ? x0 : a2_a1;
+        if (common_ret_op_2 < UINT64_C(576460752303423488)) {
+            if (r2_2 == 0) {
+                r0 = rattle_alloc(x0 << 4, 8);
+                if ((r0.first & 1) == 0) {
+                    common_ret_op = false;
+                    goto common_ret;
+                }
+                r0_2 = r0;
+            } else {
+                r0_3 = rattle_realloc(load_address(a0), r2 << 4, common_ret_op_2 << 4, 8);
+                if ((r0_3.first & 1) == 0) {
+                    common_ret_op = false;
+                    goto common_ret;
+                }
+                r0_2 = r0_3;
+            }
+            store_address(a0, (char *)(uintptr_t)r0_2.second);
+            store64(a0 + 16, common_ret_op_2);
+            common_ret_op = true;
+        } else {
+            common_ret_op = false;
+        }
+    }
+common_ret:;
+    return common_ret_op;
+}
+
+// intmap_table::table::Table::grow, in crates/intmap_table/src/table/grow.rt
+static ALIGNED uint8_t table_grow(char *a0, uint64_t a1) {
+    char *r1, *r8_2, *r8_4, *r0_3, *r20, *r15, *r9, *r4_2, *r6_3, *r4_3, *r56, *r8_7, *r8_10, *r13, *r4_4, *r6_8,
+        *r4_5, *r3_4, *r3_7, *r27, *r3_11, *r27_4, *r31, *r11_2, *r8_14, *r54_3, *r4_6, *r20_2, *r20_3, *r13_2, *r9_2;
+    uint64_t r1_2, r2_2, r32, r2_3, r8_3, r19, r3, r2_4, r12_2, r22, r0_4, r10_014, r2_5, r32_2, r15_3_0_pr, r15_2,
+        r0_06, r12_3, r6, r6_2, r6_4, r28, x4, r8_5, r8_6, r8_8, r6_0, r8_9, r8_11, r6_5, r6_6, r6_7, r6_9, r2_6,
+        r3_2, r3_3, r3_5, r3_6, r3_8, r27_2, r33, r54, r60, r3_9, r3_10, r3_12, r27_3, r33_2, r40, r0_7, r0_8, r10,
+        r33_3, r54_2, r60_2, r8_12, r8_13, r8_15, r27_5, r33_4, r40_2, r2_7, r76, r6_10, r2_8, r4_04, r41, r89,
+        r6_07, r38, r73, spec_select, r2_9, r2_10, r0_06_2, r12_4, r2_11, r12_5;
+    bool r12, r21, r317, r5_08, r41_2, r5_1;
+    struct word_word r0, r0_2, r0_5, r0_9;
+    uint8_t r0_6, r11, r64;
+    char *r2 = (char *)no_bytes;
+    uint64_t r4_room[3];
+    char *r4 = (char *)r4_room;
+    uint64_t r8_room[4];
+    char *r8 = (char *)r8_room;
+    memset(r4, 0, 24);
+    memset(r8, 0, 32);
+    grow_reserve_slots(r8, a0 + 32, a1);
+    if (load8(r8) == 0) {
+        r1 = load_address(r8 + 8);
+        r1_2 = load64(r8 + 24);
+        r2_2 = load64(a0 + 40);
+        if (r2_2 == 0) {
+            abort();
+        }
+        r32 = a1 / r2_2;
+        r12 = r2_2 > a1;
+        if (!r12) {
+            if (r32 < UINT64_C(1152921504606846976)) {
+                r19 = r32 << 3;
+                r0 = rattle_alloc(r19, 8);
+                if ((r0.first & 1) != 0) {
+                    r8_4 = (char *)(uintptr_t)r0.second;
+                    if (r32 == 1) {
+                        r3 = 0;
+                    } else {
+                        memset(r8_4, 0, r19 - 8);
+                        r3 = r32 - 1;
+                    }
+                    store64(r8_4 + (r3 << 3), 0);
+                    r2_3 = load64(a0 + 40);
+                    r8_2 = r8_4;
+                    r8_3 = r3 + 1;
+                    goto arm_3;
+                }
+                r2_4 = load64(a0 + 40);
+            } else {
+                r2_4 = r2_2;
+            }
+            if (load64(a0 + 48) <= r2_4) {
+                goto arm_7_2;
+            }
+            if (r2_4 == 0) {
+                rattle_dealloc(load_address(a0 + 32));
+                store_address(a0 + 32, r2);
+                memset(a0 + 40, 0, 16);
+                goto arm_7_2;
+            }
+            r12_2 = r2_4 * 48;
+            r0_2 = rattle_realloc(load_address(a0 + 32), r12_2, r12_2, 8);
+            if ((r0_2.first & 1) == 0) {
+                goto arm_7_2;
+            }
+            store_address(a0 + 32, (char *)(uintptr_t)r0_2.second);
+            store64(a0 + 48, r2_4);
+            goto arm_7_2;
+        }
+        r2_3 = r2_2;
+        r8_2 = r2;
+        r8_3 = 0;
+    arm_3:;
+        r22 = a1 - r2_3;
+        r0_3 = load_address(a0 + 32);
+        r0_4 = load64(a0 + 48);
+        store_address(a0 + 32, r2);
+        memset(a0 + 40, 0, 16);
+        if (a1 == r2_3) {
+            store_address(a0 + 32, r0_3);
+            store64(a0 + 40, a1);
+            store64(a0 + 48, r0_4);
+        } else {
+            r10_014 = 0;
+            r2_5 = r2_3;
+            for (;;) {
+                r20 = r0_3 + (r2_5 * 48);
+                memset(r20, 0, 24);
+                store_address(r20 + 24, r2);
+                memset(r20 + 32, 0, 16);
+                r32_2 = r10_014 + 1;
+                if (r32_2 == r22) {
+                    r15 = load_address(a0 + 32);
+                    r15_3_0_pr = load64(a0 + 40);
+                    r15_2 = load64(a0 + 48);
+                    store_address(a0 + 32, r0_3);
+                    store64(a0 + 40, a1);
+                    store64(a0 + 48, r0_4);
+                    if (r15_3_0_pr != 0) {
+                        r0_06 = 0;
+                        for (;;) {
+                            r9 = r15 + (r0_06 * 48);
+                            if (load64(r9 + 40) != 0) {
+                                rattle_dealloc(load_address(r9 + 24));
+                            }
+                            r12_3 = r0_06 + 1;
+                            if (r12_3 == r15_3_0_pr) {
+                                break;
+                            }
+                            r0_06 = r12_3;
+                        }
+                    }
+                    if (r15_2 == 0) {
+                        break;
+                    }
+                    rattle_dealloc(r15);
+                    break;
+                }
+                r10_014 = r32_2;
+                r2_5 = r2_5 + 1;
+            }
+        }
+        r4_2 = load_address(a0 + 32);
+        r6 = load64(a0 + 16);
+        if (r6 == 0) {
+            r6_2 = 0;
+            r6_3 = (char *)no_bytes;
+            r6_4 = 0;
+        } else {
+            r4_3 = load_address(a0 + 8);
+            r6_2 = load64(r4_3);
+            r6_3 = r4_3 + 8;
+            r6_4 = r6 - 1;
+        }
+        r21 = r8_3 == 0;
+        r28 = r8_3 - 1;
+        r317 = r28 == 0;
+        x4 = (r8_3 << 3) - 8;
+        r56 = r8_2 + (r28 << 3);
+        r8_5 = r6_2;
+        r8_6 = 0;
+        r8_7 = r6_3;
+        r8_8 = r6_4;
+        r6_0 = 0;
+        for (;;) {
+            if (r8_5 == 0) {
+                r8_9 = r8_8;
+                r8_10 = r8_7;
+                r8_11 = r8_6;
+                for (;;) {
+                    if (r8_9 == 0) {
+                        if (r6_0 == 0) {
+                            r13 = r2;
+                        } else {
+                            if (r6_0 >= UINT64_C(576460752303423488)) {
+                                goto arm_8;
+                            }
+                            r0_5 = rattle_alloc(r6_0 << 4, 8);
+                            if ((r0_5.first & 1) == 0) {
+                                goto arm_8;
+                            }
+                            r13 = (char *)(uintptr_t)r0_5.second;
+                        }
+                        if (!r12) {
+                            rattle_dealloc(r8_2);
+                        }
+                        store_address(r4, r13);
+                        store64(r4 + 8, 0);
+                        store64(r4 + 16, r6_0);
+                        r4_4 = load_address(a0 + 32);
+                        r6_5 = load64(a0 + 40);
+                        r6_6 = load64(a0 + 16);
+                        if (r6_6 == 0) {
+                            r6_7 = 0;
+                            r6_8 = (char *)no_bytes;
+                            r6_9 = 0;
+                        } else {
+                            r4_5 = load_address(a0 + 8);
+                            r6_7 = load64(r4_5);
+                            r6_8 = r4_5 + 8;
+                            r6_9 = r6_6 - 1;
+                        }
+                        r2_6 = r6_5 - 1;
+                        r3_2 = r6_7;
+                        r3_3 = 0;
+                        r3_4 = r6_8;
+                        r3_5 = r6_9;
+                        for (;;) {
+                            if (r3_2 == 0) {
+                                r3_6 = r3_5;
+                                r3_7 = r3_4;
+                                r3_8 = r3_3;
+                                for (;;) {
+                                    if (r3_6 == 0) {
+                                        r27 = load_address(a0 + 8);
+                                        r27_2 = load64(a0 + 24);
+                                        store64(a0, a1 - 1);
+                                        memcpy(a0 + 8, r8 + 8, 24);
+                                        if (r27_2 != 0) {
+                                            rattle_dealloc(r27);
+                                        }
+                                        if (load64(r4 + 16) == 0) {
+                                            r0_6 = 0;
+                                            goto return_5;
+                                        }
+                                        rattle_dealloc(load_address(r4));
+                                        r0_6 = 0;
+                                        goto return_5;
+                                    }
+                                    r33 = r3_6 - 1;
+                                    r54 = load64(r3_7);
+                                    r60 = r3_8 + 64;
+                                    if (r54 != 0) {
+                                        r3_9 = r54;
+                                        r3_10 = r60;
+                                        r3_11 = r3_7 + 8;
+                                        r3_12 = r33;
+                                        break;
+                                    }
+                                    r3_6 = r33;
+                                    r3_7 = r3_7 + 8;
+                                    r3_8 = r60;
+                                }
+                            } else {
+                                r3_9 = r3_2;
+                                r3_10 = r3_3;
+                                r3_11 = r3_4;
+                                r3_12 = r3_5;
+                            }
+                            r27_3 = low_zeros(r3_9);
+                            r33_2 = r3_10 + r27_3;
+                            r40 = (r3_9 - 1) & r3_9;
+                            r27_4 = r4_4 + (r33_2 * 48);
+                            if (load64(r27_4 + 32) == 0) {
+                                r0_7 = load_key(r27_4 + 8);
+                                r0_8 = load64(r27_4 + 16);
+                                r11 = load8(r27_4);
+                                memset(r27_4, 0, 24);
+                                if (r11 == 1) {
+                                    r10 = (r0_7 * UINT64_C(11400714819323198549)) & r2_6;
+                                    r31 = r4_4 + (r10 * 48);
+                                    r11_2 = r1 + ((r10 >> 3) & UINT64_C(2305843009213693944));
+                                    store64(r11_2, load64(r11_2) | ((uint64_t)1 << (r10 & 63)));
+                                    store64(r31, 1);
+                                    store64(r31 + 8, r0_7);
+                                    store64(r31 + 16, r0_8);
+                                    goto loop_2_backedge;
+                                }
+                            }
+                            place_move_several(r8 + 8, r4_4, r6_5, r33_2, r4);
+                        loop_2_backedge:;
+                            r3_2 = r40;
+                            r3_3 = r3_10;
+                            r3_4 = r3_11;
+                            r3_5 = r3_12;
+                        }
+                    }
+                    r33_3 = r8_9 - 1;
+                    r54_2 = load64(r8_10);
+                    r60_2 = r8_11 + 64;
+                    if (r54_2 != 0) {
+                        r8_12 = r54_2;
+                        r8_13 = r60_2;
+                        r8_14 = r8_10 + 8;
+                        r8_15 = r33_3;
+                        break;
+                    }
+                    r8_9 = r33_3;
+                    r8_10 = r8_10 + 8;
+                    r8_11 = r60_2;
+                }
+            } else {
+                r8_12 = r8_5;
+                r8_13 = r8_6;
+                r8_14 = r8_7;
+                r8_15 = r8_8;
+            }
+            r27_5 = low_zeros(r8_12);
+            r33_4 = r8_13 + r27_5;
+            r40_2 = (r8_12 - 1) & r8_12;
+            r54_3 = r4_2 + (r33_4 * 48);
+            r2_7 = load64(r54_3 + 32);
+            if (r2_7 > 2) {
+                r76 = load64(a0) + 1;
+                if (r21) {
+                    r6_10 = r2_7;
+                } else {
+                    if (!r317) {
+                        memset(r8_2, 0, x4);
+                    }
+                    store64(r56, 0);
+                    r6_10 = load64(r54_3 + 32);
+                }
+                r4_6 = load_address(r54_3 + 24);
+                if (load8(r54_3) == 1) {
+                    if (r76 == 0) {
+                        abort();
+                    }
+                    r20_2 = r8_2 + ((((load64(r54_3 + 8) * UINT64_C(11400714819323198549)) & ((r76 * r8_3) - 1)) / r76) << 3);
+                    store64(r20_2, load64(r20_2) + 1);
+                }
+                if (r6_10 != 0) {
+                    r2_8 = (r76 * r8_3) - 1;
+                    if (r76 == 0) {
+                        abort();
+                    }
+                    r4_04 = 0;
+                    for (;;) {
+                        r20_3 = r8_2 + ((((load64(r4_6 + (r4_04 << 4)) * UINT64_C(11400714819323198549)) & r2_8) / r76) << 3);
+                        store64(r20_3, load64(r20_3) + 1);
+                        r41 = r4_04 + 1;
+                        if (r41 == r6_10) {
+                            break;
+                        }
+                        r4_04 = r41;
+                    }
+                }
+                r89 = load64(a0) + 1;
+                if (!r21) {
+                    r5_08 = false;
+                    r6_07 = 0;
+                    for (;;) {
+                        r38 = load64(r8_2 + (r6_07 << 3));
+                        r41_2 = r38 > 1;
+                        if (r41_2 ? r5_08 : false) {
+                            r64 = slot_reserve_behind(r4_2 + (((r6_07 * r89) + r33_4) * 48), r38 - 1);
+                            if ((r64 & 1) != 0) {
+                                goto arm_8;
+                            }
+                            r5_1 = true;
+                        } else {
+                            r5_1 = r41_2 ? true : r5_08;
+                        }
+                        r73 = r6_07 + 1;
+                        if (r73 == r8_3) {
+                            break;
+                        }
+                        r5_08 = r5_1;
+                        r6_07 = r73;
+                    }
+                }
+            }
+            spec_select = greater(r6_0, r2_7);
+            r8_5 = r40_2;
+            r8_6 = r8_13;
+            r8_7 = r8_14;
+            r8_8 = r8_15;
+            r6_0 = spec_select;
+        }
+    arm_8:;
+        r2_9 = load64(a0 + 40);
+        r2_10 = load64(a0 + 48);
+        if (r2_9 > r2_2) {
+            r13_2 = load_address(a0 + 32);
+            memset(a0 + 40, 0, 16);
+            r0_06_2 = r2_2;
+            for (;;) {
+                r9_2 = r13_2 + (r0_06_2 * 48);
+                if (load64(r9_2 + 40) != 0) {
+                    rattle_dealloc(load_address(r9_2 + 24));
+                }
+                r12_4 = r0_06_2 + 1;
+                if (r12_4 == r2_9) {
+                    store_address(a0 + 32, r13_2);
+                    store64(a0 + 40, r2_2);
+                    store64(a0 + 48, r2_10);
+                    r2_11 = r2_2;
+                    break;
+                }
+                r0_06_2 = r12_4;
+            }
+        } else {
+            r2_11 = r2_9;
+        }
+        if (r2_10 > r2_11) {
+            if (r2_11 == 0) {
+                rattle_dealloc(load_address(a0 + 32));
+                store_address(a0 + 32, r2);
+                memset(a0 + 40, 0, 16);
+            } else {
+                r12_5 = r2_11 * 48;
+                r0_9 = rattle_realloc(load_address(a0 + 32), r12_5, r12_5, 8);
+                if ((r0_9.first & 1) != 0) {
+                    store_address(a0 + 32, (char *)(uintptr_t)r0_9.second);
+                    store64(a0 + 48, r2_11);
+                }
+            }
+        }
+        if (!r12) {
+            rattle_dealloc(r8_2);
+        }
+    arm_7_2:;
+        if (r1_2 == 0) {
+            r0_6 = 1;
+        } else {
+            rattle_dealloc(r1);
+            r0_6 = 1;
+        }
+    } else {
+        r0_6 = 1;
+    }
+return_5:;
+    return r0_6;
+}
+
+// intmap_table::slot::Slot::reserve_behind, in crates/intmap_table/src/slot/room.rt
+static ALIGNED NOINLINE uint8_t slot_reserve_behind(char *a0, uint64_t a1) {
+    uint64_t r2, r2_2, r33;
+    uint8_t r0;
+    struct word_word r0_2, r0_3, r0_4;
+    r2 = load64(a0 + 32);
+    r2_2 = load64(a0 + 40);
+    if (a1 > (r2_2 - r2)) {
+        if (a1 > (r2 ^ UINT64_C(18446744073709551615))) {
+            r0 = 1;
+        } else {
+            r33 = r2 + a1;
+            if (r33 < UINT64_C(576460752303423488)) {
+                if (r2_2 == 0) {
+                    r0_2 = rattle_alloc(r33 << 4, 8);
+                    if ((r0_2.first & 1) == 0) {
+                        r0 = 1;
+                        goto after_Vec_reserve_exact;
+                    }
+                    r0_3 = r0_2;
+                } else {
+                    r0_4 = rattle_realloc(load_address(a0 + 24), r2 << 4, r33 << 4, 8);
+                    if ((r0_4.first & 1) == 0) {
+                        r0 = 1;
+                        goto after_Vec_reserve_exact;
+                    }
+                    r0_3 = r0_4;
+                }
+                store_address(a0 + 24, (char *)(uintptr_t)r0_3.second);
+                store64(a0 + 40, r33);
+                r0 = 0;
+            } else {
+                r0 = 1;
+            }
+        }
+    } else {
+        r0 = 0;
+    }
+after_Vec_reserve_exact:;
+    return r0;
+}
+
+// intmap_table::table::place::move_several, in crates/intmap_table/src/table/place.rt
+static ALIGNED NOINLINE void place_move_several(char *a0, char *a1, uint64_t a2, uint64_t a3, char *a4) {
+    char *r25, *r0, *r17, *r4, *r13, *r17_2, *r13_2, *r17_3, *r31_2, *r11_2, *r3, *r4_2, *r10_2, *r3_4, *r15, *r3_7,
+        *r3_9, *r21, *r31_3, *r11_4, *r3_14, *r4_4, *r10_4, *r3_17, *r15_2;
+    uint64_t r0_2, r0_3, r2_2, r12, r12_2, r6, r2_3, r7, r0_05, r18, r28, r31, r298, x1, r5_011, r6_010, r68, r0_4,
+        r0_5, r2_4, r10, r16, r20, r3_2, r3_3, r4_3, r9, r3_5, r3_6, r2_5, r3_8, r3_10, r3_11, r2_6, r11_3, r3_12,
+        r3_13, r10_3, r16_2, r20_2, r3_15, r3_16, r4_5, r9_2, r3_18, r3_19, r2_7;
+    bool r24;
+    uint8_t r11;
+    char *r2 = (char *)no_bytes;
+    uint64_t r8_room[2];
+    char *r8 = (char *)r8_room;
+    uint64_t r8_2_room[2];
+    char *r8_2 = (char *)r8_2_room;
+    r25 = a1 + (a3 * 48);
+    r0 = load_address(r25 + 24);
+    r0_2 = load64(r25 + 32);
+    r0_3 = load64(r25 + 40);
+    store_address(r25 + 24, r2);
+    memset(r25 + 32, 0, 16);
+    r2_2 = load64(a4 + 8);
+    if (r0_2 > (load64(a4 + 16) - r2_2)) {
+        r24 = vec_grow_amortized(a4, r0_2);
+        r12 = load64(a4 + 8);
+        if (!r24) {
+            r6 = r12;
+            r2_3 = r0_2;
+            goto after_Vec_append;
+        }
+        r12_2 = r12;
+    } else {
+        if (r0_2 == 0) {
+            r6 = r2_2;
+            r2_3 = 0;
+            goto after_Vec_append;
+        }
+        r12_2 = r2_2;
+    }
+    r17 = load_address(a4) + (r12_2 << 4);
+    r7 = r0_2 << 4;
+    if ((((uint64_t)(uintptr_t)r17) - ((uint64_t)(uintptr_t)r0)) < r7) {
+        r0_05 = 0;
+        for (;;) {
+            r18 = r0_05 << 4;
+            memmove(r17 + r18, r0 + r18, 16);
+            r28 = r0_05 + 1;
+            if (r28 == r0_2) {
+                break;
+            }
+            r0_05 = r28;
+        }
+    } else {
+        memmove(r17, r0, r7);
+    }
+    r31 = load64(a4 + 8) + r0_2;
+    store64(a4 + 8, r31);
+    r6 = r31;
+    r2_3 = 0;
+after_Vec_append:;
+    r4 = load_address(a4);
+    if (r6 > 15) {
+        r298 = r6 >> 1;
+        edits_mirror(r4, r4 + ((r6 - r298) << 4), r298);
+    } else {
+        if (r6 > 1) {
+            x1 = (r6 - 2) >> 1;
+            r5_011 = 0;
+            r6_010 = r6;
+            for (;;) {
+                r68 = r6_010 - 1;
+                if (r5_011 < r68) {
+                    r13 = r4 + (r5_011 << 4);
+                    r17_2 = r4 + (r68 << 4);
+                    memcpy(r8_2, r13, 16);
+                    memmove(r13, r17_2, 16);
+                    memcpy(r17_2, r8_2, 16);
+                } else {
+                    if (r68 < r5_011) {
+                        r13_2 = r4 + (r68 << 4);
+                        r17_3 = r4 + (r5_011 << 4);
+                        memcpy(r8, r13_2, 16);
+                        memmove(r13_2, r17_3, 16);
+                        memcpy(r17_3, r8, 16);
+                    }
+                }
+                if (r5_011 == x1) {
+                    break;
+                }
+                r5_011 = r5_011 + 1;
+                r6_010 = r68;
+            }
+        }
+    }
+    r0_4 = load_key(r25 + 8);
+    r0_5 = load64(r25 + 16);
+    r11 = load8(r25);
+    memset(r25, 0, 24);
+    if (r11 != 1) {
+        abort();
+    }
+    r2_4 = a2 - 1;
+    r10 = (r0_4 * UINT64_C(11400714819323198549)) & r2_4;
+    r31_2 = a1 + (r10 * 48);
+    r11_2 = load_address(a0) + ((r10 >> 3) & UINT64_C(2305843009213693944));
+    r16 = load64(r11_2);
+    r20 = (uint64_t)1 << (r10 & 63);
+    store64(r11_2, r16 | r20);
+    if ((r16 & r20) == 0) {
+        store64(r31_2, 1);
+        store64(r31_2 + 8, r0_4);
+        store64(r31_2 + 16, r0_5);
+        r3 = r0;
+        r3_2 = r2_3;
+        r3_3 = r0_3;
+    } else {
+        if (load64(r31_2 + 40) == 0) {
+            r4_2 = load_address(r31_2 + 24);
+            r4_3 = load64(r31_2 + 32);
+            store_address(r31_2 + 24, r0);
+            store64(r31_2 + 40, r0_3);
+            r10_2 = r0;
+            r9 = r2_3;
+            r3_4 = r4_2;
+            r3_5 = r4_3;
+            r3_6 = 0;
+        } else {
+            r10_2 = load_address(r31_2 + 24);
+            r9 = load64(r31_2 + 32);
+            r3_4 = r0;
+            r3_5 = r2_3;
+            r3_6 = r0_3;
+        }
+        r15 = r10_2 + (r9 << 4);
+        store64(r15, r0_4);
+        store64(r15 + 8, r0_5);
+        store64(r31_2 + 32, r9 + 1);
+        r3 = r3_4;
+        r3_2 = r3_5;
+        r3_3 = r3_6;
+    }
+    r2_5 = load64(a4 + 8);
+    if (r2_5 == 0) {
+        r3_7 = r3;
+        r3_8 = r3_3;
+    } else {
+        r3_9 = r3;
+        r3_10 = r3_2;
+        r3_11 = r3_3;
+        r2_6 = r2_5;
+        for (;;) {
+            r11_3 = r2_6 - 1;
+            store64(a4 + 8, r11_3);
+            r21 = load_address(a4) + (r11_3 << 4);
+            r3_12 = load_key(r21);
+            r3_13 = load64(r21 + 8);
+            r10_3 = (r3_12 * UINT64_C(11400714819323198549)) & r2_4;
+            r31_3 = a1 + (r10_3 * 48);
+            r11_4 = load_address(a0) + ((r10_3 >> 3) & UINT64_C(2305843009213693944));
+            r16_2 = load64(r11_4);
+            r20_2 = (uint64_t)1 << (r10_3 & 63);
+            store64(r11_4, r20_2 | r16_2);
+            if ((r20_2 & r16_2) == 0) {
+                store64(r31_3, 1);
+                store64(r31_3 + 8, r3_12);
+                store64(r31_3 + 16, r3_13);
+                r3_14 = r3_9;
+                r3_15 = r3_10;
+                r3_16 = r3_11;
+            } else {
+                if (load64(r31_3 + 40) == 0) {
+                    r4_4 = load_address(r31_3 + 24);
+                    r4_5 = load64(r31_3 + 32);
+                    store_address(r31_3 + 24, r3_9);
+                    store64(r31_3 + 40, r3_11);
+                    r10_4 = r3_9;
+                    r9_2 = r3_10;
+                    r3_17 = r4_4;
+                    r3_18 = r4_5;
+                    r3_19 = 0;
+                } else {
+                    r10_4 = load_address(r31_3 + 24);
+                    r9_2 = load64(r31_3 + 32);
+                    r3_17 = r3_9;
+                    r3_18 = r3_10;
+                    r3_19 = r3_11;
+                }
+                r15_2 = r10_4 + (r9_2 << 4);
+                store64(r15_2, r3_12);
+                store64(r15_2 + 8, r3_13);
+                store64(r31_3 + 32, r9_2 + 1);
+                r3_14 = r3_17;
+                r3_15 = r3_18;
+                r3_16 = r3_19;
+            }
+            r2_7 = load64(a4 + 8);
+            if (r2_7 == 0) {
+                r3_7 = r3_14;
+                r3_8 = r3_16;
+                break;
+            }
+            r3_9 = r3_14;
+            r3_10 = r3_15;
+            r3_11 = r3_16;
+            r2_6 = r2_7;
+        }
+    }
+    if (r3_8 != 0) {
+        rattle_dealloc(r3_7);
+    }
+    return;
+}
+
+// core::slice::edits::mirror, in Rattle's library core
+static ALIGNED NOINLINE void edits_mirror(char *a0, char *a3, uint64_t a5) {
+    uint64_t r4_04, r41;
+    char *r26, *r36;
+    uint64_t r4_room[2];
+    char *r4 = (char *)r4_room;
+    r4_04 = 0;
+    for (;;) {
+        r26 = a0 + (r4_04 << 4);
+        r36 = a3 + ((a5 + (r4_04 ^ UINT64_C(18446744073709551615))) << 4);
+        memcpy(r4, r26, 16);
+        memmove(r26, r36, 16);
+        memcpy(r36, r4, 16);
+        r41 = r4_04 + 1;
+        if (r41 == a5) {
+            return;
+        }
+        r4_04 = r41;
+    }
+}
+
+// intmap_table::slot::Slot::push, in crates/intmap_table/src/slot/pairs.rt
+static ALIGNED NOINLINE uint8_t slot_push_2(char *a0, uint64_t a1, uint64_t a2) {
+    uint64_t r3, r2, r9;
+    struct word_word r0;
+    uint8_t r0_2;
+    bool r24;
+    char *r15;
+    r3 = load64(a0 + 32);
+    r2 = load64(a0 + 40);
+    if (r3 == 0) {
+        if (r2 == 0) {
+            r0 = rattle_alloc(16, 8);
+            if ((r0.first & 1) == 0) {
+                r0_2 = 1;
+                goto return_7;
+            }
+            store_address(a0 + 24, (char *)(uintptr_t)r0.second);
+            store64(a0 + 40, 1);
+        }
+    } else {
+        if (r2 == r3) {
+            r24 = vec_grow_amortized_2(a0 + 24);
+            if (!r24) {
+                r0_2 = 1;
+                goto return_7;
+            }
+        }
+    }
+    r9 = load64(a0 + 32);
+    r15 = load_address(a0 + 24) + (r9 << 4);
+    store64(r15, a1);
+    store64(r15 + 8, a2);
+    store64(a0 + 32, r9 + 1);
+    r0_2 = 0;
+return_7:;
+    return r0_2;
+}
+
+// std_alloc::vec::Vec::grow_amortized, in Rattle's library std_alloc
+static COLD bool vec_grow_amortized_2(char *a0) {
+    uint64_t r2, r2_2, x0, a2_a1, x1, common_ret_op_2;
+    bool common_ret_op;
+    struct word_word r0, r0_2, r0_3;
+    r2 = load64(a0 + 8);
+    if (r2 == UINT64_C(18446744073709551615)) {
+        common_ret_op = false;
+    } else {
+        r2_2 = load64(a0 + 16);
+        x0 = greater(r2, 3);
+        a2_a1 = x0 + 1;
+        x1 = greater(a2_a1, r2_2 << 1);
+        common_ret_op_2 = (r2_2 < UINT64_C(4611686018427387904)) ? x1 : a2_a1;
+        if (common_ret_op_2 < UINT64_C(576460752303423488)) {
+            if (r2_2 == 0) {
+                r0 = rattle_alloc(x1 << 4, 8);
+                if ((r0.first & 1) == 0) {
+                    common_ret_op = false;
+                    goto common_ret;
+                }
+                r0_2 = r0;
+            } else {
+                r0_3 = rattle_realloc(load_address(a0), r2 << 4, common_ret_op_2 << 4, 8);
+                if ((r0_3.first & 1) == 0) {
+                    common_ret_op = false;
+                    goto common_ret;
+                }
+                r0_2 = r0_3;
+            }
+            store_address(a0, (char *)(uintptr_t)r0_2.second);
+            store64(a0 + 16, common_ret_op_2);
+            common_ret_op = true;
+        } else {
+            common_ret_op = false;
+        }
+    }
+common_ret:;
+    return common_ret_op;
+}
+
+// intmap_version, in crates/intmap_c/src/version.rt
+static ALWAYS_INLINE uint32_t do_intmap_version(void) {
+    return 10000;
+}
+
+// intmap_capacity, in crates/intmap_c/src/read.rt
+static ALWAYS_INLINE uint64_t do_intmap_capacity(char *map) {
+    char *r4;
+    uint64_t r4_0;
+    r4 = load_address(map);
+    if (r4 == NULL) {
+        r4_0 = 0;
+    } else {
+        r4_0 = load64(r4 + 40);
+    }
+    return r4_0;
+}
+
+// intmap_contains_key, in crates/intmap_c/src/read.rt
+static ALWAYS_INLINE bool do_intmap_contains_key(char *map, uint64_t key) {
+    char *r4, *r11, *r4_2;
+    bool r4_0, r11_2;
+    uint64_t r6, r3_0, r36;
+    r4 = load_address(map);
+    if (r4 == NULL) {
+        r4_0 = false;
+    } else {
+        r11 = load_address(r4 + 32) + ((load64(r4) & (key * UINT64_C(11400714819323198549))) * 48);
+        if (load8(r11) == 1) {
+            if (load64(r11 + 8) == key) {
+                r4_0 = true;
+            } else {
+                r4_2 = load_address(r11 + 24);
+                r6 = load64(r11 + 32);
+                if (r6 == 0) {
+                    r4_0 = false;
+                } else {
+                    r3_0 = 0;
+                    for (;;) {
+                        r11_2 = load64(r4_2 + (r3_0 << 4)) == key;
+                        r36 = r3_0 + 1;
+                        if (r11_2 ? true : (r36 == r6)) {
+                            r4_0 = r11_2;
+                            break;
+                        }
+                        r3_0 = r36;
+                    }
+                }
+            }
+        } else {
+            r4_0 = false;
+        }
+    }
+    return r4_0;
+}
+
+// intmap_equal, in crates/intmap_c/src/read.rt
+static ALWAYS_INLINE bool do_intmap_equal(char *map, char *other) {
+    char *r5, *r8, *r6_3, *r4, *r4_2, *r1, *r1_5, *r1_8, *r1_12, *r1_15, *r8_2, *r1_17, *r1_21, *r7, *r1_23, *r1_27,
+        *r11, *common_ret_op, *r4_3;
+    bool r12, r7_0;
+    uint64_t r6, r6_2, r6_4, r1_2, r1_3, r1_4, r1_6, r1_7, r1_9, r1_10, r1_11, r1_13, r33, r54, r60, r1_14, r1_16,
+        r17, r27, r40, r6_5, r1_18, r1_19, r1_20, r1_22, r1_24, r1_25, r1_26, r1_28, r37, r6_6, r3_0, r21, r36;
+    char *r2 = (char *)no_bytes;
+    r5 = load_address(map);
+    r8 = load_address(other);
+    r12 = r8 == NULL;
+    if (r5 == NULL) {
+        if (r12) {
+            r7_0 = true;
+            goto after_read_intmap_equal;
+        }
+    } else {
+        if (!r12) {
+            if (load64(r5 + 56) != load64(r8 + 56)) {
+                r7_0 = false;
+                goto after_read_intmap_equal;
+            }
+            r6 = load64(r5 + 16);
+            if (r6 == 0) {
+                r6_2 = 0;
+                r6_3 = (char *)no_bytes;
+                r6_4 = 0;
+            } else {
+                r4 = load_address(r5 + 8);
+                r6_2 = load64(r4);
+                r6_3 = r4 + 8;
+                r6_4 = r6 - 1;
+            }
+            r4_2 = load_address(r5 + 32);
+            r1 = r2;
+            r1_2 = 0;
+            r1_3 = r6_2;
+            r1_4 = 0;
+            r1_5 = r6_3;
+            r1_6 = r6_4;
+            for (;;) {
+                if (r1_2 == 0) {
+                    r1_7 = r1_6;
+                    r1_8 = r1_5;
+                    r1_9 = r1_4;
+                    r1_10 = r1_3;
+                    for (;;) {
+                        if (r1_10 == 0) {
+                            r1_11 = r1_9;
+                            r1_12 = r1_8;
+                            r1_13 = r1_7;
+                            for (;;) {
+                                if (r1_13 == 0) {
+                                    r7_0 = true;
+                                    goto after_read_intmap_equal;
+                                }
+                                r33 = r1_13 - 1;
+                                r54 = load64(r1_12);
+                                r60 = r1_11 + 64;
+                                if (r54 != 0) {
+                                    r1_14 = r60;
+                                    r1_15 = r1_12 + 8;
+                                    r1_16 = r33;
+                                    r17 = r54;
+                                    break;
+                                }
+                                r1_11 = r60;
+                                r1_12 = r1_12 + 8;
+                                r1_13 = r33;
+                            }
+                        } else {
+                            r1_14 = r1_9;
+                            r1_15 = r1_8;
+                            r1_16 = r1_7;
+                            r17 = r1_10;
+                        }
+                        r27 = low_zeros(r17);
+                        r40 = (r17 - 1) & r17;
+                        r8_2 = r4_2 + ((r27 + r1_14) * 48);
+                        r6_5 = load64(r8_2 + 32);
+                        if (load8(r8_2) == 1) {
+                            r1_17 = load_address(r8_2 + 24);
+                            r1_18 = r6_5;
+                            r1_19 = r40;
+                            r1_20 = r1_14;
+                            r1_21 = r1_15;
+                            r1_22 = r1_16;
+                            r7 = r8_2 + 8;
+                            goto arm_6;
+                        }
+                        if (r6_5 != 0) {
+                            r1_23 = load_address(r8_2 + 24);
+                            r1_24 = r6_5;
+                            r1_25 = r40;
+                            r1_26 = r1_14;
+                            r1_27 = r1_15;
+                            r1_28 = r1_16;
+                            break;
+                        }
+                        r1_7 = r1_16;
+                        r1_8 = r1_15;
+                        r1_9 = r1_14;
+                        r1_10 = r40;
+                    }
+                } else {
+                    r1_23 = r1;
+                    r1_24 = r1_2;
+                    r1_25 = r1_3;
+                    r1_26 = r1_4;
+                    r1_27 = r1_5;
+                    r1_28 = r1_6;
+                }
+                r1_17 = r1_23 + 16;
+                r1_18 = r1_24 - 1;
+                r1_19 = r1_25;
+                r1_20 = r1_26;
+                r1_21 = r1_27;
+                r1_22 = r1_28;
+                r7 = r1_23;
+            arm_6:;
+                r37 = load_key(r7);
+                r11 = load_address(r8 + 32) + ((load64(r8) & (r37 * UINT64_C(11400714819323198549))) * 48);
+                if (load8(r11) != 1) {
+                    r7_0 = false;
+                    goto after_read_intmap_equal;
+                }
+                if (load64(r11 + 8) == r37) {
+                    common_ret_op = r11 + 8;
+                } else {
+                    r4_3 = load_address(r11 + 24);
+                    r6_6 = load64(r11 + 32);
+                    if (r6_6 == 0) {
+                        r7_0 = false;
+                        goto after_read_intmap_equal;
+                    }
+                    r3_0 = 0;
+                    for (;;) {
+                        r21 = r3_0 << 4;
+                        if (load64(r4_3 + r21) == r37) {
+                            common_ret_op = r4_3 + r21;
+                            break;
+                        }
+                        r36 = r3_0 + 1;
+                        if (r36 == r6_6) {
+                            r7_0 = false;
+                            goto after_read_intmap_equal;
+                        }
+                        r3_0 = r36;
+                    }
+                }
+                if (load64(r7 + 8) != load64(common_ret_op + 8)) {
+                    r7_0 = false;
+                    goto after_read_intmap_equal;
+                }
+                r1 = r1_17;
+                r1_2 = r1_18;
+                r1_3 = r1_19;
+                r1_4 = r1_20;
+                r1_5 = r1_21;
+                r1_6 = r1_22;
+            }
+        }
+    }
+    r7_0 = false;
+after_read_intmap_equal:;
+    return r7_0;
+}
+
+// intmap_filled_slots, in crates/intmap_c/src/read.rt
+static ALWAYS_INLINE uint64_t do_intmap_filled_slots(char *map) {
+    char *r4, *r4_2;
+    uint64_t r4_0, r6, r1_06, r3_05, r38, r44, r46;
+    r4 = load_address(map);
+    if (r4 == NULL) {
+        r4_0 = 0;
+    } else {
+        r4_2 = load_address(r4 + 8);
+        r6 = load64(r4 + 16);
+        if (r6 == 0) {
+            r4_0 = 0;
+        } else {
+            r1_06 = 0;
+            r3_05 = 0;
+            for (;;) {
+                r38 = ones_in(load64(r4_2 + (r3_05 << 3)));
+                r44 = r38 + r1_06;
+                r46 = r3_05 + 1;
+                if (r46 == r6) {
+                    r4_0 = r44;
+                    break;
+                }
+                r1_06 = r44;
+                r3_05 = r46;
+            }
+        }
+    }
+    return r4_0;
+}
+
+// intmap_len, in crates/intmap_c/src/read.rt
+static ALWAYS_INLINE uint64_t do_intmap_len(char *map) {
+    char *r4;
+    uint64_t r4_0;
+    r4 = load_address(map);
+    if (r4 == NULL) {
+        r4_0 = 0;
+    } else {
+        r4_0 = load64(r4 + 56);
+    }
+    return r4_0;
+}
+
+// intmap_load_factor, in crates/intmap_c/src/read.rt
+static ALWAYS_INLINE uint64_t do_intmap_load_factor(char *map) {
+    char *r4;
+    uint64_t r4_0;
+    r4 = load_address(map);
+    if (r4 == NULL) {
+        r4_0 = 0;
+    } else {
+        r4_0 = load64(r4 + 72);
+    }
+    return r4_0;
+}
+
+// intmap_get, in crates/intmap_c/src/read.rt
+static ALWAYS_INLINE struct word_word do_intmap_get(char *map, uint64_t key) {
+    char *r4, *r11, *common_ret_op, *r4_3;
+    uint64_t r4_2, r14, r6, r3_0, r21, r36;
+    r4 = load_address(map);
+    if (r4 == NULL) {
+        r4_2 = 0;
+        r14 = UINT64_C(4294967293);
+    } else {
+        r11 = load_address(r4 + 32) + ((load64(r4) & (key * UINT64_C(11400714819323198549))) * 48);
+        if (load8(r11) == 1) {
+            if (load64(r11 + 8) == key) {
+                common_ret_op = r11 + 8;
+            } else {
+                r4_3 = load_address(r11 + 24);
+                r6 = load64(r11 + 32);
+                if (r6 == 0) {
+                    r4_2 = 0;
+                    r14 = 2;
+                    goto after_read_intmap_get;
+                }
+                r3_0 = 0;
+                for (;;) {
+                    r21 = r3_0 << 4;
+                    if (load64(r4_3 + r21) == key) {
+                        common_ret_op = r4_3 + r21;
+                        break;
+                    }
+                    r36 = r3_0 + 1;
+                    if (r36 == r6) {
+                        r4_2 = 0;
+                        r14 = 2;
+                        goto after_read_intmap_get;
+                    }
+                    r3_0 = r36;
+                }
+            }
+            r4_2 = load64(common_ret_op + 8);
+            r14 = 1;
+        } else {
+            r4_2 = 0;
+            r14 = 2;
+        }
+    }
+after_read_intmap_get:;
+    return made_word_word(r4_2, r14);
+}
+
+// intmap_clone, in crates/intmap_c/src/read.rt
+static ALWAYS_INLINE uint32_t do_intmap_clone(char *map, char *to) {
+    char *r6, *r14, *r4, *r9_45_0_ph34, *r8, *r23, *r4_2, *r90, *r4_3, *r17, *r8_2, *r52, *r15, *r9_3, *r20;
+    uint32_t r5_0, r19_2;
+    uint64_t r2_2, r6_2, r7_pre_phi33, r19, r0_05, r18, r30, r6_3, r8_0204, r87, r9, r9_2, r6_4, r7_052, r49, r2_3,
+        r66, r0_06, r12_3, r119, r120, r21, r23_2, r25;
+    bool r12, r12_2;
+    struct word_word r0, r0_2, r0_3;
+    uint8_t r32;
+    char *r2 = (char *)no_bytes;
+    uint64_t r7_room[11];
+    char *r7 = (char *)r7_room;
+    r6 = load_address(map);
+    memset(r7, 0, 88);
+    if (r6 == NULL) {
+        r5_0 = 4294967293u;
+    } else {
+        r2_2 = load64(r6 + 40);
+        r12 = r2_2 == 0;
+        if (r12) {
+            r14 = r2;
+        } else {
+            if (r2_2 >= UINT64_C(192153584101141163)) {
+                goto arm_2_2;
+            }
+            r0 = rattle_alloc(r2_2 * 48, 8);
+            if ((r0.first & 1) == 0) {
+                goto arm_2_2;
+            }
+            r14 = (char *)(uintptr_t)r0.second;
+        }
+        r4 = load_address(r6 + 8);
+        r6_2 = load64(r6 + 16);
+        r12_2 = r6_2 == 0;
+        if (!r12_2) {
+            if (r6_2 < UINT64_C(1152921504606846976)) {
+                r19 = r6_2 << 3;
+                r0_2 = rattle_alloc(r19, 8);
+                if ((r0_2.first & 1) != 0) {
+                    r8 = (char *)(uintptr_t)r0_2.second;
+                    if ((r0_2.second - ((uint64_t)(uintptr_t)r4)) >= r19) {
+                        r9_45_0_ph34 = r8;
+                        r7_pre_phi33 = r19;
+                        goto apart_2;
+                    }
+                    r0_05 = 0;
+                    for (;;) {
+                        r18 = r0_05 << 3;
+                        store64(r8 + r18, load64(r4 + r18));
+                        r30 = r0_05 + 1;
+                        if (r30 == r6_2) {
+                            r23 = r8;
+                            goto arm_5;
+                        }
+                        r0_05 = r30;
+                    }
+                }
+            }
+            if (r12) {
+                goto arm_2_2;
+            }
+            rattle_dealloc(r14);
+            goto arm_2_2;
+        }
+        r9_45_0_ph34 = r2;
+        r7_pre_phi33 = 0;
+    apart_2:;
+        memmove(r9_45_0_ph34, r4, r7_pre_phi33);
+        r23 = r9_45_0_ph34;
+    arm_5:;
+        r4_2 = load_address(r6 + 32);
+        r6_3 = load64(r6 + 40);
+        if (r6_3 != 0) {
+            r8_0204 = 0;
+            for (;;) {
+                r87 = r8_0204 * 48;
+                r90 = r4_2 + r87;
+                r32 = load8(r90);
+                if (r32 == 1) {
+                    r9 = load64(r90 + 8);
+                    r9_2 = load64(r90 + 16);
+                } else {
+                    r9 = 0;
+                    r9_2 = 0;
+                }
+                r4_3 = load_address(r90 + 24);
+                r6_4 = load64(r90 + 32);
+                if (r6_4 != 0) {
+                    if (r6_4 < UINT64_C(576460752303423488)) {
+                        r0_3 = rattle_alloc(r6_4 << 4, 8);
+                        if ((r0_3.first & 1) != 0) {
+                            r8_2 = (char *)(uintptr_t)r0_3.second;
+                            r7_052 = 0;
+                            for (;;) {
+                                r49 = r7_052 << 4;
+                                r52 = r4_3 + r49;
+                                r15 = r8_2 + r49;
+                                r2_3 = load64(r52 + 8);
+                                store64(r15, load64(r52));
+                                store64(r15 + 8, r2_3);
+                                r66 = r7_052 + 1;
+                                if (r66 == r6_4) {
+                                    r17 = r8_2;
+                                    goto arm_14;
+                                }
+                                r7_052 = r66;
+                            }
+                        }
+                    }
+                    if (!r12_2) {
+                        rattle_dealloc(r23);
+                    }
+                    if (r8_0204 != 0) {
+                        r0_06 = 0;
+                        for (;;) {
+                            r9_3 = r14 + (r0_06 * 48);
+                            if (load64(r9_3 + 40) != 0) {
+                                rattle_dealloc(load_address(r9_3 + 24));
+                            }
+                            r12_3 = r0_06 + 1;
+                            if (r12_3 == r8_0204) {
+                                break;
+                            }
+                            r0_06 = r12_3;
+                        }
+                    }
+                    if (r12) {
+                        goto arm_2_2;
+                    }
+                    rattle_dealloc(r14);
+                    goto arm_2_2;
+                }
+                r17 = r2;
+            arm_14:;
+                r20 = r14 + r87;
+                store64(r20, (uint64_t)r32);
+                store64(r20 + 8, r9);
+                store64(r20 + 16, r9_2);
+                store_address(r20 + 24, r17);
+                store64(r20 + 32, r6_4);
+                store64(r20 + 40, r6_4);
+                r119 = r8_0204 + 1;
+                if (r119 == r6_3) {
+                    break;
+                }
+                r8_0204 = r119;
+            }
+        }
+        r120 = load64(r6);
+        r21 = load64(r6 + 56);
+        r23_2 = load64(r6 + 64);
+        r25 = load64(r6 + 72);
+        store8(r7, 0);
+        store8(r7 + 1, 0);
+        store64(r7 + 8, r120);
+        store_address(r7 + 16, r23);
+        store64(r7 + 24, r6_2);
+        store64(r7 + 32, r6_2);
+        store_address(r7 + 40, r14);
+        store64(r7 + 48, r6_3);
+        store64(r7 + 56, r2_2);
+        store64(r7 + 64, r21);
+        store64(r7 + 72, r23_2);
+        store64(r7 + 80, r25);
+        goto after_IntMap_clone;
+    arm_2_2:;
+        store8(r7, 1);
+        store8(r7 + 1, 0);
+        memset(r7 + 8, 0, 80);
+    after_IntMap_clone:;
+        r19_2 = make_keep(to, r7);
+        r5_0 = r19_2;
+    }
+    return r5_0;
+}
+
+// intmap_new, in crates/intmap_c/src/make.rt
+static ALWAYS_INLINE uint32_t do_intmap_new(char *map) {
+    uint32_t r5;
+    uint64_t r0_room[11];
+    char *r0 = (char *)r0_room;
+    uint64_t r3_room[11];
+    char *r3 = (char *)r3_room;
+    store64(r3, 0);
+    memset(r0, 0, 88);
+    intmap_with_slots(r0, 4);
+    store8(r3, load8(r0));
+    store8(r3 + 1, load8(r0 + 1));
+    memcpy(r3 + 8, r0 + 8, 80);
+    r5 = make_keep(map, r3);
+    return r5;
+}
+
+// intmap_with_capacity, in crates/intmap_c/src/make.rt
+static ALWAYS_INLINE uint32_t do_intmap_with_capacity(char *map, uint64_t capacity) {
+    uint8_t sink1, sink, x0, x1;
+    uint64_t a0_a1, r13;
+    uint32_t r5;
+    uint64_t r0_room[11];
+    char *r0 = (char *)r0_room;
+    uint64_t r3_room[11];
+    char *r3 = (char *)r3_room;
+    memset(r3, 0, 88);
+    memset(r0, 0, 88);
+    if (capacity > UINT64_C(9223372036854775808)) {
+        memset(r3 + 8, 0, 80);
+        sink1 = 1;
+        sink = 1;
+    } else {
+        a0_a1 = greater(capacity, 2);
+        r13 = high_zeros(a0_a1 - 1);
+        intmap_with_slots(r0, (uint64_t)1 << ((uint64_t)64 - r13));
+        x0 = load8(r0);
+        x1 = load8(r0 + 1);
+        memcpy(r3 + 8, r0 + 8, 80);
+        sink1 = x0;
+        sink = x1;
+    }
+    store8(r3, sink1);
+    store8(r3 + 1, sink);
+    r5 = make_keep(map, r3);
+    return r5;
+}
+
+// intmap_step, in crates/intmap_c/src/read.rt
+static ALWAYS_INLINE char *do_intmap_step(char *found, char *map, char *at) {
+    char *r5, *r4, *r8, *common_ret_op;
+    uint64_t r6, r6_2, r1947, r1910, r2, r2_2, r1910_2, r1951, r39, r1_0, r46, r59, r2_0, r1_0_2, r63, r69, r44, r82,
+        r1910_3, r2_3;
+    uint32_t r6_3;
+    r5 = load_address(map);
+    if (r5 == NULL) {
+        r6 = 0;
+        r6_2 = 0;
+        r6_3 = 4294967293u;
+    } else {
+        r1947 = load64(at);
+        r1910 = r1947 >> 6;
+        r2 = load64(r5 + 16);
+        if (r2 > r1910) {
+            r2_2 = r2;
+            r1910_2 = r1910;
+            r1951 = r1947;
+            for (;;) {
+                r4 = load_address(r5 + 8);
+                r39 = load64(r4 + (r1910_2 << 3)) & (UINT64_C(18446744073709551615) << (r1951 & 63));
+                if (r39 == 0) {
+                    r1_0 = r1910_2;
+                    for (;;) {
+                        r46 = r1_0 + 1;
+                        if (r46 == r2_2) {
+                            r6 = 0;
+                            r6_2 = 0;
+                            r6_3 = 2;
+                            goto after_read_intmap_step;
+                        }
+                        r59 = load64(r4 + (r46 << 3));
+                        if (r59 != 0) {
+                            r2_0 = r59;
+                            r1_0_2 = r46;
+                            break;
+                        }
+                        r1_0 = r46;
+                    }
+                } else {
+                    r2_0 = r39;
+                    r1_0_2 = r1910_2;
+                }
+                r63 = low_zeros(r2_0);
+                r69 = (r1_0_2 << 6) | r63;
+                store64(at, r69);
+                r8 = load_address(r5 + 32) + (r69 * 48);
+                if (load8(r8) != 0) {
+                    r44 = load64(at + 8);
+                    if (r44 < (load64(r8 + 32) + 1)) {
+                        store64(at + 8, r44 + 1);
+                        store64(at + 16, load64(at + 16) + 1);
+                        if (r44 == 0) {
+                            if (load8(r8) != 1) {
+                                abort();
+                            }
+                            common_ret_op = r8 + 8;
+                        } else {
+                            common_ret_op = (load_address(r8 + 24) + (r44 << 4)) - 16;
+                        }
+                        r6 = load64(common_ret_op);
+                        r6_2 = load64(common_ret_op + 8);
+                        r6_3 = 1;
+                        break;
+                    }
+                }
+                r82 = r69 + 1;
+                store64(at, r82);
+                store64(at + 8, 0);
+                r1910_3 = r82 >> 6;
+                r2_3 = load64(r5 + 16);
+                if (r2_3 <= r1910_3) {
+                    r6 = 0;
+                    r6_2 = 0;
+                    r6_3 = 2;
+                    break;
+                }
+                r2_2 = r2_3;
+                r1910_2 = r1910_3;
+                r1951 = r82;
+            }
+        } else {
+            r6 = 0;
+            r6_2 = 0;
+            r6_3 = 2;
+        }
+    }
+after_read_intmap_step:;
+    store64(found, r6);
+    store64(found + 8, r6_2);
+    store32(found + 16, r6_3);
+    store32(found + 20, 0);
+    return found;
+}
+
+// intmap_add, in crates/intmap_c/src/pairs.rt
+static ALWAYS_INLINE struct word_word do_intmap_add(char *map, uint64_t key, uint64_t more) {
+    uint64_t r3, r6, r19, r6_2, r3_0, r21, r36, r19_2, r3_2, r4_5, r4_6, r4_7, r0_06, r12;
+    char *x0, *r11, *r4, *r4_2, *x2, *r4_3, *r4_4, *r9;
+    r3 = load64(map);
+    store64(map, 0);
+    if (r3 == 0) {
+        r6 = 0;
+        r19 = UINT64_C(4294967293);
+    } else {
+        x0 = (char *)(uintptr_t)r3;
+        r11 = load_address(x0 + 32) + ((load64(x0) & (key * UINT64_C(11400714819323198549))) * 48);
+        if (load8(r11) == 1) {
+            if (load64(r11 + 8) == key) {
+                r4 = r11 + 16;
+            } else {
+                r4_2 = load_address(r11 + 24);
+                r6_2 = load64(r11 + 32);
+                if (r6_2 == 0) {
+                    goto after_pairs_add;
+                }
+                r3_0 = 0;
+                for (;;) {
+                    r21 = r3_0 << 4;
+                    if (load64(r4_2 + r21) == key) {
+                        r4 = (r4_2 + r21) + 8;
+                        break;
+                    }
+                    r36 = r3_0 + 1;
+                    if (r36 == r6_2) {
+                        goto after_pairs_add;
+                    }
+                    r3_0 = r36;
+                }
+            }
+            r19_2 = load64(r4);
+            store64(r4, r19_2 + more);
+            r3_2 = load64(map);
+            store64(map, r3);
+            if (r3_2 == 0) {
+                r6 = r19_2;
+                r19 = 1;
+                goto after_pairs_intmap_add;
+            }
+            x2 = (char *)(uintptr_t)r3_2;
+            r4_3 = load_address(x2 + 8);
+            r4_4 = load_address(x2 + 32);
+            r4_5 = load64(x2 + 40);
+            r4_6 = load64(x2 + 48);
+            r4_7 = load64(x2 + 24);
+            rattle_dealloc(x2);
+            if (r4_7 != 0) {
+                rattle_dealloc(r4_3);
+            }
+            if (r4_5 != 0) {
+                r0_06 = 0;
+                for (;;) {
+                    r9 = r4_4 + (r0_06 * 48);
+                    if (load64(r9 + 40) != 0) {
+                        rattle_dealloc(load_address(r9 + 24));
+                    }
+                    r12 = r0_06 + 1;
+                    if (r12 == r4_5) {
+                        break;
+                    }
+                    r0_06 = r12;
+                }
+            }
+            if (r4_6 == 0) {
+                r6 = r19_2;
+                r19 = 1;
+                goto after_pairs_intmap_add;
+            }
+            rattle_dealloc(r4_4);
+            r6 = r19_2;
+            r19 = 1;
+            goto after_pairs_intmap_add;
+        }
+    after_pairs_add:;
+        store64(map, r3);
+        r6 = 0;
+        r19 = 2;
+    }
+after_pairs_intmap_add:;
+    return made_word_word(r6, r19);
+}
+
+// intmap_add_or_insert, in crates/intmap_c/src/pairs.rt
+static ALWAYS_INLINE struct word_word do_intmap_add_or_insert(char *map, uint64_t key, uint64_t more) {
+    uint64_t r3, r6, r10, r6_2, r3_0, r21, r36, r2937, r8, r28, r44, r16, r20, r3_2, r4_4, r4_5, r4_6, r0_06, r12_2,
+        r0_2_8_ext;
+    char *x0, *r11, *r2937_in, *r4, *r11_2, *x10, *r4_2, *r4_3, *r9;
+    uint32_t r19, r40, x9;
+    uint8_t r36_2;
+    uint64_t r12_room[4];
+    char *r12 = (char *)r12_room;
+    r3 = load64(map);
+    store64(map, 0);
+    x0 = (char *)(uintptr_t)r3;
+    if (r3 == 0) {
+        r6 = 0;
+        r19 = 4294967293u;
+    } else {
+        r10 = load64(x0) & (key * UINT64_C(11400714819323198549));
+        r11 = load_address(x0 + 32) + (r10 * 48);
+        if (load8(r11) == 1) {
+            if (load64(r11 + 8) == key) {
+                r2937_in = r11 + 16;
+            } else {
+                r4 = load_address(r11 + 24);
+                r6_2 = load64(r11 + 32);
+                if (r6_2 == 0) {
+                    goto arm_2_2;
+                }
+                r3_0 = 0;
+                for (;;) {
+                    r21 = r3_0 << 4;
+                    if (load64(r4 + r21) == key) {
+                        r2937_in = (r4 + r21) + 8;
+                        break;
+                    }
+                    r36 = r3_0 + 1;
+                    if (r36 == r6_2) {
+                        goto arm_2_2;
+                    }
+                    r3_0 = r36;
+                }
+            }
+            r2937 = load64(r2937_in);
+            store64(r2937_in, r2937 + more);
+            r40 = 1;
+            r8 = r2937;
+            goto after_pairs_add_or_insert;
+        }
+    arm_2_2:;
+        memset(r12, 0, 32);
+        r28 = load64(x0 + 56);
+        if (r28 == UINT64_C(18446744073709551615)) {
+            x9 = 4294967294u;
+        } else {
+            r44 = r28 + 1;
+            if (!(((r44 & 4) != 0) & (load64(x0 + 64) <= r28))) {
+                r11_2 = load_address(x0 + 8) + ((r10 >> 3) & UINT64_C(2305843009213693944));
+                r16 = load64(r11_2);
+                r20 = (uint64_t)1 << (r10 & 63);
+                store64(r11_2, r16 | r20);
+                if ((r16 & r20) == 0) {
+                    store64(r11, 1);
+                    store64(r11 + 8, key);
+                    store64(r11 + 16, more);
+                } else {
+                    r36_2 = slot_push_2(r11, key, more);
+                    if (r36_2 != 0) {
+                        r40 = 4294967295u;
+                        r8 = 0;
+                        goto after_pairs_add_or_insert;
+                    }
+                }
+                store64(x0 + 56, r44);
+                r40 = 2;
+                r8 = 0;
+                goto after_pairs_add_or_insert;
+            }
+            intmap_add_growing(r12, x0, r44, r10, key, more);
+            if (load8(r12) == 0) {
+                r40 = 2;
+                r8 = 0;
+                goto after_pairs_add_or_insert;
+            }
+            x9 = ((load64(r12 + 16) & 255) == 0) ? 4294967295u : 4294967294u;
+        }
+        r40 = x9;
+        r8 = 0;
+    after_pairs_add_or_insert:;
+        r3_2 = load64(map);
+        store64(map, r3);
+        if (r3_2 == 0) {
+            r6 = r8;
+            r19 = r40;
+        } else {
+            x10 = (char *)(uintptr_t)r3_2;
+            r4_2 = load_address(x10 + 8);
+            r4_3 = load_address(x10 + 32);
+            r4_4 = load64(x10 + 40);
+            r4_5 = load64(x10 + 48);
+            r4_6 = load64(x10 + 24);
+            rattle_dealloc(x10);
+            if (r4_6 != 0) {
+                rattle_dealloc(r4_2);
+            }
+            if (r4_4 != 0) {
+                r0_06 = 0;
+                for (;;) {
+                    r9 = r4_3 + (r0_06 * 48);
+                    if (load64(r9 + 40) != 0) {
+                        rattle_dealloc(load_address(r9 + 24));
+                    }
+                    r12_2 = r0_06 + 1;
+                    if (r12_2 == r4_4) {
+                        break;
+                    }
+                    r0_06 = r12_2;
+                }
+            }
+            if (r4_5 == 0) {
+                r6 = r8;
+                r19 = r40;
+            } else {
+                rattle_dealloc(r4_3);
+                r6 = r8;
+                r19 = r40;
+            }
+        }
+    }
+    r0_2_8_ext = (uint64_t)r19;
+    return made_word_word(r6, r0_2_8_ext);
+}
+
+// intmap_clear, in crates/intmap_c/src/walk.rt
+static ALWAYS_INLINE void do_intmap_clear(char *map) {
+    uint64_t r3, r6, r1, r1_3, r1_4, r1_5, r1_7, r1_8, r1_10, r6_2, r28, r3_2, r4_5, r4_6, r4_7, r0_06, r12, r33,
+        r54, r60, r1_11, r1_12, r1_14, r27, r40;
+    char *x0, *r1_2, *r4, *r1_6, *r1_9, *r4_2, *x3, *r4_3, *r4_4, *r9, *r1_13, *r9_2;
+    r3 = load64(map);
+    store64(map, 0);
+    x0 = (char *)(uintptr_t)r3;
+    if (r3 != 0) {
+        r6 = load64(x0 + 16);
+        if (r6 == 0) {
+            r1 = 0;
+            r1_2 = (char *)no_bytes;
+            r1_3 = 0;
+        } else {
+            r4 = load_address(x0 + 8);
+            r1 = load64(r4);
+            r1_2 = r4 + 8;
+            r1_3 = r6 - 1;
+        }
+        r1_4 = r1;
+        r1_5 = 0;
+        r1_6 = r1_2;
+        r1_7 = r1_3;
+        for (;;) {
+            if (r1_4 == 0) {
+                r1_8 = r1_7;
+                r1_9 = r1_6;
+                r1_10 = r1_5;
+                for (;;) {
+                    if (r1_8 == 0) {
+                        r4_2 = load_address(x0 + 8);
+                        r6_2 = load64(x0 + 16);
+                        if (r6_2 != 0) {
+                            r28 = r6_2 - 1;
+                            if (r28 != 0) {
+                                memset(r4_2, 0, (r6_2 << 3) - 8);
+                            }
+                            store64(r4_2 + (r28 << 3), 0);
+                        }
+                        store64(x0 + 56, 0);
+                        r3_2 = load64(map);
+                        store64(map, r3);
+                        if (r3_2 == 0) {
+                            goto after_walk_intmap_clear;
+                        }
+                        x3 = (char *)(uintptr_t)r3_2;
+                        r4_3 = load_address(x3 + 8);
+                        r4_4 = load_address(x3 + 32);
+                        r4_5 = load64(x3 + 40);
+                        r4_6 = load64(x3 + 48);
+                        r4_7 = load64(x3 + 24);
+                        rattle_dealloc(x3);
+                        if (r4_7 != 0) {
+                            rattle_dealloc(r4_3);
+                        }
+                        if (r4_5 != 0) {
+                            r0_06 = 0;
+                            for (;;) {
+                                r9 = r4_4 + (r0_06 * 48);
+                                if (load64(r9 + 40) != 0) {
+                                    rattle_dealloc(load_address(r9 + 24));
+                                }
+                                r12 = r0_06 + 1;
+                                if (r12 == r4_5) {
+                                    break;
+                                }
+                                r0_06 = r12;
+                            }
+                        }
+                        if (r4_6 == 0) {
+                            goto after_walk_intmap_clear;
+                        }
+                        rattle_dealloc(r4_4);
+                        goto after_walk_intmap_clear;
+                    }
+                    r33 = r1_8 - 1;
+                    r54 = load64(r1_9);
+                    r60 = r1_10 + 64;
+                    if (r54 != 0) {
+                        r1_11 = r54;
+                        r1_12 = r60;
+                        r1_13 = r1_9 + 8;
+                        r1_14 = r33;
+                        break;
+                    }
+                    r1_8 = r33;
+                    r1_9 = r1_9 + 8;
+                    r1_10 = r60;
+                }
+            } else {
+                r1_11 = r1_4;
+                r1_12 = r1_5;
+                r1_13 = r1_6;
+                r1_14 = r1_7;
+            }
+            r27 = low_zeros(r1_11);
+            r40 = (r1_11 - 1) & r1_11;
+            r9_2 = load_address(x0 + 32) + ((r1_12 + r27) * 48);
+            memset(r9_2, 0, 24);
+            if (load64(r9_2 + 32) != 0) {
+                store64(r9_2 + 32, 0);
+            }
+            r1_4 = r40;
+            r1_5 = r1_12;
+            r1_6 = r1_13;
+            r1_7 = r1_14;
+        }
+    }
+after_walk_intmap_clear:;
+    return;
+}
+
+// intmap_cut, in crates/intmap_c/src/walk.rt
+static ALWAYS_INLINE char *do_intmap_cut(char *found, char *map, char *at) {
+    uint64_t r3, r6, r6_2, r1325, r1910, r2, r2_2, r1910_2, r1329, r39, r1_0, r46, x21, x22, r59, r2_0, r1_0_2, r63,
+        r69, r21, r3_2, r3_3, r2_3, r0, r0_2, r16, r1, r1_2, r28, r3_0, r0_05, r13_2, r23, r36, r20, exit, x14,
+        r20_lcssa60, r3_0_lcssa59, r0_05_2, r13_3, r23_2, r4_3, r4_4, r10, r16_2, r6_4, r1_3, r1_4, r28_2, r20_2,
+        r3_0_2, r0_05_3, r19, r29, r0_05_4, r13_5, r23_3, r36_2, r20_3, exit_2, r0_05_5, r19_2, r29_2, x6,
+        r20_lcssa60_2, r3_0_lcssa59_2, r40, r37, r1910_3, r2_4, r3_4, r4_7, r4_8, r4_9, r0_06, r12;
+    char *x0, *r4, *r9, *r13, *x11, *x13, *x16, *r13_4, *r9_2, *x3, *x5, *x7, *r11, *x24, *r4_5, *r4_6, *r9_3;
+    uint32_t r6_3, x23;
+    uint8_t r4_2;
+    bool x18;
+    r3 = load64(map);
+    store64(map, 0);
+    x0 = (char *)(uintptr_t)r3;
+    if (r3 == 0) {
+        r6 = 0;
+        r6_2 = 0;
+        r6_3 = 4294967293u;
+    } else {
+        r1325 = load64(at);
+        r1910 = r1325 >> 6;
+        r2 = load64(x0 + 16);
+        if (r2 > r1910) {
+            r2_2 = r2;
+            r1910_2 = r1910;
+            r1329 = r1325;
+            for (;;) {
+                r4 = load_address(x0 + 8);
+                r39 = load64(r4 + (r1910_2 << 3)) & (UINT64_C(18446744073709551615) << (r1329 & 63));
+                if (r39 == 0) {
+                    r1_0 = r1910_2;
+                    for (;;) {
+                        r46 = r1_0 + 1;
+                        if (r46 == r2_2) {
+                            x21 = 0;
+                            x22 = 0;
+                            x23 = 2;
+                            goto after_walk_cut;
+                        }
+                        r59 = load64(r4 + (r46 << 3));
+                        if (r59 != 0) {
+                            r2_0 = r59;
+                            r1_0_2 = r46;
+                            break;
+                        }
+                        r1_0 = r46;
+                    }
+                } else {
+                    r2_0 = r39;
+                    r1_0_2 = r1910_2;
+                }
+                r63 = low_zeros(r2_0);
+                r69 = (r1_0_2 << 6) | r63;
+                store64(at, r69);
+                r9 = load_address(x0 + 32) + (r69 * 48);
+                r21 = load64(at + 8);
+                r4_2 = load8(r9);
+                if (r4_2 == 0) {
+                    x18 = false;
+                    r3_2 = 0;
+                    r3_3 = 0;
+                } else {
+                    r2_3 = load64(r9 + 32);
+                    if (r21 < (r2_3 + 1)) {
+                        if (r21 == 0) {
+                            if (r4_2 != 1) {
+                                abort();
+                            }
+                            if (r2_3 == 0) {
+                                r0 = load64(r9 + 8);
+                                r0_2 = load64(r9 + 16);
+                                memset(r9, 0, 24);
+                                x18 = true;
+                                r3_2 = r0;
+                                r3_3 = r0_2;
+                            } else {
+                                r13 = load_address(r9 + 24);
+                                r16 = load64(r9 + 40);
+                                memset(r9 + 32, 0, 16);
+                                r1 = load64(r13);
+                                r1_2 = load64(r13 + 8);
+                                r28 = r2_3 - 1;
+                                if (r28 > 128) {
+                                    r3_0 = 0;
+                                    for (;;) {
+                                        x11 = r13 + (r3_0 << 4);
+                                        r0_05 = 0;
+                                        for (;;) {
+                                            r13_2 = r0_05 << 4;
+                                            memcpy(x11 + r13_2, (x11 + 16) + r13_2, 16);
+                                            r23 = r0_05 + 1;
+                                            if (r23 == 128) {
+                                                r36 = r3_0 + 128;
+                                                r20 = r28 - r36;
+                                                if (r20 > 128) {
+                                                    r3_0 = r36;
+                                                    break;
+                                                }
+                                                exit = r36 << 4;
+                                                x13 = r13 + exit;
+                                                x14 = exit;
+                                                r20_lcssa60 = r20;
+                                                r3_0_lcssa59 = r36;
+                                                goto then_2_2;
+                                            }
+                                            r0_05 = r23;
+                                        }
+                                    }
+                                }
+                                x13 = r13;
+                                x14 = 0;
+                                r20_lcssa60 = r28;
+                                r3_0_lcssa59 = 0;
+                            then_2_2:;
+                                if (r28 != r3_0_lcssa59) {
+                                    x16 = r13 + x14;
+                                    r0_05_2 = 0;
+                                    for (;;) {
+                                        r13_3 = r0_05_2 << 4;
+                                        memcpy(x16 + r13_3, (x13 + 16) + r13_3, 16);
+                                        r23_2 = r0_05_2 + 1;
+                                        if (r23_2 == r20_lcssa60) {
+                                            break;
+                                        }
+                                        r0_05_2 = r23_2;
+                                    }
+                                }
+                                store_address(r9 + 24, r13);
+                                store64(r9 + 32, r28);
+                                store64(r9 + 40, r16);
+                                if (load8(r9) != 1) {
+                                    abort();
+                                }
+                                r4_3 = load64(r9 + 8);
+                                r4_4 = load64(r9 + 16);
+                                store64(r9 + 8, r1);
+                                store64(r9 + 16, r1_2);
+                                x18 = true;
+                                r3_2 = r4_3;
+                                r3_3 = r4_4;
+                            }
+                        } else {
+                            r10 = r21 - 1;
+                            r13_4 = load_address(r9 + 24);
+                            r16_2 = load64(r9 + 40);
+                            memset(r9 + 32, 0, 16);
+                            r6_4 = r10 << 4;
+                            r9_2 = r13_4 + r6_4;
+                            r1_3 = load64(r9_2);
+                            r1_4 = load64(r9_2 + 8);
+                            r28_2 = r2_3 - 1;
+                            r20_2 = r2_3 - r21;
+                            if (r20_2 > 128) {
+                                r3_0_2 = r10;
+                                for (;;) {
+                                    x3 = r13_4 + (r3_0_2 << 4);
+                                    if (r3_0_2 == UINT64_C(18446744073709551615)) {
+                                        r0_05_3 = 0;
+                                        for (;;) {
+                                            r19 = (uint64_t)2032 - (r0_05_3 << 4);
+                                            memcpy(x3 + r19, (x3 + 16) + r19, 16);
+                                            r29 = r0_05_3 + 1;
+                                            if (r29 == 128) {
+                                                break;
+                                            }
+                                            r0_05_3 = r29;
+                                        }
+                                    } else {
+                                        r0_05_4 = 0;
+                                        for (;;) {
+                                            r13_5 = r0_05_4 << 4;
+                                            memcpy(x3 + r13_5, (x3 + 16) + r13_5, 16);
+                                            r23_3 = r0_05_4 + 1;
+                                            if (r23_3 == 128) {
+                                                break;
+                                            }
+                                            r0_05_4 = r23_3;
+                                        }
+                                    }
+                                    r36_2 = r3_0_2 + 128;
+                                    r20_3 = r28_2 - r36_2;
+                                    if (r20_3 <= 128) {
+                                        exit_2 = r36_2 << 4;
+                                        x5 = r13_4 + exit_2;
+                                        if (r36_2 != UINT64_C(18446744073709551615)) {
+                                            x6 = exit_2;
+                                            r20_lcssa60_2 = r20_3;
+                                            r3_0_lcssa59_2 = r36_2;
+                                            break;
+                                        }
+                                        if (r2_3 == 0) {
+                                            goto after_Vec_remove;
+                                        }
+                                        r0_05_5 = 0;
+                                        for (;;) {
+                                            r19_2 = (r20_3 + (r0_05_5 ^ UINT64_C(18446744073709551615))) << 4;
+                                            memcpy(x5 + r19_2, (x5 + 16) + r19_2, 16);
+                                            r29_2 = r0_05_5 + 1;
+                                            if (r29_2 == r20_3) {
+                                                goto after_Vec_remove;
+                                            }
+                                            r0_05_5 = r29_2;
+                                        }
+                                    }
+                                    r3_0_2 = r36_2;
+                                }
+                            } else {
+                                x6 = r6_4;
+                                r20_lcssa60_2 = r20_2;
+                                r3_0_lcssa59_2 = r10;
+                            }
+                            if (r28_2 != r3_0_lcssa59_2) {
+                                x7 = r13_4 + x6;
+                                memmove(x7, x7 + 16, r20_lcssa60_2 << 4);
+                            }
+                        after_Vec_remove:;
+                            store_address(r9 + 24, r13_4);
+                            store64(r9 + 32, r28_2);
+                            store64(r9 + 40, r16_2);
+                            x18 = true;
+                            r3_2 = r1_3;
+                            r3_3 = r1_4;
+                        }
+                    } else {
+                        x18 = false;
+                        r3_2 = 0;
+                        r3_3 = 0;
+                    }
+                }
+                store64(at + 16, (load64(at + 8) - r21) + load64(at + 16));
+                if ((load8(r9) & 1) == 0) {
+                    r40 = load64(at);
+                    r11 = load_address(x0 + 8) + ((r40 >> 3) & UINT64_C(2305843009213693944));
+                    store64(r11, load64(r11) & (((uint64_t)1 << (r40 & 63)) ^ UINT64_C(18446744073709551615)));
+                }
+                if (x18) {
+                    store64(x0 + 56, load64(x0 + 56) - 1);
+                    x21 = r3_3;
+                    x22 = r3_2;
+                    x23 = 1;
+                    break;
+                }
+                r37 = r69 + 1;
+                store64(at, r37);
+                store64(at + 8, 0);
+                r1910_3 = r37 >> 6;
+                r2_4 = load64(x0 + 16);
+                if (r2_4 <= r1910_3) {
+                    x21 = 0;
+                    x22 = 0;
+                    x23 = 2;
+                    break;
+                }
+                r2_2 = r2_4;
+                r1910_2 = r1910_3;
+                r1329 = r37;
+            }
+        } else {
+            x21 = 0;
+            x22 = 0;
+            x23 = 2;
+        }
+    after_walk_cut:;
+        r3_4 = load64(map);
+        store64(map, r3);
+        if (r3_4 == 0) {
+            r6 = x22;
+            r6_2 = x21;
+            r6_3 = x23;
+        } else {
+            x24 = (char *)(uintptr_t)r3_4;
+            r4_5 = load_address(x24 + 8);
+            r4_6 = load_address(x24 + 32);
+            r4_7 = load64(x24 + 40);
+            r4_8 = load64(x24 + 48);
+            r4_9 = load64(x24 + 24);
+            rattle_dealloc(x24);
+            if (r4_9 != 0) {
+                rattle_dealloc(r4_5);
+            }
+            if (r4_7 != 0) {
+                r0_06 = 0;
+                for (;;) {
+                    r9_3 = r4_6 + (r0_06 * 48);
+                    if (load64(r9_3 + 40) != 0) {
+                        rattle_dealloc(load_address(r9_3 + 24));
+                    }
+                    r12 = r0_06 + 1;
+                    if (r12 == r4_7) {
+                        break;
+                    }
+                    r0_06 = r12;
+                }
+            }
+            if (r4_8 == 0) {
+                r6 = x22;
+                r6_2 = x21;
+                r6_3 = x23;
+            } else {
+                rattle_dealloc(r4_6);
+                r6 = x22;
+                r6_2 = x21;
+                r6_3 = x23;
+            }
+        }
+    }
+    store64(found, r6);
+    store64(found + 8, r6_2);
+    store32(found + 16, r6_3);
+    store32(found + 20, 0);
+    return found;
+}
+
+// intmap_free, in crates/intmap_c/src/make.rt
+static ALWAYS_INLINE void do_intmap_free(char *map) {
+    uint64_t r3, r4_3, r4_4, r4_5, r0_06, r12;
+    char *x0, *r4, *r4_2, *r9;
+    r3 = load64(map);
+    store64(map, 0);
+    if (r3 != 0) {
+        x0 = (char *)(uintptr_t)r3;
+        r4 = load_address(x0 + 8);
+        r4_2 = load_address(x0 + 32);
+        r4_3 = load64(x0 + 40);
+        r4_4 = load64(x0 + 48);
+        r4_5 = load64(x0 + 24);
+        rattle_dealloc(x0);
+        if (r4_5 != 0) {
+            rattle_dealloc(r4);
+        }
+        if (r4_3 != 0) {
+            r0_06 = 0;
+            for (;;) {
+                r9 = r4_2 + (r0_06 * 48);
+                if (load64(r9 + 40) != 0) {
+                    rattle_dealloc(load_address(r9 + 24));
+                }
+                r12 = r0_06 + 1;
+                if (r12 == r4_3) {
+                    break;
+                }
+                r0_06 = r12;
+            }
+        }
+        if (r4_4 != 0) {
+            rattle_dealloc(r4_2);
+        }
+    }
+    return;
+}
+
+// intmap_insert, in crates/intmap_c/src/pairs.rt
+static ALWAYS_INLINE struct word_word do_intmap_insert(char *map, uint64_t key, uint64_t value) {
+    uint64_t r3, r6, r10, r11_2, r4_3_0_pn150, r4_0_0_pn149, r4, r4_2, r4_3, r5, r6_2, r3_0, r21, r15, r2, r12_2, r9,
+        r0, r4_5, r9_2, r36, r28, r44, r16, r20, r3_2, r4_8, r4_9, r4_10, r0_06, r12_3, r0_2_8_ext;
+    char *x0, *r11, *x2, *r4_4, *r23, *r10_2, *r24, *r15_2, *r11_3, *x11, *r4_6, *r4_7, *r9_3;
+    uint32_t r19, spec_select1, x10;
+    uint8_t r36_2;
+    uint64_t r12_room[4];
+    char *r12 = (char *)r12_room;
+    r3 = load64(map);
+    store64(map, 0);
+    x0 = (char *)(uintptr_t)r3;
+    if (r3 == 0) {
+        r6 = 0;
+        r19 = 4294967293u;
+    } else {
+        r10 = load64(x0) & (key * UINT64_C(11400714819323198549));
+        r11 = load_address(x0 + 32) + (r10 * 48);
+        if (load8(r11) == 1) {
+            if (load64(r11 + 8) == key) {
+                r11_2 = load64(r11 + 32);
+                if (r11_2 == 0) {
+                    r4_3_0_pn150 = value;
+                    r4_0_0_pn149 = key;
+                } else {
+                    x2 = load_address(r11 + 24) + (r11_2 << 4);
+                    r4 = load64(x2 - 16);
+                    r4_2 = load64(x2 - 8);
+                    store64(x2 - 16, key);
+                    store64(x2 - 8, value);
+                    if (load8(r11) != 1) {
+                        abort();
+                    }
+                    r4_3_0_pn150 = r4_2;
+                    r4_0_0_pn149 = r4;
+                }
+                r4_3 = load64(r11 + 16);
+                store64(r11 + 8, r4_0_0_pn149);
+                store64(r11 + 16, r4_3_0_pn150);
+                r5 = r4_3;
+                spec_select1 = 1;
+                goto after_pairs_insert;
+            }
+            r4_4 = load_address(r11 + 24);
+            r6_2 = load64(r11 + 32);
+            if (r6_2 != 0) {
+                r3_0 = 0;
+                for (;;) {
+                    r21 = r3_0 << 4;
+                    if (load64(r4_4 + r21) == key) {
+                        r15 = r6_2 - 1;
+                        store64(r11 + 32, r15);
+                        r23 = r4_4 + (r15 << 4);
+                        r2 = load64(r23 + 8);
+                        if (r3_0 == r15) {
+                            r12_2 = r21;
+                            r10_2 = r4_4;
+                            r9 = r3_0;
+                            r0 = r2;
+                        } else {
+                            r24 = r4_4 + r21;
+                            r4_5 = load64(r24 + 8);
+                            store64(r24, load64(r23));
+                            store64(r24 + 8, r2);
+                            r9_2 = load64(r11 + 32);
+                            r12_2 = r9_2 << 4;
+                            r10_2 = load_address(r11 + 24);
+                            r9 = r9_2;
+                            r0 = r4_5;
+                        }
+                        r15_2 = r10_2 + r12_2;
+                        store64(r15_2, key);
+                        store64(r15_2 + 8, value);
+                        store64(r11 + 32, r9 + 1);
+                        r5 = r0;
+                        spec_select1 = 1;
+                        goto after_pairs_insert;
+                    }
+                    r36 = r3_0 + 1;
+                    if (r36 == r6_2) {
+                        break;
+                    }
+                    r3_0 = r36;
+                }
+            }
+        }
+        memset(r12, 0, 32);
+        r28 = load64(x0 + 56);
+        if (r28 == UINT64_C(18446744073709551615)) {
+            x10 = 4294967294u;
+        } else {
+            r44 = r28 + 1;
+            if (!(((r44 & 4) != 0) & (load64(x0 + 64) <= r28))) {
+                r11_3 = load_address(x0 + 8) + ((r10 >> 3) & UINT64_C(2305843009213693944));
+                r16 = load64(r11_3);
+                r20 = (uint64_t)1 << (r10 & 63);
+                store64(r11_3, r16 | r20);
+                if ((r16 & r20) == 0) {
+                    store64(r11, 1);
+                    store64(r11 + 8, key);
+                    store64(r11 + 16, value);
+                } else {
+                    r36_2 = slot_push_2(r11, key, value);
+                    if (r36_2 != 0) {
+                        r5 = 0;
+                        spec_select1 = 4294967295u;
+                        goto after_pairs_insert;
+                    }
+                }
+                store64(x0 + 56, r44);
+                r5 = 0;
+                spec_select1 = 2;
+                goto after_pairs_insert;
+            }
+            intmap_add_growing(r12, x0, r44, r10, key, value);
+            if (load8(r12) == 0) {
+                r5 = 0;
+                spec_select1 = 2;
+                goto after_pairs_insert;
+            }
+            x10 = (load8(r12 + 16) == 0) ? 4294967295u : 4294967294u;
+        }
+        r5 = 0;
+        spec_select1 = x10;
+    after_pairs_insert:;
+        r3_2 = load64(map);
+        store64(map, r3);
+        if (r3_2 == 0) {
+            r6 = r5;
+            r19 = spec_select1;
+        } else {
+            x11 = (char *)(uintptr_t)r3_2;
+            r4_6 = load_address(x11 + 8);
+            r4_7 = load_address(x11 + 32);
+            r4_8 = load64(x11 + 40);
+            r4_9 = load64(x11 + 48);
+            r4_10 = load64(x11 + 24);
+            rattle_dealloc(x11);
+            if (r4_10 != 0) {
+                rattle_dealloc(r4_6);
+            }
+            if (r4_8 != 0) {
+                r0_06 = 0;
+                for (;;) {
+                    r9_3 = r4_7 + (r0_06 * 48);
+                    if (load64(r9_3 + 40) != 0) {
+                        rattle_dealloc(load_address(r9_3 + 24));
+                    }
+                    r12_3 = r0_06 + 1;
+                    if (r12_3 == r4_8) {
+                        break;
+                    }
+                    r0_06 = r12_3;
+                }
+            }
+            if (r4_9 == 0) {
+                r6 = r5;
+                r19 = spec_select1;
+            } else {
+                rattle_dealloc(r4_7);
+                r6 = r5;
+                r19 = spec_select1;
+            }
+        }
+    }
+    r0_2_8_ext = (uint64_t)r19;
+    return made_word_word(r6, r0_2_8_ext);
+}
+
+// intmap_insert_checked, in crates/intmap_c/src/pairs.rt
+static ALWAYS_INLINE uint32_t do_intmap_insert_checked(char *map, uint64_t key, uint64_t value) {
+    uint64_t r3, r10, r6, r3_0, r36, r28, r44, r16, r20, r3_2, r4_4, r4_5, r4_6, r0_06, r12_2;
+    char *x0, *r11, *r4, *r11_2, *x8, *r4_2, *r4_3, *r9;
+    uint32_t r6_0, r4_0;
+    uint8_t r36_2;
+    uint64_t r12_room[4];
+    char *r12 = (char *)r12_room;
+    r3 = load64(map);
+    store64(map, 0);
+    x0 = (char *)(uintptr_t)r3;
+    if (r3 == 0) {
+        r6_0 = 4294967293u;
+    } else {
+        r10 = load64(x0) & (key * UINT64_C(11400714819323198549));
+        r11 = load_address(x0 + 32) + (r10 * 48);
+        if (load8(r11) == 1) {
+            if (load64(r11 + 8) == key) {
+                r4_0 = 1;
+                goto after_pairs_insert_checked;
+            }
+            r4 = load_address(r11 + 24);
+            r6 = load64(r11 + 32);
+            if (r6 != 0) {
+                r3_0 = 0;
+                for (;;) {
+                    if (load64(r4 + (r3_0 << 4)) == key) {
+                        r4_0 = 1;
+                        goto after_pairs_insert_checked;
+                    }
+                    r36 = r3_0 + 1;
+                    if (r36 == r6) {
+                        break;
+                    }
+                    r3_0 = r36;
+                }
+            }
+        }
+        memset(r12, 0, 32);
+        r28 = load64(x0 + 56);
+        if (r28 == UINT64_C(18446744073709551615)) {
+            r4_0 = 4294967294u;
+        } else {
+            r44 = r28 + 1;
+            if (!(((r44 & 4) != 0) & (load64(x0 + 64) <= r28))) {
+                r11_2 = load_address(x0 + 8) + ((r10 >> 3) & UINT64_C(2305843009213693944));
+                r16 = load64(r11_2);
+                r20 = (uint64_t)1 << (r10 & 63);
+                store64(r11_2, r16 | r20);
+                if ((r16 & r20) == 0) {
+                    store64(r11, 1);
+                    store64(r11 + 8, key);
+                    store64(r11 + 16, value);
+                } else {
+                    r36_2 = slot_push_2(r11, key, value);
+                    if (r36_2 != 0) {
+                        goto x7;
+                    }
+                }
+                store64(x0 + 56, r44);
+                r4_0 = 2;
+                goto after_pairs_insert_checked;
+            }
+            intmap_add_growing(r12, x0, r44, r10, key, value);
+            if (load8(r12) == 0) {
+                r4_0 = 2;
+                goto after_pairs_insert_checked;
+            }
+            if (load8(r12 + 16) != 0) {
+                r4_0 = 4294967294u;
+                goto after_pairs_insert_checked;
+            }
+        x7:;
+            r4_0 = 4294967295u;
+        }
+    after_pairs_insert_checked:;
+        r3_2 = load64(map);
+        store64(map, r3);
+        if (r3_2 == 0) {
+            r6_0 = r4_0;
+        } else {
+            x8 = (char *)(uintptr_t)r3_2;
+            r4_2 = load_address(x8 + 8);
+            r4_3 = load_address(x8 + 32);
+            r4_4 = load64(x8 + 40);
+            r4_5 = load64(x8 + 48);
+            r4_6 = load64(x8 + 24);
+            rattle_dealloc(x8);
+            if (r4_6 != 0) {
+                rattle_dealloc(r4_2);
+            }
+            if (r4_4 != 0) {
+                r0_06 = 0;
+                for (;;) {
+                    r9 = r4_3 + (r0_06 * 48);
+                    if (load64(r9 + 40) != 0) {
+                        rattle_dealloc(load_address(r9 + 24));
+                    }
+                    r12_2 = r0_06 + 1;
+                    if (r12_2 == r4_4) {
+                        break;
+                    }
+                    r0_06 = r12_2;
+                }
+            }
+            if (r4_5 == 0) {
+                r6_0 = r4_0;
+            } else {
+                rattle_dealloc(r4_3);
+                r6_0 = r4_0;
+            }
+        }
+    }
+    return r6_0;
+}
+
+// intmap_remove, in crates/intmap_c/src/pairs.rt
+static ALWAYS_INLINE struct word_word do_intmap_remove(char *map, uint64_t key) {
+    uint64_t r3, r6, r19, r10, r3_2, r8, r9, r0, r0_2, r28, r2, r4, r6_2, r3_0, r45, r15, r2_2, r4_3, r3_3, r4_6,
+        r4_7, r4_8, r0_06, r12;
+    char *x0, *r11, *r23, *r4_2, *r23_2, *x3, *x4, *r4_4, *r4_5, *r9_2;
+    r3 = load64(map);
+    store64(map, 0);
+    x0 = (char *)(uintptr_t)r3;
+    if (r3 == 0) {
+        r6 = 0;
+        r19 = UINT64_C(4294967293);
+    } else {
+        r10 = load64(x0) & (key * UINT64_C(11400714819323198549));
+        r11 = load_address(x0 + 32) + (r10 * 48);
+        if (load8(r11) == 1) {
+            if (load64(r11 + 8) == key) {
+                r3_2 = load64(r11 + 32);
+                if (r3_2 == 0) {
+                    r8 = (r10 >> 3) & UINT64_C(2305843009213693944);
+                    r9 = load64(load_address(x0 + 8) + r8);
+                    r0 = load64(r11 + 16);
+                    memset(r11, 0, 24);
+                    store64(load_address(x0 + 8) + r8, r9 & (((uint64_t)1 << (r10 & 63)) ^ UINT64_C(18446744073709551615)));
+                    r0_2 = r0;
+                } else {
+                    r28 = r3_2 - 1;
+                    store64(r11 + 32, r28);
+                    r23 = load_address(r11 + 24) + (r28 << 4);
+                    r2 = load64(r23 + 8);
+                    r4 = load64(r11 + 16);
+                    store64(r11 + 8, load64(r23));
+                    store64(r11 + 16, r2);
+                    r0_2 = r4;
+                }
+            } else {
+                r4_2 = load_address(r11 + 24);
+                r6_2 = load64(r11 + 32);
+                if (r6_2 == 0) {
+                    goto after_pairs_remove;
+                }
+                r3_0 = 0;
+                for (;;) {
+                    r45 = r3_0 + 1;
+                    if (load64(r4_2 + (r3_0 << 4)) == key) {
+                        r15 = r6_2 - 1;
+                        store64(r11 + 32, r15);
+                        r23_2 = r4_2 + (r15 << 4);
+                        r2_2 = load64(r23_2 + 8);
+                        if (r45 == r6_2) {
+                            r0_2 = r2_2;
+                            break;
+                        }
+                        x3 = r4_2 + (r45 << 4);
+                        r4_3 = load64(x3 - 8);
+                        store64(x3 - 16, load64(r23_2));
+                        store64(x3 - 8, r2_2);
+                        r0_2 = r4_3;
+                        break;
+                    }
+                    if (r45 == r6_2) {
+                        goto after_pairs_remove;
+                    }
+                    r3_0 = r45;
+                }
+            }
+            store64(x0 + 56, load64(x0 + 56) - 1);
+            r3_3 = load64(map);
+            store64(map, r3);
+            if (r3_3 == 0) {
+                r6 = r0_2;
+                r19 = 1;
+                goto after_pairs_intmap_remove;
+            }
+            x4 = (char *)(uintptr_t)r3_3;
+            r4_4 = load_address(x4 + 8);
+            r4_5 = load_address(x4 + 32);
+            r4_6 = load64(x4 + 40);
+            r4_7 = load64(x4 + 48);
+            r4_8 = load64(x4 + 24);
+            rattle_dealloc(x4);
+            if (r4_8 != 0) {
+                rattle_dealloc(r4_4);
+            }
+            if (r4_6 != 0) {
+                r0_06 = 0;
+                for (;;) {
+                    r9_2 = r4_5 + (r0_06 * 48);
+                    if (load64(r9_2 + 40) != 0) {
+                        rattle_dealloc(load_address(r9_2 + 24));
+                    }
+                    r12 = r0_06 + 1;
+                    if (r12 == r4_6) {
+                        break;
+                    }
+                    r0_06 = r12;
+                }
+            }
+            if (r4_7 == 0) {
+                r6 = r0_2;
+                r19 = 1;
+                goto after_pairs_intmap_remove;
+            }
+            rattle_dealloc(r4_5);
+            r6 = r0_2;
+            r19 = 1;
+            goto after_pairs_intmap_remove;
+        }
+    after_pairs_remove:;
+        store64(map, r3);
+        r6 = 0;
+        r19 = 2;
+    }
+after_pairs_intmap_remove:;
+    return made_word_word(r6, r19);
+}
+
+// intmap_reserve, in crates/intmap_c/src/figures.rt
+static ALWAYS_INLINE uint32_t do_intmap_reserve(char *map, uint64_t additional) {
+    uint64_t r3, r18, r40, r2_0, r13, r2, a0_a1, r3_2, r4_3, r4_4, r4_5, r0_06, r12;
+    char *x0, *x1, *r4, *r4_2, *r9;
+    uint32_t r6_0, r4_0;
+    uint8_t r19;
+    u128 r17;
+    r3 = load64(map);
+    store64(map, 0);
+    x0 = (char *)(uintptr_t)r3;
+    if (r3 == 0) {
+        r6_0 = 4294967293u;
+    } else {
+        r18 = load64(x0 + 56);
+        if ((r18 > UINT64_C(9223372036854775808)) ? true : ((UINT64_C(9223372036854775808) - r18) < additional)) {
+            r4_0 = 4294967294u;
+        } else {
+            r40 = r18 + additional;
+            if (r40 < 2) {
+                r2_0 = 1;
+            } else {
+                r13 = high_zeros(r40 - 1);
+                r2_0 = (uint64_t)1 << ((uint64_t)64 - r13);
+            }
+            r2 = load64(x0 + 40);
+            a0_a1 = greater(r2, r2_0);
+            if (r2 < r2_0) {
+                r19 = table_grow(x0, a0_a1);
+                if ((r19 & 1) != 0) {
+                    r4_0 = 4294967295u;
+                    goto after_figures_reserve;
+                }
+            }
+            r17 = u128_less_one(u128_mul(u128_add(u128_of(load64(x0 + 72)), u128_of(1u)), u128_of(a0_a1)));
+            store64(x0 + 64, u128_above(r17, u128_two(UINT64_C(999), UINT64_C(18446744073709551615))) ? UINT64_C(18446744073709551615) : u128_low(u128_div(r17, u128_of(1000u))));
+            r4_0 = 0;
+        }
+    after_figures_reserve:;
+        r3_2 = load64(map);
+        store64(map, r3);
+        if (r3_2 == 0) {
+            r6_0 = r4_0;
+        } else {
+            x1 = (char *)(uintptr_t)r3_2;
+            r4 = load_address(x1 + 8);
+            r4_2 = load_address(x1 + 32);
+            r4_3 = load64(x1 + 40);
+            r4_4 = load64(x1 + 48);
+            r4_5 = load64(x1 + 24);
+            rattle_dealloc(x1);
+            if (r4_5 != 0) {
+                rattle_dealloc(r4);
+            }
+            if (r4_3 != 0) {
+                r0_06 = 0;
+                for (;;) {
+                    r9 = r4_2 + (r0_06 * 48);
+                    if (load64(r9 + 40) != 0) {
+                        rattle_dealloc(load_address(r9 + 24));
+                    }
+                    r12 = r0_06 + 1;
+                    if (r12 == r4_3) {
+                        break;
+                    }
+                    r0_06 = r12;
+                }
+            }
+            if (r4_4 == 0) {
+                r6_0 = r4_0;
+            } else {
+                rattle_dealloc(r4_2);
+                r6_0 = r4_0;
+            }
+        }
+    }
+    return r6_0;
+}
+
+// intmap_set, in crates/intmap_c/src/pairs.rt
+static ALWAYS_INLINE struct word_word do_intmap_set(char *map, uint64_t key, uint64_t value) {
+    uint64_t r3, r6, r19, r6_2, r3_0, r21, r36, r6_3, r3_2, r4_5, r4_6, r4_7, r0_06, r12;
+    char *x0, *r11, *r4, *r4_2, *x2, *r4_3, *r4_4, *r9;
+    r3 = load64(map);
+    store64(map, 0);
+    if (r3 == 0) {
+        r6 = 0;
+        r19 = UINT64_C(4294967293);
+    } else {
+        x0 = (char *)(uintptr_t)r3;
+        r11 = load_address(x0 + 32) + ((load64(x0) & (key * UINT64_C(11400714819323198549))) * 48);
+        if (load8(r11) == 1) {
+            if (load64(r11 + 8) == key) {
+                r4 = r11 + 16;
+            } else {
+                r4_2 = load_address(r11 + 24);
+                r6_2 = load64(r11 + 32);
+                if (r6_2 == 0) {
+                    goto after_pairs_set;
+                }
+                r3_0 = 0;
+                for (;;) {
+                    r21 = r3_0 << 4;
+                    if (load64(r4_2 + r21) == key) {
+                        r4 = (r4_2 + r21) + 8;
+                        break;
+                    }
+                    r36 = r3_0 + 1;
+                    if (r36 == r6_2) {
+                        goto after_pairs_set;
+                    }
+                    r3_0 = r36;
+                }
+            }
+            r6_3 = load64(r4);
+            store64(r4, value);
+            r3_2 = load64(map);
+            store64(map, r3);
+            if (r3_2 == 0) {
+                r6 = r6_3;
+                r19 = 1;
+                goto after_pairs_intmap_set;
+            }
+            x2 = (char *)(uintptr_t)r3_2;
+            r4_3 = load_address(x2 + 8);
+            r4_4 = load_address(x2 + 32);
+            r4_5 = load64(x2 + 40);
+            r4_6 = load64(x2 + 48);
+            r4_7 = load64(x2 + 24);
+            rattle_dealloc(x2);
+            if (r4_7 != 0) {
+                rattle_dealloc(r4_3);
+            }
+            if (r4_5 != 0) {
+                r0_06 = 0;
+                for (;;) {
+                    r9 = r4_4 + (r0_06 * 48);
+                    if (load64(r9 + 40) != 0) {
+                        rattle_dealloc(load_address(r9 + 24));
+                    }
+                    r12 = r0_06 + 1;
+                    if (r12 == r4_5) {
+                        break;
+                    }
+                    r0_06 = r12;
+                }
+            }
+            if (r4_6 == 0) {
+                r6 = r6_3;
+                r19 = 1;
+                goto after_pairs_intmap_set;
+            }
+            rattle_dealloc(r4_4);
+            r6 = r6_3;
+            r19 = 1;
+            goto after_pairs_intmap_set;
+        }
+    after_pairs_set:;
+        store64(map, r3);
+        r6 = 0;
+        r19 = 2;
+    }
+after_pairs_intmap_set:;
+    return made_word_word(r6, r19);
+}
+
+// intmap_set_load_factor, in crates/intmap_c/src/figures.rt
+static ALWAYS_INLINE uint32_t do_intmap_set_load_factor(char *map, uint64_t thousandths) {
+    uint64_t r3, r2, r3_09, r31, r3_2, r4_3, r4_4, r4_5, r0_06, r12;
+    char *x0, *x1, *r4, *r4_2, *r9;
+    uint32_t r6_0, r4_0;
+    u128 r10, r13, r187, r15, r18, r17;
+    uint8_t r19;
+    r3 = load64(map);
+    store64(map, 0);
+    x0 = (char *)(uintptr_t)r3;
+    if (r3 == 0) {
+        r6_0 = 4294967293u;
+    } else {
+        r2 = load64(x0 + 40);
+        r10 = u128_mul(u128_of(load64(x0 + 56)), u128_of(1000u));
+        r13 = u128_add(u128_of(thousandths), u128_of(1u));
+        r187 = u128_mul(r13, u128_of(r2));
+        if (u128_above(r187, r10)) {
+            r15 = r187;
+        } else {
+            r3_09 = r2;
+            for (;;) {
+                if (r3_09 == UINT64_C(9223372036854775808)) {
+                    r4_0 = 4294967294u;
+                    goto after_figures_set_load_factor;
+                }
+                r31 = r3_09 << 1;
+                r18 = u128_mul(r13, u128_of(r31));
+                if (u128_above(r18, r10)) {
+                    if (r31 == r2) {
+                        r15 = r187;
+                        break;
+                    }
+                    r19 = table_grow(x0, r31);
+                    if ((r19 & 1) != 0) {
+                        r4_0 = 4294967295u;
+                        goto after_figures_set_load_factor;
+                    }
+                    r15 = r18;
+                    break;
+                }
+                r3_09 = r31;
+            }
+        }
+        store64(x0 + 72, thousandths);
+        r17 = u128_less_one(r15);
+        store64(x0 + 64, u128_above(r17, u128_two(UINT64_C(999), UINT64_C(18446744073709551615))) ? UINT64_C(18446744073709551615) : u128_low(u128_div(r17, u128_of(1000u))));
+        r4_0 = 0;
+    after_figures_set_load_factor:;
+        r3_2 = load64(map);
+        store64(map, r3);
+        if (r3_2 == 0) {
+            r6_0 = r4_0;
+        } else {
+            x1 = (char *)(uintptr_t)r3_2;
+            r4 = load_address(x1 + 8);
+            r4_2 = load_address(x1 + 32);
+            r4_3 = load64(x1 + 40);
+            r4_4 = load64(x1 + 48);
+            r4_5 = load64(x1 + 24);
+            rattle_dealloc(x1);
+            if (r4_5 != 0) {
+                rattle_dealloc(r4);
+            }
+            if (r4_3 != 0) {
+                r0_06 = 0;
+                for (;;) {
+                    r9 = r4_2 + (r0_06 * 48);
+                    if (load64(r9 + 40) != 0) {
+                        rattle_dealloc(load_address(r9 + 24));
+                    }
+                    r12 = r0_06 + 1;
+                    if (r12 == r4_3) {
+                        break;
+                    }
+                    r0_06 = r12;
+                }
+            }
+            if (r4_4 == 0) {
+                r6_0 = r4_0;
+            } else {
+                rattle_dealloc(r4_2);
+                r6_0 = r4_0;
+            }
+        }
+    }
+    return r6_0;
+}
+
+// The calls of intmap.h, by value and by address as this compiler passes them.
+
+// The module takes these places for granted.
+typedef char intmap_word_is_as_printed[sizeof(intmap) == 8 ? 1 : -1];
+typedef char intmap_pair_is_as_printed[sizeof(intmap_found_pair) == 24
+                                               && offsetof(intmap_found_pair, status) == 16
+                                           ? 1
+                                           : -1];
+typedef char intmap_cursor_is_as_printed[sizeof(intmap_cursor) == 24
+                                                 && offsetof(intmap_cursor, passed) == 16
+                                             ? 1
+                                             : -1];
+
+#define BYTES(x) ((char *)(uintptr_t)(x))
+#define STATUS(x) ((intmap_status)(uint32_t)(x))
+
+static inline intmap_found_value found_value(struct word_word given) {
+    intmap_found_value found;
+    found.value = given.first;
+    found.status = STATUS(given.second);
+    return found;
+}
+
+uint32_t intmap_version(void) INTMAP_CALL {
+    return do_intmap_version();
+}
+
+intmap_status intmap_new(intmap *map) INTMAP_CALL {
+    return STATUS(do_intmap_new(BYTES(map)));
+}
+
+intmap_status intmap_with_capacity(intmap *map, size_t capacity) INTMAP_CALL {
+    return STATUS(do_intmap_with_capacity(BYTES(map), capacity));
+}
+
+intmap_status intmap_clone(const intmap *map, intmap *to) INTMAP_CALL {
+    return STATUS(do_intmap_clone(BYTES(map), BYTES(to)));
+}
+
+void intmap_free(intmap *map) INTMAP_CALL {
+    do_intmap_free(BYTES(map));
+}
+
+ALIGNED intmap_found_value intmap_get(const intmap *map, uint64_t key) INTMAP_CALL {
+    return found_value(do_intmap_get(BYTES(map), key));
+}
+
+ALIGNED bool intmap_contains_key(const intmap *map, uint64_t key) INTMAP_CALL {
+    return do_intmap_contains_key(BYTES(map), key);
+}
+
+ALIGNED intmap_found_value intmap_insert(intmap *map, uint64_t key, uint64_t value) INTMAP_CALL {
+    return found_value(do_intmap_insert(BYTES(map), key, value));
+}
+
+ALIGNED intmap_status intmap_insert_checked(intmap *map, uint64_t key,
+                                            uint64_t value) INTMAP_CALL {
+    return STATUS(do_intmap_insert_checked(BYTES(map), key, value));
+}
+
+ALIGNED intmap_found_value intmap_set(intmap *map, uint64_t key, uint64_t value) INTMAP_CALL {
+    return found_value(do_intmap_set(BYTES(map), key, value));
+}
+
+ALIGNED intmap_found_value intmap_add(intmap *map, uint64_t key, uint64_t more) INTMAP_CALL {
+    return found_value(do_intmap_add(BYTES(map), key, more));
+}
+
+ALIGNED intmap_found_value intmap_add_or_insert(intmap *map, uint64_t key,
+                                                uint64_t more) INTMAP_CALL {
+    return found_value(do_intmap_add_or_insert(BYTES(map), key, more));
+}
+
+ALIGNED intmap_found_value intmap_remove(intmap *map, uint64_t key) INTMAP_CALL {
+    return found_value(do_intmap_remove(BYTES(map), key));
+}
+
+void intmap_clear(intmap *map) INTMAP_CALL {
+    do_intmap_clear(BYTES(map));
+}
+
+size_t intmap_len(const intmap *map) INTMAP_CALL {
+    return do_intmap_len(BYTES(map));
+}
+
+size_t intmap_capacity(const intmap *map) INTMAP_CALL {
+    return do_intmap_capacity(BYTES(map));
+}
+
+size_t intmap_load_factor(const intmap *map) INTMAP_CALL {
+    return do_intmap_load_factor(BYTES(map));
+}
+
+size_t intmap_filled_slots(const intmap *map) INTMAP_CALL {
+    return do_intmap_filled_slots(BYTES(map));
+}
+
+intmap_status intmap_reserve(intmap *map, size_t additional) INTMAP_CALL {
+    return STATUS(do_intmap_reserve(BYTES(map), additional));
+}
+
+intmap_status intmap_set_load_factor(intmap *map, size_t thousandths) INTMAP_CALL {
+    return STATUS(do_intmap_set_load_factor(BYTES(map), thousandths));
+}
+
+// The next two read and write structs of the caller by address, with the low byte first.
+
+static inline void turn_cursor(intmap_cursor *at) {
+    if (HIGH_BYTE_FIRST) {
+        at->slot = LOW_FIRST_64(at->slot);
+        at->place = LOW_FIRST_64(at->place);
+        at->passed = LOW_FIRST_64(at->passed);
+    }
+}
+
+static inline intmap_found_pair turned(intmap_found_pair found) {
+    if (HIGH_BYTE_FIRST) {
+        found.pair.key = LOW_FIRST_64(found.pair.key);
+        found.pair.value = LOW_FIRST_64(found.pair.value);
+        found.status = STATUS(LOW_FIRST_32((uint32_t)found.status));
+    }
+    return found;
+}
+
+ALIGNED intmap_found_pair intmap_step(const intmap *map, intmap_cursor *at) INTMAP_CALL {
+    intmap_found_pair found;
+    turn_cursor(at);
+    do_intmap_step(BYTES(&found), BYTES(map), BYTES(at));
+    turn_cursor(at);
+    return turned(found);
+}
+
+ALIGNED intmap_found_pair intmap_cut(intmap *map, intmap_cursor *at) INTMAP_CALL {
+    intmap_found_pair found;
+    turn_cursor(at);
+    do_intmap_cut(BYTES(&found), BYTES(map), BYTES(at));
+    turn_cursor(at);
+    return turned(found);
+}
+
+bool intmap_equal(const intmap *map, const intmap *other) INTMAP_CALL {
+    return do_intmap_equal(BYTES(map), BYTES(other));
+}

@@ -1,0 +1,151 @@
+"""Tries the library for C as it is written, for tools/assembly: as assembly and as portable C."""
+import os
+import re
+import shutil
+
+from crates import GIVEN_IN_C, PRINTED_IN_C, text_of, told
+
+FOLDER = "bindings/c"
+ASSEMBLY, PORTABLE = f"{FOLDER}/intmap.S", f"{FOLDER}/intmap.c"
+COMPILERS = ["gcc", "clang"]
+# what compiles for other machines, the files that it takes, and what runs that, as Debian has them
+EMULATED = [
+    ("aarch64-linux-gnu-gcc", [ASSEMBLY, PORTABLE], ["qemu-aarch64", "-L", "/usr/aarch64-linux-gnu"]),
+    ("s390x-linux-gnu-gcc", [PORTABLE], ["qemu-s390x", "-L", "/usr/s390x-linux-gnu"]),
+]
+# all that the files may need
+NEEDED = {"malloc", "realloc", "free", "memmove", "memset", "__udivti3"}
+NEEDED_BY_C = {*NEEDED, "memcpy", "abort", "__divti3", "__popcountdi2"}
+# makes the same calls in two libraries
+BOTH = "tools/portable_driver/both.c"
+WRAPPED = [f"-Wl,--wrap={it}" for it in ("malloc", "realloc", "free")]
+CALLS, CALLS_IN_BOTH = 20_000, 1_000_000
+# changes of what portable.py prints: a function, what stands in it, and what stands there in the copy
+MISPRINTS = [
+    ("do_intmap_get", " << 4", " << 3"),
+    ("do_intmap_insert", " & 63", " & 62"),
+    ("do_intmap_remove", " == 0", " != 0"),
+    ("do_intmap_step", " + 1", " + 2"),
+    ("do_intmap_cut", "memmove(", "(void)("),
+    ("do_intmap_equal", " != ", " == "),
+    ("do_intmap_free", "rattle_dealloc(", "(void)("),
+    ("do_intmap_set_load_factor", "u128_of(1000u)", "u128_of(1001u)"),
+]
+# in seconds, of a run, which takes a few
+LIMIT = 120
+
+
+def names(*words):
+    """The names that nm prints, without their versions."""
+    status, said = told("nm", "--format=just-symbols", *words)
+    return {line.split()[-1].partition("@")[0] for line in said.splitlines()} if status == 0 else {said}
+
+
+def changed_text(compiler):
+    """Tells if the preprocessor hands on something else than a part of the assembly, blanks aside."""
+    status, said = told(compiler, "-E", "-P", ASSEMBLY)
+    if status or not said or "".join(said.split()) not in "".join(text_of(ASSEMBLY).split()):
+        yield f"the preprocessor of {compiler} changes the text: status {status}"
+
+
+def wrong_names(compiler, path, needed, room):
+    """What is wrong with the names of a file, as this compiler takes it."""
+    module, library = f"{room}/intmap.o", f"{room}/libintmap.so"
+    for words in (["-O2", "-c", path, "-o", module], ["-O2", "-shared", "-fPIC", "-Wl,-z,text", path, "-o", library]):
+        status, said = told(compiler, *words)
+        if status:
+            yield f"{compiler} {' '.join(words)}: {said}"
+            return
+    exported, shared = names("--extern-only", "--defined-only", module), names("--dynamic", "--defined-only", library)
+    for name in sorted(names("--undefined-only", module) - needed):
+        yield f"{path} by {compiler} needs {name}"
+    for name in sorted(it for it in exported if not it.startswith("intmap_")):
+        yield f"{path} by {compiler} exports {name}"
+    if exported != shared or not exported:
+        yield f"{path} by {compiler} exports {sorted(exported)}, and as a shared library {sorted(shared)}"
+
+
+class Both:
+    """The assembly and, beside it, the portable C as one compiler takes it."""
+
+    def __init__(self, compiler, room, runs=()):
+        self.compiler, self.room, self.runs = compiler, room, runs
+        self.program, self.first = f"{room}/both", f"{room}/first.so"
+        words = ["-std=gnu11", "-O2", f"-I{FOLDER}", "-rdynamic", BOTH, "-ldl", "-o", self.program]
+        self.wrong = self.compiled(*words) or self.library(ASSEMBLY, self.first)
+
+    def compiled(self, *words):
+        """What the compiler said, if it failed."""
+        status, said = told(self.compiler, *words)
+        return f"{self.compiler} {' '.join(words)}: {said}" if status else ""
+
+    def library(self, path, made, *words):
+        return self.compiled("-shared", "-fPIC", f"-I{FOLDER}", *words, *WRAPPED, path, "-o", made)
+
+    def difference(self, path, *words):
+        """What both do differently, this file being compiled with some words; nothing if they do the same."""
+        other = f"{self.room}/other.so"
+        wrong = self.wrong or self.library(path, other, *words)
+        if wrong:
+            return wrong
+        status, said = told(*self.runs, self.program, self.first, other, str(CALLS_IN_BOTH), timeout=LIMIT)
+        return "" if status == 0 and said.startswith(f"{CALLS_IN_BOTH} calls in both, ") else f"status {status}: {said}"
+
+
+def unlike_calls(compiler, room):
+    """Whether both forms differ in some call, by this compiler."""
+    both = Both(compiler, room)
+    for words in (["-O2"], ["-O3", "-DINTMAP_NO_INT128"]):
+        said = both.difference(PORTABLE, *words)
+        if said:
+            yield f"{PORTABLE} by {compiler} {' '.join(words)} isn't like {ASSEMBLY}: {said}"
+
+
+def unfound_misprints(compiler, room):
+    """Which misprints, planted one at a time, no call shows."""
+    both, text = Both(compiler, room), text_of(PORTABLE)
+    for function, old, new in MISPRINTS:
+        body = re.search(rf"^static [^\n]*\b{function}\([^\n]*\) \{{\n(.*?)^\}}", text, re.M | re.S)
+        at = text.find(old, body.start(1), body.end(1)) if body else -1
+        if at < 0:
+            yield f"{PORTABLE} has no text to change: {old!r} in {function}"
+            continue
+        with open(f"{room}/misprint.c", "w", encoding="utf-8") as file:
+            file.write(text[:at] + new + text[at + len(old) :])
+        if not re.match(r"status (1|-\d+|124)\b", both.difference(f"{room}/misprint.c", "-O1", "-w")):
+            yield f"it isn't found if {function} has {new!r} in place of {old!r}"
+
+
+def wrong_run(compiler, runs, path, room, name, words, given, wanted):
+    """What is wrong with a program of the folder over a file, on an emulated machine."""
+    program = f"{room}/{name}"
+    status, said = told(compiler, "-O2", f"-I{FOLDER}", f"{FOLDER}/{name}.c", path, "-pthread", "-o", program, *(WRAPPED if name == "test" else []))
+    if status == 0:
+        status, said = told(*runs, program, *words, input=given, timeout=LIMIT)
+    if status != 0 or not said.startswith(wanted):
+        yield f"{name}.c over {path} by {compiler} and {runs[0]}: status {status}\n{said}"
+
+
+def emulated_faults(compiler, paths, runs, room):
+    for path in paths:
+        yield from wrong_run(compiler, runs, path, room, "example", [], GIVEN_IN_C, PRINTED_IN_C)
+        yield from wrong_run(compiler, runs, path, room, "test", [str(CALLS)], "", f"{CALLS} calls, ")
+
+
+def faults(room):
+    """What is wrong with the files as compilers take them, a line each. What was tried is printed."""
+    there = [it for it in COMPILERS if shutil.which(it)]
+    for compiler in there:
+        yield from changed_text(compiler)
+        yield from wrong_names(compiler, ASSEMBLY, NEEDED, room)
+        yield from wrong_names(compiler, PORTABLE, NEEDED_BY_C, room)
+        yield from unlike_calls(compiler, room)
+    if there:
+        yield from unfound_misprints(there[0], room)
+    for compiler, paths, runs in EMULATED:
+        if shutil.which(compiler) and shutil.which(runs[0]):
+            there.append(compiler)
+            yield from emulated_faults(compiler, paths, runs, room)
+        else:
+            print(f"assembly: without {compiler} and {runs[0]}, nothing of {' and '.join(map(os.path.basename, paths))} ran there")
+    print(f"assembly: tried by {', '.join(there) or 'no compiler'}", flush=True)

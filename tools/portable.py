@@ -1,0 +1,683 @@
+"""Prints a module of LLVM as C, for tools/assembly: the library for C as one file for any compiler.
+
+Each function of the module becomes one of C, between the parts of tools/portable_driver that are written by hand. A
+value that is used once is printed where it is used, unless a store or a call comes between. Blocks become `if`, `for`,
+`switch` and `goto`, by who dominates whom. An instruction of an unknown form ends the printing, so none is left out."""
+import os
+import re
+from collections import defaultdict, namedtuple
+
+from llvm_module import NAME, NUMBERED, TYPE, VALUE, bare, functions_of, groups_of, parted, result_type
+
+PARTS = "tools/portable_driver"
+BINARY = {"add": "+", "sub": "-", "mul": "*", "and": "&", "or": "|", "xor": "^", "shl": "<<", "lshr": ">>", "udiv": "/", "urem": "%"}
+COMPARED = {"eq": "==", "ne": "!=", "gt": ">", "ge": ">=", "lt": "<", "le": "<="}
+CONTRARY = {"==": "!=", "!=": "==", "<": ">=", "<=": ">", ">": "<=", ">=": "<"}
+# numbers of 128 bits have functions of head.c
+WIDE = {"add": "u128_add", "mul": "u128_mul", "shl": "u128_shl", "udiv": "u128_div"}
+WIDE_COMPARED = {">": "u128_above({0}, {1})", "<": "u128_above({1}, {0})", "<=": "!u128_above({0}, {1})", ">=": "!u128_above({1}, {0})"}
+# what u128_div can divide by
+SMALL_DIVISOR = range(1, 1 << 63)
+# of the compiler's own functions: the name in head.c, and how many arguments count
+HELPERS = {
+    "llvm.cttz.i64": ("low_zeros", 1),
+    "llvm.ctlz.i64": ("high_zeros", 1),
+    "llvm.ctpop.i64": ("ones_in", 1),
+    "llvm.umax.i64": ("greater", 2),
+}
+MOVES = {"llvm.memset": "memset", "llvm.memcpy": "memcpy", "llvm.memmove": "memmove"}
+NO_CODE = ("llvm.lifetime", "llvm.assume")
+HEAP = ("rattle_alloc", "rattle_realloc", "rattle_dealloc")
+# a product by this is a key's hash
+FACTOR = "-7046029254386353067"
+ADDRESS_AND_NUMBER = rf"getelementptr (?:(?:inbounds|nuw|nusw) )*i8, ptr ({VALUE}), i64 (-?\d+)$"
+# what the optimiser appends to a name
+APPENDED = "i\\d*|sroa|sroa_idx|copyload|fca|extract|insert|pre-phi|pre|not|le|lcssa|unr|ph|preheader|fr|pn"
+TAKEN = set("switch default case if else for do while return break continue goto new delete this common at map".split())
+FIELD_TYPES = {"i64": "word", "i32": "half", "i8": "byte", "i1": "truth", "ptr": "address"}
+FIELDS = ("first", "second", "third", "fourth")
+WIDTH, STEP = 118, "    "
+HELPER = re.compile(r"^static inline [^\n]*?\b(\w+)\([^\n]*\) \{(?:[^\n]*\}\n|\n.*?^\}\n)", re.M | re.S)
+
+# an expression that waits for its one use, whether it reads memory, and its contrary if it is a test
+Waiting = namedtuple("Waiting", "text reads contrary")
+
+
+def bits(kind):
+    return int(kind[1:])
+
+
+def is_odd(kind):
+    """Whether no type of C has so many bits."""
+    return kind[0] == "i" and bits(kind) not in (1, 8, 16, 32, 64, 128)
+
+
+def fields_of(kind):
+    return parted(kind[1:-1])
+
+
+def struct_name(kind):
+    return "_".join(FIELD_TYPES[it] for it in fields_of(kind))
+
+
+def c_type(kind):
+    """A type of the module in C."""
+    if kind[0] == "{":
+        return f"struct {struct_name(kind)}"
+    named = {"void": "void", "ptr": "char *", "i1": "bool", "i128": "u128"}
+    return named.get(kind) or next(f"uint{it}_t" for it in (8, 16, 32, 64) if bits(kind) <= it)
+
+
+def declared(kind, name):
+    """A variable, a field or a function of this type."""
+    return f"{c_type(kind)}{name}" if kind == "ptr" else f"{c_type(kind)} {name}"
+
+
+def constant(number, kind):
+    """A number as this type has it: none is negative."""
+    number %= 1 << bits(kind)
+    if bits(kind) == 128:
+        return f"u128_of({number}u)" if number < 1 << 31 else f"u128_two(UINT64_C({number >> 64}), UINT64_C({number % (1 << 64)}))"
+    if number < 1 << 31:
+        return str(number)
+    return f"UINT64_C({number})" if bits(kind) == 64 else f"{number}u"
+
+
+def nothing(kind):
+    """What stands for a value that nobody may look at, and for zero."""
+    if kind[0] == "{":
+        return f"empty_{struct_name(kind)}()"
+    return {"ptr": "NULL", "i128": "u128_of(0)", "i1": "false"}.get(kind, "0")
+
+
+def is_whole(text):
+    """Whether an expression needs no brackets: it is a name, a field or one call."""
+    if re.fullmatch(r"\w+(?:\.\w+)?", text):
+        return True
+    if not re.fullmatch(r"\w+\(.*\)", text):
+        return False
+    depth = 0
+    for at, sign in enumerate(text):
+        depth += (sign == "(") - (sign == ")")
+        if sign == ")" and depth == 0 and at + 1 < len(text):
+            return False
+    return True
+
+
+def unique(name, taken):
+    """The name, with a number behind it if it is taken. Then it is."""
+    found, number = name, 2
+    while found in taken:
+        found, number = f"{name}_{number}", number + 1
+    taken.add(found)
+    return found
+
+
+def word_of(name):
+    """A name in C for a value or a block: without what inlining and splitting appended to it."""
+    if "::" in name:
+        path = re.sub(r"::<.*", "", re.sub(r"(?:\.exit|\.loopexit).*", "", name)).split("::")
+        return "after_" + re.sub(r"\W+", "_", "_".join([it for it in path if it][-2:])).strip("_")
+    name = re.sub(rf"\.({APPENDED})(?=\.|$)", "", name)
+    if not re.match(r"\w+\.\d+$", name):
+        name = re.sub(r"(\.\d+)+$", "", name)
+    name = re.sub(r"\W+", "_", name).strip("_") or "exit"
+    return f"x{name}" if name[0].isdigit() else f"{name}_" if name in TAKEN else name
+
+
+def path_of(name):
+    """The modules and the name of a function of Rattle."""
+    return re.sub(r"::<.*", "", name).split("::")
+
+
+class Printer:
+    """What is known of the whole module: the names of its functions, and the structs that they return."""
+
+    def __init__(self, header, sources):
+        self.header, self.sources = re.sub(r"//.*", "", header), sources
+        self.names, self.taken, self.structs = {}, set(), {}
+
+    def name(self, name):
+        """A function's name in C. One that C calls has the same name, with a word before it."""
+        if name.startswith("llvm."):
+            raise SystemExit(f"portable: {name} is unknown")
+        if name not in self.names:
+            path = path_of(name)
+            plain = f"do_{name}" if len(path) == 1 else re.sub(r"\W+", "_", "_".join(path[-2:])).lower()
+            self.names[name] = unique(plain, self.taken)
+        return self.names[name]
+
+    def struct(self, kind):
+        self.structs.setdefault(tuple(fields_of(kind)), kind)
+        return struct_name(kind)
+
+    def parameters(self, name):
+        """The names that the header gives the parameters of a call."""
+        found = re.search(rf"\b{name}\(([^)]*)\)\s*INTMAP_CALL", self.header)
+        return [re.findall(r"\w+", it)[-1] for it in parted(found[1])] if found and found[1].strip() != "void" else []
+
+    def source(self, name):
+        """The file that has a function, as far as a look tells."""
+        *modules, last = path_of(name)
+        crate = modules[0] if modules else "intmap_c"
+        there = [path for path, text in self.sources.items() if f"/{crate}/" in path and re.search(rf"\bfn {re.escape(last)}\b", text)]
+        found = sorted(there, key=lambda path: -sum(it.lower() in path for it in [*modules[1:], last]))
+        return found[0] if found else f"Rattle's library {crate}"
+
+
+class FunctionInC:
+    """One function as C."""
+
+    def __init__(self, printer, function):
+        self.printer, self.function, self.graph = printer, function, function.graph
+        self.is_call_of_c = "::" not in function.name
+        self.name, self.taken, self.names, self.types = printer.name(function.name), set(), {}, {}
+        labels = set()
+        self.labels = {it: unique(word_of(it), labels) for it in self.graph.order}
+        self.types |= {name: kind for kind, name in function.parameters}
+        self.types |= {name: kind for every in function.joined.values() for name, kind, _ in every}
+        self.name_parameters()
+        # what the statements declare: variables, helpers of copies, rooms
+        self.variables, self.copies_of, self.rooms = {}, {}, {}
+        # structs that are made of values, labels and loops that are left, expressions that wait for their use
+        self.made, self.used_labels, self.left_loops, self.waiting = {}, set(), set(), {}
+
+    def name_parameters(self):
+        given = self.printer.parameters(self.function.name)
+        if self.is_call_of_c and len(given) < len(self.function.parameters):
+            given = ["found", *given]
+        for at, (_, value) in enumerate(self.function.parameters):
+            self.names[value] = unique(given[at] if at < len(given) else value, self.taken)
+
+    # Values.
+
+    def variable(self, value):
+        if value not in self.names:
+            self.names[value] = unique(word_of(value), self.taken)
+        return self.names[value]
+
+    def assigned(self, value):
+        """The variable of a value, which is then declared."""
+        self.variables.setdefault(value)
+        return self.variable(value)
+
+    def operand(self, text, kind, is_whole_wanted=True):
+        """What an instruction takes, as an expression. What waits for this use is printed here."""
+        text = text.strip()
+        if text[0] == "%":
+            return self.used(bare(text), is_whole_wanted)
+        if text in ("null", "poison", "undef", "zeroinitializer"):
+            if kind[0] == "{":
+                self.printer.struct(kind)
+            return nothing(kind)
+        if text in ("true", "false"):
+            return text
+        address = re.match(r"inttoptr \(i64 (-?\d+) to ptr\)", text)
+        if address:
+            return f"address_of({address[1]})"
+        return "(char *)no_bytes" if text[0] == "@" else constant(int(text), kind)
+
+    def used(self, value, is_whole_wanted):
+        if value in self.made:
+            return self.made_struct(value)
+        if value in self.waiting:
+            text = self.waiting.pop(value).text
+        elif value in self.function.free:
+            text = self.expression(value)
+        else:
+            return self.variable(value)
+        return text if not is_whole_wanted or is_whole(text) else f"({text})"
+
+    def made_struct(self, value):
+        kind, parts = self.made[value]
+        return f"made_{self.printer.struct(kind)}({', '.join(self.operand(part, it, False) for part, it in zip(parts, fields_of(kind)))})"
+
+    def condition(self, text, is_contrary):
+        value = bare(text)
+        if value in self.waiting and self.waiting[value].contrary:
+            it = self.waiting.pop(value)
+            return it.contrary if is_contrary else it.text
+        found = self.operand(text, "i1", is_contrary)
+        return f"!{found}" if is_contrary else found
+
+    # Expressions. Each is printed with all that it takes.
+
+    def expression(self, value, is_contrary=False):
+        line = self.function.made_by[value]
+        word = line.split()[0]
+        if word in BINARY:
+            kind, text = self.binary(word, line)
+        elif word == "load":
+            kind, text = self.loaded(value, line)
+        elif word == "icmp":
+            kind, text = "i1", self.compared(line, is_contrary)
+        elif word == "getelementptr":
+            kind, text = "ptr", self.moved_address(line)
+        elif word in ("zext", "trunc", "ptrtoaddr", "ptrtoint", "inttoptr"):
+            kind, text = self.converted(word, line, is_contrary)
+        elif word == "select":
+            test, kind, one, other = groups_of(rf"select i1 ({VALUE}), ({TYPE}) ({VALUE}), {TYPE} ({VALUE})$", line)
+            text = f"{self.operand(test, 'i1')} ? {self.operand(one, kind)} : {self.operand(other, kind)}"
+        elif word == "freeze":
+            kind, one = groups_of(rf"freeze ({TYPE}) ({VALUE})$", line)
+            text = self.operand(one, kind, False)
+        else:
+            whole, one, at = groups_of(rf"extractvalue ({TYPE}) ({VALUE}), (\d+)$", line)
+            kind, text = fields_of(whole)[int(at)], f"{self.operand(one, whole)}.{FIELDS[int(at)]}"
+        self.types[value] = kind
+        return text
+
+    def loaded(self, value, line):
+        kind, address = groups_of(rf"load ({TYPE}), ptr ({VALUE})(?:, align \d+)?$", line)
+        address = self.operand(address, "ptr", False)
+        users = [self.function.made_by[it] for it, _ in self.function.uses[value] if it]
+        is_hashed = any(it.startswith("mul i64 ") and it.endswith(FACTOR) for it in users)
+        if is_odd(kind):
+            return kind, f"({c_type(kind)})load_bytes({address}, {bits(kind) // 8})"
+        if is_hashed and len(self.function.uses[value]) > 1:
+            return kind, f"load_key({address})"
+        if kind == "i1":
+            return kind, f"(load8({address}) & 1) != 0"
+        return kind, f"load_address({address})" if kind == "ptr" else f"load{bits(kind)}({address})"
+
+    def moved_address(self, line):
+        base, kind, by = groups_of(rf"getelementptr (?:(?:inbounds|nuw|nusw) )*i8, ptr ({VALUE}), (i\d+) ({VALUE})$", line)
+        if not re.match(r"-?\d+$", by):
+            return f"{self.operand(base, 'ptr')} + {self.operand(by, kind)}"
+        by = int(by)
+        while bare(base) in self.function.free:
+            further = re.match(ADDRESS_AND_NUMBER, self.function.made_by[bare(base)])
+            if not further:
+                break
+            base, by = further[1], by + int(further[2])
+        return f"{self.operand(base, 'ptr')} {'-' if by < 0 else '+'} {abs(by)}"
+
+    def compared(self, line, is_contrary):
+        how, kind, one, other = groups_of(rf"icmp (?:samesign )?(\w+) ({TYPE}) ({VALUE}), ({VALUE})$", line)
+        left, right = self.operand(one, kind), self.operand(other, kind)
+        sign = COMPARED[how[-2:]]
+        sign = CONTRARY[sign] if is_contrary else sign
+        if kind == "i128":
+            return WIDE_COMPARED[sign].format(left, right)
+        cast = f"(int{bits(kind)}_t)" if how[0] == "s" else "(uintptr_t)" if kind == "ptr" and how[0] == "u" else ""
+        return f"{cast}{left} {sign} {cast}{right}"
+
+    def binary(self, word, line):
+        kind, one, other = groups_of(rf"{word} (?:(?:nuw|nsw|exact|disjoint) )*({TYPE}) ({VALUE}), ({VALUE})$", line)
+        if kind == "i128":
+            return kind, self.wide(word, one, other)
+        left = self.operand(one, kind)
+        if kind == "i64" and word == "add" and re.match(r"-\d", other):
+            return kind, f"{left} - {constant(-int(other), kind)}"
+        right = self.operand(other, kind)
+        if kind == "i1":
+            return kind, f"{left} {({'xor': '!=', 'and': '&', 'or': '|'})[word]} {right}"
+        # C computes with numbers of at least 32 bits, and with signs if they are shorter
+        if re.fullmatch(r"\d+u?", left) or bits(kind) < 32 and word in ("mul", "shl"):
+            left = f"({c_type(kind) if bits(kind) > 32 else 'uint32_t'}){left}"
+        text = f"{left} {BINARY[word]} {right}"
+        if is_odd(kind):
+            text = f"({text}) & UINT64_C({(1 << bits(kind)) - 1})"
+        return kind, f"({c_type(kind)})({text})" if bits(kind) < 64 else text
+
+    def wide(self, word, one, other):
+        if word == "add" and other == "-1":
+            return f"u128_less_one({self.operand(one, 'i128', False)})"
+        if word == "udiv" and not (other.isdigit() and int(other) in SMALL_DIVISOR):
+            raise SystemExit(f"portable: u128_div doesn't divide by {other}")
+        return f"{WIDE[word]}({self.operand(one, 'i128', False)}, {self.operand(other, 'i128', False)})"
+
+    def converted(self, word, line, is_contrary):
+        source, one, kind = groups_of(rf"{word} (?:(?:nuw|nsw|nneg) )*({TYPE}) ({VALUE}) to ({TYPE})$", line)
+        if kind == "i128":
+            return kind, f"u128_of({self.operand(one, source, False)})"
+        if source == "i128":
+            return kind, f"u128_low({self.operand(one, source, False)})"
+        text = self.operand(one, source)
+        if word.startswith("ptrto"):
+            return kind, f"(uint64_t)(uintptr_t){text}"
+        if word == "inttoptr":
+            return kind, f"(char *)(uintptr_t){text}"
+        if kind == "i1":
+            return kind, f"({text} & 1) {'==' if is_contrary else '!='} 0"
+        if is_odd(kind):
+            return kind, f"({c_type(kind)})({text} & UINT64_C({(1 << bits(kind)) - 1}))"
+        return kind, f"({c_type(kind)}){text}"
+
+    # Statements.
+
+    def call(self, value, line):
+        """The statement of a call; None if it has no code."""
+        before, name, places = groups_of(rf"(?:tail |musttail |notail )?call (?:fastcc )?(.*?)@({NAME})\((.*)\)", line)
+        name, kind = name.strip('"'), result_type(before)
+        if name.startswith(NO_CODE):
+            return None
+        given = []
+        for place in parted(places):
+            its = re.match(TYPE, place)[0]
+            given.append(self.operand(re.search(rf"({VALUE})\s*$", NUMBERED.sub("", place[len(its) :]))[1], its, False))
+        if value:
+            self.types[value] = kind
+        if name == "llvm.trap":
+            return "abort();"
+        moves = next((it for start, it in MOVES.items() if name.startswith(f"{start}.p0")), None)
+        if moves:
+            return f"{moves}({', '.join(given[:3])});"
+        helper, count = HELPERS.get(name, (None, len(given)))
+        text = f"{helper or (name if name in HEAP else self.printer.name(name))}({', '.join(given[:count])});"
+        uses = self.function.uses.get(value)
+        is_used = kind != "void" and uses is not None and (uses or value in self.function.free)
+        return f"{self.assigned(value)} = {text}" if is_used else text
+
+    def settle(self, out, is_for_store=False):
+        """Assigns what waits for its use, or of that what reads memory."""
+        for value in list(self.waiting):
+            if value in self.waiting and (self.waiting[value].reads or not is_for_store):
+                text = self.waiting.pop(value).text
+                out.append(f"{self.assigned(value)} = {text};")
+
+    def statements(self, block):
+        """A block without what joins values at its start and its last instruction."""
+        out, self.waiting = [], {}
+        for line in self.function.blocks[block][:-1]:
+            name, code = groups_of(rf"(?:(%{NAME}) = )?(.*)", line)
+            value, word = bare(name) if name else None, code.split()[0]
+            if word == "phi":
+                continue
+            if word == "insertvalue":
+                self.insert_field(value, code, out)
+            elif word == "alloca":
+                self.make_room(value, code)
+            elif word == "store":
+                self.store(code, out)
+            elif re.match(r"(?:tail |musttail |notail )?call ", code):
+                self.call_in_turn(value, code, out)
+            elif value in self.function.free or value not in self.function.uses:
+                self.note_type(value, code)
+            else:
+                self.compute(block, value, code, out)
+        return out
+
+    def insert_field(self, value, code, out):
+        kind, whole, _, part, at = groups_of(rf"insertvalue ({TYPE}) ({VALUE}), ({TYPE}) ({VALUE}), (\d+)$", code)
+        self.types[value] = kind
+        if bare(whole) in self.made:
+            parts = list(self.made[bare(whole)][1])
+        elif whole in ("poison", "undef"):
+            parts = ["poison"] * len(fields_of(kind))
+        else:
+            raise SystemExit(f"portable: a field of a value is changed: {code}")
+        parts[int(at)] = part
+        self.made[value] = (kind, parts)
+        for it in map(bare, parts):
+            if it in self.waiting:
+                out.append(f"{self.assigned(it)} = {self.waiting.pop(it).text};")
+
+    def make_room(self, value, code):
+        (kind,) = groups_of(rf"alloca ({TYPE})", code)
+        many = re.match(r"\[(\d+) x i8\]", kind)
+        size = int(many[1]) if many else 8 if kind == "ptr" else bits(kind) // 8
+        self.types[value] = "ptr"
+        self.rooms[self.variable(value)] = (size + 7) // 8
+
+    def store(self, code, out):
+        kind, one, address = groups_of(rf"store ({TYPE}) ({VALUE}), ptr ({VALUE})(?:, align \d+)?$", code)
+        one, address = self.operand(one, kind, False), self.operand(address, "ptr", False)
+        self.settle(out, True)
+        if is_odd(kind):
+            out.append(f"store_bytes({address}, {one}, {bits(kind) // 8});")
+        else:
+            out.append(f"store_address({address}, {one});" if kind == "ptr" else f"store{max(8, bits(kind))}({address}, {one});")
+
+    def call_in_turn(self, value, code, out):
+        statement = self.call(value, code)
+        if statement:
+            if not re.search(r"@llvm\.(ct|u)", code):
+                self.settle(out, True)
+            out.append(statement)
+
+    def note_type(self, value, code):
+        """The type of what is printed at each use, or never."""
+        part = re.match(rf"extractvalue ({TYPE}) ({VALUE}), (\d+)$", code)
+        same = re.match(rf"freeze ({TYPE})", code)
+        self.types[value] = fields_of(part[1])[int(part[3])] if part else same[1] if same else "ptr"
+
+    def compute(self, block, value, code, out):
+        """Lets an expression wait for its use, if that is the only one and in this block; or assigns it."""
+        before = dict(self.waiting)
+        text, contrary = self.expression(value), None
+        if code.startswith("icmp ") or code.endswith(" to i1"):
+            left, self.waiting = self.waiting, before
+            contrary = self.expression(value, True)
+            self.waiting = left
+        uses = self.function.uses[value]
+        if len(uses) == 1 and uses[0][1] == block:
+            self.waiting[value] = Waiting(text, "load" in text, contrary)
+        else:
+            out.append(f"{self.assigned(value)} = {text};")
+
+    # Blocks. Lines that lead on also tell whether they end at what comes next, as others end by a jump.
+
+    def joined(self, block, other):
+        """The assignments by which the other block's start knows that it comes from this one. They happen at once."""
+        left, out = [], []
+        for value, kind, cases in self.function.joined[other]:
+            if not self.function.uses.get(value):
+                continue
+            text = cases[block]
+            text = "0" if text in ("poison", "undef") and kind[0] == "i" else self.operand(text, kind, False)
+            name = self.assigned(value)
+            if text != name:
+                left.append((name, kind, text))
+        while left:
+            one = next((it for it in left if not any(re.search(rf"\b{it[0]}\b", text) for name, _, text in left if name != it[0])), None)
+            if one:
+                left.remove(one)
+                out.append(f"{one[0]} = {one[2]};")
+            else:
+                self.set_aside(left, out)
+        return out
+
+    def set_aside(self, left, out):
+        """Breaks a circle of assignments: the first is made to a variable of its own."""
+        name, kind, text = left.pop(0)
+        aside = unique(f"{name}_new", self.taken)
+        self.copies_of[aside] = kind
+        out.append(f"{aside} = {text};")
+        left.append((name, kind, aside))
+
+    def edge(self, block, other, following, loop):
+        """The lines from a block to one that it leads to."""
+        waiting = dict(self.waiting)
+        out = self.joined(block, other)
+        waiting = {it: waiting[it] for it in waiting if it in self.waiting}
+        is_back = other in self.graph.loops and self.graph.dominates(other, block)
+        if not is_back and other not in self.graph.joins:
+            lines, goes_on = self.tree(other, following, loop)
+            self.waiting = waiting
+            return out + lines, goes_on
+        self.waiting = waiting
+        if other == following:
+            return out, True
+        if other == loop[0]:
+            return out + ["continue;"], False
+        if other == loop[1]:
+            self.left_loops.add(loop[0])
+            return out + ["break;"], False
+        self.used_labels.add(other)
+        return out + [f"goto {self.labels[other]};"], False
+
+    def tree(self, block, following, loop):
+        """The lines of a block and of all that it dominates."""
+        joins = sorted((it for it in self.graph.children[block] if it in self.graph.joins), key=self.graph.rank.get)
+        if block not in self.graph.loops:
+            return self.chain(block, joins, following, loop)
+        inside = [it for it in joins if it in self.graph.loops[block]]
+        behind = [it for it in joins if it not in self.graph.loops[block]]
+        lines, _ = self.chain(block, inside, block, (block, behind[0] if behind else following))
+        more, goes_on = self.rest(behind, following, loop)
+        return [f"@{block}", "for (;;) {", *lines, "}", *more], goes_on if behind else block in self.left_loops
+
+    def rest(self, joins, following, loop):
+        """The lines of blocks at which ways meet, one after the other."""
+        out, goes_on = [], False
+        for at, block in enumerate(joins):
+            lines, goes_on = self.tree(block, joins[at + 1] if at + 1 < len(joins) else following, loop)
+            out += lines if block in self.graph.loops else [f"@{block}", *lines]
+        return out, goes_on
+
+    def chain(self, block, joins, following, loop):
+        """The lines of a block, of where it leads to, and of where these ways meet."""
+        out, last = self.statements(block), self.function.blocks[block][-1]
+        word, first, goes_on = last.split()[0], joins[0] if joins else following, False
+        if word == "ret":
+            kind, value = groups_of(rf"ret ({TYPE})(?: ({VALUE}))?$", last)
+            out.append("return;" if kind == "void" else f"return {self.operand(value, kind, False)};")
+        elif word == "unreachable":
+            out += ["abort();"] if out[-1:] != ["abort();"] else []
+        elif word == "switch":
+            lines, goes_on = self.switch(block, last, first)
+            out += lines
+        elif len(self.graph.successors[block]) == 1:
+            lines, goes_on = self.edge(block, self.graph.successors[block][0], first, loop)
+            out += lines
+        else:
+            lines, goes_on = self.fork(block, last, first, loop)
+            out += lines
+        if joins:
+            lines, goes_on = self.rest(joins, following, loop)
+            out += lines
+        return out, goes_on
+
+    def switch(self, block, last, following):
+        kind, value, otherwise, cases = groups_of(rf"switch ({TYPE}) ({VALUE}), label (%{NAME}) \[ (.*) \]$", last)
+        out, goes_on = [f"switch ({self.operand(value, kind, False)}) {{"], False
+        ways = [(f"case {constant(int(number), kind)}:", target) for number, target in re.findall(rf"{TYPE} (-?\d+), label (%{NAME})", cases)]
+        for head, target in [*ways, ("default:", otherwise)]:
+            lines, is_on = self.edge(block, bare(target), following, (None, None))
+            out += [head, *lines, *["break;"] * is_on]
+            goes_on |= is_on
+        return [*out, "}"], goes_on
+
+    def fork(self, block, last, following, loop):
+        test, one, other = groups_of(rf"br i1 ({VALUE}), label (%{NAME}), label (%{NAME})$", last)
+        before = dict(self.waiting)
+        is_so, after = self.condition(test, False), self.waiting
+        self.waiting = before
+        is_not = self.condition(test, True)
+        self.waiting = dict(after)
+        yes, is_on = self.edge(block, bare(one), following, loop)
+        self.waiting = dict(after)
+        no, is_on_otherwise = self.edge(block, bare(other), following, loop)
+        goes_on = is_on or is_on_otherwise
+        if not yes and is_on:
+            return [f"if ({is_not}) {{", *no, "}"] if no else [], goes_on
+        if not no and is_on_otherwise:
+            return [f"if ({is_so}) {{", *yes, "}"], goes_on
+        if not is_on and (is_on_otherwise or len(yes) <= len(no)):
+            return [f"if ({is_so}) {{", *yes, "}", *no], goes_on
+        if not is_on_otherwise:
+            return [f"if ({is_not}) {{", *no, "}", *yes], goes_on
+        return [f"if ({is_so}) {{", *yes, "} else {", *no, "}"], goes_on
+
+    # The text.
+
+    def head(self):
+        """The function as it is declared."""
+        marks = "ALIGNED NOINLINE" if "noinline" in self.function.attributes else "ALIGNED"
+        marks = "COLD" if "cold" in self.function.attributes else marks
+        marks = "ALWAYS_INLINE" if self.is_call_of_c else marks
+        places = ", ".join(declared(kind, self.variable(it)) for kind, it in self.function.parameters)
+        return f"static {marks} {declared(self.function.result, self.name)}({places or 'void'})"
+
+    def declarations(self):
+        """The variables, those of a type together."""
+        found = defaultdict(list)
+        for value in self.variables:
+            found[self.types[value]].append(self.variable(value))
+        for name, kind in self.copies_of.items():
+            found[kind].append(name)
+        by_type = defaultdict(list)
+        for kind, names in found.items():
+            by_type[c_type(kind)] += names
+        for kind, names in by_type.items():
+            star = "*" if kind.endswith("*") else ""
+            line = f"{STEP}{kind.rstrip('*').rstrip()} "
+            for at, name in enumerate(names):
+                word = f"{star}{name}{';' if at + 1 == len(names) else ', '}"
+                if len(line) + len(word) > WIDTH:
+                    yield line.rstrip()
+                    line = STEP * 2
+                line += word
+            yield line
+        for name, words in self.rooms.items():
+            if words:
+                yield f"{STEP}uint64_t {name}_room[{words}];"
+            yield f"{STEP}char *{name} = (char *){f'{name}_room' if words else 'no_bytes'};"
+
+    def indented(self, lines):
+        depth = 1
+        for line in lines:
+            if line[0] == "@":
+                if line[1:] in self.used_labels:
+                    yield f"{STEP * (depth - 1)}{self.labels[line[1:]]}:;"
+                continue
+            depth -= line[0] == "}"
+            yield STEP * (depth - (line.startswith("case ") or line == "default:")) + line
+            depth += line[-1] == "{"
+
+    def text(self):
+        lines, _ = self.tree(self.graph.order[0], None, (None, None))
+        body = "\n".join(lines)
+        unused = [self.variable(it) for _, it in self.function.parameters if not re.search(rf"\b{self.variable(it)}\b", body)]
+        name = self.function.name.split("::<")[0]
+        whole = [f"// {name}, in {self.printer.source(self.function.name)}", f"{self.head()} {{", *self.declarations()]
+        return "\n".join([*whole, *(f"{STEP}(void){it};" for it in unused), *self.indented(lines), "}"])
+
+
+def struct_in_c(kind, bodies):
+    """A struct that functions return, and what makes one."""
+    name, places = struct_name(kind), [declared(it, field) for it, field in zip(fields_of(kind), FIELDS)]
+    lines = [f"struct {name} {{", *(f"{STEP}{it};" for it in places), "};"]
+    # heap.c makes one of two words
+    if f"made_{name}(" in bodies or name == "word_word":
+        sets = [f"{STEP}made.{it} = {it};" for it in FIELDS[: len(places)]]
+        lines += [f"static inline struct {name} made_{name}({', '.join(places)}) {{", f"{STEP}struct {name} made;", *sets, f"{STEP}return made;", "}"]
+    if f"empty_{name}(" in bodies:
+        made = [f"{STEP}struct {name} made;", f"{STEP}memset(&made, 0, sizeof made);", f"{STEP}return made;"]
+        lines += [f"static inline struct {name} empty_{name}(void) {{", *made, "}"]
+    return "\n".join(lines)
+
+
+def without_unused(text):
+    """The text without helpers that nobody calls: a compiler would warn of each."""
+    while True:
+        helpers = {it[1]: it[0] for it in HELPER.finditer(text)}
+        rest = HELPER.sub("", text)
+        unused = [
+            name
+            for name in helpers
+            if not re.search(rf"\b{name}\b", rest) and not any(re.search(rf"\b{name}\b", it) for other, it in helpers.items() if other != name)
+        ]
+        if not unused:
+            return text
+        text = HELPER.sub(lambda it: "" if it[1] in unused else it[0], text)
+
+
+def c_of_module(module, head, header, sources):
+    """The whole text: `head` comes first. `header` is the text of intmap.h, and `sources` has those of Rattle by path."""
+    printer, functions = Printer(header, sources), functions_of(module)
+    for it in functions:
+        printer.name(it.name)
+    printed = [FunctionInC(printer, it) for it in functions]
+    bodies = "\n\n".join(it.text() for it in printed)
+    for it in functions:
+        if it.result[0] == "{":
+            printer.struct(it.result)
+    by_hand = {}
+    for name in ("head", "heap", "calls"):
+        with open(os.path.join(PARTS, f"{name}.c"), encoding="utf-8") as file:
+            by_hand[name] = file.read()
+    structs = "\n".join(struct_in_c(it, bodies) for it in printer.structs.values())
+    heads = "\n".join(f"{it.head()};" for it in printed)
+    return without_unused("\n".join([head + by_hand["head"], structs, by_hand["heap"], heads, "", bodies, "", by_hand["calls"]]))
