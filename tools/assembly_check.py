@@ -19,7 +19,9 @@ NEEDED_BY_C = {*NEEDED, "memcpy", "abort", "__divti3", "__popcountdi2"}
 # makes the same calls in two libraries
 BOTH = "tools/portable_driver/both.c"
 WRAPPED = [f"-Wl,--wrap={it}" for it in ("malloc", "realloc", "free")]
-CALLS, CALLS_IN_BOTH = 20_000, 1_000_000
+CALLS, CALLS_IN_BOTH, EMULATED_IN_BOTH = 20_000, 1_000_000, 100_000
+# fills each variable that a function doesn't start, if a compiler knows it
+FILLED = "-ftrivial-auto-var-init=pattern"
 # changes of what portable.py prints: a function, what stands in it, and what stands there in the copy
 MISPRINTS = [
     ("do_intmap_get", " << 4", " << 3"),
@@ -68,11 +70,12 @@ def wrong_names(compiler, path, needed, room):
 class Both:
     """The assembly and, beside it, the portable C as one compiler takes it."""
 
-    def __init__(self, compiler, room, runs=()):
-        self.compiler, self.room, self.runs = compiler, room, runs
+    def __init__(self, compiler, room, calls=CALLS_IN_BOTH, runs=()):
+        self.compiler, self.room, self.calls, self.runs = compiler, room, calls, runs
         self.program, self.first = f"{room}/both", f"{room}/first.so"
         words = ["-std=gnu11", "-O2", f"-I{FOLDER}", "-rdynamic", BOTH, "-ldl", "-o", self.program]
         self.wrong = self.compiled(*words) or self.library(ASSEMBLY, self.first)
+        self.filled = [] if self.compiled(FILLED, "-fsyntax-only", "-x", "c", "/dev/null") else [FILLED]
 
     def compiled(self, *words):
         """What the compiler said, if it failed."""
@@ -88,14 +91,14 @@ class Both:
         wrong = self.wrong or self.library(path, other, *words)
         if wrong:
             return wrong
-        status, said = told(*self.runs, self.program, self.first, other, str(CALLS_IN_BOTH), timeout=LIMIT)
-        return "" if status == 0 and said.startswith(f"{CALLS_IN_BOTH} calls in both, ") else f"status {status}: {said}"
+        status, said = told(*self.runs, self.program, self.first, other, str(self.calls), timeout=LIMIT)
+        return "" if status == 0 and said.startswith(f"{self.calls} calls in both, ") else f"status {status}: {said}"
 
 
-def unlike_calls(compiler, room):
+def unlike_calls(compiler, room, calls=CALLS_IN_BOTH, runs=()):
     """Whether both forms differ in some call, by this compiler."""
-    both = Both(compiler, room)
-    for words in (["-O2"], ["-O3", "-DINTMAP_NO_INT128"]):
+    both = Both(compiler, room, calls, runs)
+    for words in (["-O2"], ["-O3", "-DINTMAP_NO_INT128"], ["-O1", *both.filled]):
         said = both.difference(PORTABLE, *words)
         if said:
             yield f"{PORTABLE} by {compiler} {' '.join(words)} isn't like {ASSEMBLY}: {said}"
@@ -112,14 +115,24 @@ def unfound_misprints(compiler, room):
             continue
         with open(f"{room}/misprint.c", "w", encoding="utf-8") as file:
             file.write(text[:at] + new + text[at + len(old) :])
-        if not re.match(r"status (1|-\d+|124)\b", both.difference(f"{room}/misprint.c", "-O1", "-w")):
+        if not re.match(r"status (1|-\d+|124)\b", both.difference(f"{room}/misprint.c", "-O1", "-w", *both.filled)):
             yield f"it isn't found if {function} has {new!r} in place of {old!r}"
 
 
 def wrong_run(compiler, runs, path, room, name, words, given, wanted):
     """What is wrong with a program of the folder over a file, on an emulated machine."""
     program = f"{room}/{name}"
-    status, said = told(compiler, "-O2", f"-I{FOLDER}", f"{FOLDER}/{name}.c", path, "-pthread", "-o", program, *(WRAPPED if name == "test" else []))
+    status, said = told(
+        compiler,
+        "-O2",
+        f"-I{FOLDER}",
+        f"{FOLDER}/{name}.c",
+        path,
+        "-pthread",
+        "-o",
+        program,
+        *(WRAPPED if name == "test" else []),
+    )
     if status == 0:
         status, said = told(*runs, program, *words, input=given, timeout=LIMIT)
     if status != 0 or not said.startswith(wanted):
@@ -130,6 +143,8 @@ def emulated_faults(compiler, paths, runs, room):
     for path in paths:
         yield from wrong_run(compiler, runs, path, room, "example", [], GIVEN_IN_C, PRINTED_IN_C)
         yield from wrong_run(compiler, runs, path, room, "test", [str(CALLS)], "", f"{CALLS} calls, ")
+    if ASSEMBLY in paths:
+        yield from unlike_calls(compiler, room, EMULATED_IN_BOTH, runs)
 
 
 def faults(room):
@@ -147,5 +162,7 @@ def faults(room):
             there.append(compiler)
             yield from emulated_faults(compiler, paths, runs, room)
         else:
-            print(f"assembly: without {compiler} and {runs[0]}, nothing of {' and '.join(map(os.path.basename, paths))} ran there")
+            print(
+                f"assembly: without {compiler} and {runs[0]}, nothing of {' and '.join(map(os.path.basename, paths))} ran there"
+            )
     print(f"assembly: tried by {', '.join(there) or 'no compiler'}", flush=True)

@@ -140,7 +140,9 @@ class Function:
         self.joined = {it: [self.joined_by(line) for line in lines if " = phi " in line] for it, lines in self.blocks.items()}
         self.made_by, users = self.instructions()
         # what is printed again at each use: it reads no memory, and costs nothing
-        self.free = {it for it, line in self.made_by.items() if re.match(r"getelementptr .*, i64 -?\d+$|extractvalue|freeze", line)}
+        self.free = {
+            it for it, line in self.made_by.items() if re.match(r"getelementptr .*, i64 -?\d+$|extractvalue|freeze", line)
+        }
         self.uses = self.uses_by(users)
         self.leave_out_unused()
 
@@ -191,7 +193,9 @@ class Function:
     def leave_out_unused(self):
         """Takes out what nobody uses, calls aside, until all that is left is used."""
         while True:
-            unused = [it for it, line in self.made_by.items() if self.uses.get(it) == [] and not re.match(r"(?:\w+ )?call ", line)]
+            unused = [
+                it for it, line in self.made_by.items() if self.uses.get(it) == [] and not re.match(r"(?:\w+ )?call ", line)
+            ]
             if not unused:
                 return
             for value in unused:

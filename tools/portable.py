@@ -10,12 +10,28 @@ from collections import defaultdict, namedtuple
 from llvm_module import NAME, NUMBERED, TYPE, VALUE, bare, functions_of, groups_of, parted, result_type
 
 PARTS = "tools/portable_driver"
-BINARY = {"add": "+", "sub": "-", "mul": "*", "and": "&", "or": "|", "xor": "^", "shl": "<<", "lshr": ">>", "udiv": "/", "urem": "%"}
+BINARY = {
+    "add": "+",
+    "sub": "-",
+    "mul": "*",
+    "and": "&",
+    "or": "|",
+    "xor": "^",
+    "shl": "<<",
+    "lshr": ">>",
+    "udiv": "/",
+    "urem": "%",
+}
 COMPARED = {"eq": "==", "ne": "!=", "gt": ">", "ge": ">=", "lt": "<", "le": "<="}
 CONTRARY = {"==": "!=", "!=": "==", "<": ">=", "<=": ">", ">": "<=", ">=": "<"}
 # numbers of 128 bits have functions of head.c
 WIDE = {"add": "u128_add", "mul": "u128_mul", "shl": "u128_shl", "udiv": "u128_div"}
-WIDE_COMPARED = {">": "u128_above({0}, {1})", "<": "u128_above({1}, {0})", "<=": "!u128_above({0}, {1})", ">=": "!u128_above({1}, {0})"}
+WIDE_COMPARED = {
+    ">": "u128_above({0}, {1})",
+    "<": "u128_above({1}, {0})",
+    "<=": "!u128_above({0}, {1})",
+    ">=": "!u128_above({1}, {0})",
+}
 # what u128_div can divide by
 SMALL_DIVISOR = range(1, 1 << 63)
 # of the compiler's own functions: the name in head.c, and how many arguments count
@@ -77,7 +93,9 @@ def constant(number, kind):
     """A number as this type has it: none is negative."""
     number %= 1 << bits(kind)
     if bits(kind) == 128:
-        return f"u128_of({number}u)" if number < 1 << 31 else f"u128_two(UINT64_C({number >> 64}), UINT64_C({number % (1 << 64)}))"
+        return (
+            f"u128_of({number}u)" if number < 1 << 31 else f"u128_two(UINT64_C({number >> 64}), UINT64_C({number % (1 << 64)}))"
+        )
     if number < 1 << 31:
         return str(number)
     return f"UINT64_C({number})" if bits(kind) == 64 else f"{number}u"
@@ -160,7 +178,9 @@ class Printer:
         """The file that has a function, as far as a look tells."""
         *modules, last = path_of(name)
         crate = modules[0] if modules else "intmap_c"
-        there = [path for path, text in self.sources.items() if f"/{crate}/" in path and re.search(rf"\bfn {re.escape(last)}\b", text)]
+        there = [
+            path for path, text in self.sources.items() if f"/{crate}/" in path and re.search(rf"\bfn {re.escape(last)}\b", text)
+        ]
         found = sorted(there, key=lambda path: -sum(it.lower() in path for it in [*modules[1:], last]))
         return found[0] if found else f"Rattle's library {crate}"
 
@@ -470,7 +490,9 @@ class FunctionInC:
             if text != name:
                 left.append((name, kind, text))
         while left:
-            one = next((it for it in left if not any(re.search(rf"\b{it[0]}\b", text) for name, _, text in left if name != it[0])), None)
+            one = next(
+                (it for it in left if not any(re.search(rf"\b{it[0]}\b", text) for name, _, text in left if name != it[0])), None
+            )
             if one:
                 left.remove(one)
                 out.append(f"{one[0]} = {one[2]};")
@@ -552,7 +574,10 @@ class FunctionInC:
     def switch(self, block, last, following):
         kind, value, otherwise, cases = groups_of(rf"switch ({TYPE}) ({VALUE}), label (%{NAME}) \[ (.*) \]$", last)
         out, goes_on = [f"switch ({self.operand(value, kind, False)}) {{"], False
-        ways = [(f"case {constant(int(number), kind)}:", target) for number, target in re.findall(rf"{TYPE} (-?\d+), label (%{NAME})", cases)]
+        ways = [
+            (f"case {constant(int(number), kind)}:", target)
+            for number, target in re.findall(rf"{TYPE} (-?\d+), label (%{NAME})", cases)
+        ]
         for head, target in [*ways, ("default:", otherwise)]:
             lines, is_on = self.edge(block, bare(target), following, (None, None))
             out += [head, *lines, *["break;"] * is_on]
@@ -642,7 +667,13 @@ def struct_in_c(kind, bodies):
     # heap.c makes one of two words
     if f"made_{name}(" in bodies or name == "word_word":
         sets = [f"{STEP}made.{it} = {it};" for it in FIELDS[: len(places)]]
-        lines += [f"static inline struct {name} made_{name}({', '.join(places)}) {{", f"{STEP}struct {name} made;", *sets, f"{STEP}return made;", "}"]
+        lines += [
+            f"static inline struct {name} made_{name}({', '.join(places)}) {{",
+            f"{STEP}struct {name} made;",
+            *sets,
+            f"{STEP}return made;",
+            "}",
+        ]
     if f"empty_{name}(" in bodies:
         made = [f"{STEP}struct {name} made;", f"{STEP}memset(&made, 0, sizeof made);", f"{STEP}return made;"]
         lines += [f"static inline struct {name} empty_{name}(void) {{", *made, "}"]
@@ -657,7 +688,8 @@ def without_unused(text):
         unused = [
             name
             for name in helpers
-            if not re.search(rf"\b{name}\b", rest) and not any(re.search(rf"\b{name}\b", it) for other, it in helpers.items() if other != name)
+            if not re.search(rf"\b{name}\b", rest)
+            and not any(re.search(rf"\b{name}\b", it) for other, it in helpers.items() if other != name)
         ]
         if not unused:
             return text

@@ -18,8 +18,9 @@ void *__real_malloc(size_t size);
 void *__real_realloc(void *block, size_t size);
 void __real_free(void *block);
 
-// Requests until the refused one; with 0, none is refused.
+// Requests until the refused one; with 0, none is refused. It may be refused with all that follow.
 static uint64_t until_refused;
+static bool are_all_refused, is_refusing;
 static uint64_t requests, refused, granted_bytes, live_blocks;
 
 // Larger requests are refused too, so that a map of 2^32 slots costs nothing.
@@ -27,7 +28,9 @@ enum { LARGEST_REQUEST = 1 << 28 };
 static size_t largest_request = LARGEST_REQUEST;
 
 static bool is_refused(size_t size) {
-    bool is_now = size > largest_request || (until_refused > 0 && --until_refused == 0);
+    bool is_due = until_refused > 0 && --until_refused == 0;
+    bool is_now = size > largest_request || is_due || is_refusing;
+    is_refusing = is_refusing || (is_due && are_all_refused);
     requests++;
     refused += is_now;
     granted_bytes += is_now ? 0 : size;
@@ -259,6 +262,7 @@ static void begin(void) {
     requests_before = requests;
     refused_before = refused;
     granted_before = granted_bytes;
+    is_refusing = false;
 }
 
 static bool was_refused(void) {
@@ -501,11 +505,13 @@ static void end_test(void) {
     EXPECT(live_blocks == 0 && until_refused == 0);
 }
 
-// Arms the first request, then the second, and so on, until a call was done in spite of it.
+// Arms the first request, then the second, and so on, until a call was done in spite of it: once
+// that alone, and once with all that follow.
 static bool refuse_in_turn(void) {
     static uint64_t in_turn;
     bool was_done = in_turn > 0 && until_refused > 0;
-    in_turn = was_done ? 0 : in_turn + 1;
+    are_all_refused = !are_all_refused && in_turn > 0 && !was_done;
+    in_turn = was_done ? 0 : in_turn + !are_all_refused;
     until_refused = in_turn;
     return !was_done;
 }
@@ -1058,11 +1064,14 @@ static void call_at_random(uint64_t calls) {
             check(other);
             kind = begin_kind();
         }
-        // In half of the calls one of the next requests is refused.
+        // In half of the calls one of the next requests is refused, or all from one on.
         until_refused = step % 1000 < 500 ? 1 + number() % 4 : 0;
+        are_all_refused = step % 100 < 50;
         call_some(kind);
         until_refused = 0;
+        is_refusing = false;
     }
+    are_all_refused = false;
     check(it);
     check(other);
     end_test();

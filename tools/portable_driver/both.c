@@ -1,6 +1,6 @@
 // The same calls in two forms of the library, side by side. Their answers and cursors are compared
 // after each call, and so is what they ask of malloc, realloc and free: sizes, order, and which
-// block. Some requests are refused in both.
+// block. Some requests are refused in both, alone or with all that follow in the call.
 //
 //     cc -shared -fPIC -Wl,--wrap=malloc,--wrap=realloc,--wrap=free intmap.S -o one.so
 //     cc -shared -fPIC -Wl,--wrap=malloc,--wrap=realloc,--wrap=free intmap.c -o other.so
@@ -33,20 +33,24 @@ typedef struct form {
 
 static form forms[2];
 
-// Memory. A block is told by its number, which is the same in both forms.
+// Memory. A block is told by its number, which is the same in both forms. What a call must not rely
+// on, in a new block or in a freed one, is filled.
 
 // Larger requests are refused too.
 enum { LARGEST_REQUEST = 1 << 26 };
 
 static form *running;
 static uint64_t until_refused, refused;
+static bool are_all_refused, is_refusing;
 
 static void note(uint64_t what) {
     running->requests = (running->requests ^ what) * 0x9E3779B97F4A7C15u + 1;
 }
 
 static bool is_refused(size_t size) {
-    bool is_now = size > LARGEST_REQUEST || (until_refused > 0 && --until_refused == 0);
+    bool is_due = until_refused > 0 && --until_refused == 0;
+    bool is_now = size > LARGEST_REQUEST || is_due || is_refusing;
+    is_refusing = is_refusing || (is_due && are_all_refused);
     refused += is_now;
     return is_now;
 }
@@ -58,30 +62,41 @@ typedef struct block {
 
 static uint64_t blocks[2];
 
-static void *shown(block *made, size_t size) {
+static void fill(block *made, size_t from) {
+    if (from < made->size) {
+        memset((char *)(made + 1) + from, 0x5A, made->size - from);
+    }
+}
+
+// The first `kept` bytes stay.
+static void *shown(block *made, size_t kept, size_t size) {
     if (made == NULL) {
         return NULL;
     }
     made->number = blocks[running - forms]++;
     made->size = size;
+    fill(made, kept);
     return made + 1;
 }
 
 void *__wrap_malloc(size_t size) {
     note(size);
-    return is_refused(size) ? NULL : shown(malloc(size + sizeof(block)), size);
+    return is_refused(size) ? NULL : shown(malloc(size + sizeof(block)), 0, size);
 }
 
 void *__wrap_realloc(void *at, size_t size) {
     block *before = (block *)at - 1;
     note(size ^ (uint64_t)1 << 60 ^ before->number << 32);
-    return is_refused(size) ? NULL : shown(realloc(before, size + sizeof(block)), size);
+    size_t kept = before->size;
+    return is_refused(size) ? NULL : shown(realloc(before, size + sizeof(block)), kept, size);
 }
 
 void __wrap_free(void *at) {
     if (at != NULL) {
-        note((uint64_t)1 << 61 ^ ((block *)at - 1)->number);
-        free((block *)at - 1);
+        block *freed = (block *)at - 1;
+        note((uint64_t)1 << 61 ^ freed->number);
+        fill(freed, 0);
+        free(freed);
     }
 }
 
@@ -107,6 +122,7 @@ enum {
 typedef struct call {
     unsigned kind, map;
     uint64_t key, value, until_refused;
+    bool are_all_refused;
 } call;
 
 static void found_value(form *one, intmap_found_value found) {
@@ -172,6 +188,8 @@ static void make(form *one, const call *it) {
     memset(one->answer, 0, sizeof one->answer);
     running = one;
     until_refused = it->until_refused;
+    are_all_refused = it->are_all_refused;
+    is_refusing = false;
     change_pair(one, it);
     change_map(one, it);
     read_map(one, it);
@@ -216,9 +234,10 @@ static call any_call(void) {
         // what follows without a map is soon tried
         kind = kind == FREE && number() % 8 != 0 ? NEW : kind;
     }
-    call it = {kind, (unsigned)(number() % MAPS), (number() & mask) * factor, 0, 0};
+    call it = {kind, (unsigned)(number() % MAPS), (number() & mask) * factor, 0, 0, false};
     it.value = value_for(kind);
-    it.until_refused = number() % 7 == 0 ? 1 + number() % 3 : 0;
+    it.until_refused = number() % 7 == 0 ? 1 + number() % 4 : 0;
+    it.are_all_refused = number() % 2 == 0;
     return it;
 }
 
@@ -243,7 +262,7 @@ int main(int count, char **words) {
         if (at % RUN == 0) {
             begin_run();
         }
-        call it = at % RUN < MAPS ? (call){NEW, (unsigned)(at % RUN), 0, 0, 0} : any_call();
+        call it = at % RUN < MAPS ? (call){.kind = NEW, .map = (unsigned)(at % RUN)} : any_call();
         make(&forms[0], &it);
         make(&forms[1], &it);
         if (differ()) {
