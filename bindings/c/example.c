@@ -1,3 +1,4 @@
+// SPDX-License-Identifier: MIT
 // Counts the numbers that it reads, and prints each with its count in the order of the walk.
 #include "intmap.h"
 #include <inttypes.h>

@@ -11,6 +11,8 @@
  * Compilers: rattle-kit-13f logic dac8208d650f15bf; clang version 22.1.8
  * Sources: d0e6b61fdb6442400ce6b9c68bb55ca7cbac735c26e1cd5a9a8253dbc8636ed9
  *
+ * SPDX-License-Identifier: MIT
+ *
  * MIT License
  *
  * Copyright (c) 2026 the intmap authors

@@ -1,3 +1,6 @@
+// SPDX-License-Identifier: MIT
+// Copyright (c) 2026 the intmap authors
+//
 // A hash map from 64-bit keys to 64-bit values, version 1.0.0. Each function that is declared here
 // has a contract in crates/intmap_c, and its code is proved to keep it. The functions that are
 // defined here, and that memory is given back, are tested.

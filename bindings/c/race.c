@@ -1,3 +1,4 @@
+// SPDX-License-Identifier: MIT
 // Several threads read one map at once, by all calls that take `const intmap *`.
 //
 //     cc -pthread race.c intmap.c -o race

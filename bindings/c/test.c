@@ -1,3 +1,4 @@
+// SPDX-License-Identifier: MIT
 // Calls beside a plain model that knows the order, with requests for memory that are refused.
 //
 //     cc test.c intmap.c -Wl,--wrap=malloc,--wrap=realloc,--wrap=free -o test

@@ -1,3 +1,4 @@
+// SPDX-License-Identifier: MIT
 // Makes every call once from C++, and ends with status 0 if each answered as intmap.h says.
 #include "intmap.h"
 #include <utility>

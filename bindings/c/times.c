@@ -1,3 +1,4 @@
+// SPDX-License-Identifier: MIT
 // Times of the calls, in nanoseconds a key, beside GLib's GHashTable and uthash if they are there.
 //
 //     cc -O2 times.c intmap.c $(pkg-config --cflags --libs glib-2.0) -o times
