@@ -3,7 +3,8 @@ import os
 import re
 import shutil
 
-from crates import GIVEN_IN_C, PRINTED_IN_C, text_of, told
+from crates import GIVEN_IN_C, PRINTED_IN_C, kit, text_of, told
+from portable import MODULE, c_of_module
 
 FOLDER = "bindings/c"
 ASSEMBLY, PORTABLE = f"{FOLDER}/intmap.S", f"{FOLDER}/intmap.c"
@@ -18,6 +19,8 @@ NEEDED = {"malloc", "realloc", "free", "memmove", "memset", "__udivti3"}
 NEEDED_BY_C = {*NEEDED, "memcpy", "abort", "__divti3", "__popcountdi2"}
 # makes the same calls in two libraries
 BOTH = "tools/portable_driver/both.c"
+# becomes C by way of a module, and is tried beside itself
+SAMPLES = "tools/portable_driver/samples.c"
 WRAPPED = [f"-Wl,--wrap={it}" for it in ("malloc", "realloc", "free")]
 CALLS, CALLS_IN_BOTH, EMULATED_IN_BOTH = 20_000, 1_000_000, 100_000
 # fills each variable that a function doesn't start, if a compiler knows it
@@ -119,6 +122,25 @@ def unfound_misprints(compiler, room):
             yield f"it isn't found if {function} has {new!r} in place of {old!r}"
 
 
+def wrong_samples(compiler, room):
+    """Whether the samples do something else once they are printed from a module."""
+    status, said = told(
+        f"{kit()}/toolchain/bin/clang", "--no-default-config", *MODULE.split(), SAMPLES, "-o", f"{room}/samples.ll"
+    )
+    if status:
+        yield said
+        return
+    with open(f"{room}/samples.c", "w", encoding="utf-8") as file:
+        file.write(c_of_module(text_of(f"{room}/samples.ll"), "#define PRINTED\n", "", {}, SAMPLES))
+    for words in ([], ["-DINTMAP_NO_INT128"]):
+        program = f"{room}/samples"
+        status, said = told(compiler, "-O2", "-w", f"-I{FOLDER}", *words, SAMPLES, f"{room}/samples.c", "-o", program)
+        if status == 0:
+            status, said = told(program, timeout=LIMIT)
+        if status or not said.endswith(" rounds, 0 differ\n"):
+            yield f"{SAMPLES} isn't the same behind the printer, by {compiler} {' '.join(words)}: status {status}\n{said}"
+
+
 def wrong_run(compiler, runs, path, room, name, words, given, wanted):
     """What is wrong with a program of the folder over a file, on an emulated machine."""
     program = f"{room}/{name}"
@@ -155,8 +177,9 @@ def faults(room):
         yield from wrong_names(compiler, ASSEMBLY, NEEDED, room)
         yield from wrong_names(compiler, PORTABLE, NEEDED_BY_C, room)
         yield from unlike_calls(compiler, room)
-    if there:
-        yield from unfound_misprints(there[0], room)
+    for compiler in there[:1]:
+        yield from unfound_misprints(compiler, room)
+        yield from wrong_samples(compiler, room)
     for compiler, paths, runs in EMULATED:
         if shutil.which(compiler) and shutil.which(runs[0]):
             there.append(compiler)

@@ -3,13 +3,16 @@
 Each function of the module becomes one of C, between the parts of tools/portable_driver that are written by hand. A
 value that is used once is printed where it is used, unless a store or a call comes between. Blocks become `if`, `for`,
 `switch` and `goto`, by who dominates whom. An instruction of an unknown form ends the printing, so none is left out."""
-import os
 import re
 from collections import defaultdict, namedtuple
 
+from crates import text_of
 from llvm_module import NAME, NUMBERED, TYPE, VALUE, bare, functions_of, groups_of, parted, result_type
 
 PARTS = "tools/portable_driver"
+# How clang prints a module: behind the optimiser, with names. Vectors have no form in C, and unrolled loops are longer
+# and no faster.
+MODULE = "-O2 -fno-vectorize -fno-slp-vectorize -fno-unroll-loops -fno-discard-value-names -S -emit-llvm"
 BINARY = {
     "add": "+",
     "sub": "-",
@@ -696,8 +699,9 @@ def without_unused(text):
         text = HELPER.sub(lambda it: "" if it[1] in unused else it[0], text)
 
 
-def c_of_module(module, head, header, sources):
-    """The whole text: `head` comes first. `header` is the text of intmap.h, and `sources` has those of Rattle by path."""
+def c_of_module(module, head, header, sources, last=f"{PARTS}/calls.c"):
+    """The whole text: `head` comes first, and the file `last` last. `header` is the text of intmap.h, and `sources` has
+    those of Rattle by path."""
     printer, functions = Printer(header, sources), functions_of(module)
     for it in functions:
         printer.name(it.name)
@@ -706,10 +710,7 @@ def c_of_module(module, head, header, sources):
     for it in functions:
         if it.result[0] == "{":
             printer.struct(it.result)
-    by_hand = {}
-    for name in ("head", "heap", "calls"):
-        with open(os.path.join(PARTS, f"{name}.c"), encoding="utf-8") as file:
-            by_hand[name] = file.read()
     structs = "\n".join(struct_in_c(it, bodies) for it in printer.structs.values())
     heads = "\n".join(f"{it.head()};" for it in printed)
-    return without_unused("\n".join([head + by_hand["head"], structs, by_hand["heap"], heads, "", bodies, "", by_hand["calls"]]))
+    parts = [head + text_of(f"{PARTS}/head.c"), structs, text_of(f"{PARTS}/heap.c"), heads, "", bodies, "", text_of(last)]
+    return without_unused("\n".join(parts))
