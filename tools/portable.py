@@ -26,14 +26,16 @@ BINARY = {
     "urem": "%",
 }
 COMPARED = {"eq": "==", "ne": "!=", "gt": ">", "ge": ">=", "lt": "<", "le": "<="}
+# of two values that are true or false
+OF_TESTS = {"xor": "!=", "and": "&", "or": "|"}
 CONTRARY = {"==": "!=", "!=": "==", "<": ">=", "<=": ">", ">": "<=", ">=": "<"}
 # numbers of 128 bits have functions of head.c
 WIDE = {"add": "u128_add", "mul": "u128_mul", "shl": "u128_shl", "udiv": "u128_div"}
 WIDE_COMPARED = {
-    ">": "u128_above({0}, {1})",
-    "<": "u128_above({1}, {0})",
-    "<=": "!u128_above({0}, {1})",
-    ">=": "!u128_above({1}, {0})",
+    "u>": "u128_above({0}, {1})",
+    "u<": "u128_above({1}, {0})",
+    "u<=": "!u128_above({0}, {1})",
+    "u>=": "!u128_above({1}, {0})",
 }
 # what u128_div can divide by
 SMALL_DIVISOR = range(1, 1 << 63)
@@ -60,6 +62,13 @@ HELPER = re.compile(r"^static inline [^\n]*?\b(\w+)\([^\n]*\) \{(?:[^\n]*\}\n|\n
 
 # an expression that waits for its one use, whether it reads memory, and its contrary if it is a test
 Waiting = namedtuple("Waiting", "text reads contrary")
+
+
+def known(table, key, line):
+    """What a table has for a word of a line, which must be there."""
+    if key not in table:
+        raise SystemExit(f"portable: {key} is unknown here: {line}")
+    return table[key]
 
 
 def bits(kind):
@@ -304,9 +313,10 @@ class FunctionInC:
         return kind, f"load_address({address})" if kind == "ptr" else f"load{bits(kind)}({address})"
 
     def moved_address(self, line):
-        base, kind, by = groups_of(rf"getelementptr (?:(?:inbounds|nuw|nusw) )*i8, ptr ({VALUE}), (i\d+) ({VALUE})$", line)
+        # a shorter number would have a sign
+        base, by = groups_of(rf"getelementptr (?:(?:inbounds|nuw|nusw) )*i8, ptr ({VALUE}), i64 ({VALUE})$", line)
         if not re.match(r"-?\d+$", by):
-            return f"{self.operand(base, 'ptr')} + {self.operand(by, kind)}"
+            return f"{self.operand(base, 'ptr')} + {self.operand(by, 'i64')}"
         by = int(by)
         while bare(base) in self.function.free:
             further = re.match(ADDRESS_AND_NUMBER, self.function.made_by[bare(base)])
@@ -321,20 +331,20 @@ class FunctionInC:
         sign = COMPARED[how[-2:]]
         sign = CONTRARY[sign] if is_contrary else sign
         if kind == "i128":
-            return WIDE_COMPARED[sign].format(left, right)
+            return known(WIDE_COMPARED, f"{how[0]}{sign}", line).format(left, right)
         cast = f"(int{bits(kind)}_t)" if how[0] == "s" else "(uintptr_t)" if kind == "ptr" and how[0] == "u" else ""
         return f"{cast}{left} {sign} {cast}{right}"
 
     def binary(self, word, line):
         kind, one, other = groups_of(rf"{word} (?:(?:nuw|nsw|exact|disjoint) )*({TYPE}) ({VALUE}), ({VALUE})$", line)
         if kind == "i128":
-            return kind, self.wide(word, one, other)
+            return kind, self.wide(word, one, other, line)
         left = self.operand(one, kind)
         if kind == "i64" and word == "add" and re.match(r"-\d", other):
             return kind, f"{left} - {constant(-int(other), kind)}"
         right = self.operand(other, kind)
         if kind == "i1":
-            return kind, f"{left} {({'xor': '!=', 'and': '&', 'or': '|'})[word]} {right}"
+            return kind, f"{left} {known(OF_TESTS, word, line)} {right}"
         # C computes with numbers of at least 32 bits, and with signs if they are shorter
         if re.fullmatch(r"\d+u?", left) or bits(kind) < 32 and word in ("mul", "shl"):
             left = f"({c_type(kind) if bits(kind) > 32 else 'uint32_t'}){left}"
@@ -343,22 +353,22 @@ class FunctionInC:
             text = f"({text}) & UINT64_C({(1 << bits(kind)) - 1})"
         return kind, f"({c_type(kind)})({text})" if bits(kind) < 64 else text
 
-    def wide(self, word, one, other):
+    def wide(self, word, one, other, line):
         if word == "add" and other == "-1":
             return f"u128_less_one({self.operand(one, 'i128', False)})"
         if word == "udiv" and not (other.isdigit() and int(other) in SMALL_DIVISOR):
             raise SystemExit(f"portable: u128_div doesn't divide by {other}")
-        return f"{WIDE[word]}({self.operand(one, 'i128', False)}, {self.operand(other, 'i128', False)})"
+        return f"{known(WIDE, word, line)}({self.operand(one, 'i128', False)}, {self.operand(other, 'i128', False)})"
 
     def converted(self, word, line, is_contrary):
         source, one, kind = groups_of(rf"{word} (?:(?:nuw|nsw|nneg) )*({TYPE}) ({VALUE}) to ({TYPE})$", line)
         if kind == "i128":
             return kind, f"u128_of({self.operand(one, source, False)})"
         if source == "i128":
-            return kind, f"u128_low({self.operand(one, source, False)})"
+            return kind, f"{known({'i64': 'u128_low'}, kind, line)}({self.operand(one, source, False)})"
         text = self.operand(one, source)
-        if word.startswith("ptrto"):
-            return kind, f"(uint64_t)(uintptr_t){text}"
+        if source == "ptr":
+            return kind, f"{known({'i64': '(uint64_t)(uintptr_t)'}, kind, line)}{text}"
         if word == "inttoptr":
             return kind, f"(char *)(uintptr_t){text}"
         if kind == "i1":
@@ -437,9 +447,9 @@ class FunctionInC:
                 out.append(f"{self.assigned(it)} = {self.waiting.pop(it).text};")
 
     def make_room(self, value, code):
-        (kind,) = groups_of(rf"alloca ({TYPE})", code)
+        (kind,) = groups_of(rf"alloca ({TYPE})(?:, align \d+)?$", code)
         many = re.match(r"\[(\d+) x i8\]", kind)
-        size = int(many[1]) if many else 8 if kind == "ptr" else bits(kind) // 8
+        size = int(many[1]) if many else 8 if kind == "ptr" else (bits(kind) + 7) // 8
         self.types[value] = "ptr"
         self.rooms[self.variable(value)] = (size + 7) // 8
 

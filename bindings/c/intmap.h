@@ -31,7 +31,8 @@
 // - A cursor is INTMAP_START, what a call left in it, or a copy of that. Since then no call has
 //   changed the map, except intmap_cut with this cursor, intmap_set and intmap_add.
 // - The two words of intmap_clone differ, and intmap_next has an array for all `room` pairs.
-// - There is some stack: a call takes less than 1 KB, besides malloc's.
+// - There is some stack: a call takes less than 1 KB, besides malloc's; less than 5 KB if the
+//   compiler doesn't optimise.
 //
 // THREADS. Any number of threads may make calls with `const intmap *` at once, as long as no other
 // call has the map. A call with `intmap *` has it alone: the calls before it have ended, and the
