@@ -101,7 +101,7 @@ class Both:
 def unlike_calls(compiler, room, calls=CALLS_IN_BOTH, runs=()):
     """Whether both forms differ in some call, by this compiler."""
     both = Both(compiler, room, calls, runs)
-    for words in (["-O2"], ["-O3", "-DINTMAP_NO_INT128"], ["-O1", *both.filled]):
+    for words in (["-O2"], ["-O3", "-DINTMAP_PLAIN_C"], ["-O1", *both.filled]):
         said = both.difference(PORTABLE, *words)
         if said:
             yield f"{PORTABLE} by {compiler} {' '.join(words)} isn't like {ASSEMBLY}: {said}"
@@ -132,7 +132,7 @@ def wrong_samples(compiler, room):
         return
     with open(f"{room}/samples.c", "w", encoding="utf-8") as file:
         file.write(c_of_module(text_of(f"{room}/samples.ll"), "#define PRINTED\n", "", {}, SAMPLES))
-    for words in ([], ["-DINTMAP_NO_INT128"]):
+    for words in ([], ["-DINTMAP_PLAIN_C"]):
         program = f"{room}/samples"
         status, said = told(compiler, "-O2", "-w", f"-I{FOLDER}", *words, SAMPLES, f"{room}/samples.c", "-o", program)
         if status == 0:

@@ -2,10 +2,11 @@
 // after each call, and so is what they ask of malloc, realloc and free: sizes, order, and which
 // block. Some requests are refused in both, alone or with all that follow in the call.
 //
-//     cc -shared -fPIC -Wl,--wrap=malloc,--wrap=realloc,--wrap=free intmap.S -o one.so
-//     cc -shared -fPIC -Wl,--wrap=malloc,--wrap=realloc,--wrap=free intmap.c -o other.so
-//     cc -rdynamic both.c -ldl -o both
-//     ./both ./one.so ./other.so CALLS SEED
+//     cd bindings/c
+//     cc -shared -fPIC -Wl,--wrap=malloc,--wrap=realloc,--wrap=free intmap.S -o /tmp/one.so
+//     cc -shared -fPIC -Wl,--wrap=malloc,--wrap=realloc,--wrap=free intmap.c -o /tmp/other.so
+//     cc -I . -rdynamic ../../tools/portable_driver/both.c -ldl -o /tmp/both
+//     /tmp/both /tmp/one.so /tmp/other.so CALLS SEED
 //
 // It ends with one line of counts and with status 0, or at the first difference with status 1.
 #include "intmap.h"

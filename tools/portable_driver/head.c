@@ -6,9 +6,16 @@
 #error "intmap.c is for processors with addresses of 64 bits"
 #endif
 
+// What gcc and clang add to C. INTMAP_PLAIN_C leaves it out, as it is for other compilers.
+#if (defined(__GNUC__) || defined(__clang__)) && !defined(INTMAP_PLAIN_C)
+#define HAS_ADDITIONS 1
+#else
+#define HAS_ADDITIONS 0
+#endif
+
 // What the optimiser knew of a function is told to the compiler. Some loops take a tenth longer if
 // their function starts in the middle of a line of the cache.
-#if defined(__GNUC__) || defined(__clang__)
+#if HAS_ADDITIONS
 #define ALWAYS_INLINE inline __attribute__((always_inline))
 #define NOINLINE __attribute__((noinline))
 #define COLD __attribute__((noinline, cold))
@@ -64,7 +71,7 @@ static inline uint64_t load64(const char *at) {
 // a fifth slower.
 static inline uint64_t load_key(const char *at) {
     uint64_t x = load64(at);
-#if defined(__clang__)
+#if HAS_ADDITIONS && defined(__clang__)
     __asm__("" : "+r"(x));
 #endif
     return x;
@@ -123,7 +130,7 @@ static inline void store_bytes(char *at, uint64_t x, size_t count) {
 
 // Bits.
 
-#if defined(__GNUC__) || defined(__clang__)
+#if HAS_ADDITIONS
 static inline uint64_t low_zeros(uint64_t x) {
     return x != 0 ? (uint64_t)__builtin_ctzll(x) : 64;
 }
@@ -161,9 +168,9 @@ static inline uint64_t greater(uint64_t one, uint64_t other) {
     return one > other ? one : other;
 }
 
-// Numbers of 128 bits, which only the load factor needs. INTMAP_NO_INT128 takes those by parts.
+// Numbers of 128 bits, which only the load factor needs.
 
-#if defined(__SIZEOF_INT128__) && !defined(INTMAP_NO_INT128)
+#if HAS_ADDITIONS && defined(__SIZEOF_INT128__)
 __extension__ typedef unsigned __int128 u128;
 
 static inline u128 u128_of(uint64_t x) {
