@@ -5,6 +5,5 @@ pub mod Waiting
 pub mod Dense
 pub mod Table
 pub mod Floors
-pub mod Scopes
 pub mod Values
 pub mod Interned

@@ -1,7 +1,7 @@
 //! A table of symbols with scopes: names are numbers, each declared at the depth of its scope.
-ghost use Rattle.std.specs.Prelude.{◌≡◌, ◌==◌, ◌+◌, ℕ, IfSome, IsSome, cond, count_by, filter, is_some, length, not};
+ghost use Rattle.std.specs.Prelude.{◌≡◌, ◌==◌, ◌+◌, ℕ, IfSome, IsSome, None, Some, cond, count_by, filter, is_some, length, not};
 ghost use Rattle.callers.specs.Numbered.{value_at};
-ghost use Rattle.callers.specs.Scopes.{outside_of};
+ghost use Rattle.callers.specs.declared.scopes.Symbol.{Symbol};
 
 use intmap::IntMap;
 
@@ -26,16 +26,18 @@ pub fn forget_one(names: &mut IntMap<u64, Symbol>, depth: u64) -> Option<(u64, S
 /// Leaves the scopes of this depth: removes the names that they declared, and returns their number.
 /// Each other name stands for what it stood for, and the others keep their order.
 pub fn leave_scope(names: &mut IntMap<u64, Symbol>, depth: u64) -> usize
-    ensures names { (name : ℕ)
-        → value_at names.new.walk name ≡ outside_of depth (value_at names.old.walk name) }
+    ensures names { (name : ℕ) (symbol : Symbol) → value_at names.old.walk name ≡ Some symbol
+        → value_at names.new.walk name ≡ cond (not (symbol.depth == depth)) (Some symbol) None }
+    ensures none_comes { (name : ℕ) → value_at names.old.walk name ≡ None
+        → value_at names.new.walk name ≡ None }
     ensures walk { names.new.walk ≡ filter (λ name. not (name.1.depth == depth)) names.old.walk }
     ensures count { result ≡ count_by (λ name. name.1.depth == depth) names.old.walk }
     ensures capacity { names.new.capacity ≡ names.old.capacity }
 {
-    let mut count = 0;
-    let mut left = names.extract_if(move |_, symbol| symbol.depth == depth);
-    while let Some(_name) = left.next() {
-        count += 1;
-    }
+    let count = names
+        .iter()
+        .filter(|(_, symbol)| symbol.depth == depth)
+        .count();
+    names.retain(|_, symbol| symbol.depth != depth);
     count
 }
