@@ -1,5 +1,5 @@
-//! Sums of all values: what a count, an insertion and a merge add to them.
-ghost use Rattle.std.specs.Prelude.{◌≡◌, ◌≢◌, ◌+◌, ◌-◌, ◌^◌, ◌<◌, ℕ, IfOk, OnOk, OnErr, length, unwrap_or};
+//! Sums of all values: what a count, an insertion and a sum add to them.
+ghost use Rattle.std.specs.Prelude.{◌≡◌, ◌≢◌, ◌+◌, ℕ, OnOk, OnErr, unwrap_or};
 ghost use Rattle.std.specs.List.{sum};
 ghost use Rattle.std.specs.Map.{values_of};
 ghost use Rattle.intmap.specs.Bindings.{value_of};
@@ -22,39 +22,6 @@ pub fn hit<A: Allocator + Copy>(histogram: &mut IntMap<u64, u64, A>, bin: u64) -
     };
     histogram.insert(bin, after)?;
     Ok(())
-}
-
-/// The same by an entry, with one search. No count is above the sum, so it fits.
-///
-/// It fails if the insertion of a new bin fails.
-pub fn hit_by_entry<A: Allocator + Copy>(
-    histogram: &mut IntMap<u64, u64, A>,
-    bin: u64,
-) -> Result<(), Cause>
-    requires { sum (values_of histogram.old.walk) < 2 ^ 64 - 1 }
-    ensures total { OnOk result
-        (sum (values_of histogram.new.walk) ≡ sum (values_of histogram.old.walk) + 1) }
-{
-    laws::values_are_within_sum::<u64>();
-    laws::entries_change_sum::<u64, A>();
-    *histogram.entry(bin).or_insert(0)? += 1;
-    Ok(())
-}
-
-/// A histogram of the numbers. Its counts add up to how many they are.
-///
-/// It fails if the map can't be made or an insertion fails.
-pub fn histogram<A: Allocator + Copy>(
-    alloc: A,
-    numbers: &[u64],
-) -> Result<IntMap<u64, u64, A>, Cause>
-    ensures total { IfOk result (λ made. sum (values_of made.walk) ≡ length numbers.now) }
-{
-    let mut made = IntMap::new(alloc)?;
-    for number in numbers {
-        hit(&mut made, *number)?;
-    }
-    Ok(made)
 }
 
 /// Sets the value of a key. The sum of all values rises by the new value, and falls by the old one.
@@ -95,21 +62,5 @@ pub fn add_in<A: Allocator + Copy>(
         return Err(Cause::TooLarge);
     };
     sums.insert(key, after)?;
-    Ok(())
-}
-
-/// Adds the values of another map, key by key. The sum of all values rises by theirs.
-///
-/// It fails if a sum doesn't fit, or if the insertion of a new key fails.
-pub fn merge<A: Allocator + Copy>(
-    sums: &mut IntMap<u64, u64, A>,
-    more: &IntMap<u64, u64, A>,
-) -> Result<(), Cause>
-    ensures total { OnOk result (sum (values_of sums.new.walk)
-        ≡ sum (values_of sums.old.walk) + sum (values_of more.now.walk)) }
-{
-    for (key, value) in more.iter() {
-        add_in(sums, *key, *value)?;
-    }
     Ok(())
 }
