@@ -1,45 +1,10 @@
-//! Maps that are compared: the order of the insertions doesn't matter, and the pairs do.
-ghost use Rattle.std.specs.Prelude.{◌≡◌, ◌≢◌, ◌==◌, ℕ, true, IfOk, OnOk, IsTrue, length};
+//! Maps that are compared: their pairs matter, and the slots and the order of the walk don't.
+ghost use Rattle.std.specs.Prelude.{◌≡◌, ℕ, true, IfOk, IsTrue, length};
 ghost use Rattle.intmap.specs.Bindings.{value_of};
 ghost use Rattle.intmap.specs.Equality.{maps_equal};
 
 use intmap::{Cause, IntKey, IntMap, laws};
 use std::alloc::Allocator;
-
-/// Inserts two pairs into a new map, and into another one in the other order, and returns whether
-/// the maps are equal, which they are.
-///
-/// It fails if a map can't be made or an insertion fails.
-pub fn built_in_two_orders<A: Allocator + Copy>(
-    alloc: A,
-    first: (u64, u64),
-    second: (u64, u64),
-) -> Result<bool, Cause>
-    requires { first.0 ≢ second.0 }
-    ensures { IfOk result (λ equal. equal ≡ true) }
-{
-    laws::equal_maps_bind_the_same::<u64, u64>();
-    let mut map = IntMap::new(alloc)?;
-    map.insert(first.0, first.1)?;
-    map.insert(second.0, second.1)?;
-    let mut other = IntMap::new(alloc)?;
-    other.insert(second.0, second.1)?;
-    other.insert(first.0, first.1)?;
-    Ok(map == other)
-}
-
-/// Whether the map is equal to a new one: exactly if there is no pair.
-///
-/// It fails if the new map can't be made.
-pub fn is_like_new<K: IntKey, V: Eq + Drop, A: Allocator + Copy>(
-    map: &IntMap<K, V, A>,
-    alloc: A,
-) -> Result<bool, Cause>
-    ensures { IfOk result (λ equal. equal ≡ (length map.now.walk == 0)) }
-{
-    let made: IntMap<K, V, A> = IntMap::new(alloc)?;
-    Ok(*map == made)
-}
 
 /// Clones the map, and returns whether the clone is equal to it, which it is.
 ///

@@ -22,20 +22,6 @@ pub fn members_of_both<K: IntKey, A: Allocator + Copy>(
     group.to_intersection(alloc, other)
 }
 
-/// The members of either group, by the iterator over them. `to_union` makes the same set.
-///
-/// It fails if the set can't be made or an insertion fails.
-pub fn members_of_either<K: IntKey, A: Allocator + Copy>(
-    alloc: A,
-    group: &IntSet<K, A>,
-    other: &IntSet<K, A>,
-) -> Result<IntSet<K, A>, Cause>
-    ensures { IfOk result (λ either. IsUnion K.number_of group.now.walk other.now.walk
-        either.walk) }
-{
-    IntSet::from_iter(alloc, group.union(other).copied())
-}
-
 /// Whether every member of one group is in the other.
 pub fn are_all_in<K: IntKey, A: Allocator + Copy>(
     group: &IntSet<K, A>,

@@ -1,5 +1,4 @@
-//! Pairs on their way into a map: a pair whose insertion fails waits, with its cause, and is tried
-//! again.
+//! Pairs on their way into a map: a pair whose insertion fails waits, with its cause.
 ghost use Rattle.std.specs.Prelude.{◌≡◌, ℕ, ◌+◌, ◌<◌, ◌≤◌, List, ◌∷◌, ◌++◌, [], IfOk, OnOk, OnErr, true, length, vec_capacity};
 ghost use Rattle.callers.specs.Waiting.{Moves, pairs_of};
 
@@ -14,7 +13,7 @@ pub struct Waiting<V> {
     pub key: u64,
     /// The value.
     pub value: V,
-    /// Why its insertion failed the last time.
+    /// Why its insertion failed.
     pub cause: Cause,
 }
 
@@ -84,29 +83,6 @@ pub fn move_into<V: Drop, A: Allocator + Copy>(
     while let Some((key, value)) = pairs.pop() {
         bind(map, key, value, waiting);
     }
-    Ok(())
-}
-
-/// Tries each waiting pair once more, the last first. If its insertion fails again, it waits with
-/// its new cause.
-///
-/// It fails if there is no memory for the new list, and then moves nothing.
-pub fn try_again<V: Drop, A: Allocator + Copy>(
-    alloc: A,
-    map: &mut IntMap<u64, V, A>,
-    waiting: &mut Vec<Waiting<V>, A>,
-) -> Result<(), AllocError>
-    ensures moved { OnOk result (Moves (pairs_of waiting.old.items) map.old.walk
-        (pairs_of waiting.new.items) map.new.walk) }
-    ensures fewer { length waiting.new.items ≤ length waiting.old.items }
-    ensures waiting_stays { OnErr result (waiting.new.items ≡ waiting.old.items) }
-    ensures map_stays { OnErr result (map.new ≡ map.old) }
-{
-    let mut still = Vec::with_capacity(alloc, waiting.len())?;
-    while let Some(pair) = waiting.pop() {
-        bind(map, pair.key, pair.value, &mut still);
-    }
-    *waiting = still;
     Ok(())
 }
 

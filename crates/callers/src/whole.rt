@@ -1,14 +1,13 @@
-//! Whole pairs: a key with its value, looked up, removed, or listed in an array; a value by
-//! `map[key]`; and the keys or the values of a map that is consumed.
+//! Whole pairs: a key with its value, looked up, removed, or listed in an array; and a value by
+//! `map[key]`.
 ghost use Rattle.std.specs.Prelude.{◌≡◌, IfNone, IfOk, IfSome, List, [], ◌∷◌, None, Some, false, reverse};
-ghost use Rattle.std.specs.Map.{keys_of, values_of};
 ghost use Rattle.std.specs.Option.{option_map};
-ghost use Rattle.intmap.specs.Bindings.{HasDistinctKeys, IsPresent, value_of};
+ghost use Rattle.intmap.specs.Bindings.{IsPresent, value_of};
 ghost use Rattle.intmap.specs.Classes.{same_key};
 
 use intmap::iter::Keys;
 use intmap::{Cause, IntKey, IntMap};
-use std::alloc::{AllocError, Allocator};
+use std::alloc::Allocator;
 
 /// A copy of the pair of the key: the key itself, with its value.
 pub fn copy_pair<K: IntKey, V: Copy, A: Allocator + Copy>(
@@ -50,35 +49,6 @@ pub fn next_key<K: IntKey, V, A: Allocator + Copy>(keys: &Keys<'_, K, V, A>) -> 
     ensures none { IfNone result (keys.now ≡ []) }
 {
     keys.clone().unwrap().next().copied()
-}
-
-/// The keys of the map, each once.
-///
-/// It fails if there is no memory for them.
-pub fn keys_alone<K: IntKey, V: Drop, A: Allocator + Copy>(
-    alloc: A,
-    map: IntMap<K, V, A>,
-) -> Result<Vec<K, A>, AllocError>
-    ensures keys { IfOk result (λ keys. keys.items ≡ keys_of map.walk) }
-    ensures once { HasDistinctKeys K.number_of map.walk }
-{
-    let mut keys = Vec::new(alloc);
-    for key in map.into_keys() {
-        keys.push(key)?;
-    }
-    Ok(keys)
-}
-
-/// The values of the map, in the order of its walk.
-///
-/// It fails if there is no memory for them.
-pub fn values_alone<K: IntKey, V: Drop, A: Allocator + Copy>(
-    alloc: A,
-    map: IntMap<K, V, A>,
-) -> Result<Vec<V, A>, AllocError>
-    ensures { IfOk result (λ values. values.items ≡ values_of map.walk) }
-{
-    map.into_values().collect(alloc)
 }
 
 /// A map of the array's pairs, in which each key has its last value.

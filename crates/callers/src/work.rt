@@ -1,5 +1,5 @@
 //! Work by number: a queue whose jobs are removed from the front of the walk.
-ghost use Rattle.std.specs.Prelude.{◌≡◌, ◌+◌, None, [], ◌++◌, IfOk, IfSome, OnOk, OnErr, cond, is_some, length, min};
+ghost use Rattle.std.specs.Prelude.{◌≡◌, ◌+◌, None, [], ◌++◌, IfSome, OnOk, cond, is_some, length};
 ghost use Rattle.std.specs.List.{slice_get};
 ghost use Rattle.std.specs.Option.{option_map};
 ghost use Rattle.intmap.specs.Bindings.{Updates};
@@ -49,31 +49,4 @@ pub fn work_off<V: Drop, A: Allocator + Copy>(
         left -= 1;
     }
     Ok(())
-}
-
-/// Removes `count` jobs from the front of the queue, or all if there are fewer. The jobs that are
-/// removed, followed by those that stay, are the queue as it was.
-///
-/// It fails if there is no memory for them, and the queue stays as it is.
-pub fn take_first<V: Drop, A: Allocator + Copy>(
-    alloc: A,
-    queue: &mut IntMap<u64, V, A>,
-    count: usize,
-) -> Result<Vec<(u64, V), A>, AllocError>
-    ensures jobs { IfOk result (λ taken. taken.items ++ queue.new.walk ≡ queue.old.walk) }
-    ensures count { IfOk result
-        (λ taken. length taken.items ≡ min count (length queue.old.walk)) }
-    ensures capacity { queue.new.capacity ≡ queue.old.capacity }
-    ensures err { OnErr result (queue.new ≡ queue.old) }
-{
-    let wanted = count.min(queue.len());
-    let mut taken = Vec::with_capacity(alloc, wanted)?;
-    let mut from = 0;
-    for _ in 0..wanted {
-        let Some(job) = queue.take_front(&mut from) else {
-            unreachable!();
-        };
-        taken.push_reserved(job);
-    }
-    Ok(taken)
 }

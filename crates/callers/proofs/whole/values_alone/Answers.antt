@@ -1,7 +1,0 @@
-use Rattle.std.proofs.lemmas.Iterator.{items_from_collect}
-use Rattle.std.proofs.lemmas.Iterator.Consumers.{YieldsList-from_first}
-use Rattle.callers.proofs.whole.values_alone.Goals as goal
-
--- an iterator is the list that it has left, and that is what is collected
-pub returns : goal.returns
-returns g c = items_from_collect _ c.collect.ensures.ran (YieldsList-from_first (λ value. value) (λ rest. rest) _ c.into_values.ensures.walk)
