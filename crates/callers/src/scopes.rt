@@ -41,3 +41,12 @@ pub fn leave_scope(names: &mut IntMap<u64, Symbol>, depth: u64) -> usize
     names.retain(|_, symbol| symbol.depth != depth);
     count
 }
+
+/// Removes the names of this depth one by one, by `extract_if`. The others keep their order.
+pub fn forget_all(names: &mut IntMap<u64, Symbol>, depth: u64)
+    ensures walk { names.new.walk ≡ filter (λ name. not (name.1.depth == depth)) names.old.walk }
+    ensures capacity { names.new.capacity ≡ names.old.capacity }
+{
+    let mut left = names.extract_if(move |_, symbol| symbol.depth == depth);
+    while let Some(_name) = left.next() {}
+}
