@@ -2,7 +2,9 @@
 ghost use Rattle.std.specs.Prelude.{◌≡◌, ◌+◌, ◌<◌, ◌^◌, ℕ, All, None, Some, length, reverse};
 ghost use Rattle.std.specs.Option.{option_or};
 ghost use Rattle.intmap.specs.Bindings.{value_of, Updates};
-ghost use Rattle.intmap.specs.Growth.{MeetsLoad};
+ghost use Rattle.intmap.specs.Growth.{IsNext, MeetsLoad};
+ghost use Rattle.intmap.specs.Insertions.{IsInsertion};
+ghost use Rattle.intmap.specs.Reach.{class_size};
 ghost use Rattle.intmap.specs.Room.{HasRoomFor};
 
 use intmap::{IntKey, IntMap, laws};
@@ -38,8 +40,24 @@ pub fn insert_small<A: Allocator + Copy>(map: &mut IntMap<u64, u64, A>, key: u64
     ensures len { length map.new.walk ≡ length map.old.walk + 1 }
 {
     laws::met_loads_keep_capacity();
-    laws::met_loads_leave_room::<u64, u64>();
     laws::small_new_keys_are_alone::<u64, u64>();
+    let _pairs = map.len();
+    insert_alone(map, key, value);
+}
+
+/// Inserts the pair of a key that is alone in its slot, at a length that leaves the capacity. It
+/// never fails.
+fn insert_alone<K: IntKey, V: Drop, A: Allocator + Copy>(
+    map: &mut IntMap<K, V, A>,
+    key: K,
+    value: V,
+)
+    requires alone { class_size K.number_of map.old.walk map.old.capacity key ≡ 0 }
+    requires stays { IsNext map.old.capacity (length map.old.walk + 1) map.old.factor
+        map.old.capacity }
+    requires count { length map.old.walk + 1 < 2 ^ 64 }
+    ensures { IsInsertion K.number_of K.is_valid map.old key value map.new }
+{
     match map.insert(key, value) {
         Ok(_old) => (),
         Err(_refused) => unreachable!(),
