@@ -1,5 +1,5 @@
 //! Pairs that stay: by a test of the pair, and by a closure that counts its calls.
-ghost use Rattle.std.specs.Prelude.{◌≡◌, ◌+◌, ◌<◌, ◌^◌, ◌%◌, ◌==◌, All, false, filter, length, not, slice_index_or, take};
+ghost use Rattle.std.specs.Prelude.{◌≡◌, ◌+◌, ◌%◌, ◌==◌, All, false, filter, length, not, slice_index_or, take};
 
 use intmap::{IntKey, IntMap};
 use std::alloc::Allocator;
@@ -29,24 +29,18 @@ pub fn keep_listed<V: Drop, A: Allocator + Copy>(map: &mut IntMap<u64, V, A>, ke
     map.retain(|key, _| keeps.get(key as usize).copied().unwrap_or(false));
 }
 
-/// Keeps the first `count` pairs of the walk, or all if there are fewer. The closure counts its
-/// calls. The count fits, since the closure is called once for each pair.
+/// Keeps the first `count` pairs of the walk, or all if there are fewer. The closure counts down
+/// the pairs that are still to be kept.
 pub fn keep_first<K: IntKey, V: Drop, A: Allocator + Copy>(map: &mut IntMap<K, V, A>, count: usize)
     ensures walk { map.new.walk ≡ take count map.old.walk }
     ensures capacity { map.new.capacity ≡ map.old.capacity }
 {
-    if map.len() <= count {
-        return;
-    }
-    let mut calls = 0usize;
-    map.retain(
-        move |_, _|
-            requires { calls + 1 < 2 ^ 64 }
-        {
-            calls += 1;
-            calls <= count
-        },
-    );
+    let mut left = count;
+    map.retain(move |_, _| {
+        let keeps = 0 < left;
+        left = left.saturating_sub(1);
+        keeps
+    });
 }
 
 /// Keeps the pairs for which the caller's closure returns true, and returns how many were removed.

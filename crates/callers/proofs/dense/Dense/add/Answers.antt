@@ -1,11 +1,8 @@
-use Rattle.std.proofs.Common.{◌≡◌, ◌+◌, ◌≤◌, ℕ, None, length, ap, ◌∙◌, ne_eqb, arith}
+use Rattle.std.proofs.Common.{◌≡◌, ◌+◌, ◌≤◌, ℕ, None, length, ap, ◌∙◌, arith}
 use Rattle.std.proofs.lemmas.Grind.{common_steps}
 use Rattle.std.proofs.lemmas.Bool.Decides.{nat_tests}
 use Rattle.callers.specs.Numbered.{value_at}
 use Rattle.callers.proofs.dense.Dense.add.Goals as goal
-
-pub invariant_of-self : goal.invariant_of-self
-invariant_of-self g c = rw c.in-Err.ensures.err c.self.invariant
 
 pub invariant_of-self-in-Ok : goal.invariant_of-self-in-Ok
 invariant_of-self-in-Ok g c =
@@ -31,11 +28,6 @@ returns-in-Ok-clause-len g c =
     let next : c.len-number.result ≡ length c.self.inside.values.walk = c.len-number.ensures.value ∙ c.reserve.ensures.len in
     let none = c.reserve.ensures.updates c.len-number.result ∙ c.self.invariant.not_given c.len-number.result (omega arith) in
     rw none at c.in-Ok.ensures.inserted.len ∙ ap (λ n. n + 1) (c.reserve.ensures.len ∙ ap length c.self.view_is)
-
-pub returns-in-Ok-clause-others : goal.returns-in-Ok-clause-others
-returns-in-Ok-clause-others g c q other =
-    let next : c.len-number.result ≡ length c.args.self.now = c.len-number.ensures.value ∙ c.reserve.ensures.len ∙ ap length c.self.view_is in
-    rw (← c.self.view_is) (c.in-Ok.ensures.inserted.updates.2 q (ne_eqb q c.len-number.result (λ e. other (e ∙ next))) ∙ c.reserve.ensures.updates q)
 
 pub invariant_of-self-2 : goal.invariant_of-self-2
 invariant_of-self-2 g c =
