@@ -1,15 +1,10 @@
 -- Pairs with other values.
-use Rattle.std.specs.Prelude.{ℕ, ◌+◌, ◌%◌, ◌^◌, List, [], ◌∷◌, map}
+use Rattle.std.specs.Prelude.{ℕ, ◌+◌, ◌%◌, ◌^◌, List, map}
 
 module _ {K : Type 0} where
   -- each value is one more, and 0 where that is 2^64
   abbrev pub one_more : List (K × ℕ) → List (K × ℕ)
   one_more L = map (λ pair. (pair.0, (pair.1 + 1) % 2 ^ 64)) L
-
-  -- each value is the sum of those up to it and of what was there before them, modulo 2^64
-  abbrev pub sums_from : ℕ → List (K × ℕ) → List (K × ℕ)
-  sums_from before [] = []
-  sums_from before (pair ∷ L) = (pair.0, (before + pair.1) % 2 ^ 64) ∷ sums_from ((before + pair.1) % 2 ^ 64) L
 
 -- each value is the sum of its key and of what was there
 abbrev pub more_by_keys : List (ℕ × ℕ) → List (ℕ × ℕ)

@@ -1,7 +1,7 @@
-//! All values written in one pass: each by itself, or by a closure that sums along.
+//! All values written in one pass, each by itself.
 ghost use Rattle.std.specs.Prelude.{◌≡◌, ◌+◌, ◌<◌, ◌^◌, All, length};
 ghost use Rattle.std.specs.Map.{keys_of};
-ghost use Rattle.callers.specs.Values.{more_by_keys, one_more, sums_from};
+ghost use Rattle.callers.specs.Values.{more_by_keys, one_more};
 
 use intmap::{IntKey, IntMap};
 use std::alloc::Allocator;
@@ -13,19 +13,6 @@ pub fn add_one_to_all<K: IntKey, A: Allocator + Copy>(map: &mut IntMap<K, u64, A
     ensures capacity { map.new.capacity ≡ map.old.capacity }
 {
     map.for_each_mut(|_, value| *value = value.wrapping_add(1));
-}
-
-/// Makes each value the sum, modulo 2^64, of the values up to it in the order of the walk.
-pub fn add_up<K: IntKey, A: Allocator + Copy>(map: &mut IntMap<K, u64, A>)
-    ensures walk { map.new.walk ≡ sums_from 0 map.old.walk }
-    ensures keys { keys_of map.new.walk ≡ keys_of map.old.walk }
-    ensures capacity { map.new.capacity ≡ map.old.capacity }
-{
-    let mut sum = 0u64;
-    map.for_each_mut(move |_, value| {
-        sum = sum.wrapping_add(*value);
-        *value = sum;
-    });
 }
 
 /// Adds its key to each value. No sum is too large, since each value is added to its own key alone.
