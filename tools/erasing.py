@@ -49,6 +49,7 @@ ADDED_NOTE = "// Only Rust has what follows. It is tested, not proved."
 ADDED = {
     "intmap_table/slot": ["mod mending;", "mod written;"],
     "intmap_table/table": ["mod mending;", "pub mod written;"],
+    "intmap_table/table/slots": ["mod mending;", "pub mod written;"],
     "intmap/entry": ["mod mending;"],
     "intmap/map": ["mod mending;"],
     "intmap_set/set": ["mod mending;"],

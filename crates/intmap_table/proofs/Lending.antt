@@ -7,5 +7,6 @@ pub mod OpensStructLemmas
 pub mod OpensVecLemmas
 pub mod OpensPairLemmas
 pub mod OpensSlotLemmas
+pub mod OpensSlotsLemmas
 pub mod OpensTableLemmas
 pub mod ValuesLemmas

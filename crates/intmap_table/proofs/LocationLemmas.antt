@@ -1,6 +1,6 @@
 -- Pairs that were located: what is there, and what a table is once one was written or removed.
-use Rattle.std.proofs.Common.{◌≡◌, ◌≢◌, ℕ, zero, suc, ◌+◌, ◌<◌, ◌≤◌, Bool, true, cond, List, [], ◌∷◌, ◌++◌, length, get_or, set, Option, Some, None, IsSome, is_some, Result, Ok, Err, refl, sym, ap, ◌∙◌, subst, arith, length-set, get_or-set_same}
-use Rattle.std.specs.Prelude.{◌==◌, All, IfOk, OnErr, is_ok, count_by, filter, nat_lt, position}
+use Rattle.std.proofs.Common.{◌≡◌, ◌≢◌, ℕ, zero, suc, ◌+◌, ◌<◌, ◌≤◌, Bool, true, cond, List, [], ◌∷◌, ◌++◌, length, get_or, Option, Some, None, IsSome, is_some, Result, Ok, Err, refl, sym, ap, ◌∙◌, subst, arith}
+use Rattle.std.specs.Prelude.{◌==◌, All, IfOk, OnErr, is_ok, count_by, filter, position, swap_remove}
 use Rattle.std.specs.List.{position_or_len, range_with_len}
 use Rattle.std.proofs.lemmas.Bool.{eq-eqb}
 use Rattle.std.proofs.lemmas.Bool.Decides.{nat_tests}
@@ -9,16 +9,17 @@ use Rattle.std.proofs.lemmas.List.Elements.{All-cons, All-head, All-tail, filter
 use Rattle.std.proofs.lemmas.List.Folds.{position_or_len_push}
 use Rattle.std.proofs.lemmas.List.Sums.{sum_by-cons}
 use Rattle.intmap_table.specs.Classes.{IsCapacity, slot_number, same_key, agrees}
-use Rattle.intmap_table.specs.Bindings.{value_of, IsPresent, take_key, put_pair, write_value, HasDistinctKeys}
+use Rattle.intmap_table.specs.Bindings.{swap_out, value_of, IsPresent, take_key, put_pair, write_value, HasDistinctKeys}
 use Rattle.intmap_table.specs.Locations.{IsAt, IsLast}
-use Rattle.intmap_table.specs.Tables.Slots.{Grid, Held, rows, joined, write_at, AreMarked, IsTable, IsMarkedTable}
+use Rattle.intmap_table.specs.Tables.Slots.{Grid, Held, rows, row_of, joined, write_at, write_row, IsTable, IsRowSet}
 use Rattle.intmap_table.specs.Walk.{slot_of, walk_of}
 use Rattle.intmap_table.proofs.WrittenLemmas.{slot_of-write_value}
 use Rattle.intmap_table.specs.declared.table.locate.Location.{Location}
-use Rattle.intmap_table.proofs.Tables.FilledLemmas.{marks-kept}
 use Rattle.intmap_table.proofs.MappedLemmas.{flat_map-map}
-use Rattle.intmap_table.proofs.PositionLemmas.{swap_out-none, position-within, position_or_len-none, first_value-position, position-from_none}
-use Rattle.intmap_table.proofs.Tables.TableLemmas.{Grid-same, IsSlot, slot_of-here, value_of-here, walk_of-joined, joined-set, within, IsTable-set, Belong-here, Belong-push}
+use Rattle.intmap_table.proofs.PositionLemmas.{swap_out-none, swap_remove-position, position-within, position_or_len-none, first_value-position, position-from_none}
+use Rattle.intmap_table.proofs.Tables.TableLemmas.{Grid-same, IsSlot, slot_of-here, value_of-here, walk_of-joined, joined-set, row-set, length-row_set, within, IsTable-set, Belong-here, Belong-push}
+use Rattle.intmap_table.proofs.Tables.SwapOutLemmas.{any}
+use Rattle.intmap_table.proofs.Tables.RowLemmas.{IsRowSet-write_row}
 use Rattle.intmap_table.proofs.SlotNumberLemmas.{slot_number-below}
 use Rattle.intmap_table.proofs.WalkLemmas.{same_key-slot, slot_of-walk_of, value_of-slot_of}
 
@@ -38,11 +39,6 @@ position-push test xs x none passes =
     grind (arith, nat_tests, all, at, longer, passes)
 
 module _ {K X : Type 0} where
-  length-write_at : (ps : List (K × X)) (i : ℕ) (v : X) → length (write_at ps i v) ≡ length ps
-  length-write_at [] i v = refl
-  length-write_at (p ∷ ps) zero v = refl
-  length-write_at (p ∷ ps) (suc i) v = ap suc (length-write_at ps i v)
-
   -- what holds of all keys holds of them after a write
   All-write_at : (P : K → Type 0) (ps : List (K × X)) (i : ℕ) (v : X) → All (λ p. P p.0) ps → All (λ p. P p.0) (write_at ps i v)
   All-write_at P [] i v all = all
@@ -98,74 +94,92 @@ module _ {K V : Type 0} (number : K → ℕ) where
   is_ok-located W C k (Err slot) found missing = rw missing refl
   is_ok-located W C k (Ok at) found missing = sym (subst (IsPresent number W) found.0 (IsPresent-at W C at found.1))
 
--- a pair of a table was located, and h is its slot
-module _ {K X : Type 0} (number : K → ℕ) (S : List (Held K X)) (h : Held K X) (l : Location K) (table : IsTable number S) (at : IsAt number (joined (rows S)) (length S) l) (here : h ≡ get_or S l.slot h) where
-  pub slot-at : IsSlot number S h l.slot l.key
-  slot-at = record { table = table; slot = at.slot; here = here }
+-- a pair of a table was located
+module _ {K X : Type 0} (number : K → ℕ) (S : List (Held K X)) (l : Location K) (table : IsTable number S) (at : IsAt number (joined (rows S)) (length S) l) where
+  pub slot-at : IsSlot number S l.slot l.key
+  slot-at = record { table = table; slot = at.slot }
 
-  pub place-at : position (λ p. same_key number l.key p.0) h.pairs ≡ Some l.place
-  place-at = ap (position (λ p. same_key number l.key p.0)) (sym (slot_of-here number S h l.slot l.key slot-at)) ∙ at.place
+  pub place-at : position (λ p. same_key number l.key p.0) (row_of S l.slot) ≡ Some l.place
+  place-at = ap (position (λ p. same_key number l.key p.0)) (sym (slot_of-here number S l.slot l.key slot-at)) ∙ at.place
 
-  pub place-within : l.place < length h.pairs
-  place-within = (position-within (λ (p : K × X). same_key number l.key p.0) h.pairs l.place place-at).1
+  pub place-within : l.place < length (row_of S l.slot)
+  place-within = (position-within (λ (p : K × X). same_key number l.key p.0) (row_of S l.slot) l.place place-at).1
 
   -- the value there is that of the key
-  pub value_of-at : (v : X) → ((p : K × X) → v ≡ (get_or h.pairs l.place p).1) → value_of number (joined (rows S)) l.key ≡ Some v
+  pub value_of-at : (v : X) → ((p : K × X) → v ≡ (get_or (row_of S l.slot) l.place p).1) → value_of number (joined (rows S)) l.key ≡ Some v
   value_of-at v is =
-      value_of-here number S h l.slot l.key slot-at ∙ first_value-position (same_key number l.key) h.pairs l.place (l.key, v) place-at ∙ ap (λ v. Some v) (sym (is (l.key, v)))
+      value_of-here number S l.slot l.key slot-at ∙ first_value-position (same_key number l.key) (row_of S l.slot) l.place (l.key, v) place-at ∙ ap (λ v. Some v) (sym (is (l.key, v)))
 
-  module _ (v : X) (s : Held K X) (is : s.pairs ≡ write_at h.pairs l.place v) where
+  -- the pair there
+  module _ (p : K × X) (is : p ≡ get_or (row_of S l.slot) l.place p) where
+    -- has the value of the key
+    pub value_of-pair : value_of number (joined (rows S)) l.key ≡ Some p.1
+    value_of-pair =
+        value_of-here number S l.slot l.key slot-at ∙ first_value-position (same_key number l.key) (row_of S l.slot) l.place p place-at
+        ∙ ap (λ (q : K × X). Some q.1) (sym is)
+
+    -- without it the row is that without the key
+    pub swap_out-at : swap_remove (row_of S l.slot) l.place p ≡ swap_out (λ q. same_key number l.key q.0) any (row_of S l.slot)
+    swap_out-at = swap_remove-position (λ q. same_key number l.key q.0) (row_of S l.slot) l.place p place-at is
+
+  module _ (v : X) where
+    is-written : IsRowSet S l.slot (write_at (row_of S l.slot) l.place v) (write_row S l.slot l.place v)
+    is-written = IsRowSet-write_row S l.slot l.place v (within number S l.slot l.key slot-at)
+
     -- with the value written, the walk has it as that of the key
-    pub walk-written : HasDistinctKeys number (joined (rows S)) → joined (rows (set S l.slot s)) ≡ write_value number (joined (rows S)) l.key v
+    pub walk-written : HasDistinctKeys number (joined (rows S)) → joined (rows (write_row S l.slot l.place v)) ≡ write_value number (joined (rows S)) l.key v
     walk-written distinct =
-        let W : List (K × X) = joined (rows S) in
-        let in_slot = slot_of-here number S h l.slot l.key slot-at in
+        let W : List (K × X) = joined (rows S) in let s = is-written.slot in
+        let in_slot = slot_of-here number S l.slot l.key slot-at in
         let fewer = count_by-filter-le (λ p. slot_number number p.0 (length S) == l.slot) (λ p. same_key number l.key p.0) W in
         let one = distinct l.key in
-        let once : count_by (λ p. same_key number l.key p.0) h.pairs ≤ 1 = subst (λ ps. count_by (λ p. same_key number l.key p.0) ps ≤ 1) in_slot (omega (arith, fewer, one)) in
+        let once : count_by (λ p. same_key number l.key p.0) (row_of S l.slot) ≤ 1 = subst (λ ps. count_by (λ p. same_key number l.key p.0) ps ≤ 1) in_slot (omega (arith, fewer, one)) in
         let row : slot_of number (write_value number W l.key v) (length S) l.slot ≡ s.pairs =
-        slot_of-write_value number W (length S) l.key v l.slot ∙ ap (λ ps. write_value number ps l.key v) in_slot ∙ sym (write_at-position number h.pairs l.key v l.place place-at once) ∙ sym is in
-        joined-set number S table l.slot s (write_value number W l.key v) (within number S h l.slot l.key slot-at) row (λ j apart. slot_of-write_value-other number W (length S) l.key v j (λ q. apart (at.slot ∙ q)))
+        slot_of-write_value number W (length S) l.key v l.slot ∙ ap (λ ps. write_value number ps l.key v) in_slot ∙ sym (write_at-position number (row_of S l.slot) l.key v l.place place-at once) ∙ sym is-written.pairs in
+        ap (λ T. joined (rows T)) is-written.others
+        ∙ joined-set number S table l.slot s (write_value number W l.key v) (within number S l.slot l.key slot-at) row (λ j apart. slot_of-write_value-other number W (length S) l.key v j (λ q. apart (at.slot ∙ q)))
         ∙ walk_of-write_value number W (length S) l.key v ∙ ap (λ L. write_value number L l.key v) (walk_of-joined number S table)
 
     pub Grid-written : HasDistinctKeys number (joined (rows S))
-        → ◌≡◌ {A = Grid K X} (record { walk = joined (rows (set S l.slot s)); capacity = length (set S l.slot s) }) (record { walk = write_value number (joined (rows S)) l.key v; capacity = length S })
-    Grid-written distinct = Grid-same _ _ (walk-written distinct) (length-set S l.slot s)
+        → ◌≡◌ {A = Grid K X} (record { walk = joined (rows (write_row S l.slot l.place v)); capacity = length (write_row S l.slot l.place v) }) (record { walk = write_value number (joined (rows S)) l.key v; capacity = length S })
+    Grid-written distinct = Grid-same _ _ (walk-written distinct) (length-row_set S l.slot _ (write_row S l.slot l.place v) is-written)
 
     -- and the slots are a table as before
-    pub IsMarkedTable-written : (bits : List Bool) → AreMarked (rows S) bits → IsMarkedTable number (set S l.slot s) bits
-    IsMarkedTable-written bits marks = record {
-      table = IsTable-set number S h l.slot l.key slot-at s
-          (subst (λ ps. All (λ p. slot_number number p.0 (length S) ≡ l.slot) ps) (sym is)
-          (All-write_at (λ k. slot_number number k (length S) ≡ l.slot) h.pairs l.place v (Belong-here number S h l.slot l.key slot-at)));
-      marks = marks-kept number S h l.slot l.key slot-at bits marks s (ap (nat_lt 0) (sym (length-write_at h.pairs l.place v) ∙ ap length (sym is)));
-    }
+    pub IsTable-written : IsTable number (write_row S l.slot l.place v)
+    IsTable-written =
+        IsTable-set number S l.slot l.key slot-at (write_at (row_of S l.slot) l.place v) (write_row S l.slot l.place v)
+        (All-write_at (λ k. slot_number number k (length S) ≡ l.slot) (row_of S l.slot) l.place v (Belong-here number S l.slot l.key slot-at)) is-written
 
--- h is the slot of k, which is absent
-module _ {K X : Type 0} (number : K → ℕ) (S : List (Held K X)) (h : Held K X) (i : ℕ) (k : K) (at : IsSlot number S h i k) (missing : value_of number (joined (rows S)) k ≡ None) where
-  -- a pair of k, added behind the pairs of the slot, is at the place after theirs
-  pub IsAt-added : (s : Held K X) (v : X) → s.pairs ≡ h.pairs ++ (k, v) ∷ [] → IsAt number (joined (rows (set S i s))) (length (set S i s)) (record { key = k; slot = i; place = length h.pairs })
-  IsAt-added s v left =
-      let own : same_key number k k ≡ true = eq-eqb (number k) (number k) refl in
-      let none = position-from_none (same_key number k) h.pairs (sym (value_of-here number S h i k at) ∙ missing) in
-      let table = IsTable-set number S h i k at s (rw left (Belong-push number S h i k at h.pairs v (Belong-here number S h i k at))) in
-      let slot = at.slot ∙ ap (slot_number number k) (sym (length-set S i s)) in
-      let there = slot_of-here number (set S i s) s i k (record { table = table; slot = slot; here = sym (get_or-set_same S i s s (within number S h i k at)) }) in
-      record {
-        slot = slot;
-        place = ap (position (λ p. same_key number k p.0)) (there ∙ left) ∙ position-push (λ p. same_key number k p.0) h.pairs (k, v) none own;
-      }
+-- k, which is absent, belongs to slot i
+module _ {K X : Type 0} (number : K → ℕ) (S : List (Held K X)) (i : ℕ) (k : K) (at : IsSlot number S i k) (missing : value_of number (joined (rows S)) k ≡ None) where
+  module _ (T : List (Held K X)) (v : X) (is : IsRowSet S i (row_of S i ++ (k, v) ∷ []) T) where
+    -- with a pair of k behind the pairs of the slot, the slots are a table
+    pub IsTable-added : IsTable number T
+    IsTable-added = IsTable-set number S i k at (row_of S i ++ (k, v) ∷ []) T (Belong-push number S i k at (row_of S i) v (Belong-here number S i k at)) is
 
--- the pair of k is last in its slot, which is h
-module _ {K X : Type 0} (number : K → ℕ) (S : List (Held K X)) (h : Held K X) (i : ℕ) (k : K) (at : IsSlot number S h i k) (last : IsLast number (joined (rows S)) (length S) k) where
-  slot-last : slot_of number (joined (rows S)) (length S) (slot_number number k (length S)) ≡ h.pairs
-  slot-last = ap (slot_of number (joined (rows S)) (length S)) (sym at.slot) ∙ slot_of-here number S h i k at
+    -- and it is at the place after theirs
+    pub IsAt-added : IsAt number (joined (rows T)) (length T) (record { key = k; slot = i; place = length (row_of S i) })
+    IsAt-added =
+        let own : same_key number k k ≡ true = eq-eqb (number k) (number k) refl in
+        let none = position-from_none (same_key number k) (row_of S i) (sym (value_of-here number S i k at) ∙ missing) in
+        let slot = at.slot ∙ ap (slot_number number k) (sym (length-row_set S i _ T is)) in
+        let there = slot_of-here number T i k (record { table = IsTable-added; slot = slot }) in
+        let row = ap (λ U. row_of U i) is.others ∙ row-set S i is.slot (within number S i k at) ∙ is.pairs in
+        record {
+          slot = slot;
+          place = ap (position (λ p. same_key number k p.0)) (there ∙ row) ∙ position-push (λ p. same_key number k p.0) (row_of S i) (k, v) none own;
+        }
 
-  pub slot-some : 0 < length h.pairs
+-- the pair of k is last in its slot
+module _ {K X : Type 0} (number : K → ℕ) (S : List (Held K X)) (i : ℕ) (k : K) (at : IsSlot number S i k) (last : IsLast number (joined (rows S)) (length S) k) where
+  slot-last : slot_of number (joined (rows S)) (length S) (slot_number number k (length S)) ≡ row_of S i
+  slot-last = ap (slot_of number (joined (rows S)) (length S)) (sym at.slot) ∙ slot_of-here number S i k at
+
+  pub slot-some : 0 < length (row_of S i)
   slot-some = let e = ap length slot-last in let n = last.last in omega (arith, e, n)
 
   -- its place is the last
-  pub IsAt-last : (place : ℕ) → place + 1 ≡ length h.pairs → IsAt number (joined (rows S)) (length S) (record { key = k; slot = i; place = place })
+  pub IsAt-last : (place : ℕ) → place + 1 ≡ length (row_of S i) → IsAt number (joined (rows S)) (length S) (record { key = k; slot = i; place = place })
   IsAt-last place is =
       let e = ap length slot-last in
       let n = last.last in

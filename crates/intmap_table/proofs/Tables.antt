@@ -13,6 +13,7 @@ pub mod MemoryLemmas
 pub mod MoveLemmas
 pub mod GrownLemmas
 pub mod RoomLemmas
+pub mod RowLemmas
 pub mod PutLemmas
 pub mod MovingLemmas
 pub mod NextMarkLemmas

@@ -1,13 +1,14 @@
 -- What a stored value, a slot and a table end as, once a value of theirs was lent and written.
-use Rattle.std.specs.Prelude.{ℕ}
+use Rattle.std.specs.Prelude.{ℕ, List}
 use Rattle.std.specs.Borrow.{Lends, Fml, RattleType, MutBor}
 use Rattle.std.specs.declared.alloc.Allocator as allocator
 use Rattle.std.specs.declared.cmp.PartialEq as eq
 use Rattle.intmap_table.specs.declared.key.IntKey as key
 use Rattle.intmap_table.specs.Bindings.{write_value}
-use Rattle.intmap_table.specs.Tables.Slots.{Held, Grid, write_at}
+use Rattle.intmap_table.specs.Tables.Slots.{Held, Grid, write_at, write_row}
 use Rattle.intmap_table.specs.contracts.kept.Kept.{the_row as kept_row}
 use Rattle.intmap_table.specs.contracts.slot.Slot.{the_row as slot_row}
+use Rattle.intmap_table.specs.contracts.table.slots.Slots.{the_row as slots_row}
 use Rattle.intmap_table.specs.contracts.table.Table.{the_row as table_row}
 
 -- once the loan named r ends, the stored value is the last one written through it
@@ -18,6 +19,11 @@ kept_lends V k r = Lends (kept_row V) V k r (λ v. v)
 abbrev pub slot_lends : (K X A : RattleType) → key.Ghosts K.Denot → eq.Ghosts K.Denot → allocator.Ghosts A.Denot
     → MutBor (Held K.Denot X.Denot) → ℕ → MutBor X.Denot → Fml
 slot_lends K X A g e a s i r = Lends (slot_row K X A g e a) X s r (λ v. record s.now { pairs = write_at s.now.pairs i v })
+
+-- once it ends, the slots behind s have that value at place j of slot i
+abbrev pub slots_lends : (K X A : RattleType) → key.Ghosts K.Denot → eq.Ghosts K.Denot → allocator.Ghosts A.Denot
+    → MutBor (List (Held K.Denot X.Denot)) → ℕ → ℕ → MutBor X.Denot → Fml
+slots_lends K X A g e a s i j r = Lends (slots_row K X A g e a) X s r (λ v. write_row s.now i j v)
 
 -- once it ends, the table behind t has that value at the key k
 abbrev pub table_lends : (K X A : RattleType) → (g : key.Ghosts K.Denot) → eq.Ghosts K.Denot → allocator.Ghosts A.Denot

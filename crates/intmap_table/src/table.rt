@@ -2,14 +2,14 @@
 //!
 //! The calls here look at the slot of one key, or at the table as a whole. `locate` has the calls
 //! on a pair whose place is known, `walk` and `closures` those that go through the pairs, and `grow`
-//! and `place` the growth.
+//! the growth. `slots` has the slots themselves.
 
 pub(crate) mod asked;
 mod closures;
 mod grow;
 pub mod locate;
 pub mod owned;
-mod place;
+mod slots;
 pub(crate) mod stored;
 pub mod walk;
 
@@ -24,13 +24,11 @@ ghost use Rattle.intmap_table.specs.Figures.{load_of};
 ghost use Rattle.std.specs.List.{AllZip};
 ghost use Rattle.intmap_table.specs.Cloning.{IsPairClone};
 
-use crate::bits::Bits;
 use crate::key::IntKey;
-use crate::slot::Slot;
 use crate::steps::Steps;
 use crate::table::stored::Stored;
-use grow::{add_slots, reserve_slots};
 use locate::Location;
+use slots::Slots;
 use std::alloc::{AllocError, Allocator};
 use std::marker::Model;
 use walk::Pairs;
@@ -62,64 +60,25 @@ fn index_of<K: IntKey>(key: &K, slots: usize) -> usize
     masked_index_of(key, slots - 1)
 }
 
-/// Clears the bit of a slot if it holds no pair.
-#[inline(always)]
-fn unmark_if_empty<K: IntKey, X, A: Allocator>(
-    bits: &mut Bits<A>,
-    slot: &Slot<K, X, A>,
-    index: usize,
-)
-    requires { index < length bits.old }
-    ensures { bits.new
-        ≡ cond (nat_lt 0 (length slot.now.pairs)) bits.old (slice_set bits.old index false) }
-{
-    if !slot.is_filled() {
-        bits.clear(index);
-    }
-}
-
-/// Drops the pairs of all slots. The bits mark the slots that hold a pair.
-fn clear_slots<K: IntKey, X: Drop, A: Allocator>(bits: &Bits<A>, slots: &mut Vec<Slot<K, X, A>, A>)
-    requires { AreMarked (rows slots.old.items) bits.now }
-    ensures len { length slots.new.items ≡ length slots.old.items }
-    ensures empty { (i : ℕ) → slice_index_or (rows slots.new.items) i [] ≡ [] }
-{
-    for index in bits.iter() {
-        slots[index].clear();
-    }
-}
-
-/// What is known of the slots without looking at them.
-#[derive(Drop)]
-struct Directory<A: Allocator> {
-    /// Their number less one: a mask with exactly the bits that the number of a slot may have.
-    mask: usize,
-    /// Which of them hold a pair.
-    bits: Bits<A>,
-}
-
-/// Slots, whose number is a power of two. Each pair lies in the slot of its key, and one bit for
-/// each slot says whether it holds a pair.
+/// Slots, whose number is a power of two. Each pair lies in the slot of its key.
 #[derive(Drop)]
 pub struct Table<K: IntKey, X, A: Allocator> {
-    directory: Directory<A>,
-    slots: Vec<Slot<K, X, A>, A>,
+    slots: Slots<K, X, A>,
 }
 
-// Invariant: each pair is in the slot of its key, the bits mark the slots that hold pairs, and the
-// mask is one less than the number of slots.
+// Invariant: each pair is in the slot of its key.
 impl<K: IntKey, X, A: Allocator> Model for Table<K, X, A> {
     ghost use Rattle.std.specs.Prelude.{length};
-    ghost use Rattle.intmap_table.specs.Tables.Slots.{Grid, rows, joined, IsMaskedTable};
+    ghost use Rattle.intmap_table.specs.Tables.Slots.{Grid, rows, joined, IsTable};
 
     ghost Value = { Grid K X };
 
     ghost view = { λ t. record {
-      walk = joined (rows t.slots.items);
-      capacity = length t.slots.items;
+      walk = joined (rows t.slots);
+      capacity = length t.slots;
     } };
 
-    ghost invariant = { λ t. IsMaskedTable K.number_of t.slots.items t.directory.bits t.directory.mask };
+    ghost invariant = { λ t. IsTable K.number_of t.slots };
 }
 
 impl<K: IntKey, X, A: Allocator> Table<K, X, A> {
@@ -136,7 +95,7 @@ impl<K: IntKey, X, A: Allocator> Table<K, X, A> {
     pub fn load(&self) -> usize
         ensures { result ≡ load_of K.number_of self.now.walk self.now.capacity }
     {
-        self.directory.bits.count()
+        self.slots.count()
     }
 
     /// The number of pairs that a slot holds.
@@ -145,7 +104,7 @@ impl<K: IntKey, X, A: Allocator> Table<K, X, A> {
         requires fits { length self.now.walk < 2 ^ 64 }
         ensures { result ≡ length (slot_of K.number_of self.now.walk self.now.capacity slot) }
     {
-        self.slots[slot].len()
+        self.slots.row_len(slot)
     }
 
     /// The pairs, slot after slot.
@@ -155,8 +114,7 @@ impl<K: IntKey, X, A: Allocator> Table<K, X, A> {
         Pairs {
             first: None,
             rest: &[],
-            filled: self.directory.bits.iter(),
-            slots: &self.slots,
+            filled: self.slots.filled(),
         }
     }
 
@@ -166,7 +124,7 @@ impl<K: IntKey, X, A: Allocator> Table<K, X, A> {
         ensures within { result < self.now.capacity }
         ensures key { K.is_valid key.now }
     {
-        masked_index_of(key, self.directory.mask)
+        masked_index_of(key, self.slots.mask())
     }
 }
 
@@ -176,8 +134,7 @@ impl<K: IntKey, X: Drop, A: Allocator> Table<K, X, A> {
         ensures walk { self.new.walk ≡ [] }
         ensures capacity { self.new.capacity ≡ self.old.capacity }
     {
-        clear_slots(&self.directory.bits, &mut self.slots);
-        self.directory.bits.clear_all();
+        self.slots.clear();
     }
 
     /// Puts the pair of an absent key last in its slot, and returns where it is. If an allocation
@@ -197,27 +154,15 @@ impl<K: IntKey, X: Drop, A: Allocator> Table<K, X, A> {
             (0 < class_size K.number_of self.old.walk self.old.capacity key) }
         ensures known { K.is_valid key }
     {
-        let stored = Stored::new(key);
-        let row = &mut self.slots[slot];
-        if self.directory.bits.set(slot) {
-            match row.push(stored, value) {
-                Ok(place) => return Ok(Location { key, slot, place }),
-                Err(value) => return Err(value),
-            }
-        }
-        row.put_first((stored, value));
-        Ok(Location {
-            key,
-            slot,
-            place: 0,
-        })
+        let place = self.slots.push(slot, Stored::new(key), value)?;
+        Ok(Location { key, slot, place })
     }
 }
 
 impl<K: IntKey, X: Drop, A: Allocator + Copy> Table<K, X, A> {
     /// The allocator of the slots.
     pub fn allocator(&self) -> A {
-        *self.slots.allocator()
+        self.slots.allocator()
     }
 
     /// A table of `capacity` empty slots. It allocates the slots, then their bits, and writes nothing
@@ -227,14 +172,8 @@ impl<K: IntKey, X: Drop, A: Allocator + Copy> Table<K, X, A> {
         ensures walk { IfOk result (λ table. table.walk ≡ []) }
         ensures capacity { IfOk result (λ table. table.capacity ≡ capacity) }
     {
-        let mut slots = Vec::new(alloc);
-        let bits = reserve_slots(&mut slots, capacity)?;
-        add_slots(&mut slots, capacity);
-        let directory = Directory {
-            mask: capacity - 1,
-            bits,
-        };
-        Ok(Table { directory, slots })
+        let slots = Slots::new(alloc, capacity)?;
+        Ok(Table { slots })
     }
 }
 
@@ -248,15 +187,7 @@ impl<K: IntKey, X: Clone, A: Allocator + Copy> Table<K, X, A> {
         ensures own { IfOk result
             (λ made. walk_of K.number_of made.walk made.capacity ≡ made.walk) }
     {
-        let mut slots = Vec::with_capacity(*self.slots.allocator(), self.slots.len())?;
-        let bits = self.directory.bits.clone()?;
-        for slot in &self.slots {
-            slots.push_reserved(slot.clone()?);
-        }
-        let directory = Directory {
-            mask: self.directory.mask,
-            bits,
-        };
-        Ok(Table { directory, slots })
+        let slots = self.slots.clone()?;
+        Ok(Table { slots })
     }
 }

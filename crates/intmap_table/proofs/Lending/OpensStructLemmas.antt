@@ -1,4 +1,4 @@
--- What is lent at holes of a struct of two fields, and of a type with a view. Assumes `Logic`.
+-- What is lent at holes of a struct of two fields or of one, and of a type with a view. Assumes `Logic`.
 use mathlib.Core.Path.{◌≡◌, refl, sym, ap, ◌∙◌}
 use Prim.Native.Nat.{ℕ, zero, ◌+◌}
 use mathlib.Core.List.{List, [], ◌∷◌, ◌++◌}
@@ -12,7 +12,7 @@ use base.Fml.{Lft, Fml, ftrue, fsep, fbor, fleft}
 use contract.Fact.{fact_use}
 use prog.Memory.{size, align, up}
 use types.Logic.{Logic, sem, lfts}
-use types.Kit.{Item, ‵, raw, ◌⊛◌, some, pick, show, mean, later, ◌$◌, ◌∵◌, !, qed, by, move, keep, use0, use1, use2, use3, split, split3, join, fsplit3, fjoin, rewrite, updating, await, done}
+use types.Kit.{Item, ‵, raw, ◌⊛◌, some, pick, show, mean, later, ◌$◌, ◌∵◌, !, qed, by, move, keep, use0, use1, use2, use3, split, split3, join, fsplit, fsplit3, fjoin, rewrite, updating, await, done}
 use types.Kit.{now as at_once}
 use types.Tokens.{bor_fracture}
 use denote.RattleType.{RattleType}
@@ -196,6 +196,109 @@ module _ {M : Type 1} {𝓤 : Ura M} (𝓛 : Logic 𝓤) (V : RattleType) (l : L
       out = λ x b o. via 𝓤 _ (apart x b o) (two_out (to x) b o);
       back = λ x i b o ws. via 𝓤 _ (two_back (to x) i b o ws) (whole (put (to x) ws) b o);
       lends = two_shares;
+      same = same;
+    }
+
+-- one field
+module _ {M : Type 1} {𝓤 : Ura M} (𝓛 : Logic 𝓤) (V : RattleType) (l : Lft) (m₁ : Member) (R₁' : RattleType) (ν : Sym) (O₁ : Opens 𝓛 V (row_of m₁) R₁' l) (ones : Lones (rows_of (m₁ ∷ []))) where
+  open 𝓛 use {H, A}
+
+  abbrev pub the_one : List Member
+  the_one = m₁ ∷ []
+
+  abbrev pub S₁ : RattleType
+  S₁ = Struct (shape_of ν the_one)
+
+  abbrev pub e : ℕ
+  e = up (align m₁.ty) zero
+
+  abbrev pub Left₁ : ℕ → ℕ → Fml
+  Left₁ b o = fleft full_share (ty_struct [] (raw_tys the_one)) (raw_tys the_one) b o
+
+  abbrev pub left_seen₁ : ℕ → ℕ → Lft → Fml
+  left_seen₁ b o = one (λ q. fleft q (ty_struct [] (raw_tys the_one)) (raw_tys the_one) b o)
+
+  abbrev pub One : Type 0
+  One = S₁.Denot
+
+  abbrev pub frame₁ : (x : One) → O₁.Info x.0 → ℕ → ℕ → Fml
+  frame₁ x i b o = fsep (O₁.frame x.0 i b (o + e)) (Left₁ b o)
+
+  abbrev pub Lie₁ : List (Ptr × V.Denot) → Fml
+  Lie₁ cs = each_at V (places_of cs) (contents_of cs)
+
+  abbrev pub Open₁ : (x : One) (b o : ℕ) → O₁.Info x.0 → Item 𝓤
+  Open₁ x b o i = ‵ (Lie₁ (O₁.cells x.0 i b (o + e))) ⊛ ‵ (frame₁ x i b o) ⊛ raw (O₁.Back x.0 i b (o + e))
+
+  -- the field is taken apart
+  pub one_out : (x : One) (b o : ℕ) → ent 𝓤 (sem 𝓛 (part_at S₁ full_share x b o)) (mean 𝓛 (some (Open₁ x b o)))
+  one_out x b o =
+      qed 𝓛 (‵ (part_at S₁ full_share x b o) ∷ []) ∵ use1 𝓛 (‵ (parts_at full_share the_one zero x b o) ⊛ ‵ (Left₁ b o)) (Struct-left 𝓛 full_share ν the_one ones x b o) $ split ! $ fsplit ! $
+      use1 𝓛 (some (λ (i : O₁.Info x.0). ‵ (Lie₁ (O₁.cells x.0 i b (o + e))) ⊛ ‵ (O₁.frame x.0 i b (o + e)) ⊛ raw (O₁.Back x.0 i b (o + e)))) (O₁.out x.0 b (o + e)) $ pick ! (λ i. split3 ! $
+      -- [cells, frame and way back; nothing; what is left]
+      move ! (1 ∷ 4 ∷ []) $ fjoin ! $ show ! (λ (k : O₁.Info x.0). mean 𝓛 (Open₁ x b o k)) i $ move ! (1 ∷ 0 ∷ 2 ∷ []) $ keep ! (0 ∷ 1 ∷ 2 ∷ []) $ done !)
+
+  -- and put together
+  pub one_back : (x : One) (i : O₁.Info x.0) (b o : ℕ) (ws : List V.Denot)
+      → ent 𝓤 (sep 𝓤 (sem 𝓛 (each_at V (places_of (O₁.cells x.0 i b (o + e))) ws)) (sep 𝓤 (sem 𝓛 (frame₁ x i b o)) (O₁.Back x.0 i b (o + e)))) (sem 𝓛 (part_at S₁ full_share (O₁.put x.0 ws, tt) b o))
+  one_back x i b o ws =
+      qed 𝓛 (‵ (each_at V (places_of (O₁.cells x.0 i b (o + e))) ws) ∷ ‵ (frame₁ x i b o) ∷ raw (O₁.Back x.0 i b (o + e)) ∷ []) ∵ move ! (1 ∷ []) $ fsplit ! $
+      move ! (2 ∷ 0 ∷ 3 ∷ []) $ use3 𝓛 (‵ (part_at (row_of m₁) full_share (O₁.put x.0 ws) b (o + e))) (O₁.back x.0 i b (o + e) ws) $
+      nothing ! $ move ! (1 ∷ 0 ∷ []) $ fjoin ! $ by ! (left_Struct 𝓛 full_share ν the_one (O₁.put x.0 ws, tt) b o)
+
+  -- the bytes beside the field are shared
+  pub Lends-left₁ : (b o : ℕ) → Lends 𝓛 (Left₁ b o) (left_seen₁ b o) l
+  Lends-left₁ b o κ ts inc sp =
+      qed 𝓛 (‵ (fbor κ (Left₁ b o)) ∷ raw (lfts 𝓛 ts) ∷ []) {P = H.⇛ (sep 𝓤 (sem 𝓛 (left_seen₁ b o κ)) (lfts 𝓛 ts))} (
+      updating ! $ bor_fracture ! tt (λ q. fleft q (ty_struct [] (raw_tys the_one)) (raw_tys the_one) b o) full_share $ at_once ! $ done !)
+
+  -- what a `&` to the struct of holes holds, if its field is laid out as this one
+  abbrev pub seen₁ : (h : R₁'.Denot) (b o : ℕ) → Lft → Fml
+  seen₁ h b o = beside (beside (shared_of R₁' h b (o + e)) (λ κ. ftrue)) (left_seen₁ b o)
+
+  -- what is left of it is lent
+  pub one_lends : (x : One) (i : O₁.Info x.0) (b o : ℕ) → Lends 𝓛 (frame₁ x i b o) (seen₁ (O₁.holed x.0 i b (o + e)) b o) l
+  one_lends x i b o κ ts inc sp =
+      let s = shared_of R₁' (O₁.holed x.0 i b (o + e)) b (o + e) in
+      qed 𝓛 (‵ (fbor κ (frame₁ x i b o)) ∷ raw (lfts 𝓛 ts) ∷ []) {P = H.⇛ (sep 𝓤 (sem 𝓛 (seen₁ (O₁.holed x.0 i b (o + e)) b o κ)) (lfts 𝓛 ts))} (
+      updating ! $ use2 𝓛 (later (‵ (beside s (left_seen₁ b o) κ) ⊛ raw (lfts 𝓛 ts)))
+      (Lends-both 𝓛 (O₁.frame x.0 i b (o + e)) (Left₁ b o) s (left_seen₁ b o) l (O₁.lends x.0 i b (o + e)) (Lends-left₁ b o) κ ts inc sp) $ await ! tt $ split ! $ fsplit ! $
+      nothing ! $ move ! (1 ∷ 0 ∷ []) $ fjoin ! $ fjoin ! $ at_once ! $ done !)
+
+  -- a declared type that is this field
+  module _ (R R' : RattleType) (to : R.Denot → One) (from : One → R.Denot) (back_is : (x : R.Denot) → from (to x) ≡ x)
+      (apart : (x : R.Denot) (b o : ℕ) → ent 𝓤 (sem 𝓛 (part_at R full_share x b o)) (sem 𝓛 (part_at S₁ full_share (to x) b o)))
+      (whole : (y : One) (b o : ℕ) → ent 𝓤 (sem 𝓛 (part_at S₁ full_share y b o)) (sem 𝓛 (part_at R full_share (from y) b o)))
+      (holes : R₁'.Denot → R'.Denot) (of : R'.Denot → R₁'.Denot) (is : (h : R₁'.Denot) → of (holes h) ≡ h)
+      (shown : (h : R₁'.Denot) (b o : ℕ) (κ : Lft) → ent 𝓤 (sem 𝓛 (seen₁ h b o κ)) (sem 𝓛 (shared_of R' (holes h) b o κ)))
+      (same : size (lone R'.mir) ≡ size (lone R.mir)) where
+    abbrev pub one_holed : (x : R.Denot) → O₁.Info (to x).0 → ℕ → ℕ → R'.Denot
+    one_holed x i b o = holes (O₁.holed (to x).0 i b (o + e))
+
+    pub one_shares : (x : R.Denot) (i : O₁.Info (to x).0) (b o : ℕ) → Lends 𝓛 (frame₁ (to x) i b o) (shared_of R' (one_holed x i b o) b o) l
+    one_shares x i b o κ ts inc sp =
+        let h = O₁.holed (to x).0 i b (o + e) in
+        qed 𝓛 (‵ (fbor κ (frame₁ (to x) i b o)) ∷ raw (lfts 𝓛 ts) ∷ []) {P = H.⇛ (sep 𝓤 (sem 𝓛 (shared_of R' (one_holed x i b o) b o κ)) (lfts 𝓛 ts))} (
+        updating ! $ use2 𝓛 (later (‵ (seen₁ h b o κ) ⊛ raw (lfts 𝓛 ts))) (one_lends (to x) i b o κ ts inc sp) $ await ! tt $ split ! $
+        use1 𝓛 (‵ (shared_of R' (one_holed x i b o) b o κ)) (shown h b o κ) $ at_once ! $ done !)
+
+    abbrev pub one_opens : Opens 𝓛 V R R' l
+    one_opens = record {
+      Info = λ x. O₁.Info (to x).0;
+      holed = one_holed;
+      cells = λ x i b o. O₁.cells (to x).0 i b (o + e);
+      count = λ x. O₁.count (to x).0;
+      counts = λ x i b o. O₁.counts (to x).0 i b (o + e);
+      put = λ x ws. from (O₁.put (to x).0 ws, tt);
+      fill = λ h. from (O₁.fill (of h), tt);
+      filled = λ x i b o. (λ j. from ((ap O₁.fill (is (O₁.holed (to x).0 i b (o + e))) ∙ O₁.filled (to x).0 i b (o + e)) j, tt)) ∙ back_is x;
+      cells_in = λ h. O₁.cells_in (of h);
+      celled = λ x i b o. O₁.celled (to x).0 i b (o + e) ∙ ap O₁.cells_in (sym (is (O₁.holed (to x).0 i b (o + e))));
+      frame = λ x i b o. frame₁ (to x) i b o;
+      Back = λ x i b o. O₁.Back (to x).0 i b (o + e);
+      out = λ x b o. via 𝓤 _ (apart x b o) (one_out (to x) b o);
+      back = λ x i b o ws. via 𝓤 _ (one_back (to x) i b o ws) (whole (O₁.put (to x).0 ws, tt) b o);
+      lends = one_shares;
       same = same;
     }
 

@@ -1,44 +1,16 @@
--- A slot whose room changes alone, and a pair that is put into a table and taken back.
-use Rattle.std.proofs.Common.{◌≡◌, ℕ, ◌+◌, ◌<◌, List, [], ◌∷◌, ◌++◌, Bool, true, false, cond, length, get_or, set, Option, Some, None, Result, Ok, Err, OnOk, OnErr, refl, sym, ap, ◌∙◌, arith, length-set}
+-- A pair that is put into a table and taken back.
+use Rattle.std.proofs.Common.{◌≡◌, ℕ, ◌+◌, List, [], ◌∷◌, ◌++◌, true, false, cond, length, Option, Some, None, Result, Ok, Err, OnOk, OnErr, refl, sym, ap, ◌∙◌, arith}
 use Rattle.std.specs.Prelude.{is_some, is_err}
-use Rattle.std.specs.Map.{keys_of}
-use Rattle.std.proofs.lemmas.List.{map-set, set-get_or, get_or-map}
 use Rattle.std.proofs.lemmas.Bool.{eq-eqb}
 use Rattle.intmap_table.specs.Classes.{IsCapacity, slot_number, same_key}
 use Rattle.intmap_table.specs.Bindings.{swap_out, value_of, take_key, put_pair}
 use Rattle.intmap_table.specs.Walk.{slot_of, walk_of}
-use Rattle.intmap_table.specs.Tables.Slots.{Held, Grid, rows, joined, IsMaskedTable}
 use Rattle.intmap_table.proofs.BindingLemmas.{first_value-behind_none}
 use Rattle.intmap_table.proofs.DistinctLemmas.{length-walk_of, length-put_pair}
 use Rattle.intmap_table.proofs.PositionLemmas.{swap_out-none, position-from_none}
 use Rattle.intmap_table.proofs.SlotNumberLemmas.{slot_number-below}
 use Rattle.intmap_table.proofs.WalkLemmas.{slot_of-walk_of, walk_of-same, value_of-slot_of, slot_of-take_key, slot_of-take_key-other, slot_of-put_pair, slot_of-put_pair-other}
 use Rattle.intmap_table.proofs.Tables.SwapOutLemmas.{any}
-use Rattle.intmap_table.proofs.Tables.SameKeysLemmas.{row_keys, IsMaskedTable-same_keys}
-use Rattle.intmap_table.proofs.Tables.TableLemmas.{get_or-rows, rows-set_at}
-
--- the table of these rows
-abbrev pub grid_of : {K X : Type 0} → List (List (K × X)) → ℕ → Grid K X
-grid_of R n = record { walk = joined R; capacity = n }
-
-module _ {K X : Type 0} (S : List (Held K X)) (i : ℕ) (h s : Held K X) (below : i < length S) (here : h ≡ get_or S i h) (same : s.pairs ≡ h.pairs) where
-  -- the rows stay
-  pub rows-room : rows (set S i s) ≡ rows S
-  rows-room = rows-set_at S i s (same ∙ ap (λ (t : Held K X). t.pairs) here ∙ sym (get_or-rows S i h below))
-
-  keys-room : row_keys S ≡ row_keys (set S i s)
-  keys-room =
-      sym (map-set (λ (t : Held K X). keys_of t.pairs) S i s
-      ∙ ap (λ ks. set (row_keys S) i ks) (ap keys_of (same ∙ ap (λ (t : Held K X). t.pairs) here) ∙ sym (get_or-map (λ (t : Held K X). keys_of t.pairs) S i h [] below))
-      ∙ set-get_or (row_keys S) i [])
-
-  -- the table is one still
-  pub IsMaskedTable-room : (number : K → ℕ) (bits : List Bool) (mask : ℕ) → IsMaskedTable number S bits mask → IsMaskedTable number (set S i s) bits mask
-  IsMaskedTable-room number bits mask is = IsMaskedTable-same_keys S (set S i s) keys-room number bits mask is
-
-  -- and is seen as before
-  pub Grid-room : (t : Grid K X) → grid_of (rows S) (length S) ≡ t → grid_of (rows (set S i s)) (length (set S i s)) ≡ t
-  Grid-room t is = ap (λ R. grid_of R (length (set S i s))) rows-room ∙ ap (λ n. grid_of (rows S) n) (length-set S i s) ∙ is
 
 module _ {K X : Type 0} (number : K → ℕ) where
   -- a pair that is last, and is the only one of its key, leaves the others as they were
@@ -95,3 +67,13 @@ OnErr-at (Err e) P is holds = holds
 pub OnOk-at : {T E : Type 0} (r : Result T E) (P : Type 0) → is_err r ≡ false → OnOk r P → P
 OnOk-at (Ok x) P is holds = holds
 OnOk-at (Err e) P is holds = absurd (cc)
+
+-- what follows from what an error ensures is ensured by the error
+pub OnErr-map : {T E : Type 0} (r : Result T E) {P Q : Type 0} → (P → Q) → OnErr r P → OnErr r Q
+OnErr-map (Ok x) f holds = tt
+OnErr-map (Err e) f holds = f holds
+
+-- what both ensure holds
+pub OnOk-or : {T E : Type 0} (r : Result T E) {P : Type 0} → OnOk r P → OnErr r P → P
+OnOk-or (Ok x) ok err = ok
+OnOk-or (Err e) ok err = err

@@ -1,6 +1,5 @@
 -- What a closure that picks one pair at a step leaves of the slots of a table.
-use Rattle.std.proofs.Common.{◌≡◌, inl, inr, ℕ, zero, suc, ◌+◌, ◌-◌, ◌<◌, ◌≤◌, Bool, false, cond, List, [], ◌∷◌, ◌++◌, Option, Some, None, length, get_or, set, take, drop, refl, sym, ap, ◌∙◌, subst, arith, zero-add, append-nil, append_assoc, length-append}
-use Rattle.std.specs.Prelude.{nat_lt}
+use Rattle.std.proofs.Common.{◌≡◌, inl, inr, ℕ, zero, suc, ◌+◌, ◌-◌, ◌<◌, ◌≤◌, Bool, List, [], ◌∷◌, ◌++◌, Option, Some, None, length, get_or, set, take, drop, refl, sym, ap, ◌∙◌, subst, arith, zero-add, append-nil, append_assoc, length-append}
 use Rattle.std.specs.List.{flat_map, range_with_len}
 use Rattle.std.specs.List.Retain.{ExtractsNext}
 use Rattle.std.proofs.Math.Seq.{take-append-add, drop-append-add}
@@ -10,17 +9,13 @@ use Rattle.std.proofs.lemmas.List.{drop_all, drop-append-le, drop-set-lt, length
 use Rattle.intmap_table.specs.Classes.{slot_number}
 use Rattle.intmap_table.specs.Picking.{ExtractsBehind, IsReached}
 use Rattle.intmap_table.proofs.ExtractLemmas.{ExtractsNext-end}
-use Rattle.intmap_table.specs.Tables.Slots.{Held, rows, joined, IsNextRow, IsTable, IsMarkedTable}
+use Rattle.intmap_table.specs.Tables.Slots.{Held, rows, joined, IsNextRow, IsTable}
 use Rattle.intmap_table.specs.Taking.{TakesEach}
 use Rattle.intmap_table.specs.Walk.{slot_of}
 use Rattle.intmap_table.proofs.ExtractLemmas.{StepsTo, StepsTo-on, StepsTo-stop, All-ExtractsBehind, length-ExtractsBehind, TakesEach-on}
 use Rattle.intmap_table.proofs.Tables.MarkedLemmas.{range_with_len-add}
-use Rattle.intmap_table.proofs.Tables.RetainSlotsLemmas.{joined-cut, joined-drop, joined-none, joined-take_past, IsMarkedTable-changed}
-use Rattle.intmap_table.proofs.Tables.TableLemmas.{joined-take, get_or-rows, slot_of-joined, row-set}
-
--- the pairs of a slot are its row
-pub row-at : {K X : Type 0} (S : List (Held K X)) (i : ℕ) (h : Held K X) → i < length S → h ≡ get_or S i h → h.pairs ≡ get_or (rows S) i []
-row-at S i h below is = ap (λ (s : Held _ _). s.pairs) is ∙ sym (get_or-rows S i h below)
+use Rattle.intmap_table.proofs.Tables.RetainSlotsLemmas.{joined-cut, joined-drop, joined-none, joined-take_past}
+use Rattle.intmap_table.proofs.Tables.TableLemmas.{joined-take, slot_of-joined, row-set, IsTable-set_at}
 
 -- at place j of row i, n elements were passed
 pub record IsInRows {P : Type 0} (R : List (List P)) (i j n : ℕ) : Type 0 where
@@ -109,15 +104,15 @@ module _ {P : Type 0} (R : List (List P)) (from j n : ℕ) (at : IsInRows R from
   ]
 
 -- the pairs of the slot at hand from place j on were asked about, and s is left of it, with place k reached
-pub record IsAsked {K X F : Type 0} (number : K → ℕ) (R : F → K × X → Bool → F → K × X → Type 0) (S : List (Held K X)) (marks : List Bool) (i j n : ℕ) (f g : F) (r : Option (K × X)) (s : Held K X) (k : ℕ) : Type 0 where
+pub record IsAsked {K X F : Type 0} (number : K → ℕ) (R : F → K × X → Bool → F → K × X → Type 0) (S : List (Held K X)) (i j n : ℕ) (f g : F) (r : Option (K × X)) (s : Held K X) (k : ℕ) : Type 0 where
   pub same_key : (f : F) (p : K × X) (b : Bool) (g : F) (q : K × X) → R f p b g q → q.0 ≡ p.0
-  pub old : IsMarkedTable number S marks
+  pub old : IsTable number S
   pub below : i < length S
   pub at : IsInRows (rows S) i j n
   pub step : ExtractsBehind R f (get_or (rows S) i []) j r g s.pairs k
   pub within : k ≤ length s.pairs
 
-module _ {K X F : Type 0} {number : K → ℕ} {R : F → K × X → Bool → F → K × X → Type 0} {S : List (Held K X)} {marks : List Bool} {i j n : ℕ} {f g : F} {r : Option (K × X)} {s : Held K X} {k : ℕ} (asked : IsAsked number R S marks i j n f g r s k) where
+module _ {K X F : Type 0} {number : K → ℕ} {R : F → K × X → Bool → F → K × X → Type 0} {S : List (Held K X)} {i j n : ℕ} {f g : F} {r : Option (K × X)} {s : Held K X} {k : ℕ} (asked : IsAsked number R S i j n f g r s k) where
   abbrev T : List (Held K X)
   T = set S i s
 
@@ -133,12 +128,11 @@ module _ {K X F : Type 0} {number : K → ℕ} {R : F → K × X → Bool → F 
   behind-same : joined (drop (suc i) (rows T)) ≡ joined (drop (suc i) (rows S))
   behind-same = ap (λ R. joined (drop (suc i) R)) rows-set ∙ ap joined (drop-set-lt (suc i) (rows S) i s.pairs (omega arith))
 
-  -- the slots are those of a table, with their marks
-  pub IsMarkedTable-asked : IsMarkedTable number T (cond (nat_lt 0 (length s.pairs)) marks (set marks i false))
-  IsMarkedTable-asked =
-      IsMarkedTable-changed number S marks asked.old i asked.below s
-      (λ some. let few = length-ExtractsBehind R f g (get_or (rows S) i []) s.pairs j k r asked.step in omega (arith, few, some))
-      (All-ExtractsBehind R (λ p. slot_number number p.0 (length S) ≡ i) (λ f p b g q call is. ap (λ k. slot_number number k (length S)) (asked.same_key f p b g q call) ∙ is) f g (get_or (rows S) i []) s.pairs j k r asked.step (asked.old.table.in_place i asked.below))
+  -- the slots are those of a table
+  pub IsTable-asked : IsTable number T
+  IsTable-asked =
+      IsTable-set_at number S i s asked.old asked.below
+      (All-ExtractsBehind R (λ p. slot_number number p.0 (length S) ≡ i) (λ f p b g q call is. ap (λ k. slot_number number k (length S)) (asked.same_key f p b g q call) ∙ is) f g (get_or (rows S) i []) s.pairs j k r asked.step (asked.old.in_place i asked.below))
 
   -- a place moves on within the pairs that were there
   pub place-on : k ≤ length (get_or (rows S) i [])

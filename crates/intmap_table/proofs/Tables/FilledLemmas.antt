@@ -1,21 +1,24 @@
 -- The marks of a table say which of its slots hold a pair.
-use Rattle.std.proofs.Common.{◌≡◌, ◌≢◌, ℕ, zero, suc, ◌+◌, ◌*◌, ◌/◌, ◌<◌, ◌≤◌, Bool, true, false, Option, Some, None, List, [], ◌∷◌, ◌++◌, length, get_or, set, replicate, refl, sym, ap, ◌∙◌, subst, arith, length-set, get_or-set_same, get_or-set_other}
+use Rattle.std.proofs.Common.{◌≡◌, ◌≢◌, inl, inr, ℕ, zero, suc, ◌+◌, ◌-◌, ◌*◌, ◌/◌, ◌<◌, ◌≤◌, Bool, true, false, cond, Option, Some, None, List, [], ◌∷◌, ◌++◌, length, get_or, set, replicate, refl, sym, ap, ◌∙◌, subst, arith, length-set, get_or-set_same, get_or-set_other}
 use Rattle.std.specs.Prelude.{◌==◌, filter, All, count_by, nat_lt}
 use Rattle.std.specs.List.{list_any, range_with_len}
-use Rattle.std.proofs.lemmas.Bool.{lt-ltb, ltb-true}
+use Rattle.std.proofs.lemmas.Bool.{cases_Bool, lt-ltb, ltb-true}
 use Rattle.std.proofs.lemmas.Bool.Decides.{nat_tests}
 use Rattle.std.proofs.lemmas.List.{length-replicate, length_push, map-set, get_or_past, set-get_or}
 use Rattle.std.proofs.lemmas.List.Elements.{All-head, All-tail}
 use Rattle.intmap_table.specs.Tables.Bits.{marked, marked_indices, IsNextMark}
-use Rattle.intmap_table.specs.Tables.Slots.{Held, rows, joined, pairs_at, IsNextRow, AreMarked, IsMarkedTable, IsMaskedTable}
+use Rattle.intmap_table.specs.Tables.Slots.{Held, rows, row_of, joined, pairs_at, IsNextRow, AreMarked, IsDirectory}
 use Rattle.intmap_table.specs.Bindings.{value_of}
-use Rattle.intmap_table.specs.Classes.{IsCapacity}
-use Rattle.intmap_table.proofs.Tables.TableLemmas.{IsSlot, Belong, IsTable-set, within, length-rows, get_or-rows, IsTable-empty}
+use Rattle.intmap_table.proofs.Tables.TableLemmas.{length-rows, get_or-rows}
 use Rattle.intmap_table.proofs.Tables.MarkedLemmas.{get_or-of_default, row-none, All-marked_indices, flat_map-marked_indices, length-marked_indices}
 
 -- a row that holds a pair is one of the rows
 pub row-within : {P : Type 0} (R : List (List P)) (i : ℕ) → 0 < length (get_or R i []) → i < length R
 row-within R i some = let past = get_or_past R i [] in grind (arith, past, some)
+
+-- and its slot one of the slots
+pub slot-within : {K X : Type 0} (S : List (Held K X)) (i : ℕ) → 0 < length (row_of S i) → i < length S
+slot-within S i some = let row = row-within (rows S) i some in omega (arith, row, length-rows S)
 
 module _ {P : Type 0} (R : List (List P)) (marks : List Bool) (are : AreMarked R marks) where
   -- each row has a mark
@@ -105,35 +108,24 @@ module _ {K X : Type 0} (S : List (Held K X)) (bits : List Bool) (marks : AreMar
   pub marks-kept_at : (s : Held K X) → marked bits i ≡ nat_lt 0 (length s.pairs) → AreMarked (rows (set S i s)) bits
   marks-kept_at s is = rw (map-set (λ (t : Held K X). t.pairs) S i s) (AreMarked-kept (rows S) bits marks i row-below s.pairs is)
 
--- the same, of the slot of a key
-module _ {K X : Type 0} (number : K → ℕ) (S : List (Held K X)) (h : Held K X) (i : ℕ) (k : K) (at : IsSlot number S h i k) (bits : List Bool) (marks : AreMarked (rows S) bits) where
-  pub marked-here : marked bits i ≡ nat_lt 0 (length h.pairs)
-  marked-here = marked-at S bits marks i (within number S h i k at) h at.here
+-- slots with one of them changed, and its mark or not
+module _ {K X : Type 0} (S : List (Held K X)) {bits : List Bool} {mask : ℕ} (old : IsDirectory S bits mask) (i : ℕ) (below : i < length S) (s : Held K X) where
+  pub IsDirectory-set : (b : Bool) → b ≡ nat_lt 0 (length s.pairs) → IsDirectory (set S i s) (set bits i b) mask
+  IsDirectory-set b is = record { marks = marks-set_at S bits old.marks i below s b is; count = old.count ∙ sym (length-set S i s) }
 
-  pub marks-set : (s : Held K X) (b : Bool) → b ≡ nat_lt 0 (length s.pairs) → AreMarked (rows (set S i s)) (set bits i b)
-  marks-set = marks-set_at S bits marks i (within number S h i k at)
+  pub IsDirectory-kept : nat_lt 0 (length (row_of S i)) ≡ nat_lt 0 (length s.pairs) → IsDirectory (set S i s) bits mask
+  IsDirectory-kept is = record { marks = marks-kept_at S bits old.marks i below s (old.marks.own i ∙ is); count = old.count ∙ sym (length-set S i s) }
 
-  pub marks-kept : (s : Held K X) → nat_lt 0 (length h.pairs) ≡ nat_lt 0 (length s.pairs) → AreMarked (rows (set S i s)) bits
-  marks-kept s is = marks-kept_at S bits marks i (within number S h i k at) s (marked-here ∙ is)
+  -- if it held a pair, its mark is taken away if it holds none any more
+  pub IsDirectory-changed : (0 < length s.pairs → 0 < length (row_of S i)) → IsDirectory (set S i s) (cond (nat_lt 0 (length s.pairs)) bits (set bits i false)) mask
+  IsDirectory-changed filled = elim (cases_Bool (nat_lt 0 (length s.pairs))) as (λ _. IsDirectory (set S i s) (cond (nat_lt 0 (length s.pairs)) bits (set bits i false)) mask) [
+    | inl some ↦ rw some (IsDirectory-kept (lt-ltb 0 (length (row_of S i)) (filled (ltb-true 0 (length s.pairs) some)) ∙ sym some))
+    | inr none ↦ rw none (IsDirectory-set false (sym none))
+  ]
 
-  -- there is a mark for it
-  pub mark-below : i < length bits
-  mark-below = index-below S bits marks i (within number S h i k at)
-
--- the table with the slot of a key changed, and its mark or not
-module _ {K X : Type 0} (number : K → ℕ) (S : List (Held K X)) (h : Held K X) (i : ℕ) (k : K) (at : IsSlot number S h i k) {bits : List Bool} {mask : ℕ}
-    (old : IsMaskedTable number S bits mask) (s : Held K X) (own : Belong number S h i k at s.pairs) where
-  pub IsMaskedTable-set : (b : Bool) → b ≡ nat_lt 0 (length s.pairs) → IsMaskedTable number (set S i s) (set bits i b) mask
-  IsMaskedTable-set b is = record {
-    marked = record { table = IsTable-set number S h i k at s own; marks = marks-set number S h i k at bits old.marked.marks s b is };
-    count = old.count ∙ sym (length-set S i s);
-  }
-
-  pub IsMaskedTable-kept : nat_lt 0 (length h.pairs) ≡ nat_lt 0 (length s.pairs) → IsMaskedTable number (set S i s) bits mask
-  IsMaskedTable-kept is = record {
-    marked = record { table = IsTable-set number S h i k at s own; marks = marks-kept number S h i k at bits old.marked.marks s is };
-    count = old.count ∙ sym (length-set S i s);
-  }
+-- slots with the same rows have the same marks
+pub IsDirectory-same_rows : {K X : Type 0} (S T : List (Held K X)) (bits : List Bool) (mask : ℕ) → rows T ≡ rows S → IsDirectory S bits mask → IsDirectory T bits mask
+IsDirectory-same_rows S T bits mask same old = record { marks = rw same old.marks; count = old.count ∙ sym (length-rows S) ∙ ap length (sym same) ∙ length-rows T }
 
 -- the marked indices are indices of slots
 pub indices-within : {K X : Type 0} (S : List (Held K X)) (bits : List Bool) → AreMarked (rows S) bits → All (λ index. index < length S) (marked_indices bits)
@@ -154,29 +146,24 @@ row-unmarked R marks are i missed =
     let own = are.own i in let kept = kept-found (marked marks) i 0 (length marks) missed in let past = get_or_past marks i false in
     row-none (get_or R i []) (grind (arith, own, kept, past))
 
--- a table of empty slots, with no index marked
-pub IsMarkedTable-empty : {K X : Type 0} (number : K → ℕ) (S : List (Held K X)) (C : ℕ) → IsCapacity C → rows S ≡ replicate C [] → IsMarkedTable number S (replicate (64 * ((C + 63) / 64)) false)
-IsMarkedTable-empty number S C capacity empty =
+-- slots without pairs, with no index marked
+pub IsDirectory-empty : {K X : Type 0} (S : List (Held K X)) (C : ℕ) → 0 < C → rows S ≡ replicate C [] → IsDirectory S (replicate (64 * ((C + 63) / 64)) false) (C - 1)
+IsDirectory-empty S C some empty =
     let rows-len : length (rows S) ≡ C = ap length empty ∙ length-replicate C [] in
-    let len : length S ≡ C = sym (length-rows S) ∙ rows-len in
-    let none : (i : ℕ) → get_or (rows S) i [] ≡ [] = λ i. rw empty (get_or-of_default C i []) in
-    record {
-      table = IsTable-empty number S (rw len capacity) (λ i _. none i);
-      marks = AreMarked-none (rows S) C rows-len none;
-    }
+    let len = length-rows S in
+    record { marks = AreMarked-none (rows S) C rows-len (λ i. rw empty (get_or-of_default C i [])); count = omega (arith, some, rows-len, len) }
 
 -- rows without pairs, joined
 pub joined-emptied : {P : Type 0} (R : List (List P)) → ((i : ℕ) → get_or R i [] ≡ []) → joined R ≡ []
 joined-emptied [] empty = refl
 joined-emptied (row ∷ R) empty = rw (empty 0) (joined-emptied R (λ i. empty (suc i)))
 
--- a table whose slots were emptied, and whose marks were taken away
-pub IsMarkedTable-emptied : {K X : Type 0} (number : K → ℕ) (S T : List (Held K X)) (bits : List Bool) → IsMarkedTable number S bits → length T ≡ length S → ((i : ℕ) → get_or (rows T) i [] ≡ [])
-    → IsMarkedTable number T (replicate (length bits) false)
-IsMarkedTable-emptied number S T bits old len empty = record {
-  table = IsTable-empty number T (rw len old.table.capacity) (λ i _. empty i);
+-- slots that were emptied, and whose marks were taken away
+pub IsDirectory-emptied : {K X : Type 0} (S T : List (Held K X)) (bits : List Bool) (mask : ℕ) → IsDirectory S bits mask → length T ≡ length S → ((i : ℕ) → get_or (rows T) i [] ≡ []) → IsDirectory T (replicate (length bits) false) mask
+IsDirectory-emptied S T bits mask old len empty = record {
   marks = record {
     words = length-replicate (length bits) false ∙ old.marks.words ∙ ap (λ n. 64 * ((n + 63) / 64)) (length-rows S ∙ sym len ∙ sym (length-rows T));
     own = λ i. get_or-of_default (length bits) i false ∙ rw (empty i) refl;
   };
+  count = old.count ∙ sym len;
 }

@@ -6,10 +6,10 @@ use Rattle.std.specs.Prelude.{Result, Ok, Err, OnErr}
 use Rattle.std.proofs.lemmas.Grind.{flat_map-append}
 use Rattle.std.proofs.lemmas.List.{replicate_more, length-replicate, get_or-replicate, get_or-append_right, map-append, take-map}
 use Rattle.intmap_table.specs.Classes.{IsCapacity}
-use Rattle.intmap_table.specs.Tables.Slots.{Held, rows, joined, AreMarked, Grid, IsMaskedTable}
+use Rattle.intmap_table.specs.Tables.Slots.{Held, rows, joined, AreMarked, IsTable, IsDirectory}
 use Rattle.intmap_table.specs.Tables.Moves.{IsGrown, IsLonger, IsOldRows, IsMidway, CanMoveOn, bare_slot}
 use Rattle.intmap_table.proofs.SlotNumberLemmas.{capacity-positive}
-use Rattle.intmap_table.proofs.Tables.FilledLemmas.{IsMarkedTable-empty, joined-emptied}
+use Rattle.intmap_table.proofs.Tables.FilledLemmas.{joined-emptied, IsDirectory-empty}
 use Rattle.intmap_table.proofs.Tables.MarkedLemmas.{get_or-of_default}
 use Rattle.intmap_table.proofs.Tables.GrownLemmas.{grown-more, IsMoved-midway}
 use Rattle.intmap_table.proofs.Tables.MoveLemmas.{IsMoved, IsTable-moved}
@@ -32,46 +32,18 @@ module _ {K X : Type 0} where
     alone : T ≡ replicate C bare_slot
     alone = let all : C - 0 ≡ C = omega arith in is ∙ ap (λ Z. Z ++ replicate (C - length Z) bare_slot) none ∙ ap (λ n. replicate n bare_slot) all
 
-    rows-alone : rows T ≡ replicate C []
+    -- behind no slots, empty ones alone are added: no pair is in them
+    pub rows-alone : rows T ≡ replicate C []
     rows-alone = ap rows alone ∙ rows-bare_slots C
 
-    -- behind no slots, empty ones alone are added: no pair is in them
-    pub joined-alone : joined (rows T) ≡ []
-    joined-alone = ap joined rows-alone ∙ joined-emptied (replicate C []) (λ i. get_or-of_default C i [])
-
-    -- their number is the same
-    pub length-alone : length T ≡ C
-    length-alone = ap length alone ∙ length-replicate C bare_slot
-
-    -- they are a table
-    pub IsMaskedTable-alone : (number : K → ℕ) → IsCapacity C → IsMaskedTable number T (replicate (64 * ((C + 63) / 64)) false) (C - 1)
-    IsMaskedTable-alone number capacity =
-        let some = capacity-positive C capacity in
-        record { marked = IsMarkedTable-empty number T C capacity rows-alone; count = omega (arith, some, length-alone) }
+    -- with none marked they are as they must be
+    pub IsDirectory-alone : IsCapacity C → IsDirectory T (replicate (64 * ((C + 63) / 64)) false) (C - 1)
+    IsDirectory-alone capacity = IsDirectory-empty T C (capacity-positive C capacity) rows-alone
 
 -- what holds in any case holds if there is an error
 pub OnErr-always : {V E P : Type 0} (r : Result V E) → P → OnErr r P
 OnErr-always (Ok _) p = tt
 OnErr-always (Err _) p = p
-
-module _ {K X : Type 0} (S T : List (Held K X)) (same : rows T ≡ rows S) where
-  -- the number of slots with the same rows is the same
-  pub length-same_rows : length T ≡ length S
-  length-same_rows = sym (length-rows T) ∙ ap length same ∙ length-rows S
-
-  -- they look the same
-  pub grid-same_rows : ◌≡◌ {A = Grid K X} (record { walk = joined (rows T); capacity = length T }) (record { walk = joined (rows S); capacity = length S })
-  grid-same_rows = λ i. record { walk = joined (same i); capacity = length-same_rows i }
-
-  -- they are a table if the others are
-  pub IsMaskedTable-same_rows : (number : K → ℕ) (bits : List Bool) (mask : ℕ) → IsMaskedTable number S bits mask → IsMaskedTable number T bits mask
-  IsMaskedTable-same_rows number bits mask table = record {
-    marked = record {
-      table = record { capacity = rw length-same_rows table.marked.table.capacity; in_place = rw (length-same_rows, same) table.marked.table.in_place };
-      marks = rw same table.marked.marks;
-    };
-    count = table.count ∙ sym length-same_rows;
-  }
 
 module _ {K X : Type 0} where
   -- slots cut back to the old ones have the old rows
@@ -87,7 +59,8 @@ module _ {K X : Type 0} where
 -- slots T of a table that has become longer, up to D: the rows of the first of them are those of S, the slots that it had
 pub record IsLongerOf {K X : Type 0} (number : K → ℕ) (S T : List (Held K X)) (bits : List Bool) (mask D : ℕ) : Type 0 where
   pub grown : IsGrown (length S) D
-  pub table : IsMaskedTable number S bits mask
+  pub table : IsTable number S
+  pub directory : IsDirectory S bits mask
   pub len : length T ≡ D
   pub old : take (length S) (rows T) ≡ rows S
 
@@ -96,13 +69,14 @@ module _ {K X : Type 0} (S T : List (Held K X)) (D : ℕ) (grown : IsGrown (leng
   rows-added = ap rows added ∙ map-append (λ h. h.pairs) S (replicate (D - length S) bare_slot) ∙ ap (λ R. rows S ++ R) (rows-bare_slots (D - length S))
 
   -- with empty ones behind them they are longer
-  pub IsLonger-added : (number : K → ℕ) (bits : List Bool) (mask : ℕ) → IsMaskedTable number S bits mask → IsLongerOf number S T bits mask D
-  IsLonger-added number bits mask table =
+  pub IsLonger-added : (number : K → ℕ) (bits : List Bool) (mask : ℕ) → IsTable number S → IsDirectory S bits mask → IsLongerOf number S T bits mask D
+  IsLonger-added number bits mask table directory =
       let more = grown-more (length S) D grown in
       let n : length T ≡ length S + (D - length S) = ap length added ∙ length-append S (replicate (D - length S) bare_slot) ∙ ap (λ m. length S + m) (length-replicate (D - length S) bare_slot) in
       record {
         grown = grown;
         table = table;
+        directory = directory;
         len = omega (arith, n, more);
         old = ap (λ n. take n (rows T)) (sym (length-rows S)) ∙ ap (take (length (rows S))) rows-added ∙ take-append_seam (rows S) (replicate (D - length S) []);
       }
@@ -120,7 +94,7 @@ module _ {K X : Type 0} (S T : List (Held K X)) (D : ℕ) (grown : IsGrown (leng
 module _ {K X : Type 0} {number : K → ℕ} {S T : List (Held K X)} {bits : List Bool} {mask D : ℕ} (is : IsLongerOf number S T bits mask D) where
   -- the rows of the old slots are the old rows
   pub take-longer : take (mask + 1) (rows T) ≡ rows S
-  take-longer = rw is.table.count is.old
+  take-longer = rw is.directory.count is.old
 
   -- there are whole numbers of old slots
   pub parts-longer : (counts : List ℕ) → length counts ≡ D / length S → length T ≡ length counts * (mask + 1)
@@ -128,17 +102,17 @@ module _ {K X : Type 0} {number : K → ℕ} {S T : List (Held K X)} {bits : Lis
       let a : ℕ = is.grown.times.0 in
       let some = capacity-positive (length S) is.grown.old in
       let whole : D / length S ≡ 2 ^ a = ap (λ d. d / length S) is.grown.times.1 ∙ mul-div_cancel_left (2 ^ a) some in
-      rw (is.table.count, count, whole, is.len) (is.grown.times.1 ∙ mul_comm (length S) (2 ^ a))
+      rw (is.directory.count, count, whole, is.len) (is.grown.times.1 ∙ mul_comm (length S) (2 ^ a))
 
   old_rows : IsOldRows number (rows S) (length S)
-  old_rows = record { len = length-rows S; own = is.table.marked.table.in_place }
+  old_rows = record { len = length-rows S; own = is.table.in_place }
 
   -- the first of them are those of a table
   pub IsLonger-of : IsLonger number bits (mask + 1) T
   IsLonger-of = record {
-    grown = rw (is.table.count, is.len) is.grown;
-    own = rw (take-longer, is.table.count) old_rows;
-    marked = rw take-longer is.table.marked.marks;
+    grown = rw (is.directory.count, is.len) is.grown;
+    own = rw (take-longer, is.directory.count) old_rows;
+    marked = rw take-longer is.directory.marks;
   }
 
   -- slots with other room have the old rows too
@@ -147,15 +121,16 @@ module _ {K X : Type 0} {number : K → ℕ} {S T : List (Held K X)} {bits : Lis
 
   -- to move on, read of the longer slots and of the old ones
   pub CanMoveOn-longer : (left : List ℕ) (longest : ℕ) (U : List (Held K X)) → CanMoveOn number (take (mask + 1) (rows T)) (mask + 1) (length T) left longest U ≡ CanMoveOn number (rows S) (length S) D left longest U
-  CanMoveOn-longer left longest U = rw (take-longer, is.table.count, is.len) refl
+  CanMoveOn-longer left longest U = rw (take-longer, is.directory.count, is.len) refl
 
   module _ (U : List (Held K X)) (end : IsMidway number (take (mask + 1) (rows T)) (mask + 1) (length T) [] U) where
     -- behind the last move, all pairs are moved
     pub IsMoved-longer : IsMoved number (joined (rows S)) D U
-    IsMoved-longer = IsMoved-midway number (length S) D is.grown (rows S) old_rows U (rw (take-longer, is.table.count, is.len) at end)
+    IsMoved-longer = IsMoved-midway number (length S) D is.grown (rows S) old_rows U (rw (take-longer, is.directory.count, is.len) at end)
 
     -- the slots are a table then
-    pub IsMaskedTable-longer : (marks : List Bool) → AreMarked (rows U) marks → IsMaskedTable number U marks (D - 1)
-    IsMaskedTable-longer marks are =
-        let some = capacity-positive D is.grown.new in let n = IsMoved-longer.len in
-        record { marked = record { table = IsTable-moved number (joined (rows S)) D U IsMoved-longer; marks = are }; count = omega (arith, some, n) }
+    pub IsTable-longer : IsTable number U
+    IsTable-longer = IsTable-moved number (joined (rows S)) D U IsMoved-longer
+
+    pub IsDirectory-longer : (marks : List Bool) → AreMarked (rows U) marks → IsDirectory U marks (D - 1)
+    IsDirectory-longer marks are = let some = capacity-positive D is.grown.new in let n = IsMoved-longer.len in record { marks = are; count = omega (arith, some, n) }

@@ -1,16 +1,13 @@
 -- What a closure that is asked about each pair in turn leaves of the slots of a table.
-use Rattle.std.proofs.Common.{◌≡◌, inl, inr, ℕ, zero, suc, ◌+◌, ◌-◌, ◌<◌, ◌≤◌, Bool, false, cond, List, [], ◌∷◌, ◌++◌, length, get_or, set, take, drop, refl, sym, ap, ◌∙◌, subst, arith, add-zero, append-nil, length-append, get_or-set_same}
-use Rattle.std.specs.Prelude.{All, nat_lt}
-use Rattle.std.proofs.lemmas.Bool.{cases_Bool, lt-ltb, ltb-true}
+use Rattle.std.proofs.Common.{◌≡◌, ℕ, zero, suc, ◌+◌, ◌-◌, ◌<◌, ◌≤◌, Bool, List, [], ◌∷◌, ◌++◌, length, get_or, set, take, drop, refl, sym, ap, ◌∙◌, subst, arith, add-zero, append-nil, length-append, get_or-set_same}
 use Rattle.std.proofs.lemmas.List.{drop-set-lt, take-set, map-set, get_or-drop, take-append-drop}
 use Rattle.std.proofs.lemmas.Grind.{flat_map-append}
-use Rattle.intmap_table.specs.Classes.{slot_number}
 use Rattle.intmap_table.specs.Retaining.{Retains}
-use Rattle.intmap_table.specs.Tables.Slots.{Held, rows, joined, IsNextRow, AreMarked, IsMarkedTable}
-use Rattle.intmap_table.proofs.Tables.FilledLemmas.{marks-set_at, marks-kept_at, joined-emptied}
+use Rattle.intmap_table.specs.Tables.Slots.{Held, rows, row_of, joined, IsNextRow}
+use Rattle.intmap_table.proofs.Tables.FilledLemmas.{joined-emptied}
 use Rattle.intmap_table.proofs.LeadsLemmas.{Leads, Leads-next, Leads-end}
 use Rattle.intmap_table.proofs.RetainLemmas.{Retains-append, length-Retains}
-use Rattle.intmap_table.proofs.Tables.TableLemmas.{joined-take, length-rows, IsTable-set_at}
+use Rattle.intmap_table.proofs.Tables.TableLemmas.{joined-take, length-rows}
 
 module _ {P : Type 0} where
   pub joined-drop : (i : ℕ) (R : List (List P)) → joined (drop i R) ≡ get_or R i [] ++ joined (drop (suc i) R)
@@ -46,17 +43,6 @@ module _ {P : Type 0} where
   pub joined-before : (i : ℕ) (R : List (List P)) → ((j : ℕ) → i ≤ j → get_or R j [] ≡ []) → joined (take i R) ≡ joined R
   joined-before i R empty = sym (joined-cut i R ∙ ap (λ Z. joined (take i R) ++ Z) (joined-none i R empty) ∙ append-nil (joined (take i R)))
 
--- with slot i changed, and its mark taken away if it holds no pair any more
-pub IsMarkedTable-changed : {K X : Type 0} (number : K → ℕ) (S : List (Held K X)) (marks : List Bool) → IsMarkedTable number S marks → (i : ℕ) → i < length S
-    → (s : Held K X) → (0 < length s.pairs → 0 < length (get_or (rows S) i [])) → All (λ p. slot_number number p.0 (length S) ≡ i) s.pairs → IsMarkedTable number (set S i s) (cond (nat_lt 0 (length s.pairs)) marks (set marks i false))
-IsMarkedTable-changed number S marks old i below s filled all = record {
-  table = IsTable-set_at number S i s old.table below all;
-  marks = elim (cases_Bool (nat_lt 0 (length s.pairs))) as (λ _. AreMarked (rows (set S i s)) (cond (nat_lt 0 (length s.pairs)) marks (set marks i false))) [
-    | inl some ↦ rw some (marks-kept_at S marks old.marks i below s (old.marks.own i ∙ lt-ltb 0 (length (get_or (rows S) i [])) (filled (ltb-true 0 (length s.pairs) some)) ∙ sym some))
-    | inr none ↦ rw none (marks-set_at S marks old.marks i below s false (sym none))
-  ];
-}
-
 -- R went over all if no row holds a pair from there on
 module _ {K X : Type 0} (S : List (Held K X)) (from : ℕ) (empty : (j : ℕ) → from ≤ j → get_or (rows S) j [] ≡ []) where
   pub Leads-all : {F : Type 0} (R : F → K × X → Bool → F → Type 0) (f₀ f : F) (L : List (K × X))
@@ -69,6 +55,16 @@ module _ {K X : Type 0} (S : List (Held K X)) (from index : ℕ) (next : IsNextR
   -- its index is one of the slots'
   pub next-within : index < length S
   next-within = omega (arith, next.within, length-rows S)
+
+  -- its pairs and those behind it are those that are left, and there are no more than in all
+  pub row-left : (joined (drop from (rows S)) ≡ row_of S index ++ joined (drop (suc index) (rows S))) × (length (row_of S index) ≤ length (joined (rows S)))
+  row-left =
+      let behind : from + (index - from) ≡ index = (let le = next.behind in omega (arith, le)) in
+      let past : joined (drop from (rows S)) ≡ joined (drop index (rows S)) =
+      rw behind at (joined-drop_past (index - from) from (rows S) (λ j le lt. next.between j le (omega (arith, lt, behind)))) in
+      let all = ap length (joined-cut index (rows S)) ∙ length-append (joined (take index (rows S))) (joined (drop index (rows S))) in
+      let one = ap length (joined-drop index (rows S)) ∙ length-append (row_of S index) (joined (drop (suc index) (rows S))) in
+      (past ∙ joined-drop index (rows S), omega (arith, all, one))
 
 module _ {K X : Type 0} (S : List (Held K X)) (from index : ℕ) (next : IsNextRow (rows S) from index) (s : Held K X) where
   abbrev row : List (K × X)

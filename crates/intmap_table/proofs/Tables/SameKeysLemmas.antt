@@ -8,7 +8,7 @@ use Rattle.std.proofs.lemmas.List.Elements.{All-map}
 use Rattle.std.proofs.lemmas.List.FromFn.{length-map-range_with_len}
 use Rattle.std.proofs.lemmas.Map.Entries.{length-keys_of}
 use Rattle.intmap_table.specs.Classes.{IsCapacity, slot_number}
-use Rattle.intmap_table.specs.Tables.Slots.{Held, rows, AreMarked, IsTable, IsMarkedTable, IsMaskedTable}
+use Rattle.intmap_table.specs.Tables.Slots.{Held, rows, AreMarked, IsTable, IsDirectory}
 use Rattle.intmap_table.specs.Walk.{slot_of, walk_of}
 use Rattle.intmap_table.proofs.ClassLemmas.{AreClasses, AreClasses-map, flat_map-classes, flat_map-joined}
 
@@ -83,33 +83,30 @@ module _ {K X Y : Type 0} where
       subst (λ Z. walk_of number Z C ≡ Z) (joined-cut S M rows_same) (subst (λ m. flat_map (slot_of number N C) (range_with_len 0 m) ≡ N) n (flat_map-classes slot T classes))
 
 module _ {K X Y : Type 0} (S : List (Held K X)) (T : List (Held K Y)) (same : row_keys S ≡ row_keys T) where
-  length-same_rows : length S ≡ length T
-  length-same_rows = sym (length-map S (λ h. keys_of h.pairs)) ∙ ap length same ∙ length-map T (λ h. keys_of h.pairs)
+  pub length-row_keys : length S ≡ length T
+  length-row_keys = sym (length-map S (λ h. keys_of h.pairs)) ∙ ap length same ∙ length-map T (λ h. keys_of h.pairs)
 
   row-same : (i : ℕ) → keys_of (get_or (rows S) i []) ≡ keys_of (get_or (rows T) i [])
   row-same i = sym (get_or-row_keys S i) ∙ ap (λ ks. get_or ks i []) same ∙ get_or-row_keys T i
 
   -- slots with the keys of a table are one
-  IsTable-same_keys : (number : K → ℕ) → IsTable number S → IsTable number T
+  pub IsTable-same_keys : (number : K → ℕ) → IsTable number S → IsTable number T
   IsTable-same_keys number table = record {
-    capacity = subst IsCapacity length-same_rows table.capacity;
+    capacity = subst IsCapacity length-row_keys table.capacity;
     in_place = λ i below.
         let InPlace : ℕ → Type 0 = λ n. All (λ p. slot_number number p.0 n ≡ i) (get_or (rows S) i []) in
         All-same_keys (λ k. slot_number number k (length T) ≡ i) (get_or (rows S) i []) (get_or (rows T) i []) (row-same i)
-        (subst InPlace length-same_rows (table.in_place i (subst (λ n. i < n) (sym length-same_rows) below)));
+        (subst InPlace length-row_keys (table.in_place i (subst (λ n. i < n) (sym length-row_keys) below)));
   }
 
   -- and the same of them are marked
   AreMarked-same_keys : (marks : List Bool) → AreMarked (rows S) marks → AreMarked (rows T) marks
   AreMarked-same_keys marks are =
-      let len : length (rows S) ≡ length (rows T) = length-map S (λ h. h.pairs) ∙ length-same_rows ∙ sym (length-map T (λ h. h.pairs)) in
+      let len : length (rows S) ≡ length (rows T) = length-map S (λ h. h.pairs) ∙ length-row_keys ∙ sym (length-map T (λ h. h.pairs)) in
       record {
         words = are.words ∙ ap (λ n. 64 * ((n + 63) / 64)) len;
         own = λ i. are.own i ∙ ap (nat_lt 0) (length-same_keys (get_or (rows S) i []) (get_or (rows T) i []) (row-same i));
       }
 
-  IsMarkedTable-same_keys : (number : K → ℕ) (marks : List Bool) → IsMarkedTable number S marks → IsMarkedTable number T marks
-  IsMarkedTable-same_keys number marks is = record { table = IsTable-same_keys number is.table; marks = AreMarked-same_keys marks is.marks }
-
-  pub IsMaskedTable-same_keys : (number : K → ℕ) (marks : List Bool) (mask : ℕ) → IsMaskedTable number S marks mask → IsMaskedTable number T marks mask
-  IsMaskedTable-same_keys number marks mask is = record { marked = IsMarkedTable-same_keys number marks is.marked; count = is.count ∙ length-same_rows }
+  pub IsDirectory-same_keys : (marks : List Bool) (mask : ℕ) → IsDirectory S marks mask → IsDirectory T marks mask
+  IsDirectory-same_keys marks mask is = record { marks = AreMarked-same_keys marks is.marks; count = is.count ∙ length-row_keys }

@@ -7,7 +7,7 @@ use Rattle.std.proofs.lemmas.Grind.{flat_map-append}
 use Rattle.std.proofs.lemmas.List.{map-set, get_or-append-add}
 use Rattle.intmap_table.specs.Tables.Bits.{marked_indices}
 use Rattle.intmap_table.specs.Classes.{slot_number}
-use Rattle.intmap_table.specs.Tables.Slots.{Held, rows, joined, pairs_at, AreMarked, IsMarkedTable}
+use Rattle.intmap_table.specs.Tables.Slots.{Held, rows, joined, pairs_at, AreMarked, IsTable}
 use Rattle.intmap_table.specs.Taking.{TakesEach}
 use Rattle.intmap_table.specs.Writes.{Writes}
 use Rattle.intmap_table.proofs.Tables.FilledLemmas.{pairs_at-marked, pairs_at-set, indices-within, marks-kept_at}
@@ -69,13 +69,15 @@ module _ {K X : Type 0} (S : List (Held K X)) (marks : List Bool) (are : AreMark
           let row = get_or (rows S) index [] in
           subst (TakesEach R Q h) (sym (others rest apart-rest)) (TakesEach-behind R Q f h row (pairs_at (rows S) rest) takes (FoldsTo-Writes R f h row s.pairs run))
 
-      -- the slot has its keys still, so the table and its marks agree
-      pub IsMarkedTable-Writes : (number : K → ℕ) → IsMarkedTable number S marks → IsMarkedTable number (set S index s) marks
-      IsMarkedTable-Writes number old = record {
-        table = IsTable-set_at number S index s old.table slot-within
-            (All-Writes R (λ k. slot_number number k (length S) ≡ index) f h (get_or (rows S) index []) s.pairs run (old.table.in_place index slot-within));
-        marks = marks-kept_at S marks are index slot-within s (are.own index ∙ ap (nat_lt 0) (sym (length-Writes R f h (get_or (rows S) index []) s.pairs run)));
-      }
+      -- the slot has its keys still, so the slots are a table still
+      pub IsTable-Writes : (number : K → ℕ) → IsTable number S → IsTable number (set S index s)
+      IsTable-Writes number old =
+          IsTable-set_at number S index s old slot-within
+          (All-Writes R (λ k. slot_number number k (length S) ≡ index) f h (get_or (rows S) index []) s.pairs run (old.in_place index slot-within))
+
+      -- and those with a pair are marked
+      pub AreMarked-Writes : AreMarked (rows (set S index s)) marks
+      AreMarked-Writes = marks-kept_at S marks are index slot-within s (are.own index ∙ ap (nat_lt 0) (sym (length-Writes R f h (get_or (rows S) index []) s.pairs run)))
 
 -- if all marked indices were passed, R went over all pairs
 pub Leads-indices : {F K X : Type 0} (R : F → K × X → X → F → Type 0) (S : List (Held K X)) (marks : List Bool) (f₀ f : F) (L : List (K × X)) (before : List ℕ) → AreMarked (rows S) marks → before ++ [] ≡ marked_indices marks

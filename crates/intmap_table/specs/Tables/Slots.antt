@@ -1,5 +1,5 @@
 -- How a table lays its pairs out. No public clause cites this module.
-use Rattle.std.specs.Prelude.{◌≡◌, ℕ, zero, suc, ◌+◌, ◌*◌, ◌/◌, ◌<◌, ◌≤◌, Bool, nat_lt, List, [], ◌∷◌, ◌++◌, length, map, slice_index_or, Option, Some, None}
+use Rattle.std.specs.Prelude.{◌≡◌, ℕ, zero, suc, ◌+◌, ◌*◌, ◌/◌, ◌<◌, ◌≤◌, Bool, nat_lt, List, [], ◌∷◌, ◌++◌, length, map, set, slice_index_or, Option, Some, None}
 use Rattle.std.specs.Option.{option_to_list}
 use Rattle.std.specs.List.{All, flat_map}
 use Rattle.intmap_table.specs.Tables.Bits.{marked}
@@ -13,6 +13,16 @@ pub record Held (K X : Type 0) : Type 0 where
 -- the pairs of each slot
 abbrev pub rows : {K X : Type 0} → List (Held K X) → List (List (K × X))
 rows slots = map (λ h. h.pairs) slots
+
+-- the pairs of slot i
+abbrev pub row_of : {K X : Type 0} → List (Held K X) → ℕ → List (K × X)
+row_of slots i = slice_index_or (rows slots) i []
+
+-- slot i has another row, and nothing else of the slots has changed
+pub record IsRowSet {K X : Type 0} (S : List (Held K X)) (i : ℕ) (row : List (K × X)) (T : List (Held K X)) : Type 0 where
+  pub slot : Held K X
+  pub pairs : slot.pairs ≡ row
+  pub others : T ≡ set S i slot
 
 -- the first pair, if there is one, and the rest
 abbrev pub all_pairs : {P : Type 0} → Option P → List P → List P
@@ -28,6 +38,12 @@ abbrev pub write_at : {K X : Type 0} → List (K × X) → ℕ → X → List (K
 write_at [] i v = []
 write_at (p ∷ ps) zero v = (p.0, v) ∷ ps
 write_at (p ∷ ps) (suc i) v = p ∷ write_at ps i v
+
+-- the slots with v as the value of the pair at place j of slot i
+abbrev pub write_row : {K X : Type 0} → List (Held K X) → ℕ → ℕ → X → List (Held K X)
+write_row [] i j v = []
+write_row (h ∷ S) zero j v = record h { pairs = write_at h.pairs j v } ∷ S
+write_row (h ∷ S) (suc i) j v = h ∷ write_row S i j v
 
 -- a table: its walk, and how many slots it has
 pub record Grid (K X : Type 0) : Type 0 where
@@ -59,12 +75,7 @@ pub record IsTable {K X : Type 0} (number : K → ℕ) (slots : List (Held K X))
   pub capacity : IsCapacity (length slots)
   pub in_place : (i : ℕ) → i < length slots → All (λ p. slot_number number p.0 (length slots) ≡ i) (slice_index_or (rows slots) i [])
 
--- a table of slots, and the marks of those that hold a pair
-pub record IsMarkedTable {K X : Type 0} (number : K → ℕ) (slots : List (Held K X)) (bits : List Bool) : Type 0 where
-  pub table : IsTable number slots
+-- what is known of slots without looking at them: the marks of those that hold a pair, and their number less one
+pub record IsDirectory {K X : Type 0} (slots : List (Held K X)) (bits : List Bool) (mask : ℕ) : Type 0 where
   pub marks : AreMarked (rows slots) bits
-
--- the same, and the mask that the numbers of its slots have: their number less one
-pub record IsMaskedTable {K X : Type 0} (number : K → ℕ) (slots : List (Held K X)) (bits : List Bool) (mask : ℕ) : Type 0 where
-  pub marked : IsMarkedTable number slots bits
   pub count : mask + 1 ≡ length slots

@@ -1,46 +1,40 @@
 //! Calls with closures, in the order of the walk: `retain`, one step of `extract_if`, and writes to each
 //! value.
-ghost use Rattle.std.specs.Prelude.{◌≡◌, ◌+◌, ◌^◌, ◌<◌, ◌≤◌, length, [], drop, set, slice_index_or};
+ghost use Rattle.std.specs.Prelude.{◌≡◌, ◌^◌, ◌<◌, length, drop};
 ghost use Rattle.intmap_table.specs.Walk.{walk_of};
-ghost use Rattle.intmap_table.specs.Tables.Slots.{rows, joined, IsMarkedTable, Held};
+ghost use Rattle.intmap_table.specs.Tables.Slots.{rows, joined, IsTable};
 ghost use Rattle.intmap_table.specs.Retaining.{Retains, KeepsAt, TakesPair};
 ghost use Rattle.intmap_table.specs.Taking.{TakesEach};
 ghost use Rattle.intmap_table.specs.Writes.{Writes, WritesAt, TakesPairMut};
 ghost use Rattle.intmap_table.specs.Picking.{AsksAt, ExtractsBehind, IsReached, PicksAt};
 
-use crate::bits::Bits;
 use crate::kept::Kept;
 use crate::key::IntKey;
-use crate::slot::Slot;
+use crate::table::Table;
+use crate::table::slots::Slots;
 use crate::table::stored::Stored;
 use crate::table::walk::Cursor;
-use crate::table::{Table, unmark_if_empty};
 use std::alloc::Allocator;
 
 /// Keeps the pairs for which the closure returns true, slot after slot, and returns their number.
-/// The bits mark the slots that hold a pair. A slot that is emptied loses its bit.
 fn retain_slots<K: IntKey, V: Drop, A: Allocator, F: FnMut(K, &V) -> bool>(
-    bits: &mut Bits<A>,
-    slots: &mut Vec<Slot<K, Kept<V>, A>, A>,
+    slots: &mut Slots<K, Kept<V>, A>,
     f: &mut F,
 ) -> usize
     requires callable { TakesEach (KeepsAt F.FnMut) (TakesPair F.FnMut) f.old
-        (joined (rows slots.old.items)) }
-    requires table { IsMarkedTable K.number_of slots.old.items bits.old }
-    requires count { length (joined (rows slots.old.items)) < 2 ^ 64 }
-    ensures pairs { Retains (KeepsAt F.FnMut) f.old (joined (rows slots.old.items))
-        (joined (rows slots.new.items)) f.new }
-    ensures table { IsMarkedTable K.number_of slots.new.items bits.new }
-    ensures len { length slots.new.items ≡ length slots.old.items }
-    ensures count { result ≡ length (joined (rows slots.new.items)) }
+        (joined (rows slots.old)) }
+    requires table { IsTable K.number_of slots.old }
+    requires count { length (joined (rows slots.old)) < 2 ^ 64 }
+    ensures pairs { Retains (KeepsAt F.FnMut) f.old (joined (rows slots.old))
+        (joined (rows slots.new)) f.new }
+    ensures table { IsTable K.number_of slots.new }
+    ensures len { length slots.new ≡ length slots.old }
+    ensures count { result ≡ length (joined (rows slots.new)) }
 {
     let mut count = 0;
     let mut from = 0;
-    while let Some(index) = bits.next_from(from) {
-        let slot = &mut slots[index];
-        slot.retain(f);
-        unmark_if_empty(bits, slot, index);
-        count += slot.len();
+    while let Some(index) = slots.next_filled(from) {
+        count += slots.retain_at(index, f);
         from = index + 1;
     }
     count
@@ -59,66 +53,36 @@ impl<K: IntKey, V: Drop, A: Allocator> Table<K, Kept<V>, A> {
         ensures own { walk_of K.number_of self.new.walk self.new.capacity ≡ self.new.walk }
         ensures count { result ≡ length self.new.walk }
     {
-        retain_slots(&mut self.directory.bits, &mut self.slots, f)
+        retain_slots(&mut self.slots, f)
     }
 }
 
-/// Asks the closure about each pair of the current slot, from the place on, and removes the first
-/// one that it picks. A slot that is emptied loses its bit.
-fn extract_in<K: IntKey, V, A: Allocator, F: FnMut(K, &mut V) -> bool>(
-    bits: &mut Bits<A>,
-    slots: &mut Vec<Slot<K, Kept<V>, A>, A>,
-    at: &mut Cursor,
-    f: &mut F,
-) -> Option<(Stored<K>, Kept<V>)>
-    requires table { IsMarkedTable K.number_of slots.old.items bits.old }
-    requires within { at.old.slot < length slots.old.items }
-    requires reached { IsReached K.number_of (joined (rows slots.old.items))
-        (length slots.old.items) at.old.slot at.old.place at.old.passed }
-    requires count { length (joined (rows slots.old.items)) < 2 ^ 64 }
-    requires callable { TakesEach (AsksAt F.FnMut) (TakesPairMut F.FnMut) f.old
-        (drop at.old.place (slice_index_or (rows slots.old.items) at.old.slot [])) }
-    ensures slot { at.new.slot ≡ at.old.slot }
-    ensures passed { at.new.passed + at.old.place ≡ at.old.passed + at.new.place }
-    ensures step { (slot : Held K V) × (slots.new.items ≡ set slots.old.items at.old.slot slot)
-        × ExtractsBehind (PicksAt F.FnMut) f.old
-        (slice_index_or (rows slots.old.items) at.old.slot []) at.old.place result
-        f.new slot.pairs at.new.place
-        × (at.new.place ≤ length slot.pairs) }
-    ensures table { IsMarkedTable K.number_of slots.new.items bits.new }
-{
-    let slot = &mut slots[at.slot];
-    let before = at.place;
-    let found = slot.extract_next(&mut at.place, f);
-    at.passed += at.place - before;
-    unmark_if_empty(bits, slot, at.slot);
-    found
-}
-
 /// Asks the closure about each pair from the cursor on, slot after slot, and removes the first one
-/// that it picks. The bits mark the slots that hold a pair.
+/// that it picks.
 fn extract_slots<K: IntKey, V, A: Allocator, F: FnMut(K, &mut V) -> bool>(
-    bits: &mut Bits<A>,
-    slots: &mut Vec<Slot<K, Kept<V>, A>, A>,
+    slots: &mut Slots<K, Kept<V>, A>,
     at: &mut Cursor,
     f: &mut F,
 ) -> Option<(Stored<K>, Kept<V>)>
-    requires table { IsMarkedTable K.number_of slots.old.items bits.old }
-    requires reached { IsReached K.number_of (joined (rows slots.old.items))
-        (length slots.old.items) at.old.slot at.old.place at.old.passed }
-    requires count { length (joined (rows slots.old.items)) < 2 ^ 64 }
+    requires table { IsTable K.number_of slots.old }
+    requires reached { IsReached K.number_of (joined (rows slots.old))
+        (length slots.old) at.old.slot at.old.place at.old.passed }
+    requires count { length (joined (rows slots.old)) < 2 ^ 64 }
     requires callable { TakesEach (AsksAt F.FnMut) (TakesPairMut F.FnMut) f.old
-        (drop at.old.passed (joined (rows slots.old.items))) }
-    ensures step { ExtractsBehind (PicksAt F.FnMut) f.old (joined (rows slots.old.items))
-        at.old.passed result f.new (joined (rows slots.new.items)) at.new.passed }
-    ensures table { IsMarkedTable K.number_of slots.new.items bits.new }
-    ensures reached { IsReached K.number_of (joined (rows slots.new.items))
-        (length slots.new.items) at.new.slot at.new.place at.new.passed }
-    ensures len { length slots.new.items ≡ length slots.old.items }
+        (drop at.old.passed (joined (rows slots.old))) }
+    ensures step { ExtractsBehind (PicksAt F.FnMut) f.old (joined (rows slots.old))
+        at.old.passed result f.new (joined (rows slots.new)) at.new.passed }
+    ensures table { IsTable K.number_of slots.new }
+    ensures reached { IsReached K.number_of (joined (rows slots.new))
+        (length slots.new) at.new.slot at.new.place at.new.passed }
+    ensures len { length slots.new ≡ length slots.old }
 {
-    while let Some(slot) = bits.next_from(at.slot) {
+    while let Some(slot) = slots.next_filled(at.slot) {
         at.slot = slot;
-        if let Some(pair) = extract_in(bits, slots, at, f) {
+        let before = at.place;
+        let found = slots.extract_at(slot, &mut at.place, f);
+        at.passed += at.place - before;
+        if let Some(pair) = found {
             return Some(pair);
         }
         at.slot = slot + 1;
@@ -148,35 +112,12 @@ impl<K: IntKey, V, A: Allocator> Table<K, Kept<V>, A> {
         ensures capacity { self.new.capacity ≡ self.old.capacity }
         ensures own { walk_of K.number_of self.new.walk self.new.capacity ≡ self.new.walk }
     {
-        let bits = &mut self.directory.bits;
-        let Some((key, kept)) = extract_slots(bits, &mut self.slots, at, f) else {
+        let Some((key, kept)) = extract_slots(&mut self.slots, at, f) else {
             return None;
         };
         Some((*key.key(), kept.into_value()))
     }
-}
 
-/// Calls the closure at each pair in turn, slot after slot, with a mutable reference to its value.
-/// The bits mark the slots that hold a pair.
-fn write_slots<K: IntKey, V, A: Allocator, F: FnMut(K, &mut V)>(
-    bits: &Bits<A>,
-    slots: &mut Vec<Slot<K, Kept<V>, A>, A>,
-    f: &mut F,
-)
-    requires callable { TakesEach (WritesAt F.FnMut) (TakesPairMut F.FnMut) f.old
-        (joined (rows slots.old.items)) }
-    requires table { IsMarkedTable K.number_of slots.old.items bits.now }
-    ensures pairs { Writes (WritesAt F.FnMut) f.old (joined (rows slots.old.items))
-        (joined (rows slots.new.items)) f.new }
-    ensures table { IsMarkedTable K.number_of slots.new.items bits.now }
-    ensures len { length slots.new.items ≡ length slots.old.items }
-{
-    for index in bits.iter() {
-        slots[index].write_each(f);
-    }
-}
-
-impl<K: IntKey, V, A: Allocator> Table<K, Kept<V>, A> {
     /// Calls the closure at each pair in the order of the walk, with a mutable reference to its
     /// value.
     pub fn write_each<F: FnMut(K, &mut V)>(&mut self, f: &mut F)
@@ -187,6 +128,6 @@ impl<K: IntKey, V, A: Allocator> Table<K, Kept<V>, A> {
         ensures capacity { self.new.capacity ≡ self.old.capacity }
         ensures own { walk_of K.number_of self.new.walk self.new.capacity ≡ self.new.walk }
     {
-        write_slots(&self.directory.bits, &mut self.slots, f);
+        self.slots.write_each(f);
     }
 }

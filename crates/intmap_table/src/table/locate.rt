@@ -41,7 +41,7 @@ impl<K: IntKey, X, A: Allocator> Table<K, X, A> {
         ensures known { K.is_valid key }
     {
         let slot = self.index_of(&key);
-        let Some(place) = self.slots[slot].find(&key, steps) else {
+        let Some(place) = self.slots.find(slot, &key, steps) else {
             return Err(slot);
         };
         Ok(Location { key, slot, place })
@@ -54,7 +54,7 @@ impl<K: IntKey, X, A: Allocator> Table<K, X, A> {
         ensures at { IsAt K.number_of self.now.walk self.now.capacity result }
     {
         let slot = self.index_of(&key);
-        let place = self.slots[slot].last_place();
+        let place = self.slots.last_place(slot);
         Location { key, slot, place }
     }
 
@@ -64,7 +64,7 @@ impl<K: IntKey, X, A: Allocator> Table<K, X, A> {
         ensures { Some result.now
             ≡ key_at (slot_of K.number_of self.now.walk self.now.capacity slot) place }
     {
-        self.slots[slot].key_at(place).key()
+        self.slots.key_at(slot, place).key()
     }
 
     /// The value of a located pair.
@@ -73,7 +73,7 @@ impl<K: IntKey, X, A: Allocator> Table<K, X, A> {
         requires { IsAt K.number_of self.now.walk self.now.capacity at }
         ensures { value_of K.number_of self.now.walk at.key ≡ Some result.now }
     {
-        self.slots[at.slot].value_at(at.place)
+        self.slots.value_at(at.slot, at.place)
     }
 
     /// A mutable reference to the value of a located pair.
@@ -84,7 +84,7 @@ impl<K: IntKey, X, A: Allocator> Table<K, X, A> {
             A.Allocator self.entry at.key result) }
         ensures value { value_of K.number_of self.old.walk at.key ≡ Some result.now }
     {
-        self.slots[at.slot].value_mut_at(at.place)
+        self.slots.value_mut_at(at.slot, at.place)
     }
 
     /// Removes a located pair. The last pair of its slot moves into its place.
@@ -96,14 +96,7 @@ impl<K: IntKey, X, A: Allocator> Table<K, X, A> {
             (take_key K.number_of self.old.walk self.old.capacity at.key) self.old.capacity }
         ensures capacity { self.new.capacity ≡ self.old.capacity }
     {
-        // read before the slot changes, so that a write there can't delay it
-        let word = self.directory.bits.word(at.slot);
-        let slot = &mut self.slots[at.slot];
-        if let Some((_, value)) = slot.take_lone() {
-            self.directory.bits.clear_in(word, at.slot);
-            return value;
-        }
-        let (_, value) = slot.take_at(at.place);
+        let (_, value) = self.slots.take_at(at.slot, at.place);
         value
     }
 
@@ -119,7 +112,7 @@ impl<K: IntKey, X, A: Allocator> Table<K, X, A> {
         ensures key { K.is_valid at.key }
     {
         let pair = (Stored::new(at.key), value);
-        let (_, old) = self.slots[at.slot].replace_at(at.place, pair);
+        let (_, old) = self.slots.replace_at(at.slot, at.place, pair);
         old
     }
 }
@@ -141,23 +134,11 @@ impl<K: IntKey, V, A: Allocator> Table<K, Kept<V>, A> {
         ensures capacity { self.new.capacity ≡ self.old.capacity }
         ensures key { IfNone result (K.is_valid at.key) }
     {
-        let slot = &mut self.slots[at.slot];
-        if let Some((_, kept)) = slot.take_lone() {
-            self.directory.bits.clear(at.slot);
-            match hand_value(kept, f) {
-                Ok(handed) => return Some(handed),
-                Err(back) => {
-                    slot.put_back_first((Stored::new(at.key), back));
-                    self.directory.bits.set(at.slot);
-                    return None;
-                }
-            }
-        }
-        let (_, kept) = slot.take_at(at.place);
+        let (_, kept) = self.slots.take_at(at.slot, at.place);
         match hand_value(kept, f) {
             Ok(handed) => Some(handed),
             Err(back) => {
-                slot.put_back((Stored::new(at.key), back));
+                self.slots.put_back(at.slot, (Stored::new(at.key), back));
                 None
             }
         }

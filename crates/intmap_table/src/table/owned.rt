@@ -47,10 +47,9 @@ impl<K: IntKey, X: Drop, A: Allocator + Copy> Table<K, X, A> {
             (λ pair. self.old.walk ≡ pair ∷ (into_iter_items rest.new ++ self.new.walk)) }
         ensures passed { ArePassed K.number_of self.new.walk self.new.capacity from.new }
     {
-        let index = self.directory.bits.next_from(*from)?;
+        let index = self.slots.next_filled(*from)?;
         *from = index;
-        let (key, value) = self.slots[index].take_all(rest);
-        self.directory.bits.clear(index);
+        let (key, value) = self.slots.take_all(index, rest);
         Some((*key.key(), value))
     }
 
@@ -59,7 +58,7 @@ impl<K: IntKey, X: Drop, A: Allocator + Copy> Table<K, X, A> {
         ensures { result ≡ self.walk }
     {
         IntoPairs {
-            rest: Vec::new(*self.slots.allocator()).into_iter(),
+            rest: Vec::new(self.slots.allocator()).into_iter(),
             table: self,
             from: 0,
         }

@@ -6,11 +6,10 @@ ghost use Rattle.intmap_table.specs.Picking.{IsReached};
 ghost use Rattle.intmap_table.specs.Walk.{walk_of, ArePassed};
 ghost use Rattle.intmap_table.specs.Classes.{slot_number};
 
-use crate::bits::Indices;
 use crate::key::IntKey;
-use crate::slot::Slot;
+use crate::table::Table;
+use crate::table::slots::filled::FilledRows;
 use crate::table::stored::Stored;
-use crate::table::{Table, unmark_if_empty};
 use std::alloc::{AllocError, Allocator};
 use std::marker::Model;
 
@@ -36,37 +35,23 @@ impl Cursor {
     }
 }
 
-/// A slot, by its number.
-#[inline(always)]
-fn slot_at<K: IntKey, X, A: Allocator>(slots: &[Slot<K, X, A>], index: usize) -> &Slot<K, X, A>
-    requires { index < length slots.now }
-    ensures { result.now ≡ slice_index_or slots.now index result.now }
-{
-    &slots[index]
-}
-
-/// The pairs that are left: those of the current slot, then those of the filled slots behind it, by
-/// their indices.
+/// The pairs that are left: those of the current slot, then those of the slots behind it.
 #[derive(Drop)]
 pub struct Pairs<'a, K: IntKey, X, A: Allocator> {
     pub(super) first: Option<&'a (Stored<K>, X)>,
     pub(super) rest: &'a [(Stored<K>, X)],
-    pub(super) filled: Indices<'a>,
-    pub(super) slots: &'a [Slot<K, X, A>],
+    pub(super) filled: FilledRows<'a, K, X, A>,
 }
 
-// Invariant: each index that is left is that of a slot.
 impl<'a, K: IntKey, X, A: Allocator> Model for Pairs<'a, K, X, A> {
-    ghost use Rattle.std.specs.Prelude.{List, All, ◌<◌, ◌++◌, length};
+    ghost use Rattle.std.specs.Prelude.{List, ◌++◌};
     ghost use Rattle.std.specs.Option.{option_copied};
-    ghost use Rattle.intmap_table.specs.Tables.Slots.{all_pairs, rows, pairs_at};
+    ghost use Rattle.intmap_table.specs.Tables.Slots.{all_pairs, joined};
 
     ghost Value = { List (K × X) };
 
     ghost view = { λ it.
-        all_pairs (option_copied it.first) it.rest.now ++ pairs_at (rows it.slots.now) it.filled };
-
-    ghost invariant = { λ it. All (λ index. index < length it.slots.now) it.filled };
+        all_pairs (option_copied it.first) it.rest.now ++ joined it.filled };
 }
 
 impl<'a, K: IntKey, X, A: Allocator> Clone for Pairs<'a, K, X, A> {
@@ -79,7 +64,6 @@ impl<'a, K: IntKey, X, A: Allocator> Clone for Pairs<'a, K, X, A> {
             first: self.first,
             rest: self.rest,
             filled: self.filled.clone()?,
-            slots: self.slots,
         })
     }
 }
@@ -100,17 +84,18 @@ impl<'a, K: IntKey, X, A: Allocator> Iterator for Pairs<'a, K, X, A> {
                 self.rest = rest;
                 return Some((pair.0.key(), &pair.1));
             }
-            let Some(index) = self.filled.next() else {
+            let Some((first, rest)) = self.filled.next() else {
                 return None;
             };
-            (self.first, self.rest) = slot_at(self.slots, index).parts();
+            self.first = first;
+            self.rest = rest;
         }
     }
 }
 
 impl<K: IntKey, X, A: Allocator> Table<K, X, A> {
     /// The first pair from the cursor on, or `None` if no pair is left. The cursor moves on behind
-    /// that pair. The bits tell which slots to look at.
+    /// that pair.
     pub fn step(&self, at: &mut Cursor) -> Option<(&K, &X)>
         requires reached { IsReached K.number_of self.now.walk self.now.capacity
             at.old.slot at.old.place at.old.passed }
@@ -122,14 +107,12 @@ impl<K: IntKey, X, A: Allocator> Table<K, X, A> {
         ensures reached { IsReached K.number_of self.now.walk self.now.capacity
             at.new.slot at.new.place at.new.passed }
     {
-        while let Some(slot) = self.directory.bits.next_from(at.slot) {
+        while let Some(slot) = self.slots.next_filled(at.slot) {
             at.slot = slot;
-            let row = slot_at(&self.slots, slot);
-            let place = at.place;
-            if place < row.len() {
+            if let Some((key, value)) = self.slots.pair_at(slot, at.place) {
                 at.place += 1;
                 at.passed += 1;
-                return Some((row.key_at(place).key(), row.value_at(place)));
+                return Some((key.key(), value));
             }
             at.slot = slot + 1;
             at.place = 0;
@@ -148,11 +131,9 @@ impl<K: IntKey, X, A: Allocator> Table<K, X, A> {
         ensures slot { IfSome result
             (λ pair. from.new ≡ slot_number K.number_of pair.0 self.old.capacity) }
     {
-        let index = self.directory.bits.next_from(*from)?;
+        let index = self.slots.next_filled(*from)?;
         *from = index;
-        let slot = &mut self.slots[index];
-        let (key, value) = slot.take_front();
-        unmark_if_empty(&mut self.directory.bits, slot, index);
+        let (key, value) = self.slots.take_front(index);
         Some((*key.key(), value))
     }
 }

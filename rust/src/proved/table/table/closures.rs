@@ -2,29 +2,23 @@
 //! value.
 
 use crate::memory::prelude::*;
-use crate::proved::table::bits::Bits;
 use crate::proved::table::kept::Kept;
 use crate::proved::table::key::IntKey;
-use crate::proved::table::slot::Slot;
+use crate::proved::table::table::Table;
+use crate::proved::table::table::slots::Slots;
 use crate::proved::table::table::stored::Stored;
 use crate::proved::table::table::walk::Cursor;
-use crate::proved::table::table::{Table, unmark_if_empty};
 use crate::memory::alloc::Allocator;
 
 /// Keeps the pairs for which the closure returns true, slot after slot, and returns their number.
-/// The bits mark the slots that hold a pair. A slot that is emptied loses its bit.
 fn retain_slots<K: IntKey, V, A: Allocator, F: FnMut(K, &V) -> bool>(
-    bits: &mut Bits<A>,
-    slots: &mut Vec<Slot<K, Kept<V>, A>, A>,
+    slots: &mut Slots<K, Kept<V>, A>,
     f: &mut F,
 ) -> usize {
     let mut count = 0;
     let mut from = 0;
-    while let Some(index) = bits.next_from(from) {
-        let slot = &mut slots[index];
-        slot.retain(f);
-        unmark_if_empty(bits, slot, index);
-        count += slot.len();
+    while let Some(index) = slots.next_filled(from) {
+        count += slots.retain_at(index, f);
         from = index + 1;
     }
     count
@@ -34,37 +28,23 @@ impl<K: IntKey, V, A: Allocator> Table<K, Kept<V>, A> {
     /// Keeps the pairs for which the closure returns true, in their order, and returns their
     /// number. The closure is called once at each pair, in the order of the walk.
     pub fn retain<F: FnMut(K, &V) -> bool>(&mut self, f: &mut F) -> usize {
-        retain_slots(&mut self.directory.bits, &mut self.slots, f)
+        retain_slots(&mut self.slots, f)
     }
 }
 
-/// Asks the closure about each pair of the current slot, from the place on, and removes the first
-/// one that it picks. A slot that is emptied loses its bit.
-fn extract_in<K: IntKey, V, A: Allocator, F: FnMut(K, &mut V) -> bool>(
-    bits: &mut Bits<A>,
-    slots: &mut Vec<Slot<K, Kept<V>, A>, A>,
-    at: &mut Cursor,
-    f: &mut F,
-) -> Option<(Stored<K>, Kept<V>)> {
-    let slot = &mut slots[at.slot];
-    let before = at.place;
-    let found = slot.extract_next(&mut at.place, f);
-    at.passed += at.place - before;
-    unmark_if_empty(bits, slot, at.slot);
-    found
-}
-
 /// Asks the closure about each pair from the cursor on, slot after slot, and removes the first one
-/// that it picks. The bits mark the slots that hold a pair.
+/// that it picks.
 fn extract_slots<K: IntKey, V, A: Allocator, F: FnMut(K, &mut V) -> bool>(
-    bits: &mut Bits<A>,
-    slots: &mut Vec<Slot<K, Kept<V>, A>, A>,
+    slots: &mut Slots<K, Kept<V>, A>,
     at: &mut Cursor,
     f: &mut F,
 ) -> Option<(Stored<K>, Kept<V>)> {
-    while let Some(slot) = bits.next_from(at.slot) {
+    while let Some(slot) = slots.next_filled(at.slot) {
         at.slot = slot;
-        if let Some(pair) = extract_in(bits, slots, at, f) {
+        let before = at.place;
+        let found = slots.extract_at(slot, &mut at.place, f);
+        at.passed += at.place - before;
+        if let Some(pair) = found {
             return Some(pair);
         }
         at.slot = slot + 1;
@@ -82,30 +62,15 @@ impl<K: IntKey, V, A: Allocator> Table<K, Kept<V>, A> {
         at: &mut Cursor,
         f: &mut F,
     ) -> Option<(K, V)> {
-        let bits = &mut self.directory.bits;
-        let Some((key, kept)) = extract_slots(bits, &mut self.slots, at, f) else {
+        let Some((key, kept)) = extract_slots(&mut self.slots, at, f) else {
             return None;
         };
         Some((*key.key(), kept.into_value()))
     }
-}
 
-/// Calls the closure at each pair in turn, slot after slot, with a mutable reference to its value.
-/// The bits mark the slots that hold a pair.
-fn write_slots<K: IntKey, V, A: Allocator, F: FnMut(K, &mut V)>(
-    bits: &Bits<A>,
-    slots: &mut Vec<Slot<K, Kept<V>, A>, A>,
-    f: &mut F,
-) {
-    for index in bits.iter() {
-        slots[index].write_each(f);
-    }
-}
-
-impl<K: IntKey, V, A: Allocator> Table<K, Kept<V>, A> {
     /// Calls the closure at each pair in the order of the walk, with a mutable reference to its
     /// value.
     pub fn write_each<F: FnMut(K, &mut V)>(&mut self, f: &mut F) {
-        write_slots(&self.directory.bits, &mut self.slots, f);
+        self.slots.write_each(f);
     }
 }

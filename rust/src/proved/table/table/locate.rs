@@ -23,7 +23,7 @@ impl<K: IntKey, X, A: Allocator> Table<K, X, A> {
     #[inline(always)]
     pub fn locate(&self, key: K, steps: &mut Steps) -> Result<Location<K>, usize> {
         let slot = self.index_of(&key);
-        let Some(place) = self.slots[slot].find(&key, steps) else {
+        let Some(place) = self.slots.find(slot, &key, steps) else {
             return Err(slot);
         };
         Ok(Location { key, slot, place })
@@ -32,37 +32,30 @@ impl<K: IntKey, X, A: Allocator> Table<K, X, A> {
     /// Where the pair of a key is that is the last of its slot.
     pub(super) fn locate_last(&self, key: K) -> Location<K> {
         let slot = self.index_of(&key);
-        let place = self.slots[slot].last_place();
+        let place = self.slots.last_place(slot);
         Location { key, slot, place }
     }
 
     /// The key of the pair at a place of a slot.
     pub fn key_at(&self, slot: usize, place: usize) -> &K {
-        self.slots[slot].key_at(place).key()
+        self.slots.key_at(slot, place).key()
     }
 
     /// The value of a located pair.
     #[inline(always)]
     pub fn value_at(&self, at: Location<K>) -> &X {
-        self.slots[at.slot].value_at(at.place)
+        self.slots.value_at(at.slot, at.place)
     }
 
     /// A mutable reference to the value of a located pair.
     pub fn value_mut_at(&mut self, at: Location<K>) -> &mut X {
-        self.slots[at.slot].value_mut_at(at.place)
+        self.slots.value_mut_at(at.slot, at.place)
     }
 
     /// Removes a located pair. The last pair of its slot moves into its place.
     #[inline(always)]
     pub fn take_at(&mut self, at: Location<K>) -> X {
-        // read before the slot changes, so that a write there can't delay it
-        let word = self.directory.bits.word(at.slot);
-        let slot = &mut self.slots[at.slot];
-        if let Some((_, value)) = slot.take_lone() {
-            self.directory.bits.clear_in(word, at.slot);
-            return value;
-        }
-        let (_, value) = slot.take_at(at.place);
+        let (_, value) = self.slots.take_at(at.slot, at.place);
         value
     }
 
@@ -71,7 +64,7 @@ impl<K: IntKey, X, A: Allocator> Table<K, X, A> {
     #[inline(always)]
     pub fn replace_at(&mut self, at: Location<K>, value: X) -> X {
         let pair = (Stored::new(at.key), value);
-        let (_, old) = self.slots[at.slot].replace_at(at.place, pair);
+        let (_, old) = self.slots.replace_at(at.slot, at.place, pair);
         old
     }
 }
@@ -81,23 +74,11 @@ impl<K: IntKey, V, A: Allocator> Table<K, Kept<V>, A> {
     /// closure returns an error, the pair of the key and the value in it is put at the end of the
     /// slot. It allocates nothing. While the closure runs, the pair is in no slot.
     pub fn hand_over<R, F: FnOnce(V) -> Result<R, V>>(&mut self, at: Location<K>, f: F) -> Option<R> {
-        let slot = &mut self.slots[at.slot];
-        if let Some((_, kept)) = slot.take_lone() {
-            self.directory.bits.clear(at.slot);
-            match hand_value(kept, f) {
-                Ok(handed) => return Some(handed),
-                Err(back) => {
-                    slot.put_back_first((Stored::new(at.key), back));
-                    self.directory.bits.set(at.slot);
-                    return None;
-                }
-            }
-        }
-        let (_, kept) = slot.take_at(at.place);
+        let (_, kept) = self.slots.take_at(at.slot, at.place);
         match hand_value(kept, f) {
             Ok(handed) => Some(handed),
             Err(back) => {
-                slot.put_back((Stored::new(at.key), back));
+                self.slots.put_back(at.slot, (Stored::new(at.key), back));
                 None
             }
         }

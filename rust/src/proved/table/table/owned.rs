@@ -25,17 +25,16 @@ impl<K: IntKey, X, A: Allocator + Copy> Table<K, X, A> {
         from: &mut usize,
         rest: &mut IntoIter<(Stored<K>, X), A>,
     ) -> Option<(K, X)> {
-        let index = self.directory.bits.next_from(*from)?;
+        let index = self.slots.next_filled(*from)?;
         *from = index;
-        let (key, value) = self.slots[index].take_all(rest);
-        self.directory.bits.clear(index);
+        let (key, value) = self.slots.take_all(index, rest);
         Some((*key.key(), value))
     }
 
     /// The pairs by value, in the order of the walk. It allocates nothing.
     pub fn into_pairs(self) -> IntoPairs<K, X, A> {
         IntoPairs {
-            rest: Vec::new(*self.slots.allocator()).into_iter(),
+            rest: Vec::new(self.slots.allocator()).into_iter(),
             table: self,
             from: 0,
         }

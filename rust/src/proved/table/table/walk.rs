@@ -2,11 +2,10 @@
 //! its front.
 
 use crate::memory::prelude::*;
-use crate::proved::table::bits::Indices;
 use crate::proved::table::key::IntKey;
-use crate::proved::table::slot::Slot;
+use crate::proved::table::table::Table;
+use crate::proved::table::table::slots::filled::FilledRows;
 use crate::proved::table::table::stored::Stored;
-use crate::proved::table::table::{Table, unmark_if_empty};
 use crate::memory::alloc::{AllocError, Allocator};
 
 /// The position of a walk: a place in a slot, and the number of pairs of the walk before it.
@@ -29,19 +28,11 @@ impl Cursor {
     }
 }
 
-/// A slot, by its number.
-#[inline(always)]
-fn slot_at<K: IntKey, X, A: Allocator>(slots: &[Slot<K, X, A>], index: usize) -> &Slot<K, X, A> {
-    &slots[index]
-}
-
-/// The pairs that are left: those of the current slot, then those of the filled slots behind it, by
-/// their indices.
+/// The pairs that are left: those of the current slot, then those of the slots behind it.
 pub struct Pairs<'a, K: IntKey, X, A: Allocator> {
     pub(super) first: Option<&'a (Stored<K>, X)>,
     pub(super) rest: &'a [(Stored<K>, X)],
-    pub(super) filled: Indices<'a>,
-    pub(super) slots: &'a [Slot<K, X, A>],
+    pub(super) filled: FilledRows<'a, K, X, A>,
 }
 
 impl<'a, K: IntKey, X, A: Allocator> Clone for Pairs<'a, K, X, A> {
@@ -50,7 +41,6 @@ impl<'a, K: IntKey, X, A: Allocator> Clone for Pairs<'a, K, X, A> {
             first: self.first,
             rest: self.rest,
             filled: self.filled.clone()?,
-            slots: self.slots,
         })
     }
 }
@@ -67,26 +57,25 @@ impl<'a, K: IntKey, X, A: Allocator> Iterator for Pairs<'a, K, X, A> {
                 self.rest = rest;
                 return Some((pair.0.key(), &pair.1));
             }
-            let Some(index) = self.filled.next() else {
+            let Some((first, rest)) = self.filled.next() else {
                 return None;
             };
-            (self.first, self.rest) = slot_at(self.slots, index).parts();
+            self.first = first;
+            self.rest = rest;
         }
     }
 }
 
 impl<K: IntKey, X, A: Allocator> Table<K, X, A> {
     /// The first pair from the cursor on, or `None` if no pair is left. The cursor moves on behind
-    /// that pair. The bits tell which slots to look at.
+    /// that pair.
     pub fn step(&self, at: &mut Cursor) -> Option<(&K, &X)> {
-        while let Some(slot) = self.directory.bits.next_from(at.slot) {
+        while let Some(slot) = self.slots.next_filled(at.slot) {
             at.slot = slot;
-            let row = slot_at(&self.slots, slot);
-            let place = at.place;
-            if place < row.len() {
+            if let Some((key, value)) = self.slots.pair_at(slot, at.place) {
                 at.place += 1;
                 at.passed += 1;
-                return Some((row.key_at(place).key(), row.value_at(place)));
+                return Some((key.key(), value));
             }
             at.slot = slot + 1;
             at.place = 0;
@@ -97,11 +86,9 @@ impl<K: IntKey, X, A: Allocator> Table<K, X, A> {
     /// Removes the first pair of the walk and returns it. No slot before `from` holds a
     /// pair. `from` moves on to the slot that held the removed pair.
     pub fn take_front(&mut self, from: &mut usize) -> Option<(K, X)> {
-        let index = self.directory.bits.next_from(*from)?;
+        let index = self.slots.next_filled(*from)?;
         *from = index;
-        let slot = &mut self.slots[index];
-        let (key, value) = slot.take_front();
-        unmark_if_empty(&mut self.directory.bits, slot, index);
+        let (key, value) = self.slots.take_front(index);
         Some((*key.key(), value))
     }
 }

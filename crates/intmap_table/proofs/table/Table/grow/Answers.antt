@@ -1,98 +1,11 @@
-use Rattle.std.proofs.Common.{◌≡◌, ◌∙◌, length, ap}
-use Rattle.std.specs.Vec.{with_items}
-use Rattle.std.proofs.lemmas.List.{with_items_is}
-use Rattle.intmap_table.specs.Tables.Slots.{Grid, rows, joined}
-use Rattle.intmap_table.specs.Tables.Moves.{IsGrown}
-use Rattle.intmap_table.proofs.SlotNumberLemmas.{capacity-greatest}
-use Rattle.intmap_table.proofs.Tables.GrownLemmas.{IsGrown-from, grown-more}
-use Rattle.intmap_table.proofs.Tables.MoveLemmas.{joined-moved}
-use Rattle.intmap_table.proofs.Tables.MemoryLemmas.{OnErr-always, grid-same_rows, IsMaskedTable-same_rows, IsLongerOf, take-longer, IsLonger-of, CanMoveOn-longer, IsMoved-longer, IsMaskedTable-longer}
+use Rattle.std.proofs.Common.{◌∙◌}
+use Rattle.intmap_table.proofs.Tables.BackLemmas.{OnErr-map, OnOk-or}
+use Rattle.intmap_table.proofs.Tables.TableLemmas.{IsTable-same_rows, Grid-same_rows}
 use Rattle.intmap_table.proofs.table.Table.grow.Goals as goal
-use Rattle.intmap_table.proofs.table.Table.grow.Goals.{After-self, After-deref_mut, After-move_all}
-
-module _ (g : _) (c : After-self g) where
-  walk : joined (rows c.self.inside.slots.items) ≡ c.args.self.now.walk
-  walk = ap (λ (t : Grid _ _). t.walk) c.self.view_is
-
-  grown : IsGrown (length c.self.inside.slots.items) c.args.capacity
-  grown =
-      let own : length c.self.inside.slots.items ≡ c.args.self.now.capacity = ap (λ (t : Grid _ _). t.capacity) c.self.view_is in
-      IsGrown-from _ _ c.self.invariant.marked.table.capacity c.requires.capacity (rw own c.requires.larger)
-
-pub make_room-requires-clause-grown : goal.make_room-requires-clause-grown
-make_room-requires-clause-grown g c = rw c.in_ok-bits.ensures.slots (grown g (goal.at.make_room-requires-clause-grown g c).After-self)
-
-pub make_room-requires-clause-fits : goal.make_room-requires-clause-fits
-make_room-requires-clause-fits g c = rw (c.in_ok-bits.ensures.slots, walk g (goal.at.make_room-requires-clause-fits g c).After-self) c.requires.fits
 
 pub invariant_of-self : goal.invariant_of-self
-invariant_of-self g c = rw c.in_err-bits.ensures.slots c.self.invariant
+invariant_of-self g c =
+    OnOk-or c.grow.result c.grow.ensures.table (OnErr-map c.grow.result (λ same. IsTable-same_rows _ c.self.inside.slots c.grow.new.self same c.self.invariant) c.grow.ensures.err)
 
-pub invariant_of-self-in_err-buffer : goal.invariant_of-self-in_err-buffer
-invariant_of-self-in_err-buffer g c = IsMaskedTable-same_rows _ _ (c.in_err-buffer.ensures.err ∙ ap rows c.in_ok-bits.ensures.slots) _ _ _ c.self.invariant
-
-pub returns-in_err-bits-clause-err : goal.returns-in_err-bits-clause-err
-returns-in_err-bits-clause-err g c =
-    OnErr-always c.from_residual.result (grid-same_rows _ _ (ap rows c.in_err-bits.ensures.slots) ∙ c.self.view_is)
-
-pub returns-in_err-buffer-clause-err : goal.returns-in_err-buffer-clause-err
-returns-in_err-buffer-clause-err g c =
-    OnErr-always c.from_residual-in_err-buffer.result (grid-same_rows _ _ (c.in_err-buffer.ensures.err ∙ ap rows c.in_ok-bits.ensures.slots) ∙ c.self.view_is)
-
--- the slots that pairs are moved in are longer
-longer : (g : _) (c : After-deref_mut g) → IsGrown (length c.self.inside.slots.items) c.args.capacity
-    → IsLongerOf g.K.IntKey.number_of c.self.inside.slots.items c.deref_mut.result.now c.self.inside.directory.bits c.self.inside.directory.mask c.args.capacity
-longer g c more = record {
-  grown = more;
-  table = c.self.invariant;
-  len = rw c.deref_mut.ensures.value c.in_ok-buffer.ensures.len;
-  old = rw c.deref_mut.ensures.value (rw c.in_ok-bits.ensures.slots at c.in_ok-buffer.ensures.rows);
-}
-
-pub move_all-requires-clause-longer : goal.move_all-requires-clause-longer
-move_all-requires-clause-longer g c =
-    let at = goal.at.move_all-requires-clause-longer g c in
-    IsLonger-of (longer g at.After-deref_mut (grown g at.After-self))
-
-pub move_all-requires-clause-ready : goal.move_all-requires-clause-ready
-move_all-requires-clause-ready g c =
-    let at = goal.at.move_all-requires-clause-ready g c in
-    rw (CanMoveOn-longer (longer g at.After-deref_mut (grown g at.After-self)) _ _ _, c.deref_mut.ensures.value) (rw c.in_ok-bits.ensures.slots at c.in_ok-buffer.ensures.ready)
-
--- the table's slots are those that pairs were moved in
-written : (g : _) (c : After-move_all g) → (with_items c.make_room.new.slots c.move_all.new.slots).items ≡ c.move_all.new.slots
-written g c = with_items_is c.make_room.new.slots c.move_all.new.slots (c.move_all.ensures.moved.len ∙ c.deref_mut.ensures.len)
-
-pub invariant_of-self-2 : goal.invariant_of-self-2
-invariant_of-self-2 g c =
-    let at = goal.at.invariant_of-self-2 g c in
-    rw (written g at.After-move_all) (IsMaskedTable-longer (longer g at.After-deref_mut (grown g at.After-self)) _ c.move_all.ensures.moved _ c.move_all.ensures.marks)
-
-pub returns-clause-walk : goal.returns-clause-walk
-returns-clause-walk g c =
-    let at = goal.at.returns-clause-walk g c in
-    rw (written g at.After-move_all, ← walk g at.After-self) (joined-moved _ _ _ _ (IsMoved-longer (longer g at.After-deref_mut (grown g at.After-self)) _ c.move_all.ensures.moved))
-
-pub returns-clause-capacity : goal.returns-clause-capacity
-returns-clause-capacity g c =
-    let at = goal.at.returns-clause-capacity g c in
-    rw (written g at.After-move_all) (IsMoved-longer (longer g at.After-deref_mut (grown g at.After-self)) _ c.move_all.ensures.moved).len
-
-pub returns-clause-placed : goal.returns-clause-placed
-returns-clause-placed g c =
-    let at = goal.at.returns-clause-placed g c in
-    rw (take-longer (longer g at.After-deref_mut (grown g at.After-self)), walk g at.After-self) at c.move_all.ensures.placed
-
-pub reserve_slots-requires : goal.reserve_slots-requires
-reserve_slots-requires g c = record {
-  more = grown-more _ _ (grown g (goal.at.reserve_slots-requires g c).After-self);
-  most = capacity-greatest c.args.capacity c.requires.capacity;
-}
-
-pub make_room-requires-clause-table : goal.make_room-requires-clause-table
-make_room-requires-clause-table g c = rw c.in_ok-bits.ensures.slots c.self.invariant
-
-pub move_all-requires-clause-unmarked : goal.move_all-requires-clause-unmarked
-move_all-requires-clause-unmarked g c =
-    let at = goal.at.move_all-requires-clause-unmarked g c in
-    rw (longer g at.After-deref_mut (grown g at.After-self)).len c.in_ok-bits.ensures.bits
+pub returns-clause-err : goal.returns-clause-err
+returns-clause-err g c = OnErr-map c.grow.result (λ same. Grid-same_rows c.self.inside.slots c.grow.new.self same ∙ c.self.view_is) c.grow.ensures.err

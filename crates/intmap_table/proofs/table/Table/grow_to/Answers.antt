@@ -4,6 +4,5 @@ use Rattle.intmap_table.proofs.table.Table.grow_to.Goals as goal
 
 pub returns-then-capacity-len-clause-walk : goal.returns-then-capacity-len-clause-walk
 returns-then-capacity-len-clause-walk g c =
-    let slots = c.self.inside.slots in
-    let own : c.args.capacity ≡ length slots.items = c.if-capacity-len.true ∙ c.len.ensures ∙ slots.ok.0 in
-    rw (← c.self.view_is, own) (sym (walk_of-joined g.K.IntKey.number_of slots.items c.self.invariant.marked.table))
+    let own : c.args.capacity ≡ length c.self.inside.slots = c.if-capacity-len.true ∙ c.len.ensures in
+    rw (← c.self.view_is, own) (sym (walk_of-joined g.K.IntKey.number_of c.self.inside.slots c.self.invariant))

@@ -2,28 +2,27 @@ use Rattle.std.proofs.Common.{◌≡◌, ◌+◌, sym, ap, refl, ◌∙◌}
 use Rattle.std.specs.Prelude.{position}
 use Rattle.intmap_table.specs.Classes.{slot_number, same_key}
 use Rattle.intmap_table.specs.Reach.{reach}
-use Rattle.intmap_table.specs.Tables.Slots.{Grid}
+use Rattle.intmap_table.specs.Tables.Slots.{Grid, row_of}
 use Rattle.intmap_table.proofs.PositionLemmas.{first_value-none}
 use Rattle.intmap_table.proofs.Tables.TableLemmas.{IsSlot, reach-here, value_of-here, slot_of-here}
 use Rattle.intmap_table.proofs.table.Table.locate.Goals as goal
 use Rattle.intmap_table.proofs.table.Table.locate.Goals.{After-find}
 
-here : (g : _) (c : After-find g) → IsSlot g.K.IntKey.number_of c.self.inside.slots.items c.index.result.now c.index_of-slot.result c.args.key
+here : (g : _) (c : After-find g) → IsSlot g.K.IntKey.number_of c.self.inside.slots c.index_of-slot.result c.args.key
 here g c = record {
-  table = c.self.invariant.marked.table;
+  table = c.self.invariant;
   slot = c.index_of-slot.ensures.slot ∙ ap (λ (t : Grid _ _). slot_number g.K.IntKey.number_of c.args.key t.capacity) (sym c.self.view_is);
-  here = c.index.ensures;
 }
 
 counted : (g : _) (c : After-find g) → c.find.new.steps ≡ c.args.steps.now + reach g.K.IntKey.number_of c.args.self.now.walk c.args.self.now.capacity c.args.key
 counted g c =
     c.find.ensures.counted ∙ ap (λ n. c.args.steps.now + n)
-    (sym (reach-here _ _ _ _ _ (here g c)) ∙ ap (λ (t : Grid _ _). reach g.K.IntKey.number_of t.walk t.capacity c.args.key) c.self.view_is)
+    (sym (reach-here _ _ _ _ (here g c)) ∙ ap (λ (t : Grid _ _). reach g.K.IntKey.number_of t.walk t.capacity c.args.key) c.self.view_is)
 
 pub returns-in_default-clause-missing : goal.returns-in_default-clause-missing
 returns-in_default-clause-missing g c =
     let at = here g (goal.at.returns-in_default-clause-missing g c).After-find in
-    rw (← c.self.view_is) (value_of-here _ _ _ _ _ at ∙ first_value-none (same_key g.K.IntKey.number_of c.args.key) c.index.result.now.pairs (sym c.in_default.ensures.place))
+    rw (← c.self.view_is) (value_of-here _ _ _ _ at ∙ first_value-none (same_key g.K.IntKey.number_of c.args.key) (row_of c.self.inside.slots c.index_of-slot.result) (sym c.in_default.ensures.place))
 
 pub returns-in_default-clause-counted : goal.returns-in_default-clause-counted
 returns-in_default-clause-counted g c = counted g (goal.at.returns-in_default-clause-counted g c).After-find
@@ -34,7 +33,7 @@ returns-clause-found g c =
       refl,
       rw (← c.self.view_is) (record {
         slot = at.slot;
-        place = ap (position (λ p. same_key g.K.IntKey.number_of c.args.key p.0)) (slot_of-here _ _ _ _ _ at) ∙ sym c.in-Some.ensures.place;
+        place = ap (position (λ p. same_key g.K.IntKey.number_of c.args.key p.0)) (slot_of-here _ _ _ _ at) ∙ sym c.in-Some.ensures.place;
       }),
     )
 

@@ -1,12 +1,6 @@
 use Rattle.std.proofs.Common.{◌∙◌, ap}
-use Rattle.intmap_table.specs.Tables.Slots.{Grid, rows}
-use Rattle.intmap_table.proofs.Tables.FilledLemmas.{pairs_at-marked, indices-within}
+use Rattle.intmap_table.specs.Tables.Slots.{Grid}
 use Rattle.intmap_table.proofs.table.Table.pairs.Goals as goal
 
-pub invariant_of-result : goal.invariant_of-result
-invariant_of-result g c =
-    rw (c.iter.ensures, c.deref.ensures.value) (indices-within c.self.inside.slots.items c.self.inside.directory.bits c.self.invariant.marked.marks)
-
 pub returns : goal.returns
-returns g c =
-    rw (c.iter.ensures, c.deref.ensures.value) (pairs_at-marked (rows c.self.inside.slots.items) c.self.inside.directory.bits c.self.invariant.marked.marks ∙ ap (λ (t : Grid _ _). t.walk) c.self.view_is)
+returns g c = c.filled.ensures ∙ ap (λ (t : Grid _ _). t.walk) c.self.view_is

@@ -1,57 +1,42 @@
-use Rattle.std.proofs.Common.{◌≡◌, ◌∷◌, [], ◌++◌, ◌∙◌, Some, length, sym, ap}
-use Rattle.std.specs.Prelude.{nat_lt}
-use Rattle.intmap_table.specs.Bindings.{swap_out, value_of}
+use Rattle.std.proofs.Common.{[], ◌∷◌, ◌++◌, length, subst}
+use Rattle.intmap_table.specs.Bindings.{swap_out}
 use Rattle.intmap_table.specs.Classes.{same_key}
 use Rattle.intmap_table.specs.Locations.{IsAt}
-use Rattle.intmap_table.specs.Tables.Slots.{rows, joined}
-use Rattle.intmap_table.proofs.LocationLemmas.{slot-at, place-at, place-within}
-use Rattle.intmap_table.proofs.PositionLemmas.{swap_remove-position, first_value-position}
-use Rattle.intmap_table.proofs.Tables.FilledLemmas.{filled-bound, filled-pushed, IsMaskedTable-kept}
+use Rattle.intmap_table.specs.Tables.Slots.{rows, row_of, joined, IsRowSet}
+use Rattle.intmap_table.proofs.LocationLemmas.{slot-at, place-within, value_of-pair, swap_out-at}
 use Rattle.intmap_table.proofs.Tables.SwapOutLemmas.{any}
-use Rattle.intmap_table.proofs.Tables.TableLemmas.{IsSlot, value_of-here, walk-put, Belong-taken, Belong-push}
+use Rattle.intmap_table.proofs.Tables.TableLemmas.{length-row_set, walk-put, Belong-taken, Belong-push, IsTable-set}
 use Rattle.intmap_table.proofs.table.Table.replace_at.Goals as goal
 use Rattle.intmap_table.proofs.table.Table.replace_at.Goals.{After-replace_at-old}
 
 module _ (g : _) (c : After-replace_at-old g) where
-  located : IsAt g.K.IntKey.number_of (joined (rows c.self.inside.slots.items)) (length c.self.inside.slots.items) c.args.at
+  located : IsAt g.K.IntKey.number_of (joined (rows c.self.inside.slots)) (length c.self.inside.slots) c.args.at
   located = rw (← c.self.view_is) at c.requires
 
-  slot : IsSlot g.K.IntKey.number_of c.self.inside.slots.items c.index_mut.result.now c.args.at.slot c.args.at.key
-  slot = slot-at _ _ _ _ c.self.invariant.marked.table located c.index_mut.ensures.value
-
-  -- the slot is as one that the key was removed from, with the new pair at its end
-  left : c.replace_at-old.new.self.pairs ≡ swap_out (λ p. same_key g.K.IntKey.number_of c.args.at.key p.0) any c.index_mut.result.now.pairs ++ (c.args.at.key, c.args.value) ∷ []
-  left =
-      let place = place-at _ _ _ _ c.self.invariant.marked.table located c.index_mut.ensures.value in
-      let taken = swap_remove-position (λ p. same_key g.K.IntKey.number_of c.args.at.key p.0) c.index_mut.result.now.pairs c.args.at.place c.replace_at-old.result place c.replace_at-old.ensures.value in
-      c.replace_at-old.ensures.pairs ∙ (λ i. taken i ++ (c.new.ensures.value i, c.args.value) ∷ [])
-
-  -- the key had the value
-  bound : value_of g.K.IntKey.number_of c.index_mut.result.now.pairs c.args.at.key ≡ Some c.replace_at-old.result.1
-  bound =
-      let place = place-at _ _ _ _ c.self.invariant.marked.table located c.index_mut.ensures.value in
-      first_value-position (same_key g.K.IntKey.number_of c.args.at.key) c.index_mut.result.now.pairs c.args.at.place c.replace_at-old.result place
-      ∙ ap (λ (p : g.row.K.Denot × g.row.X.Denot). Some p.1) (sym c.replace_at-old.ensures.value)
+  -- the row of the slot is that without the key, with the new pair at its end
+  put : IsRowSet c.self.inside.slots c.args.at.slot (swap_out (λ p. same_key g.K.IntKey.number_of c.args.at.key p.0) any (row_of c.self.inside.slots c.args.at.slot) ++ (c.args.at.key, c.args.value) ∷ []) c.replace_at-old.new.self
+  put =
+      let taken = swap_out-at _ c.self.inside.slots c.args.at c.self.invariant located c.replace_at-old.result c.replace_at-old.ensures.value in
+      subst (λ ps. IsRowSet c.self.inside.slots c.args.at.slot ps c.replace_at-old.new.self) (λ i. taken i ++ (c.new.ensures.value i, c.args.value) ∷ []) c.replace_at-old.ensures.row
 
 pub replace_at-old-requires : goal.replace_at-old-requires
-replace_at-old-requires g c =
-    place-within _ _ _ _ c.self.invariant.marked.table (rw (← c.self.view_is) at c.requires) c.index_mut.ensures.value
+replace_at-old-requires g c = place-within _ c.self.inside.slots c.args.at c.self.invariant (rw (← c.self.view_is) at c.requires)
 
 pub invariant_of-self : goal.invariant_of-self
 invariant_of-self g c =
     let after = (goal.at.invariant_of-self g c).After-replace_at-old in
-    let taken = swap_out (λ p. same_key g.K.IntKey.number_of c.args.at.key p.0) any c.index_mut.result.now.pairs in
-    let before = filled-bound g.K.IntKey.number_of c.index_mut.result.now.pairs c.args.at.key c.replace_at-old.result.1 (bound g after) in
-    let filled = ap (λ ps. nat_lt 0 (length ps)) (left g after) ∙ filled-pushed taken (c.args.at.key, c.args.value) in
-    IsMaskedTable-kept _ _ _ _ _ (slot g after) c.self.invariant c.replace_at-old.new.self
-    (rw (left g after) (Belong-push _ _ _ _ _ (slot g after) _ c.args.value (Belong-taken _ _ _ _ _ (slot g after)))) (before ∙ sym filled)
+    let slot = slot-at _ c.self.inside.slots c.args.at c.self.invariant (located g after) in
+    IsTable-set _ _ _ _ slot _ c.replace_at-old.new.self (Belong-push _ _ _ _ slot _ c.args.value (Belong-taken _ _ _ _ slot)) (put g after)
 
 pub returns-clause-value : goal.returns-clause-value
 returns-clause-value g c =
     let after = (goal.at.returns-clause-value g c).After-replace_at-old in
-    rw (← c.self.view_is) (value_of-here _ _ _ _ _ (slot g after) ∙ bound g after)
+    rw (← c.self.view_is) (value_of-pair _ c.self.inside.slots c.args.at c.self.invariant (located g after) c.replace_at-old.result c.replace_at-old.ensures.value)
 
 pub returns-clause-walk : goal.returns-clause-walk
 returns-clause-walk g c =
     let after = (goal.at.returns-clause-walk g c).After-replace_at-old in
-    rw (← c.self.view_is) (walk-put _ _ _ _ _ (slot g after) c.replace_at-old.new.self c.args.value (left g after))
+    rw (← c.self.view_is) (walk-put _ _ _ _ (slot-at _ c.self.inside.slots c.args.at c.self.invariant (located g after)) c.replace_at-old.new.self c.args.value (put g after))
+
+pub returns-clause-capacity : goal.returns-clause-capacity
+returns-clause-capacity g c = rw (← c.self.view_is) (length-row_set _ _ _ _ c.replace_at-old.ensures.row)

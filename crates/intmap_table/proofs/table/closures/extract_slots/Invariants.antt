@@ -1,23 +1,23 @@
 use Rattle.std.proofs.Common.{◌≡◌, ◌-◌, ◌^◌, ◌<◌, length, take, drop}
 use Rattle.intmap_table.specs.Picking.{AsksAt, PicksAt}
 use Rattle.intmap_table.specs.Writes.{TakesPairMut}
-use Rattle.intmap_table.specs.Tables.Slots.{rows, joined, IsMarkedTable}
+use Rattle.intmap_table.specs.Tables.Slots.{rows, joined, IsTable}
 use Rattle.intmap_table.specs.Taking.{TakesEach}
 use Rattle.intmap_table.proofs.ExtractLemmas.{StepsTo}
 use Rattle.intmap_table.proofs.Tables.ExtractSlotsLemmas.{IsInRows}
 use Rattle.intmap_table.proofs.table.closures.extract_slots.Given as goal
 
--- a step from the cursor on is one from where it was at the call, and the slots are a table with its marks
+-- a step from the cursor on is one from where it was at the call, and the slots are a table
 abbrev pub invariant-loop-slot : goal.invariant-loop-slot
 invariant-loop-slot g l = record {
-  callable : TakesEach (AsksAt g.F.FnMut) (TakesPairMut g.F.FnMut) l.f (drop l.at.passed (joined (rows l.slots.items)));
-  table : IsMarkedTable g.K.IntKey.number_of l.slots.items l.bits;
-  len : length l.slots.items ≡ length l.initial.slots.items;
-  few : length (joined (rows l.slots.items)) < 2 ^ 64;
-  at : IsInRows (rows l.slots.items) l.at.slot l.at.place l.at.passed;
-  steps : StepsTo (PicksAt g.F.FnMut) l.initial.f (take l.initial.at.passed (joined (rows l.initial.slots.items))) (drop l.initial.at.passed (joined (rows l.initial.slots.items)))
-      l.f (take l.at.passed (joined (rows l.slots.items))) (drop l.at.passed (joined (rows l.slots.items)));
+  callable : TakesEach (AsksAt g.F.FnMut) (TakesPairMut g.F.FnMut) l.f (drop l.at.passed (joined (rows l.slots)));
+  table : IsTable g.K.IntKey.number_of l.slots;
+  len : length l.slots ≡ length l.initial.slots;
+  few : length (joined (rows l.slots)) < 2 ^ 64;
+  at : IsInRows (rows l.slots) l.at.slot l.at.place l.at.passed;
+  steps : StepsTo (PicksAt g.F.FnMut) l.initial.f (take l.initial.at.passed (joined (rows l.initial.slots))) (drop l.initial.at.passed (joined (rows l.initial.slots)))
+      l.f (take l.at.passed (joined (rows l.slots))) (drop l.at.passed (joined (rows l.slots)));
 }
 
 abbrev pub decreases-loop-slot : goal.decreases-loop-slot
-decreases-loop-slot g l = length l.slots.items - l.at.slot
+decreases-loop-slot g l = length l.slots - l.at.slot

@@ -1,20 +1,20 @@
 use Rattle.std.proofs.Common.{◌≡◌, ◌-◌, ◌^◌, ◌<◌, length, take, drop}
 use Rattle.intmap_table.specs.Retaining.{Retains, KeepsAt, TakesPair}
 use Rattle.intmap_table.specs.Taking.{TakesEach}
-use Rattle.intmap_table.specs.Tables.Slots.{rows, joined, IsMarkedTable}
+use Rattle.intmap_table.specs.Tables.Slots.{rows, joined, IsTable}
 use Rattle.intmap_table.proofs.LeadsLemmas.{Leads}
 use Rattle.intmap_table.proofs.table.closures.retain_slots.Given as goal
 
--- the pairs that stay so far are in the slots before this one, in their order, and the slots are a table with its marks
+-- the pairs that stay so far are in the slots before this one, in their order, and the slots are a table
 abbrev pub invariant-loop-index : goal.invariant-loop-index
 invariant-loop-index g l = record {
-  callable : TakesEach (KeepsAt g.F.FnMut) (TakesPair g.F.FnMut) l.f (joined (drop l.from (rows l.slots.items)));
-  table : IsMarkedTable g.K.IntKey.number_of l.slots.items l.bits;
-  len : length l.slots.items ≡ length l.initial.slots.items;
-  few : length (joined (rows l.slots.items)) < 2 ^ 64;
-  count : l.count ≡ length (joined (take l.from (rows l.slots.items)));
-  leads : Leads (Retains (KeepsAt g.F.FnMut)) l.initial.f (joined (rows l.initial.slots.items)) l.f (joined (take l.from (rows l.slots.items))) (joined (drop l.from (rows l.slots.items)));
+  callable : TakesEach (KeepsAt g.F.FnMut) (TakesPair g.F.FnMut) l.f (joined (drop l.from (rows l.slots)));
+  table : IsTable g.K.IntKey.number_of l.slots;
+  len : length l.slots ≡ length l.initial.slots;
+  few : length (joined (rows l.slots)) < 2 ^ 64;
+  count : l.count ≡ length (joined (take l.from (rows l.slots)));
+  leads : Leads (Retains (KeepsAt g.F.FnMut)) l.initial.f (joined (rows l.initial.slots)) l.f (joined (take l.from (rows l.slots))) (joined (drop l.from (rows l.slots)));
 }
 
 abbrev pub decreases-loop-index : goal.decreases-loop-index
-decreases-loop-index g l = length l.slots.items - l.from
+decreases-loop-index g l = length l.slots - l.from

@@ -1,0 +1,12 @@
+use Rattle.std.proofs.Common.{◌≡◌, length, take, vec_len, vec_capacity}
+use Rattle.std.specs.List.{AllZip}
+use Rattle.intmap_table.proofs.Tables.CloneLemmas.{IsSlotClone}
+use Rattle.intmap_table.proofs.table.slots.Slots.clone.Given as goal
+
+-- the slots made so far are clones of the first ones, and the list has room for all
+abbrev pub invariant-loop-slot : goal.invariant-loop-slot
+invariant-loop-slot g l = record {
+  pushed : vec_len l.slots ≡ l.slot-index;
+  room : vec_capacity l.slots ≡ length l.slot-items;
+  slots : AllZip (IsSlotClone g.X.Clone.is_clone) (take l.slot-index l.slot-items) l.slots.items;
+}

@@ -1,0 +1,263 @@
+//! The slots of a table. Contracts see the pairs of each, its row, and how many it has room for.
+//! Which slots hold a pair is known here alone.
+//!
+//! `pairs` has the calls on a pair of one slot, `closures` those with a closure, `filled` the rows by
+//! reference, and `grow` and `place` the growth.
+
+mod closures;
+pub(crate) mod filled;
+mod grow;
+mod pairs;
+mod place;
+
+ghost use Rattle.std.specs.Prelude.{◌≡◌, ◌+◌, ◌^◌, ◌<◌, ◌≤◌, ℕ, [], cond, count_by, false, length, nat_lt, position, replicate, slice_index_or, slice_set, IfNone, IfOk, IfSome};
+ghost use Rattle.std.specs.List.{AllZip};
+ghost use Rattle.intmap_table.specs.Classes.{IsCapacity, same_key};
+ghost use Rattle.intmap_table.specs.Cloning.{IsPairClone};
+ghost use Rattle.intmap_table.specs.Reach.{through_first};
+ghost use Rattle.intmap_table.specs.Tables.Slots.{rows, row_of, joined, AreMarked, IsNextRow};
+
+use crate::bits::Bits;
+use crate::key::IntKey;
+use crate::slot::Slot;
+use crate::steps::Steps;
+use crate::table::stored::Stored;
+use filled::FilledRows;
+use grow::{add_slots, reserve_slots};
+use std::alloc::{AllocError, Allocator};
+use std::marker::Model;
+
+/// What is known of the slots without looking at them.
+#[derive(Drop)]
+struct Directory<A: Allocator> {
+    /// Their number less one: a mask with exactly the bits that the number of a slot may have.
+    mask: usize,
+    /// Which of them hold a pair.
+    bits: Bits<A>,
+}
+
+/// Slots, and one bit for each, which says whether it holds a pair.
+#[derive(Drop)]
+pub(crate) struct Slots<K: IntKey, X, A: Allocator> {
+    directory: Directory<A>,
+    slots: Vec<Slot<K, X, A>, A>,
+}
+
+// Invariant: the bits mark the slots that hold pairs, and the mask is one less than their number.
+impl<K: IntKey, X, A: Allocator> Model for Slots<K, X, A> {
+    ghost use Rattle.std.specs.Prelude.{List};
+    ghost use Rattle.intmap_table.specs.Tables.Slots.{Held, IsDirectory};
+
+    ghost Value = { List (Held K X) };
+
+    ghost view = { λ s. s.slots.items };
+
+    ghost invariant = { λ s. IsDirectory s.slots.items s.directory.bits s.directory.mask };
+}
+
+/// Clears the bit of a slot if it holds no pair.
+#[inline(always)]
+fn unmark_if_empty<K: IntKey, X, A: Allocator>(
+    bits: &mut Bits<A>,
+    slot: &Slot<K, X, A>,
+    index: usize,
+)
+    requires { index < length bits.old }
+    ensures { bits.new
+        ≡ cond (nat_lt 0 (length slot.now.pairs)) bits.old (slice_set bits.old index false) }
+{
+    if !slot.is_filled() {
+        bits.clear(index);
+    }
+}
+
+/// Drops the pairs of all slots. The bits mark the slots that hold a pair.
+fn clear_slots<K: IntKey, X: Drop, A: Allocator>(bits: &Bits<A>, slots: &mut Vec<Slot<K, X, A>, A>)
+    requires { AreMarked (rows slots.old.items) bits.now }
+    ensures len { length slots.new.items ≡ length slots.old.items }
+    ensures empty { (i : ℕ) → slice_index_or (rows slots.new.items) i [] ≡ [] }
+{
+    for index in bits.iter() {
+        slots[index].clear();
+    }
+}
+
+impl<K: IntKey, X, A: Allocator> Slots<K, X, A> {
+    ghost use Rattle.std.specs.Borrow.{sem};
+    ghost use Rattle.intmap_table.specs.Lending.{slots_lends};
+
+    /// Their number.
+    pub(crate) fn len(&self) -> usize
+        ensures { result ≡ length self.now }
+    {
+        self.slots.len()
+    }
+
+    /// Their number less one.
+    #[inline(always)]
+    pub(crate) fn mask(&self) -> usize
+        ensures { result + 1 ≡ length self.now }
+    {
+        self.directory.mask
+    }
+
+    /// How many of them hold a pair.
+    pub(crate) fn count(&self) -> usize
+        ensures { result ≡ count_by (λ row. nat_lt 0 (length row)) (rows self.now) }
+    {
+        self.directory.bits.count()
+    }
+
+    /// The number of pairs of a slot.
+    pub(crate) fn row_len(&self, index: usize) -> usize
+        requires within { index < length self.now }
+        requires fits { length (row_of self.now index) < 2 ^ 64 }
+        ensures { result ≡ length (row_of self.now index) }
+    {
+        self.slots[index].len()
+    }
+
+    /// The place of the key's pair in a slot. The keys are compared from the front, up to the one
+    /// sought. Each comparison is one step.
+    #[inline(always)]
+    pub(crate) fn find(&self, index: usize, key: &K, steps: &mut Steps) -> Option<usize>
+        requires { index < length self.now }
+        ensures place { result
+            ≡ position (λ p. same_key K.number_of key.now p.0) (row_of self.now index) }
+        ensures counted { steps.new ≡ steps.old + length
+            (through_first (λ p. same_key K.number_of key.now p.0) (row_of self.now index)) }
+    {
+        self.slots[index].find(key, steps)
+    }
+
+    /// The place of the last pair of a slot.
+    pub(crate) fn last_place(&self, index: usize) -> usize
+        requires { 0 < length (row_of self.now index) }
+        ensures { result + 1 ≡ length (row_of self.now index) }
+    {
+        self.slots[index].last_place()
+    }
+
+    /// The stored key of the pair at a place of a slot.
+    #[inline(always)]
+    pub(crate) fn key_at(&self, index: usize, place: usize) -> &Stored<K>
+        requires { place < length (row_of self.now index) }
+        ensures { (p : K × X)
+            → result.now ≡ (slice_index_or (row_of self.now index) place p).0 }
+    {
+        self.slots[index].key_at(place)
+    }
+
+    /// The value of the pair at a place of a slot.
+    #[inline(always)]
+    pub(crate) fn value_at(&self, index: usize, place: usize) -> &X
+        requires { place < length (row_of self.now index) }
+        ensures { (p : K × X)
+            → result.now ≡ (slice_index_or (row_of self.now index) place p).1 }
+    {
+        self.slots[index].value_at(place)
+    }
+
+    /// A mutable reference to the value of the pair at a place of a slot.
+    #[inline(always)]
+    pub(crate) fn value_mut_at(&mut self, index: usize, place: usize) -> &mut X
+        requires { place < length (row_of self.old index) }
+        ensures* writes_back { sem 𝓛 (slots_lends K.row X.row A.row K.IntKey.own K.PartialEq
+            A.Allocator self.entry index place result) }
+        ensures value { (p : K × X)
+            → result.now ≡ (slice_index_or (row_of self.old index) place p).1 }
+    {
+        self.slots[index].value_mut_at(place)
+    }
+
+    /// The pair at a place of a slot, or `None` behind its last pair.
+    #[inline(always)]
+    pub(crate) fn pair_at(&self, index: usize, place: usize) -> Option<(&Stored<K>, &X)>
+        requires within { index < length self.now }
+        requires fits { length (row_of self.now index) < 2 ^ 64 }
+        ensures some { IfSome result (λ pair. (place < length (row_of self.now index))
+            × (((p : K × X) → (pair.0.now, pair.1.now)
+            ≡ slice_index_or (row_of self.now index) place p))) }
+        ensures none { IfNone result (length (row_of self.now index) ≤ place) }
+    {
+        let slot = &self.slots[index];
+        if place < slot.len() {
+            return Some((slot.key_at(place), slot.value_at(place)));
+        }
+        None
+    }
+
+    /// The first slot from an index on that holds a pair.
+    #[inline(always)]
+    pub(crate) fn next_filled(&self, from: usize) -> Option<usize>
+        ensures some { IfSome result (IsNextRow (rows self.now) from) }
+        ensures none { IfNone result ((j : ℕ) → from ≤ j → row_of self.now j ≡ []) }
+    {
+        self.directory.bits.next_from(from)
+    }
+
+    /// The rows of the slots that hold a pair, slot after slot.
+    #[inline(always)]
+    pub(crate) fn filled(&self) -> FilledRows<'_, K, X, A>
+        ensures { joined result ≡ joined (rows self.now) }
+    {
+        FilledRows {
+            indices: self.directory.bits.iter(),
+            slots: &self.slots,
+        }
+    }
+}
+
+impl<K: IntKey, X: Drop, A: Allocator> Slots<K, X, A> {
+    /// Drops all pairs, slot after slot, and keeps the slots and the memory that they have.
+    pub(crate) fn clear(&mut self)
+        ensures len { length self.new ≡ length self.old }
+        ensures empty { (i : ℕ) → row_of self.new i ≡ [] }
+    {
+        clear_slots(&self.directory.bits, &mut self.slots);
+        self.directory.bits.clear_all();
+    }
+}
+
+impl<K: IntKey, X: Drop, A: Allocator + Copy> Slots<K, X, A> {
+    /// The allocator of the slots.
+    pub(crate) fn allocator(&self) -> A {
+        *self.slots.allocator()
+    }
+
+    /// `capacity` slots without a pair. It allocates the slots, then their bits, and writes nothing
+    /// before both.
+    pub(crate) fn new(alloc: A, capacity: usize) -> Result<Slots<K, X, A>, AllocError>
+        requires { IsCapacity capacity }
+        ensures { IfOk result (λ made. rows made ≡ replicate capacity []) }
+    {
+        let mut slots = Vec::new(alloc);
+        let bits = reserve_slots(&mut slots, capacity)?;
+        add_slots(&mut slots, capacity);
+        let directory = Directory {
+            mask: capacity - 1,
+            bits,
+        };
+        Ok(Slots { directory, slots })
+    }
+}
+
+impl<K: IntKey, X: Clone, A: Allocator + Copy> Slots<K, X, A> {
+    /// The same keys in the same slots, with clones of their values. The slots and then their bits
+    /// are allocated before the first value is cloned.
+    pub(crate) fn clone(&self) -> Result<Slots<K, X, A>, AllocError>
+        ensures { IfOk result (λ made. AllZip
+            (λ slot copy. AllZip (IsPairClone X.is_clone) slot.pairs copy.pairs) self.now made) }
+    {
+        let mut slots = Vec::with_capacity(*self.slots.allocator(), self.slots.len())?;
+        let bits = self.directory.bits.clone()?;
+        for slot in &self.slots {
+            slots.push_reserved(slot.clone()?);
+        }
+        let directory = Directory {
+            mask: self.directory.mask,
+            bits,
+        };
+        Ok(Slots { directory, slots })
+    }
+}

@@ -1,0 +1,98 @@
+//! Closures are called at the pairs of slots.
+ghost use Rattle.std.specs.Prelude.{◌≡◌, ◌+◌, ◌^◌, ◌<◌, ◌≤◌, List, length, drop};
+ghost use Rattle.intmap_table.specs.Tables.Slots.{rows, row_of, joined, IsRowSet, AreMarked, IsTable};
+ghost use Rattle.intmap_table.specs.Retaining.{Retains, KeepsAt, TakesPair};
+ghost use Rattle.intmap_table.specs.Taking.{TakesEach};
+ghost use Rattle.intmap_table.specs.Writes.{Writes, WritesAt, TakesPairMut};
+ghost use Rattle.intmap_table.specs.Picking.{AsksAt, ExtractsBehind, PicksAt};
+
+use crate::bits::Bits;
+use crate::kept::Kept;
+use crate::key::IntKey;
+use crate::slot::Slot;
+use crate::table::slots::{Slots, unmark_if_empty};
+use crate::table::stored::Stored;
+use std::alloc::Allocator;
+
+impl<K: IntKey, V: Drop, A: Allocator> Slots<K, Kept<V>, A> {
+    /// Keeps the pairs of a slot for which the closure returns true, in their order, and returns
+    /// their number. The closure is called once at each pair of the slot.
+    pub(crate) fn retain_at<F: FnMut(K, &V) -> bool>(&mut self, index: usize, f: &mut F) -> usize
+        requires within { index < length self.old }
+        requires callable { TakesEach (KeepsAt F.FnMut) (TakesPair F.FnMut) f.old
+            (row_of self.old index) }
+        requires few { length (row_of self.old index) < 2 ^ 64 }
+        ensures { (row : List (K × V)) × IsRowSet self.old index row self.new
+            × Retains (KeepsAt F.FnMut) f.old (row_of self.old index) row f.new
+            × (result ≡ length row) }
+    {
+        let slot = &mut self.slots[index];
+        slot.retain(f);
+        unmark_if_empty(&mut self.directory.bits, slot, index);
+        slot.len()
+    }
+}
+
+impl<K: IntKey, V, A: Allocator> Slots<K, Kept<V>, A> {
+    /// Asks the closure about each pair of a slot, from the place on, and removes the first one
+    /// that it picks. Those behind it move up, and the place moves on to the first of them.
+    pub(crate) fn extract_at<F: FnMut(K, &mut V) -> bool>(
+        &mut self,
+        index: usize,
+        place: &mut usize,
+        f: &mut F,
+    ) -> Option<(Stored<K>, Kept<V>)>
+        requires index { index < length self.old }
+        requires within { place.old ≤ length (row_of self.old index) }
+        requires few { length (row_of self.old index) < 2 ^ 64 }
+        requires callable { TakesEach (AsksAt F.FnMut) (TakesPairMut F.FnMut) f.old
+            (drop place.old (row_of self.old index)) }
+        ensures step { (row : List (K × V)) × IsRowSet self.old index row self.new
+            × ExtractsBehind (PicksAt F.FnMut) f.old (row_of self.old index) place.old result
+            f.new row place.new
+            × (place.new ≤ length row) }
+        ensures on { place.old ≤ place.new }
+    {
+        let slot = &mut self.slots[index];
+        let found = slot.extract_next(place, f);
+        unmark_if_empty(&mut self.directory.bits, slot, index);
+        found
+    }
+}
+
+/// Calls the closure at each pair in turn, slot after slot, with a mutable reference to its value.
+/// The bits mark the slots that hold a pair.
+fn write_slots<K: IntKey, V, A: Allocator, F: FnMut(K, &mut V)>(
+    bits: &Bits<A>,
+    slots: &mut Vec<Slot<K, Kept<V>, A>, A>,
+    f: &mut F,
+)
+    requires callable { TakesEach (WritesAt F.FnMut) (TakesPairMut F.FnMut) f.old
+        (joined (rows slots.old.items)) }
+    requires table { IsTable K.number_of slots.old.items }
+    requires marks { AreMarked (rows slots.old.items) bits.now }
+    ensures pairs { Writes (WritesAt F.FnMut) f.old (joined (rows slots.old.items))
+        (joined (rows slots.new.items)) f.new }
+    ensures table { IsTable K.number_of slots.new.items }
+    ensures marks { AreMarked (rows slots.new.items) bits.now }
+    ensures len { length slots.new.items ≡ length slots.old.items }
+{
+    for index in bits.iter() {
+        slots[index].write_each(f);
+    }
+}
+
+impl<K: IntKey, V, A: Allocator> Slots<K, Kept<V>, A> {
+    /// Calls the closure at each pair in turn, with a mutable reference to its value.
+    pub(crate) fn write_each<F: FnMut(K, &mut V)>(&mut self, f: &mut F)
+        requires callable { TakesEach (WritesAt F.FnMut) (TakesPairMut F.FnMut) f.old
+            (joined (rows self.old)) }
+        requires table { IsTable K.number_of self.old }
+        ensures pairs { Writes (WritesAt F.FnMut) f.old (joined (rows self.old))
+            (joined (rows self.new)) f.new }
+        ensures table { IsTable K.number_of self.new }
+        ensures len { length self.new ≡ length self.old }
+    {
+        write_slots(&self.directory.bits, &mut self.slots, f);
+    }
+}

@@ -1,0 +1,158 @@
+//! How pairs get to their slots in a table that has grown.
+ghost use Rattle.std.specs.Prelude.{◌≡◌, ◌+◌, ◌*◌, ◌/◌, ◌<◌, ◌≤◌, [], ◌∷◌, length, get_or, set, slice_set, take, reverse, replicate, true, false, vec_capacity, ℕ};
+ghost use Rattle.intmap_table.specs.Classes.{IsCapacity, slot_number};
+ghost use Rattle.intmap_table.specs.Tables.Bits.{marked_indices};
+ghost use Rattle.intmap_table.specs.Tables.Slots.{Held, rows, joined, AreMarked};
+ghost use Rattle.intmap_table.specs.Tables.Moves.{IsLonger, IsMidway, IsPlaced, IsPut, HasRoom, CanMove, CanMoveOn, AreSet, AreTold, AreFree, bare_slot};
+
+use crate::bits::Bits;
+use crate::key::IntKey;
+use crate::slot::Slot;
+use crate::steps::Steps;
+use crate::table::index_of;
+use crate::table::slots::Directory;
+use crate::table::stored::Stored;
+use std::alloc::Allocator;
+
+/// Puts a pair at the end of its slot and counts it. The slot's bit is set. If the slot holds a
+/// pair and has no block, it takes this one. If `is_alone`, the slot is known to hold no pair.
+#[inline(always)]
+fn place<K: IntKey, X: Drop, A: Allocator>(
+    bits: &mut Bits<A>,
+    slots: &mut [Slot<K, X, A>],
+    pair: (Stored<K>, X),
+    is_alone: bool,
+    block: &mut Vec<(Stored<K>, X), A>,
+    placed: &mut Steps,
+)
+    requires capacity { IsCapacity (length slots.old) }
+    requires words { length slots.old ≤ length bits.old }
+    requires told { AreTold K.number_of slots.old (pair ∷ []) bits.old }
+    requires alone { is_alone ≡ true → AreFree K.number_of slots.old (pair ∷ []) bits.old }
+    requires block { block.old.items ≡ [] }
+    requires room { (x : ℕ) × HasRoom K.number_of slots.old (pair ∷ []) (vec_capacity block.old)
+        x }
+    ensures put { IsPut slots.old (slot_number K.number_of pair.0 (length slots.old))
+        (vec_capacity block.old) pair slots.new (vec_capacity block.new) }
+    ensures marks { bits.new
+        ≡ slice_set bits.old (slot_number K.number_of pair.0 (length slots.old)) true }
+    ensures block { block.new.items ≡ [] }
+    ensures placed { placed.new ≡ placed.old + 1 }
+{
+    let index = index_of(pair.0.key(), slots.len());
+    let slot = &mut slots[index];
+    if bits.set(index) && !is_alone {
+        slot.push_with(pair, block);
+    } else {
+        slot.put_first(pair);
+    }
+    placed.tick();
+}
+
+/// Puts the pairs of the buffer, the last one first, at the ends of their slots. The first slot that
+/// holds a pair and has no block takes this one.
+fn place_each<K: IntKey, X: Drop, A: Allocator>(
+    bits: &mut Bits<A>,
+    slots: &mut [Slot<K, X, A>],
+    buffer: &mut Vec<(Stored<K>, X), A>,
+    block: &mut Vec<(Stored<K>, X), A>,
+    placed: &mut Steps,
+)
+    requires capacity { IsCapacity (length slots.old) }
+    requires words { length slots.old ≤ length bits.old }
+    requires told { AreTold K.number_of slots.old (reverse buffer.old.items) bits.old }
+    requires block { block.old.items ≡ [] }
+    requires room { (x : ℕ) × HasRoom K.number_of slots.old (reverse buffer.old.items)
+        (vec_capacity block.old) x }
+    ensures pairs { IsPlaced K.number_of slots.old (reverse buffer.old.items) slots.new }
+    ensures marks { AreSet K.number_of bits.old (reverse buffer.old.items) (length slots.old)
+        bits.new }
+    ensures placed { placed.new ≡ placed.old + length buffer.old.items }
+    ensures buffer { buffer.new.items ≡ [] }
+    ensures buffer_room { vec_capacity buffer.old ≤ vec_capacity buffer.new }
+{
+    while let Some(pair) = buffer.pop() {
+        place(bits, slots, pair, false, block, placed);
+    }
+}
+
+/// Moves the pairs of an old slot that holds several, in order, to the ends of their slots. The
+/// first of these slots that needs a block takes the block of the old slot.
+#[inline(never)]
+fn move_several<K: IntKey, X: Drop, A: Allocator + Copy>(
+    bits: &mut Bits<A>,
+    slots: &mut [Slot<K, X, A>],
+    index: usize,
+    buffer: &mut Vec<(Stored<K>, X), A>,
+    placed: &mut Steps,
+)
+    requires ready { CanMove K.number_of slots.old bits.old index (vec_capacity buffer.old) }
+    requires several { 1 < length (get_or (rows slots.old) index []) }
+    requires buffer { buffer.old.items ≡ [] }
+    ensures pairs { IsPlaced K.number_of (set slots.old index bare_slot)
+        (get_or (rows slots.old) index []) slots.new }
+    ensures marks { AreSet K.number_of bits.old (get_or (rows slots.old) index [])
+        (length slots.old) bits.new }
+    ensures placed { placed.new ≡ placed.old + length (get_or (rows slots.old) index []) }
+    ensures buffer { buffer.new.items ≡ [] }
+    ensures buffer_room { vec_capacity buffer.old ≤ vec_capacity buffer.new }
+{
+    let (first, mut block) = slots[index].take_out(buffer);
+    place(bits, slots, first, false, &mut block, placed);
+    place_each(bits, slots, buffer, &mut block, placed);
+}
+
+/// Moves the pairs of an old slot, in order, to the ends of their slots. If the slot holds a single
+/// pair, it may keep its block.
+#[inline(always)]
+fn move_slot<K: IntKey, X: Drop, A: Allocator + Copy>(
+    bits: &mut Bits<A>,
+    slots: &mut [Slot<K, X, A>],
+    index: usize,
+    buffer: &mut Vec<(Stored<K>, X), A>,
+    placed: &mut Steps,
+)
+    requires ready { CanMove K.number_of slots.old bits.old index (vec_capacity buffer.old) }
+    requires filled { 0 < length (get_or (rows slots.old) index []) }
+    requires buffer { buffer.old.items ≡ [] }
+    ensures pairs { (left : Held K X) × (left.pairs ≡ []) × IsPlaced K.number_of
+        (set slots.old index left) (get_or (rows slots.old) index []) slots.new }
+    ensures marks { AreSet K.number_of bits.old (get_or (rows slots.old) index [])
+        (length slots.old) bits.new }
+    ensures placed { placed.new ≡ placed.old + length (get_or (rows slots.old) index []) }
+    ensures buffer { buffer.new.items ≡ [] }
+    ensures buffer_room { vec_capacity buffer.old ≤ vec_capacity buffer.new }
+{
+    if let Some(lone) = slots[index].take_lone() {
+        // its new slot holds no pair, so it needs no memory here
+        let mut block = Vec::new(*buffer.allocator());
+        place(bits, slots, lone, true, &mut block, placed);
+        return;
+    }
+    move_several(bits, slots, index, buffer, placed);
+}
+
+/// Moves the pairs of all old slots, slot after slot, to the ends of their slots.
+pub(super) fn move_all<K: IntKey, X: Drop, A: Allocator + Copy>(
+    bits: &mut Bits<A>,
+    slots: &mut [Slot<K, X, A>],
+    old: &Directory<A>,
+    buffer: &mut Vec<(Stored<K>, X), A>,
+    placed: &mut Steps,
+)
+    requires longer { IsLonger K.number_of old.now.bits (old.now.mask + 1) slots.old }
+    requires unmarked { bits.old ≡ replicate (64 * ((length slots.old + 63) / 64)) false }
+    requires buffer { buffer.old.items ≡ [] }
+    requires ready { CanMoveOn K.number_of (take (old.now.mask + 1) (rows slots.old))
+        (old.now.mask + 1) (length slots.old) (marked_indices old.now.bits)
+        (vec_capacity buffer.old) slots.old }
+    ensures moved { IsMidway K.number_of (take (old.now.mask + 1) (rows slots.old))
+        (old.now.mask + 1) (length slots.old) [] slots.new }
+    ensures marks { AreMarked (rows slots.new) bits.new }
+    ensures placed { placed.new
+        ≡ placed.old + length (joined (take (old.now.mask + 1) (rows slots.old))) }
+{
+    for index in old.bits.iter() {
+        move_slot(bits, slots, index, buffer, placed);
+    }
+}
