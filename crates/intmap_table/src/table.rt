@@ -13,11 +13,10 @@ mod slots;
 pub(crate) mod stored;
 pub mod walk;
 
-ghost use Rattle.std.specs.Prelude.{◌≡◌, ℕ, ◌+◌, ◌^◌, ◌<◌, ◌≤◌, slice_index_or, slice_set, cond, false, nat_lt, [], OnOk, OnErr, IfOk, IfErr, Some, None, option_copied, length};
+ghost use Rattle.std.specs.Prelude.{◌≡◌, ◌+◌, ◌^◌, ◌<◌, ◌≤◌, [], OnOk, OnErr, IfOk, IfErr, None, length};
 ghost use Rattle.intmap_table.specs.Classes.{IsCapacity, slot_number};
 ghost use Rattle.intmap_table.specs.Bindings.{value_of, put_pair};
 ghost use Rattle.intmap_table.specs.Locations.{IsAt};
-ghost use Rattle.intmap_table.specs.Tables.Slots.{rows, AreMarked};
 ghost use Rattle.intmap_table.specs.Walk.{slot_of, walk_of};
 ghost use Rattle.intmap_table.specs.Reach.{class_size};
 ghost use Rattle.intmap_table.specs.Figures.{load_of};

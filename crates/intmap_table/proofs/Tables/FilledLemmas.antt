@@ -33,17 +33,6 @@ module _ {P : Type 0} (R : List (List P)) (marks : List Bool) (are : AreMarked R
   pub empty-unmarked : (j : ℕ) → marked marks j ≡ false → get_or R j [] ≡ []
   empty-unmarked j bare = row-none (get_or R j []) (sym (are.own j) ∙ bare)
 
-  -- the row of the next mark is the next one that holds a pair
-  pub IsNextRow-marked : (from i : ℕ) → IsNextMark marks from i → IsNextRow R from i
-  IsNextRow-marked from i next =
-      let some = ltb-true 0 (length (get_or R i [])) (sym (are.own i) ∙ next.is) in
-      record {
-        behind = next.behind;
-        within = row-within R i some;
-        filled = some;
-        between = λ j le lt. empty-unmarked j (next.between j le lt);
-      }
-
   -- the number of marked indices is the number of rows that hold a pair
   pub count-marked : length (marked_indices marks) ≡ count_by (λ row. nat_lt 0 (length row)) R
   count-marked = length-marked_indices R marks marks-enough are.own
@@ -83,18 +72,9 @@ pairs_at-set R i row (j ∷ indices) apart =
 pub filled-pushed : {P : Type 0} (row : List P) (p : P) → nat_lt 0 (length (row ++ p ∷ [])) ≡ true
 filled-pushed row p = lt-ltb 0 (length (row ++ p ∷ [])) (let n = length_push row p in omega (arith, n))
 
--- a slot with a present key holds a pair
-pub filled-bound : {K X : Type 0} (number : K → ℕ) (L : List (K × X)) (k : K) (v : X) → value_of number L k ≡ Some v → nat_lt 0 (length L) ≡ true
-filled-bound {X = X} number [] k v bound = let no : ◌≡◌ {A = Option X} None (Some v) = bound in cc
-filled-bound number (p ∷ L) k v bound = lt-ltb 0 (length (p ∷ L)) (omega arith)
-
 module _ {K X : Type 0} (S : List (Held K X)) (bits : List Bool) (marks : AreMarked (rows S) bits) (i : ℕ) (below : i < length S) where
   row-below : i < length (rows S)
   row-below = omega (arith, below, length-rows S)
-
-  -- slot i has a mark
-  pub index-below : i < length bits
-  index-below = let e = marks-enough (rows S) bits marks in omega (arith, row-below, e)
 
   -- it says whether the slot holds a pair
   pub marked-at : (h : Held K X) → h ≡ get_or S i h → marked bits i ≡ nat_lt 0 (length h.pairs)

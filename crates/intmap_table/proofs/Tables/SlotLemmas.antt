@@ -65,13 +65,3 @@ module _ {P : Type 0} where
       let same : last ≡ get_or (z ∷ zs) (length zs) first = here ∙ ap (λ i. get_or (z ∷ zs) i last) end ∙ get_or_default (z ∷ zs) (length zs) last first (omega arith) in
       (λ i. same i ∷ set (z ∷ zs) (end i) y) ∙ ap (λ ps. get_or (z ∷ zs) (length zs) first ∷ ps) (set-last z y zs)
       ∙ sym (ap (λ ps. ps ++ y ∷ []) (swap_remove-cons first (z ∷ zs) 0 first))
-
-module _ {K X : Type 0} (test : K → Bool) where
-  -- what is found among one pair is that pair, and removed it leaves none
-  pub lone-found : (pairs : List (K × X)) (p : K × X) (i : ℕ) → pairs ≡ p ∷ [] → position (λ q. test q.0) pairs ≡ Some i → (swap_out (λ q. test q.0) any pairs ≡ []) × (first_value test pairs ≡ Some p.1)
-  lone-found pairs p i lone found =
-      let one = ap length lone in
-      let within = (position-within (λ (q : K × X). test q.0) pairs i found).1 in
-      let first : i ≡ 0 = omega (arith, one, within) in
-      let here : position (λ q. test q.0) (p ∷ []) ≡ Some 0 = sym (ap (position (λ (q : K × X). test q.0)) lone) ∙ found ∙ ap Some first in
-      rw lone (sym (swap_remove-position (λ (q : K × X). test q.0) (p ∷ []) 0 p here refl), first_value-position test (p ∷ []) 0 p here)

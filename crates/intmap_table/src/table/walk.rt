@@ -1,6 +1,6 @@
 //! The walk of a table: its pairs by reference, slot after slot, a position in it, and removal from
 //! its front.
-ghost use Rattle.std.specs.Prelude.{◌≡◌, ◌+◌, ◌<◌, ◌^◌, [], ◌∷◌, cond, drop, is_some, length, slice_index_or, MatchOption, ⊤, IfSome};
+ghost use Rattle.std.specs.Prelude.{◌≡◌, ◌+◌, ◌<◌, ◌^◌, [], ◌∷◌, cond, drop, is_some, length, MatchOption, ⊤, IfSome};
 ghost use Rattle.std.specs.Iterator.{YieldsFirstBy, item_count, YieldsFirst};
 ghost use Rattle.intmap_table.specs.Picking.{IsReached};
 ghost use Rattle.intmap_table.specs.Walk.{walk_of, ArePassed};

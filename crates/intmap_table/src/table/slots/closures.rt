@@ -1,5 +1,5 @@
 //! Closures are called at the pairs of slots.
-ghost use Rattle.std.specs.Prelude.{◌≡◌, ◌+◌, ◌^◌, ◌<◌, ◌≤◌, List, length, drop};
+ghost use Rattle.std.specs.Prelude.{◌≡◌, ◌^◌, ◌<◌, ◌≤◌, List, length, drop};
 ghost use Rattle.intmap_table.specs.Tables.Slots.{rows, row_of, joined, IsRowSet, AreMarked, IsTable};
 ghost use Rattle.intmap_table.specs.Retaining.{Retains, KeepsAt, TakesPair};
 ghost use Rattle.intmap_table.specs.Taking.{TakesEach};
