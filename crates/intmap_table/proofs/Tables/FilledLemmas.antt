@@ -1,14 +1,13 @@
 -- The marks of a table say which of its slots hold a pair.
-use Rattle.std.proofs.Common.{◌≡◌, ◌≢◌, inl, inr, ℕ, zero, suc, ◌+◌, ◌-◌, ◌*◌, ◌/◌, ◌<◌, ◌≤◌, Bool, true, false, cond, Option, Some, None, List, [], ◌∷◌, ◌++◌, length, get_or, set, replicate, refl, sym, ap, ◌∙◌, subst, arith, length-set, get_or-set_same, get_or-set_other}
+use Rattle.std.proofs.Common.{◌≡◌, ◌≢◌, inl, inr, ℕ, zero, suc, ◌+◌, ◌-◌, ◌*◌, ◌/◌, ◌<◌, ◌≤◌, Bool, true, false, cond, List, [], ◌∷◌, ◌++◌, length, get_or, set, replicate, refl, sym, ap, ◌∙◌, subst, arith, length-set, get_or-set_same, get_or-set_other}
 use Rattle.std.specs.Prelude.{◌==◌, filter, All, count_by, nat_lt}
 use Rattle.std.specs.List.{list_any, range_with_len}
 use Rattle.std.proofs.lemmas.Bool.{cases_Bool, lt-ltb, ltb-true}
 use Rattle.std.proofs.lemmas.Bool.Decides.{nat_tests}
 use Rattle.std.proofs.lemmas.List.{length-replicate, length_push, map-set, get_or_past, set-get_or}
 use Rattle.std.proofs.lemmas.List.Elements.{All-head, All-tail}
-use Rattle.intmap_table.specs.Tables.Bits.{marked, marked_indices, IsNextMark}
-use Rattle.intmap_table.specs.Tables.Slots.{Held, rows, row_of, joined, pairs_at, IsNextRow, AreMarked, IsDirectory}
-use Rattle.intmap_table.specs.Bindings.{value_of}
+use Rattle.intmap_table.specs.Tables.Bits.{marked, marked_indices}
+use Rattle.intmap_table.specs.Tables.Slots.{Held, rows, row_of, joined, pairs_at, AreMarked, IsDirectory}
 use Rattle.intmap_table.proofs.Tables.TableLemmas.{length-rows, get_or-rows}
 use Rattle.intmap_table.proofs.Tables.MarkedLemmas.{get_or-of_default, row-none, All-marked_indices, flat_map-marked_indices, length-marked_indices}
 
@@ -28,10 +27,6 @@ module _ {P : Type 0} (R : List (List P)) (marks : List Bool) (are : AreMarked R
   -- the rows at the marked indices are all pairs
   pub pairs_at-marked : pairs_at R (marked_indices marks) ≡ joined R
   pairs_at-marked = flat_map-marked_indices R marks marks-enough are.own
-
-  -- a row without a mark holds no pair
-  pub empty-unmarked : (j : ℕ) → marked marks j ≡ false → get_or R j [] ≡ []
-  empty-unmarked j bare = row-none (get_or R j []) (sym (are.own j) ∙ bare)
 
   -- the number of marked indices is the number of rows that hold a pair
   pub count-marked : length (marked_indices marks) ≡ count_by (λ row. nat_lt 0 (length row)) R

@@ -1,12 +1,12 @@
 -- What a search finds in a slot, whose first pair is looked at apart from the rest, and what is at a place of it.
 use Rattle.std.proofs.Common.{◌≡◌, ℕ, zero, suc, ◌+◌, ◌-◌, ◌<◌, Bool, false, List, [], ◌∷◌, ◌++◌, length, get_or, set, take, Option, Some, None, refl, sym, ap, ◌∙◌, arith}
-use Rattle.std.specs.Prelude.{position, swap_remove}
+use Rattle.std.specs.Prelude.{swap_remove}
 use Rattle.std.proofs.lemmas.List.{get_or_default}
 use Rattle.intmap_table.specs.Bindings.{swap_out, first_value}
 use Rattle.intmap_table.specs.Reach.{through_first}
 use Rattle.intmap_table.specs.Tables.Slots.{all_pairs, write_at, HasFirst}
 use Rattle.intmap_table.proofs.Tables.SwapOutLemmas.{any}
-use Rattle.intmap_table.proofs.PositionLemmas.{first_value-position, length-through_first-cons, position-within, swap_remove-cons, swap_remove-position}
+use Rattle.intmap_table.proofs.PositionLemmas.{length-through_first-cons, swap_remove-cons}
 
 module _ {K X : Type 0} (test : K → Bool) (pairs : List (K × X)) (first : K × X) (rest : List (K × X)) (is : pairs ≡ first ∷ rest) where
   -- the first pair fails: what is found, removed and gone through is that of the rest

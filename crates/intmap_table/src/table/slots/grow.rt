@@ -1,4 +1,5 @@
-//! Growth in one jump, in the slots' own vector. All memory is allocated before the first pair moves.
+//! Growth in one jump, in the slots' own vector. All memory is allocated before the first pair
+//! moves.
 ghost use Rattle.std.specs.Prelude.{◌≡◌, ◌+◌, ◌-◌, ◌*◌, ◌/◌, ◌%◌, ◌^◌, ◌<◌, ◌≤◌, ℕ, cond, nat_eq, [], ◌++◌, length, get_or, take, replicate, false, OnOk, OnErr, IfOk, vec_capacity};
 ghost use Rattle.intmap_table.specs.Classes.{IsCapacity, slot_number};
 ghost use Rattle.intmap_table.specs.Tables.Bits.{marked_indices};

@@ -1,8 +1,8 @@
 //! The slots of a table. Contracts see the pairs of each, its row, and how many it has room for.
 //! Which slots hold a pair is known here alone.
 //!
-//! `pairs` has the calls on a pair of one slot, `closures` those with a closure, `filled` the rows by
-//! reference, and `grow` and `place` the growth.
+//! `pairs` has the calls on a pair of one slot, `closures` those with a closure, `filled` the rows
+//! by reference, and `grow` and `place` the growth.
 
 mod closures;
 pub(in crate::proved::table) mod filled;

@@ -1,4 +1,5 @@
-//! Growth in one jump, in the slots' own vector. All memory is allocated before the first pair moves.
+//! Growth in one jump, in the slots' own vector. All memory is allocated before the first pair
+//! moves.
 
 use crate::memory::prelude::*;
 use crate::proved::table::bits::Bits;
