@@ -17,7 +17,7 @@
 // have 16 bytes each.
 //
 // Compilers: rattle-kit-13f logic dac8208d650f15bf; clang version 22.1.8
-// Sources: d0e6b61fdb6442400ce6b9c68bb55ca7cbac735c26e1cd5a9a8253dbc8636ed9
+// Sources: fbed248c9a4f3b9da7c53e46d2756b3d437fb50786d1623fdb1e16e338716cea
 //
 // SPDX-License-Identifier: MIT
 //
@@ -478,25 +478,24 @@ static ALIGNED uint32_t make_keep(char *a0, char *a1) {
 
 // intmap::map::IntMap::with_slots, in crates/intmap/src/map/build.rt
 static ALIGNED void intmap_with_slots(char *a0, uint64_t a1) {
-    uint64_t r2_3, r22, r10_014, r2_4, r32, r4_3, r4_4, r4_5, r18_2, r0_06, r12;
+    uint64_t r2_3, r22, r10_014, r2_4, r32, r4_2, r4_3, r4_4, r18_2, r0_06, r12;
     char *r0, *r20, *r18, *r9_2;
     u128 r17;
-    uint8_t r3;
+    uint8_t sink10;
     char *r2 = (char *)no_bytes;
     uint64_t r2_2_room[3];
     char *r2_2 = (char *)r2_2_room;
     uint64_t r9_room[4];
     char *r9 = (char *)r9_room;
-    uint64_t r3_7_room[3];
-    char *r3_7 = (char *)r3_7_room;
-    uint64_t r3_8_room[3];
-    char *r3_8 = (char *)r3_8_room;
-    uint64_t r4_room[3];
+    uint64_t r6_7_room[3];
+    char *r6_7 = (char *)r6_7_room;
+    uint64_t r6_8_room[3];
+    char *r6_8 = (char *)r6_8_room;
+    uint64_t r3_5_room[6];
+    char *r3_5 = (char *)r3_5_room;
+    uint64_t r4_room[6];
     char *r4 = (char *)r4_room;
-    uint64_t r4_2_room[3];
-    char *r4_2 = (char *)r4_2_room;
-    memset(r4, 0, 24);
-    memset(r4_2, 0, 24);
+    memset(r4, 0, 48);
     memset(r9, 0, 32);
     store_address(r2_2, r2);
     memset(r2_2 + 8, 0, 16);
@@ -522,15 +521,16 @@ static ALIGNED void intmap_with_slots(char *a0, uint64_t a1) {
             }
         }
         store64(r2_2 + 8, a1);
-        memcpy(r3_7, r9 + 8, 24);
-        memcpy(r3_8, r2_2, 24);
+        memcpy(r6_7, r9 + 8, 24);
+        memcpy(r6_8, r2_2, 24);
+        memcpy(r3_5, r6_7, 24);
+        memcpy(r3_5 + 24, r6_8, 24);
         r17 = u128_less_one(u128_mul(u128_of(a1), u128_of(910u)));
-        memcpy(r4, r3_7, 24);
-        memcpy(r4_2, r3_8, 24);
-        r3 = 0;
-        r4_3 = a1 - 1;
-        r4_4 = u128_above(r17, u128_two(UINT64_C(999), UINT64_C(18446744073709551615))) ? UINT64_C(18446744073709551615) : u128_low(u128_div(r17, u128_of(1000u)));
-        r4_5 = 909;
+        memcpy(r4, r3_5, 48);
+        sink10 = 0;
+        r4_2 = a1 - 1;
+        r4_3 = u128_above(r17, u128_two(UINT64_C(999), UINT64_C(18446744073709551615))) ? UINT64_C(18446744073709551615) : u128_low(u128_div(r17, u128_of(1000u)));
+        r4_4 = 909;
     } else {
         r18 = load_address(r2_2);
         r18_2 = load64(r2_2 + 16);
@@ -551,23 +551,22 @@ static ALIGNED void intmap_with_slots(char *a0, uint64_t a1) {
         if (r18_2 != 0) {
             rattle_dealloc(r18);
         }
-        r3 = 1;
+        sink10 = 1;
+        r4_2 = 0;
         r4_3 = 0;
         r4_4 = 0;
-        r4_5 = 0;
     }
-    store8(a0, r3);
+    store8(a0, sink10);
     store8(a0 + 1, 0);
-    store64(a0 + 8, r4_3);
-    memcpy(a0 + 16, r4, 24);
-    memcpy(a0 + 40, r4_2, 24);
+    store64(a0 + 8, r4_2);
+    memcpy(a0 + 16, r4, 48);
     store64(a0 + 64, 0);
-    store64(a0 + 72, r4_4);
-    store64(a0 + 80, r4_5);
+    store64(a0 + 72, r4_3);
+    store64(a0 + 80, r4_4);
     return;
 }
 
-// intmap_table::table::grow::reserve_slots, in crates/intmap_table/src/table/grow.rt
+// intmap_table::table::slots::grow::reserve_slots, in crates/intmap_table/src/table/slots/grow.rt
 static ALIGNED void grow_reserve_slots(char *a0, char *a1, uint64_t a2) {
     uint64_t r2_2, r19, r2_3, r4_0, r9_2, r19_2, r3, r2_4, r12;
     struct word_word r0, r0_2, r0_3, r0_4, r0_5;
@@ -656,7 +655,7 @@ static ALIGNED NOINLINE void intmap_add_growing(char *a0, char *a1, uint64_t a2,
     bool r0_2;
     uint8_t r17_3, r53, r11_2;
     struct word_word r0_3, r0_4, r0_5, r0_8;
-    struct byte_word r36;
+    struct byte_word r29;
     char *r2 = (char *)no_bytes;
     r2_2 = load64(a1 + 40);
     r10 = u128_mul(u128_of(a2), u128_of(1000u));
@@ -764,16 +763,16 @@ static ALIGNED NOINLINE void intmap_add_growing(char *a0, char *a1, uint64_t a2,
         store64(r9_2 + 16, a5);
         r8_2 = 0;
     } else {
-        r36 = slot_push(r9_2, a4, a5);
-        if (r36.first != 0) {
-            r12 = r36.second;
+        r29 = slot_push(r9_2, a4, a5);
+        if (r29.first != 0) {
+            r12 = r29.second;
             r12_2 = 1;
             r17_2 = 0;
             r17_3 = 0;
             r17_4 = 0;
             goto join_7_2;
         }
-        r8_2 = r36.second;
+        r8_2 = r29.second;
     }
     r53 = table_grow(a1, r0);
     r5_3 = load_address(a1 + 32);
@@ -788,7 +787,7 @@ static ALIGNED NOINLINE void intmap_add_growing(char *a0, char *a1, uint64_t a2,
             if (r11_2 == 1) {
                 store64(load_address(a1 + 8) + r8, r9_3 & (r20 ^ UINT64_C(18446744073709551615)));
                 r0_7 = r0_6;
-                goto after_Table_take_at;
+                goto after_Slots_take_at;
             }
         }
         r28 = r3 - 1;
@@ -817,7 +816,7 @@ static ALIGNED NOINLINE void intmap_add_growing(char *a0, char *a1, uint64_t a2,
                 r0_7 = r4_2;
             }
         }
-    after_Table_take_at:;
+    after_Slots_take_at:;
         if (r0_2) {
             r9_5 = load_address(a1 + 32) + r6;
             r2_7 = load64(r9_5 + 32);
@@ -1170,11 +1169,11 @@ static ALIGNED uint8_t table_grow(char *a0, uint64_t a1) {
                                         }
                                         if (load64(r4 + 16) == 0) {
                                             r0_6 = 0;
-                                            goto return_5;
+                                            goto after_Slots_grow;
                                         }
                                         rattle_dealloc(load_address(r4));
                                         r0_6 = 0;
-                                        goto return_5;
+                                        goto after_Slots_grow;
                                     }
                                     r33 = r3_6 - 1;
                                     r54 = load64(r3_7);
@@ -1368,7 +1367,7 @@ static ALIGNED uint8_t table_grow(char *a0, uint64_t a1) {
     } else {
         r0_6 = 1;
     }
-return_5:;
+after_Slots_grow:;
     return r0_6;
 }
 
@@ -1414,7 +1413,7 @@ after_Vec_reserve_exact:;
     return r0;
 }
 
-// intmap_table::table::place::move_several, in crates/intmap_table/src/table/place.rt
+// intmap_table::table::slots::place::move_several, in crates/intmap_table/src/table/slots/place.rt
 static ALIGNED NOINLINE void place_move_several(char *a0, char *a1, uint64_t a2, uint64_t a3, char *a4) {
     char *r25, *r0, *r17, *r4, *r13, *r17_2, *r13_2, *r17_3, *r31_2, *r11_2, *r3, *r4_2, *r10_2, *r3_4, *r15, *r3_7,
         *r3_9, *r21, *r31_3, *r11_4, *r3_14, *r4_4, *r10_4, *r3_17, *r15_2;
@@ -1788,7 +1787,7 @@ static ALWAYS_INLINE bool do_intmap_equal(char *map, char *other) {
         *r11, *common_ret_op, *r4_3;
     bool r12, r7_0;
     uint64_t r6, r6_2, r6_4, r1_2, r1_3, r1_4, r1_6, r1_7, r1_9, r1_10, r1_11, r1_13, r33, r54, r60, r1_14, r1_16,
-        r17, r27, r40, r6_5, r1_18, r1_19, r1_20, r1_22, r1_24, r1_25, r1_26, r1_28, r37, r6_6, r3_0, r21, r36;
+        r17, r27, r40, r6_5, r1_18, r1_19, r1_20, r1_22, r1_24, r1_25, r1_26, r1_28, r45, r6_6, r3_0, r21, r36;
     char *r2 = (char *)no_bytes;
     r5 = load_address(map);
     r8 = load_address(other);
@@ -1902,13 +1901,13 @@ static ALWAYS_INLINE bool do_intmap_equal(char *map, char *other) {
                 r1_22 = r1_28;
                 r7 = r1_23;
             arm_6:;
-                r37 = load_key(r7);
-                r11 = load_address(r8 + 32) + ((load64(r8) & (r37 * UINT64_C(11400714819323198549))) * 48);
+                r45 = load_key(r7);
+                r11 = load_address(r8 + 32) + ((load64(r8) & (r45 * UINT64_C(11400714819323198549))) * 48);
                 if (load8(r11) != 1) {
                     r7_0 = false;
                     goto after_read_intmap_equal;
                 }
-                if (load64(r11 + 8) == r37) {
+                if (load64(r11 + 8) == r45) {
                     common_ret_op = r11 + 8;
                 } else {
                     r4_3 = load_address(r11 + 24);
@@ -1920,7 +1919,7 @@ static ALWAYS_INLINE bool do_intmap_equal(char *map, char *other) {
                     r3_0 = 0;
                     for (;;) {
                         r21 = r3_0 << 4;
-                        if (load64(r4_3 + r21) == r37) {
+                        if (load64(r4_3 + r21) == r45) {
                             common_ret_op = r4_3 + r21;
                             break;
                         }
@@ -2281,26 +2280,27 @@ static ALWAYS_INLINE uint32_t do_intmap_with_capacity(char *map, uint64_t capaci
 
 // intmap_step, in crates/intmap_c/src/read.rt
 static ALWAYS_INLINE char *do_intmap_step(char *found, char *map, char *at) {
-    char *r5, *r4, *r8, *common_ret_op;
-    uint64_t r6, r6_2, r1947, r1910, r2, r2_2, r1910_2, r1951, r39, r1_0, r46, r59, r2_0, r1_0_2, r63, r69, r44, r82,
+    char *r5, *r4, *r11, *common_ret_op;
+    uint64_t r6, r6_2, r1455, r1910, r2, r2_2, r1910_2, r1459, r39, r1_0, r46, r59, r2_0, r1_0_2, r63, r69, r27, r60,
         r1910_3, r2_3;
     uint32_t r6_3;
+    uint8_t r4_2;
     r5 = load_address(map);
     if (r5 == NULL) {
         r6 = 0;
         r6_2 = 0;
         r6_3 = 4294967293u;
     } else {
-        r1947 = load64(at);
-        r1910 = r1947 >> 6;
+        r1455 = load64(at);
+        r1910 = r1455 >> 6;
         r2 = load64(r5 + 16);
         if (r2 > r1910) {
             r2_2 = r2;
             r1910_2 = r1910;
-            r1951 = r1947;
+            r1459 = r1455;
             for (;;) {
                 r4 = load_address(r5 + 8);
-                r39 = load64(r4 + (r1910_2 << 3)) & (UINT64_C(18446744073709551615) << (r1951 & 63));
+                r39 = load64(r4 + (r1910_2 << 3)) & (UINT64_C(18446744073709551615) << (r1459 & 63));
                 if (r39 == 0) {
                     r1_0 = r1910_2;
                     for (;;) {
@@ -2326,30 +2326,31 @@ static ALWAYS_INLINE char *do_intmap_step(char *found, char *map, char *at) {
                 r63 = low_zeros(r2_0);
                 r69 = (r1_0_2 << 6) | r63;
                 store64(at, r69);
-                r8 = load_address(r5 + 32) + (r69 * 48);
-                if (load8(r8) != 0) {
-                    r44 = load64(at + 8);
-                    if (r44 < (load64(r8 + 32) + 1)) {
-                        store64(at + 8, r44 + 1);
-                        store64(at + 16, load64(at + 16) + 1);
-                        if (r44 == 0) {
-                            if (load8(r8) != 1) {
+                r11 = load_address(r5 + 32) + (r69 * 48);
+                r4_2 = load8(r11);
+                if (r4_2 != 0) {
+                    r27 = load64(at + 8);
+                    if (r27 < (load64(r11 + 32) + 1)) {
+                        if (r27 == 0) {
+                            if (r4_2 != 1) {
                                 abort();
                             }
-                            common_ret_op = r8 + 8;
+                            common_ret_op = r11 + 8;
                         } else {
-                            common_ret_op = (load_address(r8 + 24) + (r44 << 4)) - 16;
+                            common_ret_op = (load_address(r11 + 24) + (r27 << 4)) - 16;
                         }
+                        store64(at + 8, r27 + 1);
+                        store64(at + 16, load64(at + 16) + 1);
                         r6 = load64(common_ret_op);
                         r6_2 = load64(common_ret_op + 8);
                         r6_3 = 1;
                         break;
                     }
                 }
-                r82 = r69 + 1;
-                store64(at, r82);
+                r60 = r69 + 1;
+                store64(at, r60);
                 store64(at + 8, 0);
-                r1910_3 = r82 >> 6;
+                r1910_3 = r60 >> 6;
                 r2_3 = load64(r5 + 16);
                 if (r2_3 <= r1910_3) {
                     r6 = 0;
@@ -2359,7 +2360,7 @@ static ALWAYS_INLINE char *do_intmap_step(char *found, char *map, char *at) {
                 }
                 r2_2 = r2_3;
                 r1910_2 = r1910_3;
-                r1951 = r82;
+                r1459 = r60;
             }
         } else {
             r6 = 0;
@@ -2468,7 +2469,7 @@ static ALWAYS_INLINE struct word_word do_intmap_add_or_insert(char *map, uint64_
         r0_2_8_ext;
     char *x0, *r11, *r2937_in, *r4, *r11_2, *x10, *r4_2, *r4_3, *r9;
     uint32_t r19, r40, x9;
-    uint8_t r36_2;
+    uint8_t r29;
     uint64_t r12_room[4];
     char *r12 = (char *)r12_room;
     r3 = load64(map);
@@ -2526,8 +2527,8 @@ static ALWAYS_INLINE struct word_word do_intmap_add_or_insert(char *map, uint64_
                     store64(r11 + 8, key);
                     store64(r11 + 16, more);
                 } else {
-                    r36_2 = slot_push_2(r11, key, more);
-                    if (r36_2 != 0) {
+                    r29 = slot_push_2(r11, key, more);
+                    if (r29 != 0) {
                         r40 = 4294967295u;
                         r8 = 0;
                         goto after_pairs_add_or_insert;
@@ -2708,15 +2709,15 @@ after_walk_intmap_clear:;
 
 // intmap_cut, in crates/intmap_c/src/walk.rt
 static ALWAYS_INLINE char *do_intmap_cut(char *found, char *map, char *at) {
-    uint64_t r3, r6, r6_2, r1325, r1910, r2, r2_2, r1910_2, r1329, r39, r1_0, r46, x21, x22, r59, r2_0, r1_0_2, r63,
-        r69, r21, r3_2, r3_3, r2_3, r0, r0_2, r16, r1, r1_2, r28, r3_0, r0_05, r13_2, r23, r36, r20, exit, x14,
-        r20_lcssa60, r3_0_lcssa59, r0_05_2, r13_3, r23_2, r4_3, r4_4, r10, r16_2, r6_4, r1_3, r1_4, r28_2, r20_2,
-        r3_0_2, r0_05_3, r19, r29, r0_05_4, r13_5, r23_3, r36_2, r20_3, exit_2, r0_05_5, r19_2, r29_2, x6,
-        r20_lcssa60_2, r3_0_lcssa59_2, r40, r37, r1910_3, r2_4, r3_4, r4_7, r4_8, r4_9, r0_06, r12;
-    char *x0, *r4, *r9, *r13, *x11, *x13, *x16, *r13_4, *r9_2, *x3, *x5, *x7, *r11, *x24, *r4_5, *r4_6, *r9_3;
-    uint32_t r6_3, x23;
-    uint8_t r4_2;
-    bool x18;
+    uint64_t r3, r6, r6_2, r1644, r1910, r2, r2_2, r1910_2, r1648, r39, r1_0, r46, x20, x21, r59, r2_0, r1_0_2, r61,
+        r63, r69, r29, r2_3, r2_4, r2_6, r0, r0_2, r16, r1, r1_2, r28, r3_0, r0_05, r13_2, r23, r36, r20, exit, x14,
+        r20_lcssa60, r3_0_lcssa59, r0_05_2, r13_3, r23_2, r4_3, r4_4, r2_7, r2_8, r10, r16_2, r6_4, r1_3, r1_4,
+        r28_2, r20_2, r3_0_2, r0_05_3, r19, r29_2, r0_05_4, r13_5, r23_3, r36_2, r20_3, exit_2, r0_05_5, r19_2,
+        r29_3, x6, r20_lcssa60_2, r3_0_lcssa59_2, r2_11, r2_12, r2_13, r2_14, r55, r1910_3, r2_16, r3_2, r4_7, r4_8,
+        r4_9, r0_06, r12;
+    char *x0, *r4, *r9, *r13, *x11, *x13, *x16, *r13_4, *r9_2, *x3, *x5, *x7, *r11, *x23, *r4_5, *r4_6, *r9_3;
+    uint32_t r6_3, x22;
+    uint8_t r4_2, r2_5, r2_9, r2_10, r2_15;
     r3 = load64(map);
     store64(map, 0);
     x0 = (char *)(uintptr_t)r3;
@@ -2725,24 +2726,24 @@ static ALWAYS_INLINE char *do_intmap_cut(char *found, char *map, char *at) {
         r6_2 = 0;
         r6_3 = 4294967293u;
     } else {
-        r1325 = load64(at);
-        r1910 = r1325 >> 6;
+        r1644 = load64(at);
+        r1910 = r1644 >> 6;
         r2 = load64(x0 + 16);
         if (r2 > r1910) {
             r2_2 = r2;
             r1910_2 = r1910;
-            r1329 = r1325;
+            r1648 = r1644;
             for (;;) {
                 r4 = load_address(x0 + 8);
-                r39 = load64(r4 + (r1910_2 << 3)) & (UINT64_C(18446744073709551615) << (r1329 & 63));
+                r39 = load64(r4 + (r1910_2 << 3)) & (UINT64_C(18446744073709551615) << (r1648 & 63));
                 if (r39 == 0) {
                     r1_0 = r1910_2;
                     for (;;) {
                         r46 = r1_0 + 1;
                         if (r46 == r2_2) {
+                            x20 = 0;
                             x21 = 0;
-                            x22 = 0;
-                            x23 = 2;
+                            x22 = 2;
                             goto after_walk_cut;
                         }
                         r59 = load64(r4 + (r46 << 3));
@@ -2757,232 +2758,250 @@ static ALWAYS_INLINE char *do_intmap_cut(char *found, char *map, char *at) {
                     r2_0 = r39;
                     r1_0_2 = r1910_2;
                 }
+                r61 = r1_0_2 << 6;
                 r63 = low_zeros(r2_0);
-                r69 = (r1_0_2 << 6) | r63;
+                r69 = r61 | r63;
                 store64(at, r69);
+                r29 = load64(at + 8);
                 r9 = load_address(x0 + 32) + (r69 * 48);
-                r21 = load64(at + 8);
                 r4_2 = load8(r9);
                 if (r4_2 == 0) {
-                    x18 = false;
-                    r3_2 = 0;
-                    r3_3 = 0;
+                    r2_3 = 0;
+                    r2_4 = 0;
+                    r2_5 = 0;
                 } else {
-                    r2_3 = load64(r9 + 32);
-                    if (r21 < (r2_3 + 1)) {
-                        if (r21 == 0) {
+                    r2_6 = load64(r9 + 32);
+                    if (r29 < (r2_6 + 1)) {
+                        if (r29 == 0) {
                             if (r4_2 != 1) {
                                 abort();
                             }
-                            if (r2_3 == 0) {
+                            if (r2_6 == 0) {
                                 r0 = load64(r9 + 8);
                                 r0_2 = load64(r9 + 16);
                                 memset(r9, 0, 24);
-                                x18 = true;
-                                r3_2 = r0;
-                                r3_3 = r0_2;
-                            } else {
-                                r13 = load_address(r9 + 24);
-                                r16 = load64(r9 + 40);
-                                memset(r9 + 32, 0, 16);
-                                r1 = load64(r13);
-                                r1_2 = load64(r13 + 8);
-                                r28 = r2_3 - 1;
-                                if (r28 > 128) {
-                                    r3_0 = 0;
-                                    for (;;) {
-                                        x11 = r13 + (r3_0 << 4);
-                                        r0_05 = 0;
-                                        for (;;) {
-                                            r13_2 = r0_05 << 4;
-                                            memcpy(x11 + r13_2, (x11 + 16) + r13_2, 16);
-                                            r23 = r0_05 + 1;
-                                            if (r23 == 128) {
-                                                r36 = r3_0 + 128;
-                                                r20 = r28 - r36;
-                                                if (r20 > 128) {
-                                                    r3_0 = r36;
-                                                    break;
-                                                }
-                                                exit = r36 << 4;
-                                                x13 = r13 + exit;
-                                                x14 = exit;
-                                                r20_lcssa60 = r20;
-                                                r3_0_lcssa59 = r36;
-                                                goto then_2_2;
-                                            }
-                                            r0_05 = r23;
-                                        }
-                                    }
-                                }
-                                x13 = r13;
-                                x14 = 0;
-                                r20_lcssa60 = r28;
-                                r3_0_lcssa59 = 0;
-                            then_2_2:;
-                                if (r28 != r3_0_lcssa59) {
-                                    x16 = r13 + x14;
-                                    r0_05_2 = 0;
-                                    for (;;) {
-                                        r13_3 = r0_05_2 << 4;
-                                        memcpy(x16 + r13_3, (x13 + 16) + r13_3, 16);
-                                        r23_2 = r0_05_2 + 1;
-                                        if (r23_2 == r20_lcssa60) {
-                                            break;
-                                        }
-                                        r0_05_2 = r23_2;
-                                    }
-                                }
-                                store_address(r9 + 24, r13);
-                                store64(r9 + 32, r28);
-                                store64(r9 + 40, r16);
-                                if (load8(r9) != 1) {
-                                    abort();
-                                }
-                                r4_3 = load64(r9 + 8);
-                                r4_4 = load64(r9 + 16);
-                                store64(r9 + 8, r1);
-                                store64(r9 + 16, r1_2);
-                                x18 = true;
-                                r3_2 = r4_3;
-                                r3_3 = r4_4;
+                                r2_3 = r0_2;
+                                r2_4 = r0;
+                                r2_5 = 1;
+                                goto then_1_2;
                             }
-                        } else {
-                            r10 = r21 - 1;
-                            r13_4 = load_address(r9 + 24);
-                            r16_2 = load64(r9 + 40);
+                            r13 = load_address(r9 + 24);
+                            r16 = load64(r9 + 40);
                             memset(r9 + 32, 0, 16);
-                            r6_4 = r10 << 4;
-                            r9_2 = r13_4 + r6_4;
-                            r1_3 = load64(r9_2);
-                            r1_4 = load64(r9_2 + 8);
-                            r28_2 = r2_3 - 1;
-                            r20_2 = r2_3 - r21;
-                            if (r20_2 > 128) {
-                                r3_0_2 = r10;
+                            r1 = load64(r13);
+                            r1_2 = load64(r13 + 8);
+                            r28 = r2_6 - 1;
+                            if (r28 > 128) {
+                                r3_0 = 0;
                                 for (;;) {
-                                    x3 = r13_4 + (r3_0_2 << 4);
-                                    if (r3_0_2 == UINT64_C(18446744073709551615)) {
-                                        r0_05_3 = 0;
-                                        for (;;) {
-                                            r19 = (uint64_t)2032 - (r0_05_3 << 4);
-                                            memcpy(x3 + r19, (x3 + 16) + r19, 16);
-                                            r29 = r0_05_3 + 1;
-                                            if (r29 == 128) {
+                                    x11 = r13 + (r3_0 << 4);
+                                    r0_05 = 0;
+                                    for (;;) {
+                                        r13_2 = r0_05 << 4;
+                                        memcpy(x11 + r13_2, (x11 + 16) + r13_2, 16);
+                                        r23 = r0_05 + 1;
+                                        if (r23 == 128) {
+                                            r36 = r3_0 + 128;
+                                            r20 = r28 - r36;
+                                            if (r20 > 128) {
+                                                r3_0 = r36;
                                                 break;
                                             }
-                                            r0_05_3 = r29;
+                                            exit = r36 << 4;
+                                            x13 = r13 + exit;
+                                            x14 = exit;
+                                            r20_lcssa60 = r20;
+                                            r3_0_lcssa59 = r36;
+                                            goto then_2_2;
                                         }
-                                    } else {
-                                        r0_05_4 = 0;
-                                        for (;;) {
-                                            r13_5 = r0_05_4 << 4;
-                                            memcpy(x3 + r13_5, (x3 + 16) + r13_5, 16);
-                                            r23_3 = r0_05_4 + 1;
-                                            if (r23_3 == 128) {
-                                                break;
-                                            }
-                                            r0_05_4 = r23_3;
-                                        }
+                                        r0_05 = r23;
                                     }
-                                    r36_2 = r3_0_2 + 128;
-                                    r20_3 = r28_2 - r36_2;
-                                    if (r20_3 <= 128) {
-                                        exit_2 = r36_2 << 4;
-                                        x5 = r13_4 + exit_2;
-                                        if (r36_2 != UINT64_C(18446744073709551615)) {
-                                            x6 = exit_2;
-                                            r20_lcssa60_2 = r20_3;
-                                            r3_0_lcssa59_2 = r36_2;
+                                }
+                            }
+                            x13 = r13;
+                            x14 = 0;
+                            r20_lcssa60 = r28;
+                            r3_0_lcssa59 = 0;
+                        then_2_2:;
+                            if (r28 != r3_0_lcssa59) {
+                                x16 = r13 + x14;
+                                r0_05_2 = 0;
+                                for (;;) {
+                                    r13_3 = r0_05_2 << 4;
+                                    memcpy(x16 + r13_3, (x13 + 16) + r13_3, 16);
+                                    r23_2 = r0_05_2 + 1;
+                                    if (r23_2 == r20_lcssa60) {
+                                        break;
+                                    }
+                                    r0_05_2 = r23_2;
+                                }
+                            }
+                            store_address(r9 + 24, r13);
+                            store64(r9 + 32, r28);
+                            store64(r9 + 40, r16);
+                            if (load8(r9) != 1) {
+                                abort();
+                            }
+                            r4_3 = load64(r9 + 8);
+                            r4_4 = load64(r9 + 16);
+                            store64(r9 + 8, r1);
+                            store64(r9 + 16, r1_2);
+                            store64(at + 16, load64(at + 16) + load64(at + 8));
+                            r2_7 = r4_3;
+                            r2_8 = r4_4;
+                            goto loopexit;
+                        }
+                        r10 = r29 - 1;
+                        r13_4 = load_address(r9 + 24);
+                        r16_2 = load64(r9 + 40);
+                        memset(r9 + 32, 0, 16);
+                        r6_4 = r10 << 4;
+                        r9_2 = r13_4 + r6_4;
+                        r1_3 = load64(r9_2);
+                        r1_4 = load64(r9_2 + 8);
+                        r28_2 = r2_6 - 1;
+                        r20_2 = r2_6 - r29;
+                        if (r20_2 > 128) {
+                            r3_0_2 = r10;
+                            for (;;) {
+                                x3 = r13_4 + (r3_0_2 << 4);
+                                if (r3_0_2 == UINT64_C(18446744073709551615)) {
+                                    r0_05_3 = 0;
+                                    for (;;) {
+                                        r19 = (uint64_t)2032 - (r0_05_3 << 4);
+                                        memcpy(x3 + r19, (x3 + 16) + r19, 16);
+                                        r29_2 = r0_05_3 + 1;
+                                        if (r29_2 == 128) {
                                             break;
                                         }
-                                        if (r2_3 == 0) {
+                                        r0_05_3 = r29_2;
+                                    }
+                                } else {
+                                    r0_05_4 = 0;
+                                    for (;;) {
+                                        r13_5 = r0_05_4 << 4;
+                                        memcpy(x3 + r13_5, (x3 + 16) + r13_5, 16);
+                                        r23_3 = r0_05_4 + 1;
+                                        if (r23_3 == 128) {
+                                            break;
+                                        }
+                                        r0_05_4 = r23_3;
+                                    }
+                                }
+                                r36_2 = r3_0_2 + 128;
+                                r20_3 = r28_2 - r36_2;
+                                if (r20_3 <= 128) {
+                                    exit_2 = r36_2 << 4;
+                                    x5 = r13_4 + exit_2;
+                                    if (r36_2 != UINT64_C(18446744073709551615)) {
+                                        x6 = exit_2;
+                                        r20_lcssa60_2 = r20_3;
+                                        r3_0_lcssa59_2 = r36_2;
+                                        break;
+                                    }
+                                    if (r2_6 == 0) {
+                                        goto after_Vec_remove;
+                                    }
+                                    r0_05_5 = 0;
+                                    for (;;) {
+                                        r19_2 = (r20_3 + (r0_05_5 ^ UINT64_C(18446744073709551615))) << 4;
+                                        memcpy(x5 + r19_2, (x5 + 16) + r19_2, 16);
+                                        r29_3 = r0_05_5 + 1;
+                                        if (r29_3 == r20_3) {
                                             goto after_Vec_remove;
                                         }
-                                        r0_05_5 = 0;
-                                        for (;;) {
-                                            r19_2 = (r20_3 + (r0_05_5 ^ UINT64_C(18446744073709551615))) << 4;
-                                            memcpy(x5 + r19_2, (x5 + 16) + r19_2, 16);
-                                            r29_2 = r0_05_5 + 1;
-                                            if (r29_2 == r20_3) {
-                                                goto after_Vec_remove;
-                                            }
-                                            r0_05_5 = r29_2;
-                                        }
+                                        r0_05_5 = r29_3;
                                     }
-                                    r3_0_2 = r36_2;
                                 }
-                            } else {
-                                x6 = r6_4;
-                                r20_lcssa60_2 = r20_2;
-                                r3_0_lcssa59_2 = r10;
+                                r3_0_2 = r36_2;
                             }
-                            if (r28_2 != r3_0_lcssa59_2) {
-                                x7 = r13_4 + x6;
-                                memmove(x7, x7 + 16, r20_lcssa60_2 << 4);
-                            }
-                        after_Vec_remove:;
-                            store_address(r9 + 24, r13_4);
-                            store64(r9 + 32, r28_2);
-                            store64(r9 + 40, r16_2);
-                            x18 = true;
-                            r3_2 = r1_3;
-                            r3_3 = r1_4;
+                        } else {
+                            x6 = r6_4;
+                            r20_lcssa60_2 = r20_2;
+                            r3_0_lcssa59_2 = r10;
                         }
+                        if (r28_2 != r3_0_lcssa59_2) {
+                            x7 = r13_4 + x6;
+                            memmove(x7, x7 + 16, r20_lcssa60_2 << 4);
+                        }
+                    after_Vec_remove:;
+                        store_address(r9 + 24, r13_4);
+                        store64(r9 + 32, r28_2);
+                        store64(r9 + 40, r16_2);
+                        r2_9 = load8(r9);
+                        r2_10 = 1;
+                        r2_11 = r1_3;
+                        r2_12 = r1_4;
                     } else {
-                        x18 = false;
-                        r3_2 = 0;
-                        r3_3 = 0;
+                        r2_9 = r4_2;
+                        r2_10 = 0;
+                        r2_11 = 0;
+                        r2_12 = 0;
                     }
+                    if ((r2_9 & 1) != 0) {
+                        r2_13 = r2_12;
+                        r2_14 = r2_11;
+                        r2_15 = r2_10;
+                        goto after_Slots_K_Kept_V_A_extract_at_2;
+                    }
+                    r2_3 = r2_12;
+                    r2_4 = r2_11;
+                    r2_5 = r2_10;
                 }
-                store64(at + 16, (load64(at + 8) - r21) + load64(at + 16));
-                if ((load8(r9) & 1) == 0) {
-                    r40 = load64(at);
-                    r11 = load_address(x0 + 8) + ((r40 >> 3) & UINT64_C(2305843009213693944));
-                    store64(r11, load64(r11) & (((uint64_t)1 << (r40 & 63)) ^ UINT64_C(18446744073709551615)));
-                }
-                if (x18) {
-                    store64(x0 + 56, load64(x0 + 56) - 1);
-                    x21 = r3_3;
-                    x22 = r3_2;
-                    x23 = 1;
-                    break;
-                }
-                r37 = r69 + 1;
-                store64(at, r37);
-                store64(at + 8, 0);
-                r1910_3 = r37 >> 6;
-                r2_4 = load64(x0 + 16);
-                if (r2_4 <= r1910_3) {
+            then_1_2:;
+                r11 = load_address(x0 + 8) + (r61 >> 3);
+                store64(r11, load64(r11) & (((uint64_t)1 << r63) ^ UINT64_C(18446744073709551615)));
+                r2_13 = r2_3;
+                r2_14 = r2_4;
+                r2_15 = r2_5;
+            after_Slots_K_Kept_V_A_extract_at_2:;
+                store64(at + 16, (load64(at + 8) - r29) + load64(at + 16));
+                if (r2_15 != 1) {
+                    r55 = r69 + 1;
+                    store64(at, r55);
+                    store64(at + 8, 0);
+                    r1910_3 = r55 >> 6;
+                    r2_16 = load64(x0 + 16);
+                    if (r2_16 > r1910_3) {
+                        r2_2 = r2_16;
+                        r1910_2 = r1910_3;
+                        r1648 = r55;
+                        continue;
+                    }
+                    x20 = 0;
                     x21 = 0;
-                    x22 = 0;
-                    x23 = 2;
+                    x22 = 2;
                     break;
                 }
-                r2_2 = r2_4;
-                r1910_2 = r1910_3;
-                r1329 = r37;
+                r2_7 = r2_14;
+                r2_8 = r2_13;
+            loopexit:;
+                store64(x0 + 56, load64(x0 + 56) - 1);
+                x20 = r2_8;
+                x21 = r2_7;
+                x22 = 1;
+                break;
             }
         } else {
+            x20 = 0;
             x21 = 0;
-            x22 = 0;
-            x23 = 2;
+            x22 = 2;
         }
     after_walk_cut:;
-        r3_4 = load64(map);
+        r3_2 = load64(map);
         store64(map, r3);
-        if (r3_4 == 0) {
-            r6 = x22;
-            r6_2 = x21;
-            r6_3 = x23;
+        if (r3_2 == 0) {
+            r6 = x21;
+            r6_2 = x20;
+            r6_3 = x22;
         } else {
-            x24 = (char *)(uintptr_t)r3_4;
-            r4_5 = load_address(x24 + 8);
-            r4_6 = load_address(x24 + 32);
-            r4_7 = load64(x24 + 40);
-            r4_8 = load64(x24 + 48);
-            r4_9 = load64(x24 + 24);
-            rattle_dealloc(x24);
+            x23 = (char *)(uintptr_t)r3_2;
+            r4_5 = load_address(x23 + 8);
+            r4_6 = load_address(x23 + 32);
+            r4_7 = load64(x23 + 40);
+            r4_8 = load64(x23 + 48);
+            r4_9 = load64(x23 + 24);
+            rattle_dealloc(x23);
             if (r4_9 != 0) {
                 rattle_dealloc(r4_5);
             }
@@ -3001,14 +3020,14 @@ static ALWAYS_INLINE char *do_intmap_cut(char *found, char *map, char *at) {
                 }
             }
             if (r4_8 == 0) {
-                r6 = x22;
-                r6_2 = x21;
-                r6_3 = x23;
+                r6 = x21;
+                r6_2 = x20;
+                r6_3 = x22;
             } else {
                 rattle_dealloc(r4_6);
-                r6 = x22;
-                r6_2 = x21;
-                r6_3 = x23;
+                r6 = x21;
+                r6_2 = x20;
+                r6_3 = x22;
             }
         }
     }
@@ -3059,11 +3078,11 @@ static ALWAYS_INLINE void do_intmap_free(char *map) {
 
 // intmap_insert, in crates/intmap_c/src/pairs.rt
 static ALWAYS_INLINE struct word_word do_intmap_insert(char *map, uint64_t key, uint64_t value) {
-    uint64_t r3, r6, r10, r11_2, r4_3_0_pn150, r4_0_0_pn149, r4, r4_2, r4_3, r5, r6_2, r3_0, r21, r15, r2, r12_2, r9,
+    uint64_t r3, r6, r10, r11_2, r4_3_0_pn168, r4_0_0_pn167, r4, r4_2, r4_3, r5, r6_2, r3_0, r21, r15, r2, r12_2, r9,
         r0, r4_5, r9_2, r36, r28, r44, r16, r20, r3_2, r4_8, r4_9, r4_10, r0_06, r12_3, r0_2_8_ext;
     char *x0, *r11, *x2, *r4_4, *r23, *r10_2, *r24, *r15_2, *r11_3, *x11, *r4_6, *r4_7, *r9_3;
     uint32_t r19, spec_select1, x10;
-    uint8_t r36_2;
+    uint8_t r29;
     uint64_t r12_room[4];
     char *r12 = (char *)r12_room;
     r3 = load64(map);
@@ -3079,8 +3098,8 @@ static ALWAYS_INLINE struct word_word do_intmap_insert(char *map, uint64_t key, 
             if (load64(r11 + 8) == key) {
                 r11_2 = load64(r11 + 32);
                 if (r11_2 == 0) {
-                    r4_3_0_pn150 = value;
-                    r4_0_0_pn149 = key;
+                    r4_3_0_pn168 = value;
+                    r4_0_0_pn167 = key;
                 } else {
                     x2 = load_address(r11 + 24) + (r11_2 << 4);
                     r4 = load64(x2 - 16);
@@ -3090,12 +3109,12 @@ static ALWAYS_INLINE struct word_word do_intmap_insert(char *map, uint64_t key, 
                     if (load8(r11) != 1) {
                         abort();
                     }
-                    r4_3_0_pn150 = r4_2;
-                    r4_0_0_pn149 = r4;
+                    r4_3_0_pn168 = r4_2;
+                    r4_0_0_pn167 = r4;
                 }
                 r4_3 = load64(r11 + 16);
-                store64(r11 + 8, r4_0_0_pn149);
-                store64(r11 + 16, r4_3_0_pn150);
+                store64(r11 + 8, r4_0_0_pn167);
+                store64(r11 + 16, r4_3_0_pn168);
                 r5 = r4_3;
                 spec_select1 = 1;
                 goto after_pairs_insert;
@@ -3159,8 +3178,8 @@ static ALWAYS_INLINE struct word_word do_intmap_insert(char *map, uint64_t key, 
                     store64(r11 + 8, key);
                     store64(r11 + 16, value);
                 } else {
-                    r36_2 = slot_push_2(r11, key, value);
-                    if (r36_2 != 0) {
+                    r29 = slot_push_2(r11, key, value);
+                    if (r29 != 0) {
                         r5 = 0;
                         spec_select1 = 4294967295u;
                         goto after_pairs_insert;
@@ -3231,7 +3250,7 @@ static ALWAYS_INLINE uint32_t do_intmap_insert_checked(char *map, uint64_t key, 
     uint64_t r3, r10, r6, r3_0, r36, r28, r44, r16, r20, r3_2, r4_4, r4_5, r4_6, r0_06, r12_2;
     char *x0, *r11, *r4, *r11_2, *x8, *r4_2, *r4_3, *r9;
     uint32_t r6_0, r4_0;
-    uint8_t r36_2;
+    uint8_t r29;
     uint64_t r12_room[4];
     char *r12 = (char *)r12_room;
     r3 = load64(map);
@@ -3280,8 +3299,8 @@ static ALWAYS_INLINE uint32_t do_intmap_insert_checked(char *map, uint64_t key, 
                     store64(r11 + 8, key);
                     store64(r11 + 16, value);
                 } else {
-                    r36_2 = slot_push_2(r11, key, value);
-                    if (r36_2 != 0) {
+                    r29 = slot_push_2(r11, key, value);
+                    if (r29 != 0) {
                         goto x7;
                     }
                 }
@@ -3463,7 +3482,7 @@ static ALWAYS_INLINE uint32_t do_intmap_reserve(char *map, uint64_t additional) 
     uint64_t r3, r18, r40, r2_0, r13, r2, a0_a1, r3_2, r4_3, r4_4, r4_5, r0_06, r12;
     char *x0, *x1, *r4, *r4_2, *r9;
     uint32_t r6_0, r4_0;
-    uint8_t r19;
+    uint8_t r18_2;
     u128 r17;
     r3 = load64(map);
     store64(map, 0);
@@ -3485,8 +3504,8 @@ static ALWAYS_INLINE uint32_t do_intmap_reserve(char *map, uint64_t additional) 
             r2 = load64(x0 + 40);
             a0_a1 = greater(r2, r2_0);
             if (r2 < r2_0) {
-                r19 = table_grow(x0, a0_a1);
-                if ((r19 & 1) != 0) {
+                r18_2 = table_grow(x0, a0_a1);
+                if ((r18_2 & 1) != 0) {
                     r4_0 = 4294967295u;
                     goto after_figures_reserve;
                 }
@@ -3629,7 +3648,7 @@ static ALWAYS_INLINE uint32_t do_intmap_set_load_factor(char *map, uint64_t thou
     char *x0, *x1, *r4, *r4_2, *r9;
     uint32_t r6_0, r4_0;
     u128 r10, r13, r187, r15, r18, r17;
-    uint8_t r19;
+    uint8_t r18_2;
     r3 = load64(map);
     store64(map, 0);
     x0 = (char *)(uintptr_t)r3;
@@ -3656,8 +3675,8 @@ static ALWAYS_INLINE uint32_t do_intmap_set_load_factor(char *map, uint64_t thou
                         r15 = r187;
                         break;
                     }
-                    r19 = table_grow(x0, r31);
-                    if ((r19 & 1) != 0) {
+                    r18_2 = table_grow(x0, r31);
+                    if ((r18_2 & 1) != 0) {
                         r4_0 = 4294967295u;
                         goto after_figures_set_load_factor;
                     }
