@@ -13,6 +13,8 @@ mod slots;
 pub(crate) mod stored;
 pub mod walk;
 
+pub use slots::walk::Pairs;
+
 ghost use Rattle.std.specs.Prelude.{◌≡◌, ◌+◌, ◌^◌, ◌<◌, ◌≤◌, [], OnOk, OnErr, IfOk, IfErr, None, length};
 ghost use Rattle.intmap_table.specs.Classes.{IsCapacity, slot_number};
 ghost use Rattle.intmap_table.specs.Bindings.{value_of, put_pair};
@@ -30,7 +32,6 @@ use locate::Location;
 use slots::Slots;
 use std::alloc::{AllocError, Allocator};
 use std::marker::Model;
-use walk::Pairs;
 
 /// An odd number. A key's number, times this one, modulo the number of slots is the key's slot.
 /// Only the low bits of the number count: two keys share a slot exactly if their numbers are equal
@@ -110,11 +111,7 @@ impl<K: IntKey, X, A: Allocator> Table<K, X, A> {
     pub fn pairs(&self) -> Pairs<'_, K, X, A>
         ensures { result ≡ self.now.walk }
     {
-        Pairs {
-            first: None,
-            rest: &[],
-            filled: self.slots.filled(),
-        }
+        self.slots.pairs()
     }
 
     /// The slot of a key.

@@ -20,7 +20,7 @@ pub use drain::Drain;
 pub use extract::ExtractIf;
 use intmap_table::IntKey;
 use intmap_table::kept::Kept;
-use intmap_table::table::walk::Pairs;
+use intmap_table::table::Pairs;
 pub use owned::{IntoIter, IntoKeys, IntoValues};
 use std::alloc::{Allocator, Global};
 use std::marker::Model;

@@ -1,14 +1,14 @@
 //! The slots of a table. Contracts see the pairs of each, its row, and how many it has room for.
 //! Which slots hold a pair is known here alone.
 //!
-//! `pairs` has the calls on a pair of one slot, `closures` those with a closure, `filled` the rows
-//! by reference, and `grow` and `place` the growth.
+//! `pairs` has the calls on a pair of one slot, `closures` those with a closure, `walk` the pairs by
+//! reference, and `grow` and `place` the growth.
 
 mod closures;
-pub(crate) mod filled;
 mod grow;
 mod pairs;
 mod place;
+pub mod walk;
 
 ghost use Rattle.std.specs.Prelude.{◌≡◌, ◌+◌, ◌^◌, ◌<◌, ◌≤◌, ℕ, [], cond, count_by, false, length, nat_lt, position, replicate, slice_index_or, slice_set, IfNone, IfOk, IfSome};
 ghost use Rattle.std.specs.List.{AllZip};
@@ -22,10 +22,10 @@ use crate::key::IntKey;
 use crate::slot::Slot;
 use crate::steps::Steps;
 use crate::table::stored::Stored;
-use filled::FilledRows;
 use grow::{add_slots, reserve_slots};
 use std::alloc::{AllocError, Allocator};
 use std::marker::Model;
+use walk::Pairs;
 
 /// What is known of the slots without looking at them.
 #[derive(Drop)]
@@ -196,13 +196,15 @@ impl<K: IntKey, X, A: Allocator> Slots<K, X, A> {
         self.directory.bits.next_from(from)
     }
 
-    /// The rows of the slots that hold a pair, slot after slot.
+    /// The pairs, slot after slot.
     #[inline(always)]
-    pub(crate) fn filled(&self) -> FilledRows<'_, K, X, A>
-        ensures { joined result ≡ joined (rows self.now) }
+    pub(crate) fn pairs(&self) -> Pairs<'_, K, X, A>
+        ensures { result ≡ joined (rows self.now) }
     {
-        FilledRows {
-            indices: self.directory.bits.iter(),
+        Pairs {
+            first: None,
+            rest: &[],
+            filled: self.directory.bits.iter(),
             slots: &self.slots,
         }
     }

@@ -1,17 +1,13 @@
-//! The walk of a table: its pairs by reference, slot after slot, a position in it, and removal from
-//! its front.
-ghost use Rattle.std.specs.Prelude.{◌≡◌, ◌+◌, ◌<◌, ◌^◌, [], ◌∷◌, cond, drop, is_some, length, MatchOption, ⊤, IfSome};
-ghost use Rattle.std.specs.Iterator.{YieldsFirstBy, item_count, YieldsFirst};
+//! The walk of a table: a position in it, and removal from its front.
+ghost use Rattle.std.specs.Prelude.{◌≡◌, ◌+◌, ◌<◌, ◌^◌, [], ◌∷◌, cond, drop, is_some, length, MatchOption, IfSome};
+ghost use Rattle.std.specs.Iterator.{YieldsFirst};
 ghost use Rattle.intmap_table.specs.Picking.{IsReached};
 ghost use Rattle.intmap_table.specs.Walk.{walk_of, ArePassed};
 ghost use Rattle.intmap_table.specs.Classes.{slot_number};
 
 use crate::key::IntKey;
 use crate::table::Table;
-use crate::table::slots::filled::FilledRows;
-use crate::table::stored::Stored;
-use std::alloc::{AllocError, Allocator};
-use std::marker::Model;
+use std::alloc::Allocator;
 
 /// The position of a walk: a place in a slot, and the number of pairs of the walk before it.
 #[repr(C)]
@@ -31,64 +27,6 @@ impl Cursor {
             slot: 0,
             place: 0,
             passed: 0,
-        }
-    }
-}
-
-/// The pairs that are left: those of the current slot, then those of the slots behind it.
-#[derive(Drop)]
-pub struct Pairs<'a, K: IntKey, X, A: Allocator> {
-    pub(super) first: Option<&'a (Stored<K>, X)>,
-    pub(super) rest: &'a [(Stored<K>, X)],
-    pub(super) filled: FilledRows<'a, K, X, A>,
-}
-
-impl<'a, K: IntKey, X, A: Allocator> Model for Pairs<'a, K, X, A> {
-    ghost use Rattle.std.specs.Prelude.{List, ◌++◌};
-    ghost use Rattle.std.specs.Option.{option_copied};
-    ghost use Rattle.intmap_table.specs.Tables.Slots.{all_pairs, joined};
-
-    ghost Value = { List (K × X) };
-
-    ghost view = { λ it.
-        all_pairs (option_copied it.first) it.rest.now ++ joined it.filled };
-}
-
-impl<'a, K: IntKey, X, A: Allocator> Clone for Pairs<'a, K, X, A> {
-    ghost is_clone = { λ it made. made ≡ it };
-
-    ghost is_infallible = { λ _. ⊤ };
-
-    fn clone(&self) -> Result<Pairs<'a, K, X, A>, AllocError> {
-        Ok(Pairs {
-            first: self.first,
-            rest: self.rest,
-            filled: self.filled.clone()?,
-        })
-    }
-}
-
-impl<'a, K: IntKey, X, A: Allocator> Iterator for Pairs<'a, K, X, A> {
-    type Item = (&'a K, &'a X);
-
-    ghost next_gives = { YieldsFirstBy (λ item. (item.0.now, item.1.now)) (λ rest. rest) };
-
-    ghost remaining = { item_count (λ rest. rest) };
-
-    fn next(&mut self) -> Option<(&'a K, &'a X)> {
-        loop {
-            if let Some(pair) = self.first.take() {
-                return Some((pair.0.key(), &pair.1));
-            }
-            if let Some((pair, rest)) = self.rest.split_first() {
-                self.rest = rest;
-                return Some((pair.0.key(), &pair.1));
-            }
-            let Some((first, rest)) = self.filled.next() else {
-                return None;
-            };
-            self.first = first;
-            self.rest = rest;
         }
     }
 }

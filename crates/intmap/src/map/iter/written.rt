@@ -13,7 +13,7 @@ use crate::map::IntMap;
 use intmap_table::IntKey;
 use intmap_table::lent::{Hole, Lent};
 use intmap_table::table::Table;
-use intmap_table::table::walk::Pairs;
+use intmap_table::table::Pairs;
 use std::alloc::{Allocator, Global};
 use std::marker::{Model, PhantomData};
 
