@@ -1,23 +1,23 @@
 -- The slots of a table, whose values are lent. Assumes `Logic`.
-use mathlib.Core.Path.{◌≡◌, refl, ap, sym, ◌∙◌}
-use Prim.Native.Nat.{ℕ}
-use native.Mathlib.Omega.{arith}
+use mathlib.Core.Path.{◌≡◌, refl, sym}
+use native.Mathlib.Nat.{zero-add}
 use mathlib.Core.List.{List, [], ◌∷◌}
 use lib.ListN.{length, take, drop}
 use seplogic.Ra.Ura.{Ura}
-use base.Fraction.{full_share}
-use mir.Syntax.{Sym}
-use base.Logic.{ent, id⊢}
+use base.Logic.{id⊢}
 use base.Fml.{Lft, Incl}
-use types.Logic.{Logic, sem}
+use types.Logic.{Logic}
 use denote.RattleType.{RattleType}
-use denote.Memory.{part_at, part_of, lone}
-use denote.Param.Laws.{Laws, param_laws, copied_laws}
-use denote.Struct.Members.{Member, rows_of, Lones}
+use Prim.Native.Nat.{ℕ}
+use base.Fraction.{full_share}
+use denote.Memory.{part_at, part_of}
+use denote.Struct.Members.{Member}
 use denote.Struct.Parts.{shape_of}
 use denote.Struct.Struct.{Struct}
+use denote.Param.Laws.{Laws, param_laws, copied_laws}
 use denote.RawPtr.{Ptr}
 use denote.Shares.{Shares, Shares-less}
+use Rattle.std.specs.Prelude.{map}
 use Rattle.std.specs.contracts.vec.Vec as V-type
 use Rattle.std.proofs.vec.Vec.TheLaws as V-laws
 use Rattle.std.specs.declared.alloc.Allocator as allocator
@@ -32,126 +32,90 @@ use Rattle.intmap_table.proofs.slot.Slot.TheLaws as S-laws
 use Rattle.intmap_table.proofs.kept.Kept.TheLaws as K-laws
 use Rattle.intmap_table.specs.Tables.Slots.{Held}
 use Rattle.intmap_table.proofs.Tables.SameKeysLemmas.{row_keys, IsDirectory-same_keys}
-use Rattle.intmap_table.proofs.Lending.ValuesLemmas.{keys_of-with_values, row_keys-lent_slots}
-use Rattle.intmap_table.proofs.Lending.OpensLemmas.{Opens, row_put, row_count, row_cells_in, row_fill}
+use Rattle.intmap_table.proofs.Lending.ValuesLemmas.{keys_of-with_values, lent_slot, row_keys-lent_slots}
+use Rattle.intmap_table.proofs.Lending.OpensLemmas.{OpensAs, row_put, row_count, row_cells_in}
 use Rattle.intmap_table.proofs.Lending.OpensVecLemmas.{vec_opens}
-use Rattle.intmap_table.proofs.Lending.OpensStructLemmas.{still, two_opens, view_opens}
+use Rattle.intmap_table.proofs.Lending.OpensStructLemmas.{member, still_opens, two_parts, struct_opens, view_opens}
 use Rattle.intmap_table.proofs.Lending.OpensPairLemmas.{V, K, Kr, Hr}
-use Rattle.intmap_table.proofs.Lending.OpensSlotLemmas.{A, Sr, SHr, words_live, slot_opens}
+use Rattle.intmap_table.proofs.Lending.OpensSlotLemmas.{A, Sr, words_live, slot_opens}
 
-module _ (K' V' A' : RattleType) (g : key.Ghosts K'.Denot) (e : eq.Ghosts K'.Denot) (a : allocator.Ghosts A'.Denot) where
-  abbrev pub Vr : RattleType
-  Vr = V-type.the_row (Sr K' V' A' g e a) (A K' V' A' g e a) a
-
-  abbrev pub VHr : RattleType
-  VHr = V-type.the_row (SHr K' V' A' g e a) (A K' V' A' g e a) a
-
-  abbrev pub Ir : RattleType
-  Ir = I-type.the_row (K K' V' g e) (Kr V') (A K' V' A' g e a) g e a
-
-  abbrev pub IHr : RattleType
-  IHr = I-type.the_row (K K' V' g e) (Hr V') (A K' V' A' g e a) g e a
-
-  abbrev pub Lr : RattleType
-  Lr = L-type.the_row (K K' V' g e) (Kr V') (A K' V' A' g e a) g e a
-
-  abbrev pub LHr : RattleType
-  LHr = L-type.the_row (K K' V' g e) (Hr V') (A K' V' A' g e a) g e a
-
+module _ (K' A' : RattleType) (g : key.Ghosts K'.Denot) (e : eq.Ghosts K'.Denot) (a : allocator.Ghosts A'.Denot) where
   abbrev pub Dr : RattleType
-  Dr = D-type.the_row (A K' V' A' g e a) a
+  Dr = D-type.the_row (A A') a
 
-  abbrev pub m₁ : Member
-  m₁ = record { row = Dr; ty = lone Dr.mir }
+  -- slots whose values are of type R: one after another, the fields that hold them and the directory, and what has these fields
+  module _ (R : RattleType) where
+    abbrev pub Vr : RattleType
+    Vr = V-type.the_row (Sr K' A' g e a R) (A A') a
 
-  abbrev pub m₂ : Member
-  m₂ = record { row = Vr; ty = lone Vr.mir }
+    abbrev pub Ir : RattleType
+    Ir = I-type.the_row (K K') R (A A') g e a
 
-  abbrev pub ν : Sym
-  ν = (I-type.the_type (K K' V' g e) (Kr V') (A K' V' A' g e a) g e a).name
+    abbrev pub Lr : RattleType
+    Lr = L-type.the_row (K K') R (A A') g e a
 
-  abbrev pub Two : RattleType
-  Two = Struct (shape_of ν (m₁ ∷ m₂ ∷ []))
+    abbrev pub good : Ir.Denot → Type 0
+    good = L-type.the_invariant (K K') R (A A') g e a
 
-  abbrev pub to_two : Ir.Denot → Two.Denot
-  to_two t = (t.directory, (t.slots, tt))
+  module _ (V' : RattleType) (LK : Laws K') (LV : Laws V') (LA : Laws A') {M : Type 1} {𝓤 : Ura M} (𝓛 : Logic 𝓤) where
+    abbrev pub Kv : RattleType
+    Kv = Kr V'
 
-  abbrev pub of_two : Two.Denot → Ir.Denot
-  of_two y = record { directory = y.0; slots = y.1.0 }
+    abbrev pub Hv : RattleType
+    Hv = Hr V'
 
-  module _ (LK : Laws K') (LV : Laws V') (LA : Laws A') {M : Type 1} {𝓤 : Ura M} (𝓛 : Logic 𝓤) where
-    pub slot_laws : Laws (Sr K' V' A' g e a)
-    slot_laws = S-laws.the_row_laws (K K' V' g e) (Kr V') (A K' V' A' g e a) g e a (copied_laws 0 K' LK) (K-laws.the_row_laws (V V') (param_laws 1 V' LV)) (copied_laws 2 A' LA)
+    pub slot_laws : Laws (Sr K' A' g e a Kv)
+    slot_laws = S-laws.the_row_laws (K K') Kv (A A') g e a (copied_laws 0 K' LK) (K-laws.the_row_laws (V V') (param_laws 1 V' LV)) (copied_laws 2 A' LA)
 
     pub directory_laws : Laws Dr
-    directory_laws = D-laws.the_row_laws (A K' V' A' g e a) a (copied_laws 2 A' LA)
+    directory_laws = D-laws.the_row_laws (A A') a (copied_laws 2 A' LA)
 
-    pub ones : Lones (rows_of (m₁ ∷ m₂ ∷ []))
-    ones = (directory_laws.single, ((V-laws.the_row_laws (Sr K' V' A' g e a) (A K' V' A' g e a) a slot_laws (copied_laws 2 A' LA)).single, tt))
+    abbrev pub fields : List Member
+    fields = member Dr ∷ member (Vr Kv) ∷ []
 
-    pub slots_apart : (t : Ir.Denot) (b o : ℕ) → ent 𝓤 (sem 𝓛 (part_at Ir full_share t b o)) (sem 𝓛 (part_at Two full_share (to_two t) b o))
+    pub slots_laid : (t : (Ir Kv).Denot) (b o : ℕ) → part_at (Ir Kv) full_share t b o ≡ part_at (Struct (shape_of [] fields)) full_share (t.directory, (t.slots, tt)) b o
     unfolding part_of
-    slots_apart t b o = id⊢ 𝓤 _
-
-    pub slots_whole : (y : Two.Denot) (b o : ℕ) → ent 𝓤 (sem 𝓛 (part_at Two full_share y b o)) (sem 𝓛 (part_at Ir full_share (of_two y) b o))
-    unfolding part_of
-    slots_whole y b o = id⊢ 𝓤 _
+    slots_laid t b o = refl
 
     module _ (l : Lft) (ik : Incl l K'.lives) (iv : Incl l V'.lives) (ia : Incl l A'.lives) where
-      abbrev pub SO : Opens 𝓛 (V V') (Sr K' V' A' g e a) (SHr K' V' A' g e a) l
-      SO = slot_opens K' V' A' g e a LK LV LA 𝓛 l ik iv ia
+      abbrev pub SO : OpensAs 𝓛 (V V') (Sr K' A' g e a Kv) (Sr K' A' g e a Hv) l
+      SO = slot_opens K' A' g e a V' LK LV LA 𝓛 l ik iv ia
 
-      abbrev pub rows_open : Opens 𝓛 (V V') Vr VHr l
-      rows_open = vec_opens 𝓛 (V V') (Sr K' V' A' g e a) (SHr K' V' A' g e a) l SO tt (A K' V' A' g e a) a (copied_laws 2 A' LA) (words_live K' V' A' g e a LK LV LA 𝓛 l ik iv ia)
+      abbrev pub rows_open : OpensAs 𝓛 (V V') (Vr Kv) (Vr Hv) l
+      rows_open = vec_opens 𝓛 (V V') (Sr K' A' g e a Kv) (Sr K' A' g e a Hv) l SO refl tt (A A') a (copied_laws 2 A' LA) (words_live K' A' g e a V' LK LV LA 𝓛 l ik iv ia)
 
       -- the directory is shared as it is
       pub directory_shares : Shares 𝓛 Dr l
-      directory_shares = Shares-less 𝓛 Dr Dr.lives l (D-laws.the_within (A K' V' A' g e a) a l ia) (directory_laws.shares 𝓛)
+      directory_shares = Shares-less 𝓛 Dr Dr.lives l (D-laws.the_within (A A') a l ia) (directory_laws.shares 𝓛)
 
-      abbrev pub inside_opens : Opens 𝓛 (V V') Ir IHr l
+      abbrev pub inside_opens : OpensAs 𝓛 (V V') (Ir Kv) (Ir Hv) l
       inside_opens =
-          two_opens 𝓛 (V V') l m₁ m₂ Dr VHr ν (still 𝓛 (V V') Dr l directory_shares) rows_open ones
-          Ir IHr to_two of_two (λ t. refl) slots_apart slots_whole (λ d s. record { directory = d; slots = s }) (λ t. t.directory) (λ t. t.slots) (λ d s. refl) (λ d s. refl) (λ d s block o κ. id⊢ 𝓤 _) refl
+          struct_opens 𝓛 fields (Ir Kv) (λ t. (t.directory, (t.slots, tt))) slots_laid (V V') l (two_parts 𝓛 (V V') l Dr (Vr Kv) Dr (Vr Hv) (still_opens 𝓛 (V V') Dr l directory_shares) rows_open)
+          (directory_laws.single, ((V-laws.the_row_laws (Sr K' A' g e a Kv) (A A') a slot_laws (copied_laws 2 A' LA)).single, tt)) (λ y. record { directory = y.0; slots = y.1.0 })
+          (Ir Hv) (λ h. (h.directory, h.slots)) (λ y. record { directory = y.0; slots = y.1 }) (λ t. refl) (λ y. refl) (λ y. refl) (λ y b o κ. id⊢ 𝓤 _)
 
       abbrev H' : Type 0
       H' = Held K'.Denot V'.Denot
 
       -- the slots with these values
       abbrev pub puts : List H' → List V'.Denot → List H'
-      puts = row_put 𝓛 (V V') (Sr K' V' A' g e a) (SHr K' V' A' g e a) l SO
+      puts = row_put SO.count SO.put
 
       -- which have their keys
       pub keys-puts : (S : List H') (ws : List V'.Denot) → row_keys (puts S ws) ≡ row_keys S
       keys-puts [] ws = refl
       keys-puts (h ∷ S) ws = λ i. keys_of-with_values h.pairs (take (length h.pairs) ws) i ∷ keys-puts S (drop (length h.pairs) ws) i
 
-      abbrev good : Ir.Denot → Type 0
-      good = L-type.the_invariant (K K' V' g e) (Kr V') (A K' V' A' g e a) g e a
-
-      abbrev good' : IHr.Denot → Type 0
-      good' = L-type.the_invariant (K K' V' g e) (Hr V') (A K' V' A' g e a) g e a
-
-      abbrev view : Ir.Denot → List H'
-      view = L-type.the_view (K K' V' g e) (Kr V') (A K' V' A' g e a) g e a
-
-      abbrev view' : IHr.Denot → List (Held K'.Denot (Ptr × V'.Denot))
-      view' = L-type.the_view (K K' V' g e) (Hr V') (A K' V' A' g e a) g e a
-
-      pub slots-goods : (s : Ir.Denot) (ws : List V'.Denot) → good s → good (inside_opens.put s ws)
+      pub slots-goods : (s : (Ir Kv).Denot) (ws : List V'.Denot) → good Kv s → good Kv (inside_opens.put s ws)
       slots-goods s ws ok = IsDirectory-same_keys s.slots.items (puts s.slots.items ws) (sym (keys-puts s.slots.items ws)) s.directory.bits s.directory.mask ok
 
-      pub slots-counts : (s : Ir.Denot) → inside_opens.count s ≡ row_count 𝓛 (V V') (Sr K' V' A' g e a) (SHr K' V' A' g e a) l SO (view s)
-      slots-counts s = omega arith
-
-      pub slots-holeds : (s : Ir.Denot) (i : inside_opens.Info s) (b o : ℕ) → good s → good' (inside_opens.holed s i b o)
-      slots-holeds s i b o ok =
-          let h = inside_opens.holed s i b o in
-          IsDirectory-same_keys s.slots.items h.slots.items (ap (λ (t : Ir.Denot). row_keys t.slots.items) (sym (inside_opens.filled s i b o)) ∙ row_keys-lent_slots h.slots.items) s.directory.bits s.directory.mask ok
+      pub slots-holeds : (h : (Ir Hv).Denot) → good Kv (inside_opens.fill h) → good Hv h
+      slots-holeds h ok = IsDirectory-same_keys (map lent_slot h.slots.items) h.slots.items (row_keys-lent_slots h.slots.items) h.directory.bits h.directory.mask ok
 
       -- slots are lent as slots of holes
-      abbrev pub slots_opens : Opens 𝓛 (V V') Lr LHr l
+      abbrev pub slots_opens : OpensAs 𝓛 (V V') (Lr Kv) (Lr Hv) l
       slots_opens =
-          view_opens 𝓛 (V V') Ir IHr l inside_opens (List H') (List (Held K'.Denot (Ptr × V'.Denot)))
-          (declared.the_code K'.Denot (Kr V').Denot A'.Denot K'.coded (Kr V').coded A'.coded) (declared.the_code K'.Denot (Hr V').Denot A'.Denot K'.coded (Hr V').coded A'.coded)
-          view view' good good' puts (row_count 𝓛 (V V') (Sr K' V' A' g e a) (SHr K' V' A' g e a) l SO) (row_fill 𝓛 (V V') (Sr K' V' A' g e a) (SHr K' V' A' g e a) l SO) (row_cells_in 𝓛 (V V') (Sr K' V' A' g e a) (SHr K' V' A' g e a) l SO)
-          (λ s ws long. refl) slots-goods slots-counts slots-holeds (λ h. refl) (λ h. refl)
+          view_opens 𝓛 (V V') (Ir Kv) (Ir Hv) l inside_opens (List H') (List (Held K'.Denot (Ptr × V'.Denot)))
+          (declared.the_code K'.Denot Kv.Denot A'.Denot K'.coded Kv.coded A'.coded) (declared.the_code K'.Denot Hv.Denot A'.Denot K'.coded Hv.coded A'.coded)
+          (L-type.the_view (K K') Kv (A A') g e a) (L-type.the_view (K K') Hv (A A') g e a) (good Kv) (good Hv) puts (row_count SO.count) (map lent_slot) (row_cells_in SO.cells_in)
+          (λ s ws. refl) slots-goods (λ s. zero-add (row_count SO.count s.slots.items)) slots-holeds (λ h. refl) (λ h. refl)

@@ -47,7 +47,10 @@ use Rattle.intmap_table.specs.declared.lent.Lent.{Lent}
 use Rattle.intmap_table.specs.contracts.lent.Lent as L-type
 use Rattle.intmap.specs.contracts.map.IntMap.lend as f
 use Rattle.intmap_table.proofs.Lending.CellLemmas.{lent_value, lent_value-made}
-use Rattle.intmap.proofs.LendMapLemmas.{Mr, Holed, Cut, Shared, table_place, lend_map}
+use Rattle.intmap_table.proofs.Lending.LendByLemmas.{Cut, lend_by}
+use Rattle.intmap_table.proofs.Lending.ValuesLemmas.{values_of-with_values}
+use Rattle.intmap.specs.Map.{map_with_values}
+use Rattle.intmap.proofs.LendMapLemmas.{Mr, Holed, table_place, map_opens}
 use Rattle.intmap_table.proofs.Lending.OpensPairLemmas.{V}
 use Rattle.intmap.proofs.map.IntMap.lend.Statement.{statement}
 use Rattle.intmap.proofs.map.IntMap.lend.Code as code
@@ -114,12 +117,11 @@ module _ (K' V' A' : RattleType) (LK : Laws K') (LV : Laws V') (LA : Laws A')
       abbrev others : Item 𝓤
       others = ‵ (flft κs.1.0 qs.1.0) ⊛ ‵ (flft κs.1.1.0 qs.1.1.0) ⊛ ‵ (flft κs.1.1.1.0 qs.1.1.1.0) ⊛ ‵ ftrue
 
-      abbrev found : (ik : Incl κ K'.lives) (iv : Incl κ V'.lives) (ia : Incl κ A'.lives) → Cut K' V' A' g e a d → Item 𝓤
-      found ik iv ia = Shared K' V' A' g e a LK LV LA 𝓛 mb mo d κ ik iv ia q γ
-
       module _ (ik : Incl κ K'.lives) (iv : Incl κ V'.lives) (ia : Incl κ A'.lives) (C : Calls 𝓤 H) (Λ : Loops 𝓤 H) where
         walk : ent 𝓤 (on_entry 𝓛 end.signature κs qs bound.0.3 bound.0.4) (WpFn 𝓤 H C Λ function (vptr mb mo ∷ []) Post)
         walk =
+            let O = map_opens K' V' A' g e a LK LV LA 𝓛 mb mo d κ ik iv ia in
+            let vals = λ (last : MapState K'.Denot V'.Denot). values_of last.walk in
             let Right : RattleType = L-type.the_row (named_lft 4 0 tt κs) (V V') in
             let Marks : RattleType = Struct (shape (L-type.the_type (named_lft 4 0 tt κs) (V V'))) in
             qed 𝓛 ((‵ (flft κ q) ⊛ others) ∷ ‵ (owns (MutRef (named 0) κ Map ∷ []) bound.0.3 bound.0.4) ∷ []) ∵ split ! $ move ! (2 ∷ []) $ fsplit ! $ fsplit3 ! $ keep ! (1 ∷ 2 ∷ 4 ∷ 5 ∷ []) $
@@ -127,9 +129,12 @@ module _ (K' V' A' : RattleType) (LK : Laws K') (LV : Laws V') (LA : Laws A')
             let En : Env 𝓤 H = env function.locals l in
             -- [the map; the open borrow of it, in three entries; the other tokens]
             open_ref ! tt (mem Map) {x = d} {b = mb} {o = mo} $ move ! (1 ∷ 2 ∷ 3 ∷ 0 ∷ []) $ group ! 4 $
-            use1 𝓛 (later (some (found ik iv ia))) (lend_map K' V' A' g e a LK LV LA 𝓛 mb mo d κ ik iv ia q γ (Map.coded.code d) (Map.coded.code d)) $ await ! tt $ pick ! (λ c.
-            let table : Bor Holes.Denot = record { ref_ptr = (mb, at); now = c.holes } in
-            let lent : Lent V'.Denot = record { mark = record {}; loan = c.loan; behind = c.behind; cells = values_of c.holes.walk } in
+            use1 𝓛 (later (some (Cut 𝓛 (V V') κ (mem Map) (map_with_values d) vals mb mo O (values_of-with_values d.walk) q γ)))
+            (lend_by 𝓛 (V V') κ (mem Map) (map_with_values d) vals mb mo O (values_of-with_values d.walk) q γ (Map.coded.code d) (Map.coded.code d)) $ await ! tt $ pick ! (λ c.
+            let holes = O.holed c.0 in
+            let known = O.known c.0 in
+            let table : Bor Holes.Denot = record { ref_ptr = (mb, at); now = holes } in
+            let lent : Lent V'.Denot = record { mark = record {}; loan = c.2; behind = c.1; cells = values_of holes.walk } in
             -- [the table; the values; the token; that the map follows; the other tokens]
             split3 ! $ move ! (2 ∷ []) $ split ! $ move ! (3 ∷ []) $
             use0 𝓛 (‵ (Marks.own_val (tt, tt) (lent_value ∷ []))) (lent_value-made (named_lft 4 0 tt κs) (V V') 𝓛) $ fjoin ! $
@@ -142,7 +147,7 @@ module _ (K' V' A' : RattleType) (LK : Laws K') (LV : Laws V') (LA : Laws A')
             returns ! (look_at ! 0 refl) $ free_all ! refl $ keep ! (0 ∷ 1 ∷ 2 ∷ 3 ∷ []) $
             -- [the result; the token; that the map follows; the other tokens]
             suffices ! _ (ends_at 𝓛 end stayed spec bound (vstruct (vcons (vptr mb at) (vcons lent_value vnil))) (table, lent) (tt, tt) (tt, tt)) $
-            nothing ! $ nothing ! $ fjoin ! $ join ! $ move ! (1 ∷ 3 ∷ []) $ join ! $ join ! $ frame ! $ says ! (c.pairs, refl, c.map) $ done !))
+            nothing ! $ nothing ! $ fjoin ! $ join ! $ move ! (1 ∷ 3 ∷ []) $ join ! $ join ! $ frame ! $ says ! (known.0, refl, known.1) $ done !))
 
 pub lend_spec : {M : Type 1} → statement M
 lend_spec 𝓤 𝓛 𝓜 𝓡 wired K' V' A' LK LV LA CK CA g dg c dc t dt e de a da b db m₀ m₁ m₂ m₃ m₄ m₅ =
