@@ -30,7 +30,7 @@ use Rattle.intmap.specs.contracts.map.IntMap.TheInside as I-type
 use Rattle.intmap_table.specs.contracts.steps.Steps as N-type
 use Rattle.intmap.proofs.map.IntMap.TheInside.TheLaws as I-laws
 use Rattle.intmap_table.proofs.Lending.OpensLemmas.{OpensAs, Opening, any, seen_as, framed}
-use Rattle.intmap_table.proofs.Lending.OpensStructLemmas.{member, left as left_of, Fields, apart, whole}
+use Rattle.intmap_table.proofs.Lending.OpensStructLemmas.{member, left, Fields, apart, whole}
 use Rattle.intmap_table.proofs.Lending.OpensPairLemmas.{V, K, Kr, Hr}
 use Rattle.intmap_table.proofs.Lending.OpensSlotLemmas.{A}
 use Rattle.intmap_table.proofs.Lending.OpensTableLemmas.{Tr, table_opens}
@@ -104,9 +104,9 @@ module _ (K' V' A' : RattleType) (g : key.Ghosts K'.Denot) (e : eq.Ghosts K'.Den
       -- a map is lent as its table of holes, which shows the pairs of the map
       abbrev pub map_opens : Opening 𝓛 (V V') κ (part_at Mr full_share d b o) (λ ws. part_at Mr full_share (map_with_values d ws) b o) (length d.walk)
           {Y = Holed.Denot} (λ h. values_of h.walk) (λ h. shared_of Holed h b (table_place o)) (λ h. (lent_pairs h.walk ≡ d.walk) × IsMap g.number_of g.is_valid d)
-      map_opens = let left = left_of 𝓛 members Inside T.to map_laid full_share b o in
+      map_opens = let around = left members full_share b o in
           any (λ (x : (m : Inside.Denot) × ((view m ≡ d) × good m)). part_at Inside full_share x.0 b o) (λ x.
-          seen_as (framed (framed (O.opens x.0.table b (table_place o)) (others x.0) (λ κ. ftrue) (Lends-nothing 𝓛 (others x.0) κ)) left (λ κ. ftrue) (Lends-nothing 𝓛 left κ))
+          seen_as (framed (framed (O.opens x.0.table b (table_place o)) (others x.0) (λ κ. ftrue) (Lends-nothing 𝓛 (others x.0) κ)) around (λ κ. ftrue) (Lends-nothing 𝓛 around κ))
           (λ h k. h) (apart 𝓛 members Inside T.to map_laid lone_members x.0 b o) (back x.0 x.1.0 x.1.1) (ap (λ (s : State). length s.walk) x.1.0) (λ h k. refl)
           (λ h k. (ap (λ (t : Table.Denot). t.walk) k ∙ ap (λ (s : State). s.walk) x.1.0, subst (λ (s : State). IsMap g.number_of g.is_valid s) x.1.0 x.1.1.map))
           (λ h k κ. let S = sem 𝓛 (shared_of Holed h b (table_place o) κ) in via 𝓤 (sep 𝓤 S (emp 𝓤)) (fst∗ 𝓤 (sep 𝓤 S (emp 𝓤)) (emp 𝓤)) (fst∗ 𝓤 S (emp 𝓤))))

@@ -4,11 +4,11 @@ use Prim.Native.Nat.{ℕ}
 use mathlib.Core.List.{List, [], ◌∷◌}
 use seplogic.Ra.Ura.{Ura}
 use base.Stored.{Gv}
-use base.Logic.{ent, sep, emp, via, fst∗}
+use base.Logic.{ent, sep, emp, via, id⊢, fst∗}
 use base.Fml.{Lft, GName, Share, Fml, Incl-refl, ftrue, fsep, flft, fobs, fauth, fbor, fobor, fseps}
 use contract.Fact.{fact_use}
 use types.Logic.{Logic, sem}
-use types.Kit.{Item, ‵, raw, ◌⊛◌, some, later, ◌$◌, ◌∵◌, !, qed, by, move, keep, use1, use2, split, split3, pick, group, rewrite, fsplit, fjoin, show, await, updating, done, mean}
+use types.Kit.{Item, ‵, raw, ◌⊛◌, some, later, ◌$◌, ◌∵◌, !, qed, by, move, keep, use0, use1, use2, split, split3, pick, group, rewrite, fsplit, fjoin, show, await, updating, done, mean}
 use types.Kit.{now as at_once}
 use types.Mut.{open_ref}
 use types.SemTy.{SemTy, Body as Borrowed}
@@ -42,9 +42,9 @@ module _ {M : Type 1} {𝓤 : Ura M} (𝓛 : Logic 𝓤) (V : RattleType) (κ : 
       As = record { rep = S.rep; coded = S.coded; size = 0; own_at = λ m _ _. each_at V places (vals m) }
 
       -- the cells and the rest are S again
-      whole_back : (m : S.rep) → ent 𝓤 (sep 𝓤 (sem 𝓛 (each_at V places (vals m))) (sep 𝓤 (sem 𝓛 (fseps (O.frame i ∷ []))) (O.Back i))) (sem 𝓛 (S.own_at (G (vals m)) b o))
+      whole_back : (m : S.rep) → ent 𝓤 (sep 𝓤 (sem 𝓛 (each_at V places (vals m))) (sep 𝓤 (sem 𝓛 (fseps (O.frame i ∷ []))) (emp 𝓤))) (sem 𝓛 (S.own_at (G (vals m)) b o))
       unfolding fseps
-      whole_back m = qed 𝓛 (‵ (each_at V places (vals m)) ∷ ‵ (fsep (O.frame i) ftrue) ∷ raw (O.Back i) ∷ []) ∵ move ! (1 ∷ []) $ fsplit ! $ keep ! (2 ∷ 0 ∷ 3 ∷ []) $ by ! (O.back i (vals m))
+      whole_back m = qed 𝓛 (‵ (each_at V places (vals m)) ∷ ‵ (fsep (O.frame i) ftrue) ∷ raw (emp 𝓤) ∷ []) ∵ move ! (1 ∷ []) $ fsplit ! $ keep ! (2 ∷ 0 ∷ []) $ by ! (O.back i (vals m))
 
       -- the values in the cells, seen as S
       named_back : (ws : List V.Denot) → ent 𝓤 (sep 𝓤 (sem 𝓛 (each_at V places ws)) (emp 𝓤)) (sem 𝓛 (each_at V places (vals (G ws))))
@@ -56,16 +56,16 @@ module _ {M : Type 1} {𝓤 : Ura M} (𝓛 : Logic 𝓤) (V : RattleType) (κ : 
     unfolding fseps
     lend_by u v =
         qed 𝓛 (‵ (fobor κ q (Borrowed S b o γ)) ∷ ‵ (fobs γ u) ∷ ‵ (fauth γ v) ∷ ‵ own ∷ []) ∵ updating ! $ move ! (3 ∷ []) $
-        use1 𝓛 (some (λ (i : O.Info). ‵ (Lie V (cs i)) ⊛ ‵ (O.frame i) ⊛ raw (O.Back i))) O.out $ pick ! (λ i. split3 ! $
+        use1 𝓛 (some (λ (i : O.Info). ‵ (Lie V (cs i)) ⊛ ‵ (O.frame i))) O.out $ pick ! (λ i. split ! $
         let ws = contents_of (cs i) in
         let y = G ws in
         let is : vals y ≡ ws = kept ws (length-map (cs i) (λ c. c.1) ∙ O.counts i) in
         let Values : SemTy = EachAt V (places_of (cs i)) in
         rewrite ! 0 (λ (z : List V.Denot). ‵ (each_at V (places_of (cs i)) z)) (sym is) refl $
-        -- [the values; the frame; its way back; the open borrow, obs and auth]
-        move ! (1 ∷ []) $ nothing ! $ move ! (1 ∷ 0 ∷ []) $ fjoin ! $ move ! (3 ∷ 4 ∷ 5 ∷ 1 ∷ 0 ∷ 2 ∷ []) $ group ! 6 $
+        -- [the values; the frame; the open borrow, obs and auth]
+        move ! (1 ∷ []) $ nothing ! $ move ! (1 ∷ 0 ∷ []) $ fjoin ! $ use0 𝓛 (raw (emp 𝓤)) (id⊢ 𝓤 (emp 𝓤)) $ move ! (3 ∷ 4 ∷ 5 ∷ 2 ∷ 1 ∷ 0 ∷ []) $ group ! 6 $
         use1 𝓛 (later (some (λ (ν : GName). ‵ (fobs ν (S.coded.code y)) ⊛ ‵ (fbor κ (Borrowed (As i) 0 0 ν)) ⊛ ‵ (flft κ q) ⊛ ‵ (after S S γ ν (λ m. G (vals m))) ⊛ ‵ (fbor κ (O.frame i)) ⊛ ‵ ftrue)))
-        (takes_beside 𝓛 S (As i) (λ m. G (vals m)) κ q b o 0 0 γ (O.frame i ∷ []) (O.Back i) (whole_back i) u v y) $ await ! tt $ pick ! (λ ν. split3 ! $ move ! (2 ∷ []) $ split3 ! $ move ! (3 ∷ 4 ∷ 0 ∷ []) $
+        (takes_beside 𝓛 S (As i) (λ m. G (vals m)) κ q b o 0 0 γ (O.frame i ∷ []) (emp 𝓤) (whole_back i) u v y) $ await ! tt $ pick ! (λ ν. split3 ! $ move ! (2 ∷ []) $ split3 ! $ move ! (3 ∷ 4 ∷ 0 ∷ []) $
         -- [obs, the borrow and the token of ν; after; the frame's borrow and nothing]
         open_ref ! tt (As i) {x = y} {b = 0} {o = 0} $ rewrite ! 0 (λ (z : List V.Denot). ‵ (each_at V (places_of (cs i)) z)) is refl $ nothing ! $ move ! (2 ∷ 3 ∷ 4 ∷ 1 ∷ 0 ∷ []) $ group ! 5 $
         use1 𝓛 (later (some (λ (δ : GName). ‵ (fobs δ (Values.coded.code ws)) ⊛ ‵ (fbor κ (Borrowed Values 0 0 δ)) ⊛ ‵ (flft κ q) ⊛ ‵ (after (As i) Values ν δ G))))

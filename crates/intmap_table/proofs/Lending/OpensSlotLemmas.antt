@@ -7,11 +7,13 @@ use lib.ListN.{length, take, drop}
 use seplogic.Ra.Ura.{Ura}
 use base.Logic.{id⊢}
 use base.Fml.{Lft, Incl}
+use base.Stored.{Coded}
 use types.Logic.{Logic}
 use contract.BorrowLft.{⊑_static}
 use denote.RattleType.{RattleType, lives_all}
 use base.Fraction.{full_share}
-use denote.Memory.{part_at, part_of}
+use denote.Memory.{part_at, part_of, shared_of}
+use denote.Model.Fields.{view-Hides}
 use denote.Struct.Members.{Member}
 use denote.Struct.Parts.{shape_of}
 use denote.Struct.Struct.{Struct}
@@ -64,6 +66,9 @@ module _ (K' A' : RattleType) (g : key.Ghosts K'.Denot) (e : eq.Ghosts K'.Denot)
     abbrev pub good : Ir.Denot → Type 0
     good = L-type.the_invariant (K K') R (A A') g e a
 
+    abbrev pub code : Coded (Held K'.Denot R.Denot)
+    code = declared.the_code K'.Denot R.Denot A'.Denot K'.coded R.coded A'.coded
+
     abbrev pub view : Ir.Denot → Held K'.Denot R.Denot
     view = L-type.the_view (K K') R (A A') g e a
 
@@ -99,9 +104,9 @@ module _ (K' A' : RattleType) (g : key.Ghosts K'.Denot) (e : eq.Ghosts K'.Denot)
 
       abbrev pub inside_opens : OpensAs 𝓛 (V V') (Ir Kv) (Ir Hv) l
       inside_opens =
-          struct_opens 𝓛 fields (Ir Kv) (λ s. (s.first, (s.rest, tt))) slot_laid (V V') l (two_parts 𝓛 (V V') l (Fr Kv) (Vr Kv) (Fr Hv) (Vr Hv) first_opens rest_opens)
+          struct_opens 𝓛 fields (Ir Kv) (λ s. (s.first, (s.rest, tt))) slot_laid (V V') l (two_parts 𝓛 (V V') l (Fr Kv) (Vr Kv) first_opens rest_opens)
           ((O-laws.the_row_laws (Pr K' g e Kv) PL).single, ((V-laws.the_row_laws (Pr K' g e Kv) (A A') a PL (copied_laws 2 A' LA)).single, tt)) (λ y. record { first = y.0; rest = y.1.0 })
-          (Ir Hv) (λ h. (h.first, h.rest)) (λ y. record { first = y.0; rest = y.1 }) (λ s. refl) (λ y. refl) (λ y. refl) (λ y b o κ. id⊢ 𝓤 _)
+          (shared_of (Ir Hv)) (λ h. (h.first, h.rest)) (λ y. record { first = y.0; rest = y.1 }) (λ s. refl) (λ y. refl) (λ y. refl) (λ y b o κ. id⊢ 𝓤 _)
 
       abbrev pub P : Type 0
       P = K'.Denot × V'.Denot
@@ -170,8 +175,8 @@ module _ (K' A' : RattleType) (g : key.Ghosts K'.Denot) (e : eq.Ghosts K'.Denot)
       -- a slot is lent as a slot of holes
       abbrev pub slot_opens : OpensAs 𝓛 (V V') (Sr Kv) (Sr Hv) l
       slot_opens =
-          view_opens 𝓛 (V V') (Ir Kv) (Ir Hv) l inside_opens (Held K'.Denot V'.Denot) (Held K'.Denot (Ptr × V'.Denot))
-          (declared.the_code K'.Denot Kv.Denot A'.Denot K'.coded Kv.coded A'.coded) (declared.the_code K'.Denot Hv.Denot A'.Denot K'.coded Hv.coded A'.coded)
-          (view Kv) (view Hv) (good Kv) (good Hv) refilled_slot (λ h. length h.pairs) lent_slot (λ h. values_of h.pairs) slot-puts
+          view_opens 𝓛 (V V') (Ir Kv) l inside_opens (Held K'.Denot V'.Denot) (code Kv) (view Kv) (good Kv) (shared_of (Sr Hv)) (view Hv)
+          refilled_slot (λ h. length h.pairs) lent_slot (λ h. values_of h.pairs) slot-puts
           (λ s ws ok. first-put s.first s.rest.items (take (first_opens.count s.first) ws) (drop (first_opens.count s.first) ws) ok)
-          (λ s. pairs-count s.first s.rest.items) (λ h ok. first-fill h.first h.rest.items ok) slot-fills (λ h. pairs-cells h.first h.rest.items)
+          (λ s. pairs-count s.first s.rest.items) slot-fills (λ h. pairs-cells h.first h.rest.items)
+          (λ h ok. view-Hides (Ir Hv) (Held K'.Denot Hv.Denot) (code Hv) (view Hv) (good Hv) M 𝓤 𝓛 (view Hv h) h (refl, first-fill h.first h.rest.items ok))

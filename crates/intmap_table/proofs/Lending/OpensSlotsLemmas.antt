@@ -6,16 +6,17 @@ use lib.ListN.{length, take, drop}
 use seplogic.Ra.Ura.{Ura}
 use base.Logic.{id⊢}
 use base.Fml.{Lft, Incl}
+use base.Stored.{Coded}
 use types.Logic.{Logic}
 use denote.RattleType.{RattleType}
 use Prim.Native.Nat.{ℕ}
 use base.Fraction.{full_share}
-use denote.Memory.{part_at, part_of}
+use denote.Memory.{part_at, part_of, shared_of}
+use denote.Model.Fields.{view-Hides}
 use denote.Struct.Members.{Member}
 use denote.Struct.Parts.{shape_of}
 use denote.Struct.Struct.{Struct}
 use denote.Param.Laws.{Laws, param_laws, copied_laws}
-use denote.RawPtr.{Ptr}
 use denote.Shares.{Shares, Shares-less}
 use Rattle.std.specs.Prelude.{map}
 use Rattle.std.specs.contracts.vec.Vec as V-type
@@ -57,6 +58,12 @@ module _ (K' A' : RattleType) (g : key.Ghosts K'.Denot) (e : eq.Ghosts K'.Denot)
     abbrev pub good : Ir.Denot → Type 0
     good = L-type.the_invariant (K K') R (A A') g e a
 
+    abbrev pub code : Coded (List (Held K'.Denot R.Denot))
+    code = declared.the_code K'.Denot R.Denot A'.Denot K'.coded R.coded A'.coded
+
+    abbrev pub view : Ir.Denot → List (Held K'.Denot R.Denot)
+    view = L-type.the_view (K K') R (A A') g e a
+
   module _ (V' : RattleType) (LK : Laws K') (LV : Laws V') (LA : Laws A') {M : Type 1} {𝓤 : Ura M} (𝓛 : Logic 𝓤) where
     abbrev pub Kv : RattleType
     Kv = Kr V'
@@ -90,9 +97,9 @@ module _ (K' A' : RattleType) (g : key.Ghosts K'.Denot) (e : eq.Ghosts K'.Denot)
 
       abbrev pub inside_opens : OpensAs 𝓛 (V V') (Ir Kv) (Ir Hv) l
       inside_opens =
-          struct_opens 𝓛 fields (Ir Kv) (λ t. (t.directory, (t.slots, tt))) slots_laid (V V') l (two_parts 𝓛 (V V') l Dr (Vr Kv) Dr (Vr Hv) (still_opens 𝓛 (V V') Dr l directory_shares) rows_open)
+          struct_opens 𝓛 fields (Ir Kv) (λ t. (t.directory, (t.slots, tt))) slots_laid (V V') l (two_parts 𝓛 (V V') l Dr (Vr Kv) (still_opens 𝓛 (V V') Dr l directory_shares) rows_open)
           (directory_laws.single, ((V-laws.the_row_laws (Sr K' A' g e a Kv) (A A') a slot_laws (copied_laws 2 A' LA)).single, tt)) (λ y. record { directory = y.0; slots = y.1.0 })
-          (Ir Hv) (λ h. (h.directory, h.slots)) (λ y. record { directory = y.0; slots = y.1 }) (λ t. refl) (λ y. refl) (λ y. refl) (λ y b o κ. id⊢ 𝓤 _)
+          (shared_of (Ir Hv)) (λ h. (h.directory, h.slots)) (λ y. record { directory = y.0; slots = y.1 }) (λ t. refl) (λ y. refl) (λ y. refl) (λ y b o κ. id⊢ 𝓤 _)
 
       abbrev H' : Type 0
       H' = Held K'.Denot V'.Denot
@@ -115,7 +122,7 @@ module _ (K' A' : RattleType) (g : key.Ghosts K'.Denot) (e : eq.Ghosts K'.Denot)
       -- slots are lent as slots of holes
       abbrev pub slots_opens : OpensAs 𝓛 (V V') (Lr Kv) (Lr Hv) l
       slots_opens =
-          view_opens 𝓛 (V V') (Ir Kv) (Ir Hv) l inside_opens (List H') (List (Held K'.Denot (Ptr × V'.Denot)))
-          (declared.the_code K'.Denot Kv.Denot A'.Denot K'.coded Kv.coded A'.coded) (declared.the_code K'.Denot Hv.Denot A'.Denot K'.coded Hv.coded A'.coded)
-          (L-type.the_view (K K') Kv (A A') g e a) (L-type.the_view (K K') Hv (A A') g e a) (good Kv) (good Hv) puts (row_count SO.count) (map lent_slot) (row_cells_in SO.cells_in)
-          (λ s ws. refl) slots-goods (λ s. zero-add (row_count SO.count s.slots.items)) slots-holeds (λ h. refl) (λ h. refl)
+          view_opens 𝓛 (V V') (Ir Kv) l inside_opens (List H') (code Kv) (view Kv) (good Kv) (shared_of (Lr Hv)) (view Hv)
+          puts (row_count SO.count) (map lent_slot) (row_cells_in SO.cells_in)
+          (λ s ws. refl) slots-goods (λ s. zero-add (row_count SO.count s.slots.items)) (λ h. refl) (λ h. refl)
+          (λ h ok. view-Hides (Ir Hv) (List (Held K'.Denot Hv.Denot)) (code Hv) (view Hv) (good Hv) M 𝓤 𝓛 (view Hv h) h (refl, slots-holeds h ok))

@@ -18,7 +18,7 @@ use denote.RattleType.{RattleType, Denots}
 use denote.Sharing.{one, beside}
 use denote.Memory.{part_at, shared_of, lone}
 use denote.Model.{View}
-use denote.Model.Fields.{view_owns, view_made, view-Hides, plain_out, Plain-in}
+use denote.Model.Fields.{view_owns, view_made, plain_out, Plain-in}
 use denote.Shares.{Shares}
 use denote.Struct.Struct.{Struct}
 use denote.Struct.Lending.{Lends, Lends-nothing}
@@ -47,8 +47,9 @@ abbrev pub member : RattleType → Member
 member R = record { row = R; ty = lone R.mir }
 
 -- two fields
-module _ {M : Type 1} {𝓤 : Ura M} (𝓛 : Logic 𝓤) (V : RattleType) (l : Lft) (R₁ R₂ R₁' R₂' : RattleType)
-    (O₁ : OpensAs 𝓛 V (row_of (member R₁)) R₁' l) (O₂ : OpensAs 𝓛 V (row_of (member R₂)) R₂' l) where
+module _ {M : Type 1} {𝓤 : Ura M} (𝓛 : Logic 𝓤) (V : RattleType) (l : Lft) (R₁ R₂ : RattleType) {Y₁ Y₂ : Type 0}
+    {shown₁ : Y₁ → ℕ → ℕ → Lft → Fml} {shown₂ : Y₂ → ℕ → ℕ → Lft → Fml}
+    (O₁ : Opens 𝓛 V (part_at (row_of (member R₁)) full_share) shown₁ l) (O₂ : Opens 𝓛 V (part_at (row_of (member R₂)) full_share) shown₂ l) where
   abbrev pub e₁ : ℕ
   e₁ = up (align (lone R₁.mir)) zero
 
@@ -56,7 +57,7 @@ module _ {M : Type 1} {𝓤 : Ura M} (𝓛 : Logic 𝓤) (V : RattleType) (l : L
   e₂ = up (align (lone R₂.mir)) (e₁ + size (lone R₁.mir))
 
   abbrev pub two_parts : Opens 𝓛 V (parts_at full_share (member R₁ ∷ member R₂ ∷ []) zero)
-      (λ (y : R₁'.Denot × R₂'.Denot) b o. beside (shared_of R₁' y.0 b (o + e₁)) (beside (shared_of R₂' y.1 b (o + e₂)) (λ κ. ftrue))) l
+      (λ (y : Y₁ × Y₂) b o. beside (shown₁ y.0 b (o + e₁)) (beside (shown₂ y.1 b (o + e₂)) (λ κ. ftrue))) l
   two_parts = record {
     count = λ x. O₁.count x.0 + O₂.count x.1.0;
     put = λ x ws. (O₁.put x.0 (take (O₁.count x.0) ws), (O₂.put x.1.0 (drop_l (O₁.count x.0) ws), tt));
@@ -67,11 +68,12 @@ module _ {M : Type 1} {𝓤 : Ura M} (𝓛 : Logic 𝓤) (V : RattleType) (l : L
   }
 
 -- one field
-module _ {M : Type 1} {𝓤 : Ura M} (𝓛 : Logic 𝓤) (V : RattleType) (l : Lft) (R R' : RattleType) (O : OpensAs 𝓛 V (row_of (member R)) R' l) where
+module _ {M : Type 1} {𝓤 : Ura M} (𝓛 : Logic 𝓤) (V : RattleType) (l : Lft) (R : RattleType) {Y : Type 0} {shown : Y → ℕ → ℕ → Lft → Fml}
+    (O : Opens 𝓛 V (part_at (row_of (member R)) full_share) shown l) where
   abbrev pub e : ℕ
   e = up (align (lone R.mir)) zero
 
-  abbrev pub one_part : Opens 𝓛 V (parts_at full_share (member R ∷ []) zero) (λ (y : R'.Denot) b o. beside (shared_of R' y b (o + e)) (λ κ. ftrue)) l
+  abbrev pub one_part : Opens 𝓛 V (parts_at full_share (member R ∷ []) zero) (λ (y : Y) b o. beside (shown y b (o + e)) (λ κ. ftrue)) l
   one_part = record {
     count = λ x. O.count x.0;
     put = λ x ws. (O.put x.0 ws, tt);
@@ -81,15 +83,19 @@ module _ {M : Type 1} {𝓤 : Ura M} (𝓛 : Logic 𝓤) (V : RattleType) (l : L
         (λ y k. y) (id⊢ 𝓤 _) (λ ws. id⊢ 𝓤 _) refl (λ y k. refl) (λ y k j. (k j, tt)) (λ y k κ. id⊢ 𝓤 _);
   }
 
--- a type R that is laid out as a struct of these members
-module _ {M : Type 1} {𝓤 : Ura M} (𝓛 : Logic 𝓤) (ms : List Member) (R : RattleType) (to : R.Denot → Denots (rows_of ms))
-    (laid : (x : R.Denot) (b o : ℕ) → part_at R full_share x b o ≡ part_at (Struct (shape_of [] ms)) full_share (to x) b o) where
-  -- the bytes round its fields
+-- the bytes round the fields of a struct of these members, and what a `&` to it holds of them
+module _ (ms : List Member) where
   abbrev pub left : Share → ℕ → ℕ → Fml
   left q b o = fleft q (ty_struct [] (raw_tys ms)) (raw_tys ms) b o
 
+  abbrev pub left_seen : ℕ → ℕ → Lft → Fml
+  left_seen b o = one (λ q. left q b o)
+
+-- a type R that is laid out as a struct of these members
+module _ {M : Type 1} {𝓤 : Ura M} (𝓛 : Logic 𝓤) (ms : List Member) (R : RattleType) (to : R.Denot → Denots (rows_of ms))
+    (laid : (x : R.Denot) (b o : ℕ) → part_at R full_share x b o ≡ part_at (Struct (shape_of [] ms)) full_share (to x) b o) where
   abbrev pub Fields : Denots (rows_of ms) → ℕ → ℕ → Fml
-  Fields y b o = fsep (parts_at full_share ms zero y b o) (left full_share b o)
+  Fields y b o = fsep (parts_at full_share ms zero y b o) (left ms full_share b o)
 
   pub apart : Lones (rows_of ms) → (x : R.Denot) (b o : ℕ) → ent 𝓤 (sem 𝓛 (part_at R full_share x b o)) (sem 𝓛 (Fields (to x) b o))
   apart ones x b o = subst (λ (F : Fml). ent 𝓤 (sem 𝓛 F) (sem 𝓛 (Fields (to x) b o))) (sym (laid x b o)) (Struct-left 𝓛 full_share [] ms ones (to x) b o)
@@ -97,48 +103,47 @@ module _ {M : Type 1} {𝓤 : Ura M} (𝓛 : Logic 𝓤) (ms : List Member) (R :
   pub whole : (x : R.Denot) (y : Denots (rows_of ms)) → to x ≡ y → (b o : ℕ) → ent 𝓤 (sem 𝓛 (Fields y b o)) (sem 𝓛 (part_at R full_share x b o))
   whole x y is b o = subst (λ (F : Fml). ent 𝓤 (sem 𝓛 (Fields y b o)) (sem 𝓛 F)) (ap (λ z. part_at (Struct (shape_of [] ms)) full_share z b o) (sym is) ∙ sym (laid x b o)) (left_Struct 𝓛 full_share [] ms y b o)
 
-  -- if its fields open, so does R, as a type R' that is laid out as the same struct of holes
-  module _ (V : RattleType) (l : Lft) {Y : Type 0} {shown : Y → ℕ → ℕ → Lft → Fml} (P : Opens 𝓛 V (parts_at full_share ms zero) shown l) (ones : Lones (rows_of ms))
-      (from : Denots (rows_of ms) → R.Denot) (R' : RattleType) (to' : R'.Denot → Y) (from' : Y → R'.Denot)
+  -- if its fields open, so does R: what has holes is seen as its fields with holes are
+  module _ (V : RattleType) (l : Lft) {Y Y' : Type 0} {shown : Y → ℕ → ℕ → Lft → Fml} (P : Opens 𝓛 V (parts_at full_share ms zero) shown l)
+      (ones : Lones (rows_of ms)) (from : Denots (rows_of ms) → R.Denot) (shown' : Y' → ℕ → ℕ → Lft → Fml) (to' : Y' → Y) (from' : Y → Y')
       (made : (x : R.Denot) → from (to x) ≡ x) (read : (y : Denots (rows_of ms)) → to (from y) ≡ y) (read' : (y : Y) → to' (from' y) ≡ y)
-      (shows : (y : Y) (b o : ℕ) (κ : Lft) → ent 𝓤 (sem 𝓛 (beside (shown y b o) (one (λ q. left q b o)) κ)) (sem 𝓛 (shared_of R' (from' y) b o κ))) where
-    abbrev pub struct_opens : OpensAs 𝓛 V R R' l
+      (shows : (y : Y) (b o : ℕ) (κ : Lft) → ent 𝓤 (sem 𝓛 (beside (shown y b o) (left_seen ms b o) κ)) (sem 𝓛 (shown' (from' y) b o κ))) where
+    abbrev pub struct_opens : Opens 𝓛 V (part_at R full_share) shown' l
     struct_opens = record {
       count = λ x. P.count (to x);
       put = λ x ws. from (P.put (to x) ws);
       fill = λ h. from (P.fill (to' h));
       cells_in = λ h. P.cells_in (to' h);
-      opens = λ x b o. seen_as (framed (P.opens (to x) b o) (left full_share b o) (one (λ q. left q b o)) (Lends-left 𝓛 l (ty_struct [] (raw_tys ms)) (raw_tys ms) b o))
+      opens = λ x b o. seen_as (framed (P.opens (to x) b o) (left ms full_share b o) (left_seen ms b o) (Lends-left 𝓛 l (ty_struct [] (raw_tys ms)) (raw_tys ms) b o))
           (λ y k. from' y) (apart ones x b o) (λ ws. whole (from (P.put (to x) ws)) (P.put (to x) ws) (read (P.put (to x) ws)) b o) refl
           (λ y k. ap P.cells_in (sym (read' y))) (λ y k. ap (λ z. from (P.fill z)) (read' y) ∙ ap from k ∙ made x) (λ y k κ. shows y b o κ);
     }
 
--- a type with a view, if its fields open
-module _ {M : Type 1} {𝓤 : Ura M} (𝓛 : Logic 𝓤) (V F F' : RattleType) (l : Lft) (O : OpensAs 𝓛 V F F' l)
-    (D D' : Type 0) (c : Coded D) (c' : Coded D') (view : F.Denot → D) (view' : F'.Denot → D') (good : F.Denot → Type 0) (good' : F'.Denot → Type 0)
+-- a type with a view, if its fields F open: what has holes is seen by its own view
+module _ {M : Type 1} {𝓤 : Ura M} (𝓛 : Logic 𝓤) (V F : RattleType) (l : Lft) {Y D' : Type 0} {shown : Y → ℕ → ℕ → Lft → Fml}
+    (O : Opens 𝓛 V (part_at F full_share) shown l) (D : Type 0) (c : Coded D) (view : F.Denot → D) (good : F.Denot → Type 0)
+    (shown' : D' → ℕ → ℕ → Lft → Fml) (view' : Y → D')
     (put : D → List V.Denot → D) (count : D → ℕ) (fill : D' → D) (cells_in : D' → Cells V)
     (puts : (a : F.Denot) (ws : List V.Denot) → view (O.put a ws) ≡ put (view a) ws) (goods : (a : F.Denot) (ws : List V.Denot) → good a → good (O.put a ws))
-    (counted : (a : F.Denot) → O.count a ≡ count (view a)) (holeds : (h : F'.Denot) → good (O.fill h) → good' h)
-    (fills : (h : F'.Denot) → fill (view' h) ≡ view (O.fill h)) (celleds : (h : F'.Denot) → O.cells_in h ≡ cells_in (view' h)) where
+    (counted : (a : F.Denot) → O.count a ≡ count (view a)) (fills : (h : Y) → fill (view' h) ≡ view (O.fill h)) (celleds : (h : Y) → O.cells_in h ≡ cells_in (view' h))
+    (shows : (h : Y) → good (O.fill h) → (b o : ℕ) (κ : Lft) → ent 𝓤 (sem 𝓛 (shown h b o κ)) (sem 𝓛 (shown' (view' h) b o κ))) where
   abbrev pub W : RattleType
   W = View F D c view good
 
-  abbrev pub W' : RattleType
-  W' = View F' D' c' view' good'
-
   -- the view and what is known of the fields follow from the values
-  pub view_back : (d : D) (a : F.Denot) → view a ≡ d → good a → (ws : List V.Denot) (b o : ℕ) → ent 𝓤 (sem 𝓛 (part_at F full_share (O.put a ws) b o)) (sem 𝓛 (part_at W full_share (put d ws) b o))
+  pub view_back : (d : D) (a : F.Denot) → view a ≡ d → good a → (ws : List V.Denot) (b o : ℕ)
+      → ent 𝓤 (sem 𝓛 (part_at F full_share (O.put a ws) b o)) (sem 𝓛 (part_at W full_share (put d ws) b o))
   view_back d a is ok ws = Plain-in W F (view_owns F D c view good) 𝓛 full_share (put d ws) (O.put a ws)
       (view_made F D c view good 𝓛 (put d ws) (O.put a ws) (puts a ws ∙ ap (λ z. put z ws) is, goods a ws ok))
 
-  abbrev pub view_opens : OpensAs 𝓛 V W W' l
+  abbrev pub view_opens : Opens 𝓛 V (part_at W full_share) shown' l
   view_opens = record {
     count = count;
     put = put;
     fill = fill;
     cells_in = cells_in;
-    opens = λ d b o. any (λ (x : (a : F.Denot) × ((view a ≡ d) × good a)). part_at F full_share x.0 b o) (λ x. seen_as (O.opens x.0 b o) (λ h k. view' h) (id⊢ 𝓤 _) (λ ws. view_back d x.0 x.1.0 x.1.1 ws b o)
-        (counted x.0 ∙ ap count x.1.0) (λ h k. celleds h) (λ h k. fills h ∙ ap view k ∙ x.1.0)
-        (λ h k κ. view-Hides F' D' c' view' good' M 𝓤 𝓛 (view' h) h (refl, holeds h (subst good (sym k) x.1.1)) b o κ))
+    opens = λ d b o. any (λ (x : (a : F.Denot) × ((view a ≡ d) × good a)). part_at F full_share x.0 b o) (λ x.
+        seen_as (O.opens x.0 b o) (λ h k. view' h) (id⊢ 𝓤 _) (λ ws. view_back d x.0 x.1.0 x.1.1 ws b o)
+        (counted x.0 ∙ ap count x.1.0) (λ h k. celleds h) (λ h k. fills h ∙ ap view k ∙ x.1.0) (λ h k κ. shows h (subst good (sym k) x.1.1) b o κ))
         (plain_out W F (view_owns F D c view good) 𝓛 full_share d b o);
   }

@@ -6,11 +6,13 @@ use lib.ListN.{length, take, drop, length-append, length-map}
 use seplogic.Ra.Ura.{Ura}
 use base.Logic.{id⊢}
 use base.Fml.{Lft, Incl}
+use base.Stored.{Coded}
 use types.Logic.{Logic}
 use denote.RattleType.{RattleType}
 use Prim.Native.Nat.{ℕ}
 use base.Fraction.{full_share}
-use denote.Memory.{part_at, part_of}
+use denote.Memory.{part_at, part_of, shared_of}
+use denote.Model.Fields.{view-Hides}
 use denote.Struct.Members.{Member}
 use denote.Struct.Parts.{shape_of}
 use denote.Struct.Struct.{Struct}
@@ -49,6 +51,9 @@ module _ (K' A' : RattleType) (g : key.Ghosts K'.Denot) (e : eq.Ghosts K'.Denot)
     abbrev pub good : Ir.Denot → Type 0
     good = T-type.the_invariant (K K') R (A A') g e a
 
+    abbrev pub code : Coded (Grid K'.Denot R.Denot)
+    code = declared.the_code K'.Denot R.Denot A'.Denot K'.coded R.coded A'.coded
+
     abbrev pub view : Ir.Denot → Grid K'.Denot R.Denot
     view = T-type.the_view (K K') R (A A') g e a
 
@@ -75,8 +80,8 @@ module _ (K' A' : RattleType) (g : key.Ghosts K'.Denot) (e : eq.Ghosts K'.Denot)
 
       abbrev pub inside_opens : OpensAs 𝓛 (V V') (Ir Kv) (Ir Hv) l
       inside_opens =
-          struct_opens 𝓛 fields (Ir Kv) (λ t. (t.slots, tt)) table_laid (V V') l (one_part 𝓛 (V V') l (Lr K' A' g e a Kv) (Lr K' A' g e a Hv) LO)
-          (slots_laws.single, tt) (λ y. record { slots = y.0 }) (Ir Hv) (λ h. h.slots) (λ s. record { slots = s }) (λ t. refl) (λ y. refl) (λ s. refl) (λ y b o κ. id⊢ 𝓤 _)
+          struct_opens 𝓛 fields (Ir Kv) (λ t. (t.slots, tt)) table_laid (V V') l (one_part 𝓛 (V V') l (Lr K' A' g e a Kv) LO)
+          (slots_laws.single, tt) (λ y. record { slots = y.0 }) (shared_of (Ir Hv)) (λ h. h.slots) (λ s. record { slots = s }) (λ t. refl) (λ y. refl) (λ s. refl) (λ y b o κ. id⊢ 𝓤 _)
 
       abbrev H' : Type 0
       H' = Held K'.Denot V'.Denot
@@ -116,7 +121,7 @@ module _ (K' A' : RattleType) (g : key.Ghosts K'.Denot) (e : eq.Ghosts K'.Denot)
       -- a table is lent as a table of holes
       abbrev pub table_opens : OpensAs 𝓛 (V V') (Tr Kv) (Tr Hv) l
       table_opens =
-          view_opens 𝓛 (V V') (Ir Kv) (Ir Hv) l inside_opens (Grid K'.Denot V'.Denot) (Grid K'.Denot (Ptr × V'.Denot))
-          (declared.the_code K'.Denot Kv.Denot A'.Denot K'.coded Kv.coded A'.coded) (declared.the_code K'.Denot Hv.Denot A'.Denot K'.coded Hv.coded A'.coded)
-          (view Kv) (view Hv) (good Kv) (good Hv) grid_with (λ t. length t.walk) grid_fill (λ t. values_of t.walk)
-          table-puts table-goods (λ t. joined-count t.slots) table-holeds table-fills (λ h. joined-cells h.slots)
+          view_opens 𝓛 (V V') (Ir Kv) l inside_opens (Grid K'.Denot V'.Denot) (code Kv) (view Kv) (good Kv) (shared_of (Tr Hv)) (view Hv)
+          grid_with (λ t. length t.walk) grid_fill (λ t. values_of t.walk)
+          table-puts table-goods (λ t. joined-count t.slots) table-fills (λ h. joined-cells h.slots)
+          (λ h ok. view-Hides (Ir Hv) (Grid K'.Denot Hv.Denot) (code Hv) (view Hv) (good Hv) M 𝓤 𝓛 (view Hv h) h (refl, table-holeds h ok))
