@@ -37,7 +37,8 @@ module _ (V : RattleType) where
     length-each_at [] (w ∷ ws) = never_e 𝓤 _
     length-each_at (p ∷ ps) [] = never_e 𝓤 _
     length-each_at (p ∷ ps) (w ∷ ws) = qed 𝓛 (‵ (lies_at V full_share p w) ∷ ‵ (each_at V ps ws) ∷ []) ∵ drop ! $
-        use1 𝓛 (given (length ws ≡ length ps) (‵ ftrue)) (length-each_at ps ws) $ learn ! (λ e. by ! (fact_i 𝓤 (suc (length ws) ≡ suc (length ps)) (emp 𝓤) (ap suc e)))
+        use1 𝓛 (given (length ws ≡ length ps) (‵ ftrue)) (length-each_at ps ws) $
+        learn ! (λ e. by ! (fact_i 𝓤 (suc (length ws) ≡ suc (length ps)) (emp 𝓤) (ap suc e)))
 
     -- cells, and further ones
     pub glue : (cs ds : Cells) → ent 𝓤 (sep 𝓤 (sem 𝓛 (Lie cs)) (sem 𝓛 (Lie ds))) (sem 𝓛 (Lie (cs ++ ds)))
@@ -47,17 +48,20 @@ module _ (V : RattleType) where
 
     -- and apart again, with other values
     pub part : (cs ds : Cells) (ws : List V.Denot)
-        → ent 𝓤 (sem 𝓛 (each_at V (places_of (cs ++ ds)) ws)) (sep 𝓤 (sem 𝓛 (each_at V (places_of cs) (take (length cs) ws))) (sem 𝓛 (each_at V (places_of ds) (drop_l (length cs) ws))))
+        → ent 𝓤 (sem 𝓛 (each_at V (places_of (cs ++ ds)) ws)) (sep 𝓤 (sem 𝓛 (each_at V (places_of cs) (take (length cs) ws)))
+        (sem 𝓛 (each_at V (places_of ds) (drop_l (length cs) ws))))
     part [] ds ws = qed 𝓛 (‵ (each_at V (places_of ds) ws) ∷ []) ∵ nothing ! $ done !
     part (c ∷ cs) ds [] = never_e 𝓤 _
     part (c ∷ cs) ds (w ∷ ws) = qed 𝓛 (‵ (each_at V (places_of (c ∷ cs ++ ds)) (w ∷ ws)) ∷ []) ∵ fsplit ! $ move ! (1 ∷ []) $
-        use1 𝓛 (‵ (each_at V (places_of cs) (take (length cs) ws)) ⊛ ‵ (each_at V (places_of ds) (drop_l (length cs) ws))) (part cs ds ws) $ split ! $ move ! (2 ∷ 0 ∷ []) $ fjoin ! $ done !
+        use1 𝓛 (‵ (each_at V (places_of cs) (take (length cs) ws)) ⊛ ‵ (each_at V (places_of ds) (drop_l (length cs) ws)))
+        (part cs ds ws) $ split ! $ move ! (2 ∷ 0 ∷ []) $ fjoin ! $ done !
 
 -- what is shown of what is lent may be shown as something else
 pub Lends-as : {M : Type 1} {𝓤 : Ura M} (𝓛 : Logic 𝓤) (F : Fml) (t t' : Lft → Fml) (l : Lft) → Lends 𝓛 F t l
     → ((κ : Lft) → ent 𝓤 (sem 𝓛 (t κ)) (sem 𝓛 (t' κ))) → Lends 𝓛 F t' l
 Lends-as {𝓤 = 𝓤} 𝓛 F t t' l lent shows κ ts inc sp = via 𝓤 (𝓛.H.⇛ (sep 𝓤 (sem 𝓛 (t κ)) (lfts 𝓛 ts))) (lent κ ts inc sp)
-    (𝓛.laws.⇛_mono (sep 𝓤 (sem 𝓛 (t κ)) (lfts 𝓛 ts)) (sep 𝓤 (sem 𝓛 (t' κ)) (lfts 𝓛 ts)) (mono_l 𝓤 {P = sem 𝓛 (t κ)} {P' = sem 𝓛 (t' κ)} (lfts 𝓛 ts) (shows κ)))
+    (𝓛.laws.⇛_mono (sep 𝓤 (sem 𝓛 (t κ)) (lfts 𝓛 ts)) (sep 𝓤 (sem 𝓛 (t' κ)) (lfts 𝓛 ts))
+    (mono_l 𝓤 {P = sem 𝓛 (t κ)} {P' = sem 𝓛 (t' κ)} (lfts 𝓛 ts) (shows κ)))
 
 -- these values in the places of cells, and what lies beside them
 abbrev pub Beside : {M : Type 1} {𝓤 : Ura M} (𝓛 : Logic 𝓤) (V : RattleType) → Cells V → List V.Denot → Fml → SProp 𝓤
@@ -152,7 +156,8 @@ module _ {M : Type 1} {𝓤 : Ura M} {𝓛 : Logic 𝓤} {V : RattleType} {l : L
     Open i = ‵ (Lie V (cs i)) ⊛ ‵ (O.frame i)
 
     -- shown as something else
-    module _ {own' : Fml} {again' : List V.Denot → Fml} {n' : ℕ} {Y' : Type 0} {cells' : Y' → Cells V} {shown' : Y' → Lft → Fml} {Known' : Y' → Type 0}
+    module _ {own' : Fml} {again' : List V.Denot → Fml} {n' : ℕ} {Y' : Type 0} {cells' : Y' → Cells V} {shown' : Y' → Lft → Fml}
+        {Known' : Y' → Type 0}
         (f : (y : Y) → Known y → Y') (apart : ent 𝓤 (sem 𝓛 own') (sem 𝓛 own))
         (whole : (ws : List V.Denot) → ent 𝓤 (sem 𝓛 (again ws)) (sem 𝓛 (again' ws))) (counted : n ≡ n')
         (celled : (y : Y) (k : Known y) → cells y ≡ cells' (f y k)) (knows : (y : Y) (k : Known y) → Known' (f y k))
@@ -184,7 +189,8 @@ module _ {M : Type 1} {𝓤 : Ura M} {𝓛 : Logic 𝓤} {V : RattleType} {l : L
       framed_back i ws = qed 𝓛 (‵ (each_at V (places_of (cs i)) ws) ∷ ‵ (fsep (O.frame i) F) ∷ []) ∵ move ! (1 ∷ []) $ fsplit ! $
           move ! (2 ∷ []) $ use2 𝓛 (‵ (again ws)) (O.back i ws) $ fjoin ! $ done !
 
-      abbrev pub framed : (t : Lft → Fml) → Lends 𝓛 F t l → Opening 𝓛 V l (fsep own F) (λ ws. fsep (again ws) F) n cells (λ y. beside (shown y) t) Known
+      abbrev pub framed : (t : Lft → Fml) → Lends 𝓛 F t l → Opening 𝓛 V l (fsep own F) (λ ws. fsep (again ws) F) n cells
+          (λ y. beside (shown y) t) Known
       framed t lent = record {
         Info = O.Info;
         holed = O.holed;
@@ -260,8 +266,10 @@ row_cells_in cells_in [] = []
 row_cells_in cells_in (h ∷ hs) = cells_in h ++ row_cells_in cells_in hs
 
 abbrev pub row_opens : {M : Type 1} {𝓤 : Ura M} (𝓛 : Logic 𝓤) (V R R' : RattleType) (l : Lft) (O : OpensAs 𝓛 V R R' l) (xs : List R.Denot) (b o : ℕ)
-    → Opening 𝓛 V l (row R full_share xs b o) (λ ws. row R full_share (row_put O.count O.put xs ws) b o) (row_count O.count xs) (row_cells_in O.cells_in)
+    → Opening 𝓛 V l (row R full_share xs b o) (λ ws. row R full_share (row_put O.count O.put xs ws) b o) (row_count O.count xs)
+    (row_cells_in O.cells_in)
     (λ hs. each_shared hs (shared_of R') (size (lone R.mir)) b o) (λ hs. map O.fill hs ≡ xs)
-row_opens {𝓤 = 𝓤} 𝓛 V R R' l O [] b o = seen_as (still 𝓛 V l ftrue (λ κ. ftrue) (Lends-nothing 𝓛 ftrue l)) (λ y k. []) (id⊢ 𝓤 _) (λ ws. id⊢ 𝓤 _) refl (λ y k. refl) (λ y k. refl) (λ y k κ. id⊢ 𝓤 _)
+row_opens {𝓤 = 𝓤} 𝓛 V R R' l O [] b o = seen_as (still 𝓛 V l ftrue (λ κ. ftrue) (Lends-nothing 𝓛 ftrue l)) (λ y k. []) (id⊢ 𝓤 _)
+    (λ ws. id⊢ 𝓤 _) refl (λ y k. refl) (λ y k. refl) (λ y k κ. id⊢ 𝓤 _)
 row_opens {𝓤 = 𝓤} 𝓛 V R R' l O (x ∷ xs) b o = seen_as (both (O.opens x b o) (row_opens 𝓛 V R R' l O xs b (o + size (lone R.mir))))
     (λ y k. y.0 ∷ y.1) (id⊢ 𝓤 _) (λ ws. id⊢ 𝓤 _) refl (λ y k. refl) (λ y k j. k.0 j ∷ k.1 j) (λ y k κ. id⊢ 𝓤 _)

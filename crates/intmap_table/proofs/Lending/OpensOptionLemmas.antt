@@ -87,16 +87,20 @@ module _ {M : Type 1} {𝓤 : Ura M} (𝓛 : Logic 𝓤) (V : RattleType) (l : L
   option_cells_in (Some h) = O.cells_in h
 
   -- the option of holes is laid out as this
-  module _ (L : Laws R) (within : Incl l R.lives) (none_shown : (b o : ℕ) (κ : Lft) → ent 𝓤 (sem 𝓛 (shared_of Or None b o κ)) (sem 𝓛 (shared_of OHr None b o κ)))
+  module _ (L : Laws R) (within : Incl l R.lives) (none_shown : (b o : ℕ) (κ : Lft)
+      → ent 𝓤 (sem 𝓛 (shared_of Or None b o κ)) (sem 𝓛 (shared_of OHr None b o κ)))
       (shown : (h : R'.Denot) (b o : ℕ) (κ : Lft) → ent 𝓤
-      (sem 𝓛 (beside (beside (tag_seen b o) (beside (shared_of R' h b (o + e₂)) (λ κ. ftrue))) (left_seen b o) κ)) (sem 𝓛 (shared_of OHr (Some h) b o κ))) where
+      (sem 𝓛 (beside (beside (tag_seen b o) (beside (shared_of R' h b (o + e₂)) (λ κ. ftrue))) (left_seen b o) κ))
+      (sem 𝓛 (shared_of OHr (Some h) b o κ))) where
     -- an option with something is taken apart into its tag and that
-    pub tagged_out : (x : R.Denot) (b o : ℕ) → ent 𝓤 (sem 𝓛 (part_at Or full_share (Some x) b o)) (sep 𝓤 (sem 𝓛 (parts_at full_share (tag_m 𝓛 ρss 1 ∷ ms) zero (1, (x, tt)) b o)) (H.left full_share (ty_enum [] ρss) tys b o))
+    pub tagged_out : (x : R.Denot) (b o : ℕ) → ent 𝓤 (sem 𝓛 (part_at Or full_share (Some x) b o))
+        (sep 𝓤 (sem 𝓛 (parts_at full_share (tag_m 𝓛 ρss 1 ∷ ms) zero (1, (x, tt)) b o)) (H.left full_share (ty_enum [] ρss) tys b o))
     unfolding part_of
     tagged_out x b o = Live-out 𝓛 ρss 1 ms refl (x, tt) b o full_share (L.single, tt)
 
     -- and put together
-    pub tagged_in : (x : R.Denot) (b o : ℕ) → ent 𝓤 (sep 𝓤 (sem 𝓛 (parts_at full_share (tag_m 𝓛 ρss 1 ∷ ms) zero (1, (x, tt)) b o)) (H.left full_share (ty_enum [] ρss) tys b o)) (sem 𝓛 (part_at Or full_share (Some x) b o))
+    pub tagged_in : (x : R.Denot) (b o : ℕ) → ent 𝓤 (sep 𝓤 (sem 𝓛 (parts_at full_share (tag_m 𝓛 ρss 1 ∷ ms) zero (1, (x, tt)) b o))
+        (H.left full_share (ty_enum [] ρss) tys b o)) (sem 𝓛 (part_at Or full_share (Some x) b o))
     unfolding part_of
     tagged_in x b o = live_in 𝓛 ρss 1 ms refl (x, tt) b o full_share
 
@@ -105,14 +109,16 @@ module _ {M : Type 1} {𝓤 : Ura M} (𝓛 : Logic 𝓤) (V : RattleType) (l : L
     option_shares = Shares-less 𝓛 Or Or.lives l (O-laws.the_within R l within) ((O-laws.the_row_laws R L).shares 𝓛)
 
     abbrev pub opens : (x : Option R.Denot) (b o : ℕ)
-        → Opening 𝓛 V l (part_at Or full_share x b o) (λ ws. part_at Or full_share (option_put x ws) b o) (option_count x) option_cells_in (λ h. shared_of OHr h b o) (λ h. option_fill h ≡ x)
+        → Opening 𝓛 V l (part_at Or full_share x b o) (λ ws. part_at Or full_share (option_put x ws) b o) (option_count x) option_cells_in
+        (λ h. shared_of OHr h b o) (λ h. option_fill h ≡ x)
     opens None b o = seen_as (still 𝓛 V l (part_at Or full_share None b o) (shared_of Or None b o) (λ κ ts. option_shares None κ ts b o))
         (λ y k. None) (id⊢ 𝓤 _) (λ ws. id⊢ 𝓤 _) refl (λ y k. refl) (λ y k. refl) (λ y k κ. none_shown b o κ)
     opens (Some x) b o =
         seen_as (framed (both (still 𝓛 V l (part_at u8 full_share 1 b (o + e₁)) (tag_seen b o) (λ κ ts. tag_shares 1 κ ts b (o + e₁)))
         (framed (O.opens x b (o + e₂)) ftrue (λ κ. ftrue) (Lends-nothing 𝓛 ftrue l)))
         (fleft full_share (ty_enum [] ρss) tys b o) (left_seen b o) (Lends-left 𝓛 l (ty_enum [] ρss) tys b o))
-        (λ y k. Some y.1) (tagged_out x b o) (λ ws. tagged_in (O.put x ws) b o) (zero-add (O.count x)) (λ y k. refl) (λ y k. ap Some k.1) (λ y k κ. shown y.1 b o κ)
+        (λ y k. Some y.1) (tagged_out x b o) (λ ws. tagged_in (O.put x ws) b o) (zero-add (O.count x)) (λ y k. refl) (λ y k. ap Some k.1)
+        (λ y k κ. shown y.1 b o κ)
 
     -- an option is lent as one of what has holes
     abbrev pub option_opens : OpensAs 𝓛 V Or OHr l

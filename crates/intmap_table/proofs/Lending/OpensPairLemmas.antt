@@ -1,5 +1,5 @@
 -- A pair at rest, whose value is lent apart from its key. Assumes `Logic`.
-use mathlib.Core.Path.{◌≡◌, refl}
+use mathlib.Core.Path.{refl}
 use Prim.Native.Nat.{ℕ, zero, ◌+◌}
 use mathlib.Core.List.{List, [], ◌∷◌}
 use seplogic.Ra.Ura.{Ura}
@@ -22,8 +22,6 @@ use denote.Shares.{Shares-less}
 use denote.Struct.CellSteps.{first_at}
 use denote.Struct.Lending.{Lends}
 use denote.Struct.Members.{Member}
-use denote.Struct.Parts.{shape_of}
-use denote.Struct.Struct.{Struct}
 use denote.Struct.Tuple.{Tuple, tuple_laws}
 use Rattle.std.specs.declared.cmp.PartialEq as eq
 use Rattle.intmap_table.specs.declared.key.IntKey as key
@@ -35,7 +33,7 @@ use Rattle.intmap_table.proofs.table.stored.Stored.TheLaws as S-laws
 use Rattle.intmap_table.proofs.kept.Kept.TheLaws as K-laws
 use Rattle.intmap_table.specs.Apart.{each_at}
 use Rattle.intmap_table.proofs.Lending.OpensLemmas.{OpensAs}
-use Rattle.intmap_table.proofs.Lending.OpensStructLemmas.{member, left_seen, still_opens, one_part, two_parts, struct_opens, view_opens}
+use Rattle.intmap_table.proofs.Lending.OpensStructLemmas.{member, IsLaidAs, left_seen, still_opens, one_part, two_parts, struct_opens, view_opens}
 
 module _ (V' : RattleType) where
   abbrev pub V : RattleType
@@ -66,7 +64,8 @@ module _ (V' : RattleType) where
         → ent 𝓤 (sep 𝓤 (sem 𝓛 (each_at V (block_ptr b o ∷ []) ws)) (sem 𝓛 ftrue)) (sem 𝓛 (part_at V full_share (kept_put x ws) b o))
     cell_back x b o [] = qed 𝓛 (‵ ffalse ∷ ‵ ftrue ∷ []) ∵ keep ! (0 ∷ []) $ by ! (never_e 𝓤 _)
     cell_back x b o (w ∷ []) = qed 𝓛 (‵ (fsep (part_at V full_share w b o) ftrue) ∷ ‵ ftrue ∷ []) ∵ fsplit ! $ keep ! (0 ∷ []) $ done !
-    cell_back x b o (w ∷ w' ∷ ws) = qed 𝓛 (‵ (fsep (part_at V full_share w b o) ffalse) ∷ ‵ ftrue ∷ []) ∵ fsplit ! $ keep ! (1 ∷ []) $ by ! (never_e 𝓤 _)
+    cell_back x b o (w ∷ w' ∷ ws) = qed 𝓛 (‵ (fsep (part_at V full_share w b o) ffalse) ∷ ‵ ftrue ∷ []) ∵ fsplit ! $ keep ! (1 ∷ []) $
+        by ! (never_e 𝓤 _)
 
     pub cell_lends : (b o : ℕ) → Lends 𝓛 ftrue (λ κ. feq Ptr (block_ptr b o) (block_ptr b o)) l
     cell_lends b o κ ts inc sp =
@@ -92,22 +91,25 @@ module _ (V' : RattleType) where
       };
     }
 
-    pub kept_laid : (a : Inside.Denot) (b o : ℕ) → part_at Inside full_share a b o ≡ part_at (Struct (shape_of [] (member V ∷ []))) full_share (a.value, tt) b o
+    pub kept_laid : IsLaidAs Inside (member V ∷ []) (λ a. (a.value, tt))
     unfolding part_of
     kept_laid a b o = refl
 
     -- the value lies where its wrapper does
     pub kept_shows : (h : Hr.Denot) (b o : ℕ) (κ : Lft)
-        → ent 𝓤 (sem 𝓛 (fsep (fsep (shared_of Hr h b (o + up (align (lone V.mir)) zero) κ) ftrue) (left_seen (member V ∷ []) b o κ))) (sem 𝓛 (shared_of Hr h b o κ))
+        → ent 𝓤 (sem 𝓛 (fsep (fsep (shared_of Hr h b (o + up (align (lone V.mir)) zero) κ) ftrue) (left_seen (member V ∷ []) b o κ)))
+        (sem 𝓛 (shared_of Hr h b o κ))
     kept_shows h b o κ =
-        qed 𝓛 (‵ (fsep (fsep (shared_of Hr h b (o + up (align (lone V.mir)) zero) κ) ftrue) (left_seen (member V ∷ []) b o κ)) ∷ []) ∵ fsplit ! $ fsplit ! $
+        qed 𝓛 (‵ (fsep (fsep (shared_of Hr h b (o + up (align (lone V.mir)) zero) κ) ftrue) (left_seen (member V ∷ []) b o κ)) ∷ []) ∵
+        fsplit ! $ fsplit ! $
         rewrite ! 0 (λ (n : ℕ). ‵ (shared_of Hr h b n κ)) (first_at (align (lone V.mir)) o) refl $ keep ! (0 ∷ []) $ done !
 
     -- a value at rest is lent as a hole
     abbrev pub kept_opens : OpensAs 𝓛 V Kr Hr l
     kept_opens =
         view_opens 𝓛 V Inside l
-        (struct_opens 𝓛 (member V ∷ []) Inside (λ a. (a.value, tt)) kept_laid V l (one_part 𝓛 V l V cell_opens) ((param_laws 1 V' L).single, tt) (λ y. record { value = y.0 })
+        (struct_opens 𝓛 (member V ∷ []) Inside (λ a. (a.value, tt)) kept_laid V l (one_part 𝓛 V l V cell_opens)
+        ((param_laws 1 V' L).single, tt) (λ y. record { value = y.0 })
         (shared_of Hr) (λ h. h) (λ h. h) (λ a. refl) (λ y. refl) (λ h. refl) kept_shows)
         V.Denot Kr.coded (K-type.the_view V) (K-type.the_invariant V) (shared_of Hr) (λ h. h)
         kept_put (λ x. 1) (λ h. h.1) (λ h. h ∷ []) (λ a ws. refl) (λ a ws ok. tt) (λ a. refl) (λ h. refl) (λ h. refl) (λ h ok b o κ. id⊢ 𝓤 _)
@@ -129,7 +131,8 @@ module _ (K' : RattleType) (g : key.Ghosts K'.Denot) (e : eq.Ghosts K'.Denot) wh
 
     -- a pair lives as long as its key and its value
     pub pair_within : (l : Lft) → Incl l K'.lives → Incl l V'.lives → Incl l (Pr (Kr V')).lives
-    pair_within l ik iv = let both = in_all l rows (S-laws.the_within (K K') g e l ik, (K-laws.the_within (V V') l iv, tt)) in ⊑_meet l (lives_all rows) (lives_all rows) both both
+    pair_within l ik iv = let both = in_all l rows (S-laws.the_within (K K') g e l ik, (K-laws.the_within (V V') l iv, tt)) in
+        ⊑_meet l (lives_all rows) (lives_all rows) both both
 
     module _ (LK : Laws K') (LV : Laws V') where
       pub stored_laws : Laws St
@@ -144,7 +147,7 @@ module _ (K' : RattleType) (g : key.Ghosts K'.Denot) (e : eq.Ghosts K'.Denot) wh
       abbrev pub fields : List Member
       fields = member St ∷ member (Kr V') ∷ []
 
-      pub pair_laid : (p : (Pr (Kr V')).Denot) (b o : ℕ) → part_at (Pr (Kr V')) full_share p b o ≡ part_at (Struct (shape_of [] fields)) full_share (p.0, (p.1, tt)) b o
+      pub pair_laid : IsLaidAs (Pr (Kr V')) fields (λ p. (p.0, (p.1, tt)))
       unfolding part_of
       pair_laid p b o = refl
 
@@ -152,5 +155,7 @@ module _ (K' : RattleType) (g : key.Ghosts K'.Denot) (e : eq.Ghosts K'.Denot) wh
       abbrev pub pair_opens : {M : Type 1} {𝓤 : Ura M} (𝓛 : Logic 𝓤) (l : Lft) → Incl l K'.lives → OpensAs 𝓛 (V V') (Pr (Kr V')) (Pr (Hr V')) l
       pair_opens {𝓤 = 𝓤} 𝓛 l ik =
           struct_opens 𝓛 fields (Pr (Kr V')) (λ p. (p.0, (p.1, tt))) pair_laid (V V') l
-          (two_parts 𝓛 (V V') l St (Kr V') (still_opens 𝓛 (V V') St l (Shares-less 𝓛 St St.lives l (S-laws.the_within (K K') g e l ik) (stored_laws.shares 𝓛))) (kept_opens V' LV 𝓛 l))
-          (stored_laws.single, (kept_laws.single, tt)) (λ y. (y.0, y.1.0)) (shared_of (Pr (Hr V'))) (λ h. h) (λ y. y) (λ p. refl) (λ y. refl) (λ y. refl) (λ y b o κ. id⊢ 𝓤 _)
+          (two_parts 𝓛 (V V') l St (Kr V') (still_opens 𝓛 (V V') St l (Shares-less 𝓛 St St.lives l (S-laws.the_within (K K') g e l ik)
+          (stored_laws.shares 𝓛))) (kept_opens V' LV 𝓛 l))
+          (stored_laws.single, (kept_laws.single, tt)) (λ y. (y.0, y.1.0)) (shared_of (Pr (Hr V'))) (λ h. h) (λ y. y) (λ p. refl)
+          (λ y. refl) (λ y. refl) (λ y b o κ. id⊢ 𝓤 _)

@@ -1,6 +1,6 @@
 -- A slot, whose values are lent. Assumes `Logic`.
 use mathlib.Core.Path.{◌≡◌, refl, ap}
-use Prim.Native.Nat.{ℕ, ◌+◌}
+use Prim.Native.Nat.{◌+◌}
 use native.Mathlib.Omega.{arith}
 use mathlib.Core.List.{List, [], ◌∷◌, ◌++◌, cons≢nil}
 use lib.ListN.{length, take, drop}
@@ -11,12 +11,9 @@ use base.Stored.{Coded}
 use types.Logic.{Logic}
 use contract.BorrowLft.{⊑_static}
 use denote.RattleType.{RattleType, lives_all}
-use base.Fraction.{full_share}
-use denote.Memory.{part_at, part_of, shared_of}
+use denote.Memory.{part_of, shared_of}
 use denote.Model.Fields.{view-Hides}
 use denote.Struct.Members.{Member}
-use denote.Struct.Parts.{shape_of}
-use denote.Struct.Struct.{Struct}
 use denote.Param.{copied}
 use denote.Param.Laws.{Laws, copied_laws}
 use denote.Param.Lives.{in_all}
@@ -41,7 +38,7 @@ use Rattle.std.proofs.option.Option.TheLaws as O-laws
 use Rattle.intmap_table.proofs.Lending.ValuesLemmas.{refilled_slot, lent_slot}
 use Rattle.intmap_table.proofs.Lending.OpensLemmas.{OpensAs, row_put, row_count, row_cells_in}
 use Rattle.intmap_table.proofs.Lending.OpensVecLemmas.{vec_opens}
-use Rattle.intmap_table.proofs.Lending.OpensStructLemmas.{member, two_parts, struct_opens, view_opens}
+use Rattle.intmap_table.proofs.Lending.OpensStructLemmas.{member, IsLaidAs, two_parts, struct_opens, view_opens}
 use Rattle.intmap_table.proofs.Lending.OpensPairLemmas.{V, K, Kr, Hr, Pr, pair_within, pair_laws, pair_opens}
 use Rattle.intmap_table.proofs.Lending.OpensOptionLemmas.{option_opens}
 
@@ -85,13 +82,14 @@ module _ (K' A' : RattleType) (g : key.Ghosts K'.Denot) (e : eq.Ghosts K'.Denot)
     abbrev pub fields : List Member
     fields = member (Fr Kv) ∷ member (Vr Kv) ∷ []
 
-    pub slot_laid : (s : (Ir Kv).Denot) (b o : ℕ) → part_at (Ir Kv) full_share s b o ≡ part_at (Struct (shape_of [] fields)) full_share (s.first, (s.rest, tt)) b o
+    pub slot_laid : IsLaidAs (Ir Kv) fields (λ s. (s.first, (s.rest, tt)))
     unfolding part_of
     slot_laid s b o = refl
 
     module _ (l : Lft) (ik : Incl l K'.lives) (iv : Incl l V'.lives) (ia : Incl l A'.lives) where
       pub words_live : Incl l (lives_all (rows (RawPtr-field ∷ usize-field ∷ usize-field ∷ row_field (A A') ∷ [])))
-      words_live = in_all l (rows (RawPtr-field ∷ usize-field ∷ usize-field ∷ row_field (A A') ∷ [])) (⊑_static l, (⊑_static l, (⊑_static l, (ia, tt))))
+      words_live = in_all l (rows (RawPtr-field ∷ usize-field ∷ usize-field ∷ row_field (A A') ∷ []))
+          (⊑_static l, (⊑_static l, (⊑_static l, (ia, tt))))
 
       abbrev pub PO : OpensAs 𝓛 (V V') (Pr K' g e Kv) (Pr K' g e Hv) l
       PO = pair_opens K' g e V' LK LV 𝓛 l ik
@@ -100,13 +98,22 @@ module _ (K' A' : RattleType) (g : key.Ghosts K'.Denot) (e : eq.Ghosts K'.Denot)
       rest_opens = vec_opens 𝓛 (V V') (Pr K' g e Kv) (Pr K' g e Hv) l PO refl tt (A A') a (copied_laws 2 A' LA) words_live
 
       abbrev pub first_opens : OpensAs 𝓛 (V V') (Fr Kv) (Fr Hv) l
-      first_opens = option_opens 𝓛 (V V') l (Pr K' g e Kv) (Pr K' g e Hv) PO PL (pair_within K' g e V' l ik iv) (λ b o κ. id⊢ 𝓤 _) (λ h b o κ. id⊢ 𝓤 _)
+      first_opens = option_opens 𝓛 (V V') l (Pr K' g e Kv) (Pr K' g e Hv) PO PL (pair_within K' g e V' l ik iv) (λ b o κ. id⊢ 𝓤 _)
+          (λ h b o κ. id⊢ 𝓤 _)
 
       abbrev pub inside_opens : OpensAs 𝓛 (V V') (Ir Kv) (Ir Hv) l
       inside_opens =
-          struct_opens 𝓛 fields (Ir Kv) (λ s. (s.first, (s.rest, tt))) slot_laid (V V') l (two_parts 𝓛 (V V') l (Fr Kv) (Vr Kv) first_opens rest_opens)
-          ((O-laws.the_row_laws (Pr K' g e Kv) PL).single, ((V-laws.the_row_laws (Pr K' g e Kv) (A A') a PL (copied_laws 2 A' LA)).single, tt)) (λ y. record { first = y.0; rest = y.1.0 })
-          (shared_of (Ir Hv)) (λ h. (h.first, h.rest)) (λ y. record { first = y.0; rest = y.1 }) (λ s. refl) (λ y. refl) (λ y. refl) (λ y b o κ. id⊢ 𝓤 _)
+          struct_opens 𝓛 fields (Ir Kv) (λ s. (s.first, (s.rest, tt))) slot_laid (V V') l
+          (two_parts 𝓛 (V V') l (Fr Kv) (Vr Kv) first_opens rest_opens) (
+            (O-laws.the_row_laws (Pr K' g e Kv) PL).single,
+            (
+              (V-laws.the_row_laws (Pr K' g e Kv) (A A') a PL
+                  (copied_laws 2 A' LA)).single,
+              tt,
+            ),
+          ) (λ y. record { first = y.0; rest = y.1.0 })
+          (shared_of (Ir Hv)) (λ h. (h.first, h.rest)) (λ y. record { first = y.0; rest = y.1 }) (λ s. refl) (λ y. refl) (λ y. refl)
+          (λ y b o κ. id⊢ 𝓤 _)
 
       abbrev pub P : Type 0
       P = K'.Denot × V'.Denot
@@ -179,4 +186,5 @@ module _ (K' A' : RattleType) (g : key.Ghosts K'.Denot) (e : eq.Ghosts K'.Denot)
           refilled_slot (λ h. length h.pairs) lent_slot (λ h. values_of h.pairs) slot-puts
           (λ s ws ok. first-put s.first s.rest.items (take (first_opens.count s.first) ws) (drop (first_opens.count s.first) ws) ok)
           (λ s. pairs-count s.first s.rest.items) slot-fills (λ h. pairs-cells h.first h.rest.items)
-          (λ h ok. view-Hides (Ir Hv) (Held K'.Denot Hv.Denot) (code Hv) (view Hv) (good Hv) M 𝓤 𝓛 (view Hv h) h (refl, first-fill h.first h.rest.items ok))
+          (λ h ok. view-Hides (Ir Hv) (Held K'.Denot Hv.Denot) (code Hv) (view Hv) (good Hv) M 𝓤 𝓛 (view Hv h) h
+          (refl, first-fill h.first h.rest.items ok))

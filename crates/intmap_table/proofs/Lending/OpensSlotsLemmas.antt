@@ -9,13 +9,9 @@ use base.Fml.{Lft, Incl}
 use base.Stored.{Coded}
 use types.Logic.{Logic}
 use denote.RattleType.{RattleType}
-use Prim.Native.Nat.{ℕ}
-use base.Fraction.{full_share}
-use denote.Memory.{part_at, part_of, shared_of}
+use denote.Memory.{part_of, shared_of}
 use denote.Model.Fields.{view-Hides}
 use denote.Struct.Members.{Member}
-use denote.Struct.Parts.{shape_of}
-use denote.Struct.Struct.{Struct}
 use denote.Param.Laws.{Laws, param_laws, copied_laws}
 use denote.Shares.{Shares, Shares-less}
 use Rattle.std.specs.Prelude.{map}
@@ -36,7 +32,7 @@ use Rattle.intmap_table.proofs.Tables.SameKeysLemmas.{row_keys, IsDirectory-same
 use Rattle.intmap_table.proofs.Lending.ValuesLemmas.{keys_of-with_values, lent_slot, row_keys-lent_slots}
 use Rattle.intmap_table.proofs.Lending.OpensLemmas.{OpensAs, row_put, row_count, row_cells_in}
 use Rattle.intmap_table.proofs.Lending.OpensVecLemmas.{vec_opens}
-use Rattle.intmap_table.proofs.Lending.OpensStructLemmas.{member, still_opens, two_parts, struct_opens, view_opens}
+use Rattle.intmap_table.proofs.Lending.OpensStructLemmas.{member, IsLaidAs, still_opens, two_parts, struct_opens, view_opens}
 use Rattle.intmap_table.proofs.Lending.OpensPairLemmas.{V, K, Kr, Hr}
 use Rattle.intmap_table.proofs.Lending.OpensSlotLemmas.{A, Sr, words_live, slot_opens}
 
@@ -72,7 +68,8 @@ module _ (K' A' : RattleType) (g : key.Ghosts K'.Denot) (e : eq.Ghosts K'.Denot)
     Hv = Hr V'
 
     pub slot_laws : Laws (Sr K' A' g e a Kv)
-    slot_laws = S-laws.the_row_laws (K K') Kv (A A') g e a (copied_laws 0 K' LK) (K-laws.the_row_laws (V V') (param_laws 1 V' LV)) (copied_laws 2 A' LA)
+    slot_laws = S-laws.the_row_laws (K K') Kv (A A') g e a (copied_laws 0 K' LK) (K-laws.the_row_laws (V V') (param_laws 1 V' LV))
+        (copied_laws 2 A' LA)
 
     pub directory_laws : Laws Dr
     directory_laws = D-laws.the_row_laws (A A') a (copied_laws 2 A' LA)
@@ -80,7 +77,7 @@ module _ (K' A' : RattleType) (g : key.Ghosts K'.Denot) (e : eq.Ghosts K'.Denot)
     abbrev pub fields : List Member
     fields = member Dr ∷ member (Vr Kv) ∷ []
 
-    pub slots_laid : (t : (Ir Kv).Denot) (b o : ℕ) → part_at (Ir Kv) full_share t b o ≡ part_at (Struct (shape_of [] fields)) full_share (t.directory, (t.slots, tt)) b o
+    pub slots_laid : IsLaidAs (Ir Kv) fields (λ t. (t.directory, (t.slots, tt)))
     unfolding part_of
     slots_laid t b o = refl
 
@@ -89,7 +86,8 @@ module _ (K' A' : RattleType) (g : key.Ghosts K'.Denot) (e : eq.Ghosts K'.Denot)
       SO = slot_opens K' A' g e a V' LK LV LA 𝓛 l ik iv ia
 
       abbrev pub rows_open : OpensAs 𝓛 (V V') (Vr Kv) (Vr Hv) l
-      rows_open = vec_opens 𝓛 (V V') (Sr K' A' g e a Kv) (Sr K' A' g e a Hv) l SO refl tt (A A') a (copied_laws 2 A' LA) (words_live K' A' g e a V' LK LV LA 𝓛 l ik iv ia)
+      rows_open = vec_opens 𝓛 (V V') (Sr K' A' g e a Kv) (Sr K' A' g e a Hv) l SO refl tt (A A') a (copied_laws 2 A' LA)
+          (words_live K' A' g e a V' LK LV LA 𝓛 l ik iv ia)
 
       -- the directory is shared as it is
       pub directory_shares : Shares 𝓛 Dr l
@@ -97,9 +95,12 @@ module _ (K' A' : RattleType) (g : key.Ghosts K'.Denot) (e : eq.Ghosts K'.Denot)
 
       abbrev pub inside_opens : OpensAs 𝓛 (V V') (Ir Kv) (Ir Hv) l
       inside_opens =
-          struct_opens 𝓛 fields (Ir Kv) (λ t. (t.directory, (t.slots, tt))) slots_laid (V V') l (two_parts 𝓛 (V V') l Dr (Vr Kv) (still_opens 𝓛 (V V') Dr l directory_shares) rows_open)
-          (directory_laws.single, ((V-laws.the_row_laws (Sr K' A' g e a Kv) (A A') a slot_laws (copied_laws 2 A' LA)).single, tt)) (λ y. record { directory = y.0; slots = y.1.0 })
-          (shared_of (Ir Hv)) (λ h. (h.directory, h.slots)) (λ y. record { directory = y.0; slots = y.1 }) (λ t. refl) (λ y. refl) (λ y. refl) (λ y b o κ. id⊢ 𝓤 _)
+          struct_opens 𝓛 fields (Ir Kv) (λ t. (t.directory, (t.slots, tt))) slots_laid (V V') l
+          (two_parts 𝓛 (V V') l Dr (Vr Kv) (still_opens 𝓛 (V V') Dr l directory_shares) rows_open)
+          (directory_laws.single, ((V-laws.the_row_laws (Sr K' A' g e a Kv) (A A') a slot_laws (copied_laws 2 A' LA)).single, tt))
+          (λ y. record { directory = y.0; slots = y.1.0 })
+          (shared_of (Ir Hv)) (λ h. (h.directory, h.slots)) (λ y. record { directory = y.0; slots = y.1 }) (λ t. refl) (λ y. refl)
+          (λ y. refl) (λ y b o κ. id⊢ 𝓤 _)
 
       abbrev H' : Type 0
       H' = Held K'.Denot V'.Denot
@@ -114,10 +115,8 @@ module _ (K' A' : RattleType) (g : key.Ghosts K'.Denot) (e : eq.Ghosts K'.Denot)
       keys-puts (h ∷ S) ws = λ i. keys_of-with_values h.pairs (take (length h.pairs) ws) i ∷ keys-puts S (drop (length h.pairs) ws) i
 
       pub slots-goods : (s : (Ir Kv).Denot) (ws : List V'.Denot) → good Kv s → good Kv (inside_opens.put s ws)
-      slots-goods s ws ok = IsDirectory-same_keys s.slots.items (puts s.slots.items ws) (sym (keys-puts s.slots.items ws)) s.directory.bits s.directory.mask ok
-
-      pub slots-holeds : (h : (Ir Hv).Denot) → good Kv (inside_opens.fill h) → good Hv h
-      slots-holeds h ok = IsDirectory-same_keys (map lent_slot h.slots.items) h.slots.items (row_keys-lent_slots h.slots.items) h.directory.bits h.directory.mask ok
+      slots-goods s ws ok = IsDirectory-same_keys s.slots.items (puts s.slots.items ws)
+          (sym (keys-puts s.slots.items ws)) s.directory.bits s.directory.mask ok
 
       -- slots are lent as slots of holes
       abbrev pub slots_opens : OpensAs 𝓛 (V V') (Lr Kv) (Lr Hv) l
@@ -125,4 +124,8 @@ module _ (K' A' : RattleType) (g : key.Ghosts K'.Denot) (e : eq.Ghosts K'.Denot)
           view_opens 𝓛 (V V') (Ir Kv) l inside_opens (List H') (code Kv) (view Kv) (good Kv) (shared_of (Lr Hv)) (view Hv)
           puts (row_count SO.count) (map lent_slot) (row_cells_in SO.cells_in)
           (λ s ws. refl) slots-goods (λ s. zero-add (row_count SO.count s.slots.items)) (λ h. refl) (λ h. refl)
-          (λ h ok. view-Hides (Ir Hv) (List (Held K'.Denot Hv.Denot)) (code Hv) (view Hv) (good Hv) M 𝓤 𝓛 (view Hv h) h (refl, slots-holeds h ok))
+          (λ h ok. view-Hides (Ir Hv) (List (Held K'.Denot Hv.Denot)) (code Hv) (view Hv) (good Hv) M 𝓤 𝓛 (view Hv h) h (
+            refl,
+            IsDirectory-same_keys (map lent_slot (view Hv h)) (view Hv h)
+                (row_keys-lent_slots (view Hv h)) h.directory.bits h.directory.mask ok,
+          ))

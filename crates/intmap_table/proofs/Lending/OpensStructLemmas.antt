@@ -34,7 +34,8 @@ module _ {M : Type 1} {𝓤 : Ura M} (𝓛 : Logic 𝓤) where
     put = λ x ws. x;
     fill = λ x. x;
     cells_in = λ x. [];
-    opens = λ x b o. seen_as (still 𝓛 V l (part_at R full_share x b o) (shared_of R x b o) (λ κ ts. sh x κ ts b o)) (λ y k. x) (id⊢ 𝓤 _) (λ ws. id⊢ 𝓤 _) refl (λ y k. refl) (λ y k. refl) (λ y k κ. id⊢ 𝓤 _);
+    opens = λ x b o. seen_as (still 𝓛 V l (part_at R full_share x b o) (shared_of R x b o) (λ κ ts. sh x κ ts b o)) (λ y k. x) (id⊢ 𝓤 _)
+        (λ ws. id⊢ 𝓤 _) refl (λ y k. refl) (λ y k. refl) (λ y k κ. id⊢ 𝓤 _);
   }
 
   -- the bytes round the fields are shared
@@ -91,17 +92,22 @@ module _ (ms : List Member) where
   abbrev pub left_seen : ℕ → ℕ → Lft → Fml
   left_seen b o = one (λ q. left q b o)
 
--- a type R that is laid out as a struct of these members
+-- a type that is laid out as a struct of these members
+abbrev pub IsLaidAs : (R : RattleType) (ms : List Member) → (R.Denot → Denots (rows_of ms)) → Type 1
+IsLaidAs R ms to = (x : R.Denot) (b o : ℕ) → part_at R full_share x b o ≡ part_at (Struct (shape_of [] ms)) full_share (to x) b o
+
 module _ {M : Type 1} {𝓤 : Ura M} (𝓛 : Logic 𝓤) (ms : List Member) (R : RattleType) (to : R.Denot → Denots (rows_of ms))
-    (laid : (x : R.Denot) (b o : ℕ) → part_at R full_share x b o ≡ part_at (Struct (shape_of [] ms)) full_share (to x) b o) where
+    (laid : IsLaidAs R ms to) where
   abbrev pub Fields : Denots (rows_of ms) → ℕ → ℕ → Fml
   Fields y b o = fsep (parts_at full_share ms zero y b o) (left ms full_share b o)
 
   pub apart : Lones (rows_of ms) → (x : R.Denot) (b o : ℕ) → ent 𝓤 (sem 𝓛 (part_at R full_share x b o)) (sem 𝓛 (Fields (to x) b o))
-  apart ones x b o = subst (λ (F : Fml). ent 𝓤 (sem 𝓛 F) (sem 𝓛 (Fields (to x) b o))) (sym (laid x b o)) (Struct-left 𝓛 full_share [] ms ones (to x) b o)
+  apart ones x b o = subst (λ (F : Fml). ent 𝓤 (sem 𝓛 F) (sem 𝓛 (Fields (to x) b o))) (sym (laid x b o))
+      (Struct-left 𝓛 full_share [] ms ones (to x) b o)
 
   pub whole : (x : R.Denot) (y : Denots (rows_of ms)) → to x ≡ y → (b o : ℕ) → ent 𝓤 (sem 𝓛 (Fields y b o)) (sem 𝓛 (part_at R full_share x b o))
-  whole x y is b o = subst (λ (F : Fml). ent 𝓤 (sem 𝓛 (Fields y b o)) (sem 𝓛 F)) (ap (λ z. part_at (Struct (shape_of [] ms)) full_share z b o) (sym is) ∙ sym (laid x b o)) (left_Struct 𝓛 full_share [] ms y b o)
+  whole x y is b o = subst (λ (F : Fml). ent 𝓤 (sem 𝓛 (Fields y b o)) (sem 𝓛 F))
+      (ap (λ z. part_at (Struct (shape_of [] ms)) full_share z b o) (sym is) ∙ sym (laid x b o)) (left_Struct 𝓛 full_share [] ms y b o)
 
   -- if its fields open, so does R: what has holes is seen as its fields with holes are
   module _ (V : RattleType) (l : Lft) {Y Y' : Type 0} {shown : Y → ℕ → ℕ → Lft → Fml} (P : Opens 𝓛 V (parts_at full_share ms zero) shown l)
@@ -114,7 +120,8 @@ module _ {M : Type 1} {𝓤 : Ura M} (𝓛 : Logic 𝓤) (ms : List Member) (R :
       put = λ x ws. from (P.put (to x) ws);
       fill = λ h. from (P.fill (to' h));
       cells_in = λ h. P.cells_in (to' h);
-      opens = λ x b o. seen_as (framed (P.opens (to x) b o) (left ms full_share b o) (left_seen ms b o) (Lends-left 𝓛 l (ty_struct [] (raw_tys ms)) (raw_tys ms) b o))
+      opens = λ x b o. seen_as (framed (P.opens (to x) b o) (left ms full_share b o) (left_seen ms b o)
+          (Lends-left 𝓛 l (ty_struct [] (raw_tys ms)) (raw_tys ms) b o))
           (λ y k. from' y) (apart ones x b o) (λ ws. whole (from (P.put (to x) ws)) (P.put (to x) ws) (read (P.put (to x) ws)) b o) refl
           (λ y k. ap P.cells_in (sym (read' y))) (λ y k. ap (λ z. from (P.fill z)) (read' y) ∙ ap from k ∙ made x) (λ y k κ. shows y b o κ);
     }
@@ -124,8 +131,10 @@ module _ {M : Type 1} {𝓤 : Ura M} (𝓛 : Logic 𝓤) (V F : RattleType) (l :
     (O : Opens 𝓛 V (part_at F full_share) shown l) (D : Type 0) (c : Coded D) (view : F.Denot → D) (good : F.Denot → Type 0)
     (shown' : D' → ℕ → ℕ → Lft → Fml) (view' : Y → D')
     (put : D → List V.Denot → D) (count : D → ℕ) (fill : D' → D) (cells_in : D' → Cells V)
-    (puts : (a : F.Denot) (ws : List V.Denot) → view (O.put a ws) ≡ put (view a) ws) (goods : (a : F.Denot) (ws : List V.Denot) → good a → good (O.put a ws))
-    (counted : (a : F.Denot) → O.count a ≡ count (view a)) (fills : (h : Y) → fill (view' h) ≡ view (O.fill h)) (celleds : (h : Y) → O.cells_in h ≡ cells_in (view' h))
+    (puts : (a : F.Denot) (ws : List V.Denot) → view (O.put a ws) ≡ put (view a) ws)
+    (goods : (a : F.Denot) (ws : List V.Denot) → good a → good (O.put a ws))
+    (counted : (a : F.Denot) → O.count a ≡ count (view a)) (fills : (h : Y) → fill (view' h) ≡ view (O.fill h))
+    (celleds : (h : Y) → O.cells_in h ≡ cells_in (view' h))
     (shows : (h : Y) → good (O.fill h) → (b o : ℕ) (κ : Lft) → ent 𝓤 (sem 𝓛 (shown h b o κ)) (sem 𝓛 (shown' (view' h) b o κ))) where
   abbrev pub W : RattleType
   W = View F D c view good

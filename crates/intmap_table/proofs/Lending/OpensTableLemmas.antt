@@ -9,13 +9,9 @@ use base.Fml.{Lft, Incl}
 use base.Stored.{Coded}
 use types.Logic.{Logic}
 use denote.RattleType.{RattleType}
-use Prim.Native.Nat.{ℕ}
-use base.Fraction.{full_share}
-use denote.Memory.{part_at, part_of, shared_of}
+use denote.Memory.{part_of, shared_of}
 use denote.Model.Fields.{view-Hides}
 use denote.Struct.Members.{Member}
-use denote.Struct.Parts.{shape_of}
-use denote.Struct.Struct.{Struct}
 use denote.Param.Laws.{Laws, param_laws, copied_laws}
 use Rattle.std.proofs.lemmas.List.{map-append}
 use Rattle.std.specs.Prelude.{map}
@@ -33,7 +29,7 @@ use Rattle.intmap_table.specs.Values.{lent_pairs, with_values}
 use Rattle.intmap_table.proofs.Tables.SameKeysLemmas.{IsTable-same_keys}
 use Rattle.intmap_table.proofs.Lending.ValuesLemmas.{with_values-append, lent_slot, lent_pairs-joined, row_keys-lent_slots}
 use Rattle.intmap_table.proofs.Lending.OpensLemmas.{OpensAs, length-row_put}
-use Rattle.intmap_table.proofs.Lending.OpensStructLemmas.{member, one_part, struct_opens, view_opens}
+use Rattle.intmap_table.proofs.Lending.OpensStructLemmas.{member, IsLaidAs, one_part, struct_opens, view_opens}
 use Rattle.intmap_table.proofs.Lending.OpensPairLemmas.{V, K, Kr, Hr}
 use Rattle.intmap_table.proofs.Lending.OpensSlotLemmas.{A}
 use Rattle.intmap_table.proofs.Lending.OpensSlotsLemmas.{Lr, SO as slots_each, slots_opens, keys-puts}
@@ -65,12 +61,13 @@ module _ (K' A' : RattleType) (g : key.Ghosts K'.Denot) (e : eq.Ghosts K'.Denot)
     Hv = Hr V'
 
     pub slots_laws : Laws (Lr K' A' g e a Kv)
-    slots_laws = L-laws.the_row_laws (K K') Kv (A A') g e a (copied_laws 0 K' LK) (K-laws.the_row_laws (V V') (param_laws 1 V' LV)) (copied_laws 2 A' LA)
+    slots_laws = L-laws.the_row_laws (K K') Kv (A A') g e a (copied_laws 0 K' LK) (K-laws.the_row_laws (V V') (param_laws 1 V' LV))
+        (copied_laws 2 A' LA)
 
     abbrev pub fields : List Member
     fields = member (Lr K' A' g e a Kv) ∷ []
 
-    pub table_laid : (t : (Ir Kv).Denot) (b o : ℕ) → part_at (Ir Kv) full_share t b o ≡ part_at (Struct (shape_of [] fields)) full_share (t.slots, tt) b o
+    pub table_laid : IsLaidAs (Ir Kv) fields (λ t. (t.slots, tt))
     unfolding part_of
     table_laid t b o = refl
 
@@ -81,7 +78,8 @@ module _ (K' A' : RattleType) (g : key.Ghosts K'.Denot) (e : eq.Ghosts K'.Denot)
       abbrev pub inside_opens : OpensAs 𝓛 (V V') (Ir Kv) (Ir Hv) l
       inside_opens =
           struct_opens 𝓛 fields (Ir Kv) (λ t. (t.slots, tt)) table_laid (V V') l (one_part 𝓛 (V V') l (Lr K' A' g e a Kv) LO)
-          (slots_laws.single, tt) (λ y. record { slots = y.0 }) (shared_of (Ir Hv)) (λ h. h.slots) (λ s. record { slots = s }) (λ t. refl) (λ y. refl) (λ s. refl) (λ y b o κ. id⊢ 𝓤 _)
+          (slots_laws.single, tt) (λ y. record { slots = y.0 }) (shared_of (Ir Hv)) (λ h. h.slots) (λ s. record { slots = s }) (λ t. refl)
+          (λ y. refl) (λ s. refl) (λ y b o κ. id⊢ 𝓤 _)
 
       abbrev H' : Type 0
       H' = Held K'.Denot V'.Denot
@@ -89,7 +87,8 @@ module _ (K' A' : RattleType) (g : key.Ghosts K'.Denot) (e : eq.Ghosts K'.Denot)
       pub joined-puts : (S : List H') (ws : List V'.Denot) → joined (rows (LO.put S ws)) ≡ with_values (joined (rows S)) ws
       unfolding with_values
       joined-puts [] ws = refl
-      joined-puts (h ∷ S) ws = ap (λ L. with_values h.pairs (take (length h.pairs) ws) ++ L) (joined-puts S (drop (length h.pairs) ws)) ∙ with_values-append h.pairs (joined (rows S)) ws
+      joined-puts (h ∷ S) ws = ap (λ L. with_values h.pairs (take (length h.pairs) ws) ++ L) (joined-puts S (drop (length h.pairs) ws)) ∙
+          with_values-append h.pairs (joined (rows S)) ws
 
       pub joined-count : (S : List H') → LO.count S ≡ length (joined (rows S))
       joined-count [] = refl
@@ -110,10 +109,8 @@ module _ (K' A' : RattleType) (g : key.Ghosts K'.Denot) (e : eq.Ghosts K'.Denot)
           λ i. record { walk = joined-puts t.slots ws i; capacity = length-row_put S.count S.put t.slots ws i }
 
       pub table-goods : (t : (Ir Kv).Denot) (ws : List V'.Denot) → good Kv t → good Kv (inside_opens.put t ws)
-      table-goods t ws ok = IsTable-same_keys t.slots (LO.put t.slots ws) (sym (keys-puts K' A' g e a V' LK LV LA 𝓛 l ik iv ia t.slots ws)) g.number_of ok
-
-      pub table-holeds : (h : (Ir Hv).Denot) → good Kv (inside_opens.fill h) → good Hv h
-      table-holeds h ok = IsTable-same_keys (map lent_slot h.slots) h.slots (row_keys-lent_slots h.slots) g.number_of ok
+      table-goods t ws ok = IsTable-same_keys t.slots (LO.put t.slots ws)
+          (sym (keys-puts K' A' g e a V' LK LV LA 𝓛 l ik iv ia t.slots ws)) g.number_of ok
 
       pub table-fills : (h : (Ir Hv).Denot) → grid_fill (view Hv h) ≡ view Kv (inside_opens.fill h)
       table-fills h = λ i. record { walk = lent_pairs-joined h.slots i; capacity = sym (length-map h.slots lent_slot) i }
@@ -124,4 +121,5 @@ module _ (K' A' : RattleType) (g : key.Ghosts K'.Denot) (e : eq.Ghosts K'.Denot)
           view_opens 𝓛 (V V') (Ir Kv) l inside_opens (Grid K'.Denot V'.Denot) (code Kv) (view Kv) (good Kv) (shared_of (Tr Hv)) (view Hv)
           grid_with (λ t. length t.walk) grid_fill (λ t. values_of t.walk)
           table-puts table-goods (λ t. joined-count t.slots) table-fills (λ h. joined-cells h.slots)
-          (λ h ok. view-Hides (Ir Hv) (Grid K'.Denot Hv.Denot) (code Hv) (view Hv) (good Hv) M 𝓤 𝓛 (view Hv h) h (refl, table-holeds h ok))
+          (λ h ok. view-Hides (Ir Hv) (Grid K'.Denot Hv.Denot) (code Hv) (view Hv) (good Hv) M 𝓤 𝓛 (view Hv h) h
+          (refl, IsTable-same_keys (map lent_slot h.slots) h.slots (row_keys-lent_slots h.slots) g.number_of ok))

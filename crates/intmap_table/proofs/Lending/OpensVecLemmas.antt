@@ -61,7 +61,8 @@ module _ {M : Type 1} {𝓤 : Ura M} (𝓛 : Logic 𝓤) (V R R' : RattleType) (
     Blk p y xs = in_block p (owns_if y (fsep (lies_at (Array R n) full_share p xs) (Spare p)))
 
     -- the elements of a block
-    pub elements_in : (xs : List R.Denot) (b o : ℕ) → n ≡ length xs → ent 𝓤 (sem 𝓛 (row R full_share xs b o)) (sem 𝓛 (part_at (Array R n) full_share xs b o))
+    pub elements_in : (xs : List R.Denot) (b o : ℕ) → n ≡ length xs → ent 𝓤 (sem 𝓛 (row R full_share xs b o))
+        (sem 𝓛 (part_at (Array R n) full_share xs b o))
     elements_in xs b o lens = qed 𝓛 (‵ (row R full_share xs b o) ∷ []) ∵ feq_i ! ℕ (length xs) n (sym lens) $ fjoin ! $
         by ! (Array-whole 𝓛 R full_share n xs b o)
 
@@ -96,7 +97,8 @@ module _ {M : Type 1} {𝓤 : Ura M} (𝓛 : Logic 𝓤) (V R R' : RattleType) (
         seen_as (still 𝓛 V l ftrue (λ κ. ftrue) (Lends-nothing 𝓛 ftrue l)) (λ y k. []) (id⊢ 𝓤 _) (λ ws. id⊢ 𝓤 _)
         (ap (row_count O.count) (sym is)) (λ y k. refl) (λ y k. sym is) (λ y k κ. shows [] b o κ (lens ∙ n0))
 
-  module _ (B : RattleType) (G : Ghosts B.Denot) (LB : Laws B) (inc : Incl l (lives_all (rows (RawPtr-field ∷ usize-field ∷ usize-field ∷ row_field B ∷ [])))) where
+  module _ (B : RattleType) (G : Ghosts B.Denot) (LB : Laws B) (inc : Incl l
+      (lives_all (rows (RawPtr-field ∷ usize-field ∷ usize-field ∷ row_field B ∷ [])))) where
     abbrev pub Ty' : Owning
     Ty' = V-type.the_type R B G
 
@@ -137,7 +139,8 @@ module _ {M : Type 1} {𝓤 : Ura M} (𝓛 : Logic 𝓤) (V R R' : RattleType) (
       alloc = d.alloc;
       items = k i;
       small = d.small;
-      ok = is_prop→PathP (λ j. (d.len ≡ length (k j)) × (d.len ≤ d.cap)) (λ j a b m. (ℕ_set _ _ a.0 b.0 m, le_prop a.1 b.1 m)) (vec_fill (vec_holed d hs k)).ok d.ok i;
+      ok = is_prop→PathP (λ j. (d.len ≡ length (k j)) × (d.len ≤ d.cap)) (λ j a b m. (ℕ_set _ _ a.0 b.0 m, le_prop a.1 b.1 m))
+          (vec_fill (vec_holed d hs k)).ok d.ok i;
     }
 
     pub words_share : Shares 𝓛 Words l
@@ -145,7 +148,8 @@ module _ {M : Type 1} {𝓤 : Ura M} (𝓛 : Logic 𝓤) (V R R' : RattleType) (
         (copy_shared RawPtr-field RawPtr-copy, (copy_shared usize-field usize-copy, (copy_shared usize-field usize-copy, (row_shared B LB, tt)))))
 
     pub bound_shares : (d : D) → Lends 𝓛 (bound d (size (lone R.mir))) (said (bound d (size (lone R'.mir)))) l
-    bound_shares d = subst (λ (k : ℕ). Lends 𝓛 (bound d k) (said (bound d (size (lone R'.mir)))) l) (sym same) (Lends-said 𝓛 (bound d (size (lone R'.mir))) tt l)
+    bound_shares d = subst (λ (k : ℕ). Lends 𝓛 (bound d k) (said (bound d (size (lone R'.mir)))) l) (sym same)
+        (Lends-said 𝓛 (bound d (size (lone R'.mir))) tt l)
 
     -- if its elements can be lent at holes, so can a `Vec`
     abbrev pub vec_opens : OpensAs 𝓛 V Vr (V-type.the_row R' B G) l
@@ -158,6 +162,7 @@ module _ {M : Type 1} {𝓤 : Ura M} (𝓛 : Logic 𝓤) (V R R' : RattleType) (
           (both (still 𝓛 V l (part_at Words full_share (to Ty' d) b o) (shared_of Words (to Ty' d) b o) (λ κ ts. words_share (to Ty' d) κ ts b o))
           (both (still 𝓛 V l (bound d (size (lone R.mir))) (said (bound d (size (lone R'.mir)))) (bound_shares d))
           (blk_opens (Spare d) d.len d.cap d.items d.ok.0 d.ok.1 d.ptr (eqb d.cap 0) (eqb→eq d.cap 0))))
-          (λ y k. vec_holed d y.1.1 k.1.1) (part_out 𝓛 Ty' full_share d b o) (λ ws. part_in 𝓛 Ty' full_share (vec_put d ws) b o) (zero-add _ ∙ zero-add _)
+          (λ y k. vec_holed d y.1.1 k.1.1) (part_out 𝓛 Ty' full_share d b o) (λ ws. part_in 𝓛 Ty' full_share (vec_put d ws) b o)
+          (zero-add _ ∙ zero-add _)
           (λ y k. refl) (λ y k. vec_filled d y.1.1 k.1.1) (λ y k κ. id⊢ 𝓤 _);
     }

@@ -4,7 +4,7 @@ use Prim.Native.Nat.{ℕ}
 use mathlib.Core.List.{List, [], ◌∷◌}
 use seplogic.Ra.Ura.{Ura}
 use base.Fml.{Lft, GName, Share, Incl, Incl-trans, ftrue, flft}
-use base.Logic.{SProp, ent, sep}
+use base.Logic.{SProp, ent}
 use contract.BorrowLft.{◌⊑◌}
 use contract.Lifetimes.{Lfts, Shares, AllOutlive}
 use contract.Monad.{Fun}
@@ -15,22 +15,23 @@ use prog.Memory.{Memory}
 use prog.Routine.{Routine}
 use prog.Wp.{Env, Calls, Loops, WpFn}
 use types.ByLocal.{alloc_all, pass_all, free_all, look_at, get, through, sets, sets_last, env}
-use types.Logic.{Logic, sem}
+use types.Logic.{Logic}
 use types.Mut.{open_ref}
 use types.Part.{agg}
 use types.Run.{stop, fld, of_opd, addr, and_then, no_more, first, blocks, exec, returns, enter}
-use types.Kit.{Item, ‵, raw, ◌⊛◌, some, later, given, await, pick, learn, at_ret, ◌$◌, ◌∵◌, !, qed, by, move, keep, use0, use1, use2, drop, split, split3, join, group, fsplit, fsplit3, fjoin, fpack, feq_i, suffices, frame, done}
+use types.Kit.{Item, ‵, raw, ◌⊛◌, some, later, given, await, pick, learn, at_ret, ◌$◌, ◌∵◌, !, qed, by, move, keep, use0, use1, drop, split, split3, join, group, fsplit, fsplit3, fjoin, feq_i, suffices, frame, done}
 use denote.Exit.{no}
 use denote.Memory.{mem}
 use denote.Opens.{hide}
 use denote.Param.{bounded}
 use denote.Param.Laws.{Laws}
-use denote.RattleType.{RattleType, owns, Valss}
+use denote.RattleType.{RattleType, owns}
 use denote.Ref.{Bor, MutBor, MutRef, ShrRef, mut_vals, mut_Tells}
 use denote.Signature.{plain, mut_ref_to, named_lft}
+use denote.Signature.Struct.{in_struct, makes}
 use denote.Steps.{nothing}
 use denote.Struct.Owning.{shape}
-use denote.Struct.Struct.{Shape, Struct, within}
+use denote.Struct.Struct.{Struct}
 use denote.Triple.Clauses.{Clauses, Ended}
 use denote.Triple.Entry.{on_entry}
 use denote.Triple.Walked.{says, Stays, stay_dropped, walk_of, ends_at, Goes-spent_ref}
@@ -54,19 +55,6 @@ use Rattle.intmap.proofs.LendMapLemmas.{Mr, Holed, table_place, map_opens}
 use Rattle.intmap_table.proofs.Lending.OpensPairLemmas.{V}
 use Rattle.intmap.proofs.map.IntMap.lend.Statement.{statement}
 use Rattle.intmap.proofs.map.IntMap.lend.Code as code
-
--- two values are a pair of them
-module _ (R S : RattleType) (x : R.Denot) (y : S.Denot) (u v : Val) {M : Type 1} {𝓤 : Ura M} (𝓛 : Logic 𝓤) where
-  abbrev pair : Shape
-  pair = record { name = []; args = []; types = []; fields = R ∷ S ∷ [] }
-
-  abbrev both : Val
-  both = vstruct (vcons u (vcons v vnil))
-
-  paired : ent 𝓤 (sep 𝓤 (sem 𝓛 (R.own_val x (u ∷ []))) (sem 𝓛 (S.own_val y (v ∷ [])))) (sem 𝓛 ((Struct pair).own_val (x, (y, tt)) (both ∷ [])))
-  paired =
-      qed 𝓛 (‵ (R.own_val x (u ∷ [])) ∷ ‵ (S.own_val y (v ∷ [])) ∷ []) ∵ nothing ! $ move ! (2 ∷ 0 ∷ []) $ fjoin ! $ move ! (1 ∷ 0 ∷ []) $ fjoin ! $
-      feq_i ! (List Val) (both ∷ []) (both ∷ []) refl $ fjoin ! $ fpack ! (Valss (R ∷ S ∷ [])) (within pair (x, (y, tt)) (both ∷ [])) (u ∷ [], (v ∷ [], tt)) $ done !
 
 module _ (K' V' A' : RattleType) (LK : Laws K') (LV : Laws V') (LA : Laws A')
     (g : key.Ghosts K'.Denot) (dg : Dict) (c : clone.Ghosts K'.Denot) (dc : Dict) (t : total.Ghosts K'.Denot) (dt : Dict) (e : eq.Ghosts K'.Denot) (de : Dict)
@@ -139,8 +127,11 @@ module _ (K' V' A' : RattleType) (LK : Laws K') (LV : Laws V') (LA : Laws A')
             split3 ! $ move ! (2 ∷ []) $ split ! $ move ! (3 ∷ []) $
             use0 𝓛 (‵ (Marks.own_val (tt, tt) (lent_value ∷ []))) (lent_value-made (named_lft 4 0 tt κs) (V V') 𝓛) $ fjoin ! $
             move ! (3 ∷ []) $ hide ! $ feq_i ! (List Val) (vptr mb at ∷ []) (vptr mb at ∷ []) refl $ fjoin ! $
-            use2 𝓛 (‵ ((Struct (pair (ShrRef (named 0) κ Holes) Right table lent (vptr mb at) lent_value 𝓛)).own_val (table, (lent, tt)) (both (ShrRef (named 0) κ Holes) Right table lent (vptr mb at) lent_value 𝓛 ∷ [])))
-            (paired (ShrRef (named 0) κ Holes) Right table lent (vptr mb at) lent_value 𝓛) $
+            -- both are a pair
+            let rows = ShrRef (named 0) κ Holes ∷ Right ∷ [] in
+            nothing ! $ move ! (2 ∷ 0 ∷ []) $ fjoin ! $ move ! (1 ∷ 0 ∷ []) $ fjoin ! $
+            use1 𝓛 (‵ (in_struct rows (vstruct (vcons (vptr mb at) (vcons lent_value vnil)) ∷ []) (owns rows (table, (lent, tt)))))
+            (makes 𝓛 rows (owns rows (table, (lent, tt))) (vptr mb at ∷ [], (lent_value ∷ [], tt))) $
             sets ! (addr ! (through ! refl (fld ! refl (stop !)))) refl (tt, tt) $ first ! $ blocks ! $ sets_last ! (addr ! (through ! refl (stop !))) refl (tt, tt) $
             exec ! C Λ En (after 2 function.body) (at_ret En Post) $ sets ! (of_opd ! (get ! refl)) refl (tt, tt) $ sets ! (agg ! (no_more !)) refl (tt, tt) $
             sets ! (agg ! (and_then ! (get ! refl) (no_more !))) refl (tt, (tt, tt)) $ sets ! (agg ! (and_then ! (get ! refl) (and_then ! (get ! refl) (no_more !)))) refl (tt, (tt, ((tt, tt), tt))) $
