@@ -1,5 +1,5 @@
 -- All old slots moved, one after another.
-use Rattle.std.proofs.Common.{◌≡◌, ◌≢◌, inl, inr, ℕ, ◌+◌, ◌*◌, ◌/◌, ◌%◌, ◌<◌, ◌≤◌, Bool, true, false, List, [], ◌∷◌, ◌++◌, length, get_or, set, replicate, refl, sym, ap, ◌∙◌, subst, arith, append-nil, length-set, get_or-set_same, get_or-set_other}
+use Rattle.std.proofs.Common.{◌≡◌, ◌≢◌, inl, inr, ℕ, ◌+◌, ◌*◌, ◌/◌, ◌%◌, ◌<◌, ◌≤◌, Bool, true, false, List, [], ◌∷◌, ◌++◌, length, get_or, set, replicate, refl, sym, ap, ◌∙◌, arith, append-nil, length-set, get_or-set_same, get_or-set_other}
 use Rattle.std.specs.Prelude.{nat_lt, ◌==◌, ◌||◌}
 use Rattle.std.specs.List.{list_any}
 use Rattle.std.proofs.lemmas.Bool.{eq-eqb, ne_eqb, cases_eq}
@@ -9,14 +9,14 @@ use Rattle.intmap_table.specs.Classes.{IsCapacity, slot_number}
 use Rattle.intmap_table.specs.Walk.{slot_of}
 use Rattle.intmap_table.specs.Tables.Bits.{marked, marked_indices}
 use Rattle.intmap_table.specs.Tables.Slots.{Held, rows, AreMarked}
-use Rattle.intmap_table.specs.Tables.Moves.{rooms, IsGrown, bare_slot, IsOldRows, IsPlaced, need, CanLeave, CanMove, CanMoveOn, AreSet}
+use Rattle.intmap_table.specs.Tables.Moves.{rooms, IsGrown, bare_slot, IsOldRows, need, ArePut, AreFree, CanMove, AreMovedFrom, CanMoveOn}
 use Rattle.intmap_table.proofs.SlotNumberLemmas.{slot_number-below}
 use Rattle.intmap_table.proofs.Tables.TableLemmas.{length-rows, room-set_other}
 use Rattle.intmap_table.proofs.Tables.MarkedLemmas.{get_or-of_default}
 use Rattle.intmap_table.proofs.Tables.FilledLemmas.{row-unmarked}
 use Rattle.intmap_table.proofs.Tables.CountLemmas.{AreLeft, AreLeft-marked, AreLeft-rest, first-apart, list_any-past}
 use Rattle.intmap_table.proofs.Tables.GrownLemmas.{modulo-below, grown-more, filter_none, slot_of-apart, part-of}
-use Rattle.intmap_table.proofs.Tables.RoomLemmas.{CanLeave-same, HasRoom-leave}
+use Rattle.intmap_table.proofs.Tables.RoomLemmas.{CanLeave-same, need-most, room-emptied}
 use Rattle.intmap_table.proofs.Tables.PutLemmas.{or-false}
 
 -- these old slots are left, each with pairs; no part of them is marked, and a part of another exactly if it got a pair
@@ -86,30 +86,41 @@ module _ {K X : Type 0} (number : K → ℕ) (R : List (List (K × X))) (C D lon
     -- and its pairs can be moved
     pub CanMove-moved : (buffer : ℕ) → longest ≤ buffer → CanMove number S bits index buffer
     CanMove-moved buffer enough =
-        let len : length S ≡ D = before.can.midway.len in
-        let own = is.own index index-old in
-        let free : (j : ℕ) → j < length S → j % C ≡ index → get_or (rows (set S index bare_slot)) j [] ≡ [] = λ j lt part.
-        ap (λ (T : List (List (K × X))). get_or T j []) (map-set (λ (h : Held K X). h.pairs) S index bare_slot) ∙ free-row j (omega (arith, lt, len)) part in
-        let part : (j : ℕ) → 0 < need number (get_or R index []) (length S) j → j % C ≡ index = rw len (λ j some. part-of number C D grown (get_or R index []) index j own some) in
-        let leave : CanLeave number (rooms S) (get_or R index []) C (length S) index = rw len (before.can.leave index index-old (let e : (index == index) ≡ true = eq-eqb index index refl in simp e)) in
+        let L = get_or R index [] in
+        let len : length (set S index bare_slot) ≡ D = length-set S index bare_slot ∙ before.can.midway.len in
+        let row = map-set (λ (h : Held K X). h.pairs) S index bare_slot in
+        let can = before.can.leave index index-old (let e : (index == index) ≡ true = eq-eqb index index refl in simp e) in
+        let part : (j : ℕ) → 0 < need number L D j → j % C ≡ index = λ j some. part-of number C D grown L index j (is.own index index-old) some in
+        let free : AreFree number (set (rows S) index []) L D = λ j lt some. free-row j lt (part j some) in
         record {
-          capacity = rw len grown.new;
-          words = (let w = before.words in omega (arith, w, len));
           within = index-slot;
           enough = (let few = before.can.short index index-old in let r = ap length row-moved in omega (arith, few, r, enough));
-          leave = (leave.x, rw row-moved (HasRoom-leave number S (get_or R index []) C index (subst (λ d. IsGrown C d) (sym len) grown) index-slot own free leave));
-          free = rw row-moved (record {
-            empty = rw (length-set S index bare_slot) (λ j lt some. free j lt (part j some));
-            unmarked = rw (length-set S index bare_slot) (λ j _ some. before.bare j (here j (part j some)));
+          free = rw (row-moved, before.can.midway.len) free;
+          can = rw row-moved (record {
+            capacity = rw len grown.new;
+            words = rw len (let w = before.words in omega (arith, w));
+            told = rw (len, row) (λ j lt some.
+                before.bare j (here j (part j some)) ∙ sym (ap (λ (ps : List (K × X)). nat_lt 0 (length ps)) (free j lt some)));
+            x = can.x;
+            room = rw (len, row) (λ j lt some.
+                let none = ap length (free j lt some) in let most = need-most number L D j in let fits = can.fits in
+                let room = room-emptied number S index j index-slot in let has = can.room j lt (part j some) in
+                grind (arith, none, most, fits, room, has));
           });
         }
 
-    module _ (T : List (Held K X)) (bits' : List Bool) (h : Held K X) (none : h.pairs ≡ []) (placed : IsPlaced number (set S index h) (get_or R index []) T) (marks : AreSet number bits (get_or R index []) D bits') where
-      len-set : length (set S index h) ≡ D
-      len-set = length-set S index h ∙ before.can.midway.len
+    module _ (T : List (Held K X)) (bits' : List Bool) (n n' : ℕ) (moved : AreMovedFrom number S bits n index T bits' n') where
+      put : ArePut number (set S index moved.left) bits n (get_or R index []) T bits' n'
+      put = rw row-moved at moved.put
+
+      len-set : length (set S index moved.left) ≡ D
+      len-set = length-set S index moved.left ∙ before.can.midway.len
 
       pairs : (j : ℕ) → j < D → get_or (rows T) j [] ≡ get_or (set (rows S) index []) j [] ++ slot_of number (get_or R index []) D j
-      pairs j lt = rw (len-set, map-set (λ (s : Held K X). s.pairs) S index h, none) at (placed.pairs j (omega (arith, lt, len-set)))
+      pairs j lt = (rw (len-set, map-set (λ (s : Held K X). s.pairs) S index moved.left, moved.none) at put.pairs) j lt
+
+      mark : (j : ℕ) → marked bits' j ≡ (marked bits j || nat_lt 0 (need number (get_or R index []) D j))
+      mark = rw len-set at put.set_at
 
       not-place : (j : ℕ) → j % C ≢ index → j ≢ index
       not-place j apart q = apart (ap (λ n. n % C) q ∙ modulo-below C index index-old)
@@ -125,10 +136,10 @@ module _ {K X : Type 0} (number : K → ℕ) (R : List (List (K × X))) (C D lon
 
       other-room : (j : ℕ) → j < D → j % C ≢ index → get_or (rooms T) j 0 ≡ get_or (rooms S) j 0
       other-room j lt apart =
-          placed.rooms j (omega (arith, lt, len-set)) (rw len-set (other j apart)) ∙ room-set_other S index h j (not-place j apart)
+          (rw len-set at put.rooms) j lt (other j apart) ∙ room-set_other S index moved.left j (not-place j apart)
 
       other-mark : (j : ℕ) → j % C ≢ index → marked bits' j ≡ marked bits j
-      other-mark j apart = marks.set_at j ∙ ap (λ (L : List (K × X)). marked bits j || nat_lt 0 (length L)) (other j apart) ∙ or-false (marked bits j)
+      other-mark j apart = mark j ∙ ap (λ (L : List (K × X)). marked bits j || nat_lt 0 (length L)) (other j apart) ∙ or-false (marked bits j)
 
       past : (k : ℕ) → index ≢ k → list_any (λ i. i == k) (index ∷ rest) ≡ list_any (λ i. i == k) rest
       past k apart = list_any-past index k rest apart
@@ -142,7 +153,7 @@ module _ {K X : Type 0} (number : K → ℕ) (R : List (List (K × X))) (C D lon
         at = AreLeft-rest R index rest before.at;
         can = record {
           midway = record {
-            len = placed.len ∙ len-set;
+            len = put.len ∙ len-set;
             old = λ j lt found. let apart = apart-from (j % C) found in other-row j lt apart ∙ before.can.midway.old j lt (past (j % C) (λ q. apart (sym q)) ∙ found);
             moved = λ j lt missed. elim (cases_eq (j % C) index) as (λ _. get_or (rows T) j [] ≡ slot_of number (get_or R (j % C) []) D j) [
               | inl part ↦ rw part (pairs j lt ∙ ap (λ L. L ++ slot_of number (get_or R index []) D j) (free-row j lt part))
@@ -155,10 +166,10 @@ module _ {K X : Type 0} (number : K → ℕ) (R : List (List (K × X))) (C D lon
               (before.can.leave k lt (past k (λ q. apart (sym q)) ∙ found));
           short = before.can.short;
         };
-        words = marks.len ∙ before.words;
+        words = put.words ∙ before.words;
         bare = λ j found. let apart = apart-from (j % C) found in other-mark j apart ∙ before.bare j (past (j % C) (λ q. apart (sym q)) ∙ found);
         told = λ j missed. elim (cases_eq (j % C) index) as (λ _. marked bits' j ≡ nat_lt 0 (need number (get_or R (j % C) []) D j)) [
-          | inl part ↦ rw part (marks.set_at j ∙ ap (λ b. b || nat_lt 0 (need number (get_or R index []) D j)) (before.bare j (here j part)))
+          | inl part ↦ rw part (mark j ∙ ap (λ b. b || nat_lt 0 (need number (get_or R index []) D j)) (before.bare j (here j part)))
           | inr apart ↦ other-mark j apart ∙ before.told j (past (j % C) (λ q. apart (sym q)) ∙ missed)
         ];
       }

@@ -1,5 +1,5 @@
 -- Pairs put at the ends of their slots, one after another, and the marks of these slots.
-use Rattle.std.proofs.Common.{◌≡◌, ◌≢◌, ◌⊎◌, inl, inr, ℕ, ◌+◌, ◌<◌, Bool, true, false, List, [], ◌∷◌, ◌++◌, length, get_or, set, refl, sym, ap, ◌∙◌, arith, append-nil, length-append, length-set, get_or-set_same, get_or-set_other}
+use Rattle.std.proofs.Common.{◌≡◌, ◌≢◌, ◌⊎◌, inl, inr, ℕ, ◌+◌, ◌<◌, Bool, true, false, List, [], ◌∷◌, ◌++◌, length, get_or, set, refl, sym, ap, ◌∙◌, subst, arith, append-nil, append_assoc, length-append, length-set, get_or-set_same, get_or-set_other}
 use Rattle.std.specs.Prelude.{nat_lt, ◌||◌, ◌==◌}
 use Rattle.std.proofs.lemmas.List.{map-set, get_or-map}
 use Rattle.std.proofs.lemmas.List.Elements.{filter-append}
@@ -9,10 +9,12 @@ use Rattle.intmap_table.specs.Classes.{slot_number}
 use Rattle.intmap_table.specs.Walk.{slot_of}
 use Rattle.intmap_table.specs.Tables.Bits.{marked}
 use Rattle.intmap_table.specs.Tables.Slots.{Held, rows}
-use Rattle.intmap_table.specs.Tables.Moves.{rooms, bare_slot, need, IsPlaced, IsPut, AreSet, AreTold, AreFree}
+use Rattle.intmap_table.specs.Tables.Moves.{rooms, bare_slot, need, ArePut, CanPut, AreFree}
+use Rattle.intmap_table.proofs.SlotNumberLemmas.{slot_number-below}
 use Rattle.intmap_table.proofs.Tables.TableLemmas.{get_or-rows, row-set, room-set, row-set_other, room-set_other}
 use Rattle.intmap_table.proofs.Tables.FilledLemmas.{filled-pushed}
-use Rattle.intmap_table.proofs.Tables.RoomLemmas.{slot_of-not_first, need-less, length-first}
+use Rattle.intmap_table.proofs.Tables.GrownLemmas.{no_length}
+use Rattle.intmap_table.proofs.Tables.RoomLemmas.{slot_of-not_first, length-first, need-most}
 
 module _ {K X : Type 0} (S : List (Held K X)) (j : ℕ) (d : Held K X) (within : j < length S) where
   -- the row of a slot
@@ -23,76 +25,6 @@ module _ {K X : Type 0} (S : List (Held K X)) (j : ℕ) (d : Held K X) (within :
   pub room-before : get_or (rooms S) j 0 ≡ (get_or S j d).room
   room-before = get_or-map (λ (h : Held K X). h.room) S j d 0 within
 
-module _ {K X : Type 0} (S : List (Held K X)) (j : ℕ) (d s : Held K X) (p : K × X) (within : j < length S) (pairs : s.pairs ≡ (get_or S j d).pairs ++ p ∷ []) where
-  row-after : get_or (rows (set S j s)) j [] ≡ get_or (rows S) j [] ++ p ∷ []
-  row-after = row-set S j s within ∙ pairs ∙ ap (λ ps. ps ++ p ∷ []) (sym (row-before S j d within))
-
-  -- a pair that was put into a slot without others, or into its own room
-  pub IsPut-kept : (block : ℕ) → (length (get_or S j d).pairs ≡ 0) ⊎ ((get_or S j d).room ≢ 1) → s.room ≡ (get_or S j d).room → IsPut S j block p (set S j s) block
-  IsPut-kept block first same =
-      let how : (length (get_or (rows S) j []) ≡ 0) ⊎ (get_or (rooms S) j 0 ≢ 1) = rw (row-before S j d within, room-before S j d within) first in
-      record {
-        len = length-set S j s;
-        row = row-after;
-        others = row-set_other S j s;
-        other_rooms = room-set_other S j s;
-        how = inl (how, room-set S j s within ∙ same ∙ sym (room-before S j d within), refl);
-      }
-
-  -- a pair that was put behind others into the block at hand
-  pub IsPut-lent : (block left : ℕ) → 0 < length (get_or S j d).pairs → (get_or S j d).room ≡ 1 → s.room ≡ 1 + block → IsPut S j block p (set S j s) left
-  IsPut-lent block left some bare made =
-      let filled : 0 < length (get_or (rows S) j []) = rw (row-before S j d within) some in
-      record {
-        len = length-set S j s;
-        row = row-after;
-        others = row-set_other S j s;
-        other_rooms = room-set_other S j s;
-        how = inr (filled, room-before S j d within ∙ bare, room-set S j s within ∙ made);
-      }
-
-module _ {K X : Type 0} (number : K → ℕ) where
-  -- placing no pair leaves the slots
-  pub IsPlaced-none : (S : List (Held K X)) → IsPlaced number S [] S
-  IsPlaced-none S = record { len = refl; pairs = λ j _. sym (append-nil (get_or (rows S) j [])); rooms = λ j _ _. refl }
-
-  -- a further pair in front needs no less
-  need-more : (p : K × X) (M : List (K × X)) (D j : ℕ) → 0 < need number M D j → 0 < need number (p ∷ M) D j
-  need-more p M D j some = grind (arith, some)
-
-  -- and others behind it neither
-  need-first : (p : K × X) (M : List (K × X)) (D j : ℕ) → 0 < need number (p ∷ []) D j → 0 < need number (p ∷ M) D j
-  need-first p M D j some = let less = need-less number p M D j in omega (arith, less, some)
-
-  -- if no slot that they go to holds a pair, and none is marked, they are told
-  pub AreTold-free : (S : List (Held K X)) (L : List (K × X)) (bits : List Bool) → AreFree number S L bits → AreTold number S L bits
-  AreTold-free S L bits are = record { told = λ j below some. are.unmarked j below some ∙ sym (ap (λ ps. nat_lt 0 (length ps)) (are.empty j below some)) }
-
-  -- whatever room the slot has that the pairs were removed from
-  pub AreFree-left : (S : List (Held K X)) (i : ℕ) (h : Held K X) (L : List (K × X)) (bits : List Bool) → h.pairs ≡ [] → AreFree number (set S i bare_slot) L bits → AreFree number (set S i h) L bits
-  AreFree-left S i h L bits none are =
-      let len : length (set S i h) ≡ length (set S i bare_slot) = length-set S i h ∙ sym (length-set S i bare_slot) in
-      let same : rows (set S i h) ≡ rows (set S i bare_slot) =
-      map-set (λ (s : Held K X). s.pairs) S i h ∙ ap (λ ps. set (rows S) i ps) none ∙ sym (map-set (λ (s : Held K X). s.pairs) S i bare_slot) in
-      record {
-        empty = rw (len, same) are.empty;
-        unmarked = rw len are.unmarked;
-      }
-
-  -- if the marks agree for these pairs, they agree for the first of them
-  pub AreTold-first : (S : List (Held K X)) (p : K × X) (M : List (K × X)) (bits : List Bool) → AreTold number S (p ∷ M) bits → AreTold number S (p ∷ []) bits
-  AreTold-first S p M bits are = record { told = λ j below some. are.told j below (need-first p M (length S) j some) }
-
-  -- and of the others once it is put and its slot marked
-  pub AreTold-put : (S T : List (Held K X)) (p : K × X) (M : List (K × X)) (bits : List Bool) (block left j : ℕ) → slot_number number p.0 (length S) ≡ j → j < length bits
-      → AreTold number S (p ∷ M) bits → IsPut S j block p T left → AreTold number T M (set bits j true)
-  AreTold-put S T p M bits block left j is below are put = record {
-    told = rw put.len (λ i lt some. elim (cases_eq i j) as (λ _. marked (set bits j true) i ≡ nat_lt 0 (length (get_or (rows T) i []))) [
-      | inl q ↦ rw q (get_or-set_same bits j true false below ∙ sym (ap (λ ps. nat_lt 0 (length ps)) put.row ∙ filled-pushed (get_or (rows S) j []) p))
-      | inr apart ↦ get_or-set_other bits j i true false apart ∙ are.told i lt (need-more p M (length S) i some) ∙ ap (λ ps. nat_lt 0 (length ps)) (sym (put.others i apart))
-    ]);
-  }
-
 -- slots with the same pairs and as much room are the same
 pub Held-same : {K X : Type 0} (s t : Held K X) → s.pairs ≡ t.pairs → s.room ≡ t.room → s ≡ t
 Held-same s t pairs room = ap (λ ps. record s { pairs = ps }) pairs ∙ ap (λ n. record t { room = n }) room
@@ -100,26 +32,138 @@ Held-same s t pairs room = ap (λ ps. record s { pairs = ps }) pairs ∙ ap (λ 
 pub or-false : (b : Bool) → (b || false) ≡ b
 or-false b = grind arith
 
-module _ {K X : Type 0} (number : K → ℕ) (D : ℕ) where
-  -- no pair sets no mark
-  pub AreSet-none : (bits : List Bool) → AreSet {X = X} number bits [] D bits
-  AreSet-none bits = record { len = refl; set_at = λ j. sym (or-false (marked bits j)) }
+-- what a slot with so many pairs and this room has once it got one more: a slot with a pair and no block took the current block first
+abbrev HasTaken : ℕ → ℕ → ℕ → ℕ → ℕ → Type 0
+HasTaken held room now block left = (((held ≡ 0) ⊎ (room ≢ 1)) × (now ≡ room) × (left ≡ block)) ⊎ ((0 < held) × (room ≡ 1) × (now ≡ 1 + block))
 
-  -- marks set one after another are set together
-  pub AreSet-more : (bits bits' bits'' : List Bool) (L M : List (K × X)) → AreSet number bits L D bits' → AreSet number bits' M D bits'' → AreSet number bits (L ++ M) D bits''
-  AreSet-more bits bits' bits'' L M first more = record {
-    len = more.len ∙ first.len;
-    set_at = λ j.
-        let sum : need number (L ++ M) D j ≡ need number L D j + need number M D j =
-        ap length (filter-append (λ p. slot_number number p.0 D == j) L M) ∙ length-append (slot_of number L D j) (slot_of number M D j) in
-        let last = more.set_at j in let before = first.set_at j in grind (arith, nat_tests, sum, last, before);
+-- a pair was put at the end of slot j
+pub record IsPut {K X : Type 0} (S : List (Held K X)) (j block : ℕ) (p : K × X) (T : List (Held K X)) (left : ℕ) : Type 0 where
+  pub len : length T ≡ length S
+  pub row : get_or (rows T) j [] ≡ get_or (rows S) j [] ++ p ∷ []
+  pub others : (i : ℕ) → i ≢ j → get_or (rows T) i [] ≡ get_or (rows S) i []
+  pub other_rooms : (i : ℕ) → i ≢ j → get_or (rooms T) i 0 ≡ get_or (rooms S) i 0
+  pub how : HasTaken (length (get_or (rows S) j [])) (get_or (rooms S) j 0) (get_or (rooms T) j 0) block left
+
+pub IsPut-set : {K X : Type 0} (S : List (Held K X)) (j block left : ℕ) (d s : Held K X) (p : K × X) → j < length S
+    → s.pairs ≡ (get_or S j d).pairs ++ p ∷ []
+    → HasTaken (length (get_or S j d).pairs) (get_or S j d).room s.room block left → IsPut S j block p (set S j s) left
+IsPut-set S j block left d s p below pairs how = record {
+  len = length-set S j s;
+  row = row-set S j s below ∙ pairs ∙ ap (λ ps. ps ++ p ∷ []) (sym (row-before S j d below));
+  others = row-set_other S j s;
+  other_rooms = room-set_other S j s;
+  how = rw (row-before S j d below, room-before S j d below, room-set S j s below) how;
+}
+
+module _ {K X : Type 0} (number : K → ℕ) where
+  module _ (S : List (Held K X)) (p : K × X) (M : List (K × X)) (marks : List Bool) (block j : ℕ)
+      (is : slot_number number p.0 (length S) ≡ j) (can : CanPut number S marks (p ∷ M) block) where
+    below : j < length S
+    below = subst (λ i. i < length S) is (slot_number-below number p.0 (length S) can.capacity)
+
+    below-marks : j < length marks
+    below-marks = let b = below in let w = can.words in omega (arith, b, w)
+
+    one : need number (p ∷ M) (length S) j ≡ need number M (length S) j + 1
+    one = length-first number p M (length S) j is
+
+    -- the slot of the next pair is marked exactly if it holds a pair
+    pub told-at : (d : Held K X) → marked marks j ≡ nat_lt 0 (length (get_or S j d).pairs)
+    told-at d = let n = one in can.told j below (omega (arith, n)) ∙ ap (λ ps. nat_lt 0 (length ps)) (row-before S j d below)
+
+    -- it has room for the pair, or the current block has
+    pub room-at : (d : Held K X) → let h = get_or S j d in (length h.pairs < h.room) ⊎ ((h.room ≡ 1) × (length h.pairs < 1 + block))
+    room-at d =
+        let n = one in let row = ap length (row-before S j d below) in let room = room-before S j d below in
+        let has = can.room j below (omega (arith, n)) in grind (arith, n, row, room, has)
+
+    -- once the pair is put, and its slot marked, the others still can
+    pub CanPut-put : (T : List (Held K X)) (left : ℕ) → IsPut S j block p T left → CanPut number T (set marks j true) M left
+    CanPut-put T left put = record {
+      capacity = rw put.len can.capacity;
+      words = rw (put.len, length-set marks j true) can.words;
+      told = rw put.len (λ i lt some. elim (cases_eq i j) as (λ _. marked (set marks j true) i ≡ nat_lt 0 (length (get_or (rows T) i []))) [
+        | inl q ↦
+            (let filled = ap (λ ps. nat_lt 0 (length ps)) put.row ∙ filled-pushed (get_or (rows S) j []) p in
+            rw q (get_or-set_same marks j true false below-marks ∙ sym filled))
+        | inr apart ↦
+            (let told = can.told i lt (grind (arith, some)) in
+            get_or-set_other marks j i true false apart ∙ told ∙ ap (λ ps. nat_lt 0 (length ps)) (sym (put.others i apart)))
+      ]);
+      x = can.x;
+      room = rw put.len (λ i lt some.
+          let n = one in let first = can.room j below (omega (arith, n)) in let fits = can.room i lt in
+          let needs = slot_of-not_first number p M (length S) i in let longer = ap length put.row ∙ length-append (get_or (rows S) j []) (p ∷ []) in
+          let row = put.others i in let room = put.other_rooms i in let how = put.how in
+          grind (arith, is, some, first, fits, needs, row, room, how, n, longer));
+    }
+
+    -- and the pair is put
+    pub ArePut-put : (T : List (Held K X)) (left n : ℕ) → IsPut S j block p T left → ArePut number S marks n (p ∷ []) T (set marks j true) (n + 1)
+    ArePut-put T left n put = record {
+      len = put.len;
+      pairs = λ i lt.
+          let own = put.row in let others = put.others i in let nil = append-nil (get_or (rows S) i []) in
+          grind (arith, nat_tests, is, own, others, nil);
+      rooms = λ i lt none. put.other_rooms i (λ q. let n = ap length none in grind (arith, nat_tests, is, q, n));
+      words = length-set marks j true;
+      set_at = λ i.
+          let same = get_or-set_same marks j true false below-marks in let other = get_or-set_other marks j i true false in
+          let alone = length-first number p [] (length S) j is in let none = slot_of-not_first number p [] (length S) i in
+          grind (arith, nat_tests, is, same, other, alone, none);
+      counted = refl;
+    }
+
+  -- to put no pair changes nothing
+  pub ArePut-none : (S : List (Held K X)) (marks : List Bool) (n : ℕ) → ArePut number S marks n [] S marks n
+  ArePut-none S marks n = record {
+    len = refl;
+    pairs = λ j _. sym (append-nil (get_or (rows S) j []));
+    rooms = λ j _ _. refl;
+    words = refl;
+    set_at = λ j. sym (or-false (marked marks j));
+    counted = omega arith;
   }
 
-  -- the mark of the slot of a pair
-  pub AreSet-put : (bits : List Bool) (p : K × X) (j : ℕ) → slot_number number p.0 D ≡ j → j < length bits → AreSet number bits (p ∷ []) D (set bits j true)
-  AreSet-put bits p j is below = record {
-    len = length-set bits j true;
-    set_at = λ i.
-        let same = get_or-set_same bits j true false below in let other = get_or-set_other bits j i true false in
-        let one = length-first number p [] D j is in let none = slot_of-not_first number p [] D i in grind (arith, nat_tests, is, same, other, one, none);
-  }
+  -- pairs that are put after others are put together
+  pub ArePut-more : {S T : List (Held K X)} {m m' : List Bool} {n n' : ℕ} {L M : List (K × X)} (U : List (Held K X)) (m'' : List Bool) (n'' : ℕ)
+      → ArePut number S m n L T m' n' → ArePut number T m' n' M U m'' n'' → ArePut number S m n (L ++ M) U m'' n''
+  ArePut-more {S} {T} {m} {m'} {n} {n'} {L} {M} U m'' n'' first more =
+      let D = length S in
+      let both : (j : ℕ) → slot_of number (L ++ M) D j ≡ slot_of number L D j ++ slot_of number M D j =
+      λ j. filter-append (λ p. slot_number number p.0 D == j) L M in
+      let sum : (j : ℕ) → need number (L ++ M) D j ≡ need number L D j + need number M D j =
+      λ j. ap length (both j) ∙ length-append (slot_of number L D j) (slot_of number M D j) in
+      record {
+        len = more.len ∙ first.len;
+        pairs = λ j below.
+            rw ((rw first.len at more.pairs) j below, first.pairs j below, both j)
+            (append_assoc (get_or (rows S) j []) (slot_of number L D j) (slot_of number M D j));
+        rooms = λ j below none.
+            let no = sym (sum j) ∙ ap length none in
+            (rw first.len at more.rooms) j below (no_length (slot_of number M D j) (omega (arith, no)))
+            ∙ first.rooms j below (no_length (slot_of number L D j) (omega (arith, no)));
+        words = more.words ∙ first.words;
+        set_at = λ j.
+            let s = sum j in let last = (rw first.len at more.set_at) j in let before = first.set_at j in grind (arith, nat_tests, s, last, before);
+        counted = let a = first.counted in let b = more.counted in omega (arith, a, b, length-append L M);
+      }
+
+  -- a lone pair can be put into a slot that holds none without a block, whatever room the slot has that it was removed from
+  pub CanPut-lone : (S : List (Held K X)) (i : ℕ) (h : Held K X) (p : K × X) (marks : List Bool) (given block : ℕ) → h.pairs ≡ [] → 0 < h.room
+      → AreFree number (set (rows S) i []) (p ∷ []) (length S) → CanPut number (set S i bare_slot) marks (p ∷ []) given
+      → CanPut number (set S i h) marks (p ∷ []) block
+  CanPut-lone S i h p marks given block none some_room free can =
+      let n = length-set S i h in let m = length-set S i bare_slot in
+      let row : (s : Held K X) → rows (set S i s) ≡ set (rows S) i s.pairs = λ s. map-set (λ (t : Held K X). t.pairs) S i s in
+      record {
+        capacity = rw n (rw m at can.capacity);
+        words = rw n (rw m at can.words);
+        told = rw (n, row h, none) (rw (m, row bare_slot) at can.told);
+        x = 0;
+        room = rw (n, row h, none) (λ j lt some.
+            let most = need-most number (p ∷ []) (length S) j in let empty = ap length (free j lt some) in
+            let fits = (rw (m, row bare_slot) at can.room) j lt some in
+            let own = room-set S i h in let other = room-set_other S i h j in let bare = room-set_other S i bare_slot j in
+            inl (grind (arith, lt, most, empty, some_room, own, other, bare, fits)));
+      }

@@ -1,5 +1,5 @@
 -- Growth of a table within its own vector of slots: the first slots are the old ones. No public clause cites this module.
-use Rattle.std.specs.Prelude.{◌≡◌, ◌≢◌, ◌⊎◌, ◌||◌, ◌==◌, ℕ, ◌+◌, ◌-◌, ◌*◌, ◌/◌, ◌%◌, ◌^◌, ◌<◌, ◌≤◌, nat_lt, Bool, true, false, cond, All, List, [], ◌∷◌, ◌++◌, length, map, get_or, set, take, count_by}
+use Rattle.std.specs.Prelude.{◌≡◌, ◌⊎◌, ◌||◌, ◌==◌, ℕ, ◌+◌, ◌-◌, ◌*◌, ◌/◌, ◌%◌, ◌^◌, ◌<◌, ◌≤◌, nat_lt, Bool, true, false, cond, All, List, [], ◌++◌, length, map, get_or, set, take, count_by}
 use Rattle.std.specs.List.{list_any}
 use Rattle.intmap_table.specs.Classes.{IsCapacity, slot_number}
 use Rattle.intmap_table.specs.Walk.{slot_of}
@@ -46,12 +46,6 @@ module _ {K X : Type 0} (number : K → ℕ) where
     pub old : (j : ℕ) → j < D → list_any (λ k. k == j % C) left ≡ true → get_or (rows S) j [] ≡ get_or R j []
     pub moved : (j : ℕ) → j < D → list_any (λ k. k == j % C) left ≡ false → get_or (rows S) j [] ≡ slot_of number (get_or R (j % C) []) D j
 
-  -- the pairs are at the ends of their slots, in their order, and each slot that got none has the room that it had
-  pub record IsPlaced (S : List (Held K X)) (L : List (K × X)) (T : List (Held K X)) : Type 0 where
-    pub len : length T ≡ length S
-    pub pairs : (j : ℕ) → j < length S → get_or (rows T) j [] ≡ get_or (rows S) j [] ++ slot_of number L (length S) j
-    pub rooms : (j : ℕ) → j < length S → slot_of number L (length S) j ≡ [] → get_or (rooms T) j 0 ≡ get_or (rooms S) j 0
-
   -- how many of the pairs go to slot j of D
   abbrev pub need : List (K × X) → ℕ → ℕ → ℕ
   need L D j = length (slot_of number L D j)
@@ -60,8 +54,24 @@ module _ {K X : Type 0} (number : K → ℕ) where
   abbrev pub in_part : List (K × X) → ℕ → ℕ → ℕ → ℕ
   in_part L C D t = count_by (λ p. slot_number number p.0 D / C == t) L
 
-  -- each slot that gets a pair has room for all that it gets, except slot x, which may have no block: the current block, whose room is given, is large enough for it
-  pub record HasRoom (S : List (Held K X)) (L : List (K × X)) (block x : ℕ) : Type 0 where
+  -- the pairs are at the ends of their slots, in their order, these slots are marked, and each pair is counted
+  -- a slot that got none has the room that it had
+  pub record ArePut (S : List (Held K X)) (marks : List Bool) (n : ℕ) (L : List (K × X)) (T : List (Held K X)) (marks' : List Bool) (n' : ℕ)
+      : Type 0 where
+    pub len : length T ≡ length S
+    pub pairs : (j : ℕ) → j < length S → get_or (rows T) j [] ≡ get_or (rows S) j [] ++ slot_of number L (length S) j
+    pub rooms : (j : ℕ) → j < length S → slot_of number L (length S) j ≡ [] → get_or (rooms T) j 0 ≡ get_or (rooms S) j 0
+    pub words : length marks' ≡ length marks
+    pub set_at : (j : ℕ) → marked marks' j ≡ (marked marks j || nat_lt 0 (need L (length S) j))
+    pub counted : n' ≡ n + length L
+
+  -- the pairs can be put there one after another: a slot that gets some is marked exactly if it holds a pair, and has room for all of them
+  -- slot x may have no block: the current block, whose room is given, is large enough for it
+  pub record CanPut (S : List (Held K X)) (marks : List Bool) (L : List (K × X)) (block : ℕ) : Type 0 where
+    pub capacity : IsCapacity (length S)
+    pub words : length S ≤ length marks
+    pub told : (j : ℕ) → j < length S → 0 < need L (length S) j → marked marks j ≡ nat_lt 0 (length (get_or (rows S) j []))
+    pub x : ℕ
     pub room : (j : ℕ) → j < length S → 0 < need L (length S) j
         → (length (get_or (rows S) j []) + need L (length S) j ≤ get_or (rooms S) j 0)
         ⊎ ((j ≡ x) × (get_or (rooms S) j 0 ≡ 1) × (length (get_or (rows S) j []) + need L (length S) j ≤ 1 + block))
@@ -78,39 +88,24 @@ module _ {K X : Type 0} (number : K → ℕ) where
     pub leave : (k : ℕ) → k < C → list_any (λ i. i == k) left ≡ true → CanLeave (rooms S) (get_or R k []) C D k
     pub short : (k : ℕ) → k < C → length (get_or R k []) ≤ 1 + longest
 
-  -- the marks of slots of D that get one of these pairs are set, and no other is changed
-  pub record AreSet (marks : List Bool) (L : List (K × X)) (D : ℕ) (new : List Bool) : Type 0 where
-    pub len : length new ≡ length marks
-    pub set_at : (j : ℕ) → marked new j ≡ (marked marks j || nat_lt 0 (need L D j))
+  -- in none of the rows of the slots of D that these pairs go to is a pair
+  abbrev pub AreFree : List (List (K × X)) → List (K × X) → ℕ → Type 0
+  AreFree R L D = (j : ℕ) → j < D → 0 < need L D j → get_or R j [] ≡ []
 
-  -- in the slots that these pairs go to, a slot is marked exactly if it holds a pair
-  pub record AreTold (S : List (Held K X)) (L : List (K × X)) (marks : List Bool) : Type 0 where
-    pub told : (j : ℕ) → j < length S → 0 < need L (length S) j → marked marks j ≡ nat_lt 0 (length (get_or (rows S) j []))
-
-  -- in the slots that these pairs go to, no slot holds a pair, and none is marked
-  pub record AreFree (S : List (Held K X)) (L : List (K × X)) (marks : List Bool) : Type 0 where
-    pub empty : (j : ℕ) → j < length S → 0 < need L (length S) j → get_or (rows S) j [] ≡ []
-    pub unmarked : (j : ℕ) → j < length S → 0 < need L (length S) j → marked marks j ≡ false
-
-  -- the pairs of old slot k can be moved to the ends of their slots, with a buffer for so many behind the first
+  -- the pairs of old slot k can be put into slots that hold none, with a buffer for so many behind the first
   pub record CanMove (S : List (Held K X)) (marks : List Bool) (k buffer : ℕ) : Type 0 where
-    pub capacity : IsCapacity (length S)
-    pub words : length S ≤ length marks
     pub within : k < length S
     pub enough : length (get_or (rows S) k []) ≤ 1 + buffer
-    pub leave : (x : ℕ) × HasRoom (set S k bare_slot) (get_or (rows S) k []) (get_or (rooms S) k 0 - 1) x
-    pub free : AreFree (set S k bare_slot) (get_or (rows S) k []) marks
+    pub free : AreFree (set (rows S) k []) (get_or (rows S) k []) (length S)
+    pub can : CanPut (set S k bare_slot) marks (get_or (rows S) k []) (get_or (rooms S) k 0 - 1)
+
+  -- the pairs of old slot k were put there, and what is left of that slot holds none
+  pub record AreMovedFrom (S : List (Held K X)) (marks : List Bool) (n k : ℕ) (T : List (Held K X)) (marks' : List Bool) (n' : ℕ) : Type 0 where
+    pub left : Held K X
+    pub none : left.pairs ≡ []
+    pub put : ArePut (set S k left) marks n (get_or (rows S) k []) T marks' n'
 
 module _ {K X : Type 0} where
-  -- a pair was put at the end of slot j. If the slot had a pair and no block, it took the current block before
-  pub record IsPut (S : List (Held K X)) (j block : ℕ) (p : K × X) (T : List (Held K X)) (left : ℕ) : Type 0 where
-    pub len : length T ≡ length S
-    pub row : get_or (rows T) j [] ≡ get_or (rows S) j [] ++ p ∷ []
-    pub others : (i : ℕ) → i ≢ j → get_or (rows T) i [] ≡ get_or (rows S) i []
-    pub other_rooms : (i : ℕ) → i ≢ j → get_or (rooms T) i 0 ≡ get_or (rooms S) i 0
-    pub how : (((length (get_or (rows S) j []) ≡ 0) ⊎ (get_or (rooms S) j 0 ≢ 1)) × (get_or (rooms T) j 0 ≡ get_or (rooms S) j 0) × (left ≡ block))
-        ⊎ ((0 < length (get_or (rows S) j [])) × (get_or (rooms S) j 0 ≡ 1) × (get_or (rooms T) j 0 ≡ 1 + block))
-
   -- each part of an old slot, slot t C + i for part t, has room for the pairs that are counted for it once the block of the old slot is taken away; part x may have no block
   pub record HasParts (S : List (Held K X)) (C i : ℕ) (counts : List ℕ) (x : ℕ) : Type 0 where
     pub room : (t : ℕ) → t < length counts → (get_or counts t 0 ≤ part_room (rooms S) C i t) ⊎ ((t ≡ x) × (part_room (rooms S) C i t ≡ 1))

@@ -1,9 +1,8 @@
 //! How pairs get to their slots in a table that has grown.
-ghost use Rattle.std.specs.Prelude.{◌≡◌, ◌+◌, ◌*◌, ◌/◌, ◌<◌, ◌≤◌, [], ◌∷◌, length, get_or, set, slice_set, take, reverse, replicate, true, false, vec_capacity, ℕ};
-ghost use Rattle.intmap_table.specs.Classes.{IsCapacity, slot_number};
+ghost use Rattle.std.specs.Prelude.{◌≡◌, ◌+◌, ◌*◌, ◌/◌, ◌<◌, ◌≤◌, List, [], ◌∷◌, length, get_or, take, reverse, replicate, true, false, vec_capacity};
 ghost use Rattle.intmap_table.specs.Tables.Bits.{marked_indices};
-ghost use Rattle.intmap_table.specs.Tables.Slots.{Held, rows, joined, AreMarked};
-ghost use Rattle.intmap_table.specs.Tables.Moves.{IsLonger, IsMidway, IsPlaced, IsPut, HasRoom, CanMove, CanMoveOn, AreSet, AreTold, AreFree, bare_slot};
+ghost use Rattle.intmap_table.specs.Tables.Slots.{rows, joined, AreMarked};
+ghost use Rattle.intmap_table.specs.Tables.Moves.{IsLonger, IsMidway, CanPut, ArePut, AreFree, CanMove, AreMovedFrom, CanMoveOn};
 
 use crate::bits::Bits;
 use crate::key::IntKey;
@@ -25,19 +24,17 @@ fn place<K: IntKey, X: Drop, A: Allocator>(
     block: &mut Vec<(Stored<K>, X), A>,
     placed: &mut Steps,
 )
-    requires capacity { IsCapacity (length slots.old) }
-    requires words { length slots.old ≤ length bits.old }
-    requires told { AreTold K.number_of slots.old (pair ∷ []) bits.old }
-    requires alone { is_alone ≡ true → AreFree K.number_of slots.old (pair ∷ []) bits.old }
+    requires can { (rest : List (K × X))
+        × CanPut K.number_of slots.old bits.old (pair ∷ rest) (vec_capacity block.old) }
+    requires alone { is_alone ≡ true
+        → AreFree K.number_of (rows slots.old) (pair ∷ []) (length slots.old) }
     requires block { block.old.items ≡ [] }
-    requires room { (x : ℕ) × HasRoom K.number_of slots.old (pair ∷ []) (vec_capacity block.old)
-        x }
-    ensures put { IsPut slots.old (slot_number K.number_of pair.0 (length slots.old))
-        (vec_capacity block.old) pair slots.new (vec_capacity block.new) }
-    ensures marks { bits.new
-        ≡ slice_set bits.old (slot_number K.number_of pair.0 (length slots.old)) true }
+    ensures put { ArePut K.number_of slots.old bits.old placed.old (pair ∷ []) slots.new bits.new
+        placed.new }
+    ensures can { (rest : List (K × X))
+        → CanPut K.number_of slots.old bits.old (pair ∷ rest) (vec_capacity block.old)
+        → CanPut K.number_of slots.new bits.new rest (vec_capacity block.new) }
     ensures block { block.new.items ≡ [] }
-    ensures placed { placed.new ≡ placed.old + 1 }
 {
     let index = index_of(pair.0.key(), slots.len());
     let slot = &mut slots[index];
@@ -58,16 +55,11 @@ fn place_each<K: IntKey, X: Drop, A: Allocator>(
     block: &mut Vec<(Stored<K>, X), A>,
     placed: &mut Steps,
 )
-    requires capacity { IsCapacity (length slots.old) }
-    requires words { length slots.old ≤ length bits.old }
-    requires told { AreTold K.number_of slots.old (reverse buffer.old.items) bits.old }
+    requires can { CanPut K.number_of slots.old bits.old (reverse buffer.old.items)
+        (vec_capacity block.old) }
     requires block { block.old.items ≡ [] }
-    requires room { (x : ℕ) × HasRoom K.number_of slots.old (reverse buffer.old.items)
-        (vec_capacity block.old) x }
-    ensures pairs { IsPlaced K.number_of slots.old (reverse buffer.old.items) slots.new }
-    ensures marks { AreSet K.number_of bits.old (reverse buffer.old.items) (length slots.old)
-        bits.new }
-    ensures placed { placed.new ≡ placed.old + length buffer.old.items }
+    ensures put { ArePut K.number_of slots.old bits.old placed.old (reverse buffer.old.items)
+        slots.new bits.new placed.new }
     ensures buffer { buffer.new.items ≡ [] }
     ensures buffer_room { vec_capacity buffer.old ≤ vec_capacity buffer.new }
 {
@@ -89,11 +81,8 @@ fn move_several<K: IntKey, X: Drop, A: Allocator + Copy>(
     requires ready { CanMove K.number_of slots.old bits.old index (vec_capacity buffer.old) }
     requires several { 1 < length (get_or (rows slots.old) index []) }
     requires buffer { buffer.old.items ≡ [] }
-    ensures pairs { IsPlaced K.number_of (set slots.old index bare_slot)
-        (get_or (rows slots.old) index []) slots.new }
-    ensures marks { AreSet K.number_of bits.old (get_or (rows slots.old) index [])
-        (length slots.old) bits.new }
-    ensures placed { placed.new ≡ placed.old + length (get_or (rows slots.old) index []) }
+    ensures moved { AreMovedFrom K.number_of slots.old bits.old placed.old index slots.new bits.new
+        placed.new }
     ensures buffer { buffer.new.items ≡ [] }
     ensures buffer_room { vec_capacity buffer.old ≤ vec_capacity buffer.new }
 {
@@ -115,11 +104,8 @@ fn move_slot<K: IntKey, X: Drop, A: Allocator + Copy>(
     requires ready { CanMove K.number_of slots.old bits.old index (vec_capacity buffer.old) }
     requires filled { 0 < length (get_or (rows slots.old) index []) }
     requires buffer { buffer.old.items ≡ [] }
-    ensures pairs { (left : Held K X) × (left.pairs ≡ []) × IsPlaced K.number_of
-        (set slots.old index left) (get_or (rows slots.old) index []) slots.new }
-    ensures marks { AreSet K.number_of bits.old (get_or (rows slots.old) index [])
-        (length slots.old) bits.new }
-    ensures placed { placed.new ≡ placed.old + length (get_or (rows slots.old) index []) }
+    ensures moved { AreMovedFrom K.number_of slots.old bits.old placed.old index slots.new bits.new
+        placed.new }
     ensures buffer { buffer.new.items ≡ [] }
     ensures buffer_room { vec_capacity buffer.old ≤ vec_capacity buffer.new }
 {

@@ -41,11 +41,11 @@ loop-index-preserved g c =
     let r = row g at in
     record {
       moved = AreMoved-next g.K.IntKey.number_of _ _ _ _ c.requires.longer.grown c.requires.longer.own _ _ _ _ (moved g at)
-          c.move_slot.new.slots c.move_slot.new.bits done.pairs.0 done.pairs.1 (rw r at done.pairs.2) (rw (r, (moved g at).can.midway.len) at done.marks);
+          c.move_slot.new.slots c.move_slot.new.bits c.loop-index.placed c.move_slot.new.placed done.moved;
       placed =
           let left : length (pairs_at R c.loop-index.index-iterator) ≡ length (get_or R c.in-Some.index []) + length (pairs_at R c.next.new.self) =
           ap (λ places. length (pairs_at R places)) c.in-Some.ensures.steps ∙ length-append (get_or R c.in-Some.index []) (pairs_at R c.next.new.self) in
-          let n = ap length r in let p = done.placed in let q = before.placed in omega (arith, p, q, n, left);
+          let n = ap length r in let p = done.moved.put.counted in let q = before.placed in omega (arith, p, q, n, left);
       buffer = done.buffer;
       buffer_room = (let a = done.buffer_room in let b = before.buffer_room in omega (arith, a, b));
     }
