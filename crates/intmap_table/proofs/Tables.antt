@@ -12,6 +12,7 @@ pub mod MarkedLemmas
 pub mod MemoryLemmas
 pub mod MoveLemmas
 pub mod GrownLemmas
+pub mod LeftLemmas
 pub mod RoomLemmas
 pub mod RowLemmas
 pub mod PutLemmas

@@ -1,22 +1,17 @@
 -- Pairs of an old slot, counted by the part of the longer table that they go to, and room for them there.
-use Rattle.std.proofs.Common.{◌≡◌, ◌≢◌, ◌⊎◌, inl, inr, ℕ, zero, suc, ◌+◌, ◌*◌, ◌%◌, ◌^◌, ◌<◌, ◌≤◌, Bool, true, false, cond, ◌==◌, List, [], ◌∷◌, length, get_or, set, take, refl, sym, ap, ◌∙◌, subst, arith, mul_comm, below_more, All}
-use Rattle.std.specs.Prelude.{AllPairs}
-use Rattle.std.specs.List.{list_any}
+use Rattle.std.proofs.Common.{◌≡◌, ◌≢◌, ◌⊎◌, inl, inr, ℕ, zero, suc, ◌+◌, ◌*◌, ◌%◌, ◌^◌, ◌<◌, ◌≤◌, Bool, true, false, cond, ◌==◌, List, [], ◌∷◌, length, get_or, set, refl, sym, ap, ◌∙◌, subst, arith, mul_comm, below_more, All}
 use Rattle.std.proofs.Math.Nat.{mul-le-mul_right}
 use Rattle.std.proofs.lemmas.Nat.{mod-mul-add, mul-add-lt, same_from_place}
-use Rattle.std.proofs.lemmas.List.{get_or-map, get_or-take, get_or_past}
-use Rattle.std.proofs.lemmas.Bool.{eq-eqb, ne_eqb, ltb-true, cases_eq}
-use Rattle.std.proofs.lemmas.List.Folds.{list_any_none, length-flat_map-take}
-use Rattle.std.proofs.lemmas.List.Elements.{All-head, All-tail}
+use Rattle.std.proofs.lemmas.List.{get_or-map}
+use Rattle.std.proofs.lemmas.Bool.{eq-eqb, ne_eqb, cases_eq}
+use Rattle.std.proofs.lemmas.List.Folds.{length-flat_map-take}
 use Rattle.intmap_table.specs.Classes.{slot_number}
-use Rattle.intmap_table.specs.Walk.{slot_of}
-use Rattle.intmap_table.specs.Tables.Bits.{marked, marked_indices}
-use Rattle.intmap_table.specs.Tables.Slots.{Held, rows, joined, AreMarked}
+use Rattle.intmap_table.specs.Tables.Bits.{marked_indices}
+use Rattle.intmap_table.specs.Tables.Slots.{Held, rows, joined}
 use Rattle.intmap_table.specs.Tables.Moves.{rooms, part_room, bare_slot, IsLonger, CanLeave, CanMoveOn}
-use Rattle.intmap_table.proofs.Tables.TableLemmas.{length-rows, get_or-rows, rows-set_at, room-set, room-set_other}
-use Rattle.intmap_table.proofs.Tables.MarkedLemmas.{All-marked_indices, AllPairs-marked_indices}
-use Rattle.intmap_table.proofs.Tables.FilledLemmas.{row-unmarked, row-within}
+use Rattle.intmap_table.proofs.Tables.TableLemmas.{length-rows, length-same_rows, get_or-rows, rows-set_at, room-set, room-set_other}
 use Rattle.intmap_table.proofs.Tables.GrownLemmas.{modulo-below, grown-more}
+use Rattle.intmap_table.proofs.Tables.LeftLemmas.{AreSplit, AreSplit-marked, AreSplit-next, first-left, own-row}
 use Rattle.intmap_table.proofs.Tables.RoomLemmas.{CanLeave-same, CanLeave-none}
 
 -- several parts of C slots each are at least C slots
@@ -116,139 +111,91 @@ module _ {K X : Type 0} (S : List (Held K X)) (C i : ℕ) (below : i < C) where
     pub others-kept : (j : ℕ) → j % C ≢ i → get_or (rooms (set S (part * C + i) s)) j 0 ≡ get_or (rooms S) j 0
     others-kept j apart = room-set_other S (part * C + i) s j (λ e. apart (ap (λ n. n % C) e ∙ mod-mul-add part C i below))
 
--- indices of rows with pairs, in ascending order
-pub record AreLeft {P : Type 0} (R : List (List P)) (indices : List ℕ) : Type 0 where
-  pub within : All (λ i. i < length R) indices
-  pub filled : All (λ i. 0 < length (get_or R i [])) indices
-  pub ascending : AllPairs (λ i j. i < j) indices
+-- an old slot that holds pairs, and whose parts have the rooms that they had
+pub record IsAhead {K X : Type 0} (S₀ : List (Held K X)) (C : ℕ) (S : List (Held K X)) (k : ℕ) : Type 0 where
+  pub old : k < C
+  pub some : 0 < length (get_or (rows S₀) k [])
+  pub rooms : (j : ℕ) → j % C ≡ k → get_or (rooms S) j 0 ≡ get_or (rooms S₀) j 0
 
--- another index is found among indices exactly if it is found behind the first
-pub list_any-past : (index k : ℕ) (rest : List ℕ) → index ≢ k → list_any (λ i. i == k) (index ∷ rest) ≡ list_any (λ i. i == k) rest
-list_any-past index k rest apart = let other : (index == k) ≡ false = ne_eqb index k apart in simp other
+-- an old slot that can be left, and has no more pairs behind its first than the longest
+pub record IsReady {K X : Type 0} (number : K → ℕ) (S₀ : List (Held K X)) (C longest : ℕ) (S : List (Held K X)) (k : ℕ) : Type 0 where
+  pub leave : CanLeave number (rooms S) (get_or (rows S₀) k []) C (length S₀) k
+  pub short : length (get_or (rows S₀) k []) ≤ 1 + longest
 
-module _ {P : Type 0} (R : List (List P)) where
-  -- the marked ones are such indices
-  pub AreLeft-marked : (marks : List Bool) → AreMarked R marks → AreLeft R (marked_indices marks)
-  AreLeft-marked marks are =
-      let some : (i : ℕ) → marked marks i ≡ true → 0 < length (get_or R i []) = λ i is. ltb-true 0 (length (get_or R i [])) (sym (are.own i) ∙ is) in
-      record {
-        within = λ k d lt. row-within R (get_or (marked_indices marks) k d) (some (get_or (marked_indices marks) k d) (All-marked_indices marks k d lt).1);
-        filled = λ k d lt. some (get_or (marked_indices marks) k d) (All-marked_indices marks k d lt).1;
-        ascending = AllPairs-marked_indices marks;
-      }
-
-  module _ (index : ℕ) (rest : List ℕ) (left : AreLeft R (index ∷ rest)) where
-    -- so are those behind the first
-    pub AreLeft-rest : AreLeft R rest
-    AreLeft-rest = record {
-      within = All-tail (λ i. i < length R) index rest left.within;
-      filled = All-tail (λ i. 0 < length (get_or R i [])) index rest left.filled;
-      ascending = λ i j d lt below. left.ascending (suc i) (suc j) d (omega (arith, lt)) (omega (arith, below));
-    }
-
-    -- the first one is none of them
-    pub first-apart : (k : ℕ) → list_any (λ i. i == k) rest ≡ true → index ≢ k
-    first-apart k found q =
-        let alone : list_any (λ i. i == index) rest ≡ false = list_any_none (λ i. i == index) rest (λ i d lt. ne_eqb (get_or rest i d) index (λ e.
-        let less = left.ascending 0 (suc i) d (omega arith) (omega (arith, lt)) in absurd (omega (arith, less, e)))) in
-        let no : true ≡ false = sym found ∙ ap (λ n. list_any (λ i. i == n) rest) (sym q) ∙ alone in absurd (cc)
-
--- old slots that are not among the indices that are left can be left, and have no more pairs behind their first than the longest; the parts of those that are have the rooms that they had
+-- no pair has moved, and old slots that are not left any more are ready
 pub record AreReady {K X : Type 0} (number : K → ℕ) (S₀ : List (Held K X)) (C : ℕ) (indices : List ℕ) (longest : ℕ) (S : List (Held K X)) : Type 0 where
-  pub left : AreLeft (take C (rows S₀)) indices
   pub kept : rows S ≡ rows S₀
-  pub done : (k : ℕ) → k < C → list_any (λ i. i == k) indices ≡ false → CanLeave number (rooms S) (get_or (take C (rows S₀)) k []) C (length S₀) k
-  pub short : (k : ℕ) → k < C → list_any (λ i. i == k) indices ≡ false → length (get_or (take C (rows S₀)) k []) ≤ 1 + longest
-  pub ahead : (j : ℕ) → list_any (λ i. i == j % C) indices ≡ true → get_or (rooms S) j 0 ≡ get_or (rooms S₀) j 0
+  pub split : AreSplit (IsAhead S₀ C S) (IsReady number S₀ C longest S) C indices
 
 -- an old slot, in its turn: it holds pairs, all its own, and no other part of it has a block
 pub record IsAtHand {K X : Type 0} (number : K → ℕ) (S₀ : List (Held K X)) (C index : ℕ) (S : List (Held K X)) : Type 0 where
   pub old : index < C
   pub slot : index < length S₀
-  pub row : (d : Held K X) → (get_or S index d).pairs ≡ get_or (take C (rows S₀)) index []
+  pub row : (d : Held K X) → (get_or S index d).pairs ≡ get_or (rows S₀) index []
   pub room : (d : Held K X) → get_or (rooms S) index 0 ≡ (get_or S index d).room
-  pub some : 0 < length (get_or (take C (rows S₀)) index [])
-  pub few : length (get_or (take C (rows S₀)) index []) ≤ length (joined (rows S₀))
-  pub own : All (λ p. slot_number number p.0 C ≡ index) (get_or (take C (rows S₀)) index [])
+  pub some : 0 < length (get_or (rows S₀) index [])
+  pub few : length (get_or (rows S₀) index []) ≤ length (joined (rows S₀))
+  pub own : All (λ p. slot_number number p.0 C ≡ index) (get_or (rows S₀) index [])
   pub bare : (j : ℕ) → j < length S₀ → j % C ≡ index → j ≢ index → get_or (rooms S) j 0 ≡ 1
 
 module _ {K X : Type 0} (number : K → ℕ) (S₀ : List (Held K X)) (marks : List Bool) (C : ℕ) (longer : IsLonger number marks C S₀)
     (bare : (j : ℕ) → C ≤ j → j < length S₀ → get_or S₀ j bare_slot ≡ bare_slot) where
-  abbrev R : List (List (K × X))
-  R = take C (rows S₀)
-
-  -- the rows are the old ones, and those past them have no pair
-  old-row : (j : ℕ) → j < length S₀ → get_or (rows S₀) j [] ≡ get_or R j []
-  old-row j lt =
-      let before = get_or-take C (rows S₀) j [] in let past = get_or_past R j [] in let n = longer.own.len in
-      let none = λ (le : C ≤ j). get_or-rows S₀ j bare_slot lt ∙ ap (λ (h : Held K X). h.pairs) (bare j le lt) in grind (arith, before, past, n, none)
-
   -- at first all marked indices are left
   pub AreReady-start : AreReady number S₀ C (marked_indices marks) 0 S₀
   AreReady-start = record {
-    left = AreLeft-marked R marks longer.marked;
     kept = refl;
-    done = λ k _ missed. CanLeave-none number (rooms S₀) (get_or R k []) C (length S₀) k (row-unmarked R marks longer.marked k missed);
-    short = λ k _ missed. (let e = ap length (row-unmarked R marks longer.marked k missed) in omega (arith, e));
-    ahead = λ _ _. refl;
+    split = AreSplit-marked number S₀ marks C longer (IsAhead S₀ C S₀) (IsReady number S₀ C 0 S₀)
+        (λ k lt some. record { old = lt; some = some; rooms = λ _ _. refl })
+        (λ k _ none. record {
+          leave = CanLeave-none number (rooms S₀) (get_or (rows S₀) k []) C (length S₀) k none;
+          short = (let e = ap length none in omega (arith, e));
+        });
   }
 
   -- in the end none is
-  pub CanMoveOn-ready : (longest : ℕ) (S : List (Held K X)) → AreReady number S₀ C [] longest S → CanMoveOn number R C (length S₀) (marked_indices marks) longest S
+  pub CanMoveOn-ready : (longest : ℕ) (S : List (Held K X)) → AreReady number S₀ C [] longest S → CanMoveOn number marks C longest S
   CanMoveOn-ready longest S ready =
-      let row : (j : ℕ) → j < length S₀ → get_or (rows S) j [] ≡ get_or R j [] = λ j lt. ap (λ (T : List (List (K × X))). get_or T j []) ready.kept ∙ old-row j lt in
+      let same = ready.kept in let len = length-same_rows S₀ S same in
       record {
-        midway = record {
-          len = sym (length-rows S) ∙ ap length ready.kept ∙ length-rows S₀;
-          old = λ j lt _. row j lt;
-          moved = λ j lt missed.
-              let none : get_or R (j % C) [] ≡ [] = row-unmarked R marks longer.marked (j % C) missed in
-              let nothing : get_or R j [] ≡ [] =
-              (let own = modulo-below C j in let past = get_or_past R j [] in let n = longer.own.len in grind (arith, none, own, past, n)) in
-              row j lt ∙ nothing ∙ ap (λ (L : List (K × X)). slot_of number L (length S₀) j) (sym none);
-        };
-        leave = λ k lt _. ready.done k lt refl;
-        short = λ k lt. ready.short k lt refl;
+        longer = record { grown = rw len longer.grown; own = rw same longer.own; marked = rw same longer.marked };
+        bare = rw (len, same) (λ j past lt. get_or-rows S₀ j bare_slot lt ∙ ap (λ (h : Held K X). h.pairs) (bare j past lt));
+        leave = rw (len, same) (λ k lt. (ready.split.done k lt refl).leave);
+        short = rw same (λ k lt. (ready.split.done k lt refl).short);
       }
 
   module _ (index : ℕ) (rest : List ℕ) (longest : ℕ) (S : List (Held K X)) (ready : AreReady number S₀ C (index ∷ rest) longest S) where
     -- the first index that is left is that of the slot at hand
     pub at-hand : IsAtHand number S₀ C index S
     at-hand =
-        let old : index < C = (let w = All-head (λ i. i < length R) index rest ready.left.within in let n = longer.own.len in omega (arith, w, n)) in
-        let slot : index < length S₀ = (let more = grown-more C (length S₀) longer.grown in omega (arith, old, more)) in
-        let within : index < length S = (let n = ap length ready.kept in let a = length-rows S in let b = length-rows S₀ in omega (arith, slot, n, a, b)) in
+        let here = first-left _ _ _ _ _ ready.split in
+        let slot : index < length S₀ = (let more = grown-more C (length S₀) longer.grown in let old = here.old in omega (arith, old, more)) in
+        let within : index < length S = (let n = length-same_rows S₀ S ready.kept in omega (arith, slot, n)) in
         record {
-          old = old;
+          old = here.old;
           slot = slot;
-          row = λ d. sym (get_or-rows S index d within) ∙ ap (λ (T : List (List (K × X))). get_or T index []) ready.kept ∙ old-row index slot;
+          row = λ d. sym (get_or-rows S index d within) ∙ ap (λ (T : List (List (K × X))). get_or T index []) ready.kept;
           room = λ d. get_or-map (λ (h : Held K X). h.room) S index d 0 within;
-          some = All-head (λ i. 0 < length (get_or R i [])) index rest ready.left.filled;
+          some = here.some;
           few =
               let most = length-flat_map-take (λ (s : List (K × X)). s) (rows S₀) index [] (let n = length-rows S₀ in omega (arith, slot, n)) in
-              let e = ap length (old-row index slot) in omega (arith, most, e);
-          own = longer.own.own index old;
+              omega (arith, most);
+          own = own-row number S₀ marks C longer index here.old;
           bare = λ j lt part apart.
-              let here : (index == j % C) ≡ true = eq-eqb index (j % C) (sym part) in
               let past : C ≤ j = (let own = modulo-below C j in grind (arith, apart, part, own)) in
-              ready.ahead j (simp here) ∙ get_or-map (λ (h : Held K X). h.room) S₀ j bare_slot 0 lt ∙ ap (λ (h : Held K X). h.room) (bare j past lt);
+              here.rooms j part ∙ get_or-map (λ (h : Held K X). h.room) S₀ j bare_slot 0 lt ∙ ap (λ (h : Held K X). h.room) (bare j past lt);
         }
 
     -- with room made in its parts alone, so that it can be left, the next index is at hand
-    pub AreReady-next : (T : List (Held K X)) (longer' : ℕ) → rows T ≡ rows S → ((j : ℕ) → j % C ≢ index → get_or (rooms T) j 0 ≡ get_or (rooms S) j 0)
-        → CanLeave number (rooms T) (get_or R index []) C (length S₀) index → longest ≤ longer' → length (get_or R index []) ≤ 1 + longer' → AreReady number S₀ C rest longer' T
-    AreReady-next T longer' same others leave more few =
-        let past : (k : ℕ) → index ≢ k → list_any (λ i. i == k) (index ∷ rest) ≡ list_any (λ i. i == k) rest = λ k apart. list_any-past index k rest apart in
-        record {
-          left = AreLeft-rest R index rest ready.left;
-          kept = same ∙ ready.kept;
-          done = λ k lt missed. elim (cases_eq index k) as (λ _. CanLeave number (rooms T) (get_or R k []) C (length S₀) k) [
-            | inl q ↦ subst (λ n. CanLeave number (rooms T) (get_or R n []) C (length S₀) n) q leave
-            | inr apart ↦ CanLeave-same number (rooms T) (rooms S) (get_or R k []) C (length S₀) k lt (grown-more C (length S₀) longer.grown)
-                (λ j _ part. others j (λ q. apart (sym q ∙ part))) (ready.done k lt (past k apart ∙ missed))
-          ];
-          short = λ k lt missed. let old = ready.short k lt in let same = past k in grind (arith, missed, old, same, more, few);
-          ahead = λ j found.
-              let apart : index ≢ j % C = first-apart R index rest ready.left (j % C) found in
-              others j (λ q. apart (sym q)) ∙ ready.ahead j (past (j % C) apart ∙ found);
-        }
+    pub AreReady-next : (T : List (Held K X)) (longest' : ℕ) → rows T ≡ rows S
+        → ((j : ℕ) → j % C ≢ index → get_or (rooms T) j 0 ≡ get_or (rooms S) j 0) → longest ≤ longest' → IsReady number S₀ C longest' T index → AreReady number S₀ C rest longest' T
+    AreReady-next T longest' same others more here = record {
+      kept = same ∙ ready.kept;
+      split = AreSplit-next _ _ _ _ _ ready.split (IsAhead S₀ C T) (IsReady number S₀ C longest' T)
+          (λ k apart is. record { old = is.old; some = is.some; rooms = λ j part. others j (λ q. apart (sym part ∙ q)) ∙ is.rooms j part })
+          (λ k lt apart is. record {
+            leave = CanLeave-same number (rooms T) (rooms S) (get_or (rows S₀) k []) C (length S₀) k lt (grown-more C (length S₀) longer.grown)
+                (λ j _ part. others j (λ q. apart (sym part ∙ q))) is.leave;
+            short = (let s = is.short in omega (arith, s, more));
+          })
+          here;
+    }

@@ -5,10 +5,9 @@ use Rattle.std.proofs.lemmas.Bool.{ne_eqb}
 use Rattle.std.proofs.lemmas.List.Elements.{All-weaker, All-head, All-tail}
 use Rattle.intmap_table.specs.Classes.{multiplier, IsCapacity, slot_number}
 use Rattle.intmap_table.specs.Walk.{slot_of}
-use Rattle.intmap_table.specs.Tables.Slots.{Held, joined}
-use Rattle.intmap_table.specs.Tables.Moves.{IsGrown, IsOldRows, IsMidway}
+use Rattle.intmap_table.specs.Tables.Slots.{joined}
+use Rattle.intmap_table.specs.Tables.Moves.{IsGrown, IsOldRows}
 use Rattle.intmap_table.proofs.SlotNumberLemmas.{slot_number-below}
-use Rattle.intmap_table.proofs.Tables.MoveLemmas.{IsMoved}
 use Rattle.intmap_table.proofs.ClassLemmas.{class-joined}
 use Rattle.intmap_table.proofs.RegroupLemmas.{exponent_from_power, slot_of-slot_of}
 
@@ -84,7 +83,3 @@ module _ {K X : Type 0} (number : K → ℕ) (C D : ℕ) (grown : IsGrown C D) w
         let row : slot_of number (joined R) C (j % C) ≡ get_or R (j % C) [] =
         rw zero-add at (class-joined (λ p. slot_number number p.0 C) 0 (j % C) R (λ k below. let w : k < C = omega (arith, below, is.len) in rw zero-add (is.own k w))) in
         sym (slot_of-slot_of number C D grown.old grown.new (grown-more C D grown) (joined R) j) ∙ ap (λ M. slot_of number M D j) row
-
-    -- behind the last one, all pairs are moved
-    pub IsMoved-midway : (S : List (Held K X)) → IsMidway number R C D [] S → IsMoved number (joined R) D S
-    IsMoved-midway S end = record { capacity = grown.new; len = end.len; rows = λ j lt. end.moved j lt refl ∙ sym (slot_of-old j) }

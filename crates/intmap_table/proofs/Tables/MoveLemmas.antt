@@ -1,18 +1,13 @@
 -- The pairs of a list, once each has moved to its slot of a table.
-use Rattle.std.proofs.Common.{◌≡◌, ℕ, ◌<◌, true, List, [], length, get_or, sym, subst}
+use Rattle.std.proofs.Common.{◌≡◌, ℕ, true, List, sym, subst}
 use Rattle.std.specs.Prelude.{◌==◌}
 use Rattle.std.proofs.lemmas.List.Elements.{All-weaker, filter_passes}
 use Rattle.std.proofs.lemmas.Bool.{eqb-true}
 use Rattle.intmap_table.specs.Classes.{IsCapacity, slot_number}
 use Rattle.intmap_table.specs.Walk.{slot_of, walk_of}
 use Rattle.intmap_table.specs.Tables.Slots.{Held, rows, joined, IsTable}
+use Rattle.intmap_table.specs.Tables.Moves.{IsMoved}
 use Rattle.intmap_table.proofs.Tables.TableLemmas.{walk_of-rows}
-
--- T has the pairs of L in C slots, each in its slot
-pub record IsMoved {K X : Type 0} (number : K → ℕ) (L : List (K × X)) (C : ℕ) (T : List (Held K X)) : Type 0 where
-  pub capacity : IsCapacity C
-  pub len : length T ≡ C
-  pub rows : (j : ℕ) → j < C → get_or (rows T) j [] ≡ slot_of number L C j
 
 module _ {K X : Type 0} (number : K → ℕ) where
   -- their rows, joined, are the walk of the list

@@ -1,6 +1,5 @@
 -- Growth of a table within its own vector of slots: the first slots are the old ones. No public clause cites this module.
-use Rattle.std.specs.Prelude.{◌≡◌, ◌⊎◌, ◌||◌, ◌==◌, ℕ, ◌+◌, ◌-◌, ◌*◌, ◌/◌, ◌%◌, ◌^◌, ◌<◌, ◌≤◌, nat_lt, Bool, true, false, cond, All, List, [], ◌++◌, length, map, get_or, set, take, count_by}
-use Rattle.std.specs.List.{list_any}
+use Rattle.std.specs.Prelude.{◌≡◌, ◌⊎◌, ◌||◌, ◌==◌, ℕ, ◌+◌, ◌-◌, ◌*◌, ◌/◌, ◌%◌, ◌^◌, ◌<◌, ◌≤◌, nat_lt, Bool, cond, All, List, [], ◌++◌, length, map, get_or, set, take, count_by}
 use Rattle.intmap_table.specs.Classes.{IsCapacity, slot_number}
 use Rattle.intmap_table.specs.Walk.{slot_of}
 use Rattle.intmap_table.specs.Tables.Bits.{marked}
@@ -40,12 +39,6 @@ module _ {K X : Type 0} (number : K → ℕ) where
     pub own : IsOldRows (take C (rows S)) C
     pub marked : AreMarked (take C (rows S)) marks
 
-  -- D slots, of which slot j is a part of old slot j modulo C: the old slots that are left have their rows, and their other parts no pair; each part of all others has the pairs that go there
-  pub record IsMidway (R : List (List (K × X))) (C D : ℕ) (left : List ℕ) (S : List (Held K X)) : Type 0 where
-    pub len : length S ≡ D
-    pub old : (j : ℕ) → j < D → list_any (λ k. k == j % C) left ≡ true → get_or (rows S) j [] ≡ get_or R j []
-    pub moved : (j : ℕ) → j < D → list_any (λ k. k == j % C) left ≡ false → get_or (rows S) j [] ≡ slot_of number (get_or R (j % C) []) D j
-
   -- how many of the pairs go to slot j of D
   abbrev pub need : List (K × X) → ℕ → ℕ → ℕ
   need L D j = length (slot_of number L D j)
@@ -82,11 +75,18 @@ module _ {K X : Type 0} (number : K → ℕ) where
     pub x : ℕ
     pub room : (j : ℕ) → j < D → j % C ≡ k → (need L D j ≤ room_without r k j) ⊎ ((j ≡ x) × (room_without r k j ≡ 1))
 
-  -- these old slots are left; each of them can be left, and none has more than `longest` pairs behind its first
-  pub record CanMoveOn (R : List (List (K × X))) (C D : ℕ) (left : List ℕ) (longest : ℕ) (S : List (Held K X)) : Type 0 where
-    pub midway : IsMidway R C D left S
-    pub leave : (k : ℕ) → k < C → list_any (λ i. i == k) left ≡ true → CanLeave (rooms S) (get_or R k []) C D k
-    pub short : (k : ℕ) → k < C → length (get_or R k []) ≤ 1 + longest
+  -- the pairs of the first C slots can move on: the others hold none, and each of these can be left, and has at most so many behind its first
+  pub record CanMoveOn (marks : List Bool) (C longest : ℕ) (S : List (Held K X)) : Type 0 where
+    pub longer : IsLonger marks C S
+    pub bare : (j : ℕ) → C ≤ j → j < length S → get_or (rows S) j [] ≡ []
+    pub leave : (k : ℕ) → k < C → CanLeave (rooms S) (get_or (rows S) k []) C (length S) k
+    pub short : (k : ℕ) → k < C → length (get_or (rows S) k []) ≤ 1 + longest
+
+  -- the pairs of L are in C slots, each in its own
+  pub record IsMoved (L : List (K × X)) (C : ℕ) (S : List (Held K X)) : Type 0 where
+    pub capacity : IsCapacity C
+    pub len : length S ≡ C
+    pub rows : (j : ℕ) → j < C → get_or (rows S) j [] ≡ slot_of number L C j
 
   -- in none of the rows of the slots of D that these pairs go to is a pair
   abbrev pub AreFree : List (List (K × X)) → List (K × X) → ℕ → Type 0

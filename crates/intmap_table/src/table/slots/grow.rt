@@ -1,8 +1,7 @@
 //! Growth in one jump, in the slots' own vector. All memory is allocated before the first pair
 //! moves.
-ghost use Rattle.std.specs.Prelude.{◌≡◌, ◌+◌, ◌-◌, ◌*◌, ◌/◌, ◌%◌, ◌^◌, ◌<◌, ◌≤◌, ℕ, cond, nat_eq, [], ◌++◌, length, get_or, take, replicate, false, OnOk, OnErr, IfOk, vec_capacity};
+ghost use Rattle.std.specs.Prelude.{◌≡◌, ◌+◌, ◌-◌, ◌*◌, ◌/◌, ◌%◌, ◌^◌, ◌<◌, ◌≤◌, ℕ, cond, nat_eq, [], ◌++◌, length, get_or, replicate, false, OnOk, OnErr, IfOk, vec_capacity};
 ghost use Rattle.intmap_table.specs.Classes.{IsCapacity, slot_number};
-ghost use Rattle.intmap_table.specs.Tables.Bits.{marked_indices};
 ghost use Rattle.intmap_table.specs.Tables.Slots.{rows, joined, IsTable, IsDirectory};
 ghost use Rattle.intmap_table.specs.Walk.{walk_of};
 ghost use Rattle.intmap_table.specs.Tables.Moves.{rooms, IsGrown, IsLonger, HasParts, CanMoveOn, bare_slot, in_part};
@@ -112,9 +111,8 @@ fn reserve_rooms<K: IntKey, X: Drop, A: Allocator + Copy>(
     requires fits { length (joined (rows slots.old)) < 2 ^ 64 }
     ensures rows { rows slots.new ≡ rows slots.old }
     ensures buffer { IfOk result (λ buffer. buffer.items ≡ []) }
-    ensures ready { IfOk result (λ buffer. CanMoveOn K.number_of
-        (take (old.now.mask + 1) (rows slots.old)) (old.now.mask + 1) (length slots.old)
-        (marked_indices old.now.bits) (vec_capacity buffer) slots.new) }
+    ensures ready { IfOk result (λ buffer. CanMoveOn K.number_of old.now.bits (old.now.mask + 1)
+        (vec_capacity buffer) slots.new) }
 {
     let mut longest = 0;
     for index in old.bits.iter() {
@@ -184,13 +182,11 @@ fn make_room<K: IntKey, X: Drop, A: Allocator + Copy>(
     requires directory { IsDirectory slots.old.items old.now.bits old.now.mask }
     requires fits { length (joined (rows slots.old.items)) < 2 ^ 64 }
     ensures err { OnErr result (rows slots.new.items ≡ rows slots.old.items) }
-    ensures rows { OnOk result (take (length slots.old.items) (rows slots.new.items)
-        ≡ rows slots.old.items) }
+    ensures pairs { OnOk result (joined (rows slots.new.items) ≡ joined (rows slots.old.items)) }
     ensures len { OnOk result (length slots.new.items ≡ capacity) }
     ensures buffer { IfOk result (λ buffer. buffer.items ≡ []) }
-    ensures ready { IfOk result (λ buffer. CanMoveOn K.number_of (rows slots.old.items)
-        (length slots.old.items) capacity (marked_indices old.now.bits) (vec_capacity buffer)
-        slots.new.items) }
+    ensures ready { IfOk result (λ buffer. CanMoveOn K.number_of old.now.bits (old.now.mask + 1)
+        (vec_capacity buffer) slots.new.items) }
 {
     let alloc = *slots.allocator();
     let len = slots.len();

@@ -1,8 +1,7 @@
 //! How pairs get to their slots in a table that has grown.
-ghost use Rattle.std.specs.Prelude.{◌≡◌, ◌+◌, ◌*◌, ◌/◌, ◌<◌, ◌≤◌, List, [], ◌∷◌, length, get_or, take, reverse, replicate, true, false, vec_capacity};
-ghost use Rattle.intmap_table.specs.Tables.Bits.{marked_indices};
+ghost use Rattle.std.specs.Prelude.{◌≡◌, ◌+◌, ◌*◌, ◌/◌, ◌<◌, ◌≤◌, List, [], ◌∷◌, length, get_or, reverse, replicate, true, false, vec_capacity};
 ghost use Rattle.intmap_table.specs.Tables.Slots.{rows, joined, AreMarked};
-ghost use Rattle.intmap_table.specs.Tables.Moves.{IsLonger, IsMidway, CanPut, ArePut, AreFree, CanMove, AreMovedFrom, CanMoveOn};
+ghost use Rattle.intmap_table.specs.Tables.Moves.{IsMoved, CanPut, ArePut, AreFree, CanMove, AreMovedFrom, CanMoveOn};
 
 use crate::bits::Bits;
 use crate::key::IntKey;
@@ -126,17 +125,13 @@ pub(super) fn move_all<K: IntKey, X: Drop, A: Allocator + Copy>(
     buffer: &mut Vec<(Stored<K>, X), A>,
     placed: &mut Steps,
 )
-    requires longer { IsLonger K.number_of old.now.bits (old.now.mask + 1) slots.old }
     requires unmarked { bits.old ≡ replicate (64 * ((length slots.old + 63) / 64)) false }
     requires buffer { buffer.old.items ≡ [] }
-    requires ready { CanMoveOn K.number_of (take (old.now.mask + 1) (rows slots.old))
-        (old.now.mask + 1) (length slots.old) (marked_indices old.now.bits)
+    requires ready { CanMoveOn K.number_of old.now.bits (old.now.mask + 1)
         (vec_capacity buffer.old) slots.old }
-    ensures moved { IsMidway K.number_of (take (old.now.mask + 1) (rows slots.old))
-        (old.now.mask + 1) (length slots.old) [] slots.new }
+    ensures moved { IsMoved K.number_of (joined (rows slots.old)) (length slots.old) slots.new }
     ensures marks { AreMarked (rows slots.new) bits.new }
-    ensures placed { placed.new
-        ≡ placed.old + length (joined (take (old.now.mask + 1) (rows slots.old))) }
+    ensures placed { placed.new ≡ placed.old + length (joined (rows slots.old)) }
 {
     for index in old.bits.iter() {
         move_slot(bits, slots, index, buffer, placed);

@@ -1,8 +1,8 @@
-use Rattle.std.proofs.Common.{◌≡◌, ℕ, ◌+◌, ◌*◌, ◌<◌, ◌≤◌, ◌∙◌, [], ◌∷◌, length, get_or, take, refl, sym, ap, arith}
+use Rattle.std.proofs.Common.{◌≡◌, ℕ, ◌+◌, ◌*◌, ◌<◌, ◌≤◌, ◌∙◌, [], ◌∷◌, length, get_or, refl, sym, ap, arith}
 use Rattle.std.proofs.lemmas.Nat.{mod-mul-add}
 use Rattle.std.proofs.lemmas.Result.{IfOk-weaker}
 use Rattle.intmap_table.specs.Tables.Slots.{rows}
-use Rattle.intmap_table.specs.Tables.Moves.{rooms, in_part}
+use Rattle.intmap_table.specs.Tables.Moves.{rooms}
 use Rattle.intmap_table.proofs.SlotNumberLemmas.{capacity-greatest}
 use Rattle.intmap_table.proofs.Tables.CountLemmas.{offset-fits, part-within, part-past, AreReady, IsAtHand, AreReady-start, AreReady-next, CanMoveOn-ready, at-hand}
 use Rattle.intmap_table.proofs.Tables.RoomLemmas.{CanLeave-short, CanLeave-parts}
@@ -76,33 +76,33 @@ pub returns-in_err-reserve_room-clause-rows : goal.returns-in_err-reserve_room-c
 returns-in_err-reserve_room-clause-rows g c = c.in_err-reserve_room.ensures.rows ∙ c.loop-index.invariant.ready.kept
 
 -- once the slot at hand is done, the next ones are left, with a longest that is no less than before and than here
-done : (g : _) (c : Joined-behind-gt2 g) (longer : ℕ)
+done : (g : _) (c : Joined-behind-gt2 g) (longest : ℕ)
     → AreReady g.K.IntKey.number_of c.args.slots.now (c.args.old.now.mask + 1) (c.in-Some.index ∷ c.next.new.self) c.loop-index.longest c.loop-index.slots
-    → c.loop-index.longest ≤ longer → c.last_place-behind.result ≤ longer
-    → AreReady g.K.IntKey.number_of c.args.slots.now (c.args.old.now.mask + 1) c.next.new.self longer c.if-behind-gt2.slots
-done g c longer r le here =
-    let number = g.K.IntKey.number_of in let S₀ = c.args.slots.now in let C = c.args.old.now.mask + 1 in let index = c.in-Some.index in let rest = c.next.new.self in let S = c.loop-index.slots in
-    let L = get_or (take C (rows S₀)) index [] in let marks = c.args.old.now.bits in
-    let hand = at-hand number S₀ marks C c.requires.longer c.requires.bare index rest c.loop-index.longest S r in
-    let next = AreReady-next number S₀ marks C c.requires.longer c.requires.bare index rest c.loop-index.longest S r in
+    → c.loop-index.longest ≤ longest → c.last_place-behind.result ≤ longest
+    → AreReady g.K.IntKey.number_of c.args.slots.now (c.args.old.now.mask + 1) c.next.new.self longest c.if-behind-gt2.slots
+done g c longest ready more here =
+    let number = g.K.IntKey.number_of in let S₀ = c.args.slots.now in let C = c.args.old.now.mask + 1 in let index = c.in-Some.index in
+    let S = c.loop-index.slots in let L = get_or (rows S₀) index [] in
+    let hand = at-hand number S₀ _ C c.requires.longer c.requires.bare index _ _ S ready in
+    let next = AreReady-next number S₀ _ C c.requires.longer c.requires.bare index c.next.new.self _ S ready in
     let row = ap length (hand.row c.index-slots-index.result) in let room = hand.room c.index-slots-index.result in
     let behind = c.last_place-behind.ensures.place in let enough = c.last_place-behind.ensures.room in
     let fits : length L ≤ get_or (rooms S) index 0 = omega (arith, row, room, enough) in
-    let few : length L ≤ 1 + longer = omega (arith, row, behind, here) in
-    elim c.if-behind-gt2.branch as (λ _. AreReady number S₀ C rest longer c.if-behind-gt2.slots) [
+    let short : length L ≤ 1 + longest = omega (arith, row, behind, here) in
+    elim c.if-behind-gt2.branch as (λ _. AreReady number S₀ C c.next.new.self longest c.if-behind-gt2.slots) [
       | then-behind-gt2+in_ok-reserve_room w ↦ (
-          let counts = w.count_parts.new.counts in let T = w.reserve_room.new.slots in let told = w.count_parts.ensures in let made = w.in_ok-reserve_room.ensures in
-          let n : length counts ≡ length c.loop-index.counts = told.len in
+          let counts = w.count_parts.new.counts in let T = w.reserve_room.new.slots in let made = w.in_ok-reserve_room.ensures in
+          let n : length counts ≡ length c.loop-index.counts = w.count_parts.ensures.len in
           let all : length S₀ ≡ length counts * C = c.requires.all ∙ ap (λ m. m * C) (sym (n ∙ c.loop-index.auto.counts)) in
-          rw w.slots-is (next T longer made.rows made.others
-          (CanLeave-parts number T L C (length S₀) index made.room.0 counts c.requires.longer.grown hand.old all hand.own (let same = made.own in omega (arith, same, fits))
-          (λ t lt. told.counts t (omega (arith, lt, n)) ∙ ap (λ ps. in_part number ps C (length c.loop-index.counts * C) t) (hand.row w.index-slots-index-then-behind-gt2.result)
-          ∙ ap (λ m. in_part number L C (m * C) t) (sym n))
-          made.room.1)
-          le few))
+          let told = rw (← n, hand.row w.index-slots-index-then-behind-gt2.result) at w.count_parts.ensures.counts in
+          let own : length L ≤ get_or (rooms T) index 0 = (let same = made.own in omega (arith, same, fits)) in
+          let leave =
+          CanLeave-parts number T L C (length S₀) index made.room.0 counts c.requires.longer.grown hand.old all hand.own own told made.room.1 in
+          rw w.slots-is (next T longest made.rows made.others more (record { leave = leave; short = short })))
       | else-behind-gt2 w ↦ (
           let three : length L ≤ 3 = (let two = w.if-behind-gt2.false in omega (arith, row, behind, two)) in
-          rw w.slots-is (next S longer refl (λ _ _. refl) (CanLeave-short number (rooms S) L C (length S₀) index three fits hand.bare) le few))
+          let leave = CanLeave-short number (rooms S) L C (length S₀) index three fits hand.bare in
+          rw w.slots-is (next S longest refl (λ _ _. refl) more (record { leave = leave; short = short })))
     ]
 
 pub loop-index-preserved-then-behind-longest : goal.loop-index-preserved-then-behind-longest
