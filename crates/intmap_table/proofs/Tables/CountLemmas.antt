@@ -8,8 +8,8 @@ use Rattle.std.proofs.lemmas.List.Folds.{length-flat_map-take}
 use Rattle.intmap_table.specs.Classes.{slot_number}
 use Rattle.intmap_table.specs.Tables.Bits.{marked_indices}
 use Rattle.intmap_table.specs.Tables.Slots.{Held, rows, joined}
-use Rattle.intmap_table.specs.Tables.Moves.{rooms, part_room, bare_slot, IsLonger, CanLeave, CanMoveOn}
-use Rattle.intmap_table.proofs.Tables.TableLemmas.{length-rows, length-same_rows, get_or-rows, rows-set_at, room-set, room-set_other}
+use Rattle.intmap_table.specs.Tables.Moves.{rooms, part_room, bare_slot, IsLonger, IsRoomMade, CanLeave, CanMoveOn}
+use Rattle.intmap_table.proofs.Tables.TableLemmas.{length-rows, length-same_rows, get_or-rows, rows-kept, room-set, room-set_other}
 use Rattle.intmap_table.proofs.Tables.GrownLemmas.{modulo-below, grown-more}
 use Rattle.intmap_table.proofs.Tables.LeftLemmas.{AreSplit, AreSplit-marked, AreSplit-next, first-left, own-row}
 use Rattle.intmap_table.proofs.Tables.RoomLemmas.{CanLeave-same, CanLeave-none}
@@ -37,11 +37,6 @@ pub record IsShared {K X : Type 0} (S : List (Held K X)) (counts : List ℕ) (C 
   pub room : (t : ℕ) → t < part → (get_or counts t 0 ≤ part_room (rooms S) C i t) ⊎ ((t ≡ x) × (part_room (rooms S) C i t ≡ 1))
   pub none : spared ≡ false → length counts ≤ x
   pub some : spared ≡ true → x < part
-
-module _ {K X : Type 0} where
-  -- a slot with room made keeps the rows
-  pub rows-kept : (S : List (Held K X)) (j : ℕ) (d s : Held K X) → j < length S → s.pairs ≡ (get_or S j d).pairs → rows (set S j s) ≡ rows S
-  rows-kept S j d s below same = rows-set_at S j s (same ∙ sym (get_or-rows S j d below))
 
 module _ {K X : Type 0} (S : List (Held K X)) (C i : ℕ) (below : i < C) where
   -- past part 0 it is another slot than the old one
@@ -77,19 +72,20 @@ module _ {K X : Type 0} (S : List (Held K X)) (C i : ℕ) (below : i < C) where
           }
 
       -- past the first part that needs a block
-      pub IsShared-spare : IsShared S counts C i part false x → IsShared S counts C i (part + 1) true part
-      IsShared-spare is = record {
+      pub IsShared-spare : (spared : Bool) → spared ≡ false → IsShared S counts C i part spared x → IsShared S counts C i (part + 1) true part
+      IsShared-spare spared first is = record {
         ahead = λ t le lt. is.ahead t (omega (arith, le)) lt;
-        room = below_more _ part (λ t lt. let past = is.none refl in let has = is.room t lt in grind (arith, past, lt, here, has))
+        room = below_more _ part (λ t lt. let past = is.none first in let has = is.room t lt in grind (arith, past, lt, here, has))
             (inr (refl, is.ahead part (omega arith) here));
         none = λ q. absurd (cc);
         some = λ _. omega arith;
       }
 
       -- past a further one, which got room
-      pub IsShared-made : (s : Held K X) → length S ≡ length counts * C → get_or counts part 0 ≤ s.room → IsShared S counts C i part true x → IsShared (set S (part * C + i) s) counts C i (part + 1) true x
-      IsShared-made s len made is =
-          let some : 0 < part = (let w = is.some refl in omega (arith, w)) in
+      pub IsShared-made : (spared : Bool) (s : Held K X) → x < part → length S ≡ length counts * C → get_or counts part 0 ≤ s.room
+          → IsShared S counts C i part spared x → IsShared (set S (part * C + i) s) counts C i (part + 1) true x
+      IsShared-made spared s past len made is =
+          let some : 0 < part = omega (arith, past) in
           let within : part * C + i < length S = (let w = part-within (length counts) C part i here below in omega (arith, w, len)) in
           let at : part_room (rooms (set S (part * C + i) s)) C i part ≡ s.room =
           part_room-past (rooms (set S (part * C + i) s)) part some ∙ room-set S (part * C + i) s within in
@@ -99,17 +95,22 @@ module _ {K X : Type 0} (S : List (Held K X)) (C i : ℕ) (below : i < C) where
             ahead = λ t le lt. sym (other t (λ e. absurd (omega (arith, le, e)))) ∙ is.ahead t (omega (arith, le)) lt;
             room = below_more _ part (λ t lt. subst (λ n. (get_or counts t 0 ≤ n) ⊎ ((t ≡ x) × (n ≡ 1))) (other t (λ e. absurd (omega (arith, lt, e)))) (is.room t lt)) (inl (omega (arith, made, at)));
             none = λ q. absurd (cc);
-            some = λ _. let w = is.some refl in omega (arith, w);
+            some = λ _. omega (arith, past);
           }
 
-  module _ (part : ℕ) (s : Held K X) where
-    -- the old slot keeps its room if a further part changes
-    pub own-kept : 0 < part → get_or (rooms (set S (part * C + i) s)) i 0 ≡ get_or (rooms S) i 0
-    own-kept some = room-set_other S (part * C + i) s i (λ e. part-apart part some (sym e))
+  -- room is made in a further part
+  pub IsRoomMade-more : (S₀ : List (Held K X)) (part : ℕ) (d s : Held K X) → 0 < part → s.pairs ≡ (get_or S (part * C + i) d).pairs
+      → IsRoomMade S₀ C i S → IsRoomMade S₀ C i (set S (part * C + i) s)
+  IsRoomMade-more S₀ part d s some pairs made = record {
+    rows = rows-kept S (part * C + i) s d pairs ∙ made.rows;
+    own = room-set_other S (part * C + i) s i (λ e. part-apart part some (sym e)) ∙ made.own;
+    others = λ j apart.
+        room-set_other S (part * C + i) s j (λ e. apart (ap (λ n. n % C) e ∙ mod-mul-add part C i below)) ∙ made.others j apart;
+  }
 
-    -- and so do the parts of other old slots
-    pub others-kept : (j : ℕ) → j % C ≢ i → get_or (rooms (set S (part * C + i) s)) j 0 ≡ get_or (rooms S) j 0
-    others-kept j apart = room-set_other S (part * C + i) s j (λ e. apart (ap (λ n. n % C) e ∙ mod-mul-add part C i below))
+-- none at all
+pub IsRoomMade-none : {K X : Type 0} (S : List (Held K X)) (C i : ℕ) → IsRoomMade S C i S
+IsRoomMade-none S C i = record { rows = refl; own = refl; others = λ _ _. refl }
 
 -- an old slot that holds pairs, and whose parts have the rooms that they had
 pub record IsAhead {K X : Type 0} (S₀ : List (Held K X)) (C : ℕ) (S : List (Held K X)) (k : ℕ) : Type 0 where
@@ -186,15 +187,15 @@ module _ {K X : Type 0} (number : K → ℕ) (S₀ : List (Held K X)) (marks : L
         }
 
     -- with room made in its parts alone, so that it can be left, the next index is at hand
-    pub AreReady-next : (T : List (Held K X)) (longest' : ℕ) → rows T ≡ rows S
-        → ((j : ℕ) → j % C ≢ index → get_or (rooms T) j 0 ≡ get_or (rooms S) j 0) → longest ≤ longest' → IsReady number S₀ C longest' T index → AreReady number S₀ C rest longest' T
-    AreReady-next T longest' same others more here = record {
-      kept = same ∙ ready.kept;
+    pub AreReady-next : (T : List (Held K X)) (longest' : ℕ) → IsRoomMade S C index T → longest ≤ longest' → IsReady number S₀ C longest' T index
+        → AreReady number S₀ C rest longest' T
+    AreReady-next T longest' made more here = record {
+      kept = made.rows ∙ ready.kept;
       split = AreSplit-next _ _ _ _ _ ready.split (IsAhead S₀ C T) (IsReady number S₀ C longest' T)
-          (λ k apart is. record { old = is.old; some = is.some; rooms = λ j part. others j (λ q. apart (sym part ∙ q)) ∙ is.rooms j part })
+          (λ k apart is. record { old = is.old; some = is.some; rooms = λ j part. made.others j (λ q. apart (sym part ∙ q)) ∙ is.rooms j part })
           (λ k lt apart is. record {
             leave = CanLeave-same number (rooms T) (rooms S) (get_or (rows S₀) k []) C (length S₀) k lt (grown-more C (length S₀) longer.grown)
-                (λ j _ part. others j (λ q. apart (sym part ∙ q))) is.leave;
+                (λ j _ part. made.others j (λ q. apart (sym part ∙ q))) is.leave;
             short = (let s = is.short in omega (arith, s, more));
           })
           here;

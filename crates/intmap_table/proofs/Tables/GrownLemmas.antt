@@ -49,10 +49,6 @@ pub modulo-below : (C j : ℕ) → j < C → j % C ≡ j
 modulo-below C j below = ap (λ n. n % C) (sym (zero-add j) ∙ ap (λ n. n + j) (sym (zero-mul C))) ∙ mod-mul-add 0 C j below
 
 module _ {P : Type 0} where
-  pub no_length : (L : List P) → length L ≡ 0 → L ≡ []
-  no_length [] q = refl
-  no_length (p ∷ L) q = absurd (omega (arith, q))
-
   -- no element passes
   pub filter_none : (q : P → Bool) (L : List P) → All (λ p. q p ≡ false) L → filter q L ≡ []
   filter_none q [] all = refl

@@ -1,7 +1,7 @@
 -- Pairs put at the ends of their slots, one after another, and the marks of these slots.
 use Rattle.std.proofs.Common.{◌≡◌, ◌≢◌, ◌⊎◌, inl, inr, ℕ, ◌+◌, ◌<◌, Bool, true, false, List, [], ◌∷◌, ◌++◌, length, get_or, set, refl, sym, ap, ◌∙◌, subst, arith, append-nil, append_assoc, length-append, length-set, get_or-set_same, get_or-set_other}
 use Rattle.std.specs.Prelude.{nat_lt, ◌||◌, ◌==◌}
-use Rattle.std.proofs.lemmas.List.{map-set, get_or-map}
+use Rattle.std.proofs.lemmas.List.{map-set, get_or-map, nil_from_length}
 use Rattle.std.proofs.lemmas.List.Elements.{filter-append}
 use Rattle.std.proofs.lemmas.Bool.{cases_eq}
 use Rattle.std.proofs.lemmas.Bool.Decides.{nat_tests}
@@ -13,7 +13,6 @@ use Rattle.intmap_table.specs.Tables.Moves.{rooms, bare_slot, need, ArePut, CanP
 use Rattle.intmap_table.proofs.SlotNumberLemmas.{slot_number-below}
 use Rattle.intmap_table.proofs.Tables.TableLemmas.{get_or-rows, row-set, room-set, row-set_other, room-set_other}
 use Rattle.intmap_table.proofs.Tables.FilledLemmas.{filled-pushed}
-use Rattle.intmap_table.proofs.Tables.GrownLemmas.{no_length}
 use Rattle.intmap_table.proofs.Tables.RoomLemmas.{slot_of-not_first, length-first, need-most}
 
 module _ {K X : Type 0} (S : List (Held K X)) (j : ℕ) (d : Held K X) (within : j < length S) where
@@ -141,8 +140,8 @@ module _ {K X : Type 0} (number : K → ℕ) where
             (append_assoc (get_or (rows S) j []) (slot_of number L D j) (slot_of number M D j));
         rooms = λ j below none.
             let no = sym (sum j) ∙ ap length none in
-            (rw first.len at more.rooms) j below (no_length (slot_of number M D j) (omega (arith, no)))
-            ∙ first.rooms j below (no_length (slot_of number L D j) (omega (arith, no)));
+            (rw first.len at more.rooms) j below (nil_from_length (slot_of number M D j) (omega (arith, no)))
+            ∙ first.rooms j below (nil_from_length (slot_of number L D j) (omega (arith, no)));
         words = more.words ∙ first.words;
         set_at = λ j.
             let s = sum j in let last = (rw first.len at more.set_at) j in let before = first.set_at j in grind (arith, nat_tests, s, last, before);

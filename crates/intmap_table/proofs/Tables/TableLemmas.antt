@@ -61,8 +61,13 @@ module _ {K X : Type 0} (S : List (Held K X)) (i : ℕ) (s : Held K X) where
   room-set_other j apart = ap (λ r. get_or r j 0) (map-set (λ (t : Held K X). t.room) S i s) ∙ get_or-set_other (rooms S) i j s.room 0 apart
 
   -- a slot that keeps its pairs keeps the rows
-  pub rows-set_at : s.pairs ≡ get_or (rows S) i [] → rows (set S i s) ≡ rows S
-  rows-set_at same = map-set (λ (t : Held K X). t.pairs) S i s ∙ ap (λ ps. set (rows S) i ps) same ∙ set-get_or (rows S) i []
+  pub rows-kept : (d : Held K X) → s.pairs ≡ (get_or S i d).pairs → rows (set S i s) ≡ rows S
+  rows-kept d same =
+      map-set (λ (t : Held K X). t.pairs) S i s ∙ ap (λ ps. set (rows S) i ps) same ∙ sym (map-set (λ (t : Held K X). t.pairs) S i (get_or S i d))
+      ∙ ap rows (set-get_or S i d)
+
+  pub rows-kept_at : (h : Held K X) → h ≡ get_or S i h → s.pairs ≡ h.pairs → rows (set S i s) ≡ rows S
+  rows-kept_at h here same = rows-kept h (same ∙ ap (λ (t : Held K X). t.pairs) here)
 
 module _ {K X : Type 0} (number : K → ℕ) where
   -- a list whose slots are these rows has them, joined, as its walk

@@ -1,5 +1,5 @@
 -- Growth of a table within its own vector of slots: the first slots are the old ones. No public clause cites this module.
-use Rattle.std.specs.Prelude.{◌≡◌, ◌⊎◌, ◌||◌, ◌==◌, ℕ, ◌+◌, ◌-◌, ◌*◌, ◌/◌, ◌%◌, ◌^◌, ◌<◌, ◌≤◌, nat_lt, Bool, cond, All, List, [], ◌++◌, length, map, get_or, set, take, count_by}
+use Rattle.std.specs.Prelude.{◌≡◌, ◌≢◌, ◌⊎◌, ◌||◌, ◌==◌, ℕ, ◌+◌, ◌-◌, ◌*◌, ◌/◌, ◌%◌, ◌^◌, ◌<◌, ◌≤◌, nat_lt, Bool, cond, All, List, [], ◌++◌, length, map, get_or, set, take, count_by}
 use Rattle.intmap_table.specs.Classes.{IsCapacity, slot_number}
 use Rattle.intmap_table.specs.Walk.{slot_of}
 use Rattle.intmap_table.specs.Tables.Bits.{marked}
@@ -106,6 +106,12 @@ module _ {K X : Type 0} (number : K → ℕ) where
     pub put : ArePut (set S k left) marks n (get_or (rows S) k []) T marks' n'
 
 module _ {K X : Type 0} where
+  -- room was made in further parts of old slot i of C alone, and no pair has moved
+  pub record IsRoomMade (S : List (Held K X)) (C i : ℕ) (T : List (Held K X)) : Type 0 where
+    pub rows : rows T ≡ rows S
+    pub own : get_or (rooms T) i 0 ≡ get_or (rooms S) i 0
+    pub others : (j : ℕ) → j % C ≢ i → get_or (rooms T) j 0 ≡ get_or (rooms S) j 0
+
   -- each part of an old slot, slot t C + i for part t, has room for the pairs that are counted for it once the block of the old slot is taken away; part x may have no block
   pub record HasParts (S : List (Held K X)) (C i : ℕ) (counts : List ℕ) (x : ℕ) : Type 0 where
     pub room : (t : ℕ) → t < length counts → (get_or counts t 0 ≤ part_room (rooms S) C i t) ⊎ ((t ≡ x) × (part_room (rooms S) C i t ≡ 1))

@@ -1,10 +1,10 @@
 //! Growth in one jump, in the slots' own vector. All memory is allocated before the first pair
 //! moves.
-ghost use Rattle.std.specs.Prelude.{◌≡◌, ◌+◌, ◌-◌, ◌*◌, ◌/◌, ◌%◌, ◌^◌, ◌<◌, ◌≤◌, ℕ, cond, nat_eq, [], ◌++◌, length, get_or, replicate, false, OnOk, OnErr, IfOk, vec_capacity};
+ghost use Rattle.std.specs.Prelude.{◌≡◌, ◌+◌, ◌-◌, ◌*◌, ◌/◌, ◌^◌, ◌<◌, ◌≤◌, ℕ, cond, nat_eq, [], ◌++◌, length, get_or, replicate, false, OnOk, OnErr, IfOk, vec_capacity};
 ghost use Rattle.intmap_table.specs.Classes.{IsCapacity, slot_number};
 ghost use Rattle.intmap_table.specs.Tables.Slots.{rows, joined, IsTable, IsDirectory};
 ghost use Rattle.intmap_table.specs.Walk.{walk_of};
-ghost use Rattle.intmap_table.specs.Tables.Moves.{rooms, IsGrown, IsLonger, HasParts, CanMoveOn, bare_slot, in_part};
+ghost use Rattle.intmap_table.specs.Tables.Moves.{rooms, IsGrown, IsLonger, IsRoomMade, HasParts, CanMoveOn, bare_slot, in_part};
 
 use crate::bits::Bits;
 use crate::key::IntKey;
@@ -75,10 +75,7 @@ fn reserve_room<K: IntKey, X: Drop, A: Allocator>(
     requires all { length slots.old ≡ length counts.now * old }
     requires bare { (t : ℕ) → 0 < t → t < length counts.now
         → get_or (rooms slots.old) (t * old + index) 0 ≡ 1 }
-    ensures rows { rows slots.new ≡ rows slots.old }
-    ensures own { get_or (rooms slots.new) index 0 ≡ get_or (rooms slots.old) index 0 }
-    ensures others { (j : ℕ) → (j % old ≡ index → ⊥)
-        → get_or (rooms slots.new) j 0 ≡ get_or (rooms slots.old) j 0 }
+    ensures made { IsRoomMade slots.old old index slots.new }
     ensures room { OnOk result ((x : ℕ)
         × HasParts slots.new old index counts.now x) }
 {

@@ -1,15 +1,12 @@
-use Rattle.std.proofs.Common.{◌<◌, ◌∙◌, length, subst, ap, sym}
-use Rattle.intmap_table.specs.Classes.{IsCapacity, slot_number}
+use Rattle.std.proofs.Common.{◌∙◌, subst, ap}
+use Rattle.intmap_table.specs.Classes.{IsCapacity}
 use Rattle.intmap_table.specs.Tables.Slots.{Grid}
-use Rattle.intmap_table.proofs.SlotNumberLemmas.{slot_number-below}
-use Rattle.intmap_table.proofs.Tables.TableLemmas.{walk_of-joined, IsTable-same_rows, Grid-same_rows}
+use Rattle.intmap_table.proofs.Tables.TableLemmas.{within, walk_of-joined, IsTable-same_rows, Grid-same_rows}
 use Rattle.intmap_table.proofs.table.Table.reserve_for.Goals as goal
 
 pub reserve_one-requires : goal.reserve_one-requires
 reserve_one-requires g c =
-    let number = g.K.IntKey.number_of in let n = length c.self.inside.slots in let k = c.requires.0 in
-    subst (λ i. i < n) (sym (c.requires.1 ∙ ap (λ (t : Grid _ _). slot_number number k t.capacity) (sym c.self.view_is)))
-    (slot_number-below number k n c.self.invariant.capacity)
+    within _ c.self.inside.slots _ _ (record { table = c.self.invariant; slot = rw (← c.self.view_is) at c.requires.1 })
 
 pub invariant_of-self : goal.invariant_of-self
 invariant_of-self g c = IsTable-same_rows _ _ _ c.reserve_one.ensures c.self.invariant

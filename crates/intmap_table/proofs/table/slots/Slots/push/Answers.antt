@@ -2,7 +2,7 @@ use Rattle.std.proofs.Common.{◌≡◌, ◌<◌, ◌∙◌, List, [], ◌∷◌
 use Rattle.std.specs.Prelude.{nat_lt, Result, Ok, Err, OnOk, OnErr}
 use Rattle.intmap_table.proofs.Tables.BackLemmas.{OnErr-map}
 use Rattle.intmap_table.proofs.Tables.FilledLemmas.{filled-pushed, marked-at, IsDirectory-set}
-use Rattle.intmap_table.proofs.Tables.TableLemmas.{row-at, rows-set_at}
+use Rattle.intmap_table.proofs.Tables.TableLemmas.{rows-kept_at}
 use Rattle.intmap_table.proofs.table.slots.Slots.push.Goals as goal
 use Rattle.intmap_table.proofs.table.slots.Slots.push.Goals.{After-set}
 
@@ -27,10 +27,7 @@ invariant_of-self g c =
 
 pub returns-then-set-clause-err : goal.returns-then-set-clause-err
 returns-then-set-clause-err g c =
-    let below = below g (goal.at.returns-then-set-clause-err g c).After-set in
-    rw (← c.self.view_is)
-    (OnErr-map c.push.result
-    (λ same. rows-set_at c.self.inside.slots.items c.args.index c.push.new.self (same ∙ row-at c.self.inside.slots.items c.args.index c.index_mut-slot.result.now below c.index_mut-slot.ensures.value)) c.push.ensures.err)
+    rw (← c.self.view_is) (OnErr-map c.push.result (rows-kept_at _ _ _ _ c.index_mut-slot.ensures.value) c.push.ensures.err)
 
 pub invariant_of-self-2 : goal.invariant_of-self-2
 invariant_of-self-2 g c =

@@ -1,10 +1,10 @@
-use Rattle.std.proofs.Common.{◌≡◌, ℕ, ◌+◌, ◌*◌, ◌<◌, ◌≤◌, ◌∙◌, [], ◌∷◌, length, get_or, refl, sym, ap, arith}
+use Rattle.std.proofs.Common.{◌≡◌, ℕ, ◌+◌, ◌*◌, ◌<◌, ◌≤◌, ◌∙◌, [], ◌∷◌, length, get_or, sym, ap, arith}
 use Rattle.std.proofs.lemmas.Nat.{mod-mul-add}
 use Rattle.std.proofs.lemmas.Result.{IfOk-weaker}
 use Rattle.intmap_table.specs.Tables.Slots.{rows}
 use Rattle.intmap_table.specs.Tables.Moves.{rooms}
 use Rattle.intmap_table.proofs.SlotNumberLemmas.{capacity-greatest}
-use Rattle.intmap_table.proofs.Tables.CountLemmas.{offset-fits, part-within, part-past, AreReady, IsAtHand, AreReady-start, AreReady-next, CanMoveOn-ready, at-hand}
+use Rattle.intmap_table.proofs.Tables.CountLemmas.{offset-fits, part-within, part-past, AreReady, IsAtHand, AreReady-start, AreReady-next, IsRoomMade-none, CanMoveOn-ready, at-hand}
 use Rattle.intmap_table.proofs.Tables.RoomLemmas.{CanLeave-short, CanLeave-parts}
 use Rattle.intmap_table.proofs.table.slots.grow.reserve_rooms.Goals as goal
 use Rattle.intmap_table.proofs.table.slots.grow.reserve_rooms.Goals.{In-Some, Joined-behind-gt2, then-behind-gt2+in_ok-reserve_room, else-behind-gt2}
@@ -73,7 +73,7 @@ reserve_room-requires-clause-bare g c = λ t some lt.
     here.bare (t * C + index) below (mod-mul-add t C index old) (λ e. let past = part-past C t index some in absurd (omega (arith, e, past, old)))
 
 pub returns-in_err-reserve_room-clause-rows : goal.returns-in_err-reserve_room-clause-rows
-returns-in_err-reserve_room-clause-rows g c = c.in_err-reserve_room.ensures.rows ∙ c.loop-index.invariant.ready.kept
+returns-in_err-reserve_room-clause-rows g c = c.in_err-reserve_room.ensures.made.rows ∙ c.loop-index.invariant.ready.kept
 
 -- once the slot at hand is done, the next ones are left, with a longest that is no less than before and than here
 done : (g : _) (c : Joined-behind-gt2 g) (longest : ℕ)
@@ -95,14 +95,14 @@ done g c longest ready more here =
           let n : length counts ≡ length c.loop-index.counts = w.count_parts.ensures.len in
           let all : length S₀ ≡ length counts * C = c.requires.all ∙ ap (λ m. m * C) (sym (n ∙ c.loop-index.auto.counts)) in
           let told = rw (← n, hand.row w.index-slots-index-then-behind-gt2.result) at w.count_parts.ensures.counts in
-          let own : length L ≤ get_or (rooms T) index 0 = (let same = made.own in omega (arith, same, fits)) in
+          let own : length L ≤ get_or (rooms T) index 0 = (let same = made.made.own in omega (arith, same, fits)) in
           let leave =
           CanLeave-parts number T L C (length S₀) index made.room.0 counts c.requires.longer.grown hand.old all hand.own own told made.room.1 in
-          rw w.slots-is (next T longest made.rows made.others more (record { leave = leave; short = short })))
+          rw w.slots-is (next T longest made.made more (record { leave = leave; short = short })))
       | else-behind-gt2 w ↦ (
           let three : length L ≤ 3 = (let two = w.if-behind-gt2.false in omega (arith, row, behind, two)) in
           let leave = CanLeave-short number (rooms S) L C (length S₀) index three fits hand.bare in
-          rw w.slots-is (next S longest refl (λ _ _. refl) more (record { leave = leave; short = short })))
+          rw w.slots-is (next S longest (IsRoomMade-none S C index) more (record { leave = leave; short = short })))
     ]
 
 pub loop-index-preserved-then-behind-longest : goal.loop-index-preserved-then-behind-longest

@@ -1,7 +1,6 @@
 use Rattle.std.proofs.Common.{◌≡◌, ◌∙◌, [], ◌∷◌, ◌++◌, reverse, vec_capacity, refl, sym, ap, arith, append-nil, append_assoc}
-use Rattle.std.proofs.lemmas.List.{reverse-append}
+use Rattle.std.proofs.lemmas.List.{reverse-append, nil_from_length}
 use Rattle.intmap_table.specs.Tables.Moves.{CanPut}
-use Rattle.intmap_table.proofs.Tables.GrownLemmas.{no_length}
 use Rattle.intmap_table.proofs.Tables.PutLemmas.{ArePut-none, ArePut-more}
 use Rattle.intmap_table.proofs.table.slots.place.place_each.Goals as goal
 use Rattle.intmap_table.proofs.table.slots.place.place_each.Goals.{In-Some, In_default}
@@ -48,7 +47,7 @@ loop-pair-preserved g c =
 all : (g : _) (c : In_default g) → c.loop-pair.invariant.done ≡ reverse c.args.buffer.now.items
 all g c =
     let n = c.in_default.ensures.cases.1 in let l = c.pop.new.self.ok.0 in
-    let none : c.pop.new.self.items ≡ [] = no_length c.pop.new.self.items (omega (arith, n, l)) in
+    let none : c.pop.new.self.items ≡ [] = nil_from_length c.pop.new.self.items (omega (arith, n, l)) in
     sym (append-nil c.loop-pair.invariant.done) ∙ ap (λ L. c.loop-pair.invariant.done ++ reverse L) (sym (c.in_default.ensures.items ∙ append-nil c.pop.new.self.items ∙ none)) ∙ c.loop-pair.invariant.all
 
 pub returns-clause-put : goal.returns-clause-put
