@@ -20,8 +20,7 @@ use std::mem;
 /// Adds one to the count of the part that the key goes to. A part has `old` slots.
 #[inline(always)]
 fn count_key<K: IntKey>(counts: &mut [usize], key: &K, old: usize)
-    requires old { IsCapacity old }
-    requires all { IsCapacity (length counts.old * old) }
+    requires grown { IsGrown old (length counts.old * old) }
     requires fits { (t : ℕ) → t < length counts.old → get_or counts.old t 0 + 1 < 2 ^ 64 }
     ensures len { length counts.new ≡ length counts.old }
     ensures counts { (t : ℕ) → t < length counts.old → get_or counts.new t 0 ≡ get_or counts.old t 0
@@ -33,8 +32,7 @@ fn count_key<K: IntKey>(counts: &mut [usize], key: &K, old: usize)
 
 /// Adds to the count of each part, which has `old` slots, the number of these pairs that go there.
 fn count_each<K: IntKey, X>(counts: &mut [usize], pairs: &[(Stored<K>, X)], old: usize)
-    requires old { IsCapacity old }
-    requires all { IsCapacity (length counts.old * old) }
+    requires grown { IsGrown old (length counts.old * old) }
     requires fits { (t : ℕ) → t < length counts.old
         → get_or counts.old t 0 + length pairs.now < 2 ^ 64 }
     ensures len { length counts.new ≡ length counts.old }
@@ -48,8 +46,7 @@ fn count_each<K: IntKey, X>(counts: &mut [usize], pairs: &[(Stored<K>, X)], old:
 
 /// Counts the pairs of an old slot by the parts that they go to. A part has `old` slots.
 fn count_parts<K: IntKey, X, A: Allocator>(counts: &mut [usize], slot: &Slot<K, X, A>, old: usize)
-    requires old { IsCapacity old }
-    requires all { IsCapacity (length counts.old * old) }
+    requires grown { IsGrown old (length counts.old * old) }
     requires fits { length slot.now.pairs < 2 ^ 64 }
     ensures len { length counts.new ≡ length counts.old }
     ensures counts { (t : ℕ) → t < length counts.old → get_or counts.new t 0

@@ -7,14 +7,14 @@ use Rattle.intmap_table.specs.Tables.Slots.{all_pairs}
 use Rattle.intmap_table.proofs.table.slots.grow.count_parts.Goals as goal
 use Rattle.intmap_table.proofs.table.slots.grow.count_parts.Goals.{in-Some, in_default}
 
-pub count_key-requires-clause-all : goal.count_key-requires-clause-all
-count_key-requires-clause-all g c = rw c.fill.ensures.len c.requires.all
+pub count_key-requires-clause-grown : goal.count_key-requires-clause-grown
+count_key-requires-clause-grown g c = rw c.fill.ensures.len c.requires.grown
 
 pub count_key-requires-clause-fits : goal.count_key-requires-clause-fits
 count_key-requires-clause-fits g c = λ t lt. let none = c.fill.ensures.clones t 0 (rw c.fill.ensures.len at lt) refl in omega (arith, none)
 
-pub count_each-requires-clause-all : goal.count_each-requires-clause-all
-count_each-requires-clause-all g c = rw (c.match-first.auto.counts, c.fill.ensures.len) c.requires.all
+pub count_each-requires-clause-grown : goal.count_each-requires-clause-grown
+count_each-requires-clause-grown g c = rw (c.match-first.auto.counts, c.fill.ensures.len) c.requires.grown
 
 pub returns-clause-counts : goal.returns-clause-counts
 returns-clause-counts g c = λ t lt.

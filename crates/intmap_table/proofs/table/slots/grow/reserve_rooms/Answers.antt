@@ -46,8 +46,8 @@ bounds-slots-index-then-behind-gt2 g c = within g (goal.at.bounds-slots-index-th
 pub overflow_add-old : goal.overflow_add-old
 overflow_add-old g c = record { fits = (let most = capacity-greatest _ c.requires.longer.grown.old in omega (arith, most)) }
 
-pub count_parts-requires-clause-all : goal.count_parts-requires-clause-all
-count_parts-requires-clause-all g c = rw (c.loop-index.auto.counts, ← c.requires.all) c.requires.longer.grown.new
+pub count_parts-requires-clause-grown : goal.count_parts-requires-clause-grown
+count_parts-requires-clause-grown g c = rw (c.loop-index.auto.counts, ← c.requires.all) c.requires.longer.grown
 
 pub count_parts-requires-clause-fits : goal.count_parts-requires-clause-fits
 count_parts-requires-clause-fits g c =
