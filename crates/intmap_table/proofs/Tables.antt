@@ -10,7 +10,6 @@ pub mod ExtractSlotsLemmas
 pub mod FrontLemmas
 pub mod MarkedLemmas
 pub mod MemoryLemmas
-pub mod MoveLemmas
 pub mod GrownLemmas
 pub mod LeftLemmas
 pub mod RoomLemmas

@@ -68,11 +68,6 @@ pub OnOk-at : {T E : Type 0} (r : Result T E) (P : Type 0) → is_err r ≡ fals
 OnOk-at (Ok x) P is holds = holds
 OnOk-at (Err e) P is holds = absurd (cc)
 
--- what follows from what an error ensures is ensured by the error
-pub OnErr-map : {T E : Type 0} (r : Result T E) {P Q : Type 0} → (P → Q) → OnErr r P → OnErr r Q
-OnErr-map (Ok x) f holds = tt
-OnErr-map (Err e) f holds = f holds
-
 -- what both ensure holds
 pub OnOk-or : {T E : Type 0} (r : Result T E) {P : Type 0} → OnOk r P → OnErr r P → P
 OnOk-or (Ok x) ok err = ok

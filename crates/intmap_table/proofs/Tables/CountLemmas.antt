@@ -1,23 +1,17 @@
 -- Pairs of an old slot, counted by the part of the longer table that they go to, and room for them there.
-use Rattle.std.proofs.Common.{◌≡◌, ◌≢◌, ◌⊎◌, inl, inr, ℕ, zero, suc, ◌+◌, ◌*◌, ◌%◌, ◌^◌, ◌<◌, ◌≤◌, Bool, true, false, cond, ◌==◌, List, [], ◌∷◌, length, get_or, set, refl, sym, ap, ◌∙◌, subst, arith, mul_comm, below_more, All}
-use Rattle.std.proofs.Math.Nat.{mul-le-mul_right}
+use Rattle.std.proofs.Common.{◌≡◌, ◌≢◌, ◌⊎◌, inl, inr, ℕ, ◌+◌, ◌*◌, ◌%◌, ◌^◌, ◌<◌, ◌≤◌, Bool, true, false, cond, ◌==◌, List, [], ◌∷◌, length, get_or, set, refl, sym, ap, ◌∙◌, subst, arith, mul_comm, below_more, All}
+use Rattle.std.proofs.Math.Nat.{mul-le-mul_right, le-mul_of_pos_right}
 use Rattle.std.proofs.lemmas.Nat.{mod-mul-add, mul-add-lt, same_from_place}
-use Rattle.std.proofs.lemmas.List.{get_or-map}
 use Rattle.std.proofs.lemmas.Bool.{eq-eqb, ne_eqb, cases_eq}
 use Rattle.std.proofs.lemmas.List.Folds.{length-flat_map-take}
 use Rattle.intmap_table.specs.Classes.{slot_number}
 use Rattle.intmap_table.specs.Tables.Bits.{marked_indices}
 use Rattle.intmap_table.specs.Tables.Slots.{Held, rows, joined}
 use Rattle.intmap_table.specs.Tables.Moves.{rooms, part_room, bare_slot, IsLonger, IsRoomMade, CanLeave, CanMoveOn}
-use Rattle.intmap_table.proofs.Tables.TableLemmas.{length-rows, length-same_rows, get_or-rows, rows-kept, room-set, room-set_other}
+use Rattle.intmap_table.proofs.Tables.TableLemmas.{length-rows, length-same_rows, get_or-rows, get_or-rooms, rows-kept, room-set, room-set_other}
 use Rattle.intmap_table.proofs.Tables.GrownLemmas.{modulo-below, grown-more}
 use Rattle.intmap_table.proofs.Tables.LeftLemmas.{AreSplit, AreSplit-marked, AreSplit-next, first-left, own-row}
 use Rattle.intmap_table.proofs.Tables.RoomLemmas.{CanLeave-same, CanLeave-none}
-
--- several parts of C slots each are at least C slots
-pub one_part : (P C : ℕ) → 0 < P → C ≤ P * C
-one_part zero C some = absurd (omega (arith, some))
-one_part (suc P) C some = let e : suc P * C ≡ P * C + C = omega arith in omega (arith, e)
 
 -- slot t C + i is one of P parts of C slots
 pub part-within : (P C t i : ℕ) → t < P → i < C → t * C + i < P * C
@@ -29,7 +23,7 @@ offset-fits i n size below all = let le : i ≤ n = omega (arith, below) in let 
 
 -- past part 0 it is past the old slots
 pub part-past : (C t i : ℕ) → 0 < t → C ≤ t * C + i
-part-past C t i some = let more = one_part t C some in omega (arith, more)
+part-past C t i some = let more = le-mul_of_pos_right C some in let e = mul_comm C t in omega (arith, more, e)
 
 -- of the parts of old slot i, those from an index on have no block, and those before it have room for the pairs that are counted for them, except part x, which has no block either; until a part was spared, x is none
 pub record IsShared {K X : Type 0} (S : List (Held K X)) (counts : List ℕ) (C i part : ℕ) (spared : Bool) (x : ℕ) : Type 0 where
@@ -175,7 +169,7 @@ module _ {K X : Type 0} (number : K → ℕ) (S₀ : List (Held K X)) (marks : L
           old = here.old;
           slot = slot;
           row = λ d. sym (get_or-rows S index d within) ∙ ap (λ (T : List (List (K × X))). get_or T index []) ready.kept;
-          room = λ d. get_or-map (λ (h : Held K X). h.room) S index d 0 within;
+          room = λ d. get_or-rooms S index d within;
           some = here.some;
           few =
               let most = length-flat_map-take (λ (s : List (K × X)). s) (rows S₀) index [] (let n = length-rows S₀ in omega (arith, slot, n)) in
@@ -183,7 +177,7 @@ module _ {K X : Type 0} (number : K → ℕ) (S₀ : List (Held K X)) (marks : L
           own = own-row number S₀ marks C longer index here.old;
           bare = λ j lt part apart.
               let past : C ≤ j = (let own = modulo-below C j in grind (arith, apart, part, own)) in
-              here.rooms j part ∙ get_or-map (λ (h : Held K X). h.room) S₀ j bare_slot 0 lt ∙ ap (λ (h : Held K X). h.room) (bare j past lt);
+              here.rooms j part ∙ get_or-rooms S₀ j bare_slot lt ∙ ap (λ (h : Held K X). h.room) (bare j past lt);
         }
 
     -- with room made in its parts alone, so that it can be left, the next index is at hand

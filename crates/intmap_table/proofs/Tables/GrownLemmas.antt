@@ -1,5 +1,6 @@
 -- Slots in a table that has become longer: which of them keys have, and which of them the pairs of an old slot go to.
-use Rattle.std.proofs.Common.{◌≡◌, ◌≢◌, ℕ, ◌+◌, ◌-◌, ◌*◌, ◌/◌, ◌%◌, ◌^◌, ◌<◌, ◌≤◌, Bool, false, ◌==◌, filter, List, [], ◌∷◌, length, get_or, refl, sym, ap, ◌∙◌, subst, arith, mul_comm, zero-mul, zero-add, pow_pos, mul-one, mul-le-mul_left, All}
+use Rattle.std.proofs.Common.{◌≡◌, ◌≢◌, ℕ, ◌+◌, ◌-◌, ◌*◌, ◌/◌, ◌%◌, ◌^◌, ◌<◌, ◌≤◌, Bool, false, ◌==◌, filter, List, [], ◌∷◌, length, get_or, refl, sym, ap, ◌∙◌, subst, arith, mul_comm, zero-mul, zero-add, pow_pos, All}
+use Rattle.std.proofs.Math.Nat.{le-mul_of_pos_right}
 use Rattle.std.proofs.lemmas.Nat.{pow-add, mod-pow-add, mod-mul-add}
 use Rattle.std.proofs.lemmas.Bool.{ne_eqb}
 use Rattle.std.proofs.lemmas.List.Elements.{All-weaker, All-head, All-tail}
@@ -56,9 +57,7 @@ module _ {P : Type 0} where
 
 -- grown slots are no fewer
 pub grown-more : (C D : ℕ) → IsGrown C D → C ≤ D
-grown-more C D grown =
-    let a : ℕ = grown.times.0 in let some : 1 ≤ 2 ^ a = pow_pos a in
-    subst (λ d. C ≤ d) (sym grown.times.1) (subst (λ c. c ≤ C * 2 ^ a) (mul-one C) (mul-le-mul_left C some))
+grown-more C D grown = rw grown.times.1 (le-mul_of_pos_right C (pow_pos grown.times.0))
 
 module _ {K X : Type 0} (number : K → ℕ) (C D : ℕ) (grown : IsGrown C D) where
   -- pairs of old slot k don't go to a part of another

@@ -1,23 +1,24 @@
 -- All old slots moved, one after another.
-use Rattle.std.proofs.Common.{◌≡◌, ◌≢◌, ℕ, ◌+◌, ◌*◌, ◌/◌, ◌%◌, ◌<◌, ◌≤◌, Bool, false, List, [], ◌∷◌, ◌++◌, length, get_or, set, take, replicate, refl, sym, ap, ◌∙◌, arith, append-nil, length-append, length-set, get_or-set_same, get_or-set_other, All}
+use Rattle.std.proofs.Common.{◌≡◌, ◌≢◌, ℕ, ◌+◌, ◌*◌, ◌/◌, ◌%◌, ◌<◌, ◌≤◌, Bool, true, false, List, [], ◌∷◌, ◌++◌, length, get_or, set, take, replicate, refl, sym, ap, ◌∙◌, subst, arith, append-nil, length-append, length-set, get_or-set_same, get_or-set_other, All}
 use Rattle.std.specs.Prelude.{nat_lt, ◌==◌, ◌||◌}
-use Rattle.std.proofs.lemmas.Bool.{ne_eqb}
+use Rattle.std.proofs.Math.Bool.{or-false}
+use Rattle.std.proofs.lemmas.Bool.{eqb-true, ne_eqb}
 use Rattle.std.proofs.lemmas.List.{map-set, get_or_past, length-replicate}
+use Rattle.std.proofs.lemmas.List.Elements.{All-weaker, filter_passes}
 use Rattle.std.proofs.lemmas.Nat.{mod_below}
 use Rattle.intmap_table.specs.Classes.{IsCapacity, slot_number}
-use Rattle.intmap_table.specs.Walk.{slot_of}
+use Rattle.intmap_table.specs.Walk.{slot_of, walk_of}
 use Rattle.intmap_table.specs.Tables.Bits.{marked, marked_indices}
-use Rattle.intmap_table.specs.Tables.Slots.{Held, rows, joined, pairs_at, AreMarked}
+use Rattle.intmap_table.specs.Tables.Slots.{Held, rows, joined, pairs_at, AreMarked, IsTable}
 use Rattle.intmap_table.specs.Tables.Moves.{rooms, bare_slot, IsLonger, need, ArePut, CanLeave, CanMoveOn, IsMoved, AreFree, CanMove, AreMovedFrom}
 use Rattle.intmap_table.proofs.SlotNumberLemmas.{slot_number-below, capacity-positive}
-use Rattle.intmap_table.proofs.Tables.TableLemmas.{length-rows, room-set_other}
+use Rattle.intmap_table.proofs.Tables.TableLemmas.{length-rows, room-set_other, walk_of-rows}
 use Rattle.intmap_table.proofs.Tables.MarkedLemmas.{get_or-of_default}
 use Rattle.intmap_table.proofs.Tables.FilledLemmas.{pairs_at-marked}
 use Rattle.intmap_table.proofs.Tables.GrownLemmas.{modulo-below, grown-more, filter_none, slot_of-apart, slot_of-old, part-of}
 use Rattle.intmap_table.proofs.Tables.LeftLemmas.{AreSplit, AreSplit-marked, AreSplit-next, first-left, row-old, own-row}
 use Rattle.intmap_table.proofs.Tables.RetainSlotsLemmas.{joined-before}
 use Rattle.intmap_table.proofs.Tables.RoomLemmas.{CanLeave-same, need-most, room-emptied}
-use Rattle.intmap_table.proofs.Tables.PutLemmas.{or-false}
 
 -- an old slot whose pairs have not moved: they can leave it, and no part of it is marked
 pub record IsLeft {K X : Type 0} (number : K → ℕ) (S₀ : List (Held K X)) (C : ℕ) (bits : List Bool) (S : List (Held K X)) (k : ℕ) : Type 0 where
@@ -217,3 +218,17 @@ module _ {K X : Type 0} (number : K → ℕ) (S₀ : List (Held K X)) (old : Lis
             let all = length-append (get_or R index []) (pairs_at R rest) in let more = put.counted in let sum = before.counted in
             omega (arith, same, all, more, sum);
       }
+
+module _ {K X : Type 0} (number : K → ℕ) where
+  -- once all are moved, the rows, joined, are the walk of the pairs
+  pub joined-moved : (L : List (K × X)) (C : ℕ) (T : List (Held K X)) → IsMoved number L C T → joined (rows T) ≡ walk_of number L C
+  joined-moved L C T moved = sym (walk_of-rows number L C T (sym moved.len) (λ j below. sym (moved.rows j below)))
+
+  -- and the slots a table
+  pub IsTable-moved : (L : List (K × X)) (C : ℕ) (T : List (Held K X)) → IsMoved number L C T → IsTable number T
+  IsTable-moved L C T moved = record {
+    capacity = subst IsCapacity (sym moved.len) moved.capacity;
+    in_place = rw moved.len (λ j below. rw (moved.rows j below)
+        (All-weaker (λ p. (slot_number number p.0 C == j) ≡ true) (λ p. slot_number number p.0 C ≡ j) (λ p e. eqb-true (slot_number number p.0 C) j e)
+        (slot_of number L C j) (filter_passes (λ p. slot_number number p.0 C == j) L)));
+  }

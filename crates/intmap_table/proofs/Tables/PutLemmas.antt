@@ -1,7 +1,8 @@
 -- Pairs put at the ends of their slots, one after another, and the marks of these slots.
 use Rattle.std.proofs.Common.{◌≡◌, ◌≢◌, ◌⊎◌, inl, inr, ℕ, ◌+◌, ◌<◌, Bool, true, false, List, [], ◌∷◌, ◌++◌, length, get_or, set, refl, sym, ap, ◌∙◌, subst, arith, append-nil, append_assoc, length-append, length-set, get_or-set_same, get_or-set_other}
-use Rattle.std.specs.Prelude.{nat_lt, ◌||◌, ◌==◌}
-use Rattle.std.proofs.lemmas.List.{map-set, get_or-map, nil_from_length}
+use Rattle.std.specs.Prelude.{nat_lt, ◌==◌}
+use Rattle.std.proofs.Math.Bool.{or-false}
+use Rattle.std.proofs.lemmas.List.{map-set, nil_from_length}
 use Rattle.std.proofs.lemmas.List.Elements.{filter-append}
 use Rattle.std.proofs.lemmas.Bool.{cases_eq}
 use Rattle.std.proofs.lemmas.Bool.Decides.{nat_tests}
@@ -11,25 +12,13 @@ use Rattle.intmap_table.specs.Tables.Bits.{marked}
 use Rattle.intmap_table.specs.Tables.Slots.{Held, rows}
 use Rattle.intmap_table.specs.Tables.Moves.{rooms, bare_slot, need, ArePut, CanPut, AreFree}
 use Rattle.intmap_table.proofs.SlotNumberLemmas.{slot_number-below}
-use Rattle.intmap_table.proofs.Tables.TableLemmas.{get_or-rows, row-set, room-set, row-set_other, room-set_other}
+use Rattle.intmap_table.proofs.Tables.TableLemmas.{get_or-rows, get_or-rooms, row-set, room-set, row-set_other, room-set_other}
 use Rattle.intmap_table.proofs.Tables.FilledLemmas.{filled-pushed}
 use Rattle.intmap_table.proofs.Tables.RoomLemmas.{slot_of-not_first, length-first, need-most}
-
-module _ {K X : Type 0} (S : List (Held K X)) (j : ℕ) (d : Held K X) (within : j < length S) where
-  -- the row of a slot
-  pub row-before : get_or (rows S) j [] ≡ (get_or S j d).pairs
-  row-before = get_or-rows S j d within
-
-  -- and its room
-  pub room-before : get_or (rooms S) j 0 ≡ (get_or S j d).room
-  room-before = get_or-map (λ (h : Held K X). h.room) S j d 0 within
 
 -- slots with the same pairs and as much room are the same
 pub Held-same : {K X : Type 0} (s t : Held K X) → s.pairs ≡ t.pairs → s.room ≡ t.room → s ≡ t
 Held-same s t pairs room = ap (λ ps. record s { pairs = ps }) pairs ∙ ap (λ n. record t { room = n }) room
-
-pub or-false : (b : Bool) → (b || false) ≡ b
-or-false b = grind arith
 
 -- what a slot with so many pairs and this room has once it got one more: a slot with a pair and no block took the current block first
 abbrev HasTaken : ℕ → ℕ → ℕ → ℕ → ℕ → Type 0
@@ -48,10 +37,10 @@ pub IsPut-set : {K X : Type 0} (S : List (Held K X)) (j block left : ℕ) (d s :
     → HasTaken (length (get_or S j d).pairs) (get_or S j d).room s.room block left → IsPut S j block p (set S j s) left
 IsPut-set S j block left d s p below pairs how = record {
   len = length-set S j s;
-  row = row-set S j s below ∙ pairs ∙ ap (λ ps. ps ++ p ∷ []) (sym (row-before S j d below));
+  row = row-set S j s below ∙ pairs ∙ ap (λ ps. ps ++ p ∷ []) (sym (get_or-rows S j d below));
   others = row-set_other S j s;
   other_rooms = room-set_other S j s;
-  how = rw (row-before S j d below, room-before S j d below, room-set S j s below) how;
+  how = rw (get_or-rows S j d below, get_or-rooms S j d below, room-set S j s below) how;
 }
 
 module _ {K X : Type 0} (number : K → ℕ) where
@@ -68,12 +57,12 @@ module _ {K X : Type 0} (number : K → ℕ) where
 
     -- the slot of the next pair is marked exactly if it holds a pair
     pub told-at : (d : Held K X) → marked marks j ≡ nat_lt 0 (length (get_or S j d).pairs)
-    told-at d = let n = one in can.told j below (omega (arith, n)) ∙ ap (λ ps. nat_lt 0 (length ps)) (row-before S j d below)
+    told-at d = let n = one in can.told j below (omega (arith, n)) ∙ ap (λ ps. nat_lt 0 (length ps)) (get_or-rows S j d below)
 
     -- it has room for the pair, or the current block has
     pub room-at : (d : Held K X) → let h = get_or S j d in (length h.pairs < h.room) ⊎ ((h.room ≡ 1) × (length h.pairs < 1 + block))
     room-at d =
-        let n = one in let row = ap length (row-before S j d below) in let room = room-before S j d below in
+        let n = one in let row = ap length (get_or-rows S j d below) in let room = get_or-rooms S j d below in
         let has = can.room j below (omega (arith, n)) in grind (arith, n, row, room, has)
 
     -- once the pair is put, and its slot marked, the others still can

@@ -39,6 +39,9 @@ module _ {K X : Type 0} where
   pub get_or-rows : (S : List (Held K X)) (i : ℕ) (d : Held K X) → i < length S → get_or (rows S) i [] ≡ (get_or S i d).pairs
   get_or-rows S i d below = get_or-map (λ h. h.pairs) S i d [] below
 
+  pub get_or-rooms : (S : List (Held K X)) (i : ℕ) (d : Held K X) → i < length S → get_or (rooms S) i 0 ≡ (get_or S i d).room
+  get_or-rooms S i d below = get_or-map (λ h. h.room) S i d 0 below
+
   -- the pairs of a slot are its row
   pub row-at : (S : List (Held K X)) (i : ℕ) (h : Held K X) → i < length S → h ≡ get_or S i h → h.pairs ≡ row_of S i
   row-at S i h below is = ap (λ (s : Held K X). s.pairs) is ∙ sym (get_or-rows S i h below)

@@ -6,7 +6,7 @@ use Rattle.intmap_table.specs.Tables.Moves.{IsGrown, IsMoved}
 use Rattle.intmap_table.proofs.SlotNumberLemmas.{capacity-greatest, capacity-positive}
 use Rattle.intmap_table.proofs.Tables.GrownLemmas.{IsGrown-from, grown-more}
 use Rattle.intmap_table.proofs.Tables.FilledLemmas.{IsDirectory-same_rows}
-use Rattle.intmap_table.proofs.Tables.MoveLemmas.{joined-moved, IsTable-moved}
+use Rattle.intmap_table.proofs.Tables.MovingLemmas.{joined-moved, IsTable-moved}
 use Rattle.intmap_table.proofs.Tables.MemoryLemmas.{OnErr-always}
 use Rattle.intmap_table.proofs.table.slots.Slots.grow.Goals as goal
 use Rattle.intmap_table.proofs.table.slots.Slots.grow.Goals.{After-self, After-move_all}

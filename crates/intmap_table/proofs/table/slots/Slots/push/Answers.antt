@@ -1,6 +1,6 @@
 use Rattle.std.proofs.Common.{◌≡◌, ◌<◌, ◌∙◌, List, [], ◌∷◌, ◌++◌, true, length, sym, ap}
 use Rattle.std.specs.Prelude.{nat_lt, Result, Ok, Err, OnOk, OnErr}
-use Rattle.intmap_table.proofs.Tables.BackLemmas.{OnErr-map}
+use Rattle.std.proofs.lemmas.Result.{on_err_weaker}
 use Rattle.intmap_table.proofs.Tables.FilledLemmas.{filled-pushed, marked-at, IsDirectory-set}
 use Rattle.intmap_table.proofs.Tables.TableLemmas.{rows-kept_at}
 use Rattle.intmap_table.proofs.table.slots.Slots.push.Goals as goal
@@ -27,7 +27,7 @@ invariant_of-self g c =
 
 pub returns-then-set-clause-err : goal.returns-then-set-clause-err
 returns-then-set-clause-err g c =
-    rw (← c.self.view_is) (OnErr-map c.push.result (rows-kept_at _ _ _ _ c.index_mut-slot.ensures.value) c.push.ensures.err)
+    rw (← c.self.view_is) (on_err_weaker c.push.result (rows-kept_at _ _ _ _ c.index_mut-slot.ensures.value) c.push.ensures.err)
 
 pub invariant_of-self-2 : goal.invariant_of-self-2
 invariant_of-self-2 g c =

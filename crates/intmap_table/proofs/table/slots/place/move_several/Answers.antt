@@ -2,18 +2,19 @@ use Rattle.std.proofs.Common.{◌≡◌, ◌-◌, ◌∙◌, [], ◌∷◌, leng
 use Rattle.intmap_table.specs.Tables.Slots.{rows}
 use Rattle.intmap_table.specs.Tables.Moves.{rooms, CanPut}
 use Rattle.intmap_table.proofs.Tables.CountLemmas.{offset-fits}
-use Rattle.intmap_table.proofs.Tables.PutLemmas.{ArePut-more, row-before, room-before}
+use Rattle.intmap_table.proofs.Tables.PutLemmas.{ArePut-more}
+use Rattle.intmap_table.proofs.Tables.TableLemmas.{get_or-rows, get_or-rooms}
 use Rattle.intmap_table.proofs.table.slots.place.move_several.Goals as goal
 use Rattle.intmap_table.proofs.table.slots.place.move_several.Goals.{After-take_out-first}
 
 module _ (g : _) (c : After-take_out-first g) where
   -- the pairs of the old slot: the first, and those in the buffer
   row : get_or (rows c.args.slots.now) c.args.index [] ≡ c.take_out-first.result.0 ∷ reverse c.take_out-first.new.buffer.items
-  row = row-before c.args.slots.now c.args.index c.index-slots-index.result c.requires.ready.within ∙ c.take_out-first.ensures.pairs
+  row = get_or-rows c.args.slots.now c.args.index c.index-slots-index.result c.requires.ready.within ∙ c.take_out-first.ensures.pairs
 
   -- the block at hand is that of the old slot
   block : get_or (rooms c.args.slots.now) c.args.index 0 - 1 ≡ vec_capacity c.take_out-first.result.1
-  block = let r = room-before c.args.slots.now c.args.index c.index-slots-index.result c.requires.ready.within in let b = c.take_out-first.ensures.block_room in omega (arith, r, b)
+  block = let r = get_or-rooms c.args.slots.now c.args.index c.index-slots-index.result c.requires.ready.within in let b = c.take_out-first.ensures.block_room in omega (arith, r, b)
 
   can : CanPut g.K.IntKey.number_of (set c.args.slots.now c.args.index c.take_out-first.new.self) c.args.bits.now
       (c.take_out-first.result.0 ∷ reverse c.take_out-first.new.buffer.items) (vec_capacity c.take_out-first.result.1)
@@ -24,11 +25,11 @@ offset_bounds-slots-index g c = record { fits = offset-fits _ _ _ c.requires.rea
 
 pub take_out-first-requires-clause-several : goal.take_out-first-requires-clause-several
 take_out-first-requires-clause-several g c =
-    let r = ap length (row-before c.args.slots.now c.args.index c.index-slots-index.result c.requires.ready.within) in omega (arith, r, c.requires.several)
+    let r = ap length (get_or-rows c.args.slots.now c.args.index c.index-slots-index.result c.requires.ready.within) in omega (arith, r, c.requires.several)
 
 pub take_out-first-requires-clause-enough : goal.take_out-first-requires-clause-enough
 take_out-first-requires-clause-enough g c =
-    let r = ap length (row-before c.args.slots.now c.args.index c.index-slots-index.result c.requires.ready.within) in omega (arith, r, c.requires.ready.enough)
+    let r = ap length (get_or-rows c.args.slots.now c.args.index c.index-slots-index.result c.requires.ready.within) in omega (arith, r, c.requires.ready.enough)
 
 pub place-requires-clause-can : goal.place-requires-clause-can
 place-requires-clause-can g c = (reverse c.take_out-first.new.buffer.items, can g (goal.at.place-requires-clause-can g c).After-take_out-first)

@@ -3,14 +3,15 @@ use Rattle.std.proofs.lemmas.List.{set-get_or, map-set}
 use Rattle.intmap_table.specs.Tables.Slots.{Held, rows}
 use Rattle.intmap_table.specs.Tables.Moves.{AreFree}
 use Rattle.intmap_table.proofs.Tables.CountLemmas.{offset-fits}
-use Rattle.intmap_table.proofs.Tables.PutLemmas.{row-before, CanPut-lone, Held-same}
+use Rattle.intmap_table.proofs.Tables.PutLemmas.{CanPut-lone, Held-same}
+use Rattle.intmap_table.proofs.Tables.TableLemmas.{get_or-rows}
 use Rattle.intmap_table.proofs.table.slots.place.move_slot.Goals as goal
 use Rattle.intmap_table.proofs.table.slots.place.move_slot.Goals.{In-Some, In_default}
 
 module _ (g : _) (c : In-Some g) where
   -- the lone pair is all of the old slot
   row : get_or (rows c.args.slots.now) c.args.index [] ≡ c.in-Some.lone ∷ []
-  row = row-before c.args.slots.now c.args.index c.index-slots-index.result c.requires.ready.within ∙ c.in-Some.ensures.lone
+  row = get_or-rows c.args.slots.now c.args.index c.index-slots-index.result c.requires.ready.within ∙ c.in-Some.ensures.lone
 
   -- its new slot holds none
   free : AreFree g.K.IntKey.number_of (set (rows c.args.slots.now) c.args.index []) (c.in-Some.lone ∷ []) (length c.args.slots.now)
@@ -47,7 +48,7 @@ returns-in-Some-clause-moved g c = record {
 pub move_several-requires-clause-several : goal.move_several-requires-clause-several
 move_several-requires-clause-several g c =
     let s = same g (goal.at.move_several-requires-clause-several g c).In_default in
-    let r = ap length (row-before c.args.slots.now c.args.index c.index-slots-index.result c.requires.ready.within) in
+    let r = ap length (get_or-rows c.args.slots.now c.args.index c.index-slots-index.result c.requires.ready.within) in
     let many : 1 < length (get_or (rows c.args.slots.now) c.args.index []) = omega (arith, r, c.requires.filled, c.in_default.ensures.not_lone) in
     rw s many
 

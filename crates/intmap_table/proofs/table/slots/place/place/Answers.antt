@@ -5,7 +5,8 @@ use Rattle.intmap_table.specs.Classes.{slot_number}
 use Rattle.intmap_table.specs.Tables.Slots.{Held}
 use Rattle.intmap_table.proofs.Tables.CountLemmas.{offset-fits}
 use Rattle.intmap_table.proofs.Tables.MarkedLemmas.{row-none}
-use Rattle.intmap_table.proofs.Tables.PutLemmas.{IsPut, IsPut-set, told-at, room-at, CanPut-put, ArePut-put, row-before}
+use Rattle.intmap_table.proofs.Tables.PutLemmas.{IsPut, IsPut-set, told-at, room-at, CanPut-put, ArePut-put}
+use Rattle.intmap_table.proofs.Tables.TableLemmas.{get_or-rows}
 use Rattle.intmap_table.proofs.Tables.RoomLemmas.{length-first}
 use Rattle.intmap_table.proofs.table.slots.place.place.Goals as goal
 use Rattle.intmap_table.proofs.table.slots.place.place.Goals.{After-set, After-tick, then-set+then-not-is_alone, else-set, else-set-via-then-set+else-not-is_alone, else-set-via-else-set}
@@ -35,7 +36,7 @@ module _ (g : _) (c : After-set g) where
   alone : c.args.is_alone ≡ true → held.pairs ≡ []
   alone is =
       let one = length-first g.K.IntKey.number_of c.args.pair [] (length c.args.slots.now) c.index_of-index.result slot in
-      sym (row-before c.args.slots.now c.index_of-index.result c.index-slots-index.result c.index_of-index.ensures.within)
+      sym (get_or-rows c.args.slots.now c.index_of-index.result c.index-slots-index.result c.index_of-index.ensures.within)
       ∙ c.requires.alone is c.index_of-index.result c.index_of-index.ensures.within (omega (arith, one))
 
 pub offset_bounds-slots-index : goal.offset_bounds-slots-index
