@@ -1,14 +1,13 @@
 -- What a closure that picks one element at a step leaves of lists.
-use Rattle.std.proofs.Common.{◌≡◌, ℕ, ◌+◌, ◌<◌, ◌≤◌, Bool, true, false, List, [], ◌∷◌, ◌++◌, Option, Some, None, length, get_or, set, take, drop, refl, sym, ap, ◌∙◌, subst, arith, append-nil, append_assoc, length-append, length-set, get_or-set_same}
+use Rattle.std.proofs.Common.{◌≡◌, ℕ, ◌+◌, ◌<◌, ◌≤◌, Bool, true, false, List, [], ◌∷◌, ◌++◌, Option, Some, None, length, get_or, set, take, drop, refl, sym, ap, ◌∙◌, subst, arith, append-nil, append_assoc, length-append, get_or-set_same}
 use Rattle.std.specs.Prelude.{All, not, filter}
 use Rattle.std.specs.Bool.{MatchBool}
 use Rattle.std.specs.List.{sum_by}
 use Rattle.std.specs.Option.{option_len, option_to_list}
 use Rattle.std.specs.List.Retain.{ExtractsNext}
-use Rattle.std.proofs.lemmas.List.{drop_more, take_more_set, take-set-le, drop-set-lt, take_all, take-append-le, length-take-le}
+use Rattle.std.proofs.lemmas.List.{drop_more, drop-append-le, drop-set-lt, length-take-le, take_more_set, take-append-drop, take-append-le, take-set-le}
 use Rattle.std.proofs.Math.ListN.{get_or-append}
-use Rattle.std.proofs.Math.Seq.{drop-append_seam}
-use Rattle.std.proofs.lemmas.List.{take-append-drop}
+use Rattle.std.proofs.Math.Seq.{drop-append-add, drop-append_seam, take-append-add, take-append_seam}
 use Rattle.std.proofs.lemmas.List.Elements.{All-append, All-cons, All-head, All-tail}
 use Rattle.std.proofs.lemmas.List.Sums.{sum_by-append, sum_by-cons, sum_by-take-drop}
 use Rattle.intmap_table.specs.Picking.{ExtractsBehind}
@@ -22,23 +21,6 @@ All-front P xs ys all = λ k d lt. subst P (get_or-append xs ys d k lt) (all k d
 pub All-behind : {X : Type 0} (P : X → Type 0) (xs ys : List X) → All P (xs ++ ys) → All P ys
 All-behind P [] ys all = all
 All-behind P (x ∷ xs) ys all = All-behind P xs ys (All-tail P x (xs ++ ys) all)
-
-module _ {X : Type 0} (i : ℕ) (xs ys : List X) (within : i ≤ length xs) where
-  -- the first i elements and others behind them
-  pub take-cut : take i (take i xs ++ ys) ≡ take i xs
-  take-cut = let n : length (take i xs) ≡ i = length-take-le i xs within in take-append-le i (take i xs) ys (omega (arith, n)) ∙ take_all i (take i xs) (omega (arith, n))
-
-  pub drop-cut : drop i (take i xs ++ ys) ≡ ys
-  drop-cut = let n : length (take i xs) ≡ i = length-take-le i xs within in subst (λ m. drop m (take i xs ++ ys) ≡ ys) n (drop-append_seam (take i xs) ys)
-
-module _ {X : Type 0} (ps qs : List X) (i : ℕ) (q : X) (left : qs ≡ set ps i q) where
-  -- an element that was written leaves those behind it
-  pub drop-written : drop (i + 1) qs ≡ drop (i + 1) ps
-  drop-written = ap (drop (i + 1)) left ∙ drop-set-lt (i + 1) ps i q (omega arith)
-
-  -- and their number
-  pub length-written : length qs ≡ length ps
-  length-written = ap length left ∙ length-set ps i q
 
 module _ {F X : Type 0} (R : F → X → Bool → F → X → Type 0) (P : F → List X → Option X → F → List X → List X → Type 0)
     (none : (f : F) → P f [] None f [] []) (picks : (f g : F) (x y : X) (L : List X) → R f x true g y → P f (x ∷ L) (Some y) g [] L)
@@ -54,57 +36,42 @@ module _ {F X : Type 0} (R : F → X → Bool → F → X → Type 0) (P : F →
       either false call m on = rw m.2 (keeps f e.1 g x e.2 L m.0 rest r call (on m.0 m.1))
 
 module _ {F X : Type 0} (R : F → X → Bool → F → X → Type 0) where
-  -- a step through L behind D is one through L₀ behind D₀
-  abbrev pub StepsTo : F → List X → List X → F → List X → List X → Type 0
-  StepsTo f₀ D₀ L₀ f D L = (r : Option X) (g : F) (kept rest : List X) → ExtractsNext R f L r g kept rest → (k₀ : List X) × ExtractsNext R f₀ L₀ r g k₀ rest × (D ++ kept ≡ D₀ ++ k₀)
-
-  pub StepsTo-start : (f : F) (D L : List X) → StepsTo f D L f D L
-  StepsTo-start f D L r g kept rest step = (kept, step, refl)
-
-  module _ (f₀ f h : F) (D₀ L₀ D L : List X) (x y : X) (leads : StepsTo f₀ D₀ L₀ f D (x ∷ L)) where
-    -- the first element isn't picked
-    pub StepsTo-keeps : R f x false h y → StepsTo f₀ D₀ L₀ h (D ++ y ∷ []) L
-    StepsTo-keeps call r g kept rest step =
-        let first = leads r g (y ∷ kept) rest (false, h, y, call, (kept, step, refl)) in
-        (first.0, first.1, append_assoc D (y ∷ []) kept ∙ first.2)
-
-    -- the first element is picked
-    pub StepsTo-picks : R f x true h y → (k₀ : List X) × ExtractsNext R f₀ L₀ (Some y) h k₀ L × (D ≡ D₀ ++ k₀)
-    StepsTo-picks call =
-        let last = leads (Some y) h [] L (true, h, y, call, (refl, refl, refl, refl)) in
-        (last.0, last.1, sym (append-nil D) ∙ last.2)
+  -- a step through M behind its first j elements is one through L behind its first i
+  abbrev pub StepsFrom : F → List X → ℕ → F → List X → ℕ → Type 0
+  StepsFrom f L i g M j = (r : Option X) (h : F) (N : List X) (k : ℕ) → ExtractsBehind R g M j r h N k → ExtractsBehind R f L i r h N k
 
   -- no element is left
-  pub StepsTo-end : (f₀ f : F) (D₀ L₀ D L : List X) → L ≡ [] → StepsTo f₀ D₀ L₀ f D L → (k₀ : List X) × ExtractsNext R f₀ L₀ None f k₀ L × (D ≡ D₀ ++ k₀)
-  StepsTo-end f₀ f D₀ L₀ D L none leads =
-      let last = leads None f [] L (subst (λ Z. ExtractsNext R f Z None f [] Z) (sym none) (refl, refl, refl, refl)) in
-      (last.0, last.1, sym (append-nil D) ∙ last.2)
+  pub ExtractsBehind-end : (f : F) (L : List X) (i : ℕ) → drop i L ≡ [] → ExtractsBehind R f L i None f L i
+  ExtractsBehind-end f L i none = ([], subst (λ Z. ExtractsNext R f Z None f [] Z) (sym none) (refl, refl, refl, refl), sym (append-nil (take i L)))
 
   -- the element at place i, which R left as q
-  module _ (f₀ f h : F) (D₀ L₀ ps qs : List X) (i : ℕ) (q : X) (below : i < length ps) (left : qs ≡ set ps i q) (leads : StepsTo f₀ D₀ L₀ f (take i ps) (drop i ps)) where
-    cut : StepsTo f₀ D₀ L₀ f (take i ps) (get_or ps i q ∷ drop (i + 1) ps)
-    cut = subst (λ Z. StepsTo f₀ D₀ L₀ f (take i ps) Z) (drop_more ps i q below) leads
-
+  module _ (f h : F) (ps qs : List X) (i : ℕ) (q : X) (below : i < length ps) (left : qs ≡ set ps i q) where
     behind : drop (i + 1) qs ≡ drop (i + 1) ps
-    behind = drop-written ps qs i q left
+    behind = ap (drop (i + 1)) left ∙ drop-set-lt (i + 1) ps i q (omega arith)
 
     -- it isn't picked
-    pub StepsTo-stays : R f (get_or ps i q) false h q → StepsTo f₀ D₀ L₀ h (take (i + 1) qs) (drop (i + 1) qs)
-    StepsTo-stays call =
-        let on : take (i + 1) qs ≡ take i ps ++ q ∷ [] = ap (take (i + 1)) left ∙ take_more_set ps i q below in
-        subst (λ Z. StepsTo f₀ D₀ L₀ h Z (drop (i + 1) qs)) (sym on)
-        (subst (λ Z. StepsTo f₀ D₀ L₀ h (take i ps ++ q ∷ []) Z) (sym behind) (StepsTo-keeps f₀ f h D₀ L₀ (take i ps) (drop (i + 1) ps) (get_or ps i q) q cut call))
+    pub StepsFrom-stays : R f (get_or ps i q) false h q → StepsFrom f ps i h qs (i + 1)
+    StepsFrom-stays call r g N k step = (
+      q ∷ step.0,
+      rw (drop_more ps i q below) (false, h, q, call, (step.0, rw behind at step.1, refl)),
+      step.2 ∙ ap (λ Z. Z ++ step.0) (ap (take (i + 1)) left ∙ take_more_set ps i q below) ∙ append_assoc (take i ps) (q ∷ []) step.0,
+    )
 
     -- it is picked, and removed
-    pub StepsTo-goes : R f (get_or ps i q) true h q → (x : X) (M : List X) → x ≡ get_or qs i x → M ≡ take i qs ++ drop (i + 1) qs
-        → (k₀ : List X) × ExtractsNext R f₀ L₀ (Some x) h k₀ (drop i M) × (take i M ≡ D₀ ++ k₀)
-    StepsTo-goes call x M here removed =
-        let within : i ≤ length qs = omega (arith, below, length-written ps qs i q left) in
+    pub ExtractsBehind-goes : R f (get_or ps i q) true h q → (x : X) (M : List X) → x ≡ get_or qs i x → M ≡ take i qs ++ drop (i + 1) qs → ExtractsBehind R f ps i (Some x) h M i
+    ExtractsBehind-goes call x M here removed =
         let same : x ≡ q = here ∙ ap (λ Z. get_or Z i x) left ∙ get_or-set_same ps i q x below in
-        let front : take i M ≡ take i ps = ap (take i) removed ∙ take-cut i qs (drop (i + 1) qs) within ∙ ap (take i) left ∙ take-set-le i ps i q (omega arith) in
-        let back : drop i M ≡ drop (i + 1) ps = ap (drop i) removed ∙ drop-cut i qs (drop (i + 1) qs) within ∙ behind in
-        let last = StepsTo-picks f₀ f h D₀ L₀ (take i ps) (drop (i + 1) ps) (get_or ps i q) q cut call in
-        (last.0, subst (λ z. ExtractsNext R f₀ L₀ (Some z) h last.0 (drop i M)) (sym same) (subst (λ Z. ExtractsNext R f₀ L₀ (Some q) h last.0 Z) (sym back) last.1), front ∙ last.2)
+        let parts : M ≡ take i ps ++ drop (i + 1) ps = removed ∙ (λ k. (ap (take i) left ∙ take-set-le i ps i q (omega arith)) k ++ behind k) in
+        let at : length (take i ps) ≡ i = length-take-le i ps (omega (arith, below)) in
+        let front : take i M ≡ take i ps = rw parts (subst (λ m. take m (take i ps ++ drop (i + 1) ps) ≡ take i ps) at (take-append_seam (take i ps) (drop (i + 1) ps))) in
+        let back : drop i M ≡ drop (i + 1) ps = rw parts (subst (λ m. drop m (take i ps ++ drop (i + 1) ps) ≡ drop (i + 1) ps) at (drop-append_seam (take i ps) (drop (i + 1) ps))) in
+        ([], rw (drop_more ps i q below) (true, h, q, call, (ap Some same, refl, refl, back)), front ∙ sym (append-nil (take i ps)))
+
+  -- a step that removes none goes to the end
+  pub ExtractsNext-end : (f g : F) (L kept rest : List X) → ExtractsNext R f L None g kept rest → rest ≡ []
+  ExtractsNext-end f g L kept rest e =
+      ExtractsNext-induct R (λ f L r g kept rest. r ≡ None → rest ≡ []) (λ f _. refl) (λ f g x y L call no. cc)
+      (λ f h g x y L kept rest r call more. more) f g L kept rest None e refl
 
   -- none of the front is picked, so the step goes on behind it
   pub ExtractsNext-on : (f g h : F) (xs ys ks zs kept rest : List X) (r : Option X) → ExtractsNext R f xs None g ks zs → ExtractsNext R g ys r h kept rest → ExtractsNext R f (xs ++ ys) r h (ks ++ kept) rest
@@ -120,16 +87,34 @@ module _ {F X : Type 0} (R : F → X → Bool → F → X → Type 0) where
       (λ f g x y L call _. (true, g, y, call, (refl, refl, refl, refl)))
       (λ f u g x y L ks zs o call on some. (false, u, y, call, (ks, on some, refl))) f g xs ks zs (Some z) first refl
 
-  -- a step through the front of what is left, if it picks none
-  pub StepsTo-on : (f₀ f h : F) (D₀ L₀ D xs ys ks zs : List X) → StepsTo f₀ D₀ L₀ f D (xs ++ ys) → ExtractsNext R f xs None h ks zs → StepsTo f₀ D₀ L₀ h (D ++ ks) ys
-  StepsTo-on f₀ f h D₀ L₀ D xs ys ks zs leads first r g kept rest more =
-      let both = leads r g (ks ++ kept) rest (ExtractsNext-on f h g xs ys ks zs kept rest r first more) in
-      (both.0, both.1, append_assoc D ks kept ∙ both.2)
+  -- R went over a part of a list from its place j on, and left `new` with place k reached
+  module _ (f g : F) (before part new behind : List X) (j k : ℕ) (within : j ≤ length part) (reached : k ≤ length new) where
+    cut : (xs : List X) (i : ℕ) → i ≤ length xs → (take (length before + i) (before ++ (xs ++ behind)) ≡ before ++ take i xs) × (drop (length before + i) (before ++ (xs ++ behind)) ≡ drop i xs ++ behind)
+    cut xs i few = (
+      take-append-add before (xs ++ behind) i ∙ ap (λ Z. before ++ Z) (take-append-le i xs behind few),
+      drop-append-add before (xs ++ behind) i ∙ drop-append-le i xs behind few,
+    )
 
-  -- and if it picks one
-  pub StepsTo-stop : (f₀ f h : F) (D₀ L₀ D xs ys ks zs : List X) (z : X) → StepsTo f₀ D₀ L₀ f D (xs ++ ys) → ExtractsNext R f xs (Some z) h ks zs
-      → (k₀ : List X) × ExtractsNext R f₀ L₀ (Some z) h k₀ (zs ++ ys) × (D ++ ks ≡ D₀ ++ k₀)
-  StepsTo-stop f₀ f h D₀ L₀ D xs ys ks zs z leads first = leads (Some z) h ks (zs ++ ys) (ExtractsNext-stop f h xs ys ks zs z first)
+    passed : (kept : List X) → take k new ≡ take j part ++ kept → take (length before + k) (before ++ (new ++ behind)) ≡ take (length before + j) (before ++ (part ++ behind)) ++ kept
+    passed kept is =
+        (cut new k reached).0 ∙ ap (λ Z. before ++ Z) is ∙ sym (append_assoc before (take j part) kept) ∙ ap (λ Z. Z ++ kept) (sym (cut part j within).0)
+
+    -- one of its elements was picked
+    pub ExtractsBehind-part : (z : X) → ExtractsBehind R f part j (Some z) g new k → ExtractsBehind R f (before ++ (part ++ behind)) (length before + j) (Some z) g (before ++ (new ++ behind)) (length before + k)
+    ExtractsBehind-part z step = (
+      step.0,
+      rw ((cut part j within).1, (cut new k reached).1) (ExtractsNext-stop f g (drop j part) behind step.0 (drop k new) z step.1),
+      passed step.0 step.2,
+    )
+
+    -- none of them was
+    pub StepsFrom-part : ExtractsBehind R f part j None g new k → StepsFrom f (before ++ (part ++ behind)) (length before + j) g (before ++ (new ++ behind)) (length before + k)
+    StepsFrom-part step r h N m next =
+        let none = ExtractsNext-end f g (drop j part) step.0 (drop k new) step.1 in (
+          step.0 ++ next.0,
+          rw (cut part j within).1 (ExtractsNext-on f g h (drop j part) behind step.0 (drop k new) next.0 (drop m N) r step.1 (rw ((cut new k reached).1, none) at next.1)),
+          next.2 ∙ ap (λ Z. Z ++ next.0) (passed step.0 step.2) ∙ append_assoc (take (length before + j) (before ++ (part ++ behind))) step.0 next.0,
+        )
 
   -- Q gives what each call takes
   abbrev pub Takes : (F → X → Type 0) → F → List X → Type 0
@@ -138,17 +123,14 @@ module _ {F X : Type 0} (R : F → X → Bool → F → X → Type 0) where
   next : (Q : F → X → Type 0) (f g : F) (x : X) (a : Bool × X) (L : List X) → Takes Q f (x ∷ L) → R f x a.0 g a.1 → Takes Q g L
   next Q f g x a L takes call = TakesEach-next (λ f x (a : Bool × X) g. R f x a.0 g a.1) Q f g x a L takes call
 
-  -- what the closure takes of the elements before a step it takes of those that are left
-  pub TakesEach-rest : (Q : F → X → Type 0) (f g : F) (L kept rest : List X) (r : Option X) → Takes Q f L → ExtractsNext R f L r g kept rest → Takes Q g rest
-  TakesEach-rest Q f g L kept rest r takes e =
-      ExtractsNext-induct R (λ f L r g kept rest. Takes Q f L → Takes Q g rest) (λ f takes. takes) (λ f g x y L call takes. next Q f g x (true, y) L takes call)
-      (λ f h g x y L kept rest r call more takes. more (next Q f h x (false, y) L takes call)) f g L kept rest r e takes
+  -- what the closure takes of the elements before a step it takes of those that are left, and of others behind them
+  pub TakesEach-step : (Q : F → X → Type 0) (ys : List X) (f g : F) (L kept rest : List X) (r : Option X) → ExtractsNext R f L r g kept rest → Takes Q f (L ++ ys) → Takes Q g (rest ++ ys)
+  TakesEach-step Q ys =
+      ExtractsNext-induct R (λ f L r g kept rest. Takes Q f (L ++ ys) → Takes Q g (rest ++ ys)) (λ f takes. takes) (λ f g x y L call takes. next Q f g x (true, y) (L ++ ys) takes call)
+      (λ f h g x y L kept rest r call more takes. more (next Q f h x (false, y) (L ++ ys) takes call))
 
-  -- and if none is picked, of those behind
-  pub TakesEach-on : (Q : F → X → Type 0) (f g : F) (xs ys kept rest : List X) → Takes Q f (xs ++ ys) → ExtractsNext R f xs None g kept rest → Takes Q g ys
-  TakesEach-on Q f g xs ys kept rest takes e =
-      ExtractsNext-induct R (λ f xs r g kept rest. r ≡ None → Takes Q f (xs ++ ys) → Takes Q g ys) (λ f _ takes. takes) (λ f g x y L call no. cc)
-      (λ f h g x y L kept rest r call more none takes. more none (next Q f h x (false, y) (L ++ ys) takes call)) f g xs kept rest None e refl takes
+  pub TakesEach-rest : (Q : F → X → Type 0) (f g : F) (L kept rest : List X) (r : Option X) → Takes Q f L → ExtractsNext R f L r g kept rest → Takes Q g rest
+  TakesEach-rest Q f g L kept rest r takes step = rw append-nil at (TakesEach-step Q [] f g L kept rest r step (rw append-nil takes))
 
   -- a weight that R leaves alone is the weight of what stays and of what is removed
   module _ (w : X → ℕ) (same : (f : F) (x : X) (b : Bool) (g : F) (y : X) → R f x b g y → w y ≡ w x) where
@@ -194,12 +176,6 @@ module _ {F X : Type 0} (R : F → X → Bool → F → X → Type 0) where
         subst (All P) (sym (append_assoc (take i L) e.0 (drop j M)) ∙ ap (λ Z. Z ++ drop j M) (sym e.2) ∙ take-append-drop j M) stay
 
 module _ {F X : Type 0} (R : F → X → Bool → F → X → Type 0) where
-  -- a step that removes none goes to the end
-  pub ExtractsNext-end : (f g : F) (L kept rest : List X) → ExtractsNext R f L None g kept rest → rest ≡ []
-  ExtractsNext-end f g L kept rest e =
-      ExtractsNext-induct R (λ f L r g kept rest. r ≡ None → rest ≡ []) (λ f _. refl) (λ f g x y L call no. cc)
-      (λ f h g x y L kept rest r call more. more) f g L kept rest None e refl
-
   -- a step if each answer is a test of the element alone, no element is changed, and `Own` holds of the closure throughout: of the elements
   -- that pass, the first is removed; the others stay as they are; and `Own` holds behind it
   pub ExtractsNext-filter : (Own : F → Type 0) (test : X → Bool) → ((f : F) (x : X) (b : Bool) (g : F) (y : X) → Own f → R f x b g y → (b ≡ test x) × (y ≡ x) × Own g)

@@ -14,12 +14,11 @@ pub mod GrownLemmas
 pub mod LeftLemmas
 pub mod RoomLemmas
 pub mod RowLemmas
+pub mod PartsLemmas
 pub mod PutLemmas
 pub mod MovingLemmas
 pub mod NextMarkLemmas
-pub mod RetainSlotsLemmas
 pub mod SameKeysLemmas
 pub mod SlotLemmas
 pub mod SwapOutLemmas
 pub mod TableLemmas
-pub mod WritesSlotsLemmas

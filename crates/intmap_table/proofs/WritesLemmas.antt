@@ -1,10 +1,9 @@
 -- What a closure that writes each value in turn leaves of lists, of slots and of tables.
 use Rattle.std.proofs.Common.{is_some, ◌≡◌, ℕ, ◌+◌, ◌<◌, List, [], ◌∷◌, ◌++◌, length, get_or, set, take, drop, refl, sym, ap, ◌∙◌, subst, arith}
-use Rattle.std.specs.Prelude.{All, map}
+use Rattle.std.specs.Prelude.{map}
 use Rattle.std.specs.List.{FoldsTo}
 use Rattle.std.specs.Map.{keys_of}
 use Rattle.std.proofs.lemmas.List.{drop_more, take_more_set, drop-set-lt}
-use Rattle.std.proofs.lemmas.List.Elements.{All-cons, All-head, All-tail}
 use Rattle.std.proofs.lemmas.Map.Entries.{length-keys_of}
 use Rattle.intmap_table.specs.Bindings.{value_of}
 use Rattle.intmap_table.specs.Taking.{Passes}
@@ -32,13 +31,6 @@ module _ {F K V : Type 0} (R : F → K × V → V → F → Type 0) where
   -- so the number of pairs is the same
   pub length-Writes : (f g : F) (L M : List (K × V)) → Writes R f L M g → length M ≡ length L
   length-Writes f g L M r = sym (length-keys_of M) ∙ ap length (keys_of-Writes f g L M r) ∙ length-keys_of L
-
-  -- what holds of all keys holds of them still
-  pub All-Writes : (P : K → Type 0) (f g : F) (L M : List (K × V)) → Writes R f L M g → All (λ p. P p.0) L → All (λ p. P p.0) M
-  All-Writes P f g [] M r all = subst (All (λ p. P p.0)) (sym r.0) all
-  All-Writes P f g (p ∷ L) M r all =
-      let rest = All-Writes P r.1 g L r.2 r.4 (All-tail (λ q. P q.0) p L all) in
-      subst (All (λ q. P q.0)) (sym r.5) (All-cons (λ q. P q.0) (p.0, r.0) r.2 (All-head (λ q. P q.0) p L all) rest)
 
   -- a key is present if it was, and no other is
   pub is_some-Writes : (number : K → ℕ) (k : K) (f g : F) (L M : List (K × V)) → Writes R f L M g → is_some (value_of number M k) ≡ is_some (value_of number L k)

@@ -1,27 +1,86 @@
--- What a step of a cursor does over the slots of a table.
-use Rattle.std.proofs.Common.{◌≡◌, ℕ, suc, ◌+◌, ◌<◌, ◌≤◌, List, [], ◌∷◌, ◌++◌, length, get_or, take, drop, sym, ap, ◌∙◌, subst, arith, length-append}
-use Rattle.std.proofs.lemmas.List.{drop_more}
-use Rattle.intmap_table.specs.Tables.Slots.{Held, rows, joined}
-use Rattle.intmap_table.proofs.Tables.ExtractSlotsLemmas.{IsInRows, drop-reached}
-use Rattle.intmap_table.proofs.Tables.TableLemmas.{joined-take}
+-- Where a cursor is in the slots of a table, and what a step of it does.
+use Rattle.std.proofs.Common.{◌≡◌, inl, inr, ℕ, zero, suc, ◌+◌, ◌-◌, ◌<◌, ◌≤◌, List, [], ◌∷◌, ◌++◌, length, get_or, take, drop, refl, sym, ap, ◌∙◌, subst, arith, zero-add, append-nil, length-append}
+use Rattle.std.specs.List.{flat_map, range_with_len}
+use Rattle.std.proofs.Math.Seq.{drop-append-add}
+use Rattle.std.proofs.lemmas.Bool.{cases_lt}
+use Rattle.std.proofs.lemmas.Grind.{flat_map-append}
+use Rattle.std.proofs.lemmas.List.{drop_all, drop_more, drop-append-le}
+use Rattle.intmap_table.specs.Picking.{IsReached}
+use Rattle.intmap_table.specs.Tables.Slots.{Held, rows, joined, IsNextRow, IsTable}
+use Rattle.intmap_table.specs.Walk.{slot_of}
+use Rattle.intmap_table.proofs.Tables.MarkedLemmas.{range_with_len-add}
+use Rattle.intmap_table.proofs.Tables.PartsLemmas.{joined-before, joined-parts, joined-taken, length-parts, next-taken}
+use Rattle.intmap_table.proofs.Tables.TableLemmas.{joined-take, slot_of-joined}
 
-module _ {K X : Type 0} (S : List (Held K X)) (i j n : ℕ) (at : IsInRows (rows S) i j n) where
-  abbrev row : List (K × X)
-  row = get_or (rows S) i []
+-- at place j of row i, n elements were passed
+pub record IsInRows {P : Type 0} (R : List (List P)) (i j n : ℕ) : Type 0 where
+  pub within : j ≤ length (get_or R i [])
+  pub count : n ≡ length (joined (take i R)) + j
 
-  -- one pair on in the row
-  pub IsInRows-on : j < length row → IsInRows (rows S) i (j + 1) (n + 1)
+-- those that are left
+pub drop-reached : {P : Type 0} (R : List (List P)) (i j n : ℕ) → IsInRows R i j n → drop n (joined R) ≡ drop j (get_or R i []) ++ joined (drop (i + 1) R)
+drop-reached R i j n at =
+    (λ k. drop (at.count k) (joined-parts i R k)) ∙ drop-append-add (joined (take i R)) (get_or R i [] ++ joined (drop (i + 1) R)) j
+    ∙ drop-append-le j (get_or R i []) (joined (drop (i + 1) R)) at.within
+
+module _ {P : Type 0} (R : List (List P)) (i j n : ℕ) (at : IsInRows R i j n) where
+  abbrev row : List P
+  row = get_or R i []
+
+  -- with those that are left of the row there are no more than in all
+  pub row-few : n + (length row - j) ≤ length (joined R)
+  row-few = let all = length-parts i R in omega (arith, all, at.within, at.count)
+
+  -- if no row holds an element any more, none is left
+  pub drop-none : ((k : ℕ) → i ≤ k → get_or R k [] ≡ []) → drop n (joined R) ≡ []
+  drop-none empty = let long = ap length (joined-before i R empty) in drop_all n (joined R) (omega (arith, long, at.count))
+
+  -- one element on in the row
+  pub IsInRows-on : j < length row → IsInRows R i (j + 1) (n + 1)
   IsInRows-on below = record { within = omega (arith, below); count = omega (arith, at.count) }
 
-  -- the row is at its end: the next one begins
-  pub IsInRows-past : length row ≤ j → IsInRows (rows S) (i + 1) 0 n
-  IsInRows-past past =
-      let len = ap length (joined-take i (rows S)) in let both = length-append (joined (take i (rows S))) row in
-      let begun : IsInRows (rows S) (suc i) 0 n = record { within = omega arith; count = omega (arith, at.count, at.within, past, len, both) } in
-      let more : suc i ≡ i + 1 = omega arith in subst (λ k. IsInRows (rows S) k 0 n) more begun
-
-  -- the pair at hand, and what is left behind it
-  pub drop-on : (p : K × X) → j < length row → drop n (joined (rows S)) ≡ get_or row j p ∷ drop (n + 1) (joined (rows S))
+  -- the one at hand, and what is left behind it
+  pub drop-on : (p : P) → j < length row → drop n (joined R) ≡ get_or row j p ∷ drop (n + 1) (joined R)
   drop-on p below =
-      drop-reached (rows S) i j n at ∙ ap (λ Z. Z ++ joined (drop (suc i) (rows S))) (drop_more row j p below)
-      ∙ ap (λ Z. get_or row j p ∷ Z) (sym (drop-reached (rows S) i (j + 1) (n + 1) (IsInRows-on below)))
+      drop-reached R i j n at ∙ ap (λ Z. Z ++ joined (drop (i + 1) R)) (drop_more row j p below)
+      ∙ ap (λ Z. get_or row j p ∷ Z) (sym (drop-reached R i (j + 1) (n + 1) (IsInRows-on below)))
+
+  -- the row is at its end: the next one begins
+  pub IsInRows-past : length row ≤ j → IsInRows R (i + 1) 0 n
+  IsInRows-past past =
+      let passed = ap length (joined-taken i R) ∙ length-append (joined (take i R)) row in
+      record { within = omega arith; count = omega (arith, at.count, at.within, past, passed) }
+
+  -- the next row that holds one is the current one: if that isn't this row, this one is empty
+  pub IsInRows-next : (k : ℕ) → IsNextRow R i k → IsInRows R k j n
+  IsInRows-next k next = elim (cases_lt i k) as (λ _. IsInRows R k j n) [
+    | inl before ↦
+        (let none = ap length (next.between i (omega arith) before) in let same = ap length (next-taken R i k next) in
+        record { within = omega (arith, none, at.within); count = omega (arith, at.count, same) })
+    | inr up ↦ (let same : i ≡ k = omega (arith, up, next.behind) in subst (λ m. IsInRows R m j n) same at)
+  ]
+
+module _ {K X : Type 0} (number : K → ℕ) (S : List (Held K X)) (table : IsTable number S) where
+  abbrev slot : ℕ → List (K × X)
+  slot = slot_of number (joined (rows S)) (length S)
+
+  -- the slots before one are its rows
+  slots-before : (i : ℕ) → flat_map slot (range_with_len 0 i) ≡ joined (take i (rows S))
+  slots-before zero = refl
+  slots-before (suc i) =
+      let more : suc i ≡ i + 1 = omega arith in
+      ap (λ n. flat_map slot (range_with_len 0 n)) more ∙ ap (flat_map slot) (range_with_len-add 0 i 1 ∙ ap (λ h. range_with_len 0 i ++ h ∷ []) (zero-add i)) ∙ flat_map-append slot (range_with_len 0 i) (i ∷ [])
+      ∙ (λ k. slots-before i k ++ (append-nil (slot i) ∙ slot_of-joined number S table i) k) ∙ sym (joined-take i (rows S))
+
+  pub IsInRows-reached : (i j n : ℕ) → IsReached number (joined (rows S)) (length S) i j n → IsInRows (rows S) i j n
+  IsInRows-reached i j n reached = record {
+    within = subst (λ ps. j ≤ length ps) (slot_of-joined number S table i) reached.within;
+    count = reached.count ∙ ap (λ ps. length ps + j) (slots-before i);
+  }
+
+  pub IsReached-at : (i j n : ℕ) → IsInRows (rows S) i j n → IsReached number (joined (rows S)) (length S) i j n
+  IsReached-at i j n at = record {
+    within = subst (λ ps. j ≤ length ps) (sym (slot_of-joined number S table i)) at.within;
+    count = at.count ∙ ap (λ ps. length ps + j) (sym (slots-before i));
+    few = (let few = row-few (rows S) i j n at in omega (arith, few));
+  }

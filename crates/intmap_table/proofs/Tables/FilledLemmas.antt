@@ -1,13 +1,12 @@
 -- The marks of a table say which of its slots hold a pair.
-use Rattle.std.proofs.Common.{◌≡◌, ◌≢◌, inl, inr, ℕ, zero, suc, ◌+◌, ◌-◌, ◌*◌, ◌/◌, ◌<◌, ◌≤◌, Bool, true, false, cond, List, [], ◌∷◌, ◌++◌, length, get_or, set, replicate, refl, sym, ap, ◌∙◌, subst, arith, length-set, get_or-set_same, get_or-set_other}
+use Rattle.std.proofs.Common.{◌≡◌, inl, inr, ℕ, zero, suc, ◌+◌, ◌-◌, ◌*◌, ◌/◌, ◌<◌, ◌≤◌, Bool, true, false, cond, List, [], ◌∷◌, ◌++◌, length, get_or, set, replicate, refl, sym, ap, ◌∙◌, subst, arith, length-set, get_or-set_same, get_or-set_other}
 use Rattle.std.specs.Prelude.{◌==◌, filter, All, count_by, nat_lt}
 use Rattle.std.specs.List.{list_any, range_with_len}
 use Rattle.std.proofs.lemmas.Bool.{cases_Bool, lt-ltb, ltb-true}
 use Rattle.std.proofs.lemmas.Bool.Decides.{nat_tests}
 use Rattle.std.proofs.lemmas.List.{length-replicate, length_push, map-set, get_or_past, set-get_or}
-use Rattle.std.proofs.lemmas.List.Elements.{All-head, All-tail}
-use Rattle.intmap_table.specs.Tables.Bits.{marked, marked_indices}
-use Rattle.intmap_table.specs.Tables.Slots.{Held, rows, row_of, joined, pairs_at, AreMarked, IsDirectory}
+use Rattle.intmap_table.specs.Tables.Bits.{marked, marked_indices, IsNextMark}
+use Rattle.intmap_table.specs.Tables.Slots.{Held, rows, row_of, joined, pairs_at, AreMarked, IsDirectory, IsNextRow}
 use Rattle.intmap_table.proofs.Tables.TableLemmas.{length-rows, get_or-rows}
 use Rattle.intmap_table.proofs.Tables.MarkedLemmas.{get_or-of_default, row-none, All-marked_indices, flat_map-marked_indices, length-marked_indices}
 
@@ -54,16 +53,7 @@ AreMarked-none R C len empty = record {
   own = λ i. get_or-of_default (64 * ((C + 63) / 64)) i false ∙ rw (empty i) refl;
 }
 
--- a row at none of these indices may change
-pub pairs_at-set : {P : Type 0} (R : List (List P)) (i : ℕ) (row : List P) (indices : List ℕ) → All (λ j. i ≢ j) indices → pairs_at (set R i row) indices ≡ pairs_at R indices
-pairs_at-set R i row [] apart = refl
-pairs_at-set R i row (j ∷ indices) apart =
-    let other : i ≢ j = All-head (λ j. i ≢ j) j indices apart in
-    let here = get_or-set_other R i j row [] (λ q. other (sym q)) in
-    let rest = pairs_at-set R i row indices (All-tail (λ j. i ≢ j) j indices apart) in
-    rw (here, rest) refl
-
--- so does one with a pair at its end
+-- a row with a pair at its end holds one
 pub filled-pushed : {P : Type 0} (row : List P) (p : P) → nat_lt 0 (length (row ++ p ∷ [])) ≡ true
 filled-pushed row p = lt-ltb 0 (length (row ++ p ∷ [])) (let n = length_push row p in omega (arith, n))
 
@@ -120,6 +110,50 @@ pub row-unmarked : {P : Type 0} (R : List (List P)) (marks : List Bool) → AreM
 row-unmarked R marks are i missed =
     let own = are.own i in let kept = kept-found (marked marks) i 0 (length marks) missed in let past = get_or_past marks i false in
     row-none (get_or R i []) (grind (arith, own, kept, past))
+
+-- these indices are the marked ones from `from` on
+abbrev pub AreLeft : List Bool → ℕ → List ℕ → Type 0
+AreLeft marks from left = (n : ℕ) × (from + n ≡ length marks) × (left ≡ filter (marked marks) (range_with_len from n))
+
+-- the first of them is the next mark, and the others are those behind it
+mark-next : (marks : List Bool) (from i : ℕ) (rest : List ℕ) (n : ℕ) → from + n ≡ length marks → i ∷ rest ≡ filter (marked marks) (range_with_len from n)
+    → IsNextMark marks from i × AreLeft marks (i + 1) rest
+mark-next marks from i rest zero ends is = absurd cc
+mark-next marks from i rest (suc n) ends is = elim (cases_Bool (marked marks from)) as (λ _. IsNextMark marks from i × AreLeft marks (i + 1) rest) [
+  | inl here ↦
+      (let all : i ∷ rest ≡ from ∷ filter (marked marks) (range_with_len (from + 1) n) = rw here at is in
+      let first : i ≡ from = cc in let others : rest ≡ filter (marked marks) (range_with_len (from + 1) n) = cc in (
+        record { behind = omega (arith, first); is = ap (marked marks) first ∙ here; between = λ j le lt. absurd (omega (arith, first, le, lt)) },
+        (n, omega (arith, ends, first), rw first others),
+      ))
+  | inr behind ↦
+      (let on = mark-next marks (from + 1) i rest n (omega (arith, ends)) (rw behind at is) in let up = on.0.behind in (
+        record { behind = omega (arith, up); is = on.0.is; between = λ j le lt. let later = on.0.between j in grind (arith, le, lt, behind, later) },
+        on.1,
+      ))
+]
+
+module _ {P : Type 0} (R : List (List P)) (marks : List Bool) (are : AreMarked R marks) (from : ℕ) where
+  -- so its row is the next one with a pair
+  pub row-next : (i : ℕ) (rest : List ℕ) → AreLeft marks from (i ∷ rest) → IsNextRow R from i × AreLeft marks (i + 1) rest
+  row-next i rest left =
+      let next = mark-next marks from i rest left.0 left.1 left.2 in
+      let filled = ltb-true 0 (length (get_or R i [])) (sym (are.own i) ∙ next.0.is) in (
+        record {
+          behind = next.0.behind;
+          within = row-within R i filled;
+          filled = filled;
+          between = λ j le lt. row-none (get_or R j []) (sym (are.own j) ∙ next.0.between j le lt);
+        },
+        next.1,
+      )
+
+  -- and if there are none, no row holds a pair from there on
+  pub row-next_none : AreLeft marks from [] → (j : ℕ) → from ≤ j → get_or R j [] ≡ []
+  row-next_none left j le =
+      let own = are.own j in let past = get_or_past marks j false in
+      let kept = kept-found (marked marks) j from left.0 (ap (list_any (λ k. k == j)) (sym left.2)) le in
+      row-none (get_or R j []) (grind (arith, own, kept, past, left.1))
 
 -- slots without pairs, with no index marked
 pub IsDirectory-empty : {K X : Type 0} (S : List (Held K X)) (C : ℕ) → 0 < C → rows S ≡ replicate C [] → IsDirectory S (replicate (64 * ((C + 63) / 64)) false) (C - 1)

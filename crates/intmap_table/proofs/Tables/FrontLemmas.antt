@@ -1,12 +1,12 @@
 -- What the slots of a table hold once pairs were removed from the front of its walk.
-use Rattle.std.proofs.Common.{◌≡◌, ℕ, ◌+◌, ◌<◌, ◌≤◌, List, [], ◌++◌, length, get_or, set, take, drop, sym, ap, ◌∙◌, subst, arith, append_assoc}
+use Rattle.std.proofs.Common.{◌≡◌, ℕ, ◌+◌, ◌<◌, ◌≤◌, List, [], ◌++◌, length, get_or, take, drop, sym, ap, ◌∙◌, subst, arith, append_assoc}
 use Rattle.std.specs.Prelude.{All}
 use Rattle.intmap_table.specs.Classes.{slot_number}
 use Rattle.intmap_table.specs.Walk.{ArePassed}
 use Rattle.intmap_table.specs.Tables.Slots.{Held, rows, row_of, joined, IsNextRow, IsTable, IsRowSet}
 use Rattle.intmap_table.proofs.ExtractLemmas.{All-behind}
 use Rattle.intmap_table.proofs.Tables.FilledLemmas.{joined-emptied}
-use Rattle.intmap_table.proofs.Tables.RetainSlotsLemmas.{joined-cut, joined-take_past, joined-taken, joined-left, next-within}
+use Rattle.intmap_table.proofs.Tables.PartsLemmas.{joined-cut, joined-take_past, row-taken, row-left, next-within}
 use Rattle.intmap_table.proofs.Tables.TableLemmas.{slot_of-joined, row-set_other, IsTable-row_set}
 
 module _ {K X : Type 0} (number : K → ℕ) (S : List (Held K X)) (table : IsTable number S) (n : ℕ) where
@@ -24,29 +24,22 @@ joined-passed R from passed none = joined-emptied R (λ j. let before = passed j
 
 module _ {K X : Type 0} (number : K → ℕ) (S : List (Held K X)) (old : IsTable number S) (from index : ℕ) (next : IsNextRow (rows S) from index)
     (passed : (j : ℕ) → j < from → get_or (rows S) j [] ≡ []) (ps row : List (K × X)) (T : List (Held K X)) (is : IsRowSet S index row T) (taken : row_of S index ≡ ps ++ row) where
-  abbrev s : Held K X
-  s = is.slot
-
   none-before : joined (take from (rows S)) ≡ []
-  none-before =
-      let zero_from : 0 + from ≡ from = omega arith in
-      ap (λ n. joined (take n (rows S))) (sym zero_from) ∙ joined-take_past from 0 (rows S) (λ j _ lt. passed j (omega (arith, lt)))
+  none-before = joined-take_past (rows S) 0 from (omega arith) (λ j _ lt. passed j lt)
 
   -- the walk began with the pairs that the first filled slot lost
   pub joined-front : joined (rows S) ≡ ps ++ joined (rows T)
   joined-front =
-      let left : List (K × X) = joined (drop (index + 1) (rows (set S index s))) in
-      let after : joined (rows (set S index s)) ≡ s.pairs ++ left =
-      joined-cut (index + 1) (rows (set S index s)) ∙ ap (λ Z. Z ++ left) (joined-taken S from index next s ∙ ap (λ Z. Z ++ s.pairs) none-before) in
-      joined-cut from (rows S) ∙ ap (λ Z. Z ++ joined (drop from (rows S))) none-before
-      ∙ joined-left S from index next s ∙ ap (λ row. row ++ left) (taken ∙ ap (λ r. ps ++ r) (sym is.pairs)) ∙ append_assoc ps s.pairs left ∙ ap (λ Z. ps ++ Z) (sym after)
-      ∙ ap (λ U. ps ++ joined (rows U)) (sym is.others)
+      let left = joined (drop (index + 1) (rows T)) in
+      let after : joined (rows T) ≡ row ++ left = joined-cut (index + 1) (rows T) ∙ ap (λ Z. Z ++ left) (row-taken S from index row T next is ∙ ap (λ Z. Z ++ row) none-before) in
+      joined-cut from (rows S) ∙ ap (λ Z. Z ++ joined (drop from (rows S))) none-before ∙ row-left S from index row T next is
+      ∙ ap (λ Z. Z ++ left) taken ∙ append_assoc ps row left ∙ ap (λ Z. ps ++ Z) (sym after)
 
   -- the slots before it hold no pair
   pub rows-before : (j : ℕ) → j < index → get_or (rows T) j [] ≡ []
   rows-before j lt =
       let empty : get_or (rows S) j [] ≡ [] = (let before = passed j in let behind = next.between j in grind (arith, lt, before, behind)) in
-      ap (λ U. get_or (rows U) j []) is.others ∙ row-set_other S index s j (λ q. omega (arith, lt, q)) ∙ empty
+      ap (λ U. get_or (rows U) j []) is.others ∙ row-set_other S index is.slot j (λ q. omega (arith, lt, q)) ∙ empty
 
   -- the slots are those of a table
   pub IsTable-front : IsTable number T

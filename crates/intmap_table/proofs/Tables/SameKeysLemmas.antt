@@ -1,25 +1,28 @@
 -- What lists of pairs, tables and maps are by their keys alone: so are others with these keys.
-use Rattle.std.proofs.Common.{◌≡◌, ℕ, zero, suc, ◌+◌, ◌*◌, ◌/◌, ◌<◌, Bool, List, [], ◌∷◌, ◌++◌, length, map, get_or, take, drop, refl, sym, ap, ◌∙◌, subst}
+use Rattle.std.proofs.Common.{◌≡◌, ℕ, zero, suc, ◌+◌, ◌*◌, ◌/◌, ◌<◌, Bool, List, [], ◌∷◌, ◌++◌, length, map, get_or, set, take, drop, refl, sym, ap, ◌∙◌, subst}
 use Rattle.std.specs.Prelude.{All, nat_lt}
 use Rattle.std.specs.List.{flat_map, range_with_len}
 use Rattle.std.specs.Map.{keys_of}
-use Rattle.std.proofs.lemmas.List.{get_or-map, length-map, take-append-drop}
+use Rattle.std.proofs.lemmas.List.{get_or-map, length-map, map-set, set-get_or, take-append-drop}
 use Rattle.std.proofs.lemmas.List.Elements.{All-map}
 use Rattle.std.proofs.lemmas.List.FromFn.{length-map-range_with_len}
 use Rattle.std.proofs.lemmas.Map.Entries.{length-keys_of}
 use Rattle.intmap_table.specs.Classes.{IsCapacity, slot_number}
-use Rattle.intmap_table.specs.Tables.Slots.{Held, rows, AreMarked, IsTable, IsDirectory}
+pub use Rattle.intmap_table.specs.Tables.Slots.{row_keys}
+use Rattle.intmap_table.specs.Tables.Slots.{Held, rows, row_of, AreMarked, IsTable, IsDirectory, IsRowSet}
 use Rattle.intmap_table.specs.Walk.{slot_of, walk_of}
 use Rattle.intmap_table.proofs.ClassLemmas.{AreClasses, AreClasses-map, flat_map-classes, flat_map-joined}
-
--- the keys of each slot
-abbrev pub row_keys : {K X : Type 0} → List (Held K X) → List (List K)
-row_keys S = map (λ h. keys_of h.pairs) S
 
 get_or-row_keys : {K X : Type 0} (S : List (Held K X)) (i : ℕ) → get_or (row_keys S) i [] ≡ keys_of (get_or (rows S) i [])
 get_or-row_keys [] i = refl
 get_or-row_keys (h ∷ S) zero = refl
 get_or-row_keys (h ∷ S) (suc i) = get_or-row_keys S i
+
+-- with another row of the same keys they stay
+pub row_keys-set : {K X : Type 0} (S : List (Held K X)) (i : ℕ) (row : List (K × X)) (T : List (Held K X)) → IsRowSet S i row T → keys_of row ≡ keys_of (row_of S i) → row_keys T ≡ row_keys S
+row_keys-set S i row T is same =
+    ap row_keys is.others ∙ map-set (λ (h : Held _ _). keys_of h.pairs) S i is.slot
+    ∙ ap (set (row_keys S) i) (ap keys_of is.pairs ∙ same ∙ sym (get_or-row_keys S i)) ∙ set-get_or (row_keys S) i []
 
 module _ {K X Y : Type 0} where
   pub length-same_keys : (L : List (K × X)) (M : List (K × Y)) → keys_of L ≡ keys_of M → length L ≡ length M
@@ -100,7 +103,7 @@ module _ {K X Y : Type 0} (S : List (Held K X)) (T : List (Held K Y)) (same : ro
   }
 
   -- and the same of them are marked
-  AreMarked-same_keys : (marks : List Bool) → AreMarked (rows S) marks → AreMarked (rows T) marks
+  pub AreMarked-same_keys : (marks : List Bool) → AreMarked (rows S) marks → AreMarked (rows T) marks
   AreMarked-same_keys marks are =
       let len : length (rows S) ≡ length (rows T) = length-map S (λ h. h.pairs) ∙ length-row_keys ∙ sym (length-map T (λ h. h.pairs)) in
       record {

@@ -2,6 +2,7 @@
 use Rattle.std.specs.Prelude.{◌≡◌, ℕ, zero, suc, ◌+◌, ◌*◌, ◌/◌, ◌<◌, ◌≤◌, Bool, nat_lt, List, [], ◌∷◌, ◌++◌, length, map, set, slice_index_or, Option, Some, None}
 use Rattle.std.specs.Option.{option_to_list}
 use Rattle.std.specs.List.{All, flat_map}
+use Rattle.std.specs.Map.{keys_of}
 use Rattle.intmap_table.specs.Tables.Bits.{marked}
 use Rattle.intmap_table.specs.Classes.{IsCapacity, slot_number}
 
@@ -17,6 +18,10 @@ rows slots = map (λ h. h.pairs) slots
 -- the pairs of slot i
 abbrev pub row_of : {K X : Type 0} → List (Held K X) → ℕ → List (K × X)
 row_of slots i = slice_index_or (rows slots) i []
+
+-- the keys of each slot
+abbrev pub row_keys : {K X : Type 0} → List (Held K X) → List (List K)
+row_keys slots = map (λ h. keys_of h.pairs) slots
 
 -- slot i has another row, and nothing else of the slots has changed
 pub record IsRowSet {K X : Type 0} (S : List (Held K X)) (i : ℕ) (row : List (K × X)) (T : List (Held K X)) : Type 0 where

@@ -1,6 +1,6 @@
 //! Closures are called at the pairs of slots.
 ghost use Rattle.std.specs.Prelude.{◌≡◌, ◌^◌, ◌<◌, ◌≤◌, List, length, drop};
-ghost use Rattle.intmap_table.specs.Tables.Slots.{rows, row_of, joined, IsRowSet, AreMarked, IsTable};
+ghost use Rattle.intmap_table.specs.Tables.Slots.{rows, row_of, row_keys, joined, IsRowSet, AreMarked};
 ghost use Rattle.intmap_table.specs.Retaining.{Retains, KeepsAt, TakesPair};
 ghost use Rattle.intmap_table.specs.Taking.{TakesEach};
 ghost use Rattle.intmap_table.specs.Writes.{Writes, WritesAt, TakesPairMut};
@@ -69,13 +69,10 @@ fn write_slots<K: IntKey, V, A: Allocator, F: FnMut(K, &mut V)>(
 )
     requires callable { TakesEach (WritesAt F.FnMut) (TakesPairMut F.FnMut) f.old
         (joined (rows slots.old.items)) }
-    requires table { IsTable K.number_of slots.old.items }
     requires marks { AreMarked (rows slots.old.items) bits.now }
     ensures pairs { Writes (WritesAt F.FnMut) f.old (joined (rows slots.old.items))
         (joined (rows slots.new.items)) f.new }
-    ensures table { IsTable K.number_of slots.new.items }
-    ensures marks { AreMarked (rows slots.new.items) bits.now }
-    ensures len { length slots.new.items ≡ length slots.old.items }
+    ensures keys { row_keys slots.new.items ≡ row_keys slots.old.items }
 {
     for index in bits.iter() {
         slots[index].write_each(f);
@@ -85,13 +82,11 @@ fn write_slots<K: IntKey, V, A: Allocator, F: FnMut(K, &mut V)>(
 impl<K: IntKey, V, A: Allocator> Slots<K, Kept<V>, A> {
     /// Calls the closure at each pair in turn, with a mutable reference to its value.
     pub(crate) fn write_each<F: FnMut(K, &mut V)>(&mut self, f: &mut F)
-        requires callable { TakesEach (WritesAt F.FnMut) (TakesPairMut F.FnMut) f.old
+        requires { TakesEach (WritesAt F.FnMut) (TakesPairMut F.FnMut) f.old
             (joined (rows self.old)) }
-        requires table { IsTable K.number_of self.old }
         ensures pairs { Writes (WritesAt F.FnMut) f.old (joined (rows self.old))
             (joined (rows self.new)) f.new }
-        ensures table { IsTable K.number_of self.new }
-        ensures len { length self.new ≡ length self.old }
+        ensures keys { row_keys self.new ≡ row_keys self.old }
     {
         write_slots(&self.directory.bits, &mut self.slots, f);
     }

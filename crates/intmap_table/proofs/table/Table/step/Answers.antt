@@ -1,9 +1,8 @@
 use Rattle.std.proofs.Common.{◌≡◌, ◌+◌, ◌∷◌, ◌<◌, ◌∙◌, get_or, length, drop, sym, ap, refl, arith}
 use Rattle.intmap_table.specs.Tables.Slots.{Grid, rows, row_of, joined}
 use Rattle.intmap_table.proofs.SlotNumberLemmas.{capacity-greatest}
-use Rattle.intmap_table.proofs.Tables.ExtractSlotsLemmas.{IsInRows, IsInRows-reached, IsReached-at, IsInRows-next, drop-none, row-few}
-use Rattle.intmap_table.proofs.Tables.RetainSlotsLemmas.{next-within}
-use Rattle.intmap_table.proofs.Tables.CursorLemmas.{IsInRows-on, IsInRows-past, drop-on}
+use Rattle.intmap_table.proofs.Tables.PartsLemmas.{next-within}
+use Rattle.intmap_table.proofs.Tables.CursorLemmas.{IsInRows, IsInRows-next, IsInRows-on, IsInRows-past, IsInRows-reached, IsReached-at, drop-none, drop-on, row-few}
 use Rattle.intmap_table.proofs.table.Table.step.Goals as goal
 use Rattle.intmap_table.proofs.table.Table.step.Goals.{In-Some}
 
@@ -45,13 +44,13 @@ returns-in-Some-pair_at-clause-first g c =
     let at = here g (goal.at.returns-in-Some-pair_at-clause-first g c).In-Some in let found = c.in-Some-pair_at.ensures.some in
     let p : g.row.K.Denot × g.row.X.Denot = (c.key.result.now, c.in-Some-pair_at.value.now) in
     let pair : get_or (row_of S i) j p ≡ p = sym (found.1 p) ∙ (λ k. (sym c.key.ensures.value k, c.in-Some-pair_at.value.now)) in
-    rw (← c.self.view_is, ← c.loop-slot.invariant.passed) (drop-on S i j n at p found.0 ∙ ap (λ x. x ∷ drop (n + 1) (joined (rows S))) pair)
+    rw (← c.self.view_is, ← c.loop-slot.invariant.passed) (drop-on (rows S) i j n at p found.0 ∙ ap (λ x. x ∷ drop (n + 1) (joined (rows S))) pair)
 
 pub returns-in-Some-pair_at-clause-reached : goal.returns-in-Some-pair_at-clause-reached
 returns-in-Some-pair_at-clause-reached g c =
     let S = c.self.inside.slots in let i = c.in-Some.slot in let j = c.loop-slot.at.place in let n = c.loop-slot.at.passed in
     let at = here g (goal.at.returns-in-Some-pair_at-clause-reached g c).In-Some in
-    rw (← c.self.view_is) (IsReached-at g.K.IntKey.number_of S c.self.invariant i (j + 1) (n + 1) (IsInRows-on S i j n at c.in-Some-pair_at.ensures.some.0))
+    rw (← c.self.view_is) (IsReached-at g.K.IntKey.number_of S c.self.invariant i (j + 1) (n + 1) (IsInRows-on (rows S) i j n at c.in-Some-pair_at.ensures.some.0))
 
 pub overflow_add-at-in-Some : goal.overflow_add-at-in-Some
 overflow_add-at-in-Some g c =
@@ -62,7 +61,7 @@ loop-slot-smaller g c = let lt = below g (goal.at.loop-slot-smaller g c).In-Some
 
 pub loop-slot-preserved : goal.loop-slot-preserved
 loop-slot-preserved g c = record {
-  at = IsInRows-past c.self.inside.slots c.in-Some.slot c.loop-slot.at.place c.loop-slot.at.passed (here g (goal.at.loop-slot-preserved g c).In-Some) c.in_default-pair_at.ensures.none;
+  at = IsInRows-past (rows c.self.inside.slots) c.in-Some.slot c.loop-slot.at.place c.loop-slot.at.passed (here g (goal.at.loop-slot-preserved g c).In-Some) c.in_default-pair_at.ensures.none;
   passed = c.loop-slot.invariant.passed;
 }
 

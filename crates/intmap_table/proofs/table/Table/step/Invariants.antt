@@ -1,6 +1,6 @@
 use Rattle.std.proofs.Common.{◌≡◌, ◌-◌, length}
 use Rattle.intmap_table.specs.Tables.Slots.{rows}
-use Rattle.intmap_table.proofs.Tables.ExtractSlotsLemmas.{IsInRows}
+use Rattle.intmap_table.proofs.Tables.CursorLemmas.{IsInRows}
 use Rattle.intmap_table.proofs.table.Table.step.Given as goal
 
 -- the cursor has passed as many pairs as at the call, and is at a place of its slot, or behind its last pair

@@ -1,16 +1,17 @@
-use Rattle.std.proofs.Common.{◌≡◌, ◌+◌, ◌-◌, ◌<◌, ◌∙◌, List, ◌++◌, Some, length, length-set, get_or, [], take, drop, refl, sym, ap, subst, arith, suc}
-use Rattle.std.specs.List.Retain.{ExtractsNext}
-use Rattle.intmap_table.specs.Picking.{ExtractsBehind, AsksAt, PicksAt}
+use Rattle.std.proofs.Common.{◌≡◌, ◌+◌, ◌-◌, ◌∙◌, length, refl, ap, arith}
+use Rattle.intmap_table.specs.Classes.{slot_number}
+use Rattle.intmap_table.specs.Picking.{AsksAt, PicksAt}
 use Rattle.intmap_table.specs.Writes.{TakesPairMut}
-use Rattle.intmap_table.specs.Tables.Slots.{rows, row_of, joined}
-use Rattle.intmap_table.specs.Taking.{TakesEach}
-use Rattle.intmap_table.proofs.ExtractLemmas.{StepsTo-start, StepsTo-end}
+use Rattle.intmap_table.specs.Tables.Slots.{IsTable}
+use Rattle.intmap_table.proofs.ExtractLemmas.{All-ExtractsBehind, ExtractsBehind-end}
 use Rattle.intmap_table.proofs.SlotNumberLemmas.{capacity-greatest}
 use Rattle.intmap_table.proofs.TakingLemmas.{TakesEach-front}
-use Rattle.intmap_table.proofs.Tables.ExtractSlotsLemmas.{IsInRows, IsAsked, IsInRows-reached, IsReached-at, IsInRows-next, IsInRows-step, IsInRows-left, IsTable-asked, drop-reached, drop-none, joined-few, place-on, row-few, Extracts-slot, StepsTo-slot, TakesEach-slot}
-use Rattle.intmap_table.proofs.Tables.RetainSlotsLemmas.{next-within}
+use Rattle.intmap_table.proofs.Tables.CursorLemmas.{IsInRows-next, IsInRows-reached, IsReached-at, drop-none, drop-reached, row-few}
+use Rattle.intmap_table.proofs.Tables.ExtractSlotsLemmas.{IsAsked, ExtractsBehind-slot, IsInRows-left, IsInRows-step, StepsFrom-slot, TakesEach-slot, joined-few, place-on}
+use Rattle.intmap_table.proofs.Tables.PartsLemmas.{next-within}
+use Rattle.intmap_table.proofs.Tables.TableLemmas.{IsTable-row_set, length-row_set}
 use Rattle.intmap_table.proofs.table.closures.extract_slots.Goals as goal
-use Rattle.intmap_table.proofs.table.closures.extract_slots.Goals.{In-Some, After-extract_at-found}
+use Rattle.intmap_table.proofs.table.closures.extract_slots.Goals.{After-extract_at-found}
 
 pub loop-slot-init : goal.loop-slot-init
 loop-slot-init g c = record {
@@ -18,111 +19,87 @@ loop-slot-init g c = record {
   table = c.requires.table;
   len = refl;
   few = c.requires.count;
-  at = IsInRows-reached g.K.IntKey.number_of c.args.slots.now c.requires.table c.args.at.now.slot c.args.at.now.place c.args.at.now.passed c.requires.reached;
-  steps = StepsTo-start (PicksAt g.F.FnMut) c.args.f.now _ _;
+  at = IsInRows-reached g.K.IntKey.number_of c.args.slots.now c.requires.table _ _ _ c.requires.reached;
+  steps = λ r h N k step. step;
 }
 
-module _ (g : _) (c : In-Some g) where
-  below : c.in-Some.slot < length c.loop-slot.slots
-  below = next-within _ _ _ c.in-Some.ensures.some
-
-  -- the cursor is at a place of the slot at hand
-  at : IsInRows (rows c.loop-slot.slots) c.in-Some.slot c.loop-slot.at.place c.loop-slot.at.passed
-  at = IsInRows-next _ _ _ _ c.loop-slot.invariant.at _ c.in-Some.ensures.some
-
-module _ (g : _) (c : After-extract_at-found g) (below : c.in-Some.slot < length c.loop-slot.slots) (at : IsInRows (rows c.loop-slot.slots) c.in-Some.slot c.loop-slot.at.place c.loop-slot.at.passed) where
-  -- what the closure left of it
-  asked : IsAsked g.K.IntKey.number_of (PicksAt g.F.FnMut) c.loop-slot.slots c.in-Some.slot c.loop-slot.at.place c.loop-slot.at.passed c.loop-slot.f c.extract_at-found.new.f c.extract_at-found.result c.extract_at-found.ensures.step.1.slot c.extract_at-found.new.place
+module _ (g : _) (c : After-extract_at-found g) where
+  -- the pairs of the slot at hand were asked about, from the cursor on
+  asked : IsAsked (PicksAt g.F.FnMut) c.loop-slot.slots c.in-Some.slot c.loop-slot.at.place c.loop-slot.at.passed c.loop-slot.f c.extract_at-found.result c.extract_at-found.new.self
+      c.extract_at-found.ensures.step.0 c.extract_at-found.new.place (c.loop-slot.at.passed + (c.extract_at-found.new.place - c.loop-slot.at.place)) c.extract_at-found.new.f
   asked =
-      let done = c.extract_at-found.ensures.step in
+      let done = c.extract_at-found.ensures.step in let on = c.extract_at-found.ensures.on in
       record {
-        same_key = λ f p b h q call. call.0;
-        old = c.loop-slot.invariant.table;
-        below = below;
-        at = at;
-        step = subst (λ ps. ExtractsBehind (PicksAt g.F.FnMut) c.loop-slot.f (row_of c.loop-slot.slots c.in-Some.slot) c.loop-slot.at.place c.extract_at-found.result c.extract_at-found.new.f ps c.extract_at-found.new.place) (sym done.1.pairs) done.2;
-        within = (let len = ap length done.1.pairs in let k = done.3 in omega (arith, len, k));
+        below = next-within _ _ _ c.in-Some.ensures.some;
+        is = done.1;
+        at = IsInRows-next _ _ _ _ c.loop-slot.invariant.at _ c.in-Some.ensures.some;
+        on = omega (arith, on);
+        within = done.3;
+        step = done.2;
       }
 
-  -- as many pairs were passed as the place moved on
-  passed : c.loop-slot.at.passed + (c.extract_at-found.new.place - c.loop-slot.at.place) + c.loop-slot.at.place ≡ c.loop-slot.at.passed + c.extract_at-found.new.place
-  passed = let on = c.extract_at-found.ensures.on in omega (arith, on)
+  -- the slots are those of a table
+  table : IsTable g.K.IntKey.number_of c.extract_at-found.new.self
+  table =
+      let old = c.loop-slot.invariant.table in
+      IsTable-row_set _ _ _ _ _ old asked.below
+      (All-ExtractsBehind (PicksAt g.F.FnMut) (λ p. slot_number g.K.IntKey.number_of p.0 (length c.loop-slot.slots) ≡ c.in-Some.slot)
+      (λ f p b h q call is. ap (λ k. slot_number g.K.IntKey.number_of k (length c.loop-slot.slots)) call.0 ∙ is)
+      _ _ _ _ _ _ _ asked.step (old.in_place c.in-Some.slot asked.below)) asked.is
 
 pub extract_at-found-requires : goal.extract_at-found-requires
 extract_at-found-requires g c =
-    let w = (goal.at.extract_at-found-requires g c).In-Some in let S = c.loop-slot.slots in let i = c.in-Some.slot in let j = c.loop-slot.at.place in
-    let at = at g w in let few = row-few _ _ _ _ at in
+    let at = IsInRows-next _ _ _ _ c.loop-slot.invariant.at _ c.in-Some.ensures.some in let few = row-few _ _ _ _ at in
     record {
-      index = below g w;
+      index = next-within _ _ _ c.in-Some.ensures.some;
       within = at.within;
       few = omega (arith, few, at.within, at.count, c.loop-slot.invariant.few);
-      callable = TakesEach-front (AsksAt g.F.FnMut) (TakesPairMut g.F.FnMut) c.loop-slot.f (drop j (get_or (rows S) i [])) (joined (drop (suc i) (rows S)))
-          (subst (TakesEach (AsksAt g.F.FnMut) (TakesPairMut g.F.FnMut) c.loop-slot.f) (drop-reached _ _ _ _ at) c.loop-slot.invariant.callable);
+      callable = TakesEach-front (AsksAt g.F.FnMut) (TakesPairMut g.F.FnMut) _ _ _ (rw (drop-reached _ _ _ _ at) at c.loop-slot.invariant.callable);
     }
 
 pub overflow_add-at : goal.overflow_add-at
 overflow_add-at g c =
-    let w = goal.at.overflow_add-at g c in let at = at g w.In-Some in
-    let on = place-on (asked g w.After-extract_at-found (below g w.In-Some) at) in let few = row-few _ _ _ _ at in
-    omega (arith, on, few, c.loop-slot.invariant.few)
+    let here = asked g (goal.at.overflow_add-at g c).After-extract_at-found in let moved = place-on here in let few = row-few _ _ _ _ here.at in
+    omega (arith, moved, few, c.loop-slot.invariant.few)
 
 pub returns-in-Some-found-clause-step : goal.returns-in-Some-found-clause-step
 returns-in-Some-found-clause-step g c =
-    let w = goal.at.returns-in-Some-found-clause-step g c in let below = below g w.In-Some in let at = at g w.In-Some in
-    let m = c.loop-slot.at.passed + (c.extract_at-found.new.place - c.loop-slot.at.place) in
-    let D₀ = take c.args.at.now.passed (joined (rows c.args.slots.now)) in let L₀ = drop c.args.at.now.passed (joined (rows c.args.slots.now)) in
-    subst (λ Z. (kept : List _) × ExtractsNext (PicksAt g.F.FnMut) c.args.f.now L₀ (Some c.in-Some-found.pair) c.extract_at-found.new.f kept (drop m (joined (rows Z))) × (take m (joined (rows Z)) ≡ D₀ ++ kept)) (sym c.extract_at-found.ensures.step.1.others)
-    (Extracts-slot (asked g w.After-extract_at-found below at) m (passed g w.After-extract_at-found below at) c.args.f.now D₀ L₀ c.loop-slot.invariant.steps c.in-Some-found.pair c.in-Some-found.is)
+    c.loop-slot.invariant.steps _ _ _ _ (ExtractsBehind-slot (asked g (goal.at.returns-in-Some-found-clause-step g c).After-extract_at-found) _ c.in-Some-found.is)
 
 pub returns-in-Some-found-clause-table : goal.returns-in-Some-found-clause-table
-returns-in-Some-found-clause-table g c =
-    let w = goal.at.returns-in-Some-found-clause-table g c in
-    rw c.extract_at-found.ensures.step.1.others (IsTable-asked (asked g w.After-extract_at-found (below g w.In-Some) (at g w.In-Some)))
+returns-in-Some-found-clause-table g c = table g (goal.at.returns-in-Some-found-clause-table g c).After-extract_at-found
 
 pub returns-in-Some-found-clause-reached : goal.returns-in-Some-found-clause-reached
 returns-in-Some-found-clause-reached g c =
-    let w = goal.at.returns-in-Some-found-clause-reached g c in let below = below g w.In-Some in let at = at g w.In-Some in
-    let asked = asked g w.After-extract_at-found below at in
-    rw c.extract_at-found.ensures.step.1.others (IsReached-at g.K.IntKey.number_of _ (IsTable-asked asked) _ _ _ (IsInRows-step asked _ (passed g w.After-extract_at-found below at)))
+    let at = (goal.at.returns-in-Some-found-clause-reached g c).After-extract_at-found in IsReached-at _ _ (table g at) _ _ _ (IsInRows-step (asked g at))
 
 pub returns-in-Some-found-clause-len : goal.returns-in-Some-found-clause-len
-returns-in-Some-found-clause-len g c =
-    let is = c.extract_at-found.ensures.step.1 in
-    ap length is.others ∙ length-set c.loop-slot.slots c.in-Some.slot is.slot ∙ c.loop-slot.invariant.len
+returns-in-Some-found-clause-len g c = length-row_set _ _ _ _ c.extract_at-found.ensures.step.1 ∙ c.loop-slot.invariant.len
 
 pub overflow_add-at-in-Some : goal.overflow_add-at-in-Some
 overflow_add-at-in-Some g c =
-    let w = below g (goal.at.overflow_add-at-in-Some g c).In-Some in let most = capacity-greatest _ c.loop-slot.invariant.table.capacity in omega (arith, w, most)
+    let below = next-within _ _ _ c.in-Some.ensures.some in let most = capacity-greatest _ c.loop-slot.invariant.table.capacity in omega (arith, below, most)
 
 pub loop-slot-smaller : goal.loop-slot-smaller
 loop-slot-smaller g c =
-    let lt = below g (goal.at.loop-slot-smaller g c).In-Some in let up = c.in-Some.ensures.some.behind in let is = c.extract_at-found.ensures.step.1 in
-    let len = ap length is.others ∙ length-set c.loop-slot.slots c.in-Some.slot is.slot in
-    omega (arith, lt, up, len)
+    let below = next-within _ _ _ c.in-Some.ensures.some in let len = length-row_set _ _ _ _ c.extract_at-found.ensures.step.1 in
+    omega (arith, below, c.in-Some.ensures.some.behind, len)
 
 pub loop-slot-preserved : goal.loop-slot-preserved
 loop-slot-preserved g c =
-    let w = goal.at.loop-slot-preserved g c in let loop = c.loop-slot.invariant in let is = c.extract_at-found.ensures.step.1 in
-    let below = below g w.In-Some in let at = at g w.In-Some in
-    let here = asked g w.After-extract_at-found below at in let passed = passed g w.After-extract_at-found below at in
-    let m = c.loop-slot.at.passed + (c.extract_at-found.new.place - c.loop-slot.at.place) in
-    let D₀ = take c.args.at.now.passed (joined (rows c.args.slots.now)) in let L₀ = drop c.args.at.now.passed (joined (rows c.args.slots.now)) in
-    let few = joined-few here in
-    rw is.others (record {
-      callable = TakesEach-slot here m passed c.in_default-found.is (TakesPairMut g.F.FnMut) loop.callable;
-      table = IsTable-asked here;
-      len = length-set c.loop-slot.slots c.in-Some.slot is.slot ∙ loop.len;
+    let at = (goal.at.loop-slot-preserved g c).After-extract_at-found in let here = asked g at in let loop = c.loop-slot.invariant in let few = joined-few here in
+    record {
+      callable = TakesEach-slot here (TakesPairMut g.F.FnMut) loop.callable;
+      table = table g at;
+      len = length-row_set _ _ _ _ here.is ∙ loop.len;
       few = omega (arith, few, loop.few);
-      at = IsInRows-left here m passed c.in_default-found.is;
-      steps = StepsTo-slot here m passed c.args.f.now D₀ L₀ loop.steps c.in_default-found.is;
-    })
+      at = IsInRows-left here c.in_default-found.is;
+      steps = λ r h N k next. loop.steps r h N k (StepsFrom-slot here c.in_default-found.is r h N k next);
+    }
 
 pub returns-clause-step : goal.returns-clause-step
 returns-clause-step g c =
-    let loop = c.loop-slot.invariant in
-    StepsTo-end (PicksAt g.F.FnMut) c.args.f.now c.loop-slot.f _ _ _ _ (drop-none _ _ _ _ loop.at c.in_default.ensures.none) loop.steps
+    let loop = c.loop-slot.invariant in loop.steps _ _ _ _ (ExtractsBehind-end (PicksAt g.F.FnMut) _ _ _ (drop-none _ _ _ _ loop.at c.in_default.ensures.none))
 
 pub returns-clause-reached : goal.returns-clause-reached
-returns-clause-reached g c =
-    let loop = c.loop-slot.invariant in
-    IsReached-at g.K.IntKey.number_of c.loop-slot.slots loop.table c.loop-slot.at.slot c.loop-slot.at.place c.loop-slot.at.passed loop.at
+returns-clause-reached g c = let loop = c.loop-slot.invariant in IsReached-at _ c.loop-slot.slots loop.table _ _ _ loop.at

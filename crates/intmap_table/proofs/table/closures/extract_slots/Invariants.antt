@@ -1,10 +1,10 @@
-use Rattle.std.proofs.Common.{◌≡◌, ◌-◌, ◌^◌, ◌<◌, length, take, drop}
+use Rattle.std.proofs.Common.{◌≡◌, ◌-◌, ◌^◌, ◌<◌, length, drop}
 use Rattle.intmap_table.specs.Picking.{AsksAt, PicksAt}
 use Rattle.intmap_table.specs.Writes.{TakesPairMut}
 use Rattle.intmap_table.specs.Tables.Slots.{rows, joined, IsTable}
 use Rattle.intmap_table.specs.Taking.{TakesEach}
-use Rattle.intmap_table.proofs.ExtractLemmas.{StepsTo}
-use Rattle.intmap_table.proofs.Tables.ExtractSlotsLemmas.{IsInRows}
+use Rattle.intmap_table.proofs.ExtractLemmas.{StepsFrom}
+use Rattle.intmap_table.proofs.Tables.CursorLemmas.{IsInRows}
 use Rattle.intmap_table.proofs.table.closures.extract_slots.Given as goal
 
 -- a step from the cursor on is one from where it was at the call, and the slots are a table
@@ -15,8 +15,7 @@ invariant-loop-slot g l = record {
   len : length l.slots ≡ length l.initial.slots;
   few : length (joined (rows l.slots)) < 2 ^ 64;
   at : IsInRows (rows l.slots) l.at.slot l.at.place l.at.passed;
-  steps : StepsTo (PicksAt g.F.FnMut) l.initial.f (take l.initial.at.passed (joined (rows l.initial.slots))) (drop l.initial.at.passed (joined (rows l.initial.slots)))
-      l.f (take l.at.passed (joined (rows l.slots))) (drop l.at.passed (joined (rows l.slots)));
+  steps : StepsFrom (PicksAt g.F.FnMut) l.initial.f (joined (rows l.initial.slots)) l.initial.at.passed l.f (joined (rows l.slots)) l.at.passed;
 }
 
 abbrev pub decreases-loop-slot : goal.decreases-loop-slot

@@ -1,4 +1,4 @@
-use Rattle.std.proofs.Common.{◌≡◌, ◌-◌, ◌^◌, ◌<◌, length, take, drop}
+use Rattle.std.proofs.Common.{◌≡◌, ◌+◌, ◌-◌, ◌^◌, ◌<◌, length, take, drop}
 use Rattle.intmap_table.specs.Retaining.{Retains, KeepsAt, TakesPair}
 use Rattle.intmap_table.specs.Taking.{TakesEach}
 use Rattle.intmap_table.specs.Tables.Slots.{rows, joined, IsTable}
@@ -11,7 +11,7 @@ invariant-loop-index g l = record {
   callable : TakesEach (KeepsAt g.F.FnMut) (TakesPair g.F.FnMut) l.f (joined (drop l.from (rows l.slots)));
   table : IsTable g.K.IntKey.number_of l.slots;
   len : length l.slots ≡ length l.initial.slots;
-  few : length (joined (rows l.slots)) < 2 ^ 64;
+  few : l.count + length (joined (drop l.from (rows l.slots))) < 2 ^ 64;
   count : l.count ≡ length (joined (take l.from (rows l.slots)));
   leads : Leads (Retains (KeepsAt g.F.FnMut)) l.initial.f (joined (rows l.initial.slots)) l.f (joined (take l.from (rows l.slots))) (joined (drop l.from (rows l.slots)));
 }

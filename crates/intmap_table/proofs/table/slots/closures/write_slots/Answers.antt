@@ -1,73 +1,63 @@
-use Rattle.std.proofs.Common.{◌≡◌, ◌<◌, ◌∙◌, [], ◌∷◌, ◌++◌, length, refl, sym, ap, subst, arith, get_or, length-set, append_assoc}
-use Rattle.intmap_table.specs.Tables.Bits.{marked_indices}
-use Rattle.intmap_table.specs.Tables.Slots.{rows, pairs_at}
+use Rattle.std.proofs.Common.{◌+◌, ◌<◌, ◌∙◌, length, refl, sym, subst, arith, zero-add}
+use Rattle.intmap_table.specs.Tables.Slots.{rows, IsNextRow, IsRowSet}
 use Rattle.intmap_table.specs.Taking.{TakesEach}
 use Rattle.intmap_table.specs.Writes.{Writes, WritesAt, TakesPairMut}
-use Rattle.intmap_table.proofs.Tables.FilledLemmas.{pairs_at-marked}
-use Rattle.intmap_table.proofs.Tables.TableLemmas.{get_or-rows}
+use Rattle.intmap_table.proofs.Tables.FilledLemmas.{AreLeft, row-next, row-next_none}
+use Rattle.intmap_table.proofs.Tables.PartsLemmas.{next-left, next-within, Leads-all, Leads-row, TakesEach-row}
+use Rattle.intmap_table.proofs.Tables.SameKeysLemmas.{row_keys-set, AreMarked-same_keys}
+use Rattle.intmap_table.proofs.Tables.TableLemmas.{row-at}
 use Rattle.intmap_table.proofs.TakingLemmas.{TakesEach-front}
-use Rattle.intmap_table.proofs.Tables.WritesSlotsLemmas.{slot-within, Leads-index, TakesEach-index, IsTable-Writes, AreMarked-Writes, Leads-indices}
+use Rattle.intmap_table.proofs.WritesLemmas.{keys_of-Writes, FoldsTo-Writes, Writes-append}
 use Rattle.intmap_table.proofs.table.slots.closures.write_slots.Goals as goal
 use Rattle.intmap_table.proofs.table.slots.closures.write_slots.Goals.{In-Some}
 
 pub loop-index-init : goal.loop-index-init
 loop-index-init g c =
-    let all = pairs_at-marked (rows c.args.slots.now.items) c.args.bits.now c.requires.marks in
     rw (c.into_iter-index-iterator.ensures.into_iter_gives ∙ c.iter-index-items.ensures) (record {
-      callable = rw all c.requires.callable;
-      table = c.requires.table;
-      marks = c.requires.marks;
-      len = refl;
-      passed = ([], refl, λ N last run. rw all at run);
+      keys = refl;
+      passed = (0, (length c.args.bits.now, zero-add _, refl), c.requires.callable, λ N last run. run);
     })
 
 module _ (g : _) (c : In-Some g) where
-  -- the index at hand is the next one of those that are marked
-  next : c.loop-index.invariant.passed.0 ++ c.in-Some.index ∷ c.next.new.self ≡ marked_indices c.args.bits.now
-  next = rw c.in-Some.ensures.steps at c.loop-index.invariant.passed.1
+  -- the slot at hand is the next one with a pair
+  next : IsNextRow (rows c.loop-index.slots.items) c.loop-index.invariant.passed.0 c.in-Some.index × AreLeft c.args.bits.now (c.in-Some.index + 1) c.next.new.self
+  next =
+      row-next (rows c.loop-index.slots.items) c.args.bits.now (AreMarked-same_keys _ _ (sym c.loop-index.invariant.keys) _ c.requires.marks) _ _ _
+      (rw c.in-Some.ensures.steps at c.loop-index.invariant.passed.1)
 
   within : c.in-Some.index < length c.loop-index.slots.items
-  within = slot-within c.loop-index.slots.items c.args.bits.now c.loop-index.invariant.marks c.loop-index.invariant.passed.0 c.in-Some.index c.next.new.self next
+  within = next-within _ _ _ next.0
 
 pub index_mut-requires : goal.index_mut-requires
 index_mut-requires g c = let below = within g (goal.at.index_mut-requires g c).In-Some in omega (arith, below, c.loop-index.slots.ok.0)
 
 pub write_each-requires : goal.write_each-requires
 write_each-requires g c =
-    let at = (goal.at.write_each-requires g c).In-Some in let S = c.loop-index.slots.items in let index = c.in-Some.index in
-    let row = ap (λ h. h.pairs) c.index_mut.ensures.value ∙ sym (get_or-rows S index c.index_mut.result.now (within g at)) in
-    subst (TakesEach (WritesAt g.F.FnMut) (TakesPairMut g.F.FnMut) c.loop-index.f) (sym row)
-    (TakesEach-front (WritesAt g.F.FnMut) (TakesPairMut g.F.FnMut) c.loop-index.f (get_or (rows S) index []) (pairs_at (rows S) c.next.new.self) (rw c.in-Some.ensures.steps at c.loop-index.invariant.callable))
+    let at = (goal.at.write_each-requires g c).In-Some in let T = TakesEach (WritesAt g.F.FnMut) (TakesPairMut g.F.FnMut) c.loop-index.f in
+    subst T (sym (row-at c.loop-index.slots.items c.in-Some.index c.index_mut.result.now (within g at) c.index_mut.ensures.value))
+    (TakesEach-front (WritesAt g.F.FnMut) (TakesPairMut g.F.FnMut) _ _ _ (subst T (next-left _ _ _ (next g at).0) c.loop-index.invariant.passed.2))
 
 pub loop-index-preserved : goal.loop-index-preserved
 loop-index-preserved g c =
     let at = (goal.at.loop-index-preserved g c).In-Some in let loop = c.loop-index.invariant in let R = WritesAt g.F.FnMut in
-    let S = c.loop-index.slots.items in let marks = c.args.bits.now in let before = loop.passed.0 in let index = c.in-Some.index in let rest = c.next.new.self in
-    let s = c.write_each.new.self in let is = next g at in
-    let row = ap (λ h. h.pairs) c.index_mut.ensures.value ∙ sym (get_or-rows S index c.index_mut.result.now (within g at)) in
-    let run = subst (λ ps. Writes R c.loop-index.f ps s.pairs c.write_each.new.f) row c.write_each.ensures in
+    let S = c.loop-index.slots.items in let from = loop.passed.0 in let index = c.in-Some.index in let s = c.write_each.new.self in let next = next g at in
+    let is : IsRowSet S index s.pairs _ = record { slot = s; pairs = refl; others = refl } in
+    let run = subst (λ ps. Writes R c.loop-index.f ps s.pairs c.write_each.new.f) (row-at S index c.index_mut.result.now (within g at) c.index_mut.ensures.value) c.write_each.ensures in
     record {
-      callable = TakesEach-index S marks loop.marks before index rest is s R _ _ run (TakesPairMut g.F.FnMut) (rw c.in-Some.ensures.steps at loop.callable);
-      table = IsTable-Writes S marks loop.marks before index rest is s R _ _ run g.K.IntKey.number_of loop.table;
-      marks = AreMarked-Writes S marks loop.marks before index rest is s R _ _ run;
-      len = length-set S index s ∙ loop.len;
+      keys = row_keys-set S index s.pairs _ is (keys_of-Writes R _ _ _ _ run) ∙ loop.keys;
       passed = (
-        before ++ index ∷ [],
-        append_assoc before (index ∷ []) rest ∙ is,
-        Leads-index S marks loop.marks before index rest is s R _ _ run _ _ (rw c.in-Some.ensures.steps at loop.passed.2),
+        index + 1,
+        next.1,
+        TakesEach-row S from index s.pairs _ next.0 is R (TakesPairMut g.F.FnMut) _ _ loop.passed.2 (FoldsTo-Writes R _ _ _ _ run),
+        Leads-row S from index s.pairs _ next.0 is _ _ _ _ (Writes R) (Writes-append R) loop.passed.3 run,
       );
     }
 
 pub returns-clause-pairs : goal.returns-clause-pairs
 returns-clause-pairs g c =
-    let loop = c.loop-index.invariant in let none = c.in-None.ensures.steps.0 in
-    Leads-indices (WritesAt g.F.FnMut) c.loop-index.slots.items c.args.bits.now _ _ _ loop.passed.0 loop.marks (rw none at loop.passed.1) (rw none at loop.passed.2)
+    let loop = c.loop-index.invariant in
+    Leads-all (Writes (WritesAt g.F.FnMut)) _ _ _ _ _
+    (row-next_none _ _ (AreMarked-same_keys _ _ (sym loop.keys) _ c.requires.marks) _ (rw c.in-None.ensures.steps.0 at loop.passed.1)) (refl, refl) loop.passed.3
 
-pub returns-clause-table : goal.returns-clause-table
-returns-clause-table g c = c.loop-index.invariant.table
-
-pub returns-clause-marks : goal.returns-clause-marks
-returns-clause-marks g c = c.loop-index.invariant.marks
-
-pub returns-clause-len : goal.returns-clause-len
-returns-clause-len g c = c.loop-index.invariant.len
+pub returns-clause-keys : goal.returns-clause-keys
+returns-clause-keys g c = c.loop-index.invariant.keys

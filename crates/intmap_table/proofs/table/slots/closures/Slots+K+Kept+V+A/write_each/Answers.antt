@@ -1,11 +1,9 @@
-use Rattle.std.proofs.Common.{sym, ◌∙◌}
+use Rattle.std.proofs.Common.{sym}
+use Rattle.intmap_table.proofs.Tables.SameKeysLemmas.{IsDirectory-same_keys}
 use Rattle.intmap_table.proofs.table.slots.closures.Slots+K+Kept+V+A.write_each.Goals as goal
 
-pub write_slots-requires-clause-table : goal.write_slots-requires-clause-table
-write_slots-requires-clause-table g c = rw (← c.self.view_is) at c.requires.table
-
 pub invariant_of-self : goal.invariant_of-self
-invariant_of-self g c = record { marks = c.write_slots.ensures.marks; count = c.self.invariant.count ∙ sym c.write_slots.ensures.len }
+invariant_of-self g c = IsDirectory-same_keys _ _ (sym c.write_slots.ensures.keys) _ _ c.self.invariant
 
 pub returns-clause-pairs : goal.returns-clause-pairs
 returns-clause-pairs g c = rw (← c.self.view_is) c.write_slots.ensures.pairs
