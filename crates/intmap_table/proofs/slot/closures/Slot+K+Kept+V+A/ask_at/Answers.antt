@@ -1,46 +1,42 @@
-use Rattle.std.proofs.Common.{◌≡◌, ◌<◌, ◌∷◌, length, get_or, set, ap, sym, subst, ◌∙◌, arith}
-use Rattle.intmap_table.specs.Picking.{PicksAt}
-use Rattle.intmap_table.specs.Writes.{TakesPairMut}
+use Rattle.std.proofs.Common.{◌≡◌, ◌<◌, length, get_or, refl, arith}
 use Rattle.intmap_table.specs.Tables.Slots.{all_pairs}
 use Rattle.intmap_table.proofs.Tables.SlotLemmas.{get_or-behind, set-behind}
 use Rattle.intmap_table.proofs.slot.closures.Slot+K+Kept+V+A.ask_at.Goals as goal
+use Rattle.intmap_table.proofs.slot.closures.Slot+K+Kept+V+A.ask_at.Goals.{After-index_mut, In-Some}
+
+module _ (g : _) (c : After-index_mut g) where
+  within : c.args.place < length (all_pairs c.self.inside.first c.self.inside.rest.items)
+  within = rw (← c.self.view_is) at c.requires.within
+
+  -- the pair at hand is the one at the place
+  behind : (d : _) → c.index_mut.result.now ≡ get_or c.args.self.now.pairs c.args.place d
+  behind d = rw (← c.self.view_is) (get_or-behind c.self.inside.first c.self.inside.rest.items c.args.place _ d c.if-place-gt0.true within c.self.invariant c.index_mut.ensures.value)
 
 pub picks_pair-requires : goal.picks_pair-requires
-picks_pair-requires g c =
-    let same = ap (λ h. h.pairs) c.self.view_is in
-    let within : c.args.place < length (all_pairs c.self.inside.first c.self.inside.rest.items) = subst (λ ps. c.args.place < length ps) (sym same) c.requires.within in
-    let pair = c.index_mut.result.now in
-    let here = get_or-behind c.self.inside.first c.self.inside.rest.items c.args.place pair pair c.if-place-gt0.true within c.self.invariant c.index_mut.ensures.value
-    ∙ ap (λ ps. get_or ps c.args.place pair) same in
-    subst (TakesPairMut g.F.FnMut c.args.f.now) (sym here) (c.requires.callable pair)
+picks_pair-requires g c = rw (behind g (goal.at.picks_pair-requires g c).After-index_mut c.index_mut.result.now) (c.requires.callable c.index_mut.result.now)
 
 pub returns-then-place-gt0 : goal.returns-then-place-gt0
 returns-then-place-gt0 g c =
-    let same = ap (λ h. h.pairs) c.self.view_is in
-    let within : c.args.place < length (all_pairs c.self.inside.first c.self.inside.rest.items) = subst (λ ps. c.args.place < length ps) (sym same) c.requires.within in
-    let pair = c.index_mut.result.now in let left = c.picks_pair.new.pair in
-    let here = get_or-behind c.self.inside.first c.self.inside.rest.items c.args.place pair left c.if-place-gt0.true within c.self.invariant c.index_mut.ensures.value
-    ∙ ap (λ ps. get_or ps c.args.place left) same in (
+    let at = (goal.at.returns-then-place-gt0 g c).After-index_mut in let left = c.picks_pair.new.pair in (
       left,
-      set-behind c.self.inside.first c.self.inside.rest.items c.args.place left c.if-place-gt0.true within c.self.invariant ∙ ap (λ ps. set ps c.args.place left) same,
-      subst (λ p. PicksAt g.F.FnMut c.args.f.now p c.picks_pair.result c.picks_pair.new.f left) here c.picks_pair.ensures,
+      rw (← c.self.view_is) (set-behind c.self.inside.first c.self.inside.rest.items c.args.place left c.if-place-gt0.true (within g at) c.self.invariant),
+      rw (behind g at left) at c.picks_pair.ensures,
     )
 
+module _ (g : _) (c : In-Some g) where
+  zero : c.args.place ≡ 0
+  zero = omega (arith, c.if-place-gt0.false)
+
+  first : (d : _) → c.in-Some.first ≡ get_or c.args.self.now.pairs c.args.place d
+  first d = rw (← c.self.view_is, c.in-Some.is, zero) refl
+
 pub picks_pair-requires-in-Some : goal.picks_pair-requires-in-Some
-picks_pair-requires-in-Some g c =
-    let same = ap (λ o. all_pairs o c.self.inside.rest.items) (sym c.in-Some.is) ∙ ap (λ h. h.pairs) c.self.view_is in
-    let zero : c.args.place ≡ 0 = omega (arith, c.if-place-gt0.false) in
-    let first = c.in-Some.first in
-    let here = ap (λ n. get_or (first ∷ c.self.inside.rest.items) n first) (sym zero) ∙ ap (λ ps. get_or ps c.args.place first) same in
-    subst (TakesPairMut g.F.FnMut c.args.f.now) (sym here) (c.requires.callable first)
+picks_pair-requires-in-Some g c = rw (first g (goal.at.picks_pair-requires-in-Some g c).In-Some c.in-Some.first) (c.requires.callable c.in-Some.first)
 
 pub returns : goal.returns
 returns g c =
-    let same = ap (λ o. all_pairs o c.self.inside.rest.items) (sym c.in-Some.is) ∙ ap (λ h. h.pairs) c.self.view_is in
-    let zero : c.args.place ≡ 0 = omega (arith, c.if-place-gt0.false) in
-    let first = c.in-Some.first in let left = c.picks_pair-in-Some.new.pair in
-    let here = ap (λ n. get_or (first ∷ c.self.inside.rest.items) n left) (sym zero) ∙ ap (λ ps. get_or ps c.args.place left) same in (
+    let at = (goal.at.returns g c).In-Some in let left = c.picks_pair-in-Some.new.pair in (
       left,
-      ap (λ n. set (first ∷ c.self.inside.rest.items) n left) (sym zero) ∙ ap (λ ps. set ps c.args.place left) same,
-      subst (λ p. PicksAt g.F.FnMut c.args.f.now p c.picks_pair-in-Some.result c.picks_pair-in-Some.new.f left) here c.picks_pair-in-Some.ensures,
+      rw (← c.self.view_is, c.in-Some.is, zero g at) refl,
+      rw (first g at left) at c.picks_pair-in-Some.ensures,
     )

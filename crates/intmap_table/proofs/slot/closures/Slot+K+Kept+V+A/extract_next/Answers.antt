@@ -1,4 +1,4 @@
-use Rattle.std.proofs.Common.{◌+◌, ◌<◌, ◌∙◌, false, length, get_or, take, drop, ap, subst, arith, length-append, length-set}
+use Rattle.std.proofs.Common.{◌≡◌, ◌+◌, ◌<◌, ◌∙◌, false, length, get_or, take, drop, ap, subst, arith, length-append, length-set}
 use Rattle.std.proofs.lemmas.List.{drop_all, drop-set-lt, length-take-le}
 use Rattle.intmap_table.specs.Picking.{AsksAt, PicksAt}
 use Rattle.intmap_table.specs.Writes.{TakesPairMut}
@@ -21,9 +21,9 @@ returns-then-ask_at-clause-step g c =
 pub returns-then-ask_at-clause-within : goal.returns-then-ask_at-clause-within
 returns-then-ask_at-clause-within g c =
     let i = c.loop-place.place in let qs = c.ask_at.new.self.pairs in
-    let long = ap length c.ask_at.ensures.1 ∙ length-set c.loop-place.self.pairs i c.ask_at.ensures.0 in
+    let long : length qs ≡ length c.loop-place.self.pairs = ap length c.ask_at.ensures.1 ∙ length-set c.loop-place.self.pairs i c.ask_at.ensures.0 in
     let first = length-take-le i qs (omega (arith, c.loop-place-test.true, c.len.ensures, long)) in
-    let left = ap length c.remove_at.ensures.pairs ∙ length-append (take i qs) (drop (i + 1) qs) in
+    let left : length c.remove_at.new.self.pairs ≡ length (take i qs) + length (drop (i + 1) qs) = ap length c.remove_at.ensures.pairs ∙ length-append (take i qs) (drop (i + 1) qs) in
     omega (arith, first, left)
 
 pub loop-place-preserved : goal.loop-place-preserved
@@ -31,7 +31,7 @@ loop-place-preserved g c =
     let R = PicksAt g.F.FnMut in let asked = c.ask_at.ensures in let held = c.loop-place.invariant in let i = c.loop-place.place in let ps = c.loop-place.self.pairs in
     let below : i < length ps = omega (arith, c.loop-place-test.true, c.len.ensures) in
     let call = subst (λ b. R c.loop-place.f (get_or ps i asked.0) b c.ask_at.new.f asked.0) c.if-ask_at.false asked.2 in
-    let long = ap length asked.1 ∙ length-set ps i asked.0 in
+    let long : length c.ask_at.new.self.pairs ≡ length ps = ap length asked.1 ∙ length-set ps i asked.0 in
     record {
       callable = rw (asked.1, drop-set-lt (i + 1) ps i asked.0 (omega arith))
           (TakesEach-past (AsksAt g.F.FnMut) (TakesPairMut g.F.FnMut) c.loop-place.f ps i asked.0 below held.callable c.ask_at.new.f (false, asked.0) call);

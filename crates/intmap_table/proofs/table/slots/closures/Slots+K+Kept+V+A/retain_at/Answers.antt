@@ -1,6 +1,5 @@
-use Rattle.std.proofs.Common.{◌<◌, ◌≤◌, length, refl, sym, ap, subst, arith}
-use Rattle.intmap_table.specs.Retaining.{KeepsAt, Retains, TakesPair}
-use Rattle.intmap_table.specs.Taking.{TakesEach}
+use Rattle.std.proofs.Common.{◌<◌, length, refl, ap, arith}
+use Rattle.intmap_table.specs.Retaining.{KeepsAt, Retains}
 use Rattle.intmap_table.specs.Tables.Slots.{row_of}
 use Rattle.intmap_table.proofs.RetainLemmas.{length-Retains}
 use Rattle.intmap_table.proofs.Tables.FilledLemmas.{IsDirectory-changed}
@@ -8,33 +7,27 @@ use Rattle.intmap_table.proofs.Tables.TableLemmas.{row-at}
 use Rattle.intmap_table.proofs.table.slots.closures.Slots+K+Kept+V+A.retain_at.Goals as goal
 use Rattle.intmap_table.proofs.table.slots.closures.Slots+K+Kept+V+A.retain_at.Goals.{After-retain}
 
+pub retain-requires : goal.retain-requires
+retain-requires g c =
+    let below : c.args.index < length c.self.inside.slots.items = rw (← c.self.view_is) at c.requires.within in
+    rw (row-at c.self.inside.slots.items c.args.index c.index_mut-slot.result.now below c.index_mut-slot.ensures.value, c.self.view_is) c.requires.callable
+
 module _ (g : _) (c : After-retain g) where
   below : c.args.index < length c.self.inside.slots.items
   below = rw (← c.self.view_is) at c.requires.within
 
   -- the closure was asked about the pairs of the slot
   asked : Retains (KeepsAt g.F.FnMut) c.args.f.now (row_of c.self.inside.slots.items c.args.index) c.retain.new.self.pairs c.retain.new.f
-  asked =
-      subst (λ ps. Retains (KeepsAt g.F.FnMut) c.args.f.now ps c.retain.new.self.pairs c.retain.new.f)
-      (row-at c.self.inside.slots.items c.args.index c.index_mut-slot.result.now below c.index_mut-slot.ensures.value) c.retain.ensures.pairs
-
-  -- of which no more are left
-  fewer : length c.retain.new.self.pairs ≤ length (row_of c.self.inside.slots.items c.args.index)
-  fewer = length-Retains (KeepsAt g.F.FnMut) _ _ _ _ asked
-
-pub retain-requires : goal.retain-requires
-retain-requires g c =
-    let below : c.args.index < length c.self.inside.slots.items = rw (← c.self.view_is) at c.requires.within in
-    subst (TakesEach (KeepsAt g.F.FnMut) (TakesPair g.F.FnMut) c.args.f.now)
-    (sym (row-at c.self.inside.slots.items c.args.index c.index_mut-slot.result.now below c.index_mut-slot.ensures.value)) (rw (← c.self.view_is) at c.requires.callable)
+  asked = rw (row-at c.self.inside.slots.items c.args.index c.index_mut-slot.result.now below c.index_mut-slot.ensures.value) at c.retain.ensures.pairs
 
 pub len-requires : goal.len-requires
 len-requires g c =
-    let few = fewer g (goal.at.len-requires g c).After-retain in let fits = c.requires.few in let same = ap (λ S. length (row_of S c.args.index)) c.self.view_is in omega (arith, few, fits, same)
+    let few = length-Retains (KeepsAt g.F.FnMut) _ _ _ _ (asked g (goal.at.len-requires g c).After-retain) in
+    let same = ap (λ S. length (row_of S c.args.index)) c.self.view_is in omega (arith, few, c.requires.few, same)
 
 pub invariant_of-self : goal.invariant_of-self
 invariant_of-self g c =
-    let at = (goal.at.invariant_of-self g c).After-retain in let few = fewer g at in
+    let at = (goal.at.invariant_of-self g c).After-retain in let few = length-Retains (KeepsAt g.F.FnMut) _ _ _ _ (asked g at) in
     rw c.unmark_if_empty.ensures (IsDirectory-changed c.self.inside.slots.items c.self.invariant c.args.index (below g at) c.retain.new.self (λ some. omega (arith, some, few)))
 
 pub returns : goal.returns
