@@ -140,9 +140,10 @@ impl<K: IntKey, V, A: Allocator> Slot<K, Kept<V>, A> {
         requires { TakesEach (WritesAt F.FnMut) (TakesPairMut F.FnMut) f.old self.old.pairs }
         ensures { Writes (WritesAt F.FnMut) f.old self.old.pairs self.new.pairs f.new }
     {
-        if let Some(pair) = &mut self.first {
-            write_pair(pair, f);
-        }
+        let Some(pair) = &mut self.first else {
+            return;
+        };
+        write_pair(pair, f);
         write_in(self.rest.as_mut_slice(), f);
     }
 }

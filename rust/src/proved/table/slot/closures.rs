@@ -98,9 +98,10 @@ fn write_in<K: IntKey, V, F: FnMut(K, &mut V)>(pairs: &mut [(Stored<K>, Kept<V>)
 impl<K: IntKey, V, A: Allocator> Slot<K, Kept<V>, A> {
     /// Calls the closure at each pair in turn, with a mutable reference to its value.
     pub(in crate::proved::table) fn write_each<F: FnMut(K, &mut V)>(&mut self, f: &mut F) {
-        if let Some(pair) = &mut self.first {
-            write_pair(pair, f);
-        }
+        let Some(pair) = &mut self.first else {
+            return;
+        };
+        write_pair(pair, f);
         write_in(self.rest.as_mut_slice(), f);
     }
 }
