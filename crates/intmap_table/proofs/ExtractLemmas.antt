@@ -6,21 +6,12 @@ use Rattle.std.specs.List.{sum_by}
 use Rattle.std.specs.Option.{option_len, option_to_list}
 use Rattle.std.specs.List.Retain.{ExtractsNext}
 use Rattle.std.proofs.lemmas.List.{drop_more, drop-append-le, drop-set-lt, length-take-le, take_more_set, take-append-drop, take-append-le, take-set-le}
-use Rattle.std.proofs.Math.ListN.{get_or-append}
 use Rattle.std.proofs.Math.Seq.{drop-append-add, drop-append_seam, take-append-add, take-append_seam}
-use Rattle.std.proofs.lemmas.List.Elements.{All-append, All-cons, All-head, All-tail}
+use Rattle.std.proofs.lemmas.List.Elements.{All-append, All-cons, All-drop, All-head, All-tail, All-take}
 use Rattle.std.proofs.lemmas.List.Sums.{sum_by-append, sum_by-cons, sum_by-take-drop}
 use Rattle.intmap_table.specs.Picking.{ExtractsBehind}
 use Rattle.intmap_table.specs.Taking.{TakesEach}
 use Rattle.intmap_table.proofs.TakingLemmas.{TakesEach-next}
-
--- what holds of all elements of two lists in a row holds of those of the first and of the second
-pub All-front : {X : Type 0} (P : X → Type 0) (xs ys : List X) → All P (xs ++ ys) → All P xs
-All-front P xs ys all = λ k d lt. subst P (get_or-append xs ys d k lt) (all k d (let n = length-append xs ys in omega (arith, lt, n)))
-
-pub All-behind : {X : Type 0} (P : X → Type 0) (xs ys : List X) → All P (xs ++ ys) → All P ys
-All-behind P [] ys all = all
-All-behind P (x ∷ xs) ys all = All-behind P xs ys (All-tail P x (xs ++ ys) all)
 
 module _ {F X : Type 0} (R : F → X → Bool → F → X → Type 0) (P : F → List X → Option X → F → List X → List X → Type 0)
     (none : (f : F) → P f [] None f [] []) (picks : (f g : F) (x y : X) (L : List X) → R f x true g y → P f (x ∷ L) (Some y) g [] L)
@@ -171,8 +162,7 @@ module _ {F X : Type 0} (R : F → X → Bool → F → X → Type 0) where
 
     pub All-ExtractsBehind : (f g : F) (L M : List X) (i j : ℕ) (r : Option X) → ExtractsBehind R f L i r g M j → All P L → All P M
     All-ExtractsBehind f g L M i j r e all =
-        let both : All P (take i L ++ drop i L) = subst (All P) (sym (take-append-drop i L)) all in
-        let stay = All-append P (take i L) (e.0 ++ drop j M) (All-front P (take i L) (drop i L) both) (All-ExtractsNext f g (drop i L) e.0 (drop j M) r e.1 (All-behind P (take i L) (drop i L) both)) in
+        let stay = All-append P (take i L) (e.0 ++ drop j M) (All-take P i L all) (All-ExtractsNext f g (drop i L) e.0 (drop j M) r e.1 (All-drop P i L all)) in
         subst (All P) (sym (append_assoc (take i L) e.0 (drop j M)) ∙ ap (λ Z. Z ++ drop j M) (sym e.2) ∙ take-append-drop j M) stay
 
 module _ {F X : Type 0} (R : F → X → Bool → F → X → Type 0) where

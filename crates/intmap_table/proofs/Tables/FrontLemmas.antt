@@ -1,10 +1,11 @@
 -- What the slots of a table hold once pairs were removed from the front of its walk.
 use Rattle.std.proofs.Common.{◌≡◌, ℕ, ◌+◌, ◌<◌, ◌≤◌, List, [], ◌++◌, length, get_or, take, drop, sym, ap, ◌∙◌, subst, arith, append_assoc}
 use Rattle.std.specs.Prelude.{All}
+use Rattle.std.proofs.Math.Seq.{drop-append_seam}
+use Rattle.std.proofs.lemmas.List.Elements.{All-drop}
 use Rattle.intmap_table.specs.Classes.{slot_number}
 use Rattle.intmap_table.specs.Walk.{ArePassed}
 use Rattle.intmap_table.specs.Tables.Slots.{Held, rows, row_of, joined, IsNextRow, IsTable, IsRowSet}
-use Rattle.intmap_table.proofs.ExtractLemmas.{All-behind}
 use Rattle.intmap_table.proofs.Tables.FilledLemmas.{joined-emptied}
 use Rattle.intmap_table.proofs.Tables.PartsLemmas.{joined-cut, joined-take_past, row-taken, row-left, next-within}
 use Rattle.intmap_table.proofs.Tables.TableLemmas.{slot_of-joined, row-set_other, IsTable-row_set}
@@ -46,7 +47,8 @@ module _ {K X : Type 0} (number : K → ℕ) (S : List (Held K X)) (old : IsTabl
   IsTable-front =
       let below = next-within S from index next in
       let Own : List (K × X) → Type 0 = λ L. All (λ p. slot_number number p.0 (length S) ≡ index) L in
-      IsTable-row_set number S index row T old below (All-behind (λ p. slot_number number p.0 (length S) ≡ index) ps row (subst Own taken (old.in_place index below))) is
+      let own : Own row = subst Own (drop-append_seam ps row) (All-drop (λ p. slot_number number p.0 (length S) ≡ index) (length ps) (ps ++ row) (subst Own taken (old.in_place index below))) in
+      IsTable-row_set number S index row T old below own is
 
   -- all slots before it were passed
   pub ArePassed-front : ArePassed number (joined (rows T)) (length T) index

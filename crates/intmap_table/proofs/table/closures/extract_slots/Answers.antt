@@ -62,19 +62,15 @@ overflow_add-at g c =
     let here = asked g (goal.at.overflow_add-at g c).After-extract_at-found in let moved = place-on here in let few = row-few _ _ _ _ here.at in
     omega (arith, moved, few, c.loop-slot.invariant.few)
 
-pub returns-in-Some-found-clause-step : goal.returns-in-Some-found-clause-step
-returns-in-Some-found-clause-step g c =
-    c.loop-slot.invariant.steps _ _ _ _ (ExtractsBehind-slot (asked g (goal.at.returns-in-Some-found-clause-step g c).After-extract_at-found) _ c.in-Some-found.is)
-
-pub returns-in-Some-found-clause-table : goal.returns-in-Some-found-clause-table
-returns-in-Some-found-clause-table g c = table g (goal.at.returns-in-Some-found-clause-table g c).After-extract_at-found
-
-pub returns-in-Some-found-clause-reached : goal.returns-in-Some-found-clause-reached
-returns-in-Some-found-clause-reached g c =
-    let at = (goal.at.returns-in-Some-found-clause-reached g c).After-extract_at-found in IsReached-at _ _ (table g at) _ _ _ (IsInRows-step (asked g at))
-
-pub returns-in-Some-found-clause-len : goal.returns-in-Some-found-clause-len
-returns-in-Some-found-clause-len g c = length-row_set _ _ _ _ c.extract_at-found.ensures.step.1 ∙ c.loop-slot.invariant.len
+pub returns-in-Some-found : goal.returns-in-Some-found
+returns-in-Some-found g c =
+    let at = (goal.at.returns-in-Some-found g c).After-extract_at-found in let here = asked g at in let loop = c.loop-slot.invariant in
+    record {
+      step = loop.steps _ _ _ _ (ExtractsBehind-slot here _ c.in-Some-found.is);
+      table = table g at;
+      reached = IsReached-at _ _ (table g at) _ _ _ (IsInRows-step here);
+      len = length-row_set _ _ _ _ here.is ∙ loop.len;
+    }
 
 pub overflow_add-at-in-Some : goal.overflow_add-at-in-Some
 overflow_add-at-in-Some g c =
@@ -97,9 +93,12 @@ loop-slot-preserved g c =
       steps = λ r h N k next. loop.steps r h N k (StepsFrom-slot here c.in_default-found.is r h N k next);
     }
 
-pub returns-clause-step : goal.returns-clause-step
-returns-clause-step g c =
-    let loop = c.loop-slot.invariant in loop.steps _ _ _ _ (ExtractsBehind-end (PicksAt g.F.FnMut) _ _ _ (drop-none _ _ _ _ loop.at c.in_default.ensures.none))
-
-pub returns-clause-reached : goal.returns-clause-reached
-returns-clause-reached g c = let loop = c.loop-slot.invariant in IsReached-at _ c.loop-slot.slots loop.table _ _ _ loop.at
+pub returns : goal.returns
+returns g c =
+    let loop = c.loop-slot.invariant in
+    record {
+      step = loop.steps _ _ _ _ (ExtractsBehind-end (PicksAt g.F.FnMut) _ _ _ (drop-none _ _ _ _ loop.at c.in_default.ensures.none));
+      table = loop.table;
+      reached = IsReached-at _ c.loop-slot.slots loop.table _ _ _ loop.at;
+      len = loop.len;
+    }

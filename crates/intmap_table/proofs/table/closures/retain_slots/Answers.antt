@@ -68,14 +68,12 @@ loop-index-preserved g c =
       leads = Leads-row S from index done.0 T next done.1 _ _ _ _ (Retains R) (Retains-append R) loop.leads done.2;
     }
 
-pub returns-clause-pairs : goal.returns-clause-pairs
-returns-clause-pairs g c = Leads-all (Retains (KeepsAt g.F.FnMut)) _ _ _ _ _ c.in_default.ensures.none (refl, refl) c.loop-index.invariant.leads
-
-pub returns-clause-count : goal.returns-clause-count
-returns-clause-count g c = c.loop-index.invariant.count ∙ ap length (joined-before _ _ c.in_default.ensures.none)
-
-pub returns-clause-table : goal.returns-clause-table
-returns-clause-table g c = c.loop-index.invariant.table
-
-pub returns-clause-len : goal.returns-clause-len
-returns-clause-len g c = c.loop-index.invariant.len
+pub returns : goal.returns
+returns g c =
+    let loop = c.loop-index.invariant in let none = c.in_default.ensures.none in
+    record {
+      pairs = Leads-all (Retains (KeepsAt g.F.FnMut)) _ _ _ _ _ none (refl, refl) loop.leads;
+      table = loop.table;
+      len = loop.len;
+      count = loop.count ∙ ap length (joined-before _ _ none);
+    }

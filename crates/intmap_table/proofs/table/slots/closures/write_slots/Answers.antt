@@ -53,11 +53,8 @@ loop-index-preserved g c =
       );
     }
 
-pub returns-clause-pairs : goal.returns-clause-pairs
-returns-clause-pairs g c =
+pub returns : goal.returns
+returns g c =
     let loop = c.loop-index.invariant in
-    Leads-all (Writes (WritesAt g.F.FnMut)) _ _ _ _ _
-    (row-next_none _ _ (AreMarked-same_keys _ _ (sym loop.keys) _ c.requires.marks) _ (rw c.in-None.ensures.steps.0 at loop.passed.1)) (refl, refl) loop.passed.3
-
-pub returns-clause-keys : goal.returns-clause-keys
-returns-clause-keys g c = c.loop-index.invariant.keys
+    let none = row-next_none _ _ (AreMarked-same_keys _ _ (sym loop.keys) _ c.requires.marks) _ (rw c.in-None.ensures.steps.0 at loop.passed.1) in
+    record { pairs = Leads-all (Writes (WritesAt g.F.FnMut)) _ _ _ _ _ none (refl, refl) loop.passed.3; keys = loop.keys }
