@@ -33,7 +33,7 @@ module _ {F X : Type 0} (R : F → X → Bool → F → X → Type 0) where
 
   -- no element is left
   pub ExtractsBehind-end : (f : F) (L : List X) (i : ℕ) → drop i L ≡ [] → ExtractsBehind R f L i None f L i
-  ExtractsBehind-end f L i none = ([], subst (λ Z. ExtractsNext R f Z None f [] Z) (sym none) (refl, refl, refl, refl), sym (append-nil (take i L)))
+  ExtractsBehind-end f L i none = ([], rw none (refl, refl, refl, refl), sym (append-nil (take i L)))
 
   -- the element at place i, which R left as q
   module _ (f h : F) (ps qs : List X) (i : ℕ) (q : X) (below : i < length ps) (left : qs ≡ set ps i q) where
@@ -49,14 +49,16 @@ module _ {F X : Type 0} (R : F → X → Bool → F → X → Type 0) where
     )
 
     -- it is picked, and removed
-    pub ExtractsBehind-goes : R f (get_or ps i q) true h q → (x : X) (M : List X) → x ≡ get_or qs i x → M ≡ take i qs ++ drop (i + 1) qs → ExtractsBehind R f ps i (Some x) h M i
+    pub ExtractsBehind-goes : R f (get_or ps i q) true h q → (x : X) (M : List X) → x ≡ get_or qs i x → M ≡ take i qs ++ drop (i + 1) qs
+        → ExtractsBehind R f ps i (Some x) h M i
     ExtractsBehind-goes call x M here removed =
         let same : x ≡ q = here ∙ ap (λ Z. get_or Z i x) left ∙ get_or-set_same ps i q x below in
-        let parts : M ≡ take i ps ++ drop (i + 1) ps = removed ∙ (λ k. (ap (take i) left ∙ take-set-le i ps i q (omega arith)) k ++ behind k) in
-        let at : length (take i ps) ≡ i = length-take-le i ps (omega (arith, below)) in
-        let front : take i M ≡ take i ps = rw parts (subst (λ m. take m (take i ps ++ drop (i + 1) ps) ≡ take i ps) at (take-append_seam (take i ps) (drop (i + 1) ps))) in
-        let back : drop i M ≡ drop (i + 1) ps = rw parts (subst (λ m. drop m (take i ps ++ drop (i + 1) ps) ≡ drop (i + 1) ps) at (drop-append_seam (take i ps) (drop (i + 1) ps))) in
-        ([], rw (drop_more ps i q below) (true, h, q, call, (ap Some same, refl, refl, back)), front ∙ sym (append-nil (take i ps)))
+        let front : take i qs ≡ take i ps = ap (take i) left ∙ take-set-le i ps i q (omega arith) in
+        let parts : M ≡ take i ps ++ drop (i + 1) ps = removed ∙ (λ k. front k ++ behind k) in
+        let at : (take i M ≡ take i ps) × (drop i M ≡ drop (i + 1) ps) =
+        subst (λ m. (take m M ≡ take i ps) × (drop m M ≡ drop (i + 1) ps)) (length-take-le i ps (omega (arith, below)))
+        (rw parts (take-append_seam (take i ps) (drop (i + 1) ps), drop-append_seam (take i ps) (drop (i + 1) ps))) in
+        ([], rw (drop_more ps i q below) (true, h, q, call, (ap Some same, refl, refl, at.1)), at.0 ∙ sym (append-nil (take i ps)))
 
   -- a step that removes none goes to the end
   pub ExtractsNext-end : (f g : F) (L kept rest : List X) → ExtractsNext R f L None g kept rest → rest ≡ []
@@ -80,18 +82,24 @@ module _ {F X : Type 0} (R : F → X → Bool → F → X → Type 0) where
 
   -- R went over a part of a list from its place j on, and left `new` with place k reached
   module _ (f g : F) (before part new behind : List X) (j k : ℕ) (within : j ≤ length part) (reached : k ≤ length new) where
-    cut : (xs : List X) (i : ℕ) → i ≤ length xs → (take (length before + i) (before ++ (xs ++ behind)) ≡ before ++ take i xs) × (drop (length before + i) (before ++ (xs ++ behind)) ≡ drop i xs ++ behind)
+    abbrev whole : List X → List X
+    whole xs = before ++ (xs ++ behind)
+
+    cut : (xs : List X) (i : ℕ) → i ≤ length xs
+        → (take (length before + i) (whole xs) ≡ before ++ take i xs) × (drop (length before + i) (whole xs) ≡ drop i xs ++ behind)
     cut xs i few = (
       take-append-add before (xs ++ behind) i ∙ ap (λ Z. before ++ Z) (take-append-le i xs behind few),
       drop-append-add before (xs ++ behind) i ∙ drop-append-le i xs behind few,
     )
 
-    passed : (kept : List X) → take k new ≡ take j part ++ kept → take (length before + k) (before ++ (new ++ behind)) ≡ take (length before + j) (before ++ (part ++ behind)) ++ kept
+    passed : (kept : List X) → take k new ≡ take j part ++ kept → take (length before + k) (whole new) ≡ take (length before + j) (whole part) ++ kept
     passed kept is =
-        (cut new k reached).0 ∙ ap (λ Z. before ++ Z) is ∙ sym (append_assoc before (take j part) kept) ∙ ap (λ Z. Z ++ kept) (sym (cut part j within).0)
+        (cut new k reached).0 ∙ ap (λ Z. before ++ Z) is ∙ sym (append_assoc before (take j part) kept)
+        ∙ ap (λ Z. Z ++ kept) (sym (cut part j within).0)
 
     -- one of its elements was picked
-    pub ExtractsBehind-part : (z : X) → ExtractsBehind R f part j (Some z) g new k → ExtractsBehind R f (before ++ (part ++ behind)) (length before + j) (Some z) g (before ++ (new ++ behind)) (length before + k)
+    pub ExtractsBehind-part : (z : X) → ExtractsBehind R f part j (Some z) g new k
+        → ExtractsBehind R f (whole part) (length before + j) (Some z) g (whole new) (length before + k)
     ExtractsBehind-part z step = (
       step.0,
       rw ((cut part j within).1, (cut new k reached).1) (ExtractsNext-stop f g (drop j part) behind step.0 (drop k new) z step.1),
@@ -99,12 +107,13 @@ module _ {F X : Type 0} (R : F → X → Bool → F → X → Type 0) where
     )
 
     -- none of them was
-    pub StepsFrom-part : ExtractsBehind R f part j None g new k → StepsFrom f (before ++ (part ++ behind)) (length before + j) g (before ++ (new ++ behind)) (length before + k)
+    pub StepsFrom-part : ExtractsBehind R f part j None g new k → StepsFrom f (whole part) (length before + j) g (whole new) (length before + k)
     StepsFrom-part step r h N m next =
-        let none = ExtractsNext-end f g (drop j part) step.0 (drop k new) step.1 in (
+        let none = ExtractsNext-end f g (drop j part) step.0 (drop k new) step.1 in
+        let on = rw ((cut new k reached).1, none) at next.1 in (
           step.0 ++ next.0,
-          rw (cut part j within).1 (ExtractsNext-on f g h (drop j part) behind step.0 (drop k new) next.0 (drop m N) r step.1 (rw ((cut new k reached).1, none) at next.1)),
-          next.2 ∙ ap (λ Z. Z ++ next.0) (passed step.0 step.2) ∙ append_assoc (take (length before + j) (before ++ (part ++ behind))) step.0 next.0,
+          rw (cut part j within).1 (ExtractsNext-on f g h (drop j part) behind step.0 (drop k new) next.0 (drop m N) r step.1 on),
+          next.2 ∙ ap (λ Z. Z ++ next.0) (passed step.0 step.2) ∙ append_assoc (take (length before + j) (whole part)) step.0 next.0,
         )
 
   -- Q gives what each call takes
@@ -115,9 +124,11 @@ module _ {F X : Type 0} (R : F → X → Bool → F → X → Type 0) where
   next Q f g x a L takes call = TakesEach-next (λ f x (a : Bool × X) g. R f x a.0 g a.1) Q f g x a L takes call
 
   -- what the closure takes of the elements before a step it takes of those that are left, and of others behind them
-  pub TakesEach-step : (Q : F → X → Type 0) (ys : List X) (f g : F) (L kept rest : List X) (r : Option X) → ExtractsNext R f L r g kept rest → Takes Q f (L ++ ys) → Takes Q g (rest ++ ys)
+  pub TakesEach-step : (Q : F → X → Type 0) (ys : List X) (f g : F) (L kept rest : List X) (r : Option X) → ExtractsNext R f L r g kept rest
+      → Takes Q f (L ++ ys) → Takes Q g (rest ++ ys)
   TakesEach-step Q ys =
-      ExtractsNext-induct R (λ f L r g kept rest. Takes Q f (L ++ ys) → Takes Q g (rest ++ ys)) (λ f takes. takes) (λ f g x y L call takes. next Q f g x (true, y) (L ++ ys) takes call)
+      ExtractsNext-induct R (λ f L r g kept rest. Takes Q f (L ++ ys) → Takes Q g (rest ++ ys)) (λ f takes. takes)
+      (λ f g x y L call takes. next Q f g x (true, y) (L ++ ys) takes call)
       (λ f h g x y L kept rest r call more takes. more (next Q f h x (false, y) (L ++ ys) takes call))
 
   pub TakesEach-rest : (Q : F → X → Type 0) (f g : F) (L kept rest : List X) (r : Option X) → Takes Q f L → ExtractsNext R f L r g kept rest → Takes Q g rest
@@ -162,7 +173,8 @@ module _ {F X : Type 0} (R : F → X → Bool → F → X → Type 0) where
 
     pub All-ExtractsBehind : (f g : F) (L M : List X) (i j : ℕ) (r : Option X) → ExtractsBehind R f L i r g M j → All P L → All P M
     All-ExtractsBehind f g L M i j r e all =
-        let stay = All-append P (take i L) (e.0 ++ drop j M) (All-take P i L all) (All-ExtractsNext f g (drop i L) e.0 (drop j M) r e.1 (All-drop P i L all)) in
+        let left = All-ExtractsNext f g (drop i L) e.0 (drop j M) r e.1 (All-drop P i L all) in
+        let stay = All-append P (take i L) (e.0 ++ drop j M) (All-take P i L all) left in
         subst (All P) (sym (append_assoc (take i L) e.0 (drop j M)) ∙ ap (λ Z. Z ++ drop j M) (sym e.2) ∙ take-append-drop j M) stay
 
 module _ {F X : Type 0} (R : F → X → Bool → F → X → Type 0) where

@@ -8,8 +8,9 @@ use Rattle.intmap_table.proofs.ExtractLemmas.{ExtractsBehind-part, ExtractsNext-
 use Rattle.intmap_table.proofs.Tables.CursorLemmas.{IsInRows, IsInRows-past, drop-reached}
 use Rattle.intmap_table.proofs.Tables.PartsLemmas.{joined-parts, length-parts, left-same, row-same, taken-same}
 
--- the pairs of slot i from place j on were asked about, with n passed before, and `row` is left of the slot, with place k reached and m passed
-pub record IsAsked {K X F : Type 0} (R : F → K × X → Bool → F → K × X → Type 0) (S : List (Held K X)) (i j n : ℕ) (f : F) (r : Option (K × X)) (T : List (Held K X)) (row : List (K × X)) (k m : ℕ) (g : F) : Type 0 where
+-- the pairs of slot i from place j on were asked about, with n passed before. `row` is left of the slot, with place k reached and m passed
+pub record IsAsked {K X F : Type 0} (R : F → K × X → Bool → F → K × X → Type 0) (S T : List (Held K X)) (row : List (K × X))
+    (i j n k m : ℕ) (f g : F) (r : Option (K × X)) : Type 0 where
   pub below : i < length S
   pub is : IsRowSet S i row T
   pub at : IsInRows (rows S) i j n
@@ -17,21 +18,27 @@ pub record IsAsked {K X F : Type 0} (R : F → K × X → Bool → F → K × X 
   pub within : k ≤ length row
   pub step : ExtractsBehind R f (row_of S i) j r g row k
 
-module _ {K X F : Type 0} {R : F → K × X → Bool → F → K × X → Type 0} {S : List (Held K X)} {i j n : ℕ} {f : F} {r : Option (K × X)} {T : List (Held K X)} {row : List (K × X)} {k m : ℕ} {g : F}
-    (asked : IsAsked R S i j n f r T row k m g) where
+module _ {K X F : Type 0} {R : F → K × X → Bool → F → K × X → Type 0} {S T : List (Held K X)} {row : List (K × X)}
+    {i j n k m : ℕ} {f g : F} {r : Option (K × X)} (asked : IsAsked R S T row i j n k m f g r) where
+  abbrev before : List (K × X)
+  before = joined (take i (rows S))
+
+  abbrev behind : List (K × X)
+  behind = joined (drop (i + 1) (rows S))
+
   row-new : row_of T i ≡ row
   row-new = row-same S i row T asked.below asked.is
 
-  taken : joined (take i (rows T)) ≡ joined (take i (rows S))
+  taken : joined (take i (rows T)) ≡ before
   taken = taken-same S i row T asked.below asked.is
 
-  left : joined (drop (i + 1) (rows T)) ≡ joined (drop (i + 1) (rows S))
+  left : joined (drop (i + 1) (rows T)) ≡ behind
   left = left-same S i row T asked.below asked.is
 
-  count : m ≡ length (joined (take i (rows S))) + k
+  count : m ≡ length before + k
   count = omega (arith, asked.on, asked.at.count)
 
-  parts : joined (rows T) ≡ joined (take i (rows S)) ++ (row ++ joined (drop (i + 1) (rows S)))
+  parts : joined (rows T) ≡ before ++ (row ++ behind)
   parts = joined-parts i (rows T) ∙ (λ h. taken h ++ (row-new h ++ left h))
 
   fewer : length (row_of S i) ≡ length row + option_len r
@@ -47,29 +54,30 @@ module _ {K X F : Type 0} {R : F → K × X → Bool → F → K × X → Type 0
   -- no more pairs are left
   pub joined-few : length (joined (rows T)) ≤ length (joined (rows S))
   joined-few =
-      let before = length-parts i (rows S) in let after = length-parts i (rows T) in let front = ap length taken in let here = ap length row-new in let back = ap length left in
-      omega (arith, fewer, before, after, front, here, back)
+      let old = length-parts i (rows S) in let new = length-parts i (rows T) in
+      let front = ap length taken in let here = ap length row-new in let back = ap length left in
+      omega (arith, fewer, old, new, front, here, back)
 
   -- what the closure takes of the pairs that were left it takes of those that are left now
   pub TakesEach-slot : (Q : F → K × X → Type 0) → Takes R Q f (drop n (joined (rows S))) → Takes R Q g (drop m (joined (rows T)))
   TakesEach-slot Q takes =
       rw (drop-reached (rows T) i k m IsInRows-step, row-new, left)
-      (TakesEach-step R Q (joined (drop (i + 1) (rows S))) f g (drop j (row_of S i)) asked.step.0 (drop k row) r asked.step.1 (rw (drop-reached (rows S) i j n asked.at) at takes))
+      (TakesEach-step R Q behind f g (drop j (row_of S i)) asked.step.0 (drop k row) r asked.step.1 (rw (drop-reached (rows S) i j n asked.at) at takes))
 
   -- one of the pairs was picked
   pub ExtractsBehind-slot : (p : K × X) → r ≡ Some p → ExtractsBehind R f (joined (rows S)) n (Some p) g (joined (rows T)) m
   ExtractsBehind-slot p is =
       rw (joined-parts i (rows S), parts, asked.at.count, count)
-      (ExtractsBehind-part R f g (joined (take i (rows S))) (row_of S i) row (joined (drop (i + 1) (rows S))) j k asked.at.within asked.within p (rw is at asked.step))
+      (ExtractsBehind-part R f g before (row_of S i) row behind j k asked.at.within asked.within p (rw is at asked.step))
 
   -- none of them was
   pub StepsFrom-slot : r ≡ None → StepsFrom R f (joined (rows S)) n g (joined (rows T)) m
   StepsFrom-slot none =
       rw (joined-parts i (rows S), parts, asked.at.count, count)
-      (StepsFrom-part R f g (joined (take i (rows S))) (row_of S i) row (joined (drop (i + 1) (rows S))) j k asked.at.within asked.within (rw none at asked.step))
+      (StepsFrom-part R f g before (row_of S i) row behind j k asked.at.within asked.within (rw none at asked.step))
 
   -- so all pairs of the slot were passed
   pub IsInRows-left : r ≡ None → IsInRows (rows T) (i + 1) 0 m
   IsInRows-left none =
-      let end = ap length (ExtractsNext-end R f g (drop j (row_of S i)) asked.step.0 (drop k row) (rw none at asked.step.1)) in let over = length-drop k row in
+      let end = ap length (ExtractsNext-end R f g _ _ _ (rw none at asked.step.1)) in let over = length-drop k row in
       IsInRows-past (rows T) i k m IsInRows-step (rw row-new (omega (arith, end, over)))

@@ -25,8 +25,9 @@ loop-slot-init g c = record {
 
 module _ (g : _) (c : After-extract_at-found g) where
   -- the pairs of the slot at hand were asked about, from the cursor on
-  asked : IsAsked (PicksAt g.F.FnMut) c.loop-slot.slots c.in-Some.slot c.loop-slot.at.place c.loop-slot.at.passed c.loop-slot.f c.extract_at-found.result c.extract_at-found.new.self
-      c.extract_at-found.ensures.step.0 c.extract_at-found.new.place (c.loop-slot.at.passed + (c.extract_at-found.new.place - c.loop-slot.at.place)) c.extract_at-found.new.f
+  asked : IsAsked (PicksAt g.F.FnMut) c.loop-slot.slots c.extract_at-found.new.self c.extract_at-found.ensures.step.0
+      c.in-Some.slot c.loop-slot.at.place c.loop-slot.at.passed c.extract_at-found.new.place
+      (c.loop-slot.at.passed + (c.extract_at-found.new.place - c.loop-slot.at.place)) c.loop-slot.f c.extract_at-found.new.f c.extract_at-found.result
   asked =
       let done = c.extract_at-found.ensures.step in let on = c.extract_at-found.ensures.on in
       record {
@@ -54,7 +55,7 @@ extract_at-found-requires g c =
       index = next-within _ _ _ c.in-Some.ensures.some;
       within = at.within;
       few = omega (arith, few, at.within, at.count, c.loop-slot.invariant.few);
-      callable = TakesEach-front (AsksAt g.F.FnMut) (TakesPairMut g.F.FnMut) _ _ _ (rw (drop-reached _ _ _ _ at) at c.loop-slot.invariant.callable);
+      callable = (let callable = rw (drop-reached _ _ _ _ at) at c.loop-slot.invariant.callable in TakesEach-front _ (TakesPairMut g.F.FnMut) _ _ _ callable);
     }
 
 pub overflow_add-at : goal.overflow_add-at

@@ -21,7 +21,8 @@ module _ (g : _) (c : After-extract_next-found g) where
   below = rw (← c.self.view_is) at c.requires.index
 
   -- the closure was asked about the pairs of the slot from the place on
-  asked : ExtractsBehind (PicksAt g.F.FnMut) c.args.f.now (row_of c.self.inside.slots.items c.args.index) c.args.place.now c.extract_next-found.result c.extract_next-found.new.f c.extract_next-found.new.self.pairs c.extract_next-found.new.place
+  asked : ExtractsBehind (PicksAt g.F.FnMut) c.args.f.now (row_of c.self.inside.slots.items c.args.index) c.args.place.now
+      c.extract_next-found.result c.extract_next-found.new.f c.extract_next-found.new.self.pairs c.extract_next-found.new.place
   asked = rw (row-at c.self.inside.slots.items c.args.index c.index_mut-slot.result.now below c.index_mut-slot.ensures.value) at c.extract_next-found.ensures.step
 
 pub invariant_of-self : goal.invariant_of-self
