@@ -32,9 +32,9 @@ module _ {K X : Type 0} (number : K → ℕ) (S : List (Held K X)) (old : IsTabl
   pub joined-front : joined (rows S) ≡ ps ++ joined (rows T)
   joined-front =
       let left = joined (drop (index + 1) (rows T)) in
-      let after : joined (rows T) ≡ row ++ left = joined-cut (index + 1) (rows T) ∙ ap (λ Z. Z ++ left) (row-taken S from index row T next is ∙ ap (λ Z. Z ++ row) none-before) in
+      let front : joined (take (index + 1) (rows T)) ≡ row = row-taken S from index row T next is ∙ ap (λ Z. Z ++ row) none-before in
       joined-cut from (rows S) ∙ ap (λ Z. Z ++ joined (drop from (rows S))) none-before ∙ row-left S from index row T next is
-      ∙ ap (λ Z. Z ++ left) taken ∙ append_assoc ps row left ∙ ap (λ Z. ps ++ Z) (sym after)
+      ∙ ap (λ Z. Z ++ left) taken ∙ append_assoc ps row left ∙ ap (λ Z. ps ++ Z) (sym (joined-cut (index + 1) (rows T) ∙ ap (λ Z. Z ++ left) front))
 
   -- the slots before it hold no pair
   pub rows-before : (j : ℕ) → j < index → get_or (rows T) j [] ≡ []
@@ -47,8 +47,8 @@ module _ {K X : Type 0} (number : K → ℕ) (S : List (Held K X)) (old : IsTabl
   IsTable-front =
       let below = next-within S from index next in
       let Own : List (K × X) → Type 0 = λ L. All (λ p. slot_number number p.0 (length S) ≡ index) L in
-      let own : Own row = subst Own (drop-append_seam ps row) (All-drop (λ p. slot_number number p.0 (length S) ≡ index) (length ps) (ps ++ row) (subst Own taken (old.in_place index below))) in
-      IsTable-row_set number S index row T old below own is
+      let all = All-drop (λ p. slot_number number p.0 (length S) ≡ index) (length ps) (ps ++ row) (subst Own taken (old.in_place index below)) in
+      IsTable-row_set number S index row T old below (subst Own (drop-append_seam ps row) all) is
 
   -- all slots before it were passed
   pub ArePassed-front : ArePassed number (joined (rows T)) (length T) index

@@ -21,15 +21,18 @@ module _ {P : Type 0} where
 
   pub joined-parts : (i : ℕ) (R : List (List P)) → joined R ≡ joined (take i R) ++ (get_or R i [] ++ joined (drop (i + 1) R))
   joined-parts i R =
-      joined-cut (i + 1) R ∙ ap (λ Z. Z ++ joined (drop (i + 1) R)) (joined-taken i R) ∙ append_assoc (joined (take i R)) (get_or R i []) (joined (drop (i + 1) R))
+      joined-cut (i + 1) R ∙ ap (λ Z. Z ++ joined (drop (i + 1) R)) (joined-taken i R)
+      ∙ append_assoc (joined (take i R)) (get_or R i []) (joined (drop (i + 1) R))
 
-  pub length-parts : (i : ℕ) (R : List (List P)) → length (joined R) ≡ length (joined (take i R)) + (length (get_or R i []) + length (joined (drop (i + 1) R)))
+  pub length-parts : (i : ℕ) (R : List (List P))
+      → length (joined R) ≡ length (joined (take i R)) + (length (get_or R i []) + length (joined (drop (i + 1) R)))
   length-parts i R =
       ap length (joined-parts i R) ∙ length-append (joined (take i R)) (get_or R i [] ++ joined (drop (i + 1) R))
       ∙ ap (λ n. length (joined (take i R)) + n) (length-append (get_or R i []) (joined (drop (i + 1) R)))
 
   -- rows without pairs are passed over
-  pub joined-take_past : (R : List (List P)) (from i : ℕ) → from ≤ i → ((j : ℕ) → from ≤ j → j < i → get_or R j [] ≡ []) → joined (take i R) ≡ joined (take from R)
+  pub joined-take_past : (R : List (List P)) (from i : ℕ) → from ≤ i → ((j : ℕ) → from ≤ j → j < i → get_or R j [] ≡ [])
+      → joined (take i R) ≡ joined (take from R)
   joined-take_past R zero zero up empty = refl
   joined-take_past R (suc from) zero up empty = absurd (omega (arith, up))
   joined-take_past [] zero (suc i) up empty = refl
@@ -76,7 +79,8 @@ pub next-within : {K X : Type 0} (S : List (Held K X)) (from i : ℕ) → IsNext
 next-within S from i next = omega (arith, next.within, length-rows S)
 
 -- slot i is the next one with a pair, and its row is changed
-module _ {K X : Type 0} (S : List (Held K X)) (from i : ℕ) (row : List (K × X)) (T : List (Held K X)) (next : IsNextRow (rows S) from i) (is : IsRowSet S i row T) where
+module _ {K X : Type 0} (S : List (Held K X)) (from i : ℕ) (row : List (K × X)) (T : List (Held K X))
+    (next : IsNextRow (rows S) from i) (is : IsRowSet S i row T) where
   pub row-taken : joined (take (i + 1) (rows T)) ≡ joined (take from (rows S)) ++ row
   row-taken =
       let within = next-within S from i next in
@@ -87,11 +91,12 @@ module _ {K X : Type 0} (S : List (Held K X)) (from i : ℕ) (row : List (K × X
 
   module _ {F : Type 0} (f₀ f h : F) (L : List (K × X)) where
     -- what went over the pairs before it goes over its own
-    pub Leads-row : (Goes : F → List (K × X) → List (K × X) → F → Type 0) → ((f g h : F) (L L' M M' : List (K × X)) → Goes f L M g → Goes g L' M' h → Goes f (L ++ L') (M ++ M') h)
+    pub Leads-row : (Goes : F → List (K × X) → List (K × X) → F → Type 0)
+        → ((f g h : F) (L L' M M' : List (K × X)) → Goes f L M g → Goes g L' M' h → Goes f (L ++ L') (M ++ M') h)
         → Leads Goes f₀ L f (joined (take from (rows S))) (joined (drop from (rows S))) → Goes f (row_of S i) row h
         → Leads Goes f₀ L h (joined (take (i + 1) (rows T))) (joined (drop (i + 1) (rows T)))
     Leads-row Goes append leads run =
-        rw row-taken (Leads-next Goes append f₀ f h L (joined (take from (rows S))) (row_of S i) row (joined (drop (i + 1) (rows T))) (rw row-left at leads) run)
+        rw row-taken (Leads-next Goes append f₀ f h L _ (row_of S i) row (joined (drop (i + 1) (rows T))) (rw row-left at leads) run)
 
   -- and what takes all of those takes those behind them
   pub TakesEach-row : {F Y : Type 0} (R : F → K × X → Y → F → Type 0) (Q : F → K × X → Type 0) (f h : F)
@@ -99,7 +104,7 @@ module _ {K X : Type 0} (S : List (Held K X)) (from i : ℕ) (row : List (K × X
   TakesEach-row R Q f h takes passed = TakesEach-behind R Q f h (row_of S i) (joined (drop (i + 1) (rows T))) (rw row-left at takes) passed
 
 -- it went over all if no row holds a pair from there on
-pub Leads-all : {F P : Type 0} (Goes : F → List P → List P → F → Type 0) (f₀ f : F) (L : List P) (R : List (List P)) (from : ℕ) → ((j : ℕ) → from ≤ j → get_or R j [] ≡ []) → Goes f [] [] f
-    → Leads Goes f₀ L f (joined (take from R)) (joined (drop from R)) → Goes f₀ L (joined R) f
+pub Leads-all : {F P : Type 0} (Goes : F → List P → List P → F → Type 0) (f₀ f : F) (L : List P) (R : List (List P)) (from : ℕ)
+    → ((j : ℕ) → from ≤ j → get_or R j [] ≡ []) → Goes f [] [] f → Leads Goes f₀ L f (joined (take from R)) (joined (drop from R)) → Goes f₀ L (joined R) f
 Leads-all Goes f₀ f L R from empty none leads =
     rw (joined-before from R empty) at (Leads-end Goes f₀ f L (joined (take from R)) none (rw (joined-none from R empty) at leads))

@@ -19,7 +19,8 @@ get_or-row_keys (h ∷ S) zero = refl
 get_or-row_keys (h ∷ S) (suc i) = get_or-row_keys S i
 
 -- with another row of the same keys they stay
-pub row_keys-set : {K X : Type 0} (S : List (Held K X)) (i : ℕ) (row : List (K × X)) (T : List (Held K X)) → IsRowSet S i row T → keys_of row ≡ keys_of (row_of S i) → row_keys T ≡ row_keys S
+pub row_keys-set : {K X : Type 0} (S : List (Held K X)) (i : ℕ) (row : List (K × X)) (T : List (Held K X))
+    → IsRowSet S i row T → keys_of row ≡ keys_of (row_of S i) → row_keys T ≡ row_keys S
 row_keys-set S i row T is same =
     ap row_keys is.others ∙ map-set (λ (h : Held _ _). keys_of h.pairs) S i is.slot
     ∙ ap (set (row_keys S) i) (ap keys_of is.pairs ∙ same ∙ sym (get_or-row_keys S i)) ∙ set-get_or (row_keys S) i []

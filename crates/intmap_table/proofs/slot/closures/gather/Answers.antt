@@ -20,15 +20,15 @@ loop-i-preserved g c =
     let rest = TakesEach-past R (TakesPair g.F.FnMut) c.loop-i.f pairs i pair below loop.callable _ c.keeps_pair.result call in
     elim c.if-keeps_pair.branch [
       | then-keeps_pair w ↦ rw (w.pairs-is, w.swap.ensures.after, w.kept-is) (record {
-          callable = rw (drop-swap pairs kept i pair loop.before below) rest;
-          before = omega (arith, loop.before);
-          leads = Leads-stays pairs kept i pair loop.before below R _ _ _ _ loop.leads (rw w.if-keeps_pair.true at call);
-        })
+        callable = rw (drop-swap pairs kept i pair loop.before below) rest;
+        before = omega (arith, loop.before);
+        leads = Leads-stays pairs kept i pair loop.before below R _ _ _ _ loop.leads (rw w.if-keeps_pair.true at call);
+      })
       | else-keeps_pair w ↦ rw (w.pairs-is, w.kept-is) (record {
-          callable = rest;
-          before = omega (arith, loop.before);
-          leads = Leads-goes pairs kept i pair loop.before below R _ _ _ _ loop.leads (rw w.if-keeps_pair.false at call);
-        })
+        callable = rest;
+        before = omega (arith, loop.before);
+        leads = Leads-goes pairs kept i pair loop.before below R _ _ _ _ loop.leads (rw w.if-keeps_pair.false at call);
+      })
     ]
 
 pub returns-clause-pairs : goal.returns-clause-pairs

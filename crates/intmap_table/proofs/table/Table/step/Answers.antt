@@ -1,4 +1,4 @@
-use Rattle.std.proofs.Common.{◌≡◌, ◌+◌, ◌∷◌, ◌<◌, ◌∙◌, get_or, length, drop, sym, ap, refl, arith}
+use Rattle.std.proofs.Common.{◌≡◌, ◌+◌, ◌-◌, ◌^◌, ◌∷◌, ◌<◌, ◌∙◌, get_or, length, drop, sym, ap, refl, arith}
 use Rattle.intmap_table.specs.Tables.Slots.{Grid, rows, row_of, joined}
 use Rattle.intmap_table.proofs.SlotNumberLemmas.{capacity-greatest}
 use Rattle.intmap_table.proofs.Tables.PartsLemmas.{next-within}
@@ -7,12 +7,13 @@ use Rattle.intmap_table.proofs.table.Table.step.Goals as goal
 use Rattle.intmap_table.proofs.table.Table.step.Goals.{In-Some}
 
 module _ (g : _) (c : In-Some g) where
-  below : c.in-Some.slot < length c.self.inside.slots
-  below = next-within _ _ _ c.in-Some.ensures.some
-
   -- the cursor is at a place of the slot at hand
   here : IsInRows (rows c.self.inside.slots) c.in-Some.slot c.loop-slot.at.place c.loop-slot.at.passed
   here = IsInRows-next _ _ _ _ c.loop-slot.invariant.at _ c.in-Some.ensures.some
+
+  -- there are fewer pairs than a number may count
+  few : c.loop-slot.at.passed + (length (row_of c.self.inside.slots c.in-Some.slot) - c.loop-slot.at.place) < 2 ^ 64
+  few = let few = row-few _ _ _ _ here in let all = ap (λ (t : Grid _ _). length t.walk) c.self.view_is in omega (arith, few, all, c.requires.count)
 
 pub loop-slot-init : goal.loop-slot-init
 loop-slot-init g c = record {
@@ -20,23 +21,19 @@ loop-slot-init g c = record {
   passed = refl;
 }
 
-pub pair_at-requires-clause-within : goal.pair_at-requires-clause-within
-pair_at-requires-clause-within g c = below g (goal.at.pair_at-requires-clause-within g c).In-Some
-
-pub pair_at-requires-clause-fits : goal.pair_at-requires-clause-fits
-pair_at-requires-clause-fits g c =
-    let at = here g (goal.at.pair_at-requires-clause-fits g c).In-Some in
-    let few = row-few _ _ _ _ at in let all = ap (λ (t : Grid _ _). length t.walk) c.self.view_is in omega (arith, few, all, at.within, at.count, c.requires.count)
+pub pair_at-requires : goal.pair_at-requires
+pair_at-requires g c =
+    let at = (goal.at.pair_at-requires g c).In-Some in let here = here g at in let few = few g at in
+    record { within = next-within _ _ _ c.in-Some.ensures.some; fits = omega (arith, few, here.within, here.count) }
 
 pub overflow_add-at : goal.overflow_add-at
 overflow_add-at g c =
-    let at = here g (goal.at.overflow_add-at g c).In-Some in let inside = c.in-Some-pair_at.ensures.some.0 in
-    let few = row-few _ _ _ _ at in let all = ap (λ (t : Grid _ _). length t.walk) c.self.view_is in omega (arith, few, all, at.within, at.count, inside, c.requires.count)
+    let at = (goal.at.overflow_add-at g c).In-Some in let here = here g at in let few = few g at in
+    let inside = c.in-Some-pair_at.ensures.some.0 in omega (arith, few, here.count, inside)
 
 pub overflow_add-at-in-Some-pair_at : goal.overflow_add-at-in-Some-pair_at
 overflow_add-at-in-Some-pair_at g c =
-    let at = here g (goal.at.overflow_add-at-in-Some-pair_at g c).In-Some in let inside = c.in-Some-pair_at.ensures.some.0 in
-    let few = row-few _ _ _ _ at in let all = ap (λ (t : Grid _ _). length t.walk) c.self.view_is in omega (arith, few, all, at.within, inside, c.requires.count)
+    let few = few g (goal.at.overflow_add-at-in-Some-pair_at g c).In-Some in let inside = c.in-Some-pair_at.ensures.some.0 in omega (arith, few, inside)
 
 pub returns-in-Some-pair_at-clause-first : goal.returns-in-Some-pair_at-clause-first
 returns-in-Some-pair_at-clause-first g c =
@@ -50,18 +47,18 @@ pub returns-in-Some-pair_at-clause-reached : goal.returns-in-Some-pair_at-clause
 returns-in-Some-pair_at-clause-reached g c =
     let S = c.self.inside.slots in let i = c.in-Some.slot in let j = c.loop-slot.at.place in let n = c.loop-slot.at.passed in
     let at = here g (goal.at.returns-in-Some-pair_at-clause-reached g c).In-Some in
-    rw (← c.self.view_is) (IsReached-at g.K.IntKey.number_of S c.self.invariant i (j + 1) (n + 1) (IsInRows-on (rows S) i j n at c.in-Some-pair_at.ensures.some.0))
+    rw (← c.self.view_is) (IsReached-at _ S c.self.invariant i (j + 1) (n + 1) (IsInRows-on (rows S) i j n at c.in-Some-pair_at.ensures.some.0))
 
 pub overflow_add-at-in-Some : goal.overflow_add-at-in-Some
 overflow_add-at-in-Some g c =
-    let w = below g (goal.at.overflow_add-at-in-Some g c).In-Some in let most = capacity-greatest _ c.self.invariant.capacity in omega (arith, w, most)
+    let below = next-within _ _ _ c.in-Some.ensures.some in let most = capacity-greatest _ c.self.invariant.capacity in omega (arith, below, most)
 
 pub loop-slot-smaller : goal.loop-slot-smaller
-loop-slot-smaller g c = let lt = below g (goal.at.loop-slot-smaller g c).In-Some in let up = c.in-Some.ensures.some.behind in omega (arith, lt, up)
+loop-slot-smaller g c = let next = c.in-Some.ensures.some in let below = next-within _ _ _ next in omega (arith, below, next.behind)
 
 pub loop-slot-preserved : goal.loop-slot-preserved
 loop-slot-preserved g c = record {
-  at = IsInRows-past (rows c.self.inside.slots) c.in-Some.slot c.loop-slot.at.place c.loop-slot.at.passed (here g (goal.at.loop-slot-preserved g c).In-Some) c.in_default-pair_at.ensures.none;
+  at = IsInRows-past _ _ _ _ (here g (goal.at.loop-slot-preserved g c).In-Some) c.in_default-pair_at.ensures.none;
   passed = c.loop-slot.invariant.passed;
 }
 
@@ -70,4 +67,4 @@ returns-clause-first g c = rw (← c.self.view_is, ← c.loop-slot.invariant.pas
 
 pub returns-clause-reached : goal.returns-clause-reached
 returns-clause-reached g c =
-    rw (← c.self.view_is) (IsReached-at g.K.IntKey.number_of c.self.inside.slots c.self.invariant c.loop-slot.at.slot c.loop-slot.at.place c.loop-slot.at.passed c.loop-slot.invariant.at)
+    rw (← c.self.view_is) (IsReached-at _ c.self.inside.slots c.self.invariant _ _ _ c.loop-slot.invariant.at)

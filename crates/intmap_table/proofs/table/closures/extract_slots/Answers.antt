@@ -1,6 +1,6 @@
 use Rattle.std.proofs.Common.{◌≡◌, ◌+◌, ◌-◌, ◌∙◌, length, refl, ap, arith}
 use Rattle.intmap_table.specs.Classes.{slot_number}
-use Rattle.intmap_table.specs.Picking.{AsksAt, PicksAt}
+use Rattle.intmap_table.specs.Picking.{PicksAt}
 use Rattle.intmap_table.specs.Writes.{TakesPairMut}
 use Rattle.intmap_table.specs.Tables.Slots.{IsTable}
 use Rattle.intmap_table.proofs.ExtractLemmas.{All-ExtractsBehind, ExtractsBehind-end}

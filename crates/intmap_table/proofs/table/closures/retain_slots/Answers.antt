@@ -25,7 +25,8 @@ module _ (g : _) (c : In-Some g) where
   within = next-within _ _ _ c.in-Some.ensures.some
 
   -- the pairs that are left are those of the slot and those behind it
-  left : length (joined (drop c.loop-index.from (rows c.loop-index.slots))) ≡ length (row_of c.loop-index.slots c.in-Some.index) + length (joined (drop (c.in-Some.index + 1) (rows c.loop-index.slots)))
+  left : length (joined (drop c.loop-index.from (rows c.loop-index.slots)))
+      ≡ length (row_of c.loop-index.slots c.in-Some.index) + length (joined (drop (c.in-Some.index + 1) (rows c.loop-index.slots)))
   left = ap length (next-left _ _ _ c.in-Some.ensures.some) ∙ length-append _ _
 
 pub retain_at-count-requires : goal.retain_at-count-requires
@@ -39,8 +40,8 @@ retain_at-count-requires g c =
 
 pub overflow_add-count : goal.overflow_add-count
 overflow_add-count g c =
-    let left = left g (goal.at.overflow_add-count g c).In-Some in let fewer = length-Retains (KeepsAt g.F.FnMut) _ _ _ _ c.retain_at-count.ensures.2 in
-    omega (arith, left, fewer, c.loop-index.invariant.few, c.retain_at-count.ensures.3)
+    let left = left g (goal.at.overflow_add-count g c).In-Some in let done = c.retain_at-count.ensures in
+    let fewer = length-Retains (KeepsAt g.F.FnMut) _ _ _ _ done.2 in omega (arith, left, fewer, c.loop-index.invariant.few, done.3)
 
 pub overflow_add-from : goal.overflow_add-from
 overflow_add-from g c =
@@ -54,7 +55,8 @@ loop-index-smaller g c =
 pub loop-index-preserved : goal.loop-index-preserved
 loop-index-preserved g c =
     let loop = c.loop-index.invariant in let done = c.retain_at-count.ensures in let next = c.in-Some.ensures.some in
-    let R = KeepsAt g.F.FnMut in let S = c.loop-index.slots in let from = c.loop-index.from in let index = c.in-Some.index in let T = c.retain_at-count.new.self in
+    let R = KeepsAt g.F.FnMut in let S = c.loop-index.slots in let T = c.retain_at-count.new.self in
+    let from = c.loop-index.from in let index = c.in-Some.index in
     let within = next-within S from index next in let fewer = length-Retains R _ _ _ _ done.2 in
     let taken = ap length (row-taken S from index done.0 T next done.1) ∙ length-append _ done.0 in
     let left = ap length (row-left S from index done.0 T next done.1) ∙ length-append (row_of S index) _ in

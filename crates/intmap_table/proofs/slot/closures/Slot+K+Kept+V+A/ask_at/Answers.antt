@@ -10,16 +10,19 @@ module _ (g : _) (c : After-index_mut g) where
 
   -- the pair at hand is the one at the place
   behind : (d : _) → c.index_mut.result.now ≡ get_or c.args.self.now.pairs c.args.place d
-  behind d = rw (← c.self.view_is) (get_or-behind c.self.inside.first c.self.inside.rest.items c.args.place _ d c.if-place-gt0.true within c.self.invariant c.index_mut.ensures.value)
+  behind d =
+      rw (← c.self.view_is)
+      (get_or-behind c.self.inside.first c.self.inside.rest.items c.args.place _ d c.if-place-gt0.true within c.self.invariant c.index_mut.ensures.value)
 
 pub picks_pair-requires : goal.picks_pair-requires
-picks_pair-requires g c = rw (behind g (goal.at.picks_pair-requires g c).After-index_mut c.index_mut.result.now) (c.requires.callable c.index_mut.result.now)
+picks_pair-requires g c =
+    let pair = c.index_mut.result.now in rw (behind g (goal.at.picks_pair-requires g c).After-index_mut pair) (c.requires.callable pair)
 
 pub returns-then-place-gt0 : goal.returns-then-place-gt0
 returns-then-place-gt0 g c =
     let at = (goal.at.returns-then-place-gt0 g c).After-index_mut in let left = c.picks_pair.new.pair in (
       left,
-      rw (← c.self.view_is) (set-behind c.self.inside.first c.self.inside.rest.items c.args.place left c.if-place-gt0.true (within g at) c.self.invariant),
+      rw (← c.self.view_is) (set-behind c.self.inside.first _ c.args.place left c.if-place-gt0.true (within g at) c.self.invariant),
       rw (behind g at left) at c.picks_pair.ensures,
     )
 
@@ -31,7 +34,8 @@ module _ (g : _) (c : In-Some g) where
   first d = rw (← c.self.view_is, c.in-Some.is, zero) refl
 
 pub picks_pair-requires-in-Some : goal.picks_pair-requires-in-Some
-picks_pair-requires-in-Some g c = rw (first g (goal.at.picks_pair-requires-in-Some g c).In-Some c.in-Some.first) (c.requires.callable c.in-Some.first)
+picks_pair-requires-in-Some g c =
+    let pair = c.in-Some.first in rw (first g (goal.at.picks_pair-requires-in-Some g c).In-Some pair) (c.requires.callable pair)
 
 pub returns : goal.returns
 returns g c =

@@ -20,10 +20,11 @@ loop-index-init g c =
 
 module _ (g : _) (c : In-Some g) where
   -- the slot at hand is the next one with a pair
-  next : IsNextRow (rows c.loop-index.slots.items) c.loop-index.invariant.passed.0 c.in-Some.index × AreLeft c.args.bits.now (c.in-Some.index + 1) c.next.new.self
+  next : IsNextRow (rows c.loop-index.slots.items) c.loop-index.invariant.passed.0 c.in-Some.index
+      × AreLeft c.args.bits.now (c.in-Some.index + 1) c.next.new.self
   next =
-      row-next (rows c.loop-index.slots.items) c.args.bits.now (AreMarked-same_keys _ _ (sym c.loop-index.invariant.keys) _ c.requires.marks) _ _ _
-      (rw c.in-Some.ensures.steps at c.loop-index.invariant.passed.1)
+      let loop = c.loop-index.invariant in
+      row-next _ _ (AreMarked-same_keys _ _ (sym loop.keys) _ c.requires.marks) _ _ _ (rw c.in-Some.ensures.steps at loop.passed.1)
 
   within : c.in-Some.index < length c.loop-index.slots.items
   within = next-within _ _ _ next.0
@@ -35,14 +36,14 @@ pub write_each-requires : goal.write_each-requires
 write_each-requires g c =
     let at = (goal.at.write_each-requires g c).In-Some in let T = TakesEach (WritesAt g.F.FnMut) (TakesPairMut g.F.FnMut) c.loop-index.f in
     subst T (sym (row-at c.loop-index.slots.items c.in-Some.index c.index_mut.result.now (within g at) c.index_mut.ensures.value))
-    (TakesEach-front (WritesAt g.F.FnMut) (TakesPairMut g.F.FnMut) _ _ _ (subst T (next-left _ _ _ (next g at).0) c.loop-index.invariant.passed.2))
+    (TakesEach-front _ (TakesPairMut g.F.FnMut) _ _ _ (subst T (next-left _ _ _ (next g at).0) c.loop-index.invariant.passed.2))
 
 pub loop-index-preserved : goal.loop-index-preserved
 loop-index-preserved g c =
     let at = (goal.at.loop-index-preserved g c).In-Some in let loop = c.loop-index.invariant in let R = WritesAt g.F.FnMut in
-    let S = c.loop-index.slots.items in let from = loop.passed.0 in let index = c.in-Some.index in let s = c.write_each.new.self in let next = next g at in
+    let S = c.loop-index.slots.items in let s = c.write_each.new.self in let from = loop.passed.0 in let index = c.in-Some.index in let next = next g at in
     let is : IsRowSet S index s.pairs _ = record { slot = s; pairs = refl; others = refl } in
-    let run = subst (λ ps. Writes R c.loop-index.f ps s.pairs c.write_each.new.f) (row-at S index c.index_mut.result.now (within g at) c.index_mut.ensures.value) c.write_each.ensures in
+    let run = rw (row-at S index c.index_mut.result.now (within g at) c.index_mut.ensures.value) at c.write_each.ensures in
     record {
       keys = row_keys-set S index s.pairs _ is (keys_of-Writes R _ _ _ _ run) ∙ loop.keys;
       passed = (

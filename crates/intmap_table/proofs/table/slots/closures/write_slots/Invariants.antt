@@ -12,5 +12,6 @@ invariant-loop-index g l = record {
   keys : row_keys l.slots.items ≡ row_keys l.initial.slots.items;
   passed : (from : ℕ) × AreLeft l.bits from l.index-iterator
       × TakesEach (WritesAt g.F.FnMut) (TakesPairMut g.F.FnMut) l.f (joined (drop from (rows l.slots.items)))
-      × Leads (Writes (WritesAt g.F.FnMut)) l.initial.f (joined (rows l.initial.slots.items)) l.f (joined (take from (rows l.slots.items))) (joined (drop from (rows l.slots.items)));
+      × Leads (Writes (WritesAt g.F.FnMut)) l.initial.f (joined (rows l.initial.slots.items))
+      l.f (joined (take from (rows l.slots.items))) (joined (drop from (rows l.slots.items)));
 }

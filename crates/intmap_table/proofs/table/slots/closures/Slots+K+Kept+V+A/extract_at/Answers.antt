@@ -27,8 +27,9 @@ module _ (g : _) (c : After-extract_next-found g) where
 
 pub invariant_of-self : goal.invariant_of-self
 invariant_of-self g c =
-    let at = (goal.at.invariant_of-self g c).After-extract_next-found in let few = length-ExtractsBehind (PicksAt g.F.FnMut) _ _ _ _ _ _ _ (asked g at) in
-    rw c.unmark_if_empty.ensures (IsDirectory-changed c.self.inside.slots.items c.self.invariant c.args.index (below g at) c.extract_next-found.new.self (λ some. omega (arith, some, few)))
+    let at = (goal.at.invariant_of-self g c).After-extract_next-found in
+    let few = length-ExtractsBehind (PicksAt g.F.FnMut) _ _ _ _ _ _ _ (asked g at) in
+    rw c.unmark_if_empty.ensures (IsDirectory-changed _ c.self.invariant _ (below g at) c.extract_next-found.new.self (λ some. omega (arith, some, few)))
 
 pub returns-clause-step : goal.returns-clause-step
 returns-clause-step g c = (

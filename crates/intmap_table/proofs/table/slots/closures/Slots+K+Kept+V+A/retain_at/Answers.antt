@@ -28,7 +28,7 @@ len-requires g c =
 pub invariant_of-self : goal.invariant_of-self
 invariant_of-self g c =
     let at = (goal.at.invariant_of-self g c).After-retain in let few = length-Retains (KeepsAt g.F.FnMut) _ _ _ _ (asked g at) in
-    rw c.unmark_if_empty.ensures (IsDirectory-changed c.self.inside.slots.items c.self.invariant c.args.index (below g at) c.retain.new.self (λ some. omega (arith, some, few)))
+    rw c.unmark_if_empty.ensures (IsDirectory-changed _ c.self.invariant _ (below g at) c.retain.new.self (λ some. omega (arith, some, few)))
 
 pub returns : goal.returns
 returns g c = (
