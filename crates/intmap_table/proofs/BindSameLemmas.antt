@@ -1,7 +1,7 @@
 -- What lists that bind keys alike have in common: equal options, and tests that each present key passes.
-use Rattle.std.proofs.Common.{◌≡◌, ℕ, ◌==◌, Bool, true, false, cond, List, [], ◌∷◌, Option, Some, None, refl, sym, ap, ◌∙◌, inl, inr}
+use Rattle.std.proofs.Common.{◌≡◌, ℕ, ◌==◌, Bool, true, cond, List, [], ◌∷◌, Option, Some, None, refl, sym, ◌∙◌, inl, inr}
 use Rattle.std.specs.Prelude.{◌⊎◌}
-use Rattle.std.proofs.lemmas.Bool.{true≢false, eqb-true}
+use Rattle.std.proofs.lemmas.Bool.{cases_Bool, true≢false, eqb-true}
 use Rattle.std.specs.Cmp.{IsPartialEquivalence, first_so, second_so}
 use Rattle.std.specs.List.{list_all}
 use Rattle.std.specs.Option.{option_eq}
@@ -44,12 +44,10 @@ module _ {K V : Type 0} (number : K → ℕ) where
   pub unbound-or_passing : (test : K → Bool) → ((j k : K) → number j ≡ number k → test j ≡ test k) → (L : List (K × V)) (k : K)
       → list_all (λ p. test p.0) L ≡ true → (value_of number L k ≡ None) ⊎ (test k ≡ true)
   unbound-or_passing test alike [] k all = inl refl
-  unbound-or_passing test alike (p ∷ L) k all = at (same_key number k p.0) refl (unbound-or_passing test alike L k (second_so (test p.0) _ all))
-    where
-      at : (b : Bool) → same_key number k p.0 ≡ b → (value_of number L k ≡ None) ⊎ (test k ≡ true) → (value_of number (p ∷ L) k ≡ None) ⊎ (test k ≡ true)
-      at true is rest = inr (alike k p.0 (sym (eqb-true (number p.0) (number k) is)) ∙ first_so (test p.0) _ all)
-      at false is (inl none) = inl (ap (λ b. cond b (Some p.1) (value_of number L k)) is ∙ none)
-      at false is (inr passes) = inr passes
+  unbound-or_passing test alike (p ∷ L) k all = elim (cases_Bool (same_key number k p.0)) as (λ _. (value_of number (p ∷ L) k ≡ None) ⊎ (test k ≡ true)) [
+    | inl is ↦ inr (alike k p.0 (sym (eqb-true (number p.0) (number k) is)) ∙ first_so (test p.0) _ all)
+    | inr apart ↦ rw apart (unbound-or_passing test alike L k (second_so (test p.0) _ all))
+  ]
 
 module _ {K V : Type 0} (number : K → ℕ) (equal : V → V → Bool) where
   -- having the same bindings is transitive

@@ -3,13 +3,13 @@ use Rattle.std.proofs.Common.{◌≡◌, inl, inr, ℕ, ◌+◌, ◌<◌, ◌≤
 use Rattle.std.specs.Prelude.{All, count_by, filter}
 use Rattle.std.specs.List.{swap, FoldsTo}
 use Rattle.std.proofs.lemmas.Bool.{cases_lt, cond_both}
-use Rattle.std.proofs.lemmas.List.{drop_more, take_more_set, take-set-le, drop-set-lt, set-set}
+use Rattle.std.proofs.lemmas.List.{take_more_set, take-set-le, drop-set-lt, set-set}
 use Rattle.std.proofs.lemmas.List.Edits.{swap_is}
 use Rattle.std.proofs.lemmas.List.Elements.{All-cons, All-head, All-tail}
 use Rattle.std.proofs.lemmas.List.Sums.{sum_by-cons}
 use Rattle.intmap_table.specs.Retaining.{Retains, state_after, kept_from}
 use Rattle.intmap_table.specs.Taking.{Passes}
-use Rattle.intmap_table.proofs.LeadsLemmas.{Leads, Leads-next}
+use Rattle.intmap_table.proofs.LeadsLemmas.{Leads, Leads-place}
 
 module _ {F X : Type 0} (R : F → X → Bool → F → Type 0) where
   -- first the one list, then the other
@@ -17,10 +17,6 @@ module _ {F X : Type 0} (R : F → X → Bool → F → Type 0) where
   Retains-append f g h [] L' M M' first more = subst (λ Z. Retains R f L' (Z ++ M') h) (sym first.0) (subst (λ z. Retains R z L' M' h) (sym first.1) more)
   Retains-append f g h (x ∷ L) L' M M' first more =
       (first.0, first.1, first.2 ++ M', first.3, Retains-append first.1 g h L L' first.2 M' first.4 more, ap (λ Z. Z ++ M') first.5 ∙ grind arith)
-
-  -- one element
-  pub Retains-one : (f g : F) (x : X) (b : Bool) → R f x b g → Retains R f (x ∷ []) (cond b (x ∷ []) []) g
-  Retains-one f g x b call = (b, g, [], call, (refl, refl), refl)
 
   -- it passed each element
   pub FoldsTo-Retains : (f g : F) (L M : List X) → Retains R f L M g → FoldsTo (Passes R) f L g
@@ -64,15 +60,11 @@ module _ {X : Type 0} (xs : List X) (k i : ℕ) (d : X) (before : k ≤ i) (belo
 
   module _ {F : Type 0} (R : F → X → Bool → F → Type 0) (f₀ f h : F) (L : List X) (leads : Leads (Retains R) f₀ L f (take k xs) (drop i xs)) where
     asked : (b : Bool) → R f (get_or xs i d) b h → Leads (Retains R) f₀ L h (take k xs ++ cond b (get_or xs i d ∷ []) []) (drop (i + 1) xs)
-    asked b call =
-        let x = get_or xs i d in
-        Leads-next (Retains R) (Retains-append R) f₀ f h L (take k xs) (x ∷ []) (cond b (x ∷ []) []) (drop (i + 1) xs)
-        (subst (λ Z. Leads (Retains R) f₀ L f (take k xs) Z) (drop_more xs i d below) leads) (Retains-one R f h x b call)
+    asked b call = Leads-place (Retains R) (Retains-append R) f₀ f h L (take k xs) _ xs i d below leads (b, h, [], call, (refl, refl), refl)
 
     -- the element at place i stays
     pub Leads-stays : R f (get_or xs i d) true h → Leads (Retains R) f₀ L h (take (k + 1) (swap xs k i)) (drop (i + 1) (swap xs k i))
-    Leads-stays call =
-        subst (λ Z. Leads (Retains R) f₀ L h Z (drop (i + 1) (swap xs k i))) (sym take-swap) (subst (λ Z. Leads (Retains R) f₀ L h (take k xs ++ get_or xs i d ∷ []) Z) (sym drop-swap) (asked true call))
+    Leads-stays call = rw (take-swap, drop-swap) (asked true call)
 
     -- the element at place i goes
     pub Leads-goes : R f (get_or xs i d) false h → Leads (Retains R) f₀ L h (take k xs) (drop (i + 1) xs)

@@ -3,13 +3,13 @@ use Rattle.std.proofs.Common.{is_some, ◌≡◌, ℕ, ◌+◌, ◌<◌, List, [
 use Rattle.std.specs.Prelude.{map}
 use Rattle.std.specs.List.{FoldsTo}
 use Rattle.std.specs.Map.{keys_of}
-use Rattle.std.proofs.lemmas.List.{drop_more, take_more_set, drop-set-lt}
+use Rattle.std.proofs.lemmas.List.{take_more_set, drop-set-lt}
 use Rattle.std.proofs.lemmas.Map.Entries.{length-keys_of}
 use Rattle.intmap_table.specs.Bindings.{value_of}
 use Rattle.intmap_table.specs.Taking.{Passes}
 use Rattle.intmap_table.specs.Retaining.{state_after}
 use Rattle.intmap_table.specs.Writes.{Writes, written_from}
-use Rattle.intmap_table.proofs.LeadsLemmas.{Leads, Leads-next}
+use Rattle.intmap_table.proofs.LeadsLemmas.{Leads, Leads-place}
 
 module _ {F K V : Type 0} (R : F → K × V → V → F → Type 0) where
   -- first the one list, then the other
@@ -42,12 +42,8 @@ module _ {F K V : Type 0} (R : F → K × V → V → F → Type 0) where
   pub Leads-written : (f₀ f h : F) (L ps : List (K × V)) (i : ℕ) (d p : K × V) → i < length ps → p.0 ≡ (get_or ps i d).0 → R f (get_or ps i d) p.1 h
       → Leads (Writes R) f₀ L f (take i ps) (drop i ps) → Leads (Writes R) f₀ L h (take (i + 1) (set ps i p)) (drop (i + 1) (set ps i p))
   Leads-written f₀ f h L ps i d p below key call leads =
-      let x = get_or ps i d in
-      let one : Writes R f (x ∷ []) (p ∷ []) h = (p.1, h, [], call, (refl, refl), ap (λ k. (k, p.1) ∷ []) key) in
-      let left = drop-set-lt (i + 1) ps i p (omega arith) in
-      let next = Leads-next (Writes R) Writes-append f₀ f h L (take i ps) (x ∷ []) (p ∷ []) (drop (i + 1) ps) (subst (λ Z. Leads (Writes R) f₀ L f (take i ps) Z) (drop_more ps i d below) leads) one in
-      subst (λ Z. Leads (Writes R) f₀ L h Z (drop (i + 1) (set ps i p))) (sym (take_more_set ps i p below))
-      (subst (λ Z. Leads (Writes R) f₀ L h (take i ps ++ p ∷ []) Z) (sym left) next)
+      let one : Writes R f (get_or ps i d ∷ []) (p ∷ []) h = (p.1, h, [], call, (refl, refl), ap (λ k. (k, p.1) ∷ []) key) in
+      rw (take_more_set ps i p below, drop-set-lt (i + 1) ps i p (omega arith)) (Leads-place (Writes R) Writes-append f₀ f h L (take i ps) (p ∷ []) ps i d below leads one)
 
 module _ {F K V : Type 0} (R : F → K × V → V → F → Type 0) where
   -- the values if each is made of its pair alone, and `Own` holds of the closure throughout
