@@ -1,6 +1,6 @@
 -- What a closure that picks one element at a step leaves of lists.
 use Rattle.std.proofs.Common.{◌≡◌, ℕ, ◌+◌, ◌<◌, ◌≤◌, Bool, true, false, List, [], ◌∷◌, ◌++◌, Option, Some, None, length, get_or, set, take, drop, refl, sym, ap, ◌∙◌, subst, arith, append-nil, append_assoc, length-append, get_or-set_same}
-use Rattle.std.specs.Prelude.{All, not, filter}
+use Rattle.std.specs.Prelude.{All, not, filter, MatchOption}
 use Rattle.std.specs.Bool.{MatchBool}
 use Rattle.std.specs.List.{sum_by}
 use Rattle.std.specs.Option.{option_len, option_to_list}
@@ -66,19 +66,16 @@ module _ {F X : Type 0} (R : F → X → Bool → F → X → Type 0) where
       ExtractsNext-induct R (λ f L r g kept rest. r ≡ None → rest ≡ []) (λ f _. refl) (λ f g x y L call no. cc)
       (λ f h g x y L kept rest r call more. more) f g L kept rest None e refl
 
-  -- none of the front is picked, so the step goes on behind it
-  pub ExtractsNext-on : (f g h : F) (xs ys ks zs kept rest : List X) (r : Option X) → ExtractsNext R f xs None g ks zs → ExtractsNext R g ys r h kept rest → ExtractsNext R f (xs ++ ys) r h (ks ++ kept) rest
-  ExtractsNext-on f g h xs ys ks zs kept rest r first more =
-      ExtractsNext-induct R (λ f xs o g ks zs. o ≡ None → ExtractsNext R g ys r h kept rest → ExtractsNext R f (xs ++ ys) r h (ks ++ kept) rest) (λ f _ more. more)
-      (λ f g x y L call no. cc)
-      (λ f u g x y L ks zs o call on none more. (false, u, y, call, (ks ++ kept, on none more, refl))) f g xs ks zs None first refl more
+  -- what follows a step through a front, which left zs of it: one through what is behind it, or the end if an element was picked
+  abbrev Follows : List X → F → List X → Option X → Option X → F → List X → List X → Type 0
+  Follows ys g zs o r h kept rest = MatchOption o (ExtractsNext R g ys r h kept rest) (λ z. (r ≡ Some z) × (h ≡ g) × (kept ≡ []) × (rest ≡ zs ++ ys))
 
-  -- one of the front is picked, so what is behind the front stays
-  pub ExtractsNext-stop : (f g : F) (xs ys ks zs : List X) (z : X) → ExtractsNext R f xs (Some z) g ks zs → ExtractsNext R f (xs ++ ys) (Some z) g ks (zs ++ ys)
-  ExtractsNext-stop f g xs ys ks zs z first =
-      ExtractsNext-induct R (λ f xs o g ks zs. o ≡ Some z → ExtractsNext R f (xs ++ ys) o g ks (zs ++ ys)) (λ f no. cc)
-      (λ f g x y L call _. (true, g, y, call, (refl, refl, refl, refl)))
-      (λ f u g x y L ks zs o call on some. (false, u, y, call, (ks, on some, refl))) f g xs ks zs (Some z) first refl
+  -- both are one step
+  pub ExtractsNext-front : (ys : List X) (r : Option X) (h : F) (kept rest : List X) (f g : F) (xs ks zs : List X) (o : Option X)
+      → ExtractsNext R f xs o g ks zs → Follows ys g zs o r h kept rest → ExtractsNext R f (xs ++ ys) r h (ks ++ kept) rest
+  ExtractsNext-front ys r h kept rest =
+      ExtractsNext-induct R (λ f xs o g ks zs. Follows ys g zs o r h kept rest → ExtractsNext R f (xs ++ ys) r h (ks ++ kept) rest)
+      (λ f more. more) (λ f g x y L call ends. (true, g, y, call, ends)) (λ f u g x y L ks zs o call on more. (false, u, y, call, (ks ++ kept, on more, refl)))
 
   -- R went over a part of a list from its place j on, and left `new` with place k reached
   module _ (f g : F) (before part new behind : List X) (j k : ℕ) (within : j ≤ length part) (reached : k ≤ length new) where
@@ -102,7 +99,8 @@ module _ {F X : Type 0} (R : F → X → Bool → F → X → Type 0) where
         → ExtractsBehind R f (whole part) (length before + j) (Some z) g (whole new) (length before + k)
     ExtractsBehind-part z step = (
       step.0,
-      rw ((cut part j within).1, (cut new k reached).1) (ExtractsNext-stop f g (drop j part) behind step.0 (drop k new) z step.1),
+      rw ((cut part j within).1, (cut new k reached).1)
+          (rw append-nil at (ExtractsNext-front behind (Some z) g [] _ f g (drop j part) step.0 (drop k new) (Some z) step.1 (refl, refl, refl, refl))),
       passed step.0 step.2,
     )
 
@@ -112,7 +110,7 @@ module _ {F X : Type 0} (R : F → X → Bool → F → X → Type 0) where
         let none = ExtractsNext-end f g (drop j part) step.0 (drop k new) step.1 in
         let on = rw ((cut new k reached).1, none) at next.1 in (
           step.0 ++ next.0,
-          rw (cut part j within).1 (ExtractsNext-on f g h (drop j part) behind step.0 (drop k new) next.0 (drop m N) r step.1 on),
+          rw (cut part j within).1 (ExtractsNext-front behind r h next.0 (drop m N) f g (drop j part) step.0 (drop k new) None step.1 on),
           next.2 ∙ ap (λ Z. Z ++ next.0) (passed step.0 step.2) ∙ append_assoc (take (length before + j) (whole part)) step.0 next.0,
         )
 
