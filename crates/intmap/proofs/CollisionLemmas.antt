@@ -1,5 +1,5 @@
 -- The sizes of slots: in all there are as many pairs, and far fewer different sizes.
-use Rattle.std.proofs.Common.{◌≡◌, inl, inr, ℕ, ◌+◌, ◌*◌, ◌-◌, ◌/◌, ◌^◌, ◌<◌, ◌≤◌, Bool, true, false, cond, List, [], ◌∷◌, ◌++◌, length, map, Some, None, refl, sym, ap, ◌∙◌, arith}
+use Rattle.std.proofs.Common.{◌≡◌, inl, inr, ℕ, ◌+◌, ◌*◌, ◌-◌, ◌/◌, ◌^◌, ◌<◌, ◌≤◌, true, false, cond, List, [], ◌∷◌, ◌++◌, length, map, Some, None, refl, sym, ap, ◌∙◌, arith}
 use Rattle.std.specs.Prelude.{◌==◌, nat_lt, filter}
 use Rattle.std.specs.List.{list_any, flat_map, range_with_len, sum}
 use Rattle.std.proofs.lemmas.Nat.{pow-add}
@@ -94,14 +94,10 @@ module _ {X : Type 0} (slot : ℕ → List X) where
         let more = ap length (ap each_once (collision_sizes_below-crowded n crowded) ∙ once) ∙ length-append (each_once (collision_sizes_below n)) (q ∷ []) in
         let len = tally.len ∙ length-map (each_once (collision_sizes_below n)) (λ k. (k, times k (collision_sizes_below n))) in
         let few = few_sizes (map (λ i. length (slot i)) (range_with_len 0 (n + 1))) in
-        let one = one-most (list_any (λ k. k == 2) (collision_sizes_below (n + 1))) in
+        let one : cond {A = ℕ} (list_any (λ k. k == 2) (collision_sizes_below (n + 1))) 1 0 ≤ 1 = grind arith in
         let pairs = sizes-below (n + 1) C (omega (arith, below)) in
         let least : 3 * (length m.walk + 1) ≤ 2 ^ 64 = omega (arith, more, len, few, one, pairs, fits) in
         elim out.1 [
           | inl long ↦ omega (arith, long, least)
           | inr much ↦ NeedsTooMuch-few m.capacity (length m.walk + 1) is_map.capacity least (rw (IsMadeOf-factor (λ k. k) (λ k. k < 2 ^ 64) (tally_of (collision_sizes_below n)) m tally.made) at much)
         ]
-      where
-        one-most : (b : Bool) → cond {A = ℕ} b 1 0 ≤ 1
-        one-most true = omega arith
-        one-most false = omega arith

@@ -94,14 +94,10 @@ module _ {K V : Type 0} (number : K → ℕ) where
       (λ n. let c = count_by-map (λ (p : K × V). residue number p.0 C) (λ m. m == n) L in let h = residues-distinct L C n once below in omega (arith, c, h)))
       ∙ length-map L (λ p. residue number p.0 C)
 
--- no new key leaves fewer slots
-pub IsNext-not_less : (C n F D : ℕ) → IsNext C n F D → C ≤ D
-IsNext-not_less C n F D next = elim (cases_Bool (is_due n)) [
-  | inl due ↦ IsWanted-more C n F D (rw due at next)
-  | inr not ↦ (let same : D ≡ C = rw not at next in omega arith)
-]
-
 -- no key leaves fewer slots
 pub capacity-not_less : {V : Type 0} (o : Option V) (C n F D : ℕ) → MatchOption o (IsNext C n F D) (λ _. D ≡ C) → C ≤ D
 capacity-not_less (Some v) C n F D same = omega (arith, same)
-capacity-not_less None C n F D next = IsNext-not_less C n F D next
+capacity-not_less None C n F D next = elim (cases_Bool (is_due n)) [
+  | inl due ↦ IsWanted-more C n F D (rw due at next)
+  | inr not ↦ (let same : D ≡ C = rw not at next in omega arith)
+]

@@ -6,7 +6,7 @@ use Rattle.std.specs.Int.{IsPowerOfTwo}
 use Rattle.std.proofs.Math.Pow.{pow_mono, pow_pos}
 use Rattle.std.proofs.Math.Nat.{mul-le-mul_left}
 use Rattle.std.proofs.lemmas.Nat.{div_below, pow-add}
-use Rattle.std.proofs.lemmas.Bool.{cases_lt, cases_order, both_ways, le-leb, leb-true, leb-false}
+use Rattle.std.proofs.lemmas.Bool.{cases_lt, both_ways, le-leb, leb-true, leb-false}
 use Rattle.std.proofs.lemmas.Option.{unwrap_or-slice_get}
 use Rattle.std.proofs.lemmas.List.Folds.{find_at}
 use Rattle.std.proofs.lemmas.List.Sums.{passes_at_first, fails_before_first}
@@ -41,19 +41,17 @@ first_hit test f m k lt passes =
     }
 
 -- of two wanted capacities none is below the other
-not_below : (C n F A B : ℕ) → IsWanted C n F A → IsWanted C n F B → A < B → ⊥
-not_below C n F A B a b lt =
-    let below : C * 2 ^ a.doubled.0 < B = subst (λ x. x < B) a.doubled.1 lt in
-    let over : F < n * 1000 / (C * 2 ^ a.doubled.0) = b.least a.doubled.0 below in
-    let met : n * 1000 / (C * 2 ^ a.doubled.0) ≤ F = subst (λ x. n * 1000 / x ≤ F) a.doubled.1 a.meets in
-    omega arith
+not_below : (C n F A B : ℕ) → IsWanted C n F A → IsWanted C n F B → B ≤ A
+not_below C n F A B a b = elim (cases_lt A B) [
+  | inl less ↦
+      (let over = b.least a.doubled.0 (subst (λ x. x < B) a.doubled.1 less) in
+      let met = subst (λ x. n * 1000 / x ≤ F) a.doubled.1 a.meets in absurd (omega (arith, over, met)))
+  | inr not ↦ not
+]
 
 -- there is one wanted capacity at most
 pub IsWanted-unique : (C n F A B : ℕ) → IsWanted C n F A → IsWanted C n F B → A ≡ B
-IsWanted-unique C n F A B a b = elim (cases_order A B) [
-  | inl e ↦ e
-  | inr o ↦ elim o [ inl lt ↦ absurd (not_below C n F A B a b lt) | inr gt ↦ absurd (not_below C n F B A b a gt) ]
-]
+IsWanted-unique C n F A B a b = let below = not_below C n F A B a b in let above = not_below C n F B A b a in omega (arith, below, above)
 
 -- the function gives the wanted capacity
 pub IsWanted-wanted_capacity : (C n F : ℕ) → IsCapacity C → n < 2 ^ 64 → IsWanted C n F (wanted_capacity C n F)

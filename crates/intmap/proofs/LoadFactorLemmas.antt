@@ -5,7 +5,7 @@ use Rattle.std.proofs.Math.Pow.{pow_pos, pow_mono}
 use Rattle.std.proofs.Math.Nat.{mul-le-mul_left, mul_comm, div-mul-le_self, lt-mul-div-succ}
 use Rattle.std.proofs.lemmas.Nat.{le-div, div_below, pow-add}
 use Rattle.std.proofs.lemmas.Nat.Bits.{and_pow}
-use Rattle.std.proofs.lemmas.Bool.{cases_lt, cases_order, cases_Bool, ltb-false, eqb-false}
+use Rattle.std.proofs.lemmas.Bool.{cases_lt, cases_order, cases_Bool, ltb-false, eqb-true, eqb-false}
 use Rattle.std.proofs.lemmas.Bool.Decides.{nat_tests}
 use Rattle.intmap_table.specs.Classes.{IsCapacity}
 use Rattle.intmap_table.proofs.SlotNumberLemmas.{capacity-positive, capacity-greatest}
@@ -50,55 +50,47 @@ same_doubling C c i j some is low high = elim (cases_order i j) [
   | inr (inr w) ↦ (let m = doubled-less C j i w in absurd (omega (arith, m, is, high)))
 ]
 
+-- if c exceeds the load, each doubling below 2 c does
+least-more : (C n F c : ℕ) → IsCapacity C → IsNear C n F c → (F + 1) * c ≤ n * 1000 → (i : ℕ) → C * 2 ^ i < c * 2 → F < n * 1000 / (C * 2 ^ i)
+least-more C n F c cap near over i less = elim (cases_lt (C * 2 ^ i) c) [
+  | inl w ↦ near.least i w
+  | inr ge ↦
+      rw (same_doubling C c i near.doubled.0 (capacity-positive C cap) near.doubled.1 ge less)
+      (exceeds-from n c F (capacity-positive c near.capacity) over)
+]
+
 pub IsNear-more : (C n F c : ℕ) → IsCapacity C → IsNear C n F c → (F + 1) * c ≤ n * 1000 → c ≢ 2 ^ 63 → IsNear C n F (c * 2)
 IsNear-more C n F c cap near over apart =
     let j : ℕ = near.doubled.0 in
     let e : ℕ = near.capacity.0 in
-    let below : e < 63 = elim (cases_order e 63) [
-      | inl q ↦ absurd (apart (near.capacity.3 ∙ ap (λ x. 2 ^ x) q))
-      | inr o ↦ elim o [ inl less ↦ less | inr more ↦ (let w = near.capacity.2 in absurd (omega (arith, w, more))) ]
+    let below : e < 63 = elim (cases_lt e 63) [
+      | inl less ↦ less
+      | inr more ↦ (let top : e ≡ 63 = (let w = near.capacity.2 in omega (arith, w, more)) in absurd (apart (near.capacity.3 ∙ ap (λ x. 2 ^ x) top)))
     ] in
     let one = near.capacity.1 in
     record {
       doubled = (j + 1, rw (pow-add 2 j 1) (ap (λ x. x * 2) near.doubled.1 ∙ omega arith));
       capacity = (e + 1, omega (arith, one), omega (arith, below), rw (pow-add 2 e 1) (ap (λ x. x * 2) near.capacity.3));
-      least = λ i less. elim (cases_lt (C * 2 ^ i) c) [
-        | inl w ↦ near.least i w
-        | inr ge ↦
-            (let s : C * 2 ^ i ≡ c = same_doubling C c i j (capacity-positive C cap) near.doubled.1 ge less in
-            rw s (exceeds-from n c F (capacity-positive c near.capacity) over))
-      ];
+      least = least-more C n F c cap near over;
     }
 
 -- if 2^63 isn't enough, more is needed
 pub IsNear-none : (C n F c : ℕ) → IsCapacity C → n < 2 ^ 64 → IsNear C n F c → (F + 1) * c ≤ n * 1000 → c ≡ 2 ^ 63 → NeedsTooMuch (IsWanted C n F)
 IsNear-none C n F c cap fits near over top =
-    let D : ℕ = wanted_capacity C n F in
-    let w : IsWanted C n F D = IsWanted-wanted_capacity C n F cap fits in (
-      D,
+    let w = IsWanted-wanted_capacity C n F cap fits in let is = w.doubled.1 in (
+      wanted_capacity C n F,
       w,
-      elim (cases_lt (2 ^ 63) D) [
+      elim (cases_lt (2 ^ 63) (wanted_capacity C n F)) [
         | inl more ↦ more
         | inr le ↦
-            (let i : ℕ = w.doubled.0 in
-            let is : D ≡ C * 2 ^ i = w.doubled.1 in
-            let meets : n * 1000 / (C * 2 ^ i) ≤ F = subst (λ x. n * 1000 / x ≤ F) is w.meets in
-            elim (cases_lt (C * 2 ^ i) c) [
-              | inl less ↦ (let over_i = near.least i less in absurd (omega (arith, over_i, meets)))
-              | inr ge ↦
-                  (let s : C * 2 ^ i ≡ c = omega (arith, ge, le, top, is) in
-                  let over_c : F < n * 1000 / (C * 2 ^ i) = rw s (exceeds-from n c F (capacity-positive c near.capacity) over) in
-                  absurd (omega (arith, over_c, meets)))
-            ])
+            (let over_i = least-more C n F c cap near over w.doubled.0 (omega (arith, le, top, is)) in
+            let meets = subst (λ x. n * 1000 / x ≤ F) is w.meets in absurd (omega (arith, over_i, meets)))
       ],
     )
 
 -- of capacities of which one is needed, one up to 2^63 leaves none above it to be needed
-not_needed : (needs : ℕ → Type 0) → ((D E : ℕ) → needs D → needs E → D ≡ E) → (D : ℕ) → needs D → D ≤ 2 ^ 63 → NeedsTooMuch needs → ⊥
+pub not_needed : (needs : ℕ → Type 0) → ((D E : ℕ) → needs D → needs E → D ≡ E) → (D : ℕ) → needs D → D ≤ 2 ^ 63 → NeedsTooMuch needs → ⊥
 not_needed needs unique D need le much = let same = unique D much.0 need much.1 in let above = much.2 in omega (arith, same, le, above)
-
-pub not_too_much : (C n F D : ℕ) → IsWanted C n F D → D ≤ 2 ^ 63 → NeedsTooMuch (IsWanted C n F) → ⊥
-not_too_much C n F D wanted le much = not_needed (IsWanted C n F) (IsWanted-unique C n F) D wanted le much
 
 -- the bit of value four says whether growth is tested
 pub bit_and-four : (n : ℕ) → (bit_and n 4 == 4) ≡ is_due n
@@ -127,33 +119,20 @@ IsNext-unique C n F D E a b = elim (cases_Bool (is_due n)) [
   | inr not ↦ (let x = rw not at a in let y = rw not at b in x ∙ sym y)
 ]
 
+-- what meets the load, if growth is tested, leaves the capacity
+IsNext-if_met : (C n F : ℕ) → IsCapacity C → (is_due n ≡ true → MeetsLoad C n F) → IsNext C n F C
+IsNext-if_met C n F cap meets = elim (cases_Bool (is_due n)) [ inl due ↦ rw due (IsWanted-same C n F cap (meets due)) | inr not ↦ rw not refl ]
+
+pub IsNext-met : (C n F : ℕ) → IsCapacity C → MeetsLoad C n F → IsNext C n F C
+IsNext-met C n F cap meets = IsNext-if_met C n F cap (λ _. meets)
+
 -- what doesn't exceed the threshold, or isn't tested, leaves the capacity
 pub IsNext-same : (C F n threshold : ℕ) → IsCapacity C → n < 2 ^ 64 → IsThreshold C F threshold → (is_due n && nat_lt threshold n) ≡ false → IsNext C n F C
-IsNext-same C F n threshold cap fits lim test = elim (cases_Bool (is_due n)) [
-  | inl due ↦
-      (let under : nat_lt threshold n ≡ false = rw due at test in
-      let le = ltb-false threshold n under in rw due (IsWanted-same C n F cap ((lim n fits).0 le)))
-  | inr not ↦ rw not refl
-]
-
--- what meets the load leaves the capacity
-pub IsNext-met : (C n F : ℕ) → IsCapacity C → MeetsLoad C n F → IsNext C n F C
-IsNext-met C n F cap meets = elim (cases_Bool (is_due n)) [
-  | inl due ↦ rw due (IsWanted-same C n F cap meets)
-  | inr not ↦ rw not refl
-]
-
--- if growth is tested, what is wanted follows
-pub IsNext-wanted : (C F n D : ℕ) → is_due n ≡ true → IsWanted C n F D → IsNext C n F D
-IsNext-wanted C F n D due wanted = rw due wanted
+IsNext-same C F n threshold cap fits lim test = IsNext-if_met C n F cap (λ due. (lim n fits).0 (ltb-false threshold n (rw due at test)))
 
 -- a number at which growth is tested is at most the last such number
 pub last_due-most : (m n : ℕ) → m ≤ n → is_due m ≡ true → m ≤ last_due n
 last_due-most m n le due = grind (arith, nat_tests, due, le)
-
--- and growth is tested there
-pub last_due-is_due : (n : ℕ) → 4 ≤ n → is_due (last_due n) ≡ true
-last_due-is_due n some = grind (arith, nat_tests, some)
 
 pub last_due-le : (n : ℕ) → last_due n ≤ n
 last_due-le n = grind arith
@@ -169,24 +148,25 @@ IsLoaded-from C n F some meets four = MeetsLoad-fewer C n (last_due n) F some me
 -- fewer pairs
 pub IsLoaded-fewer : (C n m F : ℕ) → 0 < C → IsLoaded C n F → m ≤ n → IsLoaded C m F
 IsLoaded-fewer C n m F some loaded le four =
-    let many : 4 ≤ n = omega (arith, le, four) in
-    let less : last_due m ≤ last_due n =
-    last_due-most (last_due m) n (let a = last_due-le m in omega (arith, a, le)) (last_due-is_due m four) in
-    MeetsLoad-fewer C (last_due n) (last_due m) F some (loaded many) less
+    let less : last_due m ≤ last_due n = grind (arith, nat_tests, le, four) in
+    MeetsLoad-fewer C (last_due n) (last_due m) F some (loaded (omega (arith, le, four))) less
 
 -- one pair more, if growth isn't tested or the threshold isn't exceeded
 pub IsLoaded-more : (C n F most : ℕ) → 0 < C → n + 1 < 2 ^ 64 → IsThreshold C F most → IsLoaded C n F → (is_due (n + 1) && nat_lt most (n + 1)) ≡ false → IsLoaded C (n + 1) F
 IsLoaded-more C n F most some fits lim loaded test four = elim (cases_Bool (is_due (n + 1))) [
-  | inl due ↦
-      (let under : nat_lt most (n + 1) ≡ false = rw due at test in
-      let le = ltb-false most (n + 1) under in
-      MeetsLoad-fewer C (n + 1) (last_due (n + 1)) F some ((lim (n + 1) fits).0 le) (last_due-le (n + 1)))
+  | inl due ↦ IsLoaded-from C (n + 1) F some ((lim (n + 1) fits).0 (ltb-false most (n + 1) (rw due at test))) four
   | inr not ↦
-      (let f = eqb-false ((n + 1) / 4 % 2) 1 not in
-      let many : 4 ≤ n = omega (arith, four, f) in
-      let below : last_due (n + 1) ≤ n = rw not (omega arith) in
-      MeetsLoad-fewer C (last_due n) (last_due (n + 1)) F some (loaded many) (last_due-most (last_due (n + 1)) n below (last_due-is_due (n + 1) four)))
+      (let apart = eqb-false ((n + 1) / 4 % 2) 1 not in
+      let same : last_due (n + 1) ≡ last_due n = grind (arith, nat_tests, four, apart) in
+      rw same (loaded (omega (arith, four, apart))))
 ]
+
+-- each length up to n leaves the capacity
+pub IsNext-loaded : (C m n F : ℕ) → IsCapacity C → IsLoaded C n F → m ≤ n → IsNext C m F C
+IsNext-loaded C m n F cap loaded few =
+    IsNext-if_met C m F cap (λ due.
+    let odd = eqb-true (m / 4 % 2) 1 due in
+    MeetsLoad-fewer C (last_due n) m F (capacity-positive C cap) (loaded (omega (arith, odd, few))) (last_due-most m n few due))
 
 -- more slots
 pub IsLoaded-larger : (C D n F : ℕ) → 0 < C → C ≤ D → IsLoaded C n F → IsLoaded D n F
@@ -205,10 +185,6 @@ IsNext-changes C n F D over meets same = let m : MeetsLoad C n F = subst (λ c. 
 -- within the threshold no more than 2^63 slots are asked for
 pub NeedsTooMuch-none : (C n F D : ℕ) → IsCapacity D → IsNext C n F D → NeedsTooMuch (IsNext C n F) → ⊥
 NeedsTooMuch-none C n F D cap next much = not_needed (IsNext C n F) (IsNext-unique C n F) D next (capacity-greatest D cap) much
-
--- if growth is tested, needing too much is growing too much
-pub NeedsTooMuch-wanted : (C n F : ℕ) → is_due n ≡ true → NeedsTooMuch (IsWanted C n F) → NeedsTooMuch (IsNext C n F)
-NeedsTooMuch-wanted C n F due much = (much.0, IsNext-wanted C F n much.0 due much.1, much.2)
 
 -- with a length below 2^64 and a next capacity, no insertion is too large
 pub in_range-next : {K V : Type 0} (L : List (K × V)) (C F D : ℕ) → length L + 1 < 2 ^ 64 → IsCapacity D → IsNext C (length L + 1) F D → InsertIsTooLarge L C F → ⊥

@@ -1,7 +1,6 @@
 -- Pairs for which a table has room are inserted in turn, and none fails.
-use Rattle.std.proofs.Common.{◌≡◌, inl, inr, ℕ, ◌+◌, ◌<◌, ◌≤◌, Bool, true, cond, List, [], ◌∷◌, ◌++◌, length, get_or, None, refl, sym, ap, ◌∙◌, append_assoc, arith}
-use Rattle.std.specs.Prelude.{◌/◌, ◌%◌, All}
-use Rattle.std.proofs.lemmas.Bool.{cases_Bool, eqb-true}
+use Rattle.std.proofs.Common.{◌≡◌, ℕ, ◌+◌, ◌<◌, ◌≤◌, cond, List, [], ◌∷◌, ◌++◌, length, get_or, None, refl, sym, ap, ◌∙◌, append_assoc, arith}
+use Rattle.std.specs.Prelude.{All}
 use Rattle.std.proofs.lemmas.List.{length-append}
 use Rattle.std.proofs.lemmas.List.Elements.{All-nil, All-cons, All-head, All-tail}
 use Rattle.std.proofs.lemmas.Bool.Decides.{nat_tests}
@@ -13,17 +12,17 @@ use Rattle.intmap_table.specs.Reach.{class_size}
 use Rattle.intmap_table.specs.Walk.{walk_of}
 use Rattle.intmap_table.proofs.DistinctLemmas.{length-walk_of}
 use Rattle.intmap_table.proofs.PositionLemmas.{position-from_none, swap_out-none}
-use Rattle.intmap_table.proofs.SlotNumberLemmas.{capacity-positive, slot_number-below}
+use Rattle.intmap_table.proofs.SlotNumberLemmas.{slot_number-below}
 use Rattle.intmap_table.proofs.WalkLemmas.{class_size-same, walk_of-walk_of}
 use Rattle.intmap.specs.Extending.{MapInsertsAll}
 use Rattle.intmap.specs.Insertions.{MapInserts}
-use Rattle.intmap.specs.Growth.{IsNext, is_due, last_due}
+use Rattle.intmap.specs.Growth.{IsNext}
 use Rattle.intmap.specs.Map.{MapState, IsLone}
 use Rattle.intmap.specs.PlainLists.{RefusalIsDue, list_of}
 use Rattle.intmap.specs.Room.{HasRoomFor}
 use Rattle.intmap.specs.declared.refusal.Cause.{Cause}
 use Rattle.intmap.proofs.CostLemmas.{class_size-below}
-use Rattle.intmap.proofs.LoadFactorLemmas.{IsNext-unique, IsWanted-same, MeetsLoad-fewer, last_due-most}
+use Rattle.intmap.proofs.LoadFactorLemmas.{IsNext-unique, IsNext-loaded}
 use Rattle.intmap.proofs.RefusalLemmas.{lone-never_refused}
 
 module _ {K V : Type 0} (number : K → ℕ) where
@@ -55,23 +54,9 @@ module _ {K V : Type 0} (number : K → ℕ) where
       let fits = room.count in
       record {
         alone = omega (arith, one, both, own);
-        stays = stays (is_due (length L + 1)) refl len;
+        stays = IsNext-loaded C (length L + 1) (length (L ++ p ∷ ps)) F capacity room.load (omega (arith, len));
         count = omega (arith, len, fits);
       }
-    where
-      stays : (b : Bool) → is_due (length L + 1) ≡ b → length (L ++ p ∷ ps) ≡ length L + length (p ∷ ps) → IsNext C (length L + 1) F C
-      stays b is len = elim (cases_Bool (is_due (length L + 1))) [
-        | inl due ↦
-            (let some : 4 ≤ length L + 1 = due-some (length L + 1) due in
-            let up : length L + 1 ≤ length (L ++ p ∷ ps) = omega (arith, len) in
-            let all : 4 ≤ length (L ++ p ∷ ps) = omega (arith, some, up) in
-            let last : length L + 1 ≤ last_due (length (L ++ p ∷ ps)) = last_due-most (length L + 1) (length (L ++ p ∷ ps)) up due in
-            rw due (IsWanted-same C (length L + 1) F capacity (MeetsLoad-fewer C (last_due (length (L ++ p ∷ ps))) (length L + 1) F (capacity-positive C capacity) (room.load all) last)))
-        | inr not ↦ rw not refl
-      ]
-        where
-          due-some : (n : ℕ) → is_due n ≡ true → 4 ≤ n
-          due-some n due = let q = eqb-true (n / 4 % 2) 1 due in omega (arith, q)
 
 module _ {K V : Type 0} (number : K → ℕ) (is_valid : K → Type 0) where
   module _ (m l : MapState K V) (p : K × V) (ps : List (K × V)) (capacity : IsCapacity m.capacity) (room : HasRoomFor number m.walk m.capacity m.factor (p ∷ ps))
@@ -83,9 +68,6 @@ module _ {K V : Type 0} (number : K → ℕ) (is_valid : K → Type 0) where
     capacity-kept =
         let next : IsNext m.capacity (length m.walk + 1) m.factor l.capacity = rw (value_of-alone number m.walk m.capacity p.0 lone.alone) at step.inserted.fits.capacity in
         IsNext-unique m.capacity (length m.walk + 1) m.factor l.capacity m.capacity next lone.stays
-
-    factor-kept : l.factor ≡ m.factor
-    factor-kept = ap (λ n. n.factor) step.state
 
     walk-after : l.walk ≡ walk_of number (m.walk ++ p ∷ []) m.capacity
     walk-after =
@@ -119,7 +101,7 @@ module _ {K V : Type 0} (number : K → ℕ) (is_valid : K → Type 0) where
 
     -- behind an insertion there is room for the pairs that are left
     room-after : HasRoomFor number l.walk l.capacity l.factor ps
-    room-after = rw (capacity-kept, factor-kept) (record {
+    room-after = rw (capacity-kept, ap (λ n. n.factor) step.state) (record {
       alone = λ i d below. class_size-all (get_or ps i d).0 ∙ All-tail (λ q. class_size number (m.walk ++ p ∷ ps) m.capacity q.0 ≡ 1) p ps room.alone i d below;
       count = rw length-all room.count;
       load = rw length-all room.load;

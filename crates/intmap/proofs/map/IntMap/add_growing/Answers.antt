@@ -4,7 +4,7 @@ use Rattle.intmap_table.specs.Bindings.{value_of}
 use Rattle.intmap.specs.Growth.{IsNext}
 use Rattle.intmap.proofs.InsertionLemmas.{IsInsertion-added}
 use Rattle.intmap.proofs.RefusalLemmas.{RefusalIsDue-too_large, RefusalIsDue-memory}
-use Rattle.intmap.proofs.LoadFactorLemmas.{IsNext-changes, IsNext-unique, IsNext-wanted, NeedsTooMuch-wanted}
+use Rattle.intmap.proofs.LoadFactorLemmas.{IsNext-changes, IsNext-unique}
 use Rattle.intmap.proofs.MapLemmas.{MapState-same, IsConsistent-grown_with}
 use Rattle.intmap.proofs.map.IntMap.add_growing.Goals as goal
 use Rattle.intmap.proofs.map.IntMap.add_growing.Goals.{After-capacity, After-grow_with}
@@ -22,9 +22,7 @@ module _ (g : _) (c : After-capacity g) where
 module _ (g : _) (c : After-grow_with g) (long : c.args.len ≡ length c.self.inside.table.walk + 1) where
   -- the capacity that is wanted is the next
   next : IsNext c.self.inside.table.capacity (length c.self.inside.table.walk + 1) c.self.inside.factor c.in-Some.capacity
-  next =
-      IsNext-wanted c.self.inside.table.capacity c.self.inside.factor (length c.self.inside.table.walk + 1) c.in-Some.capacity
-      (rw long at c.requires.due) (rw (c.capacity.ensures.value, long) at c.in-Some.ensures.wanted)
+  next = rw (rw long at c.requires.due) (rw (c.capacity.ensures.value, long) at c.in-Some.ensures.wanted)
 
   -- which is another than now
   grows : c.in-Some.capacity ≢ c.self.inside.table.capacity
@@ -50,7 +48,7 @@ returns-in_default g c =
       state = tt;
       err = refl;
       value_returned = refl;
-      refused = RefusalIsDue-too_large g.K.IntKey.number_of _ c.args.key (missing g at) (inr (NeedsTooMuch-wanted c.self.inside.table.capacity (length c.self.inside.table.walk + 1) c.self.inside.factor due much));
+      refused = RefusalIsDue-too_large g.K.IntKey.number_of _ c.args.key (missing g at) (inr (much.0, rw due much.1, much.2));
       valid_after = c.self.invariant.map;
     }
 

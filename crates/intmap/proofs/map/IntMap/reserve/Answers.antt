@@ -1,5 +1,4 @@
-use Rattle.std.specs.Prelude.{is_err}
-use Rattle.std.proofs.Common.{◌≡◌, false, ◌+◌, ◌≤◌, max, inl, inr, length, sym, ap, ◌∙◌, arith, refl}
+use Rattle.std.proofs.Common.{◌≡◌, ◌+◌, ◌≤◌, max, inl, inr, length, sym, ap, ◌∙◌, arith, refl}
 use Rattle.std.proofs.lemmas.Grind.{common_steps}
 use Rattle.std.proofs.lemmas.Bool.{cases_lt}
 use Rattle.intmap_table.specs.Classes.{IsCapacity}
@@ -15,13 +14,10 @@ use Rattle.intmap.proofs.map.IntMap.reserve.Goals as goal
 use Rattle.intmap.proofs.map.IntMap.reserve.Goals.{After-max-capacity, After-threshold_of-self-inside}
 
 module _ (g : _) (c : After-max-capacity g) where
-  seen : c.self.inside.len ≡ length c.self.inside.table.walk
-  seen = c.self.invariant.count
-
   least : IsLeastPower (length c.self.inside.table.walk + c.args.additional) c.next_power_of_two-slots.result
   least =
       let p = c.next_power_of_two-slots.ensures in
-      rw (← seen) (IsLeastPower-up (c.self.inside.len + c.args.additional) c.next_power_of_two-slots.result p.power (omega (arith, p.lower_bound)) (omega (arith, p.upper_bound)))
+      rw (← c.self.invariant.count) (IsLeastPower-up (c.self.inside.len + c.args.additional) c.next_power_of_two-slots.result p.power (omega (arith, p.lower_bound)) (omega (arith, p.upper_bound)))
 
   most : c.max-capacity.result ≡ max c.next_power_of_two-slots.result c.self.inside.table.capacity
   most = c.max-capacity.ensures ∙ ap (λ n. max c.next_power_of_two-slots.result n) c.capacity.ensures.value
@@ -54,7 +50,7 @@ returns-then-is_err g c =
     let at = (goal.at.returns-then-is_err g c).After-max-capacity in
     let refused = sym c.is_err.ensures.value ∙ c.if-is_err.true in
     let kept = OnErr-at c.grow_to.result _ refused c.grow_to.ensures.err in
-    let long = seen g at in
+    let long = c.self.invariant.count in
     rw (← c.self.view_is, kept) record {
       reserved = tt;
       err = refl;
@@ -72,42 +68,39 @@ returns-then-is_err g c =
       valid_after = c.self.invariant.map;
     }
 
-module _ (g : _) (c : After-threshold_of-self-inside g) where
-  accepted : is_err c.grow_to.result ≡ false
-  accepted = sym c.is_err.ensures.value ∙ c.if-is_err.false
-
-  capacity : c.grow_to.new.self.capacity ≡ c.max-capacity.result
-  capacity = OnOk-at c.grow_to.result _ accepted c.grow_to.ensures.capacity
-
-  walk : c.grow_to.new.self.walk ≡ walk_of g.K.IntKey.number_of c.self.inside.table.walk c.grow_to.new.self.capacity
-  walk = rw capacity (OnOk-at c.grow_to.result _ accepted c.grow_to.ensures.walk)
+-- the table has as many slots as were asked for, and its pairs are in them
+grown : (g : _) (c : After-threshold_of-self-inside g)
+    → (c.grow_to.new.self.capacity ≡ c.max-capacity.result) × (c.grow_to.new.self.walk ≡ walk_of g.K.IntKey.number_of c.self.inside.table.walk c.grow_to.new.self.capacity)
+grown g c =
+    let accepted = sym c.is_err.ensures.value ∙ c.if-is_err.false in let capacity = OnOk-at c.grow_to.result _ accepted c.grow_to.ensures.capacity in
+    (capacity, rw capacity (OnOk-at c.grow_to.result _ accepted c.grow_to.ensures.walk))
 
 pub invariant_of-self-2 : goal.invariant_of-self-2
 invariant_of-self-2 g c =
-    let at = (goal.at.invariant_of-self-2 g c).After-max-capacity in let w = (goal.at.invariant_of-self-2 g c).After-threshold_of-self-inside in
-    let more : c.self.inside.table.capacity ≤ c.grow_to.new.self.capacity = omega (arith, most g at, capacity g w) in
-    IsConsistent-grown _ _ _ _ _ _ _ _ c.self.invariant c.grow_to.new.self.capacity c.self.inside.factor _ (rw (capacity g w) (cap g at)) c.self.invariant.map.factor
+    let at = (goal.at.invariant_of-self-2 g c).After-max-capacity in let told = grown g (goal.at.invariant_of-self-2 g c).After-threshold_of-self-inside in
+    let more : c.self.inside.table.capacity ≤ c.grow_to.new.self.capacity = omega (arith, most g at, told.0) in
+    IsConsistent-grown _ _ _ _ _ _ _ _ c.self.invariant c.grow_to.new.self.capacity c.self.inside.factor _ (rw told.0 (cap g at)) c.self.invariant.map.factor
     (IsLoaded-larger c.self.inside.table.capacity c.grow_to.new.self.capacity (length c.self.inside.table.walk) c.self.inside.factor (capacity-positive c.self.inside.table.capacity c.self.invariant.map.capacity) more c.self.invariant.map.load)
-    (rw (capacity g w) c.threshold_of-self-inside.ensures) (walk g w)
+    (rw told.0 c.threshold_of-self-inside.ensures) told.1
 
 pub returns : goal.returns
 returns g c =
-    let at = (goal.at.returns g c).After-max-capacity in let w = (goal.at.returns g c).After-threshold_of-self-inside in
+    let at = (goal.at.returns g c).After-max-capacity in let told = grown g (goal.at.returns g c).After-threshold_of-self-inside in
     let after = (invariant_of-self-2 g c).map in
     rw (← c.self.view_is) record {
       reserved = record {
         enough = record {
-          in_range = (let long = seen g at in let small = c.if-additional-self.false in omega (arith, long, small));
+          in_range = (let long = c.self.invariant.count in let small = c.if-additional-self.false in omega (arith, long, small));
           power = c.next_power_of_two-slots.result;
           least = least g at;
-          capacity = omega (arith, capacity g w, most g at);
+          capacity = omega (arith, told.0, most g at);
         };
-        state = rw (← walk g w) refl;
+        state = rw (← told.1) refl;
       };
       err = tt;
       refused = tt;
-      updates = λ q. value_of-in_slots g.K.IntKey.number_of g.K.IntKey.is_valid _ _ _ q after.capacity (walk g w);
-      len = length-in_slots g.K.IntKey.number_of g.K.IntKey.is_valid _ _ _ after.capacity (walk g w);
+      updates = λ q. value_of-in_slots g.K.IntKey.number_of g.K.IntKey.is_valid _ _ _ q after.capacity told.1;
+      len = length-in_slots g.K.IntKey.number_of g.K.IntKey.is_valid _ _ _ after.capacity told.1;
       valid = c.self.invariant.map;
       valid_after = after;
     }

@@ -1,9 +1,8 @@
-use Rattle.std.proofs.Common.{◌≡◌, length, false, sym, ◌∙◌, arith, refl}
-use Rattle.std.specs.Prelude.{is_err}
+use Rattle.std.proofs.Common.{◌≡◌, length, sym, ◌∙◌, arith, refl}
 use Rattle.intmap_table.specs.Walk.{walk_of}
 use Rattle.intmap.specs.Growth.{IsWanted, NeedsTooMuch}
 use Rattle.intmap.proofs.GrowthLemmas.{IsWanted-unique}
-use Rattle.intmap.proofs.LoadFactorLemmas.{not_too_much, IsLoaded-from}
+use Rattle.intmap.proofs.LoadFactorLemmas.{not_needed, IsLoaded-from}
 use Rattle.intmap_table.proofs.SlotNumberLemmas.{capacity-greatest, capacity-positive}
 use Rattle.intmap.proofs.AfterLemmas.{value_of-in_slots, length-in_slots}
 use Rattle.intmap.proofs.MapLemmas.{IsConsistent-grown, IsOk-at_err}
@@ -36,7 +35,7 @@ returns-then-is_err g c =
       set = tt;
       err = refl;
       refused = record {
-        too_large = (λ e. cc, λ much. absurd (not_too_much _ _ _ c.in-Some.capacity (wanted g at) (capacity-greatest c.in-Some.capacity c.in-Some.ensures.capacity) much));
+        too_large = (λ e. cc, λ much. absurd (not_needed _ (IsWanted-unique _ _ _) c.in-Some.capacity (wanted g at) (capacity-greatest c.in-Some.capacity c.in-Some.ensures.capacity) much));
         memory = λ _ enough. IsOk-at_err c.grow_to.result refused (c.grow_to.ensures.free (IsWanted-unique _ _ _ _ _ enough (wanted g at)));
       };
       updates = λ q. refl;
@@ -45,37 +44,34 @@ returns-then-is_err g c =
       valid_after = c.self.invariant.map;
     }
 
-module _ (g : _) (c : After-threshold_of-self-inside g) where
-  accepted : is_err c.grow_to.result ≡ false
-  accepted = sym c.is_err.ensures.value ∙ c.if-is_err.false
-
-  capacity : c.grow_to.new.self.capacity ≡ c.in-Some.capacity
-  capacity = OnOk-at c.grow_to.result _ accepted c.grow_to.ensures.capacity
-
-  walk : c.grow_to.new.self.walk ≡ walk_of g.K.IntKey.number_of c.self.inside.table.walk c.grow_to.new.self.capacity
-  walk = rw capacity (OnOk-at c.grow_to.result _ accepted c.grow_to.ensures.walk)
+-- the table has as many slots as were asked for, and its pairs are in them
+grown : (g : _) (c : After-threshold_of-self-inside g)
+    → (c.grow_to.new.self.capacity ≡ c.in-Some.capacity) × (c.grow_to.new.self.walk ≡ walk_of g.K.IntKey.number_of c.self.inside.table.walk c.grow_to.new.self.capacity)
+grown g c =
+    let accepted = sym c.is_err.ensures.value ∙ c.if-is_err.false in let capacity = OnOk-at c.grow_to.result _ accepted c.grow_to.ensures.capacity in
+    (capacity, rw capacity (OnOk-at c.grow_to.result _ accepted c.grow_to.ensures.walk))
 
 pub invariant_of-self-2 : goal.invariant_of-self-2
 invariant_of-self-2 g c =
-    let at = (goal.at.invariant_of-self-2 g c).After-is_err in let w = (goal.at.invariant_of-self-2 g c).After-threshold_of-self-inside in
+    let at = (goal.at.invariant_of-self-2 g c).After-is_err in let told = grown g (goal.at.invariant_of-self-2 g c).After-threshold_of-self-inside in
     let cap = c.in-Some.ensures.capacity in
-    IsConsistent-grown _ _ _ _ _ _ _ _ c.self.invariant c.grow_to.new.self.capacity c.args.thousandths _ (rw (capacity g w) cap) (omega arith)
-    (rw (capacity g w) (IsLoaded-from c.in-Some.capacity (length c.self.inside.table.walk) c.args.thousandths (capacity-positive c.in-Some.capacity cap) (wanted g at).meets))
-    (rw (capacity g w) c.threshold_of-self-inside.ensures) (walk g w)
+    IsConsistent-grown _ _ _ _ _ _ _ _ c.self.invariant c.grow_to.new.self.capacity c.args.thousandths _ (rw told.0 cap) (omega arith)
+    (rw told.0 (IsLoaded-from c.in-Some.capacity (length c.self.inside.table.walk) c.args.thousandths (capacity-positive c.in-Some.capacity cap) (wanted g at).meets))
+    (rw told.0 c.threshold_of-self-inside.ensures) told.1
 
 pub returns : goal.returns
 returns g c =
-    let at = (goal.at.returns g c).After-is_err in let w = (goal.at.returns g c).After-threshold_of-self-inside in
+    let at = (goal.at.returns g c).After-is_err in let told = grown g (goal.at.returns g c).After-threshold_of-self-inside in
     let after = (invariant_of-self-2 g c).map in
     rw (← c.self.view_is) record {
       set = record {
-        meets = rw (capacity g w) (record { in_range = capacity-greatest c.in-Some.capacity c.in-Some.ensures.capacity; wanted = wanted g at });
-        state = rw (← walk g w) refl;
+        meets = rw told.0 (record { in_range = capacity-greatest c.in-Some.capacity c.in-Some.ensures.capacity; wanted = wanted g at });
+        state = rw (← told.1) refl;
       };
       err = tt;
       refused = tt;
-      updates = λ q. value_of-in_slots g.K.IntKey.number_of g.K.IntKey.is_valid _ _ _ q after.capacity (walk g w);
-      len = length-in_slots g.K.IntKey.number_of g.K.IntKey.is_valid _ _ _ after.capacity (walk g w);
+      updates = λ q. value_of-in_slots g.K.IntKey.number_of g.K.IntKey.is_valid _ _ _ q after.capacity told.1;
+      len = length-in_slots g.K.IntKey.number_of g.K.IntKey.is_valid _ _ _ after.capacity told.1;
       valid = c.self.invariant.map;
       valid_after = after;
     }
