@@ -1,12 +1,13 @@
 -- What a call at a cursor leaves of a map.
-use Rattle.std.proofs.Common.{◌≡◌, ℕ, ◌+◌, ◌≤◌, Bool, true, false, cond, List, [], ◌∷◌, ◌++◌, Option, None, Some, length, take, drop, append-nil, refl, sym, ap, ◌∙◌, subst, arith}
+use Rattle.std.proofs.Common.{◌≡◌, ℕ, ◌+◌, ◌≤◌, Bool, true, cond, List, [], ◌∷◌, ◌++◌, Option, None, Some, length, take, drop, append-nil, refl, sym, ap, ◌∙◌, subst, arith}
 use Rattle.std.specs.Prelude.{count_by, is_some, MatchOption}
-use Rattle.std.specs.Bool.{MatchBool}
 use Rattle.std.specs.List.Retain.{ExtractsNext}
 use Rattle.std.proofs.lemmas.Bool.Decides.{nat_tests}
 use Rattle.std.proofs.lemmas.List.{length-take-le, take-append-drop}
-use Rattle.std.proofs.lemmas.List.Sums.{sum_by-cons}
-use Rattle.intmap_table.specs.Bindings.{first_value, value_of, HasDistinctKeys, Updates}
+use Rattle.std.proofs.lemmas.List.Sums.{sum_by-append}
+use Rattle.intmap.proofs.CountLemmas.{count_by-cons}
+use Rattle.intmap.proofs.ExtendLemmas.{value_of-append}
+use Rattle.intmap_table.specs.Bindings.{value_of, HasDistinctKeys, Updates}
 use Rattle.intmap_table.specs.Classes.{same_key}
 use Rattle.intmap_table.specs.Picking.{ExtractsBehind}
 use Rattle.intmap_table.proofs.ExtractLemmas.{ExtractsNext-end}
@@ -21,15 +22,9 @@ length-cut R f g L M i j r step = let all = length-ExtractsBehind R f g L M i j 
 module _ {F X : Type 0} (R : F → X → Bool → F → X → Type 0) (always : (f : F) (x : X) (b : Bool) (g : F) (y : X) → R f x b g y → (b ≡ true) × (y ≡ x)) where
   picks_first : (f g : F) (L kept rest : List X) (r : Option X) → ExtractsNext R f L r g kept rest → MatchOption r (L ≡ []) (λ x. L ≡ x ∷ rest) × (kept ≡ [])
   picks_first f g [] kept rest r e = (subst (λ o. MatchOption o (◌≡◌ {A = List X} [] []) (λ x. ◌≡◌ {A = List X} [] (x ∷ rest))) (sym e.0) refl, e.2)
-  picks_first f g (x ∷ L) kept rest r e = either e.0 here.0 e.4
-    where
-      here : (e.0 ≡ true) × (e.2 ≡ x)
-      here = always f x e.0 e.1 e.2 e.3
-
-      either : (b : Bool) → b ≡ true → MatchBool b ((r ≡ Some e.2) × (g ≡ e.1) × (kept ≡ []) × (rest ≡ L)) ((k : List X) × ExtractsNext R e.1 L r g k rest × (kept ≡ e.2 ∷ k))
-          → MatchOption r (x ∷ L ≡ []) (λ z. x ∷ L ≡ z ∷ rest) × (kept ≡ [])
-      either true is m = (subst (λ o. MatchOption o (x ∷ L ≡ []) (λ z. x ∷ L ≡ z ∷ rest)) (sym m.0) (λ i. sym here.1 i ∷ sym m.3 i), m.2)
-      either false is m = absurd (let no : false ≡ true = is in cc)
+  picks_first f g (x ∷ L) kept rest r e =
+      let here = always f x e.0 e.1 e.2 e.3 in let told = rw here.0 at e.4 in
+      (subst (λ o. MatchOption o (x ∷ L ≡ []) (λ z. x ∷ L ≡ z ∷ rest)) (sym told.0) (λ i. sym here.1 i ∷ sym told.3 i), told.2)
 
   module _ (f g : F) (L M : List X) (i j : ℕ) (r : Option X) (step : ExtractsBehind R f L i r g M j) where
     pub cut-first : MatchOption r (drop i L ≡ []) (λ x. drop i L ≡ x ∷ drop j M)
@@ -51,32 +46,16 @@ module _ {F X : Type 0} (R : F → X → Bool → F → X → Type 0) (always : 
   cut-parts f g L M i j (Some x) step =
       (sym (take-append-drop i L) ∙ ap (λ Z. take i L ++ Z) (cut-first f g L M i j (Some x) step), after f g L M i j (Some x) step)
 
-module _ {K V : Type 0} (test : K → Bool) where
-  -- a pair whose key passes is counted
-  count_by-within : (A R : List (K × V)) (p : K × V) → test p.0 ≡ true → 1 ≤ count_by (λ q. test q.0) (A ++ p ∷ R)
-  count_by-within [] R p is = let sum = sum_by-cons (λ (q : K × V). cond (test q.0) 1 0) p R in grind (arith, sum, is)
-  count_by-within (q ∷ A) R p is = let sum = sum_by-cons (λ (q : K × V). cond (test q.0) 1 0) q (A ++ p ∷ R) in let more = count_by-within A R p is in grind (arith, sum, more)
-
-  -- without the pair whose key passes, nothing is found
-  first_value-cut_out : (A R : List (K × V)) (p : K × V) → test p.0 ≡ true → count_by (λ q. test q.0) (A ++ p ∷ R) ≤ 1 → first_value test (A ++ R) ≡ None
-  first_value-cut_out [] R p is once = let sum = sum_by-cons (λ (q : K × V). cond (test q.0) 1 0) p R in let none = first_value-unmatched test R in grind (arith, sum, none, is, once)
-  first_value-cut_out (q ∷ A) R p is once =
-      let sum = sum_by-cons (λ (q : K × V). cond (test q.0) 1 0) q (A ++ p ∷ R) in let counted = count_by-within A R p is in let rest = first_value-cut_out A R p is in grind (arith, sum, counted, rest, once)
-
-  -- without a pair of another key, the same is found
-  first_value-cut_other : (A R : List (K × V)) (p : K × V) → test p.0 ≡ false → first_value test (A ++ R) ≡ first_value test (A ++ p ∷ R)
-  first_value-cut_other [] R p other = simp other
-  first_value-cut_other (q ∷ A) R p other = let rest = first_value-cut_other A R p other in grind (arith, rest)
-
 module _ {K V : Type 0} (number : K → ℕ) where
   -- a pair that is cut out leaves its key without a value, and each other key with its own
   pub Updates-cut : (L M A R : List (K × V)) (p : K × V) → L ≡ A ++ p ∷ R → M ≡ A ++ R → HasDistinctKeys number L → Updates number L M p.0 None
   Updates-cut L M A R p whole less once =
       Updates-from number L M p.0 None (λ q.
-      let gone = λ (here : same_key number q p.0 ≡ true). first_value-cut_out (same_key number q) A R p here (subst (λ N. count_by (λ r. same_key number q r.0) N ≤ 1) whole (once q)) in
-      let other = first_value-cut_other (same_key number q) A R p in
-      let before = ap (λ N. value_of number N q) whole in let after = ap (λ N. value_of number N q) less in
-      grind (arith, nat_tests, gone, other, before, after))
+      let all = subst (λ N. count_by (λ r. same_key number q r.0) N ≤ 1) whole (once q) in
+      let counted = sum_by-append (λ (r : K × V). cond (same_key number q r.0) 1 0) A (p ∷ R) in let here = count_by-cons (λ (r : K × V). same_key number q r.0) p R in
+      let front = first_value-unmatched (same_key number q) A in let behind = first_value-unmatched (same_key number q) R in
+      let before = ap (λ N. value_of number N q) whole ∙ value_of-append number A (p ∷ R) q in let after = ap (λ N. value_of number N q) less ∙ value_of-append number A R q in
+      grind (arith, nat_tests, all, counted, here, front, behind, before, after))
 
   -- so the key of a removed pair is absent, and each other key has its value; if none was removed, the list is the same
   pub Updates-parts : (L M A R : List (K × V)) (r : Option (K × V)) → MatchOption r (M ≡ L) (λ p. (L ≡ A ++ p ∷ R) × (M ≡ A ++ R)) → HasDistinctKeys number L

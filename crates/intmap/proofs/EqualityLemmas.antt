@@ -1,10 +1,10 @@
 -- What the equality of maps is once their lengths are compared.
-use Rattle.std.proofs.Common.{◌≡◌, inl, inr, ℕ, ◌≤◌, Bool, true, false, cond, ◌&&◌, List, [], ◌∷◌, length, get_or, Option, Some, None, refl, sym, ap, ◌∙◌, arith}
+use Rattle.std.proofs.Common.{◌≡◌, inl, inr, ℕ, ◌≤◌, Bool, true, false, cond, ◌&&◌, List, [], ◌∷◌, length, get_or, Option, Some, None, refl, ap, ◌∙◌, arith}
 use Rattle.std.specs.Prelude.{All, IsTrue}
 use Rattle.std.specs.Cmp.{IsPartialEquivalence, first_so, second_so}
 use Rattle.std.specs.List.{list_all}
 use Rattle.std.specs.Option.{option_eq}
-use Rattle.std.proofs.lemmas.Bool.{true≢false, cases_Bool, eq-eqb}
+use Rattle.std.proofs.lemmas.Bool.{cases_Bool, eq-eqb}
 use Rattle.std.proofs.lemmas.Grind.{common_steps}
 use Rattle.std.proofs.lemmas.List.Elements.{All-nil, All-cons, All-head, All-tail}
 use Rattle.std.proofs.lemmas.Bool.Decides.{nat_tests}
@@ -70,16 +70,6 @@ module _ {K V : Type 0} (number : K → ℕ) where
       All-cons (λ q. value_of number (p ∷ L) q.0 ≡ Some q.1) p L (value_of-first p L)
       (λ i d below. let found = rest i d below in let none = value_of-rest p L once (get_or L i d).0 in grind (arith, found, none))
 
--- what a test implies adds nothing to it
-and-implied : (a b : Bool) → (a ≡ true → b ≡ true) → (a && b) ≡ a
-and-implied true b implies = implies refl
-and-implied false b implies = refl
-
--- an option that is equal to none is none
-option_eq-missing : {V : Type 0} (equal : V → V → Bool) (o : Option V) → option_eq equal o None ≡ true → o ≡ None
-option_eq-missing equal None same = refl
-option_eq-missing equal (Some v) same = absurd (true≢false (sym same))
-
 module _ {K V : Type 0} (number : K → ℕ) (equal : V → V → Bool) where
   -- each pair of P is found in M, with an equal value
   abbrev pub are_found : List (K × V) → List (K × V) → Bool
@@ -95,11 +85,7 @@ module _ {K V : Type 0} (number : K → ℕ) (equal : V → V → Bool) where
 
   -- keys that have equal values are present
   KeysWithin-alike : (L M : List (K × V)) → are_present_alike number equal L M ≡ true → KeysWithin number L M
-  KeysWithin-alike L M all q none =
-      elim (unbound-or_alike number equal L M q all) [
-        | inl unbound ↦ unbound
-        | inr alike ↦ option_eq-missing equal (value_of number L q) (ap (option_eq equal (value_of number L q)) (sym none) ∙ alike)
-      ]
+  KeysWithin-alike L M all q none = let either = unbound-or_alike number equal L M q all in grind (arith, either, none)
 
   -- if each key of L has equal values in M, which is as long, each key of M is in L
   are_present_alike-turned : IsPartialEquivalence equal → (L M : List (K × V)) → HasDistinctKeys number L → HasDistinctKeys number M → length L ≡ length M
@@ -116,8 +102,8 @@ module _ {K V : Type 0} (number : K → ℕ) (equal : V → V → Bool) where
   pub maps_equal-same_length : IsPartialEquivalence equal → (m n : MapState K V) → HasDistinctKeys number m.walk → HasDistinctKeys number n.walk → length m.walk ≡ length n.walk
       → maps_equal number equal m n ≡ are_found m.walk n.walk
   maps_equal-same_length values m n once distinct same =
-      and-implied (are_present_alike number equal m.walk n.walk) (are_present_alike number equal n.walk m.walk) (are_present_alike-turned values m.walk n.walk once distinct same)
-      ∙ are_present_alike-part m.walk n.walk m.walk (All-found number m.walk once)
+      let turned = are_present_alike-turned values m.walk n.walk once distinct same in
+      let found = are_present_alike-part m.walk n.walk m.walk (All-found number m.walk once) in grind (arith, turned, found)
 
   -- equal maps are as long
   pub length-maps_equal : (m n : MapState K V) → HasDistinctKeys number m.walk → HasDistinctKeys number n.walk → IsTrue (maps_equal number equal m n) → length m.walk ≡ length n.walk

@@ -1,5 +1,5 @@
 -- What a test of key and value keeps of a list, seen through the walk of the list.
-use Rattle.std.proofs.Common.{◌≡◌, ℕ, ◌+◌, Bool, List, [], ◌∷◌, ◌++◌, refl, sym, ap, ◌∙◌}
+use Rattle.std.proofs.Common.{◌≡◌, ℕ, ◌+◌, Bool, List, [], ◌∷◌, ◌++◌, refl, sym, ap, ◌∙◌, arith}
 use Rattle.std.specs.Prelude.{◌==◌, filter}
 use Rattle.std.specs.List.{flat_map, range_with_len}
 use Rattle.std.proofs.lemmas.List.Elements.{filter-append}
@@ -9,7 +9,11 @@ use Rattle.intmap_table.specs.Retaining.{Retains}
 use Rattle.intmap_table.proofs.RetainLemmas.{Retains-filter}
 use Rattle.intmap_table.specs.Walk.{slot_of, walk_of, StandsFor}
 use Rattle.intmap_table.proofs.ClassLemmas.{flat_map-same}
-use Rattle.intmap.proofs.RewrittenLemmas.{filter-filter}
+
+-- two filters, in either order
+filter-filter : {X : Type 0} (keep test : X → Bool) (xs : List X) → filter test (filter keep xs) ≡ filter keep (filter test xs)
+filter-filter keep test [] = refl
+filter-filter keep test (x ∷ xs) = let rest = filter-filter keep test xs in grind (arith, rest)
 
 -- what a test keeps of parts that are joined
 filter-flat_map : {X : Type 0} (test : X → Bool) (g : ℕ → List X) (ns : List ℕ) → filter test (flat_map g ns) ≡ flat_map (λ n. filter test (g n)) ns

@@ -1,10 +1,9 @@
 -- The sum over all values, each by a weight, of lists that give each key its value: the order of the pairs doesn't matter.
-use Rattle.std.proofs.Common.{◌≡◌, inl, inr, ℕ, ◌+◌, ◌≤◌, false, List, [], ◌∷◌, Option, Some, None, refl, sym, ◌∙◌, arith}
-use Rattle.std.specs.Prelude.{◌==◌, cond, is_none, sum_by, option_map, unwrap_or}
+use Rattle.std.proofs.Common.{◌≡◌, ℕ, ◌+◌, ◌≤◌, List, [], ◌∷◌, Option, Some, None, refl, sym, ◌∙◌, arith}
+use Rattle.std.specs.Prelude.{cond, is_none, sum_by, option_map, unwrap_or}
 use Rattle.std.specs.Map.{values_of}
-use Rattle.std.proofs.lemmas.Bool.{cases_Bool, eqb-true, eq-eqb, ne_eqb}
+use Rattle.std.proofs.lemmas.Bool.Decides.{nat_tests}
 use Rattle.std.proofs.lemmas.List.Sums.{sum_by-cons}
-use Rattle.intmap_table.specs.Classes.{same_key}
 use Rattle.intmap_table.specs.Bindings.{value_of, HasDistinctKeys, Updates, take_key, put_pair}
 use Rattle.intmap_table.proofs.BindingLemmas.{value_of-take_key, value_of-put_pair}
 use Rattle.intmap_table.proofs.DistinctLemmas.{HasDistinctKeys-take_key, HasDistinctKeys-put_pair}
@@ -18,21 +17,12 @@ sum-new_alone None s t v e = omega (arith, e)
 sum-new_alone (Some w) s t v e = omega (arith, e)
 
 module _ {K V : Type 0} (number : K → ℕ) where
-  -- a first pair of another key changes nothing
-  value_of-other_first : (p : K × V) (L : List (K × V)) (q : K) → same_key number p.0 q ≡ false → value_of number (p ∷ L) q ≡ value_of number L q
-  value_of-other_first p L q apart =
-      let other : (number p.0 == number q) ≡ false = ne_eqb (number p.0) (number q) (λ g. let same = eq-eqb (number q) (number p.0) (sym g) in cc) in
-      simp other
-
   -- two lists with the same values still have them once the first pair's key is removed from both
   value_of-rests : (p : K × V) (L M : List (K × V)) → HasDistinctKeys number (p ∷ L) → HasDistinctKeys number M
       → ((q : K) → value_of number M q ≡ value_of number (p ∷ L) q) → (q : K) → value_of number (take_key number M 2 p.0) q ≡ value_of number L q
   value_of-rests p L M once distinct same q =
-      let taken = value_of-take_key number M 2 p.0 q distinct in
-      elim (cases_Bool (same_key number p.0 q)) [
-        | inl here ↦ ((rw here at taken) ∙ sym (value_of-rest number p L once q (eq-eqb (number p.0) (number q) (sym (eqb-true (number q) (number p.0) here)))))
-        | inr apart ↦ ((rw apart at taken) ∙ same q ∙ value_of-other_first p L q apart)
-      ]
+      let taken = value_of-take_key number M 2 p.0 q distinct in let gone = value_of-rest number p L once q in let both = same q in
+      grind (arith, nat_tests, taken, gone, both)
 
   module _ (f : V → ℕ) where
     -- a list without any key weighs nothing

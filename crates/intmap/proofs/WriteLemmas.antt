@@ -1,5 +1,5 @@
 -- What a write of a value leaves of a map: its walk stays that of a map, and each other key keeps its value.
-use Rattle.std.proofs.Common.{◌≡◌, ℕ, Bool, true, false, cond, List, [], ◌∷◌, length, Option, Some, None, IsSome, refl, sym, ap, arith}
+use Rattle.std.proofs.Common.{◌≡◌, ℕ, Bool, true, false, cond, List, [], ◌∷◌, length, Option, Some, None, IsSome, refl, sym, arith}
 use Rattle.std.specs.Map.{keys_of}
 use Rattle.std.specs.Prelude.{option_map}
 use Rattle.std.proofs.lemmas.List.{length-map}
@@ -24,9 +24,7 @@ module _ {K V : Type 0} (number : K → ℕ) where
   -- a write keeps the keys
   keys_of-write_value : (L : List (K × V)) (k : K) (v : V) → keys_of (write_value number L k v) ≡ keys_of L
   keys_of-write_value [] k v = refl
-  keys_of-write_value (p ∷ L) k v =
-      let rest = keys_of-write_value L k v in
-      elim (same_key number k p.0) as (λ b. (cond b (p.0, v) p).0 ∷ keys_of (write_value number L k v) ≡ p.0 ∷ keys_of L) [ true ↦ ap (λ ks. p.0 ∷ ks) rest | false ↦ ap (λ ks. p.0 ∷ ks) rest ]
+  keys_of-write_value (p ∷ L) k v = let rest = keys_of-write_value L k v in grind (arith, rest)
 
   -- the walk of a map stays one
   pub IsMapWalk-written : (is_valid : K → Type 0) (W : List (K × V)) (C F : ℕ) (k : K) (v : V) → IsMapWalk number is_valid W C F → IsMapWalk number is_valid (write_value number W k v) C F

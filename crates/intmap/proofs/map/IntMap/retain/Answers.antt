@@ -1,4 +1,3 @@
-use Rattle.std.proofs.Common.{length, refl}
 use Rattle.intmap_table.specs.Retaining.{KeepsAt}
 use Rattle.intmap_table.proofs.RetainLemmas.{length-Retains}
 use Rattle.intmap.proofs.AnsweringLemmas.{Retains-tested, value_of-answered_key, value_of-answered_pair}
@@ -30,7 +29,4 @@ pub returns-clause-len : goal.returns-clause-len
 returns-clause-len g c = rw (← c.self.view_is) (length-Retains (KeepsAt g.F.FnMut) _ _ _ _ c.retain-self-inside.ensures.pairs)
 
 pub returns-clause-valid_after : goal.returns-clause-valid_after
-returns-clause-valid_after g c =
-    let kept = c.retain-self-inside.ensures in
-    (IsConsistent-Retains g.K.IntKey.number_of g.K.IntKey.is_valid (KeepsAt g.F.FnMut) c.args.f c.retain-self-inside.new.f c.self.inside.table.walk c.retain-self-inside.new.self.walk _ _ _ _ (length c.retain-self-inside.new.self.walk) _
-    kept.pairs kept.capacity kept.own refl c.self.invariant).map
+returns-clause-valid_after g c = (invariant_of-self g c).map
