@@ -1,5 +1,5 @@
 -- What insertions in turn leave, one pair after another.
-use Rattle.std.proofs.Common.{◌≡◌, inl, inr, ℕ, ◌+◌, ◌≤◌, cond, Bool, true, false, List, [], ◌∷◌, ◌++◌, length, reverse, is_some, Option, Some, None, refl, sym, ap, subst, ◌∙◌, add-zero, arith}
+use Rattle.std.proofs.Common.{◌≡◌, inl, inr, ℕ, ◌+◌, ◌≤◌, cond, List, [], ◌∷◌, ◌++◌, length, reverse, is_some, Option, Some, None, refl, sym, ap, subst, ◌∙◌, add-zero, arith}
 use Rattle.std.specs.Prelude.{◌↔◌, ◌⊎◌, ◌<◌, ◌^◌, Result, Ok, Err, IsErrAnd, MatchResult}
 use Rattle.std.specs.Iterator.{Yields, YieldsThen}
 use Rattle.std.specs.Option.{option_or}
@@ -41,12 +41,7 @@ module _ {K V : Type 0} (number : K → ℕ) where
   -- no more keys are new than there are pairs
   pub length-new_keys : (L ps : List (K × V)) → length (new_keys number L ps) ≤ length ps
   length-new_keys L [] = omega arith
-  length-new_keys L (p ∷ ps) = by_case (is_some (value_of number L p.0)) refl (length-new_keys L ps) (length-new_keys (p ∷ L) ps)
-    where
-      by_case : (b : Bool) → is_some (value_of number L p.0) ≡ b → length (new_keys number L ps) ≤ length ps → length (new_keys number (p ∷ L) ps) ≤ length ps
-          → length (new_keys number L (p ∷ ps)) ≤ length (p ∷ ps)
-      by_case true is rest more = rw is (omega (arith, rest))
-      by_case false is rest more = rw is (omega (arith, more))
+  length-new_keys L (p ∷ ps) = let rest = length-new_keys L ps in let more = length-new_keys (p ∷ L) ps in grind (arith, rest, more)
 
 module _ {K V : Type 0} (number : K → ℕ) (is_valid : K → Type 0) where
   -- one accepted insertion more
@@ -86,7 +81,7 @@ option_or-none None = refl
 option_or-none (Some t) = refl
 
 -- a result that fails with a cause that meets R fails with one that meets what follows of R
-pub MatchResult-refused : {T : Type 0} (r : Result T Cause) (R P : Cause → Type 0) (Q : T → Type 0) → IsErrAnd r R → ((cause : Cause) → R cause → P cause) → MatchResult r Q P
+pub MatchResult-refused : {T E : Type 0} (r : Result T E) (R P : E → Type 0) (Q : T → Type 0) → IsErrAnd r R → ((cause : E) → R cause → P cause) → MatchResult r Q P
 MatchResult-refused (Ok t) R P Q refused follows = absurd refused
 MatchResult-refused (Err cause) R P Q refused follows = follows cause refused
 

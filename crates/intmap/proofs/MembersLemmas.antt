@@ -1,6 +1,6 @@
 -- The members of objects beside pairs of numbers and values.
-use Rattle.std.proofs.Common.{◌≡◌, ◌≢◌, inl, inr, ℕ, suc, ◌^◌, ◌<◌, ◌≤◌, true, List, ◌∷◌, [], length, reverse, is_some, Option, Some, None, option_map, Ordering, Less, Equal, Greater, string_bytes, string_cmp, nat_cmp, refl, ap, sym, ◌∙◌, subst, arith}
-use Rattle.std.specs.Prelude.{◌↔◌, ⊤, Result, Ok, Err, IsErrAnd, IfErr, IsSomeAnd}
+use Rattle.std.proofs.Common.{◌≡◌, ◌≢◌, inl, inr, ℕ, suc, ◌^◌, ◌<◌, ◌≤◌, true, List, ◌∷◌, [], length, reverse, is_some, Option, Some, None, option_map, Less, Equal, Greater, string_bytes, string_cmp, nat_cmp, refl, ap, sym, ◌∙◌, subst, arith}
+use Rattle.std.specs.Prelude.{◌↔◌, ⊤, Result, Ok, IsSomeAnd}
 use Rattle.std.specs.Fmt.{decimal}
 use Rattle.std.specs.Cmp.Lexicographic.{slice_cmp}
 use Rattle.std.specs.List.{AllByRecursion}
@@ -52,13 +52,13 @@ AreApart-distinct (p ∷ L) distinct =
 -- a member more, at the text of a number
 pub HasKeyTexts-put : (ms : Members) (k : ℕ) (d : Data) → k < 2 ^ 64 → HasKeyTexts ms → HasKeyTexts (put (decimal k) d ms)
 HasKeyTexts-put no_members k d small texts = ((k, (refl, small)), tt)
-HasKeyTexts-put (member text e ms) k d small texts = by_case (slice_cmp nat_cmp (decimal k) text) (HasKeyTexts-put ms k d small texts.1)
-  where
-    by_case : (o : Ordering) → HasKeyTexts (put (decimal k) d ms)
-        → HasKeyTexts (match_ordering o (member (decimal k) d (member text e ms)) (member text d ms) (member text e (put (decimal k) d ms)))
-    by_case Less rest = ((k, (refl, small)), texts)
-    by_case Equal rest = texts
-    by_case Greater rest = (texts.0, rest)
+HasKeyTexts-put (member text e ms) k d small texts =
+    elim (slice_cmp nat_cmp (decimal k) text) as
+    (λ o. HasKeyTexts (match_ordering o (member (decimal k) d (member text e ms)) (member text d ms) (member text e (put (decimal k) d ms)))) [
+      | Less ↦ ((k, (refl, small)), texts)
+      | Equal ↦ texts
+      | Greater ↦ (texts.0, HasKeyTexts-put ms k d small texts.1)
+    ]
 
 -- at each number, the tree is that of the pairs that are left, or else of the member that is there
 abbrev pub AreShownWith : Pairs → Members → Pairs → Type 0
@@ -79,39 +79,35 @@ AreShownWith-put rest L ms k v small apart shown q below =
 -- there are as many pairs as members
 pub length-ArePairsOf : (ms : Members) (ps : Pairs) → ArePairsOf ms ps → length ps ≡ members_len ms
 length-ArePairsOf no_members [] are = refl
-length-ArePairsOf no_members (p ∷ ps) are = absurd are
-length-ArePairsOf (member text d ms) [] are = absurd are
 length-ArePairsOf (member text d ms) (p ∷ ps) are = ap suc (length-ArePairsOf ms ps are.2)
+length-ArePairsOf ms ps are = absurd are
 
 -- the member at the text of a number is the tree of its value in the pairs
 pub get_member-ArePairsOf : (es : List Entry) (ps : Pairs) (q : ℕ) → q < 2 ^ 64 → ArePairsOf (members_view es) ps → get_member (decimal q) (members_view es) ≡ tree_of ps q
 get_member-ArePairsOf [] [] q small are = refl
-get_member-ArePairsOf [] (p ∷ ps) q small are = absurd are
-get_member-ArePairsOf (e ∷ es) [] q small are = absurd are
 get_member-ArePairsOf (e ∷ es) (p ∷ ps) q small are =
     let rest = get_member-ArePairsOf es ps q small are.2 in let text = are.0.0 in let value = are.1 in
     let here = member_here (decimal q) e es in
     let other = λ (away : p.0 ≢ q). member_later (decimal q) e es (λ same. away (decimal_injective p.0 q are.0.1 small (sym (same ∙ text)))) in
     grind (arith, nat_tests, rest, text, value, here, other)
+get_member-ArePairsOf es ps q small are = absurd are
 
 -- what comes behind a text that is below all others isn't at its number
 value_at-below : (text : List ℕ) (es : List Entry) (ps : Pairs) (k : ℕ) → IsKeyText text k → AllByRecursion (λ y. slice_cmp nat_cmp text (string_bytes y) ≡ Less) (keys_of es)
     → ArePairsOf (members_view es) ps → value_at ps k ≡ None
 value_at-below text [] [] k is below are = refl
-value_at-below text [] (p ∷ ps) k is below are = absurd are
-value_at-below text (e ∷ es) [] k is below are = absurd are
 value_at-below text (e ∷ es) (p ∷ ps) k is below are =
     let rest = value_at-below text es ps k is below.1 are.2 in let here = are.0.0 in let own = is.0 in let less = below.0 in
     let tied = tied_itself nat_list_cmp_total text in
     grind (arith, nat_tests, rest, here, own, less, tied)
+value_at-below text es ps k is below are = absurd are
 
 -- the pairs of the members of a `Map` are apart
 pub AreApart-sorted : (es : List Entry) (ps : Pairs) → IsStrictlySortedBy string_cmp (keys_of es) → ArePairsOf (members_view es) ps → AreApart ps
 unfolding IsStrictlySortedBy
 AreApart-sorted [] [] sorted are = tt
-AreApart-sorted [] (p ∷ ps) sorted are = absurd are
-AreApart-sorted (e ∷ es) [] sorted are = absurd are
 AreApart-sorted (e ∷ es) (p ∷ ps) sorted are = (value_at-below (string_bytes e.0) es ps p.0 are.0 sorted.0 are.2, AreApart-sorted es ps sorted.1 are.2)
+AreApart-sorted es ps sorted are = absurd are
 
 -- a pair whose key is absent in others may be behind them
 value_at-behind : (p : ℕ × Value) (ps : Pairs) (q : ℕ) → value_at ps p.0 ≡ None → option_or (value_at ps q) (value_at (p ∷ []) q) ≡ value_at (p ∷ ps) q
@@ -160,11 +156,6 @@ pub pairs_of : (es : List Entry) → HasKeyTexts (members_view es) → (ps : Pai
 pairs_of [] texts = ([], tt)
 pairs_of (e ∷ es) texts =
     let rest = pairs_of es texts.1 in ((texts.0.0, e.1) ∷ rest.0, (texts.0.1, refl, rest.1))
-
--- a result that fails with a cause that meets R fails with one that meets what follows of R
-pub IfErr-refused : {T E : Type 0} (r : Result T E) (R P : E → Type 0) → IsErrAnd r R → ((cause : E) → R cause → P cause) → IfErr r P
-IfErr-refused (Ok t) R P refused follows = absurd refused
-IfErr-refused (Err cause) R P refused follows = follows cause refused
 
 -- a map of so many slots that could not be made
 pub MayRefuseToRead-slots : {T : Type 0} (ms : Members) (cause : Cause) (b : ℕ) → b ≡ members_len ms → (refusal_of T cause ≡ refusal_of T TooLarge) ↔ (2 ^ 63 < b)

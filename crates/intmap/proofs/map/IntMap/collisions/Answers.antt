@@ -1,11 +1,11 @@
 use Rattle.std.proofs.Common.{◌≡◌, ◌^◌, ◌<◌, ◌≤◌, length, refl, ◌∙◌, subst, arith}
-use Rattle.std.specs.Prelude.{Result, Ok, Err, IsErrAnd, IfErr}
 use Rattle.std.proofs.lemmas.Bool.{lt-ltb, le-ltb}
 use Rattle.intmap.specs.Extending.{IsTally}
 use Rattle.intmap_table.specs.Walk.{slot_of, walk_of}
 use Rattle.intmap.specs.declared.refusal.Cause.{Cause}
 use Rattle.intmap.specs.declared.refusal.Cause.TheVariants.{Memory, TooLarge}
 use Rattle.intmap.proofs.CollisionLemmas.{collision_sizes_below, collision_sizes_below-crowded, collision_sizes_below-alone, count-below, size-in_range}
+use Rattle.intmap.proofs.ExtendLemmas.{MatchResult-refused}
 use Rattle.intmap_table.proofs.SlotNumberLemmas.{capacity-greatest}
 use Rattle.intmap.proofs.map.IntMap.collisions.Goals as goal
 use Rattle.intmap.proofs.map.IntMap.collisions.Goals.{After-loop-slot, After-slot_len-size, then-size-gt1+in_ok-count_once_more, else-size-gt1}
@@ -14,10 +14,6 @@ use Rattle.intmap.proofs.map.IntMap.collisions.Goals.{After-loop-slot, After-slo
 memory-otherwise : (cause : Cause) → (cause ≡ TooLarge → ⊥) → cause ≡ Memory
 memory-otherwise Memory not = refl
 memory-otherwise TooLarge not = absurd (not refl)
-
-refused-with : {T : Type 0} (r : Result T Cause) (cause : Cause) → IsErrAnd r (λ to. to ≡ cause) → cause ≡ Memory → IfErr r (λ to. to ≡ Memory)
-refused-with (Ok made) cause same memory = absurd same
-refused-with (Err to) cause same memory = same ∙ memory
 
 module _ (g : _) (c : After-slot_len-size g) where
   -- the size of the slot, as the map shows it
@@ -42,7 +38,7 @@ slot_len-size-requires g c =
     record { within = omega (arith, test, end); fits = omega (arith, few) }
 
 pub returns-in_err-sizes-clause-memory : goal.returns-in_err-sizes-clause-memory
-returns-in_err-sizes-clause-memory g c = refused-with c.from_residual.result c.in_err-sizes.field-0.0 c.from_residual.ensures.1 c.in_err-sizes.ensures.memory
+returns-in_err-sizes-clause-memory g c = MatchResult-refused c.from_residual.result _ _ _ c.from_residual.ensures.1 (λ to is. is ∙ c.in_err-sizes.ensures.memory)
 
 pub returns-in_err-sizes-clause-valid : goal.returns-in_err-sizes-clause-valid
 returns-in_err-sizes-clause-valid g c = rw (← c.self.view_is) c.self.invariant.map
@@ -61,9 +57,8 @@ returns-in_err-count_once_more-clause-memory g c =
     let several = rw (size g at) at (lt-ltb 1 c.slot_len-size.result c.if-size-gt1.true) in
     let in_range = size-in_range (slot_of g.K.IntKey.number_of c.args.self.now.walk c.args.self.now.capacity) c.args.self.now.capacity c.loop-slot.slot (within g at)
     c.loop-slot.sizes c.loop-slot.invariant.tally (fits g at) c.loop-slot.invariant.map several in
-    refused-with c.from_residual-in_err-count_once_more.result c.in_err-count_once_more.field-0.0 c.from_residual-in_err-count_once_more.ensures.1
-    (memory-otherwise c.in_err-count_once_more.field-0.0 (λ large.
-    in_range (rw (size g at) at (c.in_err-count_once_more.ensures.too_large large))))
+    MatchResult-refused c.from_residual-in_err-count_once_more.result _ _ _ c.from_residual-in_err-count_once_more.ensures.1
+    (λ to is. is ∙ memory-otherwise c.in_err-count_once_more.field-0.0 (λ large. in_range (rw (size g at) at (c.in_err-count_once_more.ensures.too_large large))))
 
 pub returns-in_err-count_once_more-clause-valid : goal.returns-in_err-count_once_more-clause-valid
 returns-in_err-count_once_more-clause-valid g c = rw (← c.self.view_is) c.self.invariant.map

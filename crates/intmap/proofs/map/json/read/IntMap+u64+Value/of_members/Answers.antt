@@ -7,15 +7,15 @@ use Rattle.intmap.specs.Extending.{IsExtended}
 use Rattle.intmap.specs.Growth.{IsLeastPower}
 use Rattle.intmap.specs.Json.{IsKeyText, HasKeyTexts, ArePairsOf, AreCollected, MayRefuseToRead}
 use Rattle.intmap.specs.Map.{empty_map}
-use Rattle.intmap.proofs.ExtendLemmas.{IsExtended-nil, IsExtended-push}
-use Rattle.intmap.proofs.MembersLemmas.{AreApart-sorted, length-collected, ShowsBindings-collected, pairs_of, IfErr-refused, MayRefuseToRead-slots, MayRefuseToRead-insertion, slots-within}
+use Rattle.intmap.proofs.ExtendLemmas.{IsExtended-nil, IsExtended-push, MatchResult-refused}
+use Rattle.intmap.proofs.MembersLemmas.{AreApart-sorted, length-collected, ShowsBindings-collected, pairs_of, MayRefuseToRead-slots, MayRefuseToRead-insertion, slots-within}
 use Rattle.intmap.proofs.map.json.read.IntMap+u64+Value.of_members.Goals as goal
 
 pub returns-in_err-map-clause-refused : goal.returns-in_err-map-clause-refused
 returns-in_err-map-clause-refused c =
     let count = c.len.ensures.len ∙ sym (members_len-members_view c.args.members.now.entries) in
     let ms = members_view c.args.members.now.entries in
-    IfErr-refused c.from_residual.result _ _ c.from_residual.ensures.1
+    MatchResult-refused c.from_residual.result _ _ _ c.from_residual.ensures.1
     (λ cause is. subst (MayRefuseToRead ms) (sym is) (MayRefuseToRead-slots ms c.in_err-map.field-0.0 c.len.result count c.in_err-map.ensures.too_large))
 
 pub loop-text-init : goal.loop-text-init
@@ -36,7 +36,7 @@ pub returns-in_err-clone-clause-refused : goal.returns-in_err-clone-clause-refus
 returns-in_err-clone-clause-refused c =
     let count = c.len.ensures.len ∙ sym (members_len-members_view c.args.members.now.entries) in
     let within = subst (λ n. n ≤ 2 ^ 63) count (slots-within c.in_ok-map.map c.len.result c.in_ok-map.ensures.too_large) in
-    IfErr-refused c.from_residual-in_err-clone.result _ _ c.from_residual-in_err-clone.ensures.1 (λ cause is. inr (is, within))
+    MatchResult-refused c.from_residual-in_err-clone.result _ _ _ c.from_residual-in_err-clone.ensures.1 (λ cause is. inr (is, within))
 
 pub returns-in_err-insert-clause-refused : goal.returns-in_err-insert-clause-refused
 returns-in_err-insert-clause-refused c =
@@ -55,7 +55,7 @@ returns-in_err-insert-clause-refused c =
     let here = subst (λ es. ArePairsOf (members_view es) ((k, v) ∷ rest.0)) (sym first) (text, c.in_ok-clone.ensures.cases, rest.1) in
     let collected : AreCollected _ kept.pairs c.loop-text.map =
     record { slots = slots; power = subst (λ n. IsLeastPower (max n 2) slots) count c.in_ok-map.ensures.capacity; extended = kept.extended } in
-    IfErr-refused c.from_residual-in_err-insert.result _ _ c.from_residual-in_err-insert.ensures.1
+    MatchResult-refused c.from_residual-in_err-insert.result _ _ _ c.from_residual-in_err-insert.ensures.1
     (λ cause is. subst (MayRefuseToRead ms) (sym is)
     (MayRefuseToRead-insertion ms c.in_err-insert.field-0.0.cause
     (λ large. record {
