@@ -6,7 +6,6 @@ use Rattle.intmap_table.specs.Classes.{same_key}
 use Rattle.intmap_table.specs.HandingOver.{HandsOver}
 use Rattle.intmap.specs.Map.{MapState, IsMap, with_pair, without_key}
 use Rattle.intmap.proofs.AfterLemmas.{Updates-put, Updates-taken, length-put, length-taken}
-use Rattle.intmap.proofs.MapLemmas.{one_less}
 
 module _ {K V R : Type 0} (number : K → ℕ) (is_valid : K → Type 0) (post : Result R V → Type 0) (m n : MapState K V) (k : K) where
   -- the map is without the key, or has its pair with the value that the closure returned
@@ -31,7 +30,4 @@ module _ {K V R : Type 0} (number : K → ℕ) (is_valid : K → Type 0) (post :
   length-left None v is_map bound left =
       let len = length-put number is_valid m n.walk m.capacity k left.0 is_map.capacity (ap (λ s. s.walk) left.2) in
       grind (arith, len, bound)
-  length-left (Some r) v is_map bound left =
-      let len = length-taken number is_valid m n.walk k is_map (ap (λ s. s.walk) left.1) in
-      let one = one_less (value_of number m.walk k) v bound in
-      omega (arith, len, one)
+  length-left (Some r) v is_map bound left = rw bound at (length-taken number is_valid m n.walk k is_map (ap (λ s. s.walk) left.1))

@@ -1,13 +1,13 @@
 -- Maps that insertions in turn made: with one pair more, and with a value written.
-use Rattle.std.proofs.Common.{◌≡◌, ℕ, ◌+◌, Bool, true, false, cond, List, [], ◌∷◌, ◌++◌, length, map, option_map, Option, Some, None, refl, sym, ap, ◌∙◌, subst, lit≤, lit<, arith}
-use Rattle.std.specs.Prelude.{is_some, IsNone, MatchOption}
+use Rattle.std.proofs.Common.{◌≡◌, ℕ, ◌+◌, Bool, true, false, cond, List, [], ◌∷◌, ◌++◌, length, map, Option, Some, None, refl, sym, ap, ◌∙◌, subst, lit≤, lit<, arith}
+use Rattle.std.specs.Prelude.{is_some, MatchOption}
 use Rattle.std.proofs.lemmas.List.{map-append}
 use Rattle.intmap_table.specs.Bindings.{value_of, take_key, put_pair, write_value, swap_out}
 use Rattle.intmap_table.specs.Classes.{same_key, agrees}
 use Rattle.intmap.specs.Extending.{MapInsertsAll, IsMadeOf}
 use Rattle.intmap.specs.Growth.{IsNext}
 use Rattle.intmap.specs.Insertions.{IsInsertion, MapInserts}
-use Rattle.intmap.specs.Map.{MapState, IsMap, empty_map, after_insert, written}
+use Rattle.intmap.specs.Map.{MapState, IsMap, empty_map, after_insert}
 use Rattle.intmap_table.specs.Walk.{walk_of}
 use Rattle.intmap.proofs.ExtendLemmas.{MapInsertsAll-push}
 use Rattle.intmap.proofs.InsertionLemmas.{IsInsertion-put}
@@ -46,28 +46,15 @@ module _ {K V : Type 0} (number : K → ℕ) (k : K) (v : V) where
 
   -- the same keys are present
   is_some-write_value : (L : List (K × V)) (q : K) → is_some (value_of number (write_value number L k v) q) ≡ is_some (value_of number L q)
-  is_some-write_value L q = ap is_some (value_of-write_value number L k q v) ∙ by_case (same_key number k q) (value_of number L q)
-    where
-      by_case : (b : Bool) (o : Option V) → is_some (cond b (option_map (λ _. v) o) o) ≡ is_some o
-      by_case true None = refl
-      by_case true (Some w) = refl
-      by_case false o = refl
+  is_some-write_value L q = let at = value_of-write_value number L k q v in grind (arith, at)
 
 -- what asks only whether there is a value
 MatchOption-alike : {V : Type 0} (o p : Option V) (P Q : Type 0) → is_some p ≡ is_some o → MatchOption o P (λ _. Q) → MatchOption p P (λ _. Q)
 MatchOption-alike None None P Q same holds = holds
-MatchOption-alike None (Some w) P Q same holds = let no : true ≡ false = same in cc
-MatchOption-alike (Some v) None P Q same holds = let no : false ≡ true = same in cc
 MatchOption-alike (Some v) (Some w) P Q same holds = holds
-
-IsNone-alike : {V : Type 0} (o p : Option V) → is_some p ≡ is_some o → IsNone p → IsNone o
-IsNone-alike o p same none = grind (arith, same, none)
+MatchOption-alike o p P Q same holds = let no : is_some p ≡ is_some o = same in cc
 
 module _ {K V : Type 0} (number : K → ℕ) (is_valid : K → Type 0) where
-  -- maps with one walk, one capacity and one load factor are maps alike
-  IsMap-alike : (m n : MapState K V) → n.walk ≡ m.walk → n.capacity ≡ m.capacity → n.factor ≡ m.factor → IsMap number is_valid m → IsMap number is_valid n
-  IsMap-alike m n walk capacity factor is = rw (walk, capacity, factor) is
-
   module _ (k : K) (v : V) where
     -- the map m with v written as the value of k, whatever its counts are
     record IsWrittenTo (m n : MapState K V) : Type 0 where
@@ -77,7 +64,7 @@ module _ {K V : Type 0} (number : K → ℕ) (is_valid : K → Type 0) where
 
     -- it is a map too
     IsMap-written : (m n : MapState K V) → IsMap number is_valid m → IsWrittenTo m n → IsMap number is_valid n
-    IsMap-written m n old is = IsMap-alike (written number m k v) n is.walk is.capacity is.factor (IsMapWalk-written number is_valid m.walk m.capacity m.factor k v old)
+    IsMap-written m n old is = rw (is.walk, is.capacity, is.factor) (IsMapWalk-written number is_valid m.walk m.capacity m.factor k v old)
 
     -- what insertions leave of it, if they insert the same pairs with the value written
     MapInsertsAll-written : (ps : List (K × V)) (m l n : MapState K V) → IsMap number is_valid m → IsWrittenTo m n → MapInsertsAll number is_valid m ps l
@@ -99,7 +86,7 @@ module _ {K V : Type 0} (number : K → ℕ) (is_valid : K → Type 0) where
         let factor : i.factor ≡ j.factor = is.factor ∙ sym (ap (λ x. x.factor) one.state) in
         let inserted : MapInserts number is_valid n p.0 w i = record {
           inserted = IsInsertion-put number is_valid n i p.0 w (IsMap-written m n old is) (IsMap-written j i one.inserted.valid (record { walk = walk; capacity = refl; factor = factor })) refl (record {
-            in_range = λ out. one.inserted.fits.in_range (IsNone-alike (value_of number m.walk p.0) (value_of number n.walk p.0) bound out.0, rw (len, is.capacity, is.factor) at out.1);
+            in_range = λ out. one.inserted.fits.in_range (let none = out.0 in grind (arith, bound, none), rw (len, is.capacity, is.factor) at out.1);
             capacity = rw (len, is.capacity, is.factor) (MatchOption-alike (value_of number m.walk p.0) (value_of number n.walk p.0) (IsNext m.capacity (length m.walk + 1) m.factor j.capacity) (j.capacity ≡ m.capacity) bound one.inserted.fits.capacity);
           });
           state = refl;

@@ -1,8 +1,9 @@
 -- What calls leave of a map: its walk stays that of a map, and its count that of its walk.
-use Rattle.std.proofs.Common.{◌≡◌, ℕ, ◌+◌, ◌-◌, ◌^◌, ◌<◌, ◌≤◌, cond, true, false, List, [], ◌∷◌, length, Option, Some, None, is_some, refl, sym, ap, ◌∙◌, add-zero, subst, arith}
+use Rattle.std.proofs.Common.{◌≡◌, ℕ, ◌+◌, ◌-◌, ◌^◌, ◌<◌, ◌≤◌, cond, true, false, List, [], ◌∷◌, length, Some, None, is_some, refl, sym, ap, ◌∙◌, add-zero, subst, arith}
 use Rattle.std.specs.Prelude.{All, ◌==◌, ◌&&◌, nat_lt, Result, Ok, Err, IsOk}
 use Rattle.std.specs.Result.{is_err}
 use Rattle.std.proofs.lemmas.Bool.{eq-eqb}
+use Rattle.std.proofs.lemmas.List.{nil_from_length}
 use Rattle.std.proofs.lemmas.List.Elements.{All-nil, All-tail}
 use Rattle.intmap_table.specs.Classes.{IsCapacity}
 use Rattle.intmap_table.specs.Bindings.{HasDistinctKeys, value_of, take_key, put_pair}
@@ -42,28 +43,12 @@ module _ {K V : Type 0} (number : K → ℕ) (is_valid : K → Type 0) where
         load = subst (λ n. IsLoaded C n F) (sym len) loaded;
       }
 
-  nil_from : (ps : List (K × V)) → length ps ≡ 0 → ps ≡ []
-  nil_from [] e = refl
-  nil_from (p ∷ ps) e = absurd (omega (arith, e))
-
   -- a map without pairs
   pub IsMapWalk-empty : (W : List (K × V)) (C F : ℕ) → W ≡ [] → IsCapacity C → F < 2 ^ 64 → IsMapWalk number is_valid W C F
   IsMapWalk-empty W C F none cap factor =
-      let len : length (walk_of number W C) ≡ 0 = length-walk_of number W C (λ k. slot_number-below number k C cap) ∙ ap length none in
-      let zero_long : length W ≡ 0 = ap length none in
-      record {
-        capacity = cap;
-        own = nil_from (walk_of number W C) len ∙ sym none;
-        distinct = HasDistinctKeys-nil number W none;
-        keys = let P : List (K × V) → Type 0 = λ ps. All (λ p. is_valid p.0) ps in subst P (sym none) (All-nil (λ (p : K × V). is_valid p.0));
-        count = omega (arith, zero_long);
-        factor = factor;
-        load = λ four. absurd (omega (arith, four, zero_long));
-      }
-
--- a value that is there counts once
-pub one_less : {V : Type 0} (o : Option V) (x : V) → o ≡ Some x → ◌≡◌ {A = ℕ} (cond (is_some o) 1 0) 1
-one_less o x e = ap (λ (o : Option _). cond (is_some o) 1 0) e
+      let nil = nil_from_length (walk_of number [] C) (length-walk_of number [] C (λ (k : K). slot_number-below number k C cap)) in
+      subst (λ L. IsMapWalk number is_valid L C F) (nil ∙ sym none)
+      (IsMapWalk-walk_of [] C F cap (HasDistinctKeys-nil {V = V} number [] refl) (All-nil (λ p. is_valid p.0)) (omega arith) factor (λ four. absurd (omega (arith, four))))
 
 module _ {K V : Type 0} (number : K → ℕ) where
   module _ (is_valid : K → Type 0) (W W' : List (K × V)) (C F n most : ℕ) (old : IsConsistent number is_valid W C F n most) where

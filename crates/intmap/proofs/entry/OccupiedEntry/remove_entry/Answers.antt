@@ -1,10 +1,9 @@
-use Rattle.std.proofs.Common.{refl, ap, sym, ◌∙◌, arith}
+use Rattle.std.proofs.Common.{refl, ap, sym, ◌∙◌}
 use Rattle.intmap_table.specs.Bindings.{value_of}
 use Rattle.intmap.specs.Entries.{occupied_key}
 use Rattle.intmap.specs.Map.{without_key}
 use Rattle.intmap_table.proofs.WrittenLemmas.{the_key-same}
 use Rattle.intmap.proofs.AfterLemmas.{Updates-taken, length-taken}
-use Rattle.intmap.proofs.MapLemmas.{one_less}
 use Rattle.intmap.proofs.entry.OccupiedEntry.remove_entry.Goals as goal
 
 pub returns-clause-value : goal.returns-clause-value
@@ -21,6 +20,5 @@ returns-clause-updates g c =
 
 pub returns-clause-len : goal.returns-clause-len
 returns-clause-len g c =
-    let walk = length-taken g.K.IntKey.number_of g.K.IntKey.is_valid c.args.self.map.now _ (occupied_key c.args.self) c.take_at.ensures.valid (ap (λ m. m.walk) (returns-clause-state g c)) in
-    let one = one_less (value_of g.K.IntKey.number_of c.args.self.map.now.walk (occupied_key c.args.self)) c.take_at.result (returns-clause-value g c) in
-    omega (arith, walk, one)
+    rw (returns-clause-value g c) at
+    (length-taken g.K.IntKey.number_of g.K.IntKey.is_valid c.args.self.map.now _ (occupied_key c.args.self) c.take_at.ensures.valid (ap (λ m. m.walk) (returns-clause-state g c)))

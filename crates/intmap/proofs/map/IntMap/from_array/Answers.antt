@@ -7,7 +7,7 @@ use Rattle.intmap.specs.Extending.{IsCollected, IsExtended}
 use Rattle.intmap.specs.Map.{MapState}
 use Rattle.intmap.proofs.ExtendLemmas.{items-yielded_then, option_or-none}
 use Rattle.intmap.proofs.map.IntMap.from_array.Goals as goal
-use Rattle.intmap.proofs.map.IntMap.from_array.Goals.{After-into_iter, In-Ok-extend}
+use Rattle.intmap.proofs.map.IntMap.from_array.Goals.{After-into_iter}
 
 -- what extends the empty map was collected
 collected : (g : _) (c : After-into_iter g) (ps : List _) (m : MapState g.row.K.Denot g.row.V.Denot) → IsExtended g.K.IntKey.number_of g.K.IntKey.is_valid c.in_ok-map.map ps m → IsCollected g.K.IntKey.number_of g.K.IntKey.is_valid g.row.N ps m
@@ -15,19 +15,16 @@ collected g c ps m extended =
     let made = c.in_ok-map.ensures in
     record { slots = c.in_ok-map.map.capacity; power = made.capacity; extended = subst (λ s. IsExtended g.K.IntKey.number_of g.K.IntKey.is_valid s ps m) made.state extended }
 
-all_collected : (g : _) (c : In-Ok-extend g) → IsCollected g.K.IntKey.number_of g.K.IntKey.is_valid g.row.N c.args.pairs c.extend.new.self
-all_collected g c =
+pub returns-in-Ok-extend-clause-collects : goal.returns-in-Ok-extend-clause-collects
+returns-in-Ok-extend-clause-collects g c =
     let all = c.in-Ok-extend.ensures.extends in
     subst (λ ps. IsCollected g.K.IntKey.number_of g.K.IntKey.is_valid g.row.N ps c.extend.new.self)
     (All-taken c.into_iter.result all.pairs all.came ∙ c.into_iter.ensures.rest ∙ c.in-Ok.ensures.items)
     (collected g (goal.at.returns-in-Ok-extend-clause-collects g c).After-into_iter all.pairs c.extend.new.self all.extended)
 
-pub returns-in-Ok-extend-clause-collects : goal.returns-in-Ok-extend-clause-collects
-returns-in-Ok-extend-clause-collects g c = all_collected g c
-
 pub returns-in-Ok-extend-clause-updates : goal.returns-in-Ok-extend-clause-updates
 returns-in-Ok-extend-clause-updates g c q =
-    (all_collected g c).extended.updates q ∙ option_or-none (value_of g.K.IntKey.number_of (reverse c.args.pairs) q)
+    (returns-in-Ok-extend-clause-collects g c).extended.updates q ∙ option_or-none (value_of g.K.IntKey.number_of (reverse c.args.pairs) q)
 
 pub returns-in-Err-clause-too_large : goal.returns-in-Err-clause-too_large
 returns-in-Err-clause-too_large g c large =

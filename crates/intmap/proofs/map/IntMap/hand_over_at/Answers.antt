@@ -1,13 +1,11 @@
-use Rattle.std.proofs.Common.{◌+◌, ◌-◌, length, refl, arith}
-use Rattle.intmap_table.specs.Bindings.{value_of}
-use Rattle.intmap.proofs.MapLemmas.{MapState-same, placed-same, one_less, IsConsistent-taken, IsConsistent-replaced}
+use Rattle.std.proofs.Common.{◌+◌, ◌-◌, length, refl}
+use Rattle.intmap.proofs.MapLemmas.{MapState-same, placed-same, IsConsistent-taken, IsConsistent-replaced}
 use Rattle.intmap.proofs.map.IntMap.hand_over_at.Goals as goal
 
 pub invariant_of-self : goal.invariant_of-self
 invariant_of-self g c =
     let told = c.in-Some.ensures.handed in
-    let one = one_less (value_of g.K.IntKey.number_of c.self.inside.table.walk c.args.at.key) told.0 told.1 in
-    IsConsistent-taken _ _ _ _ _ _ _ _ c.self.invariant c.hand_over.new.self.capacity c.args.at.key (c.self.inside.len - 1) c.in-Some.ensures.capacity told.2.1 (omega (arith, one))
+    IsConsistent-taken _ _ _ _ _ _ _ _ c.self.invariant c.hand_over.new.self.capacity c.args.at.key (c.self.inside.len - 1) c.in-Some.ensures.capacity told.2.1 (rw told.1 refl)
 
 pub returns-in-Some-clause-state : goal.returns-in-Some-clause-state
 returns-in-Some-clause-state g c =

@@ -1,7 +1,7 @@
-use Rattle.std.proofs.Common.{◌≡◌, Some, sym, ◌∙◌, subst}
+use Rattle.std.proofs.Common.{◌≡◌, Some, ap, sym, ◌∙◌, subst}
 use Rattle.intmap_table.specs.Bindings.{value_of}
 use Rattle.intmap.specs.Map.{IsMap, after_remove, after_search}
-use Rattle.intmap.proofs.AfterLemmas.{Updates-remove, length-remove, without_missing}
+use Rattle.intmap.proofs.AfterLemmas.{Updates-taken, length-taken, without_missing}
 use Rattle.intmap.proofs.map.IntMap.remove.Goals as goal
 
 pub returns-in_default : goal.returns-in_default
@@ -11,8 +11,8 @@ returns-in_default g c =
     record {
       value = sym told.missing;
       state = state;
-      updates = Updates-remove number g.K.IntKey.is_valid c.args.self.now _ c.args.key told.valid state;
-      len = rw told.missing at (length-remove number g.K.IntKey.is_valid c.args.self.now _ c.args.key told.valid state);
+      updates = Updates-taken number g.K.IntKey.is_valid c.args.self.now _ c.args.key told.valid (ap (λ m. m.walk) state);
+      len = rw told.missing at (length-taken number g.K.IntKey.is_valid c.args.self.now _ c.args.key told.valid (ap (λ m. m.walk) state));
       valid = told.valid;
       valid_after = subst (IsMap number g.K.IntKey.is_valid) (sym told.state) told.valid;
     }
@@ -25,8 +25,8 @@ returns g c =
     record {
       value = sym value;
       state = state;
-      updates = Updates-remove number g.K.IntKey.is_valid c.args.self.now _ c.args.key found.valid state;
-      len = rw value at (length-remove number g.K.IntKey.is_valid c.args.self.now _ c.args.key found.valid state);
+      updates = Updates-taken number g.K.IntKey.is_valid c.args.self.now _ c.args.key found.valid (ap (λ m. m.walk) state);
+      len = rw value at (length-taken number g.K.IntKey.is_valid c.args.self.now _ c.args.key found.valid (ap (λ m. m.walk) state));
       valid = found.valid;
       valid_after = told.valid_after;
     }

@@ -1,12 +1,11 @@
-use Rattle.std.proofs.Common.{◌-◌, refl, arith}
-use Rattle.intmap_table.specs.Bindings.{value_of}
-use Rattle.intmap.proofs.MapLemmas.{MapState-same, IsConsistent-taken, one_less}
+use Rattle.std.proofs.Common.{◌-◌, refl}
+use Rattle.intmap.proofs.MapLemmas.{MapState-same, IsConsistent-taken}
 use Rattle.intmap.proofs.map.IntMap.take_at.Goals as goal
 
 pub invariant_of-self : goal.invariant_of-self
 invariant_of-self g c =
-    let one = one_less (value_of g.K.IntKey.number_of c.self.inside.table.walk c.args.at.key) c.take_at-kept.result c.take_at-kept.ensures.value in
-    IsConsistent-taken _ _ _ _ _ _ _ _ c.self.invariant c.take_at-kept.new.self.capacity c.args.at.key (c.self.inside.len - 1) c.take_at-kept.ensures.capacity c.take_at-kept.ensures.walk (omega (arith, one))
+    let told = c.take_at-kept.ensures in
+    IsConsistent-taken _ _ _ _ _ _ _ _ c.self.invariant c.take_at-kept.new.self.capacity c.args.at.key (c.self.inside.len - 1) told.capacity told.walk (rw told.value refl)
 
 pub returns-clause-valid_after : goal.returns-clause-valid_after
 returns-clause-valid_after g c = (invariant_of-self g c).map
