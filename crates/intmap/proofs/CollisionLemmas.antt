@@ -36,10 +36,9 @@ NeedsTooMuch-few C n cap few much = elim (cases_Bool (is_due n)) [
       let i : ℕ = 63 - cap.0 in
       let e : cap.0 + i ≡ 63 = (let below = cap.2 in omega (arith, below)) in
       let slots : C * 2 ^ i ≡ 2 ^ 63 = ap (λ c. c * 2 ^ i) cap.3 ∙ sym (pow-add 2 cap.0 i) ∙ ap (λ k. 2 ^ k) e in
-      let over : 909 < n * 1000 / (C * 2 ^ i) = wanted.least i (let above = much.2 in omega (arith, slots, above)) in
+      let over : 909 < n * 1000 / 2 ^ 63 = rw slots at (wanted.least i (let above = much.2 in omega (arith, slots, above))) in
       let meets : n * 1000 / 2 ^ 63 ≤ 909 = MeetsLoad-from n (2 ^ 63) 909 (omega arith) (omega (arith, few)) in
-      let same : n * 1000 / (C * 2 ^ i) ≡ n * 1000 / 2 ^ 63 = ap (λ k. n * 1000 / k) slots in
-      omega (arith, over, meets, same))
+      omega (arith, over, meets))
   | inr not ↦ (let same : much.0 ≡ C = rw not at much.1 in let top = capacity-greatest C cap in let above = much.2 in omega (arith, same, top, above))
 ]
 

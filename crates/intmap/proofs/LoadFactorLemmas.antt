@@ -20,10 +20,6 @@ InsertIsTooLarge L C F = (2 ^ 64 ≤ length L + 1) ⊎ NeedsTooMuch (IsNext C (l
 pub MeetsLoad-from : (n C F : ℕ) → 0 < C → n * 1000 < (F + 1) * C → MeetsLoad C n F
 MeetsLoad-from n C F some below = let q = div_below (n * 1000) C (F + 1) some below in omega (arith, q)
 
--- a product of at least the factor's exceeds the load
-pub exceeds-from : (n C F : ℕ) → 0 < C → (F + 1) * C ≤ n * 1000 → F < n * 1000 / C
-exceeds-from n C F some over = let q = le-div (F + 1) (n * 1000) C some over in omega (arith, q)
-
 -- fewer pairs meet the load too
 pub MeetsLoad-fewer : (C n m F : ℕ) → 0 < C → MeetsLoad C n F → m ≤ n → MeetsLoad C m F
 MeetsLoad-fewer C n m F some meets fewer =
@@ -36,6 +32,10 @@ pub record IsNear (C n F c : ℕ) : Type 0 where
   pub capacity : IsCapacity c
   pub least : (i : ℕ) → C * 2 ^ i < c → F < n * 1000 / (C * 2 ^ i)
 
+-- no doubling is less than C
+doubling-more : (C i : ℕ) → C ≤ C * 2 ^ i
+doubling-more C i = let m : C * 1 ≤ C * 2 ^ i = mul-le-mul_left C (pow_pos i) in omega (arith, m)
+
 -- a later doubling is twice an earlier one at least
 doubled-less : (C i j : ℕ) → i < j → C * 2 ^ i * 2 ≤ C * 2 ^ j
 doubled-less C i j less =
@@ -46,7 +46,7 @@ doubled-less C i j less =
 same_doubling : (C c i j : ℕ) → 0 < C → c ≡ C * 2 ^ j → c ≤ C * 2 ^ i → C * 2 ^ i < c * 2 → C * 2 ^ i ≡ c
 same_doubling C c i j some is low high = elim (cases_order i j) [
   | inl q ↦ ap (λ x. C * 2 ^ x) q ∙ sym is
-  | inr (inl w) ↦ (let m = doubled-less C i j w in let v : C * 1 ≤ C * 2 ^ i = mul-le-mul_left C (pow_pos i) in absurd (omega (arith, m, is, low, some, v)))
+  | inr (inl w) ↦ (let m = doubled-less C i j w in let v = doubling-more C i in absurd (omega (arith, m, is, low, some, v)))
   | inr (inr w) ↦ (let m = doubled-less C j i w in absurd (omega (arith, m, is, high)))
 ]
 
@@ -55,8 +55,8 @@ least-more : (C n F c : ℕ) → IsCapacity C → IsNear C n F c → (F + 1) * c
 least-more C n F c cap near over i less = elim (cases_lt (C * 2 ^ i) c) [
   | inl w ↦ near.least i w
   | inr ge ↦
-      rw (same_doubling C c i near.doubled.0 (capacity-positive C cap) near.doubled.1 ge less)
-      (exceeds-from n c F (capacity-positive c near.capacity) over)
+      (let exceeds = le-div (F + 1) (n * 1000) c (capacity-positive c near.capacity) over in
+      rw (same_doubling C c i near.doubled.0 (capacity-positive C cap) near.doubled.1 ge less) (omega (arith, exceeds)))
 ]
 
 pub IsNear-more : (C n F c : ℕ) → IsCapacity C → IsNear C n F c → (F + 1) * c ≤ n * 1000 → c ≢ 2 ^ 63 → IsNear C n F (c * 2)
@@ -101,16 +101,12 @@ pub IsWanted-same : (C n F : ℕ) → IsCapacity C → MeetsLoad C n F → IsWan
 IsWanted-same C n F cap meets = record {
   doubled = (0, omega arith);
   meets = meets;
-  least = λ i below.
-      let p : 0 < 2 ^ i = pow_pos i in
-      let m : C * 1 ≤ C * 2 ^ i = mul-le-mul_left C p in absurd (omega (arith, below, m));
+  least = λ i below. absurd (let m = doubling-more C i in omega (arith, below, m));
 }
 
 -- nothing smaller is wanted
 pub IsWanted-more : (C n F D : ℕ) → IsWanted C n F D → C ≤ D
-IsWanted-more C n F D wanted =
-    let p : 0 < 2 ^ wanted.doubled.0 = pow_pos wanted.doubled.0 in
-    let m : C * 1 ≤ C * 2 ^ wanted.doubled.0 = mul-le-mul_left C p in omega (arith, m, wanted.doubled.1)
+IsWanted-more C n F D wanted = let m = doubling-more C wanted.doubled.0 in omega (arith, m, wanted.doubled.1)
 
 -- a capacity is what follows one way only
 pub IsNext-unique : (C n F D E : ℕ) → IsNext C n F D → IsNext C n F E → D ≡ E
