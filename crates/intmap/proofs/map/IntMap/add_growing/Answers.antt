@@ -33,9 +33,6 @@ module _ (g : _) (c : After-grow_with g) (long : c.args.len ≡ length c.self.in
 pub grow_with-requires-clause-missing : goal.grow_with-requires-clause-missing
 grow_with-requires-clause-missing g c = missing g (goal.at.grow_with-requires-clause-missing g c).After-capacity
 
-pub grow_with-requires-clause-count : goal.grow_with-requires-clause-count
-grow_with-requires-clause-count g c = let fits = few g (goal.at.grow_with-requires-clause-count g c).After-capacity in omega (arith, fits)
-
 pub returns-in_default : goal.returns-in_default
 returns-in_default g c =
     let at = (goal.at.returns-in_default g c).After-capacity in
@@ -51,9 +48,6 @@ returns-in_default g c =
       refused = RefusalIsDue-too_large g.K.IntKey.number_of _ c.args.key (missing g at) (inr (much.0, rw due much.1, much.2));
       valid_after = c.self.invariant.map;
     }
-
-pub invariant_of-self-in-Err : goal.invariant_of-self-in-Err
-invariant_of-self-in-Err g c = rw c.in-Err.ensures.err c.self.invariant
 
 pub returns-in-Err : goal.returns-in-Err
 returns-in-Err g c =

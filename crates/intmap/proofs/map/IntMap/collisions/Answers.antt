@@ -1,4 +1,4 @@
-use Rattle.std.proofs.Common.{◌≡◌, ◌^◌, ◌<◌, ◌≤◌, length, refl, ◌∙◌, subst, arith}
+use Rattle.std.proofs.Common.{◌≡◌, ◌^◌, ◌<◌, length, refl, ◌∙◌, subst, arith}
 use Rattle.std.proofs.lemmas.Bool.{lt-ltb, le-ltb}
 use Rattle.intmap.specs.Extending.{IsTally}
 use Rattle.intmap_table.specs.Walk.{slot_of, walk_of}
@@ -24,31 +24,16 @@ module _ (g : _) (c : After-slot_len-size g) where
   within : c.loop-slot.slot < c.args.self.now.capacity
   within = rw (← c.self.view_is) (let test = c.loop-slot-test.true in let end = c.capacity-slot-end.ensures.value in omega (arith, test, end))
 
-  most : c.args.self.now.capacity ≤ 2 ^ 63
-  most = rw (← c.self.view_is) (capacity-greatest c.self.inside.table.capacity c.self.invariant.map.capacity)
-
   -- all pairs are fewer than 2^64
   fits : length (walk_of g.K.IntKey.number_of c.args.self.now.walk c.args.self.now.capacity) < 2 ^ 64
   fits = rw (← c.self.view_is) (rw c.self.invariant.map.own c.self.invariant.map.count)
-
-pub slot_len-size-requires : goal.slot_len-size-requires
-slot_len-size-requires g c =
-    let end = c.capacity-slot-end.ensures.value in let test = c.loop-slot-test.true in
-    let few = c.self.invariant.map.count in
-    record { within = omega (arith, test, end); fits = omega (arith, few) }
-
-pub returns-in_err-sizes-clause-memory : goal.returns-in_err-sizes-clause-memory
-returns-in_err-sizes-clause-memory g c = MatchResult-refused c.from_residual.result _ _ _ c.from_residual.ensures.1 (λ to is. is ∙ c.in_err-sizes.ensures.memory)
-
-pub returns-in_err-sizes-clause-valid : goal.returns-in_err-sizes-clause-valid
-returns-in_err-sizes-clause-valid g c = rw (← c.self.view_is) c.self.invariant.map
 
 pub count_once_more-requires : goal.count_once_more-requires
 count_once_more-requires g c =
     let at = (goal.at.count_once_more-requires g c).After-slot_len-size in
     record {
       below = λ count. count-below (slot_of g.K.IntKey.number_of c.args.self.now.walk c.args.self.now.capacity) c.args.self.now.capacity c.loop-slot.slot (within g at)
-          c.loop-slot.sizes c.loop-slot.invariant.tally (most g at) c.slot_len-size.result count;
+          c.loop-slot.sizes c.loop-slot.invariant.tally (rw (← c.self.view_is) (capacity-greatest _ c.self.invariant.map.capacity)) c.slot_len-size.result count;
     }
 
 pub returns-in_err-count_once_more-clause-memory : goal.returns-in_err-count_once_more-clause-memory
@@ -59,9 +44,6 @@ returns-in_err-count_once_more-clause-memory g c =
     c.loop-slot.sizes c.loop-slot.invariant.tally (fits g at) c.loop-slot.invariant.map several in
     MatchResult-refused c.from_residual-in_err-count_once_more.result _ _ _ c.from_residual-in_err-count_once_more.ensures.1
     (λ to is. is ∙ memory-otherwise c.in_err-count_once_more.field-0.0 (λ large. in_range (rw (size g at) at (c.in_err-count_once_more.ensures.too_large large))))
-
-pub returns-in_err-count_once_more-clause-valid : goal.returns-in_err-count_once_more-clause-valid
-returns-in_err-count_once_more-clause-valid g c = rw (← c.self.view_is) c.self.invariant.map
 
 pub loop-slot-preserved : goal.loop-slot-preserved
 loop-slot-preserved g c =

@@ -27,6 +27,3 @@ pub returns : goal.returns
 returns g c =
     let asked = c.in-Some.ensures in
     rw (← c.self.view_is) record { step = asked.step; state = rw asked.capacity refl; reached = asked.reached; valid = c.self.invariant.map; valid_after = (invariant_of-self-2 g c).map }
-
-pub extract_next-requires-clause-callable : goal.extract_next-requires-clause-callable
-extract_next-requires-clause-callable g c = rw (← c.self.view_is) at c.requires.callable

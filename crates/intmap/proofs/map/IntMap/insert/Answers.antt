@@ -46,9 +46,6 @@ returns-in-Err-add g c =
     }
 
 -- or did not
-pub returns-clause-old : goal.returns-clause-old
-returns-clause-old g c = sym c.in-Err.ensures.missing
-
 pub returns-clause-inserted : goal.returns-clause-inserted
 returns-clause-inserted g c =
     IsInsertion-searched g.K.IntKey.number_of g.K.IntKey.is_valid c.args.self.now c.add.new.self c.args.key c.args.key c.args.value (rw c.in-Err.ensures.state at c.in_default.ensures.inserted)

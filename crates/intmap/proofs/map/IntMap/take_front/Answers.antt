@@ -29,11 +29,5 @@ returns-in_default g c =
       valid_after = rw (same, told.capacity) c.self.invariant.map;
     }
 
-pub returns-clause-first : goal.returns-clause-first
-returns-clause-first g c = rw (← c.self.view_is, c.into_value.ensures) c.in-Some.ensures.first
-
-pub returns-clause-state : goal.returns-clause-state
-returns-clause-state g c = rw (← c.self.view_is, c.in-Some.ensures.capacity) refl
-
 pub returns-clause-valid_after : goal.returns-clause-valid_after
 returns-clause-valid_after g c = (invariant_of-self-2 g c).map
