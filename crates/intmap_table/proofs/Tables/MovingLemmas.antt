@@ -17,7 +17,7 @@ use Rattle.intmap_table.proofs.Tables.MarkedLemmas.{get_or-of_default}
 use Rattle.intmap_table.proofs.Tables.FilledLemmas.{pairs_at-marked}
 use Rattle.intmap_table.proofs.Tables.GrownLemmas.{modulo-below, grown-more, filter_none, slot_of-apart, slot_of-old, part-of}
 use Rattle.intmap_table.proofs.Tables.LeftLemmas.{AreSplit, AreSplit-marked, AreSplit-next, first-left, row-old, own-row}
-use Rattle.intmap_table.proofs.Tables.RetainSlotsLemmas.{joined-before}
+use Rattle.intmap_table.proofs.Tables.PartsLemmas.{joined-before}
 use Rattle.intmap_table.proofs.Tables.RoomLemmas.{CanLeave-same, need-most, room-emptied}
 
 -- an old slot whose pairs have not moved: they can leave it, and no part of it is marked
