@@ -1,8 +1,8 @@
 //! Runs of commands, described by one plain list of pairs.
-ghost use Rattle.std.specs.Prelude.{IfOk, IfErr};
+ghost use Rattle.std.specs.Prelude.{◌≡◌, ◌∷◌, [], IfOk, IfErr, Some, None};
 ghost use Rattle.callers.specs.Sessions.{RunsTwice, Stops};
 
-use intmap::{IntKey, IntMap};
+use intmap::{Cause, IntKey, IntMap, laws};
 use intmap_run::{Answer, Command, Judge, run};
 use std::alloc::{Allocator, Global};
 
@@ -69,5 +69,31 @@ pub fn run_twice<K: IntKey, V: Drop, J: Judge<K, V>, A: Allocator + Copy>(
     match run(alloc, map, second, judge) {
         Ok(late) => Ok((early, late)),
         Err(second) => Err(Stopped::Second(early, second)),
+    }
+}
+
+/// On a new map, inserts 7 with 1 and then with 2, looks up 7, removes it, and reads the length. No
+/// command fails once there is a map and memory for the answers.
+///
+/// It fails if there is no memory.
+pub fn five_answers(alloc: Global) -> Result<Vec<Answer<u64, u64, u64>>, Cause>
+    ensures ok { IfOk result (λ answers. answers.items ≡ Answer.Old None ∷ Answer.Old (Some 1)
+        ∷ Answer.Seen (Some 2) ∷ Answer.Old (Some 2) ∷ Answer.Number 0 ∷ []) }
+    ensures err { IfErr result (λ cause. cause ≡ Cause.Memory) }
+{
+    laws::lone_pairs_are_never_refused::<u64, u64>();
+    let mut map: IntMap<u64, u64> = IntMap::new(alloc)?;
+    let Ok(commands) = vec![in alloc;
+        Command::Insert(7, 1),
+        Command::Insert(7, 2),
+        Command::Get(7),
+        Command::Remove(7),
+        Command::Len,
+    ] else {
+        return Err(Cause::Memory);
+    };
+    match run(alloc, &mut map, commands, &Plain) {
+        Ok(answers) => Ok(answers),
+        Err(_) => Err(Cause::Memory),
     }
 }

@@ -1,4 +1,4 @@
-//! Sums of all values: what a count, an insertion and a sum add to them.
+//! Sums of all values: what a count, an insertion and a merge add to them.
 ghost use Rattle.std.specs.Prelude.{◌≡◌, ◌≢◌, ◌+◌, ℕ, OnOk, OnErr, unwrap_or};
 ghost use Rattle.std.specs.List.{sum};
 ghost use Rattle.std.specs.Map.{values_of};
@@ -62,5 +62,21 @@ pub fn add_in<A: Allocator + Copy>(
         return Err(Cause::TooLarge);
     };
     sums.insert(key, after)?;
+    Ok(())
+}
+
+/// Adds the values of another map, key by key. The sum of all values rises by theirs.
+///
+/// It fails if a sum doesn't fit, or if the insertion of a new key fails.
+pub fn merge<A: Allocator + Copy>(
+    sums: &mut IntMap<u64, u64, A>,
+    more: &IntMap<u64, u64, A>,
+) -> Result<(), Cause>
+    ensures total { OnOk result (sum (values_of sums.new.walk)
+        ≡ sum (values_of sums.old.walk) + sum (values_of more.now.walk)) }
+{
+    for (key, value) in more.iter() {
+        add_in(sums, *key, *value)?;
+    }
     Ok(())
 }

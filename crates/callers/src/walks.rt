@@ -50,11 +50,7 @@ fn list_pairs<K: IntKey, V: Copy, A: Allocator + Copy>(
     ensures walk { IfOk result (λ pairs. pairs.items ≡ map.now.walk) }
     ensures distinct { HasDistinctKeys K.number_of map.now.walk }
 {
-    let mut pairs = Vec::new(alloc);
-    for (key, value) in map.iter() {
-        pairs.push((*key, *value))?;
-    }
-    Ok(pairs)
+    map.iter().map(|(key, value)| (*key, *value)).collect(alloc)
 }
 
 /// The keys of the map. It fails if there is no memory for them.
