@@ -13,6 +13,8 @@ mod slots;
 pub(in crate::proved::table) mod stored;
 pub mod walk;
 
+pub use slots::walk::Pairs;
+
 use crate::memory::prelude::*;
 use crate::proved::table::key::IntKey;
 use crate::proved::table::steps::Steps;
@@ -20,7 +22,6 @@ use crate::proved::table::table::stored::Stored;
 use locate::Location;
 use slots::Slots;
 use crate::memory::alloc::{AllocError, Allocator};
-use walk::Pairs;
 
 /// An odd number. A key's number, times this one, modulo the number of slots is the key's slot.
 /// Only the low bits of the number count: two keys share a slot exactly if their numbers are equal
@@ -62,11 +63,7 @@ impl<K: IntKey, X, A: Allocator> Table<K, X, A> {
 
     /// The pairs, slot after slot.
     pub fn pairs(&self) -> Pairs<'_, K, X, A> {
-        Pairs {
-            first: None,
-            rest: &[],
-            filled: self.slots.filled(),
-        }
+        self.slots.pairs()
     }
 
     /// The slot of a key.

@@ -16,7 +16,7 @@ pub use drain::Drain;
 pub use extract::ExtractIf;
 use crate::proved::table::IntKey;
 use crate::proved::table::kept::Kept;
-use crate::proved::table::table::walk::Pairs;
+use crate::proved::table::table::Pairs;
 pub use owned::{IntoIter, IntoKeys, IntoValues};
 use crate::memory::alloc::{Allocator, Global};
 pub use writing::ValuesMut;

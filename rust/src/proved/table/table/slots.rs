@@ -1,14 +1,14 @@
 //! The slots of a table. Contracts see the pairs of each, its row, and how many it has room for.
 //! Which slots hold a pair is known here alone.
 //!
-//! `pairs` has the calls on a pair of one slot, `closures` those with a closure, `filled` the rows
-//! by reference, and `grow` and `place` the growth.
+//! `pairs` has the calls on a pair of one slot, `closures` those with a closure, `walk` the pairs by
+//! reference, and `grow` and `place` the growth.
 
 mod closures;
-pub(in crate::proved::table) mod filled;
 mod grow;
 mod pairs;
 mod place;
+pub mod walk;
 
 use crate::memory::prelude::*;
 use crate::proved::table::bits::Bits;
@@ -16,9 +16,9 @@ use crate::proved::table::key::IntKey;
 use crate::proved::table::slot::Slot;
 use crate::proved::table::steps::Steps;
 use crate::proved::table::table::stored::Stored;
-use filled::FilledRows;
 use grow::{add_slots, reserve_slots};
 use crate::memory::alloc::{AllocError, Allocator};
+use walk::Pairs;
 
 /// What is known of the slots without looking at them.
 struct Directory<A: Allocator> {
@@ -121,11 +121,13 @@ impl<K: IntKey, X, A: Allocator> Slots<K, X, A> {
         self.directory.bits.next_from(from)
     }
 
-    /// The rows of the slots that hold a pair, slot after slot.
+    /// The pairs, slot after slot.
     #[inline(always)]
-    pub(in crate::proved::table) fn filled(&self) -> FilledRows<'_, K, X, A> {
-        FilledRows {
-            indices: self.directory.bits.iter(),
+    pub(in crate::proved::table) fn pairs(&self) -> Pairs<'_, K, X, A> {
+        Pairs {
+            first: None,
+            rest: &[],
+            filled: self.directory.bits.iter(),
             slots: &self.slots,
         }
     }

@@ -1,12 +1,9 @@
-//! The walk of a table: its pairs by reference, slot after slot, a position in it, and removal from
-//! its front.
+//! The walk of a table: a position in it, and removal from its front.
 
 use crate::memory::prelude::*;
 use crate::proved::table::key::IntKey;
 use crate::proved::table::table::Table;
-use crate::proved::table::table::slots::filled::FilledRows;
-use crate::proved::table::table::stored::Stored;
-use crate::memory::alloc::{AllocError, Allocator};
+use crate::memory::alloc::Allocator;
 
 /// The position of a walk: a place in a slot, and the number of pairs of the walk before it.
 #[repr(C)]
@@ -24,44 +21,6 @@ impl Cursor {
             slot: 0,
             place: 0,
             passed: 0,
-        }
-    }
-}
-
-/// The pairs that are left: those of the current slot, then those of the slots behind it.
-pub struct Pairs<'a, K: IntKey, X, A: Allocator> {
-    pub(super) first: Option<&'a (Stored<K>, X)>,
-    pub(super) rest: &'a [(Stored<K>, X)],
-    pub(super) filled: FilledRows<'a, K, X, A>,
-}
-
-impl<'a, K: IntKey, X, A: Allocator> Clone for Pairs<'a, K, X, A> {
-    fn clone(&self) -> Result<Pairs<'a, K, X, A>, AllocError> {
-        Ok(Pairs {
-            first: self.first,
-            rest: self.rest,
-            filled: self.filled.clone()?,
-        })
-    }
-}
-
-impl<'a, K: IntKey, X, A: Allocator> Iterator for Pairs<'a, K, X, A> {
-    type Item = (&'a K, &'a X);
-
-    fn next(&mut self) -> Option<(&'a K, &'a X)> {
-        loop {
-            if let Some(pair) = self.first.take() {
-                return Some((pair.0.key(), &pair.1));
-            }
-            if let Some((pair, rest)) = self.rest.split_first() {
-                self.rest = rest;
-                return Some((pair.0.key(), &pair.1));
-            }
-            let Some((first, rest)) = self.filled.next() else {
-                return None;
-            };
-            self.first = first;
-            self.rest = rest;
         }
     }
 }

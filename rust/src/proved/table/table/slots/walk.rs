@@ -1,0 +1,54 @@
+//! The pairs of the slots by reference, slot after slot.
+
+use crate::memory::prelude::*;
+use crate::proved::table::bits::Indices;
+use crate::proved::table::key::IntKey;
+use crate::proved::table::slot::Slot;
+use crate::proved::table::table::stored::Stored;
+use crate::memory::alloc::{AllocError, Allocator};
+
+/// A slot, by its number.
+#[inline(always)]
+fn slot_at<K: IntKey, X, A: Allocator>(slots: &[Slot<K, X, A>], index: usize) -> &Slot<K, X, A> {
+    &slots[index]
+}
+
+/// The pairs that are left: those of the current slot, then those of the slots behind it that hold
+/// a pair, by their numbers.
+pub struct Pairs<'a, K: IntKey, X, A: Allocator> {
+    pub(super) first: Option<&'a (Stored<K>, X)>,
+    pub(super) rest: &'a [(Stored<K>, X)],
+    pub(super) filled: Indices<'a>,
+    pub(super) slots: &'a [Slot<K, X, A>],
+}
+
+impl<'a, K: IntKey, X, A: Allocator> Clone for Pairs<'a, K, X, A> {
+    fn clone(&self) -> Result<Pairs<'a, K, X, A>, AllocError> {
+        Ok(Pairs {
+            first: self.first,
+            rest: self.rest,
+            filled: self.filled.clone()?,
+            slots: self.slots,
+        })
+    }
+}
+
+impl<'a, K: IntKey, X, A: Allocator> Iterator for Pairs<'a, K, X, A> {
+    type Item = (&'a K, &'a X);
+
+    fn next(&mut self) -> Option<(&'a K, &'a X)> {
+        loop {
+            if let Some(pair) = self.first.take() {
+                return Some((pair.0.key(), &pair.1));
+            }
+            if let Some((pair, rest)) = self.rest.split_first() {
+                self.rest = rest;
+                return Some((pair.0.key(), &pair.1));
+            }
+            let Some(index) = self.filled.next() else {
+                return None;
+            };
+            (self.first, self.rest) = slot_at(self.slots, index).parts();
+        }
+    }
+}
