@@ -9,7 +9,7 @@
  *
  * Written by tools/assembly of the repository, and not to be edited.
  * Compilers: rattle-kit-13f logic dac8208d650f15bf; clang version 22.1.8
- * Sources: fbed248c9a4f3b9da7c53e46d2756b3d437fb50786d1623fdb1e16e338716cea
+ * Sources: 3efa076bf8bd549617870c7962e6d12a260f671a5dfa9c37136470bc5d5a7c4c
  *
  * SPDX-License-Identifier: MIT
  *

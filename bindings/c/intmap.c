@@ -17,7 +17,7 @@
 // have 16 bytes each.
 //
 // Compilers: rattle-kit-13f logic dac8208d650f15bf; clang version 22.1.8
-// Sources: fbed248c9a4f3b9da7c53e46d2756b3d437fb50786d1623fdb1e16e338716cea
+// Sources: 3efa076bf8bd549617870c7962e6d12a260f671a5dfa9c37136470bc5d5a7c4c
 //
 // SPDX-License-Identifier: MIT
 //
@@ -1787,7 +1787,7 @@ static ALWAYS_INLINE bool do_intmap_equal(char *map, char *other) {
         *r11, *common_ret_op, *r4_3;
     bool r12, r7_0;
     uint64_t r6, r6_2, r6_4, r1_2, r1_3, r1_4, r1_6, r1_7, r1_9, r1_10, r1_11, r1_13, r33, r54, r60, r1_14, r1_16,
-        r17, r27, r40, r6_5, r1_18, r1_19, r1_20, r1_22, r1_24, r1_25, r1_26, r1_28, r45, r6_6, r3_0, r21, r36;
+        r17, r27, r40, r6_5, r1_18, r1_19, r1_20, r1_22, r1_24, r1_25, r1_26, r1_28, r37, r6_6, r3_0, r21, r36;
     char *r2 = (char *)no_bytes;
     r5 = load_address(map);
     r8 = load_address(other);
@@ -1901,13 +1901,13 @@ static ALWAYS_INLINE bool do_intmap_equal(char *map, char *other) {
                 r1_22 = r1_28;
                 r7 = r1_23;
             arm_6:;
-                r45 = load_key(r7);
-                r11 = load_address(r8 + 32) + ((load64(r8) & (r45 * UINT64_C(11400714819323198549))) * 48);
+                r37 = load_key(r7);
+                r11 = load_address(r8 + 32) + ((load64(r8) & (r37 * UINT64_C(11400714819323198549))) * 48);
                 if (load8(r11) != 1) {
                     r7_0 = false;
                     goto after_read_intmap_equal;
                 }
-                if (load64(r11 + 8) == r45) {
+                if (load64(r11 + 8) == r37) {
                     common_ret_op = r11 + 8;
                 } else {
                     r4_3 = load_address(r11 + 24);
@@ -1919,7 +1919,7 @@ static ALWAYS_INLINE bool do_intmap_equal(char *map, char *other) {
                     r3_0 = 0;
                     for (;;) {
                         r21 = r3_0 << 4;
-                        if (load64(r4_3 + r21) == r45) {
+                        if (load64(r4_3 + r21) == r37) {
                             common_ret_op = r4_3 + r21;
                             break;
                         }
