@@ -9,7 +9,7 @@
  *
  * Written by tools/assembly of the repository, and not to be edited.
  * Compilers: rattle-kit-13f logic dac8208d650f15bf; clang version 22.1.8
- * Sources: 3efa076bf8bd549617870c7962e6d12a260f671a5dfa9c37136470bc5d5a7c4c
+ * Sources: ff3233cb480755d4df6d2814ce0b9b3de101bfd09ebbad4c7bef8d3318f535f9
  *
  * SPDX-License-Identifier: MIT
  *

@@ -13,8 +13,6 @@ mod slots;
 pub(crate) mod stored;
 pub mod walk;
 
-pub use slots::walk::Pairs;
-
 ghost use Rattle.std.specs.Prelude.{◌≡◌, ◌+◌, ◌^◌, ◌<◌, ◌≤◌, [], OnOk, OnErr, IfOk, IfErr, None, length};
 ghost use Rattle.intmap_table.specs.Classes.{IsCapacity, slot_number};
 ghost use Rattle.intmap_table.specs.Bindings.{value_of, put_pair};
@@ -30,6 +28,7 @@ use crate::steps::Steps;
 use crate::table::stored::Stored;
 use locate::Location;
 use slots::Slots;
+pub use slots::walk::Pairs;
 use std::alloc::{AllocError, Allocator};
 use std::marker::Model;
 

@@ -13,14 +13,13 @@ mod slots;
 pub(in crate::proved::table) mod stored;
 pub mod walk;
 
-pub use slots::walk::Pairs;
-
 use crate::memory::prelude::*;
 use crate::proved::table::key::IntKey;
 use crate::proved::table::steps::Steps;
 use crate::proved::table::table::stored::Stored;
 use locate::Location;
 use slots::Slots;
+pub use slots::walk::Pairs;
 use crate::memory::alloc::{AllocError, Allocator};
 
 /// An odd number. A key's number, times this one, modulo the number of slots is the key's slot.

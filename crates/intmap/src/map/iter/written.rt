@@ -12,8 +12,7 @@ ghost use Rattle.intmap.specs.Map.{map_with_values};
 use crate::map::IntMap;
 use intmap_table::IntKey;
 use intmap_table::lent::{Hole, Lent};
-use intmap_table::table::Table;
-use intmap_table::table::Pairs;
+use intmap_table::table::{Pairs, Table};
 use std::alloc::{Allocator, Global};
 use std::marker::{Model, PhantomData};
 
