@@ -103,13 +103,15 @@ typedef struct intmap {
 #define INTMAP_NONE ((intmap)INTMAP_INIT)
 #endif
 
-// What a call did. A later version may add positive ones, and negative ones for new failures.
+// What a call did. If it didn't fail, the status is true exactly if the key, or a pair, was present
+// before. A failure is negative, and so it is true as well: ask intmap_failed first, or compare
+// with INTMAP_PRESENT. A later version may add negative ones for new failures.
 typedef int32_t intmap_status;
 
 enum {
-    INTMAP_DONE = 0,       // it did what it says
-    INTMAP_PRESENT = 1,    // the key, or a pair, was present before the call
-    INTMAP_ABSENT = 2,     // it was absent before the call
+    INTMAP_OK = 0,         // it did what it says
+    INTMAP_ABSENT = 0,     // the key, or a pair, was absent before the call
+    INTMAP_PRESENT = 1,    // it was present before the call
     INTMAP_NO_MEMORY = -1, // failed: an allocation failed
     INTMAP_TOO_LARGE = -2, // failed: the map would be too large
     INTMAP_NO_MAP = -3     // failed: there is no map
@@ -154,20 +156,20 @@ typedef struct intmap_found_pair {
 uint32_t intmap_version(void) INTMAP_CALL;
 
 // Makes an empty map of 4 slots, with a load factor of 909 thousandths. The word is INTMAP_INIT, or
-// has a map, which is freed. It returns INTMAP_DONE, or INTMAP_NO_MEMORY, which leaves the word as
+// has a map, which is freed. It returns INTMAP_OK, or INTMAP_NO_MEMORY, which leaves the word as
 // it was.
 INTMAP_NONNULL INTMAP_MUST_USE intmap_status intmap_new(intmap *map) INTMAP_CALL;
 
 // Makes an empty map, with a load factor of 909 thousandths. Its number of slots is the least power
 // of two that is at least `capacity`, and at least 2. For n pairs without growth, ask for
-// n + n / 10 + 1. The word is INTMAP_INIT, or has a map, which is freed. It returns INTMAP_DONE;
+// n + n / 10 + 1. The word is INTMAP_INIT, or has a map, which is freed. It returns INTMAP_OK;
 // INTMAP_TOO_LARGE exactly if `capacity` is above 2^63; or INTMAP_NO_MEMORY. If it fails, it leaves
 // the word as it was.
 INTMAP_NONNULL INTMAP_MUST_USE intmap_status intmap_with_capacity(intmap *map, size_t capacity)
     INTMAP_CALL;
 
 // Makes a map in `to`, which is another word: the same pairs in the same order, as many slots, the
-// same load factor. It frees a map that `to` had. It returns INTMAP_DONE; or INTMAP_NO_MEMORY or
+// same load factor. It frees a map that `to` had. It returns INTMAP_OK; or INTMAP_NO_MEMORY or
 // INTMAP_NO_MAP, which leave `to` as it was. It takes time in the pairs and slots.
 INTMAP_NONNULL INTMAP_MUST_USE intmap_status intmap_clone(const intmap *map, intmap *to)
     INTMAP_CALL;
@@ -246,14 +248,14 @@ INTMAP_NONNULL size_t intmap_filled_slots(const intmap *map) INTMAP_CALL;
 // Makes the number of slots at least the least power of two that is no less than the number of
 // pairs plus `additional`. It ignores the load factor, so the map may still grow before it has that
 // many pairs. For c pairs in all without growth, ask for c + c / 10 + 1, less the pairs that there
-// are. It returns INTMAP_DONE; INTMAP_TOO_LARGE exactly if the pairs and `additional` are above
+// are. It returns INTMAP_OK; INTMAP_TOO_LARGE exactly if the pairs and `additional` are above
 // 2^63; INTMAP_NO_MEMORY, but never if there are enough slots already; or INTMAP_NO_MAP.
 INTMAP_NONNULL INTMAP_MUST_USE intmap_status intmap_reserve(intmap *map, size_t additional)
     INTMAP_CALL;
 
 // Sets the load factor, in thousandths. A number of slots meets it if 1000 * pairs / slots, rounded
 // down, is no more. The number of slots becomes the least of itself and its doublings that meets
-// it: with a factor of 0, some 1000 slots for a pair. It returns INTMAP_DONE; INTMAP_TOO_LARGE
+// it: with a factor of 0, some 1000 slots for a pair. It returns INTMAP_OK; INTMAP_TOO_LARGE
 // exactly if no number up to 2^63 meets it; INTMAP_NO_MEMORY, but never if the present number meets
 // it; or INTMAP_NO_MAP. If it fails, the load factor stays.
 INTMAP_NONNULL INTMAP_MUST_USE intmap_status intmap_set_load_factor(intmap *map, size_t thousandths)

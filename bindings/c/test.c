@@ -379,7 +379,7 @@ static void call_reserve(size_t additional) {
     intmap_status status = intmap_reserve(&it->map, additional);
     EXPECT(!requested() || slots > it->plain.capacity);
     if (!fails(status, it)) {
-        EXPECT(status == INTMAP_DONE);
+        EXPECT(status == INTMAP_OK);
         set_slots(&it->plain, slots);
     }
 }
@@ -390,7 +390,7 @@ static void call_set_load_factor(size_t thousandths) {
     intmap_status status = intmap_set_load_factor(&it->map, thousandths);
     EXPECT(!requested() || slots > it->plain.capacity);
     if (!fails(status, it)) {
-        EXPECT(status == INTMAP_DONE);
+        EXPECT(status == INTMAP_OK);
         it->plain.factor = thousandths;
         set_slots(&it->plain, slots);
     }
@@ -455,7 +455,7 @@ static void call_make(bool is_new, size_t capacity) {
     intmap_status status =
         is_new ? intmap_new(&it->map) : intmap_with_capacity(&it->map, capacity);
     if (!fails(status, it)) {
-        EXPECT(status == INTMAP_DONE);
+        EXPECT(status == INTMAP_OK);
         make_plain(&it->plain, is_new ? 4 : least_power(capacity, 2));
     }
 }
@@ -464,7 +464,7 @@ static void call_clone(void) {
     begin();
     intmap_status status = intmap_clone(&it->map, &other->map);
     if (!fails(status, other)) {
-        EXPECT(status == INTMAP_DONE);
+        EXPECT(status == INTMAP_OK);
         other->plain = it->plain;
         check(other);
     }
@@ -518,7 +518,8 @@ static bool refuse_in_turn(void) {
 }
 
 static void test_statuses(void) {
-    EXPECT(!intmap_failed(INTMAP_DONE) && !intmap_failed(INTMAP_PRESENT));
+    EXPECT(!intmap_failed(INTMAP_OK) && !intmap_failed(INTMAP_PRESENT));
+    EXPECT(!INTMAP_OK && !INTMAP_ABSENT && INTMAP_PRESENT);
     EXPECT(!intmap_failed(INTMAP_ABSENT) && intmap_failed(INTMAP_NO_MEMORY));
     EXPECT(intmap_failed(INTMAP_TOO_LARGE) && intmap_failed(INTMAP_NO_MAP));
     EXPECT(intmap_version() == INTMAP_VERSION);
@@ -897,7 +898,7 @@ static void free_all(intmap *map) {
 
 static void test_addresses(void) {
     intmap map = INTMAP_INIT;
-    EXPECT(intmap_new(&map) == INTMAP_DONE);
+    EXPECT(intmap_new(&map) == INTMAP_OK);
     uint64_t blocks = live_blocks;
     for (uint64_t key = 0; key < 100; key++) {
         EXPECT(!intmap_failed(intmap_insert(&map, key, (uintptr_t)malloc(1)).status));

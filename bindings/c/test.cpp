@@ -11,8 +11,8 @@ static bool is(intmap_found_value answer, intmap_status status, uint64_t value) 
 }
 
 static bool makes_and_reads(intmap *map) {
-    return intmap_version() == INTMAP_VERSION && intmap_new(map) == INTMAP_DONE
-           && intmap_with_capacity(map, 20) == INTMAP_DONE && intmap_capacity(map) == 32
+    return intmap_version() == INTMAP_VERSION && intmap_new(map) == INTMAP_OK
+           && intmap_with_capacity(map, 20) == INTMAP_OK && intmap_capacity(map) == 32
            && is(intmap_insert(map, 21, 7), INTMAP_ABSENT, 0)
            && intmap_insert_checked(map, 21, 8) == INTMAP_PRESENT
            && is(intmap_get(map, 21), INTMAP_PRESENT, 7) && intmap_get_or(map, 22, 9) == 9
@@ -25,15 +25,15 @@ static bool changes(intmap *map) {
            && is(intmap_add(map, 21, 2), INTMAP_PRESENT, 1)
            && is(intmap_add_or_insert(map, 5, 3), INTMAP_ABSENT, 0)
            && is(intmap_remove(map, 6), INTMAP_ABSENT, 0)
-           && intmap_reserve(map, 100) == INTMAP_DONE
-           && intmap_set_load_factor(map, 500) == INTMAP_DONE;
+           && intmap_reserve(map, 100) == INTMAP_OK
+           && intmap_set_load_factor(map, 500) == INTMAP_OK;
 }
 
 static bool clones_and_walks(intmap *map) {
     intmap other = INTMAP_INIT;
     intmap_cursor at = INTMAP_START;
     intmap_pair pairs[4];
-    bool is_good = intmap_clone(map, &other) == INTMAP_DONE && intmap_equal(map, &other)
+    bool is_good = intmap_clone(map, &other) == INTMAP_OK && intmap_equal(map, &other)
                    && intmap_next(map, &at, pairs, 4) == 2;
     at = INTMAP_START;
     intmap_found_pair first = intmap_step(map, &at);
@@ -49,5 +49,5 @@ int main() {
     bool is_good = makes_and_reads(&map) && changes(&map) && clones_and_walks(&map);
     intmap_free(&map);
     map = INTMAP_NONE;
-    return is_good && !intmap_failed(INTMAP_DONE) && intmap_failed(INTMAP_NO_MAP) ? 0 : 1;
+    return is_good && !intmap_failed(INTMAP_OK) && intmap_failed(INTMAP_NO_MAP) ? 0 : 1;
 }

@@ -6,7 +6,7 @@ use Rattle.intmap.specs.Growing.{IsReservation, IsNewFactor, MayRefuseReserve, M
 use Rattle.intmap.specs.Insertions.{MapInserts}
 use Rattle.intmap.specs.Map.{MapState, after_search, after_remove, written}
 use Rattle.intmap.specs.PlainLists.{RefusalIsDue, list_of}
-use Rattle.intmap_c.specs.Statuses.{done_status, present_status, absent_status, no_memory_status, no_map_status}
+use Rattle.intmap_c.specs.Statuses.{ok_status, present_status, absent_status, no_memory_status, no_map_status}
 use Rattle.intmap_c.specs.declared.answer.FoundValue.{FoundValue}
 use Rattle.intmap_c.specs.Answers.{value_found, no_value, Fails}
 
@@ -37,7 +37,7 @@ AreEqual (Some m) (Some n) same = (same ≡ true) ↔ ((k : ℕ) → bound_to m 
 abbrev pub Clones : Option State → Option State → Option State → ℤ → Type 0
 Clones None old new status = (status ≡ no_map_status) × (new ≡ old)
 Clones (Some m) old new status =
-    ((status ≡ done_status) × ((n : State) × (new ≡ Some n) × IsClone (λ v w. w ≡ v) m n))
+    ((status ≡ ok_status) × ((n : State) × (new ≡ Some n) × IsClone (λ v w. w ≡ v) m n))
     ⊎ ((status ≡ no_memory_status) × (new ≡ old))
 
 -- k was inserted with v
@@ -90,11 +90,11 @@ pub record Removes (m n : State) (k : ℕ) (answer : FoundValue) : Type 0 where
 -- there are slots for this number of further pairs; or the call failed
 abbrev pub Reserves : State → State → ℕ → ℤ → Type 0
 Reserves m n additional status =
-    ((status ≡ done_status) × IsReservation itself m additional n × BindSame m n)
+    ((status ≡ ok_status) × IsReservation itself m additional n × BindSame m n)
     ⊎ Fails (MayRefuseReserve m.capacity (length m.walk + additional)) m n status
 
 -- the load factor is F, and met; or the call failed
 abbrev pub SetsFactor : State → State → ℕ → ℤ → Type 0
 SetsFactor m n F status =
-    ((status ≡ done_status) × IsNewFactor itself m F n × BindSame m n)
+    ((status ≡ ok_status) × IsNewFactor itself m F n × BindSame m n)
     ⊎ Fails (MayRefuseFactor m.capacity (length m.walk) F) m n status

@@ -4,16 +4,16 @@ use Rattle.intmap.specs.declared.refusal.Cause.{Cause}
 use Rattle.intmap.specs.declared.refusal.Cause.TheVariants.{Memory, TooLarge}
 
 -- the call did what it says
-abbrev pub done_status : ℤ
-done_status = pos 0
+abbrev pub ok_status : ℤ
+ok_status = pos 0
+
+-- the key, or a pair, was absent before the call
+abbrev pub absent_status : ℤ
+absent_status = pos 0
 
 -- the key, or a pair, was present before the call
 abbrev pub present_status : ℤ
 present_status = pos 1
-
--- the key, or a pair, was absent before the call
-abbrev pub absent_status : ℤ
-absent_status = pos 2
 
 -- -1: an allocation failed
 abbrev pub no_memory_status : ℤ

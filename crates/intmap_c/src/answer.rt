@@ -8,13 +8,13 @@ use intmap::Cause;
 // These are the statuses of intmap.h.
 
 /// The call did what it says.
-pub const DONE: i32 = 0;
+pub const OK: i32 = 0;
+
+/// The key, or a pair, was absent before the call.
+pub const ABSENT: i32 = 0;
 
 /// The key, or a pair, was present before the call.
 pub const PRESENT: i32 = 1;
-
-/// The key, or a pair, was absent before the call.
-pub const ABSENT: i32 = 2;
 
 /// The call failed: an allocation failed.
 pub const NO_MEMORY: i32 = -1;

@@ -4,7 +4,7 @@ ghost use Rattle.intmap_c.specs.Answers.{OnMap};
 ghost use Rattle.intmap_c.specs.Calls.{Reserves, SetsFactor};
 ghost use Rattle.intmap_c.specs.Statuses.{no_map_status};
 
-use crate::answer::{DONE, NO_MAP, status_of};
+use crate::answer::{NO_MAP, OK, status_of};
 use crate::handle::{Handle, put, take};
 use intmap::IntMap;
 use std::alloc::Global;
@@ -14,7 +14,7 @@ fn reserve(map: &mut IntMap<u64, u64>, additional: usize) -> i32
     ensures { Reserves map.old map.new additional result }
 {
     match map.reserve(additional) {
-        Ok(()) => DONE,
+        Ok(()) => OK,
         Err(cause) => status_of(cause),
     }
 }
@@ -24,7 +24,7 @@ fn set_load_factor(map: &mut IntMap<u64, u64>, thousandths: usize) -> i32
     ensures { SetsFactor map.old map.new thousandths result }
 {
     match map.set_load_factor(thousandths) {
-        Ok(()) => DONE,
+        Ok(()) => OK,
         Err(cause) => status_of(cause),
     }
 }
@@ -34,7 +34,7 @@ fn set_load_factor(map: &mut IntMap<u64, u64>, thousandths: usize) -> i32
 /// otherwise with `NO_MEMORY` if an allocation fails. A failed call leaves the map.
 ///
 /// ```text
-/// intmap_reserve(&map, 100)    INTMAP_DONE, and 128 slots in an empty map
+/// intmap_reserve(&map, 100)    INTMAP_OK, and 128 slots in an empty map
 /// ```
 #[unsafe(no_mangle)]
 pub extern "C" fn intmap_reserve(alloc: Global, handle: &mut Handle, additional: usize) -> i32
@@ -56,7 +56,7 @@ pub extern "C" fn intmap_reserve(alloc: Global, handle: &mut Handle, additional:
 /// `NO_MEMORY` if an allocation fails. A failed call leaves the map and its load factor.
 ///
 /// ```text
-/// intmap_set_load_factor(&map, 100)    INTMAP_DONE, and 32 slots where 3 pairs were in 4
+/// intmap_set_load_factor(&map, 100)    INTMAP_OK, and 32 slots where 3 pairs were in 4
 /// ```
 #[unsafe(no_mangle)]
 pub extern "C" fn intmap_set_load_factor(

@@ -3,18 +3,18 @@ ghost use Rattle.std.specs.Prelude.{◌≡◌, ◌⊎◌, ◌↔◌, ◌^◌, �
 ghost use Rattle.intmap.specs.Growth.{IsLeastPower};
 ghost use Rattle.intmap.specs.Map.{empty_map, first_capacity, least_capacity};
 ghost use Rattle.intmap_c.specs.Answers.{IsFailed};
-ghost use Rattle.intmap_c.specs.Statuses.{done_status, no_memory_status, too_large_status};
+ghost use Rattle.intmap_c.specs.Statuses.{ok_status, no_memory_status, too_large_status};
 
-use crate::answer::{DONE, NO_MEMORY, status_of};
+use crate::answer::{NO_MEMORY, OK, status_of};
 use crate::handle::{Handle, put, take};
 use intmap::{Cause, IntMap};
 use std::alloc::Global;
 
-/// Puts a new map into the handle and returns `DONE`. If the map could not be made, or there is no
+/// Puts a new map into the handle and returns `OK`. If the map could not be made, or there is no
 /// memory for its block, it returns why, and the handle stays.
 pub(crate) fn keep(alloc: Global, handle: &mut Handle, made: Result<IntMap<u64, u64>, Cause>) -> i32
     ensures { MatchResult made
-        (λ map. ((result ≡ done_status) × (handle.new.value ≡ Some map))
+        (λ map. ((result ≡ ok_status) × (handle.new.value ≡ Some map))
         ⊎ ((result ≡ no_memory_status) × (handle.new.value ≡ handle.old.value)))
         (λ cause. (handle.new.value ≡ handle.old.value) × IsFailed result
         × ((result ≡ too_large_status) ↔ (cause ≡ Cause.TooLarge))) }
@@ -23,7 +23,7 @@ pub(crate) fn keep(alloc: Global, handle: &mut Handle, made: Result<IntMap<u64, 
         Ok(map) => match Box::new(alloc, map) {
             Ok(map) => {
                 put(handle, alloc, map);
-                DONE
+                OK
             }
             Err(_) => NO_MEMORY,
         },
@@ -35,11 +35,11 @@ pub(crate) fn keep(alloc: Global, handle: &mut Handle, made: Result<IntMap<u64, 
 /// that map is freed. It fails with `NO_MEMORY` if an allocation fails, and then the handle stays.
 ///
 /// ```text
-/// intmap_new(&map)    INTMAP_DONE, and intmap_capacity(&map) is 4
+/// intmap_new(&map)    INTMAP_OK, and intmap_capacity(&map) is 4
 /// ```
 #[unsafe(no_mangle)]
 pub extern "C" fn intmap_new(alloc: Global, handle: &mut Handle) -> i32
-    ensures { ((result ≡ done_status) × (handle.new.value ≡ Some (empty_map first_capacity)))
+    ensures { ((result ≡ ok_status) × (handle.new.value ≡ Some (empty_map first_capacity)))
         ⊎ ((result ≡ no_memory_status) × (handle.new.value ≡ handle.old.value)) }
 {
     keep(alloc, handle, IntMap::new(alloc))
@@ -51,12 +51,12 @@ pub extern "C" fn intmap_new(alloc: Global, handle: &mut Handle) -> i32
 /// `NO_MEMORY` if an allocation fails. A failed call leaves the handle.
 ///
 /// ```text
-/// intmap_with_capacity(&map, 20)                     INTMAP_DONE, and 32 slots
+/// intmap_with_capacity(&map, 20)                     INTMAP_OK, and 32 slots
 /// intmap_with_capacity(&map, 9223372036854775809)    INTMAP_TOO_LARGE
 /// ```
 #[unsafe(no_mangle)]
 pub extern "C" fn intmap_with_capacity(alloc: Global, handle: &mut Handle, capacity: usize) -> i32
-    ensures outcome { ((result ≡ done_status)
+    ensures outcome { ((result ≡ ok_status)
         × ((D : ℕ) × IsLeastPower (max capacity least_capacity) D
         × (handle.new.value ≡ Some (empty_map D))))
         ⊎ (IsFailed result × (handle.new.value ≡ handle.old.value)) }

@@ -279,7 +279,7 @@ fn clone(alloc: Global, lent: LentMap<'_>, to: &mut Handle) -> i32
 /// factor. If `to` had a map, that map is freed. If an allocation fails, `to` stays.
 ///
 /// ```text
-/// intmap_clone(&map, &other)    INTMAP_DONE, and each key has the same value in both
+/// intmap_clone(&map, &other)    INTMAP_OK, and each key has the same value in both
 /// ```
 #[unsafe(no_mangle)]
 pub unsafe extern "C" fn intmap_clone(alloc: Global, word: &Word, to: &mut Handle) -> i32
