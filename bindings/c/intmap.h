@@ -264,6 +264,10 @@ INTMAP_NONNULL INTMAP_MUST_USE intmap_status intmap_set_load_factor(intmap *map,
 // Returns INTMAP_PRESENT with the first pair of the walk from the cursor on, and moves the cursor
 // behind it; INTMAP_ABSENT if none is left; or INTMAP_NO_MAP. A whole walk takes time in the pairs
 // and a 64th of the slots.
+//
+// Between two steps only intmap_set, intmap_add, and intmap_cut with this cursor may change the
+// map. No status tells of another change: after intmap_insert or intmap_remove, start anew. To
+// remove along a walk, call intmap_cut.
 INTMAP_NONNULL intmap_found_pair intmap_step(const intmap *map, intmap_cursor *at) INTMAP_CALL;
 
 // Copies pairs of the walk from the cursor on, at most `room`, and moves the cursor behind them. It
