@@ -49,16 +49,15 @@
 // pairs: slot after slot, and each slot from front to back. It depends only on the calls that were
 // made.
 //
-// KEYS AND VALUES. Each number of 64 bits is a key, and each is a value. An address is stored as
-// (uint64_t)(uintptr_t)address. No call follows it, so what it leads to is the caller's to free.
+// KEYS AND VALUES. Each number of 64 bits is a key, and each is a value. An address is stored by
+// intmap_from_pointer. No call follows it, so what it leads to is the caller's to free.
 //
 // COST. A call on one key takes time in the number of pairs that share its slot. That is about one,
 // unless many keys share their low bits. Shift those away, or number the keys anew: in place of
 // multiples of 4096 take key >> 12, of what malloc returned address >> 4, of row << 32 | column
 // row * columns + column. If strangers choose the keys, they can make each call linear. Then mix
-// each key with a secret; the README has two functions for that. intmap_filled_slots tells of
-// shared slots. An insertion that adds slots moves all pairs, which is constant time a pair over
-// all insertions.
+// each key by intmap_mix. intmap_filled_slots tells of shared slots. An insertion that adds slots
+// moves all pairs, which is constant time a pair over all insertions.
 //
 // MEMORY. It comes from malloc: at least 48 bytes a slot, so some 50 to 120 a pair in a map that
 // has grown, and up to 140 if many keys share slots. A clone has as many slots.
@@ -84,9 +83,15 @@ extern "C" {
 
 #if defined(__GNUC__) || defined(__clang__)
 #define INTMAP_NONNULL __attribute__((nonnull))
-#define INTMAP_MUST_USE __attribute__((warn_unused_result))
 #else
 #define INTMAP_NONNULL
+#endif
+
+// A compiler warns of a status that isn't read, if the call may fail for want of memory. With gcc a
+// cast to void doesn't help. To have no warning, define INTMAP_NO_MUST_USE before this file.
+#if (defined(__GNUC__) || defined(__clang__)) && !defined(INTMAP_NO_MUST_USE)
+#define INTMAP_MUST_USE __attribute__((warn_unused_result))
+#else
 #define INTMAP_MUST_USE
 #endif
 
@@ -309,6 +314,33 @@ INTMAP_NONNULL intmap_found_pair intmap_cut(intmap *map, intmap_cursor *at) INTM
 // load factors. A word without a map is equal to another without one, and to no map. It takes a
 // lookup for each pair, and time in a 64th of the slots.
 INTMAP_NONNULL bool intmap_equal(const intmap *map, const intmap *other) INTMAP_CALL;
+
+// Returns an address as a key or a value. It may be null.
+static inline uint64_t intmap_from_pointer(const void *pointer) INTMAP_CALL {
+    return (uint64_t)(uintptr_t)pointer;
+}
+
+// Returns the address again.
+static inline void *intmap_to_pointer(uint64_t number) INTMAP_CALL {
+    return (void *)(uintptr_t)number;
+}
+
+// Mixes a key with a secret, so that a stranger can't choose the low bits, by which it has its slot.
+// Different keys stay different. It is no cipher: who sees walks, or times calls, may learn the
+// secret.
+static inline uint64_t intmap_mix(uint64_t key, uint64_t secret) INTMAP_CALL {
+    key ^= secret;
+    key = (key ^ key >> 30) * 0xBF58476D1CE4E5B9u;
+    key = (key ^ key >> 27) * 0x94D049BB133111EBu;
+    return key ^ key >> 31;
+}
+
+// Returns the key again, of which intmap_mix made this number with the same secret.
+static inline uint64_t intmap_unmix(uint64_t mixed, uint64_t secret) INTMAP_CALL {
+    uint64_t key = (mixed ^ mixed >> 31 ^ mixed >> 62) * 0x319642B2D24D8EC3u;
+    key = (key ^ key >> 27 ^ key >> 54) * 0x96DE1B173F119089u;
+    return key ^ key >> 30 ^ key >> 60 ^ secret;
+}
 
 #ifdef __cplusplus
 }

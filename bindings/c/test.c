@@ -869,7 +869,7 @@ static void test_writes_in_walk(void) {
 // Values that are addresses of blocks, as docs/C.md frees them.
 
 static void free_value(uint64_t value) {
-    free((void *)(uintptr_t)value);
+    free(intmap_to_pointer(value));
 }
 
 // Removes the pairs with odd keys, and frees what their values point to.
@@ -901,7 +901,7 @@ static void test_addresses(void) {
     EXPECT(intmap_new(&map) == INTMAP_OK);
     uint64_t blocks = live_blocks;
     for (uint64_t key = 0; key < 100; key++) {
-        EXPECT(!intmap_failed(intmap_insert(&map, key, (uintptr_t)malloc(1)).status));
+        EXPECT(!intmap_failed(intmap_insert(&map, key, intmap_from_pointer(malloc(1))).status));
     }
     EXPECT(live_blocks >= blocks + 100);
     blocks = live_blocks;
@@ -914,31 +914,37 @@ static void test_addresses(void) {
 
 // Keys that share a slot, until they are mixed with a secret.
 
-// Mixes a key with a secret, so that its low bits can't be chosen.
-static uint64_t mixed(uint64_t key, uint64_t secret) {
-    key ^= secret;
-    key = (key ^ key >> 30) * 0xBF58476D1CE4E5B9u;
-    key = (key ^ key >> 27) * 0x94D049BB133111EBu;
-    return key ^ key >> 31;
-}
-
-// The key again.
-static uint64_t unmixed(uint64_t key, uint64_t secret) {
-    key = (key ^ key >> 31 ^ key >> 62) * 0x319642B2D24D8EC3u;
-    key = (key ^ key >> 27 ^ key >> 54) * 0x96DE1B173F119089u;
-    return key ^ key >> 30 ^ key >> 60 ^ secret;
-}
-
 static void test_mixed_keys(void) {
     uint64_t secret = number();
     call_make(true, 0);
     for (uint64_t key = 0; key < 1000; key++) {
-        EXPECT(unmixed(mixed(key << 40, secret), secret) == key << 40);
-        call_insertion(INSERT, mixed(key << 40, secret), key);
+        call_insertion(INSERT, intmap_mix(key << 40, secret), key);
     }
     EXPECT(intmap_filled_slots(&it->map) > 500);
     check(it);
     end_test();
+}
+
+// Each number is the mixture of one key. The first four mixtures are what SplitMix64 returns from
+// the seed 0.
+static void test_mixtures(void) {
+    static const uint64_t known[] = {0xE220A8397B1DCDAFu, 0x6E789E6AA1B965F4u,
+                                     0x06C45D188009454Fu, 0xF88BB8A8724C81ECu};
+    for (uint64_t i = 0; i < 4; i++) {
+        EXPECT(intmap_mix((i + 1) * 0x9E3779B97F4A7C15u, 0) == known[i]);
+    }
+    for (int i = 0; i < 10000; i++) {
+        uint64_t secret = number(), key = i < 64 ? (uint64_t)1 << i : number();
+        EXPECT(intmap_unmix(intmap_mix(key, secret), secret) == key);
+        EXPECT(intmap_mix(intmap_unmix(key, secret), secret) == key);
+        EXPECT(intmap_mix(key, secret) == intmap_mix(key ^ secret, 0));
+    }
+}
+
+static void test_pointers(void) {
+    int place = 0;
+    EXPECT(intmap_to_pointer(intmap_from_pointer(&place)) == &place);
+    EXPECT(intmap_from_pointer(NULL) == (uintptr_t)NULL && intmap_to_pointer(0) == NULL);
 }
 
 // A word is moved.
@@ -982,6 +988,8 @@ static void test_each(void) {
     RUN(test_writes_in_walk());
     RUN(test_addresses());
     RUN(test_mixed_keys());
+    RUN(test_mixtures());
+    RUN(test_pointers());
     RUN(test_move());
 }
 

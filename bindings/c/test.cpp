@@ -44,9 +44,16 @@ static bool clones_and_walks(intmap *map) {
     return is_good && intmap_len(map) == 0 && intmap_equal(map, map);
 }
 
+static bool takes_other_numbers() {
+    int place = 0;
+    return intmap_to_pointer(intmap_from_pointer(&place)) == &place
+           && intmap_unmix(intmap_mix(21, 7), 7) == 21;
+}
+
 int main() {
     intmap map = INTMAP_INIT;
-    bool is_good = makes_and_reads(&map) && changes(&map) && clones_and_walks(&map);
+    bool is_good = makes_and_reads(&map) && changes(&map) && clones_and_walks(&map)
+                   && takes_other_numbers();
     intmap_free(&map);
     map = INTMAP_NONE;
     return is_good && !intmap_failed(INTMAP_OK) && intmap_failed(INTMAP_NO_MAP) ? 0 : 1;
