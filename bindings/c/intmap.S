@@ -9,7 +9,7 @@
  *
  * Written by tools/assembly of the repository, and not to be edited.
  * Compilers: rattle-kit-13f logic dac8208d650f15bf; clang version 22.1.8
- * Sources: ff3233cb480755d4df6d2814ce0b9b3de101bfd09ebbad4c7bef8d3318f535f9
+ * Sources: 37e93644137f8e247f9efc11090c27ce0fa1e4db04e03b3cfab679e2219efbbd
  *
  * SPDX-License-Identifier: MIT
  *
@@ -2575,9 +2575,8 @@ intmap_get:
 	andq	(%rcx), %rdx
 	leaq	(%rdx,%rdx,2), %rcx
 	shlq	$4, %rcx
-	movl	$2, %edx
 	cmpb	$1, (%rax,%rcx)
-	jne	.LBB19_2
+	jne	.LBB19_4
 	addq	%rcx, %rax
 	cmpq	%rsi, 8(%rax)
 	jne	.LBB19_8
@@ -2588,13 +2587,12 @@ intmap_get:
 	retq
 .LBB19_1:
 	movl	$4294967293, %edx
-.LBB19_2:
 	xorl	%eax, %eax
 	retq
 .LBB19_8:
 	movq	32(%rax), %rcx
 	testq	%rcx, %rcx
-	je	.LBB19_2
+	je	.LBB19_4
 	movq	24(%rax), %rax
 	.p2align	4
 .LBB19_10:
@@ -2603,7 +2601,10 @@ intmap_get:
 	addq	$16, %rax
 	decq	%rcx
 	jne	.LBB19_10
-	jmp	.LBB19_2
+.LBB19_4:
+	xorl	%eax, %eax
+	xorl	%edx, %edx
+	retq
 .Lfunc_end19:
 	.size	intmap_get, .Lfunc_end19-intmap_get
 
@@ -3036,7 +3037,7 @@ intmap_step:
 	movq	%rcx, %r8
 	shrq	$6, %r8
 	movq	16(%rdi), %r9
-	movl	$2, %esi
+	xorl	%esi, %esi
 	cmpq	%r8, %r9
 	jbe	.LBB23_16
 .LBB23_4:
@@ -3204,8 +3205,8 @@ intmap_add:
 	jne	.LBB24_7
 .LBB24_9:
 	movq	%r8, (%rdi)
-	movl	$2, %edx
 	xorl	%eax, %eax
+	xorl	%edx, %edx
 	jmp	.LBB24_10
 .LBB24_20:
 	testq	%r12, %r12
@@ -3262,14 +3263,14 @@ intmap_add_or_insert:
 	movq	(%rdx), %r14
 	addq	%r14, %r9
 	movq	%r9, (%rdx)
-	movl	$1, %ebp
+	movl	$1, %r12d
 	movq	(%rdi), %rax
 	movq	%rbx, (%rdi)
 	testq	%rax, %rax
 	jne	.LBB25_24
 	jmp	.LBB25_33
 .LBB25_1:
-	movl	$-3, %ebp
+	movl	$-3, %r12d
 	xorl	%r14d, %r14d
 	jmp	.LBB25_33
 .LBB25_4:
@@ -3304,14 +3305,14 @@ intmap_add_or_insert:
 	callq	intmap.map.IntMap.add_growing.8fdfecb8137bcf0a
 	cmpb	$0, 16(%rsp)
 	je	.LBB25_15
-	xorl	%ebp, %ebp
+	xorl	%r12d, %r12d
 	cmpb	$0, 32(%rsp)
-	sete	%bpl
-	orl	$-2, %ebp
+	sete	%r12b
+	orl	$-2, %r12d
 	movq	%r15, %rdi
 	jmp	.LBB25_22
 .LBB25_9:
-	movl	$-2, %ebp
+	movl	$-2, %r12d
 	jmp	.LBB25_22
 .LBB25_16:
 	movq	8(%rbx), %rdx
@@ -3331,7 +3332,7 @@ intmap_add_or_insert:
 	movq	%r15, %rdi
 	testb	%al, %al
 	je	.LBB25_19
-	movl	$-1, %ebp
+	movl	$-1, %r12d
 	jmp	.LBB25_22
 .LBB25_17:
 	movq	$1, (%rax)
@@ -3339,7 +3340,7 @@ intmap_add_or_insert:
 	movq	%r9, 16(%rax)
 .LBB25_19:
 	movq	%r14, 56(%rbx)
-	movl	$2, %ebp
+	xorl	%r12d, %r12d
 .LBB25_22:
 	xorl	%r14d, %r14d
 	movq	(%rdi), %rax
@@ -3349,25 +3350,25 @@ intmap_add_or_insert:
 .LBB25_24:
 	movq	8(%rax), %r15
 	movq	32(%rax), %rbx
-	movq	40(%rax), %r13
+	movq	40(%rax), %rbp
 	movq	48(%rax), %rcx
 	movq	%rcx, 8(%rsp)
-	movq	24(%rax), %r12
+	movq	24(%rax), %r13
 	movq	%rax, %rdi
 	callq	rattle_dealloc@PLT
-	testq	%r12, %r12
+	testq	%r13, %r13
 	je	.LBB25_26
 	movq	%r15, %rdi
 	callq	rattle_dealloc@PLT
 .LBB25_26:
-	testq	%r13, %r13
+	testq	%rbp, %rbp
 	je	.LBB25_31
 	leaq	40(%rbx), %r15
 	jmp	.LBB25_28
 	.p2align	4
 .LBB25_30:
 	addq	$48, %r15
-	decq	%r13
+	decq	%rbp
 	je	.LBB25_31
 .LBB25_28:
 	cmpq	$0, (%r15)
@@ -3381,7 +3382,7 @@ intmap_add_or_insert:
 	movq	%rbx, %rdi
 	callq	rattle_dealloc@PLT
 .LBB25_33:
-	movl	%ebp, %edx
+	movl	%r12d, %edx
 	movq	%r14, %rax
 	addq	$56, %rsp
 	popq	%rbx
@@ -3392,7 +3393,7 @@ intmap_add_or_insert:
 	popq	%rbp
 	retq
 .LBB25_15:
-	movl	$2, %ebp
+	xorl	%r12d, %r12d
 	xorl	%r14d, %r14d
 	movq	%r15, %rdi
 	movq	(%rdi), %rax
@@ -3549,7 +3550,7 @@ intmap_cut:
 	shrq	$6, %r13
 	movq	16(%rbx), %rax
 	xorps	%xmm4, %xmm4
-	movl	$2, %r11d
+	xorl	%r11d, %r11d
 	cmpq	%r13, %rax
 	jbe	.LBB27_55
 .LBB27_3:
@@ -3682,7 +3683,7 @@ intmap_cut:
 	jmp	.LBB27_31
 .LBB27_22:
 	cmpq	$-1, %r8
-	movl	$2, %r11d
+	movl	$0, %r11d
 	je	.LBB27_26
 	movq	%r8, %r9
 	shlq	$4, %r9
@@ -3706,7 +3707,7 @@ intmap_cut:
 	movq	%r15, %r8
 	movaps	80(%rsp), %xmm5
 	xorps	%xmm4, %xmm4
-	movl	$2, %r11d
+	xorl	%r11d, %r11d
 	movq	24(%rsp), %r10
 	movq	56(%rsp), %rcx
 	movq	64(%rsp), %rdx
@@ -3760,6 +3761,7 @@ intmap_cut:
 	cmpq	%r13, %rax
 	ja	.LBB27_3
 	xorps	%xmm4, %xmm4
+	xorl	%r11d, %r11d
 	jmp	.LBB27_55
 .LBB27_1:
 	xorps	%xmm4, %xmm4
@@ -4046,7 +4048,7 @@ intmap_insert:
 .LBB29_7:
 	movl	$-3, %ebp
 	xorl	%r14d, %r14d
-	jmp	.LBB29_36
+	jmp	.LBB29_37
 .LBB29_8:
 	movq	32(%rax), %r11
 	testq	%r11, %r11
@@ -4057,7 +4059,7 @@ intmap_insert:
 	.p2align	4
 .LBB29_10:
 	cmpq	%r8, (%rdx,%rsi)
-	je	.LBB29_21
+	je	.LBB29_22
 	incq	%r10
 	addq	$16, %rsi
 	cmpq	%r10, %r11
@@ -4080,16 +4082,16 @@ intmap_insert:
 	movq	%r14, %rdx
 	callq	intmap.map.IntMap.add_growing.8fdfecb8137bcf0a
 	cmpb	$0, 16(%rsp)
-	je	.LBB29_37
+	je	.LBB29_27
 	xorl	%ebp, %ebp
 	cmpb	$0, 32(%rsp)
 	sete	%bpl
 	orl	$-2, %ebp
 	movq	%r15, %rdi
-	jmp	.LBB29_26
+	jmp	.LBB29_21
 .LBB29_17:
 	movl	$-2, %ebp
-	jmp	.LBB29_26
+	jmp	.LBB29_21
 .LBB29_18:
 	movq	8(%rbx), %rdx
 	movq	%rcx, %rsi
@@ -4099,7 +4101,7 @@ intmap_insert:
 	btsq	%rcx, %r11
 	movq	%r11, (%rdx,%rsi,8)
 	btq	%rcx, %r10
-	jae	.LBB29_24
+	jae	.LBB29_25
 	movq	%rdi, %r15
 	movq	%rax, %rdi
 	movq	%r8, %rsi
@@ -4107,17 +4109,23 @@ intmap_insert:
 	callq	intmap_table.slot.Slot.push.57eeeff9ae3185cd
 	movq	%r15, %rdi
 	testb	%al, %al
-	je	.LBB29_25
+	je	.LBB29_26
 	movl	$-1, %ebp
-	jmp	.LBB29_26
 .LBB29_21:
+	xorl	%r14d, %r14d
+	movq	(%rdi), %rax
+	movq	%rbx, (%rdi)
+	testq	%rax, %rax
+	jne	.LBB29_28
+	jmp	.LBB29_37
+.LBB29_22:
 	decq	%r11
 	movq	%r11, 32(%rax)
 	movq	%r11, %rcx
 	shlq	$4, %rcx
 	movq	8(%rdx,%rcx), %r14
 	cmpq	%r10, %r11
-	je	.LBB29_23
+	je	.LBB29_24
 	movq	(%rdx,%rcx), %rcx
 	movq	8(%rdx,%rsi), %r11
 	movq	%rcx, (%rdx,%rsi)
@@ -4127,7 +4135,7 @@ intmap_insert:
 	movq	%r10, %rsi
 	shlq	$4, %rsi
 	movq	%r11, %r14
-.LBB29_23:
+.LBB29_24:
 	movq	%r8, (%rdx,%rsi)
 	movq	%r9, 8(%rdx,%rsi)
 	incq	%r10
@@ -4137,22 +4145,30 @@ intmap_insert:
 	movq	(%rdi), %rax
 	movq	%rbx, (%rdi)
 	testq	%rax, %rax
-	jne	.LBB29_27
-	jmp	.LBB29_36
-.LBB29_24:
+	jne	.LBB29_28
+	jmp	.LBB29_37
+.LBB29_25:
 	movq	$1, (%rax)
 	movq	%r8, 8(%rax)
 	movq	%r9, 16(%rax)
-.LBB29_25:
-	movq	%r14, 56(%rbx)
-	movl	$2, %ebp
 .LBB29_26:
+	movq	%r14, 56(%rbx)
 	xorl	%r14d, %r14d
+	xorl	%ebp, %ebp
 	movq	(%rdi), %rax
 	movq	%rbx, (%rdi)
 	testq	%rax, %rax
-	je	.LBB29_36
+	jne	.LBB29_28
+	jmp	.LBB29_37
 .LBB29_27:
+	xorl	%r14d, %r14d
+	xorl	%ebp, %ebp
+	movq	%r15, %rdi
+	movq	(%rdi), %rax
+	movq	%rbx, (%rdi)
+	testq	%rax, %rax
+	je	.LBB29_37
+.LBB29_28:
 	movq	8(%rax), %r15
 	movq	32(%rax), %rbx
 	movq	40(%rax), %r13
@@ -4162,31 +4178,31 @@ intmap_insert:
 	movq	%rax, %rdi
 	callq	rattle_dealloc@PLT
 	testq	%r12, %r12
-	je	.LBB29_29
+	je	.LBB29_30
 	movq	%r15, %rdi
 	callq	rattle_dealloc@PLT
-.LBB29_29:
+.LBB29_30:
 	testq	%r13, %r13
-	je	.LBB29_34
+	je	.LBB29_35
 	leaq	40(%rbx), %r15
-	jmp	.LBB29_32
+	jmp	.LBB29_33
 	.p2align	4
-.LBB29_31:
+.LBB29_32:
 	addq	$48, %r15
 	decq	%r13
-	je	.LBB29_34
-.LBB29_32:
+	je	.LBB29_35
+.LBB29_33:
 	cmpq	$0, (%r15)
-	je	.LBB29_31
+	je	.LBB29_32
 	movq	-16(%r15), %rdi
 	callq	rattle_dealloc@PLT
-	jmp	.LBB29_31
-.LBB29_34:
+	jmp	.LBB29_32
+.LBB29_35:
 	cmpq	$0, 8(%rsp)
-	je	.LBB29_36
+	je	.LBB29_37
 	movq	%rbx, %rdi
 	callq	rattle_dealloc@PLT
-.LBB29_36:
+.LBB29_37:
 	movl	%ebp, %edx
 	movq	%r14, %rax
 	addq	$56, %rsp
@@ -4197,15 +4213,6 @@ intmap_insert:
 	popq	%r15
 	popq	%rbp
 	retq
-.LBB29_37:
-	movl	$2, %ebp
-	xorl	%r14d, %r14d
-	movq	%r15, %rdi
-	movq	(%rdi), %rax
-	movq	%rbx, (%rdi)
-	testq	%rax, %rax
-	jne	.LBB29_27
-	jmp	.LBB29_36
 .LBB29_38:
 	ud2
 .Lfunc_end29:
@@ -4317,7 +4324,7 @@ intmap_insert_checked:
 	movq	%r9, 16(%rax)
 .LBB30_17:
 	movq	%r14, 56(%rbx)
-	movl	$2, %ebp
+	xorl	%ebp, %ebp
 .LBB30_20:
 	movq	(%rdi), %rax
 	movq	%rbx, (%rdi)
@@ -4367,7 +4374,7 @@ intmap_insert_checked:
 	popq	%rbp
 	retq
 .LBB30_13:
-	movl	$2, %ebp
+	xorl	%ebp, %ebp
 	movq	%r15, %rdi
 	movq	(%rdi), %rax
 	movq	%rbx, (%rdi)
@@ -4435,8 +4442,8 @@ intmap_remove:
 	jne	.LBB31_7
 .LBB31_9:
 	movq	%rdx, (%rdi)
-	movl	$2, %edx
 	xorl	%eax, %eax
+	xorl	%edx, %edx
 	jmp	.LBB31_10
 .LBB31_14:
 	movq	8(%rdx), %rax
@@ -4720,8 +4727,8 @@ intmap_set:
 	jne	.LBB33_7
 .LBB33_9:
 	movq	%r8, (%rdi)
-	movl	$2, %edx
 	xorl	%eax, %eax
+	xorl	%edx, %edx
 	jmp	.LBB33_10
 .LBB33_20:
 	testq	%r12, %r12
@@ -6905,7 +6912,7 @@ intmap_get:
 	b.ne	.LBB19_7
 .LBB19_9:
 	mov	x0, xzr
-	mov	w1, #2
+	mov	x1, xzr
 	ret
 .Lfunc_end19:
 	.size	intmap_get, .Lfunc_end19-intmap_get
@@ -7277,9 +7284,8 @@ intmap_step:
 	cmp	x12, x10
 	b.hi	.LBB23_4
 .LBB23_2:
-	mov	w9, #2
 	str	q0, [x8]
-	stp	w9, wzr, [x8, #16]
+	stp	wzr, wzr, [x8, #16]
 	ret
 .LBB23_3:
 	add	x11, x12, #1
@@ -7424,7 +7430,7 @@ intmap_add:
 	b.ne	.LBB24_15
 .LBB24_17:
 	mov	x8, xzr
-	mov	w1, #2
+	mov	x1, xzr
 	str	x10, [x0]
 	ldp	x20, x19, [sp, #48]
 	ldp	x22, x21, [sp, #32]
@@ -7580,16 +7586,16 @@ intmap_add_or_insert:
 	str	x5, [x8, #16]
 	stp	x9, x4, [x8]
 .LBB25_20:
+	mov	w22, wzr
 	mov	x20, xzr
 	str	x21, [x19, #56]
-	mov	w22, #2
 	ldr	x8, [x0]
 	str	x19, [x0]
 	cbnz	x8, .LBB25_22
 	b	.LBB25_31
 .LBB25_21:
+	mov	w22, wzr
 	mov	x20, xzr
-	mov	w22, #2
 	ldr	x8, [x23]
 	str	x19, [x23]
 	cbz	x8, .LBB25_31
@@ -7917,9 +7923,9 @@ intmap_cut:
 	cmp	x10, x8
 	b.hi	.LBB27_2
 .LBB27_33:
-	mov	x23, xzr
 	mov	x22, xzr
-	mov	w24, #2
+	mov	w24, wzr
+	mov	x23, xzr
 	ldr	x8, [x0]
 	str	x20, [x0]
 	cbz	x8, .LBB27_44
@@ -8241,15 +8247,15 @@ intmap_insert:
 	stp	x9, x4, [x8]
 .LBB29_26:
 	mov	x20, xzr
+	mov	w22, wzr
 	str	x21, [x19, #56]
-	mov	w22, #2
 	ldr	x8, [x0]
 	str	x19, [x0]
 	cbnz	x8, .LBB29_28
 	b	.LBB29_37
 .LBB29_27:
 	mov	x20, xzr
-	mov	w22, #2
+	mov	w22, wzr
 	ldr	x8, [x23]
 	str	x19, [x23]
 	cbz	x8, .LBB29_37
@@ -8352,20 +8358,20 @@ intmap_insert_checked:
 	cmn	x9, #1
 	stp	q0, q0, [sp]
 	b.eq	.LBB30_14
-	add	x20, x9, #1
-	tbz	w20, #2, .LBB30_15
+	add	x21, x9, #1
+	tbz	w21, #2, .LBB30_15
 	ldr	x10, [x19, #64]
 	cmp	x10, x9
 	b.hi	.LBB30_15
-	mov	x21, x0
+	mov	x22, x0
 	mov	x0, sp
 	mov	x1, x19
-	mov	x2, x20
+	mov	x2, x21
 	bl	intmap.map.IntMap.add_growing.8fdfecb8137bcf0a
 	ldrb	w8, [sp]
 	cbz	w8, .LBB30_20
 	ldrb	w8, [sp, #16]
-	mov	x0, x21
+	mov	x0, x22
 	cbz	w8, .LBB30_17
 .LBB30_14:
 	mov	w20, #-2
@@ -8384,13 +8390,13 @@ intmap_insert_checked:
 	orr	x11, x12, x11
 	str	x11, [x10, x9]
 	b.eq	.LBB30_18
-	mov	x21, x0
+	mov	x20, x0
 	mov	x0, x8
 	mov	x1, x4
 	mov	x2, x5
 	bl	intmap_table.slot.Slot.push.57eeeff9ae3185cd
 	mov	w8, w0
-	mov	x0, x21
+	mov	x0, x20
 	tst	w8, #0xff
 	b.eq	.LBB30_19
 .LBB30_17:
@@ -8404,16 +8410,16 @@ intmap_insert_checked:
 	str	x5, [x8, #16]
 	stp	x9, x4, [x8]
 .LBB30_19:
-	str	x20, [x19, #56]
-	mov	w20, #2
+	mov	w20, wzr
+	str	x21, [x19, #56]
 	ldr	x8, [x0]
 	str	x19, [x0]
 	cbnz	x8, .LBB30_21
 	b	.LBB30_30
 .LBB30_20:
-	mov	w20, #2
-	ldr	x8, [x21]
-	str	x19, [x21]
+	mov	w20, wzr
+	ldr	x8, [x22]
+	str	x19, [x22]
 	cbz	x8, .LBB30_30
 .LBB30_21:
 	ldp	x24, x19, [x8, #24]
@@ -8509,7 +8515,7 @@ intmap_remove:
 	b.ne	.LBB31_8
 .LBB31_10:
 	mov	x8, xzr
-	mov	w1, #2
+	mov	x1, xzr
 	str	x10, [x0]
 	ldp	x20, x19, [sp, #48]
 	ldp	x22, x21, [sp, #32]
@@ -8780,7 +8786,7 @@ intmap_set:
 	b.ne	.LBB33_15
 .LBB33_17:
 	mov	x8, xzr
-	mov	w1, #2
+	mov	x1, xzr
 	str	x10, [x0]
 	ldp	x20, x19, [sp, #48]
 	ldp	x22, x21, [sp, #32]

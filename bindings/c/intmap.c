@@ -17,7 +17,7 @@
 // have 16 bytes each.
 //
 // Compilers: rattle-kit-13f logic dac8208d650f15bf; clang version 22.1.8
-// Sources: ff3233cb480755d4df6d2814ce0b9b3de101bfd09ebbad4c7bef8d3318f535f9
+// Sources: 37e93644137f8e247f9efc11090c27ce0fa1e4db04e03b3cfab679e2219efbbd
 //
 // SPDX-License-Identifier: MIT
 //
@@ -2024,7 +2024,7 @@ static ALWAYS_INLINE struct word_word do_intmap_get(char *map, uint64_t key) {
                 r6 = load64(r11 + 32);
                 if (r6 == 0) {
                     r4_2 = 0;
-                    r14 = 2;
+                    r14 = 0;
                     goto after_read_intmap_get;
                 }
                 r3_0 = 0;
@@ -2037,7 +2037,7 @@ static ALWAYS_INLINE struct word_word do_intmap_get(char *map, uint64_t key) {
                     r36 = r3_0 + 1;
                     if (r36 == r6) {
                         r4_2 = 0;
-                        r14 = 2;
+                        r14 = 0;
                         goto after_read_intmap_get;
                     }
                     r3_0 = r36;
@@ -2047,7 +2047,7 @@ static ALWAYS_INLINE struct word_word do_intmap_get(char *map, uint64_t key) {
             r14 = 1;
         } else {
             r4_2 = 0;
-            r14 = 2;
+            r14 = 0;
         }
     }
 after_read_intmap_get:;
@@ -2308,7 +2308,7 @@ static ALWAYS_INLINE char *do_intmap_step(char *found, char *map, char *at) {
                         if (r46 == r2_2) {
                             r6 = 0;
                             r6_2 = 0;
-                            r6_3 = 2;
+                            r6_3 = 0;
                             goto after_read_intmap_step;
                         }
                         r59 = load64(r4 + (r46 << 3));
@@ -2355,7 +2355,7 @@ static ALWAYS_INLINE char *do_intmap_step(char *found, char *map, char *at) {
                 if (r2_3 <= r1910_3) {
                     r6 = 0;
                     r6_2 = 0;
-                    r6_3 = 2;
+                    r6_3 = 0;
                     break;
                 }
                 r2_2 = r2_3;
@@ -2365,7 +2365,7 @@ static ALWAYS_INLINE char *do_intmap_step(char *found, char *map, char *at) {
         } else {
             r6 = 0;
             r6_2 = 0;
-            r6_3 = 2;
+            r6_3 = 0;
         }
     }
 after_read_intmap_step:;
@@ -2457,7 +2457,7 @@ static ALWAYS_INLINE struct word_word do_intmap_add(char *map, uint64_t key, uin
     after_pairs_add:;
         store64(map, r3);
         r6 = 0;
-        r19 = 2;
+        r19 = 0;
     }
 after_pairs_intmap_add:;
     return made_word_word(r6, r19);
@@ -2535,13 +2535,13 @@ static ALWAYS_INLINE struct word_word do_intmap_add_or_insert(char *map, uint64_
                     }
                 }
                 store64(x0 + 56, r44);
-                r40 = 2;
+                r40 = 0;
                 r8 = 0;
                 goto after_pairs_add_or_insert;
             }
             intmap_add_growing(r12, x0, r44, r10, key, more);
             if (load8(r12) == 0) {
-                r40 = 2;
+                r40 = 0;
                 r8 = 0;
                 goto after_pairs_add_or_insert;
             }
@@ -2715,8 +2715,8 @@ static ALWAYS_INLINE char *do_intmap_cut(char *found, char *map, char *at) {
         r28_2, r20_2, r3_0_2, r0_05_3, r19, r29_2, r0_05_4, r13_5, r23_3, r36_2, r20_3, exit_2, r0_05_5, r19_2,
         r29_3, x6, r20_lcssa60_2, r3_0_lcssa59_2, r2_11, r2_12, r2_13, r2_14, r55, r1910_3, r2_16, r3_2, r4_7, r4_8,
         r4_9, r0_06, r12;
-    char *x0, *r4, *r9, *r13, *x11, *x13, *x16, *r13_4, *r9_2, *x3, *x5, *x7, *r11, *x23, *r4_5, *r4_6, *r9_3;
-    uint32_t r6_3, x22;
+    char *x0, *r4, *r9, *r13, *x11, *x13, *x16, *r13_4, *r9_2, *x3, *x5, *x7, *r11, *x22, *r4_5, *r4_6, *r9_3;
+    uint32_t r6_3, r8;
     uint8_t r4_2, r2_5, r2_9, r2_10, r2_15;
     r3 = load64(map);
     store64(map, 0);
@@ -2742,8 +2742,8 @@ static ALWAYS_INLINE char *do_intmap_cut(char *found, char *map, char *at) {
                         r46 = r1_0 + 1;
                         if (r46 == r2_2) {
                             x20 = 0;
+                            r8 = 0;
                             x21 = 0;
-                            x22 = 2;
                             goto after_walk_cut;
                         }
                         r59 = load64(r4 + (r46 << 3));
@@ -2849,7 +2849,7 @@ static ALWAYS_INLINE char *do_intmap_cut(char *found, char *map, char *at) {
                             store64(at + 16, load64(at + 16) + load64(at + 8));
                             r2_7 = r4_3;
                             r2_8 = r4_4;
-                            goto loopexit;
+                            goto loopexit33;
                         }
                         r10 = r29 - 1;
                         r13_4 = load_address(r9 + 24);
@@ -2969,39 +2969,39 @@ static ALWAYS_INLINE char *do_intmap_cut(char *found, char *map, char *at) {
                         continue;
                     }
                     x20 = 0;
+                    r8 = 0;
                     x21 = 0;
-                    x22 = 2;
                     break;
                 }
                 r2_7 = r2_14;
                 r2_8 = r2_13;
-            loopexit:;
+            loopexit33:;
                 store64(x0 + 56, load64(x0 + 56) - 1);
-                x20 = r2_8;
-                x21 = r2_7;
-                x22 = 1;
+                x20 = r2_7;
+                r8 = 1;
+                x21 = r2_8;
                 break;
             }
         } else {
             x20 = 0;
+            r8 = 0;
             x21 = 0;
-            x22 = 2;
         }
     after_walk_cut:;
         r3_2 = load64(map);
         store64(map, r3);
         if (r3_2 == 0) {
-            r6 = x21;
-            r6_2 = x20;
-            r6_3 = x22;
+            r6 = x20;
+            r6_2 = x21;
+            r6_3 = r8;
         } else {
-            x23 = (char *)(uintptr_t)r3_2;
-            r4_5 = load_address(x23 + 8);
-            r4_6 = load_address(x23 + 32);
-            r4_7 = load64(x23 + 40);
-            r4_8 = load64(x23 + 48);
-            r4_9 = load64(x23 + 24);
-            rattle_dealloc(x23);
+            x22 = (char *)(uintptr_t)r3_2;
+            r4_5 = load_address(x22 + 8);
+            r4_6 = load_address(x22 + 32);
+            r4_7 = load64(x22 + 40);
+            r4_8 = load64(x22 + 48);
+            r4_9 = load64(x22 + 24);
+            rattle_dealloc(x22);
             if (r4_9 != 0) {
                 rattle_dealloc(r4_5);
             }
@@ -3020,14 +3020,14 @@ static ALWAYS_INLINE char *do_intmap_cut(char *found, char *map, char *at) {
                 }
             }
             if (r4_8 == 0) {
-                r6 = x21;
-                r6_2 = x20;
-                r6_3 = x22;
+                r6 = x20;
+                r6_2 = x21;
+                r6_3 = r8;
             } else {
                 rattle_dealloc(r4_6);
-                r6 = x21;
-                r6_2 = x20;
-                r6_3 = x22;
+                r6 = x20;
+                r6_2 = x21;
+                r6_3 = r8;
             }
         }
     }
@@ -3187,13 +3187,13 @@ static ALWAYS_INLINE struct word_word do_intmap_insert(char *map, uint64_t key, 
                 }
                 store64(x0 + 56, r44);
                 r5 = 0;
-                spec_select1 = 2;
+                spec_select1 = 0;
                 goto after_pairs_insert;
             }
             intmap_add_growing(r12, x0, r44, r10, key, value);
             if (load8(r12) == 0) {
                 r5 = 0;
-                spec_select1 = 2;
+                spec_select1 = 0;
                 goto after_pairs_insert;
             }
             x10 = (load8(r12 + 16) == 0) ? 4294967295u : 4294967294u;
@@ -3305,12 +3305,12 @@ static ALWAYS_INLINE uint32_t do_intmap_insert_checked(char *map, uint64_t key, 
                     }
                 }
                 store64(x0 + 56, r44);
-                r4_0 = 2;
+                r4_0 = 0;
                 goto after_pairs_insert_checked;
             }
             intmap_add_growing(r12, x0, r44, r10, key, value);
             if (load8(r12) == 0) {
-                r4_0 = 2;
+                r4_0 = 0;
                 goto after_pairs_insert_checked;
             }
             if (load8(r12 + 16) != 0) {
@@ -3471,7 +3471,7 @@ static ALWAYS_INLINE struct word_word do_intmap_remove(char *map, uint64_t key) 
     after_pairs_remove:;
         store64(map, r3);
         r6 = 0;
-        r19 = 2;
+        r19 = 0;
     }
 after_pairs_intmap_remove:;
     return made_word_word(r6, r19);
@@ -3636,7 +3636,7 @@ static ALWAYS_INLINE struct word_word do_intmap_set(char *map, uint64_t key, uin
     after_pairs_set:;
         store64(map, r3);
         r6 = 0;
-        r19 = 2;
+        r19 = 0;
     }
 after_pairs_intmap_set:;
     return made_word_word(r6, r19);
