@@ -123,13 +123,17 @@ impl<K: IntKey, X, A: Allocator> Table<K, X, A> {
     }
 }
 
-impl<K: IntKey, X: Drop, A: Allocator> Table<K, X, A> {
+impl<K: IntKey, X: Drop, A: Allocator + Copy> Table<K, X, A> {
     /// Drops all pairs, slot after slot, and keeps the slots and the memory that they have.
     pub fn clear(&mut self)
         ensures walk { self.new.walk ≡ [] }
         ensures capacity { self.new.capacity ≡ self.old.capacity }
     {
-        self.slots.clear();
+        let mut from = 0;
+        while let Some(index) = self.slots.next_filled(from) {
+            self.slots.clear_at(index);
+            from = index + 1;
+        }
     }
 
     /// Puts the pair of an absent key last in its slot, and returns where it is. If an allocation

@@ -213,7 +213,7 @@ const ROWS: [Row; 16] = [
     (
         (2, 0, &[0, 1, 2]),
         Call::Insert(3),
-        "5 times text 3: Memory; text 0, text 2, text 1, 2 slots, factor 0\n\
+        "3 times text 3: Memory; text 0, text 2, text 1, 2 slots, factor 0\n\
          then None; text 0, text 3, text 2, text 1, 4096 slots, factor 0",
     ),
     (

@@ -85,15 +85,50 @@ fn failures<M, S: PartialEq + std::fmt::Debug>(
     unreachable!()
 }
 
+/// All that a map tells of itself.
+fn state_of(map: &IntMap<u64, u64>) -> (String, usize, usize, usize) {
+    (format!("{map:?}"), map.capacity(), map.load_factor_thousandths(), map.len())
+}
+
 #[test]
 fn a_failed_call_leaves_the_map() {
     for (name, keys, zeros, wanted, call) in MAP_CALLS {
         let make = || map_of(keys, zeros);
-        let state = |map: &IntMap<u64, u64>| {
-            (format!("{map:?}"), map.capacity(), map.load_factor_thousandths(), map.len())
-        };
         let before = bytes();
-        assert_eq!(failures(name, make, state, call), wanted, "requests of {name}");
+        assert_eq!(failures(name, make, state_of, call), wanted, "requests of {name}");
+        assert_eq!(bytes(), before, "bytes left after {name}");
+    }
+}
+
+/// Keys in order in a map with room for them, so that each has a slot of its own.
+fn alone(keys: u64) -> IntMap<u64, u64> {
+    let mut map = IntMap::with_capacity(16);
+    map.extend((0..keys).map(|key| (key, key + 100)));
+    assert_eq!((map.capacity(), map.load()), (16, keys), "each key has a slot of its own");
+    map
+}
+
+/// A name, how many keys there are before, each in a slot of its own, how many requests the call makes
+/// at least, and the call.
+const CALLS_APART: [(&str, u64, u64, MapCall); 8] = [
+    ("insert a second pair", 13, 1, |map| Ok(map.try_insert(19, 1).map(drop)?)),
+    ("or_insert of a second pair", 13, 1, |map| Ok(map.entry(19).try_or_insert(1).map(drop)?)),
+    ("insert_entry of a second pair", 13, 1, |map| {
+        Ok(map.entry(19).try_insert_entry(1).map(drop)?)
+    }),
+    ("insert of a vacant entry", 13, 1, |map| Ok(vacant(map, 19).try_insert(1).map(drop)?)),
+    ("insert and grow", 14, 2, |map| Ok(map.try_insert(15, 1).map(drop)?)),
+    ("reserve", 13, 2, |map| map.try_reserve(100)),
+    ("set_load_factor", 13, 2, |map| map.try_set_load_factor(0.1)),
+    ("clone", 13, 2, |map| map.try_clone().map(drop)),
+];
+
+#[test]
+fn a_failed_call_leaves_a_map_of_keys_in_order() {
+    for (name, keys, least, call) in CALLS_APART {
+        let before = bytes();
+        let requests = failures(name, || alone(keys), state_of, call);
+        assert!(requests >= least, "{requests} requests of {name}");
         assert_eq!(bytes(), before, "bytes left after {name}");
     }
 }

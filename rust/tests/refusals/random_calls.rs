@@ -90,6 +90,10 @@ fn round(random: &mut Random, live: &Rc<Cell<usize>>) -> u64 {
     map.set_load_factor(random.below(5000) as f32 / 1000.0 + 0.3);
     let keys = [5, 30, 200][random.below(3) as usize];
     let shift = [0, 1, 20][random.below(3) as usize];
+    if random.below(3) == 0 {
+        // most keys have a slot of their own
+        map.reserve(keys as usize);
+    }
     let mut failures = 0;
     for _ in 0..CALLS {
         let call = Call {

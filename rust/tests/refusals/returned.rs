@@ -25,22 +25,47 @@ const INSERTIONS: [(&str, Insertion); 8] = [
     }),
 ];
 
-#[test]
-fn a_failed_insertion_returns_its_value() {
-    // the insertion behind 4 keys puts a second pair into a slot, the one behind 14 keys grows the
-    // map
-    for ((name, insert), keys) in INSERTIONS.into_iter().flat_map(|it| [(it, 4), (it, 14)]) {
-        let mut map = texts(keys);
+/// Keys in order in a map with room for them, so that each has a slot of its own.
+fn alone(keys: u64) -> IntMap<u64, String> {
+    let mut map = IntMap::with_capacity(16);
+    map.extend((0..keys).map(|key| (key, key.to_string())));
+    assert_eq!((map.capacity(), map.load()), (16, keys), "each key has a slot of its own");
+    map
+}
+
+/// Makes the insertion with each of its requests failing in turn, and returns how many there were.
+fn returned_each_time(insert: Insertion, make: impl Fn() -> IntMap<u64, String>, of: &str) -> u64 {
+    for number in 1.. {
+        let mut map = make();
         let (capacity, order) = (map.capacity(), format!("{map:?}"));
         let value = String::from("a value");
-        let (returned, failed) = failing_at(1, || insert(&mut map, value));
-        assert!(failed, "{name}, {keys} keys");
-        let Err(Refused { value, cause }) = returned else { panic!("{name} did not fail") };
-        assert_eq!((value.as_str(), cause), ("a value", Cause::Memory), "{name}, {keys} keys");
-        assert_eq!((map.capacity(), format!("{map:?}")), (capacity, order), "{name}, {keys} keys");
-        assert!(insert(&mut map, value).is_ok(), "{name} once more, {keys} keys");
-        assert_eq!(map.get(25).map(String::as_str), Some("a value"), "{name}, {keys} keys");
-        assert_eq!(map.capacity() > capacity, keys == 14, "{name}, {keys} keys");
+        let (returned, failed) = failing_at(number, || insert(&mut map, value));
+        if !failed {
+            assert!(returned.is_ok() && map.contains_key(25), "{of}");
+            return number - 1;
+        }
+        let Err(Refused { value, cause }) = returned else { panic!("{of} did not fail") };
+        assert_eq!((value.as_str(), cause), ("a value", Cause::Memory), "{of}, request {number}");
+        assert_eq!((map.capacity(), format!("{map:?}")), (capacity, order), "{of}, {number}");
+        assert!(insert(&mut map, value).is_ok(), "{of} once more, request {number}");
+        assert_eq!(map.get(25).map(String::as_str), Some("a value"), "{of}, request {number}");
+    }
+    unreachable!()
+}
+
+#[test]
+fn a_failed_insertion_returns_its_value() {
+    // the insertion behind 4 or 10 keys puts a second pair into a slot, the one behind 14 keys grows
+    // the map
+    for (name, insert) in INSERTIONS {
+        for (keys, least) in [(4, 1), (14, 3)] {
+            let requests = returned_each_time(insert, || texts(keys), name);
+            assert!(requests >= least, "{requests} requests of {name}, {keys} keys");
+        }
+        for (keys, least) in [(10, 1), (14, 2)] {
+            let requests = returned_each_time(insert, || alone(keys), name);
+            assert!(requests >= least, "{requests} requests of {name}, {keys} keys apart");
+        }
     }
 }
 

@@ -28,10 +28,11 @@ module _ {K X : Type 0} where
   rows-bare_slots (suc n) = ap (λ R. [] ∷ R) (rows-bare_slots n)
 
   module _ (S T : List (Held K X)) (C : ℕ) (none : S ≡ []) (is : T ≡ S ++ replicate (C - length S) bare_slot) where
-    alone : T ≡ replicate C bare_slot
+    -- behind no slots, empty ones alone are added
+    pub alone : T ≡ replicate C bare_slot
     alone = let all : C - 0 ≡ C = omega arith in is ∙ ap (λ Z. Z ++ replicate (C - length Z) bare_slot) none ∙ ap (λ n. replicate n bare_slot) all
 
-    -- behind no slots, empty ones alone are added: no pair is in them
+    -- no pair is in them
     pub rows-alone : rows T ≡ replicate C []
     rows-alone = ap rows alone ∙ rows-bare_slots C
 
@@ -80,6 +81,13 @@ module _ {K X : Type 0} (S T : List (Held K X)) (D : ℕ) (grown : IsGrown (leng
   joined-added =
       ap joined added ∙ flat_map-append (λ s. s) (rows S) (replicate (D - length S) [])
       ∙ ap (λ L. joined (rows S) ++ L) (joined-emptied (replicate (D - length S) []) (λ i. get_or-of_default (D - length S) i [])) ∙ append-nil (joined (rows S))
+
+  -- behind the old rows, each is empty
+  pub bare-added : (j : ℕ) → length S ≤ j → get_or (rows T) j [] ≡ []
+  bare-added j past =
+      ap (λ R. get_or R j []) added
+      ∙ get_or-append_right (rows S) (replicate (D - length S) []) (length S) j [] (length-rows S) past
+      ∙ get_or-of_default (D - length S) (j - length S) []
 
   module _ (bits : List Bool) (mask : ℕ) (directory : IsDirectory S bits mask) where
     -- there are whole numbers of old slots

@@ -13,8 +13,13 @@ use std::alloc::{AllocError, Allocator};
 
 impl<K: IntKey, X: Drop, A: Allocator + Copy> Table<K, X, A> {
     /// Moves all pairs, in the order of the walk, to their slots among `capacity` slots. If an
-    /// allocation fails, nothing changes.
-    fn grow(&mut self, capacity: usize, placed: &mut Steps) -> Result<(), AllocError>
+    /// allocation fails, nothing changes. If `may_part`, pairs that shared slots may get lone ones.
+    fn grow(
+        &mut self,
+        capacity: usize,
+        may_part: bool,
+        placed: &mut Steps,
+    ) -> Result<(), AllocError>
         requires capacity { IsCapacity capacity }
         requires larger { self.old.capacity ≤ capacity }
         requires fits { length self.old.walk < 2 ^ 64 }
@@ -25,7 +30,7 @@ impl<K: IntKey, X: Drop, A: Allocator + Copy> Table<K, X, A> {
         ensures err { OnErr result (self.new ≡ self.old) }
         ensures none_placed { OnErr result (placed.new ≡ placed.old) }
     {
-        self.slots.grow(capacity, placed)
+        self.slots.grow(capacity, may_part, placed)
     }
 
     /// Makes room for one more pair in the slot of a key, and allocates for exactly that. It
@@ -85,7 +90,7 @@ impl<K: IntKey, X: Drop, A: Allocator + Copy> Table<K, X, A> {
             return Err(value);
         };
         let at = self.add(slot, key, value)?;
-        if self.grow(capacity, placed).is_err() {
+        if self.grow(capacity, true, placed).is_err() {
             return Err(self.take_back(at, is_made));
         }
         Ok(self.locate_last(key))
@@ -106,6 +111,6 @@ impl<K: IntKey, X: Drop, A: Allocator + Copy> Table<K, X, A> {
         if capacity == self.slots.len() {
             return Ok(());
         }
-        self.grow(capacity, &mut Steps::new())
+        self.grow(capacity, false, &mut Steps::new())
     }
 }

@@ -1,16 +1,14 @@
 //! Closures are called at the pairs of slots.
 ghost use Rattle.std.specs.Prelude.{◌≡◌, ◌^◌, ◌<◌, ◌≤◌, List, length, drop};
-ghost use Rattle.intmap_table.specs.Tables.Slots.{rows, row_of, row_keys, joined, IsRowSet, AreMarked};
+ghost use Rattle.intmap_table.specs.Tables.Slots.{row_of, IsRowSet};
 ghost use Rattle.intmap_table.specs.Retaining.{Retains, KeepsAt, TakesPair};
 ghost use Rattle.intmap_table.specs.Taking.{TakesEach};
 ghost use Rattle.intmap_table.specs.Writes.{Writes, WritesAt, TakesPairMut};
 ghost use Rattle.intmap_table.specs.Picking.{AsksAt, ExtractsBehind, PicksAt};
 
-use crate::bits::Bits;
 use crate::kept::Kept;
 use crate::key::IntKey;
-use crate::slot::Slot;
-use crate::table::slots::{Slots, unmark_if_empty};
+use crate::table::slots::{Slots, unmark_unless};
 use crate::table::stored::Stored;
 use std::alloc::Allocator;
 
@@ -26,9 +24,15 @@ impl<K: IntKey, V: Drop, A: Allocator> Slots<K, Kept<V>, A> {
             × Retains (KeepsAt F.FnMut) f.old (row_of self.old index) row f.new
             × (result ≡ length row) }
     {
-        let slot = &mut self.slots[index];
+        if index < self.lone.len() {
+            let slot = &mut self.lone[index];
+            slot.retain(f);
+            unmark_unless(&mut self.directory.bits, slot.is_filled(), index);
+            return slot.len();
+        }
+        let slot = &mut self.shared[index];
         slot.retain(f);
-        unmark_if_empty(&mut self.directory.bits, slot, index);
+        unmark_unless(&mut self.directory.bits, slot.is_filled(), index);
         slot.len()
     }
 }
@@ -53,41 +57,32 @@ impl<K: IntKey, V, A: Allocator> Slots<K, Kept<V>, A> {
             × (place.new ≤ length row) }
         ensures on { place.old ≤ place.new }
     {
-        let slot = &mut self.slots[index];
+        if index < self.lone.len() {
+            let slot = &mut self.lone[index];
+            let found = slot.extract_next(place, f);
+            unmark_unless(&mut self.directory.bits, slot.is_filled(), index);
+            return found;
+        }
+        let slot = &mut self.shared[index];
         let found = slot.extract_next(place, f);
-        unmark_if_empty(&mut self.directory.bits, slot, index);
+        unmark_unless(&mut self.directory.bits, slot.is_filled(), index);
         found
     }
 }
 
-/// Calls the closure at each pair in turn, slot after slot, with a mutable reference to its value.
-/// The bits mark the slots that hold a pair.
-fn write_slots<K: IntKey, V, A: Allocator, F: FnMut(K, &mut V)>(
-    bits: &Bits<A>,
-    slots: &mut Vec<Slot<K, Kept<V>, A>, A>,
-    f: &mut F,
-)
-    requires callable { TakesEach (WritesAt F.FnMut) (TakesPairMut F.FnMut) f.old
-        (joined (rows slots.old.items)) }
-    requires marks { AreMarked (rows slots.old.items) bits.now }
-    ensures pairs { Writes (WritesAt F.FnMut) f.old (joined (rows slots.old.items))
-        (joined (rows slots.new.items)) f.new }
-    ensures keys { row_keys slots.new.items ≡ row_keys slots.old.items }
-{
-    for index in bits.iter() {
-        slots[index].write_each(f);
-    }
-}
-
 impl<K: IntKey, V, A: Allocator> Slots<K, Kept<V>, A> {
-    /// Calls the closure at each pair in turn, with a mutable reference to its value.
-    pub(crate) fn write_each<F: FnMut(K, &mut V)>(&mut self, f: &mut F)
-        requires { TakesEach (WritesAt F.FnMut) (TakesPairMut F.FnMut) f.old
-            (joined (rows self.old)) }
-        ensures pairs { Writes (WritesAt F.FnMut) f.old (joined (rows self.old))
-            (joined (rows self.new)) f.new }
-        ensures keys { row_keys self.new ≡ row_keys self.old }
+    /// Calls the closure at each pair of a slot in turn, with a mutable reference to its value.
+    pub(crate) fn write_at<F: FnMut(K, &mut V)>(&mut self, index: usize, f: &mut F)
+        requires within { index < length self.old }
+        requires callable { TakesEach (WritesAt F.FnMut) (TakesPairMut F.FnMut) f.old
+            (row_of self.old index) }
+        ensures { (row : List (K × V)) × IsRowSet self.old index row self.new
+            × Writes (WritesAt F.FnMut) f.old (row_of self.old index) row f.new }
     {
-        write_slots(&self.directory.bits, &mut self.slots, f);
+        if index < self.lone.len() {
+            self.lone[index].write_each(f);
+        } else {
+            self.shared[index].write_each(f);
+        }
     }
 }

@@ -9,9 +9,14 @@ use crate::memory::alloc::{AllocError, Allocator};
 
 impl<K: IntKey, X, A: Allocator + Copy> Table<K, X, A> {
     /// Moves all pairs, in the order of the walk, to their slots among `capacity` slots. If an
-    /// allocation fails, nothing changes.
-    fn grow(&mut self, capacity: usize, placed: &mut Steps) -> Result<(), AllocError> {
-        self.slots.grow(capacity, placed)
+    /// allocation fails, nothing changes. If `may_part`, pairs that shared slots may get lone ones.
+    fn grow(
+        &mut self,
+        capacity: usize,
+        may_part: bool,
+        placed: &mut Steps,
+    ) -> Result<(), AllocError> {
+        self.slots.grow(capacity, may_part, placed)
     }
 
     /// Makes room for one more pair in the slot of a key, and allocates for exactly that. It
@@ -44,7 +49,7 @@ impl<K: IntKey, X, A: Allocator + Copy> Table<K, X, A> {
             return Err(value);
         };
         let at = self.add(slot, key, value)?;
-        if self.grow(capacity, placed).is_err() {
+        if self.grow(capacity, true, placed).is_err() {
             return Err(self.take_back(at, is_made));
         }
         Ok(self.locate_last(key))
@@ -56,6 +61,6 @@ impl<K: IntKey, X, A: Allocator + Copy> Table<K, X, A> {
         if capacity == self.slots.len() {
             return Ok(());
         }
-        self.grow(capacity, &mut Steps::new())
+        self.grow(capacity, false, &mut Steps::new())
     }
 }

@@ -1,0 +1,163 @@
+//! A panic in calls on slots of one pair each, and where a second pair comes to one of them.
+use crate::aimed::{self, KEYS};
+use crate::fuse::{Value, burn, is_whole, live, panics_at};
+use crate::keys::{self, Key};
+use intmap_proved::{Entry, IntMap};
+use std::rc::Rc;
+
+const SLOTS: u64 = 64;
+
+/// Keys in order in a map with room for them, so that each has a slot of its own.
+fn alone() -> IntMap<u64, Value> {
+    let mut map = IntMap::with_capacity(SLOTS as usize);
+    map.extend((0..KEYS).map(|key| (key, Value::new(key))));
+    assert_eq!(
+        (map.capacity() as u64, map.load()),
+        (SLOTS, KEYS),
+        "each key has a slot of its own"
+    );
+    map
+}
+
+#[test]
+fn a_panic_at_any_place_of_a_call_leaves_a_whole_map_of_keys_in_order() {
+    let mut panics = 0;
+    for (name, call) in aimed::CALLS {
+        for has_second in [false, true] {
+            for number in 1.. {
+                let mut map = alone();
+                if has_second {
+                    map.insert(7 + SLOTS, Value::new(7));
+                }
+                let after = format!("after {name}, a second pair: {has_second}, place {number}");
+                let panicked = panics_at(number, || call(&mut map));
+                is_whole(&map, &after);
+                aimed::is_usable(map, &after);
+                assert_eq!(live(), 0, "values that live {after}");
+                if !panicked {
+                    break;
+                }
+                panics += 1;
+            }
+        }
+    }
+    assert!(panics > 300, "only {panics} panics");
+}
+
+#[test]
+fn a_panic_of_the_closure_of_a_call_on_all_loses_no_pair_of_keys_in_order() {
+    type Call = fn(&mut IntMap<u64, Value>);
+    const CALLS: [Call; 5] = [
+        |map| map.retain(|_, _| burnt()),
+        |map| assert_eq!(map.extract_if(|_, _| !burnt()).count(), 0),
+        |map| map.for_each_mut(|_, _| burn()),
+        |map| map.values_mut().for_each(|_| burn()),
+        |map| map.iter_mut().for_each(|_| burn()),
+    ];
+    for (call, number) in CALLS.iter().flat_map(|call| (1..=KEYS).map(move |it| (call, it))) {
+        let mut map = alone();
+        assert!(panics_at(number, || call(&mut map)), "at place {number}");
+        is_whole(&map, &format!("after place {number}"));
+        assert!(map.keys().copied().eq(alone().into_keys()), "place {number}: {map:?}");
+    }
+}
+
+/// Whether a place that may panic hasn't.
+fn burnt() -> bool {
+    burn();
+    true
+}
+
+#[test]
+fn a_panic_of_a_drop_in_a_call_on_one_key_leaves_a_whole_map_of_keys_in_order() {
+    type Call = fn(&mut IntMap<u64, Value>);
+    const CALLS: [(&str, Call); 6] = [
+        ("insert again", |map| drop(map.insert(3, Value::new(1)))),
+        ("insert_checked again", |map| _ = map.insert_checked(3, Value::new(1))),
+        ("insert a second pair", |map| drop(map.insert(3 + SLOTS, Value::new(1)))),
+        ("remove", |map| drop(map.remove(3))),
+        ("write", |map| *map.get_mut(3).expect("3 is present") = Value::new(1)),
+        ("hand_over", |map| {
+            let Entry::Occupied(entry) = map.entry(3) else { panic!("3 is present") };
+            entry.hand_over(Ok::<Value, Value>);
+        }),
+    ];
+    for (name, call) in CALLS {
+        for number in 1..4 {
+            let mut map = alone();
+            panics_at(number, || call(&mut map));
+            let after = format!("after {name}, place {number}");
+            is_whole(&map, &after);
+            let mut others = (0..KEYS).filter(|key| *key != 3);
+            assert!(others.all(|key| map.contains_key(key)), "{after}");
+            aimed::is_usable(map, &after);
+            assert_eq!(live(), 0, "values that live {after}");
+        }
+    }
+}
+
+/// Keys that have slots of their own among 16, and move to all parts of a map that grows.
+fn apart(value: &Rc<()>) -> keys::Map {
+    let mut map = keys::Map::with_capacity(16);
+    map.extend((0..14).map(|it| (Key(it + 16 * (it * 7 % 13)), value.clone())));
+    assert_eq!((map.capacity(), map.load()), (16, 14), "each key has a slot of its own");
+    map
+}
+
+type Call = fn(&mut keys::Map, &Rc<()>);
+
+const CALLS: [(&str, Call); 9] = [
+    ("reserve", |map, _| map.reserve(20)),
+    ("reserve more", |map, _| map.reserve(1000)),
+    ("set_load_factor", |map, _| map.set_load_factor(0.1)),
+    ("insert and grow", |map, value| drop(map.insert(Key(14), value.clone()))),
+    ("insert a second pair and grow", |map, value| drop(map.insert(Key(1 << 20), value.clone()))),
+    ("or_insert and grow", |map, value| _ = map.entry(Key(15)).or_insert(value.clone())),
+    ("insert a second pair", |map, value| {
+        map.set_load_factor(2.0);
+        map.insert(Key(1 << 20), value.clone());
+    }),
+    ("grow behind a second pair", |map, value| {
+        map.set_load_factor(2.0);
+        map.insert(Key(1 << 20), value.clone());
+        map.reserve(100);
+    }),
+    ("extend", |map, value| map.extend((0..99).map(|it| (Key(it * 3), value.clone())))),
+];
+
+#[test]
+fn a_panic_of_a_key_in_growth_loses_one_pair_at_most() {
+    let (value, mut panics) = (Rc::new(()), 0);
+    for (name, call) in CALLS {
+        for place in 1.. {
+            let mut map = apart(&value);
+            let before: Vec<Key> = map.keys().copied().collect();
+            let panicked = panics_at(place, || call(&mut map, &value));
+            let after = format!("after {name}, place {place}");
+            keys::is_whole(&map, &value, &after);
+            let lost = before.iter().filter(|key| !map.contains_key(**key)).count();
+            assert!(lost <= 1, "{lost} pairs lost {after}");
+            keys::is_usable(map, &value, &after);
+            if !panicked {
+                assert_eq!(lost, 0, "{after}");
+                break;
+            }
+            panics += 1;
+        }
+    }
+    assert!(panics > 100, "only {panics} panics");
+}
+
+#[test]
+fn a_map_grows_once_more_after_a_panic_in_growth() {
+    let value = Rc::new(());
+    for place in 1..=15 {
+        let mut map = apart(&value);
+        for number in [place, place / 2, 0] {
+            panics_at(number, || map.reserve(200));
+        }
+        let after = format!("after place {place}");
+        keys::is_whole(&map, &value, &after);
+        assert!(map.capacity() >= 200 && map.len() >= 12, "{} pairs {after}", map.len());
+    }
+}
