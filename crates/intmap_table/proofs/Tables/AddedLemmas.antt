@@ -1,17 +1,15 @@
 -- Growth of a table with a new pair, which is the last one of its slot.
-use Rattle.std.proofs.Common.{◌≡◌, ◌≢◌, inl, inr, ℕ, zero, suc, ◌+◌, ◌%◌, ◌<◌, ◌≤◌, Bool, true, false, List, [], ◌∷◌, ◌++◌, length, get_or, set, refl, sym, ap, ◌∙◌, arith, append-nil, length-append, length-set, get_or-set_same}
+use Rattle.std.proofs.Common.{◌≡◌, ℕ, zero, suc, ◌+◌, ◌%◌, ◌<◌, true, false, List, [], ◌∷◌, ◌++◌, length, get_or, set, refl, sym, ap, ◌∙◌, arith, append-nil, length-append}
 use Rattle.std.specs.Prelude.{◌==◌, swap_remove}
 use Rattle.std.specs.List.{list_any}
-use Rattle.std.proofs.lemmas.Bool.{cases_eq, eq-eqb}
 use Rattle.std.proofs.lemmas.Bool.Decides.{nat_tests}
 use Rattle.std.proofs.Math.Seq.{get_or-append_seam}
 use Rattle.std.proofs.lemmas.List.{length_push, set-set, set-get_or, map-set}
 use Rattle.std.proofs.lemmas.List.Elements.{filter-append}
-use Rattle.intmap_table.specs.Classes.{IsCapacity, slot_number}
+use Rattle.intmap_table.specs.Classes.{slot_number}
 use Rattle.intmap_table.specs.Walk.{slot_of, walk_of}
 use Rattle.intmap_table.specs.Tables.Slots.{Held, rows, row_of, joined, IsTable, IsRowSet}
 use Rattle.intmap_table.specs.Tables.Moves.{need, IsGrown, IsMoved}
-use Rattle.intmap_table.proofs.PositionLemmas.{swap_remove-cons}
 use Rattle.intmap_table.proofs.SlotNumberLemmas.{slot_number-below}
 use Rattle.intmap_table.proofs.WalkLemmas.{slot_of-walk_of}
 use Rattle.intmap_table.proofs.Tables.GrownLemmas.{slot_of-old, slot_number-grown}

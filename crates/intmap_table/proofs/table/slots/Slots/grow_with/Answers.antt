@@ -1,10 +1,9 @@
-use Rattle.std.proofs.Common.{◌≡◌, ◌∙◌, ◌++◌, ◌∷◌, [], false, length, sym, ap, subst, arith}
+use Rattle.std.proofs.Common.{◌≡◌, ◌∙◌, [], false, sym, ap, subst, arith}
 use Rattle.std.proofs.lemmas.Bool.Decides.{nat_tests}
 use Rattle.std.proofs.lemmas.Result.{on_ok_weaker, on_err_weaker}
 use Rattle.intmap_table.specs.Classes.{slot_number}
 use Rattle.intmap_table.specs.Walk.{slot_of}
 use Rattle.intmap_table.specs.Tables.Slots.{rows, row_of, joined, IsTable, IsDirectory}
-use Rattle.intmap_table.specs.Tables.Moves.{need, IsMoved}
 use Rattle.intmap_table.proofs.Tables.AddedLemmas.{slot_of-any, need-any, slot_of-meeting}
 use Rattle.intmap_table.proofs.Tables.FormLemmas.{lone-view, none-shared}
 use Rattle.intmap_table.proofs.Tables.GrownLemmas.{IsGrown-from}

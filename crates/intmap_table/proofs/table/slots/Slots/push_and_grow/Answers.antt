@@ -1,11 +1,11 @@
-use Rattle.std.proofs.Common.{◌≡◌, ◌+◌, ◌<◌, ◌≤◌, ◌∙◌, ◌∷◌, ◌++◌, [], length, refl, sym, ap, arith}
+use Rattle.std.proofs.Common.{◌≡◌, ◌<◌, ◌∙◌, ◌∷◌, ◌++◌, [], length, refl, ap, arith}
 use Rattle.intmap_table.specs.Classes.{slot_number}
 use Rattle.intmap_table.specs.Tables.Slots.{rows, row_of, joined, IsTable, IsRowSet}
 use Rattle.intmap_table.specs.Tables.Moves.{IsGrown}
 use Rattle.intmap_table.proofs.SlotNumberLemmas.{slot_number-below}
 use Rattle.intmap_table.proofs.Tables.AddedLemmas.{IsTable-pushed, IsMoved-from, IsMoved-pushed, length-pushed, within-pushed, taken-pushed, rows-taken_back}
 use Rattle.intmap_table.proofs.Tables.GrownLemmas.{IsGrown-from}
-use Rattle.intmap_table.proofs.Tables.TableLemmas.{IsTable-same_rows, length-same_rows, length-row_set}
+use Rattle.intmap_table.proofs.Tables.TableLemmas.{IsTable-same_rows, length-same_rows}
 use Rattle.intmap_table.proofs.table.slots.Slots.push_and_grow.Goals as goal
 use Rattle.intmap_table.proofs.table.slots.Slots.push_and_grow.Goals.{After-reserve_one, In_ok-place, then-is_made, else-is_made}
 

@@ -1,4 +1,4 @@
-use Rattle.std.proofs.Common.{◌<◌, ◌≤◌, ◌∙◌, ◌++◌, true, length, sym, ap, arith}
+use Rattle.std.proofs.Common.{◌<◌, ◌∙◌, ◌++◌, true, length, sym, ap, arith}
 use Rattle.std.specs.Prelude.{nat_lt}
 use Rattle.intmap_table.proofs.Tables.FormLemmas.{shared-row, AreSlots-lone_set, AreSlots-shared_set, IsRowSet-lone, IsRowSet-shared}
 use Rattle.intmap_table.proofs.table.slots.Slots.put_first.Goals as goal
