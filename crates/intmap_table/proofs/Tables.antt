@@ -1,6 +1,6 @@
 -- Lemmas on bits, slots and tables.
+pub mod AddedLemmas
 pub mod ApartLemmas
-pub mod BackLemmas
 pub mod BitsLemmas
 pub mod CloneLemmas
 pub mod CountLemmas

@@ -2,7 +2,7 @@
 use Rattle.std.proofs.Common.{◌≡◌, ℕ, zero, suc, ◌+◌, ◌-◌, ◌*◌, ◌/◌, ◌^◌, ◌<◌, ◌≤◌, Bool, false, List, [], ◌∷◌, ◌++◌, length, get_or, take, replicate, refl, sym, ap, ◌∙◌, arith, append_assoc, append-nil, length-append, mul_comm}
 use Rattle.std.proofs.Math.Nat.{mul-div_cancel_left}
 use Rattle.std.proofs.Math.Seq.{take-append_seam}
-use Rattle.std.specs.Prelude.{Result, Ok, Err, OnErr}
+use Rattle.std.specs.Prelude.{Result, Ok, Err, OnOk, OnErr}
 use Rattle.std.proofs.lemmas.Grind.{flat_map-append}
 use Rattle.std.proofs.lemmas.List.{replicate_more, length-replicate, get_or-replicate, get_or-append_right, map-append, take-map}
 use Rattle.intmap_table.specs.Classes.{IsCapacity}
@@ -44,6 +44,11 @@ module _ {K X : Type 0} where
 pub OnErr-always : {V E P : Type 0} (r : Result V E) → P → OnErr r P
 OnErr-always (Ok _) p = tt
 OnErr-always (Err _) p = p
+
+-- what holds both if there is an error and if there is none holds
+pub OnOk-or : {V E : Type 0} (r : Result V E) {P : Type 0} → OnOk r P → OnErr r P → P
+OnOk-or (Ok _) ok err = ok
+OnOk-or (Err _) ok err = err
 
 module _ {K X : Type 0} where
   -- slots cut back to the old ones have the old rows

@@ -9,6 +9,7 @@ mod apart;
 mod closures;
 mod forms;
 mod grow;
+mod grow_with;
 mod pairs;
 mod part;
 mod place;

@@ -12,7 +12,7 @@ use std::alloc::{AllocError, Allocator};
 use std::mem;
 
 /// Puts the pairs of lone slots into as many shared ones, for which there is room.
-fn share_each<K: IntKey, X: Drop, A: Allocator + Copy>(
+pub(super) fn share_each<K: IntKey, X: Drop, A: Allocator + Copy>(
     lone: &mut Vec<Lone<K, X>, A>,
     shared: &mut Vec<Slot<K, X, A>, A>,
 )

@@ -5,7 +5,6 @@ ghost use Rattle.intmap_table.specs.Tables.Moves.{rooms};
 ghost use Rattle.intmap_table.specs.Tables.Slots.{rows, row_of, IsRowSet};
 
 use crate::key::IntKey;
-use crate::table::slots::forms::share;
 use crate::table::slots::{Slots, unmark_unless};
 use crate::table::stored::Stored;
 use std::alloc::{AllocError, Allocator};
@@ -123,19 +122,29 @@ impl<K: IntKey, X, A: Allocator> Slots<K, X, A> {
 }
 
 impl<K: IntKey, X: Drop, A: Allocator + Copy> Slots<K, X, A> {
+    /// Puts a pair into a slot that holds none. It allocates nothing.
+    pub(super) fn put_first(&mut self, index: usize, pair: (Stored<K>, X))
+        requires within { index < length self.old }
+        requires empty { row_of self.old index ≡ [] }
+        ensures { IsRowSet self.old index (pair ∷ []) self.new }
+    {
+        self.directory.bits.set(index);
+        if index < self.lone.len() {
+            self.lone[index].put(pair);
+        } else {
+            self.shared[index].put_first(pair);
+        }
+    }
+
     /// Makes room for one more pair in a slot, and allocates for exactly that. It returns whether
     /// it allocated.
     pub(crate) fn reserve_one(&mut self, index: usize) -> Result<bool, AllocError>
         requires { index < length self.old }
         ensures { rows self.new ≡ rows self.old }
     {
-        if index >= self.lone.len() {
-            return self.shared[index].reserve_one();
-        }
-        if !self.lone[index].is_filled() {
+        if index < self.lone.len() {
             return Ok(false);
         }
-        share(&mut self.lone, &mut self.shared)?;
         self.shared[index].reserve_one()
     }
 

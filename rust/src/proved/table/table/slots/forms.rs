@@ -10,7 +10,7 @@ use crate::memory::alloc::{AllocError, Allocator};
 use core::mem;
 
 /// Puts the pairs of lone slots into as many shared ones, for which there is room.
-fn share_each<K: IntKey, X, A: Allocator + Copy>(
+pub(super) fn share_each<K: IntKey, X, A: Allocator + Copy>(
     lone: &mut Vec<Lone<K, X>, A>,
     shared: &mut Vec<Slot<K, X, A>, A>,
 ) {

@@ -2,7 +2,6 @@
 
 use crate::memory::prelude::*;
 use crate::proved::table::key::IntKey;
-use crate::proved::table::table::slots::forms::share;
 use crate::proved::table::table::slots::{Slots, unmark_unless};
 use crate::proved::table::table::stored::Stored;
 use crate::memory::alloc::{AllocError, Allocator};
@@ -93,16 +92,22 @@ impl<K: IntKey, X, A: Allocator> Slots<K, X, A> {
 }
 
 impl<K: IntKey, X, A: Allocator + Copy> Slots<K, X, A> {
+    /// Puts a pair into a slot that holds none. It allocates nothing.
+    pub(super) fn put_first(&mut self, index: usize, pair: (Stored<K>, X)) {
+        self.directory.bits.set(index);
+        if index < self.lone.len() {
+            self.lone[index].put(pair);
+        } else {
+            self.shared[index].put_first(pair);
+        }
+    }
+
     /// Makes room for one more pair in a slot, and allocates for exactly that. It returns whether
     /// it allocated.
     pub(in crate::proved::table) fn reserve_one(&mut self, index: usize) -> Result<bool, AllocError> {
-        if index >= self.lone.len() {
-            return self.shared[index].reserve_one();
-        }
-        if !self.lone[index].is_filled() {
+        if index < self.lone.len() {
             return Ok(false);
         }
-        share(&mut self.lone, &mut self.shared)?;
         self.shared[index].reserve_one()
     }
 

@@ -11,7 +11,7 @@ use crate::memory::alloc::{AllocError, Allocator};
 /// The pairs of a slot, by its number: the first one, and the rest.
 #[inline(always)]
 #[allow(clippy::type_complexity)]
-fn parts_at<'a, K: IntKey, X, A: Allocator>(
+pub(super) fn parts_at<'a, K: IntKey, X, A: Allocator>(
     lone: &'a [Lone<K, X>],
     shared: &'a [Slot<K, X, A>],
     index: usize,
