@@ -1,8 +1,8 @@
 -- Slots that are added behind others, and taken away again.
-use Rattle.std.proofs.Common.{◌≡◌, ℕ, zero, suc, ◌+◌, ◌-◌, ◌*◌, ◌/◌, ◌^◌, ◌<◌, ◌≤◌, Bool, false, List, [], ◌∷◌, ◌++◌, length, get_or, take, replicate, refl, sym, ap, ◌∙◌, arith, append_assoc, append-nil, length-append, mul_comm}
+use Rattle.std.proofs.Common.{◌≡◌, ℕ, zero, suc, ◌+◌, ◌-◌, ◌*◌, ◌/◌, ◌^◌, ◌<◌, ◌≤◌, Bool, true, false, List, [], ◌∷◌, ◌++◌, length, get_or, take, replicate, refl, sym, ap, ◌∙◌, arith, append_assoc, append-nil, length-append, mul_comm}
 use Rattle.std.proofs.Math.Nat.{mul-div_cancel_left}
 use Rattle.std.proofs.Math.Seq.{take-append_seam}
-use Rattle.std.specs.Prelude.{Result, Ok, Err, OnOk, OnErr}
+use Rattle.std.specs.Prelude.{Result, Ok, Err, OnOk, OnErr, is_err}
 use Rattle.std.proofs.lemmas.Grind.{flat_map-append}
 use Rattle.std.proofs.lemmas.List.{replicate_more, length-replicate, get_or-replicate, get_or-append_right, map-append, take-map}
 use Rattle.intmap_table.specs.Classes.{IsCapacity}
@@ -49,6 +49,15 @@ OnErr-always (Err _) p = p
 pub OnOk-or : {V E : Type 0} (r : Result V E) {P : Type 0} → OnOk r P → OnErr r P → P
 OnOk-or (Ok _) ok err = ok
 OnOk-or (Err _) ok err = err
+
+-- what an error ensures holds if there is one, and what a success ensures if there is none
+pub OnErr-at : {V E : Type 0} (r : Result V E) (P : Type 0) → is_err r ≡ true → OnErr r P → P
+OnErr-at (Ok _) P is holds = absurd (cc)
+OnErr-at (Err _) P is holds = holds
+
+pub OnOk-at : {V E : Type 0} (r : Result V E) (P : Type 0) → is_err r ≡ false → OnOk r P → P
+OnOk-at (Ok _) P is holds = holds
+OnOk-at (Err _) P is holds = absurd (cc)
 
 module _ {K X : Type 0} where
   -- slots cut back to the old ones have the old rows

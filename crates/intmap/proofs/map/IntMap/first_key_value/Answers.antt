@@ -1,4 +1,4 @@
-use Rattle.std.proofs.Common.{◌≡◌, arith}
+use Rattle.std.proofs.Common.{arith}
 use Rattle.intmap.proofs.map.IntMap.first_key_value.Goals as goal
 
 pub returns-clause-value : goal.returns-clause-value
