@@ -129,11 +129,7 @@ impl<K: IntKey, X: Drop, A: Allocator + Copy> Table<K, X, A> {
         ensures walk { self.new.walk ≡ [] }
         ensures capacity { self.new.capacity ≡ self.old.capacity }
     {
-        let mut from = 0;
-        while let Some(index) = self.slots.next_filled(from) {
-            self.slots.clear_at(index);
-            from = index + 1;
-        }
+        self.slots.clear();
     }
 
     /// Puts the pair of an absent key last in its slot, and returns where it is. If an allocation

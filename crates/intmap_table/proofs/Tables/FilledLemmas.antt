@@ -107,6 +107,28 @@ row-unmarked R marks are i missed =
     let own = are.own i in let kept = kept-found (marked marks) i 0 (length marks) missed in let past = get_or_past marks i false in
     row-none (get_or R i []) (grind (arith, own, kept, past))
 
+-- these indices are the marked ones from `from` on
+abbrev pub AreLeft : List Bool → ℕ → List ℕ → Type 0
+AreLeft marks from left = (n : ℕ) × (from + n ≡ length marks) × (left ≡ filter (marked marks) (range_with_len from n))
+
+-- the first of them is the next mark, and the others are those behind it
+mark-next : (marks : List Bool) (from i : ℕ) (rest : List ℕ) (n : ℕ) → from + n ≡ length marks → i ∷ rest ≡ filter (marked marks) (range_with_len from n)
+    → IsNextMark marks from i × AreLeft marks (i + 1) rest
+mark-next marks from i rest zero ends is = absurd cc
+mark-next marks from i rest (suc n) ends is = elim (cases_Bool (marked marks from)) as (λ _. IsNextMark marks from i × AreLeft marks (i + 1) rest) [
+  | inl here ↦
+      (let all : i ∷ rest ≡ from ∷ filter (marked marks) (range_with_len (from + 1) n) = rw here at is in
+      let first : i ≡ from = cc in let others : rest ≡ filter (marked marks) (range_with_len (from + 1) n) = cc in (
+        record { behind = omega (arith, first); is = ap (marked marks) first ∙ here; between = λ j le lt. absurd (omega (arith, first, le, lt)) },
+        (n, omega (arith, ends, first), rw first others),
+      ))
+  | inr behind ↦
+      (let on = mark-next marks (from + 1) i rest n (omega (arith, ends)) (rw behind at is) in let up = on.0.behind in (
+        record { behind = omega (arith, up); is = on.0.is; between = λ j le lt. let later = on.0.between j in grind (arith, le, lt, behind, later) },
+        on.1,
+      ))
+]
+
 module _ {P : Type 0} (R : List (List P)) (marks : List Bool) (are : AreMarked R marks) (from : ℕ) where
   -- the row of the next mark is the next one with a pair
   pub row-marked : (i : ℕ) → IsNextMark marks from i → IsNextRow R from i
@@ -119,12 +141,33 @@ module _ {P : Type 0} (R : List (List P)) (marks : List Bool) (are : AreMarked R
         between = λ j le lt. row-none (get_or R j []) (sym (are.own j) ∙ next.between j le lt);
       }
 
+  -- so that of the first index that is left is
+  pub row-next : (i : ℕ) (rest : List ℕ) → AreLeft marks from (i ∷ rest) → IsNextRow R from i × AreLeft marks (i + 1) rest
+  row-next i rest left = let next = mark-next marks from i rest left.0 left.1 left.2 in (row-marked i next.0, next.1)
+
+  -- and if none is left, no row holds a pair from there on
+  pub row-next_none : AreLeft marks from [] → (j : ℕ) → from ≤ j → get_or R j [] ≡ []
+  row-next_none left j le =
+      let own = are.own j in let past = get_or_past marks j false in
+      let kept = kept-found (marked marks) j from left.0 (ap (list_any (λ k. k == j)) (sym left.2)) le in
+      row-none (get_or R j []) (grind (arith, own, kept, past, left.1))
+
 -- slots without pairs, with no index marked
 pub IsDirectory-empty : {K X : Type 0} (S : List (Held K X)) (C : ℕ) → 0 < C → rows S ≡ replicate C [] → IsDirectory S (replicate (64 * ((C + 63) / 64)) false) (C - 1)
 IsDirectory-empty S C some empty =
     let rows-len : length (rows S) ≡ C = ap length empty ∙ length-replicate C [] in
     let len = length-rows S in
     record { marks = AreMarked-none (rows S) C rows-len (λ i. rw empty (get_or-of_default C i [])); count = omega (arith, some, rows-len, len) }
+
+-- slots that were emptied, and whose marks were taken away
+pub IsDirectory-emptied : {K X : Type 0} (S T : List (Held K X)) (bits : List Bool) (mask : ℕ) → IsDirectory S bits mask → length T ≡ length S → ((i : ℕ) → row_of T i ≡ []) → IsDirectory T (replicate (length bits) false) mask
+IsDirectory-emptied S T bits mask old len empty = record {
+  marks = record {
+    words = length-replicate (length bits) false ∙ old.marks.words ∙ ap (λ n. 64 * ((n + 63) / 64)) (length-rows S ∙ sym len ∙ sym (length-rows T));
+    own = λ i. get_or-of_default (length bits) i false ∙ rw (empty i) refl;
+  };
+  count = old.count ∙ sym len;
+}
 
 -- rows without pairs, joined
 pub joined-emptied : {P : Type 0} (R : List (List P)) → ((i : ℕ) → get_or R i [] ≡ []) → joined R ≡ []

@@ -1,5 +1,5 @@
 -- Slots of either form are one list: those of the other form are none.
-use Rattle.std.proofs.Common.{◌≡◌, inl, inr, ℕ, ◌<◌, ◌≤◌, List, Bool, false, cond, [], ◌++◌, length, get_or, set, sym, ap, ◌∙◌, subst, arith, append-nil, length-append}
+use Rattle.std.proofs.Common.{◌≡◌, inl, inr, ℕ, ◌<◌, ◌≤◌, List, Bool, false, cond, [], ◌++◌, length, get_or, set, sym, ap, ◌∙◌, subst, arith, append-nil, length-append, length-set}
 use Rattle.std.specs.Prelude.{◌⊎◌, nat_lt}
 use Rattle.std.proofs.lemmas.List.{get_or_append_left, set-append_left}
 use Rattle.intmap_table.specs.Tables.Moves.{rooms}
@@ -28,6 +28,30 @@ module _ {H : Type 0} (L S : List H) (form : (L ≡ []) ⊎ (S ≡ [])) (i : ℕ
 
   pub shared-set : (h : H) → length L ≤ i → i < length (L ++ S) → L ++ set S i h ≡ set (L ++ S) i h
   shared-set h past within = ap (λ M. M ++ set S i h) (none-lone past within) ∙ ap (λ M. set (M ++ S) i h) (sym (none-lone past within))
+
+-- slots L' and S', which are as many as L and S: of one form, as these are
+pub record IsSameForm {H : Type 0} (L S L' S' : List H) : Type 0 where
+  pub lone : length L' ≡ length L
+  pub shared : length S' ≡ length S
+  pub form : (L' ≡ []) ⊎ (S' ≡ [])
+
+module _ {H : Type 0} (L S L' S' : List H) (same : IsSameForm L S L' S') (i : ℕ) (h : H) where
+  pub IsSameForm-lone : i < length L' → IsSameForm L S (set L' i h) S'
+  IsSameForm-lone below = record {
+    lone = length-set L' i h ∙ same.lone;
+    shared = same.shared;
+    form = elim same.form [
+      | inl none ↦ absurd (let zero = ap length none in omega (arith, below, zero))
+      | inr none ↦ inr none
+    ];
+  }
+
+  pub IsSameForm-shared : length L' ≤ i → i < length (L' ++ S') → IsSameForm L S L' (set S' i h)
+  IsSameForm-shared past within = record {
+    lone = same.lone;
+    shared = length-set S' i h ∙ same.shared;
+    form = inl (none-lone L' S' same.form i past within);
+  }
 
 -- and the pairs of the slot are its row
 module _ {K X : Type 0} (L S : List (Held K X)) (form : (L ≡ []) ⊎ (S ≡ [])) (i : ℕ) (h : Held K X) where

@@ -2,7 +2,7 @@
 //! value.
 ghost use Rattle.std.specs.Prelude.{◌≡◌, ◌^◌, ◌<◌, length, drop};
 ghost use Rattle.intmap_table.specs.Walk.{walk_of};
-ghost use Rattle.intmap_table.specs.Tables.Slots.{rows, row_keys, joined, IsTable};
+ghost use Rattle.intmap_table.specs.Tables.Slots.{rows, joined, IsTable};
 ghost use Rattle.intmap_table.specs.Retaining.{Retains, KeepsAt, TakesPair};
 ghost use Rattle.intmap_table.specs.Taking.{TakesEach};
 ghost use Rattle.intmap_table.specs.Writes.{Writes, WritesAt, TakesPairMut};
@@ -91,25 +91,6 @@ fn extract_slots<K: IntKey, V, A: Allocator, F: FnMut(K, &mut V) -> bool>(
     None
 }
 
-/// Calls the closure at each pair in turn, slot after slot, with a mutable reference to its value.
-fn write_slots<K: IntKey, V, A: Allocator, F: FnMut(K, &mut V)>(
-    slots: &mut Slots<K, Kept<V>, A>,
-    f: &mut F,
-)
-    requires callable { TakesEach (WritesAt F.FnMut) (TakesPairMut F.FnMut) f.old
-        (joined (rows slots.old)) }
-    requires table { IsTable K.number_of slots.old }
-    ensures pairs { Writes (WritesAt F.FnMut) f.old (joined (rows slots.old))
-        (joined (rows slots.new)) f.new }
-    ensures keys { row_keys slots.new ≡ row_keys slots.old }
-{
-    let mut from = 0;
-    while let Some(index) = slots.next_filled(from) {
-        slots.write_at(index, f);
-        from = index + 1;
-    }
-}
-
 impl<K: IntKey, V, A: Allocator> Table<K, Kept<V>, A> {
     /// Asks the closure about each pair from the cursor on, in the order of the walk, and removes
     /// the first one that it picks. The closure may write each value. The pairs that stay keep
@@ -147,6 +128,6 @@ impl<K: IntKey, V, A: Allocator> Table<K, Kept<V>, A> {
         ensures capacity { self.new.capacity ≡ self.old.capacity }
         ensures own { walk_of K.number_of self.new.walk self.new.capacity ≡ self.new.walk }
     {
-        write_slots(&mut self.slots, f);
+        self.slots.write_each(f);
     }
 }

@@ -15,12 +15,12 @@ mod part;
 mod place;
 pub mod walk;
 
-ghost use Rattle.std.specs.Prelude.{◌≡◌, ◌+◌, ◌^◌, ◌<◌, ◌≤◌, ℕ, [], cond, count_by, false, length, nat_lt, position, replicate, slice_index_or, slice_set, IfNone, IfOk, IfSome};
+ghost use Rattle.std.specs.Prelude.{◌≡◌, ◌⊎◌, ◌+◌, ◌^◌, ◌<◌, ◌≤◌, ℕ, [], ◌++◌, cond, count_by, false, length, nat_lt, position, replicate, slice_index_or, slice_set, IfNone, IfOk, IfSome};
 ghost use Rattle.std.specs.List.{AllZip};
 ghost use Rattle.intmap_table.specs.Classes.{IsCapacity, same_key};
 ghost use Rattle.intmap_table.specs.Cloning.{IsPairClone};
 ghost use Rattle.intmap_table.specs.Reach.{through_first};
-ghost use Rattle.intmap_table.specs.Tables.Slots.{rows, row_of, joined, IsNextRow, IsRowSet};
+ghost use Rattle.intmap_table.specs.Tables.Slots.{rows, row_of, joined, AreMarked, IsNextRow, IsRowSet};
 
 use crate::bits::Bits;
 use crate::key::IntKey;
@@ -73,6 +73,27 @@ fn unmark_unless<A: Allocator>(bits: &mut Bits<A>, is_filled: bool, index: usize
 {
     if !is_filled {
         bits.clear(index);
+    }
+}
+
+/// Drops the pairs of all slots, which are of one form. The bits mark those that hold a pair.
+fn clear_slots<K: IntKey, X: Drop, A: Allocator>(
+    bits: &Bits<A>,
+    lone: &mut Vec<Lone<K, X>, A>,
+    shared: &mut Vec<Slot<K, X, A>, A>,
+)
+    requires marks { AreMarked (rows (lone.old.items ++ shared.old.items)) bits.now }
+    requires form { (lone.old.items ≡ []) ⊎ (shared.old.items ≡ []) }
+    ensures lone { length lone.new.items ≡ length lone.old.items }
+    ensures shared { length shared.new.items ≡ length shared.old.items }
+    ensures empty { (i : ℕ) → row_of (lone.new.items ++ shared.new.items) i ≡ [] }
+{
+    for index in bits.iter() {
+        if index < lone.len() {
+            lone[index].clear();
+        } else {
+            shared[index].clear();
+        }
     }
 }
 
@@ -223,17 +244,13 @@ impl<K: IntKey, X, A: Allocator> Slots<K, X, A> {
 }
 
 impl<K: IntKey, X: Drop, A: Allocator> Slots<K, X, A> {
-    /// Drops the pairs of a slot, and keeps its memory.
-    pub(crate) fn clear_at(&mut self, index: usize)
-        requires { index < length self.old }
-        ensures { IsRowSet self.old index [] self.new }
+    /// Drops all pairs, slot after slot, and keeps the slots and the memory that they have.
+    pub(crate) fn clear(&mut self)
+        ensures len { length self.new ≡ length self.old }
+        ensures empty { (i : ℕ) → row_of self.new i ≡ [] }
     {
-        self.directory.bits.clear(index);
-        if index < self.lone.len() {
-            self.lone[index].clear();
-        } else {
-            self.shared[index].clear();
-        }
+        clear_slots(&self.directory.bits, &mut self.lone, &mut self.shared);
+        self.directory.bits.clear_all();
     }
 }
 

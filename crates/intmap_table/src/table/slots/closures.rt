@@ -1,13 +1,16 @@
 //! Closures are called at the pairs of slots.
-ghost use Rattle.std.specs.Prelude.{◌≡◌, ◌^◌, ◌<◌, ◌≤◌, List, length, drop};
-ghost use Rattle.intmap_table.specs.Tables.Slots.{row_of, IsRowSet};
+ghost use Rattle.std.specs.Prelude.{◌≡◌, ◌⊎◌, ◌^◌, ◌<◌, ◌≤◌, List, [], ◌++◌, length, drop};
+ghost use Rattle.intmap_table.specs.Tables.Slots.{rows, row_of, row_keys, joined, AreMarked, IsRowSet};
 ghost use Rattle.intmap_table.specs.Retaining.{Retains, KeepsAt, TakesPair};
 ghost use Rattle.intmap_table.specs.Taking.{TakesEach};
 ghost use Rattle.intmap_table.specs.Writes.{Writes, WritesAt, TakesPairMut};
 ghost use Rattle.intmap_table.specs.Picking.{AsksAt, ExtractsBehind, PicksAt};
 
+use crate::bits::Bits;
 use crate::kept::Kept;
 use crate::key::IntKey;
+use crate::lone::Lone;
+use crate::slot::Slot;
 use crate::table::slots::{Slots, unmark_unless};
 use crate::table::stored::Stored;
 use std::alloc::Allocator;
@@ -70,19 +73,43 @@ impl<K: IntKey, V, A: Allocator> Slots<K, Kept<V>, A> {
     }
 }
 
-impl<K: IntKey, V, A: Allocator> Slots<K, Kept<V>, A> {
-    /// Calls the closure at each pair of a slot in turn, with a mutable reference to its value.
-    pub(crate) fn write_at<F: FnMut(K, &mut V)>(&mut self, index: usize, f: &mut F)
-        requires within { index < length self.old }
-        requires callable { TakesEach (WritesAt F.FnMut) (TakesPairMut F.FnMut) f.old
-            (row_of self.old index) }
-        ensures { (row : List (K × V)) × IsRowSet self.old index row self.new
-            × Writes (WritesAt F.FnMut) f.old (row_of self.old index) row f.new }
-    {
-        if index < self.lone.len() {
-            self.lone[index].write_each(f);
+/// Calls the closure at each pair in turn, slot after slot, with a mutable reference to its value.
+/// The slots are of one form, and the bits mark those that hold a pair.
+fn write_slots<K: IntKey, V, A: Allocator, F: FnMut(K, &mut V)>(
+    bits: &Bits<A>,
+    lone: &mut Vec<Lone<K, Kept<V>>, A>,
+    shared: &mut Vec<Slot<K, Kept<V>, A>, A>,
+    f: &mut F,
+)
+    requires callable { TakesEach (WritesAt F.FnMut) (TakesPairMut F.FnMut) f.old
+        (joined (rows (lone.old.items ++ shared.old.items))) }
+    requires marks { AreMarked (rows (lone.old.items ++ shared.old.items)) bits.now }
+    requires form { (lone.old.items ≡ []) ⊎ (shared.old.items ≡ []) }
+    ensures pairs { Writes (WritesAt F.FnMut) f.old
+        (joined (rows (lone.old.items ++ shared.old.items)))
+        (joined (rows (lone.new.items ++ shared.new.items))) f.new }
+    ensures keys { row_keys (lone.new.items ++ shared.new.items)
+        ≡ row_keys (lone.old.items ++ shared.old.items) }
+    ensures form { (lone.new.items ≡ []) ⊎ (shared.new.items ≡ []) }
+{
+    for index in bits.iter() {
+        if index < lone.len() {
+            lone[index].write_each(f);
         } else {
-            self.shared[index].write_each(f);
+            shared[index].write_each(f);
         }
+    }
+}
+
+impl<K: IntKey, V, A: Allocator> Slots<K, Kept<V>, A> {
+    /// Calls the closure at each pair in turn, with a mutable reference to its value.
+    pub(crate) fn write_each<F: FnMut(K, &mut V)>(&mut self, f: &mut F)
+        requires { TakesEach (WritesAt F.FnMut) (TakesPairMut F.FnMut) f.old
+            (joined (rows self.old)) }
+        ensures pairs { Writes (WritesAt F.FnMut) f.old (joined (rows self.old))
+            (joined (rows self.new)) f.new }
+        ensures keys { row_keys self.new ≡ row_keys self.old }
+    {
+        write_slots(&self.directory.bits, &mut self.lone, &mut self.shared, f);
     }
 }
