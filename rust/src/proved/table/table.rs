@@ -74,11 +74,7 @@ impl<K: IntKey, X, A: Allocator> Table<K, X, A> {
 impl<K: IntKey, X, A: Allocator + Copy> Table<K, X, A> {
     /// Drops all pairs, slot after slot, and keeps the slots and the memory that they have.
     pub fn clear(&mut self) {
-        let mut from = 0;
-        while let Some(index) = self.slots.next_filled(from) {
-            self.slots.clear_at(index);
-            from = index + 1;
-        }
+        self.slots.clear();
     }
 
     /// Puts the pair of an absent key last in its slot, and returns where it is. If an allocation

@@ -53,18 +53,6 @@ fn extract_slots<K: IntKey, V, A: Allocator, F: FnMut(K, &mut V) -> bool>(
     None
 }
 
-/// Calls the closure at each pair in turn, slot after slot, with a mutable reference to its value.
-fn write_slots<K: IntKey, V, A: Allocator, F: FnMut(K, &mut V)>(
-    slots: &mut Slots<K, Kept<V>, A>,
-    f: &mut F,
-) {
-    let mut from = 0;
-    while let Some(index) = slots.next_filled(from) {
-        slots.write_at(index, f);
-        from = index + 1;
-    }
-}
-
 impl<K: IntKey, V, A: Allocator> Table<K, Kept<V>, A> {
     /// Asks the closure about each pair from the cursor on, in the order of the walk, and removes
     /// the first one that it picks. The closure may write each value. The pairs that stay keep
@@ -83,6 +71,6 @@ impl<K: IntKey, V, A: Allocator> Table<K, Kept<V>, A> {
     /// Calls the closure at each pair in the order of the walk, with a mutable reference to its
     /// value.
     pub fn write_each<F: FnMut(K, &mut V)>(&mut self, f: &mut F) {
-        write_slots(&mut self.slots, f);
+        self.slots.write_each(f);
     }
 }

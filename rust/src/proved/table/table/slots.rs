@@ -50,6 +50,21 @@ fn unmark_unless<A: Allocator>(bits: &mut Bits<A>, is_filled: bool, index: usize
     }
 }
 
+/// Drops the pairs of all slots, which are of one form. The bits mark those that hold a pair.
+fn clear_slots<K: IntKey, X, A: Allocator>(
+    bits: &Bits<A>,
+    lone: &mut Vec<Lone<K, X>, A>,
+    shared: &mut Vec<Slot<K, X, A>, A>,
+) {
+    for index in bits.iter() {
+        if index < lone.len() {
+            lone[index].clear();
+        } else {
+            shared[index].clear();
+        }
+    }
+}
+
 impl<K: IntKey, X, A: Allocator> Slots<K, X, A> {
     /// Their number.
     pub(in crate::proved::table) fn len(&self) -> usize {
@@ -149,14 +164,10 @@ impl<K: IntKey, X, A: Allocator> Slots<K, X, A> {
 }
 
 impl<K: IntKey, X, A: Allocator> Slots<K, X, A> {
-    /// Drops the pairs of a slot, and keeps its memory.
-    pub(in crate::proved::table) fn clear_at(&mut self, index: usize) {
-        self.directory.bits.clear(index);
-        if index < self.lone.len() {
-            self.lone[index].clear();
-        } else {
-            self.shared[index].clear();
-        }
+    /// Drops all pairs, slot after slot, and keeps the slots and the memory that they have.
+    pub(in crate::proved::table) fn clear(&mut self) {
+        clear_slots(&self.directory.bits, &mut self.lone, &mut self.shared);
+        self.directory.bits.clear_all();
     }
 }
 

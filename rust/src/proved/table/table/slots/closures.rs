@@ -1,8 +1,11 @@
 //! Closures are called at the pairs of slots.
 
 use crate::memory::prelude::*;
+use crate::proved::table::bits::Bits;
 use crate::proved::table::kept::Kept;
 use crate::proved::table::key::IntKey;
+use crate::proved::table::lone::Lone;
+use crate::proved::table::slot::Slot;
 use crate::proved::table::table::slots::{Slots, unmark_unless};
 use crate::proved::table::table::stored::Stored;
 use crate::memory::alloc::Allocator;
@@ -46,13 +49,26 @@ impl<K: IntKey, V, A: Allocator> Slots<K, Kept<V>, A> {
     }
 }
 
-impl<K: IntKey, V, A: Allocator> Slots<K, Kept<V>, A> {
-    /// Calls the closure at each pair of a slot in turn, with a mutable reference to its value.
-    pub(in crate::proved::table) fn write_at<F: FnMut(K, &mut V)>(&mut self, index: usize, f: &mut F) {
-        if index < self.lone.len() {
-            self.lone[index].write_each(f);
+/// Calls the closure at each pair in turn, slot after slot, with a mutable reference to its value.
+/// The slots are of one form, and the bits mark those that hold a pair.
+fn write_slots<K: IntKey, V, A: Allocator, F: FnMut(K, &mut V)>(
+    bits: &Bits<A>,
+    lone: &mut Vec<Lone<K, Kept<V>>, A>,
+    shared: &mut Vec<Slot<K, Kept<V>, A>, A>,
+    f: &mut F,
+) {
+    for index in bits.iter() {
+        if index < lone.len() {
+            lone[index].write_each(f);
         } else {
-            self.shared[index].write_each(f);
+            shared[index].write_each(f);
         }
+    }
+}
+
+impl<K: IntKey, V, A: Allocator> Slots<K, Kept<V>, A> {
+    /// Calls the closure at each pair in turn, with a mutable reference to its value.
+    pub(in crate::proved::table) fn write_each<F: FnMut(K, &mut V)>(&mut self, f: &mut F) {
+        write_slots(&self.directory.bits, &mut self.lone, &mut self.shared, f);
     }
 }
