@@ -630,6 +630,23 @@ static void test_insertions(unsigned kind, uint64_t factor) {
     end_test();
 }
 
+// Each request is refused where a key comes to the slot of another one among keys that have a slot each,
+// and where all of these have a slot of their own again.
+static void test_stray_keys(unsigned kind) {
+    call_make(true, 0);
+    for (uint64_t key = 0; key < 300; key++) {
+        while (refuse_in_turn()) {
+            call_insertion(kind, key, key);
+        }
+        while (key % 16 == 12 && refuse_in_turn()) {
+            call_insertion(kind, it->plain.capacity, key);
+        }
+        check_figures(it);
+    }
+    check(it);
+    end_test();
+}
+
 // Slots are added to a map whose slots hold several pairs.
 static void test_growth(void) {
     call_make(true, 0);
@@ -646,10 +663,13 @@ static void test_growth(void) {
     end_test();
 }
 
-// A call asks for its slots first, each of 48 bytes. So with larger requests refused it gets them, and
-// with one byte less nothing is granted, and so nothing written.
-static void test_slots_first(size_t slots, void (*call)(void)) {
-    const size_t slot = 48, all = slot * slots, bits = slots / 8 < 8 ? 8 : slots / 8;
+// The bytes of a slot: of one that has room for several pairs, and of one that has room for a pair alone.
+enum { SHARED = 48, LONE = 24 };
+
+// A call asks for its slots first. So with larger requests refused it gets them, and with one byte less
+// nothing is granted, and so nothing written.
+static void test_slots_first(size_t slots, size_t slot, void (*call)(void)) {
+    const size_t all = slot * slots, bits = slots / 8 < 8 ? 8 : slots / 8;
     const size_t bounds[] = {0, bits, all / 2, all - 1};
     for (size_t at = 0; at < sizeof bounds / sizeof bounds[0]; at++) {
         largest_request = bounds[at];
@@ -679,19 +699,38 @@ static void reserve_4096_slots(void) {
     call_reserve(4096 - it->plain.len);
 }
 
+static void reserve_8192_slots(void) {
+    call_reserve(8192 - it->plain.len);
+}
+
 static void set_load_factor_10(void) {
     call_set_load_factor(10);
 }
 
 static void test_large_requests(void) {
-    test_slots_first(4, make_4_slots);
+    test_slots_first(4, SHARED, make_4_slots);
     insert_some(14, 1);
-    test_slots_first(32, insert_new_key);
-    test_slots_first(32, call_clone);
-    test_slots_first(2048, set_load_factor_10);
-    test_slots_first(4096, reserve_4096_slots);
-    test_slots_first(4096, call_clone);
-    test_slots_first(4096, make_4096_slots);
+    test_slots_first(32, LONE, insert_new_key);
+    test_slots_first(32, LONE, call_clone);
+    test_slots_first(2048, LONE, set_load_factor_10);
+    test_slots_first(4096, LONE, reserve_4096_slots);
+    test_slots_first(4096, LONE, call_clone);
+    end_test();
+}
+
+// The slots are shared where a map has so many from the first, and where two pairs of one slot stay
+// together at each growth.
+static void test_large_requests_of_shared_slots(void) {
+    test_slots_first(4096, SHARED, make_4096_slots);
+    insert_some(3, 1);
+    test_slots_first(4096, SHARED, call_clone);
+    test_slots_first(8192, SHARED, reserve_8192_slots);
+    call_make(true, 0);
+    call_insertion(INSERT, 1 << 20, 0);
+    insert_some(13, 1);
+    test_slots_first(32, SHARED, insert_new_key);
+    test_slots_first(32, SHARED, call_clone);
+    test_slots_first(2048, SHARED, set_load_factor_10);
     end_test();
 }
 
@@ -974,9 +1013,11 @@ static void test_each(void) {
     for (unsigned kind = 0; kind < INSERTIONS; kind++) {
         RUN(test_insertions(kind, 1));
         RUN(test_insertions(kind, 1 << 6));
+        RUN(test_stray_keys(kind));
     }
     RUN(test_growth());
     RUN(test_large_requests());
+    RUN(test_large_requests_of_shared_slots());
     RUN(test_too_many_slots());
     RUN(test_limits());
     RUN(test_great_numbers());
