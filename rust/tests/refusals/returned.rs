@@ -25,13 +25,21 @@ const INSERTIONS: [(&str, Insertion); 8] = [
     }),
 ];
 
-/// Keys in order in a map with room for them, so that each has a slot of its own.
-fn alone(keys: u64) -> IntMap<u64, String> {
-    let mut map = IntMap::with_capacity(16);
-    map.extend((0..keys).map(|key| (key, key.to_string())));
-    assert_eq!((map.capacity(), map.load()), (16, keys), "each key has a slot of its own");
+type Made = IntMap<u64, String>;
+type Form = (&'static str, fn(&[u64]) -> Made);
+
+fn filled(mut map: Made, keys: &[u64]) -> Made {
+    map.extend(keys.iter().map(|key| (*key, key.to_string())));
     map
 }
+
+/// How a map of keys in order is made. It has shared slots of one pair each, or lone slots, as a map
+/// that grows by insertions, or such slots that a second pair of the first one has made shared.
+const FORMS: [Form; 3] = [
+    ("shared", |keys| filled(IntMap::with_capacity(16), keys)),
+    ("lone", |keys| filled(IntMap::new(), keys)),
+    ("shared again", |keys| filled(filled(IntMap::new(), &keys[..keys.len() - 1]), &[16])),
+];
 
 /// Makes the insertion with each of its requests failing in turn, and returns how many there were.
 fn returned_each_time(insert: Insertion, make: impl Fn() -> IntMap<u64, String>, of: &str) -> u64 {
@@ -55,16 +63,17 @@ fn returned_each_time(insert: Insertion, make: impl Fn() -> IntMap<u64, String>,
 
 #[test]
 fn a_failed_insertion_returns_its_value() {
-    // the insertion behind 4 or 10 keys puts a second pair into a slot, the one behind 14 keys grows
-    // the map
+    // the first puts a second pair into a slot, the second makes the map grow
+    let beside: Vec<u64> = (0..13).collect();
+    let grows: Vec<u64> = (0..15).filter(|key| *key != 9).collect();
     for (name, insert) in INSERTIONS {
-        for (keys, least) in [(4, 1), (14, 3)] {
-            let requests = returned_each_time(insert, || texts(keys), name);
-            assert!(requests >= least, "{requests} requests of {name}, {keys} keys");
-        }
-        for (keys, least) in [(10, 1), (14, 2)] {
-            let requests = returned_each_time(insert, || alone(keys), name);
-            assert!(requests >= least, "{requests} requests of {name}, {keys} keys apart");
+        assert_eq!(returned_each_time(insert, || texts(4), name), 1, "{name}, 4 keys");
+        for ((form, make), second) in FORMS.into_iter().zip([1, 2, 1]) {
+            let name = format!("{name}, slots {form}");
+            let requests = returned_each_time(insert, || make(&beside), &name);
+            assert_eq!(requests, second, "requests of {name}, for a second pair");
+            let requests = returned_each_time(insert, || make(&grows), &name);
+            assert_eq!(requests, 2, "requests of {name}, at a growth");
         }
     }
 }
