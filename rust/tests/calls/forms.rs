@@ -1,5 +1,5 @@
-//! Slots of one pair each, and the same pairs in slots of which one has had two. Every call returns
-//! and leaves the same in both.
+//! Lone slots, the same pairs in shared slots, and in lone slots that a second pair has made shared.
+//! Every call returns and leaves the same in each.
 use crate::random::Random;
 use intmap_proved::{Entry, IntMap, IntSet};
 
@@ -14,21 +14,26 @@ fn beside(key: u64) -> u64 {
     key + SLOTS * 8
 }
 
-/// Keys in order, each in a slot of its own.
-fn alone() -> Map {
-    let mut map = Map::with_capacity(SLOTS as usize);
+fn filled(mut map: Map) -> Map {
     map.extend((0..KEYS).map(|key| (key, key + 100)));
-    assert_eq!(
-        (map.capacity() as u64, map.load()),
-        (SLOTS, KEYS),
-        "each key has a slot of its own"
-    );
+    let sizes = (map.capacity() as u64, map.load());
+    assert_eq!(sizes, (SLOTS, KEYS), "each key has a slot of its own");
     map
 }
 
-/// The same pairs in the same slots, behind a second pair that has come and gone.
-fn once_shared() -> Map {
-    let mut map = alone();
+/// Keys in order in lone slots, which a map has that grows by insertions.
+fn lone() -> Map {
+    filled(Map::new())
+}
+
+/// The same pairs in shared slots, which a map has that is made with room.
+fn shared() -> Map {
+    filled(Map::with_capacity(SLOTS as usize))
+}
+
+/// The same pairs in slots that were lone, behind a second pair that has come and gone.
+fn once_lone() -> Map {
+    let mut map = lone();
     assert_eq!(map.insert(beside(7), 0), None);
     assert_eq!((map.load(), map.len() as u64), (KEYS, KEYS + 1), "two pairs share a slot");
     assert_eq!(map.remove(beside(7)), Some(0));
@@ -189,14 +194,14 @@ fn told(map: &Map) -> (Vec<u64>, usize, usize, u64, Vec<u64>) {
 }
 
 #[test]
-fn a_call_does_the_same_before_and_after_a_slot_is_shared() {
-    for (first, call) in CALLS {
-        for (second, next) in CALLS {
-            let (mut one, mut other) = (alone(), once_shared());
-            assert_eq!(call(&mut one), call(&mut other), "{first}");
-            assert_eq!(told(&one), told(&other), "after {first}");
-            assert_eq!(next(&mut one), next(&mut other), "{second} behind {first}");
-            assert_eq!(told(&one), told(&other), "after {first} and {second}");
+fn a_call_does_the_same_in_each_form_of_slots() {
+    for ((first, call), (second, next)) in CALLS.iter().flat_map(|it| CALLS.map(|next| (it, next)))
+    {
+        let mut map = lone();
+        let said = (call(&mut map), told(&map), next(&mut map), told(&map));
+        for (form, mut map) in [("shared", shared()), ("once lone", once_lone())] {
+            let again = (call(&mut map), told(&map), next(&mut map), told(&map));
+            assert_eq!(said, again, "{first} and {second}, slots {form}");
         }
     }
 }
@@ -217,14 +222,14 @@ fn a_map_of_keys_in_order_grows_as_one_of_keys_in_any_order() {
 }
 
 #[test]
-fn random_calls_do_the_same_before_and_after_a_slot_is_shared() {
+fn random_calls_do_the_same_in_each_form_of_slots() {
     let mut random = Random(17);
     for round in 0..100 {
-        let (mut one, mut other) = (alone(), once_shared());
+        let mut maps = [lone(), shared(), once_lone()];
         for _ in 0..100 {
             let (key, number) = (random.below(48), random.next());
             let key = if number.is_multiple_of(29) { beside(key) } else { key };
-            let said = [&mut one, &mut other].map(|map| match number % 9 {
+            let said = maps.each_mut().map(|map| match number % 9 {
                 0..3 => map.insert(key, number),
                 3..5 => map.remove(key),
                 5 => Some(*map.entry(key).or_insert(number)),
@@ -232,16 +237,17 @@ fn random_calls_do_the_same_before_and_after_a_slot_is_shared() {
                 7 => map.extract_if(|it, _| it == key).next().map(|it| it.1),
                 _ => map.drain().next().map(|it| it.1),
             });
-            assert_eq!(said[0], said[1], "round {round}");
-            assert_eq!(told(&one), told(&other), "round {round}");
+            let [lone, others @ ..] = maps.each_ref().map(told);
+            assert!(said.iter().all(|it| *it == said[0]), "round {round}: {said:?}");
+            assert!(others.iter().all(|it| *it == lone), "round {round}: {lone:?}, {others:?}");
         }
     }
 }
 
 #[test]
-fn sets_do_the_same_before_and_after_a_slot_is_shared() {
+fn sets_do_the_same_before_and_after_a_lone_slot_is_shared() {
     let made = || -> IntSet<u64> {
-        let mut set = IntSet::with_capacity(SLOTS as usize);
+        let mut set = IntSet::new();
         set.extend(0..KEYS);
         set
     };
