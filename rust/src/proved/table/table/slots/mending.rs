@@ -15,8 +15,10 @@ fn mark<A: Allocator>(bits: &mut Bits<A>, place: usize, is_filled: bool) {
 
 impl<K: IntKey, X, A: Allocator> Slots<K, X, A> {
     /// Makes the slots whole again after a panic of a closure, of a drop or of a key's `number`, and
-    /// returns how many pairs they have. It calls no `number`. The slots keep their form.
+    /// returns how many pairs they have. It calls no `number`. The slots have the form that they had
+    /// before the call.
     pub(in crate::proved::table) fn mend(&mut self) -> usize {
+        self.undo_parting();
         self.undo_lone_growth();
         self.undo_shared_growth();
         let mut count = 0;
@@ -30,6 +32,21 @@ impl<K: IntKey, X, A: Allocator> Slots<K, X, A> {
             mark(&mut self.directory.bits, place, slot.is_filled());
         }
         count
+    }
+
+    /// Moves the pairs of lone slots back, if a panic has ended a growth that parts the pairs of
+    /// shared ones. A pair's slot was its present one modulo the number of slots before.
+    fn undo_parting(&mut self) {
+        if self.shared.is_empty() {
+            return;
+        }
+        while let Some(mut slot) = self.lone.pop() {
+            if slot.is_filled() {
+                let place = self.lone.len() & self.directory.mask;
+                self.shared[place].take_again(slot.take());
+            }
+        }
+        self.lone.shrink_to_fit();
     }
 
     /// Moves the pairs of added lone slots back, if a panic has ended growth. A pair's slot was its
