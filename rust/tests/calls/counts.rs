@@ -118,21 +118,45 @@ impl Plain {
         self.store(number)
     }
 
-    /// A call that stores a key. In the place of a present one comes the last one of its slot. A
-    /// new pair that makes the map grow moves with the others, and is then found as the last one
-    /// of its slot.
+    /// A call that stores a key. In the place of a present one comes the last one of its slot.
     fn store(&mut self, number: u64) -> u64 {
         let due = self.search(number) + 1;
+        let slot = self.slot(number);
         if let Some(place) = self.numbers.iter().position(|it| *it == number) {
-            let slot = self.slot(number);
             let last = self.numbers.iter().rposition(|it| self.slot(*it) == slot).unwrap();
             self.numbers.swap(place, last);
             return due;
         }
-        self.are_lone &= self.numbers.iter().all(|it| self.slot(*it) != self.slot(number));
+        let len = self.numbers.len() + 1;
+        let slots = if len % 8 < 4 { self.slots } else { self.least(len, self.factor) };
+        if slots > self.slots {
+            return due + self.store_and_grow(number, slots);
+        }
+        self.are_lone &= self.numbers.iter().all(|it| self.slot(*it) != slot);
         self.numbers.push(number);
-        let slots = if self.numbers.len() % 8 < 4 { self.slots } else { self.least(self.factor) };
-        if slots == self.slots { due } else { due + self.part(slots) + self.grow(slots) + 1 }
+        due
+    }
+
+    /// Growth with a new pair: for its new slot, for each pair of its old one, up to one that comes
+    /// to the same, and for the last pair of its new slot. If the slots are shared and such a pair is
+    /// there, it moves with the others.
+    fn store_and_grow(&mut self, number: u64, slots: usize) -> u64 {
+        let beside: Vec<u64> =
+            self.numbers.iter().copied().filter(|it| self.slot(*it) == self.slot(number)).collect();
+        let target = slot_among(number, slots);
+        let met = beside.iter().position(|it| slot_among(*it, slots) == target);
+        let looked = met.map_or(beside.len(), |it| it + 1) as u64;
+        let moves_too = met.is_some() && !self.are_lone;
+        if moves_too {
+            self.numbers.push(number);
+        }
+        let parted = if met.is_none() { self.part(slots) } else { 0 };
+        let moved = self.grow(slots);
+        if !moves_too {
+            self.are_lone &= met.is_none();
+            self.numbers.push(number);
+        }
+        1 + looked + parted + moved + 1
     }
 
     /// A call that stores a present key again.
@@ -153,10 +177,11 @@ impl Plain {
         numbers.iter().map(|it| self.add(*it)).sum()
     }
 
-    /// The least number of slots, among these and their doublings, that meets this load factor.
-    fn least(&self, factor: usize) -> usize {
+    /// The least number of slots, among these and their doublings, in which so many pairs meet this
+    /// load factor.
+    fn least(&self, len: usize, factor: usize) -> usize {
         let mut slots = self.slots;
-        while self.numbers.len() * 1000 / slots > factor {
+        while len * 1000 / slots > factor {
             slots *= 2;
         }
         slots
@@ -165,7 +190,7 @@ impl Plain {
     /// Growth that meets this load factor.
     fn meet(&mut self, factor: usize) -> u64 {
         self.factor = factor;
-        self.grow(self.least(factor))
+        self.grow(self.least(self.numbers.len(), factor))
     }
 
     /// Shared slots become lone at a growth by an insertion if no two pairs of a slot stay together:
