@@ -15,7 +15,6 @@ use crate::table::slots::apart::add_lone;
 use crate::table::slots::grow::reserve_slots;
 use crate::table::stored::Stored;
 use std::alloc::{AllocError, Allocator};
-use std::mem;
 
 /// From so many slots on, a growth may part pairs. In fewer slots, pairs soon share one again.
 const LEAST: usize = 16;
@@ -81,61 +80,40 @@ fn put<K: IntKey, X, A: Allocator>(
     placed.tick();
 }
 
-/// Puts pairs, in order, into their slots.
-fn put_each<K: IntKey, X: Drop, A: Allocator>(
+/// Moves the pairs of a shared slot, in order, to their slots.
+fn put_slot<K: IntKey, X: Drop, A: Allocator>(
     bits: &mut Bits<A>,
     lone: &mut [Lone<K, X>],
-    pairs: Vec<(Stored<K>, X), A>,
+    slot: &mut Slot<K, X, A>,
     placed: &mut Steps,
 )
     requires { (rest : List (K × X))
-        × CanPut K.number_of lone.old bits.old (pairs.items ++ rest) 0 }
-    ensures put { ArePut K.number_of lone.old bits.old placed.old pairs.items lone.new bits.new
+        × CanPut K.number_of lone.old bits.old (slot.old.pairs ++ rest) 0 }
+    ensures put { ArePut K.number_of lone.old bits.old placed.old slot.old.pairs lone.new bits.new
         placed.new }
     ensures can { (rest : List (K × X))
-        → CanPut K.number_of lone.old bits.old (pairs.items ++ rest) 0
+        → CanPut K.number_of lone.old bits.old (slot.old.pairs ++ rest) 0
         → CanPut K.number_of lone.new bits.new rest 0 }
 {
-    for pair in pairs {
+    while slot.is_filled() {
+        let pair = slot.take_front();
         put(bits, lone, pair, placed);
     }
 }
 
-/// Puts the pairs of a shared slot, in order, into their slots.
-#[inline(always)]
-fn put_slot<K: IntKey, X: Drop, A: Allocator>(
-    bits: &mut Bits<A>,
-    lone: &mut [Lone<K, X>],
-    slot: Slot<K, X, A>,
-    placed: &mut Steps,
-)
-    requires { (rest : List (K × X))
-        × CanPut K.number_of lone.old bits.old (slot.pairs ++ rest) 0 }
-    ensures put { ArePut K.number_of lone.old bits.old placed.old slot.pairs lone.new bits.new
-        placed.new }
-    ensures can { (rest : List (K × X))
-        → CanPut K.number_of lone.old bits.old (slot.pairs ++ rest) 0
-        → CanPut K.number_of lone.new bits.new rest 0 }
-{
-    if let Some((first, rest)) = slot.into_parts() {
-        put(bits, lone, first, placed);
-        put_each(bits, lone, rest, placed);
-    }
-}
-
-/// Puts the pairs of all shared slots, slot after slot, into their slots.
+/// Moves the pairs of all shared slots, slot after slot, to their slots.
 fn put_all<K: IntKey, X: Drop, A: Allocator>(
     bits: &mut Bits<A>,
     lone: &mut [Lone<K, X>],
-    shared: Vec<Slot<K, X, A>, A>,
+    shared: &mut [Slot<K, X, A>],
     placed: &mut Steps,
 )
-    requires { CanPut K.number_of lone.old bits.old (joined (rows shared.items)) 0 }
-    ensures { ArePut K.number_of lone.old bits.old placed.old (joined (rows shared.items)) lone.new
+    requires { CanPut K.number_of lone.old bits.old (joined (rows shared.old)) 0 }
+    ensures { ArePut K.number_of lone.old bits.old placed.old (joined (rows shared.old)) lone.new
         bits.new placed.new }
 {
-    for slot in shared {
-        put_slot(bits, lone, slot, placed);
+    for index in 0..shared.len() {
+        put_slot(bits, lone, &mut shared[index], placed);
     }
 }
 
@@ -164,9 +142,8 @@ pub(super) fn part<K: IntKey, X: Drop, A: Allocator + Copy>(
 {
     let mut bits = reserve_slots(lone, capacity)?;
     add_lone(lone, capacity);
-    let alloc = *shared.allocator();
-    let all = mem::replace(shared, Vec::new(alloc));
-    put_all(&mut bits, lone, all, placed);
+    put_all(&mut bits, lone, shared, placed);
+    *shared = Vec::new(*shared.allocator());
     *directory = Directory {
         mask: capacity - 1,
         bits,

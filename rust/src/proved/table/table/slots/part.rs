@@ -12,7 +12,6 @@ use crate::proved::table::table::slots::apart::add_lone;
 use crate::proved::table::table::slots::grow::reserve_slots;
 use crate::proved::table::table::stored::Stored;
 use crate::memory::alloc::{AllocError, Allocator};
-use core::mem;
 
 /// From so many slots on, a growth may part pairs. In fewer slots, pairs soon share one again.
 const LEAST: usize = 16;
@@ -65,41 +64,28 @@ fn put<K: IntKey, X, A: Allocator>(
     placed.tick();
 }
 
-/// Puts pairs, in order, into their slots.
-fn put_each<K: IntKey, X, A: Allocator>(
+/// Moves the pairs of a shared slot, in order, to their slots.
+fn put_slot<K: IntKey, X, A: Allocator>(
     bits: &mut Bits<A>,
     lone: &mut [Lone<K, X>],
-    pairs: Vec<(Stored<K>, X), A>,
+    slot: &mut Slot<K, X, A>,
     placed: &mut Steps,
 ) {
-    for pair in pairs {
+    while slot.is_filled() {
+        let pair = slot.take_front();
         put(bits, lone, pair, placed);
     }
 }
 
-/// Puts the pairs of a shared slot, in order, into their slots.
-#[inline(always)]
-fn put_slot<K: IntKey, X, A: Allocator>(
-    bits: &mut Bits<A>,
-    lone: &mut [Lone<K, X>],
-    slot: Slot<K, X, A>,
-    placed: &mut Steps,
-) {
-    if let Some((first, rest)) = slot.into_parts() {
-        put(bits, lone, first, placed);
-        put_each(bits, lone, rest, placed);
-    }
-}
-
-/// Puts the pairs of all shared slots, slot after slot, into their slots.
+/// Moves the pairs of all shared slots, slot after slot, to their slots.
 fn put_all<K: IntKey, X, A: Allocator>(
     bits: &mut Bits<A>,
     lone: &mut [Lone<K, X>],
-    shared: Vec<Slot<K, X, A>, A>,
+    shared: &mut [Slot<K, X, A>],
     placed: &mut Steps,
 ) {
-    for slot in shared {
-        put_slot(bits, lone, slot, placed);
+    for index in 0..shared.len() {
+        put_slot(bits, lone, &mut shared[index], placed);
     }
 }
 
@@ -115,9 +101,8 @@ pub(super) fn part<K: IntKey, X, A: Allocator + Copy>(
 ) -> Result<(), AllocError> {
     let mut bits = reserve_slots(lone, capacity)?;
     add_lone(lone, capacity);
-    let alloc = *shared.allocator();
-    let all = mem::replace(shared, Vec::new(alloc));
-    put_all(&mut bits, lone, all, placed);
+    put_all(&mut bits, lone, shared, placed);
+    *shared = Vec::new(*shared.allocator());
     *directory = Directory {
         mask: capacity - 1,
         bits,

@@ -1,36 +1,43 @@
-use Rattle.std.proofs.Common.{◌≡◌, ◌∙◌, ◌++◌, [], refl, sym, ap, append-nil, append_assoc, arith}
-use Rattle.std.proofs.lemmas.List.{nil_from_length}
-use Rattle.std.specs.Vec.Iter.{into_iter_items}
-use Rattle.intmap_table.specs.Tables.Slots.{rows, joined}
+use Rattle.std.proofs.Common.{◌≡◌, ℕ, ◌+◌, ◌<◌, ◌∙◌, List, [], ◌++◌, length, get_or, set, drop, refl, sym, ap, append_assoc, arith}
+use Rattle.std.proofs.lemmas.List.{drop_more, drop-set-lt, map-set}
+use Rattle.intmap_table.specs.Tables.Slots.{Held, rows, joined}
 use Rattle.intmap_table.proofs.Tables.PutLemmas.{ArePut-none, ArePut-more}
+use Rattle.intmap_table.proofs.Tables.TableLemmas.{length-rows, get_or-rows}
 use Rattle.intmap_table.proofs.table.slots.part.put_all.Goals as goal
 
-pub loop-slot-init : goal.loop-slot-init
-loop-slot-init g c = rw c.into_iter-slot-iterator.ensures.into_iter_gives.0 (record {
+module _ {K X : Type 0} (S : List (Held K X)) (i : ℕ) (h : Held K X) (below : i < length S) where
+  -- the pairs from a slot on are its own and those behind it
+  next : joined (drop i (rows S)) ≡ (get_or S i h).pairs ++ joined (drop (i + 1) (rows S))
+  next =
+      ap joined (drop_more (rows S) i [] (omega (arith, below, length-rows S)))
+      ∙ ap (λ row. row ++ joined (drop (i + 1) (rows S))) (get_or-rows S i h below)
+
+  -- which stay if the slot changes
+  behind : joined (drop (i + 1) (rows (set S i h))) ≡ joined (drop (i + 1) (rows S))
+  behind = ap (λ R. joined (drop (i + 1) R)) (map-set (λ (s : Held K X). s.pairs) S i h) ∙ ap joined (drop-set-lt (i + 1) (rows S) i h.pairs (omega arith))
+
+pub loop-index-init : goal.loop-index-init
+loop-index-init g c = record {
   done = [];
   all = refl;
   put = ArePut-none g.K.IntKey.number_of c.args.lone.now c.args.bits.now c.args.placed.now;
   can = c.requires;
-})
+}
 
 pub put_slot-requires : goal.put_slot-requires
 put_slot-requires g c =
-    (joined (rows (into_iter_items c.next.new.self)), rw c.in-Some.ensures.steps.0 at c.loop-slot.invariant.can)
+    let below : c.loop-index.index < length c.loop-index.shared = rw c.loop-index.auto.shared c.loop-index-test.true in
+    (joined (drop (c.loop-index.index + 1) (rows c.loop-index.shared)), rw (next _ _ c.index-shared-index.result below) at c.loop-index.invariant.can)
 
-pub loop-slot-preserved : goal.loop-slot-preserved
-loop-slot-preserved g c =
-    let before = c.loop-slot.invariant in let next = c.in-Some.ensures.steps.0 in
-    let own = c.in-Some.slot.pairs in let left = joined (rows (into_iter_items c.next.new.self)) in let end = c.put_slot.new in
+pub loop-index-preserved : goal.loop-index-preserved
+loop-index-preserved g c =
+    let before = c.loop-index.invariant in let S = c.loop-index.shared in let i = c.loop-index.index in let d = c.index-shared-index.result in
+    let below : i < length S = rw c.loop-index.auto.shared c.loop-index-test.true in
+    let own = (get_or S i d).pairs in let left = joined (drop (i + 1) (rows S)) in let end = c.put_slot.new in
+    let next = next S i d below in let behind = behind S i end.slot below in
     record {
       done = before.done ++ own;
-      all = append_assoc before.done own left ∙ ap (λ S. before.done ++ joined (rows S)) (sym next) ∙ before.all;
+      all = ap (λ L. (before.done ++ own) ++ L) behind ∙ append_assoc before.done own left ∙ ap (λ L. before.done ++ L) (sym next) ∙ before.all;
       put = ArePut-more g.K.IntKey.number_of end.lone end.bits end.placed before.put c.put_slot.ensures.put;
-      can = c.put_slot.ensures.can left (rw next at before.can);
+      can = rw behind (c.put_slot.ensures.can left (rw next at before.can));
     }
-
-pub returns : goal.returns
-returns g c =
-    let end = c.in-None.ensures.steps.0 in let len = c.loop-slot.slot-iterator.rest.ok.0 in let before = c.loop-slot.invariant in
-    let none : into_iter_items c.loop-slot.slot-iterator ≡ [] = nil_from_length (into_iter_items c.loop-slot.slot-iterator) (omega (arith, end, len)) in
-    let all = sym (append-nil before.done) ∙ ap (λ S. before.done ++ joined (rows S)) (sym none) ∙ before.all in
-    rw all at before.put
