@@ -144,8 +144,9 @@ fn slots_have_the_bytes_of_their_form() {
 }
 
 /// A name, how many keys there are before, how many requests the call makes in each form, and the
-/// call. The slot of 25 has a pair.
-const CALLS_OF_FORMS: [(&str, u64, [u64; 3], MapCall); 12] = [
+/// call. The slot of 25 has a pair, and so has that of 28, which part among 32 slots, and that of 44,
+/// which don't.
+const CALLS_OF_FORMS: [(&str, u64, [u64; 3], MapCall); 14] = [
     ("insert into an empty slot", 13, [0, 0, 0], |map| Ok(map.try_insert(15, 1).map(drop)?)),
     ("insert a second pair", 13, [1, 2, 1], |map| Ok(map.try_insert(25, 1).map(drop)?)),
     ("insert_checked of a second pair", 13, [1, 2, 1], |map| {
@@ -163,6 +164,12 @@ const CALLS_OF_FORMS: [(&str, u64, [u64; 3], MapCall); 12] = [
     ("extend by a second pair", 13, [1, 2, 1], |map| Ok(map.try_extend([(25, 1)])?)),
     ("insert and grow", 14, [2, 2, 2], |map| Ok(map.try_insert(15, 1).map(drop)?)),
     ("or_insert and grow", 14, [2, 2, 2], |map| Ok(map.entry(15).try_or_insert(1).map(drop)?)),
+    ("insert a second pair that parts", 14, [2, 2, 2], |map| {
+        Ok(map.try_insert(28, 1).map(drop)?)
+    }),
+    ("insert a second pair that stays", 14, [5, 4, 5], |map| {
+        Ok(map.try_insert(44, 1).map(drop)?)
+    }),
     ("reserve", 13, [3, 2, 4], |map| map.try_reserve(100)),
     ("set_load_factor", 13, [3, 2, 4], |map| map.try_set_load_factor(0.1)),
     ("clone", 13, [2, 2, 3], |map| map.try_clone().map(drop)),

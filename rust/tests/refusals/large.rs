@@ -164,7 +164,8 @@ fn a_call_of_a_set_that_is_refused_its_slots_was_granted_nothing() {
 }
 
 /// Each call that may fail, with keys that no map has here.
-const AMPLE: [(&str, MapCall); 19] = [
+const AMPLE: [(&str, MapCall); 20] = [
+    ("insert the next key", |map| Ok(map.try_insert(map.len() as u64, 1).map(drop)?)),
     ("insert", |map| Ok(map.try_insert(FAR, 1).map(drop)?)),
     ("insert_checked", |map| Ok(map.try_insert_checked(FAR, 1).map(drop)?)),
     ("extend", |map| Ok(map.try_extend((0..9).map(|it| (FAR + it, it)))?)),
@@ -197,10 +198,12 @@ const FAR: u64 = 1 << 40;
 
 #[test]
 fn calls_with_ample_memory_succeed_at_a_large_size() {
-    // the last of each two lets the map grow at the next insertion
-    for keys in [14_907, 14_909, 250_000, 476_621] {
+    for (keys, grows) in [(14_907, false), (14_909, true), (100_000, false), (119_275, true)] {
         for (form, make) in [("shared", shared as fn(u64) -> Map), ("lone", lone)] {
             let whole = make(keys);
+            let mut longer = whole.clone();
+            longer.insert(FAR, 1);
+            assert_eq!(longer.capacity() > whole.capacity(), grows, "{keys} keys, slots {form}");
             for (name, call) in AMPLE {
                 let mut map = whole.clone();
                 assert_eq!(call(&mut map), Ok(()), "{name}, {keys} keys, slots {form}");

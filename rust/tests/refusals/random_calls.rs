@@ -74,12 +74,13 @@ impl Call {
 /// Makes a call until none of its requests fails. Returns how many failed.
 fn until_it_succeeds(map: &mut Map, call: &Call, live: &Rc<Cell<usize>>) -> u64 {
     for number in 1.. {
-        let before = state_of(map, live);
+        let (before, held) = (state_of(map, live), bytes());
         let (returned, failed) = failing_at(number, || call.on(map, live));
         if returned.is_ok() {
             return number - 1;
         }
         assert_eq!((returned, failed), (Err(Cause::Memory), true), "call {}", call.call);
+        assert_eq!(bytes(), held, "bytes after call {}, request {number}", call.call);
         assert_eq!(state_of(map, live), before, "call {}, request {number}", call.call);
     }
     unreachable!()
