@@ -64,7 +64,7 @@ fn a_value_is_dropped_once_where_its_slot_is_to_hold_another(rt: HostRuntime) ->
     Ok(())
 }
 
-const TAKEN: [Row; 15] = [
+const TAKEN: [Row; 18] = [
     (Step::SetLoadFactor(200), None, 0x000, 0x000, 0, 4),
     (Step::Insert(0, 0), None, 0x000, 0x000, 1, 4),
     (Step::Insert(4, 1), None, 0x000, 0x000, 2, 4),
@@ -102,11 +102,28 @@ const TAKEN: [Row; 15] = [
         2,
         32,
     ),
+    (Step::Clear, None, 0x11001111111111, 0x11001111111111, 0, 32),
+    (
+        Step::Insert(0, 10),
+        None,
+        0x11001111111111,
+        0x11001111111111,
+        1,
+        32,
+    ),
+    (
+        Step::Insert(4, 11),
+        None,
+        0x11001111111111,
+        0x11001111111111,
+        2,
+        32,
+    ),
     (
         Step::IntoValues(1),
-        Some(7),
-        0x11001101111111,
-        0x11001111111111,
+        Some(10),
+        0x11101111111111,
+        0x11111111111111,
         0,
         4,
     ),
@@ -115,7 +132,7 @@ const TAKEN: [Row; 15] = [
 #[test]
 fn a_value_is_dropped_once_where_its_lone_slot_is_emptied(rt: HostRuntime) -> Result<(), Fail> {
     let end = end_of(rt.alloc(), &TAKEN)?;
-    assert_eq!(rt; end, (0x11001111111111, 0), "the map was let go");
+    assert_eq!(rt; end, (0x11111111111111, 0), "the map was let go");
     Ok(())
 }
 
