@@ -36,8 +36,9 @@ impl<K: IntKey, X, A: Allocator> Slots<K, X, A> {
         // read before the slot changes, so that a write there can't delay it
         let word = self.directory.bits.word(index);
         if index < self.lone.len() {
+            let pair = self.lone[index].take();
             self.directory.bits.clear_in(word, index);
-            return self.lone[index].take();
+            return pair;
         }
         let slot = &mut self.shared[index];
         if let Some(lone) = slot.take_lone() {

@@ -18,11 +18,11 @@ module _ (g : _) (c : After-index_mut-slot g) where
 pub invariant_of-self : goal.invariant_of-self
 invariant_of-self g c =
     rw c.clear_in.ensures
-    (AreSlots-lone_set _ _ c.self.invariant c.args.index c.take.new.self (omega (arith, c.if-index-len.true, c.len.ensures)) false (ap (λ ps. nat_lt 0 (length ps)) (sym c.take.ensures.emptied)))
+    (AreSlots-lone_set _ _ c.self.invariant c.args.index c.take-pair.new.self (omega (arith, c.if-index-len.true, c.len.ensures)) false (ap (λ ps. nat_lt 0 (length ps)) (sym c.take-pair.ensures.emptied)))
 
 pub returns-then-index-len-clause-room : goal.returns-then-index-len-clause-room
 returns-then-index-len-clause-room g c =
-    lone_set-leaves_room _ _ c.self.invariant c.args.index c.take.new.self (omega (arith, c.if-index-len.true, c.len.ensures)) (rw (c.take.ensures.emptied, c.take.ensures.room) (omega arith))
+    lone_set-leaves_room _ _ c.self.invariant c.args.index c.take-pair.new.self (omega (arith, c.if-index-len.true, c.len.ensures)) (rw (c.take-pair.ensures.emptied, c.take-pair.ensures.room) (omega arith))
 
 pub invariant_of-self-in-Some : goal.invariant_of-self-in-Some
 invariant_of-self-in-Some g c =
