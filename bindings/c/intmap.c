@@ -17,7 +17,7 @@
 // have 16 bytes each.
 //
 // Compilers: rattle-kit-13f logic dac8208d650f15bf; clang version 22.1.8
-// Sources: 8d278c9a31b72fc48bff5ab85088b4ef19f6d9b11d654f47889ad7ca2ccf08ce
+// Sources: a9ab5f7a55ef6dddbbeef7526d23453a55a431f511b3d5a0d024f871f993b532
 //
 // SPDX-License-Identifier: MIT
 //
@@ -684,10 +684,10 @@ static ALIGNED NOINLINE void intmap_add_growing(char *a0, char *a1, uint64_t a2,
         r33, r8, r0_8, r16, r20, r8_2, r9_6, r0_9, r0_10, r3_7, r0_11, r28, r2_6, r4, r2_7, r4_2, r2_8, r12_4, r0_15,
         r0_16, r14, r2_9, r17_5, r27, r9_11, r34_2, r34_3, r0_06, r12_5, r10_4, common_ret_op, r17_2;
     u128 r10, r13_2, r187, r15, r18, r17;
-    char *r26, *r3_4, *r50, *r6, *r11, *r9, *r9_2, *r5, *r9_3, *r5_2, *r11_4, *r9_4, *r9_5, *r11_6, *r11_7, *r9_7,
-        *r9_8, *r23, *r18_2, *r23_2, *x19, *r9_9, *r8_3, *r10_472_0_ph102, *r8_4, *r4_3, *r25, *r20_2, *r9_10, *r4_4,
+    char *r26, *r3_4, *r50, *r6, *r11, *r9, *r9_2, *r5, *r9_3, *r5_2, *r11_4, *r9_4, *r9_5, *r11_6, *r9_7, *r9_8,
+        *r23, *r18_2, *r23_2, *x19, *r9_9, *r8_3, *r10_472_0_ph102, *r8_4, *r4_3, *r25, *r20_2, *r9_10, *r4_4,
         *r10_3, *r4_5, *r15_2, *r34, *r9_12;
-    uint8_t r3, r3_2, r3_6, r12, r17_3, r11_2, r11_5, r69, r11_8, r11_9, r5099, r50_2;
+    uint8_t r3, r3_2, r3_6, r12, r17_3, r11_2, r11_5, r69, r11_7, r11_8, r5099, r50_2;
     bool r0_2, r0_6, r0_7, r13_3;
     struct word_word r0_3, r0_4, r0_5, r0_12, r0_13, r0_14;
     struct byte_word r53, r53_2, r86;
@@ -1026,26 +1026,25 @@ arm_6_2:;
     r69 = slots_grow(a1, r0, false);
     if ((r69 & 1) != 0) {
         r8_2 = (a3 >> 3) & UINT64_C(2305843009213693944);
-        r11_7 = load_address(a1 + 8) + r8_2;
-        r9_6 = load64(r11_7);
+        r9_6 = load64(load_address(a1 + 8) + r8_2);
         if (a3 < load64(a1 + 40)) {
-            store64(r11_7, r9_6 & (((uint64_t)1 << (a3 & 63)) ^ UINT64_C(18446744073709551615)));
             r9_7 = load_address(a1 + 32) + (a3 * 24);
-            r11_8 = load8(r9_7);
             r0_9 = load64(r9_7 + 16);
+            r11_7 = load8(r9_7);
             memset(r9_7, 0, 24);
-            if (r11_8 != 1) {
+            if (r11_7 != 1) {
                 abort();
             }
+            store64(load_address(a1 + 8) + r8_2, r9_6 & (((uint64_t)1 << (a3 & 63)) ^ UINT64_C(18446744073709551615)));
             r0_10 = r0_9;
         } else {
             r9_8 = load_address(a1 + 56) + r6_2;
             r3_7 = load64(r9_8 + 32);
             if (r3_7 == 0) {
                 r0_11 = load64(r9_8 + 16);
-                r11_9 = load8(r9_8);
+                r11_8 = load8(r9_8);
                 memset(r9_8, 0, 24);
-                if (r11_9 == 1) {
+                if (r11_8 == 1) {
                     store64(load_address(a1 + 8) + r8_2, r9_6 & (((uint64_t)1 << (a3 & 63)) ^ UINT64_C(18446744073709551615)));
                     r0_10 = r0_11;
                     goto after_Slots_take_at;
@@ -1766,7 +1765,7 @@ return_4:;
     return r0_7;
 }
 
-// intmap_table::table::slots::apart::grow_lone, in crates/intmap_table/src/table/slots/apart.rt
+// intmap_table::table::slots::apart::grow_lone, in crates/intmap_table/src/table/slots/grow_lone.rt
 static ALIGNED uint8_t apart_grow_lone(char *a0, char *a1, uint64_t a2) {
     uint8_t r1, r11, r11_3;
     char *r6, *r0, *r4, *r15, *r6_5, *r4_2, *r3_3, *r3_6, *r17, *r3_10, *r44, *r11_2, *r66;
@@ -4159,10 +4158,9 @@ static ALWAYS_INLINE uint32_t do_intmap_insert_checked(char *map, uint64_t key, 
 
 // intmap_remove, in crates/intmap_c/src/pairs.rt
 static ALWAYS_INLINE struct word_word do_intmap_remove(char *map, uint64_t key) {
-    uint64_t r3, r6, r19, r10, r8, r0, r0_2, r3_2, r8_2, r9_2, r0_3, r28, r2, r4, r6_2, r3_0, r45, r28_2, r2_2, r4_3,
-        r3_3;
-    char *x0, *r11, *r11_2, *r9, *r11_4, *r23, *r4_2, *r23_2, *x6;
-    uint8_t r11_3;
+    uint64_t r3, r6, r19, r10, r8, r9, r0, r0_2, r3_2, r8_2, r9_2, r0_3, r28, r2, r4, r6_2, r3_0, r45, r28_2, r2_2,
+        r4_3, r3_3;
+    char *x0, *r11, *r11_2, *r23, *r4_2, *r23_2, *x5;
     r3 = load64(map);
     store64(map, 0);
     x0 = (char *)(uintptr_t)r3;
@@ -4172,66 +4170,61 @@ static ALWAYS_INLINE struct word_word do_intmap_remove(char *map, uint64_t key) 
     } else {
         r10 = load64(x0) & (key * UINT64_C(11400714819323198549));
         if (r10 < load64(x0 + 40)) {
-            r8 = r10 * 24;
-            r11 = load_address(x0 + 32) + r8;
+            r11 = load_address(x0 + 32) + (r10 * 24);
             if (load8(r11) == 1) {
                 if (load64(r11 + 8) == key) {
-                    r11_2 = load_address(x0 + 8) + ((r10 >> 3) & UINT64_C(2305843009213693944));
-                    store64(r11_2, load64(r11_2) & (((uint64_t)1 << (r10 & 63)) ^ UINT64_C(18446744073709551615)));
-                    r9 = load_address(x0 + 32) + r8;
-                    r11_3 = load8(r9);
-                    r0 = load64(r9 + 16);
-                    memset(r9, 0, 24);
-                    if (r11_3 != 1) {
-                        abort();
-                    }
+                    r8 = (r10 >> 3) & UINT64_C(2305843009213693944);
+                    r9 = load64(load_address(x0 + 8) + r8);
+                    r0 = load64(r11 + 16);
+                    memset(r11, 0, 24);
+                    store64(load_address(x0 + 8) + r8, r9 & (((uint64_t)1 << (r10 & 63)) ^ UINT64_C(18446744073709551615)));
                     r0_2 = r0;
                     goto after_pairs_remove_2;
                 }
             }
         } else {
-            r11_4 = load_address(x0 + 56) + (r10 * 48);
-            if (load8(r11_4) == 1) {
-                if (load64(r11_4 + 8) == key) {
-                    r3_2 = load64(r11_4 + 32);
+            r11_2 = load_address(x0 + 56) + (r10 * 48);
+            if (load8(r11_2) == 1) {
+                if (load64(r11_2 + 8) == key) {
+                    r3_2 = load64(r11_2 + 32);
                     if (r3_2 == 0) {
                         r8_2 = (r10 >> 3) & UINT64_C(2305843009213693944);
                         r9_2 = load64(load_address(x0 + 8) + r8_2);
-                        r0_3 = load64(r11_4 + 16);
-                        memset(r11_4, 0, 24);
+                        r0_3 = load64(r11_2 + 16);
+                        memset(r11_2, 0, 24);
                         store64(load_address(x0 + 8) + r8_2, r9_2 & (((uint64_t)1 << (r10 & 63)) ^ UINT64_C(18446744073709551615)));
                         r0_2 = r0_3;
                         goto after_pairs_remove_2;
                     }
                     r28 = r3_2 - 1;
-                    store64(r11_4 + 32, r28);
-                    r23 = load_address(r11_4 + 24) + (r28 << 4);
+                    store64(r11_2 + 32, r28);
+                    r23 = load_address(r11_2 + 24) + (r28 << 4);
                     r2 = load64(r23 + 8);
-                    r4 = load64(r11_4 + 16);
-                    store64(r11_4 + 8, load64(r23));
-                    store64(r11_4 + 16, r2);
+                    r4 = load64(r11_2 + 16);
+                    store64(r11_2 + 8, load64(r23));
+                    store64(r11_2 + 16, r2);
                     r0_2 = r4;
                     goto after_pairs_remove_2;
                 }
-                r4_2 = load_address(r11_4 + 24);
-                r6_2 = load64(r11_4 + 32);
+                r4_2 = load_address(r11_2 + 24);
+                r6_2 = load64(r11_2 + 32);
                 if (r6_2 != 0) {
                     r3_0 = 0;
                     for (;;) {
                         r45 = r3_0 + 1;
                         if (load64(r4_2 + (r3_0 << 4)) == key) {
                             r28_2 = r6_2 - 1;
-                            store64(r11_4 + 32, r28_2);
+                            store64(r11_2 + 32, r28_2);
                             r23_2 = r4_2 + (r28_2 << 4);
                             r2_2 = load64(r23_2 + 8);
                             if (r45 == r6_2) {
                                 r0_2 = r2_2;
                                 goto after_pairs_remove_2;
                             }
-                            x6 = r4_2 + (r45 << 4);
-                            r4_3 = load64(x6 - 8);
-                            store64(x6 - 16, load64(r23_2));
-                            store64(x6 - 8, r2_2);
+                            x5 = r4_2 + (r45 << 4);
+                            r4_3 = load64(x5 - 8);
+                            store64(x5 - 16, load64(r23_2));
+                            store64(x5 - 8, r2_2);
                             r0_2 = r4_3;
                             goto after_pairs_remove_2;
                         }

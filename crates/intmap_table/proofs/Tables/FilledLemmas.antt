@@ -159,16 +159,6 @@ IsDirectory-empty S C some empty =
     let len = length-rows S in
     record { marks = AreMarked-none (rows S) C rows-len (λ i. rw empty (get_or-of_default C i [])); count = omega (arith, some, rows-len, len) }
 
--- slots that were emptied, and whose marks were taken away
-pub IsDirectory-emptied : {K X : Type 0} (S T : List (Held K X)) (bits : List Bool) (mask : ℕ) → IsDirectory S bits mask → length T ≡ length S → ((i : ℕ) → row_of T i ≡ []) → IsDirectory T (replicate (length bits) false) mask
-IsDirectory-emptied S T bits mask old len empty = record {
-  marks = record {
-    words = length-replicate (length bits) false ∙ old.marks.words ∙ ap (λ n. 64 * ((n + 63) / 64)) (length-rows S ∙ sym len ∙ sym (length-rows T));
-    own = λ i. get_or-of_default (length bits) i false ∙ rw (empty i) refl;
-  };
-  count = old.count ∙ sym len;
-}
-
 -- rows without pairs, joined
 pub joined-emptied : {P : Type 0} (R : List (List P)) → ((i : ℕ) → get_or R i [] ≡ []) → joined R ≡ []
 joined-emptied [] empty = refl

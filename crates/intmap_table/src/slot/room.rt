@@ -1,5 +1,5 @@
 //! Room in slots, and the moves of a growth, which takes all pairs of a slot at once.
-ghost use Rattle.std.specs.Prelude.{◌≡◌, ◌≢◌, ◌+◌, ◌<◌, ◌≤◌, [], ◌∷◌, ◌++◌, length, reverse, vec_capacity, OnOk, IfSome, IfNone};
+ghost use Rattle.std.specs.Prelude.{◌≡◌, ◌≢◌, ◌+◌, ◌<◌, ◌≤◌, [], ◌∷◌, ◌++◌, length, reverse, vec_capacity, OnOk};
 ghost use Rattle.std.specs.Vec.Iter.{into_iter_items};
 ghost use Rattle.intmap_table.specs.Tables.Moves.{bare_slot};
 
@@ -38,19 +38,6 @@ impl<K: IntKey, X: Drop, A: Allocator> Slot<K, X, A> {
             mem::swap(&mut self.rest, block);
         }
         self.rest.push_reserved(pair);
-    }
-
-    /// The first pair and those behind it, if the slot holds a pair.
-    #[inline(always)]
-    pub(crate) fn into_parts(self) -> Option<((Stored<K>, X), Vec<(Stored<K>, X), A>)>
-        ensures some { IfSome result (λ parts. self.pairs ≡ parts.0 ∷ parts.1.items) }
-        ensures none { IfNone result (self.pairs ≡ []) }
-    {
-        let Slot { first, rest } = self;
-        match first {
-            Some(first) => Some((first, rest)),
-            None => None,
-        }
     }
 
     /// Makes room for one more pair, and allocates for exactly that. It returns whether it

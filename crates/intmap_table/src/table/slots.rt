@@ -2,13 +2,14 @@
 //! Which slots hold a pair is known here alone.
 //!
 //! `pairs` has the calls on a pair of one slot, `closures` those with a closure, `walk` the pairs by
-//! reference, `forms` the change from lone to shared slots, and `grow`, `place`, `apart` and `part`
-//! the growth.
+//! reference, and `forms` the change from lone to shared slots. Of growth, `grow_with` has that with a
+//! new pair, `grow` and `place` that of shared slots, `part` that by which they become lone, and
+//! `grow_lone` that of lone ones.
 
-mod apart;
 mod closures;
 mod forms;
 mod grow;
+mod grow_lone;
 mod grow_with;
 mod pairs;
 mod part;

@@ -11,7 +11,7 @@ use crate::key::IntKey;
 use crate::slot::Slot;
 use crate::steps::Steps;
 use crate::table::index_of;
-use crate::table::slots::apart::grow_lone;
+use crate::table::slots::grow_lone::grow_lone;
 use crate::table::slots::part::{are_apart, part};
 use crate::table::slots::place::move_all;
 use crate::table::slots::{Directory, Slots};

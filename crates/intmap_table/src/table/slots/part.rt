@@ -11,8 +11,8 @@ use crate::slot::Slot;
 use crate::steps::Steps;
 use crate::table::index_of;
 use crate::table::slots::Directory;
-use crate::table::slots::apart::add_lone;
 use crate::table::slots::grow::reserve_slots;
+use crate::table::slots::grow_lone::add_lone;
 use crate::table::stored::Stored;
 use std::alloc::{AllocError, Allocator};
 

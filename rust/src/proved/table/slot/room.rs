@@ -25,16 +25,6 @@ impl<K: IntKey, X, A: Allocator> Slot<K, X, A> {
         self.rest.push_reserved(pair);
     }
 
-    /// The first pair and those behind it, if the slot holds a pair.
-    #[inline(always)]
-    pub(in crate::proved::table) fn into_parts(self) -> Option<((Stored<K>, X), Vec<(Stored<K>, X), A>)> {
-        let Slot { first, rest } = self;
-        match first {
-            Some(first) => Some((first, rest)),
-            None => None,
-        }
-    }
-
     /// Makes room for one more pair, and allocates for exactly that. It returns whether it
     /// allocated.
     pub(in crate::proved::table) fn reserve_one(&mut self) -> Result<bool, AllocError> {

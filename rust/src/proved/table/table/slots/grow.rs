@@ -7,7 +7,7 @@ use crate::proved::table::key::IntKey;
 use crate::proved::table::slot::Slot;
 use crate::proved::table::steps::Steps;
 use crate::proved::table::table::index_of;
-use crate::proved::table::table::slots::apart::grow_lone;
+use crate::proved::table::table::slots::grow_lone::grow_lone;
 use crate::proved::table::table::slots::part::{are_apart, part};
 use crate::proved::table::table::slots::place::move_all;
 use crate::proved::table::table::slots::{Directory, Slots};

@@ -8,8 +8,8 @@ use crate::proved::table::slot::Slot;
 use crate::proved::table::steps::Steps;
 use crate::proved::table::table::index_of;
 use crate::proved::table::table::slots::Directory;
-use crate::proved::table::table::slots::apart::add_lone;
 use crate::proved::table::table::slots::grow::reserve_slots;
+use crate::proved::table::table::slots::grow_lone::add_lone;
 use crate::proved::table::table::stored::Stored;
 use crate::memory::alloc::{AllocError, Allocator};
 

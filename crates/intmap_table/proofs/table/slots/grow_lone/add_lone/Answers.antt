@@ -1,6 +1,6 @@
 use Rattle.std.proofs.Common.{◌≡◌, ◌-◌, length, sym, append-nil, arith}
 use Rattle.intmap_table.proofs.Tables.MemoryLemmas.{added-more}
-use Rattle.intmap_table.proofs.table.slots.apart.add_lone.Goals as goal
+use Rattle.intmap_table.proofs.table.slots.grow_lone.add_lone.Goals as goal
 
 pub loop-init : goal.loop-init
 loop-init g c =

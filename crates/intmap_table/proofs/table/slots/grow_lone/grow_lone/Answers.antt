@@ -6,8 +6,8 @@ use Rattle.intmap_table.specs.Tables.Moves.{IsGrown, IsMoved}
 use Rattle.intmap_table.proofs.SlotNumberLemmas.{capacity-positive}
 use Rattle.intmap_table.proofs.Tables.GrownLemmas.{IsGrown-from}
 use Rattle.intmap_table.proofs.Tables.MemoryLemmas.{rows-added, length-added, joined-added, bare-added, IsLonger-added}
-use Rattle.intmap_table.proofs.table.slots.apart.grow_lone.Goals as goal
-use Rattle.intmap_table.proofs.table.slots.apart.grow_lone.Goals.{After-deref_mut, After-move_lone}
+use Rattle.intmap_table.proofs.table.slots.grow_lone.grow_lone.Goals as goal
+use Rattle.intmap_table.proofs.table.slots.grow_lone.grow_lone.Goals.{After-deref_mut, After-move_lone}
 
 module _ (g : _) (c : After-deref_mut g) where
   grown : IsGrown (length c.args.lone.now.items) c.args.capacity

@@ -1,6 +1,6 @@
 use Rattle.std.proofs.Common.{◌≡◌, ◌+◌, ◌≤◌, ◌++◌, length, replicate, vec_len, vec_capacity}
 use Rattle.intmap_table.specs.Tables.Moves.{bare_slot}
-use Rattle.intmap_table.proofs.table.slots.apart.add_lone.Given as goal
+use Rattle.intmap_table.proofs.table.slots.grow_lone.add_lone.Given as goal
 
 -- so many empty slots are behind the old ones, and the vector has room for all
 abbrev pub invariant-loop : goal.invariant-loop

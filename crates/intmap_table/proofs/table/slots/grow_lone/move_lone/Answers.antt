@@ -2,8 +2,8 @@ use Rattle.std.proofs.Common.{◌+◌, ◌<◌, ◌∙◌, ◌∷◌, length, se
 use Rattle.intmap_table.specs.Classes.{slot_number}
 use Rattle.intmap_table.proofs.Tables.CountLemmas.{offset-fits}
 use Rattle.intmap_table.proofs.Tables.ApartLemmas.{AreApart, CanPutApart, AreApart-start, IsMoved-apart, AreMarked-apart, counted-apart, within-apart, filled-apart, capacity-apart, CanPutApart-taken}
-use Rattle.intmap_table.proofs.table.slots.apart.move_lone.Goals as goal
-use Rattle.intmap_table.proofs.table.slots.apart.move_lone.Goals.{In-Some, After-index_of-target}
+use Rattle.intmap_table.proofs.table.slots.grow_lone.move_lone.Goals as goal
+use Rattle.intmap_table.proofs.table.slots.grow_lone.move_lone.Goals.{In-Some, After-index_of-target}
 
 pub loop-index-init : goal.loop-index-init
 loop-index-init g c =

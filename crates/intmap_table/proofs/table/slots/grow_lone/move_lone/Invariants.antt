@@ -1,6 +1,6 @@
 use Rattle.std.proofs.Common.{◌+◌}
 use Rattle.intmap_table.proofs.Tables.ApartLemmas.{AreApart}
-use Rattle.intmap_table.proofs.table.slots.apart.move_lone.Given as goal
+use Rattle.intmap_table.proofs.table.slots.grow_lone.move_lone.Given as goal
 
 -- the old slots that aren't left are moved
 abbrev pub invariant-loop-index : goal.invariant-loop-index
