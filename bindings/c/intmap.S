@@ -9,7 +9,7 @@
  *
  * Written by tools/assembly of the repository, and not to be edited.
  * Compilers: rattle-kit-13f logic dac8208d650f15bf; clang version 22.1.8
- * Sources: a9ab5f7a55ef6dddbbeef7526d23453a55a431f511b3d5a0d024f871f993b532
+ * Sources: 3538a141e04e26a5713c8ed153a6ba5d2d8b94bb4c4e575eeaa664fab5a8346a
  *
  * SPDX-License-Identifier: MIT
  *
@@ -703,7 +703,7 @@ intmap.map.IntMap.add_growing.8fdfecb8137bcf0a:
 	movq	%r14, %rdi
 	movq	%r15, %rsi
 	movq	%rbp, %rdx
-	callq	intmap_table.table.slots.apart.grow_lone.8c24c32d6e201e8c
+	callq	intmap_table.table.slots.grow_lone.grow_lone.8c24c32d6e201e8c
 	testb	%al, %al
 	movq	40(%rsp), %r14
 	je	.LBB4_44
@@ -821,7 +821,7 @@ intmap.map.IntMap.add_growing.8fdfecb8137bcf0a:
 	movq	%r14, %rdi
 	movq	%r15, %rsi
 	xorl	%edx, %edx
-	callq	intmap_table.table.slots.apart.grow_lone.8c24c32d6e201e8c
+	callq	intmap_table.table.slots.grow_lone.grow_lone.8c24c32d6e201e8c
 	testb	%al, %al
 	je	.LBB4_43
 .LBB4_35:
@@ -1215,7 +1215,7 @@ intmap_table.table.slots.Slots.grow.8c24c32d6e201e8c:
 	popq	%r14
 	popq	%r15
 	popq	%rbp
-	jmp	intmap_table.table.slots.apart.grow_lone.8c24c32d6e201e8c
+	jmp	intmap_table.table.slots.grow_lone.grow_lone.8c24c32d6e201e8c
 .LBB5_2:
 	leaq	56(%r13), %rbp
 	leaq	64(%r13), %r14
@@ -2093,10 +2093,10 @@ intmap_table.table.slots.Slots.grow.8c24c32d6e201e8c:
 .Lfunc_end5:
 	.size	intmap_table.table.slots.Slots.grow.8c24c32d6e201e8c, .Lfunc_end5-intmap_table.table.slots.Slots.grow.8c24c32d6e201e8c
 
-	.section	.text.intmap_table.table.slots.apart.grow_lone.8c24c32d6e201e8c,"ax",@progbits
+	.section	.text.intmap_table.table.slots.grow_lone.grow_lone.8c24c32d6e201e8c,"ax",@progbits
 	.p2align	4
-	.type	intmap_table.table.slots.apart.grow_lone.8c24c32d6e201e8c,@function
-intmap_table.table.slots.apart.grow_lone.8c24c32d6e201e8c:
+	.type	intmap_table.table.slots.grow_lone.grow_lone.8c24c32d6e201e8c,@function
+intmap_table.table.slots.grow_lone.grow_lone.8c24c32d6e201e8c:
 	pushq	%rbp
 	pushq	%r15
 	pushq	%r14
@@ -2233,7 +2233,7 @@ intmap_table.table.slots.apart.grow_lone.8c24c32d6e201e8c:
 	popq	%rbp
 	retq
 .Lfunc_end6:
-	.size	intmap_table.table.slots.apart.grow_lone.8c24c32d6e201e8c, .Lfunc_end6-intmap_table.table.slots.apart.grow_lone.8c24c32d6e201e8c
+	.size	intmap_table.table.slots.grow_lone.grow_lone.8c24c32d6e201e8c, .Lfunc_end6-intmap_table.table.slots.grow_lone.grow_lone.8c24c32d6e201e8c
 
 	.section	.text.intmap_table.table.slots.grow.reserve_slots.725e2dffd05ce921,"ax",@progbits
 	.p2align	4
@@ -6391,7 +6391,7 @@ intmap.map.IntMap.add_growing.8fdfecb8137bcf0a:
 	add	x0, x27, #32
 	mov	x1, x27
 	mov	x2, x24
-	bl	intmap_table.table.slots.apart.grow_lone.8c24c32d6e201e8c
+	bl	intmap_table.table.slots.grow_lone.grow_lone.8c24c32d6e201e8c
 	and	w8, w0, #0xff
 	tbz	w8, #0, .LBB4_47
 	mov	x0, x20
@@ -6534,7 +6534,7 @@ intmap.map.IntMap.add_growing.8fdfecb8137bcf0a:
 	add	x0, x27, #32
 	mov	x1, x27
 	mov	x2, xzr
-	bl	intmap_table.table.slots.apart.grow_lone.8c24c32d6e201e8c
+	bl	intmap_table.table.slots.grow_lone.grow_lone.8c24c32d6e201e8c
 	and	w8, w0, #0xff
 	tbz	w8, #0, .LBB4_46
 .LBB4_36:
@@ -6863,7 +6863,7 @@ intmap_table.table.slots.Slots.grow.8c24c32d6e201e8c:
 	ldp	x28, x27, [sp, #240]
 	ldp	x29, x30, [sp, #224]
 	add	sp, sp, #320
-	b	intmap_table.table.slots.apart.grow_lone.8c24c32d6e201e8c
+	b	intmap_table.table.slots.grow_lone.grow_lone.8c24c32d6e201e8c
 .LBB5_2:
 	mov	x24, x22
 	cmp	x21, #16
@@ -7528,10 +7528,10 @@ intmap_table.table.slots.Slots.grow.8c24c32d6e201e8c:
 .Lfunc_end5:
 	.size	intmap_table.table.slots.Slots.grow.8c24c32d6e201e8c, .Lfunc_end5-intmap_table.table.slots.Slots.grow.8c24c32d6e201e8c
 
-	.section	.text.intmap_table.table.slots.apart.grow_lone.8c24c32d6e201e8c,"ax",@progbits
+	.section	.text.intmap_table.table.slots.grow_lone.grow_lone.8c24c32d6e201e8c,"ax",@progbits
 	.p2align	2
-	.type	intmap_table.table.slots.apart.grow_lone.8c24c32d6e201e8c,@function
-intmap_table.table.slots.apart.grow_lone.8c24c32d6e201e8c:
+	.type	intmap_table.table.slots.grow_lone.grow_lone.8c24c32d6e201e8c,@function
+intmap_table.table.slots.grow_lone.grow_lone.8c24c32d6e201e8c:
 	sub	sp, sp, #128
 	movi	v0.2d, #0000000000000000
 	stp	x22, x21, [sp, #96]
@@ -7655,7 +7655,7 @@ intmap_table.table.slots.apart.grow_lone.8c24c32d6e201e8c:
 	add	sp, sp, #128
 	ret
 .Lfunc_end6:
-	.size	intmap_table.table.slots.apart.grow_lone.8c24c32d6e201e8c, .Lfunc_end6-intmap_table.table.slots.apart.grow_lone.8c24c32d6e201e8c
+	.size	intmap_table.table.slots.grow_lone.grow_lone.8c24c32d6e201e8c, .Lfunc_end6-intmap_table.table.slots.grow_lone.grow_lone.8c24c32d6e201e8c
 
 	.section	.text.intmap_table.table.slots.grow.reserve_slots.725e2dffd05ce921,"ax",@progbits
 	.p2align	2

@@ -17,7 +17,7 @@
 // have 16 bytes each.
 //
 // Compilers: rattle-kit-13f logic dac8208d650f15bf; clang version 22.1.8
-// Sources: a9ab5f7a55ef6dddbbeef7526d23453a55a431f511b3d5a0d024f871f993b532
+// Sources: 3538a141e04e26a5713c8ed153a6ba5d2d8b94bb4c4e575eeaa664fab5a8346a
 //
 // SPDX-License-Identifier: MIT
 //
@@ -351,7 +351,7 @@ static ALIGNED void intmap_with_slots(char *a0, uint64_t a1);
 static ALIGNED void grow_reserve_slots(char *a0, char *a1, uint64_t a2);
 static ALIGNED NOINLINE void intmap_add_growing(char *a0, char *a1, uint64_t a2, uint64_t a3, uint64_t a4, uint64_t a5);
 static ALIGNED uint8_t slots_grow(char *a0, uint64_t a1, bool a2);
-static ALIGNED uint8_t apart_grow_lone(char *a0, char *a1, uint64_t a2);
+static ALIGNED uint8_t grow_lone_grow_lone(char *a0, char *a1, uint64_t a2);
 static ALIGNED void grow_reserve_slots_2(char *a0, char *a1, uint64_t a2);
 static ALIGNED NOINLINE uint8_t slot_reserve_behind(char *a0, uint64_t a1);
 static ALIGNED NOINLINE void place_move_several(char *a0, char *a1, uint64_t a2, uint64_t a3, char *a4);
@@ -803,7 +803,7 @@ join_3_2:;
                 r0_14 = rattle_alloc(r0 * 48, 8);
                 if ((r0_14.first & 1) != 0) {
                     r8_4 = (char *)(uintptr_t)r0_14.second;
-                    r50_2 = apart_grow_lone(a1 + 32, a1, r0);
+                    r50_2 = grow_lone_grow_lone(a1 + 32, a1, r0);
                     if ((r50_2 & 1) != 0) {
                         rattle_dealloc(r8_4);
                         goto after_Vec_drop_3;
@@ -820,7 +820,7 @@ join_3_2:;
             r17_4 = 0;
             goto join_7_3;
         }
-        r5099 = apart_grow_lone(a1 + 32, a1, 0);
+        r5099 = grow_lone_grow_lone(a1 + 32, a1, 0);
         if ((r5099 & 1) != 0) {
             goto after_Vec_drop_3;
         }
@@ -1758,15 +1758,15 @@ static ALIGNED uint8_t slots_grow(char *a0, uint64_t a1, bool a2) {
             r0_7 = 1;
         }
     } else {
-        r59 = apart_grow_lone(a0 + 32, a0, a1);
+        r59 = grow_lone_grow_lone(a0 + 32, a0, a1);
         r0_7 = r59;
     }
 return_4:;
     return r0_7;
 }
 
-// intmap_table::table::slots::apart::grow_lone, in crates/intmap_table/src/table/slots/grow_lone.rt
-static ALIGNED uint8_t apart_grow_lone(char *a0, char *a1, uint64_t a2) {
+// intmap_table::table::slots::grow_lone::grow_lone, in crates/intmap_table/src/table/slots/grow_lone.rt
+static ALIGNED uint8_t grow_lone_grow_lone(char *a0, char *a1, uint64_t a2) {
     uint8_t r1, r11, r11_3;
     char *r6, *r0, *r4, *r15, *r6_5, *r4_2, *r3_3, *r3_6, *r17, *r3_10, *r44, *r11_2, *r66;
     uint64_t r2_2, r0_2, r6_2, r15_36_0_pr, r6_3, r6_4, r6_6, r2_3, r3, r3_2, r3_4, r3_5, r3_7, r17_2, r33, r54, r60,
