@@ -57,14 +57,14 @@
 // multiples of 4096 take key >> 12, of what malloc returned address >> 4, of row << 32 | column
 // row * columns + column. If strangers choose the keys, they can make each call linear. Then mix
 // each key by intmap_mix. intmap_filled_slots tells of shared slots. An insertion that adds slots
-// moves all pairs, which is constant time a pair over all insertions.
+// or enlarges them moves all pairs, which is constant time a pair over all insertions.
 //
 // MEMORY. It comes from malloc: 48 bytes a slot, so some 50 to 120 a pair in a map that has grown,
 // and up to 140 if many keys share slots. Slots that an insertion has added take 24 while no two
 // keys share one, so ids that count up take 27 to 54 a pair. A clone has as many slots.
 // intmap_with_capacity writes each slot. So on Linux, where malloc may not fail, too large a number
-// may end the process. Only intmap_free gives memory back, and a call that replaces a map or adds
-// slots.
+// may end the process. Only intmap_free gives memory back, and a call that replaces a map, adds
+// slots or enlarges them.
 #ifndef INTMAP_H
 #define INTMAP_H
 
