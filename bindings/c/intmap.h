@@ -28,7 +28,7 @@
 //   threads. Nothing jumps out of a call: no longjmp, no exception, no cancellation of its thread.
 // - malloc, realloc and free belong to one allocator, make no call on a map, and align blocks like
 //   the C library.
-// - A cursor is INTMAP_START, what a call left in it, or a copy of that. Since then no call has
+// - A cursor is intmap_start(), what a call left in it, or a copy of that. Since then no call has
 //   changed the map, except intmap_cut with this cursor, intmap_set and intmap_add.
 // - The two words of intmap_clone differ, and intmap_next has an array for all `room` pairs.
 // - There is some stack: a call takes less than 1 KB, besides malloc's; less than 5 KB if the
@@ -147,9 +147,15 @@ typedef struct intmap_cursor {
     size_t passed;
 } intmap_cursor;
 
-// The start of a walk, in a definition. To assign it, in C: at = (intmap_cursor)INTMAP_START; and
-// in C++: at = INTMAP_START;
+// The start of a walk, where a definition needs a constant, as outside functions. All zero bits are
+// it too.
 #define INTMAP_START {0, 0, 0}
+
+// Returns the start of a walk, in C as in C++.
+static inline intmap_cursor intmap_start(void) INTMAP_CALL {
+    intmap_cursor at = INTMAP_START;
+    return at;
+}
 
 // A pair if the status is INTMAP_PRESENT. With every other status its key and value are 0.
 typedef struct intmap_found_pair {
@@ -253,9 +259,9 @@ INTMAP_NONNULL size_t intmap_filled_slots(const intmap *map) INTMAP_CALL;
 
 // Makes the number of slots at least the least power of two that is no less than the number of
 // pairs plus `additional`. It ignores the load factor, so the map may still grow before it has that
-// many pairs. For c pairs in all without growth, ask for c + c / 10 + 1, less the pairs that there
-// are. It returns INTMAP_OK; INTMAP_TOO_LARGE exactly if the pairs and `additional` are above
-// 2^63; INTMAP_NO_MEMORY, but never if there are enough slots already; or INTMAP_NO_MAP.
+// many pairs: intmap_reserve_pairs makes room for them. It returns INTMAP_OK; INTMAP_TOO_LARGE
+// exactly if the pairs and `additional` are above 2^63; INTMAP_NO_MEMORY, but never if there are
+// enough slots already; or INTMAP_NO_MAP.
 INTMAP_NONNULL INTMAP_MUST_USE intmap_status intmap_reserve(intmap *map, size_t additional)
     INTMAP_CALL;
 
@@ -266,6 +272,35 @@ INTMAP_NONNULL INTMAP_MUST_USE intmap_status intmap_reserve(intmap *map, size_t 
 // it; or INTMAP_NO_MAP. If it fails, the load factor stays.
 INTMAP_NONNULL INTMAP_MUST_USE intmap_status intmap_set_load_factor(intmap *map, size_t thousandths)
     INTMAP_CALL;
+
+// Makes room for `more` pairs more: the number of slots becomes the least of itself and its
+// doublings that meets the load factor with them. Insertions of so many new keys then add no slots,
+// while the load factor stays. One above 10^16 counts as 10^16. It returns INTMAP_OK;
+// INTMAP_TOO_LARGE exactly if no number up to 2^63 meets it or there would be more than 2^64 - 1
+// pairs; INTMAP_NO_MEMORY, but never if the present number meets it; or INTMAP_NO_MAP.
+INTMAP_NONNULL INTMAP_MUST_USE static inline intmap_status intmap_reserve_pairs(intmap *map,
+                                                                                size_t more)
+    INTMAP_CALL {
+    const size_t most = (size_t)10000000000000000u;
+    size_t len = intmap_len(map), factor = intmap_load_factor(map), pairs = len + more;
+    // Slots meet the factor if 1000 * pairs < bound * slots. No sum or product overflows below.
+    size_t bound = (factor < most ? factor : most) + 1;
+    if (pairs < more || pairs / bound >= SIZE_MAX / 1000) {
+        return intmap_reserve(map, SIZE_MAX);
+    }
+    size_t least = pairs / bound * 1000 + pairs % bound * 1000 / bound + 1;
+    if (least > len) {
+        return intmap_reserve(map, least - len);
+    }
+    // A slot for each pair is too many. So for a moment the factor is one that these slots are the
+    // first to meet.
+    size_t slots = intmap_capacity(map);
+    while (slots < least) {
+        slots *= 2;
+    }
+    intmap_status status = intmap_set_load_factor(map, len / slots * 1000 + 999);
+    return intmap_failed(status) ? status : intmap_set_load_factor(map, factor);
+}
 
 // Returns INTMAP_PRESENT with the first pair of the walk from the cursor on, and moves the cursor
 // behind it; INTMAP_ABSENT if none is left; or INTMAP_NO_MAP. A whole walk takes time in the pairs
@@ -299,7 +334,7 @@ INTMAP_NONNULL static inline size_t intmap_next(const intmap *map, intmap_cursor
 //
 // To remove some pairs of a walk, look with a second cursor:
 //
-//     intmap_cursor at = INTMAP_START, next = INTMAP_START;
+//     intmap_cursor at = intmap_start(), next = at;
 //     intmap_found_pair seen;
 //     while ((seen = intmap_step(&map, &next)).status == INTMAP_PRESENT) {
 //         if (stays(seen.pair)) {

@@ -54,7 +54,7 @@ static void read_figures(reader *one) {
 // All pairs, one at a time and 64 at a time.
 static void read_walk(reader *one) {
     intmap_pair pairs[64];
-    intmap_cursor at = INTMAP_START, next = INTMAP_START;
+    intmap_cursor at = intmap_start(), next = at;
     for (size_t passed = 0; passed < KEYS; passed++) {
         intmap_found_pair seen = intmap_step(&map, &at);
         expect(one, seen.status == INTMAP_PRESENT
@@ -96,7 +96,7 @@ static bool make(void) {
     for (uint64_t number = 0; number < KEYS && !intmap_failed(status); number++) {
         status = intmap_insert(&map, key_of(number), number + 1).status;
     }
-    intmap_cursor at = INTMAP_START;
+    intmap_cursor at = intmap_start();
     capacity = intmap_capacity(&map);
     filled = intmap_filled_slots(&map);
     return !intmap_failed(status) && intmap_next(&map, &at, walk, KEYS) == KEYS;
