@@ -65,6 +65,23 @@
 // intmap_with_capacity writes each slot. So on Linux, where malloc may not fail, too large a number
 // may end the process. Only intmap_free gives memory back, and a call that replaces a map, adds
 // slots or enlarges them.
+//
+// DEBUGGING. With intmap_debug.c in place of intmap.c, some calls that break the rules end the
+// program, by a line on standard error and abort():
+//
+//     cc -g -DINTMAP_DEBUG program.c intmap_debug.c
+//
+// It notices a call with a copied word whose map was freed or replaced, also if the memory has
+// another map by then; with a word that no call wrote, unless its bits are by chance those of a
+// word; with a null address of a word; with one map as both of intmap_clone; and a call that
+// changes a map while another one has it, in another thread, in a signal handler, from malloc, or
+// since a jump left it. It doesn't notice a copy as long as its map lives, calls that might meet
+// but don't, two that make the first map of one word, or what a cursor or an array breaks. A call
+// on a word that intmap_free has left is no mistake: there is no map.
+//
+// All files that have maps must be compiled so, by gcc or clang. Each call that makes a map takes 24
+// bytes, which stay in use, and may fail for want of them. Else calls answer as without. A map that
+// is lost isn't reported by a tool that looks for leaks.
 #ifndef INTMAP_H
 #define INTMAP_H
 
@@ -94,6 +111,32 @@ extern "C" {
 #define INTMAP_MUST_USE __attribute__((warn_unused_result))
 #else
 #define INTMAP_MUST_USE
+#endif
+
+// DEBUGGING, above, says what this does.
+#ifdef INTMAP_DEBUG
+#define intmap_new intmap_debug_new
+#define intmap_with_capacity intmap_debug_with_capacity
+#define intmap_clone intmap_debug_clone
+#define intmap_free intmap_debug_free
+#define intmap_get intmap_debug_get
+#define intmap_contains_key intmap_debug_contains_key
+#define intmap_insert intmap_debug_insert
+#define intmap_insert_checked intmap_debug_insert_checked
+#define intmap_set intmap_debug_set
+#define intmap_add intmap_debug_add
+#define intmap_add_or_insert intmap_debug_add_or_insert
+#define intmap_remove intmap_debug_remove
+#define intmap_clear intmap_debug_clear
+#define intmap_len intmap_debug_len
+#define intmap_capacity intmap_debug_capacity
+#define intmap_load_factor intmap_debug_load_factor
+#define intmap_filled_slots intmap_debug_filled_slots
+#define intmap_reserve intmap_debug_reserve
+#define intmap_set_load_factor intmap_debug_set_load_factor
+#define intmap_step intmap_debug_step
+#define intmap_cut intmap_debug_cut
+#define intmap_equal intmap_debug_equal
 #endif
 
 // A map, or none.
