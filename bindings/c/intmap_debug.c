@@ -35,8 +35,9 @@ static uint64_t debug_count;
 // Handles count up from here, where no processor has memory.
 static const uint64_t FIRST_HANDLE = (uint64_t)0xDEB0 << 48;
 
-// Stands for the map of a word without one.
-static debug_record debug_none = {INTMAP_INIT, NULL, 0};
+// Stands for the map of a word without one. Each thread has its own, since calls write that there is
+// none.
+static __thread debug_record debug_none = {INTMAP_INIT, NULL, 0};
 
 static void debug_end(const char *call, const char *what) {
     fprintf(stderr, "%s: %s\n", call, what);
@@ -78,7 +79,6 @@ static debug_record *new_record(void) {
     debug_record *one = record_at(number);
     if (one != NULL) {
         one->handle = (void *)(uintptr_t)(FIRST_HANDLE + number);
-        one->readers = WAS_FREED;
     }
     return one;
 }
@@ -169,7 +169,6 @@ static intmap_status end_making(intmap *word, debug_record *old, debug_record *o
     if (intmap_failed(status)) {
         end_changing(old);
     } else {
-        end_changing(one);
         replace(word, old, one->handle);
     }
     return status;
@@ -203,10 +202,7 @@ intmap_status intmap_debug_clone(const intmap *map, intmap *to) {
 }
 
 void intmap_debug_free(intmap *map) {
-    debug_record *old = begin_changing("intmap_free", map);
-    if (old != &debug_none) {
-        replace(map, old, NULL);
-    }
+    replace(map, begin_changing("intmap_free", map), NULL);
 }
 
 void intmap_debug_clear(intmap *map) {

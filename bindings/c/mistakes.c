@@ -176,6 +176,10 @@ static void set_now(void) {
     intmap_set(&map, 1, 2);
 }
 
+static void clear_now(void) {
+    intmap_clear(&map);
+}
+
 static void free_now(void) {
     intmap_free(&map);
 }
@@ -233,6 +237,10 @@ static void set_within_clone(void) {
 
 static void set_in_thread_within_clone(void) {
     clone_with(set_in_thread);
+}
+
+static void clear_within_clone(void) {
+    clone_with(clear_now);
 }
 
 static void free_within_clone(void) {
@@ -310,6 +318,7 @@ static const struct {
     MISTAKE(set_in_thread_within_insert, "intmap_set", CHANGING),
     MISTAKE(set_within_clone, "intmap_set", READING),
     MISTAKE(set_in_thread_within_clone, "intmap_set", READING),
+    MISTAKE(clear_within_clone, "intmap_clear", READING),
     MISTAKE(free_within_clone, "intmap_free", READING),
     MISTAKE(get_within_new, "intmap_get", CHANGING),
     MISTAKE(move_and_read, NULL, NULL),

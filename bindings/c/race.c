@@ -67,10 +67,11 @@ static void read_walk(reader *one) {
     }
 }
 
-// A clone is this thread's own.
+// A word is this thread's own, without a map and with a clone.
 static void read_all(reader *one) {
     intmap own = INTMAP_INIT;
     expect(one, intmap_filled_slots(&map) == filled);
+    expect(one, intmap_insert(&own, 1, 1).status == INTMAP_NO_MAP);
     expect(one, intmap_clone(&map, &own) == INTMAP_OK);
     expect(one, intmap_equal(&map, &own) && intmap_equal(&own, &map));
     intmap_set(&own, key_of(5), 0);
