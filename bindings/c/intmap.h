@@ -73,11 +73,11 @@
 //
 // It notices a call with a copied word whose map was freed or replaced, also if the memory has
 // another map by then; with a word that no call wrote, unless its bits are by chance those of a
-// word; with a null address of a word; with one map as both of intmap_clone; and a call that
-// changes a map while another one has it, in another thread, in a signal handler, from malloc, or
-// since a jump left it. It doesn't notice a copy as long as its map lives, calls that might meet
-// but don't, two that make the first map of one word, or what a cursor or an array breaks. A call
-// on a word that intmap_free has left is no mistake: there is no map.
+// word; with a null address of a word; with one map as both of intmap_clone; and two calls on one
+// map at once of which one changes it, in two threads, by a signal handler, by malloc, or since a
+// jump left the first. It doesn't notice a copy as long as its map lives, calls that might meet but
+// don't, two that make the first map of one word, or what a cursor or an array breaks. A call on a
+// word that intmap_free has left is no mistake: there is no map.
 //
 // All files that have maps must be compiled so, by gcc or clang. Each call that makes a map takes 24
 // bytes, which stay in use, and may fail for want of them. Else calls answer as without. A map that

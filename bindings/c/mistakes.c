@@ -8,6 +8,7 @@
 #define _GNU_SOURCE
 #include "intmap.h"
 #include <pthread.h>
+#include <setjmp.h>
 #include <signal.h>
 #include <stdio.h>
 #include <stdlib.h>
@@ -247,6 +248,34 @@ static void free_within_clone(void) {
     clone_with(free_now);
 }
 
+// A jump out of a call, and a handler of a signal that comes in the midst of one.
+
+static jmp_buf behind;
+
+static void jump_now(void) {
+    longjmp(behind, 1);
+}
+
+static void get_behind_jump(void) {
+    if (setjmp(behind) == 0) {
+        insert_with(jump_now);
+    }
+    intmap_get(&map, 1);
+}
+
+static void handle(int number) {
+    (void)number;
+    set_now();
+}
+
+static void signal_now(void) {
+    need(signal(SIGUSR1, handle) != SIG_ERR && raise(SIGUSR1) == 0);
+}
+
+static void set_in_handler(void) {
+    clone_with(signal_now);
+}
+
 static void get_within_new(void) {
     make(&map);
     within = get_now;
@@ -320,6 +349,8 @@ static const struct {
     MISTAKE(set_in_thread_within_clone, "intmap_set", READING),
     MISTAKE(clear_within_clone, "intmap_clear", READING),
     MISTAKE(free_within_clone, "intmap_free", READING),
+    MISTAKE(get_behind_jump, "intmap_get", CHANGING),
+    MISTAKE(set_in_handler, "intmap_set", READING),
     MISTAKE(get_within_new, "intmap_get", CHANGING),
     MISTAKE(move_and_read, NULL, NULL),
     MISTAKE(make_many, NULL, NULL),
