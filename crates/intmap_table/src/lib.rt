@@ -6,7 +6,6 @@ mod bits;
 pub mod kept;
 mod key;
 pub mod lent;
-mod lone;
 mod slot;
 pub mod steps;
 pub mod table;

@@ -4,7 +4,6 @@
 mod bits;
 pub mod kept;
 mod key;
-mod lone;
 mod slot;
 pub mod steps;
 pub mod table;

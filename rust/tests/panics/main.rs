@@ -4,7 +4,6 @@
 
 mod aimed;
 mod anywhere;
-mod forms;
 mod fuse;
 mod keys;
 mod keys_anywhere;

@@ -1,0 +1,12 @@
+use Rattle.std.proofs.Common.{◌∙◌}
+use Rattle.std.proofs.lemmas.Result.{on_err_weaker}
+use Rattle.intmap_table.proofs.Tables.BackLemmas.{OnOk-or}
+use Rattle.intmap_table.proofs.Tables.TableLemmas.{IsTable-same_rows, Grid-same_rows}
+use Rattle.intmap_table.proofs.table.Table.grow.Goals as goal
+
+pub invariant_of-self : goal.invariant_of-self
+invariant_of-self g c =
+    OnOk-or c.grow.result c.grow.ensures.table (on_err_weaker c.grow.result (λ same. IsTable-same_rows _ c.self.inside.slots c.grow.new.self same c.self.invariant) c.grow.ensures.err)
+
+pub returns-clause-err : goal.returns-clause-err
+returns-clause-err g c = on_err_weaker c.grow.result (λ same. Grid-same_rows c.self.inside.slots c.grow.new.self same ∙ c.self.view_is) c.grow.ensures.err
