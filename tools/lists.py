@@ -9,8 +9,10 @@ GREATEST = 2**64 - 1
 GREATEST_CAPACITY = 2**63
 # how many pairs behind the first of its slot the second block of a slot has room for
 LEAST_ROOM = 4
-# the bytes of a word, of a pair of two numbers, and of the vector of a slot: three words, and a reference to
-# the allocator of the tests
+# the fewest slots that become lone ones
+LEAST_LONE = 16
+# the bytes of a word, of a pair of two numbers, and of the vector of a shared slot: three words, and a
+# reference to the allocator of the tests
 WORD, PAIR, VECTOR = 8, 16, 32
 
 
@@ -23,9 +25,13 @@ class NoMemory(Exception):
 
 
 class PlainList:
-    """Pairs by their places in a list that no growth touches, a number of slots and a load factor. A pair
-    takes `pair` bytes. And the bytes of each request for memory that a map would have made, `asked`: those of
-    a new one, and those of its calls since then, or since it was last emptied."""
+    """Pairs by their places in a list that no growth touches, a number of slots, whether these are lone, and
+    a load factor. A pair takes `pair` bytes. And the bytes of each request for memory that a map would have
+    made, `asked`: those of a new one, and those of its calls since then, or since it was last emptied.
+
+    A lone slot has room for one pair. A shared one has a vector for the others too. Slots are shared at first.
+    An insertion that grows them makes them lone where it may. One that puts a second pair into a lone slot
+    makes all of them shared. No other call changes that."""
 
     def __init__(self, slots=4, pair=PAIR):
         self.pairs = {}
@@ -33,6 +39,7 @@ class PlainList:
         self.next_place = 0
         self.factor = 909
         self.pair = pair
+        self.lone = False
         self.set_slots(slots)
         self.asked = self.table()
 
@@ -50,7 +57,24 @@ class PlainList:
         self.sort_into_slots()
         self.room = {slot: len(places) - 1 for slot, places in self.classes.items()}
 
-    def grow(self, slots):
+    def grow(self, slots, may_part=False):
+        """The slots are asked for, and their words of bits. Lone ones need nothing else."""
+        self.lone = self.lone or may_part and self.parts(slots)
+        if self.lone:
+            self.set_slots(slots)
+            self.asked += self.table()
+        else:
+            self.grow_shared(slots)
+
+    def parts(self, slots):
+        """Whether shared slots become lone ones where there are to be so many: none holds three pairs,
+        and no two of one slot stay together."""
+        if slots < LEAST_LONE:
+            return False
+        numbers = [[self.pairs[place][0] for place in places] for places in self.classes.values()]
+        return all(len(keys) < 2 or len(keys) == 2 and (keys[0] - keys[1]) % slots for keys in numbers)
+
+    def grow_shared(self, slots):
         """The slots are asked for, their words of bits, a count for each part of the size before, a block
         for each further slot that is to hold several pairs of an old one, and a buffer where an old slot
         holds several, for the most behind a first one. The first slot that is to hold several of them
@@ -71,15 +95,37 @@ class PlainList:
         if several:
             self.asked.append((max(len(places) for _, places in several) - 1) * self.pair)
 
-    def make_room(self, key, grows):
+    def grow_with(self, slots, key, value):
+        """Adds a pair and grows. Where none of its slot goes to the same new slot, the others move first, and
+        it gets a slot of its own. Otherwise room is made for it. Lone slots then become shared: a block is asked
+        for, shared slots, and what a growth of lone ones asks for."""
+        if not any((self.pairs[place][0] - key) % slots == 0 for place in self.classes.get(self.slot_of(key), [])):
+            self.grow(slots, True)
+            self.append(key, value)
+        elif self.lone:
+            self.asked += [self.pair, self.shared_bytes(slots)]
+            self.grow(slots)
+            self.lone = False
+            self.room[self.slot_of(key)] = 1
+            self.append(key, value)
+        else:
+            self.make_room(key, True)
+            self.append(key, value)
+            self.grow(slots)
+
+    def make_room(self, key, grows=False):
         """A block is asked for where the slot holds a pair and is full. It has room for one pair more
-        where it is the first one or the table is about to grow, and else for twice as many."""
+        where it is the first one or the table is about to grow, and else for twice as many. If the slot
+        is a lone one, shared slots are asked for too."""
         slot = self.slot_of(key)
         held = len(self.classes.get(slot, []))
         room = self.room.get(slot, 0)
         if held and held > room:
             self.room[slot] = held if held == 1 or grows else max(2 * room, LEAST_ROOM)
             self.asked.append(self.room[slot] * self.pair)
+            if self.lone:
+                self.asked.append(self.shared_bytes(self.slots))
+                self.lone = False
 
     def get(self, key):
         return self.pairs[self.place_of[key]][1] if key in self.place_of else None
@@ -227,10 +273,11 @@ class PlainList:
         slots = self.wanted(length, self.factor) if length // 4 % 2 else self.slots
         if refuses and (slots > self.slots or self.classes.get(self.slot_of(key))):
             raise NoMemory
-        self.make_room(key, slots > self.slots)
-        self.append(key, value)
         if slots > self.slots:
-            self.grow(slots)
+            self.grow_with(slots, key, value)
+        else:
+            self.make_room(key)
+            self.append(key, value)
 
     def clear(self):
         """The pairs go, and nothing else."""
@@ -253,10 +300,18 @@ class PlainList:
             self.grow(slots)
         self.factor = factor
 
+    def lone_bytes(self, slots):
+        """The bytes of lone slots, each with a pair and a word that says whether it has one."""
+        return (self.pair + WORD) * slots
+
+    def shared_bytes(self, slots):
+        """The bytes of shared slots, each with a vector too."""
+        return self.lone_bytes(slots) + VECTOR * slots
+
     def table(self):
-        """The bytes of the slots, each with a first pair and a word that says whether it has one, and of
-        the words of bits."""
-        return [(self.pair + WORD + VECTOR) * self.slots, WORD * -(-self.slots // 64)]
+        """The bytes of the slots, and of the words of bits."""
+        slots = self.lone_bytes(self.slots) if self.lone else self.shared_bytes(self.slots)
+        return [slots, WORD * -(-self.slots // 64)]
 
     def blocks(self):
         """The bytes of each block that a map has: of its table, and of the rooms."""

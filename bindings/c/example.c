@@ -7,7 +7,7 @@
 // Prints all pairs, 64 at a time.
 static void print(const intmap *counts) {
     intmap_pair pairs[64];
-    intmap_cursor at = INTMAP_START;
+    intmap_cursor at = intmap_start();
     size_t copied;
     while ((copied = intmap_next(counts, &at, pairs, 64)) > 0) {
         for (size_t i = 0; i < copied; i++) {

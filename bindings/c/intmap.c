@@ -17,7 +17,7 @@
 // have 16 bytes each.
 //
 // Compilers: rattle-kit-13f logic dac8208d650f15bf; clang version 22.1.8
-// Sources: 37e93644137f8e247f9efc11090c27ce0fa1e4db04e03b3cfab679e2219efbbd
+// Sources: 3538a141e04e26a5713c8ed153a6ba5d2d8b94bb4c4e575eeaa664fab5a8346a
 //
 // SPDX-License-Identifier: MIT
 //
@@ -346,17 +346,19 @@ static inline void rattle_dealloc(char *block) {
 // The functions of the module.
 
 static ALIGNED uint32_t make_keep(char *a0, char *a1);
+static ALIGNED void box_drop(char *a0);
 static ALIGNED void intmap_with_slots(char *a0, uint64_t a1);
 static ALIGNED void grow_reserve_slots(char *a0, char *a1, uint64_t a2);
 static ALIGNED NOINLINE void intmap_add_growing(char *a0, char *a1, uint64_t a2, uint64_t a3, uint64_t a4, uint64_t a5);
-static ALIGNED NOINLINE struct byte_word slot_push(char *a0, uint64_t a1, uint64_t a2);
-static COLD bool vec_grow_amortized(char *a0, uint64_t a1);
-static ALIGNED uint8_t table_grow(char *a0, uint64_t a1);
+static ALIGNED uint8_t slots_grow(char *a0, uint64_t a1, bool a2);
+static ALIGNED uint8_t grow_lone_grow_lone(char *a0, char *a1, uint64_t a2);
+static ALIGNED void grow_reserve_slots_2(char *a0, char *a1, uint64_t a2);
 static ALIGNED NOINLINE uint8_t slot_reserve_behind(char *a0, uint64_t a1);
 static ALIGNED NOINLINE void place_move_several(char *a0, char *a1, uint64_t a2, uint64_t a3, char *a4);
+static COLD bool vec_grow_amortized(char *a0, uint64_t a1);
 static ALIGNED NOINLINE void edits_mirror(char *a0, char *a3, uint64_t a5);
-static ALIGNED NOINLINE uint8_t slot_push_2(char *a0, uint64_t a1, uint64_t a2);
-static COLD bool vec_grow_amortized_2(char *a0);
+static ALIGNED NOINLINE struct byte_word slots_push_second(char *a0, uint64_t a1, uint64_t a2, uint64_t a3);
+static ALIGNED NOINLINE struct byte_word slot_push(char *a0, uint64_t a1, uint64_t a2);
 static ALWAYS_INLINE uint32_t do_intmap_version(void);
 static ALWAYS_INLINE uint64_t do_intmap_capacity(char *map);
 static ALWAYS_INLINE bool do_intmap_contains_key(char *map, uint64_t key);
@@ -383,8 +385,8 @@ static ALWAYS_INLINE uint32_t do_intmap_set_load_factor(char *map, uint64_t thou
 
 // intmap_c::make::keep, in crates/intmap_c/src/make.rt
 static ALIGNED uint32_t make_keep(char *a0, char *a1) {
-    char *r2_2, *r2_3, *r2_6, *x1, *x2, *r4, *r4_2, *r9, *r9_2;
-    uint64_t r2_4, r2_5, r2_7, r2_8, r3, r4_3, r4_4, r4_5, r0_06, r12, r0_06_2, r12_2;
+    char *r2_2, *r2_3, *r2_6, *r2_9, *x1, *r9;
+    uint64_t r2_4, r2_5, r2_7, r2_8, r2_10, r2_11, r3, r0_06, r12;
     struct word_word r0;
     uint32_t common_ret_op;
     uint64_t r2_room[3];
@@ -396,9 +398,12 @@ static ALIGNED uint32_t make_keep(char *a0, char *a1) {
     r2_6 = load_address(a1 + 40);
     r2_7 = load64(a1 + 48);
     r2_8 = load64(a1 + 56);
+    r2_9 = load_address(a1 + 64);
+    r2_10 = load64(a1 + 72);
+    r2_11 = load64(a1 + 80);
     if (load8(a1) == 0) {
-        memcpy(r2, a1 + 64, 24);
-        r0 = rattle_alloc(80, 8);
+        memcpy(r2, a1 + 88, 24);
+        r0 = rattle_alloc(104, 8);
         if ((r0.first & 1) != 0) {
             x1 = (char *)(uintptr_t)r0.second;
             store_address(x1, r2_2);
@@ -408,65 +413,43 @@ static ALIGNED uint32_t make_keep(char *a0, char *a1) {
             store_address(x1 + 32, r2_6);
             store64(x1 + 40, r2_7);
             store64(x1 + 48, r2_8);
-            memcpy(x1 + 56, r2, 24);
+            store_address(x1 + 56, r2_9);
+            store64(x1 + 64, r2_10);
+            store64(x1 + 72, r2_11);
+            memcpy(x1 + 80, r2, 24);
             r3 = load64(a0);
             store64(a0, r0.second);
             if (r3 == 0) {
                 common_ret_op = 0;
             } else {
-                x2 = (char *)(uintptr_t)r3;
-                r4 = load_address(x2 + 8);
-                r4_2 = load_address(x2 + 32);
-                r4_3 = load64(x2 + 40);
-                r4_4 = load64(x2 + 48);
-                r4_5 = load64(x2 + 24);
-                rattle_dealloc(x2);
-                if (r4_5 != 0) {
-                    rattle_dealloc(r4);
-                }
-                if (r4_3 != 0) {
-                    r0_06 = 0;
-                    for (;;) {
-                        r9 = r4_2 + (r0_06 * 48);
-                        if (load64(r9 + 40) != 0) {
-                            rattle_dealloc(load_address(r9 + 24));
-                        }
-                        r12 = r0_06 + 1;
-                        if (r12 == r4_3) {
-                            break;
-                        }
-                        r0_06 = r12;
-                    }
-                }
-                if (r4_4 == 0) {
-                    common_ret_op = 0;
-                } else {
-                    rattle_dealloc(r4_2);
-                    common_ret_op = 0;
-                }
+                box_drop((char *)(uintptr_t)r3);
+                common_ret_op = 0;
             }
         } else {
             if (r2_5 != 0) {
                 rattle_dealloc(r2_3);
             }
-            if (r2_7 != 0) {
-                r0_06_2 = 0;
+            if (r2_8 != 0) {
+                rattle_dealloc(r2_6);
+            }
+            if (r2_10 != 0) {
+                r0_06 = 0;
                 for (;;) {
-                    r9_2 = r2_6 + (r0_06_2 * 48);
-                    if (load64(r9_2 + 40) != 0) {
-                        rattle_dealloc(load_address(r9_2 + 24));
+                    r9 = r2_9 + (r0_06 * 48);
+                    if (load64(r9 + 40) != 0) {
+                        rattle_dealloc(load_address(r9 + 24));
                     }
-                    r12_2 = r0_06_2 + 1;
-                    if (r12_2 == r2_7) {
+                    r12 = r0_06 + 1;
+                    if (r12 == r2_10) {
                         break;
                     }
-                    r0_06_2 = r12_2;
+                    r0_06 = r12;
                 }
             }
-            if (r2_8 == 0) {
+            if (r2_11 == 0) {
                 common_ret_op = 4294967295u;
             } else {
-                rattle_dealloc(r2_6);
+                rattle_dealloc(r2_9);
                 common_ret_op = 4294967295u;
             }
         }
@@ -476,12 +459,50 @@ static ALIGNED uint32_t make_keep(char *a0, char *a1) {
     return common_ret_op;
 }
 
+// std_alloc::boxed::Box::drop, in Rattle's library std_alloc
+static ALIGNED void box_drop(char *a0) {
+    char *r4, *r4_2, *r4_4, *r9;
+    uint64_t r4_3, r4_5, r4_6, r4_7, r0_06, r12;
+    r4 = load_address(a0 + 8);
+    r4_2 = load_address(a0 + 32);
+    r4_3 = load64(a0 + 48);
+    r4_4 = load_address(a0 + 56);
+    r4_5 = load64(a0 + 64);
+    r4_6 = load64(a0 + 72);
+    r4_7 = load64(a0 + 24);
+    rattle_dealloc(a0);
+    if (r4_7 != 0) {
+        rattle_dealloc(r4);
+    }
+    if (r4_3 != 0) {
+        rattle_dealloc(r4_2);
+    }
+    if (r4_5 != 0) {
+        r0_06 = 0;
+        for (;;) {
+            r9 = r4_4 + (r0_06 * 48);
+            if (load64(r9 + 40) != 0) {
+                rattle_dealloc(load_address(r9 + 24));
+            }
+            r12 = r0_06 + 1;
+            if (r12 == r4_5) {
+                break;
+            }
+            r0_06 = r12;
+        }
+    }
+    if (r4_6 != 0) {
+        rattle_dealloc(r4_4);
+    }
+    return;
+}
+
 // intmap::map::IntMap::with_slots, in crates/intmap/src/map/build.rt
 static ALIGNED void intmap_with_slots(char *a0, uint64_t a1) {
-    uint64_t r2_3, r22, r10_014, r2_4, r32, r4_2, r4_3, r4_4, r18_2, r0_06, r12;
-    char *r0, *r20, *r18, *r9_2;
+    uint64_t r2_3, r22, r10_014, r2_4, r32, r4_3, r4_5, r4_6, r19_2, r0_06, r12;
+    char *r0, *r20, *r4_4, *r19, *r9_2;
     u128 r17;
-    uint8_t sink10;
+    uint8_t sink16;
     char *r2 = (char *)no_bytes;
     uint64_t r2_2_room[3];
     char *r2_2 = (char *)r2_2_room;
@@ -489,13 +510,18 @@ static ALIGNED void intmap_with_slots(char *a0, uint64_t a1) {
     char *r9 = (char *)r9_room;
     uint64_t r6_7_room[3];
     char *r6_7 = (char *)r6_7_room;
-    uint64_t r6_8_room[3];
-    char *r6_8 = (char *)r6_8_room;
-    uint64_t r3_5_room[6];
+    uint64_t r6_10_room[3];
+    char *r6_10 = (char *)r6_10_room;
+    uint64_t r3_5_room[3];
     char *r3_5 = (char *)r3_5_room;
-    uint64_t r4_room[6];
+    uint64_t r3_8_room[5];
+    char *r3_8 = (char *)r3_8_room;
+    uint64_t r4_room[3];
     char *r4 = (char *)r4_room;
-    memset(r4, 0, 48);
+    uint64_t r4_2_room[5];
+    char *r4_2 = (char *)r4_2_room;
+    memset(r4, 0, 24);
+    memset(r4_2, 0, 40);
     memset(r9, 0, 32);
     store_address(r2_2, r2);
     memset(r2_2 + 8, 0, 16);
@@ -522,22 +548,25 @@ static ALIGNED void intmap_with_slots(char *a0, uint64_t a1) {
         }
         store64(r2_2 + 8, a1);
         memcpy(r6_7, r9 + 8, 24);
-        memcpy(r6_8, r2_2, 24);
+        memcpy(r6_10, r2_2, 24);
         memcpy(r3_5, r6_7, 24);
-        memcpy(r3_5 + 24, r6_8, 24);
+        memset(r3_8, 0, 16);
+        memcpy(r3_8 + 16, r6_10, 24);
         r17 = u128_less_one(u128_mul(u128_of(a1), u128_of(910u)));
-        memcpy(r4, r3_5, 48);
-        sink10 = 0;
-        r4_2 = a1 - 1;
-        r4_3 = u128_above(r17, u128_two(UINT64_C(999), UINT64_C(18446744073709551615))) ? UINT64_C(18446744073709551615) : u128_low(u128_div(r17, u128_of(1000u)));
-        r4_4 = 909;
+        memcpy(r4, r3_5, 24);
+        memcpy(r4_2, r3_8, 40);
+        sink16 = 0;
+        r4_3 = a1 - 1;
+        r4_4 = r2;
+        r4_5 = u128_above(r17, u128_two(UINT64_C(999), UINT64_C(18446744073709551615))) ? UINT64_C(18446744073709551615) : u128_low(u128_div(r17, u128_of(1000u)));
+        r4_6 = 909;
     } else {
-        r18 = load_address(r2_2);
-        r18_2 = load64(r2_2 + 16);
+        r19 = load_address(r2_2);
+        r19_2 = load64(r2_2 + 16);
         if (r2_3 != 0) {
             r0_06 = 0;
             for (;;) {
-                r9_2 = r18 + (r0_06 * 48);
+                r9_2 = r19 + (r0_06 * 48);
                 if (load64(r9_2 + 40) != 0) {
                     rattle_dealloc(load_address(r9_2 + 24));
                 }
@@ -548,21 +577,24 @@ static ALIGNED void intmap_with_slots(char *a0, uint64_t a1) {
                 r0_06 = r12;
             }
         }
-        if (r18_2 != 0) {
-            rattle_dealloc(r18);
+        if (r19_2 != 0) {
+            rattle_dealloc(r19);
         }
-        sink10 = 1;
-        r4_2 = 0;
+        sink16 = 1;
         r4_3 = 0;
-        r4_4 = 0;
+        r4_4 = NULL;
+        r4_5 = 0;
+        r4_6 = 0;
     }
-    store8(a0, sink10);
+    store8(a0, sink16);
     store8(a0 + 1, 0);
-    store64(a0 + 8, r4_2);
-    memcpy(a0 + 16, r4, 48);
-    store64(a0 + 64, 0);
-    store64(a0 + 72, r4_3);
-    store64(a0 + 80, r4_4);
+    store64(a0 + 8, r4_3);
+    memcpy(a0 + 16, r4, 24);
+    store_address(a0 + 40, r4_4);
+    memcpy(a0 + 48, r4_2, 40);
+    store64(a0 + 88, 0);
+    store64(a0 + 96, r4_5);
+    store64(a0 + 104, r4_6);
     return;
 }
 
@@ -648,24 +680,30 @@ common_ret:;
 
 // intmap::map::IntMap::add_growing, in crates/intmap/src/map/insert.rt
 static ALIGNED NOINLINE void intmap_add_growing(char *a0, char *a1, uint64_t a2, uint64_t a3, uint64_t a4, uint64_t a5) {
-    uint64_t r2_2, r0, r3_09, r31, r8_0, r6, r2_3, r2_4, r12, r12_2, r17_4, r33, r8, r16, r20, r8_2, r9_3, r3, r0_6,
-        r0_7, r28, r2_5, r4, r2_6, r4_2, r2_7, r12_3, r10_2, r2_8, r17_2;
-    u128 r10, r13, r187, r15, r18, r17;
-    char *r5, *r9, *r5_2, *r9_2, *r11, *r5_3, *r9_4, *r23, *r18_2, *r23_2, *x5, *r9_5;
-    bool r0_2;
-    uint8_t r17_3, r53, r11_2;
-    struct word_word r0_3, r0_4, r0_5, r0_8;
-    struct byte_word r29;
+    uint64_t r2_2, r13, r0, r3_09, r31, r8_0, r2_3, r7, r10_2, r3_3, r3_5, r1, r12_2, r12_3, r17_4, r6_2, r2_4, r2_5,
+        r33, r8, r0_8, r16, r20, r8_2, r9_6, r0_9, r0_10, r3_7, r0_11, r28, r2_6, r4, r2_7, r4_2, r2_8, r12_4, r0_15,
+        r0_16, r14, r2_9, r17_5, r27, r9_11, r34_2, r34_3, r0_06, r12_5, r10_4, common_ret_op, r17_2;
+    u128 r10, r13_2, r187, r15, r18, r17;
+    char *r26, *r3_4, *r50, *r6, *r11, *r9, *r9_2, *r5, *r9_3, *r5_2, *r11_4, *r9_4, *r9_5, *r11_6, *r9_7, *r9_8,
+        *r23, *r18_2, *r23_2, *x19, *r9_9, *r8_3, *r10_472_0_ph102, *r8_4, *r4_3, *r25, *r20_2, *r9_10, *r4_4,
+        *r10_3, *r4_5, *r15_2, *r34, *r9_12;
+    uint8_t r3, r3_2, r3_6, r12, r17_3, r11_2, r11_5, r69, r11_7, r11_8, r5099, r50_2;
+    bool r0_2, r0_6, r0_7, r13_3;
+    struct word_word r0_3, r0_4, r0_5, r0_12, r0_13, r0_14;
+    struct byte_word r53, r53_2, r86;
     char *r2 = (char *)no_bytes;
+    uint64_t r11_3_room[2];
+    char *r11_3 = (char *)r11_3_room;
     r2_2 = load64(a1 + 40);
+    r13 = load64(a1 + 64) + r2_2;
     r10 = u128_mul(u128_of(a2), u128_of(1000u));
-    r13 = u128_add(u128_of(load64(a1 + 72)), u128_of(1u));
-    r187 = u128_mul(r13, u128_of(r2_2));
+    r13_2 = u128_add(u128_of(load64(a1 + 96)), u128_of(1u));
+    r187 = u128_mul(r13_2, u128_of(r13));
     if (u128_above(r187, r10)) {
         r15 = r187;
-        r0 = r2_2;
+        r0 = r13;
     } else {
-        r3_09 = r2_2;
+        r3_09 = r13;
         for (;;) {
             if (r3_09 == UINT64_C(9223372036854775808)) {
                 store64(a0, 1);
@@ -676,7 +714,7 @@ static ALIGNED NOINLINE void intmap_add_growing(char *a0, char *a1, uint64_t a2,
                 goto common_ret;
             }
             r31 = r3_09 << 1;
-            r18 = u128_mul(r13, u128_of(r31));
+            r18 = u128_mul(r13_2, u128_of(r31));
             if (u128_above(r18, r10)) {
                 r15 = r18;
                 r0 = r31;
@@ -687,60 +725,266 @@ static ALIGNED NOINLINE void intmap_add_growing(char *a0, char *a1, uint64_t a2,
     }
     r17 = u128_less_one(r15);
     r8_0 = u128_above(r17, u128_two(UINT64_C(999), UINT64_C(18446744073709551615))) ? UINT64_C(18446744073709551615) : u128_low(u128_div(r17, u128_of(1000u)));
-    r5 = load_address(a1 + 32);
-    r6 = a3 * 48;
-    r9 = r5 + r6;
-    if (load8(r9) == 1) {
-        r2_3 = load64(r9 + 32);
-        r2_4 = load64(r9 + 40);
-        if (r2_3 < r2_4) {
+    r2_3 = r0 - 1;
+    r7 = a4 * UINT64_C(11400714819323198549);
+    r10_2 = r2_3 & r7;
+    if (a3 < r2_2) {
+        r26 = load_address(a1 + 32) + (a3 * 24);
+        r3 = load8(r26);
+        r3_2 = r3;
+        r3_3 = (r3 == 1) ? ((uint64_t)(uintptr_t)(r26 + 8)) : 0;
+        r3_4 = r2;
+        r3_5 = 0;
+    } else {
+        r50 = load_address(a1 + 56) + (a3 * 48);
+        r3_6 = load8(r50);
+        r3_2 = r3_6;
+        r3_3 = (r3_6 == 1) ? ((uint64_t)(uintptr_t)(r50 + 8)) : 0;
+        r3_4 = load_address(r50 + 24);
+        r3_5 = load64(r50 + 32);
+    }
+    if (r3_2 == 1) {
+        if (((load64((char *)(uintptr_t)r3_3) * UINT64_C(11400714819323198549)) & r2_3) == r10_2) {
+            goto join_3_2;
+        }
+    }
+    r6 = r3_4;
+    r1 = r3_5;
+    for (;;) {
+        if (r1 == 0) {
+            r12 = slots_grow(a1, r0, true);
+            if ((r12 & 1) != 0) {
+                r12_2 = a5;
+                r12_3 = 1;
+                r17_2 = 0;
+                r17_3 = 0;
+                r17_4 = 0;
+                goto join_7_3;
+            }
+            r11 = load_address(a1 + 8) + ((r10_2 >> 3) & UINT64_C(2305843009213693944));
+            store64(r11, load64(r11) | ((uint64_t)1 << (r10_2 & 63)));
+            if (r10_2 >= load64(a1 + 40)) {
+                r9_2 = load_address(a1 + 56) + (r10_2 * 48);
+                store64(r9_2, 1);
+                store64(r9_2 + 8, a4);
+                store64(r9_2 + 16, a5);
+                goto arm_1_4;
+            }
+            r9 = load_address(a1 + 32) + (r10_2 * 24);
+            r11_2 = load8(r9);
+            store64(r9, 1);
+            store64(r9 + 8, a4);
+            store64(r9 + 16, a5);
+            if (r11_2 == 0) {
+                goto arm_1_4;
+            }
+            abort();
+        }
+        if (((load64(r6) * UINT64_C(11400714819323198549)) & r2_3) == r10_2) {
+            break;
+        }
+        r6 = r6 + 16;
+        r1 = r1 - 1;
+    }
+join_3_2:;
+    if (r2_2 != 0) {
+        r0_13 = rattle_alloc(16, 8);
+        if ((r0_13.first & 1) == 0) {
+            r12_2 = a5;
+            r12_3 = 1;
+            r17_2 = 0;
+            r17_3 = 0;
+            r17_4 = 0;
+            goto join_7_3;
+        }
+        r8_3 = (char *)(uintptr_t)r0_13.second;
+        if (r0 != 0) {
+            if (r0 < UINT64_C(192153584101141163)) {
+                r0_14 = rattle_alloc(r0 * 48, 8);
+                if ((r0_14.first & 1) != 0) {
+                    r8_4 = (char *)(uintptr_t)r0_14.second;
+                    r50_2 = grow_lone_grow_lone(a1 + 32, a1, r0);
+                    if ((r50_2 & 1) != 0) {
+                        rattle_dealloc(r8_4);
+                        goto after_Vec_drop_3;
+                    }
+                    r10_472_0_ph102 = r8_4;
+                    goto join_11;
+                }
+            }
+            rattle_dealloc(r8_3);
+            r12_2 = a5;
+            r12_3 = 1;
+            r17_2 = 0;
+            r17_3 = 0;
+            r17_4 = 0;
+            goto join_7_3;
+        }
+        r5099 = grow_lone_grow_lone(a1 + 32, a1, 0);
+        if ((r5099 & 1) != 0) {
+            goto after_Vec_drop_3;
+        }
+        r10_472_0_ph102 = r2;
+    join_11:;
+        r4_3 = load_address(a1 + 32);
+        r0_15 = load64(a1 + 40);
+        r0_16 = load64(a1 + 48);
+        store_address(a1 + 32, r2);
+        memset(a1 + 40, 0, 16);
+        if (r0_15 != 0) {
+            r14 = 0;
+            r2_9 = r0_15;
+            for (;;) {
+                r17_5 = r2_9 - 1;
+                r25 = r4_3 + (r14 * 24);
+                r27 = (uint64_t)load8(r25);
+                memcpy(r11_3, r25 + 8, 16);
+                r20_2 = r10_472_0_ph102 + (r14 * 48);
+                store64(r20_2, r27);
+                memcpy(r20_2 + 8, r11_3, 16);
+                store_address(r20_2 + 24, r2);
+                memset(r20_2 + 32, 0, 16);
+                if (r17_5 == 0) {
+                    break;
+                }
+                r14 = r14 + 1;
+                r2_9 = r17_5;
+            }
+        }
+        if (r0_16 != 0) {
+            rattle_dealloc(r4_3);
+        }
+        r9_10 = r10_472_0_ph102 + (r10_2 * 48);
+        r13_3 = load64(r9_10 + 40) == 0;
+        if (r13_3) {
+            r4_4 = load_address(r9_10 + 24);
+            store_address(r9_10 + 24, r8_3);
+            store64(r9_10 + 40, 1);
+            r10_3 = r8_3;
+            r9_11 = 0;
+            r4_5 = r4_4;
+        } else {
+            r10_3 = load_address(r9_10 + 24);
+            r9_11 = load64(r9_10 + 32);
+            r4_5 = r8_3;
+        }
+        r15_2 = r10_3 + (r9_11 << 4);
+        store64(r15_2, a4);
+        store64(r15_2 + 8, a5);
+        store64(r9_10 + 32, r9_11 + 1);
+        r34 = load_address(a1 + 56);
+        r34_2 = load64(a1 + 64);
+        r34_3 = load64(a1 + 72);
+        store_address(a1 + 56, r10_472_0_ph102);
+        store64(a1 + 64, r0_15);
+        store64(a1 + 72, r0);
+        if (r34_2 != 0) {
+            r0_06 = 0;
+            for (;;) {
+                r9_12 = r34 + (r0_06 * 48);
+                if (load64(r9_12 + 40) != 0) {
+                    rattle_dealloc(load_address(r9_12 + 24));
+                }
+                r12_5 = r0_06 + 1;
+                if (r12_5 == r34_2) {
+                    break;
+                }
+                r0_06 = r12_5;
+            }
+        }
+        if (r34_3 != 0) {
+            rattle_dealloc(r34);
+        }
+        if (r13_3) {
+            goto arm_1_4;
+        }
+        rattle_dealloc(r4_5);
+        goto arm_1_4;
+    after_Vec_drop_3:;
+        rattle_dealloc(r8_3);
+        r12_2 = a5;
+        r12_3 = 1;
+        r17_2 = 0;
+        r17_3 = 0;
+        r17_4 = 0;
+        goto join_7_3;
+    }
+    r5 = load_address(a1 + 56);
+    r6_2 = a3 * 48;
+    r9_3 = r5 + r6_2;
+    if (load8(r9_3) == 1) {
+        r2_4 = load64(r9_3 + 32);
+        r2_5 = load64(r9_3 + 40);
+        if (r2_4 < r2_5) {
             r5_2 = r5;
             r0_2 = false;
         } else {
-            if (r2_4 == r2_3) {
-                if (r2_3 == UINT64_C(18446744073709551615)) {
-                    r12 = a5;
-                    r12_2 = 1;
+            if (r2_5 == r2_4) {
+                if (r2_4 == UINT64_C(18446744073709551615)) {
+                    r12_2 = a5;
+                    r12_3 = 1;
                     r17_2 = 0;
                     r17_3 = 0;
                     r17_4 = 0;
-                    goto join_7_2;
+                    goto join_7_3;
                 }
-                r33 = r2_3 + 1;
-                if (r2_3 >= UINT64_C(576460752303423487)) {
-                    r12 = a5;
-                    r12_2 = 1;
+                r33 = r2_4 + 1;
+                if (r2_4 >= UINT64_C(576460752303423487)) {
+                    r12_2 = a5;
+                    r12_3 = 1;
                     r17_2 = 0;
                     r17_3 = 0;
                     r17_4 = 0;
-                    goto join_7_2;
+                    goto join_7_3;
                 }
-                if (r2_3 == 0) {
+                if (r2_4 == 0) {
                     r0_3 = rattle_alloc(16, 8);
                     if ((r0_3.first & 1) == 0) {
-                        r12 = a5;
-                        r12_2 = 1;
+                        r12_2 = a5;
+                        r12_3 = 1;
                         r17_2 = 0;
                         r17_3 = 0;
                         r17_4 = 0;
-                        goto join_7_2;
+                        goto join_7_3;
                     }
                     r0_4 = r0_3;
                 } else {
-                    r0_5 = rattle_realloc(load_address(r9 + 24), r2_3 << 4, r33 << 4, 8);
+                    r0_5 = rattle_realloc(load_address(r9_3 + 24), r2_4 << 4, r33 << 4, 8);
                     if ((r0_5.first & 1) == 0) {
-                        r12 = a5;
-                        r12_2 = 1;
+                        r12_2 = a5;
+                        r12_3 = 1;
                         r17_2 = 0;
                         r17_3 = 0;
                         r17_4 = 0;
-                        goto join_7_2;
+                        goto join_7_3;
                     }
                     r0_4 = r0_5;
                 }
-                store_address(r9 + 24, (char *)(uintptr_t)r0_4.second);
-                store64(r9 + 40, r33);
-                r5_2 = load_address(a1 + 32);
+                store_address(r9_3 + 24, (char *)(uintptr_t)r0_4.second);
+                store64(r9_3 + 40, r33);
+                if (a3 < load64(a1 + 40)) {
+                    r8 = a3 * 24;
+                    if ((load8(load_address(a1 + 32) + r8) & 1) != 0) {
+                        r53 = slots_push_second(a1, a3, a4, a5);
+                        r0_6 = true;
+                        r53_2 = r53;
+                        goto after_Slots_push;
+                    }
+                    r11_4 = load_address(a1 + 8) + ((a3 >> 3) & UINT64_C(2305843009213693944));
+                    store64(r11_4, load64(r11_4) | ((uint64_t)1 << (a3 & 63)));
+                    r9_4 = load_address(a1 + 32) + r8;
+                    r11_5 = load8(r9_4);
+                    store64(r9_4, 1);
+                    store64(r9_4 + 8, a4);
+                    store64(r9_4 + 16, a5);
+                    if (r11_5 != 0) {
+                        abort();
+                    }
+                    r0_7 = true;
+                    r0_8 = 0;
+                    goto arm_6_2;
+                }
+                r5_2 = load_address(a1 + 56);
                 r0_2 = true;
             } else {
                 r5_2 = r5;
@@ -751,132 +995,165 @@ static ALIGNED NOINLINE void intmap_add_growing(char *a0, char *a1, uint64_t a2,
         r5_2 = r5;
         r0_2 = false;
     }
-    r9_2 = r5_2 + r6;
-    r8 = (a3 >> 3) & UINT64_C(2305843009213693944);
-    r11 = load_address(a1 + 8) + r8;
-    r16 = load64(r11);
+    r9_5 = r5_2 + r6_2;
+    r11_6 = load_address(a1 + 8) + ((a3 >> 3) & UINT64_C(2305843009213693944));
+    r16 = load64(r11_6);
     r20 = (uint64_t)1 << (a3 & 63);
-    store64(r11, r16 | r20);
+    store64(r11_6, r16 | r20);
     if ((r16 & r20) == 0) {
-        store64(r9_2, 1);
-        store64(r9_2 + 8, a4);
-        store64(r9_2 + 16, a5);
-        r8_2 = 0;
-    } else {
-        r29 = slot_push(r9_2, a4, a5);
-        if (r29.first != 0) {
-            r12 = r29.second;
-            r12_2 = 1;
-            r17_2 = 0;
-            r17_3 = 0;
-            r17_4 = 0;
-            goto join_7_2;
-        }
-        r8_2 = r29.second;
+        store64(r9_5, 1);
+        store64(r9_5 + 8, a4);
+        store64(r9_5 + 16, a5);
+        r0_7 = r0_2;
+        r0_8 = 0;
+        goto arm_6_2;
     }
-    r53 = table_grow(a1, r0);
-    r5_3 = load_address(a1 + 32);
-    if ((r53 & 1) != 0) {
-        r9_3 = load64(load_address(a1 + 8) + r8);
-        r9_4 = r5_3 + r6;
-        r3 = load64(r9_4 + 32);
-        if (r3 == 0) {
-            r0_6 = load64(r9_4 + 16);
-            r11_2 = load8(r9_4);
-            memset(r9_4, 0, 24);
-            if (r11_2 == 1) {
-                store64(load_address(a1 + 8) + r8, r9_3 & (r20 ^ UINT64_C(18446744073709551615)));
-                r0_7 = r0_6;
-                goto after_Slots_take_at;
-            }
-        }
-        r28 = r3 - 1;
-        store64(r9_4 + 32, r28);
-        if (r8_2 == 0) {
-            if (load8(r9_4) != 1) {
+    r86 = slot_push(r9_5, a4, a5);
+    r0_6 = r0_2;
+    r53_2 = r86;
+after_Slots_push:;
+    if (r53_2.first != 0) {
+        r12_2 = r53_2.second;
+        r12_3 = 1;
+        r17_2 = 0;
+        r17_3 = 0;
+        r17_4 = 0;
+        goto join_7_3;
+    }
+    r0_7 = r0_6;
+    r0_8 = r53_2.second;
+arm_6_2:;
+    r69 = slots_grow(a1, r0, false);
+    if ((r69 & 1) != 0) {
+        r8_2 = (a3 >> 3) & UINT64_C(2305843009213693944);
+        r9_6 = load64(load_address(a1 + 8) + r8_2);
+        if (a3 < load64(a1 + 40)) {
+            r9_7 = load_address(a1 + 32) + (a3 * 24);
+            r0_9 = load64(r9_7 + 16);
+            r11_7 = load8(r9_7);
+            memset(r9_7, 0, 24);
+            if (r11_7 != 1) {
                 abort();
             }
-            r23 = load_address(r9_4 + 24) + (r28 << 4);
-            r2_5 = load64(r23 + 8);
-            r4 = load64(r9_4 + 16);
-            store64(r9_4 + 8, load64(r23));
-            store64(r9_4 + 16, r2_5);
-            r0_7 = r4;
+            store64(load_address(a1 + 8) + r8_2, r9_6 & (((uint64_t)1 << (a3 & 63)) ^ UINT64_C(18446744073709551615)));
+            r0_10 = r0_9;
         } else {
-            r18_2 = load_address(r9_4 + 24);
-            r23_2 = r18_2 + (r28 << 4);
-            r2_6 = load64(r23_2 + 8);
-            if (r8_2 == r3) {
-                r0_7 = r2_6;
+            r9_8 = load_address(a1 + 56) + r6_2;
+            r3_7 = load64(r9_8 + 32);
+            if (r3_7 == 0) {
+                r0_11 = load64(r9_8 + 16);
+                r11_8 = load8(r9_8);
+                memset(r9_8, 0, 24);
+                if (r11_8 == 1) {
+                    store64(load_address(a1 + 8) + r8_2, r9_6 & (((uint64_t)1 << (a3 & 63)) ^ UINT64_C(18446744073709551615)));
+                    r0_10 = r0_11;
+                    goto after_Slots_take_at;
+                }
+            }
+            r28 = r3_7 - 1;
+            store64(r9_8 + 32, r28);
+            if (r0_8 == 0) {
+                if (load8(r9_8) != 1) {
+                    abort();
+                }
+                r23 = load_address(r9_8 + 24) + (r28 << 4);
+                r2_6 = load64(r23 + 8);
+                r4 = load64(r9_8 + 16);
+                store64(r9_8 + 8, load64(r23));
+                store64(r9_8 + 16, r2_6);
+                r0_10 = r4;
             } else {
-                x5 = r18_2 + (r8_2 << 4);
-                r4_2 = load64(x5 - 8);
-                store64(x5 - 16, load64(r23_2));
-                store64(x5 - 8, r2_6);
-                r0_7 = r4_2;
+                r18_2 = load_address(r9_8 + 24);
+                r23_2 = r18_2 + (r28 << 4);
+                r2_7 = load64(r23_2 + 8);
+                if (r0_8 == r3_7) {
+                    r0_10 = r2_7;
+                } else {
+                    x19 = r18_2 + (r0_8 << 4);
+                    r4_2 = load64(x19 - 8);
+                    store64(x19 - 16, load64(r23_2));
+                    store64(x19 - 8, r2_7);
+                    r0_10 = r4_2;
+                }
             }
         }
     after_Slots_take_at:;
-        if (r0_2) {
-            r9_5 = load_address(a1 + 32) + r6;
-            r2_7 = load64(r9_5 + 32);
-            if (load64(r9_5 + 40) > r2_7) {
-                if (r2_7 == 0) {
-                    rattle_dealloc(load_address(r9_5 + 24));
-                    store_address(r9_5 + 24, r2);
-                    memset(r9_5 + 32, 0, 16);
-                    r12 = r0_7;
-                    r12_2 = 1;
-                    r17_2 = 0;
-                    r17_3 = 0;
-                    r17_4 = 0;
-                } else {
-                    r12_3 = r2_7 << 4;
-                    r0_8 = rattle_realloc(load_address(r9_5 + 24), r12_3, r12_3, 8);
-                    if ((r0_8.first & 1) != 0) {
-                        store_address(r9_5 + 24, (char *)(uintptr_t)r0_8.second);
-                        store64(r9_5 + 40, r2_7);
-                        r12 = r0_7;
-                        r12_2 = 1;
-                        r17_2 = 0;
-                        r17_3 = 0;
-                        r17_4 = 0;
-                    } else {
-                        r12 = r0_7;
-                        r12_2 = 1;
-                        r17_2 = 0;
-                        r17_3 = 0;
-                        r17_4 = 0;
-                    }
-                }
-            } else {
-                r12 = r0_7;
-                r12_2 = 1;
-                r17_2 = 0;
-                r17_3 = 0;
-                r17_4 = 0;
-            }
-        } else {
-            r12 = r0_7;
-            r12_2 = 1;
+        if (!r0_7) {
+            r12_2 = r0_10;
+            r12_3 = 1;
             r17_2 = 0;
             r17_3 = 0;
             r17_4 = 0;
+            goto join_7_3;
         }
-    } else {
-        r10_2 = load64(a1) & (a4 * UINT64_C(11400714819323198549));
-        r2_8 = load64((r5_3 + (r10_2 * 48)) + 32);
-        store64(a1 + 56, a2);
-        store64(a1 + 64, r8_0);
-        r12 = a4;
-        r12_2 = 0;
-        r17_2 = (uint64_t)((r10_2 >> 8) & UINT64_C(72057594037927935));
-        r17_3 = (uint8_t)r10_2;
-        r17_4 = r2_8;
+        if (load64(a1 + 40) > a3) {
+            r12_2 = r0_10;
+            r12_3 = 1;
+            r17_2 = 0;
+            r17_3 = 0;
+            r17_4 = 0;
+            goto join_7_3;
+        }
+        r9_9 = load_address(a1 + 56) + r6_2;
+        r2_8 = load64(r9_9 + 32);
+        if (load64(r9_9 + 40) <= r2_8) {
+            r12_2 = r0_10;
+            r12_3 = 1;
+            r17_2 = 0;
+            r17_3 = 0;
+            r17_4 = 0;
+            goto join_7_3;
+        }
+        if (r2_8 == 0) {
+            rattle_dealloc(load_address(r9_9 + 24));
+            store_address(r9_9 + 24, r2);
+            memset(r9_9 + 32, 0, 16);
+            r12_2 = r0_10;
+            r12_3 = 1;
+            r17_2 = 0;
+            r17_3 = 0;
+            r17_4 = 0;
+            goto join_7_3;
+        }
+        r12_4 = r2_8 << 4;
+        r0_12 = rattle_realloc(load_address(r9_9 + 24), r12_4, r12_4, 8);
+        if ((r0_12.first & 1) == 0) {
+            r12_2 = r0_10;
+            r12_3 = 1;
+            r17_2 = 0;
+            r17_3 = 0;
+            r17_4 = 0;
+            goto join_7_3;
+        }
+        store_address(r9_9 + 24, (char *)(uintptr_t)r0_12.second);
+        store64(r9_9 + 40, r2_8);
+        r12_2 = r0_10;
+        r12_3 = 1;
+        r17_2 = 0;
+        r17_3 = 0;
+        r17_4 = 0;
+        goto join_7_3;
     }
-join_7_2:;
-    store64(a0, r12_2);
-    store64(a0 + 8, r12);
+arm_1_4:;
+    r10_4 = load64(a1) & r7;
+    if (r10_4 < load64(a1 + 40)) {
+        if (load8(load_address(a1 + 32) + (r10_4 * 24)) != 1) {
+            abort();
+        }
+        common_ret_op = 0;
+    } else {
+        common_ret_op = load64((load_address(a1 + 56) + (r10_4 * 48)) + 32);
+    }
+    store64(a1 + 80, a2);
+    store64(a1 + 88, r8_0);
+    r12_2 = a4;
+    r12_3 = 0;
+    r17_2 = (uint64_t)((r10_4 >> 8) & UINT64_C(72057594037927935));
+    r17_3 = (uint8_t)r10_4;
+    r17_4 = common_ret_op;
+join_7_3:;
+    store64(a0, r12_3);
+    store64(a0 + 8, r12_2);
     store8(a0 + 16, r17_3);
     store_bytes(a0 + 17, r17_2, 7);
     store64(a0 + 24, r17_4);
@@ -884,491 +1161,813 @@ common_ret:;
     return;
 }
 
-// intmap_table::slot::Slot::push, in crates/intmap_table/src/slot/pairs.rt
-static ALIGNED NOINLINE struct byte_word slot_push(char *a0, uint64_t a1, uint64_t a2) {
-    uint64_t r3, r2, r0_2, r9, r18;
-    struct word_word r0;
-    uint8_t r0_3;
-    bool r24;
-    char *r15;
-    r3 = load64(a0 + 32);
-    r2 = load64(a0 + 40);
-    if (r3 == 0) {
-        if (r2 == 0) {
-            r0 = rattle_alloc(16, 8);
-            if ((r0.first & 1) == 0) {
-                r0_2 = a2;
-                r0_3 = 1;
-                goto return_7;
+// intmap_table::table::slots::Slots::grow, in crates/intmap_table/src/table/slots/grow.rt
+static ALIGNED uint8_t slots_grow(char *a0, uint64_t a1, bool a2) {
+    char *r4_2, *r39, *r4_3, *r6_3, *r0, *r4_4, *r15, *r4_5, *r22_4, *r31, *r13, *x7, *x8, *r11, *r30, *r22_5, *r9,
+        *r23_2, *r1_4, *r8, *r8_3, *r0_10, *r20_3, *r15_2, *r9_2, *r4_8, *r6_7, *r4_9, *r56, *r8_6, *r8_9, *r13_3,
+        *r4_10, *r6_12, *r4_11, *r3_5, *r3_8, *r41, *r3_12, *r27_2, *r31_2, *r11_4, *r8_13, *r54_4, *r4_12, *r20_4,
+        *r20_5, *r13_4, *r9_3;
+    uint64_t r6, r2_2, r3_032, r6_2, r54, r2_3, r0_2, r15_36_0_pr, r6_4, r22_2, r22_3, r2_4, r4_04, r3, r0_3, r0_4,
+        r0_5, r0_6, r16, r1_2, r1_3, r28, r3_0, r0_05, r13_2, r23, r36, r20, r3_0_2, r20_2, r4_6, r4_7, r10, r40,
+        r22_3_0_pr, r22_6, r0_06, r12, r23_3, r1_5, r2_5, r32, r2_6, r8_2, r19, r3_2, r2_7, r12_3, r22_7, r0_11,
+        r10_014, r2_8, r32_2, r15_3_0_pr, r15_3, r0_06_2, r12_4, r6_5, r6_6, r6_8, r28_2, x17, r8_4, r8_5, r8_7,
+        r6_0, r8_8, r8_10, r6_9, r6_10, r6_11, r6_13, r2_9, r3_3, r3_4, r3_6, r3_7, r3_9, r41_2, r33, r54_2, r60,
+        r3_10, r3_11, r3_13, r27, r33_2, r40_2, r0_13, r0_14, r10_2, r33_3, r54_3, r60_2, r8_11, r8_12, r8_14, r27_3,
+        r33_4, r40_3, r2_10, r76, r6_14, r2_11, r4_04_2, r41_3, r89, r6_07, r38, r73, spec_select, r2_12, r2_13,
+        r0_06_3, r12_5, r2_14, r12_6;
+    uint8_t r1, r11_2, r0_7, r11_3, r64, r59;
+    bool r12_2, r21, r317, r5_08, r41_4, r5_1;
+    struct word_word r0_8, r0_9, r0_12, r0_15;
+    char *r2 = (char *)no_bytes;
+    uint64_t r5_room[4];
+    char *r5 = (char *)r5_room;
+    uint64_t r4_room[3];
+    char *r4 = (char *)r4_room;
+    uint64_t r22_room[4];
+    char *r22 = (char *)r22_room;
+    memset(r4, 0, 24);
+    memset(r22, 0, 32);
+    if (load64(a0 + 40) == 0) {
+        r4_2 = load_address(a0 + 56);
+        r6 = load64(a0 + 64);
+        if ((a1 > 15) & a2) {
+            r2_2 = a1 - 1;
+            if (r6 != 0) {
+                r3_032 = 0;
+                for (;;) {
+                    r39 = r4_2 + (r3_032 * 48);
+                    r4_3 = load_address(r39 + 24);
+                    r6_2 = load64(r39 + 32);
+                    if (r6_2 != 0) {
+                        if (!((r6_2 == 1) & (load8(r39) == 1))) {
+                            goto join_7;
+                        }
+                        if ((((load64(r4_3) * UINT64_C(11400714819323198549)) ^ (load64(r39 + 8) * UINT64_C(11400714819323198549))) & r2_2) == 0) {
+                            goto join_7;
+                        }
+                    }
+                    r54 = r3_032 + 1;
+                    if (r54 == r6) {
+                        break;
+                    }
+                    r3_032 = r54;
+                }
             }
-            store_address(a0 + 24, (char *)(uintptr_t)r0.second);
-            store64(a0 + 40, 1);
+            memset(r5, 0, 32);
+            grow_reserve_slots_2(r5, a0 + 32, a1);
+            r1 = load8(r5);
+            if (r1 == 0) {
+                r6_3 = load_address(r5 + 8);
+                r2_3 = load64(a0 + 40);
+                r0 = load_address(a0 + 32);
+                r0_2 = load64(a0 + 48);
+                store_address(a0 + 32, r2);
+                memset(a0 + 40, 0, 16);
+                if (a1 == r2_3) {
+                    store_address(a0 + 32, r0);
+                    store64(a0 + 40, a1);
+                    store64(a0 + 48, r0_2);
+                    r4_4 = r0;
+                } else {
+                    memset(r0 + (r2_3 * 24), 0, (a1 - r2_3) * 24);
+                    r15 = load_address(a0 + 32);
+                    r15_36_0_pr = load64(a0 + 48);
+                    store_address(a0 + 32, r0);
+                    store64(a0 + 40, a1);
+                    store64(a0 + 48, r0_2);
+                    if (r15_36_0_pr == 0) {
+                        r4_4 = r0;
+                    } else {
+                        rattle_dealloc(r15);
+                        r4_4 = load_address(a0 + 32);
+                    }
+                }
+                r4_5 = load_address(a0 + 56);
+                r6_4 = load64(a0 + 64);
+                if (r6_4 != 0) {
+                    r2_4 = load64(a0 + 40) - 1;
+                    r4_04 = 0;
+                    for (;;) {
+                        r31 = r4_5 + (r4_04 * 48);
+                        for (;;) {
+                            if ((load8(r31) & 1) == 0) {
+                                r40 = r4_04 + 1;
+                                if (r40 != r6_4) {
+                                    r4_04 = r40;
+                                    break;
+                                }
+                                r22_3_0_pr = load64(a0 + 64);
+                                r22_5 = load_address(a0 + 56);
+                                r22_6 = load64(a0 + 72);
+                                store_address(a0 + 56, r2);
+                                memset(a0 + 64, 0, 16);
+                                if (r22_3_0_pr == 0) {
+                                    r22_3 = r22_6;
+                                    r22_4 = r22_5;
+                                    goto after_Vec_clear_3;
+                                }
+                                r0_06 = 0;
+                                for (;;) {
+                                    r9 = r22_5 + (r0_06 * 48);
+                                    if (load64(r9 + 40) != 0) {
+                                        rattle_dealloc(load_address(r9 + 24));
+                                    }
+                                    r12 = r0_06 + 1;
+                                    if (r12 == r22_3_0_pr) {
+                                        r22_3 = r22_6;
+                                        r22_4 = r22_5;
+                                        goto after_Vec_clear_3;
+                                    }
+                                    r0_06 = r12;
+                                }
+                            }
+                            r3 = load64(r31 + 32);
+                            if (r3 == 0) {
+                                r0_3 = load64(r31 + 8);
+                                r0_4 = load64(r31 + 16);
+                                memset(r31, 0, 24);
+                                r0_5 = r0_3;
+                                r0_6 = r0_4;
+                            } else {
+                                r13 = load_address(r31 + 24);
+                                r16 = load64(r31 + 40);
+                                memset(r31 + 32, 0, 16);
+                                r1_2 = load64(r13);
+                                r1_3 = load64(r13 + 8);
+                                r28 = r3 - 1;
+                                if (r28 > 128) {
+                                    r3_0 = 0;
+                                    for (;;) {
+                                        x7 = r13 + (r3_0 << 4);
+                                        r0_05 = 0;
+                                        for (;;) {
+                                            r13_2 = r0_05 << 4;
+                                            memcpy(x7 + r13_2, (x7 + 16) + r13_2, 16);
+                                            r23 = r0_05 + 1;
+                                            if (r23 == 128) {
+                                                r36 = r3_0 + 128;
+                                                r20 = r28 - r36;
+                                                if (r20 > 128) {
+                                                    r3_0 = r36;
+                                                    break;
+                                                }
+                                                r3_0_2 = r36;
+                                                r20_2 = r20;
+                                                goto after_Slots_move_back;
+                                            }
+                                            r0_05 = r23;
+                                        }
+                                    }
+                                }
+                                r3_0_2 = 0;
+                                r20_2 = r28;
+                            after_Slots_move_back:;
+                                if (r28 != r3_0_2) {
+                                    x8 = r13 + (r3_0_2 << 4);
+                                    memmove(x8, x8 + 16, r20_2 << 4);
+                                }
+                                store_address(r31 + 24, r13);
+                                store64(r31 + 32, r28);
+                                store64(r31 + 40, r16);
+                                if (load8(r31) != 1) {
+                                    abort();
+                                }
+                                r4_6 = load64(r31 + 8);
+                                r4_7 = load64(r31 + 16);
+                                store64(r31 + 8, r1_2);
+                                store64(r31 + 16, r1_3);
+                                r0_5 = r4_6;
+                                r0_6 = r4_7;
+                            }
+                            r10 = (r0_5 * UINT64_C(11400714819323198549)) & r2_4;
+                            r11 = r6_3 + ((r10 >> 3) & UINT64_C(2305843009213693944));
+                            store64(r11, ((uint64_t)1 << (r10 & 63)) | load64(r11));
+                            r30 = r4_4 + (r10 * 24);
+                            r11_2 = load8(r30);
+                            store64(r30, 1);
+                            store64(r30 + 8, r0_5);
+                            store64(r30 + 16, r0_6);
+                            if (r11_2 != 0) {
+                                abort();
+                            }
+                        }
+                    }
+                }
+                r22_2 = load64(a0 + 72);
+                store_address(a0 + 56, r2);
+                memset(a0 + 64, 0, 16);
+                r22_3 = r22_2;
+                r22_4 = r4_5;
+            after_Vec_clear_3:;
+                if (r22_3 != 0) {
+                    rattle_dealloc(r22_4);
+                }
+                r23_2 = load_address(a0 + 8);
+                r23_3 = load64(a0 + 24);
+                store64(a0, r2_2);
+                store_address(a0 + 8, r6_3);
+                memcpy(a0 + 16, r5 + 16, 16);
+                if (r23_3 != 0) {
+                    rattle_dealloc(r23_2);
+                }
+            }
+            r0_7 = r1;
+            goto return_4;
+        }
+    join_7:;
+        grow_reserve_slots(r22, a0 + 56, a1);
+        if (load8(r22) == 0) {
+            r1_4 = load_address(r22 + 8);
+            r1_5 = load64(r22 + 24);
+            r2_5 = load64(a0 + 64);
+            if (r2_5 == 0) {
+                abort();
+            }
+            r32 = a1 / r2_5;
+            r12_2 = r2_5 > a1;
+            if (!r12_2) {
+                if (r32 < UINT64_C(1152921504606846976)) {
+                    r19 = r32 << 3;
+                    r0_8 = rattle_alloc(r19, 8);
+                    if ((r0_8.first & 1) != 0) {
+                        r8_3 = (char *)(uintptr_t)r0_8.second;
+                        if (r32 == 1) {
+                            r3_2 = 0;
+                        } else {
+                            memset(r8_3, 0, r19 - 8);
+                            r3_2 = r32 - 1;
+                        }
+                        store64(r8_3 + (r3_2 << 3), 0);
+                        r2_6 = load64(a0 + 64);
+                        r8 = r8_3;
+                        r8_2 = r3_2 + 1;
+                        goto arm_3;
+                    }
+                    r2_7 = load64(a0 + 64);
+                } else {
+                    r2_7 = r2_5;
+                }
+                if (load64(a0 + 72) <= r2_7) {
+                    goto arm_13;
+                }
+                if (r2_7 == 0) {
+                    rattle_dealloc(load_address(a0 + 56));
+                    store_address(a0 + 56, r2);
+                    memset(a0 + 64, 0, 16);
+                    goto arm_13;
+                }
+                r12_3 = r2_7 * 48;
+                r0_9 = rattle_realloc(load_address(a0 + 56), r12_3, r12_3, 8);
+                if ((r0_9.first & 1) == 0) {
+                    goto arm_13;
+                }
+                store_address(a0 + 56, (char *)(uintptr_t)r0_9.second);
+                store64(a0 + 72, r2_7);
+                goto arm_13;
+            }
+            r2_6 = r2_5;
+            r8 = r2;
+            r8_2 = 0;
+        arm_3:;
+            r22_7 = a1 - r2_6;
+            r0_10 = load_address(a0 + 56);
+            r0_11 = load64(a0 + 72);
+            store_address(a0 + 56, r2);
+            memset(a0 + 64, 0, 16);
+            if (a1 == r2_6) {
+                store_address(a0 + 56, r0_10);
+                store64(a0 + 64, a1);
+                store64(a0 + 72, r0_11);
+            } else {
+                r10_014 = 0;
+                r2_8 = r2_6;
+                for (;;) {
+                    r20_3 = r0_10 + (r2_8 * 48);
+                    memset(r20_3, 0, 24);
+                    store_address(r20_3 + 24, r2);
+                    memset(r20_3 + 32, 0, 16);
+                    r32_2 = r10_014 + 1;
+                    if (r32_2 == r22_7) {
+                        r15_2 = load_address(a0 + 56);
+                        r15_3_0_pr = load64(a0 + 64);
+                        r15_3 = load64(a0 + 72);
+                        store_address(a0 + 56, r0_10);
+                        store64(a0 + 64, a1);
+                        store64(a0 + 72, r0_11);
+                        if (r15_3_0_pr != 0) {
+                            r0_06_2 = 0;
+                            for (;;) {
+                                r9_2 = r15_2 + (r0_06_2 * 48);
+                                if (load64(r9_2 + 40) != 0) {
+                                    rattle_dealloc(load_address(r9_2 + 24));
+                                }
+                                r12_4 = r0_06_2 + 1;
+                                if (r12_4 == r15_3_0_pr) {
+                                    break;
+                                }
+                                r0_06_2 = r12_4;
+                            }
+                        }
+                        if (r15_3 == 0) {
+                            break;
+                        }
+                        rattle_dealloc(r15_2);
+                        break;
+                    }
+                    r10_014 = r32_2;
+                    r2_8 = r2_8 + 1;
+                }
+            }
+            r4_8 = load_address(a0 + 56);
+            r6_5 = load64(a0 + 16);
+            if (r6_5 == 0) {
+                r6_6 = 0;
+                r6_7 = (char *)no_bytes;
+                r6_8 = 0;
+            } else {
+                r4_9 = load_address(a0 + 8);
+                r6_6 = load64(r4_9);
+                r6_7 = r4_9 + 8;
+                r6_8 = r6_5 - 1;
+            }
+            r21 = r8_2 == 0;
+            r28_2 = r8_2 - 1;
+            r317 = r28_2 == 0;
+            x17 = (r8_2 << 3) - 8;
+            r56 = r8 + (r28_2 << 3);
+            r8_4 = r6_6;
+            r8_5 = 0;
+            r8_6 = r6_7;
+            r8_7 = r6_8;
+            r6_0 = 0;
+            for (;;) {
+                if (r8_4 == 0) {
+                    r8_8 = r8_7;
+                    r8_9 = r8_6;
+                    r8_10 = r8_5;
+                    for (;;) {
+                        if (r8_8 == 0) {
+                            if (r6_0 == 0) {
+                                r13_3 = r2;
+                            } else {
+                                if (r6_0 >= UINT64_C(576460752303423488)) {
+                                    goto arm_8_2;
+                                }
+                                r0_12 = rattle_alloc(r6_0 << 4, 8);
+                                if ((r0_12.first & 1) == 0) {
+                                    goto arm_8_2;
+                                }
+                                r13_3 = (char *)(uintptr_t)r0_12.second;
+                            }
+                            if (!r12_2) {
+                                rattle_dealloc(r8);
+                            }
+                            store_address(r4, r13_3);
+                            store64(r4 + 8, 0);
+                            store64(r4 + 16, r6_0);
+                            r4_10 = load_address(a0 + 56);
+                            r6_9 = load64(a0 + 64);
+                            r6_10 = load64(a0 + 16);
+                            if (r6_10 == 0) {
+                                r6_11 = 0;
+                                r6_12 = (char *)no_bytes;
+                                r6_13 = 0;
+                            } else {
+                                r4_11 = load_address(a0 + 8);
+                                r6_11 = load64(r4_11);
+                                r6_12 = r4_11 + 8;
+                                r6_13 = r6_10 - 1;
+                            }
+                            r2_9 = r6_9 - 1;
+                            r3_3 = r6_11;
+                            r3_4 = 0;
+                            r3_5 = r6_12;
+                            r3_6 = r6_13;
+                            for (;;) {
+                                if (r3_3 == 0) {
+                                    r3_7 = r3_6;
+                                    r3_8 = r3_5;
+                                    r3_9 = r3_4;
+                                    for (;;) {
+                                        if (r3_7 == 0) {
+                                            r41 = load_address(a0 + 8);
+                                            r41_2 = load64(a0 + 24);
+                                            store64(a0, a1 - 1);
+                                            memcpy(a0 + 8, r22 + 8, 24);
+                                            if (r41_2 != 0) {
+                                                rattle_dealloc(r41);
+                                            }
+                                            if (load64(r4 + 16) == 0) {
+                                                r0_7 = 0;
+                                                goto return_4;
+                                            }
+                                            rattle_dealloc(load_address(r4));
+                                            r0_7 = 0;
+                                            goto return_4;
+                                        }
+                                        r33 = r3_7 - 1;
+                                        r54_2 = load64(r3_8);
+                                        r60 = r3_9 + 64;
+                                        if (r54_2 != 0) {
+                                            r3_10 = r54_2;
+                                            r3_11 = r60;
+                                            r3_12 = r3_8 + 8;
+                                            r3_13 = r33;
+                                            break;
+                                        }
+                                        r3_7 = r33;
+                                        r3_8 = r3_8 + 8;
+                                        r3_9 = r60;
+                                    }
+                                } else {
+                                    r3_10 = r3_3;
+                                    r3_11 = r3_4;
+                                    r3_12 = r3_5;
+                                    r3_13 = r3_6;
+                                }
+                                r27 = low_zeros(r3_10);
+                                r33_2 = r3_11 + r27;
+                                r40_2 = (r3_10 - 1) & r3_10;
+                                r27_2 = r4_10 + (r33_2 * 48);
+                                if (load64(r27_2 + 32) == 0) {
+                                    r0_13 = load_key(r27_2 + 8);
+                                    r0_14 = load64(r27_2 + 16);
+                                    r11_3 = load8(r27_2);
+                                    memset(r27_2, 0, 24);
+                                    if (r11_3 == 1) {
+                                        r10_2 = (r0_13 * UINT64_C(11400714819323198549)) & r2_9;
+                                        r31_2 = r4_10 + (r10_2 * 48);
+                                        r11_4 = r1_4 + ((r10_2 >> 3) & UINT64_C(2305843009213693944));
+                                        store64(r11_4, load64(r11_4) | ((uint64_t)1 << (r10_2 & 63)));
+                                        store64(r31_2, 1);
+                                        store64(r31_2 + 8, r0_13);
+                                        store64(r31_2 + 16, r0_14);
+                                        goto loop_2_backedge;
+                                    }
+                                }
+                                place_move_several(r22 + 8, r4_10, r6_9, r33_2, r4);
+                            loop_2_backedge:;
+                                r3_3 = r40_2;
+                                r3_4 = r3_11;
+                                r3_5 = r3_12;
+                                r3_6 = r3_13;
+                            }
+                        }
+                        r33_3 = r8_8 - 1;
+                        r54_3 = load64(r8_9);
+                        r60_2 = r8_10 + 64;
+                        if (r54_3 != 0) {
+                            r8_11 = r54_3;
+                            r8_12 = r60_2;
+                            r8_13 = r8_9 + 8;
+                            r8_14 = r33_3;
+                            break;
+                        }
+                        r8_8 = r33_3;
+                        r8_9 = r8_9 + 8;
+                        r8_10 = r60_2;
+                    }
+                } else {
+                    r8_11 = r8_4;
+                    r8_12 = r8_5;
+                    r8_13 = r8_6;
+                    r8_14 = r8_7;
+                }
+                r27_3 = low_zeros(r8_11);
+                r33_4 = r8_12 + r27_3;
+                r40_3 = (r8_11 - 1) & r8_11;
+                r54_4 = r4_8 + (r33_4 * 48);
+                r2_10 = load64(r54_4 + 32);
+                if (r2_10 > 2) {
+                    r76 = load64(a0) + 1;
+                    if (r21) {
+                        r6_14 = r2_10;
+                    } else {
+                        if (!r317) {
+                            memset(r8, 0, x17);
+                        }
+                        store64(r56, 0);
+                        r6_14 = load64(r54_4 + 32);
+                    }
+                    r4_12 = load_address(r54_4 + 24);
+                    if (load8(r54_4) == 1) {
+                        if (r76 == 0) {
+                            abort();
+                        }
+                        r20_4 = r8 + ((((load64(r54_4 + 8) * UINT64_C(11400714819323198549)) & ((r76 * r8_2) - 1)) / r76) << 3);
+                        store64(r20_4, load64(r20_4) + 1);
+                    }
+                    if (r6_14 != 0) {
+                        r2_11 = (r76 * r8_2) - 1;
+                        if (r76 == 0) {
+                            abort();
+                        }
+                        r4_04_2 = 0;
+                        for (;;) {
+                            r20_5 = r8 + ((((load64(r4_12 + (r4_04_2 << 4)) * UINT64_C(11400714819323198549)) & r2_11) / r76) << 3);
+                            store64(r20_5, load64(r20_5) + 1);
+                            r41_3 = r4_04_2 + 1;
+                            if (r41_3 == r6_14) {
+                                break;
+                            }
+                            r4_04_2 = r41_3;
+                        }
+                    }
+                    r89 = load64(a0) + 1;
+                    if (!r21) {
+                        r5_08 = false;
+                        r6_07 = 0;
+                        for (;;) {
+                            r38 = load64(r8 + (r6_07 << 3));
+                            r41_4 = r38 > 1;
+                            if (r41_4 ? r5_08 : false) {
+                                r64 = slot_reserve_behind(r4_8 + (((r6_07 * r89) + r33_4) * 48), r38 - 1);
+                                if ((r64 & 1) != 0) {
+                                    goto arm_8_2;
+                                }
+                                r5_1 = true;
+                            } else {
+                                r5_1 = r41_4 ? true : r5_08;
+                            }
+                            r73 = r6_07 + 1;
+                            if (r73 == r8_2) {
+                                break;
+                            }
+                            r5_08 = r5_1;
+                            r6_07 = r73;
+                        }
+                    }
+                }
+                spec_select = greater(r6_0, r2_10);
+                r8_4 = r40_3;
+                r8_5 = r8_12;
+                r8_6 = r8_13;
+                r8_7 = r8_14;
+                r6_0 = spec_select;
+            }
+        arm_8_2:;
+            r2_12 = load64(a0 + 64);
+            r2_13 = load64(a0 + 72);
+            if (r2_12 > r2_5) {
+                r13_4 = load_address(a0 + 56);
+                memset(a0 + 64, 0, 16);
+                r0_06_3 = r2_5;
+                for (;;) {
+                    r9_3 = r13_4 + (r0_06_3 * 48);
+                    if (load64(r9_3 + 40) != 0) {
+                        rattle_dealloc(load_address(r9_3 + 24));
+                    }
+                    r12_5 = r0_06_3 + 1;
+                    if (r12_5 == r2_12) {
+                        store_address(a0 + 56, r13_4);
+                        store64(a0 + 64, r2_5);
+                        store64(a0 + 72, r2_13);
+                        r2_14 = r2_5;
+                        break;
+                    }
+                    r0_06_3 = r12_5;
+                }
+            } else {
+                r2_14 = r2_12;
+            }
+            if (r2_13 > r2_14) {
+                if (r2_14 == 0) {
+                    rattle_dealloc(load_address(a0 + 56));
+                    store_address(a0 + 56, r2);
+                    memset(a0 + 64, 0, 16);
+                } else {
+                    r12_6 = r2_14 * 48;
+                    r0_15 = rattle_realloc(load_address(a0 + 56), r12_6, r12_6, 8);
+                    if ((r0_15.first & 1) != 0) {
+                        store_address(a0 + 56, (char *)(uintptr_t)r0_15.second);
+                        store64(a0 + 72, r2_14);
+                    }
+                }
+            }
+            if (!r12_2) {
+                rattle_dealloc(r8);
+            }
+        arm_13:;
+            if (r1_5 == 0) {
+                r0_7 = 1;
+            } else {
+                rattle_dealloc(r1_4);
+                r0_7 = 1;
+            }
+        } else {
+            r0_7 = 1;
         }
     } else {
-        if (r2 == r3) {
-            r24 = vec_grow_amortized(a0 + 24, 1);
-            if (!r24) {
-                r0_2 = a2;
-                r0_3 = 1;
-                goto return_7;
-            }
-        }
+        r59 = grow_lone_grow_lone(a0 + 32, a0, a1);
+        r0_7 = r59;
     }
-    r9 = load64(a0 + 32);
-    r15 = load_address(a0 + 24) + (r9 << 4);
-    store64(r15, a1);
-    store64(r15 + 8, a2);
-    r18 = r9 + 1;
-    store64(a0 + 32, r18);
-    r0_2 = r18;
-    r0_3 = 0;
-return_7:;
-    return made_byte_word(r0_3, r0_2);
+return_4:;
+    return r0_7;
 }
 
-// std_alloc::vec::Vec::grow_amortized, in Rattle's library std_alloc
-static COLD bool vec_grow_amortized(char *a0, uint64_t a1) {
-    uint64_t r2, r2_2, a2_a1, x0, common_ret_op_2;
-    bool common_ret_op;
-    struct word_word r0, r0_2, r0_3;
-    r2 = load64(a0 + 8);
-    if (a1 > (r2 ^ UINT64_C(18446744073709551615))) {
-        common_ret_op = false;
-    } else {
-        r2_2 = load64(a0 + 16);
-        a2_a1 = greater(r2 + a1, 4);
-        x0 = greater(a2_a1, r2_2 << 1);
-        common_ret_op_2 = (r2_2 < UINT64_C(4611686018427387904)) ? x0 : a2_a1;
-        if (common_ret_op_2 < UINT64_C(576460752303423488)) {
-            if (r2_2 == 0) {
-                r0 = rattle_alloc(x0 << 4, 8);
+// intmap_table::table::slots::grow_lone::grow_lone, in crates/intmap_table/src/table/slots/grow_lone.rt
+static ALIGNED uint8_t grow_lone_grow_lone(char *a0, char *a1, uint64_t a2) {
+    uint8_t r1, r11, r11_3;
+    char *r6, *r0, *r4, *r15, *r6_5, *r4_2, *r3_3, *r3_6, *r17, *r3_10, *r44, *r11_2, *r66;
+    uint64_t r2_2, r0_2, r6_2, r15_36_0_pr, r6_3, r6_4, r6_6, r2_3, r3, r3_2, r3_4, r3_5, r3_7, r17_2, r33, r54, r60,
+        r3_8, r3_9, r3_11, r27, r0_3, r0_4, r10;
+    char *r2 = (char *)no_bytes;
+    uint64_t r5_room[4];
+    char *r5 = (char *)r5_room;
+    memset(r5, 0, 32);
+    grow_reserve_slots_2(r5, a0, a2);
+    r1 = load8(r5);
+    if (r1 == 0) {
+        r6 = load_address(r5 + 8);
+        r2_2 = load64(a0 + 8);
+        r0 = load_address(a0);
+        r0_2 = load64(a0 + 16);
+        store_address(a0, r2);
+        memset(a0 + 8, 0, 16);
+        if (a2 == r2_2) {
+            store_address(a0, r0);
+            store64(a0 + 8, a2);
+            store64(a0 + 16, r0_2);
+            r6_2 = a2;
+            r4 = r0;
+        } else {
+            memset(r0 + (r2_2 * 24), 0, (a2 - r2_2) * 24);
+            r15 = load_address(a0);
+            r15_36_0_pr = load64(a0 + 16);
+            store_address(a0, r0);
+            store64(a0 + 8, a2);
+            store64(a0 + 16, r0_2);
+            if (r15_36_0_pr == 0) {
+                r6_2 = a2;
+                r4 = r0;
+            } else {
+                rattle_dealloc(r15);
+                r6_2 = load64(a0 + 8);
+                r4 = load_address(a0);
+            }
+        }
+        r6_3 = load64(a1 + 16);
+        if (r6_3 == 0) {
+            r6_4 = 0;
+            r6_5 = (char *)no_bytes;
+            r6_6 = 0;
+        } else {
+            r4_2 = load_address(a1 + 8);
+            r6_4 = load64(r4_2);
+            r6_5 = r4_2 + 8;
+            r6_6 = r6_3 - 1;
+        }
+        r2_3 = r6_2 - 1;
+        r3 = r6_4;
+        r3_2 = 0;
+        r3_3 = r6_5;
+        r3_4 = r6_6;
+        for (;;) {
+            if (r3 == 0) {
+                r3_5 = r3_4;
+                r3_6 = r3_3;
+                r3_7 = r3_2;
+                for (;;) {
+                    if (r3_5 == 0) {
+                        r17 = load_address(a1 + 8);
+                        r17_2 = load64(a1 + 24);
+                        store64(a1, a2 - 1);
+                        store_address(a1 + 8, r6);
+                        memcpy(a1 + 16, r5 + 16, 16);
+                        if (r17_2 == 0) {
+                            goto return_5;
+                        }
+                        rattle_dealloc(r17);
+                        goto return_5;
+                    }
+                    r33 = r3_5 - 1;
+                    r54 = load64(r3_6);
+                    r60 = r3_7 + 64;
+                    if (r54 != 0) {
+                        r3_8 = r54;
+                        r3_9 = r60;
+                        r3_10 = r3_6 + 8;
+                        r3_11 = r33;
+                        break;
+                    }
+                    r3_5 = r33;
+                    r3_6 = r3_6 + 8;
+                    r3_7 = r60;
+                }
+            } else {
+                r3_8 = r3;
+                r3_9 = r3_2;
+                r3_10 = r3_3;
+                r3_11 = r3_4;
+            }
+            r27 = low_zeros(r3_8);
+            r44 = r4 + ((r3_9 + r27) * 24);
+            r0_3 = load_key(r44 + 8);
+            r0_4 = load64(r44 + 16);
+            r11 = load8(r44);
+            memset(r44, 0, 24);
+            if (r11 != 1) {
+                abort();
+            }
+            r10 = (r0_3 * UINT64_C(11400714819323198549)) & r2_3;
+            r11_2 = r6 + ((r10 >> 3) & UINT64_C(2305843009213693944));
+            store64(r11_2, load64(r11_2) | ((uint64_t)1 << (r10 & 63)));
+            r66 = r4 + (r10 * 24);
+            r11_3 = load8(r66);
+            store64(r66, 1);
+            store64(r66 + 8, r0_3);
+            store64(r66 + 16, r0_4);
+            if (r11_3 != 0) {
+                abort();
+            }
+            r3 = (r3_8 - 1) & r3_8;
+            r3_2 = r3_9;
+            r3_3 = r3_10;
+            r3_4 = r3_11;
+        }
+    }
+return_5:;
+    return r1;
+}
+
+// intmap_table::table::slots::grow::reserve_slots, in crates/intmap_table/src/table/slots/grow.rt
+static ALIGNED void grow_reserve_slots_2(char *a0, char *a1, uint64_t a2) {
+    uint64_t r2_2, r19, r2_3, r4_0, r9_2, r19_2, r3, r2_4, r12;
+    struct word_word r0, r0_2, r0_3, r0_4, r0_5;
+    char *r9, *r8;
+    char *r2 = (char *)no_bytes;
+    r2_2 = load64(a1 + 8);
+    r19 = a2 - r2_2;
+    r2_3 = load64(a1 + 16);
+    if (r19 > (r2_3 - r2_2)) {
+        if ((a2 < UINT64_C(384307168202282326)) & (r19 <= (r2_2 ^ UINT64_C(18446744073709551615)))) {
+            if (r2_3 == 0) {
+                r0 = rattle_alloc(a2 * 24, 8);
                 if ((r0.first & 1) == 0) {
-                    common_ret_op = false;
-                    goto common_ret;
+                    goto arm_2;
                 }
                 r0_2 = r0;
             } else {
-                r0_3 = rattle_realloc(load_address(a0), r2 << 4, common_ret_op_2 << 4, 8);
+                r0_3 = rattle_realloc(load_address(a1), r2_2 * 24, a2 * 24, 8);
                 if ((r0_3.first & 1) == 0) {
-                    common_ret_op = false;
-                    goto common_ret;
+                    goto arm_2;
                 }
                 r0_2 = r0_3;
             }
-            store_address(a0, (char *)(uintptr_t)r0_2.second);
-            store64(a0 + 16, common_ret_op_2);
-            common_ret_op = true;
-        } else {
-            common_ret_op = false;
+            store_address(a1, (char *)(uintptr_t)r0_2.second);
+            store64(a1 + 16, a2);
+            goto arm_1;
         }
+    arm_2:;
+        store8(a0, 1);
+        memset(a0 + 8, 0, 24);
+        goto common_ret;
     }
-common_ret:;
-    return common_ret_op;
-}
-
-// intmap_table::table::Table::grow, in crates/intmap_table/src/table/grow.rt
-static ALIGNED uint8_t table_grow(char *a0, uint64_t a1) {
-    char *r1, *r8_2, *r8_4, *r0_3, *r20, *r15, *r9, *r4_2, *r6_3, *r4_3, *r56, *r8_7, *r8_10, *r13, *r4_4, *r6_8,
-        *r4_5, *r3_4, *r3_7, *r27, *r3_11, *r27_4, *r31, *r11_2, *r8_14, *r54_3, *r4_6, *r20_2, *r20_3, *r13_2, *r9_2;
-    uint64_t r1_2, r2_2, r32, r2_3, r8_3, r19, r3, r2_4, r12_2, r22, r0_4, r10_014, r2_5, r32_2, r15_3_0_pr, r15_2,
-        r0_06, r12_3, r6, r6_2, r6_4, r28, x4, r8_5, r8_6, r8_8, r6_0, r8_9, r8_11, r6_5, r6_6, r6_7, r6_9, r2_6,
-        r3_2, r3_3, r3_5, r3_6, r3_8, r27_2, r33, r54, r60, r3_9, r3_10, r3_12, r27_3, r33_2, r40, r0_7, r0_8, r10,
-        r33_3, r54_2, r60_2, r8_12, r8_13, r8_15, r27_5, r33_4, r40_2, r2_7, r76, r6_10, r2_8, r4_04, r41, r89,
-        r6_07, r38, r73, spec_select, r2_9, r2_10, r0_06_2, r12_4, r2_11, r12_5;
-    bool r12, r21, r317, r5_08, r41_2, r5_1;
-    struct word_word r0, r0_2, r0_5, r0_9;
-    uint8_t r0_6, r11, r64;
-    char *r2 = (char *)no_bytes;
-    uint64_t r4_room[3];
-    char *r4 = (char *)r4_room;
-    uint64_t r8_room[4];
-    char *r8 = (char *)r8_room;
-    memset(r4, 0, 24);
-    memset(r8, 0, 32);
-    grow_reserve_slots(r8, a0 + 32, a1);
-    if (load8(r8) == 0) {
-        r1 = load_address(r8 + 8);
-        r1_2 = load64(r8 + 24);
-        r2_2 = load64(a0 + 40);
-        if (r2_2 == 0) {
-            abort();
-        }
-        r32 = a1 / r2_2;
-        r12 = r2_2 > a1;
-        if (!r12) {
-            if (r32 < UINT64_C(1152921504606846976)) {
-                r19 = r32 << 3;
-                r0 = rattle_alloc(r19, 8);
-                if ((r0.first & 1) != 0) {
-                    r8_4 = (char *)(uintptr_t)r0.second;
-                    if (r32 == 1) {
-                        r3 = 0;
-                    } else {
-                        memset(r8_4, 0, r19 - 8);
-                        r3 = r32 - 1;
-                    }
-                    store64(r8_4 + (r3 << 3), 0);
-                    r2_3 = load64(a0 + 40);
-                    r8_2 = r8_4;
-                    r8_3 = r3 + 1;
-                    goto arm_3;
-                }
-                r2_4 = load64(a0 + 40);
-            } else {
-                r2_4 = r2_2;
-            }
-            if (load64(a0 + 48) <= r2_4) {
-                goto arm_7_2;
-            }
-            if (r2_4 == 0) {
-                rattle_dealloc(load_address(a0 + 32));
-                store_address(a0 + 32, r2);
-                memset(a0 + 40, 0, 16);
-                goto arm_7_2;
-            }
-            r12_2 = r2_4 * 48;
-            r0_2 = rattle_realloc(load_address(a0 + 32), r12_2, r12_2, 8);
-            if ((r0_2.first & 1) == 0) {
-                goto arm_7_2;
-            }
-            store_address(a0 + 32, (char *)(uintptr_t)r0_2.second);
-            store64(a0 + 48, r2_4);
-            goto arm_7_2;
-        }
-        r2_3 = r2_2;
-        r8_2 = r2;
-        r8_3 = 0;
-    arm_3:;
-        r22 = a1 - r2_3;
-        r0_3 = load_address(a0 + 32);
-        r0_4 = load64(a0 + 48);
-        store_address(a0 + 32, r2);
-        memset(a0 + 40, 0, 16);
-        if (a1 == r2_3) {
-            store_address(a0 + 32, r0_3);
-            store64(a0 + 40, a1);
-            store64(a0 + 48, r0_4);
-        } else {
-            r10_014 = 0;
-            r2_5 = r2_3;
-            for (;;) {
-                r20 = r0_3 + (r2_5 * 48);
-                memset(r20, 0, 24);
-                store_address(r20 + 24, r2);
-                memset(r20 + 32, 0, 16);
-                r32_2 = r10_014 + 1;
-                if (r32_2 == r22) {
-                    r15 = load_address(a0 + 32);
-                    r15_3_0_pr = load64(a0 + 40);
-                    r15_2 = load64(a0 + 48);
-                    store_address(a0 + 32, r0_3);
-                    store64(a0 + 40, a1);
-                    store64(a0 + 48, r0_4);
-                    if (r15_3_0_pr != 0) {
-                        r0_06 = 0;
-                        for (;;) {
-                            r9 = r15 + (r0_06 * 48);
-                            if (load64(r9 + 40) != 0) {
-                                rattle_dealloc(load_address(r9 + 24));
-                            }
-                            r12_3 = r0_06 + 1;
-                            if (r12_3 == r15_3_0_pr) {
-                                break;
-                            }
-                            r0_06 = r12_3;
-                        }
-                    }
-                    if (r15_2 == 0) {
-                        break;
-                    }
-                    rattle_dealloc(r15);
-                    break;
-                }
-                r10_014 = r32_2;
-                r2_5 = r2_5 + 1;
-            }
-        }
-        r4_2 = load_address(a0 + 32);
-        r6 = load64(a0 + 16);
-        if (r6 == 0) {
-            r6_2 = 0;
-            r6_3 = (char *)no_bytes;
-            r6_4 = 0;
-        } else {
-            r4_3 = load_address(a0 + 8);
-            r6_2 = load64(r4_3);
-            r6_3 = r4_3 + 8;
-            r6_4 = r6 - 1;
-        }
-        r21 = r8_3 == 0;
-        r28 = r8_3 - 1;
-        r317 = r28 == 0;
-        x4 = (r8_3 << 3) - 8;
-        r56 = r8_2 + (r28 << 3);
-        r8_5 = r6_2;
-        r8_6 = 0;
-        r8_7 = r6_3;
-        r8_8 = r6_4;
-        r6_0 = 0;
-        for (;;) {
-            if (r8_5 == 0) {
-                r8_9 = r8_8;
-                r8_10 = r8_7;
-                r8_11 = r8_6;
-                for (;;) {
-                    if (r8_9 == 0) {
-                        if (r6_0 == 0) {
-                            r13 = r2;
-                        } else {
-                            if (r6_0 >= UINT64_C(576460752303423488)) {
-                                goto arm_8;
-                            }
-                            r0_5 = rattle_alloc(r6_0 << 4, 8);
-                            if ((r0_5.first & 1) == 0) {
-                                goto arm_8;
-                            }
-                            r13 = (char *)(uintptr_t)r0_5.second;
-                        }
-                        if (!r12) {
-                            rattle_dealloc(r8_2);
-                        }
-                        store_address(r4, r13);
-                        store64(r4 + 8, 0);
-                        store64(r4 + 16, r6_0);
-                        r4_4 = load_address(a0 + 32);
-                        r6_5 = load64(a0 + 40);
-                        r6_6 = load64(a0 + 16);
-                        if (r6_6 == 0) {
-                            r6_7 = 0;
-                            r6_8 = (char *)no_bytes;
-                            r6_9 = 0;
-                        } else {
-                            r4_5 = load_address(a0 + 8);
-                            r6_7 = load64(r4_5);
-                            r6_8 = r4_5 + 8;
-                            r6_9 = r6_6 - 1;
-                        }
-                        r2_6 = r6_5 - 1;
-                        r3_2 = r6_7;
-                        r3_3 = 0;
-                        r3_4 = r6_8;
-                        r3_5 = r6_9;
-                        for (;;) {
-                            if (r3_2 == 0) {
-                                r3_6 = r3_5;
-                                r3_7 = r3_4;
-                                r3_8 = r3_3;
-                                for (;;) {
-                                    if (r3_6 == 0) {
-                                        r27 = load_address(a0 + 8);
-                                        r27_2 = load64(a0 + 24);
-                                        store64(a0, a1 - 1);
-                                        memcpy(a0 + 8, r8 + 8, 24);
-                                        if (r27_2 != 0) {
-                                            rattle_dealloc(r27);
-                                        }
-                                        if (load64(r4 + 16) == 0) {
-                                            r0_6 = 0;
-                                            goto after_Slots_grow;
-                                        }
-                                        rattle_dealloc(load_address(r4));
-                                        r0_6 = 0;
-                                        goto after_Slots_grow;
-                                    }
-                                    r33 = r3_6 - 1;
-                                    r54 = load64(r3_7);
-                                    r60 = r3_8 + 64;
-                                    if (r54 != 0) {
-                                        r3_9 = r54;
-                                        r3_10 = r60;
-                                        r3_11 = r3_7 + 8;
-                                        r3_12 = r33;
-                                        break;
-                                    }
-                                    r3_6 = r33;
-                                    r3_7 = r3_7 + 8;
-                                    r3_8 = r60;
-                                }
-                            } else {
-                                r3_9 = r3_2;
-                                r3_10 = r3_3;
-                                r3_11 = r3_4;
-                                r3_12 = r3_5;
-                            }
-                            r27_3 = low_zeros(r3_9);
-                            r33_2 = r3_10 + r27_3;
-                            r40 = (r3_9 - 1) & r3_9;
-                            r27_4 = r4_4 + (r33_2 * 48);
-                            if (load64(r27_4 + 32) == 0) {
-                                r0_7 = load_key(r27_4 + 8);
-                                r0_8 = load64(r27_4 + 16);
-                                r11 = load8(r27_4);
-                                memset(r27_4, 0, 24);
-                                if (r11 == 1) {
-                                    r10 = (r0_7 * UINT64_C(11400714819323198549)) & r2_6;
-                                    r31 = r4_4 + (r10 * 48);
-                                    r11_2 = r1 + ((r10 >> 3) & UINT64_C(2305843009213693944));
-                                    store64(r11_2, load64(r11_2) | ((uint64_t)1 << (r10 & 63)));
-                                    store64(r31, 1);
-                                    store64(r31 + 8, r0_7);
-                                    store64(r31 + 16, r0_8);
-                                    goto loop_2_backedge;
-                                }
-                            }
-                            place_move_several(r8 + 8, r4_4, r6_5, r33_2, r4);
-                        loop_2_backedge:;
-                            r3_2 = r40;
-                            r3_3 = r3_10;
-                            r3_4 = r3_11;
-                            r3_5 = r3_12;
-                        }
-                    }
-                    r33_3 = r8_9 - 1;
-                    r54_2 = load64(r8_10);
-                    r60_2 = r8_11 + 64;
-                    if (r54_2 != 0) {
-                        r8_12 = r54_2;
-                        r8_13 = r60_2;
-                        r8_14 = r8_10 + 8;
-                        r8_15 = r33_3;
-                        break;
-                    }
-                    r8_9 = r33_3;
-                    r8_10 = r8_10 + 8;
-                    r8_11 = r60_2;
-                }
-            } else {
-                r8_12 = r8_5;
-                r8_13 = r8_6;
-                r8_14 = r8_7;
-                r8_15 = r8_8;
-            }
-            r27_5 = low_zeros(r8_12);
-            r33_4 = r8_13 + r27_5;
-            r40_2 = (r8_12 - 1) & r8_12;
-            r54_3 = r4_2 + (r33_4 * 48);
-            r2_7 = load64(r54_3 + 32);
-            if (r2_7 > 2) {
-                r76 = load64(a0) + 1;
-                if (r21) {
-                    r6_10 = r2_7;
-                } else {
-                    if (!r317) {
-                        memset(r8_2, 0, x4);
-                    }
-                    store64(r56, 0);
-                    r6_10 = load64(r54_3 + 32);
-                }
-                r4_6 = load_address(r54_3 + 24);
-                if (load8(r54_3) == 1) {
-                    if (r76 == 0) {
-                        abort();
-                    }
-                    r20_2 = r8_2 + ((((load64(r54_3 + 8) * UINT64_C(11400714819323198549)) & ((r76 * r8_3) - 1)) / r76) << 3);
-                    store64(r20_2, load64(r20_2) + 1);
-                }
-                if (r6_10 != 0) {
-                    r2_8 = (r76 * r8_3) - 1;
-                    if (r76 == 0) {
-                        abort();
-                    }
-                    r4_04 = 0;
-                    for (;;) {
-                        r20_3 = r8_2 + ((((load64(r4_6 + (r4_04 << 4)) * UINT64_C(11400714819323198549)) & r2_8) / r76) << 3);
-                        store64(r20_3, load64(r20_3) + 1);
-                        r41 = r4_04 + 1;
-                        if (r41 == r6_10) {
-                            break;
-                        }
-                        r4_04 = r41;
-                    }
-                }
-                r89 = load64(a0) + 1;
-                if (!r21) {
-                    r5_08 = false;
-                    r6_07 = 0;
-                    for (;;) {
-                        r38 = load64(r8_2 + (r6_07 << 3));
-                        r41_2 = r38 > 1;
-                        if (r41_2 ? r5_08 : false) {
-                            r64 = slot_reserve_behind(r4_2 + (((r6_07 * r89) + r33_4) * 48), r38 - 1);
-                            if ((r64 & 1) != 0) {
-                                goto arm_8;
-                            }
-                            r5_1 = true;
-                        } else {
-                            r5_1 = r41_2 ? true : r5_08;
-                        }
-                        r73 = r6_07 + 1;
-                        if (r73 == r8_3) {
-                            break;
-                        }
-                        r5_08 = r5_1;
-                        r6_07 = r73;
-                    }
-                }
-            }
-            spec_select = greater(r6_0, r2_7);
-            r8_5 = r40_2;
-            r8_6 = r8_13;
-            r8_7 = r8_14;
-            r8_8 = r8_15;
-            r6_0 = spec_select;
-        }
-    arm_8:;
-        r2_9 = load64(a0 + 40);
-        r2_10 = load64(a0 + 48);
-        if (r2_9 > r2_2) {
-            r13_2 = load_address(a0 + 32);
-            memset(a0 + 40, 0, 16);
-            r0_06_2 = r2_2;
-            for (;;) {
-                r9_2 = r13_2 + (r0_06_2 * 48);
-                if (load64(r9_2 + 40) != 0) {
-                    rattle_dealloc(load_address(r9_2 + 24));
-                }
-                r12_4 = r0_06_2 + 1;
-                if (r12_4 == r2_9) {
-                    store_address(a0 + 32, r13_2);
-                    store64(a0 + 40, r2_2);
-                    store64(a0 + 48, r2_10);
-                    r2_11 = r2_2;
-                    break;
-                }
-                r0_06_2 = r12_4;
-            }
-        } else {
-            r2_11 = r2_9;
-        }
-        if (r2_10 > r2_11) {
-            if (r2_11 == 0) {
-                rattle_dealloc(load_address(a0 + 32));
-                store_address(a0 + 32, r2);
-                memset(a0 + 40, 0, 16);
-            } else {
-                r12_5 = r2_11 * 48;
-                r0_9 = rattle_realloc(load_address(a0 + 32), r12_5, r12_5, 8);
-                if ((r0_9.first & 1) != 0) {
-                    store_address(a0 + 32, (char *)(uintptr_t)r0_9.second);
-                    store64(a0 + 48, r2_11);
-                }
-            }
-        }
-        if (!r12) {
-            rattle_dealloc(r8_2);
-        }
-    arm_7_2:;
-        if (r1_2 == 0) {
-            r0_6 = 1;
-        } else {
-            rattle_dealloc(r1);
-            r0_6 = 1;
-        }
+arm_1:;
+    r4_0 = (a2 >> 6) + ((uint64_t)((a2 & 63) != 0));
+    if (a2 == 0) {
+        r9 = r2;
+        r9_2 = 0;
     } else {
-        r0_6 = 1;
+        r19_2 = r4_0 << 3;
+        r0_4 = rattle_alloc(r19_2, 8);
+        if ((r0_4.first & 1) == 0) {
+            r2_4 = load64(a1 + 8);
+            if (load64(a1 + 16) > r2_4) {
+                if (r2_4 == 0) {
+                    rattle_dealloc(load_address(a1));
+                    store_address(a1, r2);
+                    memset(a1 + 8, 0, 16);
+                } else {
+                    r12 = r2_4 * 24;
+                    r0_5 = rattle_realloc(load_address(a1), r12, r12, 8);
+                    if ((r0_5.first & 1) != 0) {
+                        store_address(a1, (char *)(uintptr_t)r0_5.second);
+                        store64(a1 + 16, r2_4);
+                    }
+                }
+            }
+            store8(a0, 1);
+            memset(a0 + 8, 0, 24);
+            goto common_ret;
+        }
+        r8 = (char *)(uintptr_t)r0_4.second;
+        if (r4_0 == 1) {
+            r3 = 0;
+        } else {
+            memset(r8, 0, r19_2 - 8);
+            r3 = r4_0 - 1;
+        }
+        store64(r8 + (r3 << 3), 0);
+        r9 = r8;
+        r9_2 = r3 + 1;
     }
-after_Slots_grow:;
-    return r0_6;
+    store8(a0, 0);
+    store_address(a0 + 8, r9);
+    store64(a0 + 16, r9_2);
+    store64(a0 + 24, r4_0);
+common_ret:;
+    return;
 }
 
 // intmap_table::slot::Slot::reserve_behind, in crates/intmap_table/src/slot/room.rt
@@ -1625,82 +2224,22 @@ after_Vec_append:;
     return;
 }
 
-// core::slice::edits::mirror, in Rattle's library core
-static ALIGNED NOINLINE void edits_mirror(char *a0, char *a3, uint64_t a5) {
-    uint64_t r4_04, r41;
-    char *r26, *r36;
-    uint64_t r4_room[2];
-    char *r4 = (char *)r4_room;
-    r4_04 = 0;
-    for (;;) {
-        r26 = a0 + (r4_04 << 4);
-        r36 = a3 + ((a5 + (r4_04 ^ UINT64_C(18446744073709551615))) << 4);
-        memcpy(r4, r26, 16);
-        memmove(r26, r36, 16);
-        memcpy(r36, r4, 16);
-        r41 = r4_04 + 1;
-        if (r41 == a5) {
-            return;
-        }
-        r4_04 = r41;
-    }
-}
-
-// intmap_table::slot::Slot::push, in crates/intmap_table/src/slot/pairs.rt
-static ALIGNED NOINLINE uint8_t slot_push_2(char *a0, uint64_t a1, uint64_t a2) {
-    uint64_t r3, r2, r9;
-    struct word_word r0;
-    uint8_t r0_2;
-    bool r24;
-    char *r15;
-    r3 = load64(a0 + 32);
-    r2 = load64(a0 + 40);
-    if (r3 == 0) {
-        if (r2 == 0) {
-            r0 = rattle_alloc(16, 8);
-            if ((r0.first & 1) == 0) {
-                r0_2 = 1;
-                goto return_7;
-            }
-            store_address(a0 + 24, (char *)(uintptr_t)r0.second);
-            store64(a0 + 40, 1);
-        }
-    } else {
-        if (r2 == r3) {
-            r24 = vec_grow_amortized_2(a0 + 24);
-            if (!r24) {
-                r0_2 = 1;
-                goto return_7;
-            }
-        }
-    }
-    r9 = load64(a0 + 32);
-    r15 = load_address(a0 + 24) + (r9 << 4);
-    store64(r15, a1);
-    store64(r15 + 8, a2);
-    store64(a0 + 32, r9 + 1);
-    r0_2 = 0;
-return_7:;
-    return r0_2;
-}
-
 // std_alloc::vec::Vec::grow_amortized, in Rattle's library std_alloc
-static COLD bool vec_grow_amortized_2(char *a0) {
-    uint64_t r2, r2_2, x0, a2_a1, x1, common_ret_op_2;
+static COLD bool vec_grow_amortized(char *a0, uint64_t a1) {
+    uint64_t r2, r2_2, a2_a1, x0, common_ret_op_2;
     bool common_ret_op;
     struct word_word r0, r0_2, r0_3;
     r2 = load64(a0 + 8);
-    if (r2 == UINT64_C(18446744073709551615)) {
+    if (a1 > (r2 ^ UINT64_C(18446744073709551615))) {
         common_ret_op = false;
     } else {
         r2_2 = load64(a0 + 16);
-        x0 = greater(r2, 3);
-        a2_a1 = x0 + 1;
-        x1 = greater(a2_a1, r2_2 << 1);
-        common_ret_op_2 = (r2_2 < UINT64_C(4611686018427387904)) ? x1 : a2_a1;
+        a2_a1 = greater(r2 + a1, 4);
+        x0 = greater(a2_a1, r2_2 << 1);
+        common_ret_op_2 = (r2_2 < UINT64_C(4611686018427387904)) ? x0 : a2_a1;
         if (common_ret_op_2 < UINT64_C(576460752303423488)) {
             if (r2_2 == 0) {
-                r0 = rattle_alloc(x1 << 4, 8);
+                r0 = rattle_alloc(x0 << 4, 8);
                 if ((r0.first & 1) == 0) {
                     common_ret_op = false;
                     goto common_ret;
@@ -1725,6 +2264,175 @@ common_ret:;
     return common_ret_op;
 }
 
+// core::slice::edits::mirror, in Rattle's library core
+static ALIGNED NOINLINE void edits_mirror(char *a0, char *a3, uint64_t a5) {
+    uint64_t r4_04, r41;
+    char *r26, *r36;
+    uint64_t r4_room[2];
+    char *r4 = (char *)r4_room;
+    r4_04 = 0;
+    for (;;) {
+        r26 = a0 + (r4_04 << 4);
+        r36 = a3 + ((a5 + (r4_04 ^ UINT64_C(18446744073709551615))) << 4);
+        memcpy(r4, r26, 16);
+        memmove(r26, r36, 16);
+        memcpy(r36, r4, 16);
+        r41 = r4_04 + 1;
+        if (r41 == a5) {
+            return;
+        }
+        r4_04 = r41;
+    }
+}
+
+// intmap_table::table::slots::Slots::push_second, in crates/intmap_table/src/table/slots/forms.rt
+static ALIGNED NOINLINE struct byte_word slots_push_second(char *a0, uint64_t a1, uint64_t a2, uint64_t a3) {
+    struct word_word r0, r0_2;
+    char *r8, *r8_2, *r0_3, *r25, *r20, *r17_2, *r9, *r9_2, *r15;
+    uint64_t r3, r0_4, r0_5, r14, r2_2, r17, r27, r17_3, r17_4, r0_06, r12, r0_6, r9_3;
+    uint8_t r0_7;
+    char *r2 = (char *)no_bytes;
+    uint64_t r11_3_room[2];
+    char *r11_3 = (char *)r11_3_room;
+    r0 = rattle_alloc(16, 8);
+    if ((r0.first & 1) != 0) {
+        r8 = (char *)(uintptr_t)r0.second;
+        r3 = load64(a0 + 40);
+        if (r3 != 0) {
+            if (r3 < UINT64_C(192153584101141163)) {
+                r0_2 = rattle_alloc(r3 * 48, 8);
+                if ((r0_2.first & 1) != 0) {
+                    r8_2 = (char *)(uintptr_t)r0_2.second;
+                    r0_3 = load_address(a0 + 32);
+                    r0_4 = load64(a0 + 40);
+                    r0_5 = load64(a0 + 48);
+                    store_address(a0 + 32, r2);
+                    memset(a0 + 40, 0, 16);
+                    if (r0_4 != 0) {
+                        r14 = 0;
+                        r2_2 = r0_4;
+                        for (;;) {
+                            r17 = r2_2 - 1;
+                            r25 = r0_3 + (r14 * 24);
+                            r27 = (uint64_t)load8(r25);
+                            memcpy(r11_3, r25 + 8, 16);
+                            r20 = r8_2 + (r14 * 48);
+                            store64(r20, r27);
+                            memcpy(r20 + 8, r11_3, 16);
+                            store_address(r20 + 24, r2);
+                            memset(r20 + 32, 0, 16);
+                            if (r17 == 0) {
+                                break;
+                            }
+                            r14 = r14 + 1;
+                            r2_2 = r17;
+                        }
+                    }
+                    if (r0_5 != 0) {
+                        rattle_dealloc(r0_3);
+                    }
+                    r17_2 = load_address(a0 + 56);
+                    r17_3 = load64(a0 + 64);
+                    r17_4 = load64(a0 + 72);
+                    store_address(a0 + 56, r8_2);
+                    store64(a0 + 64, r0_4);
+                    store64(a0 + 72, r3);
+                    if (r17_3 != 0) {
+                        r0_06 = 0;
+                        for (;;) {
+                            r9 = r17_2 + (r0_06 * 48);
+                            if (load64(r9 + 40) != 0) {
+                                rattle_dealloc(load_address(r9 + 24));
+                            }
+                            r12 = r0_06 + 1;
+                            if (r12 == r17_3) {
+                                break;
+                            }
+                            r0_06 = r12;
+                        }
+                    }
+                    if (r17_4 == 0) {
+                        goto join_8;
+                    }
+                    rattle_dealloc(r17_2);
+                    goto join_8;
+                }
+            }
+            rattle_dealloc(r8);
+            r0_6 = a3;
+            r0_7 = 1;
+            goto return_5;
+        }
+    join_8:;
+        r9_2 = load_address(a0 + 56) + (a1 * 48);
+        if (load64(r9_2 + 40) == 0) {
+            store_address(r9_2 + 24, r8);
+            store64(r9_2 + 40, 1);
+            store64(r8, a2);
+            store64(r8 + 8, a3);
+            store64(r9_2 + 32, 1);
+            r0_6 = 1;
+            r0_7 = 0;
+        } else {
+            r9_3 = load64(r9_2 + 32);
+            r15 = load_address(r9_2 + 24) + (r9_3 << 4);
+            store64(r15, a2);
+            store64(r15 + 8, a3);
+            store64(r9_2 + 32, r9_3 + 1);
+            rattle_dealloc(r8);
+            r0_6 = 1;
+            r0_7 = 0;
+        }
+    } else {
+        r0_6 = a3;
+        r0_7 = 1;
+    }
+return_5:;
+    return made_byte_word(r0_7, r0_6);
+}
+
+// intmap_table::slot::Slot::push, in crates/intmap_table/src/slot/pairs.rt
+static ALIGNED NOINLINE struct byte_word slot_push(char *a0, uint64_t a1, uint64_t a2) {
+    uint64_t r3, r2, r0_2, r9, r18;
+    struct word_word r0;
+    uint8_t r0_3;
+    bool r24;
+    char *r15;
+    r3 = load64(a0 + 32);
+    r2 = load64(a0 + 40);
+    if (r3 == 0) {
+        if (r2 == 0) {
+            r0 = rattle_alloc(16, 8);
+            if ((r0.first & 1) == 0) {
+                r0_2 = a2;
+                r0_3 = 1;
+                goto return_7;
+            }
+            store_address(a0 + 24, (char *)(uintptr_t)r0.second);
+            store64(a0 + 40, 1);
+        }
+    } else {
+        if (r2 == r3) {
+            r24 = vec_grow_amortized(a0 + 24, 1);
+            if (!r24) {
+                r0_2 = a2;
+                r0_3 = 1;
+                goto return_7;
+            }
+        }
+    }
+    r9 = load64(a0 + 32);
+    r15 = load_address(a0 + 24) + (r9 << 4);
+    store64(r15, a1);
+    store64(r15 + 8, a2);
+    r18 = r9 + 1;
+    store64(a0 + 32, r18);
+    r0_2 = r18;
+    r0_3 = 0;
+return_7:;
+    return made_byte_word(r0_3, r0_2);
+}
+
 // intmap_version, in crates/intmap_c/src/version.rt
 static ALWAYS_INLINE uint32_t do_intmap_version(void) {
     return 10000;
@@ -1738,44 +2446,54 @@ static ALWAYS_INLINE uint64_t do_intmap_capacity(char *map) {
     if (r4 == NULL) {
         r4_0 = 0;
     } else {
-        r4_0 = load64(r4 + 40);
+        r4_0 = load64(r4 + 64) + load64(r4 + 40);
     }
     return r4_0;
 }
 
 // intmap_contains_key, in crates/intmap_c/src/read.rt
 static ALWAYS_INLINE bool do_intmap_contains_key(char *map, uint64_t key) {
-    char *r4, *r11, *r4_2;
-    bool r4_0, r11_2;
-    uint64_t r6, r3_0, r36;
+    char *r4, *r11, *r11_2, *r4_2;
+    bool r4_0, r11_3;
+    uint64_t r10, r6, r3_0, r36;
     r4 = load_address(map);
     if (r4 == NULL) {
         r4_0 = false;
     } else {
-        r11 = load_address(r4 + 32) + ((load64(r4) & (key * UINT64_C(11400714819323198549))) * 48);
-        if (load8(r11) == 1) {
-            if (load64(r11 + 8) == key) {
-                r4_0 = true;
+        r10 = load64(r4) & (key * UINT64_C(11400714819323198549));
+        if (r10 < load64(r4 + 40)) {
+            r11 = load_address(r4 + 32) + (r10 * 24);
+            if (load8(r11) == 1) {
+                r4_0 = load64(r11 + 8) == key;
             } else {
-                r4_2 = load_address(r11 + 24);
-                r6 = load64(r11 + 32);
-                if (r6 == 0) {
-                    r4_0 = false;
-                } else {
-                    r3_0 = 0;
-                    for (;;) {
-                        r11_2 = load64(r4_2 + (r3_0 << 4)) == key;
-                        r36 = r3_0 + 1;
-                        if (r11_2 ? true : (r36 == r6)) {
-                            r4_0 = r11_2;
-                            break;
-                        }
-                        r3_0 = r36;
-                    }
-                }
+                r4_0 = false;
             }
         } else {
-            r4_0 = false;
+            r11_2 = load_address(r4 + 56) + (r10 * 48);
+            if (load8(r11_2) == 1) {
+                if (load64(r11_2 + 8) == key) {
+                    r4_0 = true;
+                } else {
+                    r4_2 = load_address(r11_2 + 24);
+                    r6 = load64(r11_2 + 32);
+                    if (r6 == 0) {
+                        r4_0 = false;
+                    } else {
+                        r3_0 = 0;
+                        for (;;) {
+                            r11_3 = load64(r4_2 + (r3_0 << 4)) == key;
+                            r36 = r3_0 + 1;
+                            if (r11_3 ? true : (r36 == r6)) {
+                                r4_0 = r11_3;
+                                break;
+                            }
+                            r3_0 = r36;
+                        }
+                    }
+                }
+            } else {
+                r4_0 = false;
+            }
         }
     }
     return r4_0;
@@ -1783,12 +2501,14 @@ static ALWAYS_INLINE bool do_intmap_contains_key(char *map, uint64_t key) {
 
 // intmap_equal, in crates/intmap_c/src/read.rt
 static ALWAYS_INLINE bool do_intmap_equal(char *map, char *other) {
-    char *r5, *r8, *r6_3, *r4, *r4_2, *r1, *r1_5, *r1_8, *r1_12, *r1_15, *r8_2, *r1_17, *r1_21, *r7, *r1_23, *r1_27,
-        *r11, *common_ret_op, *r4_3;
+    char *r5, *r8, *r6_3, *r4, *r4_2, *r4_3, *r1, *r1_5, *r1_8, *r1_12, *r1_15, *r26, *r21, *r50, *r1_17, *r1_21,
+        *r7, *r1_23, *r1_27, *r11_2, *r0, *r11_3, *common_ret_op, *r4_4;
     bool r12, r7_0;
-    uint64_t r6, r6_2, r6_4, r1_2, r1_3, r1_4, r1_6, r1_7, r1_9, r1_10, r1_11, r1_13, r33, r54, r60, r1_14, r1_16,
-        r17, r27, r40, r6_5, r1_18, r1_19, r1_20, r1_22, r1_24, r1_25, r1_26, r1_28, r37, r6_6, r3_0, r21, r36;
-    char *r2 = (char *)no_bytes;
+    uint64_t r6, r6_2, r6_4, r6_5, r1_2, r1_3, r1_4, r1_6, r1_7, r1_9, r1_10, r1_11, r1_13, r33, r54, r60, r1_14,
+        r1_16, r17, r27, r33_2, r40, r21_2, r21_4, r1_18, r1_19, r1_20, r1_22, r1_24, r1_25, r1_26, r1_28, r37, r10,
+        r6_6, r3_0, r21_5, r36;
+    uint8_t r3, r21_3, r3_2;
+    char *r11 = (char *)no_bytes;
     r5 = load_address(map);
     r8 = load_address(other);
     r12 = r8 == NULL;
@@ -1799,7 +2519,7 @@ static ALWAYS_INLINE bool do_intmap_equal(char *map, char *other) {
         }
     } else {
         if (!r12) {
-            if (load64(r5 + 56) != load64(r8 + 56)) {
+            if (load64(r5 + 80) != load64(r8 + 80)) {
                 r7_0 = false;
                 goto after_read_intmap_equal;
             }
@@ -1815,7 +2535,9 @@ static ALWAYS_INLINE bool do_intmap_equal(char *map, char *other) {
                 r6_4 = r6 - 1;
             }
             r4_2 = load_address(r5 + 32);
-            r1 = r2;
+            r6_5 = load64(r5 + 40);
+            r4_3 = load_address(r5 + 56);
+            r1 = r11;
             r1_2 = 0;
             r1_3 = r6_2;
             r1_4 = 0;
@@ -1858,22 +2580,36 @@ static ALWAYS_INLINE bool do_intmap_equal(char *map, char *other) {
                             r17 = r1_10;
                         }
                         r27 = low_zeros(r17);
+                        r33_2 = r27 + r1_14;
                         r40 = (r17 - 1) & r17;
-                        r8_2 = r4_2 + ((r27 + r1_14) * 48);
-                        r6_5 = load64(r8_2 + 32);
-                        if (load8(r8_2) == 1) {
-                            r1_17 = load_address(r8_2 + 24);
-                            r1_18 = r6_5;
+                        if (r33_2 < r6_5) {
+                            r26 = r4_2 + (r33_2 * 24);
+                            r3 = load8(r26);
+                            r21 = r11;
+                            r21_2 = 0;
+                            r21_3 = r3;
+                            r21_4 = (r3 == 1) ? ((uint64_t)(uintptr_t)(r26 + 8)) : 0;
+                        } else {
+                            r50 = r4_3 + (r33_2 * 48);
+                            r3_2 = load8(r50);
+                            r21 = load_address(r50 + 24);
+                            r21_2 = load64(r50 + 32);
+                            r21_3 = r3_2;
+                            r21_4 = (r3_2 == 1) ? ((uint64_t)(uintptr_t)(r50 + 8)) : 0;
+                        }
+                        if (r21_3 == 1) {
+                            r1_17 = r21;
+                            r1_18 = r21_2;
                             r1_19 = r40;
                             r1_20 = r1_14;
                             r1_21 = r1_15;
                             r1_22 = r1_16;
-                            r7 = r8_2 + 8;
+                            r7 = (char *)(uintptr_t)r21_4;
                             goto arm_6;
                         }
-                        if (r6_5 != 0) {
-                            r1_23 = load_address(r8_2 + 24);
-                            r1_24 = r6_5;
+                        if (r21_2 != 0) {
+                            r1_23 = r21;
+                            r1_24 = r21_2;
                             r1_25 = r40;
                             r1_26 = r1_14;
                             r1_27 = r1_15;
@@ -1902,36 +2638,51 @@ static ALWAYS_INLINE bool do_intmap_equal(char *map, char *other) {
                 r7 = r1_23;
             arm_6:;
                 r37 = load_key(r7);
-                r11 = load_address(r8 + 32) + ((load64(r8) & (r37 * UINT64_C(11400714819323198549))) * 48);
-                if (load8(r11) != 1) {
-                    r7_0 = false;
-                    goto after_read_intmap_equal;
-                }
-                if (load64(r11 + 8) == r37) {
-                    common_ret_op = r11 + 8;
-                } else {
-                    r4_3 = load_address(r11 + 24);
-                    r6_6 = load64(r11 + 32);
-                    if (r6_6 == 0) {
+                r10 = load64(r8) & (r37 * UINT64_C(11400714819323198549));
+                if (r10 < load64(r8 + 40)) {
+                    r11_2 = load_address(r8 + 32) + (r10 * 24);
+                    if (load8(r11_2) != 1) {
                         r7_0 = false;
                         goto after_read_intmap_equal;
                     }
-                    r3_0 = 0;
-                    for (;;) {
-                        r21 = r3_0 << 4;
-                        if (load64(r4_3 + r21) == r37) {
-                            common_ret_op = r4_3 + r21;
-                            break;
-                        }
-                        r36 = r3_0 + 1;
-                        if (r36 == r6_6) {
+                    if (load64(r11_2 + 8) != r37) {
+                        r7_0 = false;
+                        goto after_read_intmap_equal;
+                    }
+                    r0 = r11_2 + 16;
+                } else {
+                    r11_3 = load_address(r8 + 56) + (r10 * 48);
+                    if (load8(r11_3) != 1) {
+                        r7_0 = false;
+                        goto after_read_intmap_equal;
+                    }
+                    if (load64(r11_3 + 8) == r37) {
+                        common_ret_op = r11_3 + 8;
+                    } else {
+                        r4_4 = load_address(r11_3 + 24);
+                        r6_6 = load64(r11_3 + 32);
+                        if (r6_6 == 0) {
                             r7_0 = false;
                             goto after_read_intmap_equal;
                         }
-                        r3_0 = r36;
+                        r3_0 = 0;
+                        for (;;) {
+                            r21_5 = r3_0 << 4;
+                            if (load64(r4_4 + r21_5) == r37) {
+                                common_ret_op = r4_4 + r21_5;
+                                break;
+                            }
+                            r36 = r3_0 + 1;
+                            if (r36 == r6_6) {
+                                r7_0 = false;
+                                goto after_read_intmap_equal;
+                            }
+                            r3_0 = r36;
+                        }
                     }
+                    r0 = common_ret_op + 8;
                 }
-                if (load64(r7 + 8) != load64(common_ret_op + 8)) {
+                if (load64(r7 + 8) != load64(r0)) {
                     r7_0 = false;
                     goto after_read_intmap_equal;
                 }
@@ -1988,7 +2739,7 @@ static ALWAYS_INLINE uint64_t do_intmap_len(char *map) {
     if (r4 == NULL) {
         r4_0 = 0;
     } else {
-        r4_0 = load64(r4 + 56);
+        r4_0 = load64(r4 + 80);
     }
     return r4_0;
 }
@@ -2001,27 +2752,46 @@ static ALWAYS_INLINE uint64_t do_intmap_load_factor(char *map) {
     if (r4 == NULL) {
         r4_0 = 0;
     } else {
-        r4_0 = load64(r4 + 72);
+        r4_0 = load64(r4 + 96);
     }
     return r4_0;
 }
 
 // intmap_get, in crates/intmap_c/src/read.rt
 static ALWAYS_INLINE struct word_word do_intmap_get(char *map, uint64_t key) {
-    char *r4, *r11, *common_ret_op, *r4_3;
-    uint64_t r4_2, r14, r6, r3_0, r21, r36;
+    char *r4, *r11, *r0, *r11_2, *common_ret_op, *r4_3;
+    uint64_t r4_2, r14, r10, r6, r3_0, r21, r36;
     r4 = load_address(map);
     if (r4 == NULL) {
         r4_2 = 0;
         r14 = UINT64_C(4294967293);
     } else {
-        r11 = load_address(r4 + 32) + ((load64(r4) & (key * UINT64_C(11400714819323198549))) * 48);
-        if (load8(r11) == 1) {
-            if (load64(r11 + 8) == key) {
-                common_ret_op = r11 + 8;
+        r10 = load64(r4) & (key * UINT64_C(11400714819323198549));
+        if (r10 < load64(r4 + 40)) {
+            r11 = load_address(r4 + 32) + (r10 * 24);
+            if (load8(r11) != 1) {
+                r4_2 = 0;
+                r14 = 0;
+                goto after_read_intmap_get;
+            }
+            if (load64(r11 + 8) != key) {
+                r4_2 = 0;
+                r14 = 0;
+                goto after_read_intmap_get;
+            }
+            r0 = r11 + 16;
+        } else {
+            r11_2 = load_address(r4 + 56) + (r10 * 48);
+            if (load8(r11_2) != 1) {
+                r4_2 = 0;
+                r14 = 0;
+                goto after_read_intmap_get;
+            }
+            if (load64(r11_2 + 8) == key) {
+                common_ret_op = r11_2 + 8;
             } else {
-                r4_3 = load_address(r11 + 24);
-                r6 = load64(r11 + 32);
+                r4_3 = load_address(r11_2 + 24);
+                r6 = load64(r11_2 + 32);
                 if (r6 == 0) {
                     r4_2 = 0;
                     r14 = 0;
@@ -2043,12 +2813,10 @@ static ALWAYS_INLINE struct word_word do_intmap_get(char *map, uint64_t key) {
                     r3_0 = r36;
                 }
             }
-            r4_2 = load64(common_ret_op + 8);
-            r14 = 1;
-        } else {
-            r4_2 = 0;
-            r14 = 0;
+            r0 = common_ret_op + 8;
         }
+        r4_2 = load64(r0);
+        r14 = 1;
     }
 after_read_intmap_get:;
     return made_word_word(r4_2, r14);
@@ -2056,45 +2824,64 @@ after_read_intmap_get:;
 
 // intmap_clone, in crates/intmap_c/src/read.rt
 static ALWAYS_INLINE uint32_t do_intmap_clone(char *map, char *to) {
-    char *r6, *r14, *r4, *r9_45_0_ph34, *r8, *r23, *r4_2, *r90, *r4_3, *r17, *r8_2, *r52, *r15, *r9_3, *r20;
+    char *r6, *r25, *r32, *r4, *r9_45_0_ph34, *r8, *r39, *r4_2, *r137, *r18_2, *r4_3, *r181, *r4_4, *r17, *r8_2,
+        *r52, *r15, *r9_3, *r20;
     uint32_t r5_0, r19_2;
-    uint64_t r2_2, r6_2, r7_pre_phi33, r19, r0_05, r18, r30, r6_3, r8_0204, r87, r9, r9_2, r6_4, r7_052, r49, r2_3,
-        r66, r0_06, r12_3, r119, r120, r21, r23_2, r25;
-    bool r12, r12_2;
-    struct word_word r0, r0_2, r0_3;
-    uint8_t r32;
+    uint64_t r2_2, r2_3, r6_2, r7_pre_phi33, r19, r0_05, r18, r30, r6_3, r12_0445, r134, r6_4, r6_5, r160, r6_6,
+        r17_0448, r178, r9, r9_2, r6_7, r7_052, r49, r2_4, r66, r0_06, r12_4, r210, r211, r21, r23, r25_2;
+    bool r12, r12_2, r12_3;
+    struct word_word r0, r0_2, r0_3, r0_4;
+    uint8_t r16, r32_2;
     char *r2 = (char *)no_bytes;
-    uint64_t r7_room[11];
+    uint64_t r7_room[14];
     char *r7 = (char *)r7_room;
     r6 = load_address(map);
-    memset(r7, 0, 88);
+    memset(r7, 0, 112);
     if (r6 == NULL) {
         r5_0 = 4294967293u;
     } else {
         r2_2 = load64(r6 + 40);
         r12 = r2_2 == 0;
         if (r12) {
-            r14 = r2;
+            r25 = r2;
         } else {
-            if (r2_2 >= UINT64_C(192153584101141163)) {
+            if (r2_2 >= UINT64_C(384307168202282326)) {
                 goto arm_2_2;
             }
-            r0 = rattle_alloc(r2_2 * 48, 8);
+            r0 = rattle_alloc(r2_2 * 24, 8);
             if ((r0.first & 1) == 0) {
                 goto arm_2_2;
             }
-            r14 = (char *)(uintptr_t)r0.second;
+            r25 = (char *)(uintptr_t)r0.second;
         }
+        r2_3 = load64(r6 + 64);
+        r12_2 = r2_3 == 0;
+        if (!r12_2) {
+            if (r2_3 < UINT64_C(192153584101141163)) {
+                r0_2 = rattle_alloc(r2_3 * 48, 8);
+                if ((r0_2.first & 1) != 0) {
+                    r32 = (char *)(uintptr_t)r0_2.second;
+                    goto arm_5;
+                }
+            }
+            if (r12) {
+                goto arm_2_2;
+            }
+            rattle_dealloc(r25);
+            goto arm_2_2;
+        }
+        r32 = r2;
+    arm_5:;
         r4 = load_address(r6 + 8);
         r6_2 = load64(r6 + 16);
-        r12_2 = r6_2 == 0;
-        if (!r12_2) {
+        r12_3 = r6_2 == 0;
+        if (!r12_3) {
             if (r6_2 < UINT64_C(1152921504606846976)) {
                 r19 = r6_2 << 3;
-                r0_2 = rattle_alloc(r19, 8);
-                if ((r0_2.first & 1) != 0) {
-                    r8 = (char *)(uintptr_t)r0_2.second;
-                    if ((r0_2.second - ((uint64_t)(uintptr_t)r4)) >= r19) {
+                r0_3 = rattle_alloc(r19, 8);
+                if ((r0_3.first & 1) != 0) {
+                    r8 = (char *)(uintptr_t)r0_3.second;
+                    if ((r0_3.second - ((uint64_t)(uintptr_t)r4)) >= r19) {
                         r9_45_0_ph34 = r8;
                         r7_pre_phi33 = r19;
                         goto apart_2;
@@ -2105,124 +2892,159 @@ static ALWAYS_INLINE uint32_t do_intmap_clone(char *map, char *to) {
                         store64(r8 + r18, load64(r4 + r18));
                         r30 = r0_05 + 1;
                         if (r30 == r6_2) {
-                            r23 = r8;
-                            goto arm_5;
+                            r39 = r8;
+                            goto arm_8;
                         }
                         r0_05 = r30;
                     }
                 }
             }
+            if (!r12_2) {
+                rattle_dealloc(r32);
+            }
             if (r12) {
                 goto arm_2_2;
             }
-            rattle_dealloc(r14);
+            rattle_dealloc(r25);
             goto arm_2_2;
         }
         r9_45_0_ph34 = r2;
         r7_pre_phi33 = 0;
     apart_2:;
         memmove(r9_45_0_ph34, r4, r7_pre_phi33);
-        r23 = r9_45_0_ph34;
-    arm_5:;
+        r39 = r9_45_0_ph34;
+    arm_8:;
         r4_2 = load_address(r6 + 32);
         r6_3 = load64(r6 + 40);
         if (r6_3 != 0) {
-            r8_0204 = 0;
+            r12_0445 = 0;
             for (;;) {
-                r87 = r8_0204 * 48;
-                r90 = r4_2 + r87;
-                r32 = load8(r90);
-                if (r32 == 1) {
-                    r9 = load64(r90 + 8);
-                    r9_2 = load64(r90 + 16);
+                r134 = r12_0445 * 24;
+                r137 = r4_2 + r134;
+                r16 = load8(r137);
+                if (r16 == 1) {
+                    r6_4 = load64(r137 + 8);
+                    r6_5 = load64(r137 + 16);
+                } else {
+                    r6_4 = 0;
+                    r6_5 = 0;
+                }
+                r18_2 = r25 + r134;
+                store64(r18_2, (uint64_t)r16);
+                store64(r18_2 + 8, r6_4);
+                store64(r18_2 + 16, r6_5);
+                r160 = r12_0445 + 1;
+                if (r160 == r6_3) {
+                    break;
+                }
+                r12_0445 = r160;
+            }
+        }
+        r4_3 = load_address(r6 + 56);
+        r6_6 = load64(r6 + 64);
+        if (r6_6 != 0) {
+            r17_0448 = 0;
+            for (;;) {
+                r178 = r17_0448 * 48;
+                r181 = r4_3 + r178;
+                r32_2 = load8(r181);
+                if (r32_2 == 1) {
+                    r9 = load64(r181 + 8);
+                    r9_2 = load64(r181 + 16);
                 } else {
                     r9 = 0;
                     r9_2 = 0;
                 }
-                r4_3 = load_address(r90 + 24);
-                r6_4 = load64(r90 + 32);
-                if (r6_4 != 0) {
-                    if (r6_4 < UINT64_C(576460752303423488)) {
-                        r0_3 = rattle_alloc(r6_4 << 4, 8);
-                        if ((r0_3.first & 1) != 0) {
-                            r8_2 = (char *)(uintptr_t)r0_3.second;
+                r4_4 = load_address(r181 + 24);
+                r6_7 = load64(r181 + 32);
+                if (r6_7 != 0) {
+                    if (r6_7 < UINT64_C(576460752303423488)) {
+                        r0_4 = rattle_alloc(r6_7 << 4, 8);
+                        if ((r0_4.first & 1) != 0) {
+                            r8_2 = (char *)(uintptr_t)r0_4.second;
                             r7_052 = 0;
                             for (;;) {
                                 r49 = r7_052 << 4;
-                                r52 = r4_3 + r49;
+                                r52 = r4_4 + r49;
                                 r15 = r8_2 + r49;
-                                r2_3 = load64(r52 + 8);
+                                r2_4 = load64(r52 + 8);
                                 store64(r15, load64(r52));
-                                store64(r15 + 8, r2_3);
+                                store64(r15 + 8, r2_4);
                                 r66 = r7_052 + 1;
-                                if (r66 == r6_4) {
+                                if (r66 == r6_7) {
                                     r17 = r8_2;
-                                    goto arm_14;
+                                    goto arm_26;
                                 }
                                 r7_052 = r66;
                             }
                         }
                     }
-                    if (!r12_2) {
-                        rattle_dealloc(r23);
+                    if (!r12_3) {
+                        rattle_dealloc(r39);
                     }
-                    if (r8_0204 != 0) {
+                    if (r17_0448 != 0) {
                         r0_06 = 0;
                         for (;;) {
-                            r9_3 = r14 + (r0_06 * 48);
+                            r9_3 = r32 + (r0_06 * 48);
                             if (load64(r9_3 + 40) != 0) {
                                 rattle_dealloc(load_address(r9_3 + 24));
                             }
-                            r12_3 = r0_06 + 1;
-                            if (r12_3 == r8_0204) {
+                            r12_4 = r0_06 + 1;
+                            if (r12_4 == r17_0448) {
                                 break;
                             }
-                            r0_06 = r12_3;
+                            r0_06 = r12_4;
                         }
+                    }
+                    if (!r12_2) {
+                        rattle_dealloc(r32);
                     }
                     if (r12) {
                         goto arm_2_2;
                     }
-                    rattle_dealloc(r14);
+                    rattle_dealloc(r25);
                     goto arm_2_2;
                 }
                 r17 = r2;
-            arm_14:;
-                r20 = r14 + r87;
-                store64(r20, (uint64_t)r32);
+            arm_26:;
+                r20 = r32 + r178;
+                store64(r20, (uint64_t)r32_2);
                 store64(r20 + 8, r9);
                 store64(r20 + 16, r9_2);
                 store_address(r20 + 24, r17);
-                store64(r20 + 32, r6_4);
-                store64(r20 + 40, r6_4);
-                r119 = r8_0204 + 1;
-                if (r119 == r6_3) {
+                store64(r20 + 32, r6_7);
+                store64(r20 + 40, r6_7);
+                r210 = r17_0448 + 1;
+                if (r210 == r6_6) {
                     break;
                 }
-                r8_0204 = r119;
+                r17_0448 = r210;
             }
         }
-        r120 = load64(r6);
-        r21 = load64(r6 + 56);
-        r23_2 = load64(r6 + 64);
-        r25 = load64(r6 + 72);
+        r211 = load64(r6);
+        r21 = load64(r6 + 80);
+        r23 = load64(r6 + 88);
+        r25_2 = load64(r6 + 96);
         store8(r7, 0);
         store8(r7 + 1, 0);
-        store64(r7 + 8, r120);
-        store_address(r7 + 16, r23);
+        store64(r7 + 8, r211);
+        store_address(r7 + 16, r39);
         store64(r7 + 24, r6_2);
         store64(r7 + 32, r6_2);
-        store_address(r7 + 40, r14);
+        store_address(r7 + 40, r25);
         store64(r7 + 48, r6_3);
         store64(r7 + 56, r2_2);
-        store64(r7 + 64, r21);
-        store64(r7 + 72, r23_2);
-        store64(r7 + 80, r25);
+        store_address(r7 + 64, r32);
+        store64(r7 + 72, r6_6);
+        store64(r7 + 80, r2_3);
+        store64(r7 + 88, r21);
+        store64(r7 + 96, r23);
+        store64(r7 + 104, r25_2);
         goto after_IntMap_clone;
     arm_2_2:;
         store8(r7, 1);
         store8(r7 + 1, 0);
-        memset(r7 + 8, 0, 80);
+        memset(r7 + 8, 0, 104);
     after_IntMap_clone:;
         r19_2 = make_keep(to, r7);
         r5_0 = r19_2;
@@ -2233,16 +3055,16 @@ static ALWAYS_INLINE uint32_t do_intmap_clone(char *map, char *to) {
 // intmap_new, in crates/intmap_c/src/make.rt
 static ALWAYS_INLINE uint32_t do_intmap_new(char *map) {
     uint32_t r5;
-    uint64_t r0_room[11];
+    uint64_t r0_room[14];
     char *r0 = (char *)r0_room;
-    uint64_t r3_room[11];
+    uint64_t r3_room[14];
     char *r3 = (char *)r3_room;
     store64(r3, 0);
-    memset(r0, 0, 88);
+    memset(r0, 0, 112);
     intmap_with_slots(r0, 4);
     store8(r3, load8(r0));
     store8(r3 + 1, load8(r0 + 1));
-    memcpy(r3 + 8, r0 + 8, 80);
+    memcpy(r3 + 8, r0 + 8, 104);
     r5 = make_keep(map, r3);
     return r5;
 }
@@ -2252,14 +3074,14 @@ static ALWAYS_INLINE uint32_t do_intmap_with_capacity(char *map, uint64_t capaci
     uint8_t sink1, sink, x0, x1;
     uint64_t a0_a1, r13;
     uint32_t r5;
-    uint64_t r0_room[11];
+    uint64_t r0_room[14];
     char *r0 = (char *)r0_room;
-    uint64_t r3_room[11];
+    uint64_t r3_room[14];
     char *r3 = (char *)r3_room;
-    memset(r3, 0, 88);
-    memset(r0, 0, 88);
+    memset(r3, 0, 112);
+    memset(r0, 0, 112);
     if (capacity > UINT64_C(9223372036854775808)) {
-        memset(r3 + 8, 0, 80);
+        memset(r3 + 8, 0, 104);
         sink1 = 1;
         sink = 1;
     } else {
@@ -2268,7 +3090,7 @@ static ALWAYS_INLINE uint32_t do_intmap_with_capacity(char *map, uint64_t capaci
         intmap_with_slots(r0, (uint64_t)1 << ((uint64_t)64 - r13));
         x0 = load8(r0);
         x1 = load8(r0 + 1);
-        memcpy(r3 + 8, r0 + 8, 80);
+        memcpy(r3 + 8, r0 + 8, 104);
         sink1 = x0;
         sink = x1;
     }
@@ -2280,27 +3102,27 @@ static ALWAYS_INLINE uint32_t do_intmap_with_capacity(char *map, uint64_t capaci
 
 // intmap_step, in crates/intmap_c/src/read.rt
 static ALWAYS_INLINE char *do_intmap_step(char *found, char *map, char *at) {
-    char *r5, *r4, *r11, *common_ret_op;
-    uint64_t r6, r6_2, r1455, r1910, r2, r2_2, r1910_2, r1459, r39, r1_0, r46, r59, r2_0, r1_0_2, r63, r69, r27, r60,
-        r1910_3, r2_3;
+    char *r5, *r4, *r4_2, *r11, *r7, *r7_2, *r11_2, *common_ret_op_ph81;
+    uint64_t r6, r6_2, r1496, r1910, r2, r2_2, r1910_2, r14100, r39, r1_0, r46, r59, r2_0, r1_0_2, r63, r69, r27, r8,
+        r27_2, r60, r1910_3, r2_4;
     uint32_t r6_3;
-    uint8_t r4_2;
+    uint8_t r2_3, r4_3;
     r5 = load_address(map);
     if (r5 == NULL) {
         r6 = 0;
         r6_2 = 0;
         r6_3 = 4294967293u;
     } else {
-        r1455 = load64(at);
-        r1910 = r1455 >> 6;
+        r1496 = load64(at);
+        r1910 = r1496 >> 6;
         r2 = load64(r5 + 16);
         if (r2 > r1910) {
             r2_2 = r2;
             r1910_2 = r1910;
-            r1459 = r1455;
+            r14100 = r1496;
             for (;;) {
                 r4 = load_address(r5 + 8);
-                r39 = load64(r4 + (r1910_2 << 3)) & (UINT64_C(18446744073709551615) << (r1459 & 63));
+                r39 = load64(r4 + (r1910_2 << 3)) & (UINT64_C(18446744073709551615) << (r14100 & 63));
                 if (r39 == 0) {
                     r1_0 = r1910_2;
                     for (;;) {
@@ -2326,41 +3148,63 @@ static ALWAYS_INLINE char *do_intmap_step(char *found, char *map, char *at) {
                 r63 = low_zeros(r2_0);
                 r69 = (r1_0_2 << 6) | r63;
                 store64(at, r69);
-                r11 = load_address(r5 + 32) + (r69 * 48);
-                r4_2 = load8(r11);
-                if (r4_2 != 0) {
-                    r27 = load64(at + 8);
-                    if (r27 < (load64(r11 + 32) + 1)) {
-                        if (r27 == 0) {
-                            if (r4_2 != 1) {
-                                abort();
-                            }
-                            common_ret_op = r11 + 8;
-                        } else {
-                            common_ret_op = (load_address(r11 + 24) + (r27 << 4)) - 16;
+                r27 = load64(at + 8);
+                if (r69 < load64(r5 + 40)) {
+                    r4_2 = load_address(r5 + 32);
+                    r8 = r69 * 24;
+                    r2_3 = load8(r4_2 + r8);
+                    if ((r27 == 0) & (r2_3 != 0)) {
+                        if (r2_3 != 1) {
+                            abort();
                         }
-                        store64(at + 8, r27 + 1);
-                        store64(at + 16, load64(at + 16) + 1);
-                        r6 = load64(common_ret_op);
-                        r6_2 = load64(common_ret_op + 8);
-                        r6_3 = 1;
-                        break;
+                        r11 = r4_2 + r8;
+                        r27_2 = 1;
+                        r7 = r11 + 8;
+                        r7_2 = r11 + 16;
+                        goto arm_5_2;
+                    }
+                } else {
+                    r11_2 = load_address(r5 + 56) + (r69 * 48);
+                    r4_3 = load8(r11_2);
+                    if (r4_3 != 0) {
+                        if ((load64(r11_2 + 32) + 1) > r27) {
+                            if (r27 == 0) {
+                                if (r4_3 != 1) {
+                                    abort();
+                                }
+                                common_ret_op_ph81 = r11_2 + 8;
+                            } else {
+                                common_ret_op_ph81 = (load_address(r11_2 + 24) + (r27 << 4)) - 16;
+                            }
+                            r27_2 = r27 + 1;
+                            r7 = common_ret_op_ph81;
+                            r7_2 = common_ret_op_ph81 + 8;
+                            goto arm_5_2;
+                        }
                     }
                 }
                 r60 = r69 + 1;
                 store64(at, r60);
                 store64(at + 8, 0);
                 r1910_3 = r60 >> 6;
-                r2_3 = load64(r5 + 16);
-                if (r2_3 <= r1910_3) {
-                    r6 = 0;
-                    r6_2 = 0;
-                    r6_3 = 0;
-                    break;
+                r2_4 = load64(r5 + 16);
+                if (r2_4 > r1910_3) {
+                    r2_2 = r2_4;
+                    r1910_2 = r1910_3;
+                    r14100 = r60;
+                    continue;
                 }
-                r2_2 = r2_3;
-                r1910_2 = r1910_3;
-                r1459 = r60;
+                r6 = 0;
+                r6_2 = 0;
+                r6_3 = 0;
+                break;
+            arm_5_2:;
+                store64(at + 8, r27_2);
+                store64(at + 16, load64(at + 16) + 1);
+                r6 = load64(r7);
+                r6_2 = load64(r7_2);
+                r6_3 = 1;
+                break;
             }
         } else {
             r6 = 0;
@@ -2378,86 +3222,67 @@ after_read_intmap_step:;
 
 // intmap_add, in crates/intmap_c/src/pairs.rt
 static ALWAYS_INLINE struct word_word do_intmap_add(char *map, uint64_t key, uint64_t more) {
-    uint64_t r3, r6, r19, r6_2, r3_0, r21, r36, r19_2, r3_2, r4_5, r4_6, r4_7, r0_06, r12;
-    char *x0, *r11, *r4, *r4_2, *x2, *r4_3, *r4_4, *r9;
+    uint64_t r3, r6, r19, r10, r6_2, r3_0, r21, r36, r19_2, r3_2;
+    char *x0, *r11, *r4, *r11_2, *r4_2;
     r3 = load64(map);
     store64(map, 0);
+    x0 = (char *)(uintptr_t)r3;
     if (r3 == 0) {
         r6 = 0;
         r19 = UINT64_C(4294967293);
     } else {
-        x0 = (char *)(uintptr_t)r3;
-        r11 = load_address(x0 + 32) + ((load64(x0) & (key * UINT64_C(11400714819323198549))) * 48);
-        if (load8(r11) == 1) {
-            if (load64(r11 + 8) == key) {
-                r4 = r11 + 16;
-            } else {
-                r4_2 = load_address(r11 + 24);
-                r6_2 = load64(r11 + 32);
-                if (r6_2 == 0) {
-                    goto after_pairs_add;
-                }
-                r3_0 = 0;
-                for (;;) {
-                    r21 = r3_0 << 4;
-                    if (load64(r4_2 + r21) == key) {
-                        r4 = (r4_2 + r21) + 8;
-                        break;
-                    }
-                    r36 = r3_0 + 1;
-                    if (r36 == r6_2) {
-                        goto after_pairs_add;
-                    }
-                    r3_0 = r36;
+        r10 = load64(x0) & (key * UINT64_C(11400714819323198549));
+        if (r10 < load64(x0 + 40)) {
+            r11 = load_address(x0 + 32) + (r10 * 24);
+            if (load8(r11) == 1) {
+                if (load64(r11 + 8) == key) {
+                    r4 = r11 + 16;
+                    goto after_pairs_add_2;
                 }
             }
-            r19_2 = load64(r4);
-            store64(r4, r19_2 + more);
-            r3_2 = load64(map);
-            store64(map, r3);
-            if (r3_2 == 0) {
-                r6 = r19_2;
-                r19 = 1;
-                goto after_pairs_intmap_add;
-            }
-            x2 = (char *)(uintptr_t)r3_2;
-            r4_3 = load_address(x2 + 8);
-            r4_4 = load_address(x2 + 32);
-            r4_5 = load64(x2 + 40);
-            r4_6 = load64(x2 + 48);
-            r4_7 = load64(x2 + 24);
-            rattle_dealloc(x2);
-            if (r4_7 != 0) {
-                rattle_dealloc(r4_3);
-            }
-            if (r4_5 != 0) {
-                r0_06 = 0;
-                for (;;) {
-                    r9 = r4_4 + (r0_06 * 48);
-                    if (load64(r9 + 40) != 0) {
-                        rattle_dealloc(load_address(r9 + 24));
+        } else {
+            r11_2 = load_address(x0 + 56) + (r10 * 48);
+            if (load8(r11_2) == 1) {
+                if (load64(r11_2 + 8) == key) {
+                    r4 = r11_2 + 16;
+                    goto after_pairs_add_2;
+                }
+                r4_2 = load_address(r11_2 + 24);
+                r6_2 = load64(r11_2 + 32);
+                if (r6_2 != 0) {
+                    r3_0 = 0;
+                    for (;;) {
+                        r21 = r3_0 << 4;
+                        if (load64(r4_2 + r21) == key) {
+                            r4 = (r4_2 + r21) + 8;
+                            goto after_pairs_add_2;
+                        }
+                        r36 = r3_0 + 1;
+                        if (r36 == r6_2) {
+                            break;
+                        }
+                        r3_0 = r36;
                     }
-                    r12 = r0_06 + 1;
-                    if (r12 == r4_5) {
-                        break;
-                    }
-                    r0_06 = r12;
                 }
             }
-            if (r4_6 == 0) {
-                r6 = r19_2;
-                r19 = 1;
-                goto after_pairs_intmap_add;
-            }
-            rattle_dealloc(r4_4);
-            r6 = r19_2;
-            r19 = 1;
-            goto after_pairs_intmap_add;
         }
-    after_pairs_add:;
         store64(map, r3);
         r6 = 0;
         r19 = 0;
+        goto after_pairs_intmap_add;
+    after_pairs_add_2:;
+        r19_2 = load64(r4);
+        store64(r4, r19_2 + more);
+        r3_2 = load64(map);
+        store64(map, r3);
+        if (r3_2 == 0) {
+            r6 = r19_2;
+            r19 = 1;
+        } else {
+            box_drop((char *)(uintptr_t)r3_2);
+            r6 = r19_2;
+            r19 = 1;
+        }
     }
 after_pairs_intmap_add:;
     return made_word_word(r6, r19);
@@ -2465,11 +3290,12 @@ after_pairs_intmap_add:;
 
 // intmap_add_or_insert, in crates/intmap_c/src/pairs.rt
 static ALWAYS_INLINE struct word_word do_intmap_add_or_insert(char *map, uint64_t key, uint64_t more) {
-    uint64_t r3, r6, r10, r6_2, r3_0, r21, r36, r2937, r8, r28, r44, r16, r20, r3_2, r4_4, r4_5, r4_6, r0_06, r12_2,
-        r0_2_8_ext;
-    char *x0, *r11, *r2937_in, *r4, *r11_2, *x10, *r4_2, *r4_3, *r9;
-    uint32_t r19, r40, x9;
-    uint8_t r29;
+    uint64_t r3, r6, r10, r6_2, r3_0, r21, r36, r28, r44, r8, r8_2, r16_2, r20, r2933, r3_2, r0_2_8_ext;
+    char *x0, *r11, *r2933_in, *r11_2, *r4, *r11_3, *r9, *r9_2, *r11_5;
+    uint32_t r19, x12, r40;
+    bool r16;
+    struct byte_word r53, r53_2, r86;
+    uint8_t r11_4;
     uint64_t r12_room[4];
     char *r12 = (char *)r12_room;
     r3 = load64(map);
@@ -2480,61 +3306,87 @@ static ALWAYS_INLINE struct word_word do_intmap_add_or_insert(char *map, uint64_
         r19 = 4294967293u;
     } else {
         r10 = load64(x0) & (key * UINT64_C(11400714819323198549));
-        r11 = load_address(x0 + 32) + (r10 * 48);
-        if (load8(r11) == 1) {
-            if (load64(r11 + 8) == key) {
-                r2937_in = r11 + 16;
-            } else {
-                r4 = load_address(r11 + 24);
-                r6_2 = load64(r11 + 32);
-                if (r6_2 == 0) {
-                    goto arm_2_2;
-                }
-                r3_0 = 0;
-                for (;;) {
-                    r21 = r3_0 << 4;
-                    if (load64(r4 + r21) == key) {
-                        r2937_in = (r4 + r21) + 8;
-                        break;
-                    }
-                    r36 = r3_0 + 1;
-                    if (r36 == r6_2) {
-                        goto arm_2_2;
-                    }
-                    r3_0 = r36;
+        r16 = r10 < load64(x0 + 40);
+        if (r16) {
+            r11 = load_address(x0 + 32) + (r10 * 24);
+            if (load8(r11) == 1) {
+                if (load64(r11 + 8) == key) {
+                    r2933_in = r11 + 16;
+                    goto after_OccupiedEntry_insert;
                 }
             }
-            r2937 = load64(r2937_in);
-            store64(r2937_in, r2937 + more);
-            r40 = 1;
-            r8 = r2937;
-            goto after_pairs_add_or_insert;
-        }
-    arm_2_2:;
-        memset(r12, 0, 32);
-        r28 = load64(x0 + 56);
-        if (r28 == UINT64_C(18446744073709551615)) {
-            x9 = 4294967294u;
         } else {
-            r44 = r28 + 1;
-            if (!(((r44 & 4) != 0) & (load64(x0 + 64) <= r28))) {
-                r11_2 = load_address(x0 + 8) + ((r10 >> 3) & UINT64_C(2305843009213693944));
-                r16 = load64(r11_2);
-                r20 = (uint64_t)1 << (r10 & 63);
-                store64(r11_2, r16 | r20);
-                if ((r16 & r20) == 0) {
-                    store64(r11, 1);
-                    store64(r11 + 8, key);
-                    store64(r11 + 16, more);
-                } else {
-                    r29 = slot_push_2(r11, key, more);
-                    if (r29 != 0) {
-                        r40 = 4294967295u;
-                        r8 = 0;
-                        goto after_pairs_add_or_insert;
+            r11_2 = load_address(x0 + 56) + (r10 * 48);
+            if (load8(r11_2) == 1) {
+                if (load64(r11_2 + 8) == key) {
+                    r2933_in = r11_2 + 16;
+                    goto after_OccupiedEntry_insert;
+                }
+                r4 = load_address(r11_2 + 24);
+                r6_2 = load64(r11_2 + 32);
+                if (r6_2 != 0) {
+                    r3_0 = 0;
+                    for (;;) {
+                        r21 = r3_0 << 4;
+                        if (load64(r4 + r21) == key) {
+                            r2933_in = (r4 + r21) + 8;
+                            goto after_OccupiedEntry_insert;
+                        }
+                        r36 = r3_0 + 1;
+                        if (r36 == r6_2) {
+                            break;
+                        }
+                        r3_0 = r36;
                     }
                 }
-                store64(x0 + 56, r44);
+            }
+        }
+        memset(r12, 0, 32);
+        r28 = load64(x0 + 80);
+        if (r28 == UINT64_C(18446744073709551615)) {
+            x12 = 4294967294u;
+        } else {
+            r44 = r28 + 1;
+            if (!(((r44 & 4) != 0) & (load64(x0 + 88) <= r28))) {
+                if (r16) {
+                    r8_2 = r10 * 24;
+                    if ((load8(load_address(x0 + 32) + r8_2) & 1) == 0) {
+                        r11_3 = load_address(x0 + 8) + ((r10 >> 3) & UINT64_C(2305843009213693944));
+                        store64(r11_3, load64(r11_3) | ((uint64_t)1 << (r10 & 63)));
+                        r9 = load_address(x0 + 32) + r8_2;
+                        r11_4 = load8(r9);
+                        store64(r9, 1);
+                        store64(r9 + 8, key);
+                        store64(r9 + 16, more);
+                        if (r11_4 == 0) {
+                            goto after_IntMap_add_2;
+                        }
+                        abort();
+                    }
+                    r53 = slots_push_second(x0, r10, key, more);
+                    r53_2 = r53;
+                } else {
+                    r9_2 = load_address(x0 + 56) + (r10 * 48);
+                    r11_5 = load_address(x0 + 8) + ((r10 >> 3) & UINT64_C(2305843009213693944));
+                    r16_2 = load64(r11_5);
+                    r20 = (uint64_t)1 << (r10 & 63);
+                    store64(r11_5, r16_2 | r20);
+                    if ((r16_2 & r20) == 0) {
+                        store64(r9_2, 1);
+                        store64(r9_2 + 8, key);
+                        store64(r9_2 + 16, more);
+                        goto after_IntMap_add_2;
+                    }
+                    r86 = slot_push(r9_2, key, more);
+                    r53_2 = r86;
+                }
+                if (r53_2.first != 0) {
+                    r40 = 4294967295u;
+                    r8 = 0;
+                    goto after_pairs_add_or_insert;
+                }
+            after_IntMap_add_2:;
+                store64(x0 + 80, r44);
                 r40 = 0;
                 r8 = 0;
                 goto after_pairs_add_or_insert;
@@ -2545,10 +3397,16 @@ static ALWAYS_INLINE struct word_word do_intmap_add_or_insert(char *map, uint64_
                 r8 = 0;
                 goto after_pairs_add_or_insert;
             }
-            x9 = ((load64(r12 + 16) & 255) == 0) ? 4294967295u : 4294967294u;
+            x12 = ((load64(r12 + 16) & 255) == 0) ? 4294967295u : 4294967294u;
         }
-        r40 = x9;
+        r40 = x12;
         r8 = 0;
+        goto after_pairs_add_or_insert;
+    after_OccupiedEntry_insert:;
+        r2933 = load64(r2933_in);
+        store64(r2933_in, r2933 + more);
+        r40 = 1;
+        r8 = r2933;
     after_pairs_add_or_insert:;
         r3_2 = load64(map);
         store64(map, r3);
@@ -2556,38 +3414,9 @@ static ALWAYS_INLINE struct word_word do_intmap_add_or_insert(char *map, uint64_
             r6 = r8;
             r19 = r40;
         } else {
-            x10 = (char *)(uintptr_t)r3_2;
-            r4_2 = load_address(x10 + 8);
-            r4_3 = load_address(x10 + 32);
-            r4_4 = load64(x10 + 40);
-            r4_5 = load64(x10 + 48);
-            r4_6 = load64(x10 + 24);
-            rattle_dealloc(x10);
-            if (r4_6 != 0) {
-                rattle_dealloc(r4_2);
-            }
-            if (r4_4 != 0) {
-                r0_06 = 0;
-                for (;;) {
-                    r9 = r4_3 + (r0_06 * 48);
-                    if (load64(r9 + 40) != 0) {
-                        rattle_dealloc(load_address(r9 + 24));
-                    }
-                    r12_2 = r0_06 + 1;
-                    if (r12_2 == r4_4) {
-                        break;
-                    }
-                    r0_06 = r12_2;
-                }
-            }
-            if (r4_5 == 0) {
-                r6 = r8;
-                r19 = r40;
-            } else {
-                rattle_dealloc(r4_3);
-                r6 = r8;
-                r19 = r40;
-            }
+            box_drop((char *)(uintptr_t)r3_2);
+            r6 = r8;
+            r19 = r40;
         }
     }
     r0_2_8_ext = (uint64_t)r19;
@@ -2596,111 +3425,89 @@ static ALWAYS_INLINE struct word_word do_intmap_add_or_insert(char *map, uint64_
 
 // intmap_clear, in crates/intmap_c/src/walk.rt
 static ALWAYS_INLINE void do_intmap_clear(char *map) {
-    uint64_t r3, r6, r1, r1_3, r1_4, r1_5, r1_7, r1_8, r1_10, r6_2, r28, r3_2, r4_5, r4_6, r4_7, r0_06, r12, r33,
-        r54, r60, r1_11, r1_12, r1_14, r27, r40;
-    char *x0, *r1_2, *r4, *r1_6, *r1_9, *r4_2, *x3, *r4_3, *r4_4, *r9, *r1_13, *r9_2;
+    uint64_t r3, r6, r6_2, r6_4, r1, r1_2, r1_4, r1_5, r1_7, r6_5, r28, r3_2, r33, r54, r60, r1_8, r1_9, r1_11, r27,
+        r33_2, r40;
+    char *x0, *r6_3, *r4, *r1_3, *r1_6, *r4_2, *r1_10, *r9;
     r3 = load64(map);
     store64(map, 0);
     x0 = (char *)(uintptr_t)r3;
     if (r3 != 0) {
         r6 = load64(x0 + 16);
         if (r6 == 0) {
-            r1 = 0;
-            r1_2 = (char *)no_bytes;
-            r1_3 = 0;
+            r6_2 = 0;
+            r6_3 = (char *)no_bytes;
+            r6_4 = 0;
         } else {
             r4 = load_address(x0 + 8);
-            r1 = load64(r4);
-            r1_2 = r4 + 8;
-            r1_3 = r6 - 1;
+            r6_2 = load64(r4);
+            r6_3 = r4 + 8;
+            r6_4 = r6 - 1;
         }
-        r1_4 = r1;
-        r1_5 = 0;
-        r1_6 = r1_2;
-        r1_7 = r1_3;
+        r1 = r6_2;
+        r1_2 = 0;
+        r1_3 = r6_3;
+        r1_4 = r6_4;
         for (;;) {
-            if (r1_4 == 0) {
-                r1_8 = r1_7;
-                r1_9 = r1_6;
-                r1_10 = r1_5;
+            if (r1 == 0) {
+                r1_5 = r1_4;
+                r1_6 = r1_3;
+                r1_7 = r1_2;
                 for (;;) {
-                    if (r1_8 == 0) {
+                    if (r1_5 == 0) {
                         r4_2 = load_address(x0 + 8);
-                        r6_2 = load64(x0 + 16);
-                        if (r6_2 != 0) {
-                            r28 = r6_2 - 1;
+                        r6_5 = load64(x0 + 16);
+                        if (r6_5 != 0) {
+                            r28 = r6_5 - 1;
                             if (r28 != 0) {
-                                memset(r4_2, 0, (r6_2 << 3) - 8);
+                                memset(r4_2, 0, (r6_5 << 3) - 8);
                             }
                             store64(r4_2 + (r28 << 3), 0);
                         }
-                        store64(x0 + 56, 0);
+                        store64(x0 + 80, 0);
                         r3_2 = load64(map);
                         store64(map, r3);
                         if (r3_2 == 0) {
                             goto after_walk_intmap_clear;
                         }
-                        x3 = (char *)(uintptr_t)r3_2;
-                        r4_3 = load_address(x3 + 8);
-                        r4_4 = load_address(x3 + 32);
-                        r4_5 = load64(x3 + 40);
-                        r4_6 = load64(x3 + 48);
-                        r4_7 = load64(x3 + 24);
-                        rattle_dealloc(x3);
-                        if (r4_7 != 0) {
-                            rattle_dealloc(r4_3);
-                        }
-                        if (r4_5 != 0) {
-                            r0_06 = 0;
-                            for (;;) {
-                                r9 = r4_4 + (r0_06 * 48);
-                                if (load64(r9 + 40) != 0) {
-                                    rattle_dealloc(load_address(r9 + 24));
-                                }
-                                r12 = r0_06 + 1;
-                                if (r12 == r4_5) {
-                                    break;
-                                }
-                                r0_06 = r12;
-                            }
-                        }
-                        if (r4_6 == 0) {
-                            goto after_walk_intmap_clear;
-                        }
-                        rattle_dealloc(r4_4);
+                        box_drop((char *)(uintptr_t)r3_2);
                         goto after_walk_intmap_clear;
                     }
-                    r33 = r1_8 - 1;
-                    r54 = load64(r1_9);
-                    r60 = r1_10 + 64;
+                    r33 = r1_5 - 1;
+                    r54 = load64(r1_6);
+                    r60 = r1_7 + 64;
                     if (r54 != 0) {
-                        r1_11 = r54;
-                        r1_12 = r60;
-                        r1_13 = r1_9 + 8;
-                        r1_14 = r33;
+                        r1_8 = r54;
+                        r1_9 = r60;
+                        r1_10 = r1_6 + 8;
+                        r1_11 = r33;
                         break;
                     }
-                    r1_8 = r33;
-                    r1_9 = r1_9 + 8;
-                    r1_10 = r60;
+                    r1_5 = r33;
+                    r1_6 = r1_6 + 8;
+                    r1_7 = r60;
                 }
             } else {
+                r1_8 = r1;
+                r1_9 = r1_2;
+                r1_10 = r1_3;
                 r1_11 = r1_4;
-                r1_12 = r1_5;
-                r1_13 = r1_6;
-                r1_14 = r1_7;
             }
-            r27 = low_zeros(r1_11);
-            r40 = (r1_11 - 1) & r1_11;
-            r9_2 = load_address(x0 + 32) + ((r1_12 + r27) * 48);
-            memset(r9_2, 0, 24);
-            if (load64(r9_2 + 32) != 0) {
-                store64(r9_2 + 32, 0);
+            r27 = low_zeros(r1_8);
+            r33_2 = r1_9 + r27;
+            r40 = (r1_8 - 1) & r1_8;
+            if (r33_2 < load64(x0 + 40)) {
+                memset(load_address(x0 + 32) + (r33_2 * 24), 0, 24);
+            } else {
+                r9 = load_address(x0 + 56) + (r33_2 * 48);
+                memset(r9, 0, 24);
+                if (load64(r9 + 32) != 0) {
+                    store64(r9 + 32, 0);
+                }
             }
-            r1_4 = r40;
-            r1_5 = r1_12;
-            r1_6 = r1_13;
-            r1_7 = r1_14;
+            r1 = r40;
+            r1_2 = r1_9;
+            r1_3 = r1_10;
+            r1_4 = r1_11;
         }
     }
 after_walk_intmap_clear:;
@@ -2709,15 +3516,15 @@ after_walk_intmap_clear:;
 
 // intmap_cut, in crates/intmap_c/src/walk.rt
 static ALWAYS_INLINE char *do_intmap_cut(char *found, char *map, char *at) {
-    uint64_t r3, r6, r6_2, r1644, r1910, r2, r2_2, r1910_2, r1648, r39, r1_0, r46, x20, x21, r59, r2_0, r1_0_2, r61,
-        r63, r69, r29, r2_3, r2_4, r2_6, r0, r0_2, r16, r1, r1_2, r28, r3_0, r0_05, r13_2, r23, r36, r20, exit, x14,
-        r20_lcssa60, r3_0_lcssa59, r0_05_2, r13_3, r23_2, r4_3, r4_4, r2_7, r2_8, r10, r16_2, r6_4, r1_3, r1_4,
-        r28_2, r20_2, r3_0_2, r0_05_3, r19, r29_2, r0_05_4, r13_5, r23_3, r36_2, r20_3, exit_2, r0_05_5, r19_2,
-        r29_3, x6, r20_lcssa60_2, r3_0_lcssa59_2, r2_11, r2_12, r2_13, r2_14, r55, r1910_3, r2_16, r3_2, r4_7, r4_8,
-        r4_9, r0_06, r12;
-    char *x0, *r4, *r9, *r13, *x11, *x13, *x16, *r13_4, *r9_2, *x3, *x5, *x7, *r11, *x22, *r4_5, *r4_6, *r9_3;
+    uint64_t r3, r6, r6_2, r1632, r1910, r2, r2_2, r1910_2, r1636, r39, r1_0, r46, x21, x22, r59, r2_0, r1_0_2, r61,
+        r63, r69, r29, r0, r0_2, r2_3, r2_4, r3_3, r3_4, r4_3, r4_4, r2_5, r0_3, r0_4, r16, r1, r1_2, r28, r3_0,
+        r0_05, r13_2, r23, r36, r20, exit, x15, r20_lcssa60, r3_0_lcssa59, r0_05_2, r13_3, r23_2, r4_6, r4_7, r2_6,
+        r2_7, r10_2, r16_2, r6_4, r1_3, r1_4, r28_2, r20_2, r3_0_2, r0_05_3, r19, r29_2, r0_05_4, r13_5, r23_3,
+        r36_2, r20_3, exit_2, r0_05_5, r19_2, r29_3, x7, r20_lcssa60_2, r3_0_lcssa59_2, r4_9, r4_10, r55, r1910_3,
+        r2_9, r3_5;
+    char *x0, *r4, *r9, *r11, *r9_2, *r13, *x12, *x14, *x17, *r13_4, *r9_3, *x4, *x6, *x8, *r11_2;
     uint32_t r6_3, r8;
-    uint8_t r4_2, r2_5, r2_9, r2_10, r2_15;
+    uint8_t r10, r3_2, r4_2, r4_5, r2_8, r4_8;
     r3 = load64(map);
     store64(map, 0);
     x0 = (char *)(uintptr_t)r3;
@@ -2726,24 +3533,24 @@ static ALWAYS_INLINE char *do_intmap_cut(char *found, char *map, char *at) {
         r6_2 = 0;
         r6_3 = 4294967293u;
     } else {
-        r1644 = load64(at);
-        r1910 = r1644 >> 6;
+        r1632 = load64(at);
+        r1910 = r1632 >> 6;
         r2 = load64(x0 + 16);
         if (r2 > r1910) {
             r2_2 = r2;
             r1910_2 = r1910;
-            r1648 = r1644;
+            r1636 = r1632;
             for (;;) {
                 r4 = load_address(x0 + 8);
-                r39 = load64(r4 + (r1910_2 << 3)) & (UINT64_C(18446744073709551615) << (r1648 & 63));
+                r39 = load64(r4 + (r1910_2 << 3)) & (UINT64_C(18446744073709551615) << (r1636 & 63));
                 if (r39 == 0) {
                     r1_0 = r1910_2;
                     for (;;) {
                         r46 = r1_0 + 1;
                         if (r46 == r2_2) {
-                            x20 = 0;
-                            r8 = 0;
                             x21 = 0;
+                            r8 = 0;
+                            x22 = 0;
                             goto after_walk_cut;
                         }
                         r59 = load64(r4 + (r46 << 3));
@@ -2763,272 +3570,271 @@ static ALWAYS_INLINE char *do_intmap_cut(char *found, char *map, char *at) {
                 r69 = r61 | r63;
                 store64(at, r69);
                 r29 = load64(at + 8);
-                r9 = load_address(x0 + 32) + (r69 * 48);
-                r4_2 = load8(r9);
-                if (r4_2 == 0) {
-                    r2_3 = 0;
-                    r2_4 = 0;
-                    r2_5 = 0;
+                if (r69 < load64(x0 + 40)) {
+                    r9 = load_address(x0 + 32) + (r69 * 24);
+                    r10 = load8(r9);
+                    switch (r10) {
+                    case 1:
+                        if (r29 != 0) {
+                            goto join_9_2;
+                        }
+                        r0 = load64(r9 + 8);
+                        r0_2 = load64(r9 + 16);
+                        memset(r9, 0, 24);
+                        r2_3 = r0_2;
+                        r2_4 = r0;
+                        break;
+                    case 0:
+                        r2_3 = 0;
+                        r2_4 = 0;
+                        break;
+                    default:
+                        goto join_9_2;
+                    }
+                    r11 = load_address(x0 + 8) + (r61 >> 3);
+                    store64(r11, load64(r11) & (((uint64_t)1 << r63) ^ UINT64_C(18446744073709551615)));
+                    r3_2 = r10;
+                    r3_3 = r2_4;
+                    r3_4 = r2_3;
                 } else {
-                    r2_6 = load64(r9 + 32);
-                    if (r29 < (r2_6 + 1)) {
-                        if (r29 == 0) {
-                            if (r4_2 != 1) {
-                                abort();
-                            }
-                            if (r2_6 == 0) {
-                                r0 = load64(r9 + 8);
-                                r0_2 = load64(r9 + 16);
-                                memset(r9, 0, 24);
-                                r2_3 = r0_2;
-                                r2_4 = r0;
-                                r2_5 = 1;
-                                goto then_1_2;
-                            }
-                            r13 = load_address(r9 + 24);
-                            r16 = load64(r9 + 40);
-                            memset(r9 + 32, 0, 16);
-                            r1 = load64(r13);
-                            r1_2 = load64(r13 + 8);
-                            r28 = r2_6 - 1;
-                            if (r28 > 128) {
-                                r3_0 = 0;
-                                for (;;) {
-                                    x11 = r13 + (r3_0 << 4);
-                                    r0_05 = 0;
+                    r9_2 = load_address(x0 + 56) + (r69 * 48);
+                    r4_2 = load8(r9_2);
+                    if (r4_2 == 0) {
+                        r4_3 = 0;
+                        r4_4 = 0;
+                        r4_5 = 0;
+                    } else {
+                        r2_5 = load64(r9_2 + 32);
+                        if (r29 < (r2_5 + 1)) {
+                            if (r29 == 0) {
+                                if (r4_2 != 1) {
+                                    abort();
+                                }
+                                if (r2_5 == 0) {
+                                    r0_3 = load64(r9_2 + 8);
+                                    r0_4 = load64(r9_2 + 16);
+                                    memset(r9_2, 0, 24);
+                                    r4_3 = r0_4;
+                                    r4_4 = r0_3;
+                                    r4_5 = 1;
+                                    goto then_1_2;
+                                }
+                                r13 = load_address(r9_2 + 24);
+                                r16 = load64(r9_2 + 40);
+                                memset(r9_2 + 32, 0, 16);
+                                r1 = load64(r13);
+                                r1_2 = load64(r13 + 8);
+                                r28 = r2_5 - 1;
+                                if (r28 > 128) {
+                                    r3_0 = 0;
                                     for (;;) {
-                                        r13_2 = r0_05 << 4;
-                                        memcpy(x11 + r13_2, (x11 + 16) + r13_2, 16);
-                                        r23 = r0_05 + 1;
-                                        if (r23 == 128) {
-                                            r36 = r3_0 + 128;
-                                            r20 = r28 - r36;
-                                            if (r20 > 128) {
-                                                r3_0 = r36;
+                                        x12 = r13 + (r3_0 << 4);
+                                        r0_05 = 0;
+                                        for (;;) {
+                                            r13_2 = r0_05 << 4;
+                                            memcpy(x12 + r13_2, (x12 + 16) + r13_2, 16);
+                                            r23 = r0_05 + 1;
+                                            if (r23 == 128) {
+                                                r36 = r3_0 + 128;
+                                                r20 = r28 - r36;
+                                                if (r20 > 128) {
+                                                    r3_0 = r36;
+                                                    break;
+                                                }
+                                                exit = r36 << 4;
+                                                x14 = r13 + exit;
+                                                x15 = exit;
+                                                r20_lcssa60 = r20;
+                                                r3_0_lcssa59 = r36;
+                                                goto then_2_2;
+                                            }
+                                            r0_05 = r23;
+                                        }
+                                    }
+                                }
+                                x14 = r13;
+                                x15 = 0;
+                                r20_lcssa60 = r28;
+                                r3_0_lcssa59 = 0;
+                            then_2_2:;
+                                if (r28 != r3_0_lcssa59) {
+                                    x17 = r13 + x15;
+                                    r0_05_2 = 0;
+                                    for (;;) {
+                                        r13_3 = r0_05_2 << 4;
+                                        memcpy(x17 + r13_3, (x14 + 16) + r13_3, 16);
+                                        r23_2 = r0_05_2 + 1;
+                                        if (r23_2 == r20_lcssa60) {
+                                            break;
+                                        }
+                                        r0_05_2 = r23_2;
+                                    }
+                                }
+                                store_address(r9_2 + 24, r13);
+                                store64(r9_2 + 32, r28);
+                                store64(r9_2 + 40, r16);
+                                if (load8(r9_2) != 1) {
+                                    abort();
+                                }
+                                r4_6 = load64(r9_2 + 8);
+                                r4_7 = load64(r9_2 + 16);
+                                store64(r9_2 + 8, r1);
+                                store64(r9_2 + 16, r1_2);
+                                store64(at + 16, load64(at + 16) + load64(at + 8));
+                                r2_6 = r4_6;
+                                r2_7 = r4_7;
+                                goto loopexit25;
+                            }
+                            r10_2 = r29 - 1;
+                            r13_4 = load_address(r9_2 + 24);
+                            r16_2 = load64(r9_2 + 40);
+                            memset(r9_2 + 32, 0, 16);
+                            r6_4 = r10_2 << 4;
+                            r9_3 = r13_4 + r6_4;
+                            r1_3 = load64(r9_3);
+                            r1_4 = load64(r9_3 + 8);
+                            r28_2 = r2_5 - 1;
+                            r20_2 = r2_5 - r29;
+                            if (r20_2 > 128) {
+                                r3_0_2 = r10_2;
+                                for (;;) {
+                                    x4 = r13_4 + (r3_0_2 << 4);
+                                    if (r3_0_2 == UINT64_C(18446744073709551615)) {
+                                        r0_05_3 = 0;
+                                        for (;;) {
+                                            r19 = (uint64_t)2032 - (r0_05_3 << 4);
+                                            memcpy(x4 + r19, (x4 + 16) + r19, 16);
+                                            r29_2 = r0_05_3 + 1;
+                                            if (r29_2 == 128) {
                                                 break;
                                             }
-                                            exit = r36 << 4;
-                                            x13 = r13 + exit;
-                                            x14 = exit;
-                                            r20_lcssa60 = r20;
-                                            r3_0_lcssa59 = r36;
-                                            goto then_2_2;
+                                            r0_05_3 = r29_2;
                                         }
-                                        r0_05 = r23;
+                                    } else {
+                                        r0_05_4 = 0;
+                                        for (;;) {
+                                            r13_5 = r0_05_4 << 4;
+                                            memcpy(x4 + r13_5, (x4 + 16) + r13_5, 16);
+                                            r23_3 = r0_05_4 + 1;
+                                            if (r23_3 == 128) {
+                                                break;
+                                            }
+                                            r0_05_4 = r23_3;
+                                        }
                                     }
-                                }
-                            }
-                            x13 = r13;
-                            x14 = 0;
-                            r20_lcssa60 = r28;
-                            r3_0_lcssa59 = 0;
-                        then_2_2:;
-                            if (r28 != r3_0_lcssa59) {
-                                x16 = r13 + x14;
-                                r0_05_2 = 0;
-                                for (;;) {
-                                    r13_3 = r0_05_2 << 4;
-                                    memcpy(x16 + r13_3, (x13 + 16) + r13_3, 16);
-                                    r23_2 = r0_05_2 + 1;
-                                    if (r23_2 == r20_lcssa60) {
-                                        break;
-                                    }
-                                    r0_05_2 = r23_2;
-                                }
-                            }
-                            store_address(r9 + 24, r13);
-                            store64(r9 + 32, r28);
-                            store64(r9 + 40, r16);
-                            if (load8(r9) != 1) {
-                                abort();
-                            }
-                            r4_3 = load64(r9 + 8);
-                            r4_4 = load64(r9 + 16);
-                            store64(r9 + 8, r1);
-                            store64(r9 + 16, r1_2);
-                            store64(at + 16, load64(at + 16) + load64(at + 8));
-                            r2_7 = r4_3;
-                            r2_8 = r4_4;
-                            goto loopexit33;
-                        }
-                        r10 = r29 - 1;
-                        r13_4 = load_address(r9 + 24);
-                        r16_2 = load64(r9 + 40);
-                        memset(r9 + 32, 0, 16);
-                        r6_4 = r10 << 4;
-                        r9_2 = r13_4 + r6_4;
-                        r1_3 = load64(r9_2);
-                        r1_4 = load64(r9_2 + 8);
-                        r28_2 = r2_6 - 1;
-                        r20_2 = r2_6 - r29;
-                        if (r20_2 > 128) {
-                            r3_0_2 = r10;
-                            for (;;) {
-                                x3 = r13_4 + (r3_0_2 << 4);
-                                if (r3_0_2 == UINT64_C(18446744073709551615)) {
-                                    r0_05_3 = 0;
-                                    for (;;) {
-                                        r19 = (uint64_t)2032 - (r0_05_3 << 4);
-                                        memcpy(x3 + r19, (x3 + 16) + r19, 16);
-                                        r29_2 = r0_05_3 + 1;
-                                        if (r29_2 == 128) {
+                                    r36_2 = r3_0_2 + 128;
+                                    r20_3 = r28_2 - r36_2;
+                                    if (r20_3 <= 128) {
+                                        exit_2 = r36_2 << 4;
+                                        x6 = r13_4 + exit_2;
+                                        if (r36_2 != UINT64_C(18446744073709551615)) {
+                                            x7 = exit_2;
+                                            r20_lcssa60_2 = r20_3;
+                                            r3_0_lcssa59_2 = r36_2;
                                             break;
                                         }
-                                        r0_05_3 = r29_2;
-                                    }
-                                } else {
-                                    r0_05_4 = 0;
-                                    for (;;) {
-                                        r13_5 = r0_05_4 << 4;
-                                        memcpy(x3 + r13_5, (x3 + 16) + r13_5, 16);
-                                        r23_3 = r0_05_4 + 1;
-                                        if (r23_3 == 128) {
-                                            break;
-                                        }
-                                        r0_05_4 = r23_3;
-                                    }
-                                }
-                                r36_2 = r3_0_2 + 128;
-                                r20_3 = r28_2 - r36_2;
-                                if (r20_3 <= 128) {
-                                    exit_2 = r36_2 << 4;
-                                    x5 = r13_4 + exit_2;
-                                    if (r36_2 != UINT64_C(18446744073709551615)) {
-                                        x6 = exit_2;
-                                        r20_lcssa60_2 = r20_3;
-                                        r3_0_lcssa59_2 = r36_2;
-                                        break;
-                                    }
-                                    if (r2_6 == 0) {
-                                        goto after_Vec_remove;
-                                    }
-                                    r0_05_5 = 0;
-                                    for (;;) {
-                                        r19_2 = (r20_3 + (r0_05_5 ^ UINT64_C(18446744073709551615))) << 4;
-                                        memcpy(x5 + r19_2, (x5 + 16) + r19_2, 16);
-                                        r29_3 = r0_05_5 + 1;
-                                        if (r29_3 == r20_3) {
+                                        if (r2_5 == 0) {
                                             goto after_Vec_remove;
                                         }
-                                        r0_05_5 = r29_3;
+                                        r0_05_5 = 0;
+                                        for (;;) {
+                                            r19_2 = (r20_3 + (r0_05_5 ^ UINT64_C(18446744073709551615))) << 4;
+                                            memcpy(x6 + r19_2, (x6 + 16) + r19_2, 16);
+                                            r29_3 = r0_05_5 + 1;
+                                            if (r29_3 == r20_3) {
+                                                goto after_Vec_remove;
+                                            }
+                                            r0_05_5 = r29_3;
+                                        }
                                     }
+                                    r3_0_2 = r36_2;
                                 }
-                                r3_0_2 = r36_2;
+                            } else {
+                                x7 = r6_4;
+                                r20_lcssa60_2 = r20_2;
+                                r3_0_lcssa59_2 = r10_2;
                             }
+                            if (r28_2 != r3_0_lcssa59_2) {
+                                x8 = r13_4 + x7;
+                                memmove(x8, x8 + 16, r20_lcssa60_2 << 4);
+                            }
+                        after_Vec_remove:;
+                            store_address(r9_2 + 24, r13_4);
+                            store64(r9_2 + 32, r28_2);
+                            store64(r9_2 + 40, r16_2);
+                            r2_8 = load8(r9_2);
+                            r4_8 = 1;
+                            r4_9 = r1_3;
+                            r4_10 = r1_4;
                         } else {
-                            x6 = r6_4;
-                            r20_lcssa60_2 = r20_2;
-                            r3_0_lcssa59_2 = r10;
+                            r2_8 = r4_2;
+                            r4_8 = 0;
+                            r4_9 = 0;
+                            r4_10 = 0;
                         }
-                        if (r28_2 != r3_0_lcssa59_2) {
-                            x7 = r13_4 + x6;
-                            memmove(x7, x7 + 16, r20_lcssa60_2 << 4);
+                        if ((r2_8 & 1) != 0) {
+                            r3_2 = r4_8;
+                            r3_3 = r4_9;
+                            r3_4 = r4_10;
+                            goto after_Slots_K_Kept_V_A_extract_at_2;
                         }
-                    after_Vec_remove:;
-                        store_address(r9 + 24, r13_4);
-                        store64(r9 + 32, r28_2);
-                        store64(r9 + 40, r16_2);
-                        r2_9 = load8(r9);
-                        r2_10 = 1;
-                        r2_11 = r1_3;
-                        r2_12 = r1_4;
-                    } else {
-                        r2_9 = r4_2;
-                        r2_10 = 0;
-                        r2_11 = 0;
-                        r2_12 = 0;
+                        r4_3 = r4_10;
+                        r4_4 = r4_9;
+                        r4_5 = r4_8;
                     }
-                    if ((r2_9 & 1) != 0) {
-                        r2_13 = r2_12;
-                        r2_14 = r2_11;
-                        r2_15 = r2_10;
-                        goto after_Slots_K_Kept_V_A_extract_at_2;
-                    }
-                    r2_3 = r2_12;
-                    r2_4 = r2_11;
-                    r2_5 = r2_10;
+                then_1_2:;
+                    r11_2 = load_address(x0 + 8) + (r61 >> 3);
+                    store64(r11_2, load64(r11_2) & (((uint64_t)1 << r63) ^ UINT64_C(18446744073709551615)));
+                    r3_2 = r4_5;
+                    r3_3 = r4_4;
+                    r3_4 = r4_3;
                 }
-            then_1_2:;
-                r11 = load_address(x0 + 8) + (r61 >> 3);
-                store64(r11, load64(r11) & (((uint64_t)1 << r63) ^ UINT64_C(18446744073709551615)));
-                r2_13 = r2_3;
-                r2_14 = r2_4;
-                r2_15 = r2_5;
             after_Slots_K_Kept_V_A_extract_at_2:;
                 store64(at + 16, (load64(at + 8) - r29) + load64(at + 16));
-                if (r2_15 != 1) {
-                    r55 = r69 + 1;
-                    store64(at, r55);
-                    store64(at + 8, 0);
-                    r1910_3 = r55 >> 6;
-                    r2_16 = load64(x0 + 16);
-                    if (r2_16 > r1910_3) {
-                        r2_2 = r2_16;
-                        r1910_2 = r1910_3;
-                        r1648 = r55;
-                        continue;
-                    }
-                    x20 = 0;
-                    r8 = 0;
+                if (r3_2 != 1) {
+                    goto join_9_2;
+                }
+                r2_6 = r3_3;
+                r2_7 = r3_4;
+            loopexit25:;
+                store64(x0 + 80, load64(x0 + 80) - 1);
+                x21 = r2_6;
+                r8 = 1;
+                x22 = r2_7;
+                break;
+            join_9_2:;
+                r55 = r69 + 1;
+                store64(at, r55);
+                store64(at + 8, 0);
+                r1910_3 = r55 >> 6;
+                r2_9 = load64(x0 + 16);
+                if (r2_9 <= r1910_3) {
                     x21 = 0;
+                    r8 = 0;
+                    x22 = 0;
                     break;
                 }
-                r2_7 = r2_14;
-                r2_8 = r2_13;
-            loopexit33:;
-                store64(x0 + 56, load64(x0 + 56) - 1);
-                x20 = r2_7;
-                r8 = 1;
-                x21 = r2_8;
-                break;
+                r2_2 = r2_9;
+                r1910_2 = r1910_3;
+                r1636 = r55;
             }
         } else {
-            x20 = 0;
-            r8 = 0;
             x21 = 0;
+            r8 = 0;
+            x22 = 0;
         }
     after_walk_cut:;
-        r3_2 = load64(map);
+        r3_5 = load64(map);
         store64(map, r3);
-        if (r3_2 == 0) {
-            r6 = x20;
-            r6_2 = x21;
+        if (r3_5 == 0) {
+            r6 = x21;
+            r6_2 = x22;
             r6_3 = r8;
         } else {
-            x22 = (char *)(uintptr_t)r3_2;
-            r4_5 = load_address(x22 + 8);
-            r4_6 = load_address(x22 + 32);
-            r4_7 = load64(x22 + 40);
-            r4_8 = load64(x22 + 48);
-            r4_9 = load64(x22 + 24);
-            rattle_dealloc(x22);
-            if (r4_9 != 0) {
-                rattle_dealloc(r4_5);
-            }
-            if (r4_7 != 0) {
-                r0_06 = 0;
-                for (;;) {
-                    r9_3 = r4_6 + (r0_06 * 48);
-                    if (load64(r9_3 + 40) != 0) {
-                        rattle_dealloc(load_address(r9_3 + 24));
-                    }
-                    r12 = r0_06 + 1;
-                    if (r12 == r4_7) {
-                        break;
-                    }
-                    r0_06 = r12;
-                }
-            }
-            if (r4_8 == 0) {
-                r6 = x20;
-                r6_2 = x21;
-                r6_3 = r8;
-            } else {
-                rattle_dealloc(r4_6);
-                r6 = x20;
-                r6_2 = x21;
-                r6_3 = r8;
-            }
+            box_drop((char *)(uintptr_t)r3_5);
+            r6 = x21;
+            r6_2 = x22;
+            r6_3 = r8;
         }
     }
     store64(found, r6);
@@ -3040,49 +3846,24 @@ static ALWAYS_INLINE char *do_intmap_cut(char *found, char *map, char *at) {
 
 // intmap_free, in crates/intmap_c/src/make.rt
 static ALWAYS_INLINE void do_intmap_free(char *map) {
-    uint64_t r3, r4_3, r4_4, r4_5, r0_06, r12;
-    char *x0, *r4, *r4_2, *r9;
+    uint64_t r3;
     r3 = load64(map);
     store64(map, 0);
     if (r3 != 0) {
-        x0 = (char *)(uintptr_t)r3;
-        r4 = load_address(x0 + 8);
-        r4_2 = load_address(x0 + 32);
-        r4_3 = load64(x0 + 40);
-        r4_4 = load64(x0 + 48);
-        r4_5 = load64(x0 + 24);
-        rattle_dealloc(x0);
-        if (r4_5 != 0) {
-            rattle_dealloc(r4);
-        }
-        if (r4_3 != 0) {
-            r0_06 = 0;
-            for (;;) {
-                r9 = r4_2 + (r0_06 * 48);
-                if (load64(r9 + 40) != 0) {
-                    rattle_dealloc(load_address(r9 + 24));
-                }
-                r12 = r0_06 + 1;
-                if (r12 == r4_3) {
-                    break;
-                }
-                r0_06 = r12;
-            }
-        }
-        if (r4_4 != 0) {
-            rattle_dealloc(r4_2);
-        }
+        box_drop((char *)(uintptr_t)r3);
     }
     return;
 }
 
 // intmap_insert, in crates/intmap_c/src/pairs.rt
 static ALWAYS_INLINE struct word_word do_intmap_insert(char *map, uint64_t key, uint64_t value) {
-    uint64_t r3, r6, r10, r11_2, r4_3_0_pn168, r4_0_0_pn167, r4, r4_2, r4_3, r5, r6_2, r3_0, r21, r15, r2, r12_2, r9,
-        r0, r4_5, r9_2, r36, r28, r44, r16, r20, r3_2, r4_8, r4_9, r4_10, r0_06, r12_3, r0_2_8_ext;
-    char *x0, *r11, *x2, *r4_4, *r23, *r10_2, *r24, *r15_2, *r11_3, *x11, *r4_6, *r4_7, *r9_3;
-    uint32_t r19, spec_select1, x10;
-    uint8_t r29;
+    uint64_t r3, r6, r10, r4, r5, r11_3, r4_2, r4_3, r4_4, r4_5, r4_6, r6_2, r3_0, r45, r15, r20, r2, r12_2, r9, r0,
+        r4_8, r9_2, r28, r44, r8, r16_2, r20_2, r3_2, r0_2_8_ext;
+    char *x0, *r11, *r11_2, *x5, *r4_7, *r23, *r10_2, *x3, *r15_2, *r11_4, *r9_3, *r9_4, *r11_6;
+    uint32_t r19, spec_select1, x15;
+    bool r16;
+    struct byte_word r53, r53_2, r86;
+    uint8_t r11_5;
     uint64_t r12_room[4];
     char *r12 = (char *)r12_room;
     r3 = load64(map);
@@ -3093,99 +3874,135 @@ static ALWAYS_INLINE struct word_word do_intmap_insert(char *map, uint64_t key, 
         r19 = 4294967293u;
     } else {
         r10 = load64(x0) & (key * UINT64_C(11400714819323198549));
-        r11 = load_address(x0 + 32) + (r10 * 48);
-        if (load8(r11) == 1) {
-            if (load64(r11 + 8) == key) {
-                r11_2 = load64(r11 + 32);
-                if (r11_2 == 0) {
-                    r4_3_0_pn168 = value;
-                    r4_0_0_pn167 = key;
-                } else {
-                    x2 = load_address(r11 + 24) + (r11_2 << 4);
-                    r4 = load64(x2 - 16);
-                    r4_2 = load64(x2 - 8);
-                    store64(x2 - 16, key);
-                    store64(x2 - 8, value);
-                    if (load8(r11) != 1) {
-                        abort();
-                    }
-                    r4_3_0_pn168 = r4_2;
-                    r4_0_0_pn167 = r4;
+        r16 = r10 < load64(x0 + 40);
+        if (r16) {
+            r11 = load_address(x0 + 32) + (r10 * 24);
+            if (load8(r11) == 1) {
+                if (load64(r11 + 8) == key) {
+                    r4 = load64(r11 + 16);
+                    store64(r11 + 16, value);
+                    r5 = r4;
+                    spec_select1 = 1;
+                    goto after_pairs_insert;
                 }
-                r4_3 = load64(r11 + 16);
-                store64(r11 + 8, r4_0_0_pn167);
-                store64(r11 + 16, r4_3_0_pn168);
-                r5 = r4_3;
-                spec_select1 = 1;
-                goto after_pairs_insert;
             }
-            r4_4 = load_address(r11 + 24);
-            r6_2 = load64(r11 + 32);
-            if (r6_2 != 0) {
-                r3_0 = 0;
-                for (;;) {
-                    r21 = r3_0 << 4;
-                    if (load64(r4_4 + r21) == key) {
-                        r15 = r6_2 - 1;
-                        store64(r11 + 32, r15);
-                        r23 = r4_4 + (r15 << 4);
-                        r2 = load64(r23 + 8);
-                        if (r3_0 == r15) {
-                            r12_2 = r21;
-                            r10_2 = r4_4;
-                            r9 = r3_0;
-                            r0 = r2;
-                        } else {
-                            r24 = r4_4 + r21;
-                            r4_5 = load64(r24 + 8);
-                            store64(r24, load64(r23));
-                            store64(r24 + 8, r2);
-                            r9_2 = load64(r11 + 32);
-                            r12_2 = r9_2 << 4;
-                            r10_2 = load_address(r11 + 24);
-                            r9 = r9_2;
-                            r0 = r4_5;
+        } else {
+            r11_2 = load_address(x0 + 56) + (r10 * 48);
+            if (load8(r11_2) == 1) {
+                if (load64(r11_2 + 8) == key) {
+                    r11_3 = load64(r11_2 + 32);
+                    if (r11_3 == 0) {
+                        r4_2 = value;
+                        r4_3 = key;
+                    } else {
+                        x5 = load_address(r11_2 + 24) + (r11_3 << 4);
+                        r4_4 = load64(x5 - 16);
+                        r4_5 = load64(x5 - 8);
+                        store64(x5 - 16, key);
+                        store64(x5 - 8, value);
+                        if (load8(r11_2) != 1) {
+                            abort();
                         }
-                        r15_2 = r10_2 + r12_2;
-                        store64(r15_2, key);
-                        store64(r15_2 + 8, value);
-                        store64(r11 + 32, r9 + 1);
-                        r5 = r0;
-                        spec_select1 = 1;
-                        goto after_pairs_insert;
+                        r4_2 = r4_5;
+                        r4_3 = r4_4;
                     }
-                    r36 = r3_0 + 1;
-                    if (r36 == r6_2) {
-                        break;
+                    r4_6 = load64(r11_2 + 16);
+                    store64(r11_2 + 8, r4_3);
+                    store64(r11_2 + 16, r4_2);
+                    r5 = r4_6;
+                    spec_select1 = 1;
+                    goto after_pairs_insert;
+                }
+                r4_7 = load_address(r11_2 + 24);
+                r6_2 = load64(r11_2 + 32);
+                if (r6_2 != 0) {
+                    r3_0 = 0;
+                    for (;;) {
+                        r45 = r3_0 + 1;
+                        if (load64(r4_7 + (r3_0 << 4)) == key) {
+                            r15 = r6_2 - 1;
+                            store64(r11_2 + 32, r15);
+                            r20 = r15 << 4;
+                            r23 = r4_7 + r20;
+                            r2 = load64(r23 + 8);
+                            if (r45 == r6_2) {
+                                r12_2 = r20;
+                                r10_2 = r4_7;
+                                r9 = r6_2;
+                                r0 = r2;
+                            } else {
+                                x3 = r4_7 + (r45 << 4);
+                                r4_8 = load64(x3 - 8);
+                                store64(x3 - 16, load64(r23));
+                                store64(x3 - 8, r2);
+                                r9_2 = load64(r11_2 + 32);
+                                r12_2 = r9_2 << 4;
+                                r10_2 = load_address(r11_2 + 24);
+                                r9 = r9_2 + 1;
+                                r0 = r4_8;
+                            }
+                            r15_2 = r10_2 + r12_2;
+                            store64(r15_2, key);
+                            store64(r15_2 + 8, value);
+                            store64(r11_2 + 32, r9);
+                            r5 = r0;
+                            spec_select1 = 1;
+                            goto after_pairs_insert;
+                        }
+                        if (r45 == r6_2) {
+                            break;
+                        }
+                        r3_0 = r45;
                     }
-                    r3_0 = r36;
                 }
             }
         }
         memset(r12, 0, 32);
-        r28 = load64(x0 + 56);
+        r28 = load64(x0 + 80);
         if (r28 == UINT64_C(18446744073709551615)) {
-            x10 = 4294967294u;
+            x15 = 4294967294u;
         } else {
             r44 = r28 + 1;
-            if (!(((r44 & 4) != 0) & (load64(x0 + 64) <= r28))) {
-                r11_3 = load_address(x0 + 8) + ((r10 >> 3) & UINT64_C(2305843009213693944));
-                r16 = load64(r11_3);
-                r20 = (uint64_t)1 << (r10 & 63);
-                store64(r11_3, r16 | r20);
-                if ((r16 & r20) == 0) {
-                    store64(r11, 1);
-                    store64(r11 + 8, key);
-                    store64(r11 + 16, value);
-                } else {
-                    r29 = slot_push_2(r11, key, value);
-                    if (r29 != 0) {
-                        r5 = 0;
-                        spec_select1 = 4294967295u;
-                        goto after_pairs_insert;
+            if (!(((r44 & 4) != 0) & (load64(x0 + 88) <= r28))) {
+                if (r16) {
+                    r8 = r10 * 24;
+                    if ((load8(load_address(x0 + 32) + r8) & 1) == 0) {
+                        r11_4 = load_address(x0 + 8) + ((r10 >> 3) & UINT64_C(2305843009213693944));
+                        store64(r11_4, load64(r11_4) | ((uint64_t)1 << (r10 & 63)));
+                        r9_3 = load_address(x0 + 32) + r8;
+                        r11_5 = load8(r9_3);
+                        store64(r9_3, 1);
+                        store64(r9_3 + 8, key);
+                        store64(r9_3 + 16, value);
+                        if (r11_5 == 0) {
+                            goto after_IntMap_add_2;
+                        }
+                        abort();
                     }
+                    r53 = slots_push_second(x0, r10, key, value);
+                    r53_2 = r53;
+                } else {
+                    r9_4 = load_address(x0 + 56) + (r10 * 48);
+                    r11_6 = load_address(x0 + 8) + ((r10 >> 3) & UINT64_C(2305843009213693944));
+                    r16_2 = load64(r11_6);
+                    r20_2 = (uint64_t)1 << (r10 & 63);
+                    store64(r11_6, r16_2 | r20_2);
+                    if ((r16_2 & r20_2) == 0) {
+                        store64(r9_4, 1);
+                        store64(r9_4 + 8, key);
+                        store64(r9_4 + 16, value);
+                        goto after_IntMap_add_2;
+                    }
+                    r86 = slot_push(r9_4, key, value);
+                    r53_2 = r86;
                 }
-                store64(x0 + 56, r44);
+                if (r53_2.first != 0) {
+                    r5 = 0;
+                    spec_select1 = 4294967295u;
+                    goto after_pairs_insert;
+                }
+            after_IntMap_add_2:;
+                store64(x0 + 80, r44);
                 r5 = 0;
                 spec_select1 = 0;
                 goto after_pairs_insert;
@@ -3196,10 +4013,10 @@ static ALWAYS_INLINE struct word_word do_intmap_insert(char *map, uint64_t key, 
                 spec_select1 = 0;
                 goto after_pairs_insert;
             }
-            x10 = (load8(r12 + 16) == 0) ? 4294967295u : 4294967294u;
+            x15 = (load8(r12 + 16) == 0) ? 4294967295u : 4294967294u;
         }
         r5 = 0;
-        spec_select1 = x10;
+        spec_select1 = x15;
     after_pairs_insert:;
         r3_2 = load64(map);
         store64(map, r3);
@@ -3207,38 +4024,9 @@ static ALWAYS_INLINE struct word_word do_intmap_insert(char *map, uint64_t key, 
             r6 = r5;
             r19 = spec_select1;
         } else {
-            x11 = (char *)(uintptr_t)r3_2;
-            r4_6 = load_address(x11 + 8);
-            r4_7 = load_address(x11 + 32);
-            r4_8 = load64(x11 + 40);
-            r4_9 = load64(x11 + 48);
-            r4_10 = load64(x11 + 24);
-            rattle_dealloc(x11);
-            if (r4_10 != 0) {
-                rattle_dealloc(r4_6);
-            }
-            if (r4_8 != 0) {
-                r0_06 = 0;
-                for (;;) {
-                    r9_3 = r4_7 + (r0_06 * 48);
-                    if (load64(r9_3 + 40) != 0) {
-                        rattle_dealloc(load_address(r9_3 + 24));
-                    }
-                    r12_3 = r0_06 + 1;
-                    if (r12_3 == r4_8) {
-                        break;
-                    }
-                    r0_06 = r12_3;
-                }
-            }
-            if (r4_9 == 0) {
-                r6 = r5;
-                r19 = spec_select1;
-            } else {
-                rattle_dealloc(r4_7);
-                r6 = r5;
-                r19 = spec_select1;
-            }
+            box_drop((char *)(uintptr_t)r3_2);
+            r6 = r5;
+            r19 = spec_select1;
         }
     }
     r0_2_8_ext = (uint64_t)r19;
@@ -3247,10 +4035,12 @@ static ALWAYS_INLINE struct word_word do_intmap_insert(char *map, uint64_t key, 
 
 // intmap_insert_checked, in crates/intmap_c/src/pairs.rt
 static ALWAYS_INLINE uint32_t do_intmap_insert_checked(char *map, uint64_t key, uint64_t value) {
-    uint64_t r3, r10, r6, r3_0, r36, r28, r44, r16, r20, r3_2, r4_4, r4_5, r4_6, r0_06, r12_2;
-    char *x0, *r11, *r4, *r11_2, *x8, *r4_2, *r4_3, *r9;
+    uint64_t r3, r10, r6, r3_0, r36, r28, r44, r8, r16_2, r20, r3_2;
+    char *x0, *r11, *r11_2, *r4, *r11_3, *r9, *r9_2, *r11_5;
     uint32_t r6_0, r4_0;
-    uint8_t r29;
+    bool r16;
+    struct byte_word r53, r53_2, r86;
+    uint8_t r11_4;
     uint64_t r12_room[4];
     char *r12 = (char *)r12_room;
     r3 = load64(map);
@@ -3260,51 +4050,84 @@ static ALWAYS_INLINE uint32_t do_intmap_insert_checked(char *map, uint64_t key, 
         r6_0 = 4294967293u;
     } else {
         r10 = load64(x0) & (key * UINT64_C(11400714819323198549));
-        r11 = load_address(x0 + 32) + (r10 * 48);
-        if (load8(r11) == 1) {
-            if (load64(r11 + 8) == key) {
-                r4_0 = 1;
-                goto after_pairs_insert_checked;
+        r16 = r10 < load64(x0 + 40);
+        if (r16) {
+            r11 = load_address(x0 + 32) + (r10 * 24);
+            if (load8(r11) == 1) {
+                if (load64(r11 + 8) == key) {
+                    r4_0 = 1;
+                    goto after_pairs_insert_checked;
+                }
             }
-            r4 = load_address(r11 + 24);
-            r6 = load64(r11 + 32);
-            if (r6 != 0) {
-                r3_0 = 0;
-                for (;;) {
-                    if (load64(r4 + (r3_0 << 4)) == key) {
-                        r4_0 = 1;
-                        goto after_pairs_insert_checked;
+        } else {
+            r11_2 = load_address(x0 + 56) + (r10 * 48);
+            if (load8(r11_2) == 1) {
+                if (load64(r11_2 + 8) == key) {
+                    r4_0 = 1;
+                    goto after_pairs_insert_checked;
+                }
+                r4 = load_address(r11_2 + 24);
+                r6 = load64(r11_2 + 32);
+                if (r6 != 0) {
+                    r3_0 = 0;
+                    for (;;) {
+                        if (load64(r4 + (r3_0 << 4)) == key) {
+                            r4_0 = 1;
+                            goto after_pairs_insert_checked;
+                        }
+                        r36 = r3_0 + 1;
+                        if (r36 == r6) {
+                            break;
+                        }
+                        r3_0 = r36;
                     }
-                    r36 = r3_0 + 1;
-                    if (r36 == r6) {
-                        break;
-                    }
-                    r3_0 = r36;
                 }
             }
         }
         memset(r12, 0, 32);
-        r28 = load64(x0 + 56);
+        r28 = load64(x0 + 80);
         if (r28 == UINT64_C(18446744073709551615)) {
             r4_0 = 4294967294u;
         } else {
             r44 = r28 + 1;
-            if (!(((r44 & 4) != 0) & (load64(x0 + 64) <= r28))) {
-                r11_2 = load_address(x0 + 8) + ((r10 >> 3) & UINT64_C(2305843009213693944));
-                r16 = load64(r11_2);
-                r20 = (uint64_t)1 << (r10 & 63);
-                store64(r11_2, r16 | r20);
-                if ((r16 & r20) == 0) {
-                    store64(r11, 1);
-                    store64(r11 + 8, key);
-                    store64(r11 + 16, value);
-                } else {
-                    r29 = slot_push_2(r11, key, value);
-                    if (r29 != 0) {
-                        goto x7;
+            if (!(((r44 & 4) != 0) & (load64(x0 + 88) <= r28))) {
+                if (r16) {
+                    r8 = r10 * 24;
+                    if ((load8(load_address(x0 + 32) + r8) & 1) == 0) {
+                        r11_3 = load_address(x0 + 8) + ((r10 >> 3) & UINT64_C(2305843009213693944));
+                        store64(r11_3, load64(r11_3) | ((uint64_t)1 << (r10 & 63)));
+                        r9 = load_address(x0 + 32) + r8;
+                        r11_4 = load8(r9);
+                        store64(r9, 1);
+                        store64(r9 + 8, key);
+                        store64(r9 + 16, value);
+                        if (r11_4 == 0) {
+                            goto after_IntMap_add;
+                        }
+                        abort();
                     }
+                    r53 = slots_push_second(x0, r10, key, value);
+                    r53_2 = r53;
+                } else {
+                    r9_2 = load_address(x0 + 56) + (r10 * 48);
+                    r11_5 = load_address(x0 + 8) + ((r10 >> 3) & UINT64_C(2305843009213693944));
+                    r16_2 = load64(r11_5);
+                    r20 = (uint64_t)1 << (r10 & 63);
+                    store64(r11_5, r16_2 | r20);
+                    if ((r16_2 & r20) == 0) {
+                        store64(r9_2, 1);
+                        store64(r9_2 + 8, key);
+                        store64(r9_2 + 16, value);
+                        goto after_IntMap_add;
+                    }
+                    r86 = slot_push(r9_2, key, value);
+                    r53_2 = r86;
                 }
-                store64(x0 + 56, r44);
+                if (r53_2.first != 0) {
+                    goto x10;
+                }
+            after_IntMap_add:;
+                store64(x0 + 80, r44);
                 r4_0 = 0;
                 goto after_pairs_insert_checked;
             }
@@ -3317,7 +4140,7 @@ static ALWAYS_INLINE uint32_t do_intmap_insert_checked(char *map, uint64_t key, 
                 r4_0 = 4294967294u;
                 goto after_pairs_insert_checked;
             }
-        x7:;
+        x10:;
             r4_0 = 4294967295u;
         }
     after_pairs_insert_checked:;
@@ -3326,36 +4149,8 @@ static ALWAYS_INLINE uint32_t do_intmap_insert_checked(char *map, uint64_t key, 
         if (r3_2 == 0) {
             r6_0 = r4_0;
         } else {
-            x8 = (char *)(uintptr_t)r3_2;
-            r4_2 = load_address(x8 + 8);
-            r4_3 = load_address(x8 + 32);
-            r4_4 = load64(x8 + 40);
-            r4_5 = load64(x8 + 48);
-            r4_6 = load64(x8 + 24);
-            rattle_dealloc(x8);
-            if (r4_6 != 0) {
-                rattle_dealloc(r4_2);
-            }
-            if (r4_4 != 0) {
-                r0_06 = 0;
-                for (;;) {
-                    r9 = r4_3 + (r0_06 * 48);
-                    if (load64(r9 + 40) != 0) {
-                        rattle_dealloc(load_address(r9 + 24));
-                    }
-                    r12_2 = r0_06 + 1;
-                    if (r12_2 == r4_4) {
-                        break;
-                    }
-                    r0_06 = r12_2;
-                }
-            }
-            if (r4_5 == 0) {
-                r6_0 = r4_0;
-            } else {
-                rattle_dealloc(r4_3);
-                r6_0 = r4_0;
-            }
+            box_drop((char *)(uintptr_t)r3_2);
+            r6_0 = r4_0;
         }
     }
     return r6_0;
@@ -3363,9 +4158,9 @@ static ALWAYS_INLINE uint32_t do_intmap_insert_checked(char *map, uint64_t key, 
 
 // intmap_remove, in crates/intmap_c/src/pairs.rt
 static ALWAYS_INLINE struct word_word do_intmap_remove(char *map, uint64_t key) {
-    uint64_t r3, r6, r19, r10, r3_2, r8, r9, r0, r0_2, r28, r2, r4, r6_2, r3_0, r45, r15, r2_2, r4_3, r3_3, r4_6,
-        r4_7, r4_8, r0_06, r12;
-    char *x0, *r11, *r23, *r4_2, *r23_2, *x3, *x4, *r4_4, *r4_5, *r9_2;
+    uint64_t r3, r6, r19, r10, r8, r9, r0, r0_2, r3_2, r8_2, r9_2, r0_3, r28, r2, r4, r6_2, r3_0, r45, r28_2, r2_2,
+        r4_3, r3_3;
+    char *x0, *r11, *r11_2, *r23, *r4_2, *r23_2, *x5;
     r3 = load64(map);
     store64(map, 0);
     x0 = (char *)(uintptr_t)r3;
@@ -3374,104 +4169,89 @@ static ALWAYS_INLINE struct word_word do_intmap_remove(char *map, uint64_t key) 
         r19 = UINT64_C(4294967293);
     } else {
         r10 = load64(x0) & (key * UINT64_C(11400714819323198549));
-        r11 = load_address(x0 + 32) + (r10 * 48);
-        if (load8(r11) == 1) {
-            if (load64(r11 + 8) == key) {
-                r3_2 = load64(r11 + 32);
-                if (r3_2 == 0) {
+        if (r10 < load64(x0 + 40)) {
+            r11 = load_address(x0 + 32) + (r10 * 24);
+            if (load8(r11) == 1) {
+                if (load64(r11 + 8) == key) {
                     r8 = (r10 >> 3) & UINT64_C(2305843009213693944);
                     r9 = load64(load_address(x0 + 8) + r8);
                     r0 = load64(r11 + 16);
                     memset(r11, 0, 24);
                     store64(load_address(x0 + 8) + r8, r9 & (((uint64_t)1 << (r10 & 63)) ^ UINT64_C(18446744073709551615)));
                     r0_2 = r0;
-                } else {
+                    goto after_pairs_remove_2;
+                }
+            }
+        } else {
+            r11_2 = load_address(x0 + 56) + (r10 * 48);
+            if (load8(r11_2) == 1) {
+                if (load64(r11_2 + 8) == key) {
+                    r3_2 = load64(r11_2 + 32);
+                    if (r3_2 == 0) {
+                        r8_2 = (r10 >> 3) & UINT64_C(2305843009213693944);
+                        r9_2 = load64(load_address(x0 + 8) + r8_2);
+                        r0_3 = load64(r11_2 + 16);
+                        memset(r11_2, 0, 24);
+                        store64(load_address(x0 + 8) + r8_2, r9_2 & (((uint64_t)1 << (r10 & 63)) ^ UINT64_C(18446744073709551615)));
+                        r0_2 = r0_3;
+                        goto after_pairs_remove_2;
+                    }
                     r28 = r3_2 - 1;
-                    store64(r11 + 32, r28);
-                    r23 = load_address(r11 + 24) + (r28 << 4);
+                    store64(r11_2 + 32, r28);
+                    r23 = load_address(r11_2 + 24) + (r28 << 4);
                     r2 = load64(r23 + 8);
-                    r4 = load64(r11 + 16);
-                    store64(r11 + 8, load64(r23));
-                    store64(r11 + 16, r2);
+                    r4 = load64(r11_2 + 16);
+                    store64(r11_2 + 8, load64(r23));
+                    store64(r11_2 + 16, r2);
                     r0_2 = r4;
+                    goto after_pairs_remove_2;
                 }
-            } else {
-                r4_2 = load_address(r11 + 24);
-                r6_2 = load64(r11 + 32);
-                if (r6_2 == 0) {
-                    goto after_pairs_remove;
-                }
-                r3_0 = 0;
-                for (;;) {
-                    r45 = r3_0 + 1;
-                    if (load64(r4_2 + (r3_0 << 4)) == key) {
-                        r15 = r6_2 - 1;
-                        store64(r11 + 32, r15);
-                        r23_2 = r4_2 + (r15 << 4);
-                        r2_2 = load64(r23_2 + 8);
+                r4_2 = load_address(r11_2 + 24);
+                r6_2 = load64(r11_2 + 32);
+                if (r6_2 != 0) {
+                    r3_0 = 0;
+                    for (;;) {
+                        r45 = r3_0 + 1;
+                        if (load64(r4_2 + (r3_0 << 4)) == key) {
+                            r28_2 = r6_2 - 1;
+                            store64(r11_2 + 32, r28_2);
+                            r23_2 = r4_2 + (r28_2 << 4);
+                            r2_2 = load64(r23_2 + 8);
+                            if (r45 == r6_2) {
+                                r0_2 = r2_2;
+                                goto after_pairs_remove_2;
+                            }
+                            x5 = r4_2 + (r45 << 4);
+                            r4_3 = load64(x5 - 8);
+                            store64(x5 - 16, load64(r23_2));
+                            store64(x5 - 8, r2_2);
+                            r0_2 = r4_3;
+                            goto after_pairs_remove_2;
+                        }
                         if (r45 == r6_2) {
-                            r0_2 = r2_2;
                             break;
                         }
-                        x3 = r4_2 + (r45 << 4);
-                        r4_3 = load64(x3 - 8);
-                        store64(x3 - 16, load64(r23_2));
-                        store64(x3 - 8, r2_2);
-                        r0_2 = r4_3;
-                        break;
+                        r3_0 = r45;
                     }
-                    if (r45 == r6_2) {
-                        goto after_pairs_remove;
-                    }
-                    r3_0 = r45;
                 }
             }
-            store64(x0 + 56, load64(x0 + 56) - 1);
-            r3_3 = load64(map);
-            store64(map, r3);
-            if (r3_3 == 0) {
-                r6 = r0_2;
-                r19 = 1;
-                goto after_pairs_intmap_remove;
-            }
-            x4 = (char *)(uintptr_t)r3_3;
-            r4_4 = load_address(x4 + 8);
-            r4_5 = load_address(x4 + 32);
-            r4_6 = load64(x4 + 40);
-            r4_7 = load64(x4 + 48);
-            r4_8 = load64(x4 + 24);
-            rattle_dealloc(x4);
-            if (r4_8 != 0) {
-                rattle_dealloc(r4_4);
-            }
-            if (r4_6 != 0) {
-                r0_06 = 0;
-                for (;;) {
-                    r9_2 = r4_5 + (r0_06 * 48);
-                    if (load64(r9_2 + 40) != 0) {
-                        rattle_dealloc(load_address(r9_2 + 24));
-                    }
-                    r12 = r0_06 + 1;
-                    if (r12 == r4_6) {
-                        break;
-                    }
-                    r0_06 = r12;
-                }
-            }
-            if (r4_7 == 0) {
-                r6 = r0_2;
-                r19 = 1;
-                goto after_pairs_intmap_remove;
-            }
-            rattle_dealloc(r4_5);
-            r6 = r0_2;
-            r19 = 1;
-            goto after_pairs_intmap_remove;
         }
-    after_pairs_remove:;
         store64(map, r3);
         r6 = 0;
         r19 = 0;
+        goto after_pairs_intmap_remove;
+    after_pairs_remove_2:;
+        store64(x0 + 80, load64(x0 + 80) - 1);
+        r3_3 = load64(map);
+        store64(map, r3);
+        if (r3_3 == 0) {
+            r6 = r0_2;
+            r19 = 1;
+        } else {
+            box_drop((char *)(uintptr_t)r3_3);
+            r6 = r0_2;
+            r19 = 1;
+        }
     }
 after_pairs_intmap_remove:;
     return made_word_word(r6, r19);
@@ -3479,8 +4259,8 @@ after_pairs_intmap_remove:;
 
 // intmap_reserve, in crates/intmap_c/src/figures.rt
 static ALWAYS_INLINE uint32_t do_intmap_reserve(char *map, uint64_t additional) {
-    uint64_t r3, r18, r40, r2_0, r13, r2, a0_a1, r3_2, r4_3, r4_4, r4_5, r0_06, r12;
-    char *x0, *x1, *r4, *r4_2, *r9;
+    uint64_t r3, r18, r40, r2_0, r13, r13_2, a0_a1, r3_2;
+    char *x0;
     uint32_t r6_0, r4_0;
     uint8_t r18_2;
     u128 r17;
@@ -3490,7 +4270,7 @@ static ALWAYS_INLINE uint32_t do_intmap_reserve(char *map, uint64_t additional) 
     if (r3 == 0) {
         r6_0 = 4294967293u;
     } else {
-        r18 = load64(x0 + 56);
+        r18 = load64(x0 + 80);
         if ((r18 > UINT64_C(9223372036854775808)) ? true : ((UINT64_C(9223372036854775808) - r18) < additional)) {
             r4_0 = 4294967294u;
         } else {
@@ -3501,17 +4281,17 @@ static ALWAYS_INLINE uint32_t do_intmap_reserve(char *map, uint64_t additional) 
                 r13 = high_zeros(r40 - 1);
                 r2_0 = (uint64_t)1 << ((uint64_t)64 - r13);
             }
-            r2 = load64(x0 + 40);
-            a0_a1 = greater(r2, r2_0);
-            if (r2 < r2_0) {
-                r18_2 = table_grow(x0, a0_a1);
+            r13_2 = load64(x0 + 64) + load64(x0 + 40);
+            a0_a1 = greater(r13_2, r2_0);
+            if (r13_2 < r2_0) {
+                r18_2 = slots_grow(x0, a0_a1, false);
                 if ((r18_2 & 1) != 0) {
                     r4_0 = 4294967295u;
                     goto after_figures_reserve;
                 }
             }
-            r17 = u128_less_one(u128_mul(u128_add(u128_of(load64(x0 + 72)), u128_of(1u)), u128_of(a0_a1)));
-            store64(x0 + 64, u128_above(r17, u128_two(UINT64_C(999), UINT64_C(18446744073709551615))) ? UINT64_C(18446744073709551615) : u128_low(u128_div(r17, u128_of(1000u))));
+            r17 = u128_less_one(u128_mul(u128_add(u128_of(load64(x0 + 96)), u128_of(1u)), u128_of(a0_a1)));
+            store64(x0 + 88, u128_above(r17, u128_two(UINT64_C(999), UINT64_C(18446744073709551615))) ? UINT64_C(18446744073709551615) : u128_low(u128_div(r17, u128_of(1000u))));
             r4_0 = 0;
         }
     after_figures_reserve:;
@@ -3520,36 +4300,8 @@ static ALWAYS_INLINE uint32_t do_intmap_reserve(char *map, uint64_t additional) 
         if (r3_2 == 0) {
             r6_0 = r4_0;
         } else {
-            x1 = (char *)(uintptr_t)r3_2;
-            r4 = load_address(x1 + 8);
-            r4_2 = load_address(x1 + 32);
-            r4_3 = load64(x1 + 40);
-            r4_4 = load64(x1 + 48);
-            r4_5 = load64(x1 + 24);
-            rattle_dealloc(x1);
-            if (r4_5 != 0) {
-                rattle_dealloc(r4);
-            }
-            if (r4_3 != 0) {
-                r0_06 = 0;
-                for (;;) {
-                    r9 = r4_2 + (r0_06 * 48);
-                    if (load64(r9 + 40) != 0) {
-                        rattle_dealloc(load_address(r9 + 24));
-                    }
-                    r12 = r0_06 + 1;
-                    if (r12 == r4_3) {
-                        break;
-                    }
-                    r0_06 = r12;
-                }
-            }
-            if (r4_4 == 0) {
-                r6_0 = r4_0;
-            } else {
-                rattle_dealloc(r4_2);
-                r6_0 = r4_0;
-            }
+            box_drop((char *)(uintptr_t)r3_2);
+            r6_0 = r4_0;
         }
     }
     return r6_0;
@@ -3557,86 +4309,67 @@ static ALWAYS_INLINE uint32_t do_intmap_reserve(char *map, uint64_t additional) 
 
 // intmap_set, in crates/intmap_c/src/pairs.rt
 static ALWAYS_INLINE struct word_word do_intmap_set(char *map, uint64_t key, uint64_t value) {
-    uint64_t r3, r6, r19, r6_2, r3_0, r21, r36, r6_3, r3_2, r4_5, r4_6, r4_7, r0_06, r12;
-    char *x0, *r11, *r4, *r4_2, *x2, *r4_3, *r4_4, *r9;
+    uint64_t r3, r6, r19, r10, r6_2, r3_0, r21, r36, r6_3, r3_2;
+    char *x0, *r11, *r4, *r11_2, *r4_2;
     r3 = load64(map);
     store64(map, 0);
+    x0 = (char *)(uintptr_t)r3;
     if (r3 == 0) {
         r6 = 0;
         r19 = UINT64_C(4294967293);
     } else {
-        x0 = (char *)(uintptr_t)r3;
-        r11 = load_address(x0 + 32) + ((load64(x0) & (key * UINT64_C(11400714819323198549))) * 48);
-        if (load8(r11) == 1) {
-            if (load64(r11 + 8) == key) {
-                r4 = r11 + 16;
-            } else {
-                r4_2 = load_address(r11 + 24);
-                r6_2 = load64(r11 + 32);
-                if (r6_2 == 0) {
-                    goto after_pairs_set;
-                }
-                r3_0 = 0;
-                for (;;) {
-                    r21 = r3_0 << 4;
-                    if (load64(r4_2 + r21) == key) {
-                        r4 = (r4_2 + r21) + 8;
-                        break;
-                    }
-                    r36 = r3_0 + 1;
-                    if (r36 == r6_2) {
-                        goto after_pairs_set;
-                    }
-                    r3_0 = r36;
+        r10 = load64(x0) & (key * UINT64_C(11400714819323198549));
+        if (r10 < load64(x0 + 40)) {
+            r11 = load_address(x0 + 32) + (r10 * 24);
+            if (load8(r11) == 1) {
+                if (load64(r11 + 8) == key) {
+                    r4 = r11 + 16;
+                    goto after_pairs_set_2;
                 }
             }
-            r6_3 = load64(r4);
-            store64(r4, value);
-            r3_2 = load64(map);
-            store64(map, r3);
-            if (r3_2 == 0) {
-                r6 = r6_3;
-                r19 = 1;
-                goto after_pairs_intmap_set;
-            }
-            x2 = (char *)(uintptr_t)r3_2;
-            r4_3 = load_address(x2 + 8);
-            r4_4 = load_address(x2 + 32);
-            r4_5 = load64(x2 + 40);
-            r4_6 = load64(x2 + 48);
-            r4_7 = load64(x2 + 24);
-            rattle_dealloc(x2);
-            if (r4_7 != 0) {
-                rattle_dealloc(r4_3);
-            }
-            if (r4_5 != 0) {
-                r0_06 = 0;
-                for (;;) {
-                    r9 = r4_4 + (r0_06 * 48);
-                    if (load64(r9 + 40) != 0) {
-                        rattle_dealloc(load_address(r9 + 24));
+        } else {
+            r11_2 = load_address(x0 + 56) + (r10 * 48);
+            if (load8(r11_2) == 1) {
+                if (load64(r11_2 + 8) == key) {
+                    r4 = r11_2 + 16;
+                    goto after_pairs_set_2;
+                }
+                r4_2 = load_address(r11_2 + 24);
+                r6_2 = load64(r11_2 + 32);
+                if (r6_2 != 0) {
+                    r3_0 = 0;
+                    for (;;) {
+                        r21 = r3_0 << 4;
+                        if (load64(r4_2 + r21) == key) {
+                            r4 = (r4_2 + r21) + 8;
+                            goto after_pairs_set_2;
+                        }
+                        r36 = r3_0 + 1;
+                        if (r36 == r6_2) {
+                            break;
+                        }
+                        r3_0 = r36;
                     }
-                    r12 = r0_06 + 1;
-                    if (r12 == r4_5) {
-                        break;
-                    }
-                    r0_06 = r12;
                 }
             }
-            if (r4_6 == 0) {
-                r6 = r6_3;
-                r19 = 1;
-                goto after_pairs_intmap_set;
-            }
-            rattle_dealloc(r4_4);
-            r6 = r6_3;
-            r19 = 1;
-            goto after_pairs_intmap_set;
         }
-    after_pairs_set:;
         store64(map, r3);
         r6 = 0;
         r19 = 0;
+        goto after_pairs_intmap_set;
+    after_pairs_set_2:;
+        r6_3 = load64(r4);
+        store64(r4, value);
+        r3_2 = load64(map);
+        store64(map, r3);
+        if (r3_2 == 0) {
+            r6 = r6_3;
+            r19 = 1;
+        } else {
+            box_drop((char *)(uintptr_t)r3_2);
+            r6 = r6_3;
+            r19 = 1;
+        }
     }
 after_pairs_intmap_set:;
     return made_word_word(r6, r19);
@@ -3644,10 +4377,10 @@ after_pairs_intmap_set:;
 
 // intmap_set_load_factor, in crates/intmap_c/src/figures.rt
 static ALWAYS_INLINE uint32_t do_intmap_set_load_factor(char *map, uint64_t thousandths) {
-    uint64_t r3, r2, r3_09, r31, r3_2, r4_3, r4_4, r4_5, r0_06, r12;
-    char *x0, *x1, *r4, *r4_2, *r9;
+    uint64_t r3, r13, r3_09, r31, r3_2;
+    char *x0;
     uint32_t r6_0, r4_0;
-    u128 r10, r13, r187, r15, r18, r17;
+    u128 r10, r13_2, r187, r15, r18, r17;
     uint8_t r18_2;
     r3 = load64(map);
     store64(map, 0);
@@ -3655,27 +4388,27 @@ static ALWAYS_INLINE uint32_t do_intmap_set_load_factor(char *map, uint64_t thou
     if (r3 == 0) {
         r6_0 = 4294967293u;
     } else {
-        r2 = load64(x0 + 40);
-        r10 = u128_mul(u128_of(load64(x0 + 56)), u128_of(1000u));
-        r13 = u128_add(u128_of(thousandths), u128_of(1u));
-        r187 = u128_mul(r13, u128_of(r2));
+        r13 = load64(x0 + 64) + load64(x0 + 40);
+        r10 = u128_mul(u128_of(load64(x0 + 80)), u128_of(1000u));
+        r13_2 = u128_add(u128_of(thousandths), u128_of(1u));
+        r187 = u128_mul(r13_2, u128_of(r13));
         if (u128_above(r187, r10)) {
             r15 = r187;
         } else {
-            r3_09 = r2;
+            r3_09 = r13;
             for (;;) {
                 if (r3_09 == UINT64_C(9223372036854775808)) {
                     r4_0 = 4294967294u;
                     goto after_figures_set_load_factor;
                 }
                 r31 = r3_09 << 1;
-                r18 = u128_mul(r13, u128_of(r31));
+                r18 = u128_mul(r13_2, u128_of(r31));
                 if (u128_above(r18, r10)) {
-                    if (r31 == r2) {
+                    if (r31 == r13) {
                         r15 = r187;
                         break;
                     }
-                    r18_2 = table_grow(x0, r31);
+                    r18_2 = slots_grow(x0, r31, false);
                     if ((r18_2 & 1) != 0) {
                         r4_0 = 4294967295u;
                         goto after_figures_set_load_factor;
@@ -3686,9 +4419,9 @@ static ALWAYS_INLINE uint32_t do_intmap_set_load_factor(char *map, uint64_t thou
                 r3_09 = r31;
             }
         }
-        store64(x0 + 72, thousandths);
+        store64(x0 + 96, thousandths);
         r17 = u128_less_one(r15);
-        store64(x0 + 64, u128_above(r17, u128_two(UINT64_C(999), UINT64_C(18446744073709551615))) ? UINT64_C(18446744073709551615) : u128_low(u128_div(r17, u128_of(1000u))));
+        store64(x0 + 88, u128_above(r17, u128_two(UINT64_C(999), UINT64_C(18446744073709551615))) ? UINT64_C(18446744073709551615) : u128_low(u128_div(r17, u128_of(1000u))));
         r4_0 = 0;
     after_figures_set_load_factor:;
         r3_2 = load64(map);
@@ -3696,36 +4429,8 @@ static ALWAYS_INLINE uint32_t do_intmap_set_load_factor(char *map, uint64_t thou
         if (r3_2 == 0) {
             r6_0 = r4_0;
         } else {
-            x1 = (char *)(uintptr_t)r3_2;
-            r4 = load_address(x1 + 8);
-            r4_2 = load_address(x1 + 32);
-            r4_3 = load64(x1 + 40);
-            r4_4 = load64(x1 + 48);
-            r4_5 = load64(x1 + 24);
-            rattle_dealloc(x1);
-            if (r4_5 != 0) {
-                rattle_dealloc(r4);
-            }
-            if (r4_3 != 0) {
-                r0_06 = 0;
-                for (;;) {
-                    r9 = r4_2 + (r0_06 * 48);
-                    if (load64(r9 + 40) != 0) {
-                        rattle_dealloc(load_address(r9 + 24));
-                    }
-                    r12 = r0_06 + 1;
-                    if (r12 == r4_3) {
-                        break;
-                    }
-                    r0_06 = r12;
-                }
-            }
-            if (r4_4 == 0) {
-                r6_0 = r4_0;
-            } else {
-                rattle_dealloc(r4_2);
-                r6_0 = r4_0;
-            }
+            box_drop((char *)(uintptr_t)r3_2);
+            r6_0 = r4_0;
         }
     }
     return r6_0;

@@ -28,7 +28,7 @@
 //   threads. Nothing jumps out of a call: no longjmp, no exception, no cancellation of its thread.
 // - malloc, realloc and free belong to one allocator, make no call on a map, and align blocks like
 //   the C library.
-// - A cursor is INTMAP_START, what a call left in it, or a copy of that. Since then no call has
+// - A cursor is intmap_start(), what a call left in it, or a copy of that. Since then no call has
 //   changed the map, except intmap_cut with this cursor, intmap_set and intmap_add.
 // - The two words of intmap_clone differ, and intmap_next has an array for all `room` pairs.
 // - There is some stack: a call takes less than 1 KB, besides malloc's; less than 5 KB if the
@@ -57,13 +57,31 @@
 // multiples of 4096 take key >> 12, of what malloc returned address >> 4, of row << 32 | column
 // row * columns + column. If strangers choose the keys, they can make each call linear. Then mix
 // each key by intmap_mix. intmap_filled_slots tells of shared slots. An insertion that adds slots
-// moves all pairs, which is constant time a pair over all insertions.
+// or enlarges them moves all pairs, which is constant time a pair over all insertions.
 //
-// MEMORY. It comes from malloc: at least 48 bytes a slot, so some 50 to 120 a pair in a map that
-// has grown, and up to 140 if many keys share slots. A clone has as many slots.
+// MEMORY. It comes from malloc: 48 bytes a slot, so some 50 to 120 a pair in a map that has grown,
+// and up to 140 if many keys share slots. Slots that an insertion has added take 24 while no two
+// keys share one, so ids that count up take 27 to 54 a pair. A clone has as many slots.
 // intmap_with_capacity writes each slot. So on Linux, where malloc may not fail, too large a number
-// may end the process. Only intmap_free gives memory back, and a call that replaces a map or adds
-// slots.
+// may end the process. Only intmap_free gives memory back, and a call that replaces a map, adds
+// slots or enlarges them.
+//
+// DEBUGGING. With intmap_debug.c in place of intmap.c, some calls that break the rules end the
+// program, by a line on standard error and abort():
+//
+//     cc -g -DINTMAP_DEBUG program.c intmap_debug.c
+//
+// It notices a call with a copied word whose map was freed or replaced, also if the memory has
+// another map by then; with a word that no call wrote, unless its bits are by chance those of a
+// word; with a null address of a word; with one map as both of intmap_clone; and two calls on one
+// map at once of which one changes it, in two threads, by a signal handler, by malloc, or since a
+// jump left the first. It doesn't notice a copy as long as its map lives, calls that might meet but
+// don't, two that make the first map of one word, or what a cursor or an array breaks. A call on a
+// word that intmap_free has left is no mistake: there is no map.
+//
+// All files that have maps must be compiled so, by gcc or clang. Each call that makes a map takes 24
+// bytes, which stay in use, and may fail for want of them. Else calls answer as without. A map that
+// is lost isn't reported by a tool that looks for leaks.
 #ifndef INTMAP_H
 #define INTMAP_H
 
@@ -93,6 +111,32 @@ extern "C" {
 #define INTMAP_MUST_USE __attribute__((warn_unused_result))
 #else
 #define INTMAP_MUST_USE
+#endif
+
+// DEBUGGING, above, says what this does.
+#ifdef INTMAP_DEBUG
+#define intmap_new intmap_debug_new
+#define intmap_with_capacity intmap_debug_with_capacity
+#define intmap_clone intmap_debug_clone
+#define intmap_free intmap_debug_free
+#define intmap_get intmap_debug_get
+#define intmap_contains_key intmap_debug_contains_key
+#define intmap_insert intmap_debug_insert
+#define intmap_insert_checked intmap_debug_insert_checked
+#define intmap_set intmap_debug_set
+#define intmap_add intmap_debug_add
+#define intmap_add_or_insert intmap_debug_add_or_insert
+#define intmap_remove intmap_debug_remove
+#define intmap_clear intmap_debug_clear
+#define intmap_len intmap_debug_len
+#define intmap_capacity intmap_debug_capacity
+#define intmap_load_factor intmap_debug_load_factor
+#define intmap_filled_slots intmap_debug_filled_slots
+#define intmap_reserve intmap_debug_reserve
+#define intmap_set_load_factor intmap_debug_set_load_factor
+#define intmap_step intmap_debug_step
+#define intmap_cut intmap_debug_cut
+#define intmap_equal intmap_debug_equal
 #endif
 
 // A map, or none.
@@ -146,9 +190,15 @@ typedef struct intmap_cursor {
     size_t passed;
 } intmap_cursor;
 
-// The start of a walk, in a definition. To assign it, in C: at = (intmap_cursor)INTMAP_START; and
-// in C++: at = INTMAP_START;
+// The start of a walk, where a definition needs a constant, as outside functions. All zero bits are
+// it too.
 #define INTMAP_START {0, 0, 0}
+
+// Returns the start of a walk, in C as in C++.
+static inline intmap_cursor intmap_start(void) INTMAP_CALL {
+    intmap_cursor at = INTMAP_START;
+    return at;
+}
 
 // A pair if the status is INTMAP_PRESENT. With every other status its key and value are 0.
 typedef struct intmap_found_pair {
@@ -252,9 +302,9 @@ INTMAP_NONNULL size_t intmap_filled_slots(const intmap *map) INTMAP_CALL;
 
 // Makes the number of slots at least the least power of two that is no less than the number of
 // pairs plus `additional`. It ignores the load factor, so the map may still grow before it has that
-// many pairs. For c pairs in all without growth, ask for c + c / 10 + 1, less the pairs that there
-// are. It returns INTMAP_OK; INTMAP_TOO_LARGE exactly if the pairs and `additional` are above
-// 2^63; INTMAP_NO_MEMORY, but never if there are enough slots already; or INTMAP_NO_MAP.
+// many pairs: intmap_reserve_pairs makes room for them. It returns INTMAP_OK; INTMAP_TOO_LARGE
+// exactly if the pairs and `additional` are above 2^63; INTMAP_NO_MEMORY, but never if there are
+// enough slots already; or INTMAP_NO_MAP.
 INTMAP_NONNULL INTMAP_MUST_USE intmap_status intmap_reserve(intmap *map, size_t additional)
     INTMAP_CALL;
 
@@ -265,6 +315,35 @@ INTMAP_NONNULL INTMAP_MUST_USE intmap_status intmap_reserve(intmap *map, size_t 
 // it; or INTMAP_NO_MAP. If it fails, the load factor stays.
 INTMAP_NONNULL INTMAP_MUST_USE intmap_status intmap_set_load_factor(intmap *map, size_t thousandths)
     INTMAP_CALL;
+
+// Makes room for `more` pairs more: the number of slots becomes the least of itself and its
+// doublings that meets the load factor with them. Insertions of so many new keys then add no slots,
+// while the load factor stays. One above 10^16 counts as 10^16. It returns INTMAP_OK;
+// INTMAP_TOO_LARGE exactly if no number up to 2^63 meets it or there would be more than 2^64 - 1
+// pairs; INTMAP_NO_MEMORY, but never if the present number meets it; or INTMAP_NO_MAP.
+INTMAP_NONNULL INTMAP_MUST_USE static inline intmap_status intmap_reserve_pairs(intmap *map,
+                                                                                size_t more)
+    INTMAP_CALL {
+    const size_t most = (size_t)10000000000000000u;
+    size_t len = intmap_len(map), factor = intmap_load_factor(map), pairs = len + more;
+    // Slots meet the factor if 1000 * pairs < bound * slots. No sum or product overflows below.
+    size_t bound = (factor < most ? factor : most) + 1;
+    if (pairs < more || pairs / bound >= SIZE_MAX / 1000) {
+        return intmap_reserve(map, SIZE_MAX);
+    }
+    size_t least = pairs / bound * 1000 + pairs % bound * 1000 / bound + 1;
+    if (least > len) {
+        return intmap_reserve(map, least - len);
+    }
+    // A slot for each pair is too many. So for a moment the factor is one that these slots are the
+    // first to meet.
+    size_t slots = intmap_capacity(map);
+    while (slots < least) {
+        slots *= 2;
+    }
+    intmap_status status = intmap_set_load_factor(map, len / slots * 1000 + 999);
+    return intmap_failed(status) ? status : intmap_set_load_factor(map, factor);
+}
 
 // Returns INTMAP_PRESENT with the first pair of the walk from the cursor on, and moves the cursor
 // behind it; INTMAP_ABSENT if none is left; or INTMAP_NO_MAP. A whole walk takes time in the pairs
@@ -298,7 +377,7 @@ INTMAP_NONNULL static inline size_t intmap_next(const intmap *map, intmap_cursor
 //
 // To remove some pairs of a walk, look with a second cursor:
 //
-//     intmap_cursor at = INTMAP_START, next = INTMAP_START;
+//     intmap_cursor at = intmap_start(), next = at;
 //     intmap_found_pair seen;
 //     while ((seen = intmap_step(&map, &next)).status == INTMAP_PRESENT) {
 //         if (stays(seen.pair)) {

@@ -54,7 +54,7 @@ static void read_figures(reader *one) {
 // All pairs, one at a time and 64 at a time.
 static void read_walk(reader *one) {
     intmap_pair pairs[64];
-    intmap_cursor at = INTMAP_START, next = INTMAP_START;
+    intmap_cursor at = intmap_start(), next = at;
     for (size_t passed = 0; passed < KEYS; passed++) {
         intmap_found_pair seen = intmap_step(&map, &at);
         expect(one, seen.status == INTMAP_PRESENT
@@ -67,10 +67,11 @@ static void read_walk(reader *one) {
     }
 }
 
-// A clone is this thread's own.
+// A word is this thread's own, without a map and with a clone.
 static void read_all(reader *one) {
     intmap own = INTMAP_INIT;
     expect(one, intmap_filled_slots(&map) == filled);
+    expect(one, intmap_insert(&own, 1, 1).status == INTMAP_NO_MAP);
     expect(one, intmap_clone(&map, &own) == INTMAP_OK);
     expect(one, intmap_equal(&map, &own) && intmap_equal(&own, &map));
     intmap_set(&own, key_of(5), 0);
@@ -96,7 +97,7 @@ static bool make(void) {
     for (uint64_t number = 0; number < KEYS && !intmap_failed(status); number++) {
         status = intmap_insert(&map, key_of(number), number + 1).status;
     }
-    intmap_cursor at = INTMAP_START;
+    intmap_cursor at = intmap_start();
     capacity = intmap_capacity(&map);
     filled = intmap_filled_slots(&map);
     return !intmap_failed(status) && intmap_next(&map, &at, walk, KEYS) == KEYS;

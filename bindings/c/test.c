@@ -222,7 +222,7 @@ enum { LARGEST_ROOM = 1000 };
 // The whole walk, so many pairs at a time. The buffer has no values before.
 static void check_walk(const side *one, size_t room) {
     intmap_pair pairs[LARGEST_ROOM];
-    intmap_cursor at = INTMAP_START;
+    intmap_cursor at = intmap_start();
     const model *plain = &one->plain;
     size_t passed = 0, copied;
     do {
@@ -384,6 +384,18 @@ static void call_reserve(size_t additional) {
     }
 }
 
+static void call_reserve_pairs(size_t more) {
+    model *plain = &it->plain;
+    size_t slots = enough_slots(plain->len + more, plain->capacity, plain->factor);
+    begin();
+    intmap_status status = intmap_reserve_pairs(&it->map, more);
+    EXPECT(!requested() || slots > plain->capacity);
+    if (!fails(status, it)) {
+        EXPECT(status == INTMAP_OK);
+        set_slots(plain, slots);
+    }
+}
+
 static void call_set_load_factor(size_t thousandths) {
     size_t slots = enough_slots(it->plain.len, it->plain.capacity, thousandths);
     begin();
@@ -399,7 +411,7 @@ static void call_set_load_factor(size_t thousandths) {
 // Passes so many pairs, then cuts so many.
 static void call_cut(size_t passed, size_t count) {
     intmap_pair pairs[LARGEST_ROOM];
-    intmap_cursor at = INTMAP_START;
+    intmap_cursor at = intmap_start();
     model *plain = &it->plain;
     passed = intmap_next(&it->map, &at, pairs, passed);
     begin();
@@ -421,7 +433,7 @@ static void call_cut(size_t passed, size_t count) {
 
 // Keeps the pairs whose values have no bit of the mask.
 static void call_retain(uint64_t mask) {
-    intmap_cursor at = INTMAP_START, next = INTMAP_START;
+    intmap_cursor at = intmap_start(), next = at;
     model *plain = &it->plain;
     while (at.passed < plain->len) {
         intmap_found_pair seen = intmap_step(&it->map, &next);
@@ -527,7 +539,7 @@ static void test_statuses(void) {
 
 static void test_changes_without_map(void) {
     intmap none = INTMAP_INIT;
-    intmap_cursor at = INTMAP_START;
+    intmap_cursor at = intmap_start();
     begin();
     EXPECT(is(intmap_insert(&none, 3, 4), INTMAP_NO_MAP, 0));
     EXPECT(intmap_insert_checked(&none, 3, 4) == INTMAP_NO_MAP);
@@ -537,6 +549,8 @@ static void test_changes_without_map(void) {
     EXPECT(is(intmap_remove(&none, 3), INTMAP_NO_MAP, 0));
     EXPECT(intmap_reserve(&none, 1) == INTMAP_NO_MAP);
     EXPECT(intmap_reserve(&none, SIZE_MAX) == INTMAP_NO_MAP);
+    EXPECT(intmap_reserve_pairs(&none, 0) == INTMAP_NO_MAP);
+    EXPECT(intmap_reserve_pairs(&none, SIZE_MAX) == INTMAP_NO_MAP);
     EXPECT(intmap_set_load_factor(&none, 1) == INTMAP_NO_MAP);
     intmap_found_pair cut = intmap_cut(&none, &at);
     EXPECT(cut.status == INTMAP_NO_MAP && same_pair(cut.pair, NO_PAIR));
@@ -547,7 +561,7 @@ static void test_changes_without_map(void) {
 
 static void test_reads_without_map(void) {
     intmap none = INTMAP_NONE, to = INTMAP_NONE;
-    intmap_cursor at = INTMAP_START;
+    intmap_cursor at = intmap_start();
     intmap_pair pair = {1, 2};
     begin();
     EXPECT(is(intmap_get(&none, 3), INTMAP_NO_MAP, 0) && intmap_get_or(&none, 3, 9) == 9);
@@ -630,6 +644,23 @@ static void test_insertions(unsigned kind, uint64_t factor) {
     end_test();
 }
 
+// Each request is refused where a key comes to the slot of another one among keys that have a slot each,
+// and where all of these have a slot of their own again.
+static void test_stray_keys(unsigned kind) {
+    call_make(true, 0);
+    for (uint64_t key = 0; key < 300; key++) {
+        while (refuse_in_turn()) {
+            call_insertion(kind, key, key);
+        }
+        while (key % 16 == 12 && refuse_in_turn()) {
+            call_insertion(kind, it->plain.capacity, key);
+        }
+        check_figures(it);
+    }
+    check(it);
+    end_test();
+}
+
 // Slots are added to a map whose slots hold several pairs.
 static void test_growth(void) {
     call_make(true, 0);
@@ -646,10 +677,79 @@ static void test_growth(void) {
     end_test();
 }
 
-// A call asks for its slots first, each of 48 bytes. So with larger requests refused it gets them, and
-// with one byte less nothing is granted, and so nothing written.
-static void test_slots_first(size_t slots, void (*call)(void)) {
-    const size_t slot = 48, all = slot * slots, bits = slots / 8 < 8 ? 8 : slots / 8;
+// Room for so many pairs behind the first keys. The next keys come into it, and add no slots.
+static void test_room_for(size_t factor, size_t len, size_t more) {
+    call_make(true, 0);
+    call_set_load_factor(factor);
+    insert_some(len, 1);
+    while (refuse_in_turn()) {
+        call_reserve_pairs(more);
+    }
+    size_t slots = intmap_capacity(&it->map);
+    for (size_t key = len; key < len + more; key++) {
+        call_insertion(key % INSERTIONS, key, key);
+        EXPECT(intmap_capacity(&it->map) == slots);
+    }
+    check(it);
+    end_test();
+}
+
+static void test_room(void) {
+    const size_t factors[] = {0,    1,    100,  500,   909,        999,
+                              1000, 1001, 2500, 40000, 4000000000, SIZE_MAX};
+    const size_t lens[] = {0, 1, 2, 3, 4, 7, 8, 11, 29, 60, 130};
+    const size_t mores[] = {0, 1, 2, 3, 4, 5, 8, 12, 27, 100};
+    for (size_t at = 0; at < sizeof factors / sizeof factors[0]; at++) {
+        for (size_t first = 0; first < sizeof lens / sizeof lens[0]; first++) {
+            for (size_t next = 0; next < sizeof mores / sizeof mores[0]; next++) {
+                test_room_for(factors[at], lens[first], mores[next]);
+            }
+        }
+    }
+    test_room_for(4000, 2047, 50);
+}
+
+// Room for more pairs than a machine can have.
+static void test_limits_of_room(void) {
+    const size_t half = (size_t)1 << 63, great = 10000000000000000u;
+    const struct {
+        size_t factor, pairs;
+        intmap_status status;
+    } rooms[] = {
+        {0, 9223372036854775, INTMAP_NO_MEMORY},
+        {0, 9223372036854776, INTMAP_TOO_LARGE},
+        {0, half / 4, INTMAP_TOO_LARGE},
+        {0, SIZE_MAX, INTMAP_TOO_LARGE},
+        {2, SIZE_MAX / 1000 * 3 + 2, INTMAP_TOO_LARGE},
+        {909, half / 100 * 90, INTMAP_NO_MEMORY},
+        {909, half / 100 * 92, INTMAP_TOO_LARGE},
+        {999, half - 1, INTMAP_NO_MEMORY},
+        {999, half, INTMAP_TOO_LARGE},
+        {1999, SIZE_MAX, INTMAP_NO_MEMORY},
+        {1998, SIZE_MAX, INTMAP_TOO_LARGE},
+        {SIZE_MAX, great, INTMAP_OK},
+    };
+    for (size_t at = 0; at < sizeof rooms / sizeof rooms[0]; at++) {
+        call_make(true, 0);
+        call_set_load_factor(rooms[at].factor);
+        insert_some(3, 1);
+        EXPECT(intmap_reserve_pairs(&it->map, SIZE_MAX - 2) == INTMAP_TOO_LARGE);
+        EXPECT(intmap_reserve_pairs(&it->map, SIZE_MAX) == INTMAP_TOO_LARGE);
+        check(it);
+        EXPECT(intmap_reserve_pairs(&it->map, rooms[at].pairs - 3) == rooms[at].status);
+        set_slots(&it->plain, rooms[at].status == INTMAP_OK ? 1024 : it->plain.capacity);
+        check(it);
+        end_test();
+    }
+}
+
+// The bytes of a slot: of one that has room for several pairs, and of one that has room for a pair alone.
+enum { SHARED = 48, LONE = 24 };
+
+// A call asks for its slots first. So with larger requests refused it gets them, and with one byte less
+// nothing is granted, and so nothing written.
+static void test_slots_first(size_t slots, size_t slot, void (*call)(void)) {
+    const size_t all = slot * slots, bits = slots / 8 < 8 ? 8 : slots / 8;
     const size_t bounds[] = {0, bits, all / 2, all - 1};
     for (size_t at = 0; at < sizeof bounds / sizeof bounds[0]; at++) {
         largest_request = bounds[at];
@@ -679,19 +779,38 @@ static void reserve_4096_slots(void) {
     call_reserve(4096 - it->plain.len);
 }
 
+static void reserve_8192_slots(void) {
+    call_reserve(8192 - it->plain.len);
+}
+
 static void set_load_factor_10(void) {
     call_set_load_factor(10);
 }
 
 static void test_large_requests(void) {
-    test_slots_first(4, make_4_slots);
+    test_slots_first(4, SHARED, make_4_slots);
     insert_some(14, 1);
-    test_slots_first(32, insert_new_key);
-    test_slots_first(32, call_clone);
-    test_slots_first(2048, set_load_factor_10);
-    test_slots_first(4096, reserve_4096_slots);
-    test_slots_first(4096, call_clone);
-    test_slots_first(4096, make_4096_slots);
+    test_slots_first(32, LONE, insert_new_key);
+    test_slots_first(32, LONE, call_clone);
+    test_slots_first(2048, LONE, set_load_factor_10);
+    test_slots_first(4096, LONE, reserve_4096_slots);
+    test_slots_first(4096, LONE, call_clone);
+    end_test();
+}
+
+// The slots are shared where a map has so many from the first, and where two pairs of one slot stay
+// together at each growth.
+static void test_large_requests_of_shared_slots(void) {
+    test_slots_first(4096, SHARED, make_4096_slots);
+    insert_some(3, 1);
+    test_slots_first(4096, SHARED, call_clone);
+    test_slots_first(8192, SHARED, reserve_8192_slots);
+    call_make(true, 0);
+    call_insertion(INSERT, 1 << 20, 0);
+    insert_some(13, 1);
+    test_slots_first(32, SHARED, insert_new_key);
+    test_slots_first(32, SHARED, call_clone);
+    test_slots_first(2048, SHARED, set_load_factor_10);
     end_test();
 }
 
@@ -771,6 +890,21 @@ static void test_equal(void) {
     end_test();
 }
 
+// A walk begins at the first pair, in a constant too.
+static void test_start(void) {
+    static intmap_cursor constant = INTMAP_START;
+    intmap_cursor at = intmap_start(), zero;
+    memset(&zero, 0, sizeof zero);
+    EXPECT(memcmp(&at, &zero, sizeof at) == 0 && memcmp(&constant, &zero, sizeof zero) == 0);
+    call_make(true, 0);
+    insert_some(3, 1);
+    intmap_found_pair first = intmap_step(&it->map, &at);
+    EXPECT(first.pair.key == 0 && at.passed == 1);
+    at = intmap_start();
+    EXPECT(same_pair(intmap_step(&it->map, &at).pair, first.pair));
+    end_test();
+}
+
 // Walks by pieces of several sizes. What lies behind the copied pairs stays.
 static void test_walks(void) {
     const size_t rooms[] = {1, 2, 3, 5, 7, 63, 64, 65, 333, LARGEST_ROOM};
@@ -782,7 +916,7 @@ static void test_walks(void) {
     for (size_t at = 0; at < sizeof rooms / sizeof rooms[0]; at++) {
         check_walk(it, rooms[at]);
     }
-    intmap_cursor at = INTMAP_START;
+    intmap_cursor at = intmap_start();
     EXPECT(intmap_next(&it->map, &at, pairs, 0) == 0);
     EXPECT(intmap_next(&it->map, &at, pairs + 1, 9) == 9 && at.passed == 9);
     EXPECT(memcmp(pairs, before, sizeof pairs[0]) == 0);
@@ -856,7 +990,7 @@ static void test_kept_memory(void) {
 static void test_writes_in_walk(void) {
     call_make(true, 0);
     insert_some(200, 1 << 3);
-    intmap_cursor at = INTMAP_START;
+    intmap_cursor at = intmap_start();
     for (size_t passed = 0; passed < it->plain.len; passed++) {
         intmap_found_pair seen = intmap_step(&it->map, &at);
         EXPECT(seen.status == INTMAP_PRESENT && same_pair(seen.pair, it->plain.pairs[passed]));
@@ -874,7 +1008,7 @@ static void free_value(uint64_t value) {
 
 // Removes the pairs with odd keys, and frees what their values point to.
 static void keep_even(intmap *map) {
-    intmap_cursor at = INTMAP_START, next = INTMAP_START;
+    intmap_cursor at = intmap_start(), next = at;
     intmap_found_pair seen;
     while ((seen = intmap_step(map, &next)).status == INTMAP_PRESENT) {
         if (seen.pair.key % 2 == 0) {
@@ -888,7 +1022,7 @@ static void keep_even(intmap *map) {
 
 // Frees what all values point to, and then the map.
 static void free_all(intmap *map) {
-    intmap_cursor at = INTMAP_START;
+    intmap_cursor at = intmap_start();
     intmap_found_pair cut;
     while ((cut = intmap_cut(map, &at)).status == INTMAP_PRESENT) {
         free_value(cut.pair.value);
@@ -974,13 +1108,18 @@ static void test_each(void) {
     for (unsigned kind = 0; kind < INSERTIONS; kind++) {
         RUN(test_insertions(kind, 1));
         RUN(test_insertions(kind, 1 << 6));
+        RUN(test_stray_keys(kind));
     }
     RUN(test_growth());
+    RUN(test_room());
+    RUN(test_limits_of_room());
     RUN(test_large_requests());
+    RUN(test_large_requests_of_shared_slots());
     RUN(test_too_many_slots());
     RUN(test_limits());
     RUN(test_great_numbers());
     RUN(test_equal());
+    RUN(test_start());
     RUN(test_walks());
     RUN(test_one_slot());
     RUN(test_cuts());
@@ -1020,8 +1159,10 @@ static void call_on_all(uint64_t value, unsigned which) {
         call_cut(value % 60, value % 5);
     } else if (which < 50) {
         check_walk(it, 1 + value % LARGEST_ROOM);
-    } else if (which < 60) {
+    } else if (which < 55) {
         call_reserve(value % 100);
+    } else if (which < 60) {
+        call_reserve_pairs(value % 300);
     } else if (which < 70) {
         call_set_load_factor(200 + value % 3000);
     } else if (which < 80) {

@@ -26,16 +26,17 @@ static bool changes(intmap *map) {
            && is(intmap_add_or_insert(map, 5, 3), INTMAP_ABSENT, 0)
            && is(intmap_remove(map, 6), INTMAP_ABSENT, 0)
            && intmap_reserve(map, 100) == INTMAP_OK
+           && intmap_reserve_pairs(map, 100) == INTMAP_OK
            && intmap_set_load_factor(map, 500) == INTMAP_OK;
 }
 
 static bool clones_and_walks(intmap *map) {
     intmap other = INTMAP_INIT;
-    intmap_cursor at = INTMAP_START;
+    intmap_cursor at = intmap_start();
     intmap_pair pairs[4];
     bool is_good = intmap_clone(map, &other) == INTMAP_OK && intmap_equal(map, &other)
                    && intmap_next(map, &at, pairs, 4) == 2;
-    at = INTMAP_START;
+    at = intmap_start();
     intmap_found_pair first = intmap_step(map, &at);
     intmap_found_pair second = intmap_cut(map, &at);
     is_good = is_good && first.pair.key == pairs[0].key && second.pair.key == pairs[1].key;

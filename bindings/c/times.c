@@ -138,7 +138,7 @@ static uint64_t add_intmap(void) {
 
 static uint64_t iterate_intmap(void) {
     intmap_pair pairs[64];
-    intmap_cursor from = INTMAP_START;
+    intmap_cursor from = intmap_start();
     uint64_t sum = 0;
     size_t copied;
     while ((copied = intmap_next(&map, &from, pairs, 64)) > 0) {
@@ -398,7 +398,7 @@ static bool is_quick(const char *what, double from) {
 // Cuts each second pair, as a program does that keeps some.
 static bool cut_half(void) {
     double from = seconds();
-    intmap_cursor at = INTMAP_START;
+    intmap_cursor at = intmap_start();
     size_t left = count;
     for (size_t seen = 0; seen < count; seen++) {
         if (seen % 2) {
@@ -412,7 +412,7 @@ static bool cut_half(void) {
 
 static bool drain(void) {
     double from = seconds();
-    intmap_cursor at = INTMAP_START;
+    intmap_cursor at = intmap_start();
     while (intmap_cut(&map, &at).status == INTMAP_PRESENT) {
     }
     return intmap_len(&map) == 0 && is_quick("drained", from);

@@ -92,6 +92,10 @@ const CALLS: [(Call, u64); 39] = [
 /// How the keys of a round lie in the slots.
 #[derive(Clone, Copy, PartialEq, Debug)]
 pub enum Kind {
+    /// They count up from 0 in each map, or are among these, or share the slot of one of these until
+    /// there are so many slots that they part. A map is then often without a slot of two pairs, gets
+    /// one, and grows.
+    Counted,
     /// They count up from 0.
     Dense,
     /// They are scattered over all 64 bits.
@@ -102,23 +106,30 @@ pub enum Kind {
     Multiples,
     /// Their low 40 bits are equal, so all share a slot.
     OneSlot,
-    /// Each of them is of one of the other kinds.
+    /// Each of them is of one of the five kinds above.
     Mixed,
 }
 
 impl Kind {
-    pub const ALL: [Kind; 6] =
-        [Kind::Dense, Kind::Random, Kind::Few, Kind::Multiples, Kind::OneSlot, Kind::Mixed];
+    pub const ALL: [Kind; 7] = [
+        Kind::Counted,
+        Kind::Dense,
+        Kind::Random,
+        Kind::Few,
+        Kind::Multiples,
+        Kind::OneSlot,
+        Kind::Mixed,
+    ];
 
     /// The key with this number among those of the kind.
     fn key_of(self, number: u64, zeros: u64) -> u64 {
         match self {
-            Kind::Dense => number,
+            Kind::Counted | Kind::Dense => number,
             Kind::Random => Random(number).next(),
             Kind::Few => [0, 1, 4, 8, u64::MAX, 1 << 63][number as usize % 6],
             Kind::Multiples => number << zeros,
             Kind::OneSlot => (number % 100) << 40 | zeros,
-            Kind::Mixed => Kind::ALL[number as usize % 5].key_of(number / 5, zeros),
+            Kind::Mixed => Kind::ALL[1 + number as usize % 5].key_of(number / 5, zeros),
         }
     }
 }
@@ -130,6 +141,8 @@ pub struct Round {
     /// How many low bits of a multiple are zero.
     zeros: u64,
     keys: u64,
+    /// How many keys were counted for the present map.
+    counted: u64,
 }
 
 impl Round {
@@ -137,7 +150,7 @@ impl Round {
         let mut random = Random(Random(seed).next());
         let zeros = 1 + random.below(16);
         let keys = [8, 60, 300, 3_000][random.below(4) as usize];
-        Round { random, kind, zeros, keys }
+        Round { random, kind, zeros, keys, counted: 0 }
     }
 
     /// Keeps the number of keys to at most this.
@@ -146,10 +159,31 @@ impl Round {
     }
 
     fn key(&mut self) -> u64 {
+        if self.kind == Kind::Counted {
+            return self.counted_key();
+        }
         self.kind.key_of(self.random.below(self.keys), self.zeros)
     }
 
+    /// The next key, an earlier one, or one that shares the slot of an earlier one for now.
+    fn counted_key(&mut self) -> u64 {
+        let earlier = self.random.below(self.counted + 1);
+        match self.random.below(100) {
+            0 => earlier ^ 1 << (4 + self.random.below(self.zeros)),
+            1..50 => earlier,
+            _ => {
+                self.counted += 1;
+                self.counted - 1
+            }
+        }
+    }
+
+    /// A random call. A map whose keys are counted ends once it has had enough of them.
     fn call(&mut self) -> Call {
+        if self.kind == Kind::Counted && self.counted >= self.keys.max(60) {
+            self.counted = 0;
+            return Call::New;
+        }
         let mut left = self.random.below(CALLS.iter().map(|(_, often)| often).sum());
         for (call, often) in CALLS {
             if left < often {

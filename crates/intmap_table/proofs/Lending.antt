@@ -6,6 +6,7 @@ pub mod OpensOptionLemmas
 pub mod OpensStructLemmas
 pub mod OpensVecLemmas
 pub mod OpensPairLemmas
+pub mod OpensLoneLemmas
 pub mod OpensSlotLemmas
 pub mod OpensSlotsLemmas
 pub mod OpensTableLemmas

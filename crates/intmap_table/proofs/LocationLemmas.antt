@@ -190,6 +190,10 @@ module _ {K X : Type 0} (number : K → ℕ) (S : List (Held K X)) (i : ℕ) (k 
       }
 
 module _ {K V : Type 0} (number : K → ℕ) where
+  -- where a key is absent, its pair is put behind all others
+  pub put_pair-new : (L : List (K × V)) (C : ℕ) (k : K) (v : V) → value_of number L k ≡ None → put_pair number L C k v ≡ L ++ (k, v) ∷ []
+  put_pair-new L C k v missing = ap (λ M. M ++ (k, v) ∷ []) (swap_out-none (λ (p : K × V). same_key number k p.0) (λ p. agrees number C k p.0) L (position-from_none (same_key number k) L missing))
+
   -- the pair of a key that was absent is last in its slot, however many slots there are
   pub IsLast-new : (L : List (K × V)) (C D : ℕ) (k : K) (v : V) → value_of number L k ≡ None → IsCapacity D → IsLast number (walk_of number (put_pair number L C k v) D) D k
   IsLast-new L C D k v missing cap =

@@ -1,10 +1,12 @@
 -- Lemmas on bits, slots and tables.
-pub mod BackLemmas
+pub mod AddedLemmas
+pub mod ApartLemmas
 pub mod BitsLemmas
 pub mod CloneLemmas
 pub mod CountLemmas
 pub mod CursorLemmas
 pub mod FilledLemmas
+pub mod FormLemmas
 pub mod FoundLemmas
 pub mod ExtractSlotsLemmas
 pub mod FrontLemmas
@@ -14,6 +16,7 @@ pub mod GrownLemmas
 pub mod LeftLemmas
 pub mod RoomLemmas
 pub mod RowLemmas
+pub mod PartingLemmas
 pub mod PartsLemmas
 pub mod PutLemmas
 pub mod MovingLemmas

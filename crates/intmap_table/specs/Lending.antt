@@ -7,6 +7,7 @@ use Rattle.intmap_table.specs.declared.key.IntKey as key
 use Rattle.intmap_table.specs.Bindings.{write_value}
 use Rattle.intmap_table.specs.Tables.Slots.{Held, Grid, write_at, write_row}
 use Rattle.intmap_table.specs.contracts.kept.Kept.{the_row as kept_row}
+use Rattle.intmap_table.specs.contracts.lone.Lone.{the_row as lone_row}
 use Rattle.intmap_table.specs.contracts.slot.Slot.{the_row as slot_row}
 use Rattle.intmap_table.specs.contracts.table.slots.Slots.{the_row as slots_row}
 use Rattle.intmap_table.specs.contracts.table.Table.{the_row as table_row}
@@ -19,6 +20,10 @@ kept_lends V k r = Lends (kept_row V) V k r (λ v. v)
 abbrev pub slot_lends : (K X A : RattleType) → key.Ghosts K.Denot → eq.Ghosts K.Denot → allocator.Ghosts A.Denot
     → MutBor (Held K.Denot X.Denot) → ℕ → MutBor X.Denot → Fml
 slot_lends K X A g e a s i r = Lends (slot_row K X A g e a) X s r (λ v. record s.now { pairs = write_at s.now.pairs i v })
+
+-- the same of a slot of one pair
+abbrev pub lone_lends : (K X : RattleType) → key.Ghosts K.Denot → eq.Ghosts K.Denot → MutBor (Held K.Denot X.Denot) → MutBor X.Denot → Fml
+lone_lends K X g e s r = Lends (lone_row K X g e) X s r (λ v. record s.now { pairs = write_at s.now.pairs 0 v })
 
 -- once it ends, the slots behind s have that value at place j of slot i
 abbrev pub slots_lends : (K X A : RattleType) → key.Ghosts K.Denot → eq.Ghosts K.Denot → allocator.Ghosts A.Denot

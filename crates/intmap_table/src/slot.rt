@@ -68,6 +68,17 @@ impl<K: IntKey, X, A: Allocator> Slot<K, X, A> {
         }
     }
 
+    /// A slot with this pair, or with none. It allocates nothing.
+    pub(crate) fn of(alloc: A, first: Option<(Stored<K>, X)>) -> Slot<K, X, A>
+        ensures pairs { result.pairs ≡ all_pairs first [] }
+        ensures room { result.room ≡ 1 }
+    {
+        Slot {
+            first,
+            rest: Vec::new(alloc),
+        }
+    }
+
     /// Whether the slot holds a pair.
     pub(crate) fn is_filled(&self) -> bool
         ensures { result ≡ nat_lt 0 (length self.now.pairs) }
@@ -185,7 +196,9 @@ impl<K: IntKey, X: Drop, A: Allocator> Slot<K, X, A> {
 
 /// The same key with a clone of the value. It fails if the clone does. No key is compared.
 #[inline(always)]
-fn clone_pair<K: IntKey, X: Clone>(pair: &(Stored<K>, X)) -> Result<(Stored<K>, X), AllocError>
+pub(crate) fn clone_pair<K: IntKey, X: Clone>(
+    pair: &(Stored<K>, X),
+) -> Result<(Stored<K>, X), AllocError>
     ensures { IfOk result (IsPairClone X.is_clone pair.now) }
 {
     let value = pair.1.clone()?;

@@ -123,7 +123,7 @@ impl<K: IntKey, X, A: Allocator> Table<K, X, A> {
     }
 }
 
-impl<K: IntKey, X: Drop, A: Allocator> Table<K, X, A> {
+impl<K: IntKey, X: Drop, A: Allocator + Copy> Table<K, X, A> {
     /// Drops all pairs, slot after slot, and keeps the slots and the memory that they have.
     pub fn clear(&mut self)
         ensures walk { self.new.walk ≡ [] }

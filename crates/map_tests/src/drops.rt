@@ -3,6 +3,8 @@
 //! Each step is taken on a map that is lent. A function that owns one has to be proved to let it go
 //! at each of its ways out, so the one that owns one here lends it at once.
 
+mod lone;
+
 use crate::counted::{CountedMap, Ground};
 use crate::steps::{Step, take};
 use failing_alloc::FailingAlloc;

@@ -137,7 +137,7 @@ fn told_alone(rt: &impl Abort, alloc: Global, start: Start, call: Call) -> Resul
 /// A map's slots, load factor and keys, a call, and what is to be told of it.
 type Row = ((usize, usize, &'static [u64]), Call, &'static str);
 
-const ROWS: [Row; 16] = [
+const ROWS: [Row; 19] = [
     (
         (4, 909, &[0]),
         Call::Insert(4),
@@ -213,8 +213,27 @@ const ROWS: [Row; 16] = [
     (
         (2, 0, &[0, 1, 2]),
         Call::Insert(3),
-        "5 times text 3: Memory; text 0, text 2, text 1, 2 slots, factor 0\n\
+        "2 times text 3: Memory; text 0, text 2, text 1, 2 slots, factor 0\n\
          then None; text 0, text 3, text 2, text 1, 4096 slots, factor 0",
+    ),
+    // each of these keys has a slot of its own
+    (
+        (4, 200, &[0, 4, 1, 5]),
+        Call::Insert(32),
+        "2 times text 32: Memory; text 0, text 5, text 4, text 1, 32 slots, factor 200\n\
+         then None; text 0, text 32, text 5, text 4, text 1, 32 slots, factor 200",
+    ),
+    (
+        (4, 200, &[0, 4, 1, 5, 2, 3]),
+        Call::Insert(33),
+        "2 times text 33: Memory; text 0, text 5, text 2, text 4, text 1, text 3, 32 slots, factor 200\n\
+         then None; text 0, text 4, text 1, text 5, text 2, text 33, text 3, 64 slots, factor 200",
+    ),
+    (
+        (4, 200, &[0, 4, 1, 5, 2, 3]),
+        Call::OrInsert(64),
+        "4 times text 64: Memory; text 0, text 5, text 2, text 4, text 1, text 3, 32 slots, factor 200\n\
+         then \"text 64\"; text 0, text 64, text 4, text 1, text 5, text 2, text 3, 64 slots, factor 200",
     ),
     (
         (2, 0, &[0, 4096, 8192]),

@@ -4,6 +4,7 @@
 mod bits;
 pub mod kept;
 mod key;
+mod lone;
 mod slot;
 pub mod steps;
 pub mod table;

@@ -4,7 +4,7 @@
 //! plain list of numbers.
 use intmap_proved::{Entry, IntKey, IntMap, IntSet};
 use std::cell::Cell;
-use std::collections::HashMap;
+use std::collections::BTreeMap;
 
 thread_local! {
     static READS: Cell<u64> = const { Cell::new(0) };
@@ -43,35 +43,57 @@ fn reads_of<T>(call: impl FnOnce() -> T) -> u64 {
     READS.get()
 }
 
-/// The numbers of the keys of a map or a set, in an order that stands for it, with its slots and
-/// its load factor. Each method makes a call on this list, and returns what the call is due to
-/// read.
+/// By which the number of a key is multiplied for its slot.
+const MULTIPLIER: u64 = 11400714819323198549;
+
+/// From so many slots on, a growth by an insertion may part pairs.
+const LEAST: usize = 16;
+
+/// The slot of a number among so many.
+fn slot_among(number: u64, slots: usize) -> u64 {
+    number.wrapping_mul(MULTIPLIER) % slots as u64
+}
+
+/// The numbers of the keys of a map or a set, in an order that stands for it, with its slots,
+/// whether these are lone, and its load factor. Each method makes a call on this list, and returns
+/// what the call is due to read.
 #[derive(Clone)]
 struct Plain {
     numbers: Vec<u64>,
     slots: usize,
+    are_lone: bool,
     factor: usize,
 }
 
 impl Plain {
     fn new(slots: usize) -> Plain {
-        Plain { numbers: Vec::new(), slots, factor: 909 }
+        Plain { numbers: Vec::new(), slots, are_lone: false, factor: 909 }
     }
 
-    fn of<'a>(keys: impl Iterator<Item = &'a Key>, slots: usize) -> Plain {
-        Plain { numbers: keys.map(|it| it.0).collect(), slots, factor: 909 }
+    /// A list that is inserted, number after number, into so many slots.
+    fn of_list(list: &[u64], slots: usize) -> Plain {
+        let mut plain = Plain::new(slots);
+        plain.store_all(list);
+        plain
     }
 
+    /// What [`map_of`] and [`set_of`] make of a list.
+    fn with_room(list: &[u64]) -> Plain {
+        Plain::of_list(list, list.len().max(2).next_power_of_two())
+    }
+
+    /// The keys of a map in its order, to be searched.
     fn of_map(map: &Map) -> Plain {
-        Plain::of(map.keys(), map.capacity())
+        Plain { numbers: map.keys().map(|it| it.0).collect(), ..Plain::new(map.capacity()) }
     }
 
+    /// The same of a set.
     fn of_set(set: &Set) -> Plain {
-        Plain::of(set.iter(), set.capacity())
+        Plain { numbers: set.iter().map(|it| it.0).collect(), ..Plain::new(set.capacity()) }
     }
 
     fn slot(&self, number: u64) -> u64 {
-        number % self.slots as u64
+        slot_among(number, self.slots)
     }
 
     /// A search: for the slot the sought number, and for each key there, up to the sought one,
@@ -96,21 +118,45 @@ impl Plain {
         self.store(number)
     }
 
-    /// A call that stores a key. In the place of a present one comes the last one of its slot. A
-    /// new pair that makes the map grow moves with the others, and is then found as the last one
-    /// of its slot.
+    /// A call that stores a key. In the place of a present one comes the last one of its slot.
     fn store(&mut self, number: u64) -> u64 {
         let due = self.search(number) + 1;
+        let slot = self.slot(number);
         if let Some(place) = self.numbers.iter().position(|it| *it == number) {
-            let slot = self.slot(number);
             let last = self.numbers.iter().rposition(|it| self.slot(*it) == slot).unwrap();
             self.numbers.swap(place, last);
             return due;
         }
+        let len = self.numbers.len() + 1;
+        let slots = if len % 8 < 4 { self.slots } else { self.least(len, self.factor) };
+        if slots > self.slots {
+            return due + self.store_and_grow(number, slots);
+        }
+        self.are_lone &= self.numbers.iter().all(|it| self.slot(*it) != slot);
         self.numbers.push(number);
-        let slots = self.slots;
-        let moved = if self.numbers.len() % 8 < 4 { 0 } else { self.meet(self.factor) };
-        due + moved + u64::from(self.slots > slots)
+        due
+    }
+
+    /// Growth with a new pair: for its new slot, for each pair of its old one, up to one that comes
+    /// to the same, and for the last pair of its new slot. If the slots are shared and such a pair is
+    /// there, it moves with the others.
+    fn store_and_grow(&mut self, number: u64, slots: usize) -> u64 {
+        let beside: Vec<u64> =
+            self.numbers.iter().copied().filter(|it| self.slot(*it) == self.slot(number)).collect();
+        let target = slot_among(number, slots);
+        let met = beside.iter().position(|it| slot_among(*it, slots) == target);
+        let looked = met.map_or(beside.len(), |it| it + 1) as u64;
+        let moves_too = met.is_some() && !self.are_lone;
+        if moves_too {
+            self.numbers.push(number);
+        }
+        let parted = if met.is_none() { self.part(slots) } else { 0 };
+        let moved = self.grow(slots);
+        if !moves_too {
+            self.are_lone &= met.is_none();
+            self.numbers.push(number);
+        }
+        1 + looked + parted + moved + 1
     }
 
     /// A call that stores a present key again.
@@ -131,15 +177,48 @@ impl Plain {
         numbers.iter().map(|it| self.add(*it)).sum()
     }
 
-    /// Growth to the least number of slots, among these and their doublings, that meets this load
-    /// factor.
-    fn meet(&mut self, factor: usize) -> u64 {
-        self.factor = factor;
+    /// The least number of slots, among these and their doublings, in which so many pairs meet this
+    /// load factor.
+    fn least(&self, len: usize, factor: usize) -> usize {
         let mut slots = self.slots;
-        while self.numbers.len() * 1000 / slots > factor {
+        while len * 1000 / slots > factor {
             slots *= 2;
         }
-        self.grow(slots)
+        slots
+    }
+
+    /// Growth that meets this load factor.
+    fn meet(&mut self, factor: usize) -> u64 {
+        self.factor = factor;
+        self.grow(self.least(self.numbers.len(), factor))
+    }
+
+    /// Shared slots become lone at a growth by an insertion if no two pairs of a slot stay together:
+    /// slot after slot, for each of two pairs, up to the first slot whose pairs stay together. Of
+    /// three pairs two may stay, so none of them is looked at.
+    fn part(&mut self, slots: usize) -> u64 {
+        if self.are_lone || slots < LEAST {
+            return 0;
+        }
+        let mut held = BTreeMap::new();
+        for it in &self.numbers {
+            held.entry(self.slot(*it)).or_insert(Vec::new()).push(*it);
+        }
+        let mut due = 0;
+        for pairs in held.values() {
+            match pairs[..] {
+                [_] => {}
+                [one, other] => {
+                    due += 2;
+                    if slot_among(one, slots) == slot_among(other, slots) {
+                        return due;
+                    }
+                }
+                _ => return due,
+            }
+        }
+        self.are_lone = true;
+        due
     }
 
     /// Room for so many more keys, if each slot held one.
@@ -153,7 +232,7 @@ impl Plain {
         if slots <= self.slots {
             return 0;
         }
-        let mut held = HashMap::new();
+        let mut held = BTreeMap::new();
         for it in &self.numbers {
             *held.entry(self.slot(*it)).or_insert(0) += 1;
         }
@@ -264,11 +343,16 @@ const CALLS: [Call; 38] = [
     ("try_extend", Plain::store, |map, key| _ = map.try_extend([(key, 0)])),
 ];
 
-/// Lists of numbers, from none to crowded slots and beyond several growths.
+/// Lists of numbers, from none to crowded slots and beyond several growths. Some have slots of one
+/// pair alone, or of two, which the next growth parts or doesn't.
 fn lists() -> Vec<Vec<u64>> {
     let mut found = vec![vec![], vec![0, 4, 8], vec![u64::MAX, 3, 7, 11, 5]];
     for step in [1, 3, 4, 64, 1 << 40] {
         found.extend((1..24).chain([63, 64, 200]).map(|n| (0..n).map(|it| it * step).collect()));
+    }
+    for shift in [4, 5, 6] {
+        found.extend((12..16).map(|n| (0..n).map(|it| (it % 8) + ((it / 8) << shift)).collect()));
+        found.push((0..14).map(|it| if it == 13 { (9 << shift) + 7 } else { it }).collect());
     }
     found
 }
@@ -277,11 +361,18 @@ fn lists() -> Vec<Vec<u64>> {
 fn sought(list: &[u64]) -> impl Iterator<Item = u64> {
     let (step, last) = (1.max(list.len() / 6), list.last().copied().unwrap_or(0));
     let present = list.iter().copied().step_by(step).collect::<Vec<_>>();
-    present.into_iter().chain([last, last.wrapping_add(1), last.wrapping_add(64), 1 << 41, 77])
+    let beside = [0, 1, 32, 48, 64].map(|it| last.wrapping_add(it));
+    present.into_iter().chain(beside).chain([1 << 41, 77])
 }
 
 fn map_of(list: &[u64]) -> Map {
     list.iter().map(|it| (Key(*it), 0)).collect()
+}
+
+/// The same out of an iterator that says nothing of its length, so that the map grows from two
+/// slots on.
+fn grown_map_of(list: &[u64]) -> Map {
+    list.iter().filter(|_| true).map(|it| (Key(*it), 0)).collect()
 }
 
 fn set_of(list: &[u64]) -> Set {
@@ -290,20 +381,30 @@ fn set_of(list: &[u64]) -> Set {
 
 #[test]
 fn each_call_on_a_key_reads_what_one_search_does() {
-    let mut growths = 0;
+    // by whether slots were lone, whether the key's slot had a pair, and whether slots are lone now
+    let mut growths = BTreeMap::new();
     for list in lists() {
-        let whole = map_of(&list);
-        for number in sought(&list) {
+        let with_room = (map_of(&list), Plain::with_room(&list));
+        let grown = (grown_map_of(&list), Plain::of_list(&list, 2));
+        for ((whole, made), number) in
+            [with_room, grown].iter().flat_map(|it| sought(&list).map(move |number| (it, number)))
+        {
+            let has_pair = made.numbers.iter().any(|it| made.slot(*it) == made.slot(number));
             for (name, due, call) in CALLS {
-                let (mut map, mut plain) = (whole.clone(), Plain::of_map(&whole));
+                let (mut map, mut plain) = (whole.clone(), made.clone());
                 let reads = reads_of(|| call(&mut map, Key(number)));
                 assert_eq!(reads, due(&mut plain, number), "{name} of {number} in {whole:?}");
                 assert_eq!(map.capacity(), plain.slots, "slots after {name} of {number}");
-                growths += u64::from(map.capacity() > whole.capacity());
+                if map.capacity() > whole.capacity() {
+                    let forms = (made.are_lone, has_pair, plain.are_lone);
+                    *growths.entry(forms).or_insert(0) += 1;
+                }
             }
         }
     }
-    assert!(growths > 100, "only {growths} growths");
+    // lone slots stay so unless a second pair comes to one of them
+    assert_eq!(growths.len(), 7, "{growths:?}");
+    assert!(growths.values().all(|it| *it > 20), "{growths:?}");
 }
 
 type CallOnAll = (&'static str, fn(Map));
@@ -349,9 +450,11 @@ fn calls_on_all_pairs_read_no_number() {
 
 #[test]
 fn growth_reads_numbers_for_room_and_for_slots() {
-    for list in lists() {
-        let mut map = map_of(&list);
-        let mut plain = Plain::of_map(&map);
+    for (list, has_room) in lists().into_iter().flat_map(|it| [(it.clone(), true), (it, false)]) {
+        let (mut map, mut plain) = match has_room {
+            true => (map_of(&list), Plain::with_room(&list)),
+            false => (grown_map_of(&list), Plain::of_list(&list, 2)),
+        };
         for (more, factor) in [(0, 909), (1, 4000), (9, 700), (3 * list.len(), 300), (3, 60)] {
             let reads = reads_of(|| map.reserve(more));
             assert_eq!(reads, plain.reserve(more), "reserve({more}) in {list:?}");
@@ -446,10 +549,10 @@ const SET_CALLS: [SetCall; 10] = [
 #[test]
 fn each_call_of_a_set_reads_what_one_search_does() {
     for list in lists() {
-        let whole = set_of(&list);
+        let (whole, made) = (set_of(&list), Plain::with_room(&list));
         for number in sought(&list) {
             for (name, due, call) in SET_CALLS {
-                let (mut set, mut plain) = (whole.clone(), Plain::of_set(&whole));
+                let (mut set, mut plain) = (whole.clone(), made.clone());
                 let reads = reads_of(|| call(&mut set, Key(number)));
                 assert_eq!(reads, due(&mut plain, number), "{name} of {number} in {whole:?}");
                 assert_eq!(set.capacity(), plain.slots, "slots after {name} of {number}");

@@ -6,6 +6,7 @@ mod carried;
 mod counts;
 mod entries;
 mod figures;
+mod forms;
 mod iterators;
 mod keys;
 mod order;

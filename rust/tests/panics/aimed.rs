@@ -2,16 +2,16 @@
 use crate::fuse::{Value, burn, is_whole, live, panics_at};
 use intmap_proved::{Entry, IntMap, IntSet};
 
-const KEYS: u64 = 40;
+pub const KEYS: u64 = 40;
 
 /// Keys whose low bits are zero, so that more keys share a slot at a larger shift.
 fn map_of(shift: u32) -> IntMap<u64, Value> {
     (0..KEYS).map(|key| (key << shift, Value::new(key))).collect()
 }
 
-type Call = fn(&mut IntMap<u64, Value>);
+pub type Call = fn(&mut IntMap<u64, Value>);
 
-const CALLS: [(&str, Call); 9] = [
+pub const CALLS: [(&str, Call); 9] = [
     ("retain, closure and drops", |map| {
         map.retain(|_, value| {
             burn();
@@ -53,7 +53,7 @@ const CALLS: [(&str, Call); 9] = [
 ];
 
 /// Takes the map apart by its calls, and fills it again.
-fn is_usable(mut map: IntMap<u64, Value>, after: &str) {
+pub fn is_usable(mut map: IntMap<u64, Value>, after: &str) {
     let keys: Vec<u64> = map.keys().copied().collect();
     for key in keys {
         assert!(map.contains_key(key) && map.remove(key).is_some(), "{key} is present {after}");

@@ -122,6 +122,10 @@ fn a_panic_in_any_call_leaves_a_whole_map() {
         }
         let keys = [4, 20, 100][random.below(3) as usize];
         let shift = [0, 1, 30][random.below(3) as usize];
+        if round % 3 == 0 {
+            // most keys have a slot of their own
+            map.reserve(keys as usize);
+        }
         for _ in 0..CALLS {
             panics += u64::from(call(&mut map, &mut random, keys, shift));
         }

@@ -114,7 +114,7 @@ pub fn is_whole(map: &Map, value: &Rc<()>, after: &str) {
 
 /// Inserts keys of all slots, and finds each.
 #[track_caller]
-fn is_usable(mut map: Map, value: &Rc<()>, after: &str) {
+pub fn is_usable(mut map: Map, value: &Rc<()>, after: &str) {
     for key in (0..64).map(Key) {
         map.insert(key, value.clone());
         assert!(map.contains_key(key), "{key:?} is present {after}");

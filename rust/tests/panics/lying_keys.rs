@@ -6,7 +6,7 @@ use intmap_proved::{Entry, IntKey, IntMap, IntSet};
 use std::cell::RefCell;
 use std::rc::Rc;
 
-const ROUNDS: u64 = 100;
+const ROUNDS: u64 = 200;
 const CALLS: u64 = 300;
 
 thread_local!(static LIES: RefCell<Random> = const { RefCell::new(Random(1)) });
@@ -52,7 +52,7 @@ fn call(map: &mut IntMap<Liar, Rc<()>>, call: u64, key: Liar, value: &Rc<()>) {
 fn keys_that_lie_drop_each_value_once() {
     let (value, mut random, mut panics) = (Rc::new(()), Random(2), 0);
     for round in 0..ROUNDS {
-        let mut map = IntMap::new();
+        let mut map = IntMap::with_capacity([4, 256][round as usize % 2]);
         for _ in 0..CALLS {
             let (key, number) = (Liar(random.below(200)), random.below(13));
             let place = if random.below(5) == 0 { random.below(16) } else { 0 };

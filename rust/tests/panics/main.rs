@@ -4,6 +4,7 @@
 
 mod aimed;
 mod anywhere;
+mod forms;
 mod fuse;
 mod keys;
 mod keys_anywhere;

@@ -21,7 +21,7 @@ type MapCall = fn(&mut IntMap<u64, u64>) -> Result<(), Cause>;
 const MAP_CALLS: [(&str, u64, u32, u64, MapCall); 31] = [
     ("insert into an empty slot", 4, 0, 0, |map| Ok(map.try_insert(5, 1).map(drop)?)),
     ("insert into a slot of one", 4, 0, 1, |map| Ok(map.try_insert(9, 1).map(drop)?)),
-    ("insert and grow", 14, 0, 3, |map| Ok(map.try_insert(15, 1).map(drop)?)),
+    ("insert and grow", 14, 0, 2, |map| Ok(map.try_insert(15, 1).map(drop)?)),
     ("insert and grow a shared slot", 14, 6, 4, |map| Ok(map.try_insert(15, 1).map(drop)?)),
     ("insert again", 11, 0, 0, |map| Ok(map.try_insert(3, 1).map(drop)?)),
     ("insert_checked", 4, 0, 1, |map| Ok(map.try_insert_checked(9, 1).map(drop)?)),
@@ -39,25 +39,25 @@ const MAP_CALLS: [(&str, u64, u32, u64, MapCall); 31] = [
     ("with_capacity", 0, 0, 2, |_| IntMap::<u64, u64>::try_with_capacity(100).map(drop)),
     ("from_iter", 0, 0, 2, |_| IntMap::try_from_iter((0..3_u64).map(|it| (it, it))).map(drop)),
     ("or_insert", 4, 0, 1, |map| Ok(map.entry(9).try_or_insert(1).map(drop)?)),
-    ("or_insert and grow", 14, 0, 3, |map| Ok(map.entry(15).try_or_insert(1).map(drop)?)),
+    ("or_insert and grow", 14, 0, 2, |map| Ok(map.entry(15).try_or_insert(1).map(drop)?)),
     ("or_insert and grow a shared slot", 14, 6, 4, |map| {
         Ok(map.entry(15).try_or_insert(1).map(drop)?)
     }),
-    ("or_insert_with and grow", 14, 0, 3, |map| {
+    ("or_insert_with and grow", 14, 0, 2, |map| {
         Ok(map.entry(15).try_or_insert_with(|| 1).map(drop)?)
     }),
-    ("or_insert_with_key and grow", 14, 0, 3, |map| {
+    ("or_insert_with_key and grow", 14, 0, 2, |map| {
         Ok(map.entry(15).try_or_insert_with_key(|key| *key).map(drop)?)
     }),
-    ("or_try_insert_with and grow", 14, 0, 3, |map| {
+    ("or_try_insert_with and grow", 14, 0, 2, |map| {
         map.entry(15).or_try_insert_with(|| Ok::<u64, Cause>(1)).map(drop)
     }),
     ("or_default", 4, 0, 1, |map| Ok(map.entry(9).try_or_default().map(drop)?)),
-    ("or_default and grow", 14, 0, 3, |map| Ok(map.entry(15).try_or_default().map(drop)?)),
+    ("or_default and grow", 14, 0, 2, |map| Ok(map.entry(15).try_or_default().map(drop)?)),
     ("insert_entry", 4, 0, 1, |map| Ok(map.entry(9).try_insert_entry(1).map(drop)?)),
-    ("insert_entry and grow", 14, 0, 3, |map| Ok(map.entry(15).try_insert_entry(1).map(drop)?)),
-    ("insert of a vacant entry", 14, 0, 3, |map| Ok(vacant(map, 15).try_insert(1).map(drop)?)),
-    ("insert_entry of a vacant entry", 14, 0, 3, |map| {
+    ("insert_entry and grow", 14, 0, 2, |map| Ok(map.entry(15).try_insert_entry(1).map(drop)?)),
+    ("insert of a vacant entry", 14, 0, 2, |map| Ok(vacant(map, 15).try_insert(1).map(drop)?)),
+    ("insert_entry of a vacant entry", 14, 0, 2, |map| {
         Ok(vacant(map, 15).try_insert_entry(1).map(drop)?)
     }),
 ];
@@ -85,16 +85,105 @@ fn failures<M, S: PartialEq + std::fmt::Debug>(
     unreachable!()
 }
 
+/// All that a map tells of itself.
+fn state_of(map: &IntMap<u64, u64>) -> (String, usize, usize, usize) {
+    (format!("{map:?}"), map.capacity(), map.load_factor_thousandths(), map.len())
+}
+
 #[test]
 fn a_failed_call_leaves_the_map() {
     for (name, keys, zeros, wanted, call) in MAP_CALLS {
         let make = || map_of(keys, zeros);
-        let state = |map: &IntMap<u64, u64>| {
-            (format!("{map:?}"), map.capacity(), map.load_factor_thousandths(), map.len())
-        };
         let before = bytes();
-        assert_eq!(failures(name, make, state, call), wanted, "requests of {name}");
+        assert_eq!(failures(name, make, state_of, call), wanted, "requests of {name}");
         assert_eq!(bytes(), before, "bytes left after {name}");
+    }
+}
+
+/// Keys in order in a map with room for them: shared slots of one pair each.
+fn alone(keys: u64) -> IntMap<u64, u64> {
+    let mut map = IntMap::with_capacity(16);
+    map.extend((0..keys).map(|key| (key, key + 100)));
+    map
+}
+
+/// The same in lone slots, which a map has that grows by insertions.
+fn lone(keys: u64) -> IntMap<u64, u64> {
+    let mut map = IntMap::new();
+    map.extend((0..keys).map(|key| (key, key + 100)));
+    map
+}
+
+/// Lone slots that a second pair of the first one has made shared.
+fn shared_again(keys: u64) -> IntMap<u64, u64> {
+    let mut map = lone(keys - 1);
+    map.insert(16, 116);
+    map
+}
+
+/// The bytes of 16 slots, lone or shared, with a word of bits.
+const LONE: isize = 16 * 24 + 8;
+const SHARED: isize = 16 * 48 + 8;
+
+/// How a map is made, and the bytes that it has: 16 slots, and the block of a second pair.
+type Form = (&'static str, fn(u64) -> IntMap<u64, u64>, isize);
+
+const FORMS: [Form; 3] =
+    [("shared", alone, SHARED), ("lone", lone, LONE), ("shared again", shared_again, SHARED + 16)];
+
+#[test]
+fn slots_have_the_bytes_of_their_form() {
+    for (form, make, wanted) in FORMS {
+        for keys in [13, 14] {
+            let before = bytes();
+            let map = make(keys);
+            assert_eq!((map.capacity(), map.len() as u64), (16, keys), "{form}");
+            assert_eq!(bytes() - before, wanted, "{keys} keys, slots {form}");
+        }
+    }
+}
+
+/// A name, how many keys there are before, how many requests the call makes in each form, and the
+/// call. The slot of 25 has a pair, and so has that of 28, which part among 32 slots, and that of 44,
+/// which don't.
+const CALLS_OF_FORMS: [(&str, u64, [u64; 3], MapCall); 14] = [
+    ("insert into an empty slot", 13, [0, 0, 0], |map| Ok(map.try_insert(15, 1).map(drop)?)),
+    ("insert a second pair", 13, [1, 2, 1], |map| Ok(map.try_insert(25, 1).map(drop)?)),
+    ("insert_checked of a second pair", 13, [1, 2, 1], |map| {
+        Ok(map.try_insert_checked(25, 1).map(drop)?)
+    }),
+    ("or_insert of a second pair", 13, [1, 2, 1], |map| {
+        Ok(map.entry(25).try_or_insert(1).map(drop)?)
+    }),
+    ("insert_entry of a second pair", 13, [1, 2, 1], |map| {
+        Ok(map.entry(25).try_insert_entry(1).map(drop)?)
+    }),
+    ("insert of a vacant entry", 13, [1, 2, 1], |map| {
+        Ok(vacant(map, 25).try_insert(1).map(drop)?)
+    }),
+    ("extend by a second pair", 13, [1, 2, 1], |map| Ok(map.try_extend([(25, 1)])?)),
+    ("insert and grow", 14, [2, 2, 2], |map| Ok(map.try_insert(15, 1).map(drop)?)),
+    ("or_insert and grow", 14, [2, 2, 2], |map| Ok(map.entry(15).try_or_insert(1).map(drop)?)),
+    ("insert a second pair that parts", 14, [2, 2, 2], |map| {
+        Ok(map.try_insert(28, 1).map(drop)?)
+    }),
+    ("insert a second pair that stays", 14, [5, 4, 5], |map| {
+        Ok(map.try_insert(44, 1).map(drop)?)
+    }),
+    ("reserve", 13, [3, 2, 4], |map| map.try_reserve(100)),
+    ("set_load_factor", 13, [3, 2, 4], |map| map.try_set_load_factor(0.1)),
+    ("clone", 13, [2, 2, 3], |map| map.try_clone().map(drop)),
+];
+
+#[test]
+fn a_failed_call_leaves_a_map_of_each_form() {
+    for (name, keys, wanted, call) in CALLS_OF_FORMS {
+        for ((form, make, _), wanted) in FORMS.into_iter().zip(wanted) {
+            let (name, before) = (format!("{name}, slots {form}"), bytes());
+            let requests = failures(&name, || make(keys), state_of, call);
+            assert_eq!(requests, wanted, "requests of {name}");
+            assert_eq!(bytes(), before, "bytes left after {name}");
+        }
     }
 }
 

@@ -1,30 +1,88 @@
 //! Calls whose request for slots fails, which is the largest. Nothing was granted before it, so nothing
 //! was written.
 use crate::allocator::{bytes, failing_above};
-use intmap_proved::{Cause, IntMap, IntSet};
+use intmap_proved::{Cause, Entry, IntMap, IntSet};
 
-/// The bytes of a slot of a map, and of a set.
+/// The bytes of a slot of a map, and of a set, and those of a lone slot.
 const MAP_SLOT: usize = 48;
 const SET_SLOT: usize = 40;
+const LONE_MAP_SLOT: usize = 24;
+const LONE_SET_SLOT: usize = 16;
+
+/// The bytes of a pair.
+const PAIR: usize = 16;
 
 type Map = IntMap<u64, u64>;
 type MapCall = fn(&mut Map) -> Result<(), Cause>;
 
-/// A name, how many keys there are before, how many slots the call requests, how many counts, and the
-/// call.
-const MAP_CALLS: [(&str, u64, usize, usize, MapCall); 12] = [
-    ("new", 0, 4, 0, |_| Map::try_new().map(drop)),
-    ("with_capacity", 0, 4096, 0, |_| Map::try_with_capacity(4096).map(drop)),
-    ("from_iter", 0, 4096, 0, |_| Map::try_from_iter((0..3000).map(|it| (it, it))).map(drop)),
-    ("collisions", 4, 4, 0, |map| map.try_collisions().map(drop)),
-    ("reserve", 4, 4096, 512, |map| map.try_reserve(4000)),
-    ("set_load_factor", 4, 2048, 256, |map| map.try_set_load_factor_thousandths(1)),
-    ("insert", 14, 32, 2, |map| Ok(map.try_insert(14, 1).map(drop)?)),
-    ("insert behind many", 14_909, 32_768, 2, |map| Ok(map.try_insert(14_909, 1).map(drop)?)),
-    ("insert_checked", 14, 32, 2, |map| Ok(map.try_insert_checked(14, 1).map(drop)?)),
-    ("or_insert", 14, 32, 2, |map| Ok(map.entry(14).try_or_insert(1).map(drop)?)),
-    ("extend", 14, 32, 2, |map| Ok(map.try_extend([(14, 1)])?)),
-    ("clone", 3000, 4096, 0, |map| map.try_clone().map(drop)),
+/// Keys in order in shared slots.
+fn shared(keys: u64) -> Map {
+    (0..keys).map(|key| (key, key + 100)).collect()
+}
+
+/// Keys in order in lone slots, which a map has that grows by insertions.
+fn lone(keys: u64) -> Map {
+    let mut map = Map::new();
+    map.extend((0..keys).map(|key| (key, key + 100)));
+    map
+}
+
+/// Two keys of one slot, which no growth parts here, among keys in order.
+fn together(keys: u64) -> Map {
+    (0..keys - 1).chain([1 << 40]).map(|key| (key, key + 100)).collect()
+}
+
+/// A name, how the map is made and of how many keys, how many slots of how many bytes the call
+/// requests, the bytes that it requests beside slots and bits, and the call.
+type Row = (&'static str, fn(u64) -> Map, u64, usize, usize, usize, MapCall);
+
+const MAP_CALLS: [Row; 20] = [
+    ("new", shared, 0, 4, MAP_SLOT, 0, |_| Map::try_new().map(drop)),
+    ("with_capacity", shared, 0, 4096, MAP_SLOT, 0, |_| Map::try_with_capacity(4096).map(drop)),
+    ("from_iter", shared, 0, 4096, MAP_SLOT, 0, |_| {
+        Map::try_from_iter((0..3000).map(|it| (it, it))).map(drop)
+    }),
+    ("collisions", shared, 4, 4, MAP_SLOT, 0, |map| map.try_collisions().map(drop)),
+    ("reserve", shared, 4, 4096, MAP_SLOT, 512 * 8, |map| map.try_reserve(4000)),
+    ("reserve, lone", lone, 14, 4096, LONE_MAP_SLOT, 0, |map| map.try_reserve(4000)),
+    ("set_load_factor", shared, 4, 2048, MAP_SLOT, 256 * 8, |map| {
+        map.try_set_load_factor_thousandths(1)
+    }),
+    ("set_load_factor, lone", lone, 14, 8192, LONE_MAP_SLOT, 0, |map| {
+        map.try_set_load_factor_thousandths(1)
+    }),
+    ("insert", shared, 14, 32, LONE_MAP_SLOT, 0, |map| Ok(map.try_insert(14, 1).map(drop)?)),
+    ("insert, lone", lone, 14, 32, LONE_MAP_SLOT, 0, |map| Ok(map.try_insert(14, 1).map(drop)?)),
+    ("insert, two stay together", together, 14, 32, MAP_SLOT, 2 * 8 + PAIR, |map| {
+        Ok(map.try_insert(14, 1).map(drop)?)
+    }),
+    ("insert behind many", shared, 14_909, 32_768, LONE_MAP_SLOT, 0, |map| {
+        Ok(map.try_insert(14_909, 1).map(drop)?)
+    }),
+    ("insert behind many, lone", lone, 14_909, 32_768, LONE_MAP_SLOT, 0, |map| {
+        Ok(map.try_insert(14_909, 1).map(drop)?)
+    }),
+    (
+        "insert behind many, two stay together",
+        together,
+        14_909,
+        32_768,
+        MAP_SLOT,
+        2 * 8 + PAIR,
+        |map| Ok(map.try_insert(14_909, 1).map(drop)?),
+    ),
+    ("insert_checked", lone, 14, 32, LONE_MAP_SLOT, 0, |map| {
+        Ok(map.try_insert_checked(14, 1).map(drop)?)
+    }),
+    ("or_insert", lone, 14, 32, LONE_MAP_SLOT, 0, |map| {
+        Ok(map.entry(14).try_or_insert(1).map(drop)?)
+    }),
+    ("extend", lone, 14, 32, LONE_MAP_SLOT, 0, |map| Ok(map.try_extend([(14, 1)])?)),
+    ("extend, two stay together", together, 14, 32, MAP_SLOT, 2 * 8 + PAIR, |map| {
+        Ok(map.try_extend([(14, 1)])?)
+    }),
+    ("clone", shared, 3000, 4096, MAP_SLOT, 0, |map| map.try_clone().map(drop)),
+    ("clone, lone", lone, 3000, 4096, LONE_MAP_SLOT, 0, |map| map.try_clone().map(drop)),
 ];
 
 /// The bytes of the words of bits of so many slots.
@@ -34,45 +92,123 @@ fn bits(slots: usize) -> usize {
 
 #[test]
 fn a_call_that_is_refused_its_slots_was_granted_nothing() {
-    for (name, keys, slots, counts, call) in MAP_CALLS {
-        let mut map: Map = (0..keys).map(|key| (key, key + 100)).collect();
+    for (name, make, keys, slots, slot, others, call) in MAP_CALLS {
+        let mut map = make(keys);
         let state = |map: &Map| (format!("{map:?}"), map.capacity(), map.load_factor_thousandths());
         let (before, held) = (state(&map), bytes());
-        for most in [0, bits(slots), bits(slots).max(8 * counts), MAP_SLOT * slots - 1] {
+        for most in [0, bits(slots), bits(slots).max(others), slot * slots - 1] {
             let (returned, granted) = failing_above(most, || call(&mut map));
             assert_eq!((returned, granted), (Err(Cause::Memory), 0), "{name} above {most} bytes");
             assert_eq!(bytes(), held, "bytes after {name} above {most} bytes");
             assert_eq!(state(&map), before, "{name} above {most} bytes");
         }
-        let (returned, granted) = failing_above(MAP_SLOT * slots, || call(&mut map));
-        let all = MAP_SLOT * slots + bits(slots) + 8 * counts;
+        let (returned, granted) = failing_above(slot * slots, || call(&mut map));
+        let all = slot * slots + bits(slots) + others;
         assert_eq!((returned, granted), (Ok(()), all), "{name} with its slots");
+    }
+}
+
+#[test]
+fn a_second_pair_of_a_lone_slot_that_is_refused_slots_was_granted_its_block_alone() {
+    for (keys, slots) in [(14, 16), (14_908, 16_384)] {
+        let mut map = lone(keys - 1);
+        let (before, held) = (format!("{map:?}"), bytes());
+        for (most, wanted) in [(0, 0), (PAIR - 1, 0), (PAIR, PAIR), (MAP_SLOT * slots - 1, PAIR)] {
+            let (returned, granted) = failing_above(most, || map.try_insert(1 << 40, 1));
+            assert_eq!(returned.map_err(|it| it.cause), Err(Cause::Memory), "above {most} bytes");
+            assert_eq!((granted, bytes()), (wanted, held), "{keys} keys, above {most} bytes");
+            assert_eq!(
+                (format!("{map:?}"), map.capacity()),
+                (before.clone(), slots),
+                "{keys} keys"
+            );
+        }
+        let (returned, granted) = failing_above(MAP_SLOT * slots, || map.try_insert(1 << 40, 1));
+        assert_eq!(returned.map_err(|it| it.cause), Ok(None), "{keys} keys with their slots");
+        assert_eq!(granted, PAIR + MAP_SLOT * slots, "{keys} keys with their slots");
     }
 }
 
 type SetCall = fn(&mut IntSet<u64>) -> Result<(), Cause>;
 
-/// The same of sets.
-const SET_CALLS: [(&str, u64, usize, usize, SetCall); 4] = [
-    ("with_capacity", 0, 4096, 0, |_| IntSet::<u64>::try_with_capacity(4096).map(drop)),
-    ("reserve", 4, 4096, 512, |set| set.try_reserve(4000)),
-    ("insert", 14, 32, 2, |set| set.try_insert(14).map(drop)),
-    ("clone", 3000, 4096, 0, |set| set.try_clone().map(drop)),
+/// The same of sets of keys in order, which grow by insertions if they are lone.
+type SetRow = (&'static str, bool, u64, usize, usize, usize, SetCall);
+
+const SET_CALLS: [SetRow; 7] = [
+    ("with_capacity", false, 0, 4096, SET_SLOT, 0, |_| {
+        IntSet::<u64>::try_with_capacity(4096).map(drop)
+    }),
+    ("reserve", false, 4, 4096, SET_SLOT, 512 * 8, |set| set.try_reserve(4000)),
+    ("reserve, lone", true, 14, 4096, LONE_SET_SLOT, 0, |set| set.try_reserve(4000)),
+    ("insert", false, 14, 32, LONE_SET_SLOT, 0, |set| set.try_insert(14).map(drop)),
+    ("insert, lone", true, 14, 32, LONE_SET_SLOT, 0, |set| set.try_insert(14).map(drop)),
+    ("clone", false, 3000, 4096, SET_SLOT, 0, |set| set.try_clone().map(drop)),
+    ("clone, lone", true, 3000, 4096, LONE_SET_SLOT, 0, |set| set.try_clone().map(drop)),
 ];
 
 #[test]
 fn a_call_of_a_set_that_is_refused_its_slots_was_granted_nothing() {
-    for (name, keys, slots, counts, call) in SET_CALLS {
-        let mut set: IntSet<u64> = (0..keys).collect();
+    for (name, is_lone, keys, slots, slot, others, call) in SET_CALLS {
+        let mut set: IntSet<u64> = if is_lone { IntSet::new() } else { (0..keys).collect() };
+        set.extend(0..keys);
         let before = (format!("{set:?}"), set.capacity());
-        for most in [0, bits(slots), bits(slots).max(8 * counts), SET_SLOT * slots - 1] {
+        for most in [0, bits(slots), bits(slots).max(others), slot * slots - 1] {
             let (returned, granted) = failing_above(most, || call(&mut set));
             assert_eq!((returned, granted), (Err(Cause::Memory), 0), "{name} above {most} bytes");
             assert_eq!((format!("{set:?}"), set.capacity()), before, "{name} above {most} bytes");
         }
-        let (returned, granted) = failing_above(SET_SLOT * slots, || call(&mut set));
-        let all = SET_SLOT * slots + bits(slots) + 8 * counts;
+        let (returned, granted) = failing_above(slot * slots, || call(&mut set));
+        let all = slot * slots + bits(slots) + others;
         assert_eq!((returned, granted), (Ok(()), all), "{name} with its slots");
+    }
+}
+
+/// Each call that may fail, with keys that no map has here.
+const AMPLE: [(&str, MapCall); 20] = [
+    ("insert the next key", |map| Ok(map.try_insert(map.len() as u64, 1).map(drop)?)),
+    ("insert", |map| Ok(map.try_insert(FAR, 1).map(drop)?)),
+    ("insert_checked", |map| Ok(map.try_insert_checked(FAR, 1).map(drop)?)),
+    ("extend", |map| Ok(map.try_extend((0..9).map(|it| (FAR + it, it)))?)),
+    ("try_new", |_| Map::try_new().map(drop)),
+    ("or_insert", |map| Ok(map.entry(FAR).try_or_insert(1).map(drop)?)),
+    ("or_insert_with", |map| Ok(map.entry(FAR).try_or_insert_with(|| 1).map(drop)?)),
+    ("or_insert_with_key", |map| Ok(map.entry(FAR).try_or_insert_with_key(|it| *it).map(drop)?)),
+    ("or_try_insert_with", |map| map.entry(FAR).or_try_insert_with(|| Ok(1)).map(drop)),
+    ("or_default", |map| Ok(map.entry(FAR).try_or_default().map(drop)?)),
+    ("insert_entry", |map| Ok(map.entry(FAR).try_insert_entry(1).map(drop)?)),
+    ("insert of a vacant entry", |map| match map.entry(FAR) {
+        Entry::Vacant(entry) => Ok(entry.try_insert(1).map(drop)?),
+        Entry::Occupied(_) => panic!("the key is absent"),
+    }),
+    ("insert_entry of a vacant entry", |map| match map.entry(FAR) {
+        Entry::Vacant(entry) => Ok(entry.try_insert_entry(1).map(drop)?),
+        Entry::Occupied(_) => panic!("the key is absent"),
+    }),
+    ("reserve", |map| map.try_reserve(2 * map.capacity())),
+    ("set_load_factor", |map| map.try_set_load_factor(0.1)),
+    ("set_load_factor_thousandths", |map| map.try_set_load_factor_thousandths(100)),
+    ("clone", |map| map.try_clone().map(|it| assert!(it == *map))),
+    ("collisions", |map| map.try_collisions().map(drop)),
+    ("from_iter", |map| Map::try_from_iter(map.drain().filter(|_| true)).map(drop)),
+    ("with_capacity", |map| Map::try_with_capacity(2 * map.capacity()).map(drop)),
+];
+
+/// A key of the first slot of a map of keys in order.
+const FAR: u64 = 1 << 40;
+
+#[test]
+fn calls_with_ample_memory_succeed_at_a_large_size() {
+    for (keys, grows) in [(14_907, false), (14_909, true), (100_000, false), (119_275, true)] {
+        for (form, make) in [("shared", shared as fn(u64) -> Map), ("lone", lone)] {
+            let whole = make(keys);
+            let mut longer = whole.clone();
+            longer.insert(FAR, 1);
+            assert_eq!(longer.capacity() > whole.capacity(), grows, "{keys} keys, slots {form}");
+            for (name, call) in AMPLE {
+                let mut map = whole.clone();
+                assert_eq!(call(&mut map), Ok(()), "{name}, {keys} keys, slots {form}");
+            }
+        }
     }
 }
 

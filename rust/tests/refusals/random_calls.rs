@@ -5,7 +5,7 @@ use intmap_proved::{Cause, Entry, IntMap};
 use std::cell::Cell;
 use std::rc::Rc;
 
-const ROUNDS: u64 = 12;
+const ROUNDS: u64 = 100;
 const CALLS: u64 = 300;
 
 /// A value that counts the values that live.
@@ -74,12 +74,13 @@ impl Call {
 /// Makes a call until none of its requests fails. Returns how many failed.
 fn until_it_succeeds(map: &mut Map, call: &Call, live: &Rc<Cell<usize>>) -> u64 {
     for number in 1.. {
-        let before = state_of(map, live);
+        let (before, held) = (state_of(map, live), bytes());
         let (returned, failed) = failing_at(number, || call.on(map, live));
         if returned.is_ok() {
             return number - 1;
         }
         assert_eq!((returned, failed), (Err(Cause::Memory), true), "call {}", call.call);
+        assert_eq!(bytes(), held, "bytes after call {}, request {number}", call.call);
         assert_eq!(state_of(map, live), before, "call {}, request {number}", call.call);
     }
     unreachable!()
@@ -87,14 +88,26 @@ fn until_it_succeeds(map: &mut Map, call: &Call, live: &Rc<Cell<usize>>) -> u64 
 
 fn round(random: &mut Random, live: &Rc<Cell<usize>>) -> u64 {
     let mut map = Map::new();
-    map.set_load_factor(random.below(5000) as f32 / 1000.0 + 0.3);
     let keys = [5, 30, 200][random.below(3) as usize];
     let shift = [0, 1, 20][random.below(3) as usize];
+    if random.below(2) == 0 {
+        map.set_load_factor(random.below(5000) as f32 / 1000.0 + 0.3);
+    }
+    if random.below(3) == 0 {
+        // most keys have a slot of their own
+        map.reserve(keys as usize);
+    }
+    // keys in order get lone slots, up to one that shares the slot of another
+    let counts_up = random.below(3) == 0;
     let mut failures = 0;
-    for _ in 0..CALLS {
+    for place in 0..CALLS {
+        let key = match counts_up && random.below(16) > 0 {
+            true => place,
+            false => random.below(keys) + random.below(9) / 8 * 512,
+        };
         let call = Call {
-            call: random.below(15),
-            key: random.below(keys) << shift,
+            call: random.below(if counts_up { 6 } else { 15 }),
+            key: key << shift,
             number: random.next(),
             more: random.below(200) as usize,
         };

@@ -25,22 +25,56 @@ const INSERTIONS: [(&str, Insertion); 8] = [
     }),
 ];
 
-#[test]
-fn a_failed_insertion_returns_its_value() {
-    // the insertion behind 4 keys puts a second pair into a slot, the one behind 14 keys grows the
-    // map
-    for ((name, insert), keys) in INSERTIONS.into_iter().flat_map(|it| [(it, 4), (it, 14)]) {
-        let mut map = texts(keys);
+type Made = IntMap<u64, String>;
+type Form = (&'static str, fn(&[u64]) -> Made);
+
+fn filled(mut map: Made, keys: &[u64]) -> Made {
+    map.extend(keys.iter().map(|key| (*key, key.to_string())));
+    map
+}
+
+/// How a map of keys in order is made. It has shared slots of one pair each, or lone slots, as a map
+/// that grows by insertions, or such slots that a second pair of the first one has made shared.
+const FORMS: [Form; 3] = [
+    ("shared", |keys| filled(IntMap::with_capacity(16), keys)),
+    ("lone", |keys| filled(IntMap::new(), keys)),
+    ("shared again", |keys| filled(filled(IntMap::new(), &keys[..keys.len() - 1]), &[16])),
+];
+
+/// Makes the insertion with each of its requests failing in turn, and returns how many there were.
+fn returned_each_time(insert: Insertion, make: impl Fn() -> IntMap<u64, String>, of: &str) -> u64 {
+    for number in 1.. {
+        let mut map = make();
         let (capacity, order) = (map.capacity(), format!("{map:?}"));
         let value = String::from("a value");
-        let (returned, failed) = failing_at(1, || insert(&mut map, value));
-        assert!(failed, "{name}, {keys} keys");
-        let Err(Refused { value, cause }) = returned else { panic!("{name} did not fail") };
-        assert_eq!((value.as_str(), cause), ("a value", Cause::Memory), "{name}, {keys} keys");
-        assert_eq!((map.capacity(), format!("{map:?}")), (capacity, order), "{name}, {keys} keys");
-        assert!(insert(&mut map, value).is_ok(), "{name} once more, {keys} keys");
-        assert_eq!(map.get(25).map(String::as_str), Some("a value"), "{name}, {keys} keys");
-        assert_eq!(map.capacity() > capacity, keys == 14, "{name}, {keys} keys");
+        let (returned, failed) = failing_at(number, || insert(&mut map, value));
+        if !failed {
+            assert!(returned.is_ok() && map.contains_key(25), "{of}");
+            return number - 1;
+        }
+        let Err(Refused { value, cause }) = returned else { panic!("{of} did not fail") };
+        assert_eq!((value.as_str(), cause), ("a value", Cause::Memory), "{of}, request {number}");
+        assert_eq!((map.capacity(), format!("{map:?}")), (capacity, order), "{of}, {number}");
+        assert!(insert(&mut map, value).is_ok(), "{of} once more, request {number}");
+        assert_eq!(map.get(25).map(String::as_str), Some("a value"), "{of}, request {number}");
+    }
+    unreachable!()
+}
+
+#[test]
+fn a_failed_insertion_returns_its_value() {
+    // the first puts a second pair into a slot, the second makes the map grow
+    let beside: Vec<u64> = (0..13).collect();
+    let grows: Vec<u64> = (0..15).filter(|key| *key != 9).collect();
+    for (name, insert) in INSERTIONS {
+        assert_eq!(returned_each_time(insert, || texts(4), name), 1, "{name}, 4 keys");
+        for ((form, make), second) in FORMS.into_iter().zip([1, 2, 1]) {
+            let name = format!("{name}, slots {form}");
+            let requests = returned_each_time(insert, || make(&beside), &name);
+            assert_eq!(requests, second, "requests of {name}, for a second pair");
+            let requests = returned_each_time(insert, || make(&grows), &name);
+            assert_eq!(requests, 2, "requests of {name}, at a growth");
+        }
     }
 }
 

@@ -49,6 +49,7 @@ impl<'a, K: IntKey, V, A: Allocator + Copy> Iterator for Iter<'a, K, V, A> {
 
     ghost remaining = { item_count (λ rest. rest) };
 
+    #[inline]
     fn next(&mut self) -> Option<(&'a K, &'a V)> {
         let (key, kept) = self.pairs.next()?;
         Some((key, kept.get()))
@@ -78,6 +79,7 @@ impl<'a, K: IntKey, V, A: Allocator + Copy> Iterator for Keys<'a, K, V, A> {
 
     ghost remaining = { item_count (λ rest. rest) };
 
+    #[inline]
     fn next(&mut self) -> Option<&'a K> {
         let (key, _) = self.pairs.next()?;
         Some(key)
@@ -111,6 +113,7 @@ impl<'a, K: IntKey, V, A: Allocator + Copy> Iterator for Values<'a, K, V, A> {
 
     ghost remaining = { item_count (λ rest. rest) };
 
+    #[inline]
     fn next(&mut self) -> Option<&'a V> {
         let (_, value) = self.pairs.next()?;
         Some(value)

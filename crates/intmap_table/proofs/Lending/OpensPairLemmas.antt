@@ -33,7 +33,7 @@ use Rattle.intmap_table.proofs.table.stored.Stored.TheLaws as S-laws
 use Rattle.intmap_table.proofs.kept.Kept.TheLaws as K-laws
 use Rattle.intmap_table.specs.Apart.{each_at}
 use Rattle.intmap_table.proofs.Lending.OpensLemmas.{OpensAs}
-use Rattle.intmap_table.proofs.Lending.OpensStructLemmas.{member, IsLaidAs, left_seen, still_opens, one_part, two_parts, struct_opens, view_opens}
+use Rattle.intmap_table.proofs.Lending.OpensStructLemmas.{member, IsLaidAs, left_seen, still_opens, first_part, last_part, struct_opens, view_opens}
 
 module _ (V' : RattleType) where
   abbrev pub V : RattleType
@@ -108,7 +108,7 @@ module _ (V' : RattleType) where
     abbrev pub kept_opens : OpensAs 𝓛 V Kr Hr l
     kept_opens =
         view_opens 𝓛 V Inside l
-        (struct_opens 𝓛 (member V ∷ []) Inside (λ a. (a.value, tt)) kept_laid V l (one_part 𝓛 V l V cell_opens)
+        (struct_opens 𝓛 (member V ∷ []) Inside (λ a. (a.value, tt)) kept_laid V l (last_part 𝓛 V l V 0 cell_opens)
         ((param_laws 1 V' L).single, tt) (λ y. record { value = y.0 })
         (shared_of Hr) (λ h. h) (λ h. h) (λ a. refl) (λ y. refl) (λ h. refl) kept_shows)
         V.Denot Kr.coded (K-type.the_view V) (K-type.the_invariant V) (shared_of Hr) (λ h. h)
@@ -155,7 +155,8 @@ module _ (K' : RattleType) (g : key.Ghosts K'.Denot) (e : eq.Ghosts K'.Denot) wh
       abbrev pub pair_opens : {M : Type 1} {𝓤 : Ura M} (𝓛 : Logic 𝓤) (l : Lft) → Incl l K'.lives → OpensAs 𝓛 (V V') (Pr (Kr V')) (Pr (Hr V')) l
       pair_opens {𝓤 = 𝓤} 𝓛 l ik =
           struct_opens 𝓛 fields (Pr (Kr V')) (λ p. (p.0, (p.1, tt))) pair_laid (V V') l
-          (two_parts 𝓛 (V V') l St (Kr V') (still_opens 𝓛 (V V') St l (Shares-less 𝓛 St St.lives l (S-laws.the_within (K K') g e l ik)
-          (stored_laws.shares 𝓛))) (kept_opens V' LV 𝓛 l))
+          (first_part 𝓛 (V V') l St (member (Kr V') ∷ []) 0
+          (still_opens 𝓛 (V V') St l (Shares-less 𝓛 St St.lives l (S-laws.the_within (K K') g e l ik) (stored_laws.shares 𝓛)))
+          (last_part 𝓛 (V V') l (Kr V') _ (kept_opens V' LV 𝓛 l)))
           (stored_laws.single, (kept_laws.single, tt)) (λ y. (y.0, y.1.0)) (shared_of (Pr (Hr V'))) (λ h. h) (λ y. y) (λ p. refl)
           (λ y. refl) (λ y. refl) (λ y b o κ. id⊢ 𝓤 _)

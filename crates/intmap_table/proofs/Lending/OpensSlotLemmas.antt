@@ -29,7 +29,6 @@ use Rattle.std.specs.Prelude.{map}
 use Rattle.intmap_table.specs.declared.slot.Slot as declared
 use Rattle.std.specs.declared.option.Option.{Option}
 use Rattle.std.specs.declared.option.Option.TheVariants.{None, Some}
-use Rattle.std.specs.contracts.option.Option as O-type
 use Rattle.intmap_table.specs.contracts.slot.Slot as L-type
 use Rattle.intmap_table.specs.contracts.slot.Slot.TheInside as I-type
 use Rattle.intmap_table.specs.Tables.Slots.{Held, all_pairs, HasFirst}
@@ -38,19 +37,16 @@ use Rattle.std.proofs.option.Option.TheLaws as O-laws
 use Rattle.intmap_table.proofs.Lending.ValuesLemmas.{refilled_slot, lent_slot}
 use Rattle.intmap_table.proofs.Lending.OpensLemmas.{OpensAs, row_put, row_count, row_cells_in}
 use Rattle.intmap_table.proofs.Lending.OpensVecLemmas.{vec_opens}
-use Rattle.intmap_table.proofs.Lending.OpensStructLemmas.{member, IsLaidAs, two_parts, struct_opens, view_opens}
-use Rattle.intmap_table.proofs.Lending.OpensPairLemmas.{V, K, Kr, Hr, Pr, pair_within, pair_laws, pair_opens}
-use Rattle.intmap_table.proofs.Lending.OpensOptionLemmas.{option_opens}
+use Rattle.intmap_table.proofs.Lending.OpensStructLemmas.{member, IsLaidAs, first_part, last_part, struct_opens, view_opens}
+use Rattle.intmap_table.proofs.Lending.OpensPairLemmas.{V, K, Kr, Hr, Pr, pair_laws, pair_opens}
+use Rattle.intmap_table.proofs.Lending.OpensLoneLemmas.{Fr, first_opens}
 
 abbrev pub A : RattleType → RattleType
 A A' = copied 2 A'
 
 module _ (K' A' : RattleType) (g : key.Ghosts K'.Denot) (e : eq.Ghosts K'.Denot) (a : allocator.Ghosts A'.Denot) where
-  -- a slot whose values are of type R: its first pair, if there is one, the others, the fields that hold both, and the slot itself
+  -- a slot whose values are of type R: the pairs behind its first one, the fields that hold all, and the slot itself
   module _ (R : RattleType) where
-    abbrev pub Fr : RattleType
-    Fr = O-type.the_row (Pr K' g e R)
-
     abbrev pub Vr : RattleType
     Vr = V-type.the_row (Pr K' g e R) (A A') a
 
@@ -76,11 +72,8 @@ module _ (K' A' : RattleType) (g : key.Ghosts K'.Denot) (e : eq.Ghosts K'.Denot)
     abbrev pub Hv : RattleType
     Hv = Hr V'
 
-    abbrev pub PL : Laws (Pr K' g e Kv)
-    PL = pair_laws K' g e V' LK LV
-
     abbrev pub fields : List Member
-    fields = member (Fr Kv) ∷ member (Vr Kv) ∷ []
+    fields = member (Fr K' g e Kv) ∷ member (Vr Kv) ∷ []
 
     pub slot_laid : IsLaidAs (Ir Kv) fields (λ s. (s.first, (s.rest, tt)))
     unfolding part_of
@@ -94,23 +87,19 @@ module _ (K' A' : RattleType) (g : key.Ghosts K'.Denot) (e : eq.Ghosts K'.Denot)
       abbrev pub PO : OpensAs 𝓛 (V V') (Pr K' g e Kv) (Pr K' g e Hv) l
       PO = pair_opens K' g e V' LK LV 𝓛 l ik
 
+      abbrev pub FO : OpensAs 𝓛 (V V') (Fr K' g e Kv) (Fr K' g e Hv) l
+      FO = first_opens K' g e V' LK LV 𝓛 l ik iv
+
       abbrev pub rest_opens : OpensAs 𝓛 (V V') (Vr Kv) (Vr Hv) l
       rest_opens = vec_opens 𝓛 (V V') (Pr K' g e Kv) (Pr K' g e Hv) l PO refl tt (A A') a (copied_laws 2 A' LA) words_live
 
-      abbrev pub first_opens : OpensAs 𝓛 (V V') (Fr Kv) (Fr Hv) l
-      first_opens = option_opens 𝓛 (V V') l (Pr K' g e Kv) (Pr K' g e Hv) PO PL (pair_within K' g e V' l ik iv) (λ b o κ. id⊢ 𝓤 _)
-          (λ h b o κ. id⊢ 𝓤 _)
-
       abbrev pub inside_opens : OpensAs 𝓛 (V V') (Ir Kv) (Ir Hv) l
       inside_opens =
+          let pairs = pair_laws K' g e V' LK LV in
           struct_opens 𝓛 fields (Ir Kv) (λ s. (s.first, (s.rest, tt))) slot_laid (V V') l
-          (two_parts 𝓛 (V V') l (Fr Kv) (Vr Kv) first_opens rest_opens) (
-            (O-laws.the_row_laws (Pr K' g e Kv) PL).single,
-            (
-              (V-laws.the_row_laws (Pr K' g e Kv) (A A') a PL
-                  (copied_laws 2 A' LA)).single,
-              tt,
-            ),
+          (first_part 𝓛 (V V') l (Fr K' g e Kv) (member (Vr Kv) ∷ []) 0 FO (last_part 𝓛 (V V') l (Vr Kv) _ rest_opens)) (
+            (O-laws.the_row_laws (Pr K' g e Kv) pairs).single,
+            ((V-laws.the_row_laws (Pr K' g e Kv) (A A') a pairs (copied_laws 2 A' LA)).single, tt),
           ) (λ y. record { first = y.0; rest = y.1.0 })
           (shared_of (Ir Hv)) (λ h. (h.first, h.rest)) (λ y. record { first = y.0; rest = y.1 }) (λ s. refl) (λ y. refl) (λ y. refl)
           (λ y b o κ. id⊢ 𝓤 _)
@@ -144,31 +133,31 @@ module _ (K' A' : RattleType) (g : key.Ghosts K'.Denot) (e : eq.Ghosts K'.Denot)
       cells-is (p ∷ L) = ap (λ M. p.1 ∷ M) (cells-is L)
 
       pub pairs-put : (f : Option P) (L : List P) (ws : List V'.Denot)
-          → all_pairs (first_opens.put f (take (first_opens.count f) ws)) (puts L (drop (first_opens.count f) ws)) ≡ with_values (all_pairs f L) ws
+          → all_pairs (FO.put f (take (FO.count f) ws)) (puts L (drop (FO.count f) ws)) ≡ with_values (all_pairs f L) ws
       unfolding with_values
       pairs-put None L ws = puts-is L ws
       pairs-put (Some p) L [] = ap (λ M. p ∷ M) (puts-none L)
       pairs-put (Some p) L (w ∷ ws) = ap (λ M. (p.0, w) ∷ M) (puts-is L ws)
 
-      pub pairs-count : (f : Option P) (L : List P) → first_opens.count f + row_count PO.count L ≡ length (all_pairs f L)
+      pub pairs-count : (f : Option P) (L : List P) → FO.count f + row_count PO.count L ≡ length (all_pairs f L)
       pairs-count None L = let n = count-is L in omega (arith, n)
       pairs-count (Some p) L = let n = count-is L in omega (arith, n)
 
-      pub pairs-fill : (f : (Fr Hv).Denot) (L : List H) → lent_pairs (all_pairs f L) ≡ all_pairs (first_opens.fill f) (map PO.fill L)
+      pub pairs-fill : (f : (Fr K' g e Hv).Denot) (L : List H) → lent_pairs (all_pairs f L) ≡ all_pairs (FO.fill f) (map PO.fill L)
       pairs-fill None L = refl
       pairs-fill (Some h) L = refl
 
-      pub pairs-cells : (f : (Fr Hv).Denot) (L : List H) → first_opens.cells_in f ++ row_cells_in PO.cells_in L ≡ values_of (all_pairs f L)
+      pub pairs-cells : (f : (Fr K' g e Hv).Denot) (L : List H) → FO.cells_in f ++ row_cells_in PO.cells_in L ≡ values_of (all_pairs f L)
       pairs-cells None L = cells-is L
       pairs-cells (Some h) L = ap (λ M. h.1 ∷ M) (cells-is L)
 
       -- with other values nothing is behind no first pair either
-      pub first-put : (f : Option P) (L : List P) (vs ws : List V'.Denot) → HasFirst f L → HasFirst (first_opens.put f vs) (puts L ws)
+      pub first-put : (f : Option P) (L : List P) (vs ws : List V'.Denot) → HasFirst f L → HasFirst (FO.put f vs) (puts L ws)
       first-put None L vs ws none = ap (λ M. puts M ws) none
       first-put (Some p) L vs ws none = tt
 
       -- nor with holes in the place of the values
-      pub first-fill : (f : (Fr Hv).Denot) (L : List H) → HasFirst (first_opens.fill f) (map PO.fill L) → HasFirst f L
+      pub first-fill : (f : (Fr K' g e Hv).Denot) (L : List H) → HasFirst (FO.fill f) (map PO.fill L) → HasFirst f L
       first-fill None [] none = refl
       first-fill None (h ∷ L) none = absurd (cons≢nil none)
       first-fill (Some h) L none = tt
@@ -184,7 +173,7 @@ module _ (K' A' : RattleType) (g : key.Ghosts K'.Denot) (e : eq.Ghosts K'.Denot)
       slot_opens =
           view_opens 𝓛 (V V') (Ir Kv) l inside_opens (Held K'.Denot V'.Denot) (code Kv) (view Kv) (good Kv) (shared_of (Sr Hv)) (view Hv)
           refilled_slot (λ h. length h.pairs) lent_slot (λ h. values_of h.pairs) slot-puts
-          (λ s ws ok. first-put s.first s.rest.items (take (first_opens.count s.first) ws) (drop (first_opens.count s.first) ws) ok)
+          (λ s ws ok. first-put s.first s.rest.items (take (FO.count s.first) ws) (drop (FO.count s.first) ws) ok)
           (λ s. pairs-count s.first s.rest.items) slot-fills (λ h. pairs-cells h.first h.rest.items)
           (λ h ok. view-Hides (Ir Hv) (Held K'.Denot Hv.Denot) (code Hv) (view Hv) (good Hv) M 𝓤 𝓛 (view Hv h) h
           (refl, first-fill h.first h.rest.items ok))

@@ -1,4 +1,4 @@
--- What is lent at holes of a struct of two fields or of one, and of a type with a view. Assumes `Logic`.
+-- What is lent at holes of a struct, and of a type with a view. Assumes `Logic`.
 use mathlib.Core.Path.{◌≡◌, refl, sym, ap, subst, ◌∙◌}
 use Prim.Native.Nat.{ℕ, zero, ◌+◌}
 use mathlib.Core.List.{List, [], ◌∷◌, ◌++◌}
@@ -47,41 +47,36 @@ module _ {M : Type 1} {𝓤 : Ura M} (𝓛 : Logic 𝓤) where
 abbrev pub member : RattleType → Member
 member R = record { row = R; ty = lone R.mir }
 
--- two fields
-module _ {M : Type 1} {𝓤 : Ura M} (𝓛 : Logic 𝓤) (V : RattleType) (l : Lft) (R₁ R₂ : RattleType) {Y₁ Y₂ : Type 0}
-    {shown₁ : Y₁ → ℕ → ℕ → Lft → Fml} {shown₂ : Y₂ → ℕ → ℕ → Lft → Fml}
-    (O₁ : Opens 𝓛 V (part_at (row_of (member R₁)) full_share) shown₁ l) (O₂ : Opens 𝓛 V (part_at (row_of (member R₂)) full_share) shown₂ l) where
-  abbrev pub e₁ : ℕ
-  e₁ = up (align (lone R₁.mir)) zero
-
-  abbrev pub e₂ : ℕ
-  e₂ = up (align (lone R₂.mir)) (e₁ + size (lone R₁.mir))
-
-  abbrev pub two_parts : Opens 𝓛 V (parts_at full_share (member R₁ ∷ member R₂ ∷ []) zero)
-      (λ (y : Y₁ × Y₂) b o. beside (shown₁ y.0 b (o + e₁)) (beside (shown₂ y.1 b (o + e₂)) (λ κ. ftrue))) l
-  two_parts = record {
-    count = λ x. O₁.count x.0 + O₂.count x.1.0;
-    put = λ x ws. (O₁.put x.0 (take (O₁.count x.0) ws), (O₂.put x.1.0 (drop_l (O₁.count x.0) ws), tt));
-    fill = λ y. (O₁.fill y.0, (O₂.fill y.1, tt));
-    cells_in = λ y. O₁.cells_in y.0 ++ O₂.cells_in y.1;
-    opens = λ x b o. seen_as (both (O₁.opens x.0 b (o + e₁)) (framed (O₂.opens x.1.0 b (o + e₂)) ftrue (λ κ. ftrue) (Lends-nothing 𝓛 ftrue l)))
-        (λ y k. y) (id⊢ 𝓤 _) (λ ws. id⊢ 𝓤 _) refl (λ y k. refl) (λ y k j. (k.0 j, (k.1 j, tt))) (λ y k κ. id⊢ 𝓤 _);
-  }
-
--- one field
-module _ {M : Type 1} {𝓤 : Ura M} (𝓛 : Logic 𝓤) (V : RattleType) (l : Lft) (R : RattleType) {Y : Type 0} {shown : Y → ℕ → ℕ → Lft → Fml}
+-- the last field, from some offset on
+module _ {M : Type 1} {𝓤 : Ura M} (𝓛 : Logic 𝓤) (V : RattleType) (l : Lft) (R : RattleType) (from : ℕ) {Y : Type 0} {shown : Y → ℕ → ℕ → Lft → Fml}
     (O : Opens 𝓛 V (part_at (row_of (member R)) full_share) shown l) where
   abbrev pub e : ℕ
-  e = up (align (lone R.mir)) zero
+  e = up (align (lone R.mir)) from
 
-  abbrev pub one_part : Opens 𝓛 V (parts_at full_share (member R ∷ []) zero) (λ (y : Y) b o. beside (shown y b (o + e)) (λ κ. ftrue)) l
-  one_part = record {
+  abbrev pub last_part : Opens 𝓛 V (parts_at full_share (member R ∷ []) from) (λ (y : Y) b o. beside (shown y b (o + e)) (λ κ. ftrue)) l
+  last_part = record {
     count = λ x. O.count x.0;
     put = λ x ws. (O.put x.0 ws, tt);
     fill = λ y. (O.fill y, tt);
     cells_in = O.cells_in;
     opens = λ x b o. seen_as (framed (O.opens x.0 b (o + e)) ftrue (λ κ. ftrue) (Lends-nothing 𝓛 ftrue l))
         (λ y k. y) (id⊢ 𝓤 _) (λ ws. id⊢ 𝓤 _) refl (λ y k. refl) (λ y k j. (k j, tt)) (λ y k κ. id⊢ 𝓤 _);
+  }
+
+-- a field before others
+module _ {M : Type 1} {𝓤 : Ura M} (𝓛 : Logic 𝓤) (V : RattleType) (l : Lft) (R : RattleType) (ms : List Member) (from : ℕ) {Y₁ Y₂ : Type 0}
+    {shown₁ : Y₁ → ℕ → ℕ → Lft → Fml} {shown₂ : Y₂ → ℕ → ℕ → Lft → Fml}
+    (O₁ : Opens 𝓛 V (part_at (row_of (member R)) full_share) shown₁ l)
+    (O₂ : Opens 𝓛 V (parts_at full_share ms (e 𝓛 V l R from O₁ + size (lone R.mir))) shown₂ l) where
+  abbrev pub first_part : Opens 𝓛 V (parts_at full_share (member R ∷ ms) from)
+      (λ (y : Y₁ × Y₂) b o. beside (shown₁ y.0 b (o + e 𝓛 V l R from O₁)) (shown₂ y.1 b o)) l
+  first_part = record {
+    count = λ x. O₁.count x.0 + O₂.count x.1;
+    put = λ x ws. (O₁.put x.0 (take (O₁.count x.0) ws), O₂.put x.1 (drop_l (O₁.count x.0) ws));
+    fill = λ y. (O₁.fill y.0, O₂.fill y.1);
+    cells_in = λ y. O₁.cells_in y.0 ++ O₂.cells_in y.1;
+    opens = λ x b o. seen_as (both (O₁.opens x.0 b (o + e 𝓛 V l R from O₁)) (O₂.opens x.1 b o))
+        (λ y k. y) (id⊢ 𝓤 _) (λ ws. id⊢ 𝓤 _) refl (λ y k. refl) (λ y k j. (k.0 j, k.1 j)) (λ y k κ. id⊢ 𝓤 _);
   }
 
 -- the bytes round the fields of a struct of these members, and what a `&` to it holds of them

@@ -29,7 +29,7 @@ use Rattle.intmap_table.specs.Values.{lent_pairs, with_values}
 use Rattle.intmap_table.proofs.Tables.SameKeysLemmas.{IsTable-same_keys}
 use Rattle.intmap_table.proofs.Lending.ValuesLemmas.{with_values-append, lent_slot, lent_pairs-joined, row_keys-lent_slots}
 use Rattle.intmap_table.proofs.Lending.OpensLemmas.{OpensAs, length-row_put}
-use Rattle.intmap_table.proofs.Lending.OpensStructLemmas.{member, IsLaidAs, one_part, struct_opens, view_opens}
+use Rattle.intmap_table.proofs.Lending.OpensStructLemmas.{member, IsLaidAs, last_part, struct_opens, view_opens}
 use Rattle.intmap_table.proofs.Lending.OpensPairLemmas.{V, K, Kr, Hr}
 use Rattle.intmap_table.proofs.Lending.OpensSlotLemmas.{A}
 use Rattle.intmap_table.proofs.Lending.OpensSlotsLemmas.{Lr, SO as slots_each, slots_opens, keys-puts}
@@ -77,7 +77,7 @@ module _ (K' A' : RattleType) (g : key.Ghosts K'.Denot) (e : eq.Ghosts K'.Denot)
 
       abbrev pub inside_opens : OpensAs 𝓛 (V V') (Ir Kv) (Ir Hv) l
       inside_opens =
-          struct_opens 𝓛 fields (Ir Kv) (λ t. (t.slots, tt)) table_laid (V V') l (one_part 𝓛 (V V') l (Lr K' A' g e a Kv) LO)
+          struct_opens 𝓛 fields (Ir Kv) (λ t. (t.slots, tt)) table_laid (V V') l (last_part 𝓛 (V V') l (Lr K' A' g e a Kv) 0 LO)
           (slots_laws.single, tt) (λ y. record { slots = y.0 }) (shared_of (Ir Hv)) (λ h. h.slots) (λ s. record { slots = s }) (λ t. refl)
           (λ y. refl) (λ s. refl) (λ y b o κ. id⊢ 𝓤 _)
 

@@ -7,7 +7,7 @@ use Rattle.std.proofs.lemmas.Bool.Decides.{nat_tests}
 use Rattle.std.proofs.lemmas.List.{length-replicate, length_push, map-set, get_or_past, set-get_or}
 use Rattle.intmap_table.specs.Tables.Bits.{marked, marked_indices, IsNextMark}
 use Rattle.intmap_table.specs.Tables.Slots.{Held, rows, row_of, joined, pairs_at, AreMarked, IsDirectory, IsNextRow}
-use Rattle.intmap_table.proofs.Tables.TableLemmas.{length-rows, get_or-rows}
+use Rattle.intmap_table.proofs.Tables.TableLemmas.{length-rows}
 use Rattle.intmap_table.proofs.Tables.MarkedLemmas.{get_or-of_default, row-none, All-marked_indices, flat_map-marked_indices, length-marked_indices}
 
 -- a row that holds a pair is one of the rows
@@ -60,10 +60,6 @@ filled-pushed row p = lt-ltb 0 (length (row ++ p ∷ [])) (let n = length_push r
 module _ {K X : Type 0} (S : List (Held K X)) (bits : List Bool) (marks : AreMarked (rows S) bits) (i : ℕ) (below : i < length S) where
   row-below : i < length (rows S)
   row-below = omega (arith, below, length-rows S)
-
-  -- it says whether the slot holds a pair
-  pub marked-at : (h : Held K X) → h ≡ get_or S i h → marked bits i ≡ nat_lt 0 (length h.pairs)
-  marked-at h is = marks.own i ∙ ap (λ (ps : List (K × X)). nat_lt 0 (length ps)) (get_or-rows S i h below ∙ ap (λ (s : Held K X). s.pairs) (sym is))
 
   -- with the slot and its mark changed
   pub marks-set_at : (s : Held K X) (b : Bool) → b ≡ nat_lt 0 (length s.pairs) → AreMarked (rows (set S i s)) (set bits i b)
@@ -134,21 +130,22 @@ mark-next marks from i rest (suc n) ends is = elim (cases_Bool (marked marks fro
 ]
 
 module _ {P : Type 0} (R : List (List P)) (marks : List Bool) (are : AreMarked R marks) (from : ℕ) where
-  -- so its row is the next one with a pair
-  pub row-next : (i : ℕ) (rest : List ℕ) → AreLeft marks from (i ∷ rest) → IsNextRow R from i × AreLeft marks (i + 1) rest
-  row-next i rest left =
-      let next = mark-next marks from i rest left.0 left.1 left.2 in
-      let filled = ltb-true 0 (length (get_or R i [])) (sym (are.own i) ∙ next.0.is) in (
-        record {
-          behind = next.0.behind;
-          within = row-within R i filled;
-          filled = filled;
-          between = λ j le lt. row-none (get_or R j []) (sym (are.own j) ∙ next.0.between j le lt);
-        },
-        next.1,
-      )
+  -- the row of the next mark is the next one with a pair
+  pub row-marked : (i : ℕ) → IsNextMark marks from i → IsNextRow R from i
+  row-marked i next =
+      let filled = ltb-true 0 (length (get_or R i [])) (sym (are.own i) ∙ next.is) in
+      record {
+        behind = next.behind;
+        within = row-within R i filled;
+        filled = filled;
+        between = λ j le lt. row-none (get_or R j []) (sym (are.own j) ∙ next.between j le lt);
+      }
 
-  -- and if there are none, no row holds a pair from there on
+  -- so that of the first index that is left is
+  pub row-next : (i : ℕ) (rest : List ℕ) → AreLeft marks from (i ∷ rest) → IsNextRow R from i × AreLeft marks (i + 1) rest
+  row-next i rest left = let next = mark-next marks from i rest left.0 left.1 left.2 in (row-marked i next.0, next.1)
+
+  -- and if none is left, no row holds a pair from there on
   pub row-next_none : AreLeft marks from [] → (j : ℕ) → from ≤ j → get_or R j [] ≡ []
   row-next_none left j le =
       let own = are.own j in let past = get_or_past marks j false in
@@ -166,13 +163,3 @@ IsDirectory-empty S C some empty =
 pub joined-emptied : {P : Type 0} (R : List (List P)) → ((i : ℕ) → get_or R i [] ≡ []) → joined R ≡ []
 joined-emptied [] empty = refl
 joined-emptied (row ∷ R) empty = rw (empty 0) (joined-emptied R (λ i. empty (suc i)))
-
--- slots that were emptied, and whose marks were taken away
-pub IsDirectory-emptied : {K X : Type 0} (S T : List (Held K X)) (bits : List Bool) (mask : ℕ) → IsDirectory S bits mask → length T ≡ length S → ((i : ℕ) → get_or (rows T) i [] ≡ []) → IsDirectory T (replicate (length bits) false) mask
-IsDirectory-emptied S T bits mask old len empty = record {
-  marks = record {
-    words = length-replicate (length bits) false ∙ old.marks.words ∙ ap (λ n. 64 * ((n + 63) / 64)) (length-rows S ∙ sym len ∙ sym (length-rows T));
-    own = λ i. get_or-of_default (length bits) i false ∙ rw (empty i) refl;
-  };
-  count = old.count ∙ sym len;
-}

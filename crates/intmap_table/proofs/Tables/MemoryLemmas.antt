@@ -1,8 +1,8 @@
 -- Slots that are added behind others, and taken away again.
-use Rattle.std.proofs.Common.{◌≡◌, ℕ, zero, suc, ◌+◌, ◌-◌, ◌*◌, ◌/◌, ◌^◌, ◌<◌, ◌≤◌, Bool, false, List, [], ◌∷◌, ◌++◌, length, get_or, take, replicate, refl, sym, ap, ◌∙◌, arith, append_assoc, append-nil, length-append, mul_comm}
+use Rattle.std.proofs.Common.{◌≡◌, ℕ, zero, suc, ◌+◌, ◌-◌, ◌*◌, ◌/◌, ◌^◌, ◌<◌, ◌≤◌, Bool, true, false, List, [], ◌∷◌, ◌++◌, length, get_or, take, replicate, refl, sym, ap, ◌∙◌, arith, append_assoc, append-nil, length-append, mul_comm}
 use Rattle.std.proofs.Math.Nat.{mul-div_cancel_left}
 use Rattle.std.proofs.Math.Seq.{take-append_seam}
-use Rattle.std.specs.Prelude.{Result, Ok, Err, OnErr}
+use Rattle.std.specs.Prelude.{Result, Ok, Err, OnOk, OnErr, is_err}
 use Rattle.std.proofs.lemmas.Grind.{flat_map-append}
 use Rattle.std.proofs.lemmas.List.{replicate_more, length-replicate, get_or-replicate, get_or-append_right, map-append, take-map}
 use Rattle.intmap_table.specs.Classes.{IsCapacity}
@@ -28,10 +28,11 @@ module _ {K X : Type 0} where
   rows-bare_slots (suc n) = ap (λ R. [] ∷ R) (rows-bare_slots n)
 
   module _ (S T : List (Held K X)) (C : ℕ) (none : S ≡ []) (is : T ≡ S ++ replicate (C - length S) bare_slot) where
-    alone : T ≡ replicate C bare_slot
+    -- behind no slots, empty ones alone are added
+    pub alone : T ≡ replicate C bare_slot
     alone = let all : C - 0 ≡ C = omega arith in is ∙ ap (λ Z. Z ++ replicate (C - length Z) bare_slot) none ∙ ap (λ n. replicate n bare_slot) all
 
-    -- behind no slots, empty ones alone are added: no pair is in them
+    -- no pair is in them
     pub rows-alone : rows T ≡ replicate C []
     rows-alone = ap rows alone ∙ rows-bare_slots C
 
@@ -43,6 +44,20 @@ module _ {K X : Type 0} where
 pub OnErr-always : {V E P : Type 0} (r : Result V E) → P → OnErr r P
 OnErr-always (Ok _) p = tt
 OnErr-always (Err _) p = p
+
+-- what holds both if there is an error and if there is none holds
+pub OnOk-or : {V E : Type 0} (r : Result V E) {P : Type 0} → OnOk r P → OnErr r P → P
+OnOk-or (Ok _) ok err = ok
+OnOk-or (Err _) ok err = err
+
+-- what an error ensures holds if there is one, and what a success ensures if there is none
+pub OnErr-at : {V E : Type 0} (r : Result V E) (P : Type 0) → is_err r ≡ true → OnErr r P → P
+OnErr-at (Ok _) P is holds = absurd (cc)
+OnErr-at (Err _) P is holds = holds
+
+pub OnOk-at : {V E : Type 0} (r : Result V E) (P : Type 0) → is_err r ≡ false → OnOk r P → P
+OnOk-at (Ok _) P is holds = holds
+OnOk-at (Err _) P is holds = absurd (cc)
 
 module _ {K X : Type 0} where
   -- slots cut back to the old ones have the old rows
@@ -80,6 +95,13 @@ module _ {K X : Type 0} (S T : List (Held K X)) (D : ℕ) (grown : IsGrown (leng
   joined-added =
       ap joined added ∙ flat_map-append (λ s. s) (rows S) (replicate (D - length S) [])
       ∙ ap (λ L. joined (rows S) ++ L) (joined-emptied (replicate (D - length S) []) (λ i. get_or-of_default (D - length S) i [])) ∙ append-nil (joined (rows S))
+
+  -- behind the old rows, each is empty
+  pub bare-added : (j : ℕ) → length S ≤ j → get_or (rows T) j [] ≡ []
+  bare-added j past =
+      ap (λ R. get_or R j []) added
+      ∙ get_or-append_right (rows S) (replicate (D - length S) []) (length S) j [] (length-rows S) past
+      ∙ get_or-of_default (D - length S) (j - length S) []
 
   module _ (bits : List Bool) (mask : ℕ) (directory : IsDirectory S bits mask) where
     -- there are whole numbers of old slots

@@ -42,7 +42,7 @@ pub record AreMoved {K X : Type 0} (number : K → ℕ) (S₀ : List (Held K X))
   pub counted : n + length (pairs_at (take C (rows S₀)) left) ≡ n₀ + length (joined (rows S₀))
 
 -- a slot past the last gets no pair
-need-past : {K X : Type 0} (number : K → ℕ) (L : List (K × X)) (D j : ℕ) → IsCapacity D → D ≤ j → slot_of number L D j ≡ []
+pub need-past : {K X : Type 0} (number : K → ℕ) (L : List (K × X)) (D j : ℕ) → IsCapacity D → D ≤ j → slot_of number L D j ≡ []
 need-past number L D j cap past =
     filter_none (λ p. slot_number number p.0 D == j) L (λ k d lt. ne_eqb (slot_number number (get_or L k d).0 D) j (λ q.
     let below = slot_number-below number (get_or L k d).0 D cap in absurd (omega (arith, below, q, past))))

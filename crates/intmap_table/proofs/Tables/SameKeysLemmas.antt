@@ -1,15 +1,15 @@
 -- What lists of pairs, tables and maps are by their keys alone: so are others with these keys.
-use Rattle.std.proofs.Common.{◌≡◌, ℕ, zero, suc, ◌+◌, ◌*◌, ◌/◌, ◌<◌, Bool, List, [], ◌∷◌, ◌++◌, length, map, get_or, set, take, drop, refl, sym, ap, ◌∙◌, subst}
+use Rattle.std.proofs.Common.{◌≡◌, inl, inr, ℕ, zero, suc, ◌+◌, ◌*◌, ◌/◌, ◌<◌, Bool, List, [], ◌∷◌, ◌++◌, length, map, get_or, set, take, drop, refl, sym, ap, ◌∙◌, subst}
 use Rattle.std.specs.Prelude.{All, nat_lt}
 use Rattle.std.specs.List.{flat_map, range_with_len}
 use Rattle.std.specs.Map.{keys_of}
-use Rattle.std.proofs.lemmas.List.{get_or-map, length-map, map-set, set-get_or, take-append-drop}
+use Rattle.std.proofs.lemmas.List.{get_or-map, length-map, map-append, map-set, nil_from_length, set-get_or, take-append-drop}
 use Rattle.std.proofs.lemmas.List.Elements.{All-map}
 use Rattle.std.proofs.lemmas.List.FromFn.{length-map-range_with_len}
 use Rattle.std.proofs.lemmas.Map.Entries.{length-keys_of}
 use Rattle.intmap_table.specs.Classes.{IsCapacity, slot_number}
 pub use Rattle.intmap_table.specs.Tables.Slots.{row_keys}
-use Rattle.intmap_table.specs.Tables.Slots.{Held, rows, row_of, AreMarked, IsTable, IsDirectory, IsRowSet}
+use Rattle.intmap_table.specs.Tables.Slots.{Held, rows, row_of, AreMarked, IsTable, IsDirectory, AreSlots, IsRowSet}
 use Rattle.intmap_table.specs.Walk.{slot_of, walk_of}
 use Rattle.intmap_table.proofs.ClassLemmas.{AreClasses, AreClasses-map, flat_map-classes, flat_map-joined}
 
@@ -112,5 +112,22 @@ module _ {K X Y : Type 0} (S : List (Held K X)) (T : List (Held K Y)) (same : ro
         own = λ i. are.own i ∙ ap (nat_lt 0) (length-same_keys (get_or (rows S) i []) (get_or (rows T) i []) (row-same i));
       }
 
+  -- if those are none, so are these
+  none-same_keys : S ≡ [] → T ≡ []
+  none-same_keys none = nil_from_length T (sym length-row_keys ∙ ap length none)
+
   pub IsDirectory-same_keys : (marks : List Bool) (mask : ℕ) → IsDirectory S marks mask → IsDirectory T marks mask
   IsDirectory-same_keys marks mask is = record { marks = AreMarked-same_keys marks is.marks; count = is.count ∙ length-row_keys }
+
+-- slots of either form with these keys are of that form
+pub AreSlots-same_keys : {K X Y : Type 0} (L S : List (Held K X)) (M T : List (Held K Y)) → row_keys L ≡ row_keys M → row_keys S ≡ row_keys T
+    → {bits : List Bool} {mask : ℕ} → AreSlots L S bits mask → AreSlots M T bits mask
+AreSlots-same_keys L S M T lone shared {bits} {mask} are = record {
+  directory =
+      let append = map-append (λ (h : Held _ _). keys_of h.pairs) in
+      IsDirectory-same_keys (L ++ S) (M ++ T) (append L S ∙ (λ i. lone i ++ shared i) ∙ sym (map-append (λ h. keys_of h.pairs) M T)) bits mask are.directory;
+  form = elim are.form [
+    | inl none ↦ inl (none-same_keys L M lone none)
+    | inr none ↦ inr (none-same_keys S T shared none)
+  ];
+}

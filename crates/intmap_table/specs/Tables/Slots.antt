@@ -1,5 +1,5 @@
 -- How a table lays its pairs out. No public clause cites this module.
-use Rattle.std.specs.Prelude.{◌≡◌, ℕ, zero, suc, ◌+◌, ◌*◌, ◌/◌, ◌<◌, ◌≤◌, Bool, nat_lt, List, [], ◌∷◌, ◌++◌, length, map, set, slice_index_or, Option, Some, None}
+use Rattle.std.specs.Prelude.{◌≡◌, ◌⊎◌, ℕ, zero, suc, ◌+◌, ◌*◌, ◌/◌, ◌<◌, ◌≤◌, Bool, nat_lt, List, [], ◌∷◌, ◌++◌, length, map, set, slice_index_or, Option, Some, None}
 use Rattle.std.specs.Option.{option_to_list}
 use Rattle.std.specs.List.{All, flat_map}
 use Rattle.std.specs.Map.{keys_of}
@@ -84,3 +84,13 @@ pub record IsTable {K X : Type 0} (number : K → ℕ) (slots : List (Held K X))
 pub record IsDirectory {K X : Type 0} (slots : List (Held K X)) (bits : List Bool) (mask : ℕ) : Type 0 where
   pub marks : AreMarked (rows slots) bits
   pub count : mask + 1 ≡ length slots
+
+-- slots with their directory: lone ones, of one pair at most, or shared ones, and none of the other form
+pub record AreSlots {K X : Type 0} (lone shared : List (Held K X)) (bits : List Bool) (mask : ℕ) : Type 0 where
+  pub directory : IsDirectory (lone ++ shared) bits mask
+  pub form : (lone ≡ []) ⊎ (shared ≡ [])
+
+-- the numbers of slots that are left of a walk: they are of slots, which are of one form
+pub record AreOnWay {K X : Type 0} (lone shared : List (Held K X)) (indices : List ℕ) : Type 0 where
+  pub within : All (λ index. index < length (lone ++ shared)) indices
+  pub form : (lone ≡ []) ⊎ (shared ≡ [])

@@ -2,23 +2,30 @@
 //! Which slots hold a pair is known here alone.
 //!
 //! `pairs` has the calls on a pair of one slot, `closures` those with a closure, `walk` the pairs by
-//! reference, and `grow` and `place` the growth.
+//! reference, and `forms` the change from lone to shared slots. Of growth, `grow_with` has that with a
+//! new pair, `grow` and `place` that of shared slots, `part` that by which they become lone, and
+//! `grow_lone` that of lone ones.
 
 mod closures;
+mod forms;
 mod grow;
+mod grow_lone;
+mod grow_with;
 mod pairs;
+mod part;
 mod place;
 pub mod walk;
 
-ghost use Rattle.std.specs.Prelude.{◌≡◌, ◌+◌, ◌^◌, ◌<◌, ◌≤◌, ℕ, [], cond, count_by, false, length, nat_lt, position, replicate, slice_index_or, slice_set, IfNone, IfOk, IfSome};
+ghost use Rattle.std.specs.Prelude.{◌≡◌, ◌⊎◌, ◌+◌, ◌^◌, ◌<◌, ◌≤◌, ℕ, [], ◌++◌, cond, count_by, false, length, nat_lt, position, replicate, slice_index_or, slice_set, IfNone, IfOk, IfSome};
 ghost use Rattle.std.specs.List.{AllZip};
 ghost use Rattle.intmap_table.specs.Classes.{IsCapacity, same_key};
 ghost use Rattle.intmap_table.specs.Cloning.{IsPairClone};
 ghost use Rattle.intmap_table.specs.Reach.{through_first};
-ghost use Rattle.intmap_table.specs.Tables.Slots.{rows, row_of, joined, AreMarked, IsNextRow};
+ghost use Rattle.intmap_table.specs.Tables.Slots.{rows, row_of, joined, AreMarked, IsNextRow, IsRowSet};
 
 use crate::bits::Bits;
 use crate::key::IntKey;
+use crate::lone::Lone;
 use crate::slot::Slot;
 use crate::steps::Steps;
 use crate::table::stored::Stored;
@@ -36,49 +43,58 @@ struct Directory<A: Allocator> {
     bits: Bits<A>,
 }
 
-/// Slots, and one bit for each, which says whether it holds a pair.
+/// Slots, and one bit for each, which says whether it holds a pair. While none holds two, they are
+/// lone. Otherwise they are shared.
 #[derive(Drop)]
 pub(crate) struct Slots<K: IntKey, X, A: Allocator> {
     directory: Directory<A>,
-    slots: Vec<Slot<K, X, A>, A>,
+    lone: Vec<Lone<K, X>, A>,
+    shared: Vec<Slot<K, X, A>, A>,
 }
 
-// Invariant: the bits mark the slots that hold pairs, and the mask is one less than their number.
+// Invariant: the bits mark the slots that hold pairs, the mask is one less than their number, and
+// there are none of the other form.
 impl<K: IntKey, X, A: Allocator> Model for Slots<K, X, A> {
-    ghost use Rattle.std.specs.Prelude.{List};
-    ghost use Rattle.intmap_table.specs.Tables.Slots.{Held, IsDirectory};
+    ghost use Rattle.std.specs.Prelude.{List, ◌++◌};
+    ghost use Rattle.intmap_table.specs.Tables.Slots.{Held, AreSlots};
 
     ghost Value = { List (Held K X) };
 
-    ghost view = { λ s. s.slots.items };
+    ghost view = { λ s. s.lone.items ++ s.shared.items };
 
-    ghost invariant = { λ s. IsDirectory s.slots.items s.directory.bits s.directory.mask };
+    ghost invariant = { λ s.
+        AreSlots s.lone.items s.shared.items s.directory.bits s.directory.mask };
 }
 
-/// Clears the bit of a slot if it holds no pair.
+/// Clears the bit of a slot unless it holds a pair.
 #[inline(always)]
-fn unmark_if_empty<K: IntKey, X, A: Allocator>(
-    bits: &mut Bits<A>,
-    slot: &Slot<K, X, A>,
-    index: usize,
-)
+fn unmark_unless<A: Allocator>(bits: &mut Bits<A>, is_filled: bool, index: usize)
     requires { index < length bits.old }
-    ensures { bits.new
-        ≡ cond (nat_lt 0 (length slot.now.pairs)) bits.old (slice_set bits.old index false) }
+    ensures { bits.new ≡ cond is_filled bits.old (slice_set bits.old index false) }
 {
-    if !slot.is_filled() {
+    if !is_filled {
         bits.clear(index);
     }
 }
 
-/// Drops the pairs of all slots. The bits mark the slots that hold a pair.
-fn clear_slots<K: IntKey, X: Drop, A: Allocator>(bits: &Bits<A>, slots: &mut Vec<Slot<K, X, A>, A>)
-    requires { AreMarked (rows slots.old.items) bits.now }
-    ensures len { length slots.new.items ≡ length slots.old.items }
-    ensures empty { (i : ℕ) → slice_index_or (rows slots.new.items) i [] ≡ [] }
+/// Drops the pairs of all slots, which are of one form. The bits mark those that hold a pair.
+fn clear_slots<K: IntKey, X: Drop, A: Allocator>(
+    bits: &Bits<A>,
+    lone: &mut Vec<Lone<K, X>, A>,
+    shared: &mut Vec<Slot<K, X, A>, A>,
+)
+    requires marks { AreMarked (rows (lone.old.items ++ shared.old.items)) bits.now }
+    requires form { (lone.old.items ≡ []) ⊎ (shared.old.items ≡ []) }
+    ensures lone { length lone.new.items ≡ length lone.old.items }
+    ensures shared { length shared.new.items ≡ length shared.old.items }
+    ensures empty { (i : ℕ) → row_of (lone.new.items ++ shared.new.items) i ≡ [] }
 {
     for index in bits.iter() {
-        slots[index].clear();
+        if index < lone.len() {
+            lone[index].clear();
+        } else {
+            shared[index].clear();
+        }
     }
 }
 
@@ -90,7 +106,7 @@ impl<K: IntKey, X, A: Allocator> Slots<K, X, A> {
     pub(crate) fn len(&self) -> usize
         ensures { result ≡ length self.now }
     {
-        self.slots.len()
+        self.lone.len() + self.shared.len()
     }
 
     /// Their number less one.
@@ -114,7 +130,10 @@ impl<K: IntKey, X, A: Allocator> Slots<K, X, A> {
         requires fits { length (row_of self.now index) < 2 ^ 64 }
         ensures { result ≡ length (row_of self.now index) }
     {
-        self.slots[index].len()
+        if index < self.lone.len() {
+            return self.lone[index].len();
+        }
+        self.shared[index].len()
     }
 
     /// The place of the key's pair in a slot. The keys are compared from the front, up to the one
@@ -127,7 +146,10 @@ impl<K: IntKey, X, A: Allocator> Slots<K, X, A> {
         ensures counted { steps.new ≡ steps.old + length
             (through_first (λ p. same_key K.number_of key.now p.0) (row_of self.now index)) }
     {
-        self.slots[index].find(key, steps)
+        if index < self.lone.len() {
+            return self.lone[index].find(key, steps);
+        }
+        self.shared[index].find(key, steps)
     }
 
     /// The place of the last pair of a slot.
@@ -135,7 +157,10 @@ impl<K: IntKey, X, A: Allocator> Slots<K, X, A> {
         requires { 0 < length (row_of self.now index) }
         ensures { result + 1 ≡ length (row_of self.now index) }
     {
-        self.slots[index].last_place()
+        if index < self.lone.len() {
+            return self.lone[index].last_place();
+        }
+        self.shared[index].last_place()
     }
 
     /// The stored key of the pair at a place of a slot.
@@ -145,7 +170,10 @@ impl<K: IntKey, X, A: Allocator> Slots<K, X, A> {
         ensures { (p : K × X)
             → result.now ≡ (slice_index_or (row_of self.now index) place p).0 }
     {
-        self.slots[index].key_at(place)
+        if index < self.lone.len() {
+            return self.lone[index].key_at(place);
+        }
+        self.shared[index].key_at(place)
     }
 
     /// The value of the pair at a place of a slot.
@@ -155,7 +183,10 @@ impl<K: IntKey, X, A: Allocator> Slots<K, X, A> {
         ensures { (p : K × X)
             → result.now ≡ (slice_index_or (row_of self.now index) place p).1 }
     {
-        self.slots[index].value_at(place)
+        if index < self.lone.len() {
+            return self.lone[index].value_at(place);
+        }
+        self.shared[index].value_at(place)
     }
 
     /// A mutable reference to the value of the pair at a place of a slot.
@@ -167,7 +198,10 @@ impl<K: IntKey, X, A: Allocator> Slots<K, X, A> {
         ensures value { (p : K × X)
             → result.now ≡ (slice_index_or (row_of self.old index) place p).1 }
     {
-        self.slots[index].value_mut_at(place)
+        if index < self.lone.len() {
+            return self.lone[index].value_mut_at(place);
+        }
+        self.shared[index].value_mut_at(place)
     }
 
     /// The pair at a place of a slot, or `None` behind its last pair.
@@ -180,11 +214,10 @@ impl<K: IntKey, X, A: Allocator> Slots<K, X, A> {
             ≡ slice_index_or (row_of self.now index) place p))) }
         ensures none { IfNone result (length (row_of self.now index) ≤ place) }
     {
-        let slot = &self.slots[index];
-        if place < slot.len() {
-            return Some((slot.key_at(place), slot.value_at(place)));
+        if place >= self.row_len(index) {
+            return None;
         }
-        None
+        Some((self.key_at(index, place), self.value_at(index, place)))
     }
 
     /// The first slot from an index on that holds a pair.
@@ -205,7 +238,8 @@ impl<K: IntKey, X, A: Allocator> Slots<K, X, A> {
             first: None,
             rest: &[],
             filled: self.directory.bits.iter(),
-            slots: &self.slots,
+            lone: &self.lone,
+            shared: &self.shared,
         }
     }
 }
@@ -216,7 +250,7 @@ impl<K: IntKey, X: Drop, A: Allocator> Slots<K, X, A> {
         ensures len { length self.new ≡ length self.old }
         ensures empty { (i : ℕ) → row_of self.new i ≡ [] }
     {
-        clear_slots(&self.directory.bits, &mut self.slots);
+        clear_slots(&self.directory.bits, &mut self.lone, &mut self.shared);
         self.directory.bits.clear_all();
     }
 }
@@ -224,7 +258,7 @@ impl<K: IntKey, X: Drop, A: Allocator> Slots<K, X, A> {
 impl<K: IntKey, X: Drop, A: Allocator + Copy> Slots<K, X, A> {
     /// The allocator of the slots.
     pub(crate) fn allocator(&self) -> A {
-        *self.slots.allocator()
+        *self.shared.allocator()
     }
 
     /// `capacity` slots without a pair. It allocates the slots, then their bits, and writes nothing
@@ -233,14 +267,18 @@ impl<K: IntKey, X: Drop, A: Allocator + Copy> Slots<K, X, A> {
         requires { IsCapacity capacity }
         ensures { IfOk result (λ made. rows made ≡ replicate capacity []) }
     {
-        let mut slots = Vec::new(alloc);
-        let bits = reserve_slots(&mut slots, capacity)?;
-        add_slots(&mut slots, capacity);
+        let mut shared = Vec::new(alloc);
+        let bits = reserve_slots(&mut shared, capacity)?;
+        add_slots(&mut shared, capacity);
         let directory = Directory {
             mask: capacity - 1,
             bits,
         };
-        Ok(Slots { directory, slots })
+        Ok(Slots {
+            directory,
+            lone: Vec::new(alloc),
+            shared,
+        })
     }
 }
 
@@ -251,15 +289,24 @@ impl<K: IntKey, X: Clone, A: Allocator + Copy> Slots<K, X, A> {
         ensures { IfOk result (λ made. AllZip
             (λ slot copy. AllZip (IsPairClone X.is_clone) slot.pairs copy.pairs) self.now made) }
     {
-        let mut slots = Vec::with_capacity(*self.slots.allocator(), self.slots.len())?;
+        let alloc = *self.shared.allocator();
+        let mut lone = Vec::with_capacity(alloc, self.lone.len())?;
+        let mut shared = Vec::with_capacity(alloc, self.shared.len())?;
         let bits = self.directory.bits.clone()?;
-        for slot in &self.slots {
-            slots.push_reserved(slot.clone()?);
+        for slot in &self.lone {
+            lone.push_reserved(slot.clone()?);
+        }
+        for slot in &self.shared {
+            shared.push_reserved(slot.clone()?);
         }
         let directory = Directory {
             mask: self.directory.mask,
             bits,
         };
-        Ok(Slots { directory, slots })
+        Ok(Slots {
+            directory,
+            lone,
+            shared,
+        })
     }
 }

@@ -19,9 +19,9 @@ use crate::memory::alloc::{Allocator, Global};
 /// depends on the calls alone: there is no random seed. No call makes the number of slots smaller.
 ///
 /// A member takes no more bytes than its integer. A slot of an `IntSet<u64>` takes 40 bytes and a
-/// bit, and has room for one member; each further member of the slot takes 8 bytes elsewhere. A
-/// slot of an `IntMap<u64, u64>` takes 48 bytes and a bit. With keys of at most 4 bytes a slot of a
-/// set takes 32 bytes and a bit.
+/// bit, and has room for one member; each further member of the slot takes 8 bytes elsewhere. With
+/// keys of at most 4 bytes a slot takes 32 bytes and a bit. Slots that insertions have added take
+/// 16 bytes, or 8, while no two members share one.
 ///
 /// Contracts see a set as a [`SetState`](../specs/Sets.antt): its walk, its number of slots and two
 /// counts. One counts the members that insertions put into larger tables, the other the keys that

@@ -36,6 +36,14 @@ impl<K: IntKey, X, A: Allocator> Slot<K, X, A> {
         }
     }
 
+    /// A slot with this pair, or with none. It allocates nothing.
+    pub(in crate::proved::table) fn of(alloc: A, first: Option<(Stored<K>, X)>) -> Slot<K, X, A> {
+        Slot {
+            first,
+            rest: Vec::new(alloc),
+        }
+    }
+
     /// Whether the slot holds a pair.
     pub(in crate::proved::table) fn is_filled(&self) -> bool {
         self.first.is_some()
@@ -122,7 +130,9 @@ impl<K: IntKey, X, A: Allocator> Slot<K, X, A> {
 
 /// The same key with a clone of the value. It fails if the clone does. No key is compared.
 #[inline(always)]
-fn clone_pair<K: IntKey, X: Clone>(pair: &(Stored<K>, X)) -> Result<(Stored<K>, X), AllocError> {
+pub(in crate::proved::table) fn clone_pair<K: IntKey, X: Clone>(
+    pair: &(Stored<K>, X),
+) -> Result<(Stored<K>, X), AllocError> {
     let value = pair.1.clone()?;
     Ok((pair.0.copied(), value))
 }

@@ -71,7 +71,7 @@ impl<K: IntKey, X, A: Allocator> Table<K, X, A> {
     }
 }
 
-impl<K: IntKey, X, A: Allocator> Table<K, X, A> {
+impl<K: IntKey, X, A: Allocator + Copy> Table<K, X, A> {
     /// Drops all pairs, slot after slot, and keeps the slots and the memory that they have.
     pub fn clear(&mut self) {
         self.slots.clear();

@@ -44,6 +44,7 @@ impl<'a, K: IntKey, V, A: Allocator + Copy> Iterator for ValuesMut<'a, K, V, A> 
 
     ghost remaining = { item_count (λ it. it.0) };
 
+    #[inline]
     fn next(&mut self) -> Option<&'a mut V> {
         let (_, value) = self.pairs.next()?;
         Some(value)

@@ -1,6 +1,6 @@
 //! Closures are called at the pairs of slots.
-ghost use Rattle.std.specs.Prelude.{◌≡◌, ◌^◌, ◌<◌, ◌≤◌, List, length, drop};
-ghost use Rattle.intmap_table.specs.Tables.Slots.{rows, row_of, row_keys, joined, IsRowSet, AreMarked};
+ghost use Rattle.std.specs.Prelude.{◌≡◌, ◌⊎◌, ◌^◌, ◌<◌, ◌≤◌, List, [], ◌++◌, length, drop};
+ghost use Rattle.intmap_table.specs.Tables.Slots.{rows, row_of, row_keys, joined, AreMarked, IsRowSet};
 ghost use Rattle.intmap_table.specs.Retaining.{Retains, KeepsAt, TakesPair};
 ghost use Rattle.intmap_table.specs.Taking.{TakesEach};
 ghost use Rattle.intmap_table.specs.Writes.{Writes, WritesAt, TakesPairMut};
@@ -9,8 +9,9 @@ ghost use Rattle.intmap_table.specs.Picking.{AsksAt, ExtractsBehind, PicksAt};
 use crate::bits::Bits;
 use crate::kept::Kept;
 use crate::key::IntKey;
+use crate::lone::Lone;
 use crate::slot::Slot;
-use crate::table::slots::{Slots, unmark_if_empty};
+use crate::table::slots::{Slots, unmark_unless};
 use crate::table::stored::Stored;
 use std::alloc::Allocator;
 
@@ -26,9 +27,15 @@ impl<K: IntKey, V: Drop, A: Allocator> Slots<K, Kept<V>, A> {
             × Retains (KeepsAt F.FnMut) f.old (row_of self.old index) row f.new
             × (result ≡ length row) }
     {
-        let slot = &mut self.slots[index];
+        if index < self.lone.len() {
+            let slot = &mut self.lone[index];
+            slot.retain(f);
+            unmark_unless(&mut self.directory.bits, slot.is_filled(), index);
+            return slot.len();
+        }
+        let slot = &mut self.shared[index];
         slot.retain(f);
-        unmark_if_empty(&mut self.directory.bits, slot, index);
+        unmark_unless(&mut self.directory.bits, slot.is_filled(), index);
         slot.len()
     }
 }
@@ -53,29 +60,44 @@ impl<K: IntKey, V, A: Allocator> Slots<K, Kept<V>, A> {
             × (place.new ≤ length row) }
         ensures on { place.old ≤ place.new }
     {
-        let slot = &mut self.slots[index];
+        if index < self.lone.len() {
+            let slot = &mut self.lone[index];
+            let found = slot.extract_next(place, f);
+            unmark_unless(&mut self.directory.bits, slot.is_filled(), index);
+            return found;
+        }
+        let slot = &mut self.shared[index];
         let found = slot.extract_next(place, f);
-        unmark_if_empty(&mut self.directory.bits, slot, index);
+        unmark_unless(&mut self.directory.bits, slot.is_filled(), index);
         found
     }
 }
 
 /// Calls the closure at each pair in turn, slot after slot, with a mutable reference to its value.
-/// The bits mark the slots that hold a pair.
+/// The slots are of one form, and the bits mark those that hold a pair.
 fn write_slots<K: IntKey, V, A: Allocator, F: FnMut(K, &mut V)>(
     bits: &Bits<A>,
-    slots: &mut Vec<Slot<K, Kept<V>, A>, A>,
+    lone: &mut Vec<Lone<K, Kept<V>>, A>,
+    shared: &mut Vec<Slot<K, Kept<V>, A>, A>,
     f: &mut F,
 )
     requires callable { TakesEach (WritesAt F.FnMut) (TakesPairMut F.FnMut) f.old
-        (joined (rows slots.old.items)) }
-    requires marks { AreMarked (rows slots.old.items) bits.now }
-    ensures pairs { Writes (WritesAt F.FnMut) f.old (joined (rows slots.old.items))
-        (joined (rows slots.new.items)) f.new }
-    ensures keys { row_keys slots.new.items ≡ row_keys slots.old.items }
+        (joined (rows (lone.old.items ++ shared.old.items))) }
+    requires marks { AreMarked (rows (lone.old.items ++ shared.old.items)) bits.now }
+    requires form { (lone.old.items ≡ []) ⊎ (shared.old.items ≡ []) }
+    ensures pairs { Writes (WritesAt F.FnMut) f.old
+        (joined (rows (lone.old.items ++ shared.old.items)))
+        (joined (rows (lone.new.items ++ shared.new.items))) f.new }
+    ensures keys { row_keys (lone.new.items ++ shared.new.items)
+        ≡ row_keys (lone.old.items ++ shared.old.items) }
+    ensures form { (lone.new.items ≡ []) ⊎ (shared.new.items ≡ []) }
 {
     for index in bits.iter() {
-        slots[index].write_each(f);
+        if index < lone.len() {
+            lone[index].write_each(f);
+        } else {
+            shared[index].write_each(f);
+        }
     }
 }
 
@@ -88,6 +110,6 @@ impl<K: IntKey, V, A: Allocator> Slots<K, Kept<V>, A> {
             (joined (rows self.new)) f.new }
         ensures keys { row_keys self.new ≡ row_keys self.old }
     {
-        write_slots(&self.directory.bits, &mut self.slots, f);
+        write_slots(&self.directory.bits, &mut self.lone, &mut self.shared, f);
     }
 }

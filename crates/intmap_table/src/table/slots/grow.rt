@@ -11,6 +11,8 @@ use crate::key::IntKey;
 use crate::slot::Slot;
 use crate::steps::Steps;
 use crate::table::index_of;
+use crate::table::slots::grow_lone::grow_lone;
+use crate::table::slots::part::{are_apart, part};
 use crate::table::slots::place::move_all;
 use crate::table::slots::{Directory, Slots};
 use crate::table::stored::Stored;
@@ -124,8 +126,8 @@ fn reserve_rooms<K: IntKey, X: Drop, A: Allocator + Copy>(
 
 /// Allocates room for `capacity` slots, the largest block by far, and then the bits of all of them.
 /// No slot is written. If an allocation fails, the slots and their memory are as before.
-pub(super) fn reserve_slots<K: IntKey, X: Drop, A: Allocator + Copy>(
-    slots: &mut Vec<Slot<K, X, A>, A>,
+pub(super) fn reserve_slots<S, A: Allocator + Copy>(
+    slots: &mut Vec<S, A>,
     capacity: usize,
 ) -> Result<Bits<A>, AllocError>
     requires more { length slots.old.items ≤ capacity }
@@ -199,8 +201,14 @@ fn make_room<K: IntKey, X: Drop, A: Allocator + Copy>(
 
 impl<K: IntKey, X: Drop, A: Allocator + Copy> Slots<K, X, A> {
     /// Moves all pairs, in the order of the walk, to their slots among `capacity` slots. If an
-    /// allocation fails, no pair moves.
-    pub(crate) fn grow(&mut self, capacity: usize, placed: &mut Steps) -> Result<(), AllocError>
+    /// allocation fails, no pair moves. Shared slots become lone ones if they may, and if each pair
+    /// gets a slot of its own.
+    pub(crate) fn grow(
+        &mut self,
+        capacity: usize,
+        may_part: bool,
+        placed: &mut Steps,
+    ) -> Result<(), AllocError>
         requires table { IsTable K.number_of self.old }
         requires capacity { IsCapacity capacity }
         requires larger { length self.old ≤ capacity }
@@ -214,11 +222,23 @@ impl<K: IntKey, X: Drop, A: Allocator + Copy> Slots<K, X, A> {
         ensures err { OnErr result (rows self.new ≡ rows self.old) }
         ensures none_placed { OnErr result (placed.new ≡ placed.old) }
     {
-        let mut bits = reserve_slots(&mut self.slots, capacity)?;
-        let mut buffer = make_room(&mut self.slots, &self.directory, capacity)?;
+        if !self.lone.is_empty() {
+            return grow_lone(&mut self.lone, &mut self.directory, capacity, placed);
+        }
+        if are_apart(&self.shared, capacity, may_part) {
+            return part(
+                &mut self.shared,
+                &mut self.lone,
+                &mut self.directory,
+                capacity,
+                placed,
+            );
+        }
+        let mut bits = reserve_slots(&mut self.shared, capacity)?;
+        let mut buffer = make_room(&mut self.shared, &self.directory, capacity)?;
         move_all(
             &mut bits,
-            &mut self.slots,
+            &mut self.shared,
             &self.directory,
             &mut buffer,
             placed,

@@ -5,12 +5,12 @@ ghost use Rattle.intmap_table.specs.Tables.Moves.{rooms};
 ghost use Rattle.intmap_table.specs.Tables.Slots.{rows, row_of, IsRowSet};
 
 use crate::key::IntKey;
-use crate::table::slots::{Slots, unmark_if_empty};
+use crate::table::slots::{Slots, unmark_unless};
 use crate::table::stored::Stored;
 use std::alloc::{AllocError, Allocator};
 use std::vec::IntoIter;
 
-impl<K: IntKey, X: Drop, A: Allocator> Slots<K, X, A> {
+impl<K: IntKey, X: Drop, A: Allocator + Copy> Slots<K, X, A> {
     /// Puts a pair last in a slot, and returns its place. If an allocation fails, it returns the
     /// value. A slot without a pair needs no allocation.
     #[inline(always)]
@@ -23,7 +23,15 @@ impl<K: IntKey, X: Drop, A: Allocator> Slots<K, X, A> {
         ensures value_returned { IfErr result (λ returned. returned ≡ value) }
         ensures memory { OnErr result (0 < length (row_of self.old index)) }
     {
-        let slot = &mut self.slots[index];
+        if index < self.lone.len() {
+            if self.lone[index].is_filled() {
+                return self.push_second(index, key, value);
+            }
+            self.directory.bits.set(index);
+            self.lone[index].put((key, value));
+            return Ok(0);
+        }
+        let slot = &mut self.shared[index];
         if self.directory.bits.set(index) {
             return slot.push(key, value);
         }
@@ -44,7 +52,12 @@ impl<K: IntKey, X, A: Allocator> Slots<K, X, A> {
     {
         // read before the slot changes, so that a write there can't delay it
         let word = self.directory.bits.word(index);
-        let slot = &mut self.slots[index];
+        if index < self.lone.len() {
+            let pair = self.lone[index].take();
+            self.directory.bits.clear_in(word, index);
+            return pair;
+        }
+        let slot = &mut self.shared[index];
         if let Some(lone) = slot.take_lone() {
             self.directory.bits.clear_in(word, index);
             return lone;
@@ -58,8 +71,13 @@ impl<K: IntKey, X, A: Allocator> Slots<K, X, A> {
         requires room { length (row_of self.old index) < get_or (rooms self.old) index 0 }
         ensures { IsRowSet self.old index (row_of self.old index ++ pair ∷ []) self.new }
     {
-        let slot = &mut self.slots[index];
-        if self.directory.bits.set(index) {
+        let was_filled = self.directory.bits.set(index);
+        if index < self.lone.len() {
+            self.lone[index].put_back(pair);
+            return;
+        }
+        let slot = &mut self.shared[index];
+        if was_filled {
             slot.put_back(pair);
             return;
         }
@@ -80,7 +98,10 @@ impl<K: IntKey, X, A: Allocator> Slots<K, X, A> {
         ensures row { IsRowSet self.old index
             (swap_remove (row_of self.old index) place result ++ new ∷ []) self.new }
     {
-        self.slots[index].replace_at(place, new)
+        if index < self.lone.len() {
+            return self.lone[index].replace(new);
+        }
+        self.shared[index].replace_at(place, new)
     }
 
     /// Removes the first pair of a slot. The others move up by one place.
@@ -90,21 +111,42 @@ impl<K: IntKey, X, A: Allocator> Slots<K, X, A> {
         ensures { (row : List (K × X)) × (row_of self.old index ≡ result ∷ row)
             × IsRowSet self.old index row self.new }
     {
-        let slot = &mut self.slots[index];
+        if index < self.lone.len() {
+            self.directory.bits.clear(index);
+            return self.lone[index].take();
+        }
+        let slot = &mut self.shared[index];
         let first = slot.take_front();
-        unmark_if_empty(&mut self.directory.bits, slot, index);
+        unmark_unless(&mut self.directory.bits, slot.is_filled(), index);
         first
     }
 }
 
-impl<K: IntKey, X: Drop, A: Allocator> Slots<K, X, A> {
+impl<K: IntKey, X: Drop, A: Allocator + Copy> Slots<K, X, A> {
+    /// Puts a pair into a slot that holds none. It allocates nothing.
+    pub(super) fn put_first(&mut self, index: usize, pair: (Stored<K>, X))
+        requires within { index < length self.old }
+        requires empty { row_of self.old index ≡ [] }
+        ensures { IsRowSet self.old index (pair ∷ []) self.new }
+    {
+        self.directory.bits.set(index);
+        if index < self.lone.len() {
+            self.lone[index].put(pair);
+        } else {
+            self.shared[index].put_first(pair);
+        }
+    }
+
     /// Makes room for one more pair in a slot, and allocates for exactly that. It returns whether
     /// it allocated.
     pub(crate) fn reserve_one(&mut self, index: usize) -> Result<bool, AllocError>
         requires { index < length self.old }
         ensures { rows self.new ≡ rows self.old }
     {
-        self.slots[index].reserve_one()
+        if index < self.lone.len() {
+            return Ok(false);
+        }
+        self.shared[index].reserve_one()
     }
 
     /// Gives back the room of a slot that no pair needs.
@@ -112,7 +154,9 @@ impl<K: IntKey, X: Drop, A: Allocator> Slots<K, X, A> {
         requires { index < length self.old }
         ensures { rows self.new ≡ rows self.old }
     {
-        self.slots[index].shrink();
+        if index >= self.lone.len() {
+            self.shared[index].shrink();
+        }
     }
 }
 
@@ -130,8 +174,10 @@ impl<K: IntKey, X: Drop, A: Allocator + Copy> Slots<K, X, A> {
         ensures pairs { row_of self.old index ≡ result ∷ into_iter_items rest.new }
         ensures row { IsRowSet self.old index [] self.new }
     {
-        let first = self.slots[index].take_all(rest);
         self.directory.bits.clear(index);
-        first
+        if index < self.lone.len() {
+            return self.lone[index].take();
+        }
+        self.shared[index].take_all(rest)
     }
 }

@@ -31,6 +31,7 @@ pub struct Iter<'a, K: IntKey, V, A: Allocator + Copy = Global> {
 impl<'a, K: IntKey, V, A: Allocator + Copy> Iterator for Iter<'a, K, V, A> {
     type Item = (&'a K, &'a V);
 
+    #[inline]
     fn next(&mut self) -> Option<(&'a K, &'a V)> {
         let (key, kept) = self.pairs.next()?;
         Some((key, kept.get()))
@@ -46,6 +47,7 @@ pub struct Keys<'a, K: IntKey, V, A: Allocator + Copy = Global> {
 impl<'a, K: IntKey, V, A: Allocator + Copy> Iterator for Keys<'a, K, V, A> {
     type Item = &'a K;
 
+    #[inline]
     fn next(&mut self) -> Option<&'a K> {
         let (key, _) = self.pairs.next()?;
         Some(key)
@@ -65,6 +67,7 @@ pub struct Values<'a, K: IntKey, V, A: Allocator + Copy = Global> {
 impl<'a, K: IntKey, V, A: Allocator + Copy> Iterator for Values<'a, K, V, A> {
     type Item = &'a V;
 
+    #[inline]
     fn next(&mut self) -> Option<&'a V> {
         let (_, value) = self.pairs.next()?;
         Some(value)

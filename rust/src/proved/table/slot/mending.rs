@@ -2,12 +2,21 @@
 use super::Slot;
 use crate::memory::alloc::Allocator;
 use crate::proved::table::IntKey;
+use crate::proved::table::table::stored::Stored;
 
 impl<K: IntKey, X, A: Allocator> Slot<K, X, A> {
     /// Moves a pair to the first place, if a panic has left that place empty.
     pub(crate) fn mend(&mut self) {
         if self.first.is_none() && !self.rest.is_empty() {
             self.first = Some(self.rest.remove(0));
+        }
+    }
+
+    /// Takes a pair that was taken out of it, so that there is room for it.
+    pub(crate) fn take_again(&mut self, pair: (Stored<K>, X)) {
+        match self.first {
+            None => self.first = Some(pair),
+            Some(_) => self.rest.push_reserved(pair),
         }
     }
 

@@ -2,17 +2,24 @@
 //! Which slots hold a pair is known here alone.
 //!
 //! `pairs` has the calls on a pair of one slot, `closures` those with a closure, `walk` the pairs by
-//! reference, and `grow` and `place` the growth.
+//! reference, and `forms` the change from lone to shared slots. Of growth, `grow_with` has that with a
+//! new pair, `grow` and `place` that of shared slots, `part` that by which they become lone, and
+//! `grow_lone` that of lone ones.
 
 mod closures;
+mod forms;
 mod grow;
+mod grow_lone;
+mod grow_with;
 mod pairs;
+mod part;
 mod place;
 pub mod walk;
 
 use crate::memory::prelude::*;
 use crate::proved::table::bits::Bits;
 use crate::proved::table::key::IntKey;
+use crate::proved::table::lone::Lone;
 use crate::proved::table::slot::Slot;
 use crate::proved::table::steps::Steps;
 use crate::proved::table::table::stored::Stored;
@@ -28,35 +35,41 @@ struct Directory<A: Allocator> {
     bits: Bits<A>,
 }
 
-/// Slots, and one bit for each, which says whether it holds a pair.
+/// Slots, and one bit for each, which says whether it holds a pair. While none holds two, they are
+/// lone. Otherwise they are shared.
 pub(in crate::proved::table) struct Slots<K: IntKey, X, A: Allocator> {
     directory: Directory<A>,
-    slots: Vec<Slot<K, X, A>, A>,
+    lone: Vec<Lone<K, X>, A>,
+    shared: Vec<Slot<K, X, A>, A>,
 }
 
-/// Clears the bit of a slot if it holds no pair.
+/// Clears the bit of a slot unless it holds a pair.
 #[inline(always)]
-fn unmark_if_empty<K: IntKey, X, A: Allocator>(
-    bits: &mut Bits<A>,
-    slot: &Slot<K, X, A>,
-    index: usize,
-) {
-    if !slot.is_filled() {
+fn unmark_unless<A: Allocator>(bits: &mut Bits<A>, is_filled: bool, index: usize) {
+    if !is_filled {
         bits.clear(index);
     }
 }
 
-/// Drops the pairs of all slots. The bits mark the slots that hold a pair.
-fn clear_slots<K: IntKey, X, A: Allocator>(bits: &Bits<A>, slots: &mut Vec<Slot<K, X, A>, A>) {
+/// Drops the pairs of all slots, which are of one form. The bits mark those that hold a pair.
+fn clear_slots<K: IntKey, X, A: Allocator>(
+    bits: &Bits<A>,
+    lone: &mut Vec<Lone<K, X>, A>,
+    shared: &mut Vec<Slot<K, X, A>, A>,
+) {
     for index in bits.iter() {
-        slots[index].clear();
+        if index < lone.len() {
+            lone[index].clear();
+        } else {
+            shared[index].clear();
+        }
     }
 }
 
 impl<K: IntKey, X, A: Allocator> Slots<K, X, A> {
     /// Their number.
     pub(in crate::proved::table) fn len(&self) -> usize {
-        self.slots.len()
+        self.lone.len() + self.shared.len()
     }
 
     /// Their number less one.
@@ -72,47 +85,64 @@ impl<K: IntKey, X, A: Allocator> Slots<K, X, A> {
 
     /// The number of pairs of a slot.
     pub(in crate::proved::table) fn row_len(&self, index: usize) -> usize {
-        self.slots[index].len()
+        if index < self.lone.len() {
+            return self.lone[index].len();
+        }
+        self.shared[index].len()
     }
 
     /// The place of the key's pair in a slot. The keys are compared from the front, up to the one
     /// sought. Each comparison is one step.
     #[inline(always)]
     pub(in crate::proved::table) fn find(&self, index: usize, key: &K, steps: &mut Steps) -> Option<usize> {
-        self.slots[index].find(key, steps)
+        if index < self.lone.len() {
+            return self.lone[index].find(key, steps);
+        }
+        self.shared[index].find(key, steps)
     }
 
     /// The place of the last pair of a slot.
     pub(in crate::proved::table) fn last_place(&self, index: usize) -> usize {
-        self.slots[index].last_place()
+        if index < self.lone.len() {
+            return self.lone[index].last_place();
+        }
+        self.shared[index].last_place()
     }
 
     /// The stored key of the pair at a place of a slot.
     #[inline(always)]
     pub(in crate::proved::table) fn key_at(&self, index: usize, place: usize) -> &Stored<K> {
-        self.slots[index].key_at(place)
+        if index < self.lone.len() {
+            return self.lone[index].key_at(place);
+        }
+        self.shared[index].key_at(place)
     }
 
     /// The value of the pair at a place of a slot.
     #[inline(always)]
     pub(in crate::proved::table) fn value_at(&self, index: usize, place: usize) -> &X {
-        self.slots[index].value_at(place)
+        if index < self.lone.len() {
+            return self.lone[index].value_at(place);
+        }
+        self.shared[index].value_at(place)
     }
 
     /// A mutable reference to the value of the pair at a place of a slot.
     #[inline(always)]
     pub(in crate::proved::table) fn value_mut_at(&mut self, index: usize, place: usize) -> &mut X {
-        self.slots[index].value_mut_at(place)
+        if index < self.lone.len() {
+            return self.lone[index].value_mut_at(place);
+        }
+        self.shared[index].value_mut_at(place)
     }
 
     /// The pair at a place of a slot, or `None` behind its last pair.
     #[inline(always)]
     pub(in crate::proved::table) fn pair_at(&self, index: usize, place: usize) -> Option<(&Stored<K>, &X)> {
-        let slot = &self.slots[index];
-        if place < slot.len() {
-            return Some((slot.key_at(place), slot.value_at(place)));
+        if place >= self.row_len(index) {
+            return None;
         }
-        None
+        Some((self.key_at(index, place), self.value_at(index, place)))
     }
 
     /// The first slot from an index on that holds a pair.
@@ -128,7 +158,8 @@ impl<K: IntKey, X, A: Allocator> Slots<K, X, A> {
             first: None,
             rest: &[],
             filled: self.directory.bits.iter(),
-            slots: &self.slots,
+            lone: &self.lone,
+            shared: &self.shared,
         }
     }
 }
@@ -136,7 +167,7 @@ impl<K: IntKey, X, A: Allocator> Slots<K, X, A> {
 impl<K: IntKey, X, A: Allocator> Slots<K, X, A> {
     /// Drops all pairs, slot after slot, and keeps the slots and the memory that they have.
     pub(in crate::proved::table) fn clear(&mut self) {
-        clear_slots(&self.directory.bits, &mut self.slots);
+        clear_slots(&self.directory.bits, &mut self.lone, &mut self.shared);
         self.directory.bits.clear_all();
     }
 }
@@ -144,20 +175,24 @@ impl<K: IntKey, X, A: Allocator> Slots<K, X, A> {
 impl<K: IntKey, X, A: Allocator + Copy> Slots<K, X, A> {
     /// The allocator of the slots.
     pub(in crate::proved::table) fn allocator(&self) -> A {
-        *self.slots.allocator()
+        *self.shared.allocator()
     }
 
     /// `capacity` slots without a pair. It allocates the slots, then their bits, and writes nothing
     /// before both.
     pub(in crate::proved::table) fn new(alloc: A, capacity: usize) -> Result<Slots<K, X, A>, AllocError> {
-        let mut slots = Vec::new(alloc);
-        let bits = reserve_slots(&mut slots, capacity)?;
-        add_slots(&mut slots, capacity);
+        let mut shared = Vec::new(alloc);
+        let bits = reserve_slots(&mut shared, capacity)?;
+        add_slots(&mut shared, capacity);
         let directory = Directory {
             mask: capacity - 1,
             bits,
         };
-        Ok(Slots { directory, slots })
+        Ok(Slots {
+            directory,
+            lone: Vec::new(alloc),
+            shared,
+        })
     }
 }
 
@@ -165,16 +200,25 @@ impl<K: IntKey, X: Clone, A: Allocator + Copy> Slots<K, X, A> {
     /// The same keys in the same slots, with clones of their values. The slots and then their bits
     /// are allocated before the first value is cloned.
     pub(in crate::proved::table) fn clone(&self) -> Result<Slots<K, X, A>, AllocError> {
-        let mut slots = Vec::with_capacity(*self.slots.allocator(), self.slots.len())?;
+        let alloc = *self.shared.allocator();
+        let mut lone = Vec::with_capacity(alloc, self.lone.len())?;
+        let mut shared = Vec::with_capacity(alloc, self.shared.len())?;
         let bits = self.directory.bits.clone()?;
-        for slot in &self.slots {
-            slots.push_reserved(slot.clone()?);
+        for slot in &self.lone {
+            lone.push_reserved(slot.clone()?);
+        }
+        for slot in &self.shared {
+            shared.push_reserved(slot.clone()?);
         }
         let directory = Directory {
             mask: self.directory.mask,
             bits,
         };
-        Ok(Slots { directory, slots })
+        Ok(Slots {
+            directory,
+            lone,
+            shared,
+        })
     }
 }
 

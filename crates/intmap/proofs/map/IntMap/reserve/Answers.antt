@@ -9,7 +9,7 @@ use Rattle.intmap.proofs.LoadFactorLemmas.{IsLoaded-larger}
 use Rattle.intmap_table.proofs.SlotNumberLemmas.{capacity-positive}
 use Rattle.intmap.proofs.AfterLemmas.{value_of-in_slots, length-in_slots}
 use Rattle.intmap.proofs.MapLemmas.{IsConsistent-grown, IsOk-at_err}
-use Rattle.intmap_table.proofs.Tables.BackLemmas.{OnOk-at, OnErr-at}
+use Rattle.intmap_table.proofs.Tables.MemoryLemmas.{OnOk-at, OnErr-at}
 use Rattle.intmap.proofs.map.IntMap.reserve.Goals as goal
 use Rattle.intmap.proofs.map.IntMap.reserve.Goals.{After-max-capacity, After-threshold_of-self-inside}
 

@@ -6,7 +6,7 @@ use Rattle.intmap.proofs.LoadFactorLemmas.{not_needed, IsLoaded-from}
 use Rattle.intmap_table.proofs.SlotNumberLemmas.{capacity-greatest, capacity-positive}
 use Rattle.intmap.proofs.AfterLemmas.{value_of-in_slots, length-in_slots}
 use Rattle.intmap.proofs.MapLemmas.{IsConsistent-grown, IsOk-at_err}
-use Rattle.intmap_table.proofs.Tables.BackLemmas.{OnOk-at, OnErr-at}
+use Rattle.intmap_table.proofs.Tables.MemoryLemmas.{OnOk-at, OnErr-at}
 use Rattle.intmap.proofs.map.IntMap.set_load_factor.Goals as goal
 use Rattle.intmap.proofs.map.IntMap.set_load_factor.Goals.{After-is_err, After-threshold_of-self-inside}
 

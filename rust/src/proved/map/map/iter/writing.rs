@@ -17,6 +17,7 @@ pub struct ValuesMut<'a, K: IntKey, V, A: Allocator + Copy = Global> {
 impl<'a, K: IntKey, V, A: Allocator + Copy> Iterator for ValuesMut<'a, K, V, A> {
     type Item = &'a mut V;
 
+    #[inline]
     fn next(&mut self) -> Option<&'a mut V> {
         let (_, value) = self.pairs.next()?;
         Some(value)

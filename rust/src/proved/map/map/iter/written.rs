@@ -16,7 +16,7 @@ pub struct IterMut<'a, K: IntKey, V, A: Allocator + Copy = Global> {
 impl<'a, K: IntKey, V, A: Allocator + Copy> Iterator for IterMut<'a, K, V, A> {
     type Item = (&'a K, &'a mut V);
 
-    #[inline]
+    #[inline(always)]
     fn next(&mut self) -> Option<(&'a K, &'a mut V)> {
         let (key, kept) = self.pairs.next()?;
         Some((key, kept.get_mut()))

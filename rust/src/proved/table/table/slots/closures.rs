@@ -4,8 +4,9 @@ use crate::memory::prelude::*;
 use crate::proved::table::bits::Bits;
 use crate::proved::table::kept::Kept;
 use crate::proved::table::key::IntKey;
+use crate::proved::table::lone::Lone;
 use crate::proved::table::slot::Slot;
-use crate::proved::table::table::slots::{Slots, unmark_if_empty};
+use crate::proved::table::table::slots::{Slots, unmark_unless};
 use crate::proved::table::table::stored::Stored;
 use crate::memory::alloc::Allocator;
 
@@ -13,9 +14,15 @@ impl<K: IntKey, V, A: Allocator> Slots<K, Kept<V>, A> {
     /// Keeps the pairs of a slot for which the closure returns true, in their order, and returns
     /// their number. The closure is called once at each pair of the slot.
     pub(in crate::proved::table) fn retain_at<F: FnMut(K, &V) -> bool>(&mut self, index: usize, f: &mut F) -> usize {
-        let slot = &mut self.slots[index];
+        if index < self.lone.len() {
+            let slot = &mut self.lone[index];
+            slot.retain(f);
+            unmark_unless(&mut self.directory.bits, slot.is_filled(), index);
+            return slot.len();
+        }
+        let slot = &mut self.shared[index];
         slot.retain(f);
-        unmark_if_empty(&mut self.directory.bits, slot, index);
+        unmark_unless(&mut self.directory.bits, slot.is_filled(), index);
         slot.len()
     }
 }
@@ -29,28 +36,39 @@ impl<K: IntKey, V, A: Allocator> Slots<K, Kept<V>, A> {
         place: &mut usize,
         f: &mut F,
     ) -> Option<(Stored<K>, Kept<V>)> {
-        let slot = &mut self.slots[index];
+        if index < self.lone.len() {
+            let slot = &mut self.lone[index];
+            let found = slot.extract_next(place, f);
+            unmark_unless(&mut self.directory.bits, slot.is_filled(), index);
+            return found;
+        }
+        let slot = &mut self.shared[index];
         let found = slot.extract_next(place, f);
-        unmark_if_empty(&mut self.directory.bits, slot, index);
+        unmark_unless(&mut self.directory.bits, slot.is_filled(), index);
         found
     }
 }
 
 /// Calls the closure at each pair in turn, slot after slot, with a mutable reference to its value.
-/// The bits mark the slots that hold a pair.
+/// The slots are of one form, and the bits mark those that hold a pair.
 fn write_slots<K: IntKey, V, A: Allocator, F: FnMut(K, &mut V)>(
     bits: &Bits<A>,
-    slots: &mut Vec<Slot<K, Kept<V>, A>, A>,
+    lone: &mut Vec<Lone<K, Kept<V>>, A>,
+    shared: &mut Vec<Slot<K, Kept<V>, A>, A>,
     f: &mut F,
 ) {
     for index in bits.iter() {
-        slots[index].write_each(f);
+        if index < lone.len() {
+            lone[index].write_each(f);
+        } else {
+            shared[index].write_each(f);
+        }
     }
 }
 
 impl<K: IntKey, V, A: Allocator> Slots<K, Kept<V>, A> {
     /// Calls the closure at each pair in turn, with a mutable reference to its value.
     pub(in crate::proved::table) fn write_each<F: FnMut(K, &mut V)>(&mut self, f: &mut F) {
-        write_slots(&self.directory.bits, &mut self.slots, f);
+        write_slots(&self.directory.bits, &mut self.lone, &mut self.shared, f);
     }
 }

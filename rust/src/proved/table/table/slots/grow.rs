@@ -7,6 +7,8 @@ use crate::proved::table::key::IntKey;
 use crate::proved::table::slot::Slot;
 use crate::proved::table::steps::Steps;
 use crate::proved::table::table::index_of;
+use crate::proved::table::table::slots::grow_lone::grow_lone;
+use crate::proved::table::table::slots::part::{are_apart, part};
 use crate::proved::table::table::slots::place::move_all;
 use crate::proved::table::table::slots::{Directory, Slots};
 use crate::proved::table::table::stored::Stored;
@@ -83,8 +85,8 @@ fn reserve_rooms<K: IntKey, X, A: Allocator + Copy>(
 
 /// Allocates room for `capacity` slots, the largest block by far, and then the bits of all of them.
 /// No slot is written. If an allocation fails, the slots and their memory are as before.
-pub(super) fn reserve_slots<K: IntKey, X, A: Allocator + Copy>(
-    slots: &mut Vec<Slot<K, X, A>, A>,
+pub(super) fn reserve_slots<S, A: Allocator + Copy>(
+    slots: &mut Vec<S, A>,
     capacity: usize,
 ) -> Result<Bits<A>, AllocError> {
     slots.reserve_exact(capacity - slots.len())?;
@@ -135,13 +137,31 @@ fn make_room<K: IntKey, X, A: Allocator + Copy>(
 
 impl<K: IntKey, X, A: Allocator + Copy> Slots<K, X, A> {
     /// Moves all pairs, in the order of the walk, to their slots among `capacity` slots. If an
-    /// allocation fails, no pair moves.
-    pub(in crate::proved::table) fn grow(&mut self, capacity: usize, placed: &mut Steps) -> Result<(), AllocError> {
-        let mut bits = reserve_slots(&mut self.slots, capacity)?;
-        let mut buffer = make_room(&mut self.slots, &self.directory, capacity)?;
+    /// allocation fails, no pair moves. Shared slots become lone ones if they may, and if each pair
+    /// gets a slot of its own.
+    pub(in crate::proved::table) fn grow(
+        &mut self,
+        capacity: usize,
+        may_part: bool,
+        placed: &mut Steps,
+    ) -> Result<(), AllocError> {
+        if !self.lone.is_empty() {
+            return grow_lone(&mut self.lone, &mut self.directory, capacity, placed);
+        }
+        if are_apart(&self.shared, capacity, may_part) {
+            return part(
+                &mut self.shared,
+                &mut self.lone,
+                &mut self.directory,
+                capacity,
+                placed,
+            );
+        }
+        let mut bits = reserve_slots(&mut self.shared, capacity)?;
+        let mut buffer = make_room(&mut self.shared, &self.directory, capacity)?;
         move_all(
             &mut bits,
-            &mut self.slots,
+            &mut self.shared,
             &self.directory,
             &mut buffer,
             placed,

@@ -2,17 +2,25 @@
 
 use crate::memory::prelude::*;
 use crate::proved::table::key::IntKey;
-use crate::proved::table::table::slots::{Slots, unmark_if_empty};
+use crate::proved::table::table::slots::{Slots, unmark_unless};
 use crate::proved::table::table::stored::Stored;
 use crate::memory::alloc::{AllocError, Allocator};
 use crate::memory::vec::IntoIter;
 
-impl<K: IntKey, X, A: Allocator> Slots<K, X, A> {
+impl<K: IntKey, X, A: Allocator + Copy> Slots<K, X, A> {
     /// Puts a pair last in a slot, and returns its place. If an allocation fails, it returns the
     /// value. A slot without a pair needs no allocation.
     #[inline(always)]
     pub(in crate::proved::table) fn push(&mut self, index: usize, key: Stored<K>, value: X) -> Result<usize, X> {
-        let slot = &mut self.slots[index];
+        if index < self.lone.len() {
+            if self.lone[index].is_filled() {
+                return self.push_second(index, key, value);
+            }
+            self.directory.bits.set(index);
+            self.lone[index].put((key, value));
+            return Ok(0);
+        }
+        let slot = &mut self.shared[index];
         if self.directory.bits.set(index) {
             return slot.push(key, value);
         }
@@ -27,7 +35,12 @@ impl<K: IntKey, X, A: Allocator> Slots<K, X, A> {
     pub(in crate::proved::table) fn take_at(&mut self, index: usize, place: usize) -> (Stored<K>, X) {
         // read before the slot changes, so that a write there can't delay it
         let word = self.directory.bits.word(index);
-        let slot = &mut self.slots[index];
+        if index < self.lone.len() {
+            let pair = self.lone[index].take();
+            self.directory.bits.clear_in(word, index);
+            return pair;
+        }
+        let slot = &mut self.shared[index];
         if let Some(lone) = slot.take_lone() {
             self.directory.bits.clear_in(word, index);
             return lone;
@@ -37,8 +50,13 @@ impl<K: IntKey, X, A: Allocator> Slots<K, X, A> {
 
     /// Puts a pair last in a slot that has room for it. It allocates nothing.
     pub(in crate::proved::table) fn put_back(&mut self, index: usize, pair: (Stored<K>, X)) {
-        let slot = &mut self.slots[index];
-        if self.directory.bits.set(index) {
+        let was_filled = self.directory.bits.set(index);
+        if index < self.lone.len() {
+            self.lone[index].put_back(pair);
+            return;
+        }
+        let slot = &mut self.shared[index];
+        if was_filled {
             slot.put_back(pair);
             return;
         }
@@ -54,29 +72,51 @@ impl<K: IntKey, X, A: Allocator> Slots<K, X, A> {
         place: usize,
         new: (Stored<K>, X),
     ) -> (Stored<K>, X) {
-        self.slots[index].replace_at(place, new)
+        if index < self.lone.len() {
+            return self.lone[index].replace(new);
+        }
+        self.shared[index].replace_at(place, new)
     }
 
     /// Removes the first pair of a slot. The others move up by one place.
     #[inline(always)]
     pub(in crate::proved::table) fn take_front(&mut self, index: usize) -> (Stored<K>, X) {
-        let slot = &mut self.slots[index];
+        if index < self.lone.len() {
+            self.directory.bits.clear(index);
+            return self.lone[index].take();
+        }
+        let slot = &mut self.shared[index];
         let first = slot.take_front();
-        unmark_if_empty(&mut self.directory.bits, slot, index);
+        unmark_unless(&mut self.directory.bits, slot.is_filled(), index);
         first
     }
 }
 
-impl<K: IntKey, X, A: Allocator> Slots<K, X, A> {
+impl<K: IntKey, X, A: Allocator + Copy> Slots<K, X, A> {
+    /// Puts a pair into a slot that holds none. It allocates nothing.
+    pub(super) fn put_first(&mut self, index: usize, pair: (Stored<K>, X)) {
+        self.directory.bits.set(index);
+        if index < self.lone.len() {
+            self.lone[index].put(pair);
+        } else {
+            self.shared[index].put_first(pair);
+        }
+    }
+
     /// Makes room for one more pair in a slot, and allocates for exactly that. It returns whether
     /// it allocated.
     pub(in crate::proved::table) fn reserve_one(&mut self, index: usize) -> Result<bool, AllocError> {
-        self.slots[index].reserve_one()
+        if index < self.lone.len() {
+            return Ok(false);
+        }
+        self.shared[index].reserve_one()
     }
 
     /// Gives back the room of a slot that no pair needs.
     pub(in crate::proved::table) fn shrink(&mut self, index: usize) {
-        self.slots[index].shrink();
+        if index >= self.lone.len() {
+            self.shared[index].shrink();
+        }
     }
 }
 
@@ -89,8 +129,10 @@ impl<K: IntKey, X, A: Allocator + Copy> Slots<K, X, A> {
         index: usize,
         rest: &mut IntoIter<(Stored<K>, X), A>,
     ) -> (Stored<K>, X) {
-        let first = self.slots[index].take_all(rest);
         self.directory.bits.clear(index);
-        first
+        if index < self.lone.len() {
+            return self.lone[index].take();
+        }
+        self.shared[index].take_all(rest)
     }
 }

@@ -3,14 +3,23 @@
 use crate::memory::prelude::*;
 use crate::proved::table::bits::Indices;
 use crate::proved::table::key::IntKey;
+use crate::proved::table::lone::Lone;
 use crate::proved::table::slot::Slot;
 use crate::proved::table::table::stored::Stored;
 use crate::memory::alloc::{AllocError, Allocator};
 
-/// A slot, by its number.
+/// The pairs of a slot, by its number: the first one, and the rest.
 #[inline(always)]
-fn slot_at<K: IntKey, X, A: Allocator>(slots: &[Slot<K, X, A>], index: usize) -> &Slot<K, X, A> {
-    &slots[index]
+#[allow(clippy::type_complexity)]
+pub(super) fn parts_at<'a, K: IntKey, X, A: Allocator>(
+    lone: &'a [Lone<K, X>],
+    shared: &'a [Slot<K, X, A>],
+    index: usize,
+) -> (Option<&'a (Stored<K>, X)>, &'a [(Stored<K>, X)]) {
+    if index < lone.len() {
+        return (lone[index].pair(), &[]);
+    }
+    shared[index].parts()
 }
 
 /// The pairs that are left: those of the current slot, then those of the slots behind it that hold
@@ -19,7 +28,8 @@ pub struct Pairs<'a, K: IntKey, X, A: Allocator> {
     pub(super) first: Option<&'a (Stored<K>, X)>,
     pub(super) rest: &'a [(Stored<K>, X)],
     pub(super) filled: Indices<'a>,
-    pub(super) slots: &'a [Slot<K, X, A>],
+    pub(super) lone: &'a [Lone<K, X>],
+    pub(super) shared: &'a [Slot<K, X, A>],
 }
 
 impl<'a, K: IntKey, X, A: Allocator> Clone for Pairs<'a, K, X, A> {
@@ -28,7 +38,8 @@ impl<'a, K: IntKey, X, A: Allocator> Clone for Pairs<'a, K, X, A> {
             first: self.first,
             rest: self.rest,
             filled: self.filled.clone()?,
-            slots: self.slots,
+            lone: self.lone,
+            shared: self.shared,
         })
     }
 }
@@ -36,6 +47,7 @@ impl<'a, K: IntKey, X, A: Allocator> Clone for Pairs<'a, K, X, A> {
 impl<'a, K: IntKey, X, A: Allocator> Iterator for Pairs<'a, K, X, A> {
     type Item = (&'a K, &'a X);
 
+    #[inline]
     fn next(&mut self) -> Option<(&'a K, &'a X)> {
         loop {
             if let Some(pair) = self.first.take() {
@@ -48,7 +60,7 @@ impl<'a, K: IntKey, X, A: Allocator> Iterator for Pairs<'a, K, X, A> {
             let Some(index) = self.filled.next() else {
                 return None;
             };
-            (self.first, self.rest) = slot_at(self.slots, index).parts();
+            (self.first, self.rest) = parts_at(self.lone, self.shared, index);
         }
     }
 }

@@ -1,11 +1,15 @@
-use Rattle.std.proofs.Common.{◌∙◌, ap}
-use Rattle.intmap_table.specs.Tables.Slots.{rows, joined}
+use Rattle.std.proofs.Common.{◌++◌}
+use Rattle.intmap_table.specs.Tables.Slots.{rows}
 use Rattle.intmap_table.proofs.Tables.FilledLemmas.{pairs_at-marked, indices-within}
 use Rattle.intmap_table.proofs.table.slots.Slots.pairs.Goals as goal
 
 pub invariant_of-result : goal.invariant_of-result
-invariant_of-result g c = rw (c.iter.ensures, c.deref.ensures.value) (indices-within c.self.inside.slots.items c.self.inside.directory.bits c.self.invariant.marks)
+invariant_of-result g c = rw (c.iter.ensures, c.deref.ensures.value, c.deref-2.ensures.value) record {
+  within = indices-within (c.self.inside.lone.items ++ c.self.inside.shared.items) c.self.inside.directory.bits c.self.invariant.directory.marks;
+  form = c.self.invariant.form;
+}
 
 pub returns : goal.returns
 returns g c =
-    rw (c.iter.ensures, c.deref.ensures.value, ← c.self.view_is) (pairs_at-marked (rows c.self.inside.slots.items) c.self.inside.directory.bits c.self.invariant.marks)
+    rw (c.iter.ensures, c.deref.ensures.value, c.deref-2.ensures.value, ← c.self.view_is)
+    (pairs_at-marked (rows (c.self.inside.lone.items ++ c.self.inside.shared.items)) c.self.inside.directory.bits c.self.invariant.directory.marks)

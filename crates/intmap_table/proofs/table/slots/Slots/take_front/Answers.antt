@@ -1,9 +1,17 @@
-use Rattle.std.proofs.Common.{◌<◌, length}
+use Rattle.std.proofs.Common.{◌<◌, ◌++◌, false, length, sym, ap, arith}
+use Rattle.std.specs.Prelude.{nat_lt}
 use Rattle.intmap_table.specs.Tables.Slots.{row_of}
-use Rattle.intmap_table.proofs.Tables.FilledLemmas.{slot-within, IsDirectory-changed}
+use Rattle.intmap_table.proofs.Tables.FilledLemmas.{slot-within}
+use Rattle.intmap_table.proofs.Tables.FormLemmas.{AreSlots-lone_set, AreSlots-shared_changed}
 use Rattle.intmap_table.proofs.table.slots.Slots.take_front.Goals as goal
 
 pub invariant_of-self : goal.invariant_of-self
 invariant_of-self g c =
-    let some : 0 < length (row_of c.self.inside.slots.items c.args.index) = rw (← c.self.view_is) at c.requires in
-    rw c.unmark_if_empty.ensures (IsDirectory-changed c.self.inside.slots.items c.self.invariant c.args.index (slot-within _ _ some) c.take_front-first.new.self (λ _. some))
+    rw c.clear.ensures
+    (AreSlots-lone_set _ _ c.self.invariant c.args.index c.take.new.self (omega (arith, c.if-index-len.true, c.len.ensures)) false (ap (λ ps. nat_lt 0 (length ps)) (sym c.take.ensures.emptied)))
+
+pub invariant_of-self-2 : goal.invariant_of-self-2
+invariant_of-self-2 g c =
+    let some : 0 < length (row_of (c.self.inside.lone.items ++ c.self.inside.shared.items) c.args.index) = rw (← c.self.view_is) at c.requires in
+    rw (c.unmark_unless.ensures, c.is_filled.ensures)
+    (AreSlots-shared_changed _ _ c.self.invariant c.args.index c.take_front-first.new.self (omega (arith, c.if-index-len.false, c.len.ensures)) (slot-within _ _ some) (λ _. some))

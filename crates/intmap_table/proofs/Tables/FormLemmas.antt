@@ -1,0 +1,153 @@
+-- Slots of either form are one list: those of the other form are none.
+use Rattle.std.proofs.Common.{◌≡◌, inl, inr, ℕ, ◌<◌, ◌≤◌, List, Bool, false, cond, [], ◌++◌, length, get_or, set, sym, ap, ◌∙◌, subst, arith, append-nil, length-append, length-set}
+use Rattle.std.specs.Prelude.{◌⊎◌, nat_lt}
+use Rattle.std.proofs.lemmas.List.{get_or_append_left, set-append_left}
+use Rattle.intmap_table.specs.Tables.Moves.{rooms}
+use Rattle.intmap_table.specs.Tables.Slots.{Held, rows, row_of, IsDirectory, AreSlots, IsRowSet}
+use Rattle.intmap_table.proofs.Tables.FilledLemmas.{IsDirectory-set, IsDirectory-kept, IsDirectory-changed}
+use Rattle.intmap_table.proofs.Tables.TableLemmas.{row-at, rows-kept_at, row-set, room-set, get_or-rooms}
+
+module _ {H : Type 0} (L S : List H) (form : (L ≡ []) ⊎ (S ≡ [])) (i : ℕ) where
+  -- a slot that isn't lone is shared, and then none is lone
+  pub none-lone : length L ≤ i → i < length (L ++ S) → L ≡ []
+  none-lone past within = elim form [
+    | inl none ↦ none
+    | inr none ↦ absurd (let len = length-append L S in let zero = ap length none in omega (arith, past, within, len, zero))
+  ]
+
+  -- slot i, as its own form has it, is that of the list
+  pub lone-at : (h : H) → i < length L → h ≡ get_or L i h → h ≡ get_or (L ++ S) i h
+  lone-at h below is = is ∙ sym (get_or_append_left L S h i below)
+
+  pub shared-at : (h : H) → length L ≤ i → i < length (L ++ S) → h ≡ get_or S i h → h ≡ get_or (L ++ S) i h
+  shared-at h past within is = is ∙ ap (λ M. get_or (M ++ S) i h) (sym (none-lone past within))
+
+  -- and changed there, it is changed in the list
+  pub lone-set : (h : H) → i < length L → set L i h ++ S ≡ set (L ++ S) i h
+  lone-set h below = sym (set-append_left L S i h below)
+
+  pub shared-set : (h : H) → length L ≤ i → i < length (L ++ S) → L ++ set S i h ≡ set (L ++ S) i h
+  shared-set h past within = ap (λ M. M ++ set S i h) (none-lone past within) ∙ ap (λ M. set (M ++ S) i h) (sym (none-lone past within))
+
+-- slots L' and S', which are as many as L and S: of one form, as these are
+pub record IsSameForm {H : Type 0} (L S L' S' : List H) : Type 0 where
+  pub lone : length L' ≡ length L
+  pub shared : length S' ≡ length S
+  pub form : (L' ≡ []) ⊎ (S' ≡ [])
+
+module _ {H : Type 0} (L S L' S' : List H) (same : IsSameForm L S L' S') (i : ℕ) (h : H) where
+  pub IsSameForm-lone : i < length L' → IsSameForm L S (set L' i h) S'
+  IsSameForm-lone below = record {
+    lone = length-set L' i h ∙ same.lone;
+    shared = same.shared;
+    form = elim same.form [
+      | inl none ↦ absurd (let zero = ap length none in omega (arith, below, zero))
+      | inr none ↦ inr none
+    ];
+  }
+
+  pub IsSameForm-shared : length L' ≤ i → i < length (L' ++ S') → IsSameForm L S L' (set S' i h)
+  IsSameForm-shared past within = record {
+    lone = same.lone;
+    shared = length-set S' i h ∙ same.shared;
+    form = inl (none-lone L' S' same.form i past within);
+  }
+
+-- and the pairs of the slot are its row
+module _ {K X : Type 0} (L S : List (Held K X)) (form : (L ≡ []) ⊎ (S ≡ [])) (i : ℕ) (h : Held K X) where
+  pub lone-row : i < length L → h ≡ get_or L i h → h.pairs ≡ row_of (L ++ S) i
+  lone-row below is = row-at (L ++ S) i h (let len = length-append L S in omega (arith, below, len)) (lone-at L S form i h below is)
+
+  pub lone-room : i < length L → h ≡ get_or L i h → get_or (rooms (L ++ S)) i 0 ≡ h.room
+  lone-room below is =
+      get_or-rooms (L ++ S) i h (let len = length-append L S in omega (arith, below, len)) ∙ ap (λ (k : Held K X). k.room) (sym (lone-at L S form i h below is))
+
+  pub shared-row : length L ≤ i → i < length (L ++ S) → h ≡ get_or S i h → h.pairs ≡ row_of (L ++ S) i
+  shared-row past within is = row-at (L ++ S) i h within (shared-at L S form i h past within is)
+
+module _ {K X : Type 0} (L S : List (Held K X)) {bits : List Bool} {mask : ℕ} (are : AreSlots L S bits mask) (i : ℕ) (h : Held K X) where
+  -- slots with slot i changed are of the same form: a lone one
+  module _ (below : i < length L) where
+    within-lone : i < length (L ++ S)
+    within-lone = let len = length-append L S in omega (arith, below, len)
+
+    AreSlots-lone : (marks : List Bool) → IsDirectory (set (L ++ S) i h) marks mask → AreSlots (set L i h) S marks mask
+    AreSlots-lone marks directory = record {
+      directory = rw (lone-set L S are.form i h below) directory;
+      form = elim are.form [
+        | inl none ↦ absurd (let zero = ap length none in omega (arith, below, zero))
+        | inr none ↦ inr none
+      ];
+    }
+
+    pub AreSlots-lone_set : (b : Bool) → b ≡ nat_lt 0 (length h.pairs) → AreSlots (set L i h) S (set bits i b) mask
+    AreSlots-lone_set b is = AreSlots-lone (set bits i b) (IsDirectory-set (L ++ S) are.directory i within-lone h b is)
+
+    pub AreSlots-lone_kept : nat_lt 0 (length (row_of (L ++ S) i)) ≡ nat_lt 0 (length h.pairs) → AreSlots (set L i h) S bits mask
+    AreSlots-lone_kept is = AreSlots-lone bits (IsDirectory-kept (L ++ S) are.directory i within-lone h is)
+
+    pub AreSlots-lone_changed : (0 < length h.pairs → 0 < length (row_of (L ++ S) i)) → AreSlots (set L i h) S (cond (nat_lt 0 (length h.pairs)) bits (set bits i false)) mask
+    AreSlots-lone_changed filled = AreSlots-lone _ (IsDirectory-changed (L ++ S) are.directory i within-lone h filled)
+
+    pub IsRowSet-lone : (row : List (K × X)) → h.pairs ≡ row → IsRowSet (L ++ S) i row (set L i h ++ S)
+    IsRowSet-lone row pairs = record { slot = h; pairs = pairs; others = lone-set L S are.form i h below }
+
+    -- it has room if the new slot has
+    pub lone_set-leaves_room : length h.pairs < h.room → length (row_of (set L i h ++ S) i) < get_or (rooms (set L i h ++ S)) i 0
+    lone_set-leaves_room room = rw (lone-set L S are.form i h below, row-set (L ++ S) i h within-lone, room-set (L ++ S) i h within-lone) room
+
+  -- or a shared one
+  module _ (past : length L ≤ i) (within : i < length (L ++ S)) where
+    AreSlots-shared : (marks : List Bool) → IsDirectory (set (L ++ S) i h) marks mask → AreSlots L (set S i h) marks mask
+    AreSlots-shared marks directory = record {
+      directory = rw (shared-set L S are.form i h past within) directory;
+      form = inl (none-lone L S are.form i past within);
+    }
+
+    pub AreSlots-shared_set : (b : Bool) → b ≡ nat_lt 0 (length h.pairs) → AreSlots L (set S i h) (set bits i b) mask
+    AreSlots-shared_set b is = AreSlots-shared (set bits i b) (IsDirectory-set (L ++ S) are.directory i within h b is)
+
+    pub AreSlots-shared_kept : nat_lt 0 (length (row_of (L ++ S) i)) ≡ nat_lt 0 (length h.pairs) → AreSlots L (set S i h) bits mask
+    AreSlots-shared_kept is = AreSlots-shared bits (IsDirectory-kept (L ++ S) are.directory i within h is)
+
+    pub AreSlots-shared_changed : (0 < length h.pairs → 0 < length (row_of (L ++ S) i)) → AreSlots L (set S i h) (cond (nat_lt 0 (length h.pairs)) bits (set bits i false)) mask
+    AreSlots-shared_changed filled = AreSlots-shared _ (IsDirectory-changed (L ++ S) are.directory i within h filled)
+
+    pub IsRowSet-shared : (row : List (K × X)) → h.pairs ≡ row → IsRowSet (L ++ S) i row (L ++ set S i h)
+    IsRowSet-shared row pairs = record { slot = h; pairs = pairs; others = shared-set L S are.form i h past within }
+
+    -- and the rows stay if the pairs do
+    pub shared_set-rows : (was : Held K X) → was ≡ get_or S i was → h.pairs ≡ was.pairs → rows (L ++ set S i h) ≡ rows (L ++ S)
+    shared_set-rows was is same = ap rows (shared-set L S are.form i h past within) ∙ rows-kept_at (L ++ S) i h was (shared-at L S are.form i was past within is) same
+
+    pub shared_set-leaves_room : length h.pairs < h.room → length (row_of (L ++ set S i h) i) < get_or (rooms (L ++ set S i h)) i 0
+    shared_set-leaves_room room = rw (shared-set L S are.form i h past within, row-set (L ++ S) i h within, room-set (L ++ S) i h within) room
+
+-- slots V of either form: if some are lone, these are all of them, and if none is, the shared ones are
+module _ {K X : Type 0} (L S V : List (Held K X)) (view : L ++ S ≡ V) where
+  pub lone-view : S ≡ [] → L ≡ V
+  lone-view none = sym (append-nil L) ∙ ap (λ M. L ++ M) (sym none) ∙ view
+
+  pub shared-view : L ≡ [] → S ≡ V
+  shared-view none = ap (λ M. M ++ S) (sym none) ∙ view
+
+  -- where some are lone, none is shared
+  pub none-shared : (L ≡ []) ⊎ (S ≡ []) → 0 < length L → S ≡ []
+  none-shared form some = elim form [
+    | inl none ↦ absurd (let zero = ap length none in omega (arith, some, zero))
+    | inr none ↦ none
+  ]
+
+-- slots of one form alone
+module _ {K X : Type 0} (L S : List (Held K X)) (bits : List Bool) (mask : ℕ) where
+  pub AreSlots-lone_alone : S ≡ [] → IsDirectory L bits mask → AreSlots L S bits mask
+  AreSlots-lone_alone none directory = record {
+    directory = subst (λ T. IsDirectory T bits mask) (sym (append-nil L) ∙ ap (λ M. L ++ M) (sym none)) directory;
+    form = inr none;
+  }
+
+  pub AreSlots-shared_alone : L ≡ [] → IsDirectory S bits mask → AreSlots L S bits mask
+  AreSlots-shared_alone none directory = record {
+    directory = subst (λ T. IsDirectory T bits mask) (ap (λ M. M ++ S) (sym none)) directory;
+    form = inl none;
+  }
