@@ -89,8 +89,3 @@ pub record IsDirectory {K X : Type 0} (slots : List (Held K X)) (bits : List Boo
 pub record AreSlots {K X : Type 0} (lone shared : List (Held K X)) (bits : List Bool) (mask : ℕ) : Type 0 where
   pub directory : IsDirectory (lone ++ shared) bits mask
   pub form : (lone ≡ []) ⊎ (shared ≡ [])
-
--- the numbers of slots that are left of a walk: they are of slots, which are of one form
-pub record AreOnWay {K X : Type 0} (lone shared : List (Held K X)) (indices : List ℕ) : Type 0 where
-  pub within : All (λ index. index < length (lone ++ shared)) indices
-  pub form : (lone ≡ []) ⊎ (shared ≡ [])

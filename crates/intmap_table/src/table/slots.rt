@@ -16,12 +16,12 @@ mod part;
 mod place;
 pub mod walk;
 
-ghost use Rattle.std.specs.Prelude.{◌≡◌, ◌⊎◌, ◌+◌, ◌^◌, ◌<◌, ◌≤◌, ℕ, [], ◌++◌, cond, count_by, false, length, nat_lt, position, replicate, slice_index_or, slice_set, IfNone, IfOk, IfSome};
+ghost use Rattle.std.specs.Prelude.{◌≡◌, ◌⊎◌, ◌+◌, ◌^◌, ◌<◌, ◌≤◌, ℕ, [], ◌++◌, cond, count_by, false, length, nat_lt, option_copied, position, replicate, slice_index_or, slice_set, IfNone, IfOk, IfSome};
 ghost use Rattle.std.specs.List.{AllZip};
 ghost use Rattle.intmap_table.specs.Classes.{IsCapacity, same_key};
 ghost use Rattle.intmap_table.specs.Cloning.{IsPairClone};
 ghost use Rattle.intmap_table.specs.Reach.{through_first};
-ghost use Rattle.intmap_table.specs.Tables.Slots.{rows, row_of, joined, AreMarked, IsNextRow, IsRowSet};
+ghost use Rattle.intmap_table.specs.Tables.Slots.{rows, row_of, joined, AreMarked, IsNextRow, IsRowSet, all_pairs};
 
 use crate::bits::Bits;
 use crate::key::IntKey;
@@ -220,6 +220,19 @@ impl<K: IntKey, X, A: Allocator> Slots<K, X, A> {
         Some((self.key_at(index, place), self.value_at(index, place)))
     }
 
+    /// The pairs of a slot: the first one, and the rest.
+    #[inline(always)]
+    #[allow(clippy::type_complexity)]
+    fn parts(&self, index: usize) -> (Option<&(Stored<K>, X)>, &[(Stored<K>, X)])
+        requires { index < length self.now }
+        ensures { row_of self.now index ≡ all_pairs (option_copied result.0) result.1.now }
+    {
+        if index < self.lone.len() {
+            return (self.lone[index].pair(), &[]);
+        }
+        self.shared[index].parts()
+    }
+
     /// The first slot from an index on that holds a pair.
     #[inline(always)]
     pub(crate) fn next_filled(&self, from: usize) -> Option<usize>
@@ -238,8 +251,7 @@ impl<K: IntKey, X, A: Allocator> Slots<K, X, A> {
             first: None,
             rest: &[],
             filled: self.directory.bits.iter(),
-            lone: &self.lone,
-            shared: &self.shared,
+            slots: self,
         }
     }
 }

@@ -14,7 +14,6 @@ use crate::steps::Steps;
 use crate::table::index_of;
 use crate::table::slots::forms::share_each;
 use crate::table::slots::grow_lone::grow_lone;
-use crate::table::slots::walk::parts_at;
 use crate::table::slots::{Directory, Slots};
 use crate::table::stored::Stored;
 use std::alloc::Allocator;
@@ -99,7 +98,7 @@ impl<K: IntKey, X, A: Allocator> Slots<K, X, A> {
         ensures { result ≡ list_any (λ p. slot_number K.number_of p.0 capacity == target)
             (row_of self.now index) }
     {
-        let (first, rest) = parts_at(&self.lone, &self.shared, index);
+        let (first, rest) = self.parts(index);
         one_meets(first, target, capacity) || any_meets(rest, target, capacity)
     }
 }
