@@ -1,12 +1,13 @@
-use Rattle.std.proofs.Common.{rules, ◌≡◌, ℕ, IfOk, IfSome, ◌+◌, ◌-◌, ◌*◌, ◌<◌, ◌≤◌, length, ◌/◌, ◌%◌, Bool, true, false, nat_eq, nat_lt, List, [], ◌∷◌, ◌++◌, slice_index_or, slice_set, bit_and, bit_or, Fits, w8, w32, w64, Bor, MutBor, ℤ, pos, ◌+ℤ◌, ◌-ℤ◌, ◌*ℤ◌, ◌≤ℤ◌, ◌<ℤ◌, FitsSigned, to_z, of_z}
-use Rattle.intmap_sparse.specs.Vectors.{value_at}
-use Rattle.example_dot.specs.Lists.{last_value, dot}
+use Rattle.std.proofs.Common.{arith}
+use Rattle.std.proofs.lemmas.Bool.Decides.{nat_tests}
+use Rattle.std.proofs.lemmas.List.{take_all}
+use Rattle.std.proofs.lemmas.List.Sums.{fold_more}
 use Rattle.example_dot.proofs.vector_of.Goals as goal
 
--- src/main.rt:22:5
 pub loop-place-preserved : goal.loop-place-preserved
-loop-place-preserved c = ?
+loop-place-preserved c = λ q.
+    let before = c.loop-place.invariant q in let step = c.in_ok-set.ensures.assigned in
+    grind (arith, nat_tests, fold_more, before, step)
 
--- src/main.rt:17:1
 pub returns : goal.returns
-returns c = ?
+returns c = λ place. let all = c.loop-place.invariant place in grind (arith, take_all, all)
