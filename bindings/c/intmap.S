@@ -9,7 +9,7 @@
  *
  * Written by tools/assembly of the repository, and not to be edited.
  * Compilers: rattle-kit-13f logic dac8208d650f15bf; clang version 22.1.8
- * Sources: 3538a141e04e26a5713c8ed153a6ba5d2d8b94bb4c4e575eeaa664fab5a8346a
+ * Sources: a9d03e8298f1471e22c5c3cc7d8056ef500f3c2ec8a38274f3c95d1f27f01da5
  *
  * SPDX-License-Identifier: MIT
  *
@@ -3244,28 +3244,26 @@ intmap_contains_key:
 	.p2align	4
 	.type	intmap_equal,@function
 intmap_equal:
-	movq	(%rdi), %rax
+	movq	(%rdi), %rdx
 	movq	(%rsi), %rcx
-	testq	%rax, %rax
+	testq	%rdx, %rdx
 	je	.LBB17_33
 	testq	%rcx, %rcx
 	je	.LBB17_35
 	pushq	%rbp
 	pushq	%r15
 	pushq	%r14
-	pushq	%r13
-	pushq	%r12
 	pushq	%rbx
-	movq	80(%rax), %rdx
-	cmpq	80(%rcx), %rdx
+	movq	80(%rdx), %rax
+	cmpq	80(%rcx), %rax
 	jne	.LBB17_32
-	movq	16(%rax), %rsi
-	testq	%rsi, %rsi
+	movq	16(%rdx), %rdi
+	testq	%rdi, %rdi
 	je	.LBB17_4
-	movq	8(%rax), %rdx
-	decq	%rsi
-	movq	(%rdx), %r11
-	addq	$8, %rdx
+	movq	8(%rdx), %rsi
+	decq	%rdi
+	movq	(%rsi), %r9
+	addq	$8, %rsi
 	jmp	.LBB17_6
 .LBB17_33:
 	testq	%rcx, %rcx
@@ -3277,118 +3275,117 @@ intmap_equal:
 	movb	$1, %al
 	retq
 .LBB17_4:
-	leaq	.Lstatic.0(%rip), %rdx
-	xorl	%r11d, %r11d
-	xorl	%esi, %esi
+	leaq	.Lstatic.0(%rip), %rsi
+	xorl	%r9d, %r9d
+	xorl	%edi, %edi
 .LBB17_6:
-	movq	32(%rax), %rdi
-	movq	40(%rax), %r8
-	movq	56(%rax), %r9
-	leaq	-8(%rsp), %r14
-	xorl	%ebx, %ebx
+	leaq	-8(%rsp), %r11
 	xorl	%r10d, %r10d
+	xorl	%r8d, %r8d
 	jmp	.LBB17_7
 	.p2align	4
 .LBB17_16:
-	shlq	$4, %r11
-	movzbl	(%r9,%r11), %ebp
+	movq	56(%rdx), %r10
+	shlq	$4, %r9
+	movzbl	(%r10,%r9), %ebp
 	xorl	%eax, %eax
 	cmpb	$1, %bpl
-	leaq	8(%r9,%r11), %r12
-	movq	24(%r9,%r11), %r14
-	movq	32(%r9,%r11), %rbx
-	cmoveq	%r12, %rax
-	leaq	-1(%r15), %r11
-	andq	%r15, %r11
+	leaq	8(%r10,%r9), %r14
+	movq	24(%r10,%r9), %r11
+	movq	32(%r10,%r9), %r10
+	cmoveq	%r14, %rax
+	leaq	-1(%rbx), %r9
+	andq	%rbx, %r9
 	cmpb	$1, %bpl
 	je	.LBB17_18
 .LBB17_7:
-	testq	%rbx, %rbx
+	testq	%r10, %r10
 	jne	.LBB17_8
-	testq	%r11, %r11
+	testq	%r9, %r9
 	je	.LBB17_11
-	movq	%r11, %r15
+	movq	%r9, %rbx
 	jmp	.LBB17_14
 	.p2align	4
 .LBB17_11:
-	testq	%rsi, %rsi
+	testq	%rdi, %rdi
 	je	.LBB17_12
-	decq	%rsi
-	movq	(%rdx), %r15
-	addq	$8, %rdx
-	addq	$64, %r10
-	testq	%r15, %r15
+	decq	%rdi
+	movq	(%rsi), %rbx
+	addq	$8, %rsi
+	addq	$64, %r8
+	testq	%rbx, %rbx
 	je	.LBB17_11
 .LBB17_14:
-	rep		bsfq	%r15, %rax
-	addq	%r10, %rax
-	leaq	(%rax,%rax,2), %r11
-	cmpq	%r8, %rax
+	rep		bsfq	%rbx, %rax
+	addq	%r8, %rax
+	leaq	(%rax,%rax,2), %r9
+	cmpq	40(%rdx), %rax
 	jae	.LBB17_16
-	movzbl	(%rdi,%r11,8), %ebp
-	xorl	%ebx, %ebx
+	movq	32(%rdx), %rax
+	movzbl	(%rax,%r9,8), %ebp
+	xorl	%r10d, %r10d
 	cmpb	$1, %bpl
-	leaq	8(%rdi,%r11,8), %rax
-	cmovneq	%rbx, %rax
-	leaq	-8(%rsp), %r14
-	leaq	-1(%r15), %r11
-	andq	%r15, %r11
+	leaq	8(%rax,%r9,8), %rax
+	cmovneq	%r10, %rax
+	leaq	-8(%rsp), %r11
+	leaq	-1(%rbx), %r9
+	andq	%rbx, %r9
 	cmpb	$1, %bpl
 	jne	.LBB17_7
 	jmp	.LBB17_18
 	.p2align	4
 .LBB17_8:
-	movq	%r14, %rax
-	addq	$16, %r14
-	decq	%rbx
+	movq	%r11, %rax
+	addq	$16, %r11
+	decq	%r10
 .LBB17_18:
-	movq	(%rax), %r12
-	movabsq	$-7046029254386353067, %r13
-	imulq	%r12, %r13
-	andq	(%rcx), %r13
-	cmpq	40(%rcx), %r13
+	movq	(%rax), %r14
+	movabsq	$-7046029254386353067, %r15
+	imulq	%r14, %r15
+	andq	(%rcx), %r15
+	cmpq	40(%rcx), %r15
 	jae	.LBB17_22
-	movq	32(%rcx), %r15
-	leaq	(%r13,%r13,2), %r13
-	cmpb	$1, (%r15,%r13,8)
+	movq	32(%rcx), %rbx
+	leaq	(%r15,%r15,2), %r15
+	cmpb	$1, (%rbx,%r15,8)
 	jne	.LBB17_32
-	leaq	(%r15,%r13,8), %r15
-	cmpq	%r12, 8(%r15)
+	leaq	(%rbx,%r15,8), %rbx
+	cmpq	%r14, 8(%rbx)
 	jne	.LBB17_32
-	addq	$16, %r15
-	movq	8(%rax), %r12
+	addq	$16, %rbx
+	movq	8(%rax), %r14
 	xorl	%eax, %eax
-	cmpq	(%r15), %r12
+	cmpq	(%rbx), %r14
 	je	.LBB17_7
 	jmp	.LBB17_27
 .LBB17_22:
-	movq	56(%rcx), %r15
-	leaq	(%r13,%r13,2), %r13
-	shlq	$4, %r13
-	cmpb	$1, (%r15,%r13)
+	movq	56(%rcx), %rbx
+	leaq	(%r15,%r15,2), %r15
+	shlq	$4, %r15
+	cmpb	$1, (%rbx,%r15)
 	jne	.LBB17_32
-	addq	%r13, %r15
-	cmpq	%r12, 8(%r15)
+	addq	%r15, %rbx
+	cmpq	%r14, 8(%rbx)
 	jne	.LBB17_28
-	addq	$8, %r15
+	addq	$8, %rbx
 .LBB17_25:
-	addq	$8, %r15
-	movq	8(%rax), %r12
+	addq	$8, %rbx
+	movq	8(%rax), %r14
 	xorl	%eax, %eax
-	cmpq	(%r15), %r12
+	cmpq	(%rbx), %r14
 	je	.LBB17_7
 	jmp	.LBB17_27
 .LBB17_28:
-	movq	32(%r15), %r13
-	testq	%r13, %r13
+	movq	32(%rbx), %r15
+	testq	%r15, %r15
 	je	.LBB17_32
-	movq	24(%r15), %r15
+	movq	24(%rbx), %rbx
 	.p2align	4
 .LBB17_30:
-	cmpq	%r12, (%r15)
+	cmpq	%r14, (%rbx)
 	je	.LBB17_25
-	addq	$16, %r15
-	decq	%r13
+	addq	$16, %rbx
+	decq	%r15
 	jne	.LBB17_30
 .LBB17_32:
 	xorl	%eax, %eax
@@ -3397,8 +3394,6 @@ intmap_equal:
 	movb	$1, %al
 .LBB17_27:
 	popq	%rbx
-	popq	%r12
-	popq	%r13
 	popq	%r14
 	popq	%r15
 	popq	%rbp
@@ -8454,20 +8449,20 @@ intmap_contains_key:
 	.p2align	2
 	.type	intmap_equal,@function
 intmap_equal:
-	ldr	x15, [x0]
+	ldr	x9, [x0]
 	ldr	x8, [x1]
-	cbz	x15, .LBB17_5
+	cbz	x9, .LBB17_5
 	cbz	x8, .LBB17_6
 	sub	sp, sp, #16
-	ldr	x9, [x15, #80]
-	ldr	x10, [x8, #80]
-	cmp	x9, x10
-	b.ne	.LBB17_31
-	ldr	x10, [x15, #16]
-	cbz	x10, .LBB17_8
-	ldr	x9, [x15, #8]
-	sub	x10, x10, #1
-	ldr	x11, [x9], #8
+	ldr	x10, [x9, #80]
+	ldr	x11, [x8, #80]
+	cmp	x10, x11
+	b.ne	.LBB17_32
+	ldr	x11, [x9, #16]
+	cbz	x11, .LBB17_8
+	ldr	x10, [x9, #8]
+	sub	x11, x11, #1
+	ldr	x12, [x10], #8
 	b	.LBB17_9
 .LBB17_5:
 	cbz	x8, .LBB17_7
@@ -8478,123 +8473,126 @@ intmap_equal:
 	mov	w0, #1
 	ret
 .LBB17_8:
-	mov	x11, xzr
-	adrp	x9, .Lstatic.0
-	add	x9, x9, :lo12:.Lstatic.0
-.LBB17_9:
-	ldp	x13, x14, [x15, #32]
-	mov	x16, xzr
-	ldr	x15, [x15, #56]
 	mov	x12, xzr
-	add	x17, sp, #8
+	adrp	x10, .Lstatic.0
+	add	x10, x10, :lo12:.Lstatic.0
+.LBB17_9:
+	mov	x14, xzr
+	mov	x13, xzr
+	add	x15, sp, #8
 .LBB17_10:
-	cbz	x16, .LBB17_16
+	cbz	x14, .LBB17_16
 .LBB17_11:
-	mov	x18, x17
-	add	x17, x17, #16
-	sub	x16, x16, #1
+	mov	x16, x15
+	add	x15, x15, #16
+	sub	x14, x14, #1
 .LBB17_12:
-	mov	x1, #31829
-	ldr	x0, [x18]
-	ldr	x2, [x8]
-	movk	x1, #32586, lsl #16
-	ldr	x3, [x8, #40]
-	movk	x1, #31161, lsl #32
-	movk	x1, #40503, lsl #48
-	mul	x1, x0, x1
-	and	x1, x2, x1
-	cmp	x1, x3
+	mov	x18, #31829
+	ldr	x17, [x16]
+	ldr	x0, [x8]
+	movk	x18, #32586, lsl #16
+	ldr	x1, [x8, #40]
+	movk	x18, #31161, lsl #32
+	movk	x18, #40503, lsl #48
+	mul	x18, x17, x18
+	and	x18, x0, x18
+	cmp	x18, x1
 	b.hs	.LBB17_24
-	mov	w2, #24
-	ldr	x3, [x8, #32]
-	madd	x1, x1, x2, x3
-	ldrb	w2, [x1]
-	cmp	w2, #1
-	b.ne	.LBB17_31
-	ldr	x2, [x1, #8]
-	cmp	x2, x0
-	b.ne	.LBB17_31
-	add	x0, x1, #16
-	ldr	x18, [x18, #8]
-	ldr	x0, [x0]
-	cmp	x18, x0
-	mov	w0, wzr
-	b.eq	.LBB17_10
-	b	.LBB17_33
-.LBB17_16:
-	cbnz	x11, .LBB17_19
-.LBB17_17:
-	cbz	x10, .LBB17_32
-	ldr	x11, [x9], #8
-	sub	x10, x10, #1
-	add	x12, x12, #64
-	cbz	x11, .LBB17_17
-.LBB17_19:
-	rbit	x16, x11
-	clz	x16, x16
-	add	x17, x16, x12
-	cmp	x17, x14
-	b.hs	.LBB17_21
-	mov	w18, #24
-	mov	x16, xzr
-	madd	x17, x17, x18, x13
-	ldrb	w0, [x17], #8
+	mov	w0, #24
+	ldr	x1, [x8, #32]
+	madd	x18, x18, x0, x1
+	ldrb	w0, [x18]
 	cmp	w0, #1
-	csel	x18, x17, xzr, eq
-	add	x17, sp, #8
+	b.ne	.LBB17_32
+	ldr	x0, [x18, #8]
+	cmp	x0, x17
+	b.ne	.LBB17_32
+	add	x17, x18, #16
+	ldr	x16, [x16, #8]
+	ldr	x17, [x17]
+	mov	w0, wzr
+	cmp	x16, x17
+	b.eq	.LBB17_10
+	b	.LBB17_31
+.LBB17_16:
+	cbnz	x12, .LBB17_19
+.LBB17_17:
+	cbz	x11, .LBB17_33
+	ldr	x12, [x10], #8
+	sub	x11, x11, #1
+	add	x13, x13, #64
+	cbz	x12, .LBB17_17
+.LBB17_19:
+	rbit	x14, x12
+	ldr	x16, [x9, #40]
+	clz	x14, x14
+	add	x15, x14, x13
+	cmp	x15, x16
+	b.hs	.LBB17_21
+	mov	w16, #24
+	ldr	x17, [x9, #32]
+	mov	x14, xzr
+	madd	x15, x15, x16, x17
+	ldrb	w17, [x15], #8
+	cmp	w17, #1
+	csel	x16, x15, xzr, eq
+	add	x15, sp, #8
 	b	.LBB17_22
 .LBB17_21:
-	mov	w16, #48
-	madd	x16, x17, x16, x15
-	ldrb	w0, [x16]
-	add	x18, x16, #8
-	ldp	x17, x16, [x16, #24]
-	cmp	w0, #1
-	csel	x18, x18, xzr, eq
+	mov	w14, #48
+	ldr	x16, [x9, #56]
+	madd	x14, x15, x14, x16
+	ldrb	w17, [x14]
+	add	x16, x14, #8
+	ldp	x15, x14, [x14, #24]
+	cmp	w17, #1
+	csel	x16, x16, xzr, eq
 .LBB17_22:
-	sub	x1, x11, #1
-	cmp	w0, #1
-	and	x11, x1, x11
+	sub	x18, x12, #1
+	cmp	w17, #1
+	and	x12, x18, x12
 	b.eq	.LBB17_12
-	cbz	x16, .LBB17_16
+	cbz	x14, .LBB17_16
 	b	.LBB17_11
 .LBB17_24:
-	mov	w2, #48
-	ldr	x3, [x8, #56]
-	madd	x3, x1, x2, x3
-	ldrb	w1, [x3]
-	cmp	w1, #1
-	b.ne	.LBB17_31
-	mov	x1, x3
-	ldr	x2, [x1, #8]!
-	cmp	x2, x0
+	mov	w0, #48
+	ldr	x1, [x8, #56]
+	madd	x1, x18, x0, x1
+	ldrb	w18, [x1]
+	cmp	w18, #1
+	b.ne	.LBB17_32
+	mov	x18, x1
+	ldr	x0, [x18, #8]!
+	cmp	x0, x17
 	b.ne	.LBB17_27
 .LBB17_26:
-	add	x0, x1, #8
-	ldr	x18, [x18, #8]
-	ldr	x0, [x0]
-	cmp	x18, x0
+	add	x17, x18, #8
+	ldr	x16, [x16, #8]
+	ldr	x17, [x17]
 	mov	w0, wzr
+	cmp	x16, x17
 	b.eq	.LBB17_10
-	b	.LBB17_33
+	b	.LBB17_31
 .LBB17_27:
-	ldr	x2, [x3, #32]
-	cbz	x2, .LBB17_31
-	ldr	x1, [x3, #24]
+	ldr	x0, [x1, #32]
+	cbz	x0, .LBB17_31
+	ldr	x18, [x1, #24]
 .LBB17_29:
-	ldr	x3, [x1]
-	cmp	x3, x0
+	ldr	x1, [x18]
+	cmp	x1, x17
 	b.eq	.LBB17_26
-	subs	x2, x2, #1
-	add	x1, x1, #16
+	subs	x0, x0, #1
+	add	x18, x18, #16
 	b.ne	.LBB17_29
 .LBB17_31:
-	mov	w0, wzr
 	add	sp, sp, #16
 	ret
 .LBB17_32:
-	mov	w0, #1
+	mov	w0, wzr
+	add	sp, sp, #16
+	ret
 .LBB17_33:
+	mov	w0, #1
 	add	sp, sp, #16
 	ret
 .Lfunc_end17:

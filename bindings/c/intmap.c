@@ -17,7 +17,7 @@
 // have 16 bytes each.
 //
 // Compilers: rattle-kit-13f logic dac8208d650f15bf; clang version 22.1.8
-// Sources: 3538a141e04e26a5713c8ed153a6ba5d2d8b94bb4c4e575eeaa664fab5a8346a
+// Sources: a9d03e8298f1471e22c5c3cc7d8056ef500f3c2ec8a38274f3c95d1f27f01da5
 //
 // SPDX-License-Identifier: MIT
 //
@@ -684,10 +684,10 @@ static ALIGNED NOINLINE void intmap_add_growing(char *a0, char *a1, uint64_t a2,
         r33, r8, r0_8, r16, r20, r8_2, r9_6, r0_9, r0_10, r3_7, r0_11, r28, r2_6, r4, r2_7, r4_2, r2_8, r12_4, r0_15,
         r0_16, r14, r2_9, r17_5, r27, r9_11, r34_2, r34_3, r0_06, r12_5, r10_4, common_ret_op, r17_2;
     u128 r10, r13_2, r187, r15, r18, r17;
-    char *r26, *r3_4, *r50, *r6, *r11, *r9, *r9_2, *r5, *r9_3, *r5_2, *r11_4, *r9_4, *r9_5, *r11_6, *r9_7, *r9_8,
+    char *r11, *r3_4, *r11_2, *r6, *r11_4, *r9, *r9_2, *r5, *r9_3, *r5_2, *r11_6, *r9_4, *r9_5, *r11_8, *r9_7, *r9_8,
         *r23, *r18_2, *r23_2, *x19, *r9_9, *r8_3, *r10_472_0_ph102, *r8_4, *r4_3, *r25, *r20_2, *r9_10, *r4_4,
         *r10_3, *r4_5, *r15_2, *r34, *r9_12;
-    uint8_t r3, r3_2, r3_6, r12, r17_3, r11_2, r11_5, r69, r11_7, r11_8, r5099, r50_2;
+    uint8_t r3, r3_2, r3_6, r12, r17_3, r11_5, r11_7, r69, r11_9, r11_10, r5099, r50;
     bool r0_2, r0_6, r0_7, r13_3;
     struct word_word r0_3, r0_4, r0_5, r0_12, r0_13, r0_14;
     struct byte_word r53, r53_2, r86;
@@ -729,19 +729,19 @@ static ALIGNED NOINLINE void intmap_add_growing(char *a0, char *a1, uint64_t a2,
     r7 = a4 * UINT64_C(11400714819323198549);
     r10_2 = r2_3 & r7;
     if (a3 < r2_2) {
-        r26 = load_address(a1 + 32) + (a3 * 24);
-        r3 = load8(r26);
+        r11 = load_address(a1 + 32) + (a3 * 24);
+        r3 = load8(r11);
         r3_2 = r3;
-        r3_3 = (r3 == 1) ? ((uint64_t)(uintptr_t)(r26 + 8)) : 0;
+        r3_3 = (r3 == 1) ? ((uint64_t)(uintptr_t)(r11 + 8)) : 0;
         r3_4 = r2;
         r3_5 = 0;
     } else {
-        r50 = load_address(a1 + 56) + (a3 * 48);
-        r3_6 = load8(r50);
+        r11_2 = load_address(a1 + 56) + (a3 * 48);
+        r3_6 = load8(r11_2);
         r3_2 = r3_6;
-        r3_3 = (r3_6 == 1) ? ((uint64_t)(uintptr_t)(r50 + 8)) : 0;
-        r3_4 = load_address(r50 + 24);
-        r3_5 = load64(r50 + 32);
+        r3_3 = (r3_6 == 1) ? ((uint64_t)(uintptr_t)(r11_2 + 8)) : 0;
+        r3_4 = load_address(r11_2 + 24);
+        r3_5 = load64(r11_2 + 32);
     }
     if (r3_2 == 1) {
         if (((load64((char *)(uintptr_t)r3_3) * UINT64_C(11400714819323198549)) & r2_3) == r10_2) {
@@ -761,8 +761,8 @@ static ALIGNED NOINLINE void intmap_add_growing(char *a0, char *a1, uint64_t a2,
                 r17_4 = 0;
                 goto join_7_3;
             }
-            r11 = load_address(a1 + 8) + ((r10_2 >> 3) & UINT64_C(2305843009213693944));
-            store64(r11, load64(r11) | ((uint64_t)1 << (r10_2 & 63)));
+            r11_4 = load_address(a1 + 8) + ((r10_2 >> 3) & UINT64_C(2305843009213693944));
+            store64(r11_4, load64(r11_4) | ((uint64_t)1 << (r10_2 & 63)));
             if (r10_2 >= load64(a1 + 40)) {
                 r9_2 = load_address(a1 + 56) + (r10_2 * 48);
                 store64(r9_2, 1);
@@ -771,11 +771,11 @@ static ALIGNED NOINLINE void intmap_add_growing(char *a0, char *a1, uint64_t a2,
                 goto arm_1_4;
             }
             r9 = load_address(a1 + 32) + (r10_2 * 24);
-            r11_2 = load8(r9);
+            r11_5 = load8(r9);
             store64(r9, 1);
             store64(r9 + 8, a4);
             store64(r9 + 16, a5);
-            if (r11_2 == 0) {
+            if (r11_5 == 0) {
                 goto arm_1_4;
             }
             abort();
@@ -803,8 +803,8 @@ join_3_2:;
                 r0_14 = rattle_alloc(r0 * 48, 8);
                 if ((r0_14.first & 1) != 0) {
                     r8_4 = (char *)(uintptr_t)r0_14.second;
-                    r50_2 = grow_lone_grow_lone(a1 + 32, a1, r0);
-                    if ((r50_2 & 1) != 0) {
+                    r50 = grow_lone_grow_lone(a1 + 32, a1, r0);
+                    if ((r50 & 1) != 0) {
                         rattle_dealloc(r8_4);
                         goto after_Vec_drop_3;
                     }
@@ -970,14 +970,14 @@ join_3_2:;
                         r53_2 = r53;
                         goto after_Slots_push;
                     }
-                    r11_4 = load_address(a1 + 8) + ((a3 >> 3) & UINT64_C(2305843009213693944));
-                    store64(r11_4, load64(r11_4) | ((uint64_t)1 << (a3 & 63)));
+                    r11_6 = load_address(a1 + 8) + ((a3 >> 3) & UINT64_C(2305843009213693944));
+                    store64(r11_6, load64(r11_6) | ((uint64_t)1 << (a3 & 63)));
                     r9_4 = load_address(a1 + 32) + r8;
-                    r11_5 = load8(r9_4);
+                    r11_7 = load8(r9_4);
                     store64(r9_4, 1);
                     store64(r9_4 + 8, a4);
                     store64(r9_4 + 16, a5);
-                    if (r11_5 != 0) {
+                    if (r11_7 != 0) {
                         abort();
                     }
                     r0_7 = true;
@@ -996,10 +996,10 @@ join_3_2:;
         r0_2 = false;
     }
     r9_5 = r5_2 + r6_2;
-    r11_6 = load_address(a1 + 8) + ((a3 >> 3) & UINT64_C(2305843009213693944));
-    r16 = load64(r11_6);
+    r11_8 = load_address(a1 + 8) + ((a3 >> 3) & UINT64_C(2305843009213693944));
+    r16 = load64(r11_8);
     r20 = (uint64_t)1 << (a3 & 63);
-    store64(r11_6, r16 | r20);
+    store64(r11_8, r16 | r20);
     if ((r16 & r20) == 0) {
         store64(r9_5, 1);
         store64(r9_5 + 8, a4);
@@ -1030,9 +1030,9 @@ arm_6_2:;
         if (a3 < load64(a1 + 40)) {
             r9_7 = load_address(a1 + 32) + (a3 * 24);
             r0_9 = load64(r9_7 + 16);
-            r11_7 = load8(r9_7);
+            r11_9 = load8(r9_7);
             memset(r9_7, 0, 24);
-            if (r11_7 != 1) {
+            if (r11_9 != 1) {
                 abort();
             }
             store64(load_address(a1 + 8) + r8_2, r9_6 & (((uint64_t)1 << (a3 & 63)) ^ UINT64_C(18446744073709551615)));
@@ -1042,9 +1042,9 @@ arm_6_2:;
             r3_7 = load64(r9_8 + 32);
             if (r3_7 == 0) {
                 r0_11 = load64(r9_8 + 16);
-                r11_8 = load8(r9_8);
+                r11_10 = load8(r9_8);
                 memset(r9_8, 0, 24);
-                if (r11_8 == 1) {
+                if (r11_10 == 1) {
                     store64(load_address(a1 + 8) + r8_2, r9_6 & (((uint64_t)1 << (a3 & 63)) ^ UINT64_C(18446744073709551615)));
                     r0_10 = r0_11;
                     goto after_Slots_take_at;
@@ -2501,17 +2501,17 @@ static ALWAYS_INLINE bool do_intmap_contains_key(char *map, uint64_t key) {
 
 // intmap_equal, in crates/intmap_c/src/read.rt
 static ALWAYS_INLINE bool do_intmap_equal(char *map, char *other) {
-    char *r5, *r8, *r6_3, *r4, *r4_2, *r4_3, *r1, *r1_5, *r1_8, *r1_12, *r1_15, *r26, *r21, *r50, *r1_17, *r1_21,
-        *r7, *r1_23, *r1_27, *r11_2, *r0, *r11_3, *common_ret_op, *r4_4;
+    char *r5, *r8_2, *r6_3, *r4, *r1, *r1_5, *r1_8, *r1_12, *r1_15, *r11, *r21, *r11_2, *r1_17, *r1_21, *r7, *r1_23,
+        *r1_27, *r11_3, *r0, *r11_4, *common_ret_op, *r4_2;
     bool r12, r7_0;
-    uint64_t r6, r6_2, r6_4, r6_5, r1_2, r1_3, r1_4, r1_6, r1_7, r1_9, r1_10, r1_11, r1_13, r33, r54, r60, r1_14,
-        r1_16, r17, r27, r33_2, r40, r21_2, r21_4, r1_18, r1_19, r1_20, r1_22, r1_24, r1_25, r1_26, r1_28, r37, r10,
-        r6_6, r3_0, r21_5, r36;
+    uint64_t r6, r6_2, r6_4, r1_2, r1_3, r1_4, r1_6, r1_7, r1_9, r1_10, r1_11, r1_13, r33, r54, r60, r1_14, r1_16,
+        r17, r27, r33_2, r40, r21_2, r21_4, r1_18, r1_19, r1_20, r1_22, r1_24, r1_25, r1_26, r1_28, r37, r10, r6_5,
+        r3_0, r21_5, r36;
     uint8_t r3, r21_3, r3_2;
-    char *r11 = (char *)no_bytes;
+    char *r8 = (char *)no_bytes;
     r5 = load_address(map);
-    r8 = load_address(other);
-    r12 = r8 == NULL;
+    r8_2 = load_address(other);
+    r12 = r8_2 == NULL;
     if (r5 == NULL) {
         if (r12) {
             r7_0 = true;
@@ -2519,7 +2519,7 @@ static ALWAYS_INLINE bool do_intmap_equal(char *map, char *other) {
         }
     } else {
         if (!r12) {
-            if (load64(r5 + 80) != load64(r8 + 80)) {
+            if (load64(r5 + 80) != load64(r8_2 + 80)) {
                 r7_0 = false;
                 goto after_read_intmap_equal;
             }
@@ -2534,10 +2534,7 @@ static ALWAYS_INLINE bool do_intmap_equal(char *map, char *other) {
                 r6_3 = r4 + 8;
                 r6_4 = r6 - 1;
             }
-            r4_2 = load_address(r5 + 32);
-            r6_5 = load64(r5 + 40);
-            r4_3 = load_address(r5 + 56);
-            r1 = r11;
+            r1 = r8;
             r1_2 = 0;
             r1_3 = r6_2;
             r1_4 = 0;
@@ -2582,20 +2579,20 @@ static ALWAYS_INLINE bool do_intmap_equal(char *map, char *other) {
                         r27 = low_zeros(r17);
                         r33_2 = r27 + r1_14;
                         r40 = (r17 - 1) & r17;
-                        if (r33_2 < r6_5) {
-                            r26 = r4_2 + (r33_2 * 24);
-                            r3 = load8(r26);
-                            r21 = r11;
+                        if (r33_2 < load64(r5 + 40)) {
+                            r11 = load_address(r5 + 32) + (r33_2 * 24);
+                            r3 = load8(r11);
+                            r21 = r8;
                             r21_2 = 0;
                             r21_3 = r3;
-                            r21_4 = (r3 == 1) ? ((uint64_t)(uintptr_t)(r26 + 8)) : 0;
+                            r21_4 = (r3 == 1) ? ((uint64_t)(uintptr_t)(r11 + 8)) : 0;
                         } else {
-                            r50 = r4_3 + (r33_2 * 48);
-                            r3_2 = load8(r50);
-                            r21 = load_address(r50 + 24);
-                            r21_2 = load64(r50 + 32);
+                            r11_2 = load_address(r5 + 56) + (r33_2 * 48);
+                            r3_2 = load8(r11_2);
+                            r21 = load_address(r11_2 + 24);
+                            r21_2 = load64(r11_2 + 32);
                             r21_3 = r3_2;
-                            r21_4 = (r3_2 == 1) ? ((uint64_t)(uintptr_t)(r50 + 8)) : 0;
+                            r21_4 = (r3_2 == 1) ? ((uint64_t)(uintptr_t)(r11_2 + 8)) : 0;
                         }
                         if (r21_3 == 1) {
                             r1_17 = r21;
@@ -2638,42 +2635,42 @@ static ALWAYS_INLINE bool do_intmap_equal(char *map, char *other) {
                 r7 = r1_23;
             arm_6:;
                 r37 = load_key(r7);
-                r10 = load64(r8) & (r37 * UINT64_C(11400714819323198549));
-                if (r10 < load64(r8 + 40)) {
-                    r11_2 = load_address(r8 + 32) + (r10 * 24);
-                    if (load8(r11_2) != 1) {
-                        r7_0 = false;
-                        goto after_read_intmap_equal;
-                    }
-                    if (load64(r11_2 + 8) != r37) {
-                        r7_0 = false;
-                        goto after_read_intmap_equal;
-                    }
-                    r0 = r11_2 + 16;
-                } else {
-                    r11_3 = load_address(r8 + 56) + (r10 * 48);
+                r10 = load64(r8_2) & (r37 * UINT64_C(11400714819323198549));
+                if (r10 < load64(r8_2 + 40)) {
+                    r11_3 = load_address(r8_2 + 32) + (r10 * 24);
                     if (load8(r11_3) != 1) {
                         r7_0 = false;
                         goto after_read_intmap_equal;
                     }
-                    if (load64(r11_3 + 8) == r37) {
-                        common_ret_op = r11_3 + 8;
+                    if (load64(r11_3 + 8) != r37) {
+                        r7_0 = false;
+                        goto after_read_intmap_equal;
+                    }
+                    r0 = r11_3 + 16;
+                } else {
+                    r11_4 = load_address(r8_2 + 56) + (r10 * 48);
+                    if (load8(r11_4) != 1) {
+                        r7_0 = false;
+                        goto after_read_intmap_equal;
+                    }
+                    if (load64(r11_4 + 8) == r37) {
+                        common_ret_op = r11_4 + 8;
                     } else {
-                        r4_4 = load_address(r11_3 + 24);
-                        r6_6 = load64(r11_3 + 32);
-                        if (r6_6 == 0) {
+                        r4_2 = load_address(r11_4 + 24);
+                        r6_5 = load64(r11_4 + 32);
+                        if (r6_5 == 0) {
                             r7_0 = false;
                             goto after_read_intmap_equal;
                         }
                         r3_0 = 0;
                         for (;;) {
                             r21_5 = r3_0 << 4;
-                            if (load64(r4_4 + r21_5) == r37) {
-                                common_ret_op = r4_4 + r21_5;
+                            if (load64(r4_2 + r21_5) == r37) {
+                                common_ret_op = r4_2 + r21_5;
                                 break;
                             }
                             r36 = r3_0 + 1;
-                            if (r36 == r6_6) {
+                            if (r36 == r6_5) {
                                 r7_0 = false;
                                 goto after_read_intmap_equal;
                             }

@@ -145,6 +145,16 @@ impl<K: IntKey, X, A: Allocator> Slots<K, X, A> {
         Some((self.key_at(index, place), self.value_at(index, place)))
     }
 
+    /// The pairs of a slot: the first one, and the rest.
+    #[inline(always)]
+    #[allow(clippy::type_complexity)]
+    fn parts(&self, index: usize) -> (Option<&(Stored<K>, X)>, &[(Stored<K>, X)]) {
+        if index < self.lone.len() {
+            return (self.lone[index].pair(), &[]);
+        }
+        self.shared[index].parts()
+    }
+
     /// The first slot from an index on that holds a pair.
     #[inline(always)]
     pub(in crate::proved::table) fn next_filled(&self, from: usize) -> Option<usize> {
@@ -158,8 +168,7 @@ impl<K: IntKey, X, A: Allocator> Slots<K, X, A> {
             first: None,
             rest: &[],
             filled: self.directory.bits.iter(),
-            lone: &self.lone,
-            shared: &self.shared,
+            slots: self,
         }
     }
 }

@@ -8,7 +8,6 @@ use crate::proved::table::steps::Steps;
 use crate::proved::table::table::index_of;
 use crate::proved::table::table::slots::forms::share_each;
 use crate::proved::table::table::slots::grow_lone::grow_lone;
-use crate::proved::table::table::slots::walk::parts_at;
 use crate::proved::table::table::slots::{Directory, Slots};
 use crate::proved::table::table::stored::Stored;
 use crate::memory::alloc::Allocator;
@@ -63,7 +62,7 @@ fn grow_shared<K: IntKey, X, A: Allocator + Copy>(
 impl<K: IntKey, X, A: Allocator> Slots<K, X, A> {
     /// Whether a pair of a slot goes to slot `target` of `capacity` slots.
     fn meets(&self, index: usize, target: usize, capacity: usize) -> bool {
-        let (first, rest) = parts_at(&self.lone, &self.shared, index);
+        let (first, rest) = self.parts(index);
         one_meets(first, target, capacity) || any_meets(rest, target, capacity)
     }
 }

@@ -3,24 +3,9 @@
 use crate::memory::prelude::*;
 use crate::proved::table::bits::Indices;
 use crate::proved::table::key::IntKey;
-use crate::proved::table::lone::Lone;
-use crate::proved::table::slot::Slot;
+use crate::proved::table::table::slots::Slots;
 use crate::proved::table::table::stored::Stored;
 use crate::memory::alloc::{AllocError, Allocator};
-
-/// The pairs of a slot, by its number: the first one, and the rest.
-#[inline(always)]
-#[allow(clippy::type_complexity)]
-pub(super) fn parts_at<'a, K: IntKey, X, A: Allocator>(
-    lone: &'a [Lone<K, X>],
-    shared: &'a [Slot<K, X, A>],
-    index: usize,
-) -> (Option<&'a (Stored<K>, X)>, &'a [(Stored<K>, X)]) {
-    if index < lone.len() {
-        return (lone[index].pair(), &[]);
-    }
-    shared[index].parts()
-}
 
 /// The pairs that are left: those of the current slot, then those of the slots behind it that hold
 /// a pair, by their numbers.
@@ -28,8 +13,7 @@ pub struct Pairs<'a, K: IntKey, X, A: Allocator> {
     pub(super) first: Option<&'a (Stored<K>, X)>,
     pub(super) rest: &'a [(Stored<K>, X)],
     pub(super) filled: Indices<'a>,
-    pub(super) lone: &'a [Lone<K, X>],
-    pub(super) shared: &'a [Slot<K, X, A>],
+    pub(super) slots: &'a Slots<K, X, A>,
 }
 
 impl<'a, K: IntKey, X, A: Allocator> Clone for Pairs<'a, K, X, A> {
@@ -38,8 +22,7 @@ impl<'a, K: IntKey, X, A: Allocator> Clone for Pairs<'a, K, X, A> {
             first: self.first,
             rest: self.rest,
             filled: self.filled.clone()?,
-            lone: self.lone,
-            shared: self.shared,
+            slots: self.slots,
         })
     }
 }
@@ -60,7 +43,7 @@ impl<'a, K: IntKey, X, A: Allocator> Iterator for Pairs<'a, K, X, A> {
             let Some(index) = self.filled.next() else {
                 return None;
             };
-            (self.first, self.rest) = parts_at(self.lone, self.shared, index);
+            (self.first, self.rest) = self.slots.parts(index);
         }
     }
 }
