@@ -1,12 +1,14 @@
 // SPDX-License-Identifier: MIT
-// Times of the calls, in nanoseconds a key, beside GLib's GHashTable and uthash if they are there.
+// Times of the calls, in nanoseconds a key, beside khash, GLib's GHashTable and uthash if they are
+// there.
 //
 //     cc -O2 times.c intmap.c $(pkg-config --cflags --libs glib-2.0) -o times
 //     ./times KEYS
 //
 // Each figure is the least of many runs, each on a new map, until KEYS keys were inserted. Fewer
-// keys leave out the larger maps. Random keys are looked up in another order than they were
-// inserted. GLib has keys and values in its pointers, uthash a block for each pair.
+// keys leave out the larger maps. The keys are random, or dense: all numbers from 0 on, in order or
+// shuffled. Keys that aren't in order are looked up in another order than they were inserted. GLib
+// has keys and values in its pointers, uthash a block for each pair.
 //
 // A walk, a cut of each second pair and a drain of 1,000,000 pairs must take less than a second
 // each, or it ends with status 1.
@@ -23,6 +25,13 @@
 #if __has_include(<glib.h>)
 #include <glib.h>
 #define HAS_GLIB 1
+#endif
+#if __has_include(<khash.h>)
+#include <khash.h>
+#define HAS_KHASH 1
+#elif __has_include(<htslib/khash.h>)
+#include <htslib/khash.h>
+#define HAS_KHASH 1
 #endif
 #if __has_include(<uthash.h>)
 #include <uthash.h>
@@ -70,14 +79,19 @@ static void shuffle(uint64_t *numbers) {
     }
 }
 
-static void choose_keys(bool is_random) {
+enum { RANDOM, DENSE, SHUFFLED, KINDS };
+
+static void choose_keys(size_t kind) {
     state = 88172645463325252u;
     for (size_t at = 0; at < count; at++) {
-        keys[at] = is_random ? number() : at;
-        absent[at] = is_random ? number() : count + at;
+        keys[at] = kind == RANDOM ? number() : at;
+        absent[at] = kind == RANDOM ? number() : count + at;
+    }
+    if (kind == SHUFFLED) {
+        shuffle(keys);
     }
     memcpy(others, keys, count * sizeof *keys);
-    if (is_random) {
+    if (kind != DENSE) {
         shuffle(others);
     }
 }
@@ -160,6 +174,76 @@ static uint64_t remove_intmap(void) {
 static void drop_intmap(void) {
     intmap_free(&map);
 }
+
+#ifdef HAS_KHASH
+KHASH_MAP_INIT_INT64(numbers, uint64_t)
+
+static khash_t(numbers) *buckets;
+
+static void make_khash(void) {
+    buckets = kh_init(numbers);
+}
+
+// Room for all keys at khash's load factor of 0.77.
+static void make_khash_with_room(void) {
+    make_khash();
+    if (kh_resize(numbers, buckets, (khint_t)(count + count / 3 + 1)) < 0) {
+        end("out of memory");
+    }
+}
+
+static void insert_khash(void) {
+    for (size_t at = 0; at < count; at++) {
+        int added;
+        khint_t bucket = kh_put(numbers, buckets, keys[at], &added);
+        if (added < 0) {
+            end("out of memory");
+        }
+        kh_val(buckets, bucket) = 1;
+    }
+}
+
+static uint64_t find_khash(const uint64_t *wanted) {
+    uint64_t sum = 0;
+    for (size_t at = 0; at < count; at++) {
+        khint_t bucket = kh_get(numbers, buckets, wanted[at]);
+        sum += bucket == kh_end(buckets) ? 0 : kh_val(buckets, bucket);
+    }
+    return sum;
+}
+
+static uint64_t add_khash(void) {
+    uint64_t sum = 0;
+    for (size_t at = 0; at < count; at++) {
+        sum += kh_val(buckets, kh_get(numbers, buckets, others[at]))++;
+    }
+    return sum;
+}
+
+static uint64_t iterate_khash(void) {
+    uint64_t sum = 0;
+    for (khint_t bucket = kh_begin(buckets); bucket != kh_end(buckets); bucket++) {
+        if (kh_exist(buckets, bucket)) {
+            sum += kh_val(buckets, bucket);
+        }
+    }
+    return sum;
+}
+
+static uint64_t remove_khash(void) {
+    uint64_t sum = 0;
+    for (size_t at = 0; at < count; at++) {
+        khint_t bucket = kh_get(numbers, buckets, others[at]);
+        sum += kh_val(buckets, bucket);
+        kh_del(numbers, buckets, bucket);
+    }
+    return sum;
+}
+
+static void drop_khash(void) {
+    kh_destroy(numbers, buckets);
+}
+#endif
 
 #ifdef HAS_GLIB
 static GHashTable *table;
@@ -298,6 +382,10 @@ static void drop_uthash(void) {
 static const subject subjects[] = {
     {"intmap", make_intmap, make_intmap_with_room, insert_intmap, drop_intmap, find_intmap,
      add_intmap, iterate_intmap, remove_intmap},
+#ifdef HAS_KHASH
+    {"khash", make_khash, make_khash_with_room, insert_khash, drop_khash, find_khash, add_khash,
+     iterate_khash, remove_khash},
+#endif
 #ifdef HAS_GLIB
     {"GHashTable", make_glib, NULL, insert_glib, drop_glib, find_glib, add_glib, iterate_glib,
      remove_glib},
@@ -310,7 +398,7 @@ static const subject subjects[] = {
 
 enum { SUBJECTS = sizeof subjects / sizeof subjects[0] };
 
-static double figures[SUBJECTS][2][FIGURES];
+static double figures[SUBJECTS][KINDS][FIGURES];
 
 static double begun;
 
@@ -350,16 +438,21 @@ static void run(const subject *one, double *least) {
     }
 }
 
-static void print_figure(double random, double dense) {
-    if (random > 0) {
-        printf("%.*f/%.*f|", random < 10, random, dense < 10, dense);
-    } else {
-        printf("-|");
+static void print_figure(double of[KINDS][FIGURES], size_t figure) {
+    for (size_t kind = 0; kind < KINDS; kind++) {
+        const char *apart = kind > 0 ? "/" : "";
+        double it = of[kind][figure];
+        if (it > 0) {
+            printf("%s%.*f", apart, it < 10, it);
+        } else {
+            printf("%s-", apart);
+        }
     }
+    printf("|");
 }
 
 static void print_figures(void) {
-    printf("|%zu keys, random/dense|", count);
+    printf("|%zu keys, random/dense/shuffled|", count);
     for (size_t at = 0; at < SUBJECTS; at++) {
         printf("%s|", subjects[at].name);
     }
@@ -367,7 +460,7 @@ static void print_figures(void) {
     for (size_t figure = 0; figure < FIGURES; figure++) {
         printf("|%s|", names[figure]);
         for (size_t at = 0; at < SUBJECTS; at++) {
-            print_figure(figures[at][0][figure], figures[at][1][figure]);
+            print_figure(figures[at], figure);
         }
         printf("\n");
     }
@@ -376,11 +469,11 @@ static void print_figures(void) {
 static void measure(size_t size, size_t handled) {
     count = size;
     memset(figures, 0, sizeof figures);
-    for (size_t is_dense = 0; is_dense < 2; is_dense++) {
-        choose_keys(!is_dense);
+    for (size_t kind = 0; kind < KINDS; kind++) {
+        choose_keys(kind);
         for (size_t runs = handled / size; runs > 0; runs--) {
             for (size_t at = 0; at < SUBJECTS; at++) {
-                run(&subjects[at], figures[at][is_dense]);
+                run(&subjects[at], figures[at][kind]);
             }
         }
     }
@@ -446,8 +539,8 @@ int main(int words, char **word) {
     }
     count = most;
     bool is_so = true;
-    for (size_t is_dense = 0; is_dense < 2; is_dense++) {
-        choose_keys(!is_dense);
+    for (size_t kind = 0; kind < KINDS; kind++) {
+        choose_keys(kind);
         is_so &= is_linear();
     }
     free(keys);
