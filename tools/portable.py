@@ -45,6 +45,7 @@ HELPERS = {
     "llvm.ctlz.i64": ("high_zeros", 1),
     "llvm.ctpop.i64": ("ones_in", 1),
     "llvm.umax.i64": ("greater", 2),
+    "llvm.uadd.sat.i64": ("sum_or_most", 2),
 }
 MOVES = {"llvm.memset": "memset", "llvm.memcpy": "memcpy", "llvm.memmove": "memmove"}
 NO_CODE = ("llvm.lifetime", "llvm.assume")

@@ -17,7 +17,7 @@
 // have 16 bytes each.
 //
 // Compilers: rattle-kit-13f logic dac8208d650f15bf; clang version 22.1.8
-// Sources: a9d03e8298f1471e22c5c3cc7d8056ef500f3c2ec8a38274f3c95d1f27f01da5
+// Sources: f459887871ecb705e0244ceb2ab7dcbb2a3d26eb2e8a35ed024deb505ff660f9
 //
 // SPDX-License-Identifier: MIT
 //
@@ -198,6 +198,10 @@ static inline uint64_t high_zeros(uint64_t x) {
 
 static inline uint64_t greater(uint64_t one, uint64_t other) {
     return one > other ? one : other;
+}
+
+static inline uint64_t sum_or_most(uint64_t one, uint64_t other) {
+    return one > ~other ? UINT64_MAX : one + other;
 }
 
 // Numbers of 128 bits, which only the load factor needs.
@@ -685,9 +689,9 @@ static ALIGNED NOINLINE void intmap_add_growing(char *a0, char *a1, uint64_t a2,
         r0_16, r14, r2_9, r17_5, r27, r9_11, r34_2, r34_3, r0_06, r12_5, r10_4, common_ret_op, r17_2;
     u128 r10, r13_2, r187, r15, r18, r17;
     char *r11, *r3_4, *r11_2, *r6, *r11_4, *r9, *r9_2, *r5, *r9_3, *r5_2, *r11_6, *r9_4, *r9_5, *r11_8, *r9_7, *r9_8,
-        *r23, *r18_2, *r23_2, *x19, *r9_9, *r8_3, *r10_472_0_ph102, *r8_4, *r4_3, *r25, *r20_2, *r9_10, *r4_4,
+        *r23, *r18_2, *r23_2, *x21, *r9_9, *r8_3, *r10_472_0_ph102, *r8_4, *r4_3, *r25, *r20_2, *r9_10, *r4_4,
         *r10_3, *r4_5, *r15_2, *r34, *r9_12;
-    uint8_t r3, r3_2, r3_6, r12, r17_3, r11_5, r11_7, r69, r11_9, r11_10, r5099, r50;
+    uint8_t r3, r3_2, r3_6, r12, r11_5, r17_3, r11_7, r69, r11_9, r11_10, r5099, r50;
     bool r0_2, r0_6, r0_7, r13_3;
     struct word_word r0_3, r0_4, r0_5, r0_12, r0_13, r0_14;
     struct byte_word r53, r53_2, r86;
@@ -753,7 +757,7 @@ static ALIGNED NOINLINE void intmap_add_growing(char *a0, char *a1, uint64_t a2,
     for (;;) {
         if (r1 == 0) {
             r12 = slots_grow(a1, r0, true);
-            if ((r12 & 1) != 0) {
+            if (r12 != 0) {
                 r12_2 = a5;
                 r12_3 = 1;
                 r17_2 = 0;
@@ -1024,7 +1028,7 @@ after_Slots_push:;
     r0_8 = r53_2.second;
 arm_6_2:;
     r69 = slots_grow(a1, r0, false);
-    if ((r69 & 1) != 0) {
+    if (r69 != 0) {
         r8_2 = (a3 >> 3) & UINT64_C(2305843009213693944);
         r9_6 = load64(load_address(a1 + 8) + r8_2);
         if (a3 < load64(a1 + 40)) {
@@ -1069,10 +1073,10 @@ arm_6_2:;
                 if (r0_8 == r3_7) {
                     r0_10 = r2_7;
                 } else {
-                    x19 = r18_2 + (r0_8 << 4);
-                    r4_2 = load64(x19 - 8);
-                    store64(x19 - 16, load64(r23_2));
-                    store64(x19 - 8, r2_7);
+                    x21 = r18_2 + (r0_8 << 4);
+                    r4_2 = load64(x21 - 8);
+                    store64(x21 - 16, load64(r23_2));
+                    store64(x21 - 8, r2_7);
                     r0_10 = r4_2;
                 }
             }
@@ -3099,115 +3103,97 @@ static ALWAYS_INLINE uint32_t do_intmap_with_capacity(char *map, uint64_t capaci
 
 // intmap_step, in crates/intmap_c/src/read.rt
 static ALWAYS_INLINE char *do_intmap_step(char *found, char *map, char *at) {
-    char *r5, *r4, *r4_2, *r11, *r7, *r7_2, *r11_2, *common_ret_op_ph81;
-    uint64_t r6, r6_2, r1496, r1910, r2, r2_2, r1910_2, r14100, r39, r1_0, r46, r59, r2_0, r1_0_2, r63, r69, r27, r8,
-        r27_2, r60, r1910_3, r2_4;
+    char *r5, *r11, *r4, *r11_2, *r7_2, *r7_3, *r11_3, *common_ret_op_ph94;
+    uint64_t r6, r6_2, r7, r9, common_ret_op, r36, r29, r3_0, r1910, r2, r39, r1_0, r46, r59, r2_0, r1_0_2, r63, r69;
     uint32_t r6_3;
-    uint8_t r2_3, r4_3;
     r5 = load_address(map);
     if (r5 == NULL) {
         r6 = 0;
         r6_2 = 0;
         r6_3 = 4294967293u;
     } else {
-        r1496 = load64(at);
-        r1910 = r1496 >> 6;
-        r2 = load64(r5 + 16);
-        if (r2 > r1910) {
-            r2_2 = r2;
-            r1910_2 = r1910;
-            r14100 = r1496;
-            for (;;) {
-                r4 = load_address(r5 + 8);
-                r39 = load64(r4 + (r1910_2 << 3)) & (UINT64_C(18446744073709551615) << (r14100 & 63));
-                if (r39 == 0) {
-                    r1_0 = r1910_2;
-                    for (;;) {
-                        r46 = r1_0 + 1;
-                        if (r46 == r2_2) {
-                            r6 = 0;
-                            r6_2 = 0;
-                            r6_3 = 0;
-                            goto after_read_intmap_step;
-                        }
-                        r59 = load64(r4 + (r46 << 3));
-                        if (r59 != 0) {
-                            r2_0 = r59;
-                            r1_0_2 = r46;
-                            break;
-                        }
-                        r1_0 = r46;
-                    }
-                } else {
-                    r2_0 = r39;
-                    r1_0_2 = r1910_2;
+        r7 = load64(at);
+        r9 = load64(at + 8);
+        if (r7 <= load64(r5)) {
+            if (r7 < load64(r5 + 40)) {
+                common_ret_op = (uint64_t)(load8(load_address(r5 + 32) + (r7 * 24)) != 0);
+            } else {
+                r11 = load_address(r5 + 56) + (r7 * 48);
+                if (load8(r11) == 0) {
+                    goto join_3_2;
                 }
-                r63 = low_zeros(r2_0);
-                r69 = (r1_0_2 << 6) | r63;
-                store64(at, r69);
-                r27 = load64(at + 8);
-                if (r69 < load64(r5 + 40)) {
-                    r4_2 = load_address(r5 + 32);
-                    r8 = r69 * 24;
-                    r2_3 = load8(r4_2 + r8);
-                    if ((r27 == 0) & (r2_3 != 0)) {
-                        if (r2_3 != 1) {
-                            abort();
-                        }
-                        r11 = r4_2 + r8;
-                        r27_2 = 1;
-                        r7 = r11 + 8;
-                        r7_2 = r11 + 16;
-                        goto arm_5_2;
-                    }
-                } else {
-                    r11_2 = load_address(r5 + 56) + (r69 * 48);
-                    r4_3 = load8(r11_2);
-                    if (r4_3 != 0) {
-                        if ((load64(r11_2 + 32) + 1) > r27) {
-                            if (r27 == 0) {
-                                if (r4_3 != 1) {
-                                    abort();
-                                }
-                                common_ret_op_ph81 = r11_2 + 8;
-                            } else {
-                                common_ret_op_ph81 = (load_address(r11_2 + 24) + (r27 << 4)) - 16;
-                            }
-                            r27_2 = r27 + 1;
-                            r7 = common_ret_op_ph81;
-                            r7_2 = common_ret_op_ph81 + 8;
-                            goto arm_5_2;
-                        }
-                    }
-                }
-                r60 = r69 + 1;
-                store64(at, r60);
-                store64(at + 8, 0);
-                r1910_3 = r60 >> 6;
-                r2_4 = load64(r5 + 16);
-                if (r2_4 > r1910_3) {
-                    r2_2 = r2_4;
-                    r1910_2 = r1910_3;
-                    r14100 = r60;
-                    continue;
-                }
-                r6 = 0;
-                r6_2 = 0;
-                r6_3 = 0;
-                break;
-            arm_5_2:;
-                store64(at + 8, r27_2);
-                store64(at + 16, load64(at + 16) + 1);
-                r6 = load64(r7);
-                r6_2 = load64(r7_2);
-                r6_3 = 1;
-                break;
+                common_ret_op = load64(r11 + 32) + 1;
             }
-        } else {
+            if (r9 < common_ret_op) {
+                r36 = r7;
+                r29 = r9;
+                goto join_3_4;
+            }
+        }
+    join_3_2:;
+        r3_0 = sum_or_most(r7, 1);
+        r1910 = r3_0 >> 6;
+        r2 = load64(r5 + 16);
+        if (r2 <= r1910) {
             r6 = 0;
             r6_2 = 0;
             r6_3 = 0;
+            goto after_read_intmap_step;
         }
+        r4 = load_address(r5 + 8);
+        r39 = load64(r4 + (r1910 << 3)) & (UINT64_C(18446744073709551615) << (r3_0 & 63));
+        if (r39 == 0) {
+            r1_0 = r1910;
+            for (;;) {
+                r46 = r1_0 + 1;
+                if (r46 == r2) {
+                    r6 = 0;
+                    r6_2 = 0;
+                    r6_3 = 0;
+                    goto after_read_intmap_step;
+                }
+                r59 = load64(r4 + (r46 << 3));
+                if (r59 != 0) {
+                    r2_0 = r59;
+                    r1_0_2 = r46;
+                    break;
+                }
+                r1_0 = r46;
+            }
+        } else {
+            r2_0 = r39;
+            r1_0_2 = r1910;
+        }
+        r63 = low_zeros(r2_0);
+        r69 = (r1_0_2 << 6) | r63;
+        store64(at, r69);
+        r36 = r69;
+        r29 = 0;
+    join_3_4:;
+        store64(at + 8, r29 + 1);
+        if (r36 < load64(r5 + 40)) {
+            r11_2 = load_address(r5 + 32) + (r36 * 24);
+            if (load8(r11_2) != 1) {
+                abort();
+            }
+            r7_2 = r11_2 + 8;
+            r7_3 = r11_2 + 16;
+        } else {
+            r11_3 = load_address(r5 + 56) + (r36 * 48);
+            if (r29 == 0) {
+                if (load8(r11_3) != 1) {
+                    abort();
+                }
+                common_ret_op_ph94 = r11_3 + 8;
+            } else {
+                common_ret_op_ph94 = (load_address(r11_3 + 24) + (r29 << 4)) - 16;
+            }
+            r7_2 = common_ret_op_ph94;
+            r7_3 = common_ret_op_ph94 + 8;
+        }
+        r6 = load64(r7_2);
+        r6_2 = load64(r7_3);
+        r6_3 = 1;
     }
 after_read_intmap_step:;
     store64(found, r6);
@@ -3513,15 +3499,15 @@ after_walk_intmap_clear:;
 
 // intmap_cut, in crates/intmap_c/src/walk.rt
 static ALWAYS_INLINE char *do_intmap_cut(char *found, char *map, char *at) {
-    uint64_t r3, r6, r6_2, r1632, r1910, r2, r2_2, r1910_2, r1636, r39, r1_0, r46, x21, x22, r59, r2_0, r1_0_2, r61,
-        r63, r69, r29, r0, r0_2, r2_3, r2_4, r3_3, r3_4, r4_3, r4_4, r2_5, r0_3, r0_4, r16, r1, r1_2, r28, r3_0,
-        r0_05, r13_2, r23, r36, r20, exit, x15, r20_lcssa60, r3_0_lcssa59, r0_05_2, r13_3, r23_2, r4_6, r4_7, r2_6,
-        r2_7, r10_2, r16_2, r6_4, r1_3, r1_4, r28_2, r20_2, r3_0_2, r0_05_3, r19, r29_2, r0_05_4, r13_5, r23_3,
-        r36_2, r20_3, exit_2, r0_05_5, r19_2, r29_3, x7, r20_lcssa60_2, r3_0_lcssa59_2, r4_9, r4_10, r55, r1910_3,
-        r2_9, r3_5;
-    char *x0, *r4, *r9, *r11, *r9_2, *r13, *x12, *x14, *x17, *r13_4, *r9_3, *x4, *x6, *x8, *r11_2;
-    uint32_t r6_3, r8;
-    uint8_t r10, r3_2, r4_2, r4_5, r2_8, r4_8;
+    uint64_t r3, r6, r6_2, r7, r9, r8, r6_4, r3050, r2_2, r3_2, r304960, r10, r16, r6_5, r1, r1_2, r28, r20, r3_0,
+        r0_05, r19, r29, r0_05_2, r13_2, r23, r36, r20_2, exit, r0_05_3, r19_2, r29_2, x9, r20_lcssa60, r3_0_lcssa59,
+        r3_3, r3_4, r304959, r1_3_0_pn45, r1_0_0_pn44, r3_0_2, r1910, r2_3, r39, r1_0, r46, r59, r2_0, r1_0_2, r63,
+        r69, exit_2, r0, r0_2, r16_2, r1_3, r1_4, r28_2, r3_0_3, r0_05_4, r13_4, r23_2, r36_2, r20_3, exit_3, x18,
+        r20_lcssa60_2, r3_0_lcssa59_2, r0_05_5, r13_5, r23_3, r4_3, r4_4, r0_3, r0_4, r3_5;
+    char *x0, *r4, *r5, *r11_2, *r5_2, *r9_2, *r13, *r9_3, *x6, *x8, *x10, *r4_2, *r5_3, *r9_4, *r13_3, *x15, *x17,
+        *x20, *r11_4, *r9_5, *r11_5;
+    uint32_t r6_3;
+    uint8_t r2, r11, r11_3;
     r3 = load64(map);
     store64(map, 0);
     x0 = (char *)(uintptr_t)r3;
@@ -3530,310 +3516,284 @@ static ALWAYS_INLINE char *do_intmap_cut(char *found, char *map, char *at) {
         r6_2 = 0;
         r6_3 = 4294967293u;
     } else {
-        r1632 = load64(at);
-        r1910 = r1632 >> 6;
-        r2 = load64(x0 + 16);
-        if (r2 > r1910) {
-            r2_2 = r2;
-            r1910_2 = r1910;
-            r1636 = r1632;
-            for (;;) {
-                r4 = load_address(x0 + 8);
-                r39 = load64(r4 + (r1910_2 << 3)) & (UINT64_C(18446744073709551615) << (r1636 & 63));
-                if (r39 == 0) {
-                    r1_0 = r1910_2;
-                    for (;;) {
-                        r46 = r1_0 + 1;
-                        if (r46 == r2_2) {
-                            x21 = 0;
-                            r8 = 0;
-                            x22 = 0;
-                            goto after_walk_cut;
-                        }
-                        r59 = load64(r4 + (r46 << 3));
-                        if (r59 != 0) {
-                            r2_0 = r59;
-                            r1_0_2 = r46;
-                            break;
-                        }
-                        r1_0 = r46;
-                    }
-                } else {
-                    r2_0 = r39;
-                    r1_0_2 = r1910_2;
+        r7 = load64(at);
+        r9 = load64(at + 8);
+        if (r7 <= load64(x0)) {
+            if (r7 < load64(x0 + 40)) {
+                r4 = load_address(x0 + 32);
+                r8 = r7 * 24;
+                r2 = load8(r4 + r8);
+                if ((r9 == 0) & (r2 != 0)) {
+                    r11 = r2;
+                    r6_4 = r8;
+                    r5 = r4;
+                    r3050 = r7;
+                    goto then_1_4;
                 }
-                r61 = r1_0_2 << 6;
-                r63 = low_zeros(r2_0);
-                r69 = r61 | r63;
-                store64(at, r69);
-                r29 = load64(at + 8);
-                if (r69 < load64(x0 + 40)) {
-                    r9 = load_address(x0 + 32) + (r69 * 24);
-                    r10 = load8(r9);
-                    switch (r10) {
-                    case 1:
-                        if (r29 != 0) {
-                            goto join_9_2;
+            } else {
+                r11_2 = load_address(x0 + 56) + (r7 * 48);
+                if (load8(r11_2) != 0) {
+                    r2_2 = load64(r11_2 + 32);
+                    if (r9 < (r2_2 + 1)) {
+                        if (r9 == 0) {
+                            r3_2 = r2_2;
+                            r5_2 = r11_2 + 24;
+                            r9_2 = r11_2;
+                            r304960 = r7;
+                            goto join_3_5;
                         }
-                        r0 = load64(r9 + 8);
-                        r0_2 = load64(r9 + 16);
-                        memset(r9, 0, 24);
-                        r2_3 = r0_2;
-                        r2_4 = r0;
-                        break;
-                    case 0:
-                        r2_3 = 0;
-                        r2_4 = 0;
-                        break;
-                    default:
-                        goto join_9_2;
-                    }
-                    r11 = load_address(x0 + 8) + (r61 >> 3);
-                    store64(r11, load64(r11) & (((uint64_t)1 << r63) ^ UINT64_C(18446744073709551615)));
-                    r3_2 = r10;
-                    r3_3 = r2_4;
-                    r3_4 = r2_3;
-                } else {
-                    r9_2 = load_address(x0 + 56) + (r69 * 48);
-                    r4_2 = load8(r9_2);
-                    if (r4_2 == 0) {
-                        r4_3 = 0;
-                        r4_4 = 0;
-                        r4_5 = 0;
-                    } else {
-                        r2_5 = load64(r9_2 + 32);
-                        if (r29 < (r2_5 + 1)) {
-                            if (r29 == 0) {
-                                if (r4_2 != 1) {
-                                    abort();
-                                }
-                                if (r2_5 == 0) {
-                                    r0_3 = load64(r9_2 + 8);
-                                    r0_4 = load64(r9_2 + 16);
-                                    memset(r9_2, 0, 24);
-                                    r4_3 = r0_4;
-                                    r4_4 = r0_3;
-                                    r4_5 = 1;
-                                    goto then_1_2;
-                                }
-                                r13 = load_address(r9_2 + 24);
-                                r16 = load64(r9_2 + 40);
-                                memset(r9_2 + 32, 0, 16);
-                                r1 = load64(r13);
-                                r1_2 = load64(r13 + 8);
-                                r28 = r2_5 - 1;
-                                if (r28 > 128) {
-                                    r3_0 = 0;
+                        r10 = r9 - 1;
+                        r13 = load_address(r11_2 + 24);
+                        r16 = load64(r11_2 + 40);
+                        memset(r11_2 + 32, 0, 16);
+                        r6_5 = r10 << 4;
+                        r9_3 = r13 + r6_5;
+                        r1 = load64(r9_3);
+                        r1_2 = load64(r9_3 + 8);
+                        r28 = r2_2 - 1;
+                        r20 = r2_2 - r9;
+                        if (r20 > 128) {
+                            r3_0 = r10;
+                            for (;;) {
+                                x6 = r13 + (r3_0 << 4);
+                                if (r3_0 == UINT64_C(18446744073709551615)) {
+                                    r0_05 = 0;
                                     for (;;) {
-                                        x12 = r13 + (r3_0 << 4);
-                                        r0_05 = 0;
-                                        for (;;) {
-                                            r13_2 = r0_05 << 4;
-                                            memcpy(x12 + r13_2, (x12 + 16) + r13_2, 16);
-                                            r23 = r0_05 + 1;
-                                            if (r23 == 128) {
-                                                r36 = r3_0 + 128;
-                                                r20 = r28 - r36;
-                                                if (r20 > 128) {
-                                                    r3_0 = r36;
-                                                    break;
-                                                }
-                                                exit = r36 << 4;
-                                                x14 = r13 + exit;
-                                                x15 = exit;
-                                                r20_lcssa60 = r20;
-                                                r3_0_lcssa59 = r36;
-                                                goto then_2_2;
-                                            }
-                                            r0_05 = r23;
+                                        r19 = (uint64_t)2032 - (r0_05 << 4);
+                                        memcpy(x6 + r19, (x6 + 16) + r19, 16);
+                                        r29 = r0_05 + 1;
+                                        if (r29 == 128) {
+                                            break;
                                         }
+                                        r0_05 = r29;
                                     }
-                                }
-                                x14 = r13;
-                                x15 = 0;
-                                r20_lcssa60 = r28;
-                                r3_0_lcssa59 = 0;
-                            then_2_2:;
-                                if (r28 != r3_0_lcssa59) {
-                                    x17 = r13 + x15;
+                                } else {
                                     r0_05_2 = 0;
                                     for (;;) {
-                                        r13_3 = r0_05_2 << 4;
-                                        memcpy(x17 + r13_3, (x14 + 16) + r13_3, 16);
-                                        r23_2 = r0_05_2 + 1;
-                                        if (r23_2 == r20_lcssa60) {
+                                        r13_2 = r0_05_2 << 4;
+                                        memcpy(x6 + r13_2, (x6 + 16) + r13_2, 16);
+                                        r23 = r0_05_2 + 1;
+                                        if (r23 == 128) {
                                             break;
                                         }
-                                        r0_05_2 = r23_2;
+                                        r0_05_2 = r23;
                                     }
                                 }
-                                store_address(r9_2 + 24, r13);
-                                store64(r9_2 + 32, r28);
-                                store64(r9_2 + 40, r16);
-                                if (load8(r9_2) != 1) {
-                                    abort();
-                                }
-                                r4_6 = load64(r9_2 + 8);
-                                r4_7 = load64(r9_2 + 16);
-                                store64(r9_2 + 8, r1);
-                                store64(r9_2 + 16, r1_2);
-                                store64(at + 16, load64(at + 16) + load64(at + 8));
-                                r2_6 = r4_6;
-                                r2_7 = r4_7;
-                                goto loopexit25;
-                            }
-                            r10_2 = r29 - 1;
-                            r13_4 = load_address(r9_2 + 24);
-                            r16_2 = load64(r9_2 + 40);
-                            memset(r9_2 + 32, 0, 16);
-                            r6_4 = r10_2 << 4;
-                            r9_3 = r13_4 + r6_4;
-                            r1_3 = load64(r9_3);
-                            r1_4 = load64(r9_3 + 8);
-                            r28_2 = r2_5 - 1;
-                            r20_2 = r2_5 - r29;
-                            if (r20_2 > 128) {
-                                r3_0_2 = r10_2;
-                                for (;;) {
-                                    x4 = r13_4 + (r3_0_2 << 4);
-                                    if (r3_0_2 == UINT64_C(18446744073709551615)) {
-                                        r0_05_3 = 0;
-                                        for (;;) {
-                                            r19 = (uint64_t)2032 - (r0_05_3 << 4);
-                                            memcpy(x4 + r19, (x4 + 16) + r19, 16);
-                                            r29_2 = r0_05_3 + 1;
-                                            if (r29_2 == 128) {
-                                                break;
-                                            }
-                                            r0_05_3 = r29_2;
-                                        }
-                                    } else {
-                                        r0_05_4 = 0;
-                                        for (;;) {
-                                            r13_5 = r0_05_4 << 4;
-                                            memcpy(x4 + r13_5, (x4 + 16) + r13_5, 16);
-                                            r23_3 = r0_05_4 + 1;
-                                            if (r23_3 == 128) {
-                                                break;
-                                            }
-                                            r0_05_4 = r23_3;
-                                        }
+                                r36 = r3_0 + 128;
+                                r20_2 = r28 - r36;
+                                if (r20_2 <= 128) {
+                                    exit = r36 << 4;
+                                    x8 = r13 + exit;
+                                    if (r36 != UINT64_C(18446744073709551615)) {
+                                        x9 = exit;
+                                        r20_lcssa60 = r20_2;
+                                        r3_0_lcssa59 = r36;
+                                        break;
                                     }
-                                    r36_2 = r3_0_2 + 128;
-                                    r20_3 = r28_2 - r36_2;
-                                    if (r20_3 <= 128) {
-                                        exit_2 = r36_2 << 4;
-                                        x6 = r13_4 + exit_2;
-                                        if (r36_2 != UINT64_C(18446744073709551615)) {
-                                            x7 = exit_2;
-                                            r20_lcssa60_2 = r20_3;
-                                            r3_0_lcssa59_2 = r36_2;
-                                            break;
-                                        }
-                                        if (r2_5 == 0) {
-                                            goto after_Vec_remove;
-                                        }
-                                        r0_05_5 = 0;
-                                        for (;;) {
-                                            r19_2 = (r20_3 + (r0_05_5 ^ UINT64_C(18446744073709551615))) << 4;
-                                            memcpy(x6 + r19_2, (x6 + 16) + r19_2, 16);
-                                            r29_3 = r0_05_5 + 1;
-                                            if (r29_3 == r20_3) {
-                                                goto after_Vec_remove;
-                                            }
-                                            r0_05_5 = r29_3;
-                                        }
+                                    if (r2_2 == 0) {
+                                        goto after_Slot_remove_at;
                                     }
-                                    r3_0_2 = r36_2;
+                                    r0_05_3 = 0;
+                                    for (;;) {
+                                        r19_2 = (r20_2 + (r0_05_3 ^ UINT64_C(18446744073709551615))) << 4;
+                                        memcpy(x8 + r19_2, (x8 + 16) + r19_2, 16);
+                                        r29_2 = r0_05_3 + 1;
+                                        if (r29_2 == r20_2) {
+                                            goto after_Slot_remove_at;
+                                        }
+                                        r0_05_3 = r29_2;
+                                    }
                                 }
-                            } else {
-                                x7 = r6_4;
-                                r20_lcssa60_2 = r20_2;
-                                r3_0_lcssa59_2 = r10_2;
+                                r3_0 = r36;
                             }
-                            if (r28_2 != r3_0_lcssa59_2) {
-                                x8 = r13_4 + x7;
-                                memmove(x8, x8 + 16, r20_lcssa60_2 << 4);
-                            }
-                        after_Vec_remove:;
-                            store_address(r9_2 + 24, r13_4);
-                            store64(r9_2 + 32, r28_2);
-                            store64(r9_2 + 40, r16_2);
-                            r2_8 = load8(r9_2);
-                            r4_8 = 1;
-                            r4_9 = r1_3;
-                            r4_10 = r1_4;
                         } else {
-                            r2_8 = r4_2;
-                            r4_8 = 0;
-                            r4_9 = 0;
-                            r4_10 = 0;
+                            x9 = r6_5;
+                            r20_lcssa60 = r20;
+                            r3_0_lcssa59 = r10;
                         }
-                        if ((r2_8 & 1) != 0) {
-                            r3_2 = r4_8;
-                            r3_3 = r4_9;
-                            r3_4 = r4_10;
-                            goto after_Slots_K_Kept_V_A_extract_at_2;
+                        if (r28 != r3_0_lcssa59) {
+                            x10 = r13 + x9;
+                            memmove(x10, x10 + 16, r20_lcssa60 << 4);
                         }
-                        r4_3 = r4_10;
-                        r4_4 = r4_9;
-                        r4_5 = r4_8;
+                    after_Slot_remove_at:;
+                        store_address(r11_2 + 24, r13);
+                        store64(r11_2 + 32, r28);
+                        store64(r11_2 + 40, r16);
+                        if ((load8(r11_2) & 1) != 0) {
+                            r3_3 = r1;
+                            r3_4 = r1_2;
+                            goto after_walk_cut;
+                        }
+                        r304959 = r7;
+                        r1_3_0_pn45 = r1_2;
+                        r1_0_0_pn44 = r1;
+                        goto then_1_3;
                     }
-                then_1_2:;
-                    r11_2 = load_address(x0 + 8) + (r61 >> 3);
-                    store64(r11_2, load64(r11_2) & (((uint64_t)1 << r63) ^ UINT64_C(18446744073709551615)));
-                    r3_2 = r4_5;
-                    r3_3 = r4_4;
-                    r3_4 = r4_3;
                 }
-            after_Slots_K_Kept_V_A_extract_at_2:;
-                store64(at + 16, (load64(at + 8) - r29) + load64(at + 16));
-                if (r3_2 != 1) {
-                    goto join_9_2;
+            }
+        }
+        r3_0_2 = sum_or_most(r7, 1);
+        r1910 = r3_0_2 >> 6;
+        r2_3 = load64(x0 + 16);
+        if (r2_3 > r1910) {
+            r4_2 = load_address(x0 + 8);
+            r39 = load64(r4_2 + (r1910 << 3)) & (UINT64_C(18446744073709551615) << (r3_0_2 & 63));
+            if (r39 == 0) {
+                r1_0 = r1910;
+                for (;;) {
+                    r46 = r1_0 + 1;
+                    if (r46 == r2_3) {
+                        goto after_walk_cut_2;
+                    }
+                    r59 = load64(r4_2 + (r46 << 3));
+                    if (r59 != 0) {
+                        r2_0 = r59;
+                        r1_0_2 = r46;
+                        break;
+                    }
+                    r1_0 = r46;
                 }
-                r2_6 = r3_3;
-                r2_7 = r3_4;
-            loopexit25:;
-                store64(x0 + 80, load64(x0 + 80) - 1);
-                x21 = r2_6;
-                r8 = 1;
-                x22 = r2_7;
-                break;
-            join_9_2:;
-                r55 = r69 + 1;
-                store64(at, r55);
-                store64(at + 8, 0);
-                r1910_3 = r55 >> 6;
-                r2_9 = load64(x0 + 16);
-                if (r2_9 <= r1910_3) {
-                    x21 = 0;
-                    r8 = 0;
-                    x22 = 0;
+            } else {
+                r2_0 = r39;
+                r1_0_2 = r1910;
+            }
+            r63 = low_zeros(r2_0);
+            r69 = (r1_0_2 << 6) | r63;
+            store64(at, r69);
+            store64(at + 8, 0);
+            if (r69 >= load64(x0 + 40)) {
+                r9_4 = load_address(x0 + 56) + (r69 * 48);
+                r3_2 = load64(r9_4 + 32);
+                r5_2 = r9_4 + 24;
+                r9_2 = r9_4;
+                r304960 = r69;
+                goto join_3_5;
+            }
+            r5_3 = load_address(x0 + 32);
+            exit_2 = r69 * 24;
+            r11 = load8(r5_3 + exit_2);
+            r6_4 = exit_2;
+            r5 = r5_3;
+            r3050 = r69;
+            goto then_1_4;
+        }
+    after_walk_cut_2:;
+        store64(map, r3);
+        r6 = 0;
+        r6_2 = 0;
+        r6_3 = 0;
+        goto after_walk_intmap_cut;
+    join_3_5:;
+        if (r3_2 == 0) {
+            r11_3 = load8(r9_2);
+            r0 = load64(r9_2 + 8);
+            r0_2 = load64(r9_2 + 16);
+            memset(r9_2, 0, 24);
+            if (r11_3 == 1) {
+                r304959 = r304960;
+                r1_3_0_pn45 = r0_2;
+                r1_0_0_pn44 = r0;
+                goto then_1_3;
+            }
+        }
+        r13_3 = load_address(r5_2);
+        r16_2 = load64(r9_2 + 40);
+        memset(r9_2 + 32, 0, 16);
+        r1_3 = load64(r13_3);
+        r1_4 = load64(r13_3 + 8);
+        r28_2 = r3_2 - 1;
+        if (r28_2 > 128) {
+            r3_0_3 = 0;
+            for (;;) {
+                x15 = r13_3 + (r3_0_3 << 4);
+                r0_05_4 = 0;
+                for (;;) {
+                    r13_4 = r0_05_4 << 4;
+                    memcpy(x15 + r13_4, (x15 + 16) + r13_4, 16);
+                    r23_2 = r0_05_4 + 1;
+                    if (r23_2 == 128) {
+                        r36_2 = r3_0_3 + 128;
+                        r20_3 = r28_2 - r36_2;
+                        if (r20_3 > 128) {
+                            r3_0_3 = r36_2;
+                            break;
+                        }
+                        exit_3 = r36_2 << 4;
+                        x17 = r13_3 + exit_3;
+                        x18 = exit_3;
+                        r20_lcssa60_2 = r20_3;
+                        r3_0_lcssa59_2 = r36_2;
+                        goto then_2_2;
+                    }
+                    r0_05_4 = r23_2;
+                }
+            }
+        }
+        x17 = r13_3;
+        x18 = 0;
+        r20_lcssa60_2 = r28_2;
+        r3_0_lcssa59_2 = 0;
+    then_2_2:;
+        if (r28_2 != r3_0_lcssa59_2) {
+            x20 = r13_3 + x18;
+            r0_05_5 = 0;
+            for (;;) {
+                r13_5 = r0_05_5 << 4;
+                memcpy(x20 + r13_5, (x17 + 16) + r13_5, 16);
+                r23_3 = r0_05_5 + 1;
+                if (r23_3 == r20_lcssa60_2) {
                     break;
                 }
-                r2_2 = r2_9;
-                r1910_2 = r1910_3;
-                r1636 = r55;
+                r0_05_5 = r23_3;
             }
-        } else {
-            x21 = 0;
-            r8 = 0;
-            x22 = 0;
         }
+        store_address(r5_2, r13_3);
+        store64(r9_2 + 32, r28_2);
+        store64(r9_2 + 40, r16_2);
+        if (load8(r9_2) != 1) {
+            abort();
+        }
+        r4_3 = load64(r9_2 + 8);
+        r4_4 = load64(r9_2 + 16);
+        store64(r9_2 + 8, r1_3);
+        store64(r9_2 + 16, r1_4);
+        r3_3 = r4_3;
+        r3_4 = r4_4;
+        goto after_walk_cut;
+    then_1_3:;
+        r11_4 = load_address(x0 + 8) + ((r304959 >> 3) & UINT64_C(2305843009213693944));
+        store64(r11_4, load64(r11_4) & (((uint64_t)1 << (r304959 & 63)) ^ UINT64_C(18446744073709551615)));
+        r3_3 = r1_0_0_pn44;
+        r3_4 = r1_3_0_pn45;
+        goto after_walk_cut;
+    then_1_4:;
+        r9_5 = r5 + r6_4;
+        r0_3 = load64(r9_5 + 8);
+        r0_4 = load64(r9_5 + 16);
+        memset(r9_5, 0, 24);
+        if (r11 != 1) {
+            abort();
+        }
+        r11_5 = load_address(x0 + 8) + ((r3050 >> 3) & UINT64_C(2305843009213693944));
+        store64(r11_5, load64(r11_5) & (((uint64_t)1 << (r3050 & 63)) ^ UINT64_C(18446744073709551615)));
+        r3_3 = r0_3;
+        r3_4 = r0_4;
     after_walk_cut:;
+        store64(x0 + 80, load64(x0 + 80) - 1);
         r3_5 = load64(map);
         store64(map, r3);
         if (r3_5 == 0) {
-            r6 = x21;
-            r6_2 = x22;
-            r6_3 = r8;
+            r6 = r3_3;
+            r6_2 = r3_4;
+            r6_3 = 1;
         } else {
             box_drop((char *)(uintptr_t)r3_5);
-            r6 = x21;
-            r6_2 = x22;
-            r6_3 = r8;
+            r6 = r3_3;
+            r6_2 = r3_4;
+            r6_3 = 1;
         }
     }
+after_walk_intmap_cut:;
     store64(found, r6);
     store64(found + 8, r6_2);
     store32(found + 16, r6_3);
@@ -4441,8 +4401,8 @@ typedef char intmap_pair_is_as_printed[sizeof(intmap_found_pair) == 24
                                                && offsetof(intmap_found_pair, status) == 16
                                            ? 1
                                            : -1];
-typedef char intmap_cursor_is_as_printed[sizeof(intmap_cursor) == 24
-                                                 && offsetof(intmap_cursor, passed) == 16
+typedef char intmap_cursor_is_as_printed[sizeof(intmap_cursor) == 16
+                                                 && offsetof(intmap_cursor, place) == 8
                                              ? 1
                                              : -1];
 
@@ -4544,7 +4504,6 @@ static inline void turn_cursor(intmap_cursor *at) {
     if (HIGH_BYTE_FIRST) {
         at->slot = LOW_FIRST_64(at->slot);
         at->place = LOW_FIRST_64(at->place);
-        at->passed = LOW_FIRST_64(at->passed);
     }
 }
 

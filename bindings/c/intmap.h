@@ -28,8 +28,6 @@
 //   threads. Nothing jumps out of a call: no longjmp, no exception, no cancellation of its thread.
 // - malloc, realloc and free belong to one allocator, make no call on a map, and align blocks like
 //   the C library.
-// - A cursor is intmap_start(), what a call left in it, or a copy of that. Since then no call has
-//   changed the map, except intmap_cut with this cursor, intmap_set and intmap_add.
 // - The two words of intmap_clone differ, and intmap_next has an array for all `room` pairs.
 // - There is some stack: a call takes less than 1 KB, besides malloc's; less than 5 KB if the
 //   compiler doesn't optimise.
@@ -183,16 +181,16 @@ typedef struct intmap_pair {
     uint64_t value;
 } intmap_pair;
 
-// Where a walk is: a slot, a place in it, and how many pairs come before.
+// A place of a walk: before the pair at this place of this slot or, if there is none, before the
+// pairs of the slots behind it. Any two numbers are a place of every walk.
 typedef struct intmap_cursor {
     size_t slot;
     size_t place;
-    size_t passed;
 } intmap_cursor;
 
 // The start of a walk, where a definition needs a constant, as outside functions. All zero bits are
 // it too.
-#define INTMAP_START {0, 0, 0}
+#define INTMAP_START {0, 0}
 
 // Returns the start of a walk, in C as in C++.
 static inline intmap_cursor intmap_start(void) INTMAP_CALL {
@@ -349,9 +347,10 @@ INTMAP_NONNULL INTMAP_MUST_USE static inline intmap_status intmap_reserve_pairs(
 // behind it; INTMAP_ABSENT if none is left; or INTMAP_NO_MAP. A whole walk takes time in the pairs
 // and a 64th of the slots.
 //
-// Between two steps only intmap_set, intmap_add, and intmap_cut with this cursor may change the
-// map. No status tells of another change: after intmap_insert or intmap_remove, start anew. To
-// remove along a walk, call intmap_cut.
+// Any cursor will do, whatever has happened to the map since. But intmap_remove moves the last pair
+// of a slot to another place of it, and so does intmap_insert with a present key. A growing map
+// moves pairs to other slots. A walk that goes on after that may miss pairs, or show some again. To
+// remove along a walk and miss none, call intmap_cut.
 INTMAP_NONNULL intmap_found_pair intmap_step(const intmap *map, intmap_cursor *at) INTMAP_CALL;
 
 // Copies pairs of the walk from the cursor on, at most `room`, and moves the cursor behind them. It

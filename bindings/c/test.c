@@ -136,6 +136,15 @@ static size_t place_of(const model *plain, uint64_t key) {
     return plain->len;
 }
 
+// The number of pairs before a cursor, whatever two numbers it has.
+static size_t before(const model *plain, intmap_cursor at) {
+    if (at.slot >= plain->capacity) {
+        return plain->len;
+    }
+    size_t start = start_of(plain, at.slot), next = start_of(plain, at.slot + 1);
+    return at.place < next - start ? start + at.place : next;
+}
+
 static void take_at(model *plain, size_t place) {
     plain->len--;
     memmove(&plain->pairs[place], &plain->pairs[place + 1],
@@ -233,11 +242,10 @@ static void check_walk(const side *one, size_t room) {
         }
         EXPECT(memcmp(pairs, &plain->pairs[passed], copied * sizeof pairs[0]) == 0);
         passed += copied;
-        EXPECT(at.passed == passed);
     } while (copied > 0);
     intmap_found_pair end = intmap_step(&one->map, &at);
     EXPECT(end.status == (one->map.at == NULL ? INTMAP_NO_MAP : INTMAP_ABSENT));
-    EXPECT(same_pair(end.pair, NO_PAIR) && at.passed == plain->len);
+    EXPECT(same_pair(end.pair, NO_PAIR) && passed == plain->len);
 }
 
 static void check_figures(const side *one) {
@@ -420,7 +428,7 @@ static void call_cut(size_t passed, size_t count) {
         intmap_pair wanted = is_left ? plain->pairs[passed] : NO_PAIR;
         intmap_found_pair cut = intmap_cut(&it->map, &at);
         EXPECT(cut.status == (is_left ? INTMAP_PRESENT : INTMAP_ABSENT));
-        EXPECT(same_pair(cut.pair, wanted) && at.passed == passed);
+        EXPECT(same_pair(cut.pair, wanted));
         if (is_left) {
             take_at(plain, passed);
         }
@@ -435,20 +443,21 @@ static void call_cut(size_t passed, size_t count) {
 static void call_retain(uint64_t mask) {
     intmap_cursor at = intmap_start(), next = at;
     model *plain = &it->plain;
-    while (at.passed < plain->len) {
+    size_t passed = 0;
+    while (passed < plain->len) {
         intmap_found_pair seen = intmap_step(&it->map, &next);
-        intmap_pair wanted = plain->pairs[at.passed];
+        intmap_pair wanted = plain->pairs[passed];
         if (!EXPECT(seen.status == INTMAP_PRESENT && same_pair(seen.pair, wanted))) {
             return;
         }
-        EXPECT(next.passed == at.passed + 1);
         if (seen.pair.value & mask) {
-            take_at(plain, at.passed);
+            take_at(plain, passed);
             intmap_found_pair cut = intmap_cut(&it->map, &at);
             EXPECT(cut.status == INTMAP_PRESENT && same_pair(cut.pair, wanted));
             next = at;
         } else {
             at = next;
+            passed++;
         }
     }
     EXPECT(intmap_step(&it->map, &at).status == INTMAP_ABSENT);
@@ -899,9 +908,50 @@ static void test_start(void) {
     call_make(true, 0);
     insert_some(3, 1);
     intmap_found_pair first = intmap_step(&it->map, &at);
-    EXPECT(first.pair.key == 0 && at.passed == 1);
+    EXPECT(first.pair.key == 0 && at.slot == 0 && at.place == 1);
     at = intmap_start();
     EXPECT(same_pair(intmap_step(&it->map, &at).pair, first.pair));
+    end_test();
+}
+
+// Steps and cuts at any two numbers, and at cursors that the map changed behind.
+static void test_cursors(void) {
+    const size_t far[] = {SIZE_MAX, SIZE_MAX - 1, SIZE_MAX / 2, 1000};
+    model *plain = &it->plain;
+    call_make(true, 0);
+    insert_some(200, 3);
+    intmap_cursor at = intmap_start();
+    for (int round = 0; round < 20000; round++) {
+        switch (number() % 8) {
+        case 0:
+            at.slot = number() % 4 ? number() % (2 * plain->capacity) : far[number() % 4];
+            break;
+        case 1:
+            at.place = number() % 4 ? number() % 4 : far[number() % 4];
+            break;
+        case 2:
+            call_insertion(INSERT, number() % 600, number());
+            break;
+        case 3:
+            call_remove(number() % 600);
+            break;
+        case 4:
+            call_insertion(INSERT, number() % 40 * 1024, number());
+            break;
+        default:
+            break;
+        }
+        size_t passed = before(plain, at);
+        bool is_left = passed < plain->len, is_cut = number() % 4 == 0;
+        intmap_pair wanted = is_left ? plain->pairs[passed] : NO_PAIR;
+        intmap_found_pair found = is_cut ? intmap_cut(&it->map, &at) : intmap_step(&it->map, &at);
+        EXPECT(found.status == (is_left ? INTMAP_PRESENT : INTMAP_ABSENT));
+        EXPECT(same_pair(found.pair, wanted));
+        if (is_left && is_cut) {
+            take_at(plain, passed);
+        }
+        EXPECT(before(plain, at) == passed + (is_left && !is_cut));
+    }
     end_test();
 }
 
@@ -918,7 +968,7 @@ static void test_walks(void) {
     }
     intmap_cursor at = intmap_start();
     EXPECT(intmap_next(&it->map, &at, pairs, 0) == 0);
-    EXPECT(intmap_next(&it->map, &at, pairs + 1, 9) == 9 && at.passed == 9);
+    EXPECT(intmap_next(&it->map, &at, pairs + 1, 9) == 9);
     EXPECT(memcmp(pairs, before, sizeof pairs[0]) == 0);
     EXPECT(memcmp(pairs + 10, before + 10, 10 * sizeof pairs[0]) == 0);
     EXPECT(intmap_next(&it->map, &at, pairs, LARGEST_ROOM) == 691);
@@ -1120,6 +1170,7 @@ static void test_each(void) {
     RUN(test_great_numbers());
     RUN(test_equal());
     RUN(test_start());
+    RUN(test_cursors());
     RUN(test_walks());
     RUN(test_one_slot());
     RUN(test_cuts());

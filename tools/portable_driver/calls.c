@@ -6,8 +6,8 @@ typedef char intmap_pair_is_as_printed[sizeof(intmap_found_pair) == 24
                                                && offsetof(intmap_found_pair, status) == 16
                                            ? 1
                                            : -1];
-typedef char intmap_cursor_is_as_printed[sizeof(intmap_cursor) == 24
-                                                 && offsetof(intmap_cursor, passed) == 16
+typedef char intmap_cursor_is_as_printed[sizeof(intmap_cursor) == 16
+                                                 && offsetof(intmap_cursor, place) == 8
                                              ? 1
                                              : -1];
 
@@ -109,7 +109,6 @@ static inline void turn_cursor(intmap_cursor *at) {
     if (HIGH_BYTE_FIRST) {
         at->slot = LOW_FIRST_64(at->slot);
         at->place = LOW_FIRST_64(at->place);
-        at->passed = LOW_FIRST_64(at->passed);
     }
 }
 

@@ -3,7 +3,7 @@ ghost use Rattle.std.specs.Iterator.{YieldsFirst, item_count};
 ghost use Rattle.std.specs.List.{slice_get};
 ghost use Rattle.std.specs.Prelude.{◌≡◌, ◌+◌, None, IfSome, cond, drop, is_some, length};
 ghost use Rattle.intmap.specs.Bindings.{Updates};
-ghost use Rattle.intmap.specs.Picking.{IsReached};
+ghost use Rattle.intmap.specs.Map.{passed};
 
 use intmap::IntMap;
 use intmap::iter::Cursor;
@@ -14,15 +14,14 @@ use std::alloc::Allocator;
 pub struct Page<'a, A: Allocator + Copy> {
     map: &'a IntMap<u64, u64, A>,
     at: Cursor,
-    ghost reached: { IsReached (λ key. key) map.now.walk map.now.capacity at.slot at.place at.passed },
 }
 
 impl<A: Allocator + Copy> Iterator for Page<'_, A> {
     type Item = (u64, u64);
 
-    ghost next_gives = { YieldsFirst (λ page. drop page.at.passed page.map.now.walk) };
+    ghost next_gives = { YieldsFirst (λ page. drop (passed (λ key. key) page.map.now page.at) page.map.now.walk) };
 
-    ghost remaining = { item_count (λ page. drop page.at.passed page.map.now.walk) };
+    ghost remaining = { item_count (λ page. drop (passed (λ key. key) page.map.now page.at) page.map.now.walk) };
 
     fn next(&mut self) -> Option<(u64, u64)> {
         let (key, value) = self.map.step(&mut self.at)?;
@@ -32,7 +31,8 @@ impl<A: Allocator + Copy> Iterator for Page<'_, A> {
 
 /// The first page.
 pub fn first_page<A: Allocator + Copy>(map: &IntMap<u64, u64, A>) -> Page<'_, A>
-    ensures { drop result.at.passed result.map.now.walk ≡ map.now.walk }
+    ensures { drop (passed (λ key. key) result.map.now result.at) result.map.now.walk
+        ≡ map.now.walk }
 {
     Page {
         map,

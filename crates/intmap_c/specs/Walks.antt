@@ -1,29 +1,19 @@
 -- What a walk by a cursor returns to C, and what it leaves of a map, m before and n after.
 use Rattle.std.specs.Prelude.{◌≡◌, ◌⊎◌, ◌+◌, [], ◌∷◌, take, drop, length, Option, None, Some}
-use Rattle.intmap_table.specs.Picking.{IsReached}
 use Rattle.intmap_table.specs.declared.table.walk.Cursor.{Cursor}
 use Rattle.intmap.specs.Bindings.{Updates}
-use Rattle.intmap.specs.Map.{with_walk}
+use Rattle.intmap.specs.Map.{passed, with_walk}
 use Rattle.intmap_c.specs.Statuses.{present_status, absent_status, no_map_status}
 use Rattle.intmap_c.specs.declared.answer.FoundPair.{FoundPair}
 use Rattle.intmap_c.specs.Answers.{no_pair}
 use Rattle.intmap_c.specs.Calls.{State, itself}
 
--- the cursor is on the walk of the map: so many pairs come before its place in its slot
-abbrev pub IsOn : State → Cursor → Type 0
-IsOn m at = IsReached itself m.walk m.capacity at.slot at.place at.passed
-
--- if there is a map, the cursor is on its walk
-abbrev pub MayStep : Option State → Cursor → Type 0
-MayStep None at = Unit {0}
-MayStep (Some m) at = IsOn m at
-
 -- the first pair of the walk from the cursor on is returned, and the cursor is behind it; or none is left
 pub record Steps (m : State) (at to : Cursor) (found : FoundPair) : Type 0 where
   pub told :
-      ((found.status ≡ present_status) × (drop at.passed m.walk ≡ (found.pair.key, found.pair.value) ∷ drop to.passed m.walk) × (to.passed ≡ at.passed + 1))
-      ⊎ ((found ≡ no_pair absent_status) × (drop at.passed m.walk ≡ []) × (to.passed ≡ at.passed))
-  pub on : IsOn m to
+      ((found.status ≡ present_status) × (drop (passed itself m at) m.walk ≡ (found.pair.key, found.pair.value) ∷ drop (passed itself m to) m.walk)
+      × (passed itself m to ≡ passed itself m at + 1))
+      ⊎ ((found ≡ no_pair absent_status) × (drop (passed itself m at) m.walk ≡ []) × (passed itself m to ≡ passed itself m at))
 
 -- the same, or there is no map
 abbrev pub StepsIfMap : Option State → Cursor → Cursor → FoundPair → Type 0
@@ -33,10 +23,9 @@ StepsIfMap (Some m) at to found = Steps m at to found
 -- the first pair of the walk from the cursor on was removed, and is returned; or none is left. The cursor is behind the same pairs
 pub record Cuts (m n : State) (at to : Cursor) (found : FoundPair) : Type 0 where
   pub told :
-      ((found.status ≡ present_status) × (drop at.passed m.walk ≡ (found.pair.key, found.pair.value) ∷ drop to.passed n.walk)
+      ((found.status ≡ present_status) × (drop (passed itself m at) m.walk ≡ (found.pair.key, found.pair.value) ∷ drop (passed itself n to) n.walk)
       × Updates itself m.walk n.walk found.pair.key None × (length n.walk + 1 ≡ length m.walk))
-      ⊎ ((found ≡ no_pair absent_status) × (drop at.passed m.walk ≡ []) × (n ≡ m))
-  pub before : take to.passed n.walk ≡ take at.passed m.walk
-  pub passed : to.passed ≡ at.passed
+      ⊎ ((found ≡ no_pair absent_status) × (drop (passed itself m at) m.walk ≡ []) × (n ≡ m))
+  pub before : take (passed itself n to) n.walk ≡ take (passed itself m at) m.walk
+  pub same : passed itself n to ≡ passed itself m at
   pub state : n ≡ with_walk m n.walk
-  pub on : IsOn n to

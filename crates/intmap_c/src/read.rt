@@ -8,7 +8,7 @@ ghost use Rattle.intmap_table.specs.Figures.{load_of};
 ghost use Rattle.intmap_c.specs.Answers.{no_value, value_found};
 ghost use Rattle.intmap_c.specs.Calls.{AreEqual, Clones, bound_to, itself};
 ghost use Rattle.intmap_c.specs.Loans.{Loan, is_lent};
-ghost use Rattle.intmap_c.specs.Walks.{MayStep, StepsIfMap};
+ghost use Rattle.intmap_c.specs.Walks.{StepsIfMap};
 ghost use Rattle.intmap_c.specs.Statuses.{no_map_status};
 
 use crate::answer::{FoundPair, FoundValue, NO_MAP};
@@ -193,7 +193,6 @@ pub unsafe extern "C" fn intmap_contains_key(word: &Word, key: u64) -> bool
 
 /// Returns what [`intmap_step`] returns.
 fn step(lent: LentMap<'_>, at: &mut Cursor) -> FoundPair
-    requires { MayStep lent.value at.old }
     ensures { StepsIfMap lent.entry.value at.old at.new result }
 {
     match lent.map() {
@@ -215,7 +214,6 @@ fn step(lent: LentMap<'_>, at: &mut Cursor) -> FoundPair
 #[unsafe(no_mangle)]
 pub unsafe extern "C" fn intmap_step(word: &Word, at: &mut Cursor) -> FoundPair
     ghost loan: { Loan }
-    requires on { MayStep loan.value at.old }
     requires* lent { sem 𝓛 (is_lent loan word.now.at) }
     ensures* kept { sem 𝓛 (is_lent loan word.now.at) }
     ensures step { StepsIfMap loan.value at.old at.new result }

@@ -2,7 +2,7 @@
 ghost use Rattle.std.specs.Prelude.{◌≡◌, ⊤};
 ghost use Rattle.intmap.specs.Map.{emptied};
 ghost use Rattle.intmap_c.specs.Answers.{OnMap, no_pair};
-ghost use Rattle.intmap_c.specs.Walks.{Cuts, IsOn, MayStep};
+ghost use Rattle.intmap_c.specs.Walks.{Cuts};
 ghost use Rattle.intmap_c.specs.Statuses.{no_map_status};
 
 use crate::answer::{FoundPair, NO_MAP};
@@ -13,7 +13,6 @@ use std::alloc::Global;
 
 /// Removes a pair, and returns what [`intmap_cut`] returns if there is a map.
 fn cut(map: &mut IntMap<u64, u64>, at: &mut Cursor) -> FoundPair
-    requires { IsOn map.old at.old }
     ensures { Cuts map.old map.new at.old at.new result }
 {
     FoundPair::of(map.cut(at))
@@ -28,7 +27,6 @@ fn cut(map: &mut IntMap<u64, u64>, at: &mut Cursor) -> FoundPair
 /// ```
 #[unsafe(no_mangle)]
 pub extern "C" fn intmap_cut(alloc: Global, handle: &mut Handle, at: &mut Cursor) -> FoundPair
-    requires { MayStep handle.old.value at.old }
     ensures { OnMap handle.old.value handle.new.value
         ((result ≡ no_pair no_map_status) × (at.new ≡ at.old))
         (λ m n. Cuts m n at.old at.new result) }

@@ -18,6 +18,7 @@ pub mod RoomLemmas
 pub mod RowLemmas
 pub mod PartingLemmas
 pub mod PartsLemmas
+pub mod PositionLemmas
 pub mod PutLemmas
 pub mod MovingLemmas
 pub mod NextMarkLemmas

@@ -1,11 +1,12 @@
 -- What stays of pairs if a closure picks those to be removed, one at a step.
-use Rattle.std.specs.Prelude.{◌≡◌, ℕ, ◌+◌, ◌≤◌, Bool, List, ◌++◌, length, take, drop, Option}
+use Rattle.std.specs.Prelude.{◌≡◌, ℕ, ◌+◌, ◌≤◌, min, Bool, List, ◌++◌, length, take, drop, Option}
 use Rattle.std.specs.Fn.{Mut}
 use Rattle.std.specs.Borrow.{MutBor}
 use Rattle.std.specs.List.{flat_map, range_with_len}
 use Rattle.std.specs.List.Retain.{ExtractsNext}
 use Rattle.intmap_table.specs.Walk.{slot_of}
 use Rattle.intmap_table.specs.Writes.{CallsAt}
+use Rattle.intmap_table.specs.declared.table.walk.Cursor.{Cursor}
 
 -- a call of f at the key of p and a `&mut` to its value returned b, and left the pair as q and the closure as g
 abbrev pub PicksAt : {F K V : Type 0} → Mut F (K × (MutBor V × Unit {0})) (Bool × (MutBor V × Unit {0})) → F → K × V → Bool → F → K × V → Type 0
@@ -22,7 +23,11 @@ module _ {F X : Type 0} (R : F → X → Bool → F → X → Type 0) where
   ExtractsBehind f L i r g M j = (kept : List X) × ExtractsNext R f (drop i L) r g kept (drop j M) × (take j M ≡ take i L ++ kept)
 
 module _ {K V : Type 0} (number : K → ℕ) where
-  -- in a table of C slots with walk W, the number of pairs passed before this place of this slot
+  -- in a table of C slots with walk W, the number of pairs before the cursor's place of its slot. A place behind the last pair of a slot is before the next slot
+  abbrev pub position : List (K × V) → ℕ → Cursor → ℕ
+  position W C at = length (flat_map (slot_of number W C) (range_with_len 0 at.slot)) + min at.place (length (slot_of number W C at.slot))
+
+  -- as many pairs were passed, and the place is one of its slot, or behind its last pair
   pub record IsReached (W : List (K × V)) (C slot place passed : ℕ) : Type 0 where
     pub within : place ≤ length (slot_of number W C slot)
     pub count : passed ≡ length (flat_map (slot_of number W C) (range_with_len 0 slot)) + place

@@ -26,6 +26,7 @@ ghost use Rattle.intmap_table.specs.Cloning.{IsPairClone};
 use crate::key::IntKey;
 use crate::steps::Steps;
 use crate::table::stored::Stored;
+pub use closures::Progress;
 use locate::Location;
 use slots::Slots;
 pub use slots::walk::Pairs;

@@ -1,6 +1,4 @@
 //! Steps that take pairs out one by one, that make a map of an array, and that a `?` ends.
-ghost use Rattle.intmap.specs.Picking.{IsReached};
-
 use crate::counted::{Counted, CountedMap, Ground};
 use crate::steps::Numbers;
 use intmap::entry::Entry;
@@ -101,7 +99,6 @@ pub fn extract<'a>(map: &mut CountedMap<'a>, number: u32, count: usize) -> Optio
 struct Cuts<'m, 'a> {
     map: &'m mut CountedMap<'a>,
     at: Cursor,
-    ghost reached: { IsReached (λ key. key) map.now.walk map.now.capacity at.slot at.place at.passed },
 }
 
 impl<'a> Cuts<'_, 'a> {

@@ -1,10 +1,10 @@
 -- Where a cursor is in the slots of a table, and what a step of it does.
-use Rattle.std.proofs.Common.{◌≡◌, inl, inr, ℕ, zero, suc, ◌+◌, ◌-◌, ◌<◌, ◌≤◌, List, [], ◌∷◌, ◌++◌, length, get_or, take, drop, refl, sym, ap, ◌∙◌, subst, arith, zero-add, append-nil, length-append}
+use Rattle.std.proofs.Common.{◌≡◌, inl, inr, ℕ, zero, suc, ◌+◌, ◌-◌, ◌≤◌, List, [], ◌∷◌, ◌++◌, length, get_or, take, drop, refl, sym, ap, ◌∙◌, subst, arith, zero-add, append-nil, length-append}
 use Rattle.std.specs.List.{flat_map, range_with_len}
 use Rattle.std.proofs.Math.Seq.{drop-append-add}
 use Rattle.std.proofs.lemmas.Bool.{cases_lt}
 use Rattle.std.proofs.lemmas.Grind.{flat_map-append}
-use Rattle.std.proofs.lemmas.List.{drop_all, drop_more, drop-append-le}
+use Rattle.std.proofs.lemmas.List.{drop_all, drop-append-le}
 use Rattle.intmap_table.specs.Picking.{IsReached}
 use Rattle.intmap_table.specs.Tables.Slots.{Held, rows, joined, IsNextRow, IsTable}
 use Rattle.intmap_table.specs.Walk.{slot_of}
@@ -35,16 +35,6 @@ module _ {P : Type 0} (R : List (List P)) (i j n : ℕ) (at : IsInRows R i j n) 
   pub drop-none : ((k : ℕ) → i ≤ k → get_or R k [] ≡ []) → drop n (joined R) ≡ []
   drop-none empty = let long = ap length (joined-before i R empty) in drop_all n (joined R) (omega (arith, long, at.count))
 
-  -- one element on in the row
-  pub IsInRows-on : j < length row → IsInRows R i (j + 1) (n + 1)
-  IsInRows-on below = record { within = omega (arith, below); count = omega (arith, at.count) }
-
-  -- the one at hand, and what is left behind it
-  pub drop-on : (p : P) → j < length row → drop n (joined R) ≡ get_or row j p ∷ drop (n + 1) (joined R)
-  drop-on p below =
-      drop-reached R i j n at ∙ ap (λ Z. Z ++ joined (drop (i + 1) R)) (drop_more row j p below)
-      ∙ ap (λ Z. get_or row j p ∷ Z) (sym (drop-reached R i (j + 1) (n + 1) (IsInRows-on below)))
-
   -- the row is at its end: the next one begins
   pub IsInRows-past : length row ≤ j → IsInRows R (i + 1) 0 n
   IsInRows-past past =
@@ -65,7 +55,7 @@ module _ {K X : Type 0} (number : K → ℕ) (S : List (Held K X)) (table : IsTa
   slot = slot_of number (joined (rows S)) (length S)
 
   -- the slots before one are its rows
-  slots-before : (i : ℕ) → flat_map slot (range_with_len 0 i) ≡ joined (take i (rows S))
+  pub slots-before : (i : ℕ) → flat_map slot (range_with_len 0 i) ≡ joined (take i (rows S))
   slots-before zero = refl
   slots-before (suc i) =
       let more : suc i ≡ i + 1 = omega arith in

@@ -1,5 +1,5 @@
 -- How a table lays its pairs out. No public clause cites this module.
-use Rattle.std.specs.Prelude.{◌≡◌, ◌⊎◌, ℕ, zero, suc, ◌+◌, ◌*◌, ◌/◌, ◌<◌, ◌≤◌, Bool, nat_lt, List, [], ◌∷◌, ◌++◌, length, map, set, slice_index_or, Option, Some, None}
+use Rattle.std.specs.Prelude.{◌≡◌, ◌⊎◌, ℕ, zero, suc, ◌+◌, ◌*◌, ◌/◌, ◌<◌, ◌≤◌, Bool, nat_lt, min, List, [], ◌∷◌, ◌++◌, length, map, set, take, slice_index_or, Option, Some, None}
 use Rattle.std.specs.Option.{option_to_list}
 use Rattle.std.specs.List.{All, flat_map}
 use Rattle.std.specs.Map.{keys_of}
@@ -62,6 +62,10 @@ joined S = flat_map (λ s. s) S
 -- the rows at these indices, one after another
 abbrev pub pairs_at : {P : Type 0} → List (List P) → List ℕ → List P
 pairs_at S indices = flat_map (λ i. slice_index_or S i []) indices
+
+-- the number of elements before place j of row i. A place behind the end of a row is before the next row
+abbrev pub count_before : {P : Type 0} → List (List P) → ℕ → ℕ → ℕ
+count_before R i j = length (joined (take i R)) + min j (length (slice_index_or R i []))
 
 -- row i is the first one from row `from` on that holds something
 pub record IsNextRow {P : Type 0} (R : List (List P)) (from i : ℕ) : Type 0 where

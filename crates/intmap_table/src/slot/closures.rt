@@ -67,7 +67,7 @@ impl<K: IntKey, V: Drop, A: Allocator> Slot<K, Kept<V>, A> {
 
 impl<K: IntKey, X, A: Allocator> Slot<K, X, A> {
     /// Removes the pair at a place. Those behind it move up by one place.
-    fn remove_at(&mut self, place: usize) -> (Stored<K>, X)
+    pub(crate) fn remove_at(&mut self, place: usize) -> (Stored<K>, X)
         requires { place < length self.old.pairs }
         ensures value { result ≡ slice_index_or self.old.pairs place result }
         ensures pairs { self.new.pairs

@@ -13,7 +13,6 @@ use crate::key::IntKey;
 use crate::table::Table;
 use crate::table::slots::Slots;
 use crate::table::stored::Stored;
-use crate::table::walk::Cursor;
 use std::alloc::Allocator;
 
 /// Keeps the pairs for which the closure returns true, slot after slot, and returns their number.
@@ -57,11 +56,32 @@ impl<K: IntKey, V: Drop, A: Allocator> Table<K, Kept<V>, A> {
     }
 }
 
-/// Asks the closure about each pair from the cursor on, slot after slot, and removes the first one
+/// How far a closure was asked: up to a place in a slot, and about so many pairs that stayed.
+#[derive(Drop)]
+pub struct Progress {
+    pub slot: usize,
+    pub place: usize,
+    pub passed: usize,
+}
+
+impl Progress {
+    /// It was asked about none.
+    pub fn start() -> Progress
+        ensures { result ≡ record { slot = 0; place = 0; passed = 0 } }
+    {
+        Progress {
+            slot: 0,
+            place: 0,
+            passed: 0,
+        }
+    }
+}
+
+/// Asks the closure about each pair that is left, slot after slot, and removes the first one
 /// that it picks.
 fn extract_slots<K: IntKey, V, A: Allocator, F: FnMut(K, &mut V) -> bool>(
     slots: &mut Slots<K, Kept<V>, A>,
-    at: &mut Cursor,
+    at: &mut Progress,
     f: &mut F,
 ) -> Option<(Stored<K>, Kept<V>)>
     requires table { IsTable K.number_of slots.old }
@@ -92,12 +112,11 @@ fn extract_slots<K: IntKey, V, A: Allocator, F: FnMut(K, &mut V) -> bool>(
 }
 
 impl<K: IntKey, V, A: Allocator> Table<K, Kept<V>, A> {
-    /// Asks the closure about each pair from the cursor on, in the order of the walk, and removes
-    /// the first one that it picks. The closure may write each value. The pairs that stay keep
-    /// their order. The cursor moves on to the pair behind the removed one.
+    /// Asks the closure about each pair that is left, in the order of the walk, and removes the first
+    /// one that it picks. The closure may write each value. The pairs that stay keep their order.
     pub fn extract_next<F: FnMut(K, &mut V) -> bool>(
         &mut self,
-        at: &mut Cursor,
+        at: &mut Progress,
         f: &mut F,
     ) -> Option<(K, V)>
         requires reached { IsReached K.number_of self.old.walk self.old.capacity

@@ -204,20 +204,13 @@ impl<K: IntKey, X, A: Allocator> Slots<K, X, A> {
         self.shared[index].value_mut_at(place)
     }
 
-    /// The pair at a place of a slot, or `None` behind its last pair.
+    /// Whether a slot has a pair at this place. It may be behind the last slot.
     #[inline(always)]
-    pub(crate) fn pair_at(&self, index: usize, place: usize) -> Option<(&Stored<K>, &X)>
-        requires within { index < length self.now }
-        requires fits { length (row_of self.now index) < 2 ^ 64 }
-        ensures some { IfSome result (λ pair. (place < length (row_of self.now index))
-            × (((p : K × X) → (pair.0.now, pair.1.now)
-            ≡ slice_index_or (row_of self.now index) place p))) }
-        ensures none { IfNone result (length (row_of self.now index) ≤ place) }
+    pub(crate) fn has_pair(&self, index: usize, place: usize) -> bool
+        requires { length (row_of self.now index) < 2 ^ 64 }
+        ensures { result ≡ nat_lt place (length (row_of self.now index)) }
     {
-        if place >= self.row_len(index) {
-            return None;
-        }
-        Some((self.key_at(index, place), self.value_at(index, place)))
+        index <= self.directory.mask && place < self.row_len(index)
     }
 
     /// The pairs of a slot: the first one, and the rest.

@@ -1,61 +1,104 @@
 //! The walk of a table: a position in it, and removal from its front.
-ghost use Rattle.std.specs.Prelude.{◌≡◌, ◌+◌, ◌<◌, ◌^◌, [], ◌∷◌, cond, drop, is_some, length, MatchOption, IfSome};
+ghost use Rattle.std.specs.Bool.{OnFalse, OnTrue};
+ghost use Rattle.std.specs.Prelude.{◌≡◌, ◌+◌, ◌<◌, ◌≤◌, ◌^◌, [], ◌∷◌, cond, drop, is_some, length, take, MatchOption, IfNone, IfSome};
 ghost use Rattle.std.specs.Iterator.{YieldsFirst};
-ghost use Rattle.intmap_table.specs.Picking.{IsReached};
+ghost use Rattle.intmap_table.specs.Picking.{position};
+ghost use Rattle.intmap_table.specs.Tables.Slots.{rows, row_of, joined, count_before};
 ghost use Rattle.intmap_table.specs.Walk.{walk_of, ArePassed};
 ghost use Rattle.intmap_table.specs.Classes.{slot_number};
 
 use crate::key::IntKey;
 use crate::table::Table;
+use crate::table::slots::Slots;
 use std::alloc::Allocator;
 
-/// The position of a walk: a place in a slot, and the number of pairs of the walk before it.
+/// A place of a walk: before the pair at this place of this slot or, if there is none, before the
+/// pairs of the slots behind it. Any two numbers are a place of every walk.
 #[repr(C)]
 #[derive(Clone, Copy)]
 pub struct Cursor {
     pub slot: usize,
     pub place: usize,
-    pub passed: usize,
 }
 
 impl Cursor {
     /// The start of every walk.
     pub fn start() -> Cursor
-        ensures { result ≡ record { slot = 0; place = 0; passed = 0 } }
+        ensures { result ≡ record { slot = 0; place = 0 } }
     {
-        Cursor {
-            slot: 0,
-            place: 0,
-            passed: 0,
-        }
+        Cursor { slot: 0, place: 0 }
     }
+}
+
+/// Moves the cursor to the pair that it is before, and returns whether there is one. No pair is
+/// passed.
+#[inline(always)]
+fn seek<K: IntKey, X, A: Allocator>(slots: &Slots<K, X, A>, at: &mut Cursor) -> bool
+    requires slots { length slots.now ≤ 2 ^ 63 }
+    requires count { length (joined (rows slots.now)) < 2 ^ 64 }
+    ensures pair { OnTrue result (at.new.place < length (row_of slots.now at.new.slot)) }
+    ensures none { OnFalse result (drop (count_before (rows slots.now) at.old.slot at.old.place)
+        (joined (rows slots.now)) ≡ []) }
+    ensures same { count_before (rows slots.now) at.new.slot at.new.place
+        ≡ count_before (rows slots.now) at.old.slot at.old.place }
+{
+    if slots.has_pair(at.slot, at.place) {
+        return true;
+    }
+    let Some(slot) = slots.next_filled(at.slot.saturating_add(1)) else {
+        return false;
+    };
+    *at = Cursor { slot, place: 0 };
+    true
 }
 
 impl<K: IntKey, X, A: Allocator> Table<K, X, A> {
     /// The first pair from the cursor on, or `None` if no pair is left. The cursor moves on behind
     /// that pair.
     pub fn step(&self, at: &mut Cursor) -> Option<(&K, &X)>
-        requires reached { IsReached K.number_of self.now.walk self.now.capacity
-            at.old.slot at.old.place at.old.passed }
         requires count { length self.now.walk < 2 ^ 64 }
-        ensures first { MatchOption result (drop at.old.passed self.now.walk ≡ [])
-            (λ pair. drop at.old.passed self.now.walk
-            ≡ (pair.0.now, pair.1.now) ∷ drop at.new.passed self.now.walk) }
-        ensures passed { at.new.passed ≡ at.old.passed + cond (is_some result) 1 0 }
-        ensures reached { IsReached K.number_of self.now.walk self.now.capacity
-            at.new.slot at.new.place at.new.passed }
+        ensures first { MatchOption result
+            (drop (position K.number_of self.now.walk self.now.capacity at.old) self.now.walk ≡ [])
+            (λ pair. drop (position K.number_of self.now.walk self.now.capacity at.old)
+            self.now.walk ≡ (pair.0.now, pair.1.now)
+            ∷ drop (position K.number_of self.now.walk self.now.capacity at.new) self.now.walk) }
+        ensures passed { position K.number_of self.now.walk self.now.capacity at.new
+            ≡ position K.number_of self.now.walk self.now.capacity at.old
+            + cond (is_some result) 1 0 }
     {
-        while let Some(slot) = self.slots.next_filled(at.slot) {
-            at.slot = slot;
-            if let Some((key, value)) = self.slots.pair_at(slot, at.place) {
-                at.place += 1;
-                at.passed += 1;
-                return Some((key.key(), value));
-            }
-            at.slot = slot + 1;
-            at.place = 0;
+        if !seek(&self.slots, at) {
+            return None;
         }
-        None
+        let place = at.place;
+        at.place += 1;
+        let key = self.slots.key_at(at.slot, place);
+        Some((key.key(), self.slots.value_at(at.slot, place)))
+    }
+
+    /// Removes the first pair from the cursor on and returns it, or returns `None` if no pair is
+    /// left. The other pairs keep their order. The cursor then is between those that were before it
+    /// and those that were behind the removed one.
+    pub fn cut(&mut self, at: &mut Cursor) -> Option<(K, X)>
+        requires count { length self.old.walk < 2 ^ 64 }
+        ensures first { MatchOption result
+            (drop (position K.number_of self.old.walk self.old.capacity at.old) self.old.walk ≡ [])
+            (λ pair. drop (position K.number_of self.old.walk self.old.capacity at.old)
+            self.old.walk ≡ pair
+            ∷ drop (position K.number_of self.new.walk self.new.capacity at.new) self.new.walk) }
+        ensures before { take (position K.number_of self.new.walk self.new.capacity at.new)
+            self.new.walk
+            ≡ take (position K.number_of self.old.walk self.old.capacity at.old) self.old.walk }
+        ensures passed { position K.number_of self.new.walk self.new.capacity at.new
+            ≡ position K.number_of self.old.walk self.old.capacity at.old }
+        ensures none { IfNone result (self.new ≡ self.old) }
+        ensures capacity { self.new.capacity ≡ self.old.capacity }
+        ensures own { walk_of K.number_of self.new.walk self.new.capacity ≡ self.new.walk }
+    {
+        if !seek(&self.slots, at) {
+            return None;
+        }
+        let (key, value) = self.slots.remove_at(at.slot, at.place);
+        Some((*key.key(), value))
     }
 
     /// Removes the first pair of the walk and returns it. No slot before `from` holds a

@@ -17,6 +17,7 @@ use crate::memory::prelude::*;
 use crate::proved::table::key::IntKey;
 use crate::proved::table::steps::Steps;
 use crate::proved::table::table::stored::Stored;
+pub use closures::Progress;
 use locate::Location;
 use slots::Slots;
 pub use slots::walk::Pairs;

@@ -1,8 +1,7 @@
 //! Walks that are kept as a cursor, and not as an iterator that borrows the map.
 ghost use Rattle.std.specs.Prelude.{◌≡◌, ◌+◌, [], ◌∷◌, cond, drop, is_some, length, take, MatchOption, None};
 ghost use Rattle.intmap_table.specs.Bindings.{Updates};
-ghost use Rattle.intmap_table.specs.Picking.{IsReached};
-ghost use Rattle.intmap.specs.Map.{IsMap, with_walk};
+ghost use Rattle.intmap.specs.Map.{IsMap, passed, with_walk};
 
 use crate::map::IntMap;
 use intmap_table::IntKey;
@@ -13,10 +12,12 @@ impl<K: IntKey, V, A: Allocator + Copy> IntMap<K, V, A> {
     /// The first pair of the walk from the cursor on, or `None` if no pair is left. The cursor
     /// moves on behind that pair.
     ///
-    /// A walk begins with [`Cursor::start`]. The cursor must be as the last call left it. Since then
-    /// only [`cut`](IntMap::cut) with this cursor may have changed the map, and calls that write
-    /// values in their places. The call allocates nothing and never fails. A whole walk looks once
-    /// at each pair, and at one bit a slot.
+    /// A walk begins with [`Cursor::start`]. Any cursor will do, whatever happened to the map since:
+    /// it is before the pair at its place of its slot, or else before the slots behind that one. So
+    /// after an insertion or a removal in a slot that was passed, the walk goes on as before. After
+    /// one that made the map grow, pairs are in other slots, and some may be shown again or not at
+    /// all. The call allocates nothing and never fails. A whole walk looks once at each pair, and
+    /// at one bit a slot.
     ///
     /// ```text
     /// after insert(0, 10), insert(1, 11) and insert(4, 14) into 4 slots:
@@ -24,14 +25,12 @@ impl<K: IntKey, V, A: Allocator + Copy> IntMap<K, V, A> {
     /// map.step(&mut at)    0 and 10, then 4 and 14, then 1 and 11, then None
     /// ```
     pub fn step(&self, at: &mut Cursor) -> Option<(&K, &V)>
-        requires { IsReached K.number_of self.now.walk self.now.capacity
-            at.old.slot at.old.place at.old.passed }
-        ensures first { MatchOption result (drop at.old.passed self.now.walk ≡ [])
-            (λ pair. drop at.old.passed self.now.walk
-            ≡ (pair.0.now, pair.1.now) ∷ drop at.new.passed self.now.walk) }
-        ensures passed { at.new.passed ≡ at.old.passed + cond (is_some result) 1 0 }
-        ensures reached { IsReached K.number_of self.now.walk self.now.capacity
-            at.new.slot at.new.place at.new.passed }
+        ensures first { MatchOption result
+            (drop (passed K.number_of self.now at.old) self.now.walk ≡ [])
+            (λ pair. drop (passed K.number_of self.now at.old) self.now.walk
+            ≡ (pair.0.now, pair.1.now) ∷ drop (passed K.number_of self.now at.new) self.now.walk) }
+        ensures passed { passed K.number_of self.now at.new
+            ≡ passed K.number_of self.now at.old + cond (is_some result) 1 0 }
         ensures valid { IsMap K.number_of K.is_valid self.now }
     {
         let Some((key, kept)) = self.table.step(at) else {
@@ -42,8 +41,8 @@ impl<K: IntKey, V, A: Allocator + Copy> IntMap<K, V, A> {
 
     /// Removes the first pair of the walk from the cursor on and returns it, or returns `None` if no
     /// pair is left. The cursor then is between the pairs that were before it and those that were
-    /// behind the removed one. Both keep their order. Of the cursor it requires what
-    /// [`step`](IntMap::step) does.
+    /// behind the removed one. Both keep their order. As with [`step`](IntMap::step), any cursor will
+    /// do.
     ///
     /// The other pairs of the slot behind the removed one move up by one place. The capacity, the
     /// load factor and both counts stay, and the slots keep their memory. It allocates nothing and
@@ -57,15 +56,13 @@ impl<K: IntKey, V, A: Allocator + Copy> IntMap<K, V, A> {
     /// map.step(&mut at)    the pair 8 and 18
     /// ```
     pub fn cut(&mut self, at: &mut Cursor) -> Option<(K, V)>
-        requires { IsReached K.number_of self.old.walk self.old.capacity
-            at.old.slot at.old.place at.old.passed }
-        ensures first { MatchOption result (drop at.old.passed self.old.walk ≡ [])
-            (λ pair. drop at.old.passed self.old.walk
-            ≡ pair ∷ drop at.new.passed self.new.walk) }
-        ensures before { take at.new.passed self.new.walk ≡ take at.old.passed self.old.walk }
-        ensures passed { at.new.passed ≡ at.old.passed }
-        ensures reached { IsReached K.number_of self.new.walk self.new.capacity
-            at.new.slot at.new.place at.new.passed }
+        ensures first { MatchOption result
+            (drop (passed K.number_of self.old at.old) self.old.walk ≡ [])
+            (λ pair. drop (passed K.number_of self.old at.old) self.old.walk
+            ≡ pair ∷ drop (passed K.number_of self.new at.new) self.new.walk) }
+        ensures before { take (passed K.number_of self.new at.new) self.new.walk
+            ≡ take (passed K.number_of self.old at.old) self.old.walk }
+        ensures passed { passed K.number_of self.new at.new ≡ passed K.number_of self.old at.old }
         ensures state { self.new ≡ with_walk self.old self.new.walk }
         ensures updates { MatchOption result (self.new.walk ≡ self.old.walk)
             (λ pair. Updates K.number_of self.old.walk self.new.walk pair.0 None) }
@@ -73,6 +70,10 @@ impl<K: IntKey, V, A: Allocator + Copy> IntMap<K, V, A> {
         ensures valid { IsMap K.number_of K.is_valid self.old }
         ensures valid_after { IsMap K.number_of K.is_valid self.new }
     {
-        self.extract_next(at, &mut |_, _| true)
+        let Some((key, kept)) = self.table.cut(at) else {
+            return None;
+        };
+        self.len -= 1;
+        Some((key, kept.into_value()))
     }
 }

@@ -8,15 +8,15 @@ ghost use Rattle.intmap.specs.Map.{IsMap, with_walk};
 
 use crate::map::IntMap;
 use intmap_table::IntKey;
-use intmap_table::table::walk::Cursor;
+use intmap_table::table::Progress;
 use std::alloc::{Allocator, Global};
 
 impl<K: IntKey, V, A: Allocator + Copy> IntMap<K, V, A> {
-    /// Removes the first pair that the closure picks, of those from the cursor on. The cursor moves
-    /// on to the pair behind that one.
+    /// Removes the first pair that the closure picks, of those that are left, and moves on to the
+    /// pair behind that one.
     pub(super) fn extract_next<F: FnMut(K, &mut V) -> bool>(
         &mut self,
-        at: &mut Cursor,
+        at: &mut Progress,
         f: &mut F,
     ) -> Option<(K, V)>
         requires reached { IsReached K.number_of self.old.walk self.old.capacity
@@ -46,7 +46,7 @@ impl<K: IntKey, V, A: Allocator + Copy> IntMap<K, V, A> {
 /// no clause says that.
 pub struct ExtractIf<'a, K: IntKey, V, F, A: Allocator + Copy = Global> {
     map: &'a mut IntMap<K, V, A>,
-    at: Cursor,
+    at: Progress,
     test: F,
     ghost reached: { IsReached K.number_of map.now.walk map.now.capacity at.slot at.place at.passed },
 }
@@ -126,7 +126,7 @@ impl<K: IntKey, V, A: Allocator + Copy> IntMap<K, V, A> {
         self.known();
         ExtractIf {
             map: self,
-            at: Cursor::start(),
+            at: Progress::start(),
             test,
         }
     }

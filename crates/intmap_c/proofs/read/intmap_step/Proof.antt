@@ -1,9 +1,7 @@
 -- By hand, since the loan is required of the caller, and given back. The cursor is lent on to the callee.
 use Rattle.intmap_c.proofs.ReaderWords.{ℕ, [], ◌∷◌, refl, sym, List, Val, ftrue, tables, ‵, raw, ◌⊛◌, some, later, ◌$◌, ◌∵◌, !, qed, done, move, keep, use1, split, join, fsplit, fjoin, pick, await, rewrite, suffices, enter, stop, fld, of_opd, no_more, and_then, returns, alloc_all, pass_all, free_all, look_at, get, sets, lands_as, agg, sub, whole, owns, types_at, plain, yes, nothing, calls_at, Lasts, lasts, triple_of, framed, Stays, stay_dropped, Goes-dropped, walk_of, says, ends_at, proved, Lft, flft, id⊢, vptr, named, fact, use2, load, through, look_in, RefOf, Is, shows, cell_at, shr_vals, shr_Tells, NamedLft, RattleType, contraction, looks, shuts, peeks, heard, shares_map, is_lent, Word, word_lowers, word_copies, lent_row, lowered, shares_map_laws, ptr_fits, lent_fits, lent_val, lent_in, frame, group}
 use base.Fraction.{full_share}
-use base.Logic.{emp}
-use contract.Monad.{fact_i}
-use types.Kit.{use0, use3}
+use types.Kit.{use3}
 use types.Run.{addr}
 use types.Tokens.{lft_new, lft_end}
 use denote.Lend.{lends_again, comes_back, LentAgain}
@@ -11,7 +9,7 @@ use denote.MutBor.{MutBor}
 use denote.Ref.{MutRef, mut_vals, mut_Tells}
 use denote.Triple.Walked.{Goes-ref, stay_ref}
 use Rattle.intmap_table.specs.contracts.table.walk.Cursor.{the_row as Cursor}
-use Rattle.intmap_c.specs.Walks.{MayStep, StepsIfMap}
+use Rattle.intmap_c.specs.Walks.{StepsIfMap}
 use Rattle.intmap_c.specs.declared.answer.FoundPair.{FoundPair}
 use Rattle.intmap_c.specs.contracts.answer.FoundPair as found
 use Rattle.intmap_c.proofs.answer.FoundPair.TheLaws as found_laws
@@ -37,8 +35,8 @@ intmap_step_spec {M = M} 𝓤 𝓛 𝓜 𝓡 wired =
     let lα : NamedLft = record { mir = named 0; lft = α } in
     let x = lent_val lα p m in let w : Val = lowered lα x in
     let G = triple_of 𝓛 g.signature (g.spec 𝓛 𝓜.mem 𝓡.returns) in
-    qed 𝓛 (((‵ (flft κ qs.0) ⊛ ‵ (flft κs.1.0 qs.1.0) ⊛ ‵ ftrue) ⊛ ‵ (owns (types_at f.ended.signature.params κs) a y.0.4)) ∷ (raw (fact 𝓤 (MayStep m r.now)) ⊛ ‵ (is_lent loan p)) ∷ []) ∵
-    split ! $ split ! $ move ! (3 ∷ []) $ split ! $ heard ! _ (λ on. move ! (2 ∷ []) $ split ! $ move ! (4 ∷ []) $ fsplit ! $ fsplit ! $ move ! (2 ∷ []) $ fsplit ! $
+    qed 𝓛 (((‵ (flft κ qs.0) ⊛ ‵ (flft κs.1.0 qs.1.0) ⊛ ‵ ftrue) ⊛ ‵ (owns (types_at f.ended.signature.params κs) a y.0.4)) ∷ ‵ (is_lent loan p) ∷ []) ∵
+    split ! $ split ! $ move ! (3 ∷ []) $ move ! (2 ∷ []) $ split ! $ move ! (4 ∷ []) $ fsplit ! $ fsplit ! $ move ! (2 ∷ []) $ fsplit ! $
     keep ! (3 ∷ 7 ∷ 6 ∷ 0 ∷ 4 ∷ []) $
     -- [the word behind the `&`; its token; what is lent; the cursor; its token]
     enter ! _ _ _ _ _ $ alloc_all ! (λ l. pass_all ! refl ((tt, tt), ((tt, tt), tt)) $
@@ -61,7 +59,7 @@ intmap_step_spec {M = M} 𝓤 𝓛 𝓜 𝓡 wired =
     let z : G.Ghost = (((α, (β ∷ [], tt)), (loan.share, (full_share, tt)), tt, (x, (record r { ghost_name = δ }, tt)), (w ∷ [], (rs, tt))), tt) in
     nothing ! $ move ! (1 ∷ 0 ∷ []) $ join ! $ move ! (3 ∷ 0 ∷ []) $ join ! $
     nothing ! $ move ! (3 ∷ 0 ∷ []) $ join ! $ move ! (4 ∷ 0 ∷ []) $ join ! $ join ! $
-    use0 𝓛 (raw (fact 𝓤 (MayStep m r.now))) (fact_i 𝓤 (MayStep m r.now) (emp 𝓤) on) $ move ! (1 ∷ 0 ∷ []) $ use2 𝓛 (raw (G.pre z)) (id⊢ 𝓤 _) $
+    nothing ! $ move ! (1 ∷ 0 ∷ []) $ use2 𝓛 (raw (G.pre z)) (id⊢ 𝓤 _) $
     calls_at ! (framed 𝓤 𝓛.H 𝓜 (tables 𝓤 𝓛.H 𝓜 𝓡 𝓡.env)) G (met 𝓤 𝓛 𝓜 𝓡 (code.calls-intmap_c::read::step 𝓡.env wired)) z
     (and_then ! (get ! refl) (and_then ! (get ! refl) (no_more !))) (λ v.
     use1 𝓛 (later (some (λ (u : FoundPair). ((‵ (flft α loan.share) ⊛ ‵ (flft (β ∷ []) full_share) ⊛ ‵ ftrue) ⊛ ‵ (Out.own_val u (v ∷ []))) ⊛
@@ -79,4 +77,4 @@ intmap_step_spec {M = M} 𝓤 𝓛 𝓜 𝓡 wired =
     -- [the result; the loan; the token of the `&`; the cursor; its token]
     suffices ! _ (ends_at 𝓛 f.ended stayed c y v u (tt, (ws.1.0, tt)) (tt, (tt, tt))) $
     nothing ! $ move ! (4 ∷ 0 ∷ []) $ join ! $ nothing ! $ join ! $
-    nothing ! $ move ! (5 ∷ 0 ∷ []) $ join ! $ move ! (4 ∷ 0 ∷ []) $ join ! $ group ! 3 $ frame ! $ says ! told $ done !))))))))))))
+    nothing ! $ move ! (5 ∷ 0 ∷ []) $ join ! $ move ! (4 ∷ 0 ∷ []) $ join ! $ group ! 3 $ frame ! $ says ! told $ done !)))))))))))

@@ -1,5 +1,5 @@
 //! Single pairs are put into a slot, replaced and removed.
-ghost use Rattle.std.specs.Prelude.{◌≡◌, ◌<◌, [], ◌∷◌, ◌++◌, List, get_or, length, swap_remove, slice_index_or, OnOk, OnErr, IfOk, IfErr};
+ghost use Rattle.std.specs.Prelude.{◌≡◌, ◌+◌, ◌<◌, [], ◌∷◌, ◌++◌, List, drop, get_or, length, swap_remove, take, slice_index_or, OnOk, OnErr, IfOk, IfErr};
 ghost use Rattle.std.specs.Vec.Iter.{into_iter_items};
 ghost use Rattle.intmap_table.specs.Tables.Moves.{rooms};
 ghost use Rattle.intmap_table.specs.Tables.Slots.{rows, row_of, IsRowSet};
@@ -63,6 +63,24 @@ impl<K: IntKey, X, A: Allocator> Slots<K, X, A> {
             return lone;
         }
         slot.take_at(place)
+    }
+
+    /// Removes the pair at a place of a slot. Those behind it move up by one place.
+    pub(crate) fn remove_at(&mut self, index: usize, place: usize) -> (Stored<K>, X)
+        requires { place < length (row_of self.old index) }
+        ensures value { result ≡ slice_index_or (row_of self.old index) place result }
+        ensures row { IsRowSet self.old index (take place (row_of self.old index)
+            ++ drop (place + 1) (row_of self.old index)) self.new }
+    {
+        if index < self.lone.len() {
+            let pair = self.lone[index].take();
+            self.directory.bits.clear(index);
+            return pair;
+        }
+        let slot = &mut self.shared[index];
+        let pair = slot.remove_at(place);
+        unmark_unless(&mut self.directory.bits, slot.is_filled(), index);
+        pair
     }
 
     /// Puts a pair last in a slot that has room for it. It allocates nothing.

@@ -1,7 +1,7 @@
 //! Calls at a cursor.
 ghost use Rattle.std.specs.Iterator.{item_count};
 ghost use Rattle.std.specs.Prelude.{drop};
-ghost use Rattle.intmap.specs.Picking.{IsReached};
+ghost use Rattle.intmap.specs.Map.{passed};
 
 use crate::maps::single::iterators::sum_of;
 use crate::maps::single::sums::WalkSum;
@@ -15,13 +15,12 @@ use std::alloc::AllocError;
 struct Steps<'a, 'b> {
     map: &'a Map<'b>,
     at: Cursor,
-    ghost reached: { IsReached (λ key. key) map.now.walk map.now.capacity at.slot at.place at.passed },
 }
 
 impl Iterator for Steps<'_, '_> {
     type Item = (u64, u64);
 
-    ghost remaining = { item_count (λ steps. drop steps.at.passed steps.map.now.walk) };
+    ghost remaining = { item_count (λ steps. drop (passed (λ key. key) steps.map.now steps.at) steps.map.now.walk) };
 
     fn next(&mut self) -> Option<(u64, u64)> {
         let (key, value) = self.map.step(&mut self.at)?;
@@ -34,7 +33,6 @@ impl Iterator for Steps<'_, '_> {
 struct Cuts<'a, 'b> {
     map: &'a mut Map<'b>,
     at: Cursor,
-    ghost reached: { IsReached (λ key. key) map.now.walk map.now.capacity at.slot at.place at.passed },
 }
 
 impl Cuts<'_, '_> {
@@ -47,7 +45,7 @@ impl Cuts<'_, '_> {
 impl Iterator for Cuts<'_, '_> {
     type Item = (u64, u64);
 
-    ghost remaining = { item_count (λ cuts. drop cuts.at.passed cuts.map.now.walk) };
+    ghost remaining = { item_count (λ cuts. drop (passed (λ key. key) cuts.map.now cuts.at) cuts.map.now.walk) };
 
     fn next(&mut self) -> Option<(u64, u64)> {
         self.map.cut(&mut self.at)

@@ -51,7 +51,7 @@ impl<K: IntKey, V, A: Allocator> Slot<K, Kept<V>, A> {
 
 impl<K: IntKey, X, A: Allocator> Slot<K, X, A> {
     /// Removes the pair at a place. Those behind it move up by one place.
-    fn remove_at(&mut self, place: usize) -> (Stored<K>, X) {
+    pub(in crate::proved::table) fn remove_at(&mut self, place: usize) -> (Stored<K>, X) {
         if place > 0 {
             return self.rest.remove(place - 1);
         }

@@ -7,7 +7,6 @@ use crate::proved::table::key::IntKey;
 use crate::proved::table::table::Table;
 use crate::proved::table::table::slots::Slots;
 use crate::proved::table::table::stored::Stored;
-use crate::proved::table::table::walk::Cursor;
 use crate::memory::alloc::Allocator;
 
 /// Keeps the pairs for which the closure returns true, slot after slot, and returns their number.
@@ -32,11 +31,29 @@ impl<K: IntKey, V, A: Allocator> Table<K, Kept<V>, A> {
     }
 }
 
-/// Asks the closure about each pair from the cursor on, slot after slot, and removes the first one
+/// How far a closure was asked: up to a place in a slot, and about so many pairs that stayed.
+pub struct Progress {
+    pub slot: usize,
+    pub place: usize,
+    pub passed: usize,
+}
+
+impl Progress {
+    /// It was asked about none.
+    pub fn start() -> Progress {
+        Progress {
+            slot: 0,
+            place: 0,
+            passed: 0,
+        }
+    }
+}
+
+/// Asks the closure about each pair that is left, slot after slot, and removes the first one
 /// that it picks.
 fn extract_slots<K: IntKey, V, A: Allocator, F: FnMut(K, &mut V) -> bool>(
     slots: &mut Slots<K, Kept<V>, A>,
-    at: &mut Cursor,
+    at: &mut Progress,
     f: &mut F,
 ) -> Option<(Stored<K>, Kept<V>)> {
     while let Some(slot) = slots.next_filled(at.slot) {
@@ -54,12 +71,11 @@ fn extract_slots<K: IntKey, V, A: Allocator, F: FnMut(K, &mut V) -> bool>(
 }
 
 impl<K: IntKey, V, A: Allocator> Table<K, Kept<V>, A> {
-    /// Asks the closure about each pair from the cursor on, in the order of the walk, and removes
-    /// the first one that it picks. The closure may write each value. The pairs that stay keep
-    /// their order. The cursor moves on to the pair behind the removed one.
+    /// Asks the closure about each pair that is left, in the order of the walk, and removes the first
+    /// one that it picks. The closure may write each value. The pairs that stay keep their order.
     pub fn extract_next<F: FnMut(K, &mut V) -> bool>(
         &mut self,
-        at: &mut Cursor,
+        at: &mut Progress,
         f: &mut F,
     ) -> Option<(K, V)> {
         let Some((key, kept)) = extract_slots(&mut self.slots, at, f) else {

@@ -136,13 +136,10 @@ impl<K: IntKey, X, A: Allocator> Slots<K, X, A> {
         self.shared[index].value_mut_at(place)
     }
 
-    /// The pair at a place of a slot, or `None` behind its last pair.
+    /// Whether a slot has a pair at this place. It may be behind the last slot.
     #[inline(always)]
-    pub(in crate::proved::table) fn pair_at(&self, index: usize, place: usize) -> Option<(&Stored<K>, &X)> {
-        if place >= self.row_len(index) {
-            return None;
-        }
-        Some((self.key_at(index, place), self.value_at(index, place)))
+    pub(in crate::proved::table) fn has_pair(&self, index: usize, place: usize) -> bool {
+        index <= self.directory.mask && place < self.row_len(index)
     }
 
     /// The pairs of a slot: the first one, and the rest.

@@ -1,70 +1,51 @@
-use Rattle.std.proofs.Common.{◌≡◌, ◌+◌, ◌-◌, ◌^◌, ◌∷◌, ◌<◌, ◌∙◌, get_or, length, drop, sym, ap, refl, arith}
-use Rattle.intmap_table.specs.Tables.Slots.{Grid, rows, row_of, joined}
+use Rattle.std.proofs.Common.{◌≡◌, ◌+◌, ◌∷◌, ◌∙◌, get_or, length, drop, sym, ap, arith}
+use Rattle.intmap_table.specs.Picking.{position}
+use Rattle.intmap_table.specs.Tables.Slots.{Grid, rows, row_of, joined, count_before}
+use Rattle.intmap_table.specs.declared.table.walk.Cursor.{Cursor}
+use Rattle.intmap_table.proofs.Tables.PartsLemmas.{length-parts}
 use Rattle.intmap_table.proofs.SlotNumberLemmas.{capacity-greatest}
-use Rattle.intmap_table.proofs.Tables.PartsLemmas.{next-within}
-use Rattle.intmap_table.proofs.Tables.CursorLemmas.{IsInRows, IsInRows-next, IsInRows-on, IsInRows-past, IsInRows-reached, IsReached-at, drop-none, drop-on, row-few}
+use Rattle.intmap_table.proofs.Tables.PositionLemmas.{before-here, drop-here, position-before}
 use Rattle.intmap_table.proofs.table.Table.step.Goals as goal
-use Rattle.intmap_table.proofs.table.Table.step.Goals.{In-Some}
+use Rattle.intmap_table.proofs.table.Table.step.Goals.{After-seek}
 
-module _ (g : _) (c : In-Some g) where
-  -- the cursor is at a place of the slot at hand
-  here : IsInRows (rows c.self.inside.slots) c.in-Some.slot c.loop-slot.at.place c.loop-slot.at.passed
-  here = IsInRows-next _ _ _ _ c.loop-slot.invariant.at _ c.in-Some.ensures.some
+module _ (g : _) (c : After-seek g) where
+  -- where a cursor is in the slots
+  before : (at : Cursor) → position g.K.IntKey.number_of (joined (rows c.self.inside.slots)) (length c.self.inside.slots) at ≡ count_before (rows c.self.inside.slots) at.slot at.place
+  before = position-before g.K.IntKey.number_of c.self.inside.slots c.self.invariant
 
-  -- there are fewer pairs than a number may count
-  few : c.loop-slot.at.passed + (length (row_of c.self.inside.slots c.in-Some.slot) - c.loop-slot.at.place) < 2 ^ 64
-  few = let few = row-few _ _ _ _ here in let all = ap (λ (t : Grid _ _). length t.walk) c.self.view_is in omega (arith, few, all, c.requires.count)
+  -- the call of `seek` left it there
+  sought : count_before (rows c.self.inside.slots) c.seek.new.at.slot c.seek.new.at.place ≡ count_before (rows c.self.inside.slots) c.args.at.now.slot c.args.at.now.place
+  sought = c.seek.ensures.same
 
-pub loop-slot-init : goal.loop-slot-init
-loop-slot-init g c = record {
-  at = IsInRows-reached g.K.IntKey.number_of c.self.inside.slots c.self.invariant c.args.at.now.slot c.args.at.now.place c.args.at.now.passed (rw (← c.self.view_is) at c.requires.reached);
-  passed = refl;
-}
+pub seek-requires-clause-slots : goal.seek-requires-clause-slots
+seek-requires-clause-slots g c = capacity-greatest _ c.self.invariant.capacity
 
-pub pair_at-requires : goal.pair_at-requires
-pair_at-requires g c =
-    let at = (goal.at.pair_at-requires g c).In-Some in let here = here g at in let few = few g at in
-    record { within = next-within _ _ _ c.in-Some.ensures.some; fits = omega (arith, few, here.within, here.count) }
+pub returns-then-not-seek-clause-first : goal.returns-then-not-seek-clause-first
+returns-then-not-seek-clause-first g c =
+    let at = (goal.at.returns-then-not-seek-clause-first g c).After-seek in
+    rw (← c.self.view_is) (ap (λ n. drop n (joined (rows c.self.inside.slots))) (before g at c.args.at.now) ∙ c.if-not-seek.ensures.none)
+
+pub returns-then-not-seek-clause-passed : goal.returns-then-not-seek-clause-passed
+returns-then-not-seek-clause-passed g c =
+    let at = (goal.at.returns-then-not-seek-clause-passed g c).After-seek in
+    rw (← c.self.view_is) (let was = before g at c.args.at.now in let is = before g at c.seek.new.at in let same = sought g at in omega (arith, was, is, same))
 
 pub overflow_add-at : goal.overflow_add-at
 overflow_add-at g c =
-    let at = (goal.at.overflow_add-at g c).In-Some in let here = here g at in let few = few g at in
-    let inside = c.in-Some-pair_at.ensures.some.0 in omega (arith, few, here.count, inside)
-
-pub overflow_add-at-in-Some-pair_at : goal.overflow_add-at-in-Some-pair_at
-overflow_add-at-in-Some-pair_at g c =
-    let few = few g (goal.at.overflow_add-at-in-Some-pair_at g c).In-Some in let inside = c.in-Some-pair_at.ensures.some.0 in omega (arith, few, inside)
-
-pub returns-in-Some-pair_at-clause-first : goal.returns-in-Some-pair_at-clause-first
-returns-in-Some-pair_at-clause-first g c =
-    let S = c.self.inside.slots in let i = c.in-Some.slot in let j = c.loop-slot.at.place in let n = c.loop-slot.at.passed in
-    let at = here g (goal.at.returns-in-Some-pair_at-clause-first g c).In-Some in let found = c.in-Some-pair_at.ensures.some in
-    let p : g.row.K.Denot × g.row.X.Denot = (c.key.result.now, c.in-Some-pair_at.value.now) in
-    let pair : get_or (row_of S i) j p ≡ p = sym (found.1 p) ∙ (λ k. (sym c.key.ensures.value k, c.in-Some-pair_at.value.now)) in
-    rw (← c.self.view_is, ← c.loop-slot.invariant.passed) (drop-on (rows S) i j n at p found.0 ∙ ap (λ x. x ∷ drop (n + 1) (joined (rows S))) pair)
-
-pub returns-in-Some-pair_at-clause-reached : goal.returns-in-Some-pair_at-clause-reached
-returns-in-Some-pair_at-clause-reached g c =
-    let S = c.self.inside.slots in let i = c.in-Some.slot in let j = c.loop-slot.at.place in let n = c.loop-slot.at.passed in
-    let at = here g (goal.at.returns-in-Some-pair_at-clause-reached g c).In-Some in
-    rw (← c.self.view_is) (IsReached-at _ S c.self.invariant i (j + 1) (n + 1) (IsInRows-on (rows S) i j n at c.in-Some-pair_at.ensures.some.0))
-
-pub overflow_add-at-in-Some : goal.overflow_add-at-in-Some
-overflow_add-at-in-Some g c =
-    let below = next-within _ _ _ c.in-Some.ensures.some in let most = capacity-greatest _ c.self.invariant.capacity in omega (arith, below, most)
-
-pub loop-slot-smaller : goal.loop-slot-smaller
-loop-slot-smaller g c = let next = c.in-Some.ensures.some in let below = next-within _ _ _ next in omega (arith, below, next.behind)
-
-pub loop-slot-preserved : goal.loop-slot-preserved
-loop-slot-preserved g c = record {
-  at = IsInRows-past _ _ _ _ (here g (goal.at.loop-slot-preserved g c).In-Some) c.in_default-pair_at.ensures.none;
-  passed = c.loop-slot.invariant.passed;
-}
+    let parts = length-parts c.seek.new.at.slot (rows c.self.inside.slots) in let all = ap (λ (t : Grid _ _). length t.walk) c.self.view_is in
+    omega (arith, parts, all, c.requires.count, c.if-not-seek.ensures.pair)
 
 pub returns-clause-first : goal.returns-clause-first
-returns-clause-first g c = rw (← c.self.view_is, ← c.loop-slot.invariant.passed) (drop-none _ _ _ _ c.loop-slot.invariant.at c.in_default.ensures.none)
+returns-clause-first g c =
+    let at = (goal.at.returns-clause-first g c).After-seek in let S = c.self.inside.slots in let i = c.seek.new.at.slot in let j = c.seek.new.at.place in
+    let p : g.row.K.Denot × g.row.X.Denot = (c.key.result.now, c.value_at.result.now) in
+    let pair : get_or (row_of S i) j p ≡ p = (λ k. (sym (c.key.ensures.value ∙ c.key_at-key.ensures p) k, sym (c.value_at.ensures p) k)) in
+    rw (← c.self.view_is)
+    (ap (λ n. drop n (joined (rows S))) (before g at c.args.at.now ∙ sym (sought g at)) ∙ drop-here (rows S) i j p c.if-not-seek.ensures.pair
+    ∙ (λ k. pair k ∷ drop (sym (before g at (record { slot = i; place = j + 1 })) k) (joined (rows S))))
 
-pub returns-clause-reached : goal.returns-clause-reached
-returns-clause-reached g c =
-    rw (← c.self.view_is) (IsReached-at _ c.self.inside.slots c.self.invariant _ _ _ c.loop-slot.invariant.at)
+pub returns-clause-passed : goal.returns-clause-passed
+returns-clause-passed g c =
+    let at = (goal.at.returns-clause-passed g c).After-seek in let S = c.self.inside.slots in let i = c.seek.new.at.slot in let j = c.seek.new.at.place in
+    rw (← c.self.view_is)
+    (before g at (record { slot = i; place = j + 1 }) ∙ before-here (rows S) i j c.if-not-seek.ensures.pair ∙ ap (λ n. n + 1) (sought g at ∙ sym (before g at c.args.at.now)))

@@ -3,15 +3,15 @@
 use crate::memory::prelude::*;
 use crate::proved::map::map::IntMap;
 use crate::proved::table::IntKey;
-use crate::proved::table::table::walk::Cursor;
+use crate::proved::table::table::Progress;
 use crate::memory::alloc::{Allocator, Global};
 
 impl<K: IntKey, V, A: Allocator + Copy> IntMap<K, V, A> {
-    /// Removes the first pair that the closure picks, of those from the cursor on. The cursor moves
-    /// on to the pair behind that one.
+    /// Removes the first pair that the closure picks, of those that are left, and moves on to the
+    /// pair behind that one.
     pub(super) fn extract_next<F: FnMut(K, &mut V) -> bool>(
         &mut self,
-        at: &mut Cursor,
+        at: &mut Progress,
         f: &mut F,
     ) -> Option<(K, V)> {
         let Some(pair) = self.table.extract_next(at, f) else {
@@ -29,7 +29,7 @@ impl<K: IntKey, V, A: Allocator + Copy> IntMap<K, V, A> {
 /// no clause says that.
 pub struct ExtractIf<'a, K: IntKey, V, F, A: Allocator + Copy = Global> {
     map: &'a mut IntMap<K, V, A>,
-    at: Cursor,
+    at: Progress,
     test: F,
 }
 
@@ -67,7 +67,7 @@ impl<K: IntKey, V, A: Allocator + Copy> IntMap<K, V, A> {
         self.known();
         ExtractIf {
             map: self,
-            at: Cursor::start(),
+            at: Progress::start(),
             test,
         }
     }
