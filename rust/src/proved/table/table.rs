@@ -72,12 +72,14 @@ impl<K: IntKey, X, A: Allocator> Table<K, X, A> {
     }
 }
 
-impl<K: IntKey, X, A: Allocator + Copy> Table<K, X, A> {
+impl<K: IntKey, X, A: Allocator> Table<K, X, A> {
     /// Drops all pairs, slot after slot, and keeps the slots and the memory that they have.
     pub fn clear(&mut self) {
         self.slots.clear();
     }
+}
 
+impl<K: IntKey, X, A: Allocator + Copy> Table<K, X, A> {
     /// Puts the pair of an absent key last in its slot, and returns where it is. If an allocation
     /// fails, it returns the value and changes nothing. A slot without a pair needs no allocation.
     #[inline(always)]
@@ -85,9 +87,7 @@ impl<K: IntKey, X, A: Allocator + Copy> Table<K, X, A> {
         let place = self.slots.push(slot, Stored::new(key), value)?;
         Ok(Location { key, slot, place })
     }
-}
 
-impl<K: IntKey, X, A: Allocator + Copy> Table<K, X, A> {
     /// The allocator of the slots.
     pub fn allocator(&self) -> A {
         self.slots.allocator()
