@@ -1,8 +1,9 @@
 // SPDX-License-Identifier: MIT
 // Times of the calls, in nanoseconds a key, beside khash, GLib's GHashTable and uthash if they are
+// there. Compiled as C++ it has std::unordered_map too, and boost::unordered_flat_map if that is
 // there.
 //
-//     cc -O2 times.c intmap.c $(pkg-config --cflags --libs glib-2.0) -o times
+//     c++ -O2 times.c intmap.c $(pkg-config --cflags --libs glib-2.0) -o times
 //     ./times KEYS
 //
 // Each figure is the least of many runs, each on a new map, until KEYS keys were inserted. Fewer
@@ -12,7 +13,9 @@
 //
 // A walk, a cut of each second pair and a drain of 1,000,000 pairs must take less than a second
 // each, or it ends with status 1.
+#ifndef _GNU_SOURCE
 #define _GNU_SOURCE
+#endif
 #include "intmap.h"
 #include <inttypes.h>
 #include <malloc.h>
@@ -36,6 +39,13 @@
 #if __has_include(<uthash.h>)
 #include <uthash.h>
 #define HAS_UTHASH 1
+#endif
+#ifdef __cplusplus
+#include <unordered_map>
+#if __has_include(<boost/unordered/unordered_flat_map.hpp>)
+#include <boost/unordered/unordered_flat_map.hpp>
+#define HAS_FLAT_MAP 1
+#endif
 #endif
 #endif
 
@@ -323,7 +333,7 @@ static void insert_uthash(void) {
     for (size_t at = 0; at < count; at++) {
         item *one = item_of(keys[at]);
         if (one == NULL) {
-            one = malloc(sizeof *one);
+            one = (item *)malloc(sizeof *one);
             if (one == NULL) {
                 end("out of memory");
             }
@@ -353,7 +363,7 @@ static uint64_t add_uthash(void) {
 
 static uint64_t iterate_uthash(void) {
     uint64_t sum = 0;
-    for (item *one = items; one != NULL; one = one->hh.next) {
+    for (item *one = items; one != NULL; one = (item *)one->hh.next) {
         sum += one->value;
     }
     return sum;
@@ -379,6 +389,78 @@ static void drop_uthash(void) {
 }
 #endif
 
+#ifdef __cplusplus
+typedef std::unordered_map<uint64_t, uint64_t> std_map;
+#ifdef HAS_FLAT_MAP
+typedef boost::unordered_flat_map<uint64_t, uint64_t> flat_map;
+#endif
+
+// The calls of a map that has the interface of std::unordered_map.
+template <typename Map> struct of_std {
+    static Map *made;
+
+    static void make() {
+        made = new Map;
+    }
+
+    static void make_with_room() {
+        make();
+        made->reserve(count);
+    }
+
+    static void insert() {
+        for (size_t at = 0; at < count; at++) {
+            (*made)[keys[at]] = 1;
+        }
+    }
+
+    static uint64_t find(const uint64_t *wanted) {
+        uint64_t sum = 0;
+        for (size_t at = 0; at < count; at++) {
+            auto found = made->find(wanted[at]);
+            sum += found == made->end() ? 0 : found->second;
+        }
+        return sum;
+    }
+
+    static uint64_t add() {
+        uint64_t sum = 0;
+        for (size_t at = 0; at < count; at++) {
+            sum += made->find(others[at])->second++;
+        }
+        return sum;
+    }
+
+    static uint64_t iterate() {
+        uint64_t sum = 0;
+        for (const auto &pair : *made) {
+            sum += pair.second;
+        }
+        return sum;
+    }
+
+    static uint64_t remove() {
+        uint64_t sum = 0;
+        for (size_t at = 0; at < count; at++) {
+            auto found = made->find(others[at]);
+            sum += found->second;
+            made->erase(found);
+        }
+        return sum;
+    }
+
+    static void drop() {
+        delete made;
+    }
+
+    static subject named(const char *name) {
+        return {name, make, make_with_room, insert, drop, find, add, iterate, remove};
+    }
+};
+
+template <typename Map> Map *of_std<Map>::made;
+#endif
+
 static const subject subjects[] = {
     {"intmap", make_intmap, make_intmap_with_room, insert_intmap, drop_intmap, find_intmap,
      add_intmap, iterate_intmap, remove_intmap},
@@ -393,6 +475,12 @@ static const subject subjects[] = {
 #ifdef HAS_UTHASH
     {"uthash", make_uthash, NULL, insert_uthash, drop_uthash, find_uthash, add_uthash,
      iterate_uthash, remove_uthash},
+#endif
+#ifdef __cplusplus
+    of_std<std_map>::named("std::unordered_map"),
+#endif
+#ifdef HAS_FLAT_MAP
+    of_std<flat_map>::named("boost::unordered_flat_map"),
 #endif
 };
 
@@ -528,9 +616,9 @@ static bool is_linear(void) {
 int main(int words, char **word) {
     const size_t most = 1000000;
     size_t handled = words > 1 ? strtoull(word[1], NULL, 10) : 20 * most;
-    keys = malloc(most * sizeof *keys);
-    others = malloc(most * sizeof *others);
-    absent = malloc(most * sizeof *absent);
+    keys = (uint64_t *)malloc(most * sizeof *keys);
+    others = (uint64_t *)malloc(most * sizeof *others);
+    absent = (uint64_t *)malloc(most * sizeof *absent);
     if (keys == NULL || others == NULL || absent == NULL) {
         end("out of memory");
     }
