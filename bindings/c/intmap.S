@@ -9,7 +9,7 @@
  *
  * Written by tools/assembly of the repository, and not to be edited.
  * Compilers: rattle-kit-13f logic dac8208d650f15bf; clang version 22.1.8
- * Sources: f459887871ecb705e0244ceb2ab7dcbb2a3d26eb2e8a35ed024deb505ff660f9
+ * Sources: 06b811c81c938352ccd049beba113c7d207dc419cf89389c774c1a7c27d1a9cd
  *
  * SPDX-License-Identifier: MIT
  *
