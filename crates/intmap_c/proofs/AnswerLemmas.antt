@@ -1,19 +1,41 @@
 -- What a call did to the map of a handle.
-use Rattle.std.proofs.Common.{◌≡◌, ◌∙◌, ℕ, ℤ, ◌^◌, ◌<◌, Some, Option, sym, ap, subst}
+use Rattle.std.proofs.Common.{◌≡◌, ◌↔◌, ◌∙◌, ℕ, ℤ, ◌^◌, ◌<◌, ◌==◌, Bool, true, List, [], ◌∷◌, length, Some, None, Option, refl, sym, ap, subst, arith}
+use Rattle.std.proofs.lemmas.Grind.{common_steps}
+use Rattle.intmap.proofs.EqualityLemmas.{value_of-first}
+use Rattle.intmap.specs.Bindings.{value_of}
 use Rattle.intmap.specs.Insertions.{IsInsertion}
 use Rattle.intmap.specs.Map.{after_search, with_pair}
 use Rattle.intmap.specs.PlainLists.{RefusalIsDue, list_of}
 use Rattle.intmap.specs.declared.refusal.Cause.{Cause}
 use Rattle.intmap_c.specs.Statuses.{failed_status}
-use Rattle.intmap_c.specs.Answers.{OnMap}
 use Rattle.intmap.proofs.InsertionLemmas.{IsInsertion-searched}
 use Rattle.intmap.proofs.RefusalLemmas.{RefusalIsDue-searched}
-use Rattle.intmap_c.specs.Calls.{Binds, FailsToBind, State, itself}
+use Rattle.intmap_c.specs.Calls.{AreEqual, Binds, FailsToBind, OnMap, State, itself, map_of}
 
-module _ {S : Type 0} (N : Type 0) (P : S → S → Type 0) where
-  -- P, if there was a map and there is one
-  pub OnMap-Some : {h k : Option S} {m n : S} → h ≡ Some m → k ≡ Some n → P m n → OnMap h k N P
-  OnMap-Some {h} {k} {m} {n} e f p = subst (λ x. OnMap x k N P) (sym e) (subst (λ x. OnMap (Some m) x N P) (sym f) p)
+-- P, if there is a map
+pub OnMap-Some : (h : Option State) {k : Option State} {m n : State} (N : Type 0) (P : State → State → Type 0) → m ≡ map_of h → k ≡ Some n → P m n → OnMap h k N P
+OnMap-Some h {n = n} N P e f p = subst (λ x. OnMap h x N P) (sym f) (subst (λ s. P s n) e p)
+
+-- only in a list without pairs no key has a value
+no_value-nil : (W : List (ℕ × ℕ)) (r : Bool) → r ≡ (length W == 0) → (r ≡ true) ↔ ((k : ℕ) → value_of itself W k ≡ None)
+no_value-nil [] r e = ((λ yes k. refl), (λ all. e))
+no_value-nil (p ∷ W) r e = (
+  (λ yes. absurd (grind (arith, common_steps, yes, e))),
+  (λ all. let here = all p.0 in let first = value_of-first itself p W in absurd (grind (arith, common_steps, here, first))),
+)
+
+module _ {v w : Option State} where
+  -- maps of two words are equal if the maps are
+  pub AreEqual-maps : {m n : State} {r : Bool} → v ≡ Some m → w ≡ Some n → AreEqual m n r → AreEqual (map_of v) (map_of w) r
+  AreEqual-maps {m} {n} {r} e f same = rw (e, f) same
+
+  -- a map without pairs is equal to that of a word without one
+  pub AreEqual-first : {m : State} {r : Bool} → v ≡ Some m → w ≡ None → r ≡ (length m.walk == 0) → AreEqual (map_of v) (map_of w) r
+  AreEqual-first {m} {r} e f told = rw (e, f) (no_value-nil m.walk r told)
+
+  -- and the other way around
+  pub AreEqual-second : {n : State} {r : Bool} → v ≡ None → w ≡ Some n → r ≡ (length n.walk == 0) → AreEqual (map_of v) (map_of w) r
+  AreEqual-second {n} {r} e f told = rw (e, f) (let is = no_value-nil n.walk r told in ((λ yes k. sym (is.0 yes k)), (λ same. is.1 (λ k. sym (same k)))))
 
 -- a call on the key k, where v is the map once k was looked up, and q is what was looked up
 module _ (m v : State) (k q : ℕ) (searched : v ≡ after_search itself m k) (same : q ≡ k) where

@@ -1,6 +1,5 @@
 -- The names that the proofs of calls that only read cite.
 pub use Rattle.intmap_c.proofs.Words.{◌≡◌, ℕ, [], ◌∷◌, refl, sym, ap, List, Val, ftrue, tables, ‵, raw, ◌⊛◌, some, later, ◌$◌, ◌∵◌, !, qed, done, move, keep, drop, use1, split, join, fsplit, fjoin, pick, await, rewrite, suffices, enter, stop, fld, of_opd, no_more, and_then, returns, alloc_all, pass_all, free_all, look_at, get, sets, lands_as, agg, sub, whole, owns, types_at, plain, yes, nothing, only, calls_at, Lasts, lasts, triple_of, framed, Stays, stay_dropped, Goes-dropped, walk_of, says, ends_at, proved}
-pub use Rattle.std.specs.Prelude.{MatchOption}
 pub use base.Fml.{Lft, flft}
 pub use base.Logic.{id⊢}
 pub use mir.Val.{vptr, vint}
@@ -18,6 +17,7 @@ pub use denote.RattleType.{RattleType}
 pub use denote.Ref.{shr_vals, shr_Tells, NamedLft}
 pub use denote.SharingLaws.{contraction}
 pub use denote.Steps.{looks, shuts, peeks, heard, owned}
+pub use Rattle.intmap_c.specs.Calls.{map_of}
 pub use Rattle.intmap_c.specs.Loans.{shares_map, is_lent}
 pub use Rattle.intmap_c.specs.contracts.lent.Word.{the_row as Word}
 pub use Rattle.intmap_c.proofs.lent.Word.TheLaws.{lowers as word_lowers, the_row_copy as word_copies}

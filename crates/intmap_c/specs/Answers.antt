@@ -36,10 +36,3 @@ module _ {S : Type 0} where
   -- the call failed with a cause that is due, and left n, which is m
   abbrev pub Fails : (Cause → Type 0) → S → S → ℤ → Type 0
   Fails due m n status = (cause : Cause) × (status ≡ failed_status cause) × due cause × (n ≡ m)
-
-  -- P of the map before and the map after; if there is no map, there is none after either, and N
-  abbrev pub OnMap : Option S → Option S → Type 0 → (S → S → Type 0) → Type 0
-  OnMap None None N P = N
-  OnMap None (Some n) N P = ⊥
-  OnMap (Some m) None N P = ⊥
-  OnMap (Some m) (Some n) N P = P m n

@@ -1,18 +1,29 @@
 -- What calls make of a map from 64-bit keys to 64-bit values, m before and n after, and what they return.
-use Rattle.std.specs.Prelude.{◌≡◌, ◌↔◌, ◌⊎◌, ℕ, ℤ, ◌+◌, ◌^◌, ◌<◌, ◌%◌, cond, Bool, true, false, length, Option, None, Some, is_some}
+use Rattle.std.specs.Prelude.{◌≡◌, ◌↔◌, ◌⊎◌, ℕ, ℤ, ◌+◌, ◌^◌, ◌<◌, ◌%◌, cond, Bool, true, length, Option, None, Some, is_some}
 use Rattle.intmap.specs.Bindings.{value_of, IsPresent, Updates}
 use Rattle.intmap.specs.Cloning.{IsClone}
 use Rattle.intmap.specs.Growing.{IsReservation, IsNewFactor, MayRefuseReserve, MayRefuseFactor}
 use Rattle.intmap.specs.Insertions.{MapInserts}
-use Rattle.intmap.specs.Map.{MapState, after_search, after_remove, written}
+use Rattle.intmap.specs.Map.{MapState, empty_map, first_capacity, after_search, after_remove, written}
 use Rattle.intmap.specs.PlainLists.{RefusalIsDue, list_of}
-use Rattle.intmap_c.specs.Statuses.{ok_status, present_status, absent_status, no_memory_status, no_map_status}
+use Rattle.intmap_table.specs.Figures.{load_of}
+use Rattle.intmap_c.specs.Statuses.{ok_status, present_status, absent_status, no_memory_status}
 use Rattle.intmap_c.specs.declared.answer.FoundValue.{FoundValue}
 use Rattle.intmap_c.specs.Answers.{value_found, no_value, Fails}
 
 -- such a map, as contracts see it
 abbrev pub State : Type 0
 State = MapState ℕ ℕ
+
+-- the map of a word; one without a map stands for a new one
+abbrev pub map_of : Option State → State
+map_of None = empty_map first_capacity
+map_of (Some m) = m
+
+-- P of the map before and the map after; or the word had no map and has none, and N
+abbrev pub OnMap : Option State → Option State → Type 0 → (State → State → Type 0) → Type 0
+OnMap old None N P = (old ≡ None) × N
+OnMap old (Some n) N P = P (map_of old) n
 
 -- a key's number is the key
 abbrev pub itself : ℕ → ℕ
@@ -22,20 +33,21 @@ itself = λ k. k
 abbrev pub bound_to : State → ℕ → Option ℕ
 bound_to m k = value_of itself m.walk k
 
+-- the number of slots that hold a pair
+abbrev pub filled_slots_of : State → ℕ
+filled_slots_of m = load_of itself m.walk m.capacity
+
 -- the same keys have the same values
 abbrev pub BindSame : State → State → Type 0
 BindSame m n = ((q : ℕ) → bound_to n q ≡ bound_to m q) × (length n.walk ≡ length m.walk)
 
--- two words are equal: neither has a map, or the same keys have the same values in both maps
-abbrev pub AreEqual : Option State → Option State → Bool → Type 0
-AreEqual None None same = same ≡ true
-AreEqual None (Some n) same = same ≡ false
-AreEqual (Some m) None same = same ≡ false
-AreEqual (Some m) (Some n) same = (same ≡ true) ↔ ((k : ℕ) → bound_to m k ≡ bound_to n k)
+-- the same keys have the same values in both maps
+abbrev pub AreEqual : State → State → Bool → Type 0
+AreEqual m n same = (same ≡ true) ↔ ((k : ℕ) → bound_to m k ≡ bound_to n k)
 
--- a map with the same pairs in the same order was made in a word that had `old` and has `new`; or it could not be made, and the word is as it was
+-- a map with the same pairs in the same order was made in a word that had `old` and has `new`, which has none if there was none to clone; or it could not be made, and the word is as it was
 abbrev pub Clones : Option State → Option State → Option State → ℤ → Type 0
-Clones None old new status = (status ≡ no_map_status) × (new ≡ old)
+Clones None old new status = (status ≡ ok_status) × (new ≡ None)
 Clones (Some m) old new status =
     ((status ≡ ok_status) × ((n : State) × (new ≡ Some n) × IsClone (λ v w. w ≡ v) m n))
     ⊎ ((status ≡ no_memory_status) × (new ≡ old))

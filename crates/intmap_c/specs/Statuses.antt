@@ -27,7 +27,3 @@ too_large_status = negsuc 1
 abbrev pub failed_status : Cause → ℤ
 failed_status Memory = no_memory_status
 failed_status TooLarge = too_large_status
-
--- -3: there is no map
-abbrev pub no_map_status : ℤ
-no_map_status = negsuc 2

@@ -1,9 +1,9 @@
 -- What a walk by a cursor returns to C, and what it leaves of a map, m before and n after.
-use Rattle.std.specs.Prelude.{◌≡◌, ◌⊎◌, ◌+◌, [], ◌∷◌, take, drop, length, Option, None, Some}
+use Rattle.std.specs.Prelude.{◌≡◌, ◌⊎◌, ◌+◌, [], ◌∷◌, take, drop, length, None}
 use Rattle.intmap_table.specs.declared.table.walk.Cursor.{Cursor}
 use Rattle.intmap.specs.Bindings.{Updates}
 use Rattle.intmap.specs.Map.{passed, with_walk}
-use Rattle.intmap_c.specs.Statuses.{present_status, absent_status, no_map_status}
+use Rattle.intmap_c.specs.Statuses.{present_status, absent_status}
 use Rattle.intmap_c.specs.declared.answer.FoundPair.{FoundPair}
 use Rattle.intmap_c.specs.Answers.{no_pair}
 use Rattle.intmap_c.specs.Calls.{State, itself}
@@ -14,11 +14,6 @@ pub record Steps (m : State) (at to : Cursor) (found : FoundPair) : Type 0 where
       ((found.status ≡ present_status) × (drop (passed itself m at) m.walk ≡ (found.pair.key, found.pair.value) ∷ drop (passed itself m to) m.walk)
       × (passed itself m to ≡ passed itself m at + 1))
       ⊎ ((found ≡ no_pair absent_status) × (drop (passed itself m at) m.walk ≡ []) × (passed itself m to ≡ passed itself m at))
-
--- the same, or there is no map
-abbrev pub StepsIfMap : Option State → Cursor → Cursor → FoundPair → Type 0
-StepsIfMap None at to found = (found ≡ no_pair no_map_status) × (to ≡ at)
-StepsIfMap (Some m) at to found = Steps m at to found
 
 -- the first pair of the walk from the cursor on was removed, and is returned; or none is left. The cursor is behind the same pairs
 pub record Cuts (m n : State) (at to : Cursor) (found : FoundPair) : Type 0 where

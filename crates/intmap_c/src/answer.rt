@@ -22,9 +22,6 @@ pub const NO_MEMORY: i32 = -1;
 /// The call failed: the map would be too large.
 pub const TOO_LARGE: i32 = -2;
 
-/// The call failed: there is no map.
-pub const NO_MAP: i32 = -3;
-
 /// A value, if there is one.
 #[repr(C)]
 #[derive(Drop)]
@@ -51,7 +48,7 @@ pub struct Pair {
 pub struct FoundPair {
     /// The pair if the status is `PRESENT`, and otherwise zeros.
     pub pair: Pair,
-    /// `PRESENT`, `ABSENT` or `NO_MAP`.
+    /// `PRESENT` or `ABSENT`.
     pub status: i32,
 }
 

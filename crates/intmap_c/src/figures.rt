@@ -1,15 +1,14 @@
 //! The number of slots and the load factor, as C sets them.
 ghost use Rattle.std.specs.Prelude.{◌≡◌};
-ghost use Rattle.intmap_c.specs.Answers.{OnMap};
-ghost use Rattle.intmap_c.specs.Calls.{Reserves, SetsFactor};
-ghost use Rattle.intmap_c.specs.Statuses.{no_map_status};
+ghost use Rattle.intmap_c.specs.Calls.{OnMap, Reserves, SetsFactor};
+ghost use Rattle.intmap_c.specs.Statuses.{no_memory_status};
 
-use crate::answer::{NO_MAP, OK, status_of};
-use crate::handle::{Handle, put, take};
+use crate::answer::{NO_MEMORY, OK, status_of};
+use crate::handle::{Handle, put, take_or_make};
 use intmap::IntMap;
 use std::alloc::Global;
 
-/// Makes slots, and returns what [`intmap_reserve`] returns if there is a map.
+/// Makes slots, and returns what [`intmap_reserve`] returns.
 fn reserve(map: &mut IntMap<u64, u64>, additional: usize) -> i32
     ensures { Reserves map.old map.new additional result }
 {
@@ -19,7 +18,7 @@ fn reserve(map: &mut IntMap<u64, u64>, additional: usize) -> i32
     }
 }
 
-/// Sets the load factor, and returns what [`intmap_set_load_factor`] returns if there is a map.
+/// Sets the load factor, and returns what [`intmap_set_load_factor`] returns.
 fn set_load_factor(map: &mut IntMap<u64, u64>, thousandths: usize) -> i32
     ensures { SetsFactor map.old map.new thousandths result }
 {
@@ -38,11 +37,11 @@ fn set_load_factor(map: &mut IntMap<u64, u64>, thousandths: usize) -> i32
 /// ```
 #[unsafe(no_mangle)]
 pub extern "C" fn intmap_reserve(alloc: Global, handle: &mut Handle, additional: usize) -> i32
-    ensures { OnMap handle.old.value handle.new.value (result ≡ no_map_status)
+    ensures { OnMap handle.old.value handle.new.value (result ≡ no_memory_status)
         (λ m n. Reserves m n additional result) }
 {
-    match take(handle, alloc) {
-        None => NO_MAP,
+    match take_or_make(handle, alloc) {
+        None => NO_MEMORY,
         Some(mut map) => {
             let status = reserve(&mut map, additional);
             put(handle, alloc, map);
@@ -64,11 +63,11 @@ pub extern "C" fn intmap_set_load_factor(
     handle: &mut Handle,
     thousandths: usize,
 ) -> i32
-    ensures { OnMap handle.old.value handle.new.value (result ≡ no_map_status)
+    ensures { OnMap handle.old.value handle.new.value (result ≡ no_memory_status)
         (λ m n. SetsFactor m n thousandths result) }
 {
-    match take(handle, alloc) {
-        None => NO_MAP,
+    match take_or_make(handle, alloc) {
+        None => NO_MEMORY,
         Some(mut map) => {
             let status = set_load_factor(&mut map, thousandths);
             put(handle, alloc, map);

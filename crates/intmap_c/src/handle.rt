@@ -1,5 +1,6 @@
 //! One word that C holds: a map in memory, or null if there is none.
 ghost use Rattle.std.specs.Prelude.{◌≡◌, None, Some, MatchOption};
+ghost use Rattle.intmap_c.specs.Calls.{map_of};
 ghost use Rattle.intmap_c.specs.Handles.{MaybeMap, owns_map};
 
 use crate::unboxed::Unboxed;
@@ -61,6 +62,22 @@ pub(crate) fn take(handle: &mut Handle, alloc: Global) -> Option<Box<IntMap<u64,
     match replace(handle, Handle::none()).into_map(alloc) {
         Some(map) => Some(map.into_box()),
         None => None,
+    }
+}
+
+/// Takes the map out of the handle, which then has none. If there is none, it makes a new one, for
+/// which there may be no memory.
+pub(crate) fn take_or_make(handle: &mut Handle, alloc: Global) -> Option<Box<IntMap<u64, u64>>>
+    ensures left { handle.new.value ≡ None }
+    ensures taken { MatchOption result (handle.old.value ≡ None)
+        (λ map. map.value ≡ map_of handle.old.value) }
+{
+    if let Some(map) = take(handle, alloc) {
+        return Some(map);
+    }
+    match IntMap::new(alloc) {
+        Ok(map) => Box::new(alloc, map).ok(),
+        Err(_) => None,
     }
 }
 

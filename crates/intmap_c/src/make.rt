@@ -1,7 +1,7 @@
 //! Calls that make and free maps.
 ghost use Rattle.std.specs.Prelude.{◌≡◌, ◌⊎◌, ◌↔◌, ◌^◌, ◌<◌, ℕ, max, None, Some, MatchResult};
 ghost use Rattle.intmap.specs.Growth.{IsLeastPower};
-ghost use Rattle.intmap.specs.Map.{empty_map, first_capacity, least_capacity};
+ghost use Rattle.intmap.specs.Map.{empty_map, least_capacity};
 ghost use Rattle.intmap_c.specs.Answers.{IsFailed};
 ghost use Rattle.intmap_c.specs.Statuses.{ok_status, no_memory_status, too_large_status};
 
@@ -29,20 +29,6 @@ pub(crate) fn keep(alloc: Global, handle: &mut Handle, made: Result<IntMap<u64, 
         },
         Err(cause) => status_of(cause),
     }
-}
-
-/// Makes an empty map of 4 slots, with a load factor of 909 thousandths. If the handle had a map,
-/// that map is freed. It fails with `NO_MEMORY` if an allocation fails, and then the handle stays.
-///
-/// ```text
-/// intmap_new(&map)    INTMAP_OK, and intmap_capacity(&map) is 4
-/// ```
-#[unsafe(no_mangle)]
-pub extern "C" fn intmap_new(alloc: Global, handle: &mut Handle) -> i32
-    ensures { ((result ≡ ok_status) × (handle.new.value ≡ Some (empty_map first_capacity)))
-        ⊎ ((result ≡ no_memory_status) × (handle.new.value ≡ handle.old.value)) }
-{
-    keep(alloc, handle, IntMap::new(alloc))
 }
 
 /// Makes an empty map, with a load factor of 909 thousandths. Its number of slots is the least

@@ -1,17 +1,17 @@
 //! Calls that write one key.
 ghost use Rattle.std.specs.Prelude.{◌≡◌};
-ghost use Rattle.intmap_c.specs.Answers.{OnMap, no_value};
-ghost use Rattle.intmap_c.specs.Calls.{Adds, AddsOrInserts, Inserts, InsertsNew, Removes, Sets};
-ghost use Rattle.intmap_c.specs.Statuses.{no_map_status};
+ghost use Rattle.intmap_c.specs.Answers.{no_value};
+ghost use Rattle.intmap_c.specs.Calls.{Adds, AddsOrInserts, Inserts, InsertsNew, OnMap, Removes, Sets};
+ghost use Rattle.intmap_c.specs.Statuses.{absent_status, no_memory_status};
 
-use crate::answer::{ABSENT, FoundValue, NO_MAP, PRESENT, status_of};
-use crate::handle::{Handle, put, take};
+use crate::answer::{ABSENT, FoundValue, NO_MEMORY, PRESENT, status_of};
+use crate::handle::{Handle, put, take, take_or_make};
 use intmap::IntMap;
 use intmap::entry::Entry;
 use std::alloc::Global;
 use std::mem::replace;
 
-/// Inserts the pair, and returns what [`intmap_insert`] returns if there is a map.
+/// Inserts the pair, and returns what [`intmap_insert`] returns.
 fn insert(map: &mut IntMap<u64, u64>, key: u64, value: u64) -> FoundValue
     ensures { Inserts map.old map.new key value result }
 {
@@ -21,8 +21,7 @@ fn insert(map: &mut IntMap<u64, u64>, key: u64, value: u64) -> FoundValue
     }
 }
 
-/// Inserts the pair of a new key, and returns what [`intmap_insert_checked`] returns if there is a
-/// map.
+/// Inserts the pair of a new key, and returns what [`intmap_insert_checked`] returns.
 fn insert_checked(map: &mut IntMap<u64, u64>, key: u64, value: u64) -> i32
     ensures { InsertsNew map.old map.new key value result }
 {
@@ -33,7 +32,7 @@ fn insert_checked(map: &mut IntMap<u64, u64>, key: u64, value: u64) -> i32
     }
 }
 
-/// Sets the value of a present key, and returns what [`intmap_set`] returns if there is a map.
+/// Sets the value of a present key, and returns what [`intmap_set`] returns.
 fn set(map: &mut IntMap<u64, u64>, key: u64, value: u64) -> FoundValue
     ensures { Sets map.old map.new key value result }
 {
@@ -43,7 +42,7 @@ fn set(map: &mut IntMap<u64, u64>, key: u64, value: u64) -> FoundValue
     }
 }
 
-/// Adds to the value of a present key, and returns what [`intmap_add`] returns if there is a map.
+/// Adds to the value of a present key, and returns what [`intmap_add`] returns.
 fn add(map: &mut IntMap<u64, u64>, key: u64, more: u64) -> FoundValue
     ensures { Adds map.old map.new key more result }
 {
@@ -58,7 +57,7 @@ fn add(map: &mut IntMap<u64, u64>, key: u64, more: u64) -> FoundValue
 }
 
 /// Adds to the value of a key, or inserts the key, and returns what [`intmap_add_or_insert`] returns
-/// if there is a map.
+///.
 fn add_or_insert(map: &mut IntMap<u64, u64>, key: u64, more: u64) -> FoundValue
     ensures { AddsOrInserts map.old map.new key more result }
 {
@@ -79,7 +78,7 @@ fn add_or_insert(map: &mut IntMap<u64, u64>, key: u64, more: u64) -> FoundValue
     }
 }
 
-/// Removes the pair of the key, and returns what [`intmap_remove`] returns if there is a map.
+/// Removes the pair of the key, and returns what [`intmap_remove`] returns.
 fn remove(map: &mut IntMap<u64, u64>, key: u64) -> FoundValue
     ensures { Removes map.old map.new key result }
 {
@@ -102,11 +101,11 @@ pub extern "C" fn intmap_insert(
     key: u64,
     value: u64,
 ) -> FoundValue
-    ensures { OnMap handle.old.value handle.new.value (result ≡ no_value no_map_status)
+    ensures { OnMap handle.old.value handle.new.value (result ≡ no_value no_memory_status)
         (λ m n. Inserts m n key value result) }
 {
-    match take(handle, alloc) {
-        None => FoundValue::none(NO_MAP),
+    match take_or_make(handle, alloc) {
+        None => FoundValue::none(NO_MEMORY),
         Some(mut map) => {
             let answer = insert(&mut map, key, value);
             put(handle, alloc, map);
@@ -129,11 +128,11 @@ pub extern "C" fn intmap_insert_checked(
     key: u64,
     value: u64,
 ) -> i32
-    ensures { OnMap handle.old.value handle.new.value (result ≡ no_map_status)
+    ensures { OnMap handle.old.value handle.new.value (result ≡ no_memory_status)
         (λ m n. InsertsNew m n key value result) }
 {
-    match take(handle, alloc) {
-        None => NO_MAP,
+    match take_or_make(handle, alloc) {
+        None => NO_MEMORY,
         Some(mut map) => {
             let status = insert_checked(&mut map, key, value);
             put(handle, alloc, map);
@@ -150,11 +149,11 @@ pub extern "C" fn intmap_insert_checked(
 /// ```
 #[unsafe(no_mangle)]
 pub extern "C" fn intmap_set(alloc: Global, handle: &mut Handle, key: u64, value: u64) -> FoundValue
-    ensures { OnMap handle.old.value handle.new.value (result ≡ no_value no_map_status)
+    ensures { OnMap handle.old.value handle.new.value (result ≡ no_value absent_status)
         (λ m n. Sets m n key value result) }
 {
     match take(handle, alloc) {
-        None => FoundValue::none(NO_MAP),
+        None => FoundValue::of(None),
         Some(mut map) => {
             let answer = set(&mut map, key, value);
             put(handle, alloc, map);
@@ -171,11 +170,11 @@ pub extern "C" fn intmap_set(alloc: Global, handle: &mut Handle, key: u64, value
 /// ```
 #[unsafe(no_mangle)]
 pub extern "C" fn intmap_add(alloc: Global, handle: &mut Handle, key: u64, more: u64) -> FoundValue
-    ensures { OnMap handle.old.value handle.new.value (result ≡ no_value no_map_status)
+    ensures { OnMap handle.old.value handle.new.value (result ≡ no_value absent_status)
         (λ m n. Adds m n key more result) }
 {
     match take(handle, alloc) {
-        None => FoundValue::none(NO_MAP),
+        None => FoundValue::of(None),
         Some(mut map) => {
             let answer = add(&mut map, key, more);
             put(handle, alloc, map);
@@ -197,11 +196,11 @@ pub extern "C" fn intmap_add_or_insert(
     key: u64,
     more: u64,
 ) -> FoundValue
-    ensures { OnMap handle.old.value handle.new.value (result ≡ no_value no_map_status)
+    ensures { OnMap handle.old.value handle.new.value (result ≡ no_value no_memory_status)
         (λ m n. AddsOrInserts m n key more result) }
 {
-    match take(handle, alloc) {
-        None => FoundValue::none(NO_MAP),
+    match take_or_make(handle, alloc) {
+        None => FoundValue::none(NO_MEMORY),
         Some(mut map) => {
             let answer = add_or_insert(&mut map, key, more);
             put(handle, alloc, map);
@@ -218,11 +217,11 @@ pub extern "C" fn intmap_add_or_insert(
 /// ```
 #[unsafe(no_mangle)]
 pub extern "C" fn intmap_remove(alloc: Global, handle: &mut Handle, key: u64) -> FoundValue
-    ensures { OnMap handle.old.value handle.new.value (result ≡ no_value no_map_status)
+    ensures { OnMap handle.old.value handle.new.value (result ≡ no_value absent_status)
         (λ m n. Removes m n key result) }
 {
     match take(handle, alloc) {
-        None => FoundValue::none(NO_MAP),
+        None => FoundValue::of(None),
         Some(mut map) => {
             let answer = remove(&mut map, key);
             put(handle, alloc, map);

@@ -2,17 +2,15 @@
 //!
 //! C lends the map of a word, as [`is_lent`] says, and has the loan back from each call. It ends the
 //! loan before it next passes the word to a call that may write.
-ghost use Rattle.std.specs.Prelude.{◌≡◌, MatchOption, false, is_some, length};
+ghost use Rattle.std.specs.Prelude.{◌≡◌, is_some, length};
 ghost use Rattle.std.specs.Borrow.{sem};
-ghost use Rattle.intmap_table.specs.Figures.{load_of};
-ghost use Rattle.intmap_c.specs.Answers.{no_value, value_found};
-ghost use Rattle.intmap_c.specs.Calls.{AreEqual, Clones, bound_to, itself};
+ghost use Rattle.intmap_c.specs.Answers.{value_found};
+ghost use Rattle.intmap_c.specs.Calls.{AreEqual, Clones, bound_to, filled_slots_of, map_of};
 ghost use Rattle.intmap_c.specs.Loans.{Loan, is_lent};
-ghost use Rattle.intmap_c.specs.Walks.{StepsIfMap};
-ghost use Rattle.intmap_c.specs.Statuses.{no_map_status};
+ghost use Rattle.intmap_c.specs.Walks.{Steps};
 
-use crate::answer::{FoundPair, FoundValue, NO_MAP};
-use crate::handle::Handle;
+use crate::answer::{FoundPair, FoundValue, OK};
+use crate::handle::{Handle, take};
 use crate::lent::{LentMap, Word};
 use crate::make::keep;
 use intmap::iter::Cursor;
@@ -20,10 +18,15 @@ use intmap::laws;
 use std::alloc::Global;
 use std::marker::PhantomData;
 
+/// The number of slots of a new map, which a word without a map stands for.
+const FIRST_CAPACITY: usize = 4;
+
+/// The load factor of a new map, in thousandths.
+const FIRST_LOAD_FACTOR: usize = 909;
+
 /// Returns what [`intmap_len`] returns.
 fn len(lent: LentMap<'_>) -> usize
-    ensures { MatchOption lent.entry.value (result ≡ 0)
-        (λ m. result ≡ length m.walk) }
+    ensures { result ≡ length (map_of lent.entry.value).walk }
 {
     match lent.map() {
         None => 0,
@@ -31,14 +34,13 @@ fn len(lent: LentMap<'_>) -> usize
     }
 }
 
-/// The number of pairs, or 0 if there is no map.
+/// The number of pairs.
 #[unsafe(no_mangle)]
 pub unsafe extern "C" fn intmap_len(word: &Word) -> usize
     ghost loan: { Loan }
     requires* { sem 𝓛 (is_lent loan word.now.at) }
     ensures* kept { sem 𝓛 (is_lent loan word.now.at) }
-    ensures value { MatchOption loan.value (result ≡ 0)
-        (λ m. result ≡ length m.walk) }
+    ensures value { result ≡ length (map_of loan.value).walk }
 {
     let lent = LentMap {
         at: word.at,
@@ -49,23 +51,21 @@ pub unsafe extern "C" fn intmap_len(word: &Word) -> usize
 
 /// Returns what [`intmap_capacity`] returns.
 fn capacity(lent: LentMap<'_>) -> usize
-    ensures { MatchOption lent.entry.value (result ≡ 0)
-        (λ m. result ≡ m.capacity) }
+    ensures { result ≡ (map_of lent.entry.value).capacity }
 {
     match lent.map() {
-        None => 0,
+        None => FIRST_CAPACITY,
         Some(map) => map.capacity(),
     }
 }
 
-/// The number of slots, or 0 if there is no map.
+/// The number of slots, which is 4 if there is no map yet.
 #[unsafe(no_mangle)]
 pub unsafe extern "C" fn intmap_capacity(word: &Word) -> usize
     ghost loan: { Loan }
     requires* { sem 𝓛 (is_lent loan word.now.at) }
     ensures* kept { sem 𝓛 (is_lent loan word.now.at) }
-    ensures value { MatchOption loan.value (result ≡ 0)
-        (λ m. result ≡ m.capacity) }
+    ensures value { result ≡ (map_of loan.value).capacity }
 {
     let lent = LentMap {
         at: word.at,
@@ -76,23 +76,21 @@ pub unsafe extern "C" fn intmap_capacity(word: &Word) -> usize
 
 /// Returns what [`intmap_load_factor`] returns.
 fn load_factor(lent: LentMap<'_>) -> usize
-    ensures { MatchOption lent.entry.value (result ≡ 0)
-        (λ m. result ≡ m.factor) }
+    ensures { result ≡ (map_of lent.entry.value).factor }
 {
     match lent.map() {
-        None => 0,
+        None => FIRST_LOAD_FACTOR,
         Some(map) => map.get_load_factor(),
     }
 }
 
-/// The load factor in thousandths, or 0 if there is no map.
+/// The load factor in thousandths, which is 909 if there is no map yet.
 #[unsafe(no_mangle)]
 pub unsafe extern "C" fn intmap_load_factor(word: &Word) -> usize
     ghost loan: { Loan }
     requires* { sem 𝓛 (is_lent loan word.now.at) }
     ensures* kept { sem 𝓛 (is_lent loan word.now.at) }
-    ensures value { MatchOption loan.value (result ≡ 0)
-        (λ m. result ≡ m.factor) }
+    ensures value { result ≡ (map_of loan.value).factor }
 {
     let lent = LentMap {
         at: word.at,
@@ -103,8 +101,7 @@ pub unsafe extern "C" fn intmap_load_factor(word: &Word) -> usize
 
 /// Returns what [`intmap_filled_slots`] returns.
 fn filled_slots(lent: LentMap<'_>) -> usize
-    ensures { MatchOption lent.entry.value (result ≡ 0)
-        (λ m. result ≡ load_of itself m.walk m.capacity) }
+    ensures { result ≡ filled_slots_of (map_of lent.entry.value) }
 {
     match lent.map() {
         None => 0,
@@ -112,14 +109,13 @@ fn filled_slots(lent: LentMap<'_>) -> usize
     }
 }
 
-/// The number of slots that hold a pair, or 0 if there is no map.
+/// The number of slots that hold a pair.
 #[unsafe(no_mangle)]
 pub unsafe extern "C" fn intmap_filled_slots(word: &Word) -> usize
     ghost loan: { Loan }
     requires* { sem 𝓛 (is_lent loan word.now.at) }
     ensures* kept { sem 𝓛 (is_lent loan word.now.at) }
-    ensures value { MatchOption loan.value (result ≡ 0)
-        (λ m. result ≡ load_of itself m.walk m.capacity) }
+    ensures value { result ≡ filled_slots_of (map_of loan.value) }
 {
     let lent = LentMap {
         at: word.at,
@@ -130,11 +126,10 @@ pub unsafe extern "C" fn intmap_filled_slots(word: &Word) -> usize
 
 /// Returns what [`intmap_get`] returns.
 fn get(lent: LentMap<'_>, key: u64) -> FoundValue
-    ensures { MatchOption lent.entry.value (result ≡ no_value no_map_status)
-        (λ m. result ≡ value_found (bound_to m key)) }
+    ensures { result ≡ value_found (bound_to (map_of lent.entry.value) key) }
 {
     match lent.map() {
-        None => FoundValue::none(NO_MAP),
+        None => FoundValue::of(None),
         Some(map) => FoundValue::of(map.get(key).copied()),
     }
 }
@@ -150,8 +145,7 @@ pub unsafe extern "C" fn intmap_get(word: &Word, key: u64) -> FoundValue
     ghost loan: { Loan }
     requires* { sem 𝓛 (is_lent loan word.now.at) }
     ensures* kept { sem 𝓛 (is_lent loan word.now.at) }
-    ensures value { MatchOption loan.value (result ≡ no_value no_map_status)
-        (λ m. result ≡ value_found (bound_to m key)) }
+    ensures value { result ≡ value_found (bound_to (map_of loan.value) key) }
 {
     let lent = LentMap {
         at: word.at,
@@ -162,8 +156,7 @@ pub unsafe extern "C" fn intmap_get(word: &Word, key: u64) -> FoundValue
 
 /// Returns what [`intmap_contains_key`] returns.
 fn contains_key(lent: LentMap<'_>, key: u64) -> bool
-    ensures { MatchOption lent.entry.value (result ≡ false)
-        (λ m. result ≡ is_some (bound_to m key)) }
+    ensures { result ≡ is_some (bound_to (map_of lent.entry.value) key) }
 {
     match lent.map() {
         None => false,
@@ -171,7 +164,7 @@ fn contains_key(lent: LentMap<'_>, key: u64) -> bool
     }
 }
 
-/// Whether the key is present. If there is no map, it returns false.
+/// Whether the key is present.
 ///
 /// ```text
 /// intmap_contains_key(&map, 21)    true after intmap_insert(&map, 21, 7)
@@ -181,8 +174,7 @@ pub unsafe extern "C" fn intmap_contains_key(word: &Word, key: u64) -> bool
     ghost loan: { Loan }
     requires* { sem 𝓛 (is_lent loan word.now.at) }
     ensures* kept { sem 𝓛 (is_lent loan word.now.at) }
-    ensures value { MatchOption loan.value (result ≡ false)
-        (λ m. result ≡ is_some (bound_to m key)) }
+    ensures value { result ≡ is_some (bound_to (map_of loan.value) key) }
 {
     let lent = LentMap {
         at: word.at,
@@ -193,10 +185,10 @@ pub unsafe extern "C" fn intmap_contains_key(word: &Word, key: u64) -> bool
 
 /// Returns what [`intmap_step`] returns.
 fn step(lent: LentMap<'_>, at: &mut Cursor) -> FoundPair
-    ensures { StepsIfMap lent.entry.value at.old at.new result }
+    ensures { Steps (map_of lent.entry.value) at.old at.new result }
 {
     match lent.map() {
-        None => FoundPair::none(NO_MAP),
+        None => FoundPair::of(None),
         Some(map) => match map.step(at) {
             Some((key, value)) => FoundPair::of(Some((*key, *value))),
             None => FoundPair::of(None),
@@ -216,7 +208,7 @@ pub unsafe extern "C" fn intmap_step(word: &Word, at: &mut Cursor) -> FoundPair
     ghost loan: { Loan }
     requires* lent { sem 𝓛 (is_lent loan word.now.at) }
     ensures* kept { sem 𝓛 (is_lent loan word.now.at) }
-    ensures step { StepsIfMap loan.value at.old at.new result }
+    ensures step { Steps (map_of loan.value) at.old at.new result }
 {
     let lent = LentMap {
         at: word.at,
@@ -227,18 +219,18 @@ pub unsafe extern "C" fn intmap_step(word: &Word, at: &mut Cursor) -> FoundPair
 
 /// Returns what [`intmap_equal`] returns.
 fn equal(lent: LentMap<'_>, other: LentMap<'_>) -> bool
-    ensures { AreEqual lent.entry.value other.entry.value result }
+    ensures { AreEqual (map_of lent.entry.value) (map_of other.entry.value) result }
 {
     laws::equal_maps_bind_the_same::<u64, u64>();
     match (lent.map(), other.map()) {
         (Some(map), Some(other)) => map == other,
+        (Some(map), None) => map.is_empty(),
+        (None, Some(other)) => other.is_empty(),
         (None, None) => true,
-        _ => false,
     }
 }
 
-/// Whether the same keys have the same values in both maps. A word without a map is equal to
-/// another without one, and to no map.
+/// Whether the same keys have the same values in both maps.
 ///
 /// ```text
 /// intmap_equal(&map, &other)    true after intmap_clone(&map, &other)
@@ -250,7 +242,7 @@ pub unsafe extern "C" fn intmap_equal(word: &Word, other: &Word) -> bool
     requires* second { sem 𝓛 (is_lent loans.1 other.now.at) }
     ensures* first { sem 𝓛 (is_lent loans.0 word.now.at) }
     ensures* second { sem 𝓛 (is_lent loans.1 other.now.at) }
-    ensures value { AreEqual loans.0.value loans.1.value result }
+    ensures value { AreEqual (map_of loans.0.value) (map_of loans.1.value) result }
 {
     let lent = LentMap {
         at: word.at,
@@ -268,13 +260,17 @@ fn clone(alloc: Global, lent: LentMap<'_>, to: &mut Handle) -> i32
     ensures { Clones lent.entry.value to.old.value to.new.value result }
 {
     match lent.map() {
-        None => NO_MAP,
+        None => {
+            drop(take(to, alloc));
+            OK
+        }
         Some(map) => keep(alloc, to, map.clone()),
     }
 }
 
 /// Makes a map in `to` with the same pairs in the same order, as many slots and the same load
-/// factor. If `to` had a map, that map is freed. If an allocation fails, `to` stays.
+/// factor. If there is no map, `to` has none then. If `to` had a map, that map is freed. If an
+/// allocation fails, `to` stays.
 ///
 /// ```text
 /// intmap_clone(&map, &other)    INTMAP_OK, and each key has the same value in both

@@ -1,17 +1,18 @@
 //! Calls that remove pairs along the walk.
 ghost use Rattle.std.specs.Prelude.{◌≡◌, ⊤};
 ghost use Rattle.intmap.specs.Map.{emptied};
-ghost use Rattle.intmap_c.specs.Answers.{OnMap, no_pair};
+ghost use Rattle.intmap_c.specs.Answers.{no_pair};
+ghost use Rattle.intmap_c.specs.Calls.{OnMap};
 ghost use Rattle.intmap_c.specs.Walks.{Cuts};
-ghost use Rattle.intmap_c.specs.Statuses.{no_map_status};
+ghost use Rattle.intmap_c.specs.Statuses.{absent_status};
 
-use crate::answer::{FoundPair, NO_MAP};
+use crate::answer::FoundPair;
 use crate::handle::{Handle, put, take};
 use intmap::IntMap;
 use intmap::iter::Cursor;
 use std::alloc::Global;
 
-/// Removes a pair, and returns what [`intmap_cut`] returns if there is a map.
+/// Removes a pair, and returns what [`intmap_cut`] returns.
 fn cut(map: &mut IntMap<u64, u64>, at: &mut Cursor) -> FoundPair
     ensures { Cuts map.old map.new at.old at.new result }
 {
@@ -28,11 +29,11 @@ fn cut(map: &mut IntMap<u64, u64>, at: &mut Cursor) -> FoundPair
 #[unsafe(no_mangle)]
 pub extern "C" fn intmap_cut(alloc: Global, handle: &mut Handle, at: &mut Cursor) -> FoundPair
     ensures { OnMap handle.old.value handle.new.value
-        ((result ≡ no_pair no_map_status) × (at.new ≡ at.old))
+        ((result ≡ no_pair absent_status) × (at.new ≡ at.old))
         (λ m n. Cuts m n at.old at.new result) }
 {
     match take(handle, alloc) {
-        None => FoundPair::none(NO_MAP),
+        None => FoundPair::of(None),
         Some(mut map) => {
             let found = cut(&mut map, at);
             put(handle, alloc, map);

@@ -1,5 +1,5 @@
 -- By hand, since two loans are required of the caller, and given back.
-use Rattle.intmap_c.proofs.ReaderWords.{[], ◌∷◌, refl, sym, List, Val, ftrue, tables, ‵, raw, ◌⊛◌, some, later, ◌$◌, ◌∵◌, !, qed, done, move, keep, drop, use1, split, join, fsplit, fjoin, pick, await, rewrite, suffices, enter, stop, fld, of_opd, no_more, and_then, returns, alloc_all, pass_all, free_all, look_at, get, sets, lands_as, agg, sub, whole, owns, types_at, plain, yes, nothing, calls_at, Lasts, lasts, triple_of, framed, Stays, stay_dropped, Goes-dropped, walk_of, says, ends_at, proved, Lft, flft, id⊢, vptr, named, fact, use2, frame, group, load, through, look_in, RefOf, Is, shows, cell_at, shr_vals, shr_Tells, NamedLft, contraction, looks, shuts, peeks, heard, shares_map, is_lent, Word, word_lowers, word_copies, lent_row, lowered, shares_map_laws, ptr_fits, lent_fits, lent_val, lent_in}
+use Rattle.intmap_c.proofs.ReaderWords.{[], ◌∷◌, refl, sym, List, Val, ftrue, tables, ‵, raw, ◌⊛◌, some, later, ◌$◌, ◌∵◌, !, qed, done, move, keep, drop, use1, split, join, fsplit, fjoin, pick, await, rewrite, suffices, enter, stop, fld, of_opd, no_more, and_then, returns, alloc_all, pass_all, free_all, look_at, get, sets, lands_as, agg, sub, whole, owns, types_at, plain, yes, nothing, calls_at, Lasts, lasts, triple_of, framed, Stays, stay_dropped, Goes-dropped, walk_of, says, ends_at, proved, Lft, flft, id⊢, vptr, named, fact, use2, frame, group, load, through, look_in, RefOf, Is, shows, cell_at, shr_vals, shr_Tells, NamedLft, contraction, looks, shuts, peeks, heard, shares_map, is_lent, Word, word_lowers, word_copies, lent_row, lowered, shares_map_laws, ptr_fits, lent_fits, lent_val, lent_in, map_of}
 use mathlib.Core.Bool.{Bool}
 use denote.Builtin.{bool}
 use denote.Plain.{bool_Lawful}
@@ -59,7 +59,7 @@ intmap_equal_spec {M = M} 𝓤 𝓛 𝓜 𝓡 wired =
     calls_at ! (framed 𝓤 𝓛.H 𝓜 (tables 𝓤 𝓛.H 𝓜 𝓡 𝓡.env)) G (met 𝓤 𝓛 𝓜 𝓡 (code.calls-intmap_c::read::equal 𝓡.env wired)) z
     (and_then ! (get ! refl) (and_then ! (get ! refl) (no_more !))) (λ v.
     use1 𝓛 (later (some (λ (r : Bool). ((‵ (flft α loans.0.share) ⊛ ‵ (flft α' loans.1.share) ⊛ ‵ ftrue) ⊛ ‵ (bool.own_val r (v ∷ []))) ⊛
-    some (λ (ws : Lasts g.ended z.0.0 z.0.3). ‵ (lasts g.ended z.0.0 z.0.3 ws) ⊛ raw (fact 𝓤 (AreEqual m m' r)))))) (id⊢ 𝓤 _) $
+    some (λ (ws : Lasts g.ended z.0.0 z.0.3). ‵ (lasts g.ended z.0.0 z.0.3 ws) ⊛ raw (fact 𝓤 (AreEqual (map_of m) (map_of m') r)))))) (id⊢ 𝓤 _) $
     await ! tt $ pick ! (λ r. split ! $ split ! $ split ! $ move ! (1 ∷ []) $ split ! $ move ! (3 ∷ []) $ peeks ! bool (Is bool) (shows 𝓛 bool) r (v ∷ []) (λ is.
     lands_as ! refl refl ((bool_Lawful 𝓛).typed r (v ∷ []) is).0 $ returns ! (look_at ! 0 refl) $ free_all ! refl $
     -- [the result; the second loan's token; nothing; the first's; what the callee left and says; what stays lent of both; ..]

@@ -1,9 +1,8 @@
 -- By hand, since the loan is required of the caller, and given back.
-use Rattle.intmap_c.proofs.ReaderWords.{◌≡◌, [], ◌∷◌, refl, sym, List, Val, ftrue, tables, ‵, raw, ◌⊛◌, some, later, ◌$◌, ◌∵◌, !, qed, done, move, keep, drop, use1, split, join, fsplit, fjoin, pick, await, rewrite, suffices, enter, stop, fld, of_opd, no_more, and_then, returns, alloc_all, pass_all, free_all, look_at, get, sets, lands_as, agg, sub, whole, owns, types_at, plain, yes, nothing, calls_at, Lasts, lasts, triple_of, framed, Stays, stay_dropped, Goes-dropped, walk_of, says, ends_at, proved, MatchOption, Lft, flft, id⊢, vptr, named, w64, fact, use2, frame, group, load, through, look_in, RefOf, u64, Is, shows, cell_at, uint_Makes, uint_vals, uint_Tells, RattleType, shr_vals, shr_Tells, NamedLft, contraction, looks, shuts, peeks, heard, owned, shares_map, is_lent, Word, word_lowers, word_copies, lent_row, lowered, shares_map_laws, ptr_fits, lent_fits, lent_val, lent_in}
-use Rattle.intmap_c.specs.Answers.{no_value, value_found}
+use Rattle.intmap_c.proofs.ReaderWords.{◌≡◌, [], ◌∷◌, refl, sym, List, Val, ftrue, tables, ‵, raw, ◌⊛◌, some, later, ◌$◌, ◌∵◌, !, qed, done, move, keep, drop, use1, split, join, fsplit, fjoin, pick, await, rewrite, suffices, enter, stop, fld, of_opd, no_more, and_then, returns, alloc_all, pass_all, free_all, look_at, get, sets, lands_as, agg, sub, whole, owns, types_at, plain, yes, nothing, calls_at, Lasts, lasts, triple_of, framed, Stays, stay_dropped, Goes-dropped, walk_of, says, ends_at, proved, Lft, flft, id⊢, vptr, named, w64, fact, use2, frame, group, load, through, look_in, RefOf, u64, Is, shows, cell_at, uint_Makes, uint_vals, uint_Tells, RattleType, shr_vals, shr_Tells, NamedLft, contraction, looks, shuts, peeks, heard, owned, shares_map, is_lent, Word, word_lowers, word_copies, lent_row, lowered, shares_map_laws, ptr_fits, lent_fits, lent_val, lent_in, map_of}
+use Rattle.intmap_c.specs.Answers.{value_found}
 use Rattle.intmap_c.specs.Calls.{bound_to}
 use Rattle.intmap_c.specs.declared.answer.FoundValue.{FoundValue}
-use Rattle.intmap_c.specs.Statuses.{no_map_status}
 use Rattle.intmap_c.specs.contracts.answer.FoundValue as answer
 use Rattle.intmap_c.proofs.answer.FoundValue.TheLaws as answer_laws
 use Rattle.intmap_c.specs.contracts.read.intmap_get as f
@@ -49,7 +48,7 @@ intmap_get_spec {M = M} 𝓤 𝓛 𝓜 𝓡 wired =
     calls_at ! (framed 𝓤 𝓛.H 𝓜 (tables 𝓤 𝓛.H 𝓜 𝓡 𝓡.env)) G (met 𝓤 𝓛 𝓜 𝓡 (code.calls-intmap_c::read::get 𝓡.env wired)) z
     (and_then ! (get ! refl) (and_then ! (get ! refl) (no_more !))) (λ v.
     use1 𝓛 (later (some (λ (r : FoundValue). ((‵ (flft α loan.share) ⊛ ‵ ftrue) ⊛ ‵ (Out.own_val r (v ∷ []))) ⊛
-    some (λ (ws : Lasts g.ended z.0.0 z.0.3). ‵ (lasts g.ended z.0.0 z.0.3 ws) ⊛ raw (fact 𝓤 (MatchOption m (r ≡ no_value no_map_status) (λ n. r ≡ value_found (bound_to n k)))))))) (id⊢ 𝓤 _) $
+    some (λ (ws : Lasts g.ended z.0.0 z.0.3). ‵ (lasts g.ended z.0.0 z.0.3 ws) ⊛ raw (fact 𝓤 (r ≡ value_found (bound_to (map_of m) k))))))) (id⊢ 𝓤 _) $
     await ! tt $ pick ! (λ r. split ! $ split ! $ split ! $ move ! (2 ∷ []) $ peeks ! Out (Is Out) (shows 𝓛 Out) r (v ∷ []) (λ is.
     lands_as ! refl refl ((answer_laws.the_row_laws.lawful 𝓛).typed r (v ∷ []) is).0 $ returns ! (look_at ! 0 refl) $ free_all ! refl $
     -- [the number; the token of the loan; nothing; what the callee left and says; what stays lent; the token of the `&`; ..]

@@ -1,5 +1,5 @@
 -- By hand, since the loan is required of the caller, and given back. The cursor is lent on to the callee.
-use Rattle.intmap_c.proofs.ReaderWords.{ℕ, [], ◌∷◌, refl, sym, List, Val, ftrue, tables, ‵, raw, ◌⊛◌, some, later, ◌$◌, ◌∵◌, !, qed, done, move, keep, use1, split, join, fsplit, fjoin, pick, await, rewrite, suffices, enter, stop, fld, of_opd, no_more, and_then, returns, alloc_all, pass_all, free_all, look_at, get, sets, lands_as, agg, sub, whole, owns, types_at, plain, yes, nothing, calls_at, Lasts, lasts, triple_of, framed, Stays, stay_dropped, Goes-dropped, walk_of, says, ends_at, proved, Lft, flft, id⊢, vptr, named, fact, use2, load, through, look_in, RefOf, Is, shows, cell_at, shr_vals, shr_Tells, NamedLft, RattleType, contraction, looks, shuts, peeks, heard, shares_map, is_lent, Word, word_lowers, word_copies, lent_row, lowered, shares_map_laws, ptr_fits, lent_fits, lent_val, lent_in, frame, group}
+use Rattle.intmap_c.proofs.ReaderWords.{ℕ, [], ◌∷◌, refl, sym, List, Val, ftrue, tables, ‵, raw, ◌⊛◌, some, later, ◌$◌, ◌∵◌, !, qed, done, move, keep, use1, split, join, fsplit, fjoin, pick, await, rewrite, suffices, enter, stop, fld, of_opd, no_more, and_then, returns, alloc_all, pass_all, free_all, look_at, get, sets, lands_as, agg, sub, whole, owns, types_at, plain, yes, nothing, calls_at, Lasts, lasts, triple_of, framed, Stays, stay_dropped, Goes-dropped, walk_of, says, ends_at, proved, Lft, flft, id⊢, vptr, named, fact, use2, load, through, look_in, RefOf, Is, shows, cell_at, shr_vals, shr_Tells, NamedLft, RattleType, contraction, looks, shuts, peeks, heard, shares_map, is_lent, Word, word_lowers, word_copies, lent_row, lowered, shares_map_laws, ptr_fits, lent_fits, lent_val, lent_in, frame, group, map_of}
 use base.Fraction.{full_share}
 use types.Kit.{use3}
 use types.Run.{addr}
@@ -9,7 +9,7 @@ use denote.MutBor.{MutBor}
 use denote.Ref.{MutRef, mut_vals, mut_Tells}
 use denote.Triple.Walked.{Goes-ref, stay_ref}
 use Rattle.intmap_table.specs.contracts.table.walk.Cursor.{the_row as Cursor}
-use Rattle.intmap_c.specs.Walks.{StepsIfMap}
+use Rattle.intmap_c.specs.Walks.{Steps}
 use Rattle.intmap_c.specs.declared.answer.FoundPair.{FoundPair}
 use Rattle.intmap_c.specs.contracts.answer.FoundPair as found
 use Rattle.intmap_c.proofs.answer.FoundPair.TheLaws as found_laws
@@ -63,7 +63,7 @@ intmap_step_spec {M = M} 𝓤 𝓛 𝓜 𝓡 wired =
     calls_at ! (framed 𝓤 𝓛.H 𝓜 (tables 𝓤 𝓛.H 𝓜 𝓡 𝓡.env)) G (met 𝓤 𝓛 𝓜 𝓡 (code.calls-intmap_c::read::step 𝓡.env wired)) z
     (and_then ! (get ! refl) (and_then ! (get ! refl) (no_more !))) (λ v.
     use1 𝓛 (later (some (λ (u : FoundPair). ((‵ (flft α loan.share) ⊛ ‵ (flft (β ∷ []) full_share) ⊛ ‵ ftrue) ⊛ ‵ (Out.own_val u (v ∷ []))) ⊛
-    some (λ (ws : Lasts g.ended z.0.0 z.0.3). ‵ (lasts g.ended z.0.0 z.0.3 ws) ⊛ raw (fact 𝓤 (StepsIfMap m r.now ws.1.0 u)))))) (id⊢ 𝓤 _) $
+    some (λ (ws : Lasts g.ended z.0.0 z.0.3). ‵ (lasts g.ended z.0.0 z.0.3 ws) ⊛ raw (fact 𝓤 (Steps (map_of m) r.now ws.1.0 u)))))) (id⊢ 𝓤 _) $
     await ! tt $ pick ! (λ u. split ! $ split ! $ split ! $ move ! (1 ∷ []) $ split ! $ lft_end ! tt $
     -- [that lending is over; nothing; the token of the loan; the result; what the callee left and says; what the lender keeps; ..]
     move ! (3 ∷ []) $ peeks ! Out (Is Out) (shows 𝓛 Out) u (v ∷ []) (λ is.
