@@ -49,7 +49,7 @@ void *pool_realloc(void *block, size_t size) {
 // Inserts until the memory is used up, and finds each pair.
 int main(void) {
     intmap map = INTMAP_INIT;
-    intmap_status status = intmap_new(&map);
+    intmap_status status = INTMAP_OK;
     uint64_t count = 0, found = 0;
     while (!intmap_failed(status)) {
         status = intmap_insert(&map, count, 3 * count).status;

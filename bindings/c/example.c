@@ -18,7 +18,7 @@ static void print(const intmap *counts) {
 
 int main(void) {
     intmap counts = INTMAP_INIT;
-    intmap_status status = intmap_new(&counts);
+    intmap_status status = INTMAP_OK;
     uint64_t number;
     while (!intmap_failed(status) && scanf("%" SCNu64, &number) == 1) {
         status = intmap_add_or_insert(&counts, number, 1).status;

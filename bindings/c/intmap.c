@@ -17,7 +17,7 @@
 // have 16 bytes each.
 //
 // Compilers: rattle-kit-13f logic dac8208d650f15bf; clang version 22.1.8
-// Sources: 06b811c81c938352ccd049beba113c7d207dc419cf89389c774c1a7c27d1a9cd
+// Sources: e4c0157497246def9dafd2037bebf73cb2956a051e153d851eb613a102effafe
 //
 // SPDX-License-Identifier: MIT
 //
@@ -306,6 +306,16 @@ static uint64_t no_bytes[1];
 
 // What functions return. The fields have no names in the module.
 
+struct byte_address {
+    uint8_t first;
+    char *second;
+};
+static inline struct byte_address made_byte_address(uint8_t first, char *second) {
+    struct byte_address made;
+    made.first = first;
+    made.second = second;
+    return made;
+}
 struct byte_word {
     uint8_t first;
     uint64_t second;
@@ -314,6 +324,21 @@ static inline struct byte_word made_byte_word(uint8_t first, uint64_t second) {
     struct byte_word made;
     made.first = first;
     made.second = second;
+    return made;
+}
+struct word_half {
+    uint64_t first;
+    uint32_t second;
+};
+static inline struct word_half made_word_half(uint64_t first, uint32_t second) {
+    struct word_half made;
+    made.first = first;
+    made.second = second;
+    return made;
+}
+static inline struct word_half empty_word_half(void) {
+    struct word_half made;
+    memset(&made, 0, sizeof made);
     return made;
 }
 struct word_word {
@@ -349,10 +374,11 @@ static inline void rattle_dealloc(char *block) {
 
 // The functions of the module.
 
-static ALIGNED uint32_t make_keep(char *a0, char *a1);
-static ALIGNED void box_drop(char *a0);
 static ALIGNED void intmap_with_slots(char *a0, uint64_t a1);
 static ALIGNED void grow_reserve_slots(char *a0, char *a1, uint64_t a2);
+static ALIGNED uint32_t make_keep(char *a0, char *a1);
+static ALIGNED void box_drop(char *a0);
+static ALIGNED struct byte_address handle_take_or_make(char *a0);
 static ALIGNED NOINLINE void intmap_add_growing(char *a0, char *a1, uint64_t a2, uint64_t a3, uint64_t a4, uint64_t a5);
 static ALIGNED uint8_t slots_grow(char *a0, uint64_t a1, bool a2);
 static ALIGNED uint8_t grow_lone_grow_lone(char *a0, char *a1, uint64_t a2);
@@ -371,135 +397,20 @@ static ALWAYS_INLINE uint64_t do_intmap_filled_slots(char *map);
 static ALWAYS_INLINE uint64_t do_intmap_len(char *map);
 static ALWAYS_INLINE uint64_t do_intmap_load_factor(char *map);
 static ALWAYS_INLINE struct word_word do_intmap_get(char *map, uint64_t key);
-static ALWAYS_INLINE uint32_t do_intmap_clone(char *map, char *to);
-static ALWAYS_INLINE uint32_t do_intmap_new(char *map);
 static ALWAYS_INLINE uint32_t do_intmap_with_capacity(char *map, uint64_t capacity);
 static ALWAYS_INLINE char *do_intmap_step(char *found, char *map, char *at);
 static ALWAYS_INLINE struct word_word do_intmap_add(char *map, uint64_t key, uint64_t more);
-static ALWAYS_INLINE struct word_word do_intmap_add_or_insert(char *map, uint64_t key, uint64_t more);
 static ALWAYS_INLINE void do_intmap_clear(char *map);
+static ALWAYS_INLINE uint32_t do_intmap_clone(char *map, char *to);
 static ALWAYS_INLINE char *do_intmap_cut(char *found, char *map, char *at);
 static ALWAYS_INLINE void do_intmap_free(char *map);
+static ALWAYS_INLINE struct word_word do_intmap_remove(char *map, uint64_t key);
+static ALWAYS_INLINE struct word_word do_intmap_set(char *map, uint64_t key, uint64_t value);
+static ALWAYS_INLINE struct word_word do_intmap_add_or_insert(char *map, uint64_t key, uint64_t more);
 static ALWAYS_INLINE struct word_word do_intmap_insert(char *map, uint64_t key, uint64_t value);
 static ALWAYS_INLINE uint32_t do_intmap_insert_checked(char *map, uint64_t key, uint64_t value);
-static ALWAYS_INLINE struct word_word do_intmap_remove(char *map, uint64_t key);
 static ALWAYS_INLINE uint32_t do_intmap_reserve(char *map, uint64_t additional);
-static ALWAYS_INLINE struct word_word do_intmap_set(char *map, uint64_t key, uint64_t value);
 static ALWAYS_INLINE uint32_t do_intmap_set_load_factor(char *map, uint64_t thousandths);
-
-// intmap_c::make::keep, in crates/intmap_c/src/make.rt
-static ALIGNED uint32_t make_keep(char *a0, char *a1) {
-    char *r2_2, *r2_3, *r2_6, *r2_9, *x1, *r9;
-    uint64_t r2_4, r2_5, r2_7, r2_8, r2_10, r2_11, r3, r0_06, r12;
-    struct word_word r0;
-    uint32_t common_ret_op;
-    uint64_t r2_room[3];
-    char *r2 = (char *)r2_room;
-    r2_2 = load_address(a1 + 8);
-    r2_3 = load_address(a1 + 16);
-    r2_4 = load64(a1 + 24);
-    r2_5 = load64(a1 + 32);
-    r2_6 = load_address(a1 + 40);
-    r2_7 = load64(a1 + 48);
-    r2_8 = load64(a1 + 56);
-    r2_9 = load_address(a1 + 64);
-    r2_10 = load64(a1 + 72);
-    r2_11 = load64(a1 + 80);
-    if (load8(a1) == 0) {
-        memcpy(r2, a1 + 88, 24);
-        r0 = rattle_alloc(104, 8);
-        if ((r0.first & 1) != 0) {
-            x1 = (char *)(uintptr_t)r0.second;
-            store_address(x1, r2_2);
-            store_address(x1 + 8, r2_3);
-            store64(x1 + 16, r2_4);
-            store64(x1 + 24, r2_5);
-            store_address(x1 + 32, r2_6);
-            store64(x1 + 40, r2_7);
-            store64(x1 + 48, r2_8);
-            store_address(x1 + 56, r2_9);
-            store64(x1 + 64, r2_10);
-            store64(x1 + 72, r2_11);
-            memcpy(x1 + 80, r2, 24);
-            r3 = load64(a0);
-            store64(a0, r0.second);
-            if (r3 == 0) {
-                common_ret_op = 0;
-            } else {
-                box_drop((char *)(uintptr_t)r3);
-                common_ret_op = 0;
-            }
-        } else {
-            if (r2_5 != 0) {
-                rattle_dealloc(r2_3);
-            }
-            if (r2_8 != 0) {
-                rattle_dealloc(r2_6);
-            }
-            if (r2_10 != 0) {
-                r0_06 = 0;
-                for (;;) {
-                    r9 = r2_9 + (r0_06 * 48);
-                    if (load64(r9 + 40) != 0) {
-                        rattle_dealloc(load_address(r9 + 24));
-                    }
-                    r12 = r0_06 + 1;
-                    if (r12 == r2_10) {
-                        break;
-                    }
-                    r0_06 = r12;
-                }
-            }
-            if (r2_11 == 0) {
-                common_ret_op = 4294967295u;
-            } else {
-                rattle_dealloc(r2_9);
-                common_ret_op = 4294967295u;
-            }
-        }
-    } else {
-        common_ret_op = (load8(a1 + 1) == 0) ? 4294967295u : 4294967294u;
-    }
-    return common_ret_op;
-}
-
-// std_alloc::boxed::Box::drop, in Rattle's library std_alloc
-static ALIGNED void box_drop(char *a0) {
-    char *r4, *r4_2, *r4_4, *r9;
-    uint64_t r4_3, r4_5, r4_6, r4_7, r0_06, r12;
-    r4 = load_address(a0 + 8);
-    r4_2 = load_address(a0 + 32);
-    r4_3 = load64(a0 + 48);
-    r4_4 = load_address(a0 + 56);
-    r4_5 = load64(a0 + 64);
-    r4_6 = load64(a0 + 72);
-    r4_7 = load64(a0 + 24);
-    rattle_dealloc(a0);
-    if (r4_7 != 0) {
-        rattle_dealloc(r4);
-    }
-    if (r4_3 != 0) {
-        rattle_dealloc(r4_2);
-    }
-    if (r4_5 != 0) {
-        r0_06 = 0;
-        for (;;) {
-            r9 = r4_4 + (r0_06 * 48);
-            if (load64(r9 + 40) != 0) {
-                rattle_dealloc(load_address(r9 + 24));
-            }
-            r12 = r0_06 + 1;
-            if (r12 == r4_5) {
-                break;
-            }
-            r0_06 = r12;
-        }
-    }
-    if (r4_6 != 0) {
-        rattle_dealloc(r4_4);
-    }
-    return;
-}
 
 // intmap::map::IntMap::with_slots, in crates/intmap/src/map/build.rt
 static ALIGNED void intmap_with_slots(char *a0, uint64_t a1) {
@@ -680,6 +591,205 @@ arm_1:;
     store64(a0 + 24, r4_0);
 common_ret:;
     return;
+}
+
+// intmap_c::make::keep, in crates/intmap_c/src/make.rt
+static ALIGNED uint32_t make_keep(char *a0, char *a1) {
+    char *r2_2, *r2_3, *r2_6, *r2_9, *x1, *r9;
+    uint64_t r2_4, r2_5, r2_7, r2_8, r2_10, r2_11, r3, r0_06, r12;
+    struct word_word r0;
+    uint32_t common_ret_op;
+    uint64_t r2_room[3];
+    char *r2 = (char *)r2_room;
+    r2_2 = load_address(a1 + 8);
+    r2_3 = load_address(a1 + 16);
+    r2_4 = load64(a1 + 24);
+    r2_5 = load64(a1 + 32);
+    r2_6 = load_address(a1 + 40);
+    r2_7 = load64(a1 + 48);
+    r2_8 = load64(a1 + 56);
+    r2_9 = load_address(a1 + 64);
+    r2_10 = load64(a1 + 72);
+    r2_11 = load64(a1 + 80);
+    if (load8(a1) == 0) {
+        memcpy(r2, a1 + 88, 24);
+        r0 = rattle_alloc(104, 8);
+        if ((r0.first & 1) != 0) {
+            x1 = (char *)(uintptr_t)r0.second;
+            store_address(x1, r2_2);
+            store_address(x1 + 8, r2_3);
+            store64(x1 + 16, r2_4);
+            store64(x1 + 24, r2_5);
+            store_address(x1 + 32, r2_6);
+            store64(x1 + 40, r2_7);
+            store64(x1 + 48, r2_8);
+            store_address(x1 + 56, r2_9);
+            store64(x1 + 64, r2_10);
+            store64(x1 + 72, r2_11);
+            memcpy(x1 + 80, r2, 24);
+            r3 = load64(a0);
+            store64(a0, r0.second);
+            if (r3 == 0) {
+                common_ret_op = 0;
+            } else {
+                box_drop((char *)(uintptr_t)r3);
+                common_ret_op = 0;
+            }
+        } else {
+            if (r2_5 != 0) {
+                rattle_dealloc(r2_3);
+            }
+            if (r2_8 != 0) {
+                rattle_dealloc(r2_6);
+            }
+            if (r2_10 != 0) {
+                r0_06 = 0;
+                for (;;) {
+                    r9 = r2_9 + (r0_06 * 48);
+                    if (load64(r9 + 40) != 0) {
+                        rattle_dealloc(load_address(r9 + 24));
+                    }
+                    r12 = r0_06 + 1;
+                    if (r12 == r2_10) {
+                        break;
+                    }
+                    r0_06 = r12;
+                }
+            }
+            if (r2_11 == 0) {
+                common_ret_op = 4294967295u;
+            } else {
+                rattle_dealloc(r2_9);
+                common_ret_op = 4294967295u;
+            }
+        }
+    } else {
+        common_ret_op = (load8(a1 + 1) == 0) ? 4294967295u : 4294967294u;
+    }
+    return common_ret_op;
+}
+
+// std_alloc::boxed::Box::drop, in Rattle's library std_alloc
+static ALIGNED void box_drop(char *a0) {
+    char *r4, *r4_2, *r4_4, *r9;
+    uint64_t r4_3, r4_5, r4_6, r4_7, r0_06, r12;
+    r4 = load_address(a0 + 8);
+    r4_2 = load_address(a0 + 32);
+    r4_3 = load64(a0 + 48);
+    r4_4 = load_address(a0 + 56);
+    r4_5 = load64(a0 + 64);
+    r4_6 = load64(a0 + 72);
+    r4_7 = load64(a0 + 24);
+    rattle_dealloc(a0);
+    if (r4_7 != 0) {
+        rattle_dealloc(r4);
+    }
+    if (r4_3 != 0) {
+        rattle_dealloc(r4_2);
+    }
+    if (r4_5 != 0) {
+        r0_06 = 0;
+        for (;;) {
+            r9 = r4_4 + (r0_06 * 48);
+            if (load64(r9 + 40) != 0) {
+                rattle_dealloc(load_address(r9 + 24));
+            }
+            r12 = r0_06 + 1;
+            if (r12 == r4_5) {
+                break;
+            }
+            r0_06 = r12;
+        }
+    }
+    if (r4_6 != 0) {
+        rattle_dealloc(r4_4);
+    }
+    return;
+}
+
+// intmap_c::handle::take_or_make, in crates/intmap_c/src/handle.rt
+static ALIGNED struct byte_address handle_take_or_make(char *a0) {
+    uint64_t r3, r7_4, r7_5, r7_7, r7_8, r7_10, r7_11, r0_06, r12;
+    char *r7_2, *r7_3, *r7_6, *r7_9, *x3, *r0_3, *r9;
+    uint8_t x1, r0_4;
+    struct word_word r0_2;
+    uint64_t r0_room[14];
+    char *r0 = (char *)r0_room;
+    uint64_t r7_room[3];
+    char *r7 = (char *)r7_room;
+    r3 = load64(a0);
+    store64(a0, 0);
+    if (r3 == 0) {
+        memset(r0, 0, 112);
+        intmap_with_slots(r0, 4);
+        r7_2 = load_address(r0 + 8);
+        r7_3 = load_address(r0 + 16);
+        r7_4 = load64(r0 + 24);
+        r7_5 = load64(r0 + 32);
+        r7_6 = load_address(r0 + 40);
+        r7_7 = load64(r0 + 48);
+        r7_8 = load64(r0 + 56);
+        r7_9 = load_address(r0 + 64);
+        r7_10 = load64(r0 + 72);
+        r7_11 = load64(r0 + 80);
+        x1 = load8(r0);
+        memcpy(r7, r0 + 88, 24);
+        if (x1 == 0) {
+            r0_2 = rattle_alloc(104, 8);
+            if ((r0_2.first & 1) != 0) {
+                x3 = (char *)(uintptr_t)r0_2.second;
+                store_address(x3, r7_2);
+                store_address(x3 + 8, r7_3);
+                store64(x3 + 16, r7_4);
+                store64(x3 + 24, r7_5);
+                store_address(x3 + 32, r7_6);
+                store64(x3 + 40, r7_7);
+                store64(x3 + 48, r7_8);
+                store_address(x3 + 56, r7_9);
+                store64(x3 + 64, r7_10);
+                store64(x3 + 72, r7_11);
+                memcpy(x3 + 80, r7, 24);
+                r0_3 = x3;
+                r0_4 = 1;
+            } else {
+                if (r7_5 != 0) {
+                    rattle_dealloc(r7_3);
+                }
+                if (r7_8 != 0) {
+                    rattle_dealloc(r7_6);
+                }
+                if (r7_10 != 0) {
+                    r0_06 = 0;
+                    for (;;) {
+                        r9 = r7_9 + (r0_06 * 48);
+                        if (load64(r9 + 40) != 0) {
+                            rattle_dealloc(load_address(r9 + 24));
+                        }
+                        r12 = r0_06 + 1;
+                        if (r12 == r7_10) {
+                            break;
+                        }
+                        r0_06 = r12;
+                    }
+                }
+                if (r7_11 == 0) {
+                    r0_3 = NULL;
+                    r0_4 = 0;
+                } else {
+                    rattle_dealloc(r7_9);
+                    r0_3 = NULL;
+                    r0_4 = 0;
+                }
+            }
+        } else {
+            r0_3 = NULL;
+            r0_4 = 0;
+        }
+    } else {
+        r0_3 = (char *)(uintptr_t)r3;
+        r0_4 = 1;
+    }
+    return made_byte_address(r0_4, r0_3);
 }
 
 // intmap::map::IntMap::add_growing, in crates/intmap/src/map/insert.rt
@@ -2448,7 +2558,7 @@ static ALWAYS_INLINE uint64_t do_intmap_capacity(char *map) {
     uint64_t r4_0;
     r4 = load_address(map);
     if (r4 == NULL) {
-        r4_0 = 0;
+        r4_0 = 4;
     } else {
         r4_0 = load64(r4 + 64) + load64(r4 + 40);
     }
@@ -2507,198 +2617,201 @@ static ALWAYS_INLINE bool do_intmap_contains_key(char *map, uint64_t key) {
 static ALWAYS_INLINE bool do_intmap_equal(char *map, char *other) {
     char *r5, *r8_2, *r6_3, *r4, *r1, *r1_5, *r1_8, *r1_12, *r1_15, *r11, *r21, *r11_2, *r1_17, *r1_21, *r7, *r1_23,
         *r1_27, *r11_3, *r0, *r11_4, *common_ret_op, *r4_2;
-    bool r12, r7_0;
-    uint64_t r6, r6_2, r6_4, r1_2, r1_3, r1_4, r1_6, r1_7, r1_9, r1_10, r1_11, r1_13, r33, r54, r60, r1_14, r1_16,
-        r17, r27, r33_2, r40, r21_2, r21_4, r1_18, r1_19, r1_20, r1_22, r1_24, r1_25, r1_26, r1_28, r37, r10, r6_5,
-        r3_0, r21_5, r36;
-    uint8_t r3, r21_3, r3_2;
+    bool r12, r9_0_shrunk;
+    uint64_t r3, r6, r6_2, r6_4, r1_2, r1_3, r1_4, r1_6, r1_7, r1_9, r1_10, r1_11, r1_13, r33, r54, r60, r1_14,
+        r1_16, r17, r27, r33_2, r40, r21_2, r21_4, r1_18, r1_19, r1_20, r1_22, r1_24, r1_25, r1_26, r1_28, r37, r10,
+        r6_5, r3_0, r21_5, r36;
+    uint8_t r3_2, r21_3, r3_3;
     char *r8 = (char *)no_bytes;
     r5 = load_address(map);
     r8_2 = load_address(other);
     r12 = r8_2 == NULL;
     if (r5 == NULL) {
         if (r12) {
-            r7_0 = true;
-            goto after_read_intmap_equal;
+            r9_0_shrunk = true;
+        } else {
+            r9_0_shrunk = load64(r8_2 + 80) == 0;
         }
     } else {
-        if (!r12) {
-            if (load64(r5 + 80) != load64(r8_2 + 80)) {
-                r7_0 = false;
-                goto after_read_intmap_equal;
-            }
-            r6 = load64(r5 + 16);
-            if (r6 == 0) {
-                r6_2 = 0;
-                r6_3 = (char *)no_bytes;
-                r6_4 = 0;
-            } else {
-                r4 = load_address(r5 + 8);
-                r6_2 = load64(r4);
-                r6_3 = r4 + 8;
-                r6_4 = r6 - 1;
-            }
-            r1 = r8;
-            r1_2 = 0;
-            r1_3 = r6_2;
-            r1_4 = 0;
-            r1_5 = r6_3;
-            r1_6 = r6_4;
-            for (;;) {
-                if (r1_2 == 0) {
-                    r1_7 = r1_6;
-                    r1_8 = r1_5;
-                    r1_9 = r1_4;
-                    r1_10 = r1_3;
-                    for (;;) {
-                        if (r1_10 == 0) {
-                            r1_11 = r1_9;
-                            r1_12 = r1_8;
-                            r1_13 = r1_7;
-                            for (;;) {
-                                if (r1_13 == 0) {
-                                    r7_0 = true;
-                                    goto after_read_intmap_equal;
-                                }
-                                r33 = r1_13 - 1;
-                                r54 = load64(r1_12);
-                                r60 = r1_11 + 64;
-                                if (r54 != 0) {
-                                    r1_14 = r60;
-                                    r1_15 = r1_12 + 8;
-                                    r1_16 = r33;
-                                    r17 = r54;
-                                    break;
-                                }
-                                r1_11 = r60;
-                                r1_12 = r1_12 + 8;
-                                r1_13 = r33;
-                            }
-                        } else {
-                            r1_14 = r1_9;
-                            r1_15 = r1_8;
-                            r1_16 = r1_7;
-                            r17 = r1_10;
-                        }
-                        r27 = low_zeros(r17);
-                        r33_2 = r27 + r1_14;
-                        r40 = (r17 - 1) & r17;
-                        if (r33_2 < load64(r5 + 40)) {
-                            r11 = load_address(r5 + 32) + (r33_2 * 24);
-                            r3 = load8(r11);
-                            r21 = r8;
-                            r21_2 = 0;
-                            r21_3 = r3;
-                            r21_4 = (r3 == 1) ? ((uint64_t)(uintptr_t)(r11 + 8)) : 0;
-                        } else {
-                            r11_2 = load_address(r5 + 56) + (r33_2 * 48);
-                            r3_2 = load8(r11_2);
-                            r21 = load_address(r11_2 + 24);
-                            r21_2 = load64(r11_2 + 32);
-                            r21_3 = r3_2;
-                            r21_4 = (r3_2 == 1) ? ((uint64_t)(uintptr_t)(r11_2 + 8)) : 0;
-                        }
-                        if (r21_3 == 1) {
-                            r1_17 = r21;
-                            r1_18 = r21_2;
-                            r1_19 = r40;
-                            r1_20 = r1_14;
-                            r1_21 = r1_15;
-                            r1_22 = r1_16;
-                            r7 = (char *)(uintptr_t)r21_4;
-                            goto arm_6;
-                        }
-                        if (r21_2 != 0) {
-                            r1_23 = r21;
-                            r1_24 = r21_2;
-                            r1_25 = r40;
-                            r1_26 = r1_14;
-                            r1_27 = r1_15;
-                            r1_28 = r1_16;
-                            break;
-                        }
-                        r1_7 = r1_16;
-                        r1_8 = r1_15;
-                        r1_9 = r1_14;
-                        r1_10 = r40;
-                    }
+        r3 = load64(r5 + 80);
+        if (r12) {
+            r9_0_shrunk = r3 == 0;
+        } else {
+            if (r3 == load64(r8_2 + 80)) {
+                r6 = load64(r5 + 16);
+                if (r6 == 0) {
+                    r6_2 = 0;
+                    r6_3 = (char *)no_bytes;
+                    r6_4 = 0;
                 } else {
-                    r1_23 = r1;
-                    r1_24 = r1_2;
-                    r1_25 = r1_3;
-                    r1_26 = r1_4;
-                    r1_27 = r1_5;
-                    r1_28 = r1_6;
+                    r4 = load_address(r5 + 8);
+                    r6_2 = load64(r4);
+                    r6_3 = r4 + 8;
+                    r6_4 = r6 - 1;
                 }
-                r1_17 = r1_23 + 16;
-                r1_18 = r1_24 - 1;
-                r1_19 = r1_25;
-                r1_20 = r1_26;
-                r1_21 = r1_27;
-                r1_22 = r1_28;
-                r7 = r1_23;
-            arm_6:;
-                r37 = load_key(r7);
-                r10 = load64(r8_2) & (r37 * UINT64_C(11400714819323198549));
-                if (r10 < load64(r8_2 + 40)) {
-                    r11_3 = load_address(r8_2 + 32) + (r10 * 24);
-                    if (load8(r11_3) != 1) {
-                        r7_0 = false;
-                        goto after_read_intmap_equal;
-                    }
-                    if (load64(r11_3 + 8) != r37) {
-                        r7_0 = false;
-                        goto after_read_intmap_equal;
-                    }
-                    r0 = r11_3 + 16;
-                } else {
-                    r11_4 = load_address(r8_2 + 56) + (r10 * 48);
-                    if (load8(r11_4) != 1) {
-                        r7_0 = false;
-                        goto after_read_intmap_equal;
-                    }
-                    if (load64(r11_4 + 8) == r37) {
-                        common_ret_op = r11_4 + 8;
-                    } else {
-                        r4_2 = load_address(r11_4 + 24);
-                        r6_5 = load64(r11_4 + 32);
-                        if (r6_5 == 0) {
-                            r7_0 = false;
-                            goto after_read_intmap_equal;
-                        }
-                        r3_0 = 0;
+                r1 = r8;
+                r1_2 = 0;
+                r1_3 = r6_2;
+                r1_4 = 0;
+                r1_5 = r6_3;
+                r1_6 = r6_4;
+                for (;;) {
+                    if (r1_2 == 0) {
+                        r1_7 = r1_6;
+                        r1_8 = r1_5;
+                        r1_9 = r1_4;
+                        r1_10 = r1_3;
                         for (;;) {
-                            r21_5 = r3_0 << 4;
-                            if (load64(r4_2 + r21_5) == r37) {
-                                common_ret_op = r4_2 + r21_5;
+                            if (r1_10 == 0) {
+                                r1_11 = r1_9;
+                                r1_12 = r1_8;
+                                r1_13 = r1_7;
+                                for (;;) {
+                                    if (r1_13 == 0) {
+                                        r9_0_shrunk = true;
+                                        goto after_read_intmap_equal;
+                                    }
+                                    r33 = r1_13 - 1;
+                                    r54 = load64(r1_12);
+                                    r60 = r1_11 + 64;
+                                    if (r54 != 0) {
+                                        r1_14 = r60;
+                                        r1_15 = r1_12 + 8;
+                                        r1_16 = r33;
+                                        r17 = r54;
+                                        break;
+                                    }
+                                    r1_11 = r60;
+                                    r1_12 = r1_12 + 8;
+                                    r1_13 = r33;
+                                }
+                            } else {
+                                r1_14 = r1_9;
+                                r1_15 = r1_8;
+                                r1_16 = r1_7;
+                                r17 = r1_10;
+                            }
+                            r27 = low_zeros(r17);
+                            r33_2 = r27 + r1_14;
+                            r40 = (r17 - 1) & r17;
+                            if (r33_2 < load64(r5 + 40)) {
+                                r11 = load_address(r5 + 32) + (r33_2 * 24);
+                                r3_2 = load8(r11);
+                                r21 = r8;
+                                r21_2 = 0;
+                                r21_3 = r3_2;
+                                r21_4 = (r3_2 == 1) ? ((uint64_t)(uintptr_t)(r11 + 8)) : 0;
+                            } else {
+                                r11_2 = load_address(r5 + 56) + (r33_2 * 48);
+                                r3_3 = load8(r11_2);
+                                r21 = load_address(r11_2 + 24);
+                                r21_2 = load64(r11_2 + 32);
+                                r21_3 = r3_3;
+                                r21_4 = (r3_3 == 1) ? ((uint64_t)(uintptr_t)(r11_2 + 8)) : 0;
+                            }
+                            if (r21_3 == 1) {
+                                r1_17 = r21;
+                                r1_18 = r21_2;
+                                r1_19 = r40;
+                                r1_20 = r1_14;
+                                r1_21 = r1_15;
+                                r1_22 = r1_16;
+                                r7 = (char *)(uintptr_t)r21_4;
+                                goto arm_6;
+                            }
+                            if (r21_2 != 0) {
+                                r1_23 = r21;
+                                r1_24 = r21_2;
+                                r1_25 = r40;
+                                r1_26 = r1_14;
+                                r1_27 = r1_15;
+                                r1_28 = r1_16;
                                 break;
                             }
-                            r36 = r3_0 + 1;
-                            if (r36 == r6_5) {
-                                r7_0 = false;
-                                goto after_read_intmap_equal;
-                            }
-                            r3_0 = r36;
+                            r1_7 = r1_16;
+                            r1_8 = r1_15;
+                            r1_9 = r1_14;
+                            r1_10 = r40;
                         }
+                    } else {
+                        r1_23 = r1;
+                        r1_24 = r1_2;
+                        r1_25 = r1_3;
+                        r1_26 = r1_4;
+                        r1_27 = r1_5;
+                        r1_28 = r1_6;
                     }
-                    r0 = common_ret_op + 8;
+                    r1_17 = r1_23 + 16;
+                    r1_18 = r1_24 - 1;
+                    r1_19 = r1_25;
+                    r1_20 = r1_26;
+                    r1_21 = r1_27;
+                    r1_22 = r1_28;
+                    r7 = r1_23;
+                arm_6:;
+                    r37 = load_key(r7);
+                    r10 = load64(r8_2) & (r37 * UINT64_C(11400714819323198549));
+                    if (r10 < load64(r8_2 + 40)) {
+                        r11_3 = load_address(r8_2 + 32) + (r10 * 24);
+                        if (load8(r11_3) != 1) {
+                            r9_0_shrunk = false;
+                            break;
+                        }
+                        if (load64(r11_3 + 8) != r37) {
+                            r9_0_shrunk = false;
+                            break;
+                        }
+                        r0 = r11_3 + 16;
+                    } else {
+                        r11_4 = load_address(r8_2 + 56) + (r10 * 48);
+                        if (load8(r11_4) != 1) {
+                            r9_0_shrunk = false;
+                            break;
+                        }
+                        if (load64(r11_4 + 8) == r37) {
+                            common_ret_op = r11_4 + 8;
+                        } else {
+                            r4_2 = load_address(r11_4 + 24);
+                            r6_5 = load64(r11_4 + 32);
+                            if (r6_5 == 0) {
+                                r9_0_shrunk = false;
+                                break;
+                            }
+                            r3_0 = 0;
+                            for (;;) {
+                                r21_5 = r3_0 << 4;
+                                if (load64(r4_2 + r21_5) == r37) {
+                                    common_ret_op = r4_2 + r21_5;
+                                    break;
+                                }
+                                r36 = r3_0 + 1;
+                                if (r36 == r6_5) {
+                                    r9_0_shrunk = false;
+                                    goto after_read_intmap_equal;
+                                }
+                                r3_0 = r36;
+                            }
+                        }
+                        r0 = common_ret_op + 8;
+                    }
+                    if (load64(r7 + 8) != load64(r0)) {
+                        r9_0_shrunk = false;
+                        break;
+                    }
+                    r1 = r1_17;
+                    r1_2 = r1_18;
+                    r1_3 = r1_19;
+                    r1_4 = r1_20;
+                    r1_5 = r1_21;
+                    r1_6 = r1_22;
                 }
-                if (load64(r7 + 8) != load64(r0)) {
-                    r7_0 = false;
-                    goto after_read_intmap_equal;
-                }
-                r1 = r1_17;
-                r1_2 = r1_18;
-                r1_3 = r1_19;
-                r1_4 = r1_20;
-                r1_5 = r1_21;
-                r1_6 = r1_22;
+            } else {
+                r9_0_shrunk = false;
             }
         }
     }
-    r7_0 = false;
 after_read_intmap_equal:;
-    return r7_0;
+    return r9_0_shrunk;
 }
 
 // intmap_filled_slots, in crates/intmap_c/src/read.rt
@@ -2751,7 +2864,7 @@ static ALWAYS_INLINE uint64_t do_intmap_load_factor(char *map) {
     uint64_t r4_0;
     r4 = load_address(map);
     if (r4 == NULL) {
-        r4_0 = 0;
+        r4_0 = 909;
     } else {
         r4_0 = load64(r4 + 96);
     }
@@ -2760,86 +2873,386 @@ static ALWAYS_INLINE uint64_t do_intmap_load_factor(char *map) {
 
 // intmap_get, in crates/intmap_c/src/read.rt
 static ALWAYS_INLINE struct word_word do_intmap_get(char *map, uint64_t key) {
-    char *r4, *r11, *r0, *r11_2, *common_ret_op, *r4_3;
-    uint64_t r4_2, r14, r10, r6, r3_0, r21, r36;
+    char *r4, *r11, *r0, *r11_2, *common_ret_op, *r4_2;
+    struct word_half r18;
+    uint64_t r10, x3, r6, r3_0, r21, r36, r0_2_8_ext;
+    uint32_t spec_select1;
     r4 = load_address(map);
     if (r4 == NULL) {
-        r4_2 = 0;
-        r14 = UINT64_C(4294967293);
+        r18 = empty_word_half();
     } else {
         r10 = load64(r4) & (key * UINT64_C(11400714819323198549));
         if (r10 < load64(r4 + 40)) {
             r11 = load_address(r4 + 32) + (r10 * 24);
             if (load8(r11) != 1) {
-                r4_2 = 0;
-                r14 = 0;
-                goto after_read_intmap_get;
+                spec_select1 = 0;
+                x3 = 0;
+                goto after_Option_ref_T_copied;
             }
             if (load64(r11 + 8) != key) {
-                r4_2 = 0;
-                r14 = 0;
-                goto after_read_intmap_get;
+                spec_select1 = 0;
+                x3 = 0;
+                goto after_Option_ref_T_copied;
             }
             r0 = r11 + 16;
         } else {
             r11_2 = load_address(r4 + 56) + (r10 * 48);
             if (load8(r11_2) != 1) {
-                r4_2 = 0;
-                r14 = 0;
-                goto after_read_intmap_get;
+                spec_select1 = 0;
+                x3 = 0;
+                goto after_Option_ref_T_copied;
             }
             if (load64(r11_2 + 8) == key) {
                 common_ret_op = r11_2 + 8;
             } else {
-                r4_3 = load_address(r11_2 + 24);
+                r4_2 = load_address(r11_2 + 24);
                 r6 = load64(r11_2 + 32);
                 if (r6 == 0) {
-                    r4_2 = 0;
-                    r14 = 0;
-                    goto after_read_intmap_get;
+                    spec_select1 = 0;
+                    x3 = 0;
+                    goto after_Option_ref_T_copied;
                 }
                 r3_0 = 0;
                 for (;;) {
                     r21 = r3_0 << 4;
-                    if (load64(r4_3 + r21) == key) {
-                        common_ret_op = r4_3 + r21;
+                    if (load64(r4_2 + r21) == key) {
+                        common_ret_op = r4_2 + r21;
                         break;
                     }
                     r36 = r3_0 + 1;
                     if (r36 == r6) {
-                        r4_2 = 0;
-                        r14 = 0;
-                        goto after_read_intmap_get;
+                        spec_select1 = 0;
+                        x3 = 0;
+                        goto after_Option_ref_T_copied;
                     }
                     r3_0 = r36;
                 }
             }
             r0 = common_ret_op + 8;
         }
-        r4_2 = load64(r0);
-        r14 = 1;
+        spec_select1 = 1;
+        x3 = load64(r0);
+    after_Option_ref_T_copied:;
+        r18 = made_word_half(x3, spec_select1);
     }
-after_read_intmap_get:;
-    return made_word_word(r4_2, r14);
+    r0_2_8_ext = (uint64_t)r18.second;
+    return made_word_word(r18.first, r0_2_8_ext);
+}
+
+// intmap_with_capacity, in crates/intmap_c/src/make.rt
+static ALWAYS_INLINE uint32_t do_intmap_with_capacity(char *map, uint64_t capacity) {
+    uint8_t sink1, sink, x0, x1;
+    uint64_t a0_a1, r13;
+    uint32_t r5;
+    uint64_t r0_room[14];
+    char *r0 = (char *)r0_room;
+    uint64_t r3_room[14];
+    char *r3 = (char *)r3_room;
+    memset(r3, 0, 112);
+    memset(r0, 0, 112);
+    if (capacity > UINT64_C(9223372036854775808)) {
+        memset(r3 + 8, 0, 104);
+        sink1 = 1;
+        sink = 1;
+    } else {
+        a0_a1 = greater(capacity, 2);
+        r13 = high_zeros(a0_a1 - 1);
+        intmap_with_slots(r0, (uint64_t)1 << ((uint64_t)64 - r13));
+        x0 = load8(r0);
+        x1 = load8(r0 + 1);
+        memcpy(r3 + 8, r0 + 8, 104);
+        sink1 = x0;
+        sink = x1;
+    }
+    store8(r3, sink1);
+    store8(r3 + 1, sink);
+    r5 = make_keep(map, r3);
+    return r5;
+}
+
+// intmap_step, in crates/intmap_c/src/read.rt
+static ALWAYS_INLINE char *do_intmap_step(char *found, char *map, char *at) {
+    char *r5, *r11, *r4, *r11_2, *r8, *r8_2, *r11_3, *common_ret_op_ph94;
+    uint64_t r6, r6_2, r7, r9, common_ret_op, r36, r29, r3_0, r1910, r2, r39, r1_0, r46, r59, r2_0, r1_0_2, r63, r69;
+    uint32_t r6_3;
+    r5 = load_address(map);
+    if (r5 == NULL) {
+        r6 = 0;
+        r6_2 = 0;
+        r6_3 = 0;
+    } else {
+        r7 = load64(at);
+        r9 = load64(at + 8);
+        if (r7 <= load64(r5)) {
+            if (r7 < load64(r5 + 40)) {
+                common_ret_op = (uint64_t)(load8(load_address(r5 + 32) + (r7 * 24)) != 0);
+            } else {
+                r11 = load_address(r5 + 56) + (r7 * 48);
+                if (load8(r11) == 0) {
+                    goto join_3_2;
+                }
+                common_ret_op = load64(r11 + 32) + 1;
+            }
+            if (r9 < common_ret_op) {
+                r36 = r7;
+                r29 = r9;
+                goto join_3_4;
+            }
+        }
+    join_3_2:;
+        r3_0 = sum_or_most(r7, 1);
+        r1910 = r3_0 >> 6;
+        r2 = load64(r5 + 16);
+        if (r2 <= r1910) {
+            r6 = 0;
+            r6_2 = 0;
+            r6_3 = 0;
+            goto after_read_intmap_step;
+        }
+        r4 = load_address(r5 + 8);
+        r39 = load64(r4 + (r1910 << 3)) & (UINT64_C(18446744073709551615) << (r3_0 & 63));
+        if (r39 == 0) {
+            r1_0 = r1910;
+            for (;;) {
+                r46 = r1_0 + 1;
+                if (r46 == r2) {
+                    r6 = 0;
+                    r6_2 = 0;
+                    r6_3 = 0;
+                    goto after_read_intmap_step;
+                }
+                r59 = load64(r4 + (r46 << 3));
+                if (r59 != 0) {
+                    r2_0 = r59;
+                    r1_0_2 = r46;
+                    break;
+                }
+                r1_0 = r46;
+            }
+        } else {
+            r2_0 = r39;
+            r1_0_2 = r1910;
+        }
+        r63 = low_zeros(r2_0);
+        r69 = (r1_0_2 << 6) | r63;
+        store64(at, r69);
+        r36 = r69;
+        r29 = 0;
+    join_3_4:;
+        store64(at + 8, r29 + 1);
+        if (r36 < load64(r5 + 40)) {
+            r11_2 = load_address(r5 + 32) + (r36 * 24);
+            if (load8(r11_2) != 1) {
+                abort();
+            }
+            r8 = r11_2 + 8;
+            r8_2 = r11_2 + 16;
+        } else {
+            r11_3 = load_address(r5 + 56) + (r36 * 48);
+            if (r29 == 0) {
+                if (load8(r11_3) != 1) {
+                    abort();
+                }
+                common_ret_op_ph94 = r11_3 + 8;
+            } else {
+                common_ret_op_ph94 = (load_address(r11_3 + 24) + (r29 << 4)) - 16;
+            }
+            r8 = common_ret_op_ph94;
+            r8_2 = common_ret_op_ph94 + 8;
+        }
+        r6 = load64(r8);
+        r6_2 = load64(r8_2);
+        r6_3 = 1;
+    }
+after_read_intmap_step:;
+    store64(found, r6);
+    store64(found + 8, r6_2);
+    store32(found + 16, r6_3);
+    store32(found + 20, 0);
+    return found;
+}
+
+// intmap_add, in crates/intmap_c/src/pairs.rt
+static ALWAYS_INLINE struct word_word do_intmap_add(char *map, uint64_t key, uint64_t more) {
+    uint64_t r3, r10, r6, r3_0, r21, r36, r19, r3_2, r0_2_8_ext;
+    char *x0, *r11, *r4, *r11_2, *r4_2;
+    struct word_half r23;
+    r3 = load64(map);
+    store64(map, 0);
+    x0 = (char *)(uintptr_t)r3;
+    if (r3 == 0) {
+        r23 = empty_word_half();
+    } else {
+        r10 = load64(x0) & (key * UINT64_C(11400714819323198549));
+        if (r10 < load64(x0 + 40)) {
+            r11 = load_address(x0 + 32) + (r10 * 24);
+            if (load8(r11) == 1) {
+                if (load64(r11 + 8) == key) {
+                    r4 = r11 + 16;
+                    goto after_pairs_add_2;
+                }
+            }
+        } else {
+            r11_2 = load_address(x0 + 56) + (r10 * 48);
+            if (load8(r11_2) == 1) {
+                if (load64(r11_2 + 8) == key) {
+                    r4 = r11_2 + 16;
+                    goto after_pairs_add_2;
+                }
+                r4_2 = load_address(r11_2 + 24);
+                r6 = load64(r11_2 + 32);
+                if (r6 != 0) {
+                    r3_0 = 0;
+                    for (;;) {
+                        r21 = r3_0 << 4;
+                        if (load64(r4_2 + r21) == key) {
+                            r4 = (r4_2 + r21) + 8;
+                            goto after_pairs_add_2;
+                        }
+                        r36 = r3_0 + 1;
+                        if (r36 == r6) {
+                            break;
+                        }
+                        r3_0 = r36;
+                    }
+                }
+            }
+        }
+        store64(map, r3);
+        r23 = empty_word_half();
+        goto after_pairs_intmap_add;
+    after_pairs_add_2:;
+        r19 = load64(r4);
+        store64(r4, r19 + more);
+        r3_2 = load64(map);
+        store64(map, r3);
+        if (r3_2 == 0) {
+            r23 = made_word_half(r19, 1);
+        } else {
+            box_drop((char *)(uintptr_t)r3_2);
+            r23 = made_word_half(r19, 1);
+        }
+    }
+after_pairs_intmap_add:;
+    r0_2_8_ext = (uint64_t)r23.second;
+    return made_word_word(r23.first, r0_2_8_ext);
+}
+
+// intmap_clear, in crates/intmap_c/src/walk.rt
+static ALWAYS_INLINE void do_intmap_clear(char *map) {
+    uint64_t r3, r6, r6_2, r6_4, r1, r1_2, r1_4, r1_5, r1_7, r6_5, r28, r3_2, r33, r54, r60, r1_8, r1_9, r1_11, r27,
+        r33_2, r40;
+    char *x0, *r6_3, *r4, *r1_3, *r1_6, *r4_2, *r1_10, *r9;
+    r3 = load64(map);
+    store64(map, 0);
+    x0 = (char *)(uintptr_t)r3;
+    if (r3 != 0) {
+        r6 = load64(x0 + 16);
+        if (r6 == 0) {
+            r6_2 = 0;
+            r6_3 = (char *)no_bytes;
+            r6_4 = 0;
+        } else {
+            r4 = load_address(x0 + 8);
+            r6_2 = load64(r4);
+            r6_3 = r4 + 8;
+            r6_4 = r6 - 1;
+        }
+        r1 = r6_2;
+        r1_2 = 0;
+        r1_3 = r6_3;
+        r1_4 = r6_4;
+        for (;;) {
+            if (r1 == 0) {
+                r1_5 = r1_4;
+                r1_6 = r1_3;
+                r1_7 = r1_2;
+                for (;;) {
+                    if (r1_5 == 0) {
+                        r4_2 = load_address(x0 + 8);
+                        r6_5 = load64(x0 + 16);
+                        if (r6_5 != 0) {
+                            r28 = r6_5 - 1;
+                            if (r28 != 0) {
+                                memset(r4_2, 0, (r6_5 << 3) - 8);
+                            }
+                            store64(r4_2 + (r28 << 3), 0);
+                        }
+                        store64(x0 + 80, 0);
+                        r3_2 = load64(map);
+                        store64(map, r3);
+                        if (r3_2 == 0) {
+                            goto after_walk_intmap_clear;
+                        }
+                        box_drop((char *)(uintptr_t)r3_2);
+                        goto after_walk_intmap_clear;
+                    }
+                    r33 = r1_5 - 1;
+                    r54 = load64(r1_6);
+                    r60 = r1_7 + 64;
+                    if (r54 != 0) {
+                        r1_8 = r54;
+                        r1_9 = r60;
+                        r1_10 = r1_6 + 8;
+                        r1_11 = r33;
+                        break;
+                    }
+                    r1_5 = r33;
+                    r1_6 = r1_6 + 8;
+                    r1_7 = r60;
+                }
+            } else {
+                r1_8 = r1;
+                r1_9 = r1_2;
+                r1_10 = r1_3;
+                r1_11 = r1_4;
+            }
+            r27 = low_zeros(r1_8);
+            r33_2 = r1_9 + r27;
+            r40 = (r1_8 - 1) & r1_8;
+            if (r33_2 < load64(x0 + 40)) {
+                memset(load_address(x0 + 32) + (r33_2 * 24), 0, 24);
+            } else {
+                r9 = load_address(x0 + 56) + (r33_2 * 48);
+                memset(r9, 0, 24);
+                if (load64(r9 + 32) != 0) {
+                    store64(r9 + 32, 0);
+                }
+            }
+            r1 = r40;
+            r1_2 = r1_9;
+            r1_3 = r1_10;
+            r1_4 = r1_11;
+        }
+    }
+after_walk_intmap_clear:;
+    return;
 }
 
 // intmap_clone, in crates/intmap_c/src/read.rt
 static ALWAYS_INLINE uint32_t do_intmap_clone(char *map, char *to) {
     char *r6, *r25, *r32, *r4, *r9_45_0_ph34, *r8, *r39, *r4_2, *r137, *r18_2, *r4_3, *r181, *r4_4, *r17, *r8_2,
-        *r52, *r15, *r9_3, *r20;
-    uint32_t r5_0, r19_2;
-    uint64_t r2_2, r2_3, r6_2, r7_pre_phi33, r19, r0_05, r18, r30, r6_3, r12_0445, r134, r6_4, r6_5, r160, r6_6,
-        r17_0448, r178, r9, r9_2, r6_7, r7_052, r49, r2_4, r66, r0_06, r12_4, r210, r211, r21, r23, r25_2;
+        *r52, *r15, *r9_4, *r20;
+    uint64_t r3, r2_2, r2_3, r6_2, r7_pre_phi33, r19, r0_05, r18, r30, r6_3, r12_0445, r134, r6_4, r6_5, r160, r6_6,
+        r17_0448, r178, r9_2, r9_3, r6_7, r7_052, r49, r2_4, r66, r0_06, r12_4, r210, r211, r21, r23, r25_2;
+    uint32_t r5_0, r30_2;
     bool r12, r12_2, r12_3;
     struct word_word r0, r0_2, r0_3, r0_4;
     uint8_t r16, r32_2;
     char *r2 = (char *)no_bytes;
-    uint64_t r7_room[14];
-    char *r7 = (char *)r7_room;
+    uint64_t r9_room[14];
+    char *r9 = (char *)r9_room;
     r6 = load_address(map);
-    memset(r7, 0, 112);
+    memset(r9, 0, 112);
     if (r6 == NULL) {
-        r5_0 = 4294967293u;
+        r3 = load64(to);
+        store64(to, 0);
+        if (r3 == 0) {
+            r5_0 = 0;
+        } else {
+            box_drop((char *)(uintptr_t)r3);
+            r5_0 = 0;
+        }
     } else {
         r2_2 = load64(r6 + 40);
         r12 = r2_2 == 0;
@@ -2950,11 +3363,11 @@ static ALWAYS_INLINE uint32_t do_intmap_clone(char *map, char *to) {
                 r181 = r4_3 + r178;
                 r32_2 = load8(r181);
                 if (r32_2 == 1) {
-                    r9 = load64(r181 + 8);
-                    r9_2 = load64(r181 + 16);
+                    r9_2 = load64(r181 + 8);
+                    r9_3 = load64(r181 + 16);
                 } else {
-                    r9 = 0;
                     r9_2 = 0;
+                    r9_3 = 0;
                 }
                 r4_4 = load_address(r181 + 24);
                 r6_7 = load64(r181 + 32);
@@ -2986,9 +3399,9 @@ static ALWAYS_INLINE uint32_t do_intmap_clone(char *map, char *to) {
                     if (r17_0448 != 0) {
                         r0_06 = 0;
                         for (;;) {
-                            r9_3 = r32 + (r0_06 * 48);
-                            if (load64(r9_3 + 40) != 0) {
-                                rattle_dealloc(load_address(r9_3 + 24));
+                            r9_4 = r32 + (r0_06 * 48);
+                            if (load64(r9_4 + 40) != 0) {
+                                rattle_dealloc(load_address(r9_4 + 24));
                             }
                             r12_4 = r0_06 + 1;
                             if (r12_4 == r17_0448) {
@@ -3010,8 +3423,8 @@ static ALWAYS_INLINE uint32_t do_intmap_clone(char *map, char *to) {
             arm_26:;
                 r20 = r32 + r178;
                 store64(r20, (uint64_t)r32_2);
-                store64(r20 + 8, r9);
-                store64(r20 + 16, r9_2);
+                store64(r20 + 8, r9_2);
+                store64(r20 + 16, r9_3);
                 store_address(r20 + 24, r17);
                 store64(r20 + 32, r6_7);
                 store64(r20 + 40, r6_7);
@@ -3026,482 +3439,38 @@ static ALWAYS_INLINE uint32_t do_intmap_clone(char *map, char *to) {
         r21 = load64(r6 + 80);
         r23 = load64(r6 + 88);
         r25_2 = load64(r6 + 96);
-        store8(r7, 0);
-        store8(r7 + 1, 0);
-        store64(r7 + 8, r211);
-        store_address(r7 + 16, r39);
-        store64(r7 + 24, r6_2);
-        store64(r7 + 32, r6_2);
-        store_address(r7 + 40, r25);
-        store64(r7 + 48, r6_3);
-        store64(r7 + 56, r2_2);
-        store_address(r7 + 64, r32);
-        store64(r7 + 72, r6_6);
-        store64(r7 + 80, r2_3);
-        store64(r7 + 88, r21);
-        store64(r7 + 96, r23);
-        store64(r7 + 104, r25_2);
+        store8(r9, 0);
+        store8(r9 + 1, 0);
+        store64(r9 + 8, r211);
+        store_address(r9 + 16, r39);
+        store64(r9 + 24, r6_2);
+        store64(r9 + 32, r6_2);
+        store_address(r9 + 40, r25);
+        store64(r9 + 48, r6_3);
+        store64(r9 + 56, r2_2);
+        store_address(r9 + 64, r32);
+        store64(r9 + 72, r6_6);
+        store64(r9 + 80, r2_3);
+        store64(r9 + 88, r21);
+        store64(r9 + 96, r23);
+        store64(r9 + 104, r25_2);
         goto after_IntMap_clone;
     arm_2_2:;
-        store8(r7, 1);
-        store8(r7 + 1, 0);
-        memset(r7 + 8, 0, 104);
+        store8(r9, 1);
+        store8(r9 + 1, 0);
+        memset(r9 + 8, 0, 104);
     after_IntMap_clone:;
-        r19_2 = make_keep(to, r7);
-        r5_0 = r19_2;
+        r30_2 = make_keep(to, r9);
+        r5_0 = r30_2;
     }
     return r5_0;
 }
 
-// intmap_new, in crates/intmap_c/src/make.rt
-static ALWAYS_INLINE uint32_t do_intmap_new(char *map) {
-    uint32_t r5;
-    uint64_t r0_room[14];
-    char *r0 = (char *)r0_room;
-    uint64_t r3_room[14];
-    char *r3 = (char *)r3_room;
-    store64(r3, 0);
-    memset(r0, 0, 112);
-    intmap_with_slots(r0, 4);
-    store8(r3, load8(r0));
-    store8(r3 + 1, load8(r0 + 1));
-    memcpy(r3 + 8, r0 + 8, 104);
-    r5 = make_keep(map, r3);
-    return r5;
-}
-
-// intmap_with_capacity, in crates/intmap_c/src/make.rt
-static ALWAYS_INLINE uint32_t do_intmap_with_capacity(char *map, uint64_t capacity) {
-    uint8_t sink1, sink, x0, x1;
-    uint64_t a0_a1, r13;
-    uint32_t r5;
-    uint64_t r0_room[14];
-    char *r0 = (char *)r0_room;
-    uint64_t r3_room[14];
-    char *r3 = (char *)r3_room;
-    memset(r3, 0, 112);
-    memset(r0, 0, 112);
-    if (capacity > UINT64_C(9223372036854775808)) {
-        memset(r3 + 8, 0, 104);
-        sink1 = 1;
-        sink = 1;
-    } else {
-        a0_a1 = greater(capacity, 2);
-        r13 = high_zeros(a0_a1 - 1);
-        intmap_with_slots(r0, (uint64_t)1 << ((uint64_t)64 - r13));
-        x0 = load8(r0);
-        x1 = load8(r0 + 1);
-        memcpy(r3 + 8, r0 + 8, 104);
-        sink1 = x0;
-        sink = x1;
-    }
-    store8(r3, sink1);
-    store8(r3 + 1, sink);
-    r5 = make_keep(map, r3);
-    return r5;
-}
-
-// intmap_step, in crates/intmap_c/src/read.rt
-static ALWAYS_INLINE char *do_intmap_step(char *found, char *map, char *at) {
-    char *r5, *r11, *r4, *r11_2, *r7_2, *r7_3, *r11_3, *common_ret_op_ph94;
-    uint64_t r6, r6_2, r7, r9, common_ret_op, r36, r29, r3_0, r1910, r2, r39, r1_0, r46, r59, r2_0, r1_0_2, r63, r69;
-    uint32_t r6_3;
-    r5 = load_address(map);
-    if (r5 == NULL) {
-        r6 = 0;
-        r6_2 = 0;
-        r6_3 = 4294967293u;
-    } else {
-        r7 = load64(at);
-        r9 = load64(at + 8);
-        if (r7 <= load64(r5)) {
-            if (r7 < load64(r5 + 40)) {
-                common_ret_op = (uint64_t)(load8(load_address(r5 + 32) + (r7 * 24)) != 0);
-            } else {
-                r11 = load_address(r5 + 56) + (r7 * 48);
-                if (load8(r11) == 0) {
-                    goto join_3_2;
-                }
-                common_ret_op = load64(r11 + 32) + 1;
-            }
-            if (r9 < common_ret_op) {
-                r36 = r7;
-                r29 = r9;
-                goto join_3_4;
-            }
-        }
-    join_3_2:;
-        r3_0 = sum_or_most(r7, 1);
-        r1910 = r3_0 >> 6;
-        r2 = load64(r5 + 16);
-        if (r2 <= r1910) {
-            r6 = 0;
-            r6_2 = 0;
-            r6_3 = 0;
-            goto after_read_intmap_step;
-        }
-        r4 = load_address(r5 + 8);
-        r39 = load64(r4 + (r1910 << 3)) & (UINT64_C(18446744073709551615) << (r3_0 & 63));
-        if (r39 == 0) {
-            r1_0 = r1910;
-            for (;;) {
-                r46 = r1_0 + 1;
-                if (r46 == r2) {
-                    r6 = 0;
-                    r6_2 = 0;
-                    r6_3 = 0;
-                    goto after_read_intmap_step;
-                }
-                r59 = load64(r4 + (r46 << 3));
-                if (r59 != 0) {
-                    r2_0 = r59;
-                    r1_0_2 = r46;
-                    break;
-                }
-                r1_0 = r46;
-            }
-        } else {
-            r2_0 = r39;
-            r1_0_2 = r1910;
-        }
-        r63 = low_zeros(r2_0);
-        r69 = (r1_0_2 << 6) | r63;
-        store64(at, r69);
-        r36 = r69;
-        r29 = 0;
-    join_3_4:;
-        store64(at + 8, r29 + 1);
-        if (r36 < load64(r5 + 40)) {
-            r11_2 = load_address(r5 + 32) + (r36 * 24);
-            if (load8(r11_2) != 1) {
-                abort();
-            }
-            r7_2 = r11_2 + 8;
-            r7_3 = r11_2 + 16;
-        } else {
-            r11_3 = load_address(r5 + 56) + (r36 * 48);
-            if (r29 == 0) {
-                if (load8(r11_3) != 1) {
-                    abort();
-                }
-                common_ret_op_ph94 = r11_3 + 8;
-            } else {
-                common_ret_op_ph94 = (load_address(r11_3 + 24) + (r29 << 4)) - 16;
-            }
-            r7_2 = common_ret_op_ph94;
-            r7_3 = common_ret_op_ph94 + 8;
-        }
-        r6 = load64(r7_2);
-        r6_2 = load64(r7_3);
-        r6_3 = 1;
-    }
-after_read_intmap_step:;
-    store64(found, r6);
-    store64(found + 8, r6_2);
-    store32(found + 16, r6_3);
-    store32(found + 20, 0);
-    return found;
-}
-
-// intmap_add, in crates/intmap_c/src/pairs.rt
-static ALWAYS_INLINE struct word_word do_intmap_add(char *map, uint64_t key, uint64_t more) {
-    uint64_t r3, r6, r19, r10, r6_2, r3_0, r21, r36, r19_2, r3_2;
-    char *x0, *r11, *r4, *r11_2, *r4_2;
-    r3 = load64(map);
-    store64(map, 0);
-    x0 = (char *)(uintptr_t)r3;
-    if (r3 == 0) {
-        r6 = 0;
-        r19 = UINT64_C(4294967293);
-    } else {
-        r10 = load64(x0) & (key * UINT64_C(11400714819323198549));
-        if (r10 < load64(x0 + 40)) {
-            r11 = load_address(x0 + 32) + (r10 * 24);
-            if (load8(r11) == 1) {
-                if (load64(r11 + 8) == key) {
-                    r4 = r11 + 16;
-                    goto after_pairs_add_2;
-                }
-            }
-        } else {
-            r11_2 = load_address(x0 + 56) + (r10 * 48);
-            if (load8(r11_2) == 1) {
-                if (load64(r11_2 + 8) == key) {
-                    r4 = r11_2 + 16;
-                    goto after_pairs_add_2;
-                }
-                r4_2 = load_address(r11_2 + 24);
-                r6_2 = load64(r11_2 + 32);
-                if (r6_2 != 0) {
-                    r3_0 = 0;
-                    for (;;) {
-                        r21 = r3_0 << 4;
-                        if (load64(r4_2 + r21) == key) {
-                            r4 = (r4_2 + r21) + 8;
-                            goto after_pairs_add_2;
-                        }
-                        r36 = r3_0 + 1;
-                        if (r36 == r6_2) {
-                            break;
-                        }
-                        r3_0 = r36;
-                    }
-                }
-            }
-        }
-        store64(map, r3);
-        r6 = 0;
-        r19 = 0;
-        goto after_pairs_intmap_add;
-    after_pairs_add_2:;
-        r19_2 = load64(r4);
-        store64(r4, r19_2 + more);
-        r3_2 = load64(map);
-        store64(map, r3);
-        if (r3_2 == 0) {
-            r6 = r19_2;
-            r19 = 1;
-        } else {
-            box_drop((char *)(uintptr_t)r3_2);
-            r6 = r19_2;
-            r19 = 1;
-        }
-    }
-after_pairs_intmap_add:;
-    return made_word_word(r6, r19);
-}
-
-// intmap_add_or_insert, in crates/intmap_c/src/pairs.rt
-static ALWAYS_INLINE struct word_word do_intmap_add_or_insert(char *map, uint64_t key, uint64_t more) {
-    uint64_t r3, r6, r10, r6_2, r3_0, r21, r36, r28, r44, r8, r8_2, r16_2, r20, r2933, r3_2, r0_2_8_ext;
-    char *x0, *r11, *r2933_in, *r11_2, *r4, *r11_3, *r9, *r9_2, *r11_5;
-    uint32_t r19, x12, r40;
-    bool r16;
-    struct byte_word r53, r53_2, r86;
-    uint8_t r11_4;
-    uint64_t r12_room[4];
-    char *r12 = (char *)r12_room;
-    r3 = load64(map);
-    store64(map, 0);
-    x0 = (char *)(uintptr_t)r3;
-    if (r3 == 0) {
-        r6 = 0;
-        r19 = 4294967293u;
-    } else {
-        r10 = load64(x0) & (key * UINT64_C(11400714819323198549));
-        r16 = r10 < load64(x0 + 40);
-        if (r16) {
-            r11 = load_address(x0 + 32) + (r10 * 24);
-            if (load8(r11) == 1) {
-                if (load64(r11 + 8) == key) {
-                    r2933_in = r11 + 16;
-                    goto after_OccupiedEntry_insert;
-                }
-            }
-        } else {
-            r11_2 = load_address(x0 + 56) + (r10 * 48);
-            if (load8(r11_2) == 1) {
-                if (load64(r11_2 + 8) == key) {
-                    r2933_in = r11_2 + 16;
-                    goto after_OccupiedEntry_insert;
-                }
-                r4 = load_address(r11_2 + 24);
-                r6_2 = load64(r11_2 + 32);
-                if (r6_2 != 0) {
-                    r3_0 = 0;
-                    for (;;) {
-                        r21 = r3_0 << 4;
-                        if (load64(r4 + r21) == key) {
-                            r2933_in = (r4 + r21) + 8;
-                            goto after_OccupiedEntry_insert;
-                        }
-                        r36 = r3_0 + 1;
-                        if (r36 == r6_2) {
-                            break;
-                        }
-                        r3_0 = r36;
-                    }
-                }
-            }
-        }
-        memset(r12, 0, 32);
-        r28 = load64(x0 + 80);
-        if (r28 == UINT64_C(18446744073709551615)) {
-            x12 = 4294967294u;
-        } else {
-            r44 = r28 + 1;
-            if (!(((r44 & 4) != 0) & (load64(x0 + 88) <= r28))) {
-                if (r16) {
-                    r8_2 = r10 * 24;
-                    if ((load8(load_address(x0 + 32) + r8_2) & 1) == 0) {
-                        r11_3 = load_address(x0 + 8) + ((r10 >> 3) & UINT64_C(2305843009213693944));
-                        store64(r11_3, load64(r11_3) | ((uint64_t)1 << (r10 & 63)));
-                        r9 = load_address(x0 + 32) + r8_2;
-                        r11_4 = load8(r9);
-                        store64(r9, 1);
-                        store64(r9 + 8, key);
-                        store64(r9 + 16, more);
-                        if (r11_4 == 0) {
-                            goto after_IntMap_add_2;
-                        }
-                        abort();
-                    }
-                    r53 = slots_push_second(x0, r10, key, more);
-                    r53_2 = r53;
-                } else {
-                    r9_2 = load_address(x0 + 56) + (r10 * 48);
-                    r11_5 = load_address(x0 + 8) + ((r10 >> 3) & UINT64_C(2305843009213693944));
-                    r16_2 = load64(r11_5);
-                    r20 = (uint64_t)1 << (r10 & 63);
-                    store64(r11_5, r16_2 | r20);
-                    if ((r16_2 & r20) == 0) {
-                        store64(r9_2, 1);
-                        store64(r9_2 + 8, key);
-                        store64(r9_2 + 16, more);
-                        goto after_IntMap_add_2;
-                    }
-                    r86 = slot_push(r9_2, key, more);
-                    r53_2 = r86;
-                }
-                if (r53_2.first != 0) {
-                    r40 = 4294967295u;
-                    r8 = 0;
-                    goto after_pairs_add_or_insert;
-                }
-            after_IntMap_add_2:;
-                store64(x0 + 80, r44);
-                r40 = 0;
-                r8 = 0;
-                goto after_pairs_add_or_insert;
-            }
-            intmap_add_growing(r12, x0, r44, r10, key, more);
-            if (load8(r12) == 0) {
-                r40 = 0;
-                r8 = 0;
-                goto after_pairs_add_or_insert;
-            }
-            x12 = ((load64(r12 + 16) & 255) == 0) ? 4294967295u : 4294967294u;
-        }
-        r40 = x12;
-        r8 = 0;
-        goto after_pairs_add_or_insert;
-    after_OccupiedEntry_insert:;
-        r2933 = load64(r2933_in);
-        store64(r2933_in, r2933 + more);
-        r40 = 1;
-        r8 = r2933;
-    after_pairs_add_or_insert:;
-        r3_2 = load64(map);
-        store64(map, r3);
-        if (r3_2 == 0) {
-            r6 = r8;
-            r19 = r40;
-        } else {
-            box_drop((char *)(uintptr_t)r3_2);
-            r6 = r8;
-            r19 = r40;
-        }
-    }
-    r0_2_8_ext = (uint64_t)r19;
-    return made_word_word(r6, r0_2_8_ext);
-}
-
-// intmap_clear, in crates/intmap_c/src/walk.rt
-static ALWAYS_INLINE void do_intmap_clear(char *map) {
-    uint64_t r3, r6, r6_2, r6_4, r1, r1_2, r1_4, r1_5, r1_7, r6_5, r28, r3_2, r33, r54, r60, r1_8, r1_9, r1_11, r27,
-        r33_2, r40;
-    char *x0, *r6_3, *r4, *r1_3, *r1_6, *r4_2, *r1_10, *r9;
-    r3 = load64(map);
-    store64(map, 0);
-    x0 = (char *)(uintptr_t)r3;
-    if (r3 != 0) {
-        r6 = load64(x0 + 16);
-        if (r6 == 0) {
-            r6_2 = 0;
-            r6_3 = (char *)no_bytes;
-            r6_4 = 0;
-        } else {
-            r4 = load_address(x0 + 8);
-            r6_2 = load64(r4);
-            r6_3 = r4 + 8;
-            r6_4 = r6 - 1;
-        }
-        r1 = r6_2;
-        r1_2 = 0;
-        r1_3 = r6_3;
-        r1_4 = r6_4;
-        for (;;) {
-            if (r1 == 0) {
-                r1_5 = r1_4;
-                r1_6 = r1_3;
-                r1_7 = r1_2;
-                for (;;) {
-                    if (r1_5 == 0) {
-                        r4_2 = load_address(x0 + 8);
-                        r6_5 = load64(x0 + 16);
-                        if (r6_5 != 0) {
-                            r28 = r6_5 - 1;
-                            if (r28 != 0) {
-                                memset(r4_2, 0, (r6_5 << 3) - 8);
-                            }
-                            store64(r4_2 + (r28 << 3), 0);
-                        }
-                        store64(x0 + 80, 0);
-                        r3_2 = load64(map);
-                        store64(map, r3);
-                        if (r3_2 == 0) {
-                            goto after_walk_intmap_clear;
-                        }
-                        box_drop((char *)(uintptr_t)r3_2);
-                        goto after_walk_intmap_clear;
-                    }
-                    r33 = r1_5 - 1;
-                    r54 = load64(r1_6);
-                    r60 = r1_7 + 64;
-                    if (r54 != 0) {
-                        r1_8 = r54;
-                        r1_9 = r60;
-                        r1_10 = r1_6 + 8;
-                        r1_11 = r33;
-                        break;
-                    }
-                    r1_5 = r33;
-                    r1_6 = r1_6 + 8;
-                    r1_7 = r60;
-                }
-            } else {
-                r1_8 = r1;
-                r1_9 = r1_2;
-                r1_10 = r1_3;
-                r1_11 = r1_4;
-            }
-            r27 = low_zeros(r1_8);
-            r33_2 = r1_9 + r27;
-            r40 = (r1_8 - 1) & r1_8;
-            if (r33_2 < load64(x0 + 40)) {
-                memset(load_address(x0 + 32) + (r33_2 * 24), 0, 24);
-            } else {
-                r9 = load_address(x0 + 56) + (r33_2 * 48);
-                memset(r9, 0, 24);
-                if (load64(r9 + 32) != 0) {
-                    store64(r9 + 32, 0);
-                }
-            }
-            r1 = r40;
-            r1_2 = r1_9;
-            r1_3 = r1_10;
-            r1_4 = r1_11;
-        }
-    }
-after_walk_intmap_clear:;
-    return;
-}
-
 // intmap_cut, in crates/intmap_c/src/walk.rt
 static ALWAYS_INLINE char *do_intmap_cut(char *found, char *map, char *at) {
-    uint64_t r3, r6, r6_2, r7, r9, r8, r6_4, r3050, r2_2, r3_2, r304960, r10, r16, r6_5, r1, r1_2, r28, r20, r3_0,
+    uint64_t r3, r6, r6_2, r7, r9, r8, r6_4, r3051, r2_2, r3_2, r305061, r10, r16, r6_5, r1, r1_2, r28, r20, r3_0,
         r0_05, r19, r29, r0_05_2, r13_2, r23, r36, r20_2, exit, r0_05_3, r19_2, r29_2, x9, r20_lcssa60, r3_0_lcssa59,
-        r3_3, r3_4, r304959, r1_3_0_pn45, r1_0_0_pn44, r3_0_2, r1910, r2_3, r39, r1_0, r46, r59, r2_0, r1_0_2, r63,
+        r3_3, r3_4, r305060, r1_3_0_pn47, r1_0_0_pn46, r3_0_2, r1910, r2_3, r39, r1_0, r46, r59, r2_0, r1_0_2, r63,
         r69, exit_2, r0, r0_2, r16_2, r1_3, r1_4, r28_2, r3_0_3, r0_05_4, r13_4, r23_2, r36_2, r20_3, exit_3, x18,
         r20_lcssa60_2, r3_0_lcssa59_2, r0_05_5, r13_5, r23_3, r4_3, r4_4, r0_3, r0_4, r3_5;
     char *x0, *r4, *r5, *r11_2, *r5_2, *r9_2, *r13, *r9_3, *x6, *x8, *x10, *r4_2, *r5_3, *r9_4, *r13_3, *x15, *x17,
@@ -3514,7 +3483,7 @@ static ALWAYS_INLINE char *do_intmap_cut(char *found, char *map, char *at) {
     if (r3 == 0) {
         r6 = 0;
         r6_2 = 0;
-        r6_3 = 4294967293u;
+        r6_3 = 0;
     } else {
         r7 = load64(at);
         r9 = load64(at + 8);
@@ -3527,7 +3496,7 @@ static ALWAYS_INLINE char *do_intmap_cut(char *found, char *map, char *at) {
                     r11 = r2;
                     r6_4 = r8;
                     r5 = r4;
-                    r3050 = r7;
+                    r3051 = r7;
                     goto then_1_4;
                 }
             } else {
@@ -3539,7 +3508,7 @@ static ALWAYS_INLINE char *do_intmap_cut(char *found, char *map, char *at) {
                             r3_2 = r2_2;
                             r5_2 = r11_2 + 24;
                             r9_2 = r11_2;
-                            r304960 = r7;
+                            r305061 = r7;
                             goto join_3_5;
                         }
                         r10 = r9 - 1;
@@ -3624,9 +3593,9 @@ static ALWAYS_INLINE char *do_intmap_cut(char *found, char *map, char *at) {
                             r3_4 = r1_2;
                             goto after_walk_cut;
                         }
-                        r304959 = r7;
-                        r1_3_0_pn45 = r1_2;
-                        r1_0_0_pn44 = r1;
+                        r305060 = r7;
+                        r1_3_0_pn47 = r1_2;
+                        r1_0_0_pn46 = r1;
                         goto then_1_3;
                     }
                 }
@@ -3666,7 +3635,7 @@ static ALWAYS_INLINE char *do_intmap_cut(char *found, char *map, char *at) {
                 r3_2 = load64(r9_4 + 32);
                 r5_2 = r9_4 + 24;
                 r9_2 = r9_4;
-                r304960 = r69;
+                r305061 = r69;
                 goto join_3_5;
             }
             r5_3 = load_address(x0 + 32);
@@ -3674,7 +3643,7 @@ static ALWAYS_INLINE char *do_intmap_cut(char *found, char *map, char *at) {
             r11 = load8(r5_3 + exit_2);
             r6_4 = exit_2;
             r5 = r5_3;
-            r3050 = r69;
+            r3051 = r69;
             goto then_1_4;
         }
     after_walk_cut_2:;
@@ -3690,9 +3659,9 @@ static ALWAYS_INLINE char *do_intmap_cut(char *found, char *map, char *at) {
             r0_2 = load64(r9_2 + 16);
             memset(r9_2, 0, 24);
             if (r11_3 == 1) {
-                r304959 = r304960;
-                r1_3_0_pn45 = r0_2;
-                r1_0_0_pn44 = r0;
+                r305060 = r305061;
+                r1_3_0_pn47 = r0_2;
+                r1_0_0_pn46 = r0;
                 goto then_1_3;
             }
         }
@@ -3761,10 +3730,10 @@ static ALWAYS_INLINE char *do_intmap_cut(char *found, char *map, char *at) {
         r3_4 = r4_4;
         goto after_walk_cut;
     then_1_3:;
-        r11_4 = load_address(x0 + 8) + ((r304959 >> 3) & UINT64_C(2305843009213693944));
-        store64(r11_4, load64(r11_4) & (((uint64_t)1 << (r304959 & 63)) ^ UINT64_C(18446744073709551615)));
-        r3_3 = r1_0_0_pn44;
-        r3_4 = r1_3_0_pn45;
+        r11_4 = load_address(x0 + 8) + ((r305060 >> 3) & UINT64_C(2305843009213693944));
+        store64(r11_4, load64(r11_4) & (((uint64_t)1 << (r305060 & 63)) ^ UINT64_C(18446744073709551615)));
+        r3_3 = r1_0_0_pn46;
+        r3_4 = r1_3_0_pn47;
         goto after_walk_cut;
     then_1_4:;
         r9_5 = r5 + r6_4;
@@ -3774,8 +3743,8 @@ static ALWAYS_INLINE char *do_intmap_cut(char *found, char *map, char *at) {
         if (r11 != 1) {
             abort();
         }
-        r11_5 = load_address(x0 + 8) + ((r3050 >> 3) & UINT64_C(2305843009213693944));
-        store64(r11_5, load64(r11_5) & (((uint64_t)1 << (r3050 & 63)) ^ UINT64_C(18446744073709551615)));
+        r11_5 = load_address(x0 + 8) + ((r3051 >> 3) & UINT64_C(2305843009213693944));
+        store64(r11_5, load64(r11_5) & (((uint64_t)1 << (r3051 & 63)) ^ UINT64_C(18446744073709551615)));
         r3_3 = r0_3;
         r3_4 = r0_4;
     after_walk_cut:;
@@ -3812,318 +3781,17 @@ static ALWAYS_INLINE void do_intmap_free(char *map) {
     return;
 }
 
-// intmap_insert, in crates/intmap_c/src/pairs.rt
-static ALWAYS_INLINE struct word_word do_intmap_insert(char *map, uint64_t key, uint64_t value) {
-    uint64_t r3, r6, r10, r4, r5, r11_3, r4_2, r4_3, r4_4, r4_5, r4_6, r6_2, r3_0, r45, r15, r20, r2, r12_2, r9, r0,
-        r4_8, r9_2, r28, r44, r8, r16_2, r20_2, r3_2, r0_2_8_ext;
-    char *x0, *r11, *r11_2, *x5, *r4_7, *r23, *r10_2, *x3, *r15_2, *r11_4, *r9_3, *r9_4, *r11_6;
-    uint32_t r19, spec_select1, x15;
-    bool r16;
-    struct byte_word r53, r53_2, r86;
-    uint8_t r11_5;
-    uint64_t r12_room[4];
-    char *r12 = (char *)r12_room;
-    r3 = load64(map);
-    store64(map, 0);
-    x0 = (char *)(uintptr_t)r3;
-    if (r3 == 0) {
-        r6 = 0;
-        r19 = 4294967293u;
-    } else {
-        r10 = load64(x0) & (key * UINT64_C(11400714819323198549));
-        r16 = r10 < load64(x0 + 40);
-        if (r16) {
-            r11 = load_address(x0 + 32) + (r10 * 24);
-            if (load8(r11) == 1) {
-                if (load64(r11 + 8) == key) {
-                    r4 = load64(r11 + 16);
-                    store64(r11 + 16, value);
-                    r5 = r4;
-                    spec_select1 = 1;
-                    goto after_pairs_insert;
-                }
-            }
-        } else {
-            r11_2 = load_address(x0 + 56) + (r10 * 48);
-            if (load8(r11_2) == 1) {
-                if (load64(r11_2 + 8) == key) {
-                    r11_3 = load64(r11_2 + 32);
-                    if (r11_3 == 0) {
-                        r4_2 = value;
-                        r4_3 = key;
-                    } else {
-                        x5 = load_address(r11_2 + 24) + (r11_3 << 4);
-                        r4_4 = load64(x5 - 16);
-                        r4_5 = load64(x5 - 8);
-                        store64(x5 - 16, key);
-                        store64(x5 - 8, value);
-                        if (load8(r11_2) != 1) {
-                            abort();
-                        }
-                        r4_2 = r4_5;
-                        r4_3 = r4_4;
-                    }
-                    r4_6 = load64(r11_2 + 16);
-                    store64(r11_2 + 8, r4_3);
-                    store64(r11_2 + 16, r4_2);
-                    r5 = r4_6;
-                    spec_select1 = 1;
-                    goto after_pairs_insert;
-                }
-                r4_7 = load_address(r11_2 + 24);
-                r6_2 = load64(r11_2 + 32);
-                if (r6_2 != 0) {
-                    r3_0 = 0;
-                    for (;;) {
-                        r45 = r3_0 + 1;
-                        if (load64(r4_7 + (r3_0 << 4)) == key) {
-                            r15 = r6_2 - 1;
-                            store64(r11_2 + 32, r15);
-                            r20 = r15 << 4;
-                            r23 = r4_7 + r20;
-                            r2 = load64(r23 + 8);
-                            if (r45 == r6_2) {
-                                r12_2 = r20;
-                                r10_2 = r4_7;
-                                r9 = r6_2;
-                                r0 = r2;
-                            } else {
-                                x3 = r4_7 + (r45 << 4);
-                                r4_8 = load64(x3 - 8);
-                                store64(x3 - 16, load64(r23));
-                                store64(x3 - 8, r2);
-                                r9_2 = load64(r11_2 + 32);
-                                r12_2 = r9_2 << 4;
-                                r10_2 = load_address(r11_2 + 24);
-                                r9 = r9_2 + 1;
-                                r0 = r4_8;
-                            }
-                            r15_2 = r10_2 + r12_2;
-                            store64(r15_2, key);
-                            store64(r15_2 + 8, value);
-                            store64(r11_2 + 32, r9);
-                            r5 = r0;
-                            spec_select1 = 1;
-                            goto after_pairs_insert;
-                        }
-                        if (r45 == r6_2) {
-                            break;
-                        }
-                        r3_0 = r45;
-                    }
-                }
-            }
-        }
-        memset(r12, 0, 32);
-        r28 = load64(x0 + 80);
-        if (r28 == UINT64_C(18446744073709551615)) {
-            x15 = 4294967294u;
-        } else {
-            r44 = r28 + 1;
-            if (!(((r44 & 4) != 0) & (load64(x0 + 88) <= r28))) {
-                if (r16) {
-                    r8 = r10 * 24;
-                    if ((load8(load_address(x0 + 32) + r8) & 1) == 0) {
-                        r11_4 = load_address(x0 + 8) + ((r10 >> 3) & UINT64_C(2305843009213693944));
-                        store64(r11_4, load64(r11_4) | ((uint64_t)1 << (r10 & 63)));
-                        r9_3 = load_address(x0 + 32) + r8;
-                        r11_5 = load8(r9_3);
-                        store64(r9_3, 1);
-                        store64(r9_3 + 8, key);
-                        store64(r9_3 + 16, value);
-                        if (r11_5 == 0) {
-                            goto after_IntMap_add_2;
-                        }
-                        abort();
-                    }
-                    r53 = slots_push_second(x0, r10, key, value);
-                    r53_2 = r53;
-                } else {
-                    r9_4 = load_address(x0 + 56) + (r10 * 48);
-                    r11_6 = load_address(x0 + 8) + ((r10 >> 3) & UINT64_C(2305843009213693944));
-                    r16_2 = load64(r11_6);
-                    r20_2 = (uint64_t)1 << (r10 & 63);
-                    store64(r11_6, r16_2 | r20_2);
-                    if ((r16_2 & r20_2) == 0) {
-                        store64(r9_4, 1);
-                        store64(r9_4 + 8, key);
-                        store64(r9_4 + 16, value);
-                        goto after_IntMap_add_2;
-                    }
-                    r86 = slot_push(r9_4, key, value);
-                    r53_2 = r86;
-                }
-                if (r53_2.first != 0) {
-                    r5 = 0;
-                    spec_select1 = 4294967295u;
-                    goto after_pairs_insert;
-                }
-            after_IntMap_add_2:;
-                store64(x0 + 80, r44);
-                r5 = 0;
-                spec_select1 = 0;
-                goto after_pairs_insert;
-            }
-            intmap_add_growing(r12, x0, r44, r10, key, value);
-            if (load8(r12) == 0) {
-                r5 = 0;
-                spec_select1 = 0;
-                goto after_pairs_insert;
-            }
-            x15 = (load8(r12 + 16) == 0) ? 4294967295u : 4294967294u;
-        }
-        r5 = 0;
-        spec_select1 = x15;
-    after_pairs_insert:;
-        r3_2 = load64(map);
-        store64(map, r3);
-        if (r3_2 == 0) {
-            r6 = r5;
-            r19 = spec_select1;
-        } else {
-            box_drop((char *)(uintptr_t)r3_2);
-            r6 = r5;
-            r19 = spec_select1;
-        }
-    }
-    r0_2_8_ext = (uint64_t)r19;
-    return made_word_word(r6, r0_2_8_ext);
-}
-
-// intmap_insert_checked, in crates/intmap_c/src/pairs.rt
-static ALWAYS_INLINE uint32_t do_intmap_insert_checked(char *map, uint64_t key, uint64_t value) {
-    uint64_t r3, r10, r6, r3_0, r36, r28, r44, r8, r16_2, r20, r3_2;
-    char *x0, *r11, *r11_2, *r4, *r11_3, *r9, *r9_2, *r11_5;
-    uint32_t r6_0, r4_0;
-    bool r16;
-    struct byte_word r53, r53_2, r86;
-    uint8_t r11_4;
-    uint64_t r12_room[4];
-    char *r12 = (char *)r12_room;
-    r3 = load64(map);
-    store64(map, 0);
-    x0 = (char *)(uintptr_t)r3;
-    if (r3 == 0) {
-        r6_0 = 4294967293u;
-    } else {
-        r10 = load64(x0) & (key * UINT64_C(11400714819323198549));
-        r16 = r10 < load64(x0 + 40);
-        if (r16) {
-            r11 = load_address(x0 + 32) + (r10 * 24);
-            if (load8(r11) == 1) {
-                if (load64(r11 + 8) == key) {
-                    r4_0 = 1;
-                    goto after_pairs_insert_checked;
-                }
-            }
-        } else {
-            r11_2 = load_address(x0 + 56) + (r10 * 48);
-            if (load8(r11_2) == 1) {
-                if (load64(r11_2 + 8) == key) {
-                    r4_0 = 1;
-                    goto after_pairs_insert_checked;
-                }
-                r4 = load_address(r11_2 + 24);
-                r6 = load64(r11_2 + 32);
-                if (r6 != 0) {
-                    r3_0 = 0;
-                    for (;;) {
-                        if (load64(r4 + (r3_0 << 4)) == key) {
-                            r4_0 = 1;
-                            goto after_pairs_insert_checked;
-                        }
-                        r36 = r3_0 + 1;
-                        if (r36 == r6) {
-                            break;
-                        }
-                        r3_0 = r36;
-                    }
-                }
-            }
-        }
-        memset(r12, 0, 32);
-        r28 = load64(x0 + 80);
-        if (r28 == UINT64_C(18446744073709551615)) {
-            r4_0 = 4294967294u;
-        } else {
-            r44 = r28 + 1;
-            if (!(((r44 & 4) != 0) & (load64(x0 + 88) <= r28))) {
-                if (r16) {
-                    r8 = r10 * 24;
-                    if ((load8(load_address(x0 + 32) + r8) & 1) == 0) {
-                        r11_3 = load_address(x0 + 8) + ((r10 >> 3) & UINT64_C(2305843009213693944));
-                        store64(r11_3, load64(r11_3) | ((uint64_t)1 << (r10 & 63)));
-                        r9 = load_address(x0 + 32) + r8;
-                        r11_4 = load8(r9);
-                        store64(r9, 1);
-                        store64(r9 + 8, key);
-                        store64(r9 + 16, value);
-                        if (r11_4 == 0) {
-                            goto after_IntMap_add;
-                        }
-                        abort();
-                    }
-                    r53 = slots_push_second(x0, r10, key, value);
-                    r53_2 = r53;
-                } else {
-                    r9_2 = load_address(x0 + 56) + (r10 * 48);
-                    r11_5 = load_address(x0 + 8) + ((r10 >> 3) & UINT64_C(2305843009213693944));
-                    r16_2 = load64(r11_5);
-                    r20 = (uint64_t)1 << (r10 & 63);
-                    store64(r11_5, r16_2 | r20);
-                    if ((r16_2 & r20) == 0) {
-                        store64(r9_2, 1);
-                        store64(r9_2 + 8, key);
-                        store64(r9_2 + 16, value);
-                        goto after_IntMap_add;
-                    }
-                    r86 = slot_push(r9_2, key, value);
-                    r53_2 = r86;
-                }
-                if (r53_2.first != 0) {
-                    goto x10;
-                }
-            after_IntMap_add:;
-                store64(x0 + 80, r44);
-                r4_0 = 0;
-                goto after_pairs_insert_checked;
-            }
-            intmap_add_growing(r12, x0, r44, r10, key, value);
-            if (load8(r12) == 0) {
-                r4_0 = 0;
-                goto after_pairs_insert_checked;
-            }
-            if (load8(r12 + 16) != 0) {
-                r4_0 = 4294967294u;
-                goto after_pairs_insert_checked;
-            }
-        x10:;
-            r4_0 = 4294967295u;
-        }
-    after_pairs_insert_checked:;
-        r3_2 = load64(map);
-        store64(map, r3);
-        if (r3_2 == 0) {
-            r6_0 = r4_0;
-        } else {
-            box_drop((char *)(uintptr_t)r3_2);
-            r6_0 = r4_0;
-        }
-    }
-    return r6_0;
-}
-
 // intmap_remove, in crates/intmap_c/src/pairs.rt
 static ALWAYS_INLINE struct word_word do_intmap_remove(char *map, uint64_t key) {
-    uint64_t r3, r6, r19, r10, r8, r9, r0, r0_2, r3_2, r8_2, r9_2, r0_3, r28, r2, r4, r6_2, r3_0, r45, r28_2, r2_2,
-        r4_3, r3_3;
-    char *x0, *r11, *r11_2, *r23, *r4_2, *r23_2, *x5;
+    uint64_t r3, r10, r8, r9, r0, r0_2, r3_2, r8_2, r9_2, r0_3, r28, r2, r4, r6, r3_0, r45, r28_2, r2_2, r4_3, r3_3,
+        r0_2_8_ext;
+    char *x0, *r11, *r11_2, *r23_2, *r4_2, *r23_3, *x5;
+    struct word_half r23;
     r3 = load64(map);
     store64(map, 0);
     x0 = (char *)(uintptr_t)r3;
     if (r3 == 0) {
-        r6 = 0;
-        r19 = UINT64_C(4294967293);
+        r23 = empty_word_half();
     } else {
         r10 = load64(x0) & (key * UINT64_C(11400714819323198549));
         if (r10 < load64(x0 + 40)) {
@@ -4155,37 +3823,37 @@ static ALWAYS_INLINE struct word_word do_intmap_remove(char *map, uint64_t key) 
                     }
                     r28 = r3_2 - 1;
                     store64(r11_2 + 32, r28);
-                    r23 = load_address(r11_2 + 24) + (r28 << 4);
-                    r2 = load64(r23 + 8);
+                    r23_2 = load_address(r11_2 + 24) + (r28 << 4);
+                    r2 = load64(r23_2 + 8);
                     r4 = load64(r11_2 + 16);
-                    store64(r11_2 + 8, load64(r23));
+                    store64(r11_2 + 8, load64(r23_2));
                     store64(r11_2 + 16, r2);
                     r0_2 = r4;
                     goto after_pairs_remove_2;
                 }
                 r4_2 = load_address(r11_2 + 24);
-                r6_2 = load64(r11_2 + 32);
-                if (r6_2 != 0) {
+                r6 = load64(r11_2 + 32);
+                if (r6 != 0) {
                     r3_0 = 0;
                     for (;;) {
                         r45 = r3_0 + 1;
                         if (load64(r4_2 + (r3_0 << 4)) == key) {
-                            r28_2 = r6_2 - 1;
+                            r28_2 = r6 - 1;
                             store64(r11_2 + 32, r28_2);
-                            r23_2 = r4_2 + (r28_2 << 4);
-                            r2_2 = load64(r23_2 + 8);
-                            if (r45 == r6_2) {
+                            r23_3 = r4_2 + (r28_2 << 4);
+                            r2_2 = load64(r23_3 + 8);
+                            if (r45 == r6) {
                                 r0_2 = r2_2;
                                 goto after_pairs_remove_2;
                             }
                             x5 = r4_2 + (r45 << 4);
                             r4_3 = load64(x5 - 8);
-                            store64(x5 - 16, load64(r23_2));
+                            store64(x5 - 16, load64(r23_3));
                             store64(x5 - 8, r2_2);
                             r0_2 = r4_3;
                             goto after_pairs_remove_2;
                         }
-                        if (r45 == r6_2) {
+                        if (r45 == r6) {
                             break;
                         }
                         r3_0 = r45;
@@ -4194,86 +3862,34 @@ static ALWAYS_INLINE struct word_word do_intmap_remove(char *map, uint64_t key) 
             }
         }
         store64(map, r3);
-        r6 = 0;
-        r19 = 0;
+        r23 = empty_word_half();
         goto after_pairs_intmap_remove;
     after_pairs_remove_2:;
         store64(x0 + 80, load64(x0 + 80) - 1);
         r3_3 = load64(map);
         store64(map, r3);
         if (r3_3 == 0) {
-            r6 = r0_2;
-            r19 = 1;
+            r23 = made_word_half(r0_2, 1);
         } else {
             box_drop((char *)(uintptr_t)r3_3);
-            r6 = r0_2;
-            r19 = 1;
+            r23 = made_word_half(r0_2, 1);
         }
     }
 after_pairs_intmap_remove:;
-    return made_word_word(r6, r19);
-}
-
-// intmap_reserve, in crates/intmap_c/src/figures.rt
-static ALWAYS_INLINE uint32_t do_intmap_reserve(char *map, uint64_t additional) {
-    uint64_t r3, r18, r40, r2_0, r13, r13_2, a0_a1, r3_2;
-    char *x0;
-    uint32_t r6_0, r4_0;
-    uint8_t r18_2;
-    u128 r17;
-    r3 = load64(map);
-    store64(map, 0);
-    x0 = (char *)(uintptr_t)r3;
-    if (r3 == 0) {
-        r6_0 = 4294967293u;
-    } else {
-        r18 = load64(x0 + 80);
-        if ((r18 > UINT64_C(9223372036854775808)) ? true : ((UINT64_C(9223372036854775808) - r18) < additional)) {
-            r4_0 = 4294967294u;
-        } else {
-            r40 = r18 + additional;
-            if (r40 < 2) {
-                r2_0 = 1;
-            } else {
-                r13 = high_zeros(r40 - 1);
-                r2_0 = (uint64_t)1 << ((uint64_t)64 - r13);
-            }
-            r13_2 = load64(x0 + 64) + load64(x0 + 40);
-            a0_a1 = greater(r13_2, r2_0);
-            if (r13_2 < r2_0) {
-                r18_2 = slots_grow(x0, a0_a1, false);
-                if ((r18_2 & 1) != 0) {
-                    r4_0 = 4294967295u;
-                    goto after_figures_reserve;
-                }
-            }
-            r17 = u128_less_one(u128_mul(u128_add(u128_of(load64(x0 + 96)), u128_of(1u)), u128_of(a0_a1)));
-            store64(x0 + 88, u128_above(r17, u128_two(UINT64_C(999), UINT64_C(18446744073709551615))) ? UINT64_C(18446744073709551615) : u128_low(u128_div(r17, u128_of(1000u))));
-            r4_0 = 0;
-        }
-    after_figures_reserve:;
-        r3_2 = load64(map);
-        store64(map, r3);
-        if (r3_2 == 0) {
-            r6_0 = r4_0;
-        } else {
-            box_drop((char *)(uintptr_t)r3_2);
-            r6_0 = r4_0;
-        }
-    }
-    return r6_0;
+    r0_2_8_ext = (uint64_t)r23.second;
+    return made_word_word(r23.first, r0_2_8_ext);
 }
 
 // intmap_set, in crates/intmap_c/src/pairs.rt
 static ALWAYS_INLINE struct word_word do_intmap_set(char *map, uint64_t key, uint64_t value) {
-    uint64_t r3, r6, r19, r10, r6_2, r3_0, r21, r36, r6_3, r3_2;
+    uint64_t r3, r10, r6, r3_0, r21, r36, r6_2, r3_2, r0_2_8_ext;
     char *x0, *r11, *r4, *r11_2, *r4_2;
+    struct word_half r23;
     r3 = load64(map);
     store64(map, 0);
     x0 = (char *)(uintptr_t)r3;
     if (r3 == 0) {
-        r6 = 0;
-        r19 = UINT64_C(4294967293);
+        r23 = empty_word_half();
     } else {
         r10 = load64(x0) & (key * UINT64_C(11400714819323198549));
         if (r10 < load64(x0 + 40)) {
@@ -4292,14 +3908,87 @@ static ALWAYS_INLINE struct word_word do_intmap_set(char *map, uint64_t key, uin
                     goto after_pairs_set_2;
                 }
                 r4_2 = load_address(r11_2 + 24);
-                r6_2 = load64(r11_2 + 32);
-                if (r6_2 != 0) {
+                r6 = load64(r11_2 + 32);
+                if (r6 != 0) {
                     r3_0 = 0;
                     for (;;) {
                         r21 = r3_0 << 4;
                         if (load64(r4_2 + r21) == key) {
                             r4 = (r4_2 + r21) + 8;
                             goto after_pairs_set_2;
+                        }
+                        r36 = r3_0 + 1;
+                        if (r36 == r6) {
+                            break;
+                        }
+                        r3_0 = r36;
+                    }
+                }
+            }
+        }
+        store64(map, r3);
+        r23 = empty_word_half();
+        goto after_pairs_intmap_set;
+    after_pairs_set_2:;
+        r6_2 = load64(r4);
+        store64(r4, value);
+        r3_2 = load64(map);
+        store64(map, r3);
+        if (r3_2 == 0) {
+            r23 = made_word_half(r6_2, 1);
+        } else {
+            box_drop((char *)(uintptr_t)r3_2);
+            r23 = made_word_half(r6_2, 1);
+        }
+    }
+after_pairs_intmap_set:;
+    r0_2_8_ext = (uint64_t)r23.second;
+    return made_word_word(r23.first, r0_2_8_ext);
+}
+
+// intmap_add_or_insert, in crates/intmap_c/src/pairs.rt
+static ALWAYS_INLINE struct word_word do_intmap_add_or_insert(char *map, uint64_t key, uint64_t more) {
+    struct byte_address r13;
+    uint64_t r6, x1, r10, r6_2, r3_0, r21, r36, r28, r44, r8, r8_2, r16_2, r20, r2933, r3, r0_2_8_ext;
+    uint32_t r19, x13, r40;
+    bool r16;
+    char *r11, *r2933_in, *r11_2, *r4, *r11_3, *r9, *r9_2, *r11_5;
+    struct byte_word r53, r53_2, r86;
+    uint8_t r11_4;
+    uint64_t r12_room[4];
+    char *r12 = (char *)r12_room;
+    r13 = handle_take_or_make(map);
+    if (r13.first == 0) {
+        r6 = 0;
+        r19 = 4294967295u;
+    } else {
+        x1 = (uint64_t)(uintptr_t)r13.second;
+        r10 = load64(r13.second) & (key * UINT64_C(11400714819323198549));
+        r16 = r10 < load64(r13.second + 40);
+        if (r16) {
+            r11 = load_address(r13.second + 32) + (r10 * 24);
+            if (load8(r11) == 1) {
+                if (load64(r11 + 8) == key) {
+                    r2933_in = r11 + 16;
+                    goto after_OccupiedEntry_insert;
+                }
+            }
+        } else {
+            r11_2 = load_address(r13.second + 56) + (r10 * 48);
+            if (load8(r11_2) == 1) {
+                if (load64(r11_2 + 8) == key) {
+                    r2933_in = r11_2 + 16;
+                    goto after_OccupiedEntry_insert;
+                }
+                r4 = load_address(r11_2 + 24);
+                r6_2 = load64(r11_2 + 32);
+                if (r6_2 != 0) {
+                    r3_0 = 0;
+                    for (;;) {
+                        r21 = r3_0 << 4;
+                        if (load64(r4 + r21) == key) {
+                            r2933_in = (r4 + r21) + 8;
+                            goto after_OccupiedEntry_insert;
                         }
                         r36 = r3_0 + 1;
                         if (r36 == r6_2) {
@@ -4310,62 +3999,471 @@ static ALWAYS_INLINE struct word_word do_intmap_set(char *map, uint64_t key, uin
                 }
             }
         }
-        store64(map, r3);
-        r6 = 0;
-        r19 = 0;
-        goto after_pairs_intmap_set;
-    after_pairs_set_2:;
-        r6_3 = load64(r4);
-        store64(r4, value);
-        r3_2 = load64(map);
-        store64(map, r3);
-        if (r3_2 == 0) {
-            r6 = r6_3;
-            r19 = 1;
+        memset(r12, 0, 32);
+        r28 = load64(r13.second + 80);
+        if (r28 == UINT64_C(18446744073709551615)) {
+            x13 = 4294967294u;
         } else {
-            box_drop((char *)(uintptr_t)r3_2);
-            r6 = r6_3;
-            r19 = 1;
+            r44 = r28 + 1;
+            if (!(((r44 & 4) != 0) & (load64(r13.second + 88) <= r28))) {
+                if (r16) {
+                    r8_2 = r10 * 24;
+                    if ((load8(load_address(r13.second + 32) + r8_2) & 1) == 0) {
+                        r11_3 = load_address(r13.second + 8) + ((r10 >> 3) & UINT64_C(2305843009213693944));
+                        store64(r11_3, load64(r11_3) | ((uint64_t)1 << (r10 & 63)));
+                        r9 = load_address(r13.second + 32) + r8_2;
+                        r11_4 = load8(r9);
+                        store64(r9, 1);
+                        store64(r9 + 8, key);
+                        store64(r9 + 16, more);
+                        if (r11_4 == 0) {
+                            goto after_IntMap_add_2;
+                        }
+                        abort();
+                    }
+                    r53 = slots_push_second(r13.second, r10, key, more);
+                    r53_2 = r53;
+                } else {
+                    r9_2 = load_address(r13.second + 56) + (r10 * 48);
+                    r11_5 = load_address(r13.second + 8) + ((r10 >> 3) & UINT64_C(2305843009213693944));
+                    r16_2 = load64(r11_5);
+                    r20 = (uint64_t)1 << (r10 & 63);
+                    store64(r11_5, r16_2 | r20);
+                    if ((r16_2 & r20) == 0) {
+                        store64(r9_2, 1);
+                        store64(r9_2 + 8, key);
+                        store64(r9_2 + 16, more);
+                        goto after_IntMap_add_2;
+                    }
+                    r86 = slot_push(r9_2, key, more);
+                    r53_2 = r86;
+                }
+                if (r53_2.first != 0) {
+                    r40 = 4294967295u;
+                    r8 = 0;
+                    goto after_pairs_add_or_insert;
+                }
+            after_IntMap_add_2:;
+                store64(r13.second + 80, r44);
+                r40 = 0;
+                r8 = 0;
+                goto after_pairs_add_or_insert;
+            }
+            intmap_add_growing(r12, r13.second, r44, r10, key, more);
+            if (load8(r12) == 0) {
+                r40 = 0;
+                r8 = 0;
+                goto after_pairs_add_or_insert;
+            }
+            x13 = ((load64(r12 + 16) & 255) == 0) ? 4294967295u : 4294967294u;
+        }
+        r40 = x13;
+        r8 = 0;
+        goto after_pairs_add_or_insert;
+    after_OccupiedEntry_insert:;
+        r2933 = load64(r2933_in);
+        store64(r2933_in, r2933 + more);
+        r40 = 1;
+        r8 = r2933;
+    after_pairs_add_or_insert:;
+        r3 = load64(map);
+        store64(map, x1);
+        if (r3 == 0) {
+            r6 = r8;
+            r19 = r40;
+        } else {
+            box_drop((char *)(uintptr_t)r3);
+            r6 = r8;
+            r19 = r40;
         }
     }
-after_pairs_intmap_set:;
-    return made_word_word(r6, r19);
+    r0_2_8_ext = (uint64_t)r19;
+    return made_word_word(r6, r0_2_8_ext);
+}
+
+// intmap_insert, in crates/intmap_c/src/pairs.rt
+static ALWAYS_INLINE struct word_word do_intmap_insert(char *map, uint64_t key, uint64_t value) {
+    struct byte_address r13;
+    uint64_t r6, x1, r10, r4, r5, r11_3, r4_2, r4_3, r4_4, r4_5, r4_6, r6_2, r3_0, r45, r15, r20, r2, r12_2, r9, r0,
+        r4_8, r9_2, r28, r44, r8, r16_2, r20_2, r3, r0_2_8_ext;
+    uint32_t r19, spec_select1, x16;
+    bool r16;
+    char *r11, *r11_2, *x6, *r4_7, *r23, *r10_2, *x4, *r15_2, *r11_4, *r9_3, *r9_4, *r11_6;
+    struct byte_word r53, r53_2, r86;
+    uint8_t r11_5;
+    uint64_t r12_room[4];
+    char *r12 = (char *)r12_room;
+    r13 = handle_take_or_make(map);
+    if (r13.first == 0) {
+        r6 = 0;
+        r19 = 4294967295u;
+    } else {
+        x1 = (uint64_t)(uintptr_t)r13.second;
+        r10 = load64(r13.second) & (key * UINT64_C(11400714819323198549));
+        r16 = r10 < load64(r13.second + 40);
+        if (r16) {
+            r11 = load_address(r13.second + 32) + (r10 * 24);
+            if (load8(r11) == 1) {
+                if (load64(r11 + 8) == key) {
+                    r4 = load64(r11 + 16);
+                    store64(r11 + 16, value);
+                    r5 = r4;
+                    spec_select1 = 1;
+                    goto after_pairs_insert;
+                }
+            }
+        } else {
+            r11_2 = load_address(r13.second + 56) + (r10 * 48);
+            if (load8(r11_2) == 1) {
+                if (load64(r11_2 + 8) == key) {
+                    r11_3 = load64(r11_2 + 32);
+                    if (r11_3 == 0) {
+                        r4_2 = value;
+                        r4_3 = key;
+                    } else {
+                        x6 = load_address(r11_2 + 24) + (r11_3 << 4);
+                        r4_4 = load64(x6 - 16);
+                        r4_5 = load64(x6 - 8);
+                        store64(x6 - 16, key);
+                        store64(x6 - 8, value);
+                        if (load8(r11_2) != 1) {
+                            abort();
+                        }
+                        r4_2 = r4_5;
+                        r4_3 = r4_4;
+                    }
+                    r4_6 = load64(r11_2 + 16);
+                    store64(r11_2 + 8, r4_3);
+                    store64(r11_2 + 16, r4_2);
+                    r5 = r4_6;
+                    spec_select1 = 1;
+                    goto after_pairs_insert;
+                }
+                r4_7 = load_address(r11_2 + 24);
+                r6_2 = load64(r11_2 + 32);
+                if (r6_2 != 0) {
+                    r3_0 = 0;
+                    for (;;) {
+                        r45 = r3_0 + 1;
+                        if (load64(r4_7 + (r3_0 << 4)) == key) {
+                            r15 = r6_2 - 1;
+                            store64(r11_2 + 32, r15);
+                            r20 = r15 << 4;
+                            r23 = r4_7 + r20;
+                            r2 = load64(r23 + 8);
+                            if (r45 == r6_2) {
+                                r12_2 = r20;
+                                r10_2 = r4_7;
+                                r9 = r6_2;
+                                r0 = r2;
+                            } else {
+                                x4 = r4_7 + (r45 << 4);
+                                r4_8 = load64(x4 - 8);
+                                store64(x4 - 16, load64(r23));
+                                store64(x4 - 8, r2);
+                                r9_2 = load64(r11_2 + 32);
+                                r12_2 = r9_2 << 4;
+                                r10_2 = load_address(r11_2 + 24);
+                                r9 = r9_2 + 1;
+                                r0 = r4_8;
+                            }
+                            r15_2 = r10_2 + r12_2;
+                            store64(r15_2, key);
+                            store64(r15_2 + 8, value);
+                            store64(r11_2 + 32, r9);
+                            r5 = r0;
+                            spec_select1 = 1;
+                            goto after_pairs_insert;
+                        }
+                        if (r45 == r6_2) {
+                            break;
+                        }
+                        r3_0 = r45;
+                    }
+                }
+            }
+        }
+        memset(r12, 0, 32);
+        r28 = load64(r13.second + 80);
+        if (r28 == UINT64_C(18446744073709551615)) {
+            x16 = 4294967294u;
+        } else {
+            r44 = r28 + 1;
+            if (!(((r44 & 4) != 0) & (load64(r13.second + 88) <= r28))) {
+                if (r16) {
+                    r8 = r10 * 24;
+                    if ((load8(load_address(r13.second + 32) + r8) & 1) == 0) {
+                        r11_4 = load_address(r13.second + 8) + ((r10 >> 3) & UINT64_C(2305843009213693944));
+                        store64(r11_4, load64(r11_4) | ((uint64_t)1 << (r10 & 63)));
+                        r9_3 = load_address(r13.second + 32) + r8;
+                        r11_5 = load8(r9_3);
+                        store64(r9_3, 1);
+                        store64(r9_3 + 8, key);
+                        store64(r9_3 + 16, value);
+                        if (r11_5 == 0) {
+                            goto after_IntMap_add_2;
+                        }
+                        abort();
+                    }
+                    r53 = slots_push_second(r13.second, r10, key, value);
+                    r53_2 = r53;
+                } else {
+                    r9_4 = load_address(r13.second + 56) + (r10 * 48);
+                    r11_6 = load_address(r13.second + 8) + ((r10 >> 3) & UINT64_C(2305843009213693944));
+                    r16_2 = load64(r11_6);
+                    r20_2 = (uint64_t)1 << (r10 & 63);
+                    store64(r11_6, r16_2 | r20_2);
+                    if ((r16_2 & r20_2) == 0) {
+                        store64(r9_4, 1);
+                        store64(r9_4 + 8, key);
+                        store64(r9_4 + 16, value);
+                        goto after_IntMap_add_2;
+                    }
+                    r86 = slot_push(r9_4, key, value);
+                    r53_2 = r86;
+                }
+                if (r53_2.first != 0) {
+                    r5 = 0;
+                    spec_select1 = 4294967295u;
+                    goto after_pairs_insert;
+                }
+            after_IntMap_add_2:;
+                store64(r13.second + 80, r44);
+                r5 = 0;
+                spec_select1 = 0;
+                goto after_pairs_insert;
+            }
+            intmap_add_growing(r12, r13.second, r44, r10, key, value);
+            if (load8(r12) == 0) {
+                r5 = 0;
+                spec_select1 = 0;
+                goto after_pairs_insert;
+            }
+            x16 = (load8(r12 + 16) == 0) ? 4294967295u : 4294967294u;
+        }
+        r5 = 0;
+        spec_select1 = x16;
+    after_pairs_insert:;
+        r3 = load64(map);
+        store64(map, x1);
+        if (r3 == 0) {
+            r6 = r5;
+            r19 = spec_select1;
+        } else {
+            box_drop((char *)(uintptr_t)r3);
+            r6 = r5;
+            r19 = spec_select1;
+        }
+    }
+    r0_2_8_ext = (uint64_t)r19;
+    return made_word_word(r6, r0_2_8_ext);
+}
+
+// intmap_insert_checked, in crates/intmap_c/src/pairs.rt
+static ALWAYS_INLINE uint32_t do_intmap_insert_checked(char *map, uint64_t key, uint64_t value) {
+    struct byte_address r13;
+    uint32_t r6_0, r4_0;
+    uint64_t x1, r10, r6, r3_0, r36, r28, r44, r8, r16_2, r20, r3;
+    bool r16;
+    char *r11, *r11_2, *r4, *r11_3, *r9, *r9_2, *r11_5;
+    struct byte_word r53, r53_2, r86;
+    uint8_t r11_4;
+    uint64_t r12_room[4];
+    char *r12 = (char *)r12_room;
+    r13 = handle_take_or_make(map);
+    if (r13.first == 0) {
+        r6_0 = 4294967295u;
+    } else {
+        x1 = (uint64_t)(uintptr_t)r13.second;
+        r10 = load64(r13.second) & (key * UINT64_C(11400714819323198549));
+        r16 = r10 < load64(r13.second + 40);
+        if (r16) {
+            r11 = load_address(r13.second + 32) + (r10 * 24);
+            if (load8(r11) == 1) {
+                if (load64(r11 + 8) == key) {
+                    r4_0 = 1;
+                    goto after_pairs_insert_checked;
+                }
+            }
+        } else {
+            r11_2 = load_address(r13.second + 56) + (r10 * 48);
+            if (load8(r11_2) == 1) {
+                if (load64(r11_2 + 8) == key) {
+                    r4_0 = 1;
+                    goto after_pairs_insert_checked;
+                }
+                r4 = load_address(r11_2 + 24);
+                r6 = load64(r11_2 + 32);
+                if (r6 != 0) {
+                    r3_0 = 0;
+                    for (;;) {
+                        if (load64(r4 + (r3_0 << 4)) == key) {
+                            r4_0 = 1;
+                            goto after_pairs_insert_checked;
+                        }
+                        r36 = r3_0 + 1;
+                        if (r36 == r6) {
+                            break;
+                        }
+                        r3_0 = r36;
+                    }
+                }
+            }
+        }
+        memset(r12, 0, 32);
+        r28 = load64(r13.second + 80);
+        if (r28 == UINT64_C(18446744073709551615)) {
+            r4_0 = 4294967294u;
+        } else {
+            r44 = r28 + 1;
+            if (!(((r44 & 4) != 0) & (load64(r13.second + 88) <= r28))) {
+                if (r16) {
+                    r8 = r10 * 24;
+                    if ((load8(load_address(r13.second + 32) + r8) & 1) == 0) {
+                        r11_3 = load_address(r13.second + 8) + ((r10 >> 3) & UINT64_C(2305843009213693944));
+                        store64(r11_3, load64(r11_3) | ((uint64_t)1 << (r10 & 63)));
+                        r9 = load_address(r13.second + 32) + r8;
+                        r11_4 = load8(r9);
+                        store64(r9, 1);
+                        store64(r9 + 8, key);
+                        store64(r9 + 16, value);
+                        if (r11_4 == 0) {
+                            goto after_IntMap_add;
+                        }
+                        abort();
+                    }
+                    r53 = slots_push_second(r13.second, r10, key, value);
+                    r53_2 = r53;
+                } else {
+                    r9_2 = load_address(r13.second + 56) + (r10 * 48);
+                    r11_5 = load_address(r13.second + 8) + ((r10 >> 3) & UINT64_C(2305843009213693944));
+                    r16_2 = load64(r11_5);
+                    r20 = (uint64_t)1 << (r10 & 63);
+                    store64(r11_5, r16_2 | r20);
+                    if ((r16_2 & r20) == 0) {
+                        store64(r9_2, 1);
+                        store64(r9_2 + 8, key);
+                        store64(r9_2 + 16, value);
+                        goto after_IntMap_add;
+                    }
+                    r86 = slot_push(r9_2, key, value);
+                    r53_2 = r86;
+                }
+                if (r53_2.first != 0) {
+                    goto x11;
+                }
+            after_IntMap_add:;
+                store64(r13.second + 80, r44);
+                r4_0 = 0;
+                goto after_pairs_insert_checked;
+            }
+            intmap_add_growing(r12, r13.second, r44, r10, key, value);
+            if (load8(r12) == 0) {
+                r4_0 = 0;
+                goto after_pairs_insert_checked;
+            }
+            if (load8(r12 + 16) != 0) {
+                r4_0 = 4294967294u;
+                goto after_pairs_insert_checked;
+            }
+        x11:;
+            r4_0 = 4294967295u;
+        }
+    after_pairs_insert_checked:;
+        r3 = load64(map);
+        store64(map, x1);
+        if (r3 == 0) {
+            r6_0 = r4_0;
+        } else {
+            box_drop((char *)(uintptr_t)r3);
+            r6_0 = r4_0;
+        }
+    }
+    return r6_0;
+}
+
+// intmap_reserve, in crates/intmap_c/src/figures.rt
+static ALWAYS_INLINE uint32_t do_intmap_reserve(char *map, uint64_t additional) {
+    struct byte_address r13;
+    uint32_t r6_0, r4_0;
+    uint64_t x1, r18, r40, r2_0, r13_2, r13_3, a0_a1, r3;
+    uint8_t r18_2;
+    u128 r17;
+    r13 = handle_take_or_make(map);
+    if (r13.first == 0) {
+        r6_0 = 4294967295u;
+    } else {
+        x1 = (uint64_t)(uintptr_t)r13.second;
+        r18 = load64(r13.second + 80);
+        if ((r18 > UINT64_C(9223372036854775808)) ? true : ((UINT64_C(9223372036854775808) - r18) < additional)) {
+            r4_0 = 4294967294u;
+        } else {
+            r40 = r18 + additional;
+            if (r40 < 2) {
+                r2_0 = 1;
+            } else {
+                r13_2 = high_zeros(r40 - 1);
+                r2_0 = (uint64_t)1 << ((uint64_t)64 - r13_2);
+            }
+            r13_3 = load64(r13.second + 64) + load64(r13.second + 40);
+            a0_a1 = greater(r13_3, r2_0);
+            if (r13_3 < r2_0) {
+                r18_2 = slots_grow(r13.second, a0_a1, false);
+                if ((r18_2 & 1) != 0) {
+                    r4_0 = 4294967295u;
+                    goto after_figures_reserve;
+                }
+            }
+            r17 = u128_less_one(u128_mul(u128_add(u128_of(load64(r13.second + 96)), u128_of(1u)), u128_of(a0_a1)));
+            store64(r13.second + 88, u128_above(r17, u128_two(UINT64_C(999), UINT64_C(18446744073709551615))) ? UINT64_C(18446744073709551615) : u128_low(u128_div(r17, u128_of(1000u))));
+            r4_0 = 0;
+        }
+    after_figures_reserve:;
+        r3 = load64(map);
+        store64(map, x1);
+        if (r3 == 0) {
+            r6_0 = r4_0;
+        } else {
+            box_drop((char *)(uintptr_t)r3);
+            r6_0 = r4_0;
+        }
+    }
+    return r6_0;
 }
 
 // intmap_set_load_factor, in crates/intmap_c/src/figures.rt
 static ALWAYS_INLINE uint32_t do_intmap_set_load_factor(char *map, uint64_t thousandths) {
-    uint64_t r3, r13, r3_09, r31, r3_2;
-    char *x0;
+    struct byte_address r13;
     uint32_t r6_0, r4_0;
-    u128 r10, r13_2, r187, r15, r18, r17;
+    uint64_t x1, r13_2, r3_09, r31, r3;
+    u128 r10, r13_3, r187, r15, r18, r17;
     uint8_t r18_2;
-    r3 = load64(map);
-    store64(map, 0);
-    x0 = (char *)(uintptr_t)r3;
-    if (r3 == 0) {
-        r6_0 = 4294967293u;
+    r13 = handle_take_or_make(map);
+    if (r13.first == 0) {
+        r6_0 = 4294967295u;
     } else {
-        r13 = load64(x0 + 64) + load64(x0 + 40);
-        r10 = u128_mul(u128_of(load64(x0 + 80)), u128_of(1000u));
-        r13_2 = u128_add(u128_of(thousandths), u128_of(1u));
-        r187 = u128_mul(r13_2, u128_of(r13));
+        x1 = (uint64_t)(uintptr_t)r13.second;
+        r13_2 = load64(r13.second + 64) + load64(r13.second + 40);
+        r10 = u128_mul(u128_of(load64(r13.second + 80)), u128_of(1000u));
+        r13_3 = u128_add(u128_of(thousandths), u128_of(1u));
+        r187 = u128_mul(r13_3, u128_of(r13_2));
         if (u128_above(r187, r10)) {
             r15 = r187;
         } else {
-            r3_09 = r13;
+            r3_09 = r13_2;
             for (;;) {
                 if (r3_09 == UINT64_C(9223372036854775808)) {
                     r4_0 = 4294967294u;
                     goto after_figures_set_load_factor;
                 }
                 r31 = r3_09 << 1;
-                r18 = u128_mul(r13_2, u128_of(r31));
+                r18 = u128_mul(r13_3, u128_of(r31));
                 if (u128_above(r18, r10)) {
-                    if (r31 == r13) {
+                    if (r31 == r13_2) {
                         r15 = r187;
                         break;
                     }
-                    r18_2 = slots_grow(x0, r31, false);
+                    r18_2 = slots_grow(r13.second, r31, false);
                     if ((r18_2 & 1) != 0) {
                         r4_0 = 4294967295u;
                         goto after_figures_set_load_factor;
@@ -4376,17 +4474,17 @@ static ALWAYS_INLINE uint32_t do_intmap_set_load_factor(char *map, uint64_t thou
                 r3_09 = r31;
             }
         }
-        store64(x0 + 96, thousandths);
+        store64(r13.second + 96, thousandths);
         r17 = u128_less_one(r15);
-        store64(x0 + 88, u128_above(r17, u128_two(UINT64_C(999), UINT64_C(18446744073709551615))) ? UINT64_C(18446744073709551615) : u128_low(u128_div(r17, u128_of(1000u))));
+        store64(r13.second + 88, u128_above(r17, u128_two(UINT64_C(999), UINT64_C(18446744073709551615))) ? UINT64_C(18446744073709551615) : u128_low(u128_div(r17, u128_of(1000u))));
         r4_0 = 0;
     after_figures_set_load_factor:;
-        r3_2 = load64(map);
-        store64(map, r3);
-        if (r3_2 == 0) {
+        r3 = load64(map);
+        store64(map, x1);
+        if (r3 == 0) {
             r6_0 = r4_0;
         } else {
-            box_drop((char *)(uintptr_t)r3_2);
+            box_drop((char *)(uintptr_t)r3);
             r6_0 = r4_0;
         }
     }
@@ -4418,10 +4516,6 @@ static inline intmap_found_value found_value(struct word_word given) {
 
 uint32_t intmap_version(void) INTMAP_CALL {
     return do_intmap_version();
-}
-
-intmap_status intmap_new(intmap *map) INTMAP_CALL {
-    return STATUS(do_intmap_new(BYTES(map)));
 }
 
 intmap_status intmap_with_capacity(intmap *map, size_t capacity) INTMAP_CALL {

@@ -9,10 +9,11 @@
 //
 //     cc -O2 program.c intmap.c
 //
-// A map is one word. Start it as INTMAP_INIT, hand its address to the calls, and free it:
+// A map is one word. Start it as INTMAP_INIT, which is an empty map, hand its address to the calls,
+// and free it:
 //
 //     intmap map = INTMAP_INIT;
-//     if (intmap_failed(intmap_new(&map)) || intmap_failed(intmap_insert(&map, 21, 7).status)) {
+//     if (intmap_failed(intmap_insert(&map, 21, 7).status)) {
 //         fputs("out of memory\n", stderr);
 //     }
 //     printf("%" PRIu64 "\n", intmap_get_or(&map, 21, 0));
@@ -41,7 +42,11 @@
 //
 // - INTMAP_NO_MEMORY: malloc or realloc returned NULL.
 // - INTMAP_TOO_LARGE: the map would have more than 2^63 slots or 2^64 - 1 pairs.
-// - INTMAP_NO_MAP: the word is INTMAP_INIT, since no map was made yet, or it was freed.
+//
+// THE FIRST CALL. INTMAP_INIT is a map of 4 slots without pairs, with a load factor of 909
+// thousandths, that has no memory yet. The first call that inserts a key, makes room or sets the
+// load factor requests it. If that is refused the call returns INTMAP_NO_MEMORY, whatever else it
+// says of failures. intmap_with_capacity requests it in advance.
 //
 // ORDER. The pairs lie in slots, whose number is a power of two. The walk is the order of the
 // pairs: slot after slot, and each slot from front to back. It depends only on the calls that were
@@ -74,11 +79,11 @@
 // word; with a null address of a word; with one map as both of intmap_clone; and two calls on one
 // map at once of which one changes it, in two threads, by a signal handler, by malloc, or since a
 // jump left the first. It doesn't notice a copy as long as its map lives, calls that might meet but
-// don't, two that make the first map of one word, or what a cursor or an array breaks. A call on a
-// word that intmap_free has left is no mistake: there is no map.
+// don't, two first calls on one word, or what a cursor or an array breaks. A call on a word that
+// intmap_free has left is no mistake: it is an empty map.
 //
-// All files that have maps must be compiled so, by gcc or clang. Each call that makes a map takes 24
-// bytes, which stay in use, and may fail for want of them. Else calls answer as without. A map that
+// All files that have maps must be compiled so, by gcc or clang. Each map takes 24 bytes more, which
+// stay in use, and the call that makes it may fail for want of them. Else calls answer as without. A map that
 // is lost isn't reported by a tool that looks for leaks.
 #ifndef INTMAP_H
 #define INTMAP_H
@@ -113,7 +118,6 @@ extern "C" {
 
 // DEBUGGING, above, says what this does.
 #ifdef INTMAP_DEBUG
-#define intmap_new intmap_debug_new
 #define intmap_with_capacity intmap_debug_with_capacity
 #define intmap_clone intmap_debug_clone
 #define intmap_free intmap_debug_free
@@ -137,12 +141,12 @@ extern "C" {
 #define intmap_equal intmap_debug_equal
 #endif
 
-// A map, or none.
+// A map. `at` is null as long as it has no memory.
 typedef struct intmap {
     void *at;
 } intmap;
 
-// No map: INTMAP_INIT in a definition, INTMAP_NONE in an assignment.
+// An empty map without memory: INTMAP_INIT in a definition, INTMAP_NONE in an assignment.
 #define INTMAP_INIT {NULL}
 #ifdef __cplusplus
 #define INTMAP_NONE (intmap{nullptr})
@@ -160,8 +164,7 @@ enum {
     INTMAP_ABSENT = 0,     // the key, or a pair, was absent before the call
     INTMAP_PRESENT = 1,    // it was present before the call
     INTMAP_NO_MEMORY = -1, // failed: an allocation failed
-    INTMAP_TOO_LARGE = -2, // failed: the map would be too large
-    INTMAP_NO_MAP = -3     // failed: there is no map
+    INTMAP_TOO_LARGE = -2  // failed: the map would be too large
 };
 
 // Whether a call failed.
@@ -208,40 +211,34 @@ typedef struct intmap_found_pair {
 // third.
 uint32_t intmap_version(void) INTMAP_CALL;
 
-// Makes an empty map of 4 slots, with a load factor of 909 thousandths. The word is INTMAP_INIT, or
-// has a map, which is freed. It returns INTMAP_OK, or INTMAP_NO_MEMORY, which leaves the word as
-// it was.
-INTMAP_NONNULL INTMAP_MUST_USE intmap_status intmap_new(intmap *map) INTMAP_CALL;
-
 // Makes an empty map, with a load factor of 909 thousandths. Its number of slots is the least power
 // of two that is at least `capacity`, and at least 2. For n pairs without growth, ask for
-// n + n / 10 + 1. The word is INTMAP_INIT, or has a map, which is freed. It returns INTMAP_OK;
-// INTMAP_TOO_LARGE exactly if `capacity` is above 2^63; or INTMAP_NO_MEMORY. If it fails, it leaves
-// the word as it was.
+// n + n / 10 + 1. A map that the word had is freed. It returns INTMAP_OK; INTMAP_TOO_LARGE exactly
+// if `capacity` is above 2^63; or INTMAP_NO_MEMORY. If it fails, it leaves the word as it was.
 INTMAP_NONNULL INTMAP_MUST_USE intmap_status intmap_with_capacity(intmap *map, size_t capacity)
     INTMAP_CALL;
 
 // Makes a map in `to`, which is another word: the same pairs in the same order, as many slots, the
-// same load factor. It frees a map that `to` had. It returns INTMAP_OK; or INTMAP_NO_MEMORY or
-// INTMAP_NO_MAP, which leave `to` as it was. It takes time in the pairs and slots.
+// same load factor; or INTMAP_INIT, of INTMAP_INIT. It frees a map that `to` had. It returns
+// INTMAP_OK; or INTMAP_NO_MEMORY, which leaves `to` as it was. It takes time in the pairs and slots.
 INTMAP_NONNULL INTMAP_MUST_USE intmap_status intmap_clone(const intmap *map, intmap *to)
     INTMAP_CALL;
 
-// Frees the map with all that it took from malloc. The word is then INTMAP_INIT. It does nothing if
-// there is no map. It takes time in the slots.
+// Frees all that the map took from malloc. The word is then INTMAP_INIT, and may be used again. It
+// takes time in the slots.
 INTMAP_NONNULL void intmap_free(intmap *map) INTMAP_CALL;
 
-// Returns INTMAP_PRESENT with the value of the key, INTMAP_ABSENT or INTMAP_NO_MAP.
+// Returns INTMAP_PRESENT with the value of the key, or INTMAP_ABSENT.
 INTMAP_NONNULL intmap_found_value intmap_get(const intmap *map, uint64_t key) INTMAP_CALL;
 
-// Returns the value of the key, or `otherwise` if the key is absent or there is no map.
+// Returns the value of the key, or `otherwise` if the key is absent.
 INTMAP_NONNULL static inline uint64_t intmap_get_or(const intmap *map, uint64_t key,
                                                     uint64_t otherwise) INTMAP_CALL {
     intmap_found_value answer = intmap_get(map, key);
     return answer.status == INTMAP_PRESENT ? answer.value : otherwise;
 }
 
-// Returns whether the key is present, which is false if there is no map.
+// Returns whether the key is present.
 INTMAP_NONNULL bool intmap_contains_key(const intmap *map, uint64_t key) INTMAP_CALL;
 
 // Puts the pair at the end of its slot. It returns INTMAP_PRESENT with the value before, in whose
@@ -249,10 +246,10 @@ INTMAP_NONNULL bool intmap_contains_key(const intmap *map, uint64_t key) INTMAP_
 // the pairs exceed the load factor, the slots are doubled until they don't. That is checked if the
 // pairs, with the new one, are 4 to 7, 12 to 15, 20 to 23, and so on.
 //
-// For a present key it never fails, unless there is no map, and requests no memory. For an absent
-// key it returns INTMAP_TOO_LARGE exactly if there are 2^64 - 1 pairs or growth needs more than
-// 2^63 slots, and otherwise INTMAP_NO_MEMORY if an allocation fails. The key is then absent. It
-// requests no memory if no slots are added and the key's slot holds no pair.
+// For a present key it never fails, and requests no memory. For an absent key it returns
+// INTMAP_TOO_LARGE exactly if there are 2^64 - 1 pairs or growth needs more than 2^63 slots, and
+// otherwise INTMAP_NO_MEMORY if an allocation fails. The key is then absent. Behind the first call
+// it requests no memory if no slots are added and the key's slot holds no pair.
 INTMAP_NONNULL INTMAP_MUST_USE intmap_found_value intmap_insert(intmap *map, uint64_t key,
                                                            uint64_t value) INTMAP_CALL;
 
@@ -263,8 +260,8 @@ INTMAP_NONNULL INTMAP_MUST_USE intmap_status intmap_insert_checked(intmap *map, 
                                                                    uint64_t value) INTMAP_CALL;
 
 // Replaces the value of a present key, whose pair keeps its place in the walk. It returns
-// INTMAP_PRESENT with the value before; INTMAP_ABSENT, and inserts nothing; or INTMAP_NO_MAP. It
-// requests no memory.
+// INTMAP_PRESENT with the value before; or INTMAP_ABSENT, and inserts nothing. It requests no
+// memory.
 INTMAP_NONNULL intmap_found_value intmap_set(intmap *map, uint64_t key, uint64_t value) INTMAP_CALL;
 
 // Adds to the value of a present key, modulo 2^64. It returns what intmap_set does, by one lookup.
@@ -277,40 +274,40 @@ INTMAP_NONNULL INTMAP_MUST_USE intmap_found_value intmap_add_or_insert(intmap *m
                                                                   uint64_t more) INTMAP_CALL;
 
 // Removes the pair of the key. It returns INTMAP_PRESENT with its value, and the last pair of the
-// slot moves into its place; INTMAP_ABSENT; or INTMAP_NO_MAP. It requests no memory. The number of
-// slots stays, and the slots keep their memory.
+// slot moves into its place; or INTMAP_ABSENT. It requests no memory. The number of slots stays, and
+// the slots keep their memory.
 INTMAP_NONNULL intmap_found_value intmap_remove(intmap *map, uint64_t key) INTMAP_CALL;
 
-// Removes all pairs. The number of slots stays, and the slots keep their memory. It does nothing if
-// there is no map. It takes time in the pairs and a 64th of the slots.
+// Removes all pairs. The number of slots stays, and the slots keep their memory. It takes time in
+// the pairs and a 64th of the slots.
 INTMAP_NONNULL void intmap_clear(intmap *map) INTMAP_CALL;
 
-// Returns the number of pairs, 0 if there is no map. Like the next two it takes constant time.
+// Returns the number of pairs. Like the next two it takes constant time.
 INTMAP_NONNULL size_t intmap_len(const intmap *map) INTMAP_CALL;
 
-// Returns the number of slots, a power of two from 2 to 2^63; 0 if there is no map.
+// Returns the number of slots, a power of two from 2 to 2^63.
 INTMAP_NONNULL size_t intmap_capacity(const intmap *map) INTMAP_CALL;
 
-// Returns the load factor in thousandths, 0 if there is no map.
+// Returns the load factor in thousandths.
 INTMAP_NONNULL size_t intmap_load_factor(const intmap *map) INTMAP_CALL;
 
-// Returns the number of slots that hold a pair, 0 if there is no map. If it is far below the number
-// of pairs, many keys share slots. It takes time in a 64th of the slots.
+// Returns the number of slots that hold a pair. If it is far below the number of pairs, many keys
+// share slots. It takes time in a 64th of the slots.
 INTMAP_NONNULL size_t intmap_filled_slots(const intmap *map) INTMAP_CALL;
 
 // Makes the number of slots at least the least power of two that is no less than the number of
 // pairs plus `additional`. It ignores the load factor, so the map may still grow before it has that
 // many pairs: intmap_reserve_pairs makes room for them. It returns INTMAP_OK; INTMAP_TOO_LARGE
-// exactly if the pairs and `additional` are above 2^63; INTMAP_NO_MEMORY, but never if there are
-// enough slots already; or INTMAP_NO_MAP.
+// exactly if the pairs and `additional` are above 2^63; or INTMAP_NO_MEMORY, but never if there are
+// enough slots already.
 INTMAP_NONNULL INTMAP_MUST_USE intmap_status intmap_reserve(intmap *map, size_t additional)
     INTMAP_CALL;
 
 // Sets the load factor, in thousandths. A number of slots meets it if 1000 * pairs / slots, rounded
 // down, is no more. The number of slots becomes the least of itself and its doublings that meets
 // it: with a factor of 0, some 1000 slots for a pair. It returns INTMAP_OK; INTMAP_TOO_LARGE
-// exactly if no number up to 2^63 meets it; INTMAP_NO_MEMORY, but never if the present number meets
-// it; or INTMAP_NO_MAP. If it fails, the load factor stays.
+// exactly if no number up to 2^63 meets it; or INTMAP_NO_MEMORY, but never if the present number
+// meets it. If it fails, the load factor stays.
 INTMAP_NONNULL INTMAP_MUST_USE intmap_status intmap_set_load_factor(intmap *map, size_t thousandths)
     INTMAP_CALL;
 
@@ -318,7 +315,7 @@ INTMAP_NONNULL INTMAP_MUST_USE intmap_status intmap_set_load_factor(intmap *map,
 // doublings that meets the load factor with them. Insertions of so many new keys then add no slots,
 // while the load factor stays. One above 10^16 counts as 10^16. It returns INTMAP_OK;
 // INTMAP_TOO_LARGE exactly if no number up to 2^63 meets it or there would be more than 2^64 - 1
-// pairs; INTMAP_NO_MEMORY, but never if the present number meets it; or INTMAP_NO_MAP.
+// pairs; or INTMAP_NO_MEMORY, but never if the present number meets it.
 INTMAP_NONNULL INTMAP_MUST_USE static inline intmap_status intmap_reserve_pairs(intmap *map,
                                                                                 size_t more)
     INTMAP_CALL {
@@ -344,8 +341,8 @@ INTMAP_NONNULL INTMAP_MUST_USE static inline intmap_status intmap_reserve_pairs(
 }
 
 // Returns INTMAP_PRESENT with the first pair of the walk from the cursor on, and moves the cursor
-// behind it; INTMAP_ABSENT if none is left; or INTMAP_NO_MAP. A whole walk takes time in the pairs
-// and a 64th of the slots.
+// behind it; or INTMAP_ABSENT if none is left. A whole walk takes time in the pairs and a 64th of
+// the slots.
 //
 // Any cursor will do, whatever has happened to the map since. But intmap_remove moves the last pair
 // of a slot to another place of it, and so does intmap_insert with a present key. A growing map
@@ -354,8 +351,8 @@ INTMAP_NONNULL INTMAP_MUST_USE static inline intmap_status intmap_reserve_pairs(
 INTMAP_NONNULL intmap_found_pair intmap_step(const intmap *map, intmap_cursor *at) INTMAP_CALL;
 
 // Copies pairs of the walk from the cursor on, at most `room`, and moves the cursor behind them. It
-// returns how many it copied: fewer than `room` only if none is left, or there is no map. `pairs`
-// is an array of at least `room`, which needs no values before. The rest of it stays.
+// returns how many it copied: fewer than `room` only if none is left. `pairs` is an array of at
+// least `room`, which needs no values before. The rest of it stays.
 INTMAP_NONNULL static inline size_t intmap_next(const intmap *map, intmap_cursor *at,
                                                 intmap_pair *pairs, size_t room) INTMAP_CALL {
     size_t count = 0;
@@ -369,10 +366,10 @@ INTMAP_NONNULL static inline size_t intmap_next(const intmap *map, intmap_cursor
     return count;
 }
 
-// Removes the first pair of the walk from the cursor on. It returns INTMAP_PRESENT with the pair;
-// INTMAP_ABSENT if none is left; or INTMAP_NO_MAP. The pairs before the cursor stay, and those
-// behind it come next, in the same order. The number of slots stays. It requests no memory, and
-// takes time in the pairs that follow in the slot, and in what intmap_step would pass.
+// Removes the first pair of the walk from the cursor on. It returns INTMAP_PRESENT with the pair, or
+// INTMAP_ABSENT if none is left. The pairs before the cursor stay, and those behind it come next, in
+// the same order. The number of slots stays. It requests no memory, and takes time in the pairs that
+// follow in the slot, and in what intmap_step would pass.
 //
 // To remove some pairs of a walk, look with a second cursor:
 //
@@ -389,8 +386,7 @@ INTMAP_NONNULL static inline size_t intmap_next(const intmap *map, intmap_cursor
 INTMAP_NONNULL intmap_found_pair intmap_cut(intmap *map, intmap_cursor *at) INTMAP_CALL;
 
 // Returns whether the same keys have the same values in both maps, whatever their order, slots and
-// load factors. A word without a map is equal to another without one, and to no map. It takes a
-// lookup for each pair, and time in a 64th of the slots.
+// load factors. It takes a lookup for each pair, and time in a 64th of the slots.
 INTMAP_NONNULL bool intmap_equal(const intmap *map, const intmap *other) INTMAP_CALL;
 
 // Returns an address as a key or a value. It may be null.

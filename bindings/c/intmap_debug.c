@@ -35,8 +35,8 @@ static uint64_t debug_count;
 // Handles count up from here, where no processor has memory.
 static const uint64_t FIRST_HANDLE = (uint64_t)0xDEB0 << 48;
 
-// Stands for the map of a word without one. Each thread has its own, since calls write that there is
-// none.
+// Stands for the map of a word without one, which no call changes. Each thread has its own, since
+// calls write all the same that there is none.
 static __thread debug_record debug_none = {INTMAP_INIT, NULL, 0};
 
 static void debug_end(const char *call, const char *what) {
@@ -154,22 +154,40 @@ static void end_changing(debug_record *one) {
     end_changing_as(one, 0);
 }
 
-// The word has the handle from now on, and its map before is freed.
-static void replace(intmap *word, debug_record *old, void *handle) {
+static void set_handle(intmap *word, void *handle) {
+    __atomic_store_n(&word->at, handle, __ATOMIC_RELAXED);
+}
+
+// The same for a call that may make the first map of a word. If it has none, the call gets a new
+// record; NULL if there is no memory for one.
+static debug_record *begin_first(const char *call, const intmap *word) {
+    debug_record *one = begin_changing(call, word);
+    return one == &debug_none ? new_record() : one;
+}
+
+static void end_first(intmap *word, debug_record *one) {
+    if (one->map.at != NULL) {
+        set_handle(word, one->handle);
+    }
+    end_changing(one);
+}
+
+// The word has the record from now on, or none, and its map before is freed.
+static void replace(intmap *word, debug_record *old, const debug_record *one) {
     if (old != &debug_none) {
         intmap_free(&old->map);
     }
-    __atomic_store_n(&word->at, handle, __ATOMIC_RELAXED);
+    set_handle(word, one == NULL || one->map.at == NULL ? NULL : one->handle);
     end_changing_as(old, WAS_FREED);
 }
 
-// A call that makes a map has ended with this status.
+// A call that makes a map in place of another has ended with this status.
 static intmap_status end_making(intmap *word, debug_record *old, debug_record *one,
                                 intmap_status status) {
     if (intmap_failed(status)) {
         end_changing(old);
     } else {
-        replace(word, old, one->handle);
+        replace(word, old, one);
     }
     return status;
 }
@@ -177,11 +195,6 @@ static intmap_status end_making(intmap *word, debug_record *old, debug_record *o
 #ifdef __cplusplus
 extern "C" {
 #endif
-
-intmap_status intmap_debug_new(intmap *map) {
-    debug_record *old = begin_changing("intmap_new", map), *one = new_record();
-    return end_making(map, old, one, one == NULL ? INTMAP_NO_MEMORY : intmap_new(&one->map));
-}
 
 intmap_status intmap_debug_with_capacity(intmap *map, size_t capacity) {
     debug_record *old = begin_changing("intmap_with_capacity", map), *one = new_record();
@@ -236,21 +249,37 @@ CALL(reading, size_t, capacity, (const intmap *map), (&one->map))
 CALL(reading, size_t, load_factor, (const intmap *map), (&one->map))
 CALL(reading, size_t, filled_slots, (const intmap *map), (&one->map))
 CALL(reading, intmap_found_pair, step, (const intmap *map, intmap_cursor *at), (&one->map, at))
-CALL(changing, intmap_found_value, insert, (intmap *map, uint64_t key, uint64_t value),
-     (&one->map, key, value))
-CALL(changing, intmap_status, insert_checked, (intmap *map, uint64_t key, uint64_t value),
-     (&one->map, key, value))
 CALL(changing, intmap_found_value, set, (intmap *map, uint64_t key, uint64_t value),
      (&one->map, key, value))
 CALL(changing, intmap_found_value, add, (intmap *map, uint64_t key, uint64_t more),
      (&one->map, key, more))
-CALL(changing, intmap_found_value, add_or_insert, (intmap *map, uint64_t key, uint64_t more),
-     (&one->map, key, more))
 CALL(changing, intmap_found_value, remove, (intmap *map, uint64_t key), (&one->map, key))
-CALL(changing, intmap_status, reserve, (intmap *map, size_t additional), (&one->map, additional))
-CALL(changing, intmap_status, set_load_factor, (intmap *map, size_t thousandths),
-     (&one->map, thousandths))
 CALL(changing, intmap_found_pair, cut, (intmap *map, intmap_cursor *at), (&one->map, at))
+
+// Those that may make the first map of a word.
+#define FIRST_CALL(type, name, parameters, arguments, no_memory)                                   \
+    type intmap_debug_##name parameters {                                                          \
+        type answer = no_memory;                                                                   \
+        debug_record *one = begin_first("intmap_" #name, map);                                     \
+        if (one != NULL) {                                                                         \
+            answer = intmap_##name arguments;                                                      \
+            end_first(map, one);                                                                   \
+        }                                                                                          \
+        return answer;                                                                             \
+    }
+
+static const intmap_found_value NO_VALUE = {0, INTMAP_NO_MEMORY};
+
+FIRST_CALL(intmap_found_value, insert, (intmap *map, uint64_t key, uint64_t value),
+           (&one->map, key, value), NO_VALUE)
+FIRST_CALL(intmap_status, insert_checked, (intmap *map, uint64_t key, uint64_t value),
+           (&one->map, key, value), INTMAP_NO_MEMORY)
+FIRST_CALL(intmap_found_value, add_or_insert, (intmap *map, uint64_t key, uint64_t more),
+           (&one->map, key, more), NO_VALUE)
+FIRST_CALL(intmap_status, reserve, (intmap *map, size_t additional), (&one->map, additional),
+           INTMAP_NO_MEMORY)
+FIRST_CALL(intmap_status, set_load_factor, (intmap *map, size_t thousandths),
+           (&one->map, thousandths), INTMAP_NO_MEMORY)
 
 #ifdef __cplusplus
 }

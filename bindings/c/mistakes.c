@@ -41,7 +41,8 @@ static void need(bool is_so) {
 }
 
 static void make(intmap *word) {
-    need(intmap_new(word) == INTMAP_OK && intmap_insert(word, 1, 2).status == INTMAP_ABSENT);
+    need(intmap_with_capacity(word, 4) == INTMAP_OK);
+    need(intmap_insert(word, 1, 2).status == INTMAP_ABSENT);
 }
 
 // A copy, whose map was freed.
@@ -50,7 +51,7 @@ static void free_map(void) {
     make(&map);
     copy = map;
     intmap_free(&map);
-    need(map.at == NULL && intmap_get(&map, 1).status == INTMAP_NO_MAP);
+    need(map.at == NULL && intmap_get(&map, 1).status == INTMAP_ABSENT);
 }
 
 static void get_of_copy(void) {
@@ -82,7 +83,7 @@ static void free_copy(void) {
 
 static void replace_copy(void) {
     free_map();
-    need(intmap_new(&copy) == INTMAP_OK);
+    need(intmap_with_capacity(&copy, 4) == INTMAP_OK);
 }
 
 static void clone_copy(void) {
@@ -111,7 +112,7 @@ static void get_of_copy_beside_next_map(void) {
 
 // A copy, whose map was replaced.
 
-static void get_behind_new(void) {
+static void get_behind_next_map(void) {
     make(&map);
     copy = map;
     make(&map);
@@ -135,9 +136,9 @@ static void remove_behind_clone(void) {
 
 // Words that no call wrote, and no word.
 
-static void new_in_any_word(void) {
+static void insert_into_any_word(void) {
     memset(&map, 0x5A, sizeof map);
-    need(intmap_new(&map) == INTMAP_OK);
+    need(intmap_insert(&map, 1, 2).status == INTMAP_ABSENT);
 }
 
 static void len_of_address(void) {
@@ -276,10 +277,10 @@ static void set_in_handler(void) {
     clone_with(signal_now);
 }
 
-static void get_within_new(void) {
+static void get_within_with_capacity(void) {
     make(&map);
     within = get_now;
-    need(intmap_new(&map) == INTMAP_OK);
+    need(intmap_with_capacity(&map, 4) == INTMAP_OK);
 }
 
 // What is no mistake.
@@ -291,7 +292,7 @@ static void move_and_read(void) {
     need(intmap_get_or(&other, 1, 0) == 2 && intmap_equal(&other, &other));
     intmap_free(&other);
     intmap_free(&other);
-    need(intmap_clone(&map, &other) == INTMAP_NO_MAP && intmap_equal(&map, &other));
+    need(intmap_clone(&map, &other) == INTMAP_OK && intmap_equal(&map, &other));
     clone_with(get_in_thread);
     need(intmap_equal(&map, &other));
 }
@@ -300,7 +301,6 @@ static void move_and_read(void) {
 static void make_many(void) {
     static intmap maps[1000];
     for (uint64_t at = 0; at < 1000; at++) {
-        need(intmap_new(&maps[at]) == INTMAP_OK);
         need(intmap_insert(&maps[at], at, at + 1).status == INTMAP_ABSENT);
     }
     for (uint64_t at = 0; at < 1000; at++) {
@@ -327,15 +327,15 @@ static const struct {
     MISTAKE(insert_into_copy, "intmap_insert", COPY),
     MISTAKE(clear_copy, "intmap_clear", COPY),
     MISTAKE(free_copy, "intmap_free", COPY),
-    MISTAKE(replace_copy, "intmap_new", COPY),
+    MISTAKE(replace_copy, "intmap_with_capacity", COPY),
     MISTAKE(clone_copy, "intmap_clone", COPY),
     MISTAKE(clone_to_copy, "intmap_clone", COPY),
     MISTAKE(compare_copy, "intmap_equal", COPY),
     MISTAKE(get_of_copy_beside_next_map, "intmap_get", COPY),
-    MISTAKE(get_behind_new, "intmap_get", COPY),
+    MISTAKE(get_behind_next_map, "intmap_get", COPY),
     MISTAKE(len_behind_with_capacity, "intmap_len", COPY),
     MISTAKE(remove_behind_clone, "intmap_remove", COPY),
-    MISTAKE(new_in_any_word, "intmap_new", UNKNOWN),
+    MISTAKE(insert_into_any_word, "intmap_insert", UNKNOWN),
     MISTAKE(len_of_address, "intmap_len", UNKNOWN),
     MISTAKE(len_of_next_handle, "intmap_len", UNKNOWN),
     MISTAKE(len_of_nothing, "intmap_len", NOWHERE),
@@ -351,7 +351,7 @@ static const struct {
     MISTAKE(free_within_clone, "intmap_free", READING),
     MISTAKE(get_behind_jump, "intmap_get", CHANGING),
     MISTAKE(set_in_handler, "intmap_set", READING),
-    MISTAKE(get_within_new, "intmap_get", CHANGING),
+    MISTAKE(get_within_with_capacity, "intmap_get", CHANGING),
     MISTAKE(move_and_read, NULL, NULL),
     MISTAKE(make_many, NULL, NULL),
 };

@@ -67,11 +67,11 @@ static void read_walk(reader *one) {
     }
 }
 
-// A word is this thread's own, without a map and with a clone.
+// A word is this thread's own, without memory and with a clone.
 static void read_all(reader *one) {
     intmap own = INTMAP_INIT;
     expect(one, intmap_filled_slots(&map) == filled);
-    expect(one, intmap_insert(&own, 1, 1).status == INTMAP_NO_MAP);
+    expect(one, !intmap_equal(&map, &own));
     expect(one, intmap_clone(&map, &own) == INTMAP_OK);
     expect(one, intmap_equal(&map, &own) && intmap_equal(&own, &map));
     intmap_set(&own, key_of(5), 0);
@@ -93,7 +93,7 @@ static void *run(void *given) {
 }
 
 static bool make(void) {
-    intmap_status status = intmap_new(&map);
+    intmap_status status = INTMAP_OK;
     for (uint64_t number = 0; number < KEYS && !intmap_failed(status); number++) {
         status = intmap_insert(&map, key_of(number), number + 1).status;
     }

@@ -244,8 +244,8 @@ static void check_walk(const side *one, size_t room) {
         passed += copied;
     } while (copied > 0);
     intmap_found_pair end = intmap_step(&one->map, &at);
-    EXPECT(end.status == (one->map.at == NULL ? INTMAP_NO_MAP : INTMAP_ABSENT));
-    EXPECT(same_pair(end.pair, NO_PAIR) && passed == plain->len);
+    EXPECT(end.status == INTMAP_ABSENT && same_pair(end.pair, NO_PAIR));
+    EXPECT(passed == plain->len);
 }
 
 static void check_figures(const side *one) {
@@ -265,8 +265,10 @@ static void check(const side *one) {
 // Calls on both, each behind begin().
 
 static uint64_t requests_before, refused_before, granted_before, blocks_before;
+static bool had_memory;
 
 static void begin(void) {
+    had_memory = it->map.at != NULL;
     blocks_before = live_blocks;
     requests_before = requests;
     refused_before = refused;
@@ -282,17 +284,23 @@ static bool requested(void) {
     return requests > requests_before;
 }
 
+// The same, for a call that may be the first of its map.
+static bool requested_more(void) {
+    return requested() && had_memory;
+}
+
 // Whether a request was refused, and none granted before.
 static bool was_refused_at_once(void) {
     return was_refused() && granted_bytes == granted_before;
 }
 
-// Whether a call failed, which it has to exactly if a request was refused. Then nothing changes.
+// Whether a call failed, which it has to exactly if a request was refused. Then nothing changes, but
+// the memory of a first call may stay.
 static bool fails(intmap_status status, side *changed) {
     EXPECT(was_refused() == (status == INTMAP_NO_MEMORY));
     EXPECT(intmap_failed(status) == was_refused());
     if (was_refused()) {
-        EXPECT(live_blocks == blocks_before);
+        EXPECT(live_blocks == blocks_before || (!had_memory && changed->map.at != NULL));
         check(changed);
     }
     return was_refused();
@@ -328,7 +336,7 @@ static void call_insertion(unsigned kind, uint64_t key, uint64_t value) {
     bool is_new = place == plain->len;
     begin();
     intmap_found_value answer = insertion(kind, key, value);
-    EXPECT(!requested() || (is_new && (slots > plain->capacity || shares(plain, key))));
+    EXPECT(!requested_more() || (is_new && (slots > plain->capacity || shares(plain, key))));
     if (!is_new) {
         EXPECT(is(answer, INTMAP_PRESENT, kind == INSERT_CHECKED ? 0 : plain->pairs[place].value));
         insert_present(kind, place, value);
@@ -385,7 +393,7 @@ static void call_reserve(size_t additional) {
     size_t slots = least_power(it->plain.len + additional, it->plain.capacity);
     begin();
     intmap_status status = intmap_reserve(&it->map, additional);
-    EXPECT(!requested() || slots > it->plain.capacity);
+    EXPECT(!requested_more() || slots > it->plain.capacity);
     if (!fails(status, it)) {
         EXPECT(status == INTMAP_OK);
         set_slots(&it->plain, slots);
@@ -397,7 +405,7 @@ static void call_reserve_pairs(size_t more) {
     size_t slots = enough_slots(plain->len + more, plain->capacity, plain->factor);
     begin();
     intmap_status status = intmap_reserve_pairs(&it->map, more);
-    EXPECT(!requested() || slots > plain->capacity);
+    EXPECT(!requested_more() || slots > plain->capacity);
     if (!fails(status, it)) {
         EXPECT(status == INTMAP_OK);
         set_slots(plain, slots);
@@ -408,7 +416,7 @@ static void call_set_load_factor(size_t thousandths) {
     size_t slots = enough_slots(it->plain.len, it->plain.capacity, thousandths);
     begin();
     intmap_status status = intmap_set_load_factor(&it->map, thousandths);
-    EXPECT(!requested() || slots > it->plain.capacity);
+    EXPECT(!requested_more() || slots > it->plain.capacity);
     if (!fails(status, it)) {
         EXPECT(status == INTMAP_OK);
         it->plain.factor = thousandths;
@@ -471,13 +479,12 @@ static void call_clear(void) {
 }
 
 // Another map in place of this one, which is freed.
-static void call_make(bool is_new, size_t capacity) {
+static void call_make(size_t capacity) {
     begin();
-    intmap_status status =
-        is_new ? intmap_new(&it->map) : intmap_with_capacity(&it->map, capacity);
+    intmap_status status = intmap_with_capacity(&it->map, capacity);
     if (!fails(status, it)) {
         EXPECT(status == INTMAP_OK);
-        make_plain(&it->plain, is_new ? 4 : least_power(capacity, 2));
+        make_plain(&it->plain, least_power(capacity, 2));
     }
 }
 
@@ -486,6 +493,7 @@ static void call_clone(void) {
     intmap_status status = intmap_clone(&it->map, &other->map);
     if (!fails(status, other)) {
         EXPECT(status == INTMAP_OK);
+        EXPECT((other->map.at == NULL) == (it->map.at == NULL));
         other->plain = it->plain;
         check(other);
     }
@@ -502,10 +510,8 @@ static bool have_same_values(const model *one, const model *two) {
     return one->len == two->len;
 }
 
-// Without a map a word is equal to another without one, and to no map.
 static void call_equal(void) {
-    bool is_so = have_same_values(&it->plain, &other->plain)
-                 && (it->map.at == NULL) == (other->map.at == NULL);
+    bool is_so = have_same_values(&it->plain, &other->plain);
     begin();
     EXPECT(intmap_equal(&it->map, &other->map) == is_so);
     EXPECT(intmap_equal(&other->map, &it->map) == is_so);
@@ -513,17 +519,17 @@ static void call_equal(void) {
     EXPECT(!requested());
 }
 
-// Tests of one thing each. Each begins and ends without a map, and without a block.
+// Tests of one thing each. Each begins and ends with two maps without memory, and without a block.
 
-static void make_none(side *one) {
+static void call_free(side *one) {
     intmap_free(&one->map);
     EXPECT(one->map.at == NULL);
-    memset(&one->plain, 0, sizeof one->plain);
+    make_plain(&one->plain, 4);
 }
 
 static void end_test(void) {
-    make_none(it);
-    make_none(other);
+    call_free(it);
+    call_free(other);
     EXPECT(live_blocks == 0 && until_refused == 0);
 }
 
@@ -542,56 +548,23 @@ static void test_statuses(void) {
     EXPECT(!intmap_failed(INTMAP_OK) && !intmap_failed(INTMAP_PRESENT));
     EXPECT(!INTMAP_OK && !INTMAP_ABSENT && INTMAP_PRESENT);
     EXPECT(!intmap_failed(INTMAP_ABSENT) && intmap_failed(INTMAP_NO_MEMORY));
-    EXPECT(intmap_failed(INTMAP_TOO_LARGE) && intmap_failed(INTMAP_NO_MAP));
+    EXPECT(intmap_failed(INTMAP_TOO_LARGE));
     EXPECT(intmap_version() == INTMAP_VERSION);
 }
 
-static void test_changes_without_map(void) {
-    intmap none = INTMAP_INIT;
-    intmap_cursor at = intmap_start();
-    begin();
-    EXPECT(is(intmap_insert(&none, 3, 4), INTMAP_NO_MAP, 0));
-    EXPECT(intmap_insert_checked(&none, 3, 4) == INTMAP_NO_MAP);
-    EXPECT(is(intmap_add_or_insert(&none, 3, 4), INTMAP_NO_MAP, 0));
-    EXPECT(is(intmap_set(&none, 3, 4), INTMAP_NO_MAP, 0));
-    EXPECT(is(intmap_add(&none, 3, 4), INTMAP_NO_MAP, 0));
-    EXPECT(is(intmap_remove(&none, 3), INTMAP_NO_MAP, 0));
-    EXPECT(intmap_reserve(&none, 1) == INTMAP_NO_MAP);
-    EXPECT(intmap_reserve(&none, SIZE_MAX) == INTMAP_NO_MAP);
-    EXPECT(intmap_reserve_pairs(&none, 0) == INTMAP_NO_MAP);
-    EXPECT(intmap_reserve_pairs(&none, SIZE_MAX) == INTMAP_NO_MAP);
-    EXPECT(intmap_set_load_factor(&none, 1) == INTMAP_NO_MAP);
-    intmap_found_pair cut = intmap_cut(&none, &at);
-    EXPECT(cut.status == INTMAP_NO_MAP && same_pair(cut.pair, NO_PAIR));
-    intmap_clear(&none);
-    intmap_free(&none);
-    EXPECT(none.at == NULL && !requested());
-}
-
-static void test_reads_without_map(void) {
-    intmap none = INTMAP_NONE, to = INTMAP_NONE;
-    intmap_cursor at = intmap_start();
-    intmap_pair pair = {1, 2};
-    begin();
-    EXPECT(is(intmap_get(&none, 3), INTMAP_NO_MAP, 0) && intmap_get_or(&none, 3, 9) == 9);
-    EXPECT(!intmap_contains_key(&none, 3) && intmap_filled_slots(&none) == 0);
-    EXPECT(intmap_len(&none) == 0 && intmap_capacity(&none) == 0);
-    EXPECT(intmap_load_factor(&none) == 0);
-    EXPECT(intmap_next(&none, &at, &pair, 1) == 0 && pair.key == 1 && pair.value == 2);
-    intmap_found_pair seen = intmap_step(&none, &at);
-    EXPECT(seen.status == INTMAP_NO_MAP && same_pair(seen.pair, NO_PAIR));
-    EXPECT(intmap_equal(&none, &to) && intmap_equal(&none, &none));
-    EXPECT(intmap_clone(&none, &to) == INTMAP_NO_MAP && to.at == NULL && !requested());
-}
-
-// A map beside none. A clone of none leaves the map.
-static void test_one_without_map(void) {
-    call_make(true, 0);
-    call_equal();
-    call_insertion(INSERT, 3, 0);
-    call_equal();
-    EXPECT(intmap_clone(&other->map, &it->map) == INTMAP_NO_MAP);
+// These request nothing, so a map without memory stays one.
+static void test_calls_without_memory(void) {
     check(it);
+    call_get(3, 9);
+    call_set_or_add(false, 3, 4);
+    call_set_or_add(true, 3, 4);
+    call_remove(3);
+    call_cut(1, 2);
+    call_retain(1);
+    call_clear();
+    call_equal();
+    call_clone();
+    EXPECT(it->map.at == NULL && other->map.at == NULL);
     end_test();
 }
 
@@ -601,17 +574,64 @@ static void insert_some(size_t count, uint64_t factor) {
     }
 }
 
-// Each request of a call that makes a map is refused, where the word has none and where it has one.
-// The map before is freed.
-static void test_makers(bool is_new, size_t capacity) {
+// Each request of a call is refused that is the first of its map.
+static void test_first(void (*call)(size_t number)) {
     while (refuse_in_turn()) {
-        call_make(is_new, capacity);
+        call_free(it);
+        call(20);
+    }
+    EXPECT(it->map.at != NULL);
+    check(it);
+    end_test();
+}
+
+static void call_insert(size_t key) {
+    call_insertion(INSERT, key, 7);
+}
+
+static void call_insert_checked(size_t key) {
+    call_insertion(INSERT_CHECKED, key, 7);
+}
+
+static void call_add_or_insert(size_t key) {
+    call_insertion(ADD_OR_INSERT, key, 7);
+}
+
+// A first call that asks for too much leaves an empty map.
+static void test_first_too_large(void) {
+    EXPECT(intmap_reserve(&it->map, SIZE_MAX) == INTMAP_TOO_LARGE);
+    check(it);
+    call_insertion(INSERT, 3, 4);
+    check(it);
+    end_test();
+}
+
+// A map beside one without memory.
+static void test_one_without_memory(void) {
+    call_make(16);
+    call_equal();
+    call_insertion(INSERT, 3, 0);
+    call_equal();
+    side *before = it;
+    it = other;
+    other = before;
+    call_equal();
+    call_clone();
+    call_equal();
+    end_test();
+}
+
+// Each request of a call that makes a map is refused, where the word has no memory and where it has
+// a map. The map before is freed.
+static void test_makers(size_t capacity) {
+    while (refuse_in_turn()) {
+        call_make(capacity);
     }
     uint64_t blocks = live_blocks;
     check(it);
     insert_some(100, 1 << 6);
     while (refuse_in_turn()) {
-        call_make(is_new, capacity);
+        call_make(capacity);
     }
     EXPECT(live_blocks == blocks);
     check(it);
@@ -620,7 +640,7 @@ static void test_makers(bool is_new, size_t capacity) {
 
 // The same of a clone. It is then another map.
 static void test_clone(size_t count, uint64_t factor) {
-    call_make(false, 64);
+    call_make(64);
     call_set_load_factor(1500);
     insert_some(count, factor);
     while (refuse_in_turn()) {
@@ -642,7 +662,7 @@ static void test_clone(size_t count, uint64_t factor) {
 
 // Each request of an insertion is refused. Some keys share a slot, and some make the map grow.
 static void test_insertions(unsigned kind, uint64_t factor) {
-    call_make(true, 0);
+    call_make(4);
     for (uint64_t key = 0; key < 300; key++) {
         while (refuse_in_turn()) {
             call_insertion(kind, key * factor, key);
@@ -656,7 +676,7 @@ static void test_insertions(unsigned kind, uint64_t factor) {
 // Each request is refused where a key comes to the slot of another one among keys that have a slot each,
 // and where all of these have a slot of their own again.
 static void test_stray_keys(unsigned kind) {
-    call_make(true, 0);
+    call_make(4);
     for (uint64_t key = 0; key < 300; key++) {
         while (refuse_in_turn()) {
             call_insertion(kind, key, key);
@@ -672,7 +692,7 @@ static void test_stray_keys(unsigned kind) {
 
 // Slots are added to a map whose slots hold several pairs.
 static void test_growth(void) {
-    call_make(true, 0);
+    call_make(4);
     call_set_load_factor(5000);
     insert_some(200, 1);
     while (refuse_in_turn()) {
@@ -688,7 +708,7 @@ static void test_growth(void) {
 
 // Room for so many pairs behind the first keys. The next keys come into it, and add no slots.
 static void test_room_for(size_t factor, size_t len, size_t more) {
-    call_make(true, 0);
+    call_make(4);
     call_set_load_factor(factor);
     insert_some(len, 1);
     while (refuse_in_turn()) {
@@ -739,7 +759,7 @@ static void test_limits_of_room(void) {
         {SIZE_MAX, great, INTMAP_OK},
     };
     for (size_t at = 0; at < sizeof rooms / sizeof rooms[0]; at++) {
-        call_make(true, 0);
+        call_make(4);
         call_set_load_factor(rooms[at].factor);
         insert_some(3, 1);
         EXPECT(intmap_reserve_pairs(&it->map, SIZE_MAX - 2) == INTMAP_TOO_LARGE);
@@ -773,11 +793,11 @@ static void test_slots_first(size_t slots, size_t slot, void (*call)(void)) {
 }
 
 static void make_4_slots(void) {
-    call_make(true, 0);
+    call_make(4);
 }
 
 static void make_4096_slots(void) {
-    call_make(false, 4096);
+    call_make(4096);
 }
 
 static void insert_new_key(void) {
@@ -814,7 +834,7 @@ static void test_large_requests_of_shared_slots(void) {
     insert_some(3, 1);
     test_slots_first(4096, SHARED, call_clone);
     test_slots_first(8192, SHARED, reserve_8192_slots);
-    call_make(true, 0);
+    call_make(4);
     call_insertion(INSERT, 1 << 20, 0);
     insert_some(13, 1);
     test_slots_first(32, SHARED, insert_new_key);
@@ -826,7 +846,7 @@ static void test_large_requests_of_shared_slots(void) {
 // The bits of 2^32 slots are 512 MB. They aren't granted before the slots are refused.
 static void test_too_many_slots(void) {
     const size_t slots = (size_t)1 << 32;
-    call_make(true, 0);
+    call_make(4);
     largest_request = (size_t)1 << 30;
     begin();
     EXPECT(intmap_with_capacity(&it->map, slots) == INTMAP_NO_MEMORY && was_refused_at_once());
@@ -842,7 +862,7 @@ static void test_limits(void) {
     const size_t half = (size_t)1 << 63, above_32_bits = (size_t)1 << 32;
     EXPECT(intmap_with_capacity(&it->map, half + 1) == INTMAP_TOO_LARGE && it->map.at == NULL);
     for (size_t capacity = 0; capacity < 70; capacity++) {
-        call_make(false, capacity);
+        call_make(capacity);
         check_figures(it);
     }
     insert_some(3, UINT64_MAX);
@@ -864,7 +884,7 @@ static void test_limits(void) {
 
 // Sums wrap, and the greatest key and value are as others.
 static void test_great_numbers(void) {
-    call_make(true, 0);
+    call_make(4);
     call_insertion(INSERT, UINT64_MAX, UINT64_MAX);
     call_insertion(ADD_OR_INSERT, UINT64_MAX, 2);
     call_set_or_add(true, UINT64_MAX, UINT64_MAX);
@@ -878,7 +898,7 @@ static void test_great_numbers(void) {
 
 // Maps with the same pairs in another order, other slots and another load factor.
 static void test_equal(void) {
-    call_make(true, 0);
+    call_make(4);
     insert_some(50, 64);
     call_clone();
     for (uint64_t key = 0; key < 20; key++) {
@@ -905,7 +925,7 @@ static void test_start(void) {
     intmap_cursor at = intmap_start(), zero;
     memset(&zero, 0, sizeof zero);
     EXPECT(memcmp(&at, &zero, sizeof at) == 0 && memcmp(&constant, &zero, sizeof zero) == 0);
-    call_make(true, 0);
+    call_make(4);
     insert_some(3, 1);
     intmap_found_pair first = intmap_step(&it->map, &at);
     EXPECT(first.pair.key == 0 && at.slot == 0 && at.place == 1);
@@ -918,7 +938,7 @@ static void test_start(void) {
 static void test_cursors(void) {
     const size_t far[] = {SIZE_MAX, SIZE_MAX - 1, SIZE_MAX / 2, 1000};
     model *plain = &it->plain;
-    call_make(true, 0);
+    call_make(4);
     insert_some(200, 3);
     intmap_cursor at = intmap_start();
     for (int round = 0; round < 20000; round++) {
@@ -961,7 +981,7 @@ static void test_walks(void) {
     intmap_pair pairs[LARGEST_ROOM], before[LARGEST_ROOM];
     memset(pairs, 0x5A, sizeof pairs);
     memcpy(before, pairs, sizeof before);
-    call_make(true, 0);
+    call_make(4);
     insert_some(700, 1 << 4);
     for (size_t at = 0; at < sizeof rooms / sizeof rooms[0]; at++) {
         check_walk(it, rooms[at]);
@@ -979,7 +999,7 @@ static void test_walks(void) {
 // Some thousand keys of one slot. Removals keep its memory.
 static void test_one_slot(void) {
     const uint64_t factor = (uint64_t)1 << 40;
-    call_make(true, 0);
+    call_make(4);
     insert_some(MOST - 1, factor);
     EXPECT(intmap_filled_slots(&it->map) == 1);
     call_clone();
@@ -1003,7 +1023,7 @@ static void test_one_slot(void) {
 
 // Retains, then drains, as a program does that frees what the values point to.
 static void test_cuts(void) {
-    call_make(true, 0);
+    call_make(4);
     insert_some(1000, 3);
     call_retain(1);
     check(it);
@@ -1020,7 +1040,7 @@ static void test_cuts(void) {
 
 // Slots that lost their pairs keep their memory, so the same pairs come back without a request.
 static void test_kept_memory(void) {
-    call_make(true, 0);
+    call_make(4);
     insert_some(300, 1 << 5);
     call_clear();
     until_refused = 1;
@@ -1038,7 +1058,7 @@ static void test_kept_memory(void) {
 
 // Values change along a walk, and no pair's place does.
 static void test_writes_in_walk(void) {
-    call_make(true, 0);
+    call_make(4);
     insert_some(200, 1 << 3);
     intmap_cursor at = intmap_start();
     for (size_t passed = 0; passed < it->plain.len; passed++) {
@@ -1082,7 +1102,7 @@ static void free_all(intmap *map) {
 
 static void test_addresses(void) {
     intmap map = INTMAP_INIT;
-    EXPECT(intmap_new(&map) == INTMAP_OK);
+    EXPECT(intmap_with_capacity(&map, 4) == INTMAP_OK);
     uint64_t blocks = live_blocks;
     for (uint64_t key = 0; key < 100; key++) {
         EXPECT(!intmap_failed(intmap_insert(&map, key, intmap_from_pointer(malloc(1))).status));
@@ -1100,7 +1120,7 @@ static void test_addresses(void) {
 
 static void test_mixed_keys(void) {
     uint64_t secret = number();
-    call_make(true, 0);
+    call_make(4);
     for (uint64_t key = 0; key < 1000; key++) {
         call_insertion(INSERT, intmap_mix(key << 40, secret), key);
     }
@@ -1133,12 +1153,12 @@ static void test_pointers(void) {
 
 // A word is moved.
 static void test_move(void) {
-    call_make(true, 0);
+    call_make(4);
     insert_some(10, 1);
     other->map = it->map;
     other->plain = it->plain;
     it->map = INTMAP_NONE;
-    memset(&it->plain, 0, sizeof it->plain);
+    make_plain(&it->plain, 4);
     check(it);
     check(other);
     end_test();
@@ -1148,11 +1168,17 @@ static void test_move(void) {
 
 static void test_each(void) {
     RUN(test_statuses());
-    RUN(test_changes_without_map());
-    RUN(test_reads_without_map());
-    RUN(test_one_without_map());
-    RUN(test_makers(true, 0));
-    RUN(test_makers(false, 20));
+    RUN(test_calls_without_memory());
+    RUN(test_first(call_insert));
+    RUN(test_first(call_insert_checked));
+    RUN(test_first(call_add_or_insert));
+    RUN(test_first(call_reserve));
+    RUN(test_first(call_reserve_pairs));
+    RUN(test_first(call_set_load_factor));
+    RUN(test_first_too_large());
+    RUN(test_one_without_memory());
+    RUN(test_makers(4));
+    RUN(test_makers(20));
     RUN(test_clone(40, 1));
     RUN(test_clone(200, 16));
     for (unsigned kind = 0; kind < INSERTIONS; kind++) {
@@ -1226,19 +1252,18 @@ static void call_on_all(uint64_t value, unsigned which) {
         other = before;
     } else if (which < 98) {
         call_retain(15);
-    } else {
+    } else if (which < 99) {
         call_clear();
+    } else {
+        call_make(value % 64);
     }
 }
 
-// Without a map, a map is made.
 static void call_some(size_t kind) {
     uint64_t key = number() % kinds[kind].count * kinds[kind].factor, value = number();
     // Small values too, of which 0 is one.
     value = number() % 4 > 0 ? value : value % 3;
-    if (it->map.at == NULL) {
-        call_make(value % 2, value % 64);
-    } else if (number() % 20 > 0) {
+    if (number() % 20 > 0) {
         call_on_key(key, value, number() % 100);
     } else {
         call_on_all(value, number() % 100);
@@ -1246,15 +1271,14 @@ static void call_some(size_t kind) {
     check_figures(it);
 }
 
-// Other keys, and for one of the maps none, or another one in its place.
+// Other keys, and other maps.
 static size_t begin_kind(void) {
     size_t kind = number() % (sizeof kinds / sizeof kinds[0]), capacity = number() % 64;
-    if (number() % 2) {
-        make_none(it);
-    } else if (it->map.at != NULL) {
-        call_make(capacity % 2, capacity);
+    call_free(it);
+    call_free(other);
+    if (capacity % 2) {
+        call_make(capacity);
     }
-    make_none(other);
     return kind;
 }
 
@@ -1282,6 +1306,7 @@ static void call_at_random(uint64_t calls) {
 int main(int count, char **words) {
     uint64_t calls = count > 1 ? strtoull(words[1], NULL, 10) : 200000;
     seed = count > 2 ? strtoull(words[2], NULL, 10) | 1 : seed;
+    end_test();
     test_each();
     RUN(call_at_random(calls));
     printf("%" PRIu64 " calls, %" PRIu64 " requests refused, ", calls, refused);

@@ -124,9 +124,7 @@ typedef struct subject {
 static intmap map = INTMAP_INIT;
 
 static void make_intmap(void) {
-    if (intmap_failed(intmap_new(&map))) {
-        end("out of memory");
-    }
+    map = INTMAP_NONE;
 }
 
 // Room for all keys at the load factor of 909 thousandths.

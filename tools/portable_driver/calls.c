@@ -25,10 +25,6 @@ uint32_t intmap_version(void) INTMAP_CALL {
     return do_intmap_version();
 }
 
-intmap_status intmap_new(intmap *map) INTMAP_CALL {
-    return STATUS(do_intmap_new(BYTES(map)));
-}
-
 intmap_status intmap_with_capacity(intmap *map, size_t capacity) INTMAP_CALL {
     return STATUS(do_intmap_with_capacity(BYTES(map), capacity));
 }

@@ -51,7 +51,7 @@ pub extern "C" fn intmap_with_capacity(alloc: Global, handle: &mut Handle, capac
     keep(alloc, handle, IntMap::with_capacity(alloc, capacity))
 }
 
-/// Frees the map of the handle, which then has none. If the handle has no map, it does nothing.
+/// Frees the map of the handle, which then has none.
 /// That the map's memory is freed is tested, not proved.
 ///
 /// ```text

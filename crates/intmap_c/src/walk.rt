@@ -42,8 +42,7 @@ pub extern "C" fn intmap_cut(alloc: Global, handle: &mut Handle, at: &mut Cursor
     }
 }
 
-/// Removes all pairs. The slots, the load factor and the slots' memory stay. If there is no map, it
-/// does nothing.
+/// Removes all pairs. The slots, the load factor and the slots' memory stay.
 ///
 /// ```text
 /// intmap_clear(&map)    and intmap_len(&map) is 0
