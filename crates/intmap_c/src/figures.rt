@@ -44,7 +44,7 @@ pub extern "C" fn intmap_reserve(alloc: Global, handle: &mut Handle, additional:
         None => NO_MEMORY,
         Some(mut map) => {
             let status = reserve(&mut map, additional);
-            put(handle, alloc, map);
+            put(handle, map);
             status
         }
     }
@@ -70,7 +70,7 @@ pub extern "C" fn intmap_set_load_factor(
         None => NO_MEMORY,
         Some(mut map) => {
             let status = set_load_factor(&mut map, thousandths);
-            put(handle, alloc, map);
+            put(handle, map);
             status
         }
     }

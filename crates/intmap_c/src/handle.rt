@@ -40,6 +40,13 @@ impl Handle {
         Handle { at: at as *mut u8 }
     }
 
+    /// Gives up the handle of no map.
+    pub(crate) fn give_up(self)
+        requires { self.value ≡ None }
+    {
+        let Handle { at: _ } = self;
+    }
+
     /// The map of the handle, if it has one.
     pub(crate) fn into_map(self, alloc: Global) -> Option<Unboxed<IntMap<u64, u64>, Global>>
         ensures { MatchOption result (self.value ≡ None) (λ map. self.value ≡ Some map.value) }
@@ -81,12 +88,10 @@ pub(crate) fn take_or_make(handle: &mut Handle, alloc: Global) -> Option<Box<Int
     }
 }
 
-/// Puts the map into the handle. If the handle had a map, that map is freed.
-pub(crate) fn put(handle: &mut Handle, alloc: Global, map: Box<IntMap<u64, u64>>)
+/// Puts the map into the handle, which has none.
+pub(crate) fn put(handle: &mut Handle, map: Box<IntMap<u64, u64>>)
+    requires { handle.old.value ≡ None }
     ensures { handle.new.value ≡ Some map.value }
 {
-    let old = replace(handle, Handle::of(Unboxed::of(map)));
-    if let Some(map) = old.into_map(alloc) {
-        drop(map.into_box());
-    }
+    replace(handle, Handle::of(Unboxed::of(map))).give_up();
 }

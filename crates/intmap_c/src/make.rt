@@ -22,7 +22,9 @@ pub(crate) fn keep(alloc: Global, handle: &mut Handle, made: Result<IntMap<u64, 
     match made {
         Ok(map) => match Box::new(alloc, map) {
             Ok(map) => {
-                put(handle, alloc, map);
+                let old = take(handle, alloc);
+                put(handle, map);
+                drop(old);
                 OK
             }
             Err(_) => NO_MEMORY,

@@ -108,7 +108,7 @@ pub extern "C" fn intmap_insert(
         None => FoundValue::none(NO_MEMORY),
         Some(mut map) => {
             let answer = insert(&mut map, key, value);
-            put(handle, alloc, map);
+            put(handle, map);
             answer
         }
     }
@@ -135,7 +135,7 @@ pub extern "C" fn intmap_insert_checked(
         None => NO_MEMORY,
         Some(mut map) => {
             let status = insert_checked(&mut map, key, value);
-            put(handle, alloc, map);
+            put(handle, map);
             status
         }
     }
@@ -156,7 +156,7 @@ pub extern "C" fn intmap_set(alloc: Global, handle: &mut Handle, key: u64, value
         None => FoundValue::of(None),
         Some(mut map) => {
             let answer = set(&mut map, key, value);
-            put(handle, alloc, map);
+            put(handle, map);
             answer
         }
     }
@@ -177,7 +177,7 @@ pub extern "C" fn intmap_add(alloc: Global, handle: &mut Handle, key: u64, more:
         None => FoundValue::of(None),
         Some(mut map) => {
             let answer = add(&mut map, key, more);
-            put(handle, alloc, map);
+            put(handle, map);
             answer
         }
     }
@@ -203,7 +203,7 @@ pub extern "C" fn intmap_add_or_insert(
         None => FoundValue::none(NO_MEMORY),
         Some(mut map) => {
             let answer = add_or_insert(&mut map, key, more);
-            put(handle, alloc, map);
+            put(handle, map);
             answer
         }
     }
@@ -224,7 +224,7 @@ pub extern "C" fn intmap_remove(alloc: Global, handle: &mut Handle, key: u64) ->
         None => FoundValue::of(None),
         Some(mut map) => {
             let answer = remove(&mut map, key);
-            put(handle, alloc, map);
+            put(handle, map);
             answer
         }
     }

@@ -36,7 +36,7 @@ pub extern "C" fn intmap_cut(alloc: Global, handle: &mut Handle, at: &mut Cursor
         None => FoundPair::of(None),
         Some(mut map) => {
             let found = cut(&mut map, at);
-            put(handle, alloc, map);
+            put(handle, map);
             found
         }
     }
@@ -53,6 +53,6 @@ pub extern "C" fn intmap_clear(alloc: Global, handle: &mut Handle)
 {
     if let Some(mut map) = take(handle, alloc) {
         map.clear();
-        put(handle, alloc, map);
+        put(handle, map);
     }
 }
