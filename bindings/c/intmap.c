@@ -17,7 +17,7 @@
 // have 16 bytes each.
 //
 // Compilers: rattle-kit-13f logic dac8208d650f15bf; clang version 22.1.8
-// Sources: e4c0157497246def9dafd2037bebf73cb2956a051e153d851eb613a102effafe
+// Sources: 7d1e6095b25951fb271eb0efa492ada92a6eb40fff88b91fb853e28d2b15a996
 //
 // SPDX-License-Identifier: MIT
 //
@@ -374,10 +374,10 @@ static inline void rattle_dealloc(char *block) {
 
 // The functions of the module.
 
+static ALIGNED void mem_drop(uint8_t a0, char *a1);
+static ALIGNED uint32_t make_keep(char *a0, char *a1);
 static ALIGNED void intmap_with_slots(char *a0, uint64_t a1);
 static ALIGNED void grow_reserve_slots(char *a0, char *a1, uint64_t a2);
-static ALIGNED uint32_t make_keep(char *a0, char *a1);
-static ALIGNED void box_drop(char *a0);
 static ALIGNED struct byte_address handle_take_or_make(char *a0);
 static ALIGNED NOINLINE void intmap_add_growing(char *a0, char *a1, uint64_t a2, uint64_t a3, uint64_t a4, uint64_t a5);
 static ALIGNED uint8_t slots_grow(char *a0, uint64_t a1, bool a2);
@@ -397,20 +397,132 @@ static ALWAYS_INLINE uint64_t do_intmap_filled_slots(char *map);
 static ALWAYS_INLINE uint64_t do_intmap_len(char *map);
 static ALWAYS_INLINE uint64_t do_intmap_load_factor(char *map);
 static ALWAYS_INLINE struct word_word do_intmap_get(char *map, uint64_t key);
-static ALWAYS_INLINE uint32_t do_intmap_with_capacity(char *map, uint64_t capacity);
 static ALWAYS_INLINE char *do_intmap_step(char *found, char *map, char *at);
 static ALWAYS_INLINE struct word_word do_intmap_add(char *map, uint64_t key, uint64_t more);
 static ALWAYS_INLINE void do_intmap_clear(char *map);
-static ALWAYS_INLINE uint32_t do_intmap_clone(char *map, char *to);
 static ALWAYS_INLINE char *do_intmap_cut(char *found, char *map, char *at);
 static ALWAYS_INLINE void do_intmap_free(char *map);
 static ALWAYS_INLINE struct word_word do_intmap_remove(char *map, uint64_t key);
 static ALWAYS_INLINE struct word_word do_intmap_set(char *map, uint64_t key, uint64_t value);
+static ALWAYS_INLINE uint32_t do_intmap_clone(char *map, char *to);
+static ALWAYS_INLINE uint32_t do_intmap_with_capacity(char *map, uint64_t capacity);
 static ALWAYS_INLINE struct word_word do_intmap_add_or_insert(char *map, uint64_t key, uint64_t more);
 static ALWAYS_INLINE struct word_word do_intmap_insert(char *map, uint64_t key, uint64_t value);
 static ALWAYS_INLINE uint32_t do_intmap_insert_checked(char *map, uint64_t key, uint64_t value);
 static ALWAYS_INLINE uint32_t do_intmap_reserve(char *map, uint64_t additional);
 static ALWAYS_INLINE uint32_t do_intmap_set_load_factor(char *map, uint64_t thousandths);
+
+// core::mem::drop, in Rattle's library core
+static ALIGNED void mem_drop(uint8_t a0, char *a1) {
+    char *r4, *r4_2, *r4_4, *r9;
+    uint64_t r4_3, r4_5, r4_6, r4_7, r0_06, r12;
+    if ((a0 & 1) != 0) {
+        r4 = load_address(a1 + 8);
+        r4_2 = load_address(a1 + 32);
+        r4_3 = load64(a1 + 48);
+        r4_4 = load_address(a1 + 56);
+        r4_5 = load64(a1 + 64);
+        r4_6 = load64(a1 + 72);
+        r4_7 = load64(a1 + 24);
+        rattle_dealloc(a1);
+        if (r4_7 != 0) {
+            rattle_dealloc(r4);
+        }
+        if (r4_3 != 0) {
+            rattle_dealloc(r4_2);
+        }
+        if (r4_5 != 0) {
+            r0_06 = 0;
+            for (;;) {
+                r9 = r4_4 + (r0_06 * 48);
+                if (load64(r9 + 40) != 0) {
+                    rattle_dealloc(load_address(r9 + 24));
+                }
+                r12 = r0_06 + 1;
+                if (r12 == r4_5) {
+                    break;
+                }
+                r0_06 = r12;
+            }
+        }
+        if (r4_6 != 0) {
+            rattle_dealloc(r4_4);
+        }
+    }
+    return;
+}
+
+// intmap_c::make::keep, in crates/intmap_c/src/make.rt
+static ALIGNED uint32_t make_keep(char *a0, char *a1) {
+    char *r2_2, *r2_3, *r2_6, *r2_9, *x1, *r9;
+    uint64_t r2_4, r2_5, r2_7, r2_8, r2_10, r2_11, r3, r0_06, r12;
+    struct word_word r0;
+    uint32_t common_ret_op;
+    uint64_t r2_room[3];
+    char *r2 = (char *)r2_room;
+    r2_2 = load_address(a1 + 8);
+    r2_3 = load_address(a1 + 16);
+    r2_4 = load64(a1 + 24);
+    r2_5 = load64(a1 + 32);
+    r2_6 = load_address(a1 + 40);
+    r2_7 = load64(a1 + 48);
+    r2_8 = load64(a1 + 56);
+    r2_9 = load_address(a1 + 64);
+    r2_10 = load64(a1 + 72);
+    r2_11 = load64(a1 + 80);
+    if (load8(a1) == 0) {
+        memcpy(r2, a1 + 88, 24);
+        r0 = rattle_alloc(104, 8);
+        if ((r0.first & 1) != 0) {
+            x1 = (char *)(uintptr_t)r0.second;
+            store_address(x1, r2_2);
+            store_address(x1 + 8, r2_3);
+            store64(x1 + 16, r2_4);
+            store64(x1 + 24, r2_5);
+            store_address(x1 + 32, r2_6);
+            store64(x1 + 40, r2_7);
+            store64(x1 + 48, r2_8);
+            store_address(x1 + 56, r2_9);
+            store64(x1 + 64, r2_10);
+            store64(x1 + 72, r2_11);
+            memcpy(x1 + 80, r2, 24);
+            r3 = load64(a0);
+            store64(a0, r0.second);
+            mem_drop((uint8_t)(r3 != 0), (char *)(uintptr_t)r3);
+            common_ret_op = 0;
+        } else {
+            if (r2_5 != 0) {
+                rattle_dealloc(r2_3);
+            }
+            if (r2_8 != 0) {
+                rattle_dealloc(r2_6);
+            }
+            if (r2_10 != 0) {
+                r0_06 = 0;
+                for (;;) {
+                    r9 = r2_9 + (r0_06 * 48);
+                    if (load64(r9 + 40) != 0) {
+                        rattle_dealloc(load_address(r9 + 24));
+                    }
+                    r12 = r0_06 + 1;
+                    if (r12 == r2_10) {
+                        break;
+                    }
+                    r0_06 = r12;
+                }
+            }
+            if (r2_11 == 0) {
+                common_ret_op = 4294967295u;
+            } else {
+                rattle_dealloc(r2_9);
+                common_ret_op = 4294967295u;
+            }
+        }
+    } else {
+        common_ret_op = (load8(a1 + 1) == 0) ? 4294967295u : 4294967294u;
+    }
+    return common_ret_op;
+}
 
 // intmap::map::IntMap::with_slots, in crates/intmap/src/map/build.rt
 static ALIGNED void intmap_with_slots(char *a0, uint64_t a1) {
@@ -590,120 +702,6 @@ arm_1:;
     store64(a0 + 16, r9_2);
     store64(a0 + 24, r4_0);
 common_ret:;
-    return;
-}
-
-// intmap_c::make::keep, in crates/intmap_c/src/make.rt
-static ALIGNED uint32_t make_keep(char *a0, char *a1) {
-    char *r2_2, *r2_3, *r2_6, *r2_9, *x1, *r9;
-    uint64_t r2_4, r2_5, r2_7, r2_8, r2_10, r2_11, r3, r0_06, r12;
-    struct word_word r0;
-    uint32_t common_ret_op;
-    uint64_t r2_room[3];
-    char *r2 = (char *)r2_room;
-    r2_2 = load_address(a1 + 8);
-    r2_3 = load_address(a1 + 16);
-    r2_4 = load64(a1 + 24);
-    r2_5 = load64(a1 + 32);
-    r2_6 = load_address(a1 + 40);
-    r2_7 = load64(a1 + 48);
-    r2_8 = load64(a1 + 56);
-    r2_9 = load_address(a1 + 64);
-    r2_10 = load64(a1 + 72);
-    r2_11 = load64(a1 + 80);
-    if (load8(a1) == 0) {
-        memcpy(r2, a1 + 88, 24);
-        r0 = rattle_alloc(104, 8);
-        if ((r0.first & 1) != 0) {
-            x1 = (char *)(uintptr_t)r0.second;
-            store_address(x1, r2_2);
-            store_address(x1 + 8, r2_3);
-            store64(x1 + 16, r2_4);
-            store64(x1 + 24, r2_5);
-            store_address(x1 + 32, r2_6);
-            store64(x1 + 40, r2_7);
-            store64(x1 + 48, r2_8);
-            store_address(x1 + 56, r2_9);
-            store64(x1 + 64, r2_10);
-            store64(x1 + 72, r2_11);
-            memcpy(x1 + 80, r2, 24);
-            r3 = load64(a0);
-            store64(a0, r0.second);
-            if (r3 == 0) {
-                common_ret_op = 0;
-            } else {
-                box_drop((char *)(uintptr_t)r3);
-                common_ret_op = 0;
-            }
-        } else {
-            if (r2_5 != 0) {
-                rattle_dealloc(r2_3);
-            }
-            if (r2_8 != 0) {
-                rattle_dealloc(r2_6);
-            }
-            if (r2_10 != 0) {
-                r0_06 = 0;
-                for (;;) {
-                    r9 = r2_9 + (r0_06 * 48);
-                    if (load64(r9 + 40) != 0) {
-                        rattle_dealloc(load_address(r9 + 24));
-                    }
-                    r12 = r0_06 + 1;
-                    if (r12 == r2_10) {
-                        break;
-                    }
-                    r0_06 = r12;
-                }
-            }
-            if (r2_11 == 0) {
-                common_ret_op = 4294967295u;
-            } else {
-                rattle_dealloc(r2_9);
-                common_ret_op = 4294967295u;
-            }
-        }
-    } else {
-        common_ret_op = (load8(a1 + 1) == 0) ? 4294967295u : 4294967294u;
-    }
-    return common_ret_op;
-}
-
-// std_alloc::boxed::Box::drop, in Rattle's library std_alloc
-static ALIGNED void box_drop(char *a0) {
-    char *r4, *r4_2, *r4_4, *r9;
-    uint64_t r4_3, r4_5, r4_6, r4_7, r0_06, r12;
-    r4 = load_address(a0 + 8);
-    r4_2 = load_address(a0 + 32);
-    r4_3 = load64(a0 + 48);
-    r4_4 = load_address(a0 + 56);
-    r4_5 = load64(a0 + 64);
-    r4_6 = load64(a0 + 72);
-    r4_7 = load64(a0 + 24);
-    rattle_dealloc(a0);
-    if (r4_7 != 0) {
-        rattle_dealloc(r4);
-    }
-    if (r4_3 != 0) {
-        rattle_dealloc(r4_2);
-    }
-    if (r4_5 != 0) {
-        r0_06 = 0;
-        for (;;) {
-            r9 = r4_4 + (r0_06 * 48);
-            if (load64(r9 + 40) != 0) {
-                rattle_dealloc(load_address(r9 + 24));
-            }
-            r12 = r0_06 + 1;
-            if (r12 == r4_5) {
-                break;
-            }
-            r0_06 = r12;
-        }
-    }
-    if (r4_6 != 0) {
-        rattle_dealloc(r4_4);
-    }
     return;
 }
 
@@ -2939,37 +2937,6 @@ static ALWAYS_INLINE struct word_word do_intmap_get(char *map, uint64_t key) {
     return made_word_word(r18.first, r0_2_8_ext);
 }
 
-// intmap_with_capacity, in crates/intmap_c/src/make.rt
-static ALWAYS_INLINE uint32_t do_intmap_with_capacity(char *map, uint64_t capacity) {
-    uint8_t sink1, sink, x0, x1;
-    uint64_t a0_a1, r13;
-    uint32_t r5;
-    uint64_t r0_room[14];
-    char *r0 = (char *)r0_room;
-    uint64_t r3_room[14];
-    char *r3 = (char *)r3_room;
-    memset(r3, 0, 112);
-    memset(r0, 0, 112);
-    if (capacity > UINT64_C(9223372036854775808)) {
-        memset(r3 + 8, 0, 104);
-        sink1 = 1;
-        sink = 1;
-    } else {
-        a0_a1 = greater(capacity, 2);
-        r13 = high_zeros(a0_a1 - 1);
-        intmap_with_slots(r0, (uint64_t)1 << ((uint64_t)64 - r13));
-        x0 = load8(r0);
-        x1 = load8(r0 + 1);
-        memcpy(r3 + 8, r0 + 8, 104);
-        sink1 = x0;
-        sink = x1;
-    }
-    store8(r3, sink1);
-    store8(r3 + 1, sink);
-    r5 = make_keep(map, r3);
-    return r5;
-}
-
 // intmap_step, in crates/intmap_c/src/read.rt
 static ALWAYS_INLINE char *do_intmap_step(char *found, char *map, char *at) {
     char *r5, *r11, *r4, *r11_2, *r8, *r8_2, *r11_3, *common_ret_op_ph94;
@@ -3074,9 +3041,9 @@ after_read_intmap_step:;
 
 // intmap_add, in crates/intmap_c/src/pairs.rt
 static ALWAYS_INLINE struct word_word do_intmap_add(char *map, uint64_t key, uint64_t more) {
-    uint64_t r3, r10, r6, r3_0, r21, r36, r19, r3_2, r0_2_8_ext;
+    uint64_t r3, r10, r6, r3_0, r21, r36, r19, r0_2_8_ext;
     char *x0, *r11, *r4, *r11_2, *r4_2;
-    struct word_half r23;
+    struct word_half r23, r29;
     r3 = load64(map);
     store64(map, 0);
     x0 = (char *)(uintptr_t)r3;
@@ -3086,62 +3053,61 @@ static ALWAYS_INLINE struct word_word do_intmap_add(char *map, uint64_t key, uin
         r10 = load64(x0) & (key * UINT64_C(11400714819323198549));
         if (r10 < load64(x0 + 40)) {
             r11 = load_address(x0 + 32) + (r10 * 24);
-            if (load8(r11) == 1) {
-                if (load64(r11 + 8) == key) {
-                    r4 = r11 + 16;
-                    goto after_pairs_add_2;
-                }
+            if (load8(r11) != 1) {
+                r29 = empty_word_half();
+                goto after_pairs_add;
             }
+            if (load64(r11 + 8) != key) {
+                r29 = empty_word_half();
+                goto after_pairs_add;
+            }
+            r4 = r11 + 16;
         } else {
             r11_2 = load_address(x0 + 56) + (r10 * 48);
-            if (load8(r11_2) == 1) {
-                if (load64(r11_2 + 8) == key) {
-                    r4 = r11_2 + 16;
-                    goto after_pairs_add_2;
-                }
+            if (load8(r11_2) != 1) {
+                r29 = empty_word_half();
+                goto after_pairs_add;
+            }
+            if (load64(r11_2 + 8) == key) {
+                r4 = r11_2 + 16;
+            } else {
                 r4_2 = load_address(r11_2 + 24);
                 r6 = load64(r11_2 + 32);
-                if (r6 != 0) {
-                    r3_0 = 0;
-                    for (;;) {
-                        r21 = r3_0 << 4;
-                        if (load64(r4_2 + r21) == key) {
-                            r4 = (r4_2 + r21) + 8;
-                            goto after_pairs_add_2;
-                        }
-                        r36 = r3_0 + 1;
-                        if (r36 == r6) {
-                            break;
-                        }
-                        r3_0 = r36;
+                if (r6 == 0) {
+                    r29 = empty_word_half();
+                    goto after_pairs_add;
+                }
+                r3_0 = 0;
+                for (;;) {
+                    r21 = r3_0 << 4;
+                    if (load64(r4_2 + r21) == key) {
+                        r4 = (r4_2 + r21) + 8;
+                        break;
                     }
+                    r36 = r3_0 + 1;
+                    if (r36 == r6) {
+                        r29 = empty_word_half();
+                        goto after_pairs_add;
+                    }
+                    r3_0 = r36;
                 }
             }
         }
-        store64(map, r3);
-        r23 = empty_word_half();
-        goto after_pairs_intmap_add;
-    after_pairs_add_2:;
         r19 = load64(r4);
         store64(r4, r19 + more);
-        r3_2 = load64(map);
+        r29 = made_word_half(r19, 1);
+    after_pairs_add:;
         store64(map, r3);
-        if (r3_2 == 0) {
-            r23 = made_word_half(r19, 1);
-        } else {
-            box_drop((char *)(uintptr_t)r3_2);
-            r23 = made_word_half(r19, 1);
-        }
+        r23 = r29;
     }
-after_pairs_intmap_add:;
     r0_2_8_ext = (uint64_t)r23.second;
     return made_word_word(r23.first, r0_2_8_ext);
 }
 
 // intmap_clear, in crates/intmap_c/src/walk.rt
 static ALWAYS_INLINE void do_intmap_clear(char *map) {
-    uint64_t r3, r6, r6_2, r6_4, r1, r1_2, r1_4, r1_5, r1_7, r6_5, r28, r3_2, r33, r54, r60, r1_8, r1_9, r1_11, r27,
-        r33_2, r40;
+    uint64_t r3, r6, r6_2, r6_4, r1, r1_2, r1_4, r1_5, r1_7, r6_5, r28, r33, r54, r60, r1_8, r1_9, r1_11, r27, r33_2,
+        r40;
     char *x0, *r6_3, *r4, *r1_3, *r1_6, *r4_2, *r1_10, *r9;
     r3 = load64(map);
     store64(map, 0);
@@ -3179,12 +3145,7 @@ static ALWAYS_INLINE void do_intmap_clear(char *map) {
                             store64(r4_2 + (r28 << 3), 0);
                         }
                         store64(x0 + 80, 0);
-                        r3_2 = load64(map);
                         store64(map, r3);
-                        if (r3_2 == 0) {
-                            goto after_walk_intmap_clear;
-                        }
-                        box_drop((char *)(uintptr_t)r3_2);
                         goto after_walk_intmap_clear;
                     }
                     r33 = r1_5 - 1;
@@ -3229,6 +3190,484 @@ after_walk_intmap_clear:;
     return;
 }
 
+// intmap_cut, in crates/intmap_c/src/walk.rt
+static ALWAYS_INLINE char *do_intmap_cut(char *found, char *map, char *at) {
+    uint64_t r3, r6, r6_2, r7, r9, r8, r6_4, r3051, r2_2, r3_2, r305061, r10, r16, r6_5, r1, r1_2, r28, r20, r3_0,
+        r0_05, r19, r29, r0_05_2, r13_2, r23, r36, r20_2, exit, r0_05_3, r19_2, r29_2, x9, r20_lcssa60, r3_0_lcssa59,
+        r3_3, r3_4, r305060, r1_3_0_pn47, r1_0_0_pn46, r3_0_2, r1910, r2_3, r39, r1_0, r46, x25, x26, r59, r2_0,
+        r1_0_2, r63, r69, exit_2, r0, r0_2, r16_2, r1_3, r1_4, r28_2, r3_0_3, r0_05_4, r13_4, r23_2, r36_2, r20_3,
+        exit_3, x18, r20_lcssa60_2, r3_0_lcssa59_2, r0_05_5, r13_5, r23_3, r4_3, r4_4, r0_3, r0_4;
+    char *x0, *r4, *r5, *r11_2, *r5_2, *r9_2, *r13, *r9_3, *x6, *x8, *x10, *r4_2, *r5_3, *r9_4, *r13_3, *x15, *x17,
+        *x20, *r11_4, *r9_5, *r11_5;
+    uint32_t r6_3, r8_2;
+    uint8_t r2, r11, r11_3;
+    r3 = load64(map);
+    store64(map, 0);
+    x0 = (char *)(uintptr_t)r3;
+    if (r3 == 0) {
+        r6 = 0;
+        r6_2 = 0;
+        r6_3 = 0;
+    } else {
+        r7 = load64(at);
+        r9 = load64(at + 8);
+        if (r7 <= load64(x0)) {
+            if (r7 < load64(x0 + 40)) {
+                r4 = load_address(x0 + 32);
+                r8 = r7 * 24;
+                r2 = load8(r4 + r8);
+                if ((r9 == 0) & (r2 != 0)) {
+                    r11 = r2;
+                    r6_4 = r8;
+                    r5 = r4;
+                    r3051 = r7;
+                    goto then_1_4;
+                }
+            } else {
+                r11_2 = load_address(x0 + 56) + (r7 * 48);
+                if (load8(r11_2) != 0) {
+                    r2_2 = load64(r11_2 + 32);
+                    if (r9 < (r2_2 + 1)) {
+                        if (r9 == 0) {
+                            r3_2 = r2_2;
+                            r5_2 = r11_2 + 24;
+                            r9_2 = r11_2;
+                            r305061 = r7;
+                            goto join_3_5;
+                        }
+                        r10 = r9 - 1;
+                        r13 = load_address(r11_2 + 24);
+                        r16 = load64(r11_2 + 40);
+                        memset(r11_2 + 32, 0, 16);
+                        r6_5 = r10 << 4;
+                        r9_3 = r13 + r6_5;
+                        r1 = load64(r9_3);
+                        r1_2 = load64(r9_3 + 8);
+                        r28 = r2_2 - 1;
+                        r20 = r2_2 - r9;
+                        if (r20 > 128) {
+                            r3_0 = r10;
+                            for (;;) {
+                                x6 = r13 + (r3_0 << 4);
+                                if (r3_0 == UINT64_C(18446744073709551615)) {
+                                    r0_05 = 0;
+                                    for (;;) {
+                                        r19 = (uint64_t)2032 - (r0_05 << 4);
+                                        memcpy(x6 + r19, (x6 + 16) + r19, 16);
+                                        r29 = r0_05 + 1;
+                                        if (r29 == 128) {
+                                            break;
+                                        }
+                                        r0_05 = r29;
+                                    }
+                                } else {
+                                    r0_05_2 = 0;
+                                    for (;;) {
+                                        r13_2 = r0_05_2 << 4;
+                                        memcpy(x6 + r13_2, (x6 + 16) + r13_2, 16);
+                                        r23 = r0_05_2 + 1;
+                                        if (r23 == 128) {
+                                            break;
+                                        }
+                                        r0_05_2 = r23;
+                                    }
+                                }
+                                r36 = r3_0 + 128;
+                                r20_2 = r28 - r36;
+                                if (r20_2 <= 128) {
+                                    exit = r36 << 4;
+                                    x8 = r13 + exit;
+                                    if (r36 != UINT64_C(18446744073709551615)) {
+                                        x9 = exit;
+                                        r20_lcssa60 = r20_2;
+                                        r3_0_lcssa59 = r36;
+                                        break;
+                                    }
+                                    if (r2_2 == 0) {
+                                        goto after_Slot_remove_at;
+                                    }
+                                    r0_05_3 = 0;
+                                    for (;;) {
+                                        r19_2 = (r20_2 + (r0_05_3 ^ UINT64_C(18446744073709551615))) << 4;
+                                        memcpy(x8 + r19_2, (x8 + 16) + r19_2, 16);
+                                        r29_2 = r0_05_3 + 1;
+                                        if (r29_2 == r20_2) {
+                                            goto after_Slot_remove_at;
+                                        }
+                                        r0_05_3 = r29_2;
+                                    }
+                                }
+                                r3_0 = r36;
+                            }
+                        } else {
+                            x9 = r6_5;
+                            r20_lcssa60 = r20;
+                            r3_0_lcssa59 = r10;
+                        }
+                        if (r28 != r3_0_lcssa59) {
+                            x10 = r13 + x9;
+                            memmove(x10, x10 + 16, r20_lcssa60 << 4);
+                        }
+                    after_Slot_remove_at:;
+                        store_address(r11_2 + 24, r13);
+                        store64(r11_2 + 32, r28);
+                        store64(r11_2 + 40, r16);
+                        if ((load8(r11_2) & 1) != 0) {
+                            r3_3 = r1;
+                            r3_4 = r1_2;
+                            goto x24;
+                        }
+                        r305060 = r7;
+                        r1_3_0_pn47 = r1_2;
+                        r1_0_0_pn46 = r1;
+                        goto then_1_3;
+                    }
+                }
+            }
+        }
+        r3_0_2 = sum_or_most(r7, 1);
+        r1910 = r3_0_2 >> 6;
+        r2_3 = load64(x0 + 16);
+        if (r2_3 <= r1910) {
+            x25 = 0;
+            r8_2 = 0;
+            x26 = 0;
+            goto after_walk_cut;
+        }
+        r4_2 = load_address(x0 + 8);
+        r39 = load64(r4_2 + (r1910 << 3)) & (UINT64_C(18446744073709551615) << (r3_0_2 & 63));
+        if (r39 == 0) {
+            r1_0 = r1910;
+            for (;;) {
+                r46 = r1_0 + 1;
+                if (r46 == r2_3) {
+                    x25 = 0;
+                    r8_2 = 0;
+                    x26 = 0;
+                    goto after_walk_cut;
+                }
+                r59 = load64(r4_2 + (r46 << 3));
+                if (r59 != 0) {
+                    r2_0 = r59;
+                    r1_0_2 = r46;
+                    break;
+                }
+                r1_0 = r46;
+            }
+        } else {
+            r2_0 = r39;
+            r1_0_2 = r1910;
+        }
+        r63 = low_zeros(r2_0);
+        r69 = (r1_0_2 << 6) | r63;
+        store64(at, r69);
+        store64(at + 8, 0);
+        if (r69 < load64(x0 + 40)) {
+            r5_3 = load_address(x0 + 32);
+            exit_2 = r69 * 24;
+            r11 = load8(r5_3 + exit_2);
+            r6_4 = exit_2;
+            r5 = r5_3;
+            r3051 = r69;
+            goto then_1_4;
+        }
+        r9_4 = load_address(x0 + 56) + (r69 * 48);
+        r3_2 = load64(r9_4 + 32);
+        r5_2 = r9_4 + 24;
+        r9_2 = r9_4;
+        r305061 = r69;
+    join_3_5:;
+        if (r3_2 == 0) {
+            r11_3 = load8(r9_2);
+            r0 = load64(r9_2 + 8);
+            r0_2 = load64(r9_2 + 16);
+            memset(r9_2, 0, 24);
+            if (r11_3 == 1) {
+                r305060 = r305061;
+                r1_3_0_pn47 = r0_2;
+                r1_0_0_pn46 = r0;
+                goto then_1_3;
+            }
+        }
+        r13_3 = load_address(r5_2);
+        r16_2 = load64(r9_2 + 40);
+        memset(r9_2 + 32, 0, 16);
+        r1_3 = load64(r13_3);
+        r1_4 = load64(r13_3 + 8);
+        r28_2 = r3_2 - 1;
+        if (r28_2 > 128) {
+            r3_0_3 = 0;
+            for (;;) {
+                x15 = r13_3 + (r3_0_3 << 4);
+                r0_05_4 = 0;
+                for (;;) {
+                    r13_4 = r0_05_4 << 4;
+                    memcpy(x15 + r13_4, (x15 + 16) + r13_4, 16);
+                    r23_2 = r0_05_4 + 1;
+                    if (r23_2 == 128) {
+                        r36_2 = r3_0_3 + 128;
+                        r20_3 = r28_2 - r36_2;
+                        if (r20_3 > 128) {
+                            r3_0_3 = r36_2;
+                            break;
+                        }
+                        exit_3 = r36_2 << 4;
+                        x17 = r13_3 + exit_3;
+                        x18 = exit_3;
+                        r20_lcssa60_2 = r20_3;
+                        r3_0_lcssa59_2 = r36_2;
+                        goto then_2_2;
+                    }
+                    r0_05_4 = r23_2;
+                }
+            }
+        }
+        x17 = r13_3;
+        x18 = 0;
+        r20_lcssa60_2 = r28_2;
+        r3_0_lcssa59_2 = 0;
+    then_2_2:;
+        if (r28_2 != r3_0_lcssa59_2) {
+            x20 = r13_3 + x18;
+            r0_05_5 = 0;
+            for (;;) {
+                r13_5 = r0_05_5 << 4;
+                memcpy(x20 + r13_5, (x17 + 16) + r13_5, 16);
+                r23_3 = r0_05_5 + 1;
+                if (r23_3 == r20_lcssa60_2) {
+                    break;
+                }
+                r0_05_5 = r23_3;
+            }
+        }
+        store_address(r5_2, r13_3);
+        store64(r9_2 + 32, r28_2);
+        store64(r9_2 + 40, r16_2);
+        if (load8(r9_2) != 1) {
+            abort();
+        }
+        r4_3 = load64(r9_2 + 8);
+        r4_4 = load64(r9_2 + 16);
+        store64(r9_2 + 8, r1_3);
+        store64(r9_2 + 16, r1_4);
+        r3_3 = r4_3;
+        r3_4 = r4_4;
+        goto x24;
+    then_1_3:;
+        r11_4 = load_address(x0 + 8) + ((r305060 >> 3) & UINT64_C(2305843009213693944));
+        store64(r11_4, load64(r11_4) & (((uint64_t)1 << (r305060 & 63)) ^ UINT64_C(18446744073709551615)));
+        r3_3 = r1_0_0_pn46;
+        r3_4 = r1_3_0_pn47;
+        goto x24;
+    then_1_4:;
+        r9_5 = r5 + r6_4;
+        r0_3 = load64(r9_5 + 8);
+        r0_4 = load64(r9_5 + 16);
+        memset(r9_5, 0, 24);
+        if (r11 != 1) {
+            abort();
+        }
+        r11_5 = load_address(x0 + 8) + ((r3051 >> 3) & UINT64_C(2305843009213693944));
+        store64(r11_5, load64(r11_5) & (((uint64_t)1 << (r3051 & 63)) ^ UINT64_C(18446744073709551615)));
+        r3_3 = r0_3;
+        r3_4 = r0_4;
+    x24:;
+        store64(x0 + 80, load64(x0 + 80) - 1);
+        x25 = r3_3;
+        r8_2 = 1;
+        x26 = r3_4;
+    after_walk_cut:;
+        store64(map, r3);
+        r6 = x25;
+        r6_2 = x26;
+        r6_3 = r8_2;
+    }
+    store64(found, r6);
+    store64(found + 8, r6_2);
+    store32(found + 16, r6_3);
+    store32(found + 20, 0);
+    return found;
+}
+
+// intmap_free, in crates/intmap_c/src/make.rt
+static ALWAYS_INLINE void do_intmap_free(char *map) {
+    uint64_t r3;
+    r3 = load64(map);
+    store64(map, 0);
+    mem_drop((uint8_t)(r3 != 0), (char *)(uintptr_t)r3);
+    return;
+}
+
+// intmap_remove, in crates/intmap_c/src/pairs.rt
+static ALWAYS_INLINE struct word_word do_intmap_remove(char *map, uint64_t key) {
+    uint64_t r3, r10, r8, r9, r0, r0_2, spec_select, r3_2, r8_2, r9_2, r0_3, r28, r2, r4, r6, r3_0, r45, r28_2, r2_2,
+        r4_3, r0_2_8_ext;
+    char *x0, *r11, *r11_2, *r23_2, *r4_2, *r23_3, *x5;
+    struct word_half r23;
+    uint32_t r0_0_0_0_pn115;
+    r3 = load64(map);
+    store64(map, 0);
+    x0 = (char *)(uintptr_t)r3;
+    if (r3 == 0) {
+        r23 = empty_word_half();
+    } else {
+        r10 = load64(x0) & (key * UINT64_C(11400714819323198549));
+        if (r10 < load64(x0 + 40)) {
+            r11 = load_address(x0 + 32) + (r10 * 24);
+            if (load8(r11) != 1) {
+                r0_0_0_0_pn115 = 0;
+                spec_select = 0;
+                goto after_pairs_remove;
+            }
+            if (load64(r11 + 8) != key) {
+                r0_0_0_0_pn115 = 0;
+                spec_select = 0;
+                goto after_pairs_remove;
+            }
+            r8 = (r10 >> 3) & UINT64_C(2305843009213693944);
+            r9 = load64(load_address(x0 + 8) + r8);
+            r0 = load64(r11 + 16);
+            memset(r11, 0, 24);
+            store64(load_address(x0 + 8) + r8, r9 & (((uint64_t)1 << (r10 & 63)) ^ UINT64_C(18446744073709551615)));
+            r0_2 = r0;
+        } else {
+            r11_2 = load_address(x0 + 56) + (r10 * 48);
+            if (load8(r11_2) != 1) {
+                r0_0_0_0_pn115 = 0;
+                spec_select = 0;
+                goto after_pairs_remove;
+            }
+            if (load64(r11_2 + 8) == key) {
+                r3_2 = load64(r11_2 + 32);
+                if (r3_2 == 0) {
+                    r8_2 = (r10 >> 3) & UINT64_C(2305843009213693944);
+                    r9_2 = load64(load_address(x0 + 8) + r8_2);
+                    r0_3 = load64(r11_2 + 16);
+                    memset(r11_2, 0, 24);
+                    store64(load_address(x0 + 8) + r8_2, r9_2 & (((uint64_t)1 << (r10 & 63)) ^ UINT64_C(18446744073709551615)));
+                    r0_2 = r0_3;
+                } else {
+                    r28 = r3_2 - 1;
+                    store64(r11_2 + 32, r28);
+                    r23_2 = load_address(r11_2 + 24) + (r28 << 4);
+                    r2 = load64(r23_2 + 8);
+                    r4 = load64(r11_2 + 16);
+                    store64(r11_2 + 8, load64(r23_2));
+                    store64(r11_2 + 16, r2);
+                    r0_2 = r4;
+                }
+            } else {
+                r4_2 = load_address(r11_2 + 24);
+                r6 = load64(r11_2 + 32);
+                if (r6 == 0) {
+                    r0_0_0_0_pn115 = 0;
+                    spec_select = 0;
+                    goto after_pairs_remove;
+                }
+                r3_0 = 0;
+                for (;;) {
+                    r45 = r3_0 + 1;
+                    if (load64(r4_2 + (r3_0 << 4)) == key) {
+                        r28_2 = r6 - 1;
+                        store64(r11_2 + 32, r28_2);
+                        r23_3 = r4_2 + (r28_2 << 4);
+                        r2_2 = load64(r23_3 + 8);
+                        if (r45 == r6) {
+                            r0_2 = r2_2;
+                            break;
+                        }
+                        x5 = r4_2 + (r45 << 4);
+                        r4_3 = load64(x5 - 8);
+                        store64(x5 - 16, load64(r23_3));
+                        store64(x5 - 8, r2_2);
+                        r0_2 = r4_3;
+                        break;
+                    }
+                    if (r45 == r6) {
+                        r0_0_0_0_pn115 = 0;
+                        spec_select = 0;
+                        goto after_pairs_remove;
+                    }
+                    r3_0 = r45;
+                }
+            }
+        }
+        store64(x0 + 80, load64(x0 + 80) - 1);
+        r0_0_0_0_pn115 = 1;
+        spec_select = r0_2;
+    after_pairs_remove:;
+        store64(map, r3);
+        r23 = made_word_half(spec_select, r0_0_0_0_pn115);
+    }
+    r0_2_8_ext = (uint64_t)r23.second;
+    return made_word_word(r23.first, r0_2_8_ext);
+}
+
+// intmap_set, in crates/intmap_c/src/pairs.rt
+static ALWAYS_INLINE struct word_word do_intmap_set(char *map, uint64_t key, uint64_t value) {
+    uint64_t r3, r10, r6, r3_0, r21, r36, r6_2, r0_2_8_ext;
+    char *x0, *r11, *r4, *r11_2, *r4_2;
+    struct word_half r23, r26;
+    r3 = load64(map);
+    store64(map, 0);
+    x0 = (char *)(uintptr_t)r3;
+    if (r3 == 0) {
+        r23 = empty_word_half();
+    } else {
+        r10 = load64(x0) & (key * UINT64_C(11400714819323198549));
+        if (r10 < load64(x0 + 40)) {
+            r11 = load_address(x0 + 32) + (r10 * 24);
+            if (load8(r11) != 1) {
+                r26 = empty_word_half();
+                goto after_pairs_set;
+            }
+            if (load64(r11 + 8) != key) {
+                r26 = empty_word_half();
+                goto after_pairs_set;
+            }
+            r4 = r11 + 16;
+        } else {
+            r11_2 = load_address(x0 + 56) + (r10 * 48);
+            if (load8(r11_2) != 1) {
+                r26 = empty_word_half();
+                goto after_pairs_set;
+            }
+            if (load64(r11_2 + 8) == key) {
+                r4 = r11_2 + 16;
+            } else {
+                r4_2 = load_address(r11_2 + 24);
+                r6 = load64(r11_2 + 32);
+                if (r6 == 0) {
+                    r26 = empty_word_half();
+                    goto after_pairs_set;
+                }
+                r3_0 = 0;
+                for (;;) {
+                    r21 = r3_0 << 4;
+                    if (load64(r4_2 + r21) == key) {
+                        r4 = (r4_2 + r21) + 8;
+                        break;
+                    }
+                    r36 = r3_0 + 1;
+                    if (r36 == r6) {
+                        r26 = empty_word_half();
+                        goto after_pairs_set;
+                    }
+                    r3_0 = r36;
+                }
+            }
+        }
+        r6_2 = load64(r4);
+        store64(r4, value);
+        r26 = made_word_half(r6_2, 1);
+    after_pairs_set:;
+        store64(map, r3);
+        r23 = r26;
+    }
+    r0_2_8_ext = (uint64_t)r23.second;
+    return made_word_word(r23.first, r0_2_8_ext);
+}
+
 // intmap_clone, in crates/intmap_c/src/read.rt
 static ALWAYS_INLINE uint32_t do_intmap_clone(char *map, char *to) {
     char *r6, *r25, *r32, *r4, *r9_45_0_ph34, *r8, *r39, *r4_2, *r137, *r18_2, *r4_3, *r181, *r4_4, *r17, *r8_2,
@@ -3247,12 +3686,8 @@ static ALWAYS_INLINE uint32_t do_intmap_clone(char *map, char *to) {
     if (r6 == NULL) {
         r3 = load64(to);
         store64(to, 0);
-        if (r3 == 0) {
-            r5_0 = 0;
-        } else {
-            box_drop((char *)(uintptr_t)r3);
-            r5_0 = 0;
-        }
+        mem_drop((uint8_t)(r3 != 0), (char *)(uintptr_t)r3);
+        r5_0 = 0;
     } else {
         r2_2 = load64(r6 + 40);
         r12 = r2_2 == 0;
@@ -3466,491 +3901,41 @@ static ALWAYS_INLINE uint32_t do_intmap_clone(char *map, char *to) {
     return r5_0;
 }
 
-// intmap_cut, in crates/intmap_c/src/walk.rt
-static ALWAYS_INLINE char *do_intmap_cut(char *found, char *map, char *at) {
-    uint64_t r3, r6, r6_2, r7, r9, r8, r6_4, r3051, r2_2, r3_2, r305061, r10, r16, r6_5, r1, r1_2, r28, r20, r3_0,
-        r0_05, r19, r29, r0_05_2, r13_2, r23, r36, r20_2, exit, r0_05_3, r19_2, r29_2, x9, r20_lcssa60, r3_0_lcssa59,
-        r3_3, r3_4, r305060, r1_3_0_pn47, r1_0_0_pn46, r3_0_2, r1910, r2_3, r39, r1_0, r46, r59, r2_0, r1_0_2, r63,
-        r69, exit_2, r0, r0_2, r16_2, r1_3, r1_4, r28_2, r3_0_3, r0_05_4, r13_4, r23_2, r36_2, r20_3, exit_3, x18,
-        r20_lcssa60_2, r3_0_lcssa59_2, r0_05_5, r13_5, r23_3, r4_3, r4_4, r0_3, r0_4, r3_5;
-    char *x0, *r4, *r5, *r11_2, *r5_2, *r9_2, *r13, *r9_3, *x6, *x8, *x10, *r4_2, *r5_3, *r9_4, *r13_3, *x15, *x17,
-        *x20, *r11_4, *r9_5, *r11_5;
-    uint32_t r6_3;
-    uint8_t r2, r11, r11_3;
-    r3 = load64(map);
-    store64(map, 0);
-    x0 = (char *)(uintptr_t)r3;
-    if (r3 == 0) {
-        r6 = 0;
-        r6_2 = 0;
-        r6_3 = 0;
+// intmap_with_capacity, in crates/intmap_c/src/make.rt
+static ALWAYS_INLINE uint32_t do_intmap_with_capacity(char *map, uint64_t capacity) {
+    uint8_t sink1, sink, x0, x1;
+    uint64_t a0_a1, r13;
+    uint32_t r5;
+    uint64_t r0_room[14];
+    char *r0 = (char *)r0_room;
+    uint64_t r3_room[14];
+    char *r3 = (char *)r3_room;
+    memset(r3, 0, 112);
+    memset(r0, 0, 112);
+    if (capacity > UINT64_C(9223372036854775808)) {
+        memset(r3 + 8, 0, 104);
+        sink1 = 1;
+        sink = 1;
     } else {
-        r7 = load64(at);
-        r9 = load64(at + 8);
-        if (r7 <= load64(x0)) {
-            if (r7 < load64(x0 + 40)) {
-                r4 = load_address(x0 + 32);
-                r8 = r7 * 24;
-                r2 = load8(r4 + r8);
-                if ((r9 == 0) & (r2 != 0)) {
-                    r11 = r2;
-                    r6_4 = r8;
-                    r5 = r4;
-                    r3051 = r7;
-                    goto then_1_4;
-                }
-            } else {
-                r11_2 = load_address(x0 + 56) + (r7 * 48);
-                if (load8(r11_2) != 0) {
-                    r2_2 = load64(r11_2 + 32);
-                    if (r9 < (r2_2 + 1)) {
-                        if (r9 == 0) {
-                            r3_2 = r2_2;
-                            r5_2 = r11_2 + 24;
-                            r9_2 = r11_2;
-                            r305061 = r7;
-                            goto join_3_5;
-                        }
-                        r10 = r9 - 1;
-                        r13 = load_address(r11_2 + 24);
-                        r16 = load64(r11_2 + 40);
-                        memset(r11_2 + 32, 0, 16);
-                        r6_5 = r10 << 4;
-                        r9_3 = r13 + r6_5;
-                        r1 = load64(r9_3);
-                        r1_2 = load64(r9_3 + 8);
-                        r28 = r2_2 - 1;
-                        r20 = r2_2 - r9;
-                        if (r20 > 128) {
-                            r3_0 = r10;
-                            for (;;) {
-                                x6 = r13 + (r3_0 << 4);
-                                if (r3_0 == UINT64_C(18446744073709551615)) {
-                                    r0_05 = 0;
-                                    for (;;) {
-                                        r19 = (uint64_t)2032 - (r0_05 << 4);
-                                        memcpy(x6 + r19, (x6 + 16) + r19, 16);
-                                        r29 = r0_05 + 1;
-                                        if (r29 == 128) {
-                                            break;
-                                        }
-                                        r0_05 = r29;
-                                    }
-                                } else {
-                                    r0_05_2 = 0;
-                                    for (;;) {
-                                        r13_2 = r0_05_2 << 4;
-                                        memcpy(x6 + r13_2, (x6 + 16) + r13_2, 16);
-                                        r23 = r0_05_2 + 1;
-                                        if (r23 == 128) {
-                                            break;
-                                        }
-                                        r0_05_2 = r23;
-                                    }
-                                }
-                                r36 = r3_0 + 128;
-                                r20_2 = r28 - r36;
-                                if (r20_2 <= 128) {
-                                    exit = r36 << 4;
-                                    x8 = r13 + exit;
-                                    if (r36 != UINT64_C(18446744073709551615)) {
-                                        x9 = exit;
-                                        r20_lcssa60 = r20_2;
-                                        r3_0_lcssa59 = r36;
-                                        break;
-                                    }
-                                    if (r2_2 == 0) {
-                                        goto after_Slot_remove_at;
-                                    }
-                                    r0_05_3 = 0;
-                                    for (;;) {
-                                        r19_2 = (r20_2 + (r0_05_3 ^ UINT64_C(18446744073709551615))) << 4;
-                                        memcpy(x8 + r19_2, (x8 + 16) + r19_2, 16);
-                                        r29_2 = r0_05_3 + 1;
-                                        if (r29_2 == r20_2) {
-                                            goto after_Slot_remove_at;
-                                        }
-                                        r0_05_3 = r29_2;
-                                    }
-                                }
-                                r3_0 = r36;
-                            }
-                        } else {
-                            x9 = r6_5;
-                            r20_lcssa60 = r20;
-                            r3_0_lcssa59 = r10;
-                        }
-                        if (r28 != r3_0_lcssa59) {
-                            x10 = r13 + x9;
-                            memmove(x10, x10 + 16, r20_lcssa60 << 4);
-                        }
-                    after_Slot_remove_at:;
-                        store_address(r11_2 + 24, r13);
-                        store64(r11_2 + 32, r28);
-                        store64(r11_2 + 40, r16);
-                        if ((load8(r11_2) & 1) != 0) {
-                            r3_3 = r1;
-                            r3_4 = r1_2;
-                            goto after_walk_cut;
-                        }
-                        r305060 = r7;
-                        r1_3_0_pn47 = r1_2;
-                        r1_0_0_pn46 = r1;
-                        goto then_1_3;
-                    }
-                }
-            }
-        }
-        r3_0_2 = sum_or_most(r7, 1);
-        r1910 = r3_0_2 >> 6;
-        r2_3 = load64(x0 + 16);
-        if (r2_3 > r1910) {
-            r4_2 = load_address(x0 + 8);
-            r39 = load64(r4_2 + (r1910 << 3)) & (UINT64_C(18446744073709551615) << (r3_0_2 & 63));
-            if (r39 == 0) {
-                r1_0 = r1910;
-                for (;;) {
-                    r46 = r1_0 + 1;
-                    if (r46 == r2_3) {
-                        goto after_walk_cut_2;
-                    }
-                    r59 = load64(r4_2 + (r46 << 3));
-                    if (r59 != 0) {
-                        r2_0 = r59;
-                        r1_0_2 = r46;
-                        break;
-                    }
-                    r1_0 = r46;
-                }
-            } else {
-                r2_0 = r39;
-                r1_0_2 = r1910;
-            }
-            r63 = low_zeros(r2_0);
-            r69 = (r1_0_2 << 6) | r63;
-            store64(at, r69);
-            store64(at + 8, 0);
-            if (r69 >= load64(x0 + 40)) {
-                r9_4 = load_address(x0 + 56) + (r69 * 48);
-                r3_2 = load64(r9_4 + 32);
-                r5_2 = r9_4 + 24;
-                r9_2 = r9_4;
-                r305061 = r69;
-                goto join_3_5;
-            }
-            r5_3 = load_address(x0 + 32);
-            exit_2 = r69 * 24;
-            r11 = load8(r5_3 + exit_2);
-            r6_4 = exit_2;
-            r5 = r5_3;
-            r3051 = r69;
-            goto then_1_4;
-        }
-    after_walk_cut_2:;
-        store64(map, r3);
-        r6 = 0;
-        r6_2 = 0;
-        r6_3 = 0;
-        goto after_walk_intmap_cut;
-    join_3_5:;
-        if (r3_2 == 0) {
-            r11_3 = load8(r9_2);
-            r0 = load64(r9_2 + 8);
-            r0_2 = load64(r9_2 + 16);
-            memset(r9_2, 0, 24);
-            if (r11_3 == 1) {
-                r305060 = r305061;
-                r1_3_0_pn47 = r0_2;
-                r1_0_0_pn46 = r0;
-                goto then_1_3;
-            }
-        }
-        r13_3 = load_address(r5_2);
-        r16_2 = load64(r9_2 + 40);
-        memset(r9_2 + 32, 0, 16);
-        r1_3 = load64(r13_3);
-        r1_4 = load64(r13_3 + 8);
-        r28_2 = r3_2 - 1;
-        if (r28_2 > 128) {
-            r3_0_3 = 0;
-            for (;;) {
-                x15 = r13_3 + (r3_0_3 << 4);
-                r0_05_4 = 0;
-                for (;;) {
-                    r13_4 = r0_05_4 << 4;
-                    memcpy(x15 + r13_4, (x15 + 16) + r13_4, 16);
-                    r23_2 = r0_05_4 + 1;
-                    if (r23_2 == 128) {
-                        r36_2 = r3_0_3 + 128;
-                        r20_3 = r28_2 - r36_2;
-                        if (r20_3 > 128) {
-                            r3_0_3 = r36_2;
-                            break;
-                        }
-                        exit_3 = r36_2 << 4;
-                        x17 = r13_3 + exit_3;
-                        x18 = exit_3;
-                        r20_lcssa60_2 = r20_3;
-                        r3_0_lcssa59_2 = r36_2;
-                        goto then_2_2;
-                    }
-                    r0_05_4 = r23_2;
-                }
-            }
-        }
-        x17 = r13_3;
-        x18 = 0;
-        r20_lcssa60_2 = r28_2;
-        r3_0_lcssa59_2 = 0;
-    then_2_2:;
-        if (r28_2 != r3_0_lcssa59_2) {
-            x20 = r13_3 + x18;
-            r0_05_5 = 0;
-            for (;;) {
-                r13_5 = r0_05_5 << 4;
-                memcpy(x20 + r13_5, (x17 + 16) + r13_5, 16);
-                r23_3 = r0_05_5 + 1;
-                if (r23_3 == r20_lcssa60_2) {
-                    break;
-                }
-                r0_05_5 = r23_3;
-            }
-        }
-        store_address(r5_2, r13_3);
-        store64(r9_2 + 32, r28_2);
-        store64(r9_2 + 40, r16_2);
-        if (load8(r9_2) != 1) {
-            abort();
-        }
-        r4_3 = load64(r9_2 + 8);
-        r4_4 = load64(r9_2 + 16);
-        store64(r9_2 + 8, r1_3);
-        store64(r9_2 + 16, r1_4);
-        r3_3 = r4_3;
-        r3_4 = r4_4;
-        goto after_walk_cut;
-    then_1_3:;
-        r11_4 = load_address(x0 + 8) + ((r305060 >> 3) & UINT64_C(2305843009213693944));
-        store64(r11_4, load64(r11_4) & (((uint64_t)1 << (r305060 & 63)) ^ UINT64_C(18446744073709551615)));
-        r3_3 = r1_0_0_pn46;
-        r3_4 = r1_3_0_pn47;
-        goto after_walk_cut;
-    then_1_4:;
-        r9_5 = r5 + r6_4;
-        r0_3 = load64(r9_5 + 8);
-        r0_4 = load64(r9_5 + 16);
-        memset(r9_5, 0, 24);
-        if (r11 != 1) {
-            abort();
-        }
-        r11_5 = load_address(x0 + 8) + ((r3051 >> 3) & UINT64_C(2305843009213693944));
-        store64(r11_5, load64(r11_5) & (((uint64_t)1 << (r3051 & 63)) ^ UINT64_C(18446744073709551615)));
-        r3_3 = r0_3;
-        r3_4 = r0_4;
-    after_walk_cut:;
-        store64(x0 + 80, load64(x0 + 80) - 1);
-        r3_5 = load64(map);
-        store64(map, r3);
-        if (r3_5 == 0) {
-            r6 = r3_3;
-            r6_2 = r3_4;
-            r6_3 = 1;
-        } else {
-            box_drop((char *)(uintptr_t)r3_5);
-            r6 = r3_3;
-            r6_2 = r3_4;
-            r6_3 = 1;
-        }
+        a0_a1 = greater(capacity, 2);
+        r13 = high_zeros(a0_a1 - 1);
+        intmap_with_slots(r0, (uint64_t)1 << ((uint64_t)64 - r13));
+        x0 = load8(r0);
+        x1 = load8(r0 + 1);
+        memcpy(r3 + 8, r0 + 8, 104);
+        sink1 = x0;
+        sink = x1;
     }
-after_walk_intmap_cut:;
-    store64(found, r6);
-    store64(found + 8, r6_2);
-    store32(found + 16, r6_3);
-    store32(found + 20, 0);
-    return found;
-}
-
-// intmap_free, in crates/intmap_c/src/make.rt
-static ALWAYS_INLINE void do_intmap_free(char *map) {
-    uint64_t r3;
-    r3 = load64(map);
-    store64(map, 0);
-    if (r3 != 0) {
-        box_drop((char *)(uintptr_t)r3);
-    }
-    return;
-}
-
-// intmap_remove, in crates/intmap_c/src/pairs.rt
-static ALWAYS_INLINE struct word_word do_intmap_remove(char *map, uint64_t key) {
-    uint64_t r3, r10, r8, r9, r0, r0_2, r3_2, r8_2, r9_2, r0_3, r28, r2, r4, r6, r3_0, r45, r28_2, r2_2, r4_3, r3_3,
-        r0_2_8_ext;
-    char *x0, *r11, *r11_2, *r23_2, *r4_2, *r23_3, *x5;
-    struct word_half r23;
-    r3 = load64(map);
-    store64(map, 0);
-    x0 = (char *)(uintptr_t)r3;
-    if (r3 == 0) {
-        r23 = empty_word_half();
-    } else {
-        r10 = load64(x0) & (key * UINT64_C(11400714819323198549));
-        if (r10 < load64(x0 + 40)) {
-            r11 = load_address(x0 + 32) + (r10 * 24);
-            if (load8(r11) == 1) {
-                if (load64(r11 + 8) == key) {
-                    r8 = (r10 >> 3) & UINT64_C(2305843009213693944);
-                    r9 = load64(load_address(x0 + 8) + r8);
-                    r0 = load64(r11 + 16);
-                    memset(r11, 0, 24);
-                    store64(load_address(x0 + 8) + r8, r9 & (((uint64_t)1 << (r10 & 63)) ^ UINT64_C(18446744073709551615)));
-                    r0_2 = r0;
-                    goto after_pairs_remove_2;
-                }
-            }
-        } else {
-            r11_2 = load_address(x0 + 56) + (r10 * 48);
-            if (load8(r11_2) == 1) {
-                if (load64(r11_2 + 8) == key) {
-                    r3_2 = load64(r11_2 + 32);
-                    if (r3_2 == 0) {
-                        r8_2 = (r10 >> 3) & UINT64_C(2305843009213693944);
-                        r9_2 = load64(load_address(x0 + 8) + r8_2);
-                        r0_3 = load64(r11_2 + 16);
-                        memset(r11_2, 0, 24);
-                        store64(load_address(x0 + 8) + r8_2, r9_2 & (((uint64_t)1 << (r10 & 63)) ^ UINT64_C(18446744073709551615)));
-                        r0_2 = r0_3;
-                        goto after_pairs_remove_2;
-                    }
-                    r28 = r3_2 - 1;
-                    store64(r11_2 + 32, r28);
-                    r23_2 = load_address(r11_2 + 24) + (r28 << 4);
-                    r2 = load64(r23_2 + 8);
-                    r4 = load64(r11_2 + 16);
-                    store64(r11_2 + 8, load64(r23_2));
-                    store64(r11_2 + 16, r2);
-                    r0_2 = r4;
-                    goto after_pairs_remove_2;
-                }
-                r4_2 = load_address(r11_2 + 24);
-                r6 = load64(r11_2 + 32);
-                if (r6 != 0) {
-                    r3_0 = 0;
-                    for (;;) {
-                        r45 = r3_0 + 1;
-                        if (load64(r4_2 + (r3_0 << 4)) == key) {
-                            r28_2 = r6 - 1;
-                            store64(r11_2 + 32, r28_2);
-                            r23_3 = r4_2 + (r28_2 << 4);
-                            r2_2 = load64(r23_3 + 8);
-                            if (r45 == r6) {
-                                r0_2 = r2_2;
-                                goto after_pairs_remove_2;
-                            }
-                            x5 = r4_2 + (r45 << 4);
-                            r4_3 = load64(x5 - 8);
-                            store64(x5 - 16, load64(r23_3));
-                            store64(x5 - 8, r2_2);
-                            r0_2 = r4_3;
-                            goto after_pairs_remove_2;
-                        }
-                        if (r45 == r6) {
-                            break;
-                        }
-                        r3_0 = r45;
-                    }
-                }
-            }
-        }
-        store64(map, r3);
-        r23 = empty_word_half();
-        goto after_pairs_intmap_remove;
-    after_pairs_remove_2:;
-        store64(x0 + 80, load64(x0 + 80) - 1);
-        r3_3 = load64(map);
-        store64(map, r3);
-        if (r3_3 == 0) {
-            r23 = made_word_half(r0_2, 1);
-        } else {
-            box_drop((char *)(uintptr_t)r3_3);
-            r23 = made_word_half(r0_2, 1);
-        }
-    }
-after_pairs_intmap_remove:;
-    r0_2_8_ext = (uint64_t)r23.second;
-    return made_word_word(r23.first, r0_2_8_ext);
-}
-
-// intmap_set, in crates/intmap_c/src/pairs.rt
-static ALWAYS_INLINE struct word_word do_intmap_set(char *map, uint64_t key, uint64_t value) {
-    uint64_t r3, r10, r6, r3_0, r21, r36, r6_2, r3_2, r0_2_8_ext;
-    char *x0, *r11, *r4, *r11_2, *r4_2;
-    struct word_half r23;
-    r3 = load64(map);
-    store64(map, 0);
-    x0 = (char *)(uintptr_t)r3;
-    if (r3 == 0) {
-        r23 = empty_word_half();
-    } else {
-        r10 = load64(x0) & (key * UINT64_C(11400714819323198549));
-        if (r10 < load64(x0 + 40)) {
-            r11 = load_address(x0 + 32) + (r10 * 24);
-            if (load8(r11) == 1) {
-                if (load64(r11 + 8) == key) {
-                    r4 = r11 + 16;
-                    goto after_pairs_set_2;
-                }
-            }
-        } else {
-            r11_2 = load_address(x0 + 56) + (r10 * 48);
-            if (load8(r11_2) == 1) {
-                if (load64(r11_2 + 8) == key) {
-                    r4 = r11_2 + 16;
-                    goto after_pairs_set_2;
-                }
-                r4_2 = load_address(r11_2 + 24);
-                r6 = load64(r11_2 + 32);
-                if (r6 != 0) {
-                    r3_0 = 0;
-                    for (;;) {
-                        r21 = r3_0 << 4;
-                        if (load64(r4_2 + r21) == key) {
-                            r4 = (r4_2 + r21) + 8;
-                            goto after_pairs_set_2;
-                        }
-                        r36 = r3_0 + 1;
-                        if (r36 == r6) {
-                            break;
-                        }
-                        r3_0 = r36;
-                    }
-                }
-            }
-        }
-        store64(map, r3);
-        r23 = empty_word_half();
-        goto after_pairs_intmap_set;
-    after_pairs_set_2:;
-        r6_2 = load64(r4);
-        store64(r4, value);
-        r3_2 = load64(map);
-        store64(map, r3);
-        if (r3_2 == 0) {
-            r23 = made_word_half(r6_2, 1);
-        } else {
-            box_drop((char *)(uintptr_t)r3_2);
-            r23 = made_word_half(r6_2, 1);
-        }
-    }
-after_pairs_intmap_set:;
-    r0_2_8_ext = (uint64_t)r23.second;
-    return made_word_word(r23.first, r0_2_8_ext);
+    store8(r3, sink1);
+    store8(r3 + 1, sink);
+    r5 = make_keep(map, r3);
+    return r5;
 }
 
 // intmap_add_or_insert, in crates/intmap_c/src/pairs.rt
 static ALWAYS_INLINE struct word_word do_intmap_add_or_insert(char *map, uint64_t key, uint64_t more) {
     struct byte_address r13;
-    uint64_t r6, x1, r10, r6_2, r3_0, r21, r36, r28, r44, r8, r8_2, r16_2, r20, r2933, r3, r0_2_8_ext;
-    uint32_t r19, x13, r40;
+    uint64_t r6, r19, x1, r10, r6_2, r3_0, r21, r36, r28, x13, r44, r40, r8, r8_2, r16_2, r20, r2933;
     bool r16;
     char *r11, *r2933_in, *r11_2, *r4, *r11_3, *r9, *r9_2, *r11_5;
     struct byte_word r53, r53_2, r86;
@@ -3960,7 +3945,7 @@ static ALWAYS_INLINE struct word_word do_intmap_add_or_insert(char *map, uint64_
     r13 = handle_take_or_make(map);
     if (r13.first == 0) {
         r6 = 0;
-        r19 = 4294967295u;
+        r19 = UINT64_C(4294967295);
     } else {
         x1 = (uint64_t)(uintptr_t)r13.second;
         r10 = load64(r13.second) & (key * UINT64_C(11400714819323198549));
@@ -4002,7 +3987,7 @@ static ALWAYS_INLINE struct word_word do_intmap_add_or_insert(char *map, uint64_
         memset(r12, 0, 32);
         r28 = load64(r13.second + 80);
         if (r28 == UINT64_C(18446744073709551615)) {
-            x13 = 4294967294u;
+            x13 = UINT64_C(4294967294);
         } else {
             r44 = r28 + 1;
             if (!(((r44 & 4) != 0) & (load64(r13.second + 88) <= r28))) {
@@ -4039,7 +4024,7 @@ static ALWAYS_INLINE struct word_word do_intmap_add_or_insert(char *map, uint64_
                     r53_2 = r86;
                 }
                 if (r53_2.first != 0) {
-                    r40 = 4294967295u;
+                    r40 = UINT64_C(4294967295);
                     r8 = 0;
                     goto after_pairs_add_or_insert;
                 }
@@ -4055,7 +4040,7 @@ static ALWAYS_INLINE struct word_word do_intmap_add_or_insert(char *map, uint64_
                 r8 = 0;
                 goto after_pairs_add_or_insert;
             }
-            x13 = ((load64(r12 + 16) & 255) == 0) ? 4294967295u : 4294967294u;
+            x13 = ((load64(r12 + 16) & 255) == 0) ? UINT64_C(4294967295) : UINT64_C(4294967294);
         }
         r40 = x13;
         r8 = 0;
@@ -4066,27 +4051,18 @@ static ALWAYS_INLINE struct word_word do_intmap_add_or_insert(char *map, uint64_
         r40 = 1;
         r8 = r2933;
     after_pairs_add_or_insert:;
-        r3 = load64(map);
         store64(map, x1);
-        if (r3 == 0) {
-            r6 = r8;
-            r19 = r40;
-        } else {
-            box_drop((char *)(uintptr_t)r3);
-            r6 = r8;
-            r19 = r40;
-        }
+        r6 = r8;
+        r19 = r40;
     }
-    r0_2_8_ext = (uint64_t)r19;
-    return made_word_word(r6, r0_2_8_ext);
+    return made_word_word(r6, r19);
 }
 
 // intmap_insert, in crates/intmap_c/src/pairs.rt
 static ALWAYS_INLINE struct word_word do_intmap_insert(char *map, uint64_t key, uint64_t value) {
     struct byte_address r13;
-    uint64_t r6, x1, r10, r4, r5, r11_3, r4_2, r4_3, r4_4, r4_5, r4_6, r6_2, r3_0, r45, r15, r20, r2, r12_2, r9, r0,
-        r4_8, r9_2, r28, r44, r8, r16_2, r20_2, r3, r0_2_8_ext;
-    uint32_t r19, spec_select1, x16;
+    uint64_t r6, r19, x1, r10, r4, r5, spec_select1, r11_3, r4_2, r4_3, r4_4, r4_5, r4_6, r6_2, r3_0, r45, r15, r20,
+        r2, r12_2, r9, r0, r4_8, r9_2, r28, x16, r44, r8, r16_2, r20_2;
     bool r16;
     char *r11, *r11_2, *x6, *r4_7, *r23, *r10_2, *x4, *r15_2, *r11_4, *r9_3, *r9_4, *r11_6;
     struct byte_word r53, r53_2, r86;
@@ -4096,7 +4072,7 @@ static ALWAYS_INLINE struct word_word do_intmap_insert(char *map, uint64_t key, 
     r13 = handle_take_or_make(map);
     if (r13.first == 0) {
         r6 = 0;
-        r19 = 4294967295u;
+        r19 = UINT64_C(4294967295);
     } else {
         x1 = (uint64_t)(uintptr_t)r13.second;
         r10 = load64(r13.second) & (key * UINT64_C(11400714819323198549));
@@ -4186,7 +4162,7 @@ static ALWAYS_INLINE struct word_word do_intmap_insert(char *map, uint64_t key, 
         memset(r12, 0, 32);
         r28 = load64(r13.second + 80);
         if (r28 == UINT64_C(18446744073709551615)) {
-            x16 = 4294967294u;
+            x16 = UINT64_C(4294967294);
         } else {
             r44 = r28 + 1;
             if (!(((r44 & 4) != 0) & (load64(r13.second + 88) <= r28))) {
@@ -4224,7 +4200,7 @@ static ALWAYS_INLINE struct word_word do_intmap_insert(char *map, uint64_t key, 
                 }
                 if (r53_2.first != 0) {
                     r5 = 0;
-                    spec_select1 = 4294967295u;
+                    spec_select1 = UINT64_C(4294967295);
                     goto after_pairs_insert;
                 }
             after_IntMap_add_2:;
@@ -4239,31 +4215,23 @@ static ALWAYS_INLINE struct word_word do_intmap_insert(char *map, uint64_t key, 
                 spec_select1 = 0;
                 goto after_pairs_insert;
             }
-            x16 = (load8(r12 + 16) == 0) ? 4294967295u : 4294967294u;
+            x16 = (load8(r12 + 16) == 0) ? UINT64_C(4294967295) : UINT64_C(4294967294);
         }
         r5 = 0;
         spec_select1 = x16;
     after_pairs_insert:;
-        r3 = load64(map);
         store64(map, x1);
-        if (r3 == 0) {
-            r6 = r5;
-            r19 = spec_select1;
-        } else {
-            box_drop((char *)(uintptr_t)r3);
-            r6 = r5;
-            r19 = spec_select1;
-        }
+        r6 = r5;
+        r19 = spec_select1;
     }
-    r0_2_8_ext = (uint64_t)r19;
-    return made_word_word(r6, r0_2_8_ext);
+    return made_word_word(r6, r19);
 }
 
 // intmap_insert_checked, in crates/intmap_c/src/pairs.rt
 static ALWAYS_INLINE uint32_t do_intmap_insert_checked(char *map, uint64_t key, uint64_t value) {
     struct byte_address r13;
     uint32_t r6_0, r4_0;
-    uint64_t x1, r10, r6, r3_0, r36, r28, r44, r8, r16_2, r20, r3;
+    uint64_t x1, r10, r6, r3_0, r36, r28, r44, r8, r16_2, r20;
     bool r16;
     char *r11, *r11_2, *r4, *r11_3, *r9, *r9_2, *r11_5;
     struct byte_word r53, r53_2, r86;
@@ -4370,14 +4338,8 @@ static ALWAYS_INLINE uint32_t do_intmap_insert_checked(char *map, uint64_t key, 
             r4_0 = 4294967295u;
         }
     after_pairs_insert_checked:;
-        r3 = load64(map);
         store64(map, x1);
-        if (r3 == 0) {
-            r6_0 = r4_0;
-        } else {
-            box_drop((char *)(uintptr_t)r3);
-            r6_0 = r4_0;
-        }
+        r6_0 = r4_0;
     }
     return r6_0;
 }
@@ -4386,7 +4348,7 @@ static ALWAYS_INLINE uint32_t do_intmap_insert_checked(char *map, uint64_t key, 
 static ALWAYS_INLINE uint32_t do_intmap_reserve(char *map, uint64_t additional) {
     struct byte_address r13;
     uint32_t r6_0, r4_0;
-    uint64_t x1, r18, r40, r2_0, r13_2, r13_3, a0_a1, r3;
+    uint64_t x1, r18, r40, r2_0, r13_2, r13_3, a0_a1;
     uint8_t r18_2;
     u128 r17;
     r13 = handle_take_or_make(map);
@@ -4419,14 +4381,8 @@ static ALWAYS_INLINE uint32_t do_intmap_reserve(char *map, uint64_t additional) 
             r4_0 = 0;
         }
     after_figures_reserve:;
-        r3 = load64(map);
         store64(map, x1);
-        if (r3 == 0) {
-            r6_0 = r4_0;
-        } else {
-            box_drop((char *)(uintptr_t)r3);
-            r6_0 = r4_0;
-        }
+        r6_0 = r4_0;
     }
     return r6_0;
 }
@@ -4435,7 +4391,7 @@ static ALWAYS_INLINE uint32_t do_intmap_reserve(char *map, uint64_t additional) 
 static ALWAYS_INLINE uint32_t do_intmap_set_load_factor(char *map, uint64_t thousandths) {
     struct byte_address r13;
     uint32_t r6_0, r4_0;
-    uint64_t x1, r13_2, r3_09, r31, r3;
+    uint64_t x1, r13_2, r3_09, r31;
     u128 r10, r13_3, r187, r15, r18, r17;
     uint8_t r18_2;
     r13 = handle_take_or_make(map);
@@ -4479,14 +4435,8 @@ static ALWAYS_INLINE uint32_t do_intmap_set_load_factor(char *map, uint64_t thou
         store64(r13.second + 88, u128_above(r17, u128_two(UINT64_C(999), UINT64_C(18446744073709551615))) ? UINT64_C(18446744073709551615) : u128_low(u128_div(r17, u128_of(1000u))));
         r4_0 = 0;
     after_figures_set_load_factor:;
-        r3 = load64(map);
         store64(map, x1);
-        if (r3 == 0) {
-            r6_0 = r4_0;
-        } else {
-            box_drop((char *)(uintptr_t)r3);
-            r6_0 = r4_0;
-        }
+        r6_0 = r4_0;
     }
     return r6_0;
 }
