@@ -51,22 +51,6 @@ pub mod clone {
     }
 }
 
-/// Defaults.
-pub mod default {
-    /// A type with a default value over an allocator.
-    pub trait MadeWith<A> {
-        /// The default value.
-        fn made_with(alloc: A) -> Self;
-    }
-
-    impl<T: Default, A> MadeWith<A> for T {
-        #[inline]
-        fn made_with(_: A) -> T {
-            T::default()
-        }
-    }
-}
-
 /// What each file of the proved code names without a path.
 pub mod prelude {
     pub use super::Vec;
