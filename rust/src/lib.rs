@@ -57,7 +57,8 @@
 //! A closure, a `drop`, a `clone`, an iterator or a key's `number` may panic in the middle of a
 //! call. The map is then whole: each of its pairs is found, walked and counted once, and no value
 //! is dropped twice. What the call did before stays done, and the pairs that it had in hand are
-//! dropped. [`IntKey`] says what a type of keys owes.
+//! dropped: if a key's `number` panics as the map grows, those of one slot at most, and those for
+//! which there is no memory to move them back. [`IntKey`] says what a type of keys owes.
 //!
 //! # Threads
 //!
