@@ -1,4 +1,5 @@
-//! What the proved code takes from Rattle's std and Rust's doesn't have: allocations that may fail.
+//! What the proved code takes from Rattle's std and Rust's doesn't have: allocations that may fail, and
+//! what older compilers lack.
 //!
 //! Rust's `Vec` and `Clone` end the process if an allocation fails. Rattle's return an error. These
 //! stand in for them, over Rust's own.
@@ -51,9 +52,28 @@ pub mod clone {
     }
 }
 
+/// Casts of integers, which Rust has since 1.87.
+pub mod number {
+    /// A signed integer that can be cast to the unsigned one with the same bits. A newer compiler
+    /// takes Rust's own call of this name.
+    #[allow(dead_code)]
+    pub trait CastUnsigned {
+        /// The unsigned integer.
+        fn cast_unsigned(self) -> u64;
+    }
+
+    impl CastUnsigned for i64 {
+        #[inline(always)]
+        fn cast_unsigned(self) -> u64 {
+            self as u64
+        }
+    }
+}
+
 /// What each file of the proved code names without a path.
 pub mod prelude {
     pub use super::Vec;
     pub use super::clone::Clone;
     pub(crate) use super::filled as vec;
+    pub use super::number::CastUnsigned;
 }

@@ -5,7 +5,7 @@
 //! each `written` is for mutable references to the values, one by one, and each `mending` for what
 //! a panic has left in the middle of a call. Items that no call of the crate reaches aren't here.
 //! Imports and style are as the sources have them.
-#![allow(unused_imports, clippy::all)]
+#![allow(unused_imports, unstable_name_collisions, clippy::all)]
 
 pub mod map;
 pub mod set;

@@ -84,7 +84,7 @@ fn extract_if_says_how_many_pairs_its_closure_has_not_seen() {
             let pairs = map.len();
             let picked = map.extract_if(|_, value| {
                 seen.set(seen.get() + 1);
-                value.is_multiple_of(2)
+                *value % 2 == 0
             });
             let picked = behind(steps, picked);
             let said = picked.size_hint();

@@ -25,7 +25,7 @@ fn pairs_of(map: &Map) -> Pairs {
 }
 
 fn is_even(value: u64) -> bool {
-    value.is_multiple_of(2)
+    value % 2 == 0
 }
 
 /// A call that burns once for each pair, and what a panic at the place of a pair leaves of the pairs
