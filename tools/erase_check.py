@@ -75,6 +75,11 @@ NOT_CALLED = {
     "intmap/src/map/iter.rt": """
         mod cursor;
         pub use cursor::Cursor;""",
+    "intmap/src/map/iter/writing.rt": """
+        impl<'a, K: IntKey, V, A: Allocator + Copy> IntoIterator for &'a mut IntMap<K, V, A> {""",
+    "intmap/src/refusal.rt": """
+        use std::alloc::AllocError;
+        impl From<AllocError> for Cause {""",
     "intmap/src/map/traits.rt": """
         impl<K: IntKey + fmt::Debug, V: fmt::Debug, A: Allocator + Copy> fmt::Debug for IntMap<K, V, A> {""",
     "intmap_set/src/set.rt": """

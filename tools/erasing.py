@@ -48,6 +48,8 @@ UNCALLED = {
     "intmap/map/build": ["pub(crate) fn allocator(", "pub fn from_array<"],
     "intmap/map/figures": ["pub fn load_rate("],
     "intmap/map/get": ["impl<K: IntKey, V, A: Allocator + Copy> Index<K> for IntMap", "use std::ops::Index;"],
+    "intmap/map/iter/writing": ["impl<'a, K: IntKey, V, A: Allocator + Copy> IntoIterator for &'a mut IntMap"],
+    "intmap/refusal": ["impl From<AllocError> for Cause {", "use std::alloc::AllocError;"],
     "intmap/map/traits": ["impl<K: IntKey + fmt::Debug, V: fmt::Debug, A: Allocator + Copy> fmt::Debug for IntMap"],
     "intmap_set/set/traits": ["impl<K: IntKey + fmt::Debug, A: Allocator + Copy> fmt::Debug for IntSet"],
     "intmap_table/table/slots": ["pub(crate) fn has_pair("],

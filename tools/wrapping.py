@@ -54,7 +54,8 @@ FORWARDS = [
     r"CALL;?",
     r"granted\(CALL\)",
     r"self\.(?:map|set) == other\.(?:map|set)",
-    r"(?:Ok\()?\w+ \{ (?:map|set|inner): CALL\??,? \}\)?",
+    r"(?:Ok\()?[\w$]+ \{ (?:map|set|inner): CALL\??,? \}\)?",
+    r"Debug::fmt\(&self\.inner, f\)",
     r"Entry::of\(CALL\)",
     r"let guard = Mending\(&mut self\.(?:map|set)\); (?:let result = )?CALL; mem::forget\(guard\);"
     r"(?: result| granted\(result\))?",
@@ -65,7 +66,7 @@ PASSES_ON = r"(?:granted\()?(?:self\.|Int(?:Map|Set)::)(\w+)\([\w, ]*\)\)?;?"
 LENT = {"IterMut", "ValuesMut", "iter_mut", "values_mut"}
 # Calls in a body that are proved, or public calls of the crate. Lengths are beside the point, and what mends.
 CALLS = r"(self\.(?:map|set|0|inner)|self|guard\.0|Proved|Int(?:Map|Set))(?:\.|::)(\w+)\("
-BESIDE = {"len", "capacity", "proved", "parted", "clone"}
+BESIDE = {"len", "capacity", "proved", "parted"}
 AGAIN = r"guard\.0\.(entry_of|vacant_entry)\([\w, ]*\)"
 
 KINDS = ["Is one proved call", "One proved call, and more by hand", "By hand"]
@@ -125,7 +126,7 @@ def public_calls(text):
         body = group(text, impl.end())
         for call in re.finditer(r"^ *(pub )?fn ([\w$]+)", body, re.M):
             for name in made if trait or call[1] else []:
-                code = " ".join(group(body, call.end()).split())
+                code = " ".join(group(body, call.end()).split()).replace("copied(&self.inner)", "self.inner.clone()")
                 yield re.sub(r"\$\w+", name, of), re.sub(r"\$\w+", name, trait), call[2], code
 
 
