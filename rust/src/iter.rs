@@ -196,7 +196,7 @@ macro_rules! shared {
 
         impl<K: IntKey + Debug, V $($bound)*> Debug for $name<'_, K, V> {
             fn fmt(&self, f: &mut Formatter<'_>) -> fmt::Result {
-                f.debug_list().entries(self.clone()).finish()
+                Debug::fmt(&self.inner, f)
             }
         }
     )* };

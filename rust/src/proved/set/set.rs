@@ -4,7 +4,6 @@ mod build;
 mod combine;
 mod insert;
 pub mod iter;
-mod owned;
 mod remove;
 mod traits;
 
