@@ -9,7 +9,7 @@ use core::iter::FusedIterator;
 
 /// Writes an iterator that counts the members that are left.
 macro_rules! iterators {
-    ($least:expr; $(
+    ($(
         $(#[$doc:meta])*
         $name:ident [$($generics:tt)*] [$($args:tt)*] $inner:ty => $item:ty;
     )*) => { $(
@@ -25,22 +25,23 @@ macro_rules! iterators {
 
             #[inline]
             fn next(&mut self) -> Option<$item> {
-                let item = self.inner.next()?;
                 self.left = self.left.saturating_sub(1);
-                Some(item)
+                self.inner.next()
             }
 
             #[inline]
             fn size_hint(&self) -> (usize, Option<usize>) {
-                ($least(self.left), Some(self.left))
+                (self.left, Some(self.left))
             }
         }
+
+        impl<$($generics)*> ExactSizeIterator for $name<$($args)*> {}
 
         impl<$($generics)*> FusedIterator for $name<$($args)*> {}
     )* };
 }
 
-iterators! { |left| left;
+iterators! {
     /// The members of a set, made by [`IntSet::iter`].
     ///
     /// ```
@@ -58,9 +59,7 @@ iterators! { |left| left;
     /// assert_eq!(set.len(), 1);
     /// ```
     Drain ['a, K: IntKey] ['a, K] proved::Drain<'a, K> => K;
-}
 
-iterators! { |_| 0;
     /// The members of a set by value, made by [`IntSet::into_iter`](IntoIterator::into_iter).
     ///
     /// ```
@@ -69,10 +68,6 @@ iterators! { |_| 0;
     /// ```
     IntoIter [K: IntKey] [K] IntoKeys<K, ()> => K;
 }
-
-impl<K: IntKey> ExactSizeIterator for Iter<'_, K> {}
-
-impl<K: IntKey> ExactSizeIterator for Drain<'_, K> {}
 
 impl<K: IntKey> Clone for Iter<'_, K> {
     #[inline]

@@ -89,6 +89,16 @@ fn a_panic_at_any_place_of_a_call_leaves_a_whole_map() {
 }
 
 #[test]
+fn a_key_whose_value_panics_is_counted_by_into_keys() {
+    for shift in [0, 5] {
+        let mut keys = map_of(shift).into_keys();
+        assert!(panics_at(4, || keys.by_ref().for_each(drop)), "the fourth value panics");
+        assert_eq!(keys.len() as u64, KEYS - 4, "shift {shift}");
+        assert_eq!(keys.count() as u64, KEYS - 4, "shift {shift}");
+    }
+}
+
+#[test]
 fn a_panic_of_the_closure_of_retain_loses_no_pair() {
     for shift in [0, 1, 2, 3, 5] {
         for number in 1..=KEYS {
