@@ -101,6 +101,7 @@ pub mod original;
 #[rustfmt::skip]
 mod proved;
 mod refusal;
+mod room;
 pub mod set;
 mod traits;
 

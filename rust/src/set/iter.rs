@@ -94,13 +94,14 @@ impl<K: IntKey> Debug for IntoIter<K> {
     }
 }
 
-/// Writes an iterator over two sets.
+/// Writes an iterator over two sets. It knows how many members are left at least, and at most.
 macro_rules! combined {
     ($($(#[$doc:meta])* $name:ident;)*) => { $(
         $(#[$doc])*
         #[must_use = "iterators are lazy and do nothing unless consumed"]
         pub struct $name<'a, K: IntKey> {
             pub(super) inner: proved::$name<'a, K>,
+            pub(super) bounds: (usize, usize),
         }
 
         impl<'a, K: IntKey> Iterator for $name<'a, K> {
@@ -108,7 +109,18 @@ macro_rules! combined {
 
             #[inline]
             fn next(&mut self) -> Option<&'a K> {
-                self.inner.next()
+                let key = self.inner.next();
+                let (least, most) = self.bounds;
+                self.bounds = match key {
+                    Some(_) => (least.saturating_sub(1), most.saturating_sub(1)),
+                    None => (0, 0),
+                };
+                key
+            }
+
+            #[inline]
+            fn size_hint(&self) -> (usize, Option<usize>) {
+                (self.bounds.0, Some(self.bounds.1))
             }
         }
 
@@ -116,7 +128,7 @@ macro_rules! combined {
 
         impl<K: IntKey> Clone for $name<'_, K> {
             fn clone(&self) -> Self {
-                $name { inner: copied(&self.inner) }
+                $name { inner: copied(&self.inner), bounds: self.bounds }
             }
         }
 

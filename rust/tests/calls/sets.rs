@@ -92,11 +92,54 @@ fn sets_are_combined_as_those_of_std() {
 
 #[test]
 fn sets_are_combined_by_operators() {
-    let (one, other) = (IntSet::from([1_u8, 2, 3]), IntSet::from([2, 3, 4]));
-    assert_eq!(&one | &other, IntSet::from([1, 2, 3, 4]));
-    assert_eq!(&one & &other, IntSet::from([2, 3]));
-    assert_eq!(&one - &other, IntSet::from([1]));
-    assert_eq!(&one ^ &other, IntSet::from([1, 4]));
+    let mut random = Random(8);
+    for _ in 0..300 {
+        let (one, plain_one) = random_sets(&mut random, 60);
+        let (other, plain_other) = random_sets(&mut random, 60);
+        let combined = [
+            ("|", &one | &other, &plain_one | &plain_other),
+            ("&", &one & &other, &plain_one & &plain_other),
+            ("-", &one - &other, &plain_one - &plain_other),
+            ("^", &one ^ &other, &plain_one ^ &plain_other),
+        ];
+        for (name, set, plain) in combined {
+            assert_eq!(sorted(set.iter()), sorted(plain.iter()), "{one:?} {name} {other:?}");
+        }
+    }
+}
+
+/// Checks the bounds at each step of an iterator and of its clones. Returns the first ones.
+fn bounds<'a>(members: impl Iterator<Item = &'a i64> + Clone, text: &str) -> (usize, usize) {
+    let first = members.size_hint();
+    let mut members = members;
+    loop {
+        let left = members.clone().count();
+        let (least, most) = members.size_hint();
+        assert_eq!(members.clone().size_hint(), (least, most), "a clone, {text}");
+        assert!(least <= left && most.is_some_and(|most| left <= most), "{left} left, {text}");
+        if members.next().is_none() {
+            assert_eq!(members.size_hint(), (0, Some(0)), "{text}");
+            return (first.0, first.1.expect("there is an upper bound"));
+        }
+    }
+}
+
+#[test]
+fn iterators_over_two_sets_bound_what_is_left() {
+    let mut random = Random(9);
+    for _ in 0..300 {
+        let keys = 1 + random.below(60);
+        let (one, _) = random_sets(&mut random, keys);
+        let (other, _) = random_sets(&mut random, keys);
+        let text = format!("{one:?} and {other:?}");
+        let (few, many) = (one.len().min(other.len()), one.len().max(other.len()));
+        assert_eq!(bounds(one.union(&other), &text), (many, many + few));
+        assert_eq!(bounds(one.intersection(&other), &text), (0, few));
+        let least = one.len().saturating_sub(other.len());
+        assert_eq!(bounds(one.difference(&other), &text), (least, one.len()));
+        let either = bounds(one.symmetric_difference(&other), &text);
+        assert_eq!(either, (many - few, many + few));
+    }
 }
 
 #[test]
