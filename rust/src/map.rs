@@ -6,6 +6,7 @@ use crate::refusal::{Cause, granted};
 
 mod insert;
 mod many;
+mod room;
 mod size;
 mod walk;
 
@@ -15,7 +16,8 @@ mod walk;
 /// slot: two keys share one exactly if their numbers are equal modulo the capacity. Iteration goes
 /// through the slots in turn, and through each from front to back. So order and capacity depend on
 /// the calls alone: there is no random seed, and the same calls give the same order on every run.
-/// No call makes the capacity smaller.
+/// Only [`shrink_to`](IntMap::shrink_to) and [`shrink_to_fit`](IntMap::shrink_to_fit) make the
+/// capacity smaller.
 ///
 /// # Cost
 ///
@@ -86,7 +88,7 @@ impl<K: IntKey, V> IntMap<K, V> {
     /// and at least 2.
     ///
     /// The load factor isn't considered, so the insertion of `capacity` pairs may still double the
-    /// slots.
+    /// slots; [`with_room_for`](IntMap::with_room_for) considers it.
     ///
     /// A failed allocation is handled as std does; [`try_with_capacity`](IntMap::try_with_capacity)
     /// returns it. The cost is *O*(*c*).

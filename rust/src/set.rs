@@ -19,6 +19,7 @@ use core::mem;
 mod combine;
 mod iter;
 mod many;
+mod room;
 mod traits;
 
 pub use iter::{Difference, Drain, Intersection, IntoIter, Iter, SymmetricDifference, Union};
@@ -83,7 +84,7 @@ impl<K: IntKey> IntSet<K> {
     /// and at least 2.
     ///
     /// The load factor isn't considered, so the insertion of `capacity` keys may still double the
-    /// slots.
+    /// slots; [`with_room_for`](IntSet::with_room_for) considers it.
     ///
     /// A failed allocation is handled as std does; [`try_with_capacity`](IntSet::try_with_capacity)
     /// returns it. The cost is *O*(*c*).

@@ -12,6 +12,7 @@ mod keys;
 mod order;
 #[path = "../shared/random.rs"]
 mod random;
+mod room;
 mod rows;
 mod sets;
 mod texts;
