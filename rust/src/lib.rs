@@ -26,9 +26,9 @@
 //! the map then has and in which order, its capacity, when the call fails, and that a failed call
 //! leaves the map as it was. The README names what a reader trusts beside the proof.
 //!
-//! Not proved, but tested: mutable references to the values one by one, which [`IntMap::iter_mut`],
-//! [`IntMap::values_mut`] and `&mut map` hand out; what mends a map after a panic; and this crate's
-//! calls over the proved ones, a few lines each.
+//! Not proved, but tested: mutable references to several values, which [`IntMap::iter_mut`],
+//! [`IntMap::values_mut`], `&mut map` and [`IntMap::get_disjoint_mut`] hand out; what mends a map
+//! after a panic; and this crate's calls over the proved ones, a few lines each.
 //!
 //! # Failed allocations
 //!

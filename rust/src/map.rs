@@ -165,6 +165,33 @@ impl<K: IntKey, V> IntMap<K, V> {
         self.map.get_mut(key)
     }
 
+    /// Returns mutable references to the values of several keys at once, each `None` if its key is
+    /// absent. The cost is *O*(*s*) for each of the *m* keys, and *O*(*m* log *m*).
+    ///
+    /// # Panics
+    ///
+    /// If two of the keys are equal and present.
+    ///
+    /// # Examples
+    ///
+    /// ```
+    /// use intmap_proved::IntMap;
+    ///
+    /// let mut map = IntMap::from([(21u64, 1), (22, 2)]);
+    /// if let [Some(one), Some(other), None] = map.get_disjoint_mut([22, 21, 23]) {
+    ///     std::mem::swap(one, other);
+    /// }
+    /// assert_eq!((map[21], map[22]), (2, 1));
+    /// ```
+    ///
+    /// ```should_panic
+    /// let mut map = intmap_proved::IntMap::from([(21u64, 1)]);
+    /// map.get_disjoint_mut([21, 21]);
+    /// ```
+    pub fn get_disjoint_mut<const N: usize>(&mut self, keys: [K; N]) -> [Option<&mut V>; N] {
+        self.map.get_disjoint_mut(keys)
+    }
+
     /// Returns references to the key in the map and to its value, or `None` if the key is absent.
     /// The cost is *O*(*s*).
     ///

@@ -4,6 +4,7 @@
 mod against_std;
 mod carried;
 mod counts;
+mod disjoint;
 mod entries;
 mod figures;
 mod forms;
