@@ -3,7 +3,8 @@ use super::IntSet;
 use crate::IntKey;
 use crate::iter::copied;
 use crate::proved::map::iter::{IntoKeys, Keys};
-use crate::proved::set::iter as proved;
+use crate::proved::set::{IntSet as Proved, iter as proved};
+use crate::proved::table::table::Progress;
 use core::fmt::{self, Debug, Formatter};
 use core::iter::FusedIterator;
 
@@ -91,6 +92,42 @@ impl<K: IntKey> Debug for Drain<'_, K> {
 impl<K: IntKey> Debug for IntoIter<K> {
     fn fmt(&self, f: &mut Formatter<'_>) -> fmt::Result {
         f.debug_struct("IntoIter").field("left", &self.left).finish()
+    }
+}
+
+/// Removes the members of a set that a closure picks, one at each step, made by
+/// [`IntSet::extract_if`].
+///
+/// ```
+/// let mut set = intmap_proved::IntSet::from([0u64, 1]);
+/// assert_eq!(set.extract_if(|key| key > 0).next(), Some(1));
+/// ```
+#[must_use = "iterators are lazy and do nothing unless consumed"]
+pub struct ExtractIf<'a, K: IntKey, F> {
+    pub(super) set: &'a mut Proved<K>,
+    pub(super) at: Progress,
+    pub(super) pick: F,
+}
+
+impl<K: IntKey, F: FnMut(K) -> bool> Iterator for ExtractIf<'_, K, F> {
+    type Item = K;
+
+    #[inline]
+    fn next(&mut self) -> Option<K> {
+        self.set.extract_next(&mut self.at, &mut self.pick)
+    }
+
+    #[inline]
+    fn size_hint(&self) -> (usize, Option<usize>) {
+        (0, Some(self.set.len() - self.at.passed))
+    }
+}
+
+impl<K: IntKey, F: FnMut(K) -> bool> FusedIterator for ExtractIf<'_, K, F> {}
+
+impl<K: IntKey, F> Debug for ExtractIf<'_, K, F> {
+    fn fmt(&self, f: &mut Formatter<'_>) -> fmt::Result {
+        f.debug_struct("ExtractIf").finish_non_exhaustive()
     }
 }
 

@@ -1,10 +1,22 @@
-//! Room for a number of members, and memory that is given back.
-use super::IntSet;
+//! The capacity, room for a number of members, and memory that is given back.
+use super::{IntSet, Mending, mem};
 use crate::IntKey;
 use crate::refusal::{Cause, granted};
 use crate::room::{FIRST_FACTOR, LEAST_SLOTS, slots_for};
 
 impl<K: IntKey> IntSet<K> {
+    /// Returns the number of slots, a power of two. The cost is *O*(1).
+    ///
+    /// # Examples
+    ///
+    /// ```
+    /// assert_eq!(intmap_proved::IntSet::from([21u64]).capacity(), 2);
+    /// ```
+    #[inline]
+    pub fn capacity(&self) -> usize {
+        self.set.capacity()
+    }
+
     /// Returns an empty set with room for so many members, as
     /// [`IntMap::with_room_for`](crate::IntMap::with_room_for) does for pairs.
     ///
@@ -42,6 +54,49 @@ impl<K: IntKey> IntSet<K> {
     /// ```
     pub fn try_with_room_for(members: usize) -> Result<IntSet<K>, Cause> {
         IntSet::try_with_capacity(slots_for(members, FIRST_FACTOR))
+    }
+
+    /// Makes the capacity at least the number of members plus `additional`, as
+    /// [`IntMap::reserve`](crate::IntMap::reserve) does.
+    ///
+    /// A failed allocation is handled as std does; [`try_reserve`](IntSet::try_reserve) returns it.
+    /// The cost is *O*(*n* + *c*), or *O*(1) if the capacity stays.
+    ///
+    /// # Panics
+    ///
+    /// If the number of members plus `additional` is above 2^63.
+    ///
+    /// # Examples
+    ///
+    /// ```
+    /// let mut set = intmap_proved::IntSet::from([21u64]);
+    /// set.reserve(4);
+    /// assert_eq!(set.capacity(), 8);
+    /// ```
+    pub fn reserve(&mut self, additional: usize) {
+        granted(self.try_reserve(additional))
+    }
+
+    /// The same as [`reserve`](IntSet::reserve), but it returns a failure.
+    ///
+    /// # Errors
+    ///
+    /// [`Cause::TooLarge`] if the number of members plus `additional` is above 2^63, and otherwise
+    /// [`Cause::Memory`] if an allocation fails. The set stays as it was.
+    ///
+    /// # Examples
+    ///
+    /// ```
+    /// use intmap_proved::{Cause, IntSet};
+    ///
+    /// let mut set = IntSet::from([21u64]);
+    /// assert_eq!(set.try_reserve(usize::MAX), Err(Cause::TooLarge));
+    /// ```
+    pub fn try_reserve(&mut self, additional: usize) -> Result<(), Cause> {
+        let guard = Mending(&mut self.set);
+        let result = guard.0.reserve(additional);
+        mem::forget(guard);
+        result
     }
 
     /// Makes room for `additional` members more, as

@@ -256,9 +256,10 @@ impl Plain {
 type Due = fn(&mut Plain, u64) -> u64;
 type Call = (&'static str, Due, fn(&mut Map, Key));
 
-const CALLS: [Call; 38] = [
+const CALLS: [Call; 39] = [
     ("get", Plain::find, |map, key| _ = map.get(key)),
     ("get_mut", Plain::find, |map, key| _ = map.get_mut(key)),
+    ("get_disjoint_mut", Plain::find, |map, key| _ = map.get_disjoint_mut([key])),
     ("contains_key", Plain::find, |map, key| _ = map.contains_key(key)),
     ("get_key_value", Plain::find, |map, key| _ = map.get_key_value(key)),
     ("map[key]", Plain::find, |map, key| {
@@ -525,7 +526,8 @@ fn equality_searches_each_key_up_to_the_first_difference() {
 
 type SetCall = (&'static str, Due, fn(&mut Set, Key));
 
-const SET_CALLS: [SetCall; 10] = [
+const SET_CALLS: [SetCall; 11] = [
+    ("get", Plain::find, |set, key| _ = set.get(key)),
     ("contains", Plain::find, |set, key| _ = set.contains(key)),
     ("remove", Plain::find, |set, key| _ = set.remove(key)),
     ("take", Plain::find, |set, key| _ = set.take(key)),

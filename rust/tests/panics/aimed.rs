@@ -142,14 +142,19 @@ fn a_panic_of_the_closure_of_hand_over_loses_that_pair_alone() {
 
 #[test]
 fn a_panic_of_the_closure_of_a_set_leaves_a_whole_set() {
-    for shift in [0, 1, 2, 3, 5] {
+    for (shift, is_retained) in [0, 1, 2, 3, 5].into_iter().flat_map(|it| [(it, true), (it, false)])
+    {
         for number in 1..=KEYS {
             let mut set: IntSet<u64> = (0..KEYS).map(|key| key << shift).collect();
             let panicked = panics_at(number, || {
-                set.retain(|key| {
+                let is_even = |key: u64| {
                     burn();
                     (key >> shift) % 2 == 0
-                });
+                };
+                match is_retained {
+                    true => set.retain(is_even),
+                    false => set.extract_if(is_even).for_each(drop),
+                }
             });
             assert!(panicked, "at place {number}");
             assert_eq!(set.iter().count(), set.len(), "{set:?}, place {number}");

@@ -222,9 +222,11 @@ fn a_failed_call_leaves_a_map_of_each_form() {
 
 type SetCall = fn(&mut IntSet<u64>) -> Result<(), Cause>;
 
-const SET_CALLS: [(&str, u64, SetCall); 11] = [
+const SET_CALLS: [(&str, u64, SetCall); 13] = [
     ("insert", 1, |set| set.try_insert(9).map(drop)),
     ("insert again", 0, |set| set.try_insert(3).map(drop)),
+    ("replace", 1, |set| set.try_replace(9).map(drop)),
+    ("replace a member", 0, |set| set.try_replace(3).map(drop)),
     ("extend", 1, |set| Ok(set.try_extend([9])?)),
     ("reserve", 3, |set| set.try_reserve(100)),
     ("reserve_members", 3, |set| set.try_reserve_members(100)),

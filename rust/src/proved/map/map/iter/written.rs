@@ -7,6 +7,7 @@ use crate::proved::map::map::IntMap;
 use crate::proved::table::kept::Kept;
 use crate::proved::table::table::written::PairsMut;
 use crate::proved::table::IntKey;
+use crate::proved::table::table::Progress;
 use core::array::from_fn;
 
 /// The pairs of a map, each with a mutable reference to its value, made by [`IntMap::iter_mut`].
@@ -47,5 +48,15 @@ impl<K: IntKey, V, A: Allocator + Copy> IntMap<K, V, A> {
             }
         }
         values
+    }
+
+    /// The next pair that the closure picks, which it removes: a step of an iterator that has the
+    /// progress and the closure elsewhere.
+    pub fn extract_step<F: FnMut(K, &mut V) -> bool>(
+        &mut self,
+        at: &mut Progress,
+        test: &mut F,
+    ) -> Option<(K, V)> {
+        self.extract_next(at, test)
     }
 }
