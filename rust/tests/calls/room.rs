@@ -107,3 +107,22 @@ fn a_shrunk_set_is_a_new_one_of_its_members_in_order() {
         assert_eq!((set.capacity(), set == members), (least_slots(members.len(), 909), true));
     }
 }
+
+#[test]
+fn clone_from_makes_what_clone_makes() {
+    let (mut random, mut kept) = (Random(12), 0);
+    for _ in 0..3000 {
+        let (mut map, (source, factor)) = (emptied(&mut random).0, emptied(&mut random));
+        kept += usize::from(map.capacity() == source.capacity());
+        let mut set: IntSet<u64> = map.keys().copied().collect();
+        map.clone_from(&source);
+        assert!(map.iter().eq(&source), "{map:?} of {source:?}");
+        assert_eq!((map.capacity(), map.len()), (source.capacity(), source.len()));
+        assert_eq!((map.load_factor_thousandths(), map.assert_count()), (factor, true));
+        let members: IntSet<u64> = source.keys().copied().collect();
+        set.clone_from(&members);
+        assert!(set.iter().eq(&members), "{set:?} of {members:?}");
+        assert_eq!((set.capacity(), set.len()), (members.capacity(), members.len()));
+    }
+    assert!(kept > 300, "only {kept} maps kept their slots");
+}

@@ -11,7 +11,7 @@ fn map_of(shift: u32) -> IntMap<u64, Value> {
 
 pub type Call = fn(&mut IntMap<u64, Value>);
 
-pub const CALLS: [(&str, Call); 9] = [
+pub const CALLS: [(&str, Call); 10] = [
     ("retain, closure and drops", |map| {
         map.retain(|_, value| {
             burn();
@@ -40,6 +40,10 @@ pub const CALLS: [(&str, Call); 9] = [
     }),
     ("drain", |map| map.drain().take(25).for_each(|_| burn())),
     ("clone", |map| drop(map.clone())),
+    ("clone_from", |map| {
+        let source = map.clone();
+        map.clone_from(&source);
+    }),
     ("extend", |map| {
         map.extend((0..KEYS).map(|key| {
             burn();
@@ -149,7 +153,7 @@ fn a_panic_of_the_closure_of_a_set_leaves_a_whole_set() {
             let panicked = panics_at(number, || {
                 let is_even = |key: u64| {
                     burn();
-                    (key >> shift) % 2 == 0
+                    (key >> shift).is_multiple_of(2)
                 };
                 match is_retained {
                     true => set.retain(is_even),

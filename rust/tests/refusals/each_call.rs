@@ -283,6 +283,22 @@ fn calls_that_need_no_memory_request_none() {
 }
 
 #[test]
+fn clone_from_of_as_many_slots_requests_none() {
+    for (keys, zeros) in [(100, 0), (40, 6), (3, 0)] {
+        let source = map_of(keys, zeros);
+        let mut map = source.clone();
+        map.remove(0);
+        map.insert(1 << zeros, 7);
+        assert_eq!(requests(|| map.clone_from(&source)), 0, "{keys} keys");
+        assert_eq!(state_of(&map), state_of(&source), "{keys} keys");
+        let members: IntSet<u64> = source.keys().copied().collect();
+        let mut set = members.clone();
+        set.remove(0);
+        assert_eq!(requests(|| set.clone_from(&members)), 0, "{keys} members");
+    }
+}
+
+#[test]
 fn maps_give_their_memory_back() {
     let before = bytes();
     for keys in [0, 1, 100, 10_000] {
