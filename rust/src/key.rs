@@ -1,4 +1,4 @@
-//! The types of keys, those of them that the proved text doesn't have, and the macro for new ones.
+//! The types of keys, and those of them that the proved text doesn't have.
 use core::net::Ipv4Addr;
 use core::num::{
     NonZeroI8, NonZeroI16, NonZeroI32, NonZeroI64, NonZeroIsize, NonZeroU8, NonZeroU16, NonZeroU32,
@@ -39,6 +39,11 @@ use core::num::{
 /// let rook = Place { row: 1, column: 2 };
 /// assert_eq!(IntMap::from([(rook, "rook")]).get(rook), Some(&"rook"));
 /// ```
+///
+/// # Keys that strangers choose
+///
+/// They may all share a slot. [`int_key!`](crate::int_key) scrambles the numbers of keys by a secret,
+/// and says what this is worth.
 ///
 /// # Slots
 ///
@@ -144,49 +149,4 @@ impl<K: IntKey> IntKey for Wrapping<K> {
     fn number(&self) -> u64 {
         self.0.number()
     }
-}
-
-/// Declares structs of one field, a key, that are keys themselves. Each derives `Clone`, `Copy`,
-/// `PartialEq` and `Eq`; what else it derives stands above it. A key has the number of its field,
-/// so equal numbers are of equal keys.
-///
-/// # Examples
-///
-/// ```
-/// use intmap_proved::{IntMap, int_key};
-///
-/// int_key! {
-///     /// The number of a ticket.
-///     #[derive(Debug)]
-///     pub struct Ticket(u32);
-///
-///     struct Day(pub i16);
-/// }
-///
-/// let open = IntMap::from([(Ticket(7), Day(-1))]);
-/// assert!(open[Ticket(7)] == Day(-1));
-/// assert_eq!(format!("{:?}", open.keys()), "[Ticket(7)]");
-/// ```
-///
-/// A second field would leave keys without numbers of their own:
-///
-/// ```compile_fail
-/// intmap_proved::int_key! {
-///     struct Place(u32, u32);
-/// }
-/// ```
-#[macro_export]
-macro_rules! int_key {
-    ($($(#[$attribute:meta])* $visibility:vis struct $name:ident($inner:vis $integer:ty);)+) => { $(
-        $(#[$attribute])*
-        #[derive(Clone, Copy, PartialEq, Eq)]
-        $visibility struct $name($inner $integer);
-
-        impl $crate::IntKey for $name {
-            #[inline(always)]
-            fn number(&self) -> u64 {
-                $crate::IntKey::number(&self.0)
-            }
-        }
-    )+ };
 }

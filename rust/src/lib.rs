@@ -92,6 +92,7 @@ compile_error!("intmap_proved is for targets that are 64 bits wide");
 
 extern crate alloc;
 
+mod declared;
 mod entry;
 mod guard;
 pub mod iter;
@@ -106,6 +107,7 @@ mod room;
 pub mod set;
 mod traits;
 
+pub use declared::scramble;
 pub use entry::{Entry, OccupiedEntry, VacantEntry};
 pub use key::IntKey;
 pub use map::IntMap;

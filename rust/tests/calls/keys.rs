@@ -1,6 +1,6 @@
 //! Each type of keys beside std's maps and sets, and a type of the program's own.
 use crate::random::Random;
-use intmap_proved::{IntKey, IntMap, IntSet, int_key};
+use intmap_proved::{IntKey, IntMap, IntSet, int_key, scramble};
 use std::collections::{HashMap, HashSet};
 use std::fmt::Debug;
 use std::hash::Hash;
@@ -157,10 +157,56 @@ int_key! {
     struct Day(pub i16);
 }
 
+const SECRET: u64 = 0x0123_4567_89AB_CDEF;
+
+int_key! {
+    #[derive(Debug, Hash)]
+    struct Visitor(u64) scrambled by SECRET;
+
+    #[derive(Debug, Hash)]
+    struct Hour(NonZeroI8) scrambled by SECRET + 1;
+}
+
 #[test]
 fn declared_types_are_keys() {
     beside_std("a ticket", |bits| Ticket(bits as u32));
     beside_std("a day", |bits| Day(bits as i16));
+    beside_std("a visitor", Visitor);
+    beside_std("an hour", |bits| Hour(NonZeroI8::new(bits as i8).unwrap_or(NonZeroI8::MAX)));
+}
+
+/// The number that a secret scrambled to this one.
+fn unscrambled(scrambled: u64, secret: u64) -> u64 {
+    let mut bits = scrambled ^ scrambled >> 31 ^ scrambled >> 62;
+    bits = bits.wrapping_mul(0x3196_42B2_D24D_8EC3);
+    bits = (bits ^ bits >> 27 ^ bits >> 54).wrapping_mul(0x96DE_1B17_3F11_9089);
+    bits ^ bits >> 30 ^ bits >> 60 ^ secret
+}
+
+#[test]
+fn each_scrambled_number_comes_from_one_number() {
+    let mut random = Random(13);
+    for secret in [0, 1, u64::MAX, SECRET] {
+        for number in (0..1000).chain((0..1000).map(|it| it << 32)).chain([u64::MAX]) {
+            let number = number ^ random.next() & random.below(2).wrapping_neg();
+            assert_eq!(unscrambled(scramble(number, secret), secret), number, "by {secret}");
+            let key = Visitor(number);
+            assert_eq!(unscrambled(key.number(), SECRET), number);
+        }
+    }
+    assert_eq!(scramble(1, 0), 0x5692_161D_100B_05E5, "as SplitMix64 has it");
+}
+
+#[test]
+fn scrambled_keys_with_equal_low_bits_have_slots_of_their_own() {
+    for zeros in [12, 32, 44] {
+        let keys = (0..1000).map(|key| key << zeros);
+        let plain: IntSet<u64> = keys.clone().collect();
+        let scrambled: IntMap<Visitor, ()> = keys.map(|key| (Visitor(key), ())).collect();
+        let largest = scrambled.collisions().keys().copied().max();
+        assert!(largest < Some(10), "{largest:?} keys share a slot, {zeros} zeros");
+        assert_eq!(plain.len(), scrambled.len());
+    }
 }
 
 #[test]
