@@ -81,7 +81,7 @@ ADDED = {
     "intmap_table/table/slots": ["mod mending;", "pub mod written;"],
     "intmap/entry": ["mod mending;"],
     "intmap/map": ["mod mending;"],
-    "intmap_set/set": ["mod mending;"],
+    "intmap_set/set": ["mod mending;", "mod written;"],
 }
 
 RATTLE = ["ghost", "requires", "ensures", "tactic", "unsafe"]

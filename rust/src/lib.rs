@@ -27,9 +27,9 @@
 //! as it was. The README names what a reader trusts beside the proof, and has a table of the calls of
 //! this crate that are one proved call, and of those that have code by hand.
 //!
-//! Not proved, but tested: mutable references to the values one by one, which [`IntMap::iter_mut`],
-//! [`IntMap::values_mut`] and `&mut map` hand out; what mends a map after a panic; and that code by
-//! hand, a few lines a call.
+//! Not proved, but tested: mutable references to several values, which [`IntMap::iter_mut`],
+//! [`IntMap::values_mut`], `&mut map` and [`IntMap::get_disjoint_mut`] hand out; what mends a map
+//! after a panic; and that code by hand, a few lines a call.
 //!
 //! # Failed allocations
 //!
@@ -37,9 +37,10 @@
 //! do: if an allocation fails, it calls `handle_alloc_error`, which ends the process, and if the
 //! map would need more than 2^63 slots, it panics. The message of the former names the size of one
 //! word, whatever was requested. [`try_insert`](IntMap::try_insert) returns the failure and hands
-//! the value back, and the map is as it was. The operators of sets, such as `|`, have the first
-//! form alone; [`IntSet::try_from_iter`] of the members stands for the other. All other calls
-//! allocate nothing: lookups, removals, `retain`, `clear`, and all iterators.
+//! the value back, and the map is as it was. The operators of sets, such as `|`, and `clone_from`
+//! have the first form alone; [`IntSet::try_from_iter`] of the members and
+//! [`try_clone`](IntMap::try_clone) stand for the other. All other calls allocate nothing: lookups,
+//! removals, `retain`, `clear`, and all iterators.
 //!
 //! ```
 //! use intmap_proved::{Cause, IntMap};
@@ -93,6 +94,7 @@ compile_error!("intmap_proved is for targets that are 64 bits wide");
 
 extern crate alloc;
 
+mod declared;
 mod entry;
 mod guard;
 pub mod iter;
@@ -103,9 +105,11 @@ pub mod original;
 #[rustfmt::skip]
 mod proved;
 mod refusal;
+mod room;
 pub mod set;
 mod traits;
 
+pub use declared::scramble;
 pub use entry::{Entry, OccupiedEntry, VacantEntry};
 pub use key::IntKey;
 pub use map::IntMap;

@@ -60,3 +60,4 @@ impl<K: IntKey, A: Allocator + Copy> IntSet<K, A> {
 
 // Only Rust has what follows. It is tested, not proved.
 mod mending;
+mod written;
