@@ -5,7 +5,8 @@ its own, and closes each item with a brace at the item's depth. Both ways must l
 
 - Each token of an erased file is a token of its source, in the same order. Its comments are lines of the
   source, in the same order.
-- No token is left out but those of contracts, of ghosts, and of the items and the lines named here.
+- No token is left out but those of contracts, of ghosts, and of the items and the lines named here. An `impl Drop`
+  that is left out drops fields alone.
 - What is private to a crate of Rattle is private to a module.
 - Each source is erased, but for those named here, and no other file claims to be.
 - The public functions that require something of their caller are those that the crate's README names.
@@ -23,11 +24,13 @@ PAGE = "README.md"
 LEFT = [
     "intmap/src/decimal.rt",
     "intmap/src/laws.rt",
+    "intmap/src/map/iter/cursor.rt",
     "intmap/src/map/iter/written.rt",
     "intmap/src/map/json.rt",
     "intmap/src/map/json/read.rt",
     "intmap_table/src/lent.rt",
     "intmap_set/src/laws.rt",
+    "intmap_set/src/set/owned.rt",
 ]
 # lines of sources that are left out alone
 LEFT_LINES = {
@@ -41,8 +44,65 @@ LEFT_LINES = {
     "pub use decimal::key_of;",
     "use std::marker::Model;",
 }
+# what no call of the crate reaches, by source: the first words of a line, or of an item with its attributes
+NOT_CALLED = {
+    "intmap/src/entry.rt": """
+        pub fn key(&self)
+        pub fn or_insert(self,
+        pub fn into_map(self)""",
+    "intmap/src/entry/insert.rt": """
+        use std::default::MadeWith;
+        fn insert_made<E: From<Refused<V>>>(
+        pub fn or_insert_with_key<F: FnOnce(K) -> V>(
+        pub fn or_insert_with<F: FnOnce() -> V>(
+        pub fn or_default(self)
+        fn allocator(&self)
+        pub fn or_try_insert_with<E: From<Refused<V>>""",
+    "intmap/src/entry/occupied.rt": """
+        pub fn leave(self)
+        pub fn into_map(self)""",
+    "intmap/src/entry/vacant.rt": """
+        pub fn insert(self,
+        pub fn into_map(self)""",
+    "intmap/src/map/build.rt": """
+        pub(crate) fn allocator(&self)
+        pub fn from_array<const N: usize>(""",
+    "intmap/src/map/figures.rt": """
+        pub fn load_rate(&self)""",
+    "intmap/src/map/get.rt": """
+        use std::ops::Index;
+        impl<K: IntKey, V, A: Allocator + Copy> Index<K> for IntMap<K, V, A> {""",
+    "intmap/src/map/iter.rt": """
+        mod cursor;
+        pub use cursor::Cursor;""",
+    "intmap/src/map/iter/writing.rt": """
+        impl<'a, K: IntKey, V, A: Allocator + Copy> IntoIterator for &'a mut IntMap<K, V, A> {""",
+    "intmap/src/refusal.rt": """
+        use std::alloc::AllocError;
+        impl From<AllocError> for Cause {""",
+    "intmap/src/map/traits.rt": """
+        impl<K: IntKey + fmt::Debug, V: fmt::Debug, A: Allocator + Copy> fmt::Debug for IntMap<K, V, A> {""",
+    "intmap_set/src/set.rt": """
+        mod owned;""",
+    "intmap_set/src/set/traits.rt": """
+        impl<K: IntKey + fmt::Debug, A: Allocator + Copy> fmt::Debug for IntSet<K, A> {""",
+    "intmap_table/src/table/slots.rt": """
+        pub(crate) fn has_pair(&self,""",
+    "intmap_table/src/table/slots/pairs.rt": """
+        pub(crate) fn remove_at(&mut self,""",
+    "intmap_table/src/table/walk.rt": """
+        pub struct Cursor {
+        impl Cursor {
+        fn seek<K: IntKey, X, A: Allocator>(
+        pub fn step(&self,
+        pub fn cut(&mut self,""",
+}
 # how the items of sources begin that are left out
 LEFT_ITEMS = re.compile(r"impl\b[^;]* (Model|Drop) for |unsafe impl (Send|Sync) for Tally \{\}")
+# what an `impl Drop` may have that is left out: it takes the value apart, lets the prover see it, and drops a field
+DROPS_FIELDS = re.compile(r"fn drop\(self\) \{ let \w+ \{[\w:, ]*\} = self; (\w+\.known\(\); )?(drop\(\w+\); )?\} \}")
+# a text, a character, a word, signs that one operator may have, or another sign
+TOKEN = re.compile(r""""(?:\\.|[^"\\])*"|'(?:\\.|[^'\\])'|\w+|[&|<>=!+*/%^:.-]+|[^\w\s]""")
 # what is written otherwise in Rust: in the source, and in the erased text
 OTHERWISE = [
     ("#[derive(Debug, Drop)]", "#[derive(Debug)]"),
@@ -83,23 +143,74 @@ def behind_item(lines, i):
     return lines.index(" " * depth + "}", i) + 1
 
 
-def code_of_source(text):
-    """The lines of code that a source has for Rust."""
-    for theirs, ours in OTHERWISE:
-        text = text.replace(theirs, ours)
-    lines, kept, i = text.split("\n"), [], 0
+def not_called(source):
+    """How the lines of a source begin, that or whose items no call of the crate reaches."""
+    return tuple(it.strip() for it in NOT_CALLED.get(source, "").strip().split("\n") if it)
+
+
+def without_attributes(lines):
+    """Lines up to an item, without the attributes of the item."""
+    while lines and lines[-1].startswith("#["):
+        lines = lines[:-1]
+    return lines
+
+
+def without_empty(lines):
+    """Lines of code without each `impl` of a type that has none."""
+    kept = []
+    for line in lines:
+        if line == "}" and kept and re.match(r"impl\b(?!.* for ).*\{$", kept[-1]):
+            kept.pop()
+        elif line and not line.startswith("//"):
+            kept.append(line)
+    return kept
+
+
+def without_contracts(lines):
+    """Lines of a source without clauses and ghosts."""
+    kept, i = [], 0
     while i < len(lines):
         line = lines[i].strip()
         if CONTRACT.match(line):
             i, rest = behind_braces(lines, i)
             kept.append("" if "ghost" in line.split()[:2] else rest)
-            i += 1
+        else:
+            kept.append(lines[i])
+        i += 1
+    return kept
+
+
+def code_of_source(text, source):
+    """The lines of code that a source has for Rust."""
+    for theirs, ours in OTHERWISE:
+        text = text.replace(theirs, ours)
+    lines, kept, i = without_contracts(text.split("\n")), [], 0
+    while i < len(lines):
+        line = lines[i].strip()
+        if line.startswith(not_called(source)):
+            kept, i = without_attributes(kept), behind_item(lines, i)
         elif LEFT_ITEMS.match(line):
             i = behind_item(lines, i)
         else:
             kept.append("" if line in LEFT_LINES else line)
             i += 1
-    return kept
+    return without_empty(kept)
+
+
+def missing(text, starts):
+    """Which of these no line of a text begins with, or several do."""
+    lines = [it.strip() for it in text.split("\n")]
+    return [start for start in starts if sum(it.startswith(start) for it in lines) != 1]
+
+
+def other_drops(text):
+    """The first lines of each `impl Drop` that does more than to drop fields, as Rust does by itself."""
+    lines = without_contracts(text.split("\n"))
+    for i, line in enumerate(lines):
+        if LEFT_ITEMS.match(line) and " Drop for " in line:
+            body = " ".join(" ".join(lines[i : behind_item(lines, i)]).split()).partition(" { ")[2]
+            if not DROPS_FIELDS.fullmatch(body):
+                yield line
 
 
 def paths_of_rattle(text, home):
@@ -117,7 +228,7 @@ def tokens_of(lines):
     for number, line in enumerate(lines, 1):
         code = line.strip()
         if not code.startswith("//"):
-            found += [(it, number) for it in re.findall(r"\w+|[^\w\s]", code)]
+            found += [(it, number) for it in TOKEN.findall(code)]
     return found
 
 
@@ -132,16 +243,18 @@ def is_within(part, whole):
 
 
 def faults_of(text, source, home):
-    """What is wrong with an erased text, each as a line."""
-    text, _, added = text.partition(NOTE)
+    """What is wrong with an erased text, each as a line. The source is named by its path below crates."""
+    (text, _, added), theirs_all = text.partition(NOTE), read(f"crates/{source}")
     wrong = [f"`{it}` is added" for it in added.split("\n") if it and not NOTED.fullmatch(it)]
+    wrong += [f"no line of the source begins with `{it}`" for it in missing(theirs_all, not_called(source))]
+    wrong += [f"`{it}` does more than to drop fields" for it in other_drops(theirs_all)]
     if re.search(r"pub\s*\(\s*crate\s*\)", text):
         wrong.append("what is private to a crate of Rattle is open here")
     text = paths_of_rattle(text.replace(PRELUDE, "", 1), home)
-    if not is_within(comments_of(text), comments_of(source)):
+    if not is_within(comments_of(text), comments_of(theirs_all)):
         wrong.append("a comment isn't one of the source, or not at its place")
     for (ours, line), (theirs, at) in itertools.zip_longest(
-        tokens_of(text.split("\n")), tokens_of(code_of_source(source)), fillvalue=("the end", 0)
+        tokens_of(text.split("\n")), tokens_of(code_of_source(theirs_all, source)), fillvalue=("the end", 0)
     ):
         if ours != theirs:
             return [*wrong, f"line {line} has `{ours}` where the source has `{theirs}`"]
@@ -157,13 +270,27 @@ def erased_files(folder):
             yield name, home, f"{CRATES.get(home)}/src/{rest or 'lib'}.rt"
 
 
+def called(text, source):
+    """The text of a source without the items that no call reaches, and none if it isn't erased."""
+    if source in LEFT and not source.endswith("/written.rt"):
+        return ""
+    lines, kept, i = text.split("\n"), [], 0
+    while i < len(lines):
+        if lines[i].strip().startswith(not_called(source)):
+            i = behind_item(lines, i)
+        else:
+            kept.append(lines[i])
+            i += 1
+    return "\n".join(kept)
+
+
 def asks():
     """The public functions that require something of their caller, each as the README has it."""
     found = []
     for home in ("map", "set"):
         for path in sorted(glob.glob(f"crates/{CRATES[home]}/src/**/*.rt", recursive=True)):
             place = os.path.relpath(path, f"crates/{CRATES[home]}/src").removesuffix(".rt")
-            text = read(path)
+            text = called(read(path), path.removeprefix("crates/"))
             for name, clauses in re.findall(r"^ *pub fn (\w+)(.*?)^ *(?:\{|\})", text, re.M | re.S):
                 if re.search(r"^ *requires ", clauses, re.M):
                     found.append(f"proved/{home}/{place}.rs: {name}")
@@ -179,7 +306,7 @@ def faults(folder):
         if not os.path.exists(f"crates/{source}"):
             wrong.append(f"{name} has no source")
             continue
-        wrong += [f"{name}: {it}" for it in faults_of(read(f"{folder}/{name}"), read(f"crates/{source}"), home)]
+        wrong += [f"{name}: {it}" for it in faults_of(read(f"{folder}/{name}"), source, home)]
     for crate in CRATES.values():
         for path in glob.glob(f"crates/{crate}/src/**/*.rt", recursive=True):
             source = path.removeprefix("crates/")

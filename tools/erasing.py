@@ -9,14 +9,15 @@
     Rust finds by itself.
 5.  An `impl Drop` is left out if its body is one of DROPS: those drop fields, as Rust does by itself.
 6.  The modules of LEFT_OUT are left out, with the lines that name them. If the crate has a file of that
-    name written by hand, that file takes the module's place and the lines stay.
+    name written by hand, that file takes the module's place and the lines stay. So are the items of UNCALLED,
+    with their doc comments, and an `impl` of a type that has none left.
 7.  The one form of `fmt` that Rattle has becomes Rust's.
 8.  A path names a module in place of a crate: `intmap_table::`, `crate::`, `pub(crate)` and `std::`.
 9.  A file that uses anything uses the names of `memory` too. It gets the lines of ADDED, each of which
     names a file written by hand.
 
 What no rule knows ends the erasing: a word of Rattle that is left, an `unsafe`, an unknown `impl Drop`, a
-module that isn't there.
+module or an item that isn't there.
 """
 import re
 
@@ -25,8 +26,35 @@ HOMES = {"intmap_table": "table", "intmap": "map", "intmap_set": "set"}
 
 LEFT_OUT = {
     "intmap_table": ["lent"],
-    "intmap": ["decimal", "laws", "map/iter/written", "map/json"],
-    "intmap_set": ["laws"],
+    "intmap": ["decimal", "laws", "map/iter/cursor", "map/iter/written", "map/json"],
+    "intmap_set": ["laws", "set/owned"],
+}
+
+# What no call of the crate for Rust reaches, by its source: how the first line of each item begins. `tools/erased`
+# asks the compiler whether more is reached by none. An item that is called in spite of this list isn't there.
+UNCALLED = {
+    "intmap/entry": ["pub fn key(", "pub fn or_insert(", "pub fn into_map("],
+    "intmap/entry/insert": [
+        "fn insert_made<",
+        "pub fn or_insert_with_key<",
+        "pub fn or_insert_with<",
+        "pub fn or_default(",
+        "fn allocator(",
+        "pub fn or_try_insert_with<",
+        "use std::default::MadeWith;",
+    ],
+    "intmap/entry/occupied": ["pub fn leave(", "pub fn into_map("],
+    "intmap/entry/vacant": ["pub fn insert(", "pub fn into_map("],
+    "intmap/map/build": ["pub(crate) fn allocator(", "pub fn from_array<"],
+    "intmap/map/figures": ["pub fn load_rate("],
+    "intmap/map/get": ["impl<K: IntKey, V, A: Allocator + Copy> Index<K> for IntMap", "use std::ops::Index;"],
+    "intmap/map/iter/writing": ["impl<'a, K: IntKey, V, A: Allocator + Copy> IntoIterator for &'a mut IntMap"],
+    "intmap/refusal": ["impl From<AllocError> for Cause {", "use std::alloc::AllocError;"],
+    "intmap/map/traits": ["impl<K: IntKey + fmt::Debug, V: fmt::Debug, A: Allocator + Copy> fmt::Debug for IntMap"],
+    "intmap_set/set/traits": ["impl<K: IntKey + fmt::Debug, A: Allocator + Copy> fmt::Debug for IntSet"],
+    "intmap_table/table/slots": ["pub(crate) fn has_pair("],
+    "intmap_table/table/slots/pairs": ["pub(crate) fn remove_at("],
+    "intmap_table/table/walk": ["pub struct Cursor {", "impl Cursor {", "fn seek<", "pub fn step(", "pub fn cut("],
 }
 
 DROPS = [
@@ -40,7 +68,7 @@ FMT = "fn fmt<W: fmt::Write>(&self, f: &mut fmt::Formatter<W>)"
 FMT_OF_RUST = "fn fmt(&self, f: &mut fmt::Formatter<'_>)"
 
 # modules of Rattle's std that `memory` has. The others are those of Rust's `core`.
-OF_MEMORY = ["alloc", "clone", "default", "vec"]
+OF_MEMORY = ["alloc", "clone", "vec"]
 # traits of Rattle's `std::marker` that are ghosts, or that Rust has in its prelude
 MARKERS = ["Model", "Owns", "Move", "Send", "Sync"]
 PRELUDE = "use crate::memory::prelude::*;"
@@ -53,7 +81,7 @@ ADDED = {
     "intmap_table/table/slots": ["mod mending;", "pub mod written;"],
     "intmap/entry": ["mod mending;"],
     "intmap/map": ["mod mending;"],
-    "intmap_set/set": ["mod mending;"],
+    "intmap_set/set": ["mod mending;", "mod written;"],
 }
 
 RATTLE = ["ghost", "requires", "ensures", "tactic", "unsafe"]
@@ -166,7 +194,7 @@ def item_end(text, at):
     tokens = TOKEN.findall(text[at:])
     i = 0
     while tokens[i] not in ("{", ";") or tokens[0] == "use" and tokens[i] != ";":
-        i += 1
+        i = group_end(tokens, i) if tokens[i] in ("(", "[") else i + 1
     return at + len("".join(tokens[: i + 1 if tokens[i] == ";" else group_end(tokens, i)]))
 
 
@@ -182,6 +210,17 @@ def without_impls(text):
             raise Refused(f"an `impl {found[2]}` isn't empty")
         text = text[:start] + text[end:].lstrip("\n")
     return text
+
+
+def without_uncalled(text, where):
+    """Rule 6 for items."""
+    for start in UNCALLED.get(where, []):
+        found = list(re.finditer(rf"^[ ]*(?={re.escape(start)})", text, re.M))
+        if len(found) != 1:
+            raise Refused(f"{len(found)} items begin with `{start}`, not one")
+        first, end = item_start(text, found[0].start()), item_end(text, found[0].end())
+        text = text[:first] + text[end:].lstrip("\n")
+    return re.sub(r"^impl\b(?:(?! for )[^{;])*\{\s*\}\n", "", text, flags=re.M)
 
 
 def without_attributes(text):
@@ -255,7 +294,8 @@ def tidied(text):
 def erased(text, crate, name, by_hand):
     """The Rust text of the source `name` of a crate. `by_hand` are the modules that are written by hand."""
     text = tidied(without_ghosts(without_shown(text)))
-    text = without_attributes(without_impls(text)).replace(FMT, FMT_OF_RUST)
+    text = tidied(without_uncalled(without_impls(text), f"{crate}/{name}"))
+    text = without_attributes(text).replace(FMT, FMT_OF_RUST)
     text = without_markers(without_modules(text, crate, name, by_hand))
     for token in TOKEN.findall(text):
         if token in RATTLE:

@@ -1,8 +1,10 @@
 //! Entries: a map with a key that was looked up once, to read, change, remove or insert its pair.
+use crate::guard::Mending;
 use crate::proved::map::entry as proved;
 use crate::refusal::{Refused, granted};
 use crate::{IntKey, IntMap};
 use core::fmt::{self, Debug, Formatter};
+use core::mem;
 
 mod made;
 mod occupied;
@@ -217,13 +219,11 @@ impl<'a, K: IntKey, V> Entry<'a, K, V> {
     /// ```
     #[inline]
     pub fn try_insert_entry(self, value: V) -> Result<OccupiedEntry<'a, K, V>, Refused<V>> {
-        match self {
-            Entry::Occupied(mut entry) => {
-                entry.insert(value);
-                Ok(entry)
-            }
-            Entry::Vacant(entry) => entry.try_insert_entry(value),
-        }
+        let (map, found) = self.proved().parted();
+        let guard = Mending(&mut *map);
+        let result = guard.0.entry_of(found).insert_entry(value).map(|entry| entry.place());
+        mem::forget(guard);
+        Ok(OccupiedEntry(map.entry_at(result?)))
     }
 }
 

@@ -1,5 +1,5 @@
 //! The guard of the calls that run a caller's code in the middle of a change: that of a closure, of
-//! a drop, or of a key's `number`. Entries have it too, in their one insertion.
+//! a drop, or of a key's `number`. Entries have it too, in their insertions.
 use crate::IntKey;
 use crate::proved::map::IntMap;
 use crate::proved::set::IntSet;

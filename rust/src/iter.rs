@@ -1,9 +1,7 @@
 //! The iterators of a map.
 //!
 //! All go through the slots in turn, and through each slot from front to back. All stay at their
-//! end. Those that borrow the map know how many items are left, except [`ExtractIf`], which says
-//! that there are at most so many. Those that own the map say that too: a map that is collected from
-//! them then begins with the least capacity, as in Rust's `intmap`.
+//! end. All know how many items are left, except [`ExtractIf`], which knows how many at most.
 //!
 //! The text of [`Iter`], [`Keys`] and [`Values`] has the items that are left; that of most others
 //! says how many are.
@@ -18,7 +16,7 @@
 //! let map = IntMap::from([(0, 'a'), (1, 'b')]);
 //! assert_eq!(first(map.iter()), Some((&0, &'a')));
 //! assert_eq!(map.iter().size_hint(), (2, Some(2)));
-//! assert_eq!(map.into_iter().size_hint(), (0, Some(2)));
+//! assert_eq!(map.into_iter().len(), 2);
 //! ```
 use crate::IntKey;
 use crate::memory::clone;
@@ -26,9 +24,9 @@ use crate::proved::map::iter as proved;
 use core::fmt::{self, Debug, Formatter};
 use core::iter::FusedIterator;
 
-/// Writes an iterator that counts the items that are left.
+/// Writes an iterator that counts the items that are left. An item whose drop panics is counted.
 macro_rules! iterators {
-    ($least:expr; $(
+    ($(
         $(#[$doc:meta])*
         $name:ident [$($generics:tt)*] [$($args:tt)*] -> $item:ty;
     )*) => { $(
@@ -44,22 +42,23 @@ macro_rules! iterators {
 
             #[inline]
             fn next(&mut self) -> Option<$item> {
-                let item = self.inner.next()?;
                 self.left = self.left.saturating_sub(1);
-                Some(item)
+                self.inner.next()
             }
 
             #[inline]
             fn size_hint(&self) -> (usize, Option<usize>) {
-                ($least(self.left), Some(self.left))
+                (self.left, Some(self.left))
             }
         }
+
+        impl<$($generics)*> ExactSizeIterator for $name<$($args)*> {}
 
         impl<$($generics)*> FusedIterator for $name<$($args)*> {}
     )* };
 }
 
-iterators! { |left| left;
+iterators! {
     /// The pairs of a map, made by [`IntMap::iter`](crate::IntMap::iter).
     ///
     /// ```
@@ -113,14 +112,12 @@ iterators! { |left| left;
     /// assert_eq!(map.len(), 1);
     /// ```
     Drain ['a, K: IntKey, V] ['a, K, V] -> (K, V);
-}
 
-iterators! { |_| 0;
     /// The pairs of a map by value, made by [`IntMap::into_iter`](IntoIterator::into_iter).
     ///
     /// ```
     /// let map = intmap_proved::IntMap::from([(0u64, 'a'), (1, 'b')]);
-    /// assert_eq!(map.into_iter().size_hint(), (0, Some(2)));
+    /// assert_eq!(map.into_iter().len(), 2);
     /// ```
     IntoIter [K: IntKey, V] [K, V] -> (K, V);
 
@@ -175,15 +172,6 @@ impl<K: IntKey, V, F> Debug for ExtractIf<'_, K, V, F> {
     }
 }
 
-/// Writes that an iterator knows how many items are left.
-macro_rules! counted {
-    ($($name:ident)*) => { $(
-        impl<K: IntKey, V> ExactSizeIterator for $name<'_, K, V> {}
-    )* };
-}
-
-counted!(Iter IterMut Keys Values ValuesMut Drain);
-
 /// Writes clones of an iterator, and the text of the items that are left.
 macro_rules! shared {
     ($($name:ident [$($bound:tt)*])*) => { $(
@@ -196,7 +184,7 @@ macro_rules! shared {
 
         impl<K: IntKey + Debug, V $($bound)*> Debug for $name<'_, K, V> {
             fn fmt(&self, f: &mut Formatter<'_>) -> fmt::Result {
-                f.debug_list().entries(self.clone()).finish()
+                Debug::fmt(&self.inner, f)
             }
         }
     )* };

@@ -1,36 +1,49 @@
-//! The types of keys, and those integers that the proved text doesn't have as keys.
+//! The types of keys, and those of them that the proved text doesn't have.
+use core::net::Ipv4Addr;
+use core::num::{
+    NonZeroI8, NonZeroI16, NonZeroI32, NonZeroI64, NonZeroIsize, NonZeroU8, NonZeroU16, NonZeroU32,
+    NonZeroU64, NonZeroUsize, Wrapping,
+};
 
-/// The types that can be keys: integers of up to 64 bits, and types of your own. A `char` or a
-/// `NonZero` is a key in a type of your own.
+/// The types that can be keys: integers of up to 64 bits, also as `NonZero` and `Wrapping`, `char`,
+/// `bool`, `Ipv4Addr`, and types of your own.
 ///
 /// # Keys of your own
 ///
-/// A type of keys is `Copy` and `Eq`, and gives each key a number. Two keys must be equal exactly
-/// if their numbers are, and a key's number must never change. If a type breaks this, then in its
-/// maps lookups may miss, pairs may be lost, lengths may be wrong, and calls may panic or find no
-/// memory. There is still no undefined behavior, and no value is dropped twice. If `number` panics,
-/// the map stays whole: the page of the crate says what that means.
+/// [`int_key!`](crate::int_key) makes a key of a struct with one field that is a key. For other
+/// types, implement this trait. A type of keys is `Copy` and `Eq`, and gives each key a number. Two
+/// keys must be equal exactly if their numbers are, and a key's number must never change. If a type
+/// breaks this, then in its maps lookups may miss, pairs may be lost, lengths may be wrong, and
+/// calls may panic or find no memory. There is still no undefined behavior, and no value is dropped
+/// twice. If `number` panics, the map stays whole: the page of the crate says what that means.
 ///
 /// # Examples
+///
+/// A place on a board of 256 columns:
 ///
 /// ```
 /// use intmap_proved::{IntKey, IntMap};
 ///
 /// #[derive(Clone, Copy, PartialEq, Eq, Debug)]
-/// struct Article {
-///     number: u32,
+/// struct Place {
+///     row: u16,
+///     column: u8,
 /// }
 ///
-/// impl IntKey for Article {
+/// impl IntKey for Place {
 ///     fn number(&self) -> u64 {
-///         self.number.into()
+///         u64::from(self.row) * 256 + u64::from(self.column)
 ///     }
 /// }
 ///
-/// let mut prices = IntMap::new();
-/// prices.insert(Article { number: 21 }, 4.5);
-/// assert_eq!(prices.get(Article { number: 21 }), Some(&4.5));
+/// let rook = Place { row: 1, column: 2 };
+/// assert_eq!(IntMap::from([(rook, "rook")]).get(rook), Some(&"rook"));
 /// ```
+///
+/// # Keys that strangers choose
+///
+/// They may all share a slot. [`int_key!`](crate::int_key) scrambles the numbers of keys by a secret,
+/// and says what this is worth.
 ///
 /// # Slots
 ///
@@ -58,3 +71,82 @@ macro_rules! signed {
 }
 
 signed!(i8 i16 isize);
+
+/// A `char` has the number of its code point.
+///
+/// ```
+/// assert_eq!(intmap_proved::IntKey::number(&'a'), 97);
+/// ```
+impl IntKey for char {
+    #[inline(always)]
+    fn number(&self) -> u64 {
+        u64::from(*self)
+    }
+}
+
+/// `false` has the number 0, and `true` the number 1.
+///
+/// ```
+/// assert_eq!(intmap_proved::IntKey::number(&true), 1);
+/// ```
+impl IntKey for bool {
+    #[inline(always)]
+    fn number(&self) -> u64 {
+        u64::from(*self)
+    }
+}
+
+/// The last byte of an address counts ones, the one before it 256, and so on. So the addresses of a
+/// network differ in their low bits.
+///
+/// ```
+/// let local = std::net::Ipv4Addr::LOCALHOST;
+/// assert_eq!(intmap_proved::IntKey::number(&local), 127 * 256 * 256 * 256 + 1);
+/// ```
+impl IntKey for Ipv4Addr {
+    #[inline(always)]
+    fn number(&self) -> u64 {
+        u64::from(self.to_bits())
+    }
+}
+
+/// Makes an integer that isn't zero a key.
+macro_rules! nonzero {
+    ($($key:ident)*) => { $(
+        /// It has the number of the integer that it is.
+        ///
+        /// ```
+        #[doc = concat!("use std::num::", stringify!($key), ";")]
+        /// use intmap_proved::IntKey;
+        ///
+        #[doc = concat!("let most = ", stringify!($key), "::MAX;")]
+        /// assert_eq!(most.number(), most.get().number());
+        /// ```
+        impl IntKey for $key {
+            #[inline(always)]
+            fn number(&self) -> u64 {
+                self.get().number()
+            }
+        }
+    )* };
+}
+
+nonzero! {
+    NonZeroU8 NonZeroU16 NonZeroU32 NonZeroU64 NonZeroUsize
+    NonZeroI8 NonZeroI16 NonZeroI32 NonZeroI64 NonZeroIsize
+}
+
+/// It has the number of the key that it wraps.
+///
+/// ```
+/// use intmap_proved::IntKey;
+/// use std::num::Wrapping;
+///
+/// assert_eq!((Wrapping(250u8) + Wrapping(7)).number(), 1);
+/// ```
+impl<K: IntKey> IntKey for Wrapping<K> {
+    #[inline(always)]
+    fn number(&self) -> u64 {
+        self.0.number()
+    }
+}

@@ -1,4 +1,4 @@
-//! A hash map and a set for integer keys, whose code is proved.
+//! A hash map and a set for integer keys with a core that is proved, call by call.
 //!
 //! ```
 //! use intmap_proved::IntMap;
@@ -20,15 +20,16 @@
 //!
 //! # What is proved
 //!
-//! The code of [`IntMap`] and [`IntSet`] is written in Rattle, Rust with contracts that a prover
+//! The core of [`IntMap`] and [`IntSet`] is written in Rattle, Rust with contracts that a prover
 //! checks. A tool erases the contracts, and what is left is the private module `proved` of this
-//! crate. Each call of the map is proved against its contract there: what it returns, which pairs
-//! the map then has and in which order, its capacity, when the call fails, and that a failed call
-//! leaves the map as it was. The README names what a reader trusts beside the proof.
+//! crate. Each call there is proved against its contract: what it returns, which pairs the map then
+//! has and in which order, its capacity, when the call fails, and that a failed call leaves the map
+//! as it was. The README names what a reader trusts beside the proof, and has a table of the calls of
+//! this crate that are one proved call, and of those that have code by hand.
 //!
-//! Not proved, but tested: mutable references to the values one by one, which [`IntMap::iter_mut`],
-//! [`IntMap::values_mut`] and `&mut map` hand out; what mends a map after a panic; and this crate's
-//! calls over the proved ones, a few lines each.
+//! Not proved, but tested: mutable references to several values, which [`IntMap::iter_mut`],
+//! [`IntMap::values_mut`], `&mut map` and [`IntMap::get_disjoint_mut`] hand out; what mends a map
+//! after a panic; and that code by hand, a few lines a call.
 //!
 //! # Failed allocations
 //!
@@ -36,9 +37,10 @@
 //! do: if an allocation fails, it calls `handle_alloc_error`, which ends the process, and if the
 //! map would need more than 2^63 slots, it panics. The message of the former names the size of one
 //! word, whatever was requested. [`try_insert`](IntMap::try_insert) returns the failure and hands
-//! the value back, and the map is as it was. The operators of sets, such as `|`, have the first
-//! form alone; [`IntSet::try_from_iter`] of the members stands for the other. All other calls
-//! allocate nothing: lookups, removals, `retain`, `clear`, and all iterators.
+//! the value back, and the map is as it was. The operators of sets, such as `|`, and `clone_from`
+//! have the first form alone; [`IntSet::try_from_iter`] of the members and
+//! [`try_clone`](IntMap::try_clone) stand for the other. All other calls allocate nothing: lookups,
+//! removals, `retain`, `clear`, and all iterators.
 //!
 //! ```
 //! use intmap_proved::{Cause, IntMap};
@@ -56,7 +58,8 @@
 //! A closure, a `drop`, a `clone`, an iterator or a key's `number` may panic in the middle of a
 //! call. The map is then whole: each of its pairs is found, walked and counted once, and no value
 //! is dropped twice. What the call did before stays done, and the pairs that it had in hand are
-//! dropped. [`IntKey`] says what a type of keys owes.
+//! dropped: if a key's `number` panics as the map grows, those of one slot at most, and those for
+//! which there is no memory to move them back. [`IntKey`] says what a type of keys owes.
 //!
 //! # Threads
 //!
@@ -91,6 +94,7 @@ compile_error!("intmap_proved is for targets that are 64 bits wide");
 
 extern crate alloc;
 
+mod declared;
 mod entry;
 mod guard;
 pub mod iter;
@@ -101,9 +105,11 @@ pub mod original;
 #[rustfmt::skip]
 mod proved;
 mod refusal;
+mod room;
 pub mod set;
 mod traits;
 
+pub use declared::scramble;
 pub use entry::{Entry, OccupiedEntry, VacantEntry};
 pub use key::IntKey;
 pub use map::IntMap;

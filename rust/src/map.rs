@@ -6,6 +6,7 @@ use crate::refusal::{Cause, granted};
 
 mod insert;
 mod many;
+mod room;
 mod size;
 mod walk;
 
@@ -15,7 +16,8 @@ mod walk;
 /// slot: two keys share one exactly if their numbers are equal modulo the capacity. Iteration goes
 /// through the slots in turn, and through each from front to back. So order and capacity depend on
 /// the calls alone: there is no random seed, and the same calls give the same order on every run.
-/// No call makes the capacity smaller.
+/// Only [`shrink_to`](IntMap::shrink_to) and [`shrink_to_fit`](IntMap::shrink_to_fit) make the
+/// capacity smaller.
 ///
 /// # Cost
 ///
@@ -86,7 +88,7 @@ impl<K: IntKey, V> IntMap<K, V> {
     /// and at least 2.
     ///
     /// The load factor isn't considered, so the insertion of `capacity` pairs may still double the
-    /// slots.
+    /// slots; [`with_room_for`](IntMap::with_room_for) considers it.
     ///
     /// A failed allocation is handled as std does; [`try_with_capacity`](IntMap::try_with_capacity)
     /// returns it. The cost is *O*(*c*).
@@ -161,6 +163,33 @@ impl<K: IntKey, V> IntMap<K, V> {
     #[inline]
     pub fn get_mut(&mut self, key: K) -> Option<&mut V> {
         self.map.get_mut(key)
+    }
+
+    /// Returns mutable references to the values of several keys at once, each `None` if its key is
+    /// absent. The cost is *O*(*s*) for each of the *m* keys, and *O*(*m* log *m*).
+    ///
+    /// # Panics
+    ///
+    /// If two of the keys are equal and present.
+    ///
+    /// # Examples
+    ///
+    /// ```
+    /// use intmap_proved::IntMap;
+    ///
+    /// let mut map = IntMap::from([(21u64, 1), (22, 2)]);
+    /// if let [Some(one), Some(other), None] = map.get_disjoint_mut([22, 21, 23]) {
+    ///     std::mem::swap(one, other);
+    /// }
+    /// assert_eq!((map[21], map[22]), (2, 1));
+    /// ```
+    ///
+    /// ```should_panic
+    /// let mut map = intmap_proved::IntMap::from([(21u64, 1)]);
+    /// map.get_disjoint_mut([21, 21]);
+    /// ```
+    pub fn get_disjoint_mut<const N: usize>(&mut self, keys: [K; N]) -> [Option<&mut V>; N] {
+        self.map.get_disjoint_mut(keys)
     }
 
     /// Returns references to the key in the map and to its value, or `None` if the key is absent.

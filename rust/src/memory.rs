@@ -1,4 +1,5 @@
-//! What the proved code takes from Rattle's std and Rust's doesn't have: allocations that may fail.
+//! What the proved code takes from Rattle's std and Rust's doesn't have: allocations that may fail, and
+//! what older compilers lack.
 //!
 //! Rust's `Vec` and `Clone` end the process if an allocation fails. Rattle's return an error. These
 //! stand in for them, over Rust's own.
@@ -51,18 +52,20 @@ pub mod clone {
     }
 }
 
-/// Defaults.
-pub mod default {
-    /// A type with a default value over an allocator.
-    pub trait MadeWith<A> {
-        /// The default value.
-        fn made_with(alloc: A) -> Self;
+/// Casts of integers, which Rust has since 1.87.
+pub mod number {
+    /// A signed integer that can be cast to the unsigned one with the same bits. A newer compiler
+    /// takes Rust's own call of this name.
+    #[allow(dead_code)]
+    pub trait CastUnsigned {
+        /// The unsigned integer.
+        fn cast_unsigned(self) -> u64;
     }
 
-    impl<T: Default, A> MadeWith<A> for T {
-        #[inline]
-        fn made_with(_: A) -> T {
-            T::default()
+    impl CastUnsigned for i64 {
+        #[inline(always)]
+        fn cast_unsigned(self) -> u64 {
+            self as u64
         }
     }
 }
@@ -72,4 +75,5 @@ pub mod prelude {
     pub use super::Vec;
     pub use super::clone::Clone;
     pub(crate) use super::filled as vec;
+    pub use super::number::CastUnsigned;
 }

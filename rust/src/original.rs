@@ -21,11 +21,21 @@
 //!   variants takes them from [`intmap_proved::Entry`](crate::Entry).
 //! - A [`drain`](crate::IntMap::drain) that is dropped early leaves the pairs that it didn't
 //!   return; the original may lose them.
-//! - Iterators that borrow know how many items are left, so a map that is collected from them
-//!   begins with more slots.
+//! - Iterators know how many items are left, so a map that is collected from them begins with more
+//!   slots. The map that the original collects is made by `with_capacity(0)` and `extend`.
 //! - A capacity above 2^63 is a panic at once, or a failed `try_` call; the original allocates
 //!   until that fails.
 //! - For `serde` there is a crate of its own, `intmap_proved_serde`.
+//!
+//! ```
+//! use intmap_proved::original::IntMap;
+//!
+//! let map: IntMap<u64> = (0..9).map(|key| (key, key)).collect();
+//! let mut as_original = IntMap::with_capacity(0);
+//! as_original.extend(map.clone());
+//! assert_eq!(as_original.capacity(), 8);
+//! assert_eq!(map.into_iter().collect::<IntMap<u64>>().capacity(), 16);
+//! ```
 //!
 //! The other calls of [`IntMap`](crate::IntMap) are there too.
 

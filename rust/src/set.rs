@@ -19,9 +19,12 @@ use core::mem;
 mod combine;
 mod iter;
 mod many;
+mod room;
 mod traits;
 
-pub use iter::{Difference, Drain, Intersection, IntoIter, Iter, SymmetricDifference, Union};
+pub use iter::{
+    Difference, Drain, ExtractIf, Intersection, IntoIter, Iter, SymmetricDifference, Union,
+};
 
 /// A set of integers.
 ///
@@ -83,7 +86,7 @@ impl<K: IntKey> IntSet<K> {
     /// and at least 2.
     ///
     /// The load factor isn't considered, so the insertion of `capacity` keys may still double the
-    /// slots.
+    /// slots; [`with_room_for`](IntSet::with_room_for) considers it.
     ///
     /// A failed allocation is handled as std does; [`try_with_capacity`](IntSet::try_with_capacity)
     /// returns it. The cost is *O*(*c*).
@@ -178,6 +181,64 @@ impl<K: IntKey> IntSet<K> {
         self.set.contains(key)
     }
 
+    /// Returns a reference to the member that is equal to the key, or `None` if there is none. The
+    /// cost is *O*(*s*).
+    ///
+    /// # Examples
+    ///
+    /// ```
+    /// let set = intmap_proved::IntSet::from([21u64]);
+    /// assert_eq!((set.get(21), set.get(22)), (Some(&21), None));
+    /// ```
+    #[inline]
+    pub fn get(&self, key: K) -> Option<&K> {
+        self.set.get(key)
+    }
+
+    /// Makes the key a member in place of the member that is equal to it, which it returns. It is
+    /// then the last one of its slot.
+    ///
+    /// A failed allocation is handled as std does; [`try_replace`](IntSet::try_replace) returns it.
+    /// The cost is that of [`insert`](IntSet::insert).
+    ///
+    /// # Panics
+    ///
+    /// If the set needs more than 2^63 slots.
+    ///
+    /// # Examples
+    ///
+    /// ```
+    /// let mut set = intmap_proved::IntSet::from([21u64]);
+    /// assert_eq!((set.replace(21), set.replace(22)), (Some(21), None));
+    /// assert_eq!(set.len(), 2);
+    /// ```
+    pub fn replace(&mut self, key: K) -> Option<K> {
+        granted(self.try_replace(key))
+    }
+
+    /// The same as [`replace`](IntSet::replace), but it returns a failure.
+    ///
+    /// # Errors
+    ///
+    /// As for [`try_insert`](IntSet::try_insert).
+    ///
+    /// # Examples
+    ///
+    /// ```
+    /// use intmap_proved::{Cause, IntSet};
+    ///
+    /// assert_eq!(IntSet::new().try_replace(21u64)?, None);
+    /// # Ok::<(), Cause>(())
+    /// ```
+    pub fn try_replace(&mut self, key: K) -> Result<Option<K>, Cause> {
+        let replaced = self.get(key).copied();
+        if replaced.is_some() {
+            self.remove(key);
+        }
+        self.try_insert(key)?;
+        Ok(replaced)
+    }
+
     /// Removes the key, and returns whether it was a member. The last member of its slot takes its
     /// place. The cost is *O*(*s*).
     ///
@@ -228,60 +289,5 @@ impl<K: IntKey> IntSet<K> {
     #[inline]
     pub fn is_empty(&self) -> bool {
         self.set.is_empty()
-    }
-
-    /// Returns the number of slots, a power of two. The cost is *O*(1).
-    ///
-    /// # Examples
-    ///
-    /// ```
-    /// assert_eq!(intmap_proved::IntSet::from([21u64]).capacity(), 2);
-    /// ```
-    #[inline]
-    pub fn capacity(&self) -> usize {
-        self.set.capacity()
-    }
-
-    /// Makes the capacity at least the number of members plus `additional`, as
-    /// [`IntMap::reserve`](crate::IntMap::reserve) does.
-    ///
-    /// A failed allocation is handled as std does; [`try_reserve`](IntSet::try_reserve) returns it.
-    /// The cost is *O*(*n* + *c*), or *O*(1) if the capacity stays.
-    ///
-    /// # Panics
-    ///
-    /// If the number of members plus `additional` is above 2^63.
-    ///
-    /// # Examples
-    ///
-    /// ```
-    /// let mut set = intmap_proved::IntSet::from([21u64]);
-    /// set.reserve(4);
-    /// assert_eq!(set.capacity(), 8);
-    /// ```
-    pub fn reserve(&mut self, additional: usize) {
-        granted(self.try_reserve(additional))
-    }
-
-    /// The same as [`reserve`](IntSet::reserve), but it returns a failure.
-    ///
-    /// # Errors
-    ///
-    /// [`Cause::TooLarge`] if the number of members plus `additional` is above 2^63, and otherwise
-    /// [`Cause::Memory`] if an allocation fails. The set stays as it was.
-    ///
-    /// # Examples
-    ///
-    /// ```
-    /// use intmap_proved::{Cause, IntSet};
-    ///
-    /// let mut set = IntSet::from([21u64]);
-    /// assert_eq!(set.try_reserve(usize::MAX), Err(Cause::TooLarge));
-    /// ```
-    pub fn try_reserve(&mut self, additional: usize) -> Result<(), Cause> {
-        let guard = Mending(&mut self.set);
-        let result = guard.0.reserve(additional);
-        mem::forget(guard);
-        result
     }
 }

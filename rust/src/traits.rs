@@ -18,13 +18,29 @@ impl<K: IntKey, V> Default for IntMap<K, V> {
 /// Clones of the values, with the same order, capacity and load factor. The cost is *O*(*n* + *c*).
 /// A failed allocation is handled as std does; [`IntMap::try_clone`] returns it.
 ///
+/// `clone_from` of a map with as many slots keeps the slots and their memory. If the clone of a
+/// value panics there, the map has the pairs before that one.
+///
 /// ```
 /// let map = intmap_proved::IntMap::from([(21u64, "a".to_string())]);
-/// assert_eq!(map.clone(), map);
+/// let mut copy = map.clone();
+/// copy.remove(21);
+/// copy.clone_from(&map);
+/// assert_eq!(copy, map);
 /// ```
 impl<K: IntKey, V: Clone> Clone for IntMap<K, V> {
     fn clone(&self) -> IntMap<K, V> {
         granted(self.try_clone())
+    }
+
+    fn clone_from(&mut self, source: &IntMap<K, V>) {
+        if self.capacity() != source.capacity() {
+            *self = source.clone();
+            return;
+        }
+        self.clear();
+        granted(self.try_set_load_factor_thousandths(source.load_factor_thousandths()));
+        self.extend(source.iter().map(|(key, value)| (*key, value.clone())));
     }
 }
 

@@ -171,8 +171,8 @@ fn on_several_maps<V: Value>(map: &mut IntMap<V>, given: &Given, said: &mut Said
         Call::Extend => map.extend(pairs),
         // the iterator says how many items there are
         Call::Collect => *map = pairs.collect(),
-        // the iterator doesn't know how many
-        _ => *map = std::mem::take(map).into_iter().chain(pairs.filter(|_| true)).collect(),
+        // no iterator says how many, as `into_iter` of the original doesn't
+        _ => *map = std::mem::take(map).into_iter().chain(pairs).filter(|_| true).collect(),
     }
 }
 

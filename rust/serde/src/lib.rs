@@ -26,6 +26,13 @@
 //! the [`Cause`]. What a deserializer allocates itself, such as its error, is its own concern. An
 //! input that claims a great length makes a map request some 2 MiB at most. A longer map grows as
 //! its pairs come.
+//!
+//! # Texts from strangers
+//!
+//! Who writes a text can choose keys that share one slot. Reading *n* of them takes time in the
+//! square of *n*: a text of 1 MB took more than a second.
+//! [`int_key!`](intmap_proved::int_key) declares types of keys that are scrambled by a secret, and
+//! may derive serde's traits; the README has an example.
 #![no_std]
 #![forbid(unsafe_code)]
 #![warn(missing_docs)]

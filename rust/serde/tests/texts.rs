@@ -1,10 +1,11 @@
 //! Maps and sets as JSON and back.
 #![forbid(unsafe_code)]
 
-use intmap_proved::{IntKey, IntMap, IntSet};
+use intmap_proved::{IntKey, IntMap, IntSet, int_key};
 use intmap_proved_serde::Serde;
 use serde::{Deserialize, Serialize};
 use serde_json::{from_str, to_string};
+use std::num::NonZeroU32;
 
 #[derive(Serialize, Deserialize, PartialEq, Debug)]
 struct Stock<'a> {
@@ -72,6 +73,21 @@ impl IntKey for Article {
     }
 }
 
+int_key! {
+    #[derive(Serialize, Deserialize, Debug)]
+    struct Visitor(u64) scrambled by 0x0123_4567_89AB_CDEF;
+}
+
+#[test]
+fn keys_of_a_stranger_have_slots_of_their_own_if_scrambled() {
+    let pairs: Vec<String> = (0..1000_u64).map(|it| format!("\"{}\":true", it << 32)).collect();
+    let text = format!("{{{}}}", pairs.join(","));
+    let shared = from_str::<Serde<IntMap<u64, bool>>>(&text).expect("it is a map").0;
+    assert_eq!(shared.load(), 1, "1000 keys share a slot");
+    let scrambled = from_str::<Serde<IntMap<Visitor, bool>>>(&text).expect("it is a map").0;
+    assert!(scrambled.load() > 500 && scrambled[Visitor(7 << 32)], "{}", scrambled.load());
+}
+
 /// Whether a map and a set with these two keys, the least and the greatest of their type, are equal
 /// to those that their text is read as.
 fn come_back<K>(keys: [K; 2])
@@ -99,6 +115,9 @@ fn each_type_of_keys_comes_back() {
     come_back([i64::MIN, i64::MAX]);
     come_back([isize::MIN, isize::MAX]);
     come_back([Article(0), Article(u16::MAX)]);
+    come_back(['\0', char::MAX]);
+    come_back([NonZeroU32::MIN, NonZeroU32::MAX]);
+    come_back([Visitor(0), Visitor(u64::MAX)]);
 }
 
 #[test]

@@ -137,8 +137,7 @@ impl<'a, K: IntKey, V> VacantEntry<'a, K, V> {
     /// its slot, or while pairs move to more slots.
     #[inline]
     fn inserted(self, value: V) -> Result<proved::OccupiedEntry<'a, K, V>, Refused<V>> {
-        let (key, slot) = (*self.0.key(), self.0.slot());
-        let map = self.0.into_map();
+        let (map, key, slot) = self.0.parted();
         let guard = Mending(&mut *map);
         let result = guard.0.vacant_entry(key, slot).insert_entry(value).map(|entry| entry.place());
         mem::forget(guard);

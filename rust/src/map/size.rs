@@ -55,9 +55,10 @@ impl<K: IntKey, V> IntMap<K, V> {
 
     /// Makes the capacity at least the number of pairs plus `additional`. A greater capacity stays.
     ///
-    /// The load factor isn't considered, so later insertions may still double the slots. A failed
-    /// allocation is handled as std does; [`try_reserve`](IntMap::try_reserve) returns it. The cost
-    /// is *O*(*n* + *c*), or *O*(1) if the capacity stays.
+    /// The load factor isn't considered, so later insertions may still double the slots;
+    /// [`reserve_pairs`](IntMap::reserve_pairs) considers it. A failed allocation is handled as std
+    /// does; [`try_reserve`](IntMap::try_reserve) returns it. The cost is *O*(*n* + *c*), or *O*(1)
+    /// if the capacity stays.
     ///
     /// # Panics
     ///

@@ -1,6 +1,7 @@
 //! Two sets: what they have in common, and what not.
 use super::{Difference, IntSet, Intersection, SymmetricDifference, Union};
 use crate::IntKey;
+use crate::room::{FIRST_FACTOR, slots_for};
 use core::ops::{BitAnd, BitOr, BitXor, Sub};
 
 impl<K: IntKey> IntSet<K> {
@@ -16,7 +17,8 @@ impl<K: IntKey> IntSet<K> {
     /// assert_eq!(first.difference(&second).collect::<Vec<_>>(), [&1]);
     /// ```
     pub fn difference<'a>(&'a self, other: &'a IntSet<K>) -> Difference<'a, K> {
-        Difference { inner: self.set.difference(&other.set) }
+        let bounds = (self.len().saturating_sub(other.len()), self.len());
+        Difference { inner: self.set.difference(&other.set), bounds }
     }
 
     /// Returns an iterator over the members that both sets have, in the order of the set with fewer
@@ -32,7 +34,8 @@ impl<K: IntKey> IntSet<K> {
     /// assert_eq!(first.intersection(&second).collect::<Vec<_>>(), [&2, &3]);
     /// ```
     pub fn intersection<'a>(&'a self, other: &'a IntSet<K>) -> Intersection<'a, K> {
-        Intersection { inner: self.set.intersection(&other.set) }
+        let bounds = (0, self.len().min(other.len()));
+        Intersection { inner: self.set.intersection(&other.set), bounds }
     }
 
     /// Returns an iterator over the members of either set, each once. It first returns the members
@@ -48,7 +51,8 @@ impl<K: IntKey> IntSet<K> {
     /// assert_eq!(first.union(&second).collect::<Vec<_>>(), [&1, &2, &3, &4]);
     /// ```
     pub fn union<'a>(&'a self, other: &'a IntSet<K>) -> Union<'a, K> {
-        Union { inner: self.set.union(&other.set) }
+        let bounds = (self.len().max(other.len()), self.len() + other.len());
+        Union { inner: self.set.union(&other.set), bounds }
     }
 
     /// Returns an iterator over the members that exactly one of the sets has: first those that only
@@ -63,7 +67,8 @@ impl<K: IntKey> IntSet<K> {
     /// assert_eq!(first.symmetric_difference(&second).collect::<Vec<_>>(), [&1, &4]);
     /// ```
     pub fn symmetric_difference<'a>(&'a self, other: &'a IntSet<K>) -> SymmetricDifference<'a, K> {
-        SymmetricDifference { inner: self.set.symmetric_difference(&other.set) }
+        let bounds = (self.len().abs_diff(other.len()), self.len() + other.len());
+        SymmetricDifference { inner: self.set.symmetric_difference(&other.set), bounds }
     }
 
     /// Returns whether each member is one of `other`. It looks the members up in turn, up to the
@@ -108,30 +113,39 @@ impl<K: IntKey> IntSet<K> {
     }
 }
 
+/// A set of members that has room for so many from the start.
+fn made_of<'a, K: IntKey + 'a>(members: impl Iterator<Item = &'a K>, room: usize) -> IntSet<K> {
+    let mut set = IntSet::with_capacity(slots_for(room, FIRST_FACTOR));
+    set.extend(members);
+    set
+}
+
 /// Writes an operator on two sets by reference, which makes a set.
 macro_rules! operators {
-    ($($(#[$doc:meta])* $operator:ident $call:ident = $members:ident;)*) => { $(
+    ($($(#[$doc:meta])* $operator:ident $call:ident = $members:ident, $room:expr;)*) => { $(
         $(#[$doc])*
         impl<K: IntKey> $operator<&IntSet<K>> for &IntSet<K> {
             type Output = IntSet<K>;
 
             fn $call(self, other: &IntSet<K>) -> IntSet<K> {
-                self.$members(other).copied().collect()
+                let members = self.$members(other);
+                let room = $room(members.bounds);
+                made_of(members, room)
             }
         }
     )* };
 }
 
 operators! {
-    /// The members of either set, as [`union`](IntSet::union) and `collect` make them. A failed
-    /// allocation is handled as std does.
+    /// The members of either set, inserted in the order of [`union`](IntSet::union) into a set that
+    /// has room for the members of both from the start. A failed allocation is handled as std does.
     ///
     /// ```
     /// use intmap_proved::IntSet;
     ///
     /// assert_eq!(&IntSet::from([1u64, 2]) | &IntSet::from([2, 3]), IntSet::from([1, 2, 3]));
     /// ```
-    BitOr bitor = union;
+    BitOr bitor = union, |(_, most)| most;
 
     /// The members of both sets, as [`intersection`](IntSet::intersection) and `collect` make them.
     /// A failed allocation is handled as std does.
@@ -141,27 +155,27 @@ operators! {
     ///
     /// assert_eq!(&IntSet::from([1u64, 2]) & &IntSet::from([2, 3]), IntSet::from([2]));
     /// ```
-    BitAnd bitand = intersection;
+    BitAnd bitand = intersection, |(least, _)| least;
 
-    /// The members that exactly one of the sets has, as
-    /// [`symmetric_difference`](IntSet::symmetric_difference) and `collect` make them. A failed
-    /// allocation is handled as std does.
+    /// The members that exactly one of the sets has, inserted in the order of
+    /// [`symmetric_difference`](IntSet::symmetric_difference) into a set that has room for the least
+    /// number that there can be. A failed allocation is handled as std does.
     ///
     /// ```
     /// use intmap_proved::IntSet;
     ///
     /// assert_eq!(&IntSet::from([1u64, 2]) ^ &IntSet::from([2, 3]), IntSet::from([1, 3]));
     /// ```
-    BitXor bitxor = symmetric_difference;
+    BitXor bitxor = symmetric_difference, |(least, _)| least;
 
-    /// The members of the first set that are absent from the second, as
-    /// [`difference`](IntSet::difference) and `collect` make them. A failed allocation is handled as
-    /// std does.
+    /// The members of the first set that are absent from the second, inserted in the order of
+    /// [`difference`](IntSet::difference) into a set that has room for the least number that there
+    /// can be. A failed allocation is handled as std does.
     ///
     /// ```
     /// use intmap_proved::IntSet;
     ///
     /// assert_eq!(&IntSet::from([1u64, 2]) - &IntSet::from([2, 3]), IntSet::from([1]));
     /// ```
-    Sub sub = difference;
+    Sub sub = difference, |(least, _)| least;
 }

@@ -3,13 +3,14 @@ use super::IntSet;
 use crate::IntKey;
 use crate::iter::copied;
 use crate::proved::map::iter::{IntoKeys, Keys};
-use crate::proved::set::iter as proved;
+use crate::proved::set::{IntSet as Proved, iter as proved};
+use crate::proved::table::table::Progress;
 use core::fmt::{self, Debug, Formatter};
 use core::iter::FusedIterator;
 
 /// Writes an iterator that counts the members that are left.
 macro_rules! iterators {
-    ($least:expr; $(
+    ($(
         $(#[$doc:meta])*
         $name:ident [$($generics:tt)*] [$($args:tt)*] $inner:ty => $item:ty;
     )*) => { $(
@@ -25,22 +26,23 @@ macro_rules! iterators {
 
             #[inline]
             fn next(&mut self) -> Option<$item> {
-                let item = self.inner.next()?;
                 self.left = self.left.saturating_sub(1);
-                Some(item)
+                self.inner.next()
             }
 
             #[inline]
             fn size_hint(&self) -> (usize, Option<usize>) {
-                ($least(self.left), Some(self.left))
+                (self.left, Some(self.left))
             }
         }
+
+        impl<$($generics)*> ExactSizeIterator for $name<$($args)*> {}
 
         impl<$($generics)*> FusedIterator for $name<$($args)*> {}
     )* };
 }
 
-iterators! { |left| left;
+iterators! {
     /// The members of a set, made by [`IntSet::iter`].
     ///
     /// ```
@@ -58,9 +60,7 @@ iterators! { |left| left;
     /// assert_eq!(set.len(), 1);
     /// ```
     Drain ['a, K: IntKey] ['a, K] proved::Drain<'a, K> => K;
-}
 
-iterators! { |_| 0;
     /// The members of a set by value, made by [`IntSet::into_iter`](IntoIterator::into_iter).
     ///
     /// ```
@@ -69,10 +69,6 @@ iterators! { |_| 0;
     /// ```
     IntoIter [K: IntKey] [K] IntoKeys<K, ()> => K;
 }
-
-impl<K: IntKey> ExactSizeIterator for Iter<'_, K> {}
-
-impl<K: IntKey> ExactSizeIterator for Drain<'_, K> {}
 
 impl<K: IntKey> Clone for Iter<'_, K> {
     #[inline]
@@ -99,13 +95,50 @@ impl<K: IntKey> Debug for IntoIter<K> {
     }
 }
 
-/// Writes an iterator over two sets.
+/// Removes the members of a set that a closure picks, one at each step, made by
+/// [`IntSet::extract_if`].
+///
+/// ```
+/// let mut set = intmap_proved::IntSet::from([0u64, 1]);
+/// assert_eq!(set.extract_if(|key| key > 0).next(), Some(1));
+/// ```
+#[must_use = "iterators are lazy and do nothing unless consumed"]
+pub struct ExtractIf<'a, K: IntKey, F> {
+    pub(super) set: &'a mut Proved<K>,
+    pub(super) at: Progress,
+    pub(super) pick: F,
+}
+
+impl<K: IntKey, F: FnMut(K) -> bool> Iterator for ExtractIf<'_, K, F> {
+    type Item = K;
+
+    #[inline]
+    fn next(&mut self) -> Option<K> {
+        self.set.extract_next(&mut self.at, &mut self.pick)
+    }
+
+    #[inline]
+    fn size_hint(&self) -> (usize, Option<usize>) {
+        (0, Some(self.set.len() - self.at.passed))
+    }
+}
+
+impl<K: IntKey, F: FnMut(K) -> bool> FusedIterator for ExtractIf<'_, K, F> {}
+
+impl<K: IntKey, F> Debug for ExtractIf<'_, K, F> {
+    fn fmt(&self, f: &mut Formatter<'_>) -> fmt::Result {
+        f.debug_struct("ExtractIf").finish_non_exhaustive()
+    }
+}
+
+/// Writes an iterator over two sets. It knows how many members are left at least, and at most.
 macro_rules! combined {
     ($($(#[$doc:meta])* $name:ident;)*) => { $(
         $(#[$doc])*
         #[must_use = "iterators are lazy and do nothing unless consumed"]
         pub struct $name<'a, K: IntKey> {
             pub(super) inner: proved::$name<'a, K>,
+            pub(super) bounds: (usize, usize),
         }
 
         impl<'a, K: IntKey> Iterator for $name<'a, K> {
@@ -113,7 +146,18 @@ macro_rules! combined {
 
             #[inline]
             fn next(&mut self) -> Option<&'a K> {
-                self.inner.next()
+                let key = self.inner.next();
+                let (least, most) = self.bounds;
+                self.bounds = match key {
+                    Some(_) => (least.saturating_sub(1), most.saturating_sub(1)),
+                    None => (0, 0),
+                };
+                key
+            }
+
+            #[inline]
+            fn size_hint(&self) -> (usize, Option<usize>) {
+                (self.bounds.0, Some(self.bounds.1))
             }
         }
 
@@ -121,7 +165,7 @@ macro_rules! combined {
 
         impl<K: IntKey> Clone for $name<'_, K> {
             fn clone(&self) -> Self {
-                $name { inner: copied(&self.inner) }
+                $name { inner: copied(&self.inner), bounds: self.bounds }
             }
         }
 

@@ -1,5 +1,6 @@
 //! Calls on many members.
-use super::{Cause, Drain, Global, IntKey, IntSet, Iter, Mending, Proved, mem};
+use super::{Cause, Drain, ExtractIf, Global, IntKey, IntSet, Iter, Mending, Proved, mem};
+use crate::proved::table::table::Progress;
 use crate::refusal::RefusedPair;
 
 impl<K: IntKey> IntSet<K> {
@@ -63,6 +64,24 @@ impl<K: IntKey> IntSet<K> {
     /// ```
     pub fn drain(&mut self) -> Drain<'_, K> {
         Drain { left: self.len(), inner: self.set.drain() }
+    }
+
+    /// Returns an iterator that removes the members for which `pick` returns `true`, one at each
+    /// step, and returns them, in iteration order.
+    ///
+    /// `pick` is called once for each member, and only as the iterator goes on. If the iterator is
+    /// dropped early or forgotten, the members that it didn't reach stay. All steps together cost
+    /// *O*(*n s* + *c*) beside the calls of `pick`; [`retain`](IntSet::retain) costs *O*(*n* + *c*).
+    ///
+    /// # Examples
+    ///
+    /// ```
+    /// let mut set = intmap_proved::IntSet::from([0u64, 1, 2]);
+    /// assert_eq!(set.extract_if(|key| key > 0).collect::<Vec<_>>(), [1, 2]);
+    /// assert_eq!(set.len(), 1);
+    /// ```
+    pub fn extract_if<F: FnMut(K) -> bool>(&mut self, pick: F) -> ExtractIf<'_, K, F> {
+        ExtractIf { set: &mut self.set, at: Progress::start(), pick }
     }
 
     /// Inserts each key in turn, as [`insert`](IntSet::insert) does, up to the first one that

@@ -16,7 +16,8 @@ impl<K: IntKey> Default for IntSet<K> {
 }
 
 /// The same members in the same order, with the same capacity. [`IntSet::try_clone`] returns a
-/// failure. The cost is *O*(*n* + *c*).
+/// failure. The cost is *O*(*n* + *c*). `clone_from` of a set with as many slots keeps the slots and
+/// their memory.
 ///
 /// ```
 /// let set = intmap_proved::IntSet::from([21u64]);
@@ -25,6 +26,15 @@ impl<K: IntKey> Default for IntSet<K> {
 impl<K: IntKey> Clone for IntSet<K> {
     fn clone(&self) -> IntSet<K> {
         granted(self.try_clone())
+    }
+
+    fn clone_from(&mut self, source: &IntSet<K>) {
+        if self.capacity() != source.capacity() {
+            *self = source.clone();
+            return;
+        }
+        self.clear();
+        self.extend(source);
     }
 }
 

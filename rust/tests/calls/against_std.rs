@@ -58,7 +58,7 @@ impl Both {
     fn extract(&mut self, divisor: u64, most: usize) {
         let picked = |key: u64, value: &mut String| {
             value.push('!');
-            key.is_multiple_of(divisor)
+            key % divisor == 0
         };
         let order: Vec<u64> = self.map.keys().copied().collect();
         let gone: Vec<(u64, String)> = self.map.extract_if(picked).take(most).collect();

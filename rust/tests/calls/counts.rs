@@ -256,9 +256,10 @@ impl Plain {
 type Due = fn(&mut Plain, u64) -> u64;
 type Call = (&'static str, Due, fn(&mut Map, Key));
 
-const CALLS: [Call; 38] = [
+const CALLS: [Call; 39] = [
     ("get", Plain::find, |map, key| _ = map.get(key)),
     ("get_mut", Plain::find, |map, key| _ = map.get_mut(key)),
+    ("get_disjoint_mut", Plain::find, |map, key| _ = map.get_disjoint_mut([key])),
     ("contains_key", Plain::find, |map, key| _ = map.contains_key(key)),
     ("get_key_value", Plain::find, |map, key| _ = map.get_key_value(key)),
     ("map[key]", Plain::find, |map, key| {
@@ -525,7 +526,8 @@ fn equality_searches_each_key_up_to_the_first_difference() {
 
 type SetCall = (&'static str, Due, fn(&mut Set, Key));
 
-const SET_CALLS: [SetCall; 10] = [
+const SET_CALLS: [SetCall; 11] = [
+    ("get", Plain::find, |set, key| _ = set.get(key)),
     ("contains", Plain::find, |set, key| _ = set.contains(key)),
     ("remove", Plain::find, |set, key| _ = set.remove(key)),
     ("take", Plain::find, |set, key| _ = set.take(key)),
@@ -601,11 +603,12 @@ type Combined = (
     Walk,
     fn(&Set, &Set) -> String,
     fn(&Set, &Set) -> Set,
+    fn(usize, usize) -> usize,
 );
 
 /// Four ways to combine two sets: what a walk is due to, that walk, the text of a second iterator
-/// over it, and the set that an operator makes of it. Which of the sets is searched is the way of
-/// the code.
+/// over it, the set that an operator makes of it, and for how many members that has room from the
+/// start. Which of the sets is searched is the way of the code.
 const COMBINED: [Combined; 4] = [
     (
         "difference",
@@ -613,6 +616,7 @@ const COMBINED: [Combined; 4] = [
         |one, other| one.difference(other).map(|it| it.0).collect(),
         |one, other| format!("{:?}", one.difference(other).clone()),
         |one, other| one - other,
+        usize::saturating_sub,
     ),
     (
         "intersection",
@@ -620,6 +624,7 @@ const COMBINED: [Combined; 4] = [
         |one, other| one.intersection(other).map(|it| it.0).collect(),
         |one, other| format!("{:?}", one.intersection(other).clone()),
         |one, other| one & other,
+        |_, _| 0,
     ),
     (
         "union",
@@ -627,6 +632,7 @@ const COMBINED: [Combined; 4] = [
         |one, other| one.union(other).map(|it| it.0).collect(),
         |one, other| format!("{:?}", one.union(other).clone()),
         |one, other| one | other,
+        |one, other| one + other,
     ),
     (
         "symmetric_difference",
@@ -634,6 +640,7 @@ const COMBINED: [Combined; 4] = [
         |one, other| one.symmetric_difference(other).map(|it| it.0).collect(),
         |one, other| format!("{:?}", one.symmetric_difference(other).clone()),
         |one, other| one ^ other,
+        usize::abs_diff,
     ),
 ];
 
@@ -665,12 +672,14 @@ fn calls_of_two_sets_read_the_sum_of_their_searches() {
         for numbers in [&quarters, &list, &vec![0, 4, 77]] {
             let (one, other) = (set_of(&list), set_of(numbers));
             let (plain, with) = (Plain::of_set(&one), Plain::of_set(&other));
-            for (name, due, walk, text, make) in COMBINED {
+            for (name, due, walk, text, make, room) in COMBINED {
                 let due = due(&plain, &with);
                 let members = walk(&one, &other);
                 assert_eq!(reads_of(|| walk(&one, &other)), due, "{name}, {list:?}, {numbers:?}");
                 assert_eq!(reads_of(|| text(&one, &other)), due, "text of {name}, {list:?}");
-                let due = due + Plain::new(2).add_all(&members);
+                let room = room(one.len(), other.len()) * 1000 / 910 + 1;
+                let mut made = Plain::new(room.max(2).next_power_of_two());
+                let due = due + made.add_all(&members);
                 assert_eq!(reads_of(|| make(&one, &other)), due, "operator of {name}, {list:?}");
             }
             for (name, due, question) in QUESTIONS {

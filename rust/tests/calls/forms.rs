@@ -228,7 +228,7 @@ fn random_calls_do_the_same_in_each_form_of_slots() {
         let mut maps = [lone(), shared(), once_lone()];
         for _ in 0..100 {
             let (key, number) = (random.below(48), random.next());
-            let key = if number.is_multiple_of(29) { beside(key) } else { key };
+            let key = if number % 29 == 0 { beside(key) } else { key };
             let said = maps.each_mut().map(|map| match number % 9 {
                 0..3 => map.insert(key, number),
                 3..5 => map.remove(key),

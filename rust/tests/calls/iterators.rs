@@ -1,5 +1,5 @@
 //! What iterators say of themselves, and how they end.
-use intmap_proved::IntMap;
+use intmap_proved::{IntMap, IntSet, original};
 use std::iter::FusedIterator;
 
 fn three() -> IntMap<u64, char> {
@@ -29,29 +29,26 @@ fn borrowing_iterators_know_how_many_are_left() {
     counts_down("drain", map.drain());
 }
 
-/// Takes an iterator of three items to its end, and past it.
-fn ends<I: FusedIterator>(name: &str, mut items: I) {
-    assert_eq!(items.by_ref().count(), 3, "{name}");
-    assert!(items.next().is_none() && items.next().is_none(), "{name} stays at its end");
+#[test]
+fn owning_iterators_know_how_many_are_left() {
+    counts_down("into_iter", three().into_iter());
+    counts_down("into_keys", three().into_keys());
+    counts_down("into_values", three().into_values());
+    counts_down("into_iter of a set", IntSet::from([0_u64, 4, 8]).into_iter());
+    counts_down("drain of a set", IntSet::from([0_u64, 4, 8]).drain());
 }
 
 #[test]
-fn owning_iterators_stay_at_their_end() {
-    ends("into_iter", three().into_iter());
-    ends("into_keys", three().into_keys());
-    ends("into_values", three().into_values());
-}
-
-#[test]
-fn a_map_that_is_collected_again_has_the_capacity_of_the_original() {
+fn a_map_that_is_collected_again_has_slots_for_the_length_that_was_said() {
     let mut large = IntMap::with_capacity(1000);
     large.extend((0..9).map(|key| (key, key)));
-    let pairs: Vec<(u64, u64)> = large.drain().collect();
-    large.extend(pairs.iter().copied());
-    let again: IntMap<u64, u64> = large.into_iter().collect();
-    assert_eq!((again.len(), again.capacity()), (9, 8), "no length was said");
-    let from_vector: IntMap<u64, u64> = pairs.into_iter().collect();
-    assert_eq!((from_vector.len(), from_vector.capacity()), (9, 16), "9 were said");
+    let again = |map: IntMap<u64, u64>| map.capacity();
+    assert_eq!(again(large.clone().into_iter().collect()), 16, "9 were said");
+    assert_eq!(again(large.clone().drain().collect()), 16, "9 were said");
+    assert_eq!(again(large.clone().into_iter().filter(|_| true).collect()), 8, "none was said");
+    let mut as_original = original::IntMap::with_capacity(0);
+    as_original.extend(large);
+    assert_eq!((as_original.len(), as_original.capacity()), (9, 8));
 }
 
 #[test]

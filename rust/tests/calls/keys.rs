@@ -1,9 +1,14 @@
 //! Each type of keys beside std's maps and sets, and a type of the program's own.
 use crate::random::Random;
-use intmap_proved::{IntKey, IntMap, IntSet};
+use intmap_proved::{IntKey, IntMap, IntSet, int_key, scramble};
 use std::collections::{HashMap, HashSet};
 use std::fmt::Debug;
 use std::hash::Hash;
+use std::net::Ipv4Addr;
+use std::num::{
+    NonZeroI8, NonZeroI16, NonZeroI32, NonZeroI64, NonZeroIsize, NonZeroU8, NonZeroU16, NonZeroU32,
+    NonZeroU64, NonZeroUsize, Wrapping,
+};
 
 const CALLS: u64 = 20_000;
 
@@ -67,12 +72,141 @@ fn beside_std<K: IntKey + Hash + Debug>(name: &str, key_of: fn(u64) -> K) {
 }
 
 macro_rules! beside_std {
-    ($($key:ty)*) => { $( beside_std::<$key>(stringify!($key), |bits| bits as $key); )* };
+    ($($key:ty)*) => { $(
+        beside_std::<$key>(stringify!($key), |bits| bits as $key);
+        beside_std::<Wrapping<$key>>(stringify!(Wrapping<$key>), |bits| Wrapping(bits as $key));
+    )* };
+}
+
+macro_rules! nonzero_beside_std {
+    ($($key:ident)*) => { $(
+        beside_std::<$key>(stringify!($key), |bits| $key::new(bits as _).unwrap_or($key::MAX));
+    )* };
+}
+
+/// A code point near 0 for a number near 0, and one near the greatest for the others.
+fn char_of(bits: u64) -> char {
+    let last = char::MAX as u64;
+    let point = if bits < last { bits } else { last - !bits };
+    char::from_u32(point as u32).expect("no surrogate is so near to either end")
 }
 
 #[test]
 fn each_type_of_keys_returns_what_std_returns() {
     beside_std!(u8 u16 u32 u64 usize i8 i16 i32 i64 isize);
+    nonzero_beside_std! {
+        NonZeroU8 NonZeroU16 NonZeroU32 NonZeroU64 NonZeroUsize
+        NonZeroI8 NonZeroI16 NonZeroI32 NonZeroI64 NonZeroIsize
+    }
+    beside_std("bool", |bits| bits & 1 == 1);
+    beside_std("char", char_of);
+    beside_std("an address", |bits| Ipv4Addr::from_bits(bits as u32));
+}
+
+/// Checks that no two of these keys have one number.
+fn distinct<K: IntKey>(name: &str, keys: impl Iterator<Item = K>) {
+    let mut numbers: Vec<u64> = keys.map(|it| it.number()).collect();
+    let all = numbers.len();
+    numbers.sort_unstable();
+    numbers.dedup();
+    assert_eq!(numbers.len(), all, "{name}");
+}
+
+#[test]
+fn each_key_has_a_number_of_its_own() {
+    distinct("bool", [false, true].into_iter());
+    distinct("char", '\0'..=char::MAX);
+    distinct("i8", i8::MIN..=i8::MAX);
+    distinct("i16", i16::MIN..=i16::MAX);
+    distinct("Wrapping", (i8::MIN..=i8::MAX).map(Wrapping));
+    distinct("NonZeroI16", (i16::MIN..=i16::MAX).filter_map(NonZeroI16::new));
+    distinct("NonZeroU16", (1..=u16::MAX).filter_map(NonZeroU16::new));
+    let bytes = [0, 1, 2, 127, 128, 255];
+    let addresses = bytes.map(|a| bytes.map(|b| bytes.map(|c| bytes.map(|d| [a, b, c, d]))));
+    let addresses = addresses.into_iter().flatten().flatten().flatten();
+    distinct("an address", addresses.map(Ipv4Addr::from));
+    distinct("a ticket", (0..1000).map(Ticket));
+}
+
+#[test]
+fn keys_have_these_numbers() {
+    let most = u64::MAX;
+    let numbers = [
+        ("bool", true.number(), 1),
+        ("char", char::MAX.number(), 0x10_FFFF),
+        ("NonZeroU8", NonZeroU8::MAX.number(), 255),
+        ("NonZeroU64", NonZeroU64::MAX.number(), most),
+        ("NonZeroI8", NonZeroI8::MIN.number(), most - 127),
+        ("NonZeroIsize", NonZeroIsize::MIN.number(), 1 << 63),
+        ("Wrapping<u32>", Wrapping(u32::MAX).number(), 0xFFFF_FFFF),
+        ("Wrapping<i16>", Wrapping(-2i16).number(), most - 1),
+        ("an address", Ipv4Addr::new(1, 2, 3, 4).number(), 0x0102_0304),
+        ("a day", Day(-1).number(), most),
+    ];
+    for (name, number, wanted) in numbers {
+        assert_eq!(number, wanted, "{name}");
+    }
+}
+
+int_key! {
+    /// Declared by the macro, with more derived traits.
+    #[derive(Debug, Hash)]
+    pub struct Ticket(u32);
+
+    #[derive(Debug, Hash)]
+    struct Day(pub i16);
+}
+
+const SECRET: u64 = 0x0123_4567_89AB_CDEF;
+
+int_key! {
+    #[derive(Debug, Hash)]
+    struct Visitor(u64) scrambled by SECRET;
+
+    #[derive(Debug, Hash)]
+    struct Hour(NonZeroI8) scrambled by SECRET + 1;
+}
+
+#[test]
+fn declared_types_are_keys() {
+    beside_std("a ticket", |bits| Ticket(bits as u32));
+    beside_std("a day", |bits| Day(bits as i16));
+    beside_std("a visitor", Visitor);
+    beside_std("an hour", |bits| Hour(NonZeroI8::new(bits as i8).unwrap_or(NonZeroI8::MAX)));
+}
+
+/// The number that a secret scrambled to this one.
+fn unscrambled(scrambled: u64, secret: u64) -> u64 {
+    let mut bits = scrambled ^ scrambled >> 31 ^ scrambled >> 62;
+    bits = bits.wrapping_mul(0x3196_42B2_D24D_8EC3);
+    bits = (bits ^ bits >> 27 ^ bits >> 54).wrapping_mul(0x96DE_1B17_3F11_9089);
+    bits ^ bits >> 30 ^ bits >> 60 ^ secret
+}
+
+#[test]
+fn each_scrambled_number_comes_from_one_number() {
+    let mut random = Random(13);
+    for secret in [0, 1, u64::MAX, SECRET] {
+        for number in (0..1000).chain((0..1000).map(|it| it << 32)).chain([u64::MAX]) {
+            let number = number ^ random.next() & random.below(2).wrapping_neg();
+            assert_eq!(unscrambled(scramble(number, secret), secret), number, "by {secret}");
+            let key = Visitor(number);
+            assert_eq!(unscrambled(key.number(), SECRET), number);
+        }
+    }
+    assert_eq!(scramble(1, 0), 0x5692_161D_100B_05E5, "as SplitMix64 has it");
+}
+
+#[test]
+fn scrambled_keys_with_equal_low_bits_have_slots_of_their_own() {
+    for zeros in [12, 32, 44] {
+        let keys = (0..1000).map(|key| key << zeros);
+        let plain: IntSet<u64> = keys.clone().collect();
+        let scrambled: IntMap<Visitor, ()> = keys.map(|key| (Visitor(key), ())).collect();
+        let largest = scrambled.collisions().keys().copied().max();
+        assert!(largest < Some(10), "{largest:?} keys share a slot, {zeros} zeros");
+        assert_eq!(plain.len(), scrambled.len());
+    }
 }
 
 #[test]

@@ -4,6 +4,7 @@
 mod against_std;
 mod carried;
 mod counts;
+mod disjoint;
 mod entries;
 mod figures;
 mod forms;
@@ -12,6 +13,7 @@ mod keys;
 mod order;
 #[path = "../shared/random.rs"]
 mod random;
+mod room;
 mod rows;
 mod sets;
 mod texts;

@@ -1,6 +1,6 @@
 //! Sets, beside those of std.
 use crate::random::Random;
-use intmap_proved::IntSet;
+use intmap_proved::{IntKey, IntSet};
 use std::collections::HashSet;
 
 const CALLS: u32 = 40_000;
@@ -33,7 +33,14 @@ fn call(set: &mut IntSet<i64>, plain: &mut HashSet<i64>, random: &mut Random, ke
             set.extend(more.clone());
             plain.extend(more);
         }
-        5..800 => assert_eq!(set.insert(key), plain.insert(key), "insert {key}"),
+        5 => {
+            let gone: Vec<i64> = set.extract_if(|it| it % 5 == 0).collect();
+            assert!(gone.iter().all(|it| it % 5 == 0 && plain.remove(it)), "{gone:?}");
+            assert!(plain.iter().all(|it| it % 5 != 0), "{gone:?}");
+        }
+        6..100 => assert_eq!(set.replace(key), plain.replace(key), "replace {key}"),
+        100..800 => assert_eq!(set.insert(key), plain.insert(key), "insert {key}"),
+        1400..1500 => assert_eq!(set.get(key), plain.get(&key), "get {key}"),
         800..1400 => assert_eq!(set.remove(key), plain.remove(&key), "remove {key}"),
         _ => assert_eq!(set.contains(key), plain.contains(&key), "contains {key}"),
     }
@@ -92,11 +99,98 @@ fn sets_are_combined_as_those_of_std() {
 
 #[test]
 fn sets_are_combined_by_operators() {
-    let (one, other) = (IntSet::from([1_u8, 2, 3]), IntSet::from([2, 3, 4]));
-    assert_eq!(&one | &other, IntSet::from([1, 2, 3, 4]));
-    assert_eq!(&one & &other, IntSet::from([2, 3]));
-    assert_eq!(&one - &other, IntSet::from([1]));
-    assert_eq!(&one ^ &other, IntSet::from([1, 4]));
+    let mut random = Random(8);
+    for _ in 0..300 {
+        let (one, plain_one) = random_sets(&mut random, 60);
+        let (other, plain_other) = random_sets(&mut random, 60);
+        let combined = [
+            ("|", &one | &other, &plain_one | &plain_other),
+            ("&", &one & &other, &plain_one & &plain_other),
+            ("-", &one - &other, &plain_one - &plain_other),
+            ("^", &one ^ &other, &plain_one ^ &plain_other),
+        ];
+        for (name, set, plain) in combined {
+            assert_eq!(sorted(set.iter()), sorted(plain.iter()), "{one:?} {name} {other:?}");
+        }
+    }
+}
+
+/// Checks the bounds at each step of an iterator and of its clones. Returns the first ones.
+fn bounds<'a>(members: impl Iterator<Item = &'a i64> + Clone, text: &str) -> (usize, usize) {
+    let first = members.size_hint();
+    let mut members = members;
+    loop {
+        let left = members.clone().count();
+        let (least, most) = members.size_hint();
+        assert_eq!(members.clone().size_hint(), (least, most), "a clone, {text}");
+        assert!(least <= left && most.is_some_and(|most| left <= most), "{left} left, {text}");
+        if members.next().is_none() {
+            assert_eq!(members.size_hint(), (0, Some(0)), "{text}");
+            return (first.0, first.1.expect("there is an upper bound"));
+        }
+    }
+}
+
+#[test]
+fn iterators_over_two_sets_bound_what_is_left() {
+    let mut random = Random(9);
+    for _ in 0..300 {
+        let keys = 1 + random.below(60);
+        let (one, _) = random_sets(&mut random, keys);
+        let (other, _) = random_sets(&mut random, keys);
+        let text = format!("{one:?} and {other:?}");
+        let (few, many) = (one.len().min(other.len()), one.len().max(other.len()));
+        assert_eq!(bounds(one.union(&other), &text), (many, many + few));
+        assert_eq!(bounds(one.intersection(&other), &text), (0, few));
+        let least = one.len().saturating_sub(other.len());
+        assert_eq!(bounds(one.difference(&other), &text), (least, one.len()));
+        let either = bounds(one.symmetric_difference(&other), &text);
+        assert_eq!(either, (many - few, many + few));
+    }
+}
+
+/// A key that carries a number which its equality ignores.
+#[derive(Clone, Copy, Debug)]
+struct Labelled(u64, char);
+
+impl PartialEq for Labelled {
+    fn eq(&self, other: &Labelled) -> bool {
+        self.0 == other.0
+    }
+}
+
+impl Eq for Labelled {}
+
+impl IntKey for Labelled {
+    fn number(&self) -> u64 {
+        self.0
+    }
+}
+
+#[test]
+fn a_replaced_member_is_the_new_one() {
+    let mut set = IntSet::new();
+    assert!(set.insert(Labelled(0, 'a')) && set.insert(Labelled(8, 'b')));
+    let label = |set: &IntSet<Labelled>, key| set.get(Labelled(key, '?')).map(|it| it.1);
+    assert!(!set.insert(Labelled(0, 'c')));
+    assert_eq!((label(&set, 0), label(&set, 8), label(&set, 4)), (Some('a'), Some('b'), None));
+    assert_eq!(set.replace(Labelled(0, 'd')).map(|it| it.1), Some('a'));
+    assert_eq!(set.replace(Labelled(4, 'e')).map(|it| it.1), None);
+    assert_eq!((label(&set, 0), label(&set, 4), set.len()), (Some('d'), Some('e'), 3));
+}
+
+#[test]
+fn members_that_are_not_reached_by_extract_if_stay() {
+    let mut set: IntSet<u64> = (0..9).map(|key| key << 3).collect();
+    let before: Vec<u64> = set.iter().copied().collect();
+    let mut picked = set.extract_if(|key| key == before[1] || key == before[7]);
+    assert_eq!((picked.size_hint(), picked.next()), ((0, Some(9)), Some(before[1])));
+    assert_eq!(picked.size_hint(), (0, Some(7)));
+    drop(picked);
+    let left: Vec<u64> = before.iter().copied().filter(|it| *it != before[1]).collect();
+    assert!(set.iter().eq(&left), "{set:?} from {before:?}");
+    assert!(set.extract_if(|_| false).next().is_none());
+    assert!(set.extract_if(|_| true).eq(left) && set.is_empty());
 }
 
 #[test]

@@ -223,7 +223,7 @@ fn page(number: u64) -> Page {
 #[test]
 fn values_of_four_kilobytes_stay_whole() {
     // every third key shares a slot with others
-    let key_of = |number: u64| if number.is_multiple_of(3) { number << 20 } else { number };
+    let key_of = |number: u64| if number % 3 == 0 { number << 20 } else { number };
     let mut map: IntMap<u64, Page> = (0..200).map(|it| (key_of(it), page(it))).collect();
     for number in 0..200 {
         assert_eq!(map.insert(key_of(number), page(number + 1)), Some(page(number)), "{number}");

@@ -11,7 +11,7 @@ fn map_of(shift: u32) -> IntMap<u64, Value> {
 
 pub type Call = fn(&mut IntMap<u64, Value>);
 
-pub const CALLS: [(&str, Call); 9] = [
+pub const CALLS: [(&str, Call); 10] = [
     ("retain, closure and drops", |map| {
         map.retain(|_, value| {
             burn();
@@ -40,6 +40,10 @@ pub const CALLS: [(&str, Call); 9] = [
     }),
     ("drain", |map| map.drain().take(25).for_each(|_| burn())),
     ("clone", |map| drop(map.clone())),
+    ("clone_from", |map| {
+        let source = map.clone();
+        map.clone_from(&source);
+    }),
     ("extend", |map| {
         map.extend((0..KEYS).map(|key| {
             burn();
@@ -89,6 +93,16 @@ fn a_panic_at_any_place_of_a_call_leaves_a_whole_map() {
 }
 
 #[test]
+fn a_key_whose_value_panics_is_counted_by_into_keys() {
+    for shift in [0, 5] {
+        let mut keys = map_of(shift).into_keys();
+        assert!(panics_at(4, || keys.by_ref().for_each(drop)), "the fourth value panics");
+        assert_eq!(keys.len() as u64, KEYS - 4, "shift {shift}");
+        assert_eq!(keys.count() as u64, KEYS - 4, "shift {shift}");
+    }
+}
+
+#[test]
 fn a_panic_of_the_closure_of_retain_loses_no_pair() {
     for shift in [0, 1, 2, 3, 5] {
         for number in 1..=KEYS {
@@ -132,14 +146,19 @@ fn a_panic_of_the_closure_of_hand_over_loses_that_pair_alone() {
 
 #[test]
 fn a_panic_of_the_closure_of_a_set_leaves_a_whole_set() {
-    for shift in [0, 1, 2, 3, 5] {
+    for (shift, is_retained) in [0, 1, 2, 3, 5].into_iter().flat_map(|it| [(it, true), (it, false)])
+    {
         for number in 1..=KEYS {
             let mut set: IntSet<u64> = (0..KEYS).map(|key| key << shift).collect();
             let panicked = panics_at(number, || {
-                set.retain(|key| {
+                let is_even = |key: u64| {
                     burn();
-                    (key >> shift) % 2 == 0
-                });
+                    (key >> shift).is_multiple_of(2)
+                };
+                match is_retained {
+                    true => set.retain(is_even),
+                    false => set.extract_if(is_even).for_each(drop),
+                }
             });
             assert!(panicked, "at place {number}");
             assert_eq!(set.iter().count(), set.len(), "{set:?}, place {number}");

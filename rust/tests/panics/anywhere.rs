@@ -55,7 +55,7 @@ fn call_on_key(map: &mut IntMap<u64, Value>, call: u64, given: &Given) {
             if let Entry::Occupied(entry) = map.entry(key) {
                 let handed = entry.hand_over(|value| {
                     burn();
-                    if number.is_multiple_of(3) { Ok(value) } else { Err(value) }
+                    if number % 3 == 0 { Ok(value) } else { Err(value) }
                 });
                 burn();
                 drop(handed);
@@ -70,10 +70,10 @@ fn call_on_all(map: &mut IntMap<u64, Value>, call: u64, given: &Given) {
     match call {
         0 => map.retain(|key, value| {
             burn();
-            !(key ^ value.0 ^ number).is_multiple_of(3)
+            (key ^ value.0 ^ number) % 3 != 0
         }),
         1 => map.drain().take((number % 9) as usize).for_each(|_| burn()),
-        2 if number.is_multiple_of(8) => map.clear(),
+        2 if number % 8 == 0 => map.clear(),
         3 => {
             let clone = map.clone();
             burn();
@@ -90,7 +90,7 @@ fn call_on_all(map: &mut IntMap<u64, Value>, call: u64, given: &Given) {
         8 => {
             let picked = map.extract_if(|_, value| {
                 write(value, number);
-                number.is_multiple_of(3)
+                number % 3 == 0
             });
             picked.take(5).for_each(drop);
         }

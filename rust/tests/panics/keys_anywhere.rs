@@ -32,7 +32,7 @@ fn call_on_key(map: &mut Map, call: u64, key: Key, value: &Rc<()>) {
 }
 
 fn call_on_all(map: &mut Map, call: u64, key: Key, value: &Rc<()>) {
-    let is_picked = |it: Key| (it.number() ^ key.0).is_multiple_of(3);
+    let is_picked = |it: Key| (it.number() ^ key.0) % 3 == 0;
     match call {
         0 => map.retain(|it, _| !is_picked(it)),
         1 => map.extract_if(|it, _| is_picked(it)).take(5).for_each(drop),
@@ -41,6 +41,7 @@ fn call_on_all(map: &mut Map, call: u64, key: Key, value: &Rc<()>) {
         4 => map.set_load_factor((key.0 % 5000) as f32 / 1000.0 + 0.2),
         5 => *map = std::mem::take(map).into_iter().collect(),
         6 => drop(map.clone()),
+        7 => map.shrink_to_fit(),
         _ => map.extend((0..9).map(|it| (Key(key.0 + it * 7), value.clone()))),
     }
 }
@@ -59,10 +60,10 @@ fn a_panic_of_a_key_in_any_call_leaves_a_whole_map() {
         for _ in 0..CALLS {
             let key = Key(random.below(keys) << zeros);
             let place = if random.below(3) > 0 { 0 } else { random.below(20) };
-            let (is_on_key, call) = (random.below(5) > 0, random.below(88));
+            let (is_on_key, call) = (random.below(5) > 0, random.below(99));
             panics += u64::from(panics_at(place, || match is_on_key {
                 true => call_on_key(&mut map, call % 11, key, &value),
-                false => call_on_all(&mut map, call % 8, key, &value),
+                false => call_on_all(&mut map, call % 9, key, &value),
             }));
             is_whole(&map, &value, &format!("after call {call}, on a key: {is_on_key}, {round}"));
         }

@@ -8,6 +8,7 @@ mod forms;
 mod fuse;
 mod keys;
 mod keys_anywhere;
+mod left;
 mod lying_keys;
 #[path = "../shared/random.rs"]
 mod random;

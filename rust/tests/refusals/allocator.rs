@@ -83,6 +83,12 @@ pub fn failing_above<T>(most: usize, call: impl FnOnce() -> T) -> (T, usize) {
     (returned, GRANTED.get())
 }
 
+/// Lets each request for more than `most` bytes fail from now on, until a call of [`failing_above`]
+/// ends.
+pub fn fail_above(most: usize) {
+    MOST.set(most);
+}
+
 /// Returns how many requests the call makes.
 pub fn requests(call: impl FnOnce()) -> u64 {
     let before = REQUESTS.get();

@@ -18,7 +18,7 @@ type MapCall = fn(&mut IntMap<u64, u64>) -> Result<(), Cause>;
 
 /// A name, how many keys there are before and how many bits of each are zero, how many requests the
 /// call makes, and the call.
-const MAP_CALLS: [(&str, u64, u32, u64, MapCall); 31] = [
+const MAP_CALLS: [(&str, u64, u32, u64, MapCall); 35] = [
     ("insert into an empty slot", 4, 0, 0, |map| Ok(map.try_insert(5, 1).map(drop)?)),
     ("insert into a slot of one", 4, 0, 1, |map| Ok(map.try_insert(9, 1).map(drop)?)),
     ("insert and grow", 14, 0, 2, |map| Ok(map.try_insert(15, 1).map(drop)?)),
@@ -30,6 +30,9 @@ const MAP_CALLS: [(&str, u64, u32, u64, MapCall); 31] = [
     ("reserve", 4, 0, 3, |map| map.try_reserve(100)),
     ("reserve for a shared slot", 11, 6, 5, |map| map.try_reserve(100)),
     ("reserve what is there", 4, 0, 0, |map| map.try_reserve(1)),
+    ("reserve_pairs", 4, 0, 3, |map| map.try_reserve_pairs(100)),
+    ("reserve_pairs that have room", 4, 0, 0, |map| map.try_reserve_pairs(1)),
+    ("shrink_to_fit as before", 4, 0, 0, |map| map.try_shrink_to_fit()),
     ("set_load_factor", 4, 0, 3, |map| map.try_set_load_factor(0.1)),
     ("set_load_factor as before", 4, 0, 0, |map| map.try_set_load_factor(0.909)),
     ("clone", 4, 0, 2, |map| map.try_clone().map(drop)),
@@ -37,6 +40,7 @@ const MAP_CALLS: [(&str, u64, u32, u64, MapCall); 31] = [
     ("collisions", 4, 0, 2, |map| map.try_collisions().map(drop)),
     ("new", 0, 0, 2, |_| IntMap::<u64, u64>::try_new().map(drop)),
     ("with_capacity", 0, 0, 2, |_| IntMap::<u64, u64>::try_with_capacity(100).map(drop)),
+    ("with_room_for", 0, 0, 2, |_| IntMap::<u64, u64>::try_with_room_for(100).map(drop)),
     ("from_iter", 0, 0, 2, |_| IntMap::try_from_iter((0..3_u64).map(|it| (it, it))).map(drop)),
     ("or_insert", 4, 0, 1, |map| Ok(map.entry(9).try_or_insert(1).map(drop)?)),
     ("or_insert and grow", 14, 0, 2, |map| Ok(map.entry(15).try_or_insert(1).map(drop)?)),
@@ -97,6 +101,35 @@ fn a_failed_call_leaves_the_map() {
         let before = bytes();
         assert_eq!(failures(name, make, state_of, call), wanted, "requests of {name}");
         assert_eq!(bytes(), before, "bytes left after {name}");
+    }
+}
+
+/// A map that can do with fewer slots: keys of three slots, or keys in lone slots of which some will
+/// share one.
+fn with_too_many_slots(is_lone: bool) -> IntMap<u64, u64> {
+    let mut map = if is_lone { IntMap::new() } else { IntMap::with_capacity(64) };
+    map.extend((0..if is_lone { 58 } else { 0 }).map(|key| (key, key + 100)));
+    map.retain(|key, _| key % 16 < 2);
+    let more = if is_lone { vec![40, 12] } else { vec![0, 64, 5, 128, 1, 192, 65, 16, 80, 256, 3] };
+    map.extend(more.into_iter().map(|key| (key, key + 100)));
+    map
+}
+
+#[test]
+fn a_map_that_is_not_shrunk_keeps_its_order() {
+    for (is_lone, wanted) in [(false, 6), (true, 6)] {
+        let make = || with_too_many_slots(is_lone);
+        for call in [IntMap::try_shrink_to_fit as MapCall, |map| map.try_shrink_to(16)] {
+            let before = bytes();
+            let requests = failures("shrink_to", make, state_of, call);
+            assert_eq!(requests, wanted, "lone: {is_lone}");
+            assert_eq!(bytes(), before, "lone: {is_lone}");
+        }
+        let (before, mut map) = (bytes(), make());
+        let held = bytes() - before;
+        map.shrink_to_fit();
+        assert_eq!(map.capacity(), 16, "lone: {is_lone}");
+        assert!(bytes() - before < held, "lone: {is_lone}");
     }
 }
 
@@ -189,11 +222,16 @@ fn a_failed_call_leaves_a_map_of_each_form() {
 
 type SetCall = fn(&mut IntSet<u64>) -> Result<(), Cause>;
 
-const SET_CALLS: [(&str, u64, SetCall); 8] = [
+const SET_CALLS: [(&str, u64, SetCall); 13] = [
     ("insert", 1, |set| set.try_insert(9).map(drop)),
     ("insert again", 0, |set| set.try_insert(3).map(drop)),
+    ("replace", 1, |set| set.try_replace(9).map(drop)),
+    ("replace a member", 0, |set| set.try_replace(3).map(drop)),
     ("extend", 1, |set| Ok(set.try_extend([9])?)),
     ("reserve", 3, |set| set.try_reserve(100)),
+    ("reserve_members", 3, |set| set.try_reserve_members(100)),
+    ("with_room_for", 2, |_| IntSet::<u64>::try_with_room_for(100).map(drop)),
+    ("shrink_to_fit as before", 0, |set| set.try_shrink_to_fit()),
     ("clone", 2, |set| set.try_clone().map(drop)),
     ("new", 2, |_| IntSet::<u64>::try_new().map(drop)),
     ("with_capacity", 2, |_| IntSet::<u64>::try_with_capacity(100).map(drop)),
@@ -241,6 +279,22 @@ fn calls_that_need_no_memory_request_none() {
         // two keys a slot
         let mut map: IntMap<u64, u64> = (0..500).chain(4096..4596).map(|key| (key, key)).collect();
         assert_eq!(requests(|| call(&mut map)), 0, "{name}");
+    }
+}
+
+#[test]
+fn clone_from_of_as_many_slots_requests_none() {
+    for (keys, zeros) in [(100, 0), (40, 6), (3, 0)] {
+        let source = map_of(keys, zeros);
+        let mut map = source.clone();
+        map.remove(0);
+        map.insert(1 << zeros, 7);
+        assert_eq!(requests(|| map.clone_from(&source)), 0, "{keys} keys");
+        assert_eq!(state_of(&map), state_of(&source), "{keys} keys");
+        let members: IntSet<u64> = source.keys().copied().collect();
+        let mut set = members.clone();
+        set.remove(0);
+        assert_eq!(requests(|| set.clone_from(&members)), 0, "{keys} members");
     }
 }
 

@@ -65,6 +65,8 @@ impl Call {
             10 => drop(map.try_clone()?),
             11 => drop(map.entry(key).try_or_insert_with(value).map(drop)?),
             12 => drop(Map::try_with_capacity(more)?),
+            13 => map.try_shrink_to(more / 8)?,
+            14 => map.try_reserve_pairs(more)?,
             _ => drop(map.remove(key)),
         }
         Ok(())
@@ -106,7 +108,10 @@ fn round(random: &mut Random, live: &Rc<Cell<usize>>) -> u64 {
             false => random.below(keys) + random.below(9) / 8 * 512,
         };
         let call = Call {
-            call: random.below(if counts_up { 6 } else { 15 }),
+            call: match random.below(if counts_up { 7 } else { 17 }) {
+                6 if counts_up => 13,
+                call => call,
+            },
             key: key << shift,
             number: random.next(),
             more: random.below(200) as usize,

@@ -58,25 +58,6 @@ impl<K: IntKey, V, A: Allocator + Copy> IntMap<K, V, A> {
 }
 
 impl<'a, K: IntKey, V, A: Allocator + Copy> Entry<'a, K, V, A> {
-    /// The key that was looked up.
-    pub fn key(&self) -> &K {
-        match self {
-            Entry::Occupied(entry) => entry.key(),
-            Entry::Vacant(entry) => entry.key(),
-        }
-    }
-
-    /// A mutable reference to the value of the key. If the key is absent, `value` is inserted
-    /// first. If this insertion fails, it fails as [`VacantEntry::insert`] does, and the failure
-    /// returns `value`. If the key is present, `value` is dropped, and the call never fails.
-    #[inline]
-    pub fn or_insert(self, value: V) -> Result<&'a mut V, Refused<V>> {
-        match self {
-            Entry::Occupied(entry) => Ok(entry.into_mut()),
-            Entry::Vacant(entry) => entry.insert(value),
-        }
-    }
-
     /// If the key is present, calls the closure with a mutable reference to its value. It returns
     /// the entry. If the key is present, the closure must be callable at its value.
     pub fn and_modify<F: FnOnce(&mut V)>(self, f: F) -> Entry<'a, K, V, A> {
@@ -89,15 +70,6 @@ impl<'a, K: IntKey, V, A: Allocator + Copy> Entry<'a, K, V, A> {
                 entry.map.known();
                 Entry::Vacant(entry)
             }
-        }
-    }
-
-    /// The map, as the calls on the entry left it, for as long as the map was borrowed. It inserts
-    /// no pair, removes none and compares no key.
-    pub fn into_map(self) -> &'a mut IntMap<K, V, A> {
-        match self {
-            Entry::Occupied(entry) => entry.into_map(),
-            Entry::Vacant(entry) => entry.into_map(),
         }
     }
 }

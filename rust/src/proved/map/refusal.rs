@@ -1,7 +1,6 @@
 //! Why a call failed, and what it returns to the caller.
 
 use crate::memory::prelude::*;
-use crate::memory::alloc::AllocError;
 use core::error::Error;
 use core::fmt;
 
@@ -46,13 +45,6 @@ impl<V: fmt::Debug> Error for Refused<V> {}
 impl<V> From<Refused<V>> for Cause {
     fn from(refused: Refused<V>) -> Cause {
         refused.cause
-    }
-}
-
-/// A failed allocation. With `?`, a caller that allocates beside the map returns a `Cause` too.
-impl From<AllocError> for Cause {
-    fn from(_: AllocError) -> Cause {
-        Cause::Memory
     }
 }
 

@@ -4,7 +4,6 @@ mod build;
 mod combine;
 mod insert;
 pub mod iter;
-mod owned;
 mod remove;
 mod traits;
 
@@ -61,3 +60,4 @@ impl<K: IntKey, A: Allocator + Copy> IntSet<K, A> {
 
 // Only Rust has what follows. It is tested, not proved.
 mod mending;
+mod written;

@@ -2,7 +2,7 @@
 //!
 //! A proved insertion by an entry takes the entry, and the map with it. So an entry of the map is
 //! made again, once for the time of that call, and once behind it.
-use super::{OccupiedEntry, VacantEntry};
+use super::{Entry, OccupiedEntry, VacantEntry};
 use crate::memory::alloc::Allocator;
 use crate::proved::map::map::IntMap;
 use crate::proved::table::IntKey;
@@ -13,6 +13,27 @@ pub struct Place {
     place: usize,
 }
 
+/// What an entry has beside its map.
+pub enum Found<K> {
+    /// Where the pair of the key lies.
+    Present(Place),
+    /// A key that is absent, and its slot.
+    Absent(K, usize),
+}
+
+impl<'a, K: IntKey, V, A: Allocator + Copy> Entry<'a, K, V, A> {
+    /// The map, and what else the entry has.
+    #[inline]
+    pub fn parted(self) -> (&'a mut IntMap<K, V, A>, Found<K>) {
+        match self {
+            Entry::Occupied(OccupiedEntry { map, slot, place }) => {
+                (map, Found::Present(Place { slot, place }))
+            }
+            Entry::Vacant(VacantEntry { map, key, slot }) => (map, Found::Absent(key, slot)),
+        }
+    }
+}
+
 impl<K: IntKey, V, A: Allocator + Copy> OccupiedEntry<'_, K, V, A> {
     /// Where the pair of the entry lies.
     #[inline]
@@ -21,11 +42,11 @@ impl<K: IntKey, V, A: Allocator + Copy> OccupiedEntry<'_, K, V, A> {
     }
 }
 
-impl<K: IntKey, V, A: Allocator + Copy> VacantEntry<'_, K, V, A> {
-    /// The slot of the key.
+impl<'a, K: IntKey, V, A: Allocator + Copy> VacantEntry<'a, K, V, A> {
+    /// The map, the key that is absent, and its slot.
     #[inline]
-    pub fn slot(&self) -> usize {
-        self.slot
+    pub fn parted(self) -> (&'a mut IntMap<K, V, A>, K, usize) {
+        (self.map, self.key, self.slot)
     }
 }
 
@@ -34,6 +55,15 @@ impl<K: IntKey, V, A: Allocator + Copy> IntMap<K, V, A> {
     #[inline]
     pub fn vacant_entry(&mut self, key: K, slot: usize) -> VacantEntry<'_, K, V, A> {
         VacantEntry { map: self, key, slot }
+    }
+
+    /// The entry that had this beside the map. No key is looked up.
+    #[inline]
+    pub fn entry_of(&mut self, found: Found<K>) -> Entry<'_, K, V, A> {
+        match found {
+            Found::Present(at) => Entry::Occupied(self.entry_at(at)),
+            Found::Absent(key, slot) => Entry::Vacant(self.vacant_entry(key, slot)),
+        }
     }
 
     /// The entry of the pair at a place. No key is looked up.

@@ -74,21 +74,4 @@ impl<'a, K: IntKey, V, A: Allocator + Copy> OccupiedEntry<'a, K, V, A> {
         let at = self.map.location(slot, place);
         self.map.hand_over_at(at, f)
     }
-
-    /// Ends the entry, and leaves the map as the calls on the entry left it. It removes no pair and
-    /// compares no key.
-    pub fn leave(self) {
-        let OccupiedEntry { .. } = self;
-    }
-
-    /// The map, as the calls on the entry left it, for as long as the map was borrowed. It removes
-    /// no pair and compares no key.
-    pub fn into_map(self) -> &'a mut IntMap<K, V, A> {
-        let OccupiedEntry {
-            map,
-            slot: _,
-            place: _,
-        } = self;
-        map
-    }
 }

@@ -50,11 +50,6 @@ impl<K: IntKey, V, A: Allocator + Copy> IntMap<K, V, A> {
             Err(_) => Err(Cause::Memory),
         }
     }
-
-    /// The allocator of the map.
-    pub(in crate::proved::map) fn allocator(&self) -> A {
-        self.table.allocator()
-    }
 }
 
 impl<K: IntKey, V, A: Allocator + Copy> IntMap<K, V, A> {
@@ -101,26 +96,6 @@ impl<K: IntKey, V, A: Allocator + Copy> IntMap<K, V, A> {
         match map.extend(iter) {
             Ok(()) => Ok(map),
             Err(refused) => Err(refused.cause),
-        }
-    }
-
-    /// A map of the array's pairs: [`with_capacity`](IntMap::with_capacity) of their number, and
-    /// then [`extend`](IntMap::extend). So a key keeps the last of its values.
-    ///
-    /// It first allocates a vector, and moves the pairs into it. If this allocation fails, it fails
-    /// with [`Cause::Memory`]. It also fails if either call fails, with the same cause. A failed
-    /// call drops everything.
-    pub fn from_array<const N: usize>(
-        alloc: A,
-        pairs: [(K, V); N],
-    ) -> Result<IntMap<K, V, A>, Cause> {
-        let Ok(pairs) = Vec::from_array(alloc, pairs) else {
-            return Err(Cause::Memory);
-        };
-        let mut map = IntMap::with_capacity(alloc, N)?;
-        match map.extend(pairs.into_iter()) {
-            Ok(()) => Ok(map),
-            Err(failed) => Err(failed.cause),
         }
     }
 }

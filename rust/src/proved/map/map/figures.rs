@@ -13,11 +13,6 @@ impl<K: IntKey, V, A: Allocator + Copy> IntMap<K, V, A> {
         self.table.load() as u64
     }
 
-    /// The number of pairs for each slot, in thousandths, rounded down. It never fails.
-    pub fn load_rate(&self) -> u128 {
-        self.len as u128 * 1000 / self.table.capacity() as u128
-    }
-
     /// Whether `len` is the number of pairs that the slots hold, which is always true. It goes
     /// through all pairs to count them, and never fails.
     pub fn assert_count(&self) -> bool {

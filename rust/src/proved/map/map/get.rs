@@ -5,8 +5,6 @@ use crate::proved::map::map::IntMap;
 use crate::proved::table::IntKey;
 use crate::proved::table::steps::Steps;
 use crate::memory::alloc::Allocator;
-use core::ops::Index;
-
 impl<K: IntKey, V, A: Allocator + Copy> IntMap<K, V, A> {
     /// The value of the key, or `None` if the key is absent. It never fails.
     #[inline]
@@ -55,15 +53,5 @@ impl<K: IntKey, V, A: Allocator + Copy> IntMap<K, V, A> {
     pub fn contains_key(&self, key: K) -> bool {
         let mut steps = Steps::new();
         self.get_counted(key, &mut steps).is_some()
-    }
-}
-
-impl<K: IntKey, V, A: Allocator + Copy> Index<K> for IntMap<K, V, A> {
-    type Output = V;
-
-    /// The value of the key. The caller must know that the key is present: no program is built in
-    /// which it may be absent.
-    fn index(&self, key: K) -> &V {
-        self.get(key).unwrap()
     }
 }

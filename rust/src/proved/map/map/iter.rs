@@ -1,7 +1,6 @@
 //! The iterators of a map. Each goes through the slots in turn, and through each slot from front to
 //! back.
 
-mod cursor;
 mod drain;
 mod extract;
 mod owned;
@@ -11,7 +10,6 @@ mod written;
 
 use crate::memory::prelude::*;
 use crate::proved::map::map::IntMap;
-pub use cursor::Cursor;
 pub use drain::Drain;
 pub use extract::ExtractIf;
 use crate::proved::table::IntKey;

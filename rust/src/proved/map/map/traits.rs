@@ -35,23 +35,6 @@ impl<K: IntKey, V: PartialEq, A: Allocator + Copy> PartialEq for IntMap<K, V, A>
 
 impl<K: IntKey, V: Eq, A: Allocator + Copy> Eq for IntMap<K, V, A> {}
 
-impl<K: IntKey + fmt::Debug, V: fmt::Debug, A: Allocator + Copy> fmt::Debug for IntMap<K, V, A> {
-    /// Writes the pairs in iteration order, as `{21: 'a', 3: 'b'}`, or `{}` if there is none. It
-    /// ignores the flags of the format. It fails only if writing fails.
-    fn fmt(&self, f: &mut fmt::Formatter<'_>) -> fmt::Result {
-        f.write_str("{")?;
-        let mut first = true;
-        for (key, value) in self {
-            if !first {
-                f.write_str(", ")?;
-            }
-            first = false;
-            write!(f, "{key:?}: {value:?}")?;
-        }
-        f.write_str("}")
-    }
-}
-
 impl<K: IntKey, V: Clone, A: Allocator + Copy> IntMap<K, V, A> {
     /// A map with the same keys in the same order, each with a clone of its value, and with the
     /// same capacity and load factor. Its own counts begin at zero. This map stays as it is. No key

@@ -16,23 +16,6 @@ impl<K: IntKey, A: Allocator + Copy> PartialEq for IntSet<K, A> {
 
 impl<K: IntKey, A: Allocator + Copy> Eq for IntSet<K, A> {}
 
-impl<K: IntKey + fmt::Debug, A: Allocator + Copy> fmt::Debug for IntSet<K, A> {
-    /// Writes the members in iteration order, as `{21, 3}`, or `{}` if there is none. It ignores
-    /// the flags of the format. It fails only if writing fails.
-    fn fmt(&self, f: &mut fmt::Formatter<'_>) -> fmt::Result {
-        f.write_str("{")?;
-        let mut first = true;
-        for key in self {
-            if !first {
-                f.write_str(", ")?;
-            }
-            first = false;
-            write!(f, "{key:?}")?;
-        }
-        f.write_str("}")
-    }
-}
-
 impl<K: IntKey, A: Allocator + Copy> IntSet<K, A> {
     /// A set with the same members in the same order, and with the same capacity and load factor.
     /// Its own counts begin at zero. This set stays as it is. No key is compared. Time and memory

@@ -136,12 +136,6 @@ impl<K: IntKey, X, A: Allocator> Slots<K, X, A> {
         self.shared[index].value_mut_at(place)
     }
 
-    /// Whether a slot has a pair at this place. It may be behind the last slot.
-    #[inline(always)]
-    pub(in crate::proved::table) fn has_pair(&self, index: usize, place: usize) -> bool {
-        index <= self.directory.mask && place < self.row_len(index)
-    }
-
     /// The pairs of a slot: the first one, and the rest.
     #[inline(always)]
     #[allow(clippy::type_complexity)]

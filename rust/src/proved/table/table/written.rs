@@ -1,5 +1,5 @@
 //! The pairs of a table, slot after slot, each with a mutable reference to its value.
-pub use super::slots::written::PairsMut;
+pub use super::slots::written::{PairsMut, PlacesMut};
 
 use super::Table;
 use crate::memory::alloc::Allocator;
@@ -9,5 +9,10 @@ impl<K: IntKey, X, A: Allocator> Table<K, X, A> {
     /// The pairs, slot after slot, each with a mutable reference to its value.
     pub fn pairs_mut(&mut self) -> PairsMut<'_, K, X, A> {
         self.slots.pairs_mut()
+    }
+
+    /// The values of located pairs by mutable reference, in ascending order of slots and places.
+    pub fn places_mut(&mut self) -> PlacesMut<'_, K, X, A> {
+        self.slots.places_mut()
     }
 }

@@ -39,17 +39,6 @@ impl<K: IntKey, V, A: Allocator + Copy> IntMap<K, V, A> {
     }
 }
 
-impl<'a, K: IntKey, V, A: Allocator + Copy> IntoIterator for &'a mut IntMap<K, V, A> {
-    type Item = (&'a K, &'a mut V);
-
-    type IntoIter = IterMut<'a, K, V, A>;
-
-    /// The pairs, each with a mutable reference to its value, as by [`iter_mut`](IntMap::iter_mut).
-    fn into_iter(self) -> IterMut<'a, K, V, A> {
-        self.iter_mut()
-    }
-}
-
 impl<K: IntKey, V, A: Allocator + Copy> IntMap<K, V, A> {
     /// Calls the closure once for each pair, in iteration order, with the key and a mutable
     /// reference to the value. The next call sees what this one changed of the closure's state.

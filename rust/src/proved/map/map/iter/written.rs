@@ -1,4 +1,4 @@
-//! The pairs of a map, each with a mutable reference to its value.
+//! The pairs of a map, each with a mutable reference to its value, and those of several keys.
 //!
 //! The proved iterator hands out the references from one loan of all values, which takes `unsafe`
 //! code. This one borrows slot after slot, as Rust checks it.
@@ -7,6 +7,8 @@ use crate::proved::map::map::IntMap;
 use crate::proved::table::kept::Kept;
 use crate::proved::table::table::written::PairsMut;
 use crate::proved::table::IntKey;
+use crate::proved::table::table::Progress;
+use core::array::from_fn;
 
 /// The pairs of a map, each with a mutable reference to its value, made by [`IntMap::iter_mut`].
 pub struct IterMut<'a, K: IntKey, V, A: Allocator + Copy = Global> {
@@ -28,5 +30,33 @@ impl<K: IntKey, V, A: Allocator + Copy> IntMap<K, V, A> {
     /// It allocates nothing.
     pub fn iter_mut(&mut self) -> IterMut<'_, K, V, A> {
         IterMut { pairs: self.table.pairs_mut() }
+    }
+
+    /// The values of these keys, by mutable reference. It panics if two keys have one pair.
+    pub fn get_disjoint_mut<const N: usize>(&mut self, keys: [K; N]) -> [Option<&mut V>; N] {
+        let places = keys.map(|key| self.locate(key).ok().map(|at| (at.slot, at.place)));
+        let mut order: [usize; N] = from_fn(|number| number);
+        order.sort_unstable_by_key(|number| places[*number]);
+        let mut values = [const { None }; N];
+        let mut rest = self.table.places_mut();
+        let mut last = None;
+        for number in order {
+            if let Some((slot, place)) = places[number] {
+                assert!(last != places[number], "two of the keys are equal");
+                last = places[number];
+                values[number] = rest.value_at(slot, place).map(Kept::get_mut);
+            }
+        }
+        values
+    }
+
+    /// The next pair that the closure picks, which it removes: a step of an iterator that has the
+    /// progress and the closure elsewhere.
+    pub fn extract_step<F: FnMut(K, &mut V) -> bool>(
+        &mut self,
+        at: &mut Progress,
+        test: &mut F,
+    ) -> Option<(K, V)> {
+        self.extract_next(at, test)
     }
 }

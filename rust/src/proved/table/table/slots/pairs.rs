@@ -48,19 +48,6 @@ impl<K: IntKey, X, A: Allocator> Slots<K, X, A> {
         slot.take_at(place)
     }
 
-    /// Removes the pair at a place of a slot. Those behind it move up by one place.
-    pub(in crate::proved::table) fn remove_at(&mut self, index: usize, place: usize) -> (Stored<K>, X) {
-        if index < self.lone.len() {
-            let pair = self.lone[index].take();
-            self.directory.bits.clear(index);
-            return pair;
-        }
-        let slot = &mut self.shared[index];
-        let pair = slot.remove_at(place);
-        unmark_unless(&mut self.directory.bits, slot.is_filled(), index);
-        pair
-    }
-
     /// Puts a pair last in a slot that has room for it. It allocates nothing.
     pub(in crate::proved::table) fn put_back(&mut self, index: usize, pair: (Stored<K>, X)) {
         let was_filled = self.directory.bits.set(index);

@@ -1,4 +1,5 @@
-//! The pairs of all slots, slot after slot, each with a mutable reference to its value.
+//! The pairs of all slots, slot after slot, each with a mutable reference to its value; and those at
+//! places that are known.
 use super::Slots;
 use crate::memory::alloc::Allocator;
 use crate::proved::table::IntKey;
@@ -51,7 +52,35 @@ impl<'a, K: IntKey, X, A: Allocator> Iterator for PairsMut<'a, K, X, A> {
     }
 }
 
+/// The values at places in ascending order, by mutable reference.
+pub struct PlacesMut<'a, K: IntKey, X, A: Allocator> {
+    pairs: PairsMut<'a, K, X, A>,
+    /// How many pairs of the current slot are behind.
+    places: usize,
+}
+
+impl<'a, K: IntKey, X, A: Allocator> PlacesMut<'a, K, X, A> {
+    /// The value at a place of a slot that is behind all places of earlier calls.
+    pub fn value_at(&mut self, slot: usize, place: usize) -> Option<&'a mut X> {
+        if slot >= self.pairs.passed {
+            let first = self.pairs.first_of(slot);
+            self.places = 1;
+            if place == 0 {
+                return Some(&mut first?.1);
+            }
+        }
+        let between = place - self.places;
+        self.places = place + 1;
+        Some(&mut self.pairs.rest.nth(between)?.1)
+    }
+}
+
 impl<K: IntKey, X, A: Allocator> Slots<K, X, A> {
+    /// The values at places in ascending order, by mutable reference.
+    pub(in crate::proved::table) fn places_mut(&mut self) -> PlacesMut<'_, K, X, A> {
+        PlacesMut { pairs: self.pairs_mut(), places: 0 }
+    }
+
     /// The pairs, slot after slot, each with a mutable reference to its value.
     pub(in crate::proved::table) fn pairs_mut(&mut self) -> PairsMut<'_, K, X, A> {
         PairsMut {

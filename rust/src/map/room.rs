@@ -1,0 +1,214 @@
+//! Room for a number of pairs, and memory that is given back.
+use super::IntMap;
+use crate::IntKey;
+use crate::refusal::{Cause, Refused, granted};
+use crate::room::{FIRST_FACTOR, LEAST_SLOTS, slots_for};
+
+impl<K: IntKey, V> IntMap<K, V> {
+    /// Returns an empty map with room for so many pairs: the capacity is the least power of two in
+    /// which they meet the load factor of a new map, 0.909.
+    ///
+    /// Insertions of so many keys then add no slots. Keys that share a slot still allocate. A failed
+    /// allocation is handled as std does; [`try_with_room_for`](IntMap::try_with_room_for) returns
+    /// it. The cost is *O*(*c*).
+    ///
+    /// # Panics
+    ///
+    /// If more than 2^63 slots are needed.
+    ///
+    /// # Examples
+    ///
+    /// ```
+    /// use intmap_proved::IntMap;
+    ///
+    /// let mut map = IntMap::with_room_for(1000);
+    /// assert_eq!(map.capacity(), 2048);
+    /// map.extend((0u64..1000).map(|key| (key, 'a')));
+    /// assert_eq!(map.capacity(), 2048);
+    /// ```
+    #[must_use]
+    pub fn with_room_for(pairs: usize) -> IntMap<K, V> {
+        granted(IntMap::try_with_room_for(pairs))
+    }
+
+    /// The same as [`with_room_for`](IntMap::with_room_for), but it returns a failure.
+    ///
+    /// # Errors
+    ///
+    /// [`Cause::TooLarge`] if more than 2^63 slots are needed, and otherwise [`Cause::Memory`] if an
+    /// allocation fails.
+    ///
+    /// # Examples
+    ///
+    /// ```
+    /// use intmap_proved::{Cause, IntMap};
+    ///
+    /// assert_eq!(IntMap::<u64, char>::try_with_room_for(3)?.capacity(), 4);
+    /// # Ok::<(), Cause>(())
+    /// ```
+    pub fn try_with_room_for(pairs: usize) -> Result<IntMap<K, V>, Cause> {
+        IntMap::try_with_capacity(slots_for(pairs, FIRST_FACTOR))
+    }
+
+    /// Makes room for `additional` pairs more: the capacity becomes the least power of two in which
+    /// they and the present pairs meet the load factor. A greater capacity stays.
+    ///
+    /// Insertions of so many new keys then add no slots. Keys that share a slot still allocate. With
+    /// a load factor above 1, a map that has too few slots gets one for each present pair at least.
+    ///
+    /// A failed allocation is handled as std does;
+    /// [`try_reserve_pairs`](IntMap::try_reserve_pairs) returns it. The cost is *O*(*n* + *c*), or
+    /// *O*(1) if the capacity stays.
+    ///
+    /// # Panics
+    ///
+    /// If more than 2^63 slots are needed.
+    ///
+    /// # Examples
+    ///
+    /// ```
+    /// use intmap_proved::IntMap;
+    ///
+    /// let mut map = IntMap::from([(21u64, 'a')]);
+    /// map.reserve_pairs(15);
+    /// assert_eq!(map.capacity(), 32);
+    /// ```
+    pub fn reserve_pairs(&mut self, additional: usize) {
+        granted(self.try_reserve_pairs(additional))
+    }
+
+    /// The same as [`reserve_pairs`](IntMap::reserve_pairs), but it returns a failure.
+    ///
+    /// # Errors
+    ///
+    /// [`Cause::TooLarge`] if more than 2^63 slots are needed, and otherwise [`Cause::Memory`] if an
+    /// allocation fails. The map stays as it was.
+    ///
+    /// # Examples
+    ///
+    /// ```
+    /// use intmap_proved::{Cause, IntMap};
+    ///
+    /// let mut map = IntMap::from([(21u64, 'a')]);
+    /// assert_eq!(map.try_reserve_pairs(usize::MAX), Err(Cause::TooLarge));
+    /// ```
+    pub fn try_reserve_pairs(&mut self, additional: usize) -> Result<(), Cause> {
+        let pairs = self.len().checked_add(additional).ok_or(Cause::TooLarge)?;
+        let slots = slots_for(pairs, self.load_factor_thousandths());
+        if slots <= self.capacity() {
+            return Ok(());
+        }
+        self.try_reserve(slots.saturating_sub(self.len()))
+    }
+
+    /// Makes the capacity the least power of two in which the pairs meet the load factor, or leaves
+    /// it if it is that.
+    ///
+    /// Order and failures are those of [`shrink_to`](IntMap::shrink_to).
+    ///
+    /// # Examples
+    ///
+    /// ```
+    /// use intmap_proved::IntMap;
+    ///
+    /// let mut map: IntMap<u64, char> = (0..1000).map(|key| (key, 'a')).collect();
+    /// map.retain(|key, _| key < 3);
+    /// map.shrink_to_fit();
+    /// assert_eq!(map.capacity(), 4);
+    /// ```
+    pub fn shrink_to_fit(&mut self) {
+        granted(self.try_shrink_to_fit())
+    }
+
+    /// The same as [`shrink_to_fit`](IntMap::shrink_to_fit), but it returns a failure.
+    ///
+    /// # Errors
+    ///
+    /// As for [`try_shrink_to`](IntMap::try_shrink_to).
+    ///
+    /// # Examples
+    ///
+    /// ```
+    /// use intmap_proved::IntMap;
+    ///
+    /// let mut map: IntMap<u64, char> = IntMap::with_capacity(1000);
+    /// assert_eq!((map.try_shrink_to_fit(), map.capacity()), (Ok(()), 2));
+    /// ```
+    pub fn try_shrink_to_fit(&mut self) -> Result<(), Cause> {
+        self.try_shrink_to(0)
+    }
+
+    /// Makes the capacity the least power of two that is at least `min_capacity` and in which the
+    /// pairs meet the load factor. A smaller capacity stays.
+    ///
+    /// The map then has the order of a new one of that capacity into which the pairs were inserted
+    /// in iteration order. The load factor stays. For a while there are both maps, and the memory of
+    /// the larger one is given back at the end. A map that grew by insertions of keys that count up
+    /// has slots of half the size, so then half the capacity takes as much memory.
+    ///
+    /// A failed allocation is handled as std does; [`try_shrink_to`](IntMap::try_shrink_to) returns
+    /// it. The cost is *O*(*n s* + *c*), or *O*(1) if the capacity stays. If a key's `number`
+    /// panics, the map keeps the pairs that weren't moved yet, and the others are dropped.
+    ///
+    /// # Examples
+    ///
+    /// ```
+    /// use intmap_proved::IntMap;
+    ///
+    /// let mut map: IntMap<u64, char> = IntMap::with_capacity(1000);
+    /// map.extend([(2, 'a'), (4, 'b')]);
+    /// assert_eq!((format!("{map:?}"), map.capacity()), ("{2: 'a', 4: 'b'}".into(), 1024));
+    /// map.shrink_to(16);
+    /// assert_eq!((format!("{map:?}"), map.capacity()), ("{4: 'b', 2: 'a'}".into(), 16));
+    /// ```
+    pub fn shrink_to(&mut self, min_capacity: usize) {
+        granted(self.try_shrink_to(min_capacity))
+    }
+
+    /// The same as [`shrink_to`](IntMap::shrink_to), but it returns a failure.
+    ///
+    /// # Errors
+    ///
+    /// [`Cause::Memory`] if an allocation fails. The map stays as it was, order and all.
+    ///
+    /// # Examples
+    ///
+    /// ```
+    /// use intmap_proved::IntMap;
+    ///
+    /// let mut map: IntMap<u64, char> = IntMap::with_capacity(1000);
+    /// assert_eq!((map.try_shrink_to(20), map.capacity()), (Ok(()), 32));
+    /// ```
+    pub fn try_shrink_to(&mut self, min_capacity: usize) -> Result<(), Cause> {
+        let factor = self.load_factor_thousandths();
+        let slots = slots_for(self.len(), factor).max(min_capacity).max(LEAST_SLOTS);
+        if slots > self.capacity() / 2 {
+            return Ok(());
+        }
+        let mut small = IntMap::try_with_capacity(slots)?;
+        small.try_set_load_factor_thousandths(factor)?;
+        for (key, value) in self.drain() {
+            if let Err(Refused { value, cause }) = small.try_insert(key, value) {
+                self.take_back(small, key, value);
+                return Err(cause);
+            }
+        }
+        *self = small;
+        Ok(())
+    }
+
+    /// Undoes moves to a smaller map, of which one failed at this pair. The pairs that weren't moved
+    /// are those of its slot that were behind it, and those of later slots. Each slot has memory for
+    /// its pairs, so no insertion allocates.
+    fn take_back(&mut self, small: IntMap<K, V>, key: K, value: V) {
+        let mask = self.capacity() as u64 - 1;
+        let shares = |other: K| (other.number() ^ key.number()) & mask == 0;
+        let behind = self.keys().filter(|other| shares(**other)).count();
+        self.extend(small);
+        self.insert(key, value);
+        for _ in 0..behind {
+            let first = self.extract_if(|other, _| shares(other)).next();
+            self.extend(first);
+        }
+    }
+}

@@ -1,0 +1,128 @@
+//! Room for a number of pairs, and slots that are given back.
+use crate::random::Random;
+use intmap_proved::{IntMap, IntSet};
+
+/// Whether so many pairs meet a load factor in so many slots, as an insertion decides it.
+fn meets(pairs: usize, factor: usize, slots: usize) -> bool {
+    pairs * 1000 / slots <= factor
+}
+
+/// The least number of slots, from two on, in which so many pairs meet a load factor.
+fn least_slots(pairs: usize, factor: usize) -> usize {
+    (1..63).map(|bits| 1 << bits).find(|slots| meets(pairs, factor, *slots)).expect("some do")
+}
+
+#[test]
+fn a_map_with_room_for_pairs_adds_no_slots_for_them() {
+    for pairs in 0..3000 {
+        let wanted = least_slots(pairs, 909);
+        let mut map = IntMap::with_room_for(pairs);
+        let mut set = IntSet::with_room_for(pairs);
+        assert_eq!((map.capacity(), set.capacity()), (wanted, wanted), "for {pairs}");
+        map.extend((0..pairs).map(|key| (key, ())));
+        set.extend(0..pairs);
+        assert_eq!((map.capacity(), set.capacity()), (wanted, wanted), "with {pairs}");
+    }
+}
+
+#[test]
+fn reserved_pairs_add_no_slots_at_any_load_factor() {
+    let mut random = Random(5);
+    for _ in 0..2000 {
+        let factor = [0, 1, 100, 500, 909, 910, 1000, 2500, 7000][random.below(9) as usize];
+        let (present, more) = (random.below(90) as usize, random.below(90) as usize);
+        let mut map = IntMap::new();
+        map.try_set_load_factor_thousandths(factor).expect("an empty map meets it");
+        map.extend((0..present).map(|key| (key, ())));
+        let (before, text) = (map.capacity(), format!("{present} and {more} at {factor}"));
+        map.reserve_pairs(more);
+        let reserved = map.capacity();
+        if factor <= 1000 {
+            assert_eq!(reserved, before.max(least_slots(present + more, factor)), "{text}");
+        }
+        if meets(present + more, factor, before) {
+            assert_eq!(reserved, before, "{text}");
+        }
+        map.extend((present..present + more).map(|key| (key, ())));
+        assert_eq!((map.capacity(), map.load_factor_thousandths()), (reserved, factor), "{text}");
+    }
+    let mut set = IntSet::from([0u64, 1]);
+    set.reserve_members(98);
+    assert_eq!(set.capacity(), least_slots(100, 909));
+    set.extend(2..100);
+    assert_eq!(set.capacity(), least_slots(100, 909));
+}
+
+/// A map after some insertions and removals, with its load factor.
+fn emptied(random: &mut Random) -> (IntMap<u64, u64>, usize) {
+    let factor = [100, 500, 909, 1000, 2500][random.below(5) as usize];
+    let zeros = [0, 0, 1, 3, 40][random.below(5) as usize];
+    let mut map = match random.below(2) {
+        0 => IntMap::new(),
+        _ => IntMap::with_capacity(random.below(400) as usize),
+    };
+    map.try_set_load_factor_thousandths(factor).expect("an empty map meets it");
+    map.extend((0..random.below(200)).map(|value| (random.below(500) << zeros, value)));
+    let kept = 1 + random.below(20);
+    map.retain(|_, value| value % kept == 0);
+    (map, factor)
+}
+
+#[test]
+fn a_shrunk_map_is_a_new_one_of_its_pairs_in_order() {
+    let (mut random, mut shrunk) = (Random(3), 0);
+    for _ in 0..3000 {
+        let (mut map, factor) = emptied(&mut random);
+        let (before, least) = (map.clone(), random.below(3) as usize * random.below(100) as usize);
+        map.shrink_to(least);
+        let wanted = least.next_power_of_two().max(least_slots(before.len(), factor));
+        assert_eq!(map.capacity(), wanted.min(before.capacity()), "{least} slots for {before:?}");
+        assert_eq!((map.len(), map.load_factor_thousandths()), (before.len(), factor));
+        let mut made = IntMap::with_capacity(map.capacity());
+        made.try_set_load_factor_thousandths(factor).expect("an empty map meets it");
+        made.extend(&before);
+        assert!(map.iter().eq(&made), "{map:?} from {before:?}");
+        shrunk += usize::from(map.capacity() < before.capacity());
+        map.shrink_to_fit();
+        assert_eq!(map.capacity(), before.capacity().min(least_slots(before.len(), factor)));
+        assert!(map.assert_count() && map == before, "{map:?} from {before:?}");
+    }
+    assert!(shrunk > 1000, "only {shrunk} maps were shrunk");
+}
+
+#[test]
+fn a_shrunk_set_is_a_new_one_of_its_members_in_order() {
+    let mut random = Random(4);
+    for _ in 0..300 {
+        let (map, _) = emptied(&mut random);
+        let mut set = IntSet::with_capacity(1000);
+        set.extend(map.keys());
+        let members = set.clone();
+        set.shrink_to(17);
+        assert_eq!(set.capacity(), least_slots(set.len(), 909).max(32));
+        let mut made = IntSet::with_capacity(set.capacity());
+        made.extend(&members);
+        assert!(set.iter().eq(&made), "{set:?} from {members:?}");
+        set.shrink_to_fit();
+        assert_eq!((set.capacity(), set == members), (least_slots(members.len(), 909), true));
+    }
+}
+
+#[test]
+fn clone_from_makes_what_clone_makes() {
+    let (mut random, mut kept) = (Random(12), 0);
+    for _ in 0..3000 {
+        let (mut map, (source, factor)) = (emptied(&mut random).0, emptied(&mut random));
+        kept += usize::from(map.capacity() == source.capacity());
+        let mut set: IntSet<u64> = map.keys().copied().collect();
+        map.clone_from(&source);
+        assert!(map.iter().eq(&source), "{map:?} of {source:?}");
+        assert_eq!((map.capacity(), map.len()), (source.capacity(), source.len()));
+        assert_eq!((map.load_factor_thousandths(), map.assert_count()), (factor, true));
+        let members: IntSet<u64> = source.keys().copied().collect();
+        set.clone_from(&members);
+        assert!(set.iter().eq(&members), "{set:?} of {members:?}");
+        assert_eq!((set.capacity(), set.len()), (members.capacity(), members.len()));
+    }
+    assert!(kept > 300, "only {kept} maps kept their slots");
+}
