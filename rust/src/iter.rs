@@ -24,9 +24,9 @@ use crate::proved::map::iter as proved;
 use core::fmt::{self, Debug, Formatter};
 use core::iter::FusedIterator;
 
-/// Writes an iterator that counts the items that are left. An item whose drop panics is counted.
+/// Writes an iterator that counts the items that are left, and how it goes on.
 macro_rules! iterators {
-    ($(
+    (|$this:ident| $step:block $(
         $(#[$doc:meta])*
         $name:ident [$($generics:tt)*] [$($args:tt)*] -> $item:ty;
     )*) => { $(
@@ -42,8 +42,8 @@ macro_rules! iterators {
 
             #[inline]
             fn next(&mut self) -> Option<$item> {
-                self.left = self.left.saturating_sub(1);
-                self.inner.next()
+                let $this = self;
+                $step
             }
 
             #[inline]
@@ -59,6 +59,12 @@ macro_rules! iterators {
 }
 
 iterators! {
+    |items| {
+        let item = items.inner.next()?;
+        items.left = items.left.saturating_sub(1);
+        Some(item)
+    }
+
     /// The pairs of a map, made by [`IntMap::iter`](crate::IntMap::iter).
     ///
     /// ```
@@ -121,14 +127,6 @@ iterators! {
     /// ```
     IntoIter [K: IntKey, V] [K, V] -> (K, V);
 
-    /// The keys of a map by value, made by [`IntMap::into_keys`](crate::IntMap::into_keys).
-    ///
-    /// ```
-    /// let map = intmap_proved::IntMap::from([(0u64, 'a'), (1, 'b')]);
-    /// assert_eq!(map.into_keys().last(), Some(1));
-    /// ```
-    IntoKeys [K: IntKey, V] [K, V] -> K;
-
     /// The values of a map by value, made by [`IntMap::into_values`](crate::IntMap::into_values).
     ///
     /// ```
@@ -136,6 +134,22 @@ iterators! {
     /// assert_eq!(map.into_values().last(), Some('b'));
     /// ```
     IntoValues [K: IntKey, V] [K, V] -> V;
+}
+
+iterators! {
+    |keys| {
+        // before the drop of a value, which may panic
+        keys.left = keys.left.saturating_sub(1);
+        keys.inner.next()
+    }
+
+    /// The keys of a map by value, made by [`IntMap::into_keys`](crate::IntMap::into_keys).
+    ///
+    /// ```
+    /// let map = intmap_proved::IntMap::from([(0u64, 'a'), (1, 'b')]);
+    /// assert_eq!(map.into_keys().last(), Some(1));
+    /// ```
+    IntoKeys [K: IntKey, V] [K, V] -> K;
 }
 
 /// Removes the pairs of a map that a closure picks, one at each step, made by

@@ -26,8 +26,9 @@ macro_rules! iterators {
 
             #[inline]
             fn next(&mut self) -> Option<$item> {
+                let item = self.inner.next()?;
                 self.left = self.left.saturating_sub(1);
-                self.inner.next()
+                Some(item)
             }
 
             #[inline]
