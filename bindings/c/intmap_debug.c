@@ -224,6 +224,14 @@ void intmap_debug_clear(intmap *map) {
     end_changing(one);
 }
 
+#ifdef INTMAP_HAS_AT
+void intmap_debug_place(intmap *map, uint64_t key, uint64_t **at) {
+    debug_record *one = begin_changing("intmap_place", map);
+    intmap_place(&one->map, key, at);
+    end_changing(one);
+}
+#endif
+
 bool intmap_debug_equal(const intmap *map, const intmap *other) {
     debug_record *one = begin_reading("intmap_equal", map);
     debug_record *two = begin_reading("intmap_equal", other);

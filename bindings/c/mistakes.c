@@ -66,6 +66,11 @@ static void next_of_copy(void) {
     intmap_next(&copy, &at, &pair, 1);
 }
 
+static void at_of_copy(void) {
+    free_map();
+    intmap_at(&copy, 1);
+}
+
 static void insert_into_copy(void) {
     free_map();
     need(intmap_insert(&copy, 1, 2).status == INTMAP_PRESENT);
@@ -324,6 +329,7 @@ static const struct {
 #define MISTAKE(make, call, what) {make, #make, call, what}
     MISTAKE(get_of_copy, "intmap_get", COPY),
     MISTAKE(next_of_copy, "intmap_step", COPY),
+    MISTAKE(at_of_copy, "intmap_place", COPY),
     MISTAKE(insert_into_copy, "intmap_insert", COPY),
     MISTAKE(clear_copy, "intmap_clear", COPY),
     MISTAKE(free_copy, "intmap_free", COPY),

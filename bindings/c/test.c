@@ -365,6 +365,23 @@ static void call_set_or_add(bool adds, uint64_t key, uint64_t value) {
     }
 }
 
+static void call_at(uint64_t key, uint64_t value) {
+#ifdef INTMAP_HAS_AT
+    size_t place = place_of(&it->plain, key);
+    bool is_present = place < it->plain.len;
+    begin();
+    uint64_t *at = intmap_at(&it->map, key);
+    EXPECT((at != NULL) == is_present && !requested());
+    if (at != NULL && is_present) {
+        EXPECT(*at == it->plain.pairs[place].value);
+        *at = value;
+        it->plain.pairs[place].value = value;
+    }
+#else
+    call_set_or_add(false, key, value);
+#endif
+}
+
 static void call_remove(uint64_t key) {
     size_t place = place_of(&it->plain, key);
     begin();
@@ -558,6 +575,7 @@ static void test_calls_without_memory(void) {
     call_get(3, 9);
     call_set_or_add(false, 3, 4);
     call_set_or_add(true, 3, 4);
+    call_at(3, 4);
     call_remove(3);
     call_cut(1, 2);
     call_retain(1);
@@ -1224,8 +1242,10 @@ static void call_on_key(uint64_t key, uint64_t value, unsigned which) {
         call_insertion(which % INSERTIONS, key, value);
     } else if (which < 60) {
         call_remove(key);
-    } else if (which < 80) {
+    } else if (which < 75) {
         call_set_or_add(which % 2, key, value);
+    } else if (which < 80) {
+        call_at(key, value);
     } else {
         call_get(key, value);
     }

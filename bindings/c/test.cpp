@@ -30,6 +30,18 @@ static bool changes(intmap *map) {
            && intmap_set_load_factor(map, 500) == INTMAP_OK;
 }
 
+static bool changes_in_place(intmap *map) {
+#ifdef INTMAP_HAS_AT
+    if (intmap_at(map, 22) != nullptr) {
+        return false;
+    }
+    uint64_t *at = intmap_at(map, 21);
+    return at != nullptr && (*at += 5) == 8;
+#else
+    return intmap_add(map, 21, 5).value == 3;
+#endif
+}
+
 static bool clones_and_walks(intmap *map) {
     intmap other = INTMAP_INIT;
     intmap_cursor at = intmap_start();
@@ -53,8 +65,8 @@ static bool takes_other_numbers() {
 
 int main() {
     intmap map = INTMAP_INIT;
-    bool is_good = makes_and_reads(&map) && changes(&map) && clones_and_walks(&map)
-                   && takes_other_numbers();
+    bool is_good = makes_and_reads(&map) && changes(&map) && changes_in_place(&map)
+                   && clones_and_walks(&map) && takes_other_numbers();
     intmap_free(&map);
     map = INTMAP_NONE;
     return is_good && !intmap_failed(INTMAP_OK) && intmap_failed(INTMAP_TOO_LARGE) ? 0 : 1;

@@ -24,9 +24,9 @@ use crate::proved::map::iter as proved;
 use core::fmt::{self, Debug, Formatter};
 use core::iter::FusedIterator;
 
-/// Writes an iterator that counts the items that are left, and how it goes on.
+/// Writes an iterator that counts the items that are left.
 macro_rules! iterators {
-    (|$this:ident| $step:block $(
+    ($(
         $(#[$doc:meta])*
         $name:ident [$($generics:tt)*] [$($args:tt)*] -> $item:ty;
     )*) => { $(
@@ -42,8 +42,9 @@ macro_rules! iterators {
 
             #[inline]
             fn next(&mut self) -> Option<$item> {
-                let $this = self;
-                $step
+                let item = self.inner.next()?;
+                self.left = self.left.saturating_sub(1);
+                Some(item)
             }
 
             #[inline]
@@ -59,12 +60,6 @@ macro_rules! iterators {
 }
 
 iterators! {
-    |items| {
-        let item = items.inner.next()?;
-        items.left = items.left.saturating_sub(1);
-        Some(item)
-    }
-
     /// The pairs of a map, made by [`IntMap::iter`](crate::IntMap::iter).
     ///
     /// ```
@@ -136,21 +131,37 @@ iterators! {
     IntoValues [K: IntKey, V] [K, V] -> V;
 }
 
-iterators! {
-    |keys| {
-        // before the drop of a value, which may panic
-        keys.left = keys.left.saturating_sub(1);
-        keys.inner.next()
+/// The keys of a map by value, made by [`IntMap::into_keys`](crate::IntMap::into_keys).
+///
+/// ```
+/// let map = intmap_proved::IntMap::from([(0u64, 'a'), (1, 'b')]);
+/// assert_eq!(map.into_keys().last(), Some(1));
+/// ```
+#[must_use = "iterators are lazy and do nothing unless consumed"]
+pub struct IntoKeys<K: IntKey, V> {
+    pub(crate) inner: proved::IntoKeys<K, V>,
+    pub(crate) left: usize,
+}
+
+impl<K: IntKey, V> Iterator for IntoKeys<K, V> {
+    type Item = K;
+
+    #[inline]
+    fn next(&mut self) -> Option<K> {
+        // counted before the value is dropped, which may panic
+        self.left = self.len().saturating_sub(1);
+        self.inner.next()
     }
 
-    /// The keys of a map by value, made by [`IntMap::into_keys`](crate::IntMap::into_keys).
-    ///
-    /// ```
-    /// let map = intmap_proved::IntMap::from([(0u64, 'a'), (1, 'b')]);
-    /// assert_eq!(map.into_keys().last(), Some(1));
-    /// ```
-    IntoKeys [K: IntKey, V] [K, V] -> K;
+    #[inline]
+    fn size_hint(&self) -> (usize, Option<usize>) {
+        (self.left, Some(self.left))
+    }
 }
+
+impl<K: IntKey, V> ExactSizeIterator for IntoKeys<K, V> {}
+
+impl<K: IntKey, V> FusedIterator for IntoKeys<K, V> {}
 
 /// Removes the pairs of a map that a closure picks, one at each step, made by
 /// [`IntMap::extract_if`](crate::IntMap::extract_if).

@@ -67,6 +67,12 @@ ALIGNED intmap_found_value intmap_add_or_insert(intmap *map, uint64_t key,
     return found_value(do_intmap_add_or_insert(BYTES(map), key, more));
 }
 
+#if !HIGH_BYTE_FIRST
+ALIGNED void intmap_place(intmap *map, uint64_t key, uint64_t **at) INTMAP_CALL {
+    do_intmap_place(BYTES(map), key, BYTES(at));
+}
+#endif
+
 ALIGNED intmap_found_value intmap_remove(intmap *map, uint64_t key) INTMAP_CALL {
     return found_value(do_intmap_remove(BYTES(map), key));
 }
