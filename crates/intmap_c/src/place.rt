@@ -31,10 +31,10 @@ fn find(map: &mut IntMap<u64, u64>, key: u64) -> Option<&mut u64>
 /// intmap_place(&map, 22, &at)    and at is null
 /// ```
 #[unsafe(no_mangle)]
-pub unsafe extern "C" fn intmap_place(word: &Word, key: u64, at: &mut *mut u64)
+pub unsafe extern "C" fn intmap_place(word: &mut Word, key: u64, at: &mut *mut u64)
     ghost value: { MaybeMap.Denot }
-    requires* { sem 𝓛 (owns_map word.now.at value) }
-    ensures* lent { lends_place 𝓛 word.now.at value key at.new }
+    requires* { sem 𝓛 (owns_map word.old.at value) }
+    ensures* lent { lends_place 𝓛 word.new.at value key at.new }
     ensures leaves { Leaves (map_of value) key }
 {
     *at = null_mut();

@@ -1,12 +1,12 @@
 -- By hand, since the map is required of the caller, and its pointer is followed.
-use Rattle.intmap_c.proofs.ReaderWords.{◌≡◌, ℕ, [], ◌∷◌, refl, sym, ap, List, Val, ftrue, tables, ‵, raw, ◌⊛◌, some, later, ◌$◌, ◌∵◌, !, qed, done, move, keep, drop, use1, split, join, fsplit, fjoin, pick, await, rewrite, suffices, enter, stop, fld, of_opd, no_more, and_then, returns, alloc_all, pass_all, free_all, look_at, get, sets, lands_as, sub, whole, owns, types_at, plain, yes, nothing, calls_at, Lasts, lasts, triple_of, framed, Stays, stay_dropped, Goes-dropped, walk_of, says, ends_at, proved, Lft, flft, id⊢, vptr, named, w64, fact, use2, frame, group, load, through, look_in, RefOf, u64, Is, shows, cell_at, uint_Makes, uint_vals, uint_Tells, shr_vals, shr_Tells, looks, shuts, peeks, heard, owned, Word, word_lowers, word_copies, ptr_fits}
+use Rattle.intmap_c.proofs.ReaderWords.{◌≡◌, ℕ, [], ◌∷◌, refl, sym, ap, List, Val, ftrue, tables, ‵, raw, ◌⊛◌, some, later, ◌$◌, ◌∵◌, !, qed, done, move, keep, drop, use1, split, join, fsplit, fjoin, pick, await, rewrite, suffices, enter, stop, fld, of_opd, no_more, and_then, returns, alloc_all, pass_all, free_all, look_at, get, sets, lands_as, sub, whole, owns, types_at, plain, yes, nothing, calls_at, Lasts, lasts, triple_of, framed, Stays, stay_dropped, Goes-dropped, walk_of, says, ends_at, proved, Lft, flft, id⊢, vptr, named, w64, fact, use2, frame, group, load, through, look_in, u64, Is, shows, cell_at, uint_Makes, uint_vals, uint_Tells, peeks, heard, owned, Word, word_lowers, ptr_fits}
 use Rattle.intmap_c.proofs.Words.{lit<, subst, ◌∙◌, RawPtr, Ptr, block_ptr, null_ptr, ptr_val, tests_null, prop, at_ret, lit, bin, first, blocks, branches, skips, exec, returns_within, env, Option, None, Some}
 use mathlib.Core.Bool.{true≢false}
 use base.Fraction.{full_share}
 use base.Fml.{GName, flent}
 use mir.Val.{vunit}
 use prog.Wp.{Wp, after_seq, at_return}
-use types.Kit.{Sq, any_q, feq_i}
+use types.Kit.{Sq, any_q, feq_i, fsplit3, fjoin3}
 use types.Run.{addr, store, assigns, assigns_last, switches_on, unit_lit}
 use types.ByLocal.{get_in, get_tag, is, sets_last}
 use types.Match.{vrt, in_variant}
@@ -17,6 +17,7 @@ use denote.Memory.{mem}
 use denote.MutBor.{MutBor}
 use denote.RawPtr.{lies_at}
 use denote.Ref.{MutRef, mut_vals, mut_Tells}
+use denote.Steps.{opens, closes}
 use denote.Triple.Walked.{Goes-ref, stay_ref}
 use Rattle.std.specs.Option.{option_copied_mut}
 use Rattle.std.proofs.alloc.Shapes.{front, arm_body}
@@ -33,53 +34,53 @@ use Rattle.intmap_c.specs.contracts.place.find as g
 use Rattle.intmap_c.proofs.place.find.Met.{met}
 
 abbrev stayed : Stays f.ended.signature.params f.ended.kept
-stayed = (stay_dropped _ yes, (stay_dropped _ yes, (stay_ref (1 ∷ []) tt (plain (λ _. RawPtr)), tt)))
+stayed = (stay_ref (0 ∷ []) tt (plain (λ _. Word)), (stay_dropped _ yes, (stay_ref (1 ∷ []) tt (plain (λ _. RawPtr)), tt)))
 
 pub intmap_place_spec : {M : Type 1} → statement M
 intmap_place_spec {M = M} 𝓤 𝓛 𝓜 𝓡 wired =
     let c = f.clauses 𝓛 𝓜.mem 𝓡.returns in let W = walk_of 𝓛 f.ended stayed c in let 𝓣 = tables 𝓤 𝓛.H 𝓜 𝓡 𝓡.env in
-    let self = RefOf (0 ∷ []) tt (plain (λ _. Word)) (λ _. tt) in
-    proved 𝓛 f.ended stayed c 𝓜 𝓡 (Goes-dropped 𝓛 2 self yes (λ κs x w. refl), (Goes-dropped 𝓛 2 (plain (λ _. u64)) yes (λ κs x w. refl), (Goes-ref 𝓛 2 1 tt (plain (λ _. RawPtr)), tt)))
+    proved 𝓛 f.ended stayed c 𝓜 𝓡 (Goes-ref 𝓛 2 0 tt (plain (λ _. Word)), (Goes-dropped 𝓛 2 (plain (λ _. u64)) yes (λ κs x w. refl), (Goes-ref 𝓛 2 1 tt (plain (λ _. RawPtr)), tt)))
     f.Key.name code.function (code.unfolded 𝓤 𝓛.H 𝓜 𝓡 wired)
-    (λ κs. (shr_vals, (uint_vals w64, (mut_vals, tt)))) (λ κs. (shr_Tells (named 0) κs.0 Word, (uint_Tells w64, (mut_Tells (named 1) κs.1.0 RawPtr, tt)))) (λ κs qs bounds a value are.
-    let b = a.0.ref_ptr.0 in let o = a.0.ref_ptr.1 in let κ : Lft = κs.0 in let d = a.0.now in let p = d.at in let k = a.1.0 in
+    (λ κs. (mut_vals, (uint_vals w64, (mut_vals, tt)))) (λ κs. (mut_Tells (named 0) κs.0 Word, (uint_Tells w64, (mut_Tells (named 1) κs.1.0 RawPtr, tt)))) (λ κs qs bounds a value are.
+    let word = a.0 in let b = word.ref_ptr.0 in let o = word.ref_ptr.1 in let κ : Lft = κs.0 in let d = word.now in let p = d.at in let k = a.1.0 in
+    let Whole = (MutRef (named 0) κ Word).own_val word (mut_vals word) in
     let r = a.1.1.0 in let rs = mut_vals r in let Ref = λ (n : Ptr). (MutRef (named 1) κs.1.0 RawPtr).own_val (record r { now = n }) rs in
-    let y : W.Ghost = ((κs, qs, bounds, a, (vptr b o ∷ [], (uint_vals w64 k, (rs, tt)))), value) in
-    let out : Leaves (map_of value) k → (n : Ptr) → Sq 𝓛 (raw (lends_place 𝓛 p value k n) ∷ ‵ (flft κ qs.0) ∷ ‵ (Ref n) ∷ ‵ (flft κs.1.0 qs.1.0) ∷ []) (prop (W.post y vunit)) = λ leaves n.
-    suffices ! _ (ends_at 𝓛 f.ended stayed c y vunit tt (tt, (tt, (n, tt))) (tt, (tt, (tt, tt)))) $
-    feq_i ! _ (vunit ∷ []) _ refl $ nothing ! $ move ! (4 ∷ 0 ∷ []) $ join ! $ nothing ! $ join ! $ nothing ! $ join ! $
+    let y : W.Ghost = ((κs, qs, bounds, a, (mut_vals word, (uint_vals w64 k, (rs, tt)))), value) in
+    let out : Leaves (map_of value) k → (n : Ptr) → Sq 𝓛 (raw (lends_place 𝓛 p value k n) ∷ ‵ Whole ∷ ‵ (flft κ qs.0) ∷ ‵ (Ref n) ∷ ‵ (flft κs.1.0 qs.1.0) ∷ []) (prop (W.post y vunit)) = λ leaves n.
+    suffices ! _ (ends_at 𝓛 f.ended stayed c y vunit tt (d, (tt, (n, tt))) (tt, (tt, (tt, tt)))) $
+    feq_i ! _ (vunit ∷ []) _ refl $ nothing ! $ move ! (5 ∷ 0 ∷ []) $ join ! $ nothing ! $ join ! $ move ! (3 ∷ 0 ∷ []) $ join ! $
     nothing ! $ move ! (5 ∷ 0 ∷ []) $ join ! $ move ! (4 ∷ 0 ∷ []) $ join ! $ group ! 3 $ frame ! $ says ! leaves $ done ! in
     qed 𝓛 (((‵ (flft κ qs.0) ⊛ ‵ (flft κs.1.0 qs.1.0) ⊛ ‵ ftrue) ⊛ ‵ (owns (types_at f.ended.signature.params κs) a y.0.4)) ∷ ‵ (owns_map p value) ∷ []) ∵
-    split ! $ split ! $ move ! (3 ∷ []) $ move ! (2 ∷ []) $ split ! $ move ! (4 ∷ []) $ fsplit ! $ fsplit ! $ move ! (2 ∷ []) $ fsplit ! $ move ! (1 ∷ []) $ fsplit ! $
-    keep ! (0 ∷ 5 ∷ 4 ∷ 8 ∷ 7 ∷ []) $
-    -- [the `&mut` to the address; its token; the word behind the `&`; its token; the map]
+    split ! $ split ! $ move ! (3 ∷ []) $ move ! (2 ∷ []) $ split ! $ move ! (4 ∷ []) $ fsplit ! $ move ! (1 ∷ []) $ fsplit ! $ move ! (1 ∷ []) $ fsplit ! $
+    keep ! (0 ∷ 4 ∷ 3 ∷ 7 ∷ 6 ∷ []) $
+    -- [the `&mut` to the address; its token; that to the word; its token; the map]
     enter ! _ _ _ _ _ $ alloc_all ! (λ l. pass_all ! refl ((tt, tt), ((tt, record { fits = are.1.0.1 }), ((tt, tt), tt))) $
     let En = env code.Mir.locals l in
     let Then = any_q (after_seq 𝓤 𝓛.H (Wp 𝓤 𝓛.H 𝓣.C 𝓣.Λ En code.Mir.t-13 (at_return 𝓤 𝓛.H En (W.post y))) (at_return 𝓤 𝓛.H En (W.post y))) in
     address_out ! tt (named 1) r $
     assigns ! (of_opd ! (lit ! tt)) (through ! refl (stop !)) (store ! 0 refl (tt, record { fits = lit< tt })) $
     move ! (2 ∷ 3 ∷ []) $
-    looks ! tt Word (word_copies.copied M 𝓤 𝓛).opens d b o (λ q vs. move ! (1 ∷ []) $ peeks ! Word (Is Word) (shows 𝓛 Word) d vs (λ so.
+    fsplit3 ! $ move ! (1 ∷ 2 ∷ 3 ∷ []) $ opens ! tt Word b o (λ vs. move ! (1 ∷ []) $ peeks ! Word (Is Word) (shows 𝓛 Word) d vs (λ so.
     let ev = word_lowers.val_is d vs so in
-    rewrite ! 1 (λ (us : List Val). ‵ (cell_at q Word.mir us b o)) ev refl $
+    rewrite ! 1 (λ (us : List Val). ‵ (cell_at full_share Word.mir us b o)) ev refl $
     sets ! (of_opd ! (load ! (through ! refl (fld ! refl (stop !))) (look_in ! 1 (sub ! 0 refl (whole !))))) refl (ptr_fits p) $
-    rewrite ! 1 (λ (us : List Val). ‵ (cell_at q Word.mir us b o)) (sym ev) refl $ move ! (1 ∷ 0 ∷ 2 ∷ []) $ shuts ! tt Word q d vs b o $
-    -- [the token of the `&`; the word; the address; the rest of its `&mut`; the map]
+    rewrite ! 1 (λ (us : List Val). ‵ (cell_at full_share Word.mir us b o)) (sym ev) refl $ move ! (1 ∷ 0 ∷ []) $ closes ! tt Word d vs b o $ move ! (3 ∷ 0 ∷ 1 ∷ []) $ fjoin3 ! $
+    -- [the word; its token; the address; the rest of its `&mut`; the map]
     move ! (4 ∷ []) $ by_map ! p value
     (λ at none.
     sets ! (is ! (of_opd ! (get ! refl)) (ap ptr_val at)) refl (tt, record { fits = lit< tt }) $
     sets ! (bin ! (get ! refl) (lit ! tt) tt) refl (tt, tt) $ first ! $ branches ! (get ! refl)
     (λ _. move ! (2 ∷ 3 ∷ []) $ address_in ! tt (named 1) r null_ptr $
     sets ! (of_opd ! (unit_lit !)) refl (tt, tt) $ returns_within ! (W.post y) refl (look_at ! 0 refl) $ free_all ! refl $
-    keep ! (2 ∷ 0 ∷ 1 ∷ []) $
+    keep ! (2 ∷ 3 ∷ 0 ∷ 1 ∷ []) $
     feq_i ! Ptr null_ptr null_ptr refl $ feq_i ! Ptr null_ptr null_ptr refl $ fjoin ! $ use1 𝓛 (raw (lends_place 𝓛 null_ptr None k null_ptr)) (id⊢ 𝓤 _) $
     rewrite ! 0 (λ (v : Option Map.Denot). raw (lends_place 𝓛 null_ptr v k null_ptr)) (sym none) refl $
     rewrite ! 0 (λ (n : Ptr). raw (lends_place 𝓛 n value k null_ptr)) (sym at) refl $ out (subst (λ (v : Option Map.Denot). Leaves (map_of v) k) (sym none) (λ never w. absurd (true≢false (sym never)))) null_ptr)
     (λ other. absurd other))
     (λ b' o' x at some_map test.
     let whole_map = block_ptr b' o' in
-    let told_at : (n : Ptr) → Sq 𝓛 (raw (lends_place 𝓛 p value k n) ∷ ‵ (flft κ qs.0) ∷ ‵ (Ref n) ∷ ‵ (flft κs.1.0 qs.1.0) ∷ []) (prop (W.post y vunit))
-    → Sq 𝓛 (raw (lends_found 𝓛 whole_map x k n (bound_to x k)) ∷ ‵ (flft κ qs.0) ∷ ‵ (Ref n) ∷ ‵ (flft κs.1.0 qs.1.0) ∷ []) (prop (W.post y vunit)) = λ n rest.
+    let told_at : (n : Ptr) → Sq 𝓛 (raw (lends_place 𝓛 p value k n) ∷ ‵ Whole ∷ ‵ (flft κ qs.0) ∷ ‵ (Ref n) ∷ ‵ (flft κs.1.0 qs.1.0) ∷ []) (prop (W.post y vunit))
+    → Sq 𝓛 (raw (lends_found 𝓛 whole_map x k n (bound_to x k)) ∷ ‵ Whole ∷ ‵ (flft κ qs.0) ∷ ‵ (Ref n) ∷ ‵ (flft κs.1.0 qs.1.0) ∷ []) (prop (W.post y vunit)) = λ n rest.
     use1 𝓛 (raw (lends_place 𝓛 whole_map (Some x) k n)) (id⊢ 𝓤 _) $
     rewrite ! 0 (λ (v : Option Map.Denot). raw (lends_place 𝓛 whole_map v k n)) (sym some_map) refl $
     rewrite ! 0 (λ (m : Ptr). raw (lends_place 𝓛 m value k n)) (sym at) refl $ rest in
@@ -91,7 +92,7 @@ intmap_place_spec {M = M} 𝓤 𝓛 𝓜 𝓡 wired =
     first ! $ blocks ! $ sets_last ! (addr ! (through ! refl (stop !))) refl (tt, tt) $
     exec ! 𝓣.C 𝓣.Λ En code.Mir.t-9 (at_ret En (W.post y)) $
     sets ! (of_opd ! (get ! refl)) refl (tt, tt) $ sets ! (of_opd ! (get ! refl)) refl (tt, record { fits = are.1.0.1 }) $
-    -- [the map and the right to free it; the token of the `&`; the word; the address; the rest of its `&mut`]
+    -- [the map and the right to free it; the word; its token; the address; the rest of its `&mut`]
     fsplit ! $ lft_new ! tt (λ α. move ! (1 ∷ []) $
     use1 𝓛 (later (some (λ (γ : GName). ‵ ((MutRef (named 0) (α ∷ []) Map).own_val (record { ref_ptr = (b', o'); ghost_name = γ; now = x }) (vptr b' o' ∷ [])) ⊛ ‵ (flent (α ∷ []) (Held (mem Map) b' o' γ)))))
     (lends_ref 𝓛 Map (named 0) (α ∷ []) x b' o') $ await ! tt $ pick ! (λ γ. split ! $
@@ -116,9 +117,9 @@ intmap_place_spec {M = M} 𝓤 𝓛 𝓜 𝓡 wired =
     first ! $ switches_on ! (get_tag ! (vrt ! refl (fld ! refl (stop !))) (whole !)) $ exec ! 𝓣.C 𝓣.Λ En (arm_body 1 (front code.Mir.t-12)) Then $
     skips ! $ exec ! 𝓣.C 𝓣.Λ En code.Mir.t-13 (at_ret En (W.post y)) $
     move ! (1 ∷ 3 ∷ 0 ∷ 4 ∷ []) $ group ! 4 $ use1 𝓛 (later (‵ (owns_map whole_map (Some (after_search itself x k))))) (not_lent 𝓛 b' o' α γ x k) $ await ! tt $
-    -- [the map and the right to free it; nothing; the token of the `&`; the word; the address; the rest of its `&mut`]
+    -- [the map and the right to free it; nothing; the word; its token; the address; the rest of its `&mut`]
     move ! (4 ∷ 5 ∷ []) $ address_in ! tt (named 1) r null_ptr $
-    sets ! (of_opd ! (unit_lit !)) refl (tt, tt) $ returns ! (look_at ! 0 refl) $ free_all ! refl $ keep ! (2 ∷ 4 ∷ 0 ∷ 1 ∷ []) $
+    sets ! (of_opd ! (unit_lit !)) refl (tt, tt) $ returns ! (look_at ! 0 refl) $ free_all ! refl $ keep ! (2 ∷ 4 ∷ 5 ∷ 0 ∷ 1 ∷ []) $
     feq_i ! Ptr null_ptr null_ptr refl $ fjoin ! $ use1 𝓛 (raw (lends_found 𝓛 whole_map x k null_ptr None)) (id⊢ 𝓤 _) $
     rewrite ! 0 (λ (n : Option ℕ). raw (lends_found 𝓛 whole_map x k null_ptr n)) (ap option_copied_mut (sym absent) ∙ told) refl $ told_at null_ptr (out kept null_ptr))
     (λ s present is_some.
@@ -132,8 +133,8 @@ intmap_place_spec {M = M} 𝓤 𝓛 𝓜 𝓡 wired =
     exec ! 𝓣.C 𝓣.Λ En code.Mir.t-13 (at_ret En (W.post y)) $
     move ! (0 ∷ 2 ∷ 4 ∷ 1 ∷ 5 ∷ []) $ group ! 5 $
     use1 𝓛 (later (‵ (lies_at u64 full_share place s.now) ⊛ raw (gives_back 𝓛 whole_map x k place))) (lent_out 𝓛 b' o' α γ x k s) $ await ! tt $
-    -- [the value and the right to give it back; nothing; the token of the `&`; the word; the address; the rest of its `&mut`]
+    -- [the value and the right to give it back; nothing; the word; its token; the address; the rest of its `&mut`]
     move ! (4 ∷ 5 ∷ []) $ address_in ! tt (named 1) r place $
-    sets ! (of_opd ! (unit_lit !)) refl (tt, tt) $ returns ! (look_at ! 0 refl) $ free_all ! refl $ keep ! (2 ∷ 4 ∷ 0 ∷ 1 ∷ []) $
+    sets ! (of_opd ! (unit_lit !)) refl (tt, tt) $ returns ! (look_at ! 0 refl) $ free_all ! refl $ keep ! (2 ∷ 4 ∷ 5 ∷ 0 ∷ 1 ∷ []) $
     use1 𝓛 (raw (lends_found 𝓛 whole_map x k place (Some s.now))) (id⊢ 𝓤 _) $
     rewrite ! 0 (λ (n : Option ℕ). raw (lends_found 𝓛 whole_map x k place n)) (ap option_copied_mut (sym present) ∙ told) refl $ told_at place (out kept place)))))))))))))))
