@@ -30,13 +30,15 @@
 // - malloc, realloc and free belong to one allocator, make no call on a map, and align blocks like
 //   the C library.
 // - The two words of intmap_clone differ, and intmap_next has an array for all `room` pairs.
+// - An address from intmap_at isn't used after the next call with the map, whatever that call does.
 // - There is some stack: a call takes less than 1 KB, besides malloc's; less than 5 KB if the
 //   compiler doesn't optimise.
 //
 // THREADS. Any number of threads may make calls with `const intmap *` at once, as long as no other
 // call has the map. A call with `intmap *` has it alone: the calls before it have ended, and the
-// next ones come after it, for example by a lock or a join. A map may be used in one thread and
-// then in another. Different maps are independent.
+// next ones come after it, for example by a lock or a join. intmap_at counts as such a call until
+// the last use of its address. A map may be used in one thread and then in another. Different maps
+// are independent.
 //
 // WHEN A CALL FAILS. Its status is negative, and the map is as it was:
 //
@@ -128,6 +130,7 @@ extern "C" {
 #define intmap_set intmap_debug_set
 #define intmap_add intmap_debug_add
 #define intmap_add_or_insert intmap_debug_add_or_insert
+#define intmap_place intmap_debug_place
 #define intmap_remove intmap_debug_remove
 #define intmap_clear intmap_debug_clear
 #define intmap_len intmap_debug_len
@@ -272,6 +275,27 @@ INTMAP_NONNULL intmap_found_value intmap_add(intmap *map, uint64_t key, uint64_t
 // absent. For an absent key it fails like intmap_insert.
 INTMAP_NONNULL INTMAP_MUST_USE intmap_found_value intmap_add_or_insert(intmap *map, uint64_t key,
                                                                   uint64_t more) INTMAP_CALL;
+
+// A map's values lie in memory with the low byte first. So the next two are only on machines whose
+// numbers do.
+#if !defined(__BYTE_ORDER__) || __BYTE_ORDER__ != __ORDER_BIG_ENDIAN__
+// Writes what intmap_at returns to `at`, which has some address, or NULL, before.
+INTMAP_NONNULL void intmap_place(intmap *map, uint64_t key, uint64_t **at) INTMAP_CALL;
+
+// Returns the address of the value of a present key, or NULL. The value may be read and written
+// there, as often as one likes, until the next call with the map. It requests no memory, and its
+// cost is one lookup:
+//
+//     uint64_t *at = intmap_at(&map, 21);
+//     if (at != NULL) {
+//         *at ^= 1;
+//     }
+INTMAP_NONNULL static inline uint64_t *intmap_at(intmap *map, uint64_t key) INTMAP_CALL {
+    uint64_t *at = NULL;
+    intmap_place(map, key, &at);
+    return at;
+}
+#endif
 
 // Removes the pair of the key. It returns INTMAP_PRESENT with its value, and the last pair of the
 // slot moves into its place; or INTMAP_ABSENT. It requests no memory. The number of slots stays, and

@@ -5,4 +5,5 @@ mod UnboxedSteps
 mod HandleSteps
 mod LentSteps
 mod LoanLaws
+mod PlaceSteps
 mod SendLemmas

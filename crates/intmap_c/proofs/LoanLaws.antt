@@ -2,17 +2,19 @@
 --     lends        the owner of a handle gives it away, and has a loan of the whole of it, and the right to the handle once the loan is over
 --     ends         that right, with the whole of the loan, is the handle again
 --     cuts, joins  a loan is two, of which each may be passed to a call, in whichever thread; and the two are one again
+--     gives        the value at the address that `intmap_place` wrote, whatever was left there, is given up for the map
 use Rattle.intmap_c.proofs.Words.{ℕ, [], ◌∷◌, Ura, Logic, sem, ‵, raw, ◌⊛◌, given, later, ◌$◌, ◌∵◌, !, qed, done, move, drop, use1, split, fsplit, fjoin, learn, await, fact_use, guard_i, bare, lone, Ptr, null_ptr, Testable, Option, None, Some}
 use Rattle.std.specs.Prelude.{◌^◌}
 use base.Fraction.{full_share}
 use base.Share
 use base.Share.{halves}
 use base.Fml.{Lft, Share, Incl-refl, feq, flt, flft, fbor, flent}
-use base.Logic.{ent, sep, wand, ex, apply∗}
+use base.Logic.{ent, sep, wand, all, ex, all_e, apply∗}
 use contract.BorrowLft.{⊑_static}
 use types.Logic.{lfts}
 use types.Kit.{use2, flt_i, updating, now, show}
 use types.Tokens.{lft_new, lft_end, bor_new, lent_back}
+use denote.Builtin.{u64}
 use denote.RawPtr.{lies_at, count_of}
 use denote.Shares.{Shares-less}
 use denote.Sharing.{said}
@@ -22,6 +24,8 @@ use Rattle.std.proofs.Handle.{handle as global}
 use Rattle.std.proofs.GlobalToken.{dealloc_token-Testable}
 use Rattle.intmap_c.specs.Handles.{Map, may_free, owns_map}
 use Rattle.intmap_c.specs.Loans.{Loan, shares_map, is_lent}
+use Rattle.intmap_c.specs.Calls.{State}
+use Rattle.intmap_c.specs.Places.{left_in, gives_back}
 use Rattle.intmap_c.proofs.LentSteps.{map_row_laws, shares_map_laws}
 
 abbrev loan : Lft → Share → Option Map.Denot → Loan
@@ -67,3 +71,9 @@ module _ {M : Type 1} {𝓤 : Ura M} (𝓛 : Logic 𝓤) where
   joins κ q p v = qed 𝓛 (‵ (is_lent (loan κ (Share.left q) v) p) ∷ ‵ (is_lent (loan κ (Share.right q) v) p) ∷ []) ∵
       fsplit ! $ move ! (2 ∷ []) $ fsplit ! $ move ! (2 ∷ 0 ∷ []) $
       use2 𝓛 (‵ (flft κ q)) (𝓛.lfts.lft_glue κ q (Share.left q) (Share.right q) (halves q)) $ move ! (2 ∷ []) $ drop ! $ fjoin ! $ done !
+
+  pub gives : (p : Ptr) (m : State) (k : ℕ) (at : Ptr) (w : ℕ)
+      → ent 𝓤 (sep 𝓤 (sem 𝓛 (lies_at u64 full_share at w)) (gives_back 𝓛 p m k at)) (H.⇛ (sem 𝓛 (owns_map p (Some (left_in m k w)))))
+  gives p m k at w = let Left = λ (v : ℕ). wand 𝓤 (sem 𝓛 (lies_at u64 full_share at v)) (H.⇛ (sem 𝓛 (owns_map p (Some (left_in m k v))))) in
+      qed 𝓛 (‵ (lies_at u64 full_share at w) ∷ raw (all 𝓤 Left) ∷ []) ∵ updating ! $ move ! (1 ∷ []) $ use1 𝓛 (raw (Left w)) (all_e 𝓤 Left w) $ move ! (1 ∷ 0 ∷ []) $
+      use2 𝓛 (later (‵ (owns_map p (Some (left_in m k w))))) (apply∗ 𝓤 (sem 𝓛 (lies_at u64 full_share at w)) (H.⇛ (sem 𝓛 (owns_map p (Some (left_in m k w)))))) $ await ! tt $ now ! $ done !

@@ -3,4 +3,5 @@ pub mod Answers
 pub mod Calls
 pub mod Handles
 pub mod Loans
+pub mod Places
 pub mod Walks

@@ -12,6 +12,7 @@ mod handle;
 mod lent;
 mod make;
 mod pairs;
+mod place;
 mod read;
 mod unboxed;
 mod version;

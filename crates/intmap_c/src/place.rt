@@ -1,0 +1,49 @@
+//! The call that gives the address of a value.
+//!
+//! C gives the map of a word away, and has the value at an address, with the right to give it up for
+//! the map, as [`lends_place`] says. It does so before it next passes the word to a call.
+ghost use Rattle.std.specs.Prelude.{◌≡◌};
+ghost use Rattle.std.specs.Borrow.{sem};
+ghost use Rattle.std.specs.Option.{option_copied_mut};
+ghost use Rattle.intmap_c.specs.Calls.{bound_to, map_of};
+ghost use Rattle.intmap_c.specs.Handles.{MaybeMap, owns_map};
+ghost use Rattle.intmap_c.specs.Places.{Leaves, lends_place, lends_value};
+
+use crate::lent::Word;
+use intmap::IntMap;
+use std::ptr::null_mut;
+
+/// The value of the key in its place, if the key is present.
+fn find(map: &mut IntMap<u64, u64>, key: u64) -> Option<&mut u64>
+    ensures* writes_back { sem 𝓛 (lends_value map.entry key result) }
+    ensures value { option_copied_mut result ≡ bound_to map.old key }
+    ensures leaves { Leaves map.old key }
+{
+    map.get_mut(key)
+}
+
+/// Writes the address of the value of the key, or null if the key is absent. The value may be read
+/// and written there until the next call with the map. It allocates nothing.
+///
+/// ```text
+/// intmap_place(&map, 21, &at)    and *at is 7 after intmap_insert(&map, 21, 7)
+/// *at = 8                        and intmap_get(&map, 21) is {8, INTMAP_PRESENT}
+/// intmap_place(&map, 22, &at)    and at is null
+/// ```
+#[unsafe(no_mangle)]
+pub unsafe extern "C" fn intmap_place(word: &mut Word, key: u64, at: &mut *mut u64)
+    ghost value: { MaybeMap.Denot }
+    requires* { sem 𝓛 (owns_map word.old.at value) }
+    ensures* lent { lends_place 𝓛 word.new.at value key at.new }
+    ensures leaves { Leaves (map_of value) key }
+{
+    *at = null_mut();
+    let map = word.at;
+    if map.is_null() {
+        return;
+    }
+    let map = map as *mut IntMap<u64, u64>;
+    if let Some(value) = find(unsafe { &mut *map }, key) {
+        *at = value as *mut u64;
+    }
+}
