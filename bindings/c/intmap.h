@@ -276,15 +276,16 @@ INTMAP_NONNULL intmap_found_value intmap_add(intmap *map, uint64_t key, uint64_t
 INTMAP_NONNULL INTMAP_MUST_USE intmap_found_value intmap_add_or_insert(intmap *map, uint64_t key,
                                                                   uint64_t more) INTMAP_CALL;
 
-// A map's values lie in memory with the low byte first. So the next two are only on machines whose
-// numbers do.
+// A map's numbers begin with the low byte. So machines whose own begin with the high one don't have
+// the next two calls.
 #if !defined(__BYTE_ORDER__) || __BYTE_ORDER__ != __ORDER_BIG_ENDIAN__
+#define INTMAP_HAS_AT 1
+
 // Writes what intmap_at returns to `at`, which has some address, or NULL, before.
 INTMAP_NONNULL void intmap_place(intmap *map, uint64_t key, uint64_t **at) INTMAP_CALL;
 
 // Returns the address of the value of a present key, or NULL. The value may be read and written
-// there, as often as one likes, until the next call with the map. It requests no memory, and its
-// cost is one lookup:
+// there until the next call with the map. It requests no memory:
 //
 //     uint64_t *at = intmap_at(&map, 21);
 //     if (at != NULL) {

@@ -370,8 +370,9 @@ static void call_at(uint64_t key, uint64_t value) {
     size_t place = place_of(&it->plain, key);
     bool is_present = place < it->plain.len;
     begin();
-    uint64_t *at = intmap_at(&it->map, key);
-    EXPECT((at != NULL) == is_present && !requested());
+    uint64_t *at = intmap_at(&it->map, key), *same = at;
+    intmap_place(&it->map, key, &same);
+    EXPECT((at != NULL) == is_present && same == at && !requested());
     if (at != NULL && is_present) {
         EXPECT(*at == it->plain.pairs[place].value);
         *at = value;

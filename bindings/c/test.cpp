@@ -32,10 +32,11 @@ static bool changes(intmap *map) {
 
 static bool changes_in_place(intmap *map) {
 #ifdef INTMAP_HAS_AT
-    if (intmap_at(map, 22) != nullptr) {
+    uint64_t *at = intmap_at(map, 22);
+    if (at != nullptr) {
         return false;
     }
-    uint64_t *at = intmap_at(map, 21);
+    intmap_place(map, 21, &at);
     return at != nullptr && (*at += 5) == 8;
 #else
     return intmap_add(map, 21, 5).value == 3;
