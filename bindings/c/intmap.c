@@ -17,7 +17,7 @@
 // have 16 bytes each.
 //
 // Compilers: rattle-kit-13f logic dac8208d650f15bf; clang version 22.1.8
-// Sources: 7d1e6095b25951fb271eb0efa492ada92a6eb40fff88b91fb853e28d2b15a996
+// Sources: 0849359472a9ffc81f2100a2ef92406c2a9449a2032550dffbe5db2234695e8b
 //
 // SPDX-License-Identifier: MIT
 //
@@ -389,6 +389,7 @@ static COLD bool vec_grow_amortized(char *a0, uint64_t a1);
 static ALIGNED NOINLINE void edits_mirror(char *a0, char *a3, uint64_t a5);
 static ALIGNED NOINLINE struct byte_word slots_push_second(char *a0, uint64_t a1, uint64_t a2, uint64_t a3);
 static ALIGNED NOINLINE struct byte_word slot_push(char *a0, uint64_t a1, uint64_t a2);
+static ALWAYS_INLINE void do_intmap_place(char *map, uint64_t key, char *at);
 static ALWAYS_INLINE uint32_t do_intmap_version(void);
 static ALWAYS_INLINE uint64_t do_intmap_capacity(char *map);
 static ALWAYS_INLINE bool do_intmap_contains_key(char *map, uint64_t key);
@@ -2545,6 +2546,57 @@ return_7:;
     return made_byte_word(r0_3, r0_2);
 }
 
+// intmap_place, in crates/intmap_c/src/place.rt
+static ALWAYS_INLINE void do_intmap_place(char *map, uint64_t key, char *at) {
+    char *r11, *r11_2, *r4, *r11_3, *r4_2;
+    uint64_t r10, r6, r3_0, r21, r36;
+    store_address(at, NULL);
+    r11 = load_address(map);
+    if (r11 != NULL) {
+        r10 = load64(r11) & (key * UINT64_C(11400714819323198549));
+        if (r10 < load64(r11 + 40)) {
+            r11_2 = load_address(r11 + 32) + (r10 * 24);
+            if (load8(r11_2) != 1) {
+                goto after_place_intmap_place;
+            }
+            if (load64(r11_2 + 8) != key) {
+                goto after_place_intmap_place;
+            }
+            r4 = r11_2 + 16;
+        } else {
+            r11_3 = load_address(r11 + 56) + (r10 * 48);
+            if (load8(r11_3) != 1) {
+                goto after_place_intmap_place;
+            }
+            if (load64(r11_3 + 8) == key) {
+                r4 = r11_3 + 16;
+            } else {
+                r4_2 = load_address(r11_3 + 24);
+                r6 = load64(r11_3 + 32);
+                if (r6 == 0) {
+                    goto after_place_intmap_place;
+                }
+                r3_0 = 0;
+                for (;;) {
+                    r21 = r3_0 << 4;
+                    if (load64(r4_2 + r21) == key) {
+                        r4 = (r4_2 + r21) + 8;
+                        break;
+                    }
+                    r36 = r3_0 + 1;
+                    if (r36 == r6) {
+                        goto after_place_intmap_place;
+                    }
+                    r3_0 = r36;
+                }
+            }
+        }
+        store_address(at, r4);
+    }
+after_place_intmap_place:;
+    return;
+}
+
 // intmap_version, in crates/intmap_c/src/version.rt
 static ALWAYS_INLINE uint32_t do_intmap_version(void) {
     return 10000;
@@ -3504,7 +3556,7 @@ static ALWAYS_INLINE struct word_word do_intmap_remove(char *map, uint64_t key) 
         r4_3, r0_2_8_ext;
     char *x0, *r11, *r11_2, *r23_2, *r4_2, *r23_3, *x5;
     struct word_half r23;
-    uint32_t r0_0_0_0_pn115;
+    uint32_t r0_0_0_0_pn127;
     r3 = load64(map);
     store64(map, 0);
     x0 = (char *)(uintptr_t)r3;
@@ -3515,12 +3567,12 @@ static ALWAYS_INLINE struct word_word do_intmap_remove(char *map, uint64_t key) 
         if (r10 < load64(x0 + 40)) {
             r11 = load_address(x0 + 32) + (r10 * 24);
             if (load8(r11) != 1) {
-                r0_0_0_0_pn115 = 0;
+                r0_0_0_0_pn127 = 0;
                 spec_select = 0;
                 goto after_pairs_remove;
             }
             if (load64(r11 + 8) != key) {
-                r0_0_0_0_pn115 = 0;
+                r0_0_0_0_pn127 = 0;
                 spec_select = 0;
                 goto after_pairs_remove;
             }
@@ -3533,7 +3585,7 @@ static ALWAYS_INLINE struct word_word do_intmap_remove(char *map, uint64_t key) 
         } else {
             r11_2 = load_address(x0 + 56) + (r10 * 48);
             if (load8(r11_2) != 1) {
-                r0_0_0_0_pn115 = 0;
+                r0_0_0_0_pn127 = 0;
                 spec_select = 0;
                 goto after_pairs_remove;
             }
@@ -3560,7 +3612,7 @@ static ALWAYS_INLINE struct word_word do_intmap_remove(char *map, uint64_t key) 
                 r4_2 = load_address(r11_2 + 24);
                 r6 = load64(r11_2 + 32);
                 if (r6 == 0) {
-                    r0_0_0_0_pn115 = 0;
+                    r0_0_0_0_pn127 = 0;
                     spec_select = 0;
                     goto after_pairs_remove;
                 }
@@ -3584,7 +3636,7 @@ static ALWAYS_INLINE struct word_word do_intmap_remove(char *map, uint64_t key) 
                         break;
                     }
                     if (r45 == r6) {
-                        r0_0_0_0_pn115 = 0;
+                        r0_0_0_0_pn127 = 0;
                         spec_select = 0;
                         goto after_pairs_remove;
                     }
@@ -3593,11 +3645,11 @@ static ALWAYS_INLINE struct word_word do_intmap_remove(char *map, uint64_t key) 
             }
         }
         store64(x0 + 80, load64(x0 + 80) - 1);
-        r0_0_0_0_pn115 = 1;
+        r0_0_0_0_pn127 = 1;
         spec_select = r0_2;
     after_pairs_remove:;
         store64(map, r3);
-        r23 = made_word_half(spec_select, r0_0_0_0_pn115);
+        r23 = made_word_half(spec_select, r0_0_0_0_pn127);
     }
     r0_2_8_ext = (uint64_t)r23.second;
     return made_word_word(r23.first, r0_2_8_ext);
@@ -3935,9 +3987,9 @@ static ALWAYS_INLINE uint32_t do_intmap_with_capacity(char *map, uint64_t capaci
 // intmap_add_or_insert, in crates/intmap_c/src/pairs.rt
 static ALWAYS_INLINE struct word_word do_intmap_add_or_insert(char *map, uint64_t key, uint64_t more) {
     struct byte_address r13;
-    uint64_t r6, r19, x1, r10, r6_2, r3_0, r21, r36, r28, x13, r44, r40, r8, r8_2, r16_2, r20, r2933;
+    uint64_t r6, r19, x1, r10, r6_2, r3_0, r21, r36, r28, x13, r44, r40, r8, r8_2, r16_2, r20, r2931;
     bool r16;
-    char *r11, *r2933_in, *r11_2, *r4, *r11_3, *r9, *r9_2, *r11_5;
+    char *r11, *r2931_in, *r11_2, *r4, *r11_3, *r9, *r9_2, *r11_5;
     struct byte_word r53, r53_2, r86;
     uint8_t r11_4;
     uint64_t r12_room[4];
@@ -3954,7 +4006,7 @@ static ALWAYS_INLINE struct word_word do_intmap_add_or_insert(char *map, uint64_
             r11 = load_address(r13.second + 32) + (r10 * 24);
             if (load8(r11) == 1) {
                 if (load64(r11 + 8) == key) {
-                    r2933_in = r11 + 16;
+                    r2931_in = r11 + 16;
                     goto after_OccupiedEntry_insert;
                 }
             }
@@ -3962,7 +4014,7 @@ static ALWAYS_INLINE struct word_word do_intmap_add_or_insert(char *map, uint64_
             r11_2 = load_address(r13.second + 56) + (r10 * 48);
             if (load8(r11_2) == 1) {
                 if (load64(r11_2 + 8) == key) {
-                    r2933_in = r11_2 + 16;
+                    r2931_in = r11_2 + 16;
                     goto after_OccupiedEntry_insert;
                 }
                 r4 = load_address(r11_2 + 24);
@@ -3972,7 +4024,7 @@ static ALWAYS_INLINE struct word_word do_intmap_add_or_insert(char *map, uint64_
                     for (;;) {
                         r21 = r3_0 << 4;
                         if (load64(r4 + r21) == key) {
-                            r2933_in = (r4 + r21) + 8;
+                            r2931_in = (r4 + r21) + 8;
                             goto after_OccupiedEntry_insert;
                         }
                         r36 = r3_0 + 1;
@@ -4046,10 +4098,10 @@ static ALWAYS_INLINE struct word_word do_intmap_add_or_insert(char *map, uint64_
         r8 = 0;
         goto after_pairs_add_or_insert;
     after_OccupiedEntry_insert:;
-        r2933 = load64(r2933_in);
-        store64(r2933_in, r2933 + more);
+        r2931 = load64(r2931_in);
+        store64(r2931_in, r2931 + more);
         r40 = 1;
-        r8 = r2933;
+        r8 = r2931;
     after_pairs_add_or_insert:;
         store64(map, x1);
         r6 = r8;
@@ -4509,6 +4561,12 @@ ALIGNED intmap_found_value intmap_add_or_insert(intmap *map, uint64_t key,
                                                 uint64_t more) INTMAP_CALL {
     return found_value(do_intmap_add_or_insert(BYTES(map), key, more));
 }
+
+#if !HIGH_BYTE_FIRST
+ALIGNED void intmap_place(intmap *map, uint64_t key, uint64_t **at) INTMAP_CALL {
+    do_intmap_place(BYTES(map), key, BYTES(at));
+}
+#endif
 
 ALIGNED intmap_found_value intmap_remove(intmap *map, uint64_t key) INTMAP_CALL {
     return found_value(do_intmap_remove(BYTES(map), key));
