@@ -153,7 +153,7 @@ class Block:
         elif found := re.match(r"the value of (\d+)", said):
             self.must(call, shown(result) == shown(self.on.get(int(found[1]))))
             said = said[found.end() :]
-        elif not isinstance(result, list) and result not in (None, ()) and not said.startswith("leaves"):
+        elif said.startswith(("Some(", "Ok(", "Err(")) or result not in ([], None, ()) and not said.startswith("leaves"):
             raise Differs(f"{call}: a plain list answers {shown(result)}")
         while said:
             said = self.phrase(call, said)
