@@ -1,0 +1,223 @@
+"""What is written into pages from the sources: the pages of docs/reference, and the calls that each library's CALLING.md
+quotes. It stands between two marks, and the rest of a page is by hand."""
+import functools
+import re
+import textwrap
+
+from examples import KINDS, Differs, Unknown, run_block
+from sources import Sources
+
+API, LINES = "docs/API.md", "tools/example_lines.txt"
+# the first mark says who writes it
+BEGIN, END = "<!-- tools/calls --write writes this -->", "<!-- to here -->"
+WRITTEN = re.compile(rf"(?<={re.escape(BEGIN)}\n)(.*?)(?={re.escape(END)})", re.S)
+# by page: its crate, its types in order, and its functions that are of none
+PAGES = {
+    "IntMap": ("intmap", ["IntMap"], []),
+    "Entry": ("intmap", ["Entry", "OccupiedEntry", "VacantEntry"], []),
+    "Iterators": ("intmap", "Iter Keys Values IterMut ValuesMut IntoIter IntoKeys IntoValues Drain ExtractIf Cursor".split(), []),
+    "Errors": ("intmap", ["Cause", "Refused", "RefusedPair", "JsonCause"], []),
+    "IntKey": ("intmap", ["IntKey", "Steps"], ["key_of"]),
+    "IntSet": ("intmap_set", ["IntSet", "Difference", "Intersection", "Union", "SymmetricDifference", "Drain"], []),
+    "SparseVec": ("intmap_sparse", ["SparseVec", "SparseCause"], []),
+    "Runs": ("intmap_run", ["Command", "Answer", "Judge"], ["run"]),
+    "Text": ("intmap_text", ["Line", "OddJudge"], ["read_line", "print_answer", "serve"]),
+}
+# types and calls of the crate below that `intmap` passes on
+PASSED_ON = ["key.rt", "steps.rt", "table/walk.rt"]
+# what a row of API.md writes behind the calls of each kind of entry
+OF_ENTRIES = {"Entry": "`Entry`", "OccupiedEntry": "occupied", "VacantEntry": "vacant", "IntMap": ", map"}
+# the sections of API.md that are about a type; of a map's if there is no row
+SECTIONS = {"IntSet": ["Sets"], "SparseVec": ["Sparse vectors"], **dict.fromkeys(["Entry", "OccupiedEntry", "VacantEntry"], ["Entries"])}
+NOT_OF_MAPS = {"Sets", "Sparse vectors", "Command lists", "Entries", "C"}
+# what has the costs of a map where no row is its own
+AS_MAPS = {"IntMap", "IntSet", ""}
+WITH_PRIVATE_TYPES = {"intmap_text"}
+# traits that every type of an iterator has, or that proofs alone see
+UNSAID = {"Model", "Drop", "Eq", "Send", "Sync", "Owns", "Move"}
+# how API.md writes the methods of traits
+WRITTEN_AS = {"index": "map\\[", "eq": "==`", "into_iter": "into_iter\\("}
+# examples of comments that no plain list can answer: shapes of code, and words without a number
+UNREAD = {
+    "IntMap::entry", "Entry::or_insert", "Entry::and_modify", "Entry::into_map", "Entry::or_insert_with_key", "Entry::or_insert_with",
+    "Entry::or_default", "Entry::or_try_insert_with", "IntMap::get_mut", "IntMap::values_mut", "IntMap::iter_mut", "IntSet::extend",
+    "IntSet::from_iter", "SparseVec::iter", "IntMap::eq", "SparseVec::eq", "Iter::clone", "::Refused", "::RefusedPair", "::Judge", "::IntKey", "::Steps",
+}  # fmt: skip
+
+
+@functools.lru_cache(None)
+def paths_of(crate, paths):
+    """The sources of a crate and of what it passes on, in one order everywhere."""
+    of = [f"crates/{crate}/src/"] + ([f"crates/intmap_table/src/{it}" for it in PASSED_ON] if crate == "intmap" else [])
+    return sorted(it for it in paths if it.startswith(tuple(of)) and it.endswith(".rt"))
+
+
+@functools.lru_cache(None)
+def sources_in(texts):
+    return Sources(dict(texts))
+
+
+def sources_of(crate, files):
+    """The public items of a crate, and those that it passes on."""
+    return sources_in(tuple((it, files[it]) for it in paths_of(crate, tuple(files))))
+
+
+@functools.lru_cache(None)
+def costs_in(text):
+    return Costs(text)
+
+
+class Costs:
+    """The costs that the rows of API.md have, by section and call."""
+
+    def __init__(self, text):
+        self.rows = []
+        parts = re.split(r"^## (.+)$", text, flags=re.M)
+        for title, part in zip(parts[1::2], parts[2::2]):
+            for table in re.findall(r"^Call \|.*\n(?:.*\|.*\n)*", part, re.M):
+                head, _, *lines = table.splitlines()
+                cells = [re.split(r" \| ?", it) for it in lines]
+                self.rows += [(title, it[0], it[-1]) for it in cells if head.endswith("| Cost")]
+
+    @functools.lru_cache(None)
+    def of(self, kind, name):
+        """The cost of a call, and the place of its row; None if no row has it."""
+        call = re.compile(rf"`(?:\w+::)?{WRITTEN_AS.get(name, name + chr(92) + 'b')}")
+        named = [(at, title, first, cost) for at, (title, first, cost) in enumerate(self.rows) if call.search(first)]
+        own = [it for it in named if it[1] in SECTIONS.get(kind, [])]
+        if kind in OF_ENTRIES and kind != "IntMap":
+            own = [it for it in own if OF_ENTRIES[kind] in it[2]] or own
+        entries = [it for it in named if it[1] == "Entries" and OF_ENTRIES["IntMap"] in it[2]] if kind == "IntMap" else []
+        of_maps = [it for it in named if it[1] not in NOT_OF_MAPS] if kind in AS_MAPS else []
+        found = own or entries or of_maps
+        return (found[0][3], found[0][0]) if found else (None, len(self.rows))
+
+
+def lines_of(text):
+    """The lines of code that a file has for calls, by type and call."""
+    return {head: body for head, body in re.findall(r"^= (\S+)\n((?:.+\n)+)", text, re.M)}
+
+
+def wrapped(text):
+    return textwrap.fill(text, 140, break_long_words=False, break_on_hyphens=False) + "\n\n" if text else ""
+
+
+def block(kind, text):
+    return f"```{kind}\n{text.rstrip()}\n```\n"
+
+
+def paragraph(comment):
+    return f"{comment}\n\n" if comment else ""
+
+
+class Reference:
+    """Renders items of a crate."""
+
+    def __init__(self, crate, files):
+        self.crate, self.sources, self.costs = crate, sources_of(crate, files), costs_in(files[API])
+        self.lines = lines_of(files[LINES])
+
+    def labels(self, item):
+        needs = [f"`{it}`" for it in item.labels(("requires",)) if it != "requires"]
+        says = [f"`{it}`" for it in item.labels(("ensures", "ensures*")) if not it.startswith("ensures")]
+        parts = [f"Requires {', '.join(needs)}."] if needs else []
+        parts += ["It has a `requires`."] if len(needs) < len(item.labels(("requires",))) else []
+        return parts + ([f"Clauses: {', '.join(says)}."] if says else [])
+
+    def lines_for(self, key, item):
+        """The lines of code of a call: those of the comment, but not one that can't be run where another can."""
+        own = [self.lines[key]] if key in self.lines else []
+        return [it for it in item.example if not (key in UNREAD and own and it.count("\n") == 1)] + own
+
+    def call(self, item, name=""):
+        """A call: signature, comment, cost, clauses, lines of code."""
+        # a `for` over a reference is no call of its own
+        cost = None if " of `&" in name else self.costs.of(item.owner, item.name)[0]
+        text = f"### {name or f'`{item.name}`'}\n\n{block('rust', item.signature)}\n{paragraph(item.comment)}"
+        text += wrapped(" ".join(([f"Cost: {cost}."] if cost else []) + self.labels(item)))
+        return text + "".join(f"{block('text', it)}\n" for it in self.lines_for(f"{item.owner}::{item.name}", item))
+
+    def traits(self, kind):
+        """The traits of a type, each with the clauses that it gives."""
+        told = [f"`{it}`" for it in self.sources.types[kind].clauses if it not in UNSAID]
+        for trait, whole, text, _, path in self.sources.traits.get(kind, []):
+            if trait not in UNSAID and path.startswith(f"crates/{self.crate}/"):
+                gives = re.findall(r"^    ghost (\w+_gives|laws) ", text, re.M)
+                of = f" of `{whole}`" if whole.startswith("&") else ""
+                told.append(f"`{trait}`{of}" + (f" ({', '.join(f'`{it}`' for it in gives)})" if gives else ""))
+        return wrapped(f"Traits: {', '.join(dict.fromkeys(told))}." if told else "")
+
+    def type(self, kind):
+        """A type: what of it is public, comment, traits, calls, and what its traits say of their methods."""
+        it = self.sources.types[kind]
+        text = f"## `{kind}`\n\n{block('rust', it.signature)}\n{paragraph(it.comment)}"
+        text += "".join(f"{block('text', one)}\n" for one in it.example) + self.traits(kind)
+        calls = [one for one in self.sources.calls if one.owner == kind]
+        text += "".join(map(self.call, sorted(calls, key=lambda one: self.costs.of(kind, one.name)[1])))
+        for trait, whole, _, methods, _ in self.sources.traits.get(kind, []):
+            of = f" of `{whole}`" if whole.startswith("&") else ""
+            text += "".join(self.call(one, f"`{trait}::{one.name}`{of}") for one in methods if trait not in UNSAID)
+        return text
+
+    def page(self, types, functions):
+        text = "".join(map(self.type, types))
+        names = {it.name: it for it in self.sources.calls if not it.owner}
+        return "\n" + text + "".join(self.call(names[it]).replace("### ", "## ", 1) for it in functions)
+
+
+def examples_in(files):
+    """Each example, by type and call: its text, and whether it is in a comment."""
+    for crate in dict.fromkeys(it[0] for it in PAGES.values()):
+        found = sources_of(crate, files)
+        of_traits = [it for kind in found.traits for it in found.methods(kind)]
+        for it in [*found.calls, *found.types.values(), *of_traits]:
+            for text in it.example:
+                yield f"{it.owner if it.name else ''}::{it.name or it.owner}", text, True
+    yield from ((key, text, False) for key, text in lines_of(files[LINES]).items())
+
+
+def not_shown(files):
+    """The public types and functions of the crates that no page has."""
+    for crate in dict.fromkeys(it[0] for it in PAGES.values()):
+        root = files[f"crates/{crate}/src/lib.rt"]
+        named = {*re.findall(r"\w+", " ".join(re.findall(r"^pub use ([^;]+);", root, re.M)))}
+        found = sources_of(crate, files)
+        # a module that is private, with nothing named of it, has types of its own
+        public = {it for it in found.types if it in named or crate not in WITH_PRIVATE_TYPES}
+        public |= {it.name for it in found.calls if not it.owner and it.name in named}
+        shown = {it for of, types, functions in PAGES.values() if of == crate for it in [*types, *functions]}
+        yield from (f"tools/reference.py: no page has {it} of {crate}" for it in sorted(public - shown))
+
+
+def without_lines(files, have):
+    """The calls of maps, entries, sets and vectors on the pages for which no line of code runs."""
+    for crate, types, _ in PAGES.values():
+        calls = [f"{it.owner}::{it.name}" for it in sources_of(crate, files).calls if it.owner in {*types} & {*KINDS}]
+        yield from (f"no line of code runs for {it}: {LINES} may have it" for it in calls if it not in have)
+
+
+def wrong_examples(files, counts):
+    """Which lines of code aren't so, or can't be read and aren't known for that; and which calls have none."""
+    unread, have = set(), set()
+    for key, text, is_comment in examples_in(files):
+        kind, name = key.split("::")
+        is_unread = is_comment and key in UNREAD
+        try:
+            count = run_block(kind if kind in KINDS else "", name, text)
+            counts["lines of code"] += count
+            have.add(key)
+            if is_unread:
+                yield f"tools/reference.py says that the example of {key} can't be read"
+        except (Differs, Unknown) as why:
+            if is_unread:
+                unread.add(key)
+            else:
+                yield f"an example of {key}{'' if isinstance(why, Differs) else ' is not understood'}: {why}"
+    yield from (f"tools/reference.py lists an example of {it}, and there is none" for it in sorted(UNREAD - unread))
+    counts["examples not run"] += len(unread)
+    yield from [*without_lines(files, have), *not_shown(files)]
+
+
+def rendered(files):
+    """What stands between the marks of each page."""
+    return {f"docs/reference/{name}.md": Reference(crate, files).page(types, functions) for name, (crate, types, functions) in PAGES.items()}
