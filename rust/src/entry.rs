@@ -1,4 +1,6 @@
 //! Entries: a map with a key that was looked up once, to read, change, remove or insert its pair.
+#[cfg(feature = "check")]
+use crate::check::{self, List};
 use crate::proved::map::entry as proved;
 use crate::refusal::{Refused, granted};
 use crate::{IntKey, IntMap};
@@ -76,7 +78,12 @@ impl<K: IntKey, V> IntMap<K, V> {
     /// ```
     #[inline]
     pub fn entry(&mut self, key: K) -> Entry<'_, K, V> {
-        Entry::of(self.map.entry(key))
+        #[cfg(feature = "check")]
+        let before = List::of_some(&self.map);
+        let entry = Entry::of(self.map.entry(key));
+        #[cfg(feature = "check")]
+        check::entry(before, key, matches!(entry, Entry::Occupied(_)));
+        entry
     }
 }
 

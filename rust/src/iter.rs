@@ -21,7 +21,10 @@
 //! assert_eq!(map.into_iter().size_hint(), (0, Some(2)));
 //! ```
 use crate::IntKey;
+#[cfg(feature = "check")]
+use crate::check::iter as proved;
 use crate::memory::clone;
+#[cfg(not(feature = "check"))]
 use crate::proved::map::iter as proved;
 use core::fmt::{self, Debug, Formatter};
 use core::iter::FusedIterator;
@@ -44,7 +47,10 @@ macro_rules! iterators {
 
             #[inline]
             fn next(&mut self) -> Option<$item> {
-                let item = self.inner.next()?;
+                let item = self.inner.next();
+                #[cfg(feature = "check")]
+                crate::check::steps(self.left, item.is_some());
+                let item = item?;
                 self.left = self.left.saturating_sub(1);
                 Some(item)
             }

@@ -30,6 +30,23 @@
 //! [`IntMap::values_mut`] and `&mut map` hand out; what mends a map after a panic; and this crate's
 //! calls over the proved ones, a few lines each.
 //!
+//! # Checked runs
+//!
+//! With the feature `check`, off by default, each call runs beside its contract: on a plain list of
+//! the numbers of the keys, in iteration order. The call panics unless the map then has the pairs,
+//! the order, the capacity and the load factor that are due, and unless the answer or the failure
+//! is due. So it finds a type of keys whose numbers change or are shared, and a fault in the proved
+//! text as Rust compiles it, in `memory` or in a call by hand. It is there in each profile.
+//!
+//! Values aren't compared, since they need no `==`; a returned reference has to be that of the key's
+//! value. Not checked are `==`, the order of [`IntMap::into_iter`] and its like, and
+//! the calls of two sets. A call on up to 64 pairs is checked, and so is one that goes through all
+//! pairs or adds slots. Of the others so many are that a check reads 64 pairs a call on average, or
+//! the whole time would be spent on large maps.
+//!
+//! A check allocates, with an alignment of 16 bytes, and reads the numbers of keys. If there is no
+//! memory for it, the call goes unchecked.
+//!
 //! # Failed allocations
 //!
 //! A call that may allocate has two forms. [`insert`](IntMap::insert) does what std's collections
@@ -91,6 +108,8 @@ compile_error!("intmap_proved is for targets that are 64 bits wide");
 
 extern crate alloc;
 
+#[cfg(feature = "check")]
+mod check;
 mod entry;
 mod guard;
 pub mod iter;

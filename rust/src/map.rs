@@ -1,5 +1,7 @@
 //! The map, and its calls on one key.
 use crate::IntKey;
+#[cfg(feature = "check")]
+use crate::check::{self, List};
 use crate::memory::alloc::Global;
 use crate::proved::map::IntMap as Proved;
 use crate::refusal::{Cause, granted};
@@ -79,7 +81,10 @@ impl<K: IntKey, V> IntMap<K, V> {
     /// # Ok::<(), Cause>(())
     /// ```
     pub fn try_new() -> Result<IntMap<K, V>, Cause> {
-        Ok(IntMap { map: Proved::new(Global)? })
+        let map = Proved::new(Global)?;
+        #[cfg(feature = "check")]
+        check::made("new", 4, &map);
+        Ok(IntMap { map })
     }
 
     /// Returns an empty map. Its capacity is the least power of two that is at least `capacity`,
@@ -125,7 +130,10 @@ impl<K: IntKey, V> IntMap<K, V> {
     /// assert_eq!(cause((1 << 63) + 1), Some(Cause::TooLarge));
     /// ```
     pub fn try_with_capacity(capacity: usize) -> Result<IntMap<K, V>, Cause> {
-        Ok(IntMap { map: Proved::with_capacity(Global, capacity)? })
+        let made = Proved::with_capacity(Global, capacity);
+        #[cfg(feature = "check")]
+        check::with_capacity(capacity, &made);
+        Ok(IntMap { map: made? })
     }
 
     /// Returns a reference to the value of the key, or `None` if the key is absent. The cost is
@@ -141,6 +149,8 @@ impl<K: IntKey, V> IntMap<K, V> {
     /// ```
     #[inline]
     pub fn get(&self, key: K) -> Option<&V> {
+        #[cfg(feature = "check")]
+        check::find("get", &self.map, key, self.map.get(key).map(|it| it as *const V));
         self.map.get(key)
     }
 
@@ -160,6 +170,10 @@ impl<K: IntKey, V> IntMap<K, V> {
     /// ```
     #[inline]
     pub fn get_mut(&mut self, key: K) -> Option<&mut V> {
+        #[cfg(feature = "check")]
+        let found = self.map.get_mut(key).map(|it| it as *const V);
+        #[cfg(feature = "check")]
+        check::find("get_mut", &self.map, key, found);
         self.map.get_mut(key)
     }
 
@@ -176,6 +190,8 @@ impl<K: IntKey, V> IntMap<K, V> {
     /// ```
     #[inline]
     pub fn get_key_value(&self, key: K) -> Option<(&K, &V)> {
+        #[cfg(feature = "check")]
+        check::find_pair(&self.map, key, self.map.get_key_value(key));
         self.map.get_key_value(key)
     }
 
@@ -191,6 +207,8 @@ impl<K: IntKey, V> IntMap<K, V> {
     /// assert_eq!(map.first_key_value(), map.iter().next());
     /// ```
     pub fn first_key_value(&self) -> Option<(&K, &V)> {
+        #[cfg(feature = "check")]
+        check::find_first(&self.map, self.map.first_key_value());
         self.map.first_key_value()
     }
 
@@ -206,6 +224,8 @@ impl<K: IntKey, V> IntMap<K, V> {
     /// ```
     #[inline]
     pub fn contains_key(&self, key: K) -> bool {
+        #[cfg(feature = "check")]
+        check::contains(&self.map, key, self.map.contains_key(key));
         self.map.contains_key(key)
     }
 
@@ -224,7 +244,12 @@ impl<K: IntKey, V> IntMap<K, V> {
     /// ```
     #[inline]
     pub fn remove(&mut self, key: K) -> Option<V> {
-        self.map.remove(key)
+        #[cfg(feature = "check")]
+        let before = List::of_some(&self.map);
+        let value = self.map.remove(key);
+        #[cfg(feature = "check")]
+        check::remove("remove", before, key, value.is_some(), &self.map);
+        value
     }
 
     /// The same as [`remove`](IntMap::remove), but it returns the key beside its value.
@@ -239,6 +264,11 @@ impl<K: IntKey, V> IntMap<K, V> {
     /// ```
     #[inline]
     pub fn remove_entry(&mut self, key: K) -> Option<(K, V)> {
-        self.map.remove_entry(key)
+        #[cfg(feature = "check")]
+        let before = List::of_some(&self.map);
+        let pair = self.map.remove_entry(key);
+        #[cfg(feature = "check")]
+        check::remove("remove_entry", before, key, pair.is_some(), &self.map);
+        pair
     }
 }

@@ -10,6 +10,8 @@
 //! assert_eq!(count(IntSet::from([1, 2]).union(&IntSet::from([2, 3]))), 3);
 //! ```
 use crate::IntKey;
+#[cfg(feature = "check")]
+use crate::check::{self, List};
 use crate::guard::Mending;
 use crate::memory::alloc::Global;
 use crate::proved::set::IntSet as Proved;
@@ -76,7 +78,10 @@ impl<K: IntKey> IntSet<K> {
     /// # Ok::<(), Cause>(())
     /// ```
     pub fn try_new() -> Result<IntSet<K>, Cause> {
-        Ok(IntSet { set: Proved::new(Global)? })
+        let set = Proved::new(Global)?;
+        #[cfg(feature = "check")]
+        check::made("new", 4, set.map());
+        Ok(IntSet { set })
     }
 
     /// Returns an empty set. Its capacity is the least power of two that is at least `capacity`,
@@ -159,9 +164,13 @@ impl<K: IntKey> IntSet<K> {
     /// ```
     #[inline]
     pub fn try_insert(&mut self, key: K) -> Result<bool, Cause> {
+        #[cfg(feature = "check")]
+        let before = List::before(self.set.map(), key);
         let guard = Mending(&mut self.set);
         let result = guard.0.insert(key);
         mem::forget(guard);
+        #[cfg(feature = "check")]
+        check::insert_member(before, key, &result, self.set.map());
         result
     }
 
@@ -175,6 +184,8 @@ impl<K: IntKey> IntSet<K> {
     /// ```
     #[inline]
     pub fn contains(&self, key: K) -> bool {
+        #[cfg(feature = "check")]
+        check::contains(self.set.map(), key, self.set.contains(key));
         self.set.contains(key)
     }
 
@@ -190,7 +201,12 @@ impl<K: IntKey> IntSet<K> {
     /// ```
     #[inline]
     pub fn remove(&mut self, key: K) -> bool {
-        self.set.remove(key)
+        #[cfg(feature = "check")]
+        let before = List::of_some(self.set.map());
+        let was_member = self.set.remove(key);
+        #[cfg(feature = "check")]
+        check::remove("remove", before, key, was_member, self.set.map());
+        was_member
     }
 
     /// The same as [`remove`](IntSet::remove), but it returns the key if it was a member.
@@ -279,9 +295,13 @@ impl<K: IntKey> IntSet<K> {
     /// assert_eq!(set.try_reserve(usize::MAX), Err(Cause::TooLarge));
     /// ```
     pub fn try_reserve(&mut self, additional: usize) -> Result<(), Cause> {
+        #[cfg(feature = "check")]
+        let before = List::reserving(self.set.map(), additional);
         let guard = Mending(&mut self.set);
         let result = guard.0.reserve(additional);
         mem::forget(guard);
+        #[cfg(feature = "check")]
+        check::reserve(before, additional, result, self.set.map());
         result
     }
 }

@@ -1,6 +1,8 @@
 //! Entries of present keys.
 use super::OccupiedEntry;
 use crate::IntKey;
+#[cfg(feature = "check")]
+use crate::check;
 use core::fmt::{self, Debug, Formatter};
 
 impl<'a, K: IntKey, V> OccupiedEntry<'a, K, V> {
@@ -109,7 +111,14 @@ impl<'a, K: IntKey, V> OccupiedEntry<'a, K, V> {
     /// ```
     #[inline]
     pub fn remove(self) -> V {
-        self.0.remove()
+        #[cfg(feature = "check")]
+        {
+            check::removed(self.0, |entry| entry.remove())
+        }
+        #[cfg(not(feature = "check"))]
+        {
+            self.0.remove()
+        }
     }
 
     /// The same as [`remove`](OccupiedEntry::remove), but it returns the key beside the value.
@@ -126,7 +135,14 @@ impl<'a, K: IntKey, V> OccupiedEntry<'a, K, V> {
     /// ```
     #[inline]
     pub fn remove_entry(self) -> (K, V) {
-        self.0.remove_entry()
+        #[cfg(feature = "check")]
+        {
+            check::removed(self.0, |entry| entry.remove_entry())
+        }
+        #[cfg(not(feature = "check"))]
+        {
+            self.0.remove_entry()
+        }
     }
 
     /// Removes the pair as [`remove`](OccupiedEntry::remove) does, and calls `f` with the value.
@@ -157,7 +173,14 @@ impl<'a, K: IntKey, V> OccupiedEntry<'a, K, V> {
     /// assert_eq!((from.len(), to[21].as_str()), (0, "a name"));
     /// ```
     pub fn hand_over<R>(self, f: impl FnOnce(V) -> Result<R, V>) -> Option<R> {
-        self.0.hand_over(f)
+        #[cfg(feature = "check")]
+        {
+            check::handed_over(self.0, |entry| entry.hand_over(f))
+        }
+        #[cfg(not(feature = "check"))]
+        {
+            self.0.hand_over(f)
+        }
     }
 }
 

@@ -1,6 +1,8 @@
 //! Entries of absent keys.
 use super::{OccupiedEntry, VacantEntry};
 use crate::IntKey;
+#[cfg(feature = "check")]
+use crate::check::{self, List};
 use crate::guard::Mending;
 use crate::proved::map::entry as proved;
 use crate::refusal::{Refused, granted};
@@ -139,10 +141,17 @@ impl<'a, K: IntKey, V> VacantEntry<'a, K, V> {
     fn inserted(self, value: V) -> Result<proved::OccupiedEntry<'a, K, V>, Refused<V>> {
         let (key, slot) = (*self.0.key(), self.0.slot());
         let map = self.0.into_map();
+        #[cfg(feature = "check")]
+        let before = List::before(map, key);
         let guard = Mending(&mut *map);
         let result = guard.0.vacant_entry(key, slot).insert_entry(value).map(|entry| entry.place());
         mem::forget(guard);
-        Ok(map.entry_at(result?))
+        #[cfg(feature = "check")]
+        check::insert_vacant(before, key, &result, map);
+        let entry = map.entry_at(result?);
+        #[cfg(feature = "check")]
+        check::is_of(&entry, key);
+        Ok(entry)
     }
 }
 

@@ -1,6 +1,8 @@
 //! Insertions.
 use super::IntMap;
 use crate::IntKey;
+#[cfg(feature = "check")]
+use crate::check::{self, List};
 use crate::guard::Mending;
 use crate::refusal::{Refused, granted};
 use core::mem;
@@ -30,9 +32,13 @@ impl<K: IntKey, V> IntMap<K, V> {
     /// ```
     #[inline(always)]
     pub fn insert(&mut self, key: K, value: V) -> Option<V> {
+        #[cfg(feature = "check")]
+        let before = List::before(&self.map, key);
         let guard = Mending(&mut self.map);
         let result = guard.0.insert(key, value);
         mem::forget(guard);
+        #[cfg(feature = "check")]
+        check::insert(before, key, &result, &self.map);
         granted(result)
     }
 
@@ -59,9 +65,13 @@ impl<K: IntKey, V> IntMap<K, V> {
     /// ```
     #[inline(always)]
     pub fn try_insert(&mut self, key: K, value: V) -> Result<Option<V>, Refused<V>> {
+        #[cfg(feature = "check")]
+        let before = List::before(&self.map, key);
         let guard = Mending(&mut self.map);
         let result = guard.0.insert(key, value);
         mem::forget(guard);
+        #[cfg(feature = "check")]
+        check::insert(before, key, &result, &self.map);
         result
     }
 
@@ -109,9 +119,13 @@ impl<K: IntKey, V> IntMap<K, V> {
     /// ```
     #[inline]
     pub fn try_insert_checked(&mut self, key: K, value: V) -> Result<bool, Refused<V>> {
+        #[cfg(feature = "check")]
+        let before = List::before(&self.map, key);
         let guard = Mending(&mut self.map);
         let result = guard.0.insert_checked(key, value);
         mem::forget(guard);
+        #[cfg(feature = "check")]
+        check::insert_checked(before, key, &result, &self.map);
         result
     }
 }

@@ -1,6 +1,8 @@
 //! The sizes of a map, and the calls that make it larger.
 use super::IntMap;
 use crate::IntKey;
+#[cfg(feature = "check")]
+use crate::check::{self, List};
 use crate::guard::Mending;
 use crate::refusal::{Cause, granted};
 use core::mem;
@@ -94,9 +96,13 @@ impl<K: IntKey, V> IntMap<K, V> {
     /// assert_eq!(map.capacity(), 2);
     /// ```
     pub fn try_reserve(&mut self, additional: usize) -> Result<(), Cause> {
+        #[cfg(feature = "check")]
+        let before = List::reserving(&self.map, additional);
         let guard = Mending(&mut self.map);
         let result = guard.0.reserve(additional);
         mem::forget(guard);
+        #[cfg(feature = "check")]
+        check::reserve(before, additional, result, &self.map);
         result
     }
 
@@ -190,9 +196,13 @@ impl<K: IntKey, V> IntMap<K, V> {
     /// assert_eq!(map.capacity(), 32);
     /// ```
     pub fn try_set_load_factor_thousandths(&mut self, thousandths: usize) -> Result<(), Cause> {
+        #[cfg(feature = "check")]
+        let before = List::of(&self.map);
         let guard = Mending(&mut self.map);
         let result = guard.0.set_load_factor(thousandths);
         mem::forget(guard);
+        #[cfg(feature = "check")]
+        check::set_load_factor(before, thousandths, result, &self.map);
         result
     }
 
@@ -206,6 +216,8 @@ impl<K: IntKey, V> IntMap<K, V> {
     /// assert_eq!(IntMap::from([(0u64, 'a'), (4, 'b')]).load(), 1);
     /// ```
     pub fn load(&self) -> u64 {
+        #[cfg(feature = "check")]
+        check::load(&self.map, self.map.load());
         self.map.load()
     }
 
@@ -270,6 +282,9 @@ impl<K: IntKey, V> IntMap<K, V> {
     /// # Ok::<(), Cause>(())
     /// ```
     pub fn try_collisions(&self) -> Result<IntMap<u64, u64>, Cause> {
-        Ok(IntMap { map: self.map.collisions()? })
+        let map = self.map.collisions()?;
+        #[cfg(feature = "check")]
+        check::collisions(&self.map, &map);
+        Ok(IntMap { map })
     }
 }

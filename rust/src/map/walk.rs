@@ -1,6 +1,8 @@
 //! The calls that make iterators.
 use super::IntMap;
 use crate::IntKey;
+#[cfg(feature = "check")]
+use crate::check;
 use crate::iter::{IntoIter, IntoKeys, IntoValues, Iter, IterMut, Keys, Values, ValuesMut};
 
 impl<K: IntKey, V> IntMap<K, V> {
@@ -18,6 +20,8 @@ impl<K: IntKey, V> IntMap<K, V> {
     /// ```
     #[inline]
     pub fn iter(&self) -> Iter<'_, K, V> {
+        #[cfg(feature = "check")]
+        check::iterators(&self.map);
         Iter { left: self.len(), inner: self.map.iter() }
     }
 
@@ -55,6 +59,8 @@ impl<K: IntKey, V> IntMap<K, V> {
     /// ```
     #[inline]
     pub fn keys(&self) -> Keys<'_, K, V> {
+        #[cfg(feature = "check")]
+        check::iterators(&self.map);
         Keys { left: self.len(), inner: self.map.keys() }
     }
 
@@ -72,6 +78,8 @@ impl<K: IntKey, V> IntMap<K, V> {
     /// ```
     #[inline]
     pub fn values(&self) -> Values<'_, K, V> {
+        #[cfg(feature = "check")]
+        check::iterators(&self.map);
         Values { left: self.len(), inner: self.map.values() }
     }
 

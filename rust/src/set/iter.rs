@@ -25,7 +25,10 @@ macro_rules! iterators {
 
             #[inline]
             fn next(&mut self) -> Option<$item> {
-                let item = self.inner.next()?;
+                let item = self.inner.next();
+                #[cfg(feature = "check")]
+                crate::check::steps(self.left, item.is_some());
+                let item = item?;
                 self.left = self.left.saturating_sub(1);
                 Some(item)
             }

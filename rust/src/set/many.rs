@@ -1,5 +1,7 @@
 //! Calls on many members.
 use super::{Cause, Drain, Global, IntKey, IntSet, Iter, Mending, Proved, mem};
+#[cfg(feature = "check")]
+use crate::check::{self, Asked, Coming, List};
 use crate::refusal::RefusedPair;
 
 impl<K: IntKey> IntSet<K> {
@@ -31,9 +33,15 @@ impl<K: IntKey> IntSet<K> {
     /// assert_eq!(set.len(), 2);
     /// ```
     pub fn retain<F: FnMut(K) -> bool>(&mut self, keep: F) {
+        #[cfg(feature = "check")]
+        let (mut asked, mut keep) = (Asked::of(self.set.map()), keep);
+        #[cfg(feature = "check")]
+        let keep = |key: K| asked.about(key, keep(key));
         let guard = Mending(&mut self.set);
         guard.0.retain(keep);
         mem::forget(guard);
+        #[cfg(feature = "check")]
+        asked.ended("retain", self.set.map());
     }
 
     /// Removes all members. The capacity and the memory stay. The cost is *O*(*n* + *c*).
@@ -46,7 +54,11 @@ impl<K: IntKey> IntSet<K> {
     /// assert_eq!((set.len(), set.capacity()), (0, 2));
     /// ```
     pub fn clear(&mut self) {
+        #[cfg(feature = "check")]
+        let before = List::of(self.set.map());
         self.set.clear();
+        #[cfg(feature = "check")]
+        check::clear(before, self.set.map());
     }
 
     /// Returns an iterator that removes one member at each step and returns it, in iteration order.
@@ -87,9 +99,15 @@ impl<K: IntKey> IntSet<K> {
     where
         I: IntoIterator<Item = K>,
     {
+        #[cfg(feature = "check")]
+        let mut coming = Coming::into(self.set.map());
+        #[cfg(feature = "check")]
+        let keys = coming.watch(keys, |key| *key);
         let guard = Mending(&mut self.set);
         let result = guard.0.extend(keys.into_iter());
         mem::forget(guard);
+        #[cfg(feature = "check")]
+        coming.joined(&result, self.set.map());
         result
     }
 
@@ -109,7 +127,14 @@ impl<K: IntKey> IntSet<K> {
     /// # Ok::<(), Cause>(())
     /// ```
     pub fn try_from_iter<I: IntoIterator<Item = K>>(keys: I) -> Result<IntSet<K>, Cause> {
-        Ok(IntSet { set: Proved::from_iter(Global, keys.into_iter())? })
+        #[cfg(feature = "check")]
+        let (mut coming, keys) = Coming::into_new(keys.into_iter());
+        #[cfg(feature = "check")]
+        let keys = coming.watch(keys, |key| *key);
+        let set = Proved::from_iter(Global, keys.into_iter())?;
+        #[cfg(feature = "check")]
+        coming.joined(&Ok(()), set.map());
+        Ok(IntSet { set })
     }
 
     /// The same as [`clone`](Clone::clone), but it returns a failure.
@@ -128,6 +153,9 @@ impl<K: IntKey> IntSet<K> {
     /// # Ok::<(), Cause>(())
     /// ```
     pub fn try_clone(&self) -> Result<IntSet<K>, Cause> {
-        Ok(IntSet { set: self.set.clone()? })
+        let set = self.set.clone()?;
+        #[cfg(feature = "check")]
+        check::copied(self.set.map(), set.map());
+        Ok(IntSet { set })
     }
 }

@@ -8,6 +8,8 @@ mod forms;
 mod fuse;
 mod keys;
 mod keys_anywhere;
+// a check finds the lies
+#[cfg(not(feature = "check"))]
 mod lying_keys;
 #[path = "../shared/random.rs"]
 mod random;

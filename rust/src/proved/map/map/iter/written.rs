@@ -5,6 +5,8 @@
 use crate::memory::alloc::{Allocator, Global};
 use crate::proved::map::map::IntMap;
 use crate::proved::table::kept::Kept;
+#[cfg(feature = "check")]
+use crate::proved::table::table::Progress;
 use crate::proved::table::table::written::PairsMut;
 use crate::proved::table::IntKey;
 
@@ -28,5 +30,17 @@ impl<K: IntKey, V, A: Allocator + Copy> IntMap<K, V, A> {
     /// It allocates nothing.
     pub fn iter_mut(&mut self) -> IterMut<'_, K, V, A> {
         IterMut { pairs: self.table.pairs_mut() }
+    }
+}
+
+#[cfg(feature = "check")]
+impl<K: IntKey, V, A: Allocator + Copy> IntMap<K, V, A> {
+    /// A step of [`ExtractIf`](super::ExtractIf).
+    pub fn extract_step<F: FnMut(K, &mut V) -> bool>(
+        &mut self,
+        at: &mut Progress,
+        pick: &mut F,
+    ) -> Option<(K, V)> {
+        self.extract_next(at, pick)
     }
 }
