@@ -64,6 +64,12 @@ pub struct VacantEntry<'a, K: IntKey, V>(proved::VacantEntry<'a, K, V>);
 impl<K: IntKey, V> IntMap<K, V> {
     /// Returns the entry of the key. It never fails. The cost is *O*(*s*).
     ///
+    /// # Proved
+    ///
+    /// - The map is as it was (`state`).
+    /// - The key of the entry is the given one (`key`).
+    /// - The entry is `Occupied` exactly if the key is present (`occupied`).
+    ///
     /// # Examples
     ///
     /// ```
@@ -121,6 +127,16 @@ impl<'a, K: IntKey, V> Entry<'a, K, V> {
     }
 
     /// Calls `change` with the value if the key is present, and returns the entry.
+    ///
+    /// # Proved
+    ///
+    /// - The key of the entry stays (`key`).
+    /// - The closure is called once, with the value of a present key, and the key then has what it
+    ///   left. At an absent key it isn't called (`value`).
+    /// - The value changes in its place. All else stays: the other pairs, their order, the capacity
+    ///   and the load factor. If the key is absent, the map stays (`state`).
+    /// - Each other key keeps its value, or stays absent (`updates`).
+    /// - The length stays (`len`).
     ///
     /// # Examples
     ///

@@ -26,6 +26,13 @@
 //! the map then has and in which order, its capacity, when the call fails, and that a failed call
 //! leaves the map as it was. The README names what a reader trusts beside the proof.
 //!
+//! Under a call that makes a proved one, the section *Proved* says what its contract does, clause by
+//! clause; the word in brackets is the name of the clause. Where the proved call returns `Err` and
+//! the public one has no `Result`, that one panics or ends the process. What holds of every map is
+//! proved of each call too: no key is there twice, the pairs are in the order of their slots, the
+//! capacity is a power of two from 2 to 2^63, and the load factor is met at the last length at which
+//! insertions check it.
+//!
 //! Not proved, but tested: mutable references to the values one by one, which [`IntMap::iter_mut`],
 //! [`IntMap::values_mut`] and `&mut map` hand out; what mends a map after a panic; and this crate's
 //! calls over the proved ones, a few lines each.

@@ -52,6 +52,10 @@ impl<K: IntKey, V> IntMap<K, V> {
     /// Unlike std's, it allocates, so [`Default`] and `mem::take` do too. A failed allocation is
     /// handled as std does; [`try_new`](IntMap::try_new) returns it. The cost is *O*(1).
     ///
+    /// # Proved
+    ///
+    /// That of [`try_new`](IntMap::try_new).
+    ///
     /// # Examples
     ///
     /// ```
@@ -70,6 +74,11 @@ impl<K: IntKey, V> IntMap<K, V> {
     /// # Errors
     ///
     /// [`Cause::Memory`] if an allocation fails.
+    ///
+    /// # Proved
+    ///
+    /// - In `Ok` there is no pair or member, in 4 slots, with a load factor of 0.909 (`state`).
+    /// - It fails by `Memory` alone (`memory`).
     ///
     /// # Examples
     ///
@@ -100,6 +109,10 @@ impl<K: IntKey, V> IntMap<K, V> {
     ///
     /// If `capacity` is above 2^63.
     ///
+    /// # Proved
+    ///
+    /// That of [`try_with_capacity`](IntMap::try_with_capacity).
+    ///
     /// # Examples
     ///
     /// ```
@@ -120,6 +133,13 @@ impl<K: IntKey, V> IntMap<K, V> {
     /// [`Cause::TooLarge`] if `capacity` is above 2^63, and otherwise [`Cause::Memory`] if an
     /// allocation fails.
     ///
+    /// # Proved
+    ///
+    /// - In `Ok` there is no pair or member, and the load factor is 0.909 (`state`).
+    /// - The capacity is the least power of two that is at least `capacity`, and at least 2
+    ///   (`capacity`).
+    /// - It fails by `TooLarge` exactly if `capacity` is above 2^63 (`too_large`).
+    ///
     /// # Examples
     ///
     /// ```
@@ -139,6 +159,11 @@ impl<K: IntKey, V> IntMap<K, V> {
     /// Returns a reference to the value of the key, or `None` if the key is absent. The cost is
     /// *O*(*s*).
     ///
+    /// # Proved
+    ///
+    /// - The reference is to the value of the key, or there is none, if the key is absent
+    ///   (`value`).
+    ///
     /// # Examples
     ///
     /// ```
@@ -156,6 +181,16 @@ impl<K: IntKey, V> IntMap<K, V> {
 
     /// Returns a mutable reference to the value of the key, or `None` if the key is absent. The
     /// cost is *O*(*s*).
+    ///
+    /// # Proved
+    ///
+    /// - The value that was written last by the reference is then the key's, in the place of the
+    ///   old one. All else stays: the other pairs, their order, the capacity and the load factor.
+    ///   If the key is absent, the map stays (`writes_back`).
+    /// - The reference is to the value of the key, or there is none, if the key is absent
+    ///   (`value`).
+    /// - Whatever is written, each other key keeps its value, or stays absent (`updates`).
+    /// - The length stays (`len`).
     ///
     /// # Examples
     ///
@@ -180,6 +215,12 @@ impl<K: IntKey, V> IntMap<K, V> {
     /// Returns references to the key in the map and to its value, or `None` if the key is absent.
     /// The cost is *O*(*s*).
     ///
+    /// # Proved
+    ///
+    /// - The first reference is to a key that equals the given one (`key`).
+    /// - The second reference is to the value of the key. There is no pair exactly if the key is
+    ///   absent (`value`).
+    ///
     /// # Examples
     ///
     /// ```
@@ -198,6 +239,11 @@ impl<K: IntKey, V> IntMap<K, V> {
     /// Returns references to the key and the value of the pair that iteration visits first, or
     /// `None` if the map is empty. The cost is *O*(1 + *c*/64).
     ///
+    /// # Proved
+    ///
+    /// - The references are to the first pair in iteration order, or there are none, if there is no
+    ///   pair (`value`).
+    ///
     /// # Examples
     ///
     /// ```
@@ -213,6 +259,10 @@ impl<K: IntKey, V> IntMap<K, V> {
     }
 
     /// Returns whether the key is present. The cost is *O*(*s*).
+    ///
+    /// # Proved
+    ///
+    /// - The answer is `true` exactly if the key is present (`value`).
     ///
     /// # Examples
     ///
@@ -232,6 +282,15 @@ impl<K: IntKey, V> IntMap<K, V> {
     /// Removes the pair of the key, and returns its value, or `None` if the key is absent.
     ///
     /// The last pair of the slot takes its place. The capacity stays. The cost is *O*(*s*).
+    ///
+    /// # Proved
+    ///
+    /// - The value is that of the key, or there is none, if the key was absent (`value`).
+    /// - The pair is gone, and the last pair of its slot has its place. All else stays: the other
+    ///   pairs in their order, the capacity and the load factor. If the key was absent, the map
+    ///   stays (`state`).
+    /// - The key is then absent. Each other key keeps its value, or stays absent (`updates`).
+    /// - The length is one less if something was removed, and otherwise stays (`len`).
     ///
     /// # Examples
     ///
@@ -253,6 +312,16 @@ impl<K: IntKey, V> IntMap<K, V> {
     }
 
     /// The same as [`remove`](IntMap::remove), but it returns the key beside its value.
+    ///
+    /// # Proved
+    ///
+    /// - The key of the pair is the given one (`key`).
+    /// - The value is that of the key. There is no pair exactly if the key was absent (`value`).
+    /// - The pair is gone, and the last pair of its slot has its place. All else stays: the other
+    ///   pairs in their order, the capacity and the load factor. If the key was absent, the map
+    ///   stays (`state`).
+    /// - The key is then absent. Each other key keeps its value, or stays absent (`updates`).
+    /// - The length is one less if something was removed, and otherwise stays (`len`).
     ///
     /// # Examples
     ///

@@ -52,6 +52,10 @@ impl<K: IntKey> IntSet<K> {
     /// Unlike std's, it allocates. A failed allocation is handled as std does;
     /// [`try_new`](IntSet::try_new) returns it. The cost is *O*(1).
     ///
+    /// # Proved
+    ///
+    /// That of [`try_new`](IntSet::try_new).
+    ///
     /// # Examples
     ///
     /// ```
@@ -68,6 +72,11 @@ impl<K: IntKey> IntSet<K> {
     /// # Errors
     ///
     /// [`Cause::Memory`] if an allocation fails.
+    ///
+    /// # Proved
+    ///
+    /// - In `Ok` there is no pair or member, in 4 slots, with a load factor of 0.909 (`state`).
+    /// - It fails by `Memory` alone (`memory`).
     ///
     /// # Examples
     ///
@@ -97,6 +106,10 @@ impl<K: IntKey> IntSet<K> {
     ///
     /// If `capacity` is above 2^63.
     ///
+    /// # Proved
+    ///
+    /// That of [`try_with_capacity`](IntSet::try_with_capacity).
+    ///
     /// # Examples
     ///
     /// ```
@@ -113,6 +126,13 @@ impl<K: IntKey> IntSet<K> {
     ///
     /// [`Cause::TooLarge`] if `capacity` is above 2^63, and otherwise [`Cause::Memory`] if an
     /// allocation fails.
+    ///
+    /// # Proved
+    ///
+    /// - In `Ok` there is no pair or member, and the load factor is 0.909 (`state`).
+    /// - The capacity is the least power of two that is at least `capacity`, and at least 2
+    ///   (`capacity`).
+    /// - It fails by `TooLarge` exactly if `capacity` is above 2^63 (`too_large`).
     ///
     /// # Examples
     ///
@@ -135,6 +155,10 @@ impl<K: IntKey> IntSet<K> {
     ///
     /// If the set needs more than 2^63 slots.
     ///
+    /// # Proved
+    ///
+    /// That of [`try_insert`](IntSet::try_insert).
+    ///
     /// # Examples
     ///
     /// ```
@@ -153,6 +177,19 @@ impl<K: IntKey> IntSet<K> {
     ///
     /// [`Cause::TooLarge`] if the set needs more than 2^63 slots, [`Cause::Memory`] if an
     /// allocation fails. The set stays as it was. It never fails if the key is a member.
+    ///
+    /// # Proved
+    ///
+    /// - In `Ok` is `true` exactly if the key was no member (`new`).
+    /// - After `Ok` the key is a member, and each other key stays what it was. A new member is the
+    ///   last one of its slot, and the capacity changes as by an insertion into a map. A present
+    ///   one changes nothing (`inserted`).
+    /// - After `Err` the set is as it was: the members, their order and the capacity (`err`).
+    /// - `Err` comes only for a new key. The cause is `TooLarge` exactly if the set would need more
+    ///   than 2^63 slots or 2^64 members. It is `Memory` only if the capacity would change or
+    ///   another member shares the slot (`refused`).
+    /// - It never fails for a key that shares its slot with no member, if the capacity stays
+    ///   (`lone`).
     ///
     /// # Examples
     ///
@@ -176,6 +213,10 @@ impl<K: IntKey> IntSet<K> {
 
     /// Returns whether the key is a member. The cost is *O*(*s*).
     ///
+    /// # Proved
+    ///
+    /// - The answer is `true` exactly if the key is a member (`value`).
+    ///
     /// # Examples
     ///
     /// ```
@@ -191,6 +232,14 @@ impl<K: IntKey> IntSet<K> {
 
     /// Removes the key, and returns whether it was a member. The last member of its slot takes its
     /// place. The cost is *O*(*s*).
+    ///
+    /// # Proved
+    ///
+    /// - The answer is `true` exactly if the key was a member (`value`).
+    /// - The member is gone, and the last one of its slot has its place. The others keep their
+    ///   order, and the capacity stays. If the key was no member, the set stays (`state`).
+    /// - The key is then no member. Each other key stays what it was (`updates`).
+    /// - The length is one less if the answer is `true`, and otherwise stays (`len`).
     ///
     /// # Examples
     ///
@@ -211,6 +260,10 @@ impl<K: IntKey> IntSet<K> {
 
     /// The same as [`remove`](IntSet::remove), but it returns the key if it was a member.
     ///
+    /// # Proved
+    ///
+    /// That of [`remove`](IntSet::remove).
+    ///
     /// # Examples
     ///
     /// ```
@@ -224,6 +277,10 @@ impl<K: IntKey> IntSet<K> {
 
     /// Returns the number of members. The cost is *O*(1).
     ///
+    /// # Proved
+    ///
+    /// - The answer is the number of pairs or members that iteration visits (`value`).
+    ///
     /// # Examples
     ///
     /// ```
@@ -236,6 +293,10 @@ impl<K: IntKey> IntSet<K> {
 
     /// Returns whether there is no member. The cost is *O*(1).
     ///
+    /// # Proved
+    ///
+    /// - The answer is `true` exactly if iteration visits nothing (`value`).
+    ///
     /// # Examples
     ///
     /// ```
@@ -247,6 +308,10 @@ impl<K: IntKey> IntSet<K> {
     }
 
     /// Returns the number of slots, a power of two. The cost is *O*(1).
+    ///
+    /// # Proved
+    ///
+    /// - The answer is the number of slots by which the order is defined (`value`).
     ///
     /// # Examples
     ///
@@ -268,6 +333,10 @@ impl<K: IntKey> IntSet<K> {
     ///
     /// If the number of members plus `additional` is above 2^63.
     ///
+    /// # Proved
+    ///
+    /// That of [`try_reserve`](IntSet::try_reserve).
+    ///
     /// # Examples
     ///
     /// ```
@@ -285,6 +354,19 @@ impl<K: IntKey> IntSet<K> {
     ///
     /// [`Cause::TooLarge`] if the number of members plus `additional` is above 2^63, and otherwise
     /// [`Cause::Memory`] if an allocation fails. The set stays as it was.
+    ///
+    /// # Proved
+    ///
+    /// - After `Ok` the capacity is the greater of the old one and of the least power of two that
+    ///   is at least the length plus `additional` (`capacity`).
+    /// - After `Ok` the members are the same, in the order of the new capacity; those of a slot
+    ///   keep their order (`state`).
+    /// - After `Err` all is as it was: what iteration visits, its order, the capacity and the load
+    ///   factor (`err`).
+    /// - The cause is `TooLarge` exactly if the length plus `additional` is above 2^63. It is
+    ///   `Memory` only if that is above the capacity (`refused`).
+    /// - Each key stays what it was, a member or not (`same`).
+    /// - The length stays (`len`).
     ///
     /// # Examples
     ///

@@ -8,6 +8,10 @@ use core::fmt::{self, Debug, Formatter};
 impl<'a, K: IntKey, V> OccupiedEntry<'a, K, V> {
     /// Returns a reference to the key in the map.
     ///
+    /// # Proved
+    ///
+    /// - The key is that of the entry (`value`).
+    ///
     /// # Examples
     ///
     /// ```
@@ -23,6 +27,10 @@ impl<'a, K: IntKey, V> OccupiedEntry<'a, K, V> {
     }
 
     /// Returns a reference to the value.
+    ///
+    /// # Proved
+    ///
+    /// - The reference is to the value of the key (`value`).
     ///
     /// # Examples
     ///
@@ -41,6 +49,15 @@ impl<'a, K: IntKey, V> OccupiedEntry<'a, K, V> {
 
     /// Returns a mutable reference to the value, which can't outlive the entry.
     ///
+    /// # Proved
+    ///
+    /// - The value that was written last by the reference is then the key's, in the place of the
+    ///   old one. All else stays: the other pairs, their order, the capacity and the load factor
+    ///   (`writes_back`).
+    /// - The reference is to the value of the key (`value`).
+    /// - Whatever is written, each other key keeps its value, or stays absent (`updates`).
+    /// - The length stays (`len`).
+    ///
     /// # Examples
     ///
     /// ```
@@ -58,6 +75,15 @@ impl<'a, K: IntKey, V> OccupiedEntry<'a, K, V> {
     }
 
     /// Returns a mutable reference to the value, for as long as the map is borrowed.
+    ///
+    /// # Proved
+    ///
+    /// - The value that was written last by the reference is then the key's, in the place of the
+    ///   old one. All else stays: the other pairs, their order, the capacity and the load factor
+    ///   (`writes_back`).
+    /// - The reference is to the value of the key (`value`).
+    /// - Whatever is written, each other key keeps its value, or stays absent (`updates`).
+    /// - The length stays (`len`).
     ///
     /// # Examples
     ///
@@ -79,6 +105,15 @@ impl<'a, K: IntKey, V> OccupiedEntry<'a, K, V> {
 
     /// Sets the value, and returns the old one. The pair keeps its place.
     ///
+    /// # Proved
+    ///
+    /// - The value is that which the key had (`old`).
+    /// - The new value is in the place of the old one. All else stays: the entry's key, the other
+    ///   pairs, their order, the capacity and the load factor (`written`).
+    /// - The key then has the given value. Each other key keeps its own, or stays absent
+    ///   (`updates`).
+    /// - The length stays (`len`).
+    ///
     /// # Examples
     ///
     /// ```
@@ -97,6 +132,14 @@ impl<'a, K: IntKey, V> OccupiedEntry<'a, K, V> {
 
     /// Removes the pair as [`IntMap::remove`](crate::IntMap::remove) does, and returns the value.
     /// The cost is *O*(1).
+    ///
+    /// # Proved
+    ///
+    /// - The value is that which the key had (`value`).
+    /// - The pair is gone, and the last pair of its slot has its place. All else stays: the other
+    ///   pairs in their order, the capacity and the load factor (`state`).
+    /// - The key is then absent. Each other key keeps its value, or stays absent (`updates`).
+    /// - The length is one less (`len`).
     ///
     /// # Examples
     ///
@@ -122,6 +165,15 @@ impl<'a, K: IntKey, V> OccupiedEntry<'a, K, V> {
     }
 
     /// The same as [`remove`](OccupiedEntry::remove), but it returns the key beside the value.
+    ///
+    /// # Proved
+    ///
+    /// - The key of the pair is that of the entry (`key`).
+    /// - The value is that which the key had (`value`).
+    /// - The pair is gone, and the last pair of its slot has its place. All else stays: the other
+    ///   pairs in their order, the capacity and the load factor (`state`).
+    /// - The key is then absent. Each other key keeps its value, or stays absent (`updates`).
+    /// - The length is one less (`len`).
     ///
     /// # Examples
     ///
@@ -156,6 +208,18 @@ impl<'a, K: IntKey, V> OccupiedEntry<'a, K, V> {
     /// # Panics
     ///
     /// If `f` panics. The map is then one without the pair.
+    ///
+    /// # Proved
+    ///
+    /// - The closure is called once, with the value of the key. After its `Ok` the key is absent,
+    ///   after its `Err` it has the value in it. Each other key keeps its value, or stays absent
+    ///   (`updates`).
+    /// - After its `Ok` the map is as `remove` leaves it. After its `Err` the pair is the last one
+    ///   of its slot, as `insert` of the present key leaves it (`state`).
+    /// - Each other key keeps its value, or stays absent, whatever the closure returns (`others`).
+    /// - The length is one less if the answer is `Some`, and otherwise stays (`len`).
+    /// - The capacity stays (`capacity`).
+    /// - The load factor stays (`factor`).
     ///
     /// # Examples
     ///

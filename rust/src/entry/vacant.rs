@@ -12,6 +12,10 @@ use core::mem;
 impl<'a, K: IntKey, V> VacantEntry<'a, K, V> {
     /// Returns a reference to the key.
     ///
+    /// # Proved
+    ///
+    /// - The key is that of the entry (`value`).
+    ///
     /// # Examples
     ///
     /// ```
@@ -27,6 +31,11 @@ impl<'a, K: IntKey, V> VacantEntry<'a, K, V> {
     }
 
     /// Returns the key, and leaves it absent.
+    ///
+    /// # Proved
+    ///
+    /// - The key is that of the entry (`value`).
+    /// - The map is as it was (`state`).
     ///
     /// # Examples
     ///

@@ -21,6 +21,10 @@ impl<K: IntKey, V> IntMap<K, V> {
     ///
     /// If the map needs more than 2^63 slots.
     ///
+    /// # Proved
+    ///
+    /// That of [`try_insert`](IntMap::try_insert).
+    ///
     /// # Examples
     ///
     /// ```
@@ -52,6 +56,25 @@ impl<K: IntKey, V> IntMap<K, V> {
     /// [`TooLarge`](crate::Cause::TooLarge) if the map needs more than 2^63 slots,
     /// [`Memory`](crate::Cause::Memory) if an allocation fails. The map stays as it was. It never
     /// fails if the key is present.
+    ///
+    /// # Proved
+    ///
+    /// - In `Ok` is the value that the key had before, or `None` if it was absent (`old`).
+    /// - After `Ok` the key has the value, and each other key has what it had before. The length is
+    ///   one more exactly if the key is new. The capacity stays, unless the key is new, the new
+    ///   length is 4 to 7, 12 to 15, 20 to 23 and so on, and the pairs exceed the load factor; then
+    ///   it is the least of its doublings in which they don't (`inserted`).
+    /// - After `Ok` the pair is the last one of its slot; a present key's old pair was removed as
+    ///   `remove` does. The order of all pairs follows from that and from the capacity. The load
+    ///   factor stays (`state`).
+    /// - After `Err` the map is as it was: the pairs, their order, the capacity and the load factor
+    ///   (`err`).
+    /// - In `Err` is the given value (`value_returned`).
+    /// - `Err` comes only for an absent key. The cause is `TooLarge` exactly if the map would need
+    ///   more than 2^63 slots or 2^64 pairs. It is `Memory` only if the capacity would change or
+    ///   another key shares the slot (`refused`).
+    /// - It never fails for a key that shares its slot with no other, if the capacity stays
+    ///   (`lone`).
     ///
     /// # Examples
     ///
@@ -86,6 +109,10 @@ impl<K: IntKey, V> IntMap<K, V> {
     ///
     /// If the map needs more than 2^63 slots.
     ///
+    /// # Proved
+    ///
+    /// That of [`try_insert_checked`](IntMap::try_insert_checked).
+    ///
     /// # Examples
     ///
     /// ```
@@ -107,6 +134,23 @@ impl<K: IntKey, V> IntMap<K, V> {
     /// # Errors
     ///
     /// As for [`try_insert`](IntMap::try_insert).
+    ///
+    /// # Proved
+    ///
+    /// - In `Ok` is `true` exactly if the key was absent (`new`).
+    /// - After `Ok` the key has the value that it had, or the given one if it is new. Each other
+    ///   key has what it had before. The length is one more exactly if the key is new, and only
+    ///   then the capacity may change, as by `insert` (`inserted`).
+    /// - After `Ok(true)` the map is as `insert` of the pair leaves it. After `Ok(false)` it is as
+    ///   it was (`state`).
+    /// - After `Err` the map is as it was: the pairs, their order, the capacity and the load factor
+    ///   (`err`).
+    /// - In `Err` is the given value (`value_returned`).
+    /// - `Err` comes only for an absent key. The cause is `TooLarge` exactly if the map would need
+    ///   more than 2^63 slots or 2^64 pairs. It is `Memory` only if the capacity would change or
+    ///   another key shares the slot (`refused`).
+    /// - It never fails for a key that shares its slot with no other, if the capacity stays
+    ///   (`lone`).
     ///
     /// # Examples
     ///

@@ -21,6 +21,20 @@ impl<K: IntKey, V> IntMap<K, V> {
     /// If `keep` or the drop of a value panics, the map stays whole, and the pairs that weren't
     /// reached stay in it.
     ///
+    /// # Proved
+    ///
+    /// - If the closure's answer at a pair is always the same, that pair stays exactly if the
+    ///   answer is `true` (`by_pair`).
+    /// - If the closure's answer at a key is always the same, whatever the value, a present key
+    ///   stays exactly if the answer is `true` (`by_key`).
+    /// - If the closure answers as a fixed test of pairs, the pairs that pass it stay, in their
+    ///   order (`filtered`).
+    /// - The closure is called once for each pair, in iteration order, each time in the state that
+    ///   its last call left. The pairs with `true` stay, in their order, and no other (`pairs`).
+    /// - The capacity and the load factor stay (`state`).
+    /// - Each key has the value that it had, or is absent (`updates`).
+    /// - The length doesn't grow (`len`).
+    ///
     /// # Examples
     ///
     /// ```
@@ -45,6 +59,12 @@ impl<K: IntKey, V> IntMap<K, V> {
     /// Removes all pairs. The capacity, the load factor and the memory stay.
     ///
     /// If the drop of a value panics, the map stays whole. The cost is *O*(*n* + *c*).
+    ///
+    /// # Proved
+    ///
+    /// - There is no pair left. The capacity and the load factor stay (`state`).
+    /// - Each key is absent (`updates`).
+    /// - The length is 0 (`len`).
     ///
     /// # Examples
     ///
@@ -72,6 +92,10 @@ impl<K: IntKey, V> IntMap<K, V> {
     /// *O*(*s*), all of them with the look for the next slots *O*(*n s* + *c*). Where thousands of
     /// keys share a slot, `mem::take(&mut map).into_iter()` is faster.
     ///
+    /// # Proved
+    ///
+    /// - At the first step all is there that was: nothing is removed before (`state`).
+    ///
     /// # Examples
     ///
     /// ```
@@ -98,6 +122,13 @@ impl<K: IntKey, V> IntMap<K, V> {
     /// reach stay as they are. All steps together cost *O*(*n s* + *c*) beside the calls of `pick`.
     /// [`retain`](IntMap::retain) costs *O*(*n* + *c*), however many keys share a slot.
     ///
+    /// # Proved
+    ///
+    /// - At the first step the map is as it was (`state`).
+    /// - The closure is the given one (`test`).
+    /// - Before the first step the closure was called at no pair (`kept`).
+    /// - The steps go through all pairs, in iteration order (`left`).
+    ///
     /// # Examples
     ///
     /// ```
@@ -120,6 +151,17 @@ impl<K: IntKey, V> IntMap<K, V> {
     ///
     /// It does what a loop over [`iter_mut`](IntMap::iter_mut) does. Its code is proved, that of
     /// `iter_mut` is tested.
+    ///
+    /// # Proved
+    ///
+    /// - If the closure changes each pair by a fixed rule, each pair is what the rule makes of it,
+    ///   in the old order (`mapped`).
+    /// - The closure is called once for each pair, in iteration order, each time in the state that
+    ///   its last call left. Each key has the value that its call left (`values`).
+    /// - The capacity and the load factor stay (`state`).
+    /// - The keys stay, in their order (`keys`).
+    /// - A key is present exactly if it was (`updates`).
+    /// - The length stays (`len`).
     ///
     /// # Examples
     ///
@@ -152,6 +194,17 @@ impl<K: IntKey, V> IntMap<K, V> {
     ///
     /// Those of [`try_insert`](IntMap::try_insert), with the pair that failed and the number of
     /// pairs before it. Those stay in the map, and the rest of the iterator is dropped.
+    ///
+    /// # Proved
+    ///
+    /// - After `Ok` each item of the iterator was inserted in turn. The load factor stays, and the
+    ///   capacity doesn't fall (`extends`).
+    /// - After `Ok` each key of the iterator has its last value there, and each other key what it
+    ///   had before (`runs`).
+    /// - After `Ok` the length grew by at most the number of items (`len`).
+    /// - After `Err` the items before the one that failed are in, and that one isn't. `applied` is
+    ///   their number, at most 2^64 - 1. The cause is one for which its insertion may fail
+    ///   (`stops`).
     ///
     /// # Examples
     ///
@@ -186,6 +239,15 @@ impl<K: IntKey, V> IntMap<K, V> {
     /// Those of [`try_with_capacity`](IntMap::try_with_capacity) and
     /// [`try_insert`](IntMap::try_insert), without the pairs: they are dropped.
     ///
+    /// # Proved
+    ///
+    /// - In `Ok` is a new map with the capacity for some number of pairs, at most that of the
+    ///   items, into which each pair was inserted in turn. `Err` has a cause for which one of these
+    ///   calls may fail (`collects`).
+    /// - In `Ok` each key of the iterator has its last value there, and no other key is present
+    ///   (`runs`).
+    /// - The length is at most the number of items (`len`).
+    ///
     /// # Examples
     ///
     /// ```
@@ -217,6 +279,15 @@ impl<K: IntKey, V: Clone> IntMap<K, V> {
     ///
     /// [`Cause::Memory`] if an allocation of the map fails. What the clone of a value allocates is
     /// handled by the value's type.
+    ///
+    /// # Proved
+    ///
+    /// - In `Ok` are clones of the values, under the same keys in the same order, with the same
+    ///   capacity and load factor (`clone`).
+    /// - The keys are the same, in the same order (`keys`).
+    /// - Each key has a clone of its value (`values`).
+    /// - The length is the same (`len`).
+    /// - It fails by `Memory` alone (`memory`).
     ///
     /// # Examples
     ///

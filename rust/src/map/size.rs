@@ -10,6 +10,10 @@ use core::mem;
 impl<K: IntKey, V> IntMap<K, V> {
     /// Returns the number of pairs. The cost is *O*(1).
     ///
+    /// # Proved
+    ///
+    /// - The answer is the number of pairs or members that iteration visits (`value`).
+    ///
     /// # Examples
     ///
     /// ```
@@ -23,6 +27,10 @@ impl<K: IntKey, V> IntMap<K, V> {
     }
 
     /// Returns whether there is no pair. The cost is *O*(1).
+    ///
+    /// # Proved
+    ///
+    /// - The answer is `true` exactly if iteration visits nothing (`value`).
     ///
     /// # Examples
     ///
@@ -40,6 +48,10 @@ impl<K: IntKey, V> IntMap<K, V> {
     ///
     /// Unlike std's, it isn't the number of pairs for which there is room: it says which keys share
     /// a slot.
+    ///
+    /// # Proved
+    ///
+    /// - The answer is the number of slots by which the order is defined (`value`).
     ///
     /// # Examples
     ///
@@ -65,6 +77,10 @@ impl<K: IntKey, V> IntMap<K, V> {
     ///
     /// If the number of pairs plus `additional` is above 2^63.
     ///
+    /// # Proved
+    ///
+    /// That of [`try_reserve`](IntMap::try_reserve).
+    ///
     /// # Examples
     ///
     /// ```
@@ -84,6 +100,18 @@ impl<K: IntKey, V> IntMap<K, V> {
     ///
     /// [`Cause::TooLarge`] if the number of pairs plus `additional` is above 2^63, and otherwise
     /// [`Cause::Memory`] if an allocation fails. The map stays as it was.
+    ///
+    /// # Proved
+    ///
+    /// - After `Ok` the capacity is the greater of the old one and of the least power of two that
+    ///   is at least the length plus `additional`. The pairs are the same, in the order of that
+    ///   capacity; those of a slot keep their order. The load factor stays (`reserved`).
+    /// - After `Err` all is as it was: what iteration visits, its order, the capacity and the load
+    ///   factor (`err`).
+    /// - The cause is `TooLarge` exactly if the length plus `additional` is above 2^63. It is
+    ///   `Memory` only if that is above the capacity (`refused`).
+    /// - Each key has the value that it had, or stays absent (`updates`).
+    /// - The length stays (`len`).
     ///
     /// # Examples
     ///
@@ -125,6 +153,11 @@ impl<K: IntKey, V> IntMap<K, V> {
 
     /// Returns the load factor in thousandths, as the map has it. The cost is *O*(1).
     ///
+    /// # Proved
+    ///
+    /// - The answer is the load factor, in thousandths, by which insertions decide on growth
+    ///   (`value`).
+    ///
     /// # Examples
     ///
     /// ```
@@ -147,6 +180,10 @@ impl<K: IntKey, V> IntMap<K, V> {
     ///
     /// If the pairs don't meet it in 2^63 slots.
     ///
+    /// # Proved
+    ///
+    /// That of [`try_set_load_factor`](IntMap::try_set_load_factor).
+    ///
     /// # Examples
     ///
     /// ```
@@ -167,6 +204,10 @@ impl<K: IntKey, V> IntMap<K, V> {
     /// [`Cause::TooLarge`] if the pairs don't meet it in 2^63 slots, and otherwise
     /// [`Cause::Memory`] if an allocation fails. The map stays as it was, with its load factor.
     ///
+    /// # Proved
+    ///
+    /// That of [`try_set_load_factor_thousandths`](IntMap::try_set_load_factor_thousandths).
+    ///
     /// # Examples
     ///
     /// ```
@@ -185,6 +226,18 @@ impl<K: IntKey, V> IntMap<K, V> {
     /// # Errors
     ///
     /// As for [`try_set_load_factor`](IntMap::try_set_load_factor).
+    ///
+    /// # Proved
+    ///
+    /// - After `Ok` the load factor is the given one. The capacity is the least of the old one and
+    ///   its doublings at which the pairs meet it. The pairs are the same, in the order of that
+    ///   capacity; those of a slot keep their order (`set`).
+    /// - After `Err` all is as it was: what iteration visits, its order, the capacity and the load
+    ///   factor (`err`).
+    /// - The cause is `TooLarge` exactly if the pairs don't meet the load factor in 2^63 slots. It
+    ///   is `Memory` only if they don't meet it in the slots that are there (`refused`).
+    /// - Each key has the value that it had, or stays absent (`updates`).
+    /// - The length stays (`len`).
     ///
     /// # Examples
     ///
@@ -207,6 +260,10 @@ impl<K: IntKey, V> IntMap<K, V> {
     }
 
     /// Returns the number of slots that have a pair. The cost is *O*(*c*), by 64 slots at a time.
+    ///
+    /// # Proved
+    ///
+    /// - The answer is how many different slots the keys have (`value`).
     ///
     /// # Examples
     ///
@@ -237,6 +294,10 @@ impl<K: IntKey, V> IntMap<K, V> {
     /// Counts the pairs, and returns whether their number is [`len`](IntMap::len). It always is.
     /// The cost is *O*(*n* + *c*).
     ///
+    /// # Proved
+    ///
+    /// - The answer is `true` (`value`).
+    ///
     /// # Examples
     ///
     /// ```
@@ -253,6 +314,10 @@ impl<K: IntKey, V> IntMap<K, V> {
     ///
     /// A failed allocation is handled as std does; [`try_collisions`](IntMap::try_collisions)
     /// returns it. The cost is *O*(*c*).
+    ///
+    /// # Proved
+    ///
+    /// That of [`try_collisions`](IntMap::try_collisions).
     ///
     /// # Examples
     ///
@@ -272,6 +337,15 @@ impl<K: IntKey, V> IntMap<K, V> {
     /// # Errors
     ///
     /// [`Cause::Memory`] if an allocation fails.
+    ///
+    /// # Proved
+    ///
+    /// - In `Ok` is a new map, into which each size of a slot above 1 was inserted, with how many
+    ///   slots have it, in the order in which the sizes first appear (`sizes`).
+    /// - Each size above 1 that a slot has is there, with the number of those slots, and no other
+    ///   (`bindings`).
+    /// - The length is the number of such sizes (`len`).
+    /// - It fails by `Memory` alone (`memory`).
     ///
     /// # Examples
     ///

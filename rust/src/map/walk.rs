@@ -10,6 +10,11 @@ impl<K: IntKey, V> IntMap<K, V> {
     ///
     /// It doesn't allocate. All steps together cost *O*(*n* + *c*).
     ///
+    /// # Proved
+    ///
+    /// - The iterator returns all pairs or members, each once, slot after slot, and each slot's
+    ///   from front to back (`walk`).
+    ///
     /// # Examples
     ///
     /// ```
@@ -49,6 +54,11 @@ impl<K: IntKey, V> IntMap<K, V> {
     ///
     /// The cost is that of [`iter`](IntMap::iter).
     ///
+    /// # Proved
+    ///
+    /// - The iterator returns the keys of all pairs, in iteration order (`walk`).
+    /// - It returns as many items as there are pairs (`len`).
+    ///
     /// # Examples
     ///
     /// ```
@@ -67,6 +77,11 @@ impl<K: IntKey, V> IntMap<K, V> {
     /// Returns an iterator over the values, in iteration order.
     ///
     /// The cost is that of [`iter`](IntMap::iter).
+    ///
+    /// # Proved
+    ///
+    /// - The iterator returns the values of all pairs, in iteration order (`walk`).
+    /// - It returns as many items as there are pairs (`len`).
     ///
     /// # Examples
     ///
@@ -106,6 +121,11 @@ impl<K: IntKey, V> IntMap<K, V> {
     ///
     /// The cost is that of [`iter`](IntMap::iter).
     ///
+    /// # Proved
+    ///
+    /// - The iterator returns the keys of all pairs, in iteration order (`walk`).
+    /// - It returns as many items as there are pairs (`len`).
+    ///
     /// # Examples
     ///
     /// ```
@@ -122,6 +142,11 @@ impl<K: IntKey, V> IntMap<K, V> {
     /// Returns an iterator over the values by value, in iteration order.
     ///
     /// The cost is that of [`iter`](IntMap::iter).
+    ///
+    /// # Proved
+    ///
+    /// - The iterator returns the values of all pairs, in iteration order (`walk`).
+    /// - It returns as many items as there are pairs (`len`).
     ///
     /// # Examples
     ///

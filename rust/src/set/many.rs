@@ -8,6 +8,11 @@ impl<K: IntKey> IntSet<K> {
     /// Returns an iterator over the members, in iteration order. It doesn't allocate. All steps
     /// together cost *O*(*n* + *c*).
     ///
+    /// # Proved
+    ///
+    /// - The iterator returns all pairs or members, each once, slot after slot, and each slot's
+    ///   from front to back (`walk`).
+    ///
     /// # Examples
     ///
     /// ```
@@ -24,6 +29,19 @@ impl<K: IntKey> IntSet<K> {
     ///
     /// The others keep their order, and the capacity stays. If `keep` panics, the set stays whole,
     /// with the members that weren't reached. The cost is *O*(*n* + *c*).
+    ///
+    /// # Proved
+    ///
+    /// - If the closure's answer at a member is always the same, it stays exactly if the answer is
+    ///   `true` (`by_key`).
+    /// - If the closure answers as a fixed test of keys, the members that pass it stay, in their
+    ///   order (`filtered`).
+    /// - The closure is called once for each member, in iteration order, each time in the state
+    ///   that its last call left. The members with `true` stay, in their order, and no other
+    ///   (`keys`).
+    /// - The capacity and the load factor stay (`state`).
+    /// - Each key stays what it was, or is no member (`updates`).
+    /// - The length doesn't grow (`len`).
     ///
     /// # Examples
     ///
@@ -46,6 +64,12 @@ impl<K: IntKey> IntSet<K> {
 
     /// Removes all members. The capacity and the memory stay. The cost is *O*(*n* + *c*).
     ///
+    /// # Proved
+    ///
+    /// - There is no member left. The capacity stays (`state`).
+    /// - No key is a member (`none`).
+    /// - The length is 0 (`len`).
+    ///
     /// # Examples
     ///
     /// ```
@@ -66,6 +90,10 @@ impl<K: IntKey> IntSet<K> {
     ///
     /// A step costs *O*(*s*), all of them with the look for the next slots *O*(*n s* + *c*).
     ///
+    /// # Proved
+    ///
+    /// - At the first step all is there that was: nothing is removed before (`state`).
+    ///
     /// # Examples
     ///
     /// ```
@@ -84,6 +112,16 @@ impl<K: IntKey> IntSet<K> {
     ///
     /// Those of [`try_insert`](IntSet::try_insert), with the key that failed, `()` as its value, and
     /// the number of keys before it. Those stay members, and the rest of the iterator is dropped.
+    ///
+    /// # Proved
+    ///
+    /// - After `Ok` each item of the iterator was inserted in turn. The load factor stays, and the
+    ///   capacity doesn't fall (`extends`).
+    /// - After `Ok` the members are those of before and all items (`runs`).
+    /// - After `Ok` the length grew by at most the number of items (`len`).
+    /// - After `Err` the items before the one that failed are in, and that one isn't. `applied` is
+    ///   their number, at most 2^64 - 1. The cause is one for which its insertion may fail
+    ///   (`stops`).
     ///
     /// # Examples
     ///
@@ -118,6 +156,14 @@ impl<K: IntKey> IntSet<K> {
     /// Those of [`try_with_capacity`](IntSet::try_with_capacity) and
     /// [`try_insert`](IntSet::try_insert).
     ///
+    /// # Proved
+    ///
+    /// - In `Ok` is a new set with the capacity for some number of members, at most that of the
+    ///   items, into which each item was inserted in turn. `Err` has a cause for which one of these
+    ///   calls may fail (`collects`).
+    /// - In `Ok` the members are the items, and no other key (`runs`).
+    /// - The length is at most the number of items (`len`).
+    ///
     /// # Examples
     ///
     /// ```
@@ -142,6 +188,11 @@ impl<K: IntKey> IntSet<K> {
     /// # Errors
     ///
     /// [`Cause::Memory`] if an allocation fails.
+    ///
+    /// # Proved
+    ///
+    /// - In `Ok` are the same members, in the same order, with the same capacity (`same`).
+    /// - It fails by `Memory` alone (`memory`).
     ///
     /// # Examples
     ///
