@@ -152,7 +152,7 @@ impl<K: IntKey, V> IntMap<K, V> {
     pub fn try_with_capacity(capacity: usize) -> Result<IntMap<K, V>, Cause> {
         let made = Proved::with_capacity(Global, capacity);
         #[cfg(feature = "check")]
-        check::with_capacity(capacity, &made);
+        check::with_capacity(capacity, made.as_ref());
         Ok(IntMap { map: made? })
     }
 

@@ -142,7 +142,10 @@ impl<K: IntKey> IntSet<K> {
     /// assert_eq!(IntSet::<u64>::try_with_capacity(usize::MAX).err(), Some(Cause::TooLarge));
     /// ```
     pub fn try_with_capacity(capacity: usize) -> Result<IntSet<K>, Cause> {
-        Ok(IntSet { set: Proved::with_capacity(Global, capacity)? })
+        let made = Proved::with_capacity(Global, capacity);
+        #[cfg(feature = "check")]
+        check::with_capacity(capacity, made.as_ref().map(Proved::map));
+        Ok(IntSet { set: made? })
     }
 
     /// Makes the key a member, and returns whether it is new. A new member is the last one of its

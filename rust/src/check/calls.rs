@@ -10,7 +10,7 @@ pub(crate) fn made<K: IntKey, V>(call: &str, capacity: usize, map: &IntMap<K, V>
 }
 
 /// A new map of at least so many slots.
-pub(crate) fn with_capacity<K: IntKey, V>(wanted: usize, made: &Result<IntMap<K, V>, Cause>) {
+pub(crate) fn with_capacity<K: IntKey, V>(wanted: usize, made: Result<&IntMap<K, V>, &Cause>) {
     let (call, capacity) = ("with_capacity", least_capacity(wanted as u128));
     match made {
         Ok(map) => super::made(call, capacity.unwrap_or(0), map),

@@ -61,6 +61,7 @@ fn call_on_set(set: &mut IntSet<u64>, call: u64, key: u64) {
         11 => *set = set.clone(),
         12 => set.drain().take(2).for_each(drop),
         13 if key.is_multiple_of(5) => set.clear(),
+        15 if key.is_multiple_of(3) => *set = IntSet::with_capacity(key as usize % 40),
         14 => *set = std::mem::take(set).into_iter().collect(),
         _ => _ = (set.contains(key), set.iter().clone().count()),
     }
