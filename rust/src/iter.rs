@@ -19,7 +19,10 @@
 //! assert_eq!(map.into_iter().len(), 2);
 //! ```
 use crate::IntKey;
+#[cfg(feature = "check")]
+use crate::check::iter as proved;
 use crate::memory::clone;
+#[cfg(not(feature = "check"))]
 use crate::proved::map::iter as proved;
 use core::fmt::{self, Debug, Formatter};
 use core::iter::FusedIterator;
@@ -42,8 +45,13 @@ macro_rules! iterators {
 
             #[inline]
             fn next(&mut self) -> Option<$item> {
+                #[cfg(feature = "check")]
+                let left = self.left;
                 self.left = self.left.saturating_sub(1);
-                self.inner.next()
+                let item = self.inner.next();
+                #[cfg(feature = "check")]
+                crate::check::steps(left, item.is_some());
+                item
             }
 
             #[inline]
