@@ -8,7 +8,7 @@ import re
 
 PAGE = "README.md"
 # what isn't the public layer: the proved text, and what it stands on
-BELOW = ("proved", "memory", "guard.rs")
+BELOW = ("proved", "memory", "guard.rs", "check")
 
 # Public calls of the proved map and set that no public call of the crate makes, and why.
 LEFT = {
@@ -35,6 +35,17 @@ LEFT = {
     "IntSet::to_symmetric_difference": "the same",
     "IntSet::extend_from_set": "`extend` takes references to keys",
 }
+
+# What a file has for the feature `check` alone: a statement, an item or a block behind its attribute.
+CHECKED = re.compile(
+    r"^( *)#\[cfg\(feature = \"check\"\)\]\n"
+    r"(?:\1\{\n(?:\1 .*\n)*\1\}\n|\1\S.*;\n|\1\S.*\n(?:\1 .*\n)*\1[^\s{].*\n)",
+    re.M,
+)
+# What it has without that feature.
+UNCHECKED = re.compile(r"^( *)#\[cfg\(not\(feature = \"check\"\)\)\]\n(?:\1\{\n((?:\1 .*\n)*)\1\}\n)?", re.M)
+# A name that a body gives to one call and returns.
+NAMED = re.compile(r"let (\w+) = ([^;{}]*); ([^;]*\b\1\b[^;]*)$")
 
 # the crates of the map and the set, and the modules whose functions aren't calls on them
 CRATES, NOT_CALLS = ["intmap", "intmap_set"], ("/laws.rt", "/decimal.rt", "/json.rt", "/json/read.rt")
@@ -63,7 +74,9 @@ FORWARDS = [
 # A call of another public call of the crate, which is what that one is.
 PASSES_ON = r"(?:granted\()?(?:self\.|Int(?:Map|Set)::)(\w+)\([\w, ]*\)\)?;?"
 # the types and the calls whose loans of values are written by hand below `proved`
-LENT = {"IterMut", "ValuesMut", "iter_mut", "values_mut"}
+LENT = {"IterMut", "ValuesMut", "iter_mut", "values_mut", "get_disjoint_mut"}
+# The public calls of sets whose part below `proved` is written by hand, over one proved call of the map.
+OVER_MAP = {"`IntSet`": ["get"], "`set::ExtractIf`": ["next"]}
 # Calls in a body that are proved, or public calls of the crate. Lengths are beside the point, and what mends.
 CALLS = r"(self\.(?:map|set|0|inner)|self|guard\.0|Proved|Int(?:Map|Set))(?:\.|::)(\w+)\("
 BESIDE = {"len", "capacity", "proved", "parted"}
@@ -84,7 +97,7 @@ def layer(folder):
     for path in sorted(glob.glob(f"{folder}/src/**/*.rs", recursive=True)):
         name = os.path.relpath(path, f"{folder}/src")
         if not name.startswith(BELOW):
-            lines = text_of(path).split("\n")
+            lines = UNCHECKED.sub(r"\2", CHECKED.sub("", text_of(path))).split("\n")
             found[name] = "\n".join(it for it in lines if not it.lstrip().startswith("//"))
     return found
 
@@ -127,6 +140,10 @@ def public_calls(text):
         for call in re.finditer(r"^ *(pub )?fn ([\w$]+)", body, re.M):
             for name in made if trait or call[1] else []:
                 code = " ".join(group(body, call.end()).split()).replace("copied(&self.inner)", "self.inner.clone()")
+                if named := NAMED.search(code):
+                    returned = re.sub(rf"{{ {named[1]} }}", f"{{ {named[1]}: {named[1]} }}", named[3])
+                    returned = re.sub(rf"\b{named[1]}\b(?!:)", lambda _: named[2], returned)
+                    code = code[: named.start()] + returned
                 yield re.sub(r"\$\w+", name, of), re.sub(r"\$\w+", name, trait), call[2], code
 
 
@@ -164,8 +181,10 @@ def table(folder):
     found = {}
     for file, of, trait, call, body in calls:
         bodies = {it[3]: it[4] for it in calls if it[1] == of and not it[2]}
-        cells = found.setdefault(path_of(file, of), [set() for _ in KINDS])
-        cells[2 if of in LENT else kind_of(body, trait, bodies)].add(call if trait in ("", "Iterator") else trait)
+        path = path_of(file, of)
+        kind = 2 if {of, call} & LENT else 1 if call in OVER_MAP.get(path, []) else kind_of(body, trait, bodies)
+        cells = found.setdefault(path, [set() for _ in KINDS])
+        cells[kind].add(call if trait in ("", "Iterator") else trait)
     rows = {}
     for of, cells in found.items():
         row = " | ".join(", ".join(f"`{it}`" for it in sorted(cell)) or "-" for cell in cells)

@@ -1,4 +1,6 @@
 //! Entries: a map with a key that was looked up once, to read, change, remove or insert its pair.
+#[cfg(feature = "check")]
+use crate::check::{self, List};
 use crate::guard::Mending;
 use crate::proved::map::entry as proved;
 use crate::refusal::{Refused, granted};
@@ -64,6 +66,12 @@ pub struct VacantEntry<'a, K: IntKey, V>(proved::VacantEntry<'a, K, V>);
 impl<K: IntKey, V> IntMap<K, V> {
     /// Returns the entry of the key. It never fails. The cost is *O*(*s*).
     ///
+    /// # Proved
+    ///
+    /// - The map is as it was (`state`).
+    /// - The key of the entry is the given one (`key`).
+    /// - The entry is `Occupied` exactly if the key is present (`occupied`).
+    ///
     /// # Examples
     ///
     /// ```
@@ -78,7 +86,12 @@ impl<K: IntKey, V> IntMap<K, V> {
     /// ```
     #[inline]
     pub fn entry(&mut self, key: K) -> Entry<'_, K, V> {
-        Entry::of(self.map.entry(key))
+        #[cfg(feature = "check")]
+        let before = List::of_some(&self.map);
+        let entry = Entry::of(self.map.entry(key));
+        #[cfg(feature = "check")]
+        check::entry(before, key, matches!(entry, Entry::Occupied(_)));
+        entry
     }
 }
 
@@ -116,6 +129,16 @@ impl<'a, K: IntKey, V> Entry<'a, K, V> {
     }
 
     /// Calls `change` with the value if the key is present, and returns the entry.
+    ///
+    /// # Proved
+    ///
+    /// - The key of the entry stays (`key`).
+    /// - The closure is called once, with the value of a present key, and the key then has what it
+    ///   left. At an absent key it isn't called (`value`).
+    /// - The value changes in its place. All else stays: the other pairs, their order, the capacity
+    ///   and the load factor. If the key is absent, the map stays (`state`).
+    /// - Each other key keeps its value, or stays absent (`updates`).
+    /// - The length stays (`len`).
     ///
     /// # Examples
     ///
@@ -189,6 +212,10 @@ impl<'a, K: IntKey, V> Entry<'a, K, V> {
     ///
     /// If the map needs more than 2^63 slots.
     ///
+    /// # Proved
+    ///
+    /// That of [`try_insert_entry`](Entry::try_insert_entry).
+    ///
     /// # Examples
     ///
     /// ```
@@ -208,6 +235,21 @@ impl<'a, K: IntKey, V> Entry<'a, K, V> {
     ///
     /// As for [`IntMap::try_insert`].
     ///
+    /// # Proved
+    ///
+    /// - In `Ok` is the entry of the key, which has the given value: in the place of a present
+    ///   key's old one, or in a pair that is the last of its slot (`written`).
+    /// - After `Ok` the key has the value, and each other key has what it had before. The length is
+    ///   one more exactly if the key was absent. Only then the capacity may change, as by `insert`
+    ///   (`inserted`).
+    /// - After `Err` the map is as it was (`err`).
+    /// - In `Err` is the given value (`value_returned`).
+    /// - `Err` comes only for an absent key. The cause is `TooLarge` exactly if the map would need
+    ///   more than 2^63 slots or 2^64 pairs. It is `Memory` only if the capacity would change or
+    ///   another key shares the slot (`refused`).
+    /// - It never fails for a key that shares its slot with no other, if the capacity stays
+    ///   (`lone`).
+    ///
     /// # Examples
     ///
     /// ```
@@ -219,11 +261,20 @@ impl<'a, K: IntKey, V> Entry<'a, K, V> {
     /// ```
     #[inline]
     pub fn try_insert_entry(self, value: V) -> Result<OccupiedEntry<'a, K, V>, Refused<V>> {
+        #[cfg(feature = "check")]
+        let (key, is_new) = (*self.key(), matches!(self, Entry::Vacant(_)));
         let (map, found) = self.proved().parted();
+        #[cfg(feature = "check")]
+        let before = List::before(map, key);
         let guard = Mending(&mut *map);
         let result = guard.0.entry_of(found).insert_entry(value).map(|entry| entry.place());
         mem::forget(guard);
-        Ok(OccupiedEntry(map.entry_at(result?)))
+        #[cfg(feature = "check")]
+        check::insert_by_entry(before, (key, is_new), &result, map);
+        let entry = map.entry_at(result?);
+        #[cfg(feature = "check")]
+        check::is_of(&entry, key);
+        Ok(OccupiedEntry(entry))
     }
 }
 

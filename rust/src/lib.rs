@@ -27,9 +27,36 @@
 //! as it was. The README names what a reader trusts beside the proof, and has a table of the calls of
 //! this crate that are one proved call, and of those that have code by hand.
 //!
+//! Under a call that makes a proved one, the section *Proved* says what its contract does, clause by
+//! clause; the word in brackets is the name of the clause. Where the proved call returns `Err` and
+//! the public one has no `Result`, that one panics or ends the process. What holds of every map is
+//! proved of each call too: no key is there twice, the pairs are in the order of their slots, the
+//! capacity is a power of two from 2 to 2^63, and the load factor is met at the last length at which
+//! insertions check it.
+//!
 //! Not proved, but tested: mutable references to several values, which [`IntMap::iter_mut`],
 //! [`IntMap::values_mut`], `&mut map` and [`IntMap::get_disjoint_mut`] hand out; what mends a map
 //! after a panic; and that code by hand, a few lines a call.
+//!
+//! # Checked runs
+//!
+//! With the feature `check`, off by default, each call runs beside its contract: on a plain list of
+//! the numbers of the keys, in iteration order. The call panics unless the map then has the pairs,
+//! the order, the capacity and the load factor that are due, and unless the answer or the failure
+//! is due. So it finds a type of keys whose numbers change or are shared, and a fault in the proved
+//! text as Rust compiles it, in `memory` or in a call by hand. It is there in each profile.
+//!
+//! Values aren't compared, since they need no `==`; a returned reference has to be that of the key's
+//! value. Not checked are `==`, the order of [`IntMap::into_iter`] and its like, the calls of two
+//! sets and the steps of a set's `drain`. A call that makes other public calls, such as
+//! [`IntMap::shrink_to`] and `clone_from`, is checked in each of them and not as a whole.
+//!
+//! A call on up to 64 pairs is checked, and so is one that goes through all pairs or adds slots. Of
+//! the others so many are that a check reads 64 pairs a call on average, or the whole time would be
+//! spent on large maps.
+//!
+//! A check allocates, with an alignment of 16 bytes, and reads the numbers of keys. If there is no
+//! memory for it, the call goes unchecked.
 //!
 //! # Failed allocations
 //!
@@ -94,6 +121,8 @@ compile_error!("intmap_proved is for targets that are 64 bits wide");
 
 extern crate alloc;
 
+#[cfg(feature = "check")]
+mod check;
 mod declared;
 mod entry;
 mod guard;

@@ -1,5 +1,7 @@
 //! The map, and its calls on one key.
 use crate::IntKey;
+#[cfg(feature = "check")]
+use crate::check::{self, List};
 use crate::memory::alloc::Global;
 use crate::proved::map::IntMap as Proved;
 use crate::refusal::{Cause, granted};
@@ -52,6 +54,10 @@ impl<K: IntKey, V> IntMap<K, V> {
     /// Unlike std's, it allocates, so [`Default`] and `mem::take` do too. A failed allocation is
     /// handled as std does; [`try_new`](IntMap::try_new) returns it. The cost is *O*(1).
     ///
+    /// # Proved
+    ///
+    /// That of [`try_new`](IntMap::try_new).
+    ///
     /// # Examples
     ///
     /// ```
@@ -71,6 +77,11 @@ impl<K: IntKey, V> IntMap<K, V> {
     ///
     /// [`Cause::Memory`] if an allocation fails.
     ///
+    /// # Proved
+    ///
+    /// - In `Ok` there is no pair or member, in 4 slots, with a load factor of 0.909 (`state`).
+    /// - It fails by `Memory` alone (`memory`).
+    ///
     /// # Examples
     ///
     /// ```
@@ -81,7 +92,10 @@ impl<K: IntKey, V> IntMap<K, V> {
     /// # Ok::<(), Cause>(())
     /// ```
     pub fn try_new() -> Result<IntMap<K, V>, Cause> {
-        Ok(IntMap { map: Proved::new(Global)? })
+        let map = Proved::new(Global)?;
+        #[cfg(feature = "check")]
+        check::made("new", 4, &map);
+        Ok(IntMap { map })
     }
 
     /// Returns an empty map. Its capacity is the least power of two that is at least `capacity`,
@@ -96,6 +110,10 @@ impl<K: IntKey, V> IntMap<K, V> {
     /// # Panics
     ///
     /// If `capacity` is above 2^63.
+    ///
+    /// # Proved
+    ///
+    /// That of [`try_with_capacity`](IntMap::try_with_capacity).
     ///
     /// # Examples
     ///
@@ -117,6 +135,13 @@ impl<K: IntKey, V> IntMap<K, V> {
     /// [`Cause::TooLarge`] if `capacity` is above 2^63, and otherwise [`Cause::Memory`] if an
     /// allocation fails.
     ///
+    /// # Proved
+    ///
+    /// - In `Ok` there is no pair or member, and the load factor is 0.909 (`state`).
+    /// - The capacity is the least power of two that is at least `capacity`, and at least 2
+    ///   (`capacity`).
+    /// - It fails by `TooLarge` exactly if `capacity` is above 2^63 (`too_large`).
+    ///
     /// # Examples
     ///
     /// ```
@@ -127,11 +152,19 @@ impl<K: IntKey, V> IntMap<K, V> {
     /// assert_eq!(cause((1 << 63) + 1), Some(Cause::TooLarge));
     /// ```
     pub fn try_with_capacity(capacity: usize) -> Result<IntMap<K, V>, Cause> {
-        Ok(IntMap { map: Proved::with_capacity(Global, capacity)? })
+        let made = Proved::with_capacity(Global, capacity);
+        #[cfg(feature = "check")]
+        check::with_capacity(capacity, made.as_ref());
+        Ok(IntMap { map: made? })
     }
 
     /// Returns a reference to the value of the key, or `None` if the key is absent. The cost is
     /// *O*(*s*).
+    ///
+    /// # Proved
+    ///
+    /// - The reference is to the value of the key, or there is none, if the key is absent
+    ///   (`value`).
     ///
     /// # Examples
     ///
@@ -143,11 +176,23 @@ impl<K: IntKey, V> IntMap<K, V> {
     /// ```
     #[inline]
     pub fn get(&self, key: K) -> Option<&V> {
+        #[cfg(feature = "check")]
+        check::find("get", &self.map, key, self.map.get(key).map(|it| it as *const V));
         self.map.get(key)
     }
 
     /// Returns a mutable reference to the value of the key, or `None` if the key is absent. The
     /// cost is *O*(*s*).
+    ///
+    /// # Proved
+    ///
+    /// - The value that was written last by the reference is then the key's, in the place of the
+    ///   old one. All else stays: the other pairs, their order, the capacity and the load factor.
+    ///   If the key is absent, the map stays (`writes_back`).
+    /// - The reference is to the value of the key, or there is none, if the key is absent
+    ///   (`value`).
+    /// - Whatever is written, each other key keeps its value, or stays absent (`updates`).
+    /// - The length stays (`len`).
     ///
     /// # Examples
     ///
@@ -162,6 +207,10 @@ impl<K: IntKey, V> IntMap<K, V> {
     /// ```
     #[inline]
     pub fn get_mut(&mut self, key: K) -> Option<&mut V> {
+        #[cfg(feature = "check")]
+        let found = self.map.get_mut(key).map(|it| it as *const V);
+        #[cfg(feature = "check")]
+        check::find("get_mut", &self.map, key, found);
         self.map.get_mut(key)
     }
 
@@ -189,11 +238,21 @@ impl<K: IntKey, V> IntMap<K, V> {
     /// map.get_disjoint_mut([21, 21]);
     /// ```
     pub fn get_disjoint_mut<const N: usize>(&mut self, keys: [K; N]) -> [Option<&mut V>; N] {
+        #[cfg(feature = "check")]
+        let found = self.map.get_disjoint_mut(keys).map(|it| it.map(|it| it as *const V));
+        #[cfg(feature = "check")]
+        check::find_each(&self.map, keys, found);
         self.map.get_disjoint_mut(keys)
     }
 
     /// Returns references to the key in the map and to its value, or `None` if the key is absent.
     /// The cost is *O*(*s*).
+    ///
+    /// # Proved
+    ///
+    /// - The first reference is to a key that equals the given one (`key`).
+    /// - The second reference is to the value of the key. There is no pair exactly if the key is
+    ///   absent (`value`).
     ///
     /// # Examples
     ///
@@ -205,11 +264,18 @@ impl<K: IntKey, V> IntMap<K, V> {
     /// ```
     #[inline]
     pub fn get_key_value(&self, key: K) -> Option<(&K, &V)> {
+        #[cfg(feature = "check")]
+        check::find_pair(&self.map, key, self.map.get_key_value(key));
         self.map.get_key_value(key)
     }
 
     /// Returns references to the key and the value of the pair that iteration visits first, or
     /// `None` if the map is empty. The cost is *O*(1 + *c*/64).
+    ///
+    /// # Proved
+    ///
+    /// - The references are to the first pair in iteration order, or there are none, if there is no
+    ///   pair (`value`).
     ///
     /// # Examples
     ///
@@ -220,10 +286,16 @@ impl<K: IntKey, V> IntMap<K, V> {
     /// assert_eq!(map.first_key_value(), map.iter().next());
     /// ```
     pub fn first_key_value(&self) -> Option<(&K, &V)> {
+        #[cfg(feature = "check")]
+        check::find_first(&self.map, self.map.first_key_value());
         self.map.first_key_value()
     }
 
     /// Returns whether the key is present. The cost is *O*(*s*).
+    ///
+    /// # Proved
+    ///
+    /// - The answer is `true` exactly if the key is present (`value`).
     ///
     /// # Examples
     ///
@@ -235,12 +307,23 @@ impl<K: IntKey, V> IntMap<K, V> {
     /// ```
     #[inline]
     pub fn contains_key(&self, key: K) -> bool {
+        #[cfg(feature = "check")]
+        check::contains(&self.map, key, self.map.contains_key(key));
         self.map.contains_key(key)
     }
 
     /// Removes the pair of the key, and returns its value, or `None` if the key is absent.
     ///
     /// The last pair of the slot takes its place. The capacity stays. The cost is *O*(*s*).
+    ///
+    /// # Proved
+    ///
+    /// - The value is that of the key, or there is none, if the key was absent (`value`).
+    /// - The pair is gone, and the last pair of its slot has its place. All else stays: the other
+    ///   pairs in their order, the capacity and the load factor. If the key was absent, the map
+    ///   stays (`state`).
+    /// - The key is then absent. Each other key keeps its value, or stays absent (`updates`).
+    /// - The length is one less if something was removed, and otherwise stays (`len`).
     ///
     /// # Examples
     ///
@@ -253,10 +336,25 @@ impl<K: IntKey, V> IntMap<K, V> {
     /// ```
     #[inline]
     pub fn remove(&mut self, key: K) -> Option<V> {
-        self.map.remove(key)
+        #[cfg(feature = "check")]
+        let before = List::of_some(&self.map);
+        let value = self.map.remove(key);
+        #[cfg(feature = "check")]
+        check::remove("remove", before, key, value.is_some(), &self.map);
+        value
     }
 
     /// The same as [`remove`](IntMap::remove), but it returns the key beside its value.
+    ///
+    /// # Proved
+    ///
+    /// - The key of the pair is the given one (`key`).
+    /// - The value is that of the key. There is no pair exactly if the key was absent (`value`).
+    /// - The pair is gone, and the last pair of its slot has its place. All else stays: the other
+    ///   pairs in their order, the capacity and the load factor. If the key was absent, the map
+    ///   stays (`state`).
+    /// - The key is then absent. Each other key keeps its value, or stays absent (`updates`).
+    /// - The length is one less if something was removed, and otherwise stays (`len`).
     ///
     /// # Examples
     ///
@@ -268,6 +366,11 @@ impl<K: IntKey, V> IntMap<K, V> {
     /// ```
     #[inline]
     pub fn remove_entry(&mut self, key: K) -> Option<(K, V)> {
-        self.map.remove_entry(key)
+        #[cfg(feature = "check")]
+        let before = List::of_some(&self.map);
+        let pair = self.map.remove_entry(key);
+        #[cfg(feature = "check")]
+        check::remove("remove_entry", before, key, pair.is_some(), &self.map);
+        pair
     }
 }

@@ -10,6 +10,8 @@
 //! assert_eq!(count(IntSet::from([1, 2]).union(&IntSet::from([2, 3]))), 3);
 //! ```
 use crate::IntKey;
+#[cfg(feature = "check")]
+use crate::check::{self, List};
 use crate::guard::Mending;
 use crate::memory::alloc::Global;
 use crate::proved::set::IntSet as Proved;
@@ -53,6 +55,10 @@ impl<K: IntKey> IntSet<K> {
     /// Unlike std's, it allocates. A failed allocation is handled as std does;
     /// [`try_new`](IntSet::try_new) returns it. The cost is *O*(1).
     ///
+    /// # Proved
+    ///
+    /// That of [`try_new`](IntSet::try_new).
+    ///
     /// # Examples
     ///
     /// ```
@@ -70,6 +76,11 @@ impl<K: IntKey> IntSet<K> {
     ///
     /// [`Cause::Memory`] if an allocation fails.
     ///
+    /// # Proved
+    ///
+    /// - In `Ok` there is no pair or member, in 4 slots, with a load factor of 0.909 (`state`).
+    /// - It fails by `Memory` alone (`memory`).
+    ///
     /// # Examples
     ///
     /// ```
@@ -79,7 +90,10 @@ impl<K: IntKey> IntSet<K> {
     /// # Ok::<(), Cause>(())
     /// ```
     pub fn try_new() -> Result<IntSet<K>, Cause> {
-        Ok(IntSet { set: Proved::new(Global)? })
+        let set = Proved::new(Global)?;
+        #[cfg(feature = "check")]
+        check::made("new", 4, set.map());
+        Ok(IntSet { set })
     }
 
     /// Returns an empty set. Its capacity is the least power of two that is at least `capacity`,
@@ -94,6 +108,10 @@ impl<K: IntKey> IntSet<K> {
     /// # Panics
     ///
     /// If `capacity` is above 2^63.
+    ///
+    /// # Proved
+    ///
+    /// That of [`try_with_capacity`](IntSet::try_with_capacity).
     ///
     /// # Examples
     ///
@@ -112,6 +130,13 @@ impl<K: IntKey> IntSet<K> {
     /// [`Cause::TooLarge`] if `capacity` is above 2^63, and otherwise [`Cause::Memory`] if an
     /// allocation fails.
     ///
+    /// # Proved
+    ///
+    /// - In `Ok` there is no pair or member, and the load factor is 0.909 (`state`).
+    /// - The capacity is the least power of two that is at least `capacity`, and at least 2
+    ///   (`capacity`).
+    /// - It fails by `TooLarge` exactly if `capacity` is above 2^63 (`too_large`).
+    ///
     /// # Examples
     ///
     /// ```
@@ -120,7 +145,10 @@ impl<K: IntKey> IntSet<K> {
     /// assert_eq!(IntSet::<u64>::try_with_capacity(usize::MAX).err(), Some(Cause::TooLarge));
     /// ```
     pub fn try_with_capacity(capacity: usize) -> Result<IntSet<K>, Cause> {
-        Ok(IntSet { set: Proved::with_capacity(Global, capacity)? })
+        let made = Proved::with_capacity(Global, capacity);
+        #[cfg(feature = "check")]
+        check::with_capacity(capacity, made.as_ref().map(Proved::map));
+        Ok(IntSet { set: made? })
     }
 
     /// Makes the key a member, and returns whether it is new. A new member is the last one of its
@@ -132,6 +160,10 @@ impl<K: IntKey> IntSet<K> {
     /// # Panics
     ///
     /// If the set needs more than 2^63 slots.
+    ///
+    /// # Proved
+    ///
+    /// That of [`try_insert`](IntSet::try_insert).
     ///
     /// # Examples
     ///
@@ -152,6 +184,19 @@ impl<K: IntKey> IntSet<K> {
     /// [`Cause::TooLarge`] if the set needs more than 2^63 slots, [`Cause::Memory`] if an
     /// allocation fails. The set stays as it was. It never fails if the key is a member.
     ///
+    /// # Proved
+    ///
+    /// - In `Ok` is `true` exactly if the key was no member (`new`).
+    /// - After `Ok` the key is a member, and each other key stays what it was. A new member is the
+    ///   last one of its slot, and the capacity changes as by an insertion into a map. A present
+    ///   one changes nothing (`inserted`).
+    /// - After `Err` the set is as it was: the members, their order and the capacity (`err`).
+    /// - `Err` comes only for a new key. The cause is `TooLarge` exactly if the set would need more
+    ///   than 2^63 slots or 2^64 members. It is `Memory` only if the capacity would change or
+    ///   another member shares the slot (`refused`).
+    /// - It never fails for a key that shares its slot with no member, if the capacity stays
+    ///   (`lone`).
+    ///
     /// # Examples
     ///
     /// ```
@@ -162,13 +207,21 @@ impl<K: IntKey> IntSet<K> {
     /// ```
     #[inline]
     pub fn try_insert(&mut self, key: K) -> Result<bool, Cause> {
+        #[cfg(feature = "check")]
+        let before = List::before(self.set.map(), key);
         let guard = Mending(&mut self.set);
         let result = guard.0.insert(key);
         mem::forget(guard);
+        #[cfg(feature = "check")]
+        check::insert_member(before, key, &result, self.set.map());
         result
     }
 
     /// Returns whether the key is a member. The cost is *O*(*s*).
+    ///
+    /// # Proved
+    ///
+    /// - The answer is `true` exactly if the key is a member (`value`).
     ///
     /// # Examples
     ///
@@ -178,6 +231,8 @@ impl<K: IntKey> IntSet<K> {
     /// ```
     #[inline]
     pub fn contains(&self, key: K) -> bool {
+        #[cfg(feature = "check")]
+        check::contains(self.set.map(), key, self.set.contains(key));
         self.set.contains(key)
     }
 
@@ -192,6 +247,8 @@ impl<K: IntKey> IntSet<K> {
     /// ```
     #[inline]
     pub fn get(&self, key: K) -> Option<&K> {
+        #[cfg(feature = "check")]
+        check::find_member(self.set.map(), key, self.set.get(key));
         self.set.get(key)
     }
 
@@ -242,6 +299,14 @@ impl<K: IntKey> IntSet<K> {
     /// Removes the key, and returns whether it was a member. The last member of its slot takes its
     /// place. The cost is *O*(*s*).
     ///
+    /// # Proved
+    ///
+    /// - The answer is `true` exactly if the key was a member (`value`).
+    /// - The member is gone, and the last one of its slot has its place. The others keep their
+    ///   order, and the capacity stays. If the key was no member, the set stays (`state`).
+    /// - The key is then no member. Each other key stays what it was (`updates`).
+    /// - The length is one less if the answer is `true`, and otherwise stays (`len`).
+    ///
     /// # Examples
     ///
     /// ```
@@ -251,10 +316,19 @@ impl<K: IntKey> IntSet<K> {
     /// ```
     #[inline]
     pub fn remove(&mut self, key: K) -> bool {
-        self.set.remove(key)
+        #[cfg(feature = "check")]
+        let before = List::of_some(self.set.map());
+        let was_member = self.set.remove(key);
+        #[cfg(feature = "check")]
+        check::remove("remove", before, key, was_member, self.set.map());
+        was_member
     }
 
     /// The same as [`remove`](IntSet::remove), but it returns the key if it was a member.
+    ///
+    /// # Proved
+    ///
+    /// That of [`remove`](IntSet::remove).
     ///
     /// # Examples
     ///
@@ -269,6 +343,10 @@ impl<K: IntKey> IntSet<K> {
 
     /// Returns the number of members. The cost is *O*(1).
     ///
+    /// # Proved
+    ///
+    /// - The answer is the number of pairs or members that iteration visits (`value`).
+    ///
     /// # Examples
     ///
     /// ```
@@ -280,6 +358,10 @@ impl<K: IntKey> IntSet<K> {
     }
 
     /// Returns whether there is no member. The cost is *O*(1).
+    ///
+    /// # Proved
+    ///
+    /// - The answer is `true` exactly if iteration visits nothing (`value`).
     ///
     /// # Examples
     ///

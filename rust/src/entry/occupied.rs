@@ -1,10 +1,16 @@
 //! Entries of present keys.
 use super::OccupiedEntry;
 use crate::IntKey;
+#[cfg(feature = "check")]
+use crate::check;
 use core::fmt::{self, Debug, Formatter};
 
 impl<'a, K: IntKey, V> OccupiedEntry<'a, K, V> {
     /// Returns a reference to the key in the map.
+    ///
+    /// # Proved
+    ///
+    /// - The key is that of the entry (`value`).
     ///
     /// # Examples
     ///
@@ -21,6 +27,10 @@ impl<'a, K: IntKey, V> OccupiedEntry<'a, K, V> {
     }
 
     /// Returns a reference to the value.
+    ///
+    /// # Proved
+    ///
+    /// - The reference is to the value of the key (`value`).
     ///
     /// # Examples
     ///
@@ -39,6 +49,15 @@ impl<'a, K: IntKey, V> OccupiedEntry<'a, K, V> {
 
     /// Returns a mutable reference to the value, which can't outlive the entry.
     ///
+    /// # Proved
+    ///
+    /// - The value that was written last by the reference is then the key's, in the place of the
+    ///   old one. All else stays: the other pairs, their order, the capacity and the load factor
+    ///   (`writes_back`).
+    /// - The reference is to the value of the key (`value`).
+    /// - Whatever is written, each other key keeps its value, or stays absent (`updates`).
+    /// - The length stays (`len`).
+    ///
     /// # Examples
     ///
     /// ```
@@ -56,6 +75,15 @@ impl<'a, K: IntKey, V> OccupiedEntry<'a, K, V> {
     }
 
     /// Returns a mutable reference to the value, for as long as the map is borrowed.
+    ///
+    /// # Proved
+    ///
+    /// - The value that was written last by the reference is then the key's, in the place of the
+    ///   old one. All else stays: the other pairs, their order, the capacity and the load factor
+    ///   (`writes_back`).
+    /// - The reference is to the value of the key (`value`).
+    /// - Whatever is written, each other key keeps its value, or stays absent (`updates`).
+    /// - The length stays (`len`).
     ///
     /// # Examples
     ///
@@ -77,6 +105,15 @@ impl<'a, K: IntKey, V> OccupiedEntry<'a, K, V> {
 
     /// Sets the value, and returns the old one. The pair keeps its place.
     ///
+    /// # Proved
+    ///
+    /// - The value is that which the key had (`old`).
+    /// - The new value is in the place of the old one. All else stays: the entry's key, the other
+    ///   pairs, their order, the capacity and the load factor (`written`).
+    /// - The key then has the given value. Each other key keeps its own, or stays absent
+    ///   (`updates`).
+    /// - The length stays (`len`).
+    ///
     /// # Examples
     ///
     /// ```
@@ -96,6 +133,14 @@ impl<'a, K: IntKey, V> OccupiedEntry<'a, K, V> {
     /// Removes the pair as [`IntMap::remove`](crate::IntMap::remove) does, and returns the value.
     /// The cost is *O*(1).
     ///
+    /// # Proved
+    ///
+    /// - The value is that which the key had (`value`).
+    /// - The pair is gone, and the last pair of its slot has its place. All else stays: the other
+    ///   pairs in their order, the capacity and the load factor (`state`).
+    /// - The key is then absent. Each other key keeps its value, or stays absent (`updates`).
+    /// - The length is one less (`len`).
+    ///
     /// # Examples
     ///
     /// ```
@@ -109,10 +154,26 @@ impl<'a, K: IntKey, V> OccupiedEntry<'a, K, V> {
     /// ```
     #[inline]
     pub fn remove(self) -> V {
-        self.0.remove()
+        #[cfg(feature = "check")]
+        {
+            check::removed(self.0, |entry| entry.remove())
+        }
+        #[cfg(not(feature = "check"))]
+        {
+            self.0.remove()
+        }
     }
 
     /// The same as [`remove`](OccupiedEntry::remove), but it returns the key beside the value.
+    ///
+    /// # Proved
+    ///
+    /// - The key of the pair is that of the entry (`key`).
+    /// - The value is that which the key had (`value`).
+    /// - The pair is gone, and the last pair of its slot has its place. All else stays: the other
+    ///   pairs in their order, the capacity and the load factor (`state`).
+    /// - The key is then absent. Each other key keeps its value, or stays absent (`updates`).
+    /// - The length is one less (`len`).
     ///
     /// # Examples
     ///
@@ -126,7 +187,14 @@ impl<'a, K: IntKey, V> OccupiedEntry<'a, K, V> {
     /// ```
     #[inline]
     pub fn remove_entry(self) -> (K, V) {
-        self.0.remove_entry()
+        #[cfg(feature = "check")]
+        {
+            check::removed(self.0, |entry| entry.remove_entry())
+        }
+        #[cfg(not(feature = "check"))]
+        {
+            self.0.remove_entry()
+        }
     }
 
     /// Removes the pair as [`remove`](OccupiedEntry::remove) does, and calls `f` with the value.
@@ -140,6 +208,18 @@ impl<'a, K: IntKey, V> OccupiedEntry<'a, K, V> {
     /// # Panics
     ///
     /// If `f` panics. The map is then one without the pair.
+    ///
+    /// # Proved
+    ///
+    /// - The closure is called once, with the value of the key. After its `Ok` the key is absent,
+    ///   after its `Err` it has the value in it. Each other key keeps its value, or stays absent
+    ///   (`updates`).
+    /// - After its `Ok` the map is as `remove` leaves it. After its `Err` the pair is the last one
+    ///   of its slot, as `insert` of the present key leaves it (`state`).
+    /// - Each other key keeps its value, or stays absent, whatever the closure returns (`others`).
+    /// - The length is one less if the answer is `Some`, and otherwise stays (`len`).
+    /// - The capacity stays (`capacity`).
+    /// - The load factor stays (`factor`).
     ///
     /// # Examples
     ///
@@ -157,7 +237,14 @@ impl<'a, K: IntKey, V> OccupiedEntry<'a, K, V> {
     /// assert_eq!((from.len(), to[21].as_str()), (0, "a name"));
     /// ```
     pub fn hand_over<R>(self, f: impl FnOnce(V) -> Result<R, V>) -> Option<R> {
-        self.0.hand_over(f)
+        #[cfg(feature = "check")]
+        {
+            check::handed_over(self.0, |entry| entry.hand_over(f))
+        }
+        #[cfg(not(feature = "check"))]
+        {
+            self.0.hand_over(f)
+        }
     }
 }
 

@@ -1,6 +1,8 @@
 //! Entries of absent keys.
 use super::{OccupiedEntry, VacantEntry};
 use crate::IntKey;
+#[cfg(feature = "check")]
+use crate::check::{self, List};
 use crate::guard::Mending;
 use crate::proved::map::entry as proved;
 use crate::refusal::{Refused, granted};
@@ -9,6 +11,10 @@ use core::mem;
 
 impl<'a, K: IntKey, V> VacantEntry<'a, K, V> {
     /// Returns a reference to the key.
+    ///
+    /// # Proved
+    ///
+    /// - The key is that of the entry (`value`).
     ///
     /// # Examples
     ///
@@ -25,6 +31,11 @@ impl<'a, K: IntKey, V> VacantEntry<'a, K, V> {
     }
 
     /// Returns the key, and leaves it absent.
+    ///
+    /// # Proved
+    ///
+    /// - The key is that of the entry (`value`).
+    /// - The map is as it was (`state`).
     ///
     /// # Examples
     ///
@@ -95,6 +106,10 @@ impl<'a, K: IntKey, V> VacantEntry<'a, K, V> {
     ///
     /// If the map needs more than 2^63 slots.
     ///
+    /// # Proved
+    ///
+    /// That of [`try_insert_entry`](VacantEntry::try_insert_entry).
+    ///
     /// # Examples
     ///
     /// ```
@@ -117,6 +132,22 @@ impl<'a, K: IntKey, V> VacantEntry<'a, K, V> {
     ///
     /// As for [`IntMap::try_insert`](crate::IntMap::try_insert).
     ///
+    /// # Proved
+    ///
+    /// - In `Ok` is the entry of the key, which has the given value: in the place of a present
+    ///   key's old one, or in a pair that is the last of its slot (`written`).
+    /// - The key was absent (`absent`).
+    /// - After `Ok` the key has the value, and each other key has what it had before. The length is
+    ///   one more exactly if the key was absent. Only then the capacity may change, as by `insert`
+    ///   (`inserted`).
+    /// - After `Err` the map is as it was (`err`).
+    /// - In `Err` is the given value (`value_returned`).
+    /// - `Err` comes only for an absent key. The cause is `TooLarge` exactly if the map would need
+    ///   more than 2^63 slots or 2^64 pairs. It is `Memory` only if the capacity would change or
+    ///   another key shares the slot (`refused`).
+    /// - It never fails for a key that shares its slot with no other, if the capacity stays
+    ///   (`lone`).
+    ///
     /// # Examples
     ///
     /// ```
@@ -138,10 +169,17 @@ impl<'a, K: IntKey, V> VacantEntry<'a, K, V> {
     #[inline]
     fn inserted(self, value: V) -> Result<proved::OccupiedEntry<'a, K, V>, Refused<V>> {
         let (map, key, slot) = self.0.parted();
+        #[cfg(feature = "check")]
+        let before = List::before(map, key);
         let guard = Mending(&mut *map);
         let result = guard.0.vacant_entry(key, slot).insert_entry(value).map(|entry| entry.place());
         mem::forget(guard);
-        Ok(map.entry_at(result?))
+        #[cfg(feature = "check")]
+        check::insert_by_entry(before, (key, true), &result, map);
+        let entry = map.entry_at(result?);
+        #[cfg(feature = "check")]
+        check::is_of(&entry, key);
+        Ok(entry)
     }
 }
 

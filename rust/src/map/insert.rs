@@ -1,6 +1,8 @@
 //! Insertions.
 use super::IntMap;
 use crate::IntKey;
+#[cfg(feature = "check")]
+use crate::check::{self, List};
 use crate::guard::Mending;
 use crate::refusal::{Refused, granted};
 use core::mem;
@@ -19,6 +21,10 @@ impl<K: IntKey, V> IntMap<K, V> {
     ///
     /// If the map needs more than 2^63 slots.
     ///
+    /// # Proved
+    ///
+    /// That of [`try_insert`](IntMap::try_insert).
+    ///
     /// # Examples
     ///
     /// ```
@@ -30,9 +36,13 @@ impl<K: IntKey, V> IntMap<K, V> {
     /// ```
     #[inline(always)]
     pub fn insert(&mut self, key: K, value: V) -> Option<V> {
+        #[cfg(feature = "check")]
+        let before = List::before(&self.map, key);
         let guard = Mending(&mut self.map);
         let result = guard.0.insert(key, value);
         mem::forget(guard);
+        #[cfg(feature = "check")]
+        check::insert(before, key, &result, &self.map);
         granted(result)
     }
 
@@ -47,6 +57,25 @@ impl<K: IntKey, V> IntMap<K, V> {
     /// [`Memory`](crate::Cause::Memory) if an allocation fails. The map stays as it was. It never
     /// fails if the key is present.
     ///
+    /// # Proved
+    ///
+    /// - In `Ok` is the value that the key had before, or `None` if it was absent (`old`).
+    /// - After `Ok` the key has the value, and each other key has what it had before. The length is
+    ///   one more exactly if the key is new. The capacity stays, unless the key is new, the new
+    ///   length is 4 to 7, 12 to 15, 20 to 23 and so on, and the pairs exceed the load factor; then
+    ///   it is the least of its doublings in which they don't (`inserted`).
+    /// - After `Ok` the pair is the last one of its slot; a present key's old pair was removed as
+    ///   `remove` does. The order of all pairs follows from that and from the capacity. The load
+    ///   factor stays (`state`).
+    /// - After `Err` the map is as it was: the pairs, their order, the capacity and the load factor
+    ///   (`err`).
+    /// - In `Err` is the given value (`value_returned`).
+    /// - `Err` comes only for an absent key. The cause is `TooLarge` exactly if the map would need
+    ///   more than 2^63 slots or 2^64 pairs. It is `Memory` only if the capacity would change or
+    ///   another key shares the slot (`refused`).
+    /// - It never fails for a key that shares its slot with no other, if the capacity stays
+    ///   (`lone`).
+    ///
     /// # Examples
     ///
     /// ```
@@ -59,9 +88,13 @@ impl<K: IntKey, V> IntMap<K, V> {
     /// ```
     #[inline(always)]
     pub fn try_insert(&mut self, key: K, value: V) -> Result<Option<V>, Refused<V>> {
+        #[cfg(feature = "check")]
+        let before = List::before(&self.map, key);
         let guard = Mending(&mut self.map);
         let result = guard.0.insert(key, value);
         mem::forget(guard);
+        #[cfg(feature = "check")]
+        check::insert(before, key, &result, &self.map);
         result
     }
 
@@ -75,6 +108,10 @@ impl<K: IntKey, V> IntMap<K, V> {
     /// # Panics
     ///
     /// If the map needs more than 2^63 slots.
+    ///
+    /// # Proved
+    ///
+    /// That of [`try_insert_checked`](IntMap::try_insert_checked).
     ///
     /// # Examples
     ///
@@ -98,6 +135,23 @@ impl<K: IntKey, V> IntMap<K, V> {
     ///
     /// As for [`try_insert`](IntMap::try_insert).
     ///
+    /// # Proved
+    ///
+    /// - In `Ok` is `true` exactly if the key was absent (`new`).
+    /// - After `Ok` the key has the value that it had, or the given one if it is new. Each other
+    ///   key has what it had before. The length is one more exactly if the key is new, and only
+    ///   then the capacity may change, as by `insert` (`inserted`).
+    /// - After `Ok(true)` the map is as `insert` of the pair leaves it. After `Ok(false)` it is as
+    ///   it was (`state`).
+    /// - After `Err` the map is as it was: the pairs, their order, the capacity and the load factor
+    ///   (`err`).
+    /// - In `Err` is the given value (`value_returned`).
+    /// - `Err` comes only for an absent key. The cause is `TooLarge` exactly if the map would need
+    ///   more than 2^63 slots or 2^64 pairs. It is `Memory` only if the capacity would change or
+    ///   another key shares the slot (`refused`).
+    /// - It never fails for a key that shares its slot with no other, if the capacity stays
+    ///   (`lone`).
+    ///
     /// # Examples
     ///
     /// ```
@@ -109,9 +163,13 @@ impl<K: IntKey, V> IntMap<K, V> {
     /// ```
     #[inline]
     pub fn try_insert_checked(&mut self, key: K, value: V) -> Result<bool, Refused<V>> {
+        #[cfg(feature = "check")]
+        let before = List::before(&self.map, key);
         let guard = Mending(&mut self.map);
         let result = guard.0.insert_checked(key, value);
         mem::forget(guard);
+        #[cfg(feature = "check")]
+        check::insert_checked(before, key, &result, &self.map);
         result
     }
 }

@@ -1,12 +1,18 @@
 //! The sizes of a map, and the calls that make it larger.
 use super::IntMap;
 use crate::IntKey;
+#[cfg(feature = "check")]
+use crate::check::{self, List};
 use crate::guard::Mending;
 use crate::refusal::{Cause, granted};
 use core::mem;
 
 impl<K: IntKey, V> IntMap<K, V> {
     /// Returns the number of pairs. The cost is *O*(1).
+    ///
+    /// # Proved
+    ///
+    /// - The answer is the number of pairs or members that iteration visits (`value`).
     ///
     /// # Examples
     ///
@@ -21,6 +27,10 @@ impl<K: IntKey, V> IntMap<K, V> {
     }
 
     /// Returns whether there is no pair. The cost is *O*(1).
+    ///
+    /// # Proved
+    ///
+    /// - The answer is `true` exactly if iteration visits nothing (`value`).
     ///
     /// # Examples
     ///
@@ -38,6 +48,10 @@ impl<K: IntKey, V> IntMap<K, V> {
     ///
     /// Unlike std's, it isn't the number of pairs for which there is room: it says which keys share
     /// a slot.
+    ///
+    /// # Proved
+    ///
+    /// - The answer is the number of slots by which the order is defined (`value`).
     ///
     /// # Examples
     ///
@@ -64,6 +78,10 @@ impl<K: IntKey, V> IntMap<K, V> {
     ///
     /// If the number of pairs plus `additional` is above 2^63.
     ///
+    /// # Proved
+    ///
+    /// That of [`try_reserve`](IntMap::try_reserve).
+    ///
     /// # Examples
     ///
     /// ```
@@ -84,6 +102,18 @@ impl<K: IntKey, V> IntMap<K, V> {
     /// [`Cause::TooLarge`] if the number of pairs plus `additional` is above 2^63, and otherwise
     /// [`Cause::Memory`] if an allocation fails. The map stays as it was.
     ///
+    /// # Proved
+    ///
+    /// - After `Ok` the capacity is the greater of the old one and of the least power of two that
+    ///   is at least the length plus `additional`. The pairs are the same, in the order of that
+    ///   capacity; those of a slot keep their order. The load factor stays (`reserved`).
+    /// - After `Err` all is as it was: what iteration visits, its order, the capacity and the load
+    ///   factor (`err`).
+    /// - The cause is `TooLarge` exactly if the length plus `additional` is above 2^63. It is
+    ///   `Memory` only if that is above the capacity (`refused`).
+    /// - Each key has the value that it had, or stays absent (`updates`).
+    /// - The length stays (`len`).
+    ///
     /// # Examples
     ///
     /// ```
@@ -95,9 +125,13 @@ impl<K: IntKey, V> IntMap<K, V> {
     /// assert_eq!(map.capacity(), 2);
     /// ```
     pub fn try_reserve(&mut self, additional: usize) -> Result<(), Cause> {
+        #[cfg(feature = "check")]
+        let before = List::reserving(&self.map, additional);
         let guard = Mending(&mut self.map);
         let result = guard.0.reserve(additional);
         mem::forget(guard);
+        #[cfg(feature = "check")]
+        check::reserve(before, additional, result, &self.map);
         result
     }
 
@@ -119,6 +153,11 @@ impl<K: IntKey, V> IntMap<K, V> {
     }
 
     /// Returns the load factor in thousandths, as the map has it. The cost is *O*(1).
+    ///
+    /// # Proved
+    ///
+    /// - The answer is the load factor, in thousandths, by which insertions decide on growth
+    ///   (`value`).
     ///
     /// # Examples
     ///
@@ -142,6 +181,10 @@ impl<K: IntKey, V> IntMap<K, V> {
     ///
     /// If the pairs don't meet it in 2^63 slots.
     ///
+    /// # Proved
+    ///
+    /// That of [`try_set_load_factor`](IntMap::try_set_load_factor).
+    ///
     /// # Examples
     ///
     /// ```
@@ -162,6 +205,10 @@ impl<K: IntKey, V> IntMap<K, V> {
     /// [`Cause::TooLarge`] if the pairs don't meet it in 2^63 slots, and otherwise
     /// [`Cause::Memory`] if an allocation fails. The map stays as it was, with its load factor.
     ///
+    /// # Proved
+    ///
+    /// That of [`try_set_load_factor_thousandths`](IntMap::try_set_load_factor_thousandths).
+    ///
     /// # Examples
     ///
     /// ```
@@ -181,6 +228,18 @@ impl<K: IntKey, V> IntMap<K, V> {
     ///
     /// As for [`try_set_load_factor`](IntMap::try_set_load_factor).
     ///
+    /// # Proved
+    ///
+    /// - After `Ok` the load factor is the given one. The capacity is the least of the old one and
+    ///   its doublings at which the pairs meet it. The pairs are the same, in the order of that
+    ///   capacity; those of a slot keep their order (`set`).
+    /// - After `Err` all is as it was: what iteration visits, its order, the capacity and the load
+    ///   factor (`err`).
+    /// - The cause is `TooLarge` exactly if the pairs don't meet the load factor in 2^63 slots. It
+    ///   is `Memory` only if they don't meet it in the slots that are there (`refused`).
+    /// - Each key has the value that it had, or stays absent (`updates`).
+    /// - The length stays (`len`).
+    ///
     /// # Examples
     ///
     /// ```
@@ -191,13 +250,21 @@ impl<K: IntKey, V> IntMap<K, V> {
     /// assert_eq!(map.capacity(), 32);
     /// ```
     pub fn try_set_load_factor_thousandths(&mut self, thousandths: usize) -> Result<(), Cause> {
+        #[cfg(feature = "check")]
+        let before = List::of(&self.map);
         let guard = Mending(&mut self.map);
         let result = guard.0.set_load_factor(thousandths);
         mem::forget(guard);
+        #[cfg(feature = "check")]
+        check::set_load_factor(before, thousandths, result, &self.map);
         result
     }
 
     /// Returns the number of slots that have a pair. The cost is *O*(*c*), by 64 slots at a time.
+    ///
+    /// # Proved
+    ///
+    /// - The answer is how many different slots the keys have (`value`).
     ///
     /// # Examples
     ///
@@ -207,6 +274,8 @@ impl<K: IntKey, V> IntMap<K, V> {
     /// assert_eq!(IntMap::from([(0u64, 'a'), (4, 'b')]).load(), 1);
     /// ```
     pub fn load(&self) -> u64 {
+        #[cfg(feature = "check")]
+        check::load(&self.map, self.map.load());
         self.map.load()
     }
 
@@ -226,6 +295,10 @@ impl<K: IntKey, V> IntMap<K, V> {
     /// Counts the pairs, and returns whether their number is [`len`](IntMap::len). It always is.
     /// The cost is *O*(*n* + *c*).
     ///
+    /// # Proved
+    ///
+    /// - The answer is `true` (`value`).
+    ///
     /// # Examples
     ///
     /// ```
@@ -242,6 +315,10 @@ impl<K: IntKey, V> IntMap<K, V> {
     ///
     /// A failed allocation is handled as std does; [`try_collisions`](IntMap::try_collisions)
     /// returns it. The cost is *O*(*c*).
+    ///
+    /// # Proved
+    ///
+    /// That of [`try_collisions`](IntMap::try_collisions).
     ///
     /// # Examples
     ///
@@ -262,6 +339,15 @@ impl<K: IntKey, V> IntMap<K, V> {
     ///
     /// [`Cause::Memory`] if an allocation fails.
     ///
+    /// # Proved
+    ///
+    /// - In `Ok` is a new map, into which each size of a slot above 1 was inserted, with how many
+    ///   slots have it, in the order in which the sizes first appear (`sizes`).
+    /// - Each size above 1 that a slot has is there, with the number of those slots, and no other
+    ///   (`bindings`).
+    /// - The length is the number of such sizes (`len`).
+    /// - It fails by `Memory` alone (`memory`).
+    ///
     /// # Examples
     ///
     /// ```
@@ -271,6 +357,9 @@ impl<K: IntKey, V> IntMap<K, V> {
     /// # Ok::<(), Cause>(())
     /// ```
     pub fn try_collisions(&self) -> Result<IntMap<u64, u64>, Cause> {
-        Ok(IntMap { map: self.map.collisions()? })
+        let map = self.map.collisions()?;
+        #[cfg(feature = "check")]
+        check::collisions(&self.map, &map);
+        Ok(IntMap { map })
     }
 }

@@ -1,12 +1,19 @@
 //! The calls that make iterators.
 use super::IntMap;
 use crate::IntKey;
+#[cfg(feature = "check")]
+use crate::check;
 use crate::iter::{IntoIter, IntoKeys, IntoValues, Iter, IterMut, Keys, Values, ValuesMut};
 
 impl<K: IntKey, V> IntMap<K, V> {
     /// Returns an iterator over the pairs, in iteration order.
     ///
     /// It doesn't allocate. All steps together cost *O*(*n* + *c*).
+    ///
+    /// # Proved
+    ///
+    /// - The iterator returns all pairs or members, each once, slot after slot, and each slot's
+    ///   from front to back (`walk`).
     ///
     /// # Examples
     ///
@@ -18,6 +25,8 @@ impl<K: IntKey, V> IntMap<K, V> {
     /// ```
     #[inline]
     pub fn iter(&self) -> Iter<'_, K, V> {
+        #[cfg(feature = "check")]
+        check::iterators(&self.map);
         Iter { left: self.len(), inner: self.map.iter() }
     }
 
@@ -45,6 +54,11 @@ impl<K: IntKey, V> IntMap<K, V> {
     ///
     /// The cost is that of [`iter`](IntMap::iter).
     ///
+    /// # Proved
+    ///
+    /// - The iterator returns the keys of all pairs, in iteration order (`walk`).
+    /// - It returns as many items as there are pairs (`len`).
+    ///
     /// # Examples
     ///
     /// ```
@@ -55,12 +69,19 @@ impl<K: IntKey, V> IntMap<K, V> {
     /// ```
     #[inline]
     pub fn keys(&self) -> Keys<'_, K, V> {
+        #[cfg(feature = "check")]
+        check::iterators(&self.map);
         Keys { left: self.len(), inner: self.map.keys() }
     }
 
     /// Returns an iterator over the values, in iteration order.
     ///
     /// The cost is that of [`iter`](IntMap::iter).
+    ///
+    /// # Proved
+    ///
+    /// - The iterator returns the values of all pairs, in iteration order (`walk`).
+    /// - It returns as many items as there are pairs (`len`).
     ///
     /// # Examples
     ///
@@ -72,6 +93,8 @@ impl<K: IntKey, V> IntMap<K, V> {
     /// ```
     #[inline]
     pub fn values(&self) -> Values<'_, K, V> {
+        #[cfg(feature = "check")]
+        check::iterators(&self.map);
         Values { left: self.len(), inner: self.map.values() }
     }
 
@@ -98,6 +121,11 @@ impl<K: IntKey, V> IntMap<K, V> {
     ///
     /// The cost is that of [`iter`](IntMap::iter).
     ///
+    /// # Proved
+    ///
+    /// - The iterator returns the keys of all pairs, in iteration order (`walk`).
+    /// - It returns as many items as there are pairs (`len`).
+    ///
     /// # Examples
     ///
     /// ```
@@ -114,6 +142,11 @@ impl<K: IntKey, V> IntMap<K, V> {
     /// Returns an iterator over the values by value, in iteration order.
     ///
     /// The cost is that of [`iter`](IntMap::iter).
+    ///
+    /// # Proved
+    ///
+    /// - The iterator returns the values of all pairs, in iteration order (`walk`).
+    /// - It returns as many items as there are pairs (`len`).
     ///
     /// # Examples
     ///

@@ -8,6 +8,11 @@ impl<K: IntKey> IntSet<K> {
     /// Returns an iterator over the members that are absent from `other`, in the order of this set.
     /// A step looks up the next members of this set in `other`.
     ///
+    /// # Proved
+    ///
+    /// - The iterator returns the members that `other` lacks, in the order of this set (`walk`).
+    /// - It returns exactly the keys that this set has and `other` lacks (`members`).
+    ///
     /// # Examples
     ///
     /// ```
@@ -24,6 +29,12 @@ impl<K: IntKey> IntSet<K> {
     /// Returns an iterator over the members that both sets have, in the order of the set with fewer
     /// members, or of this one if both have the same number. It looks the members of that set up in
     /// the other.
+    ///
+    /// # Proved
+    ///
+    /// - The iterator returns the members that both have, in the order of the set with fewer
+    ///   members, or of this one if they have as many (`walk`).
+    /// - It returns exactly the keys that both sets have (`members`).
     ///
     /// # Examples
     ///
@@ -42,6 +53,12 @@ impl<K: IntKey> IntSet<K> {
     /// of the set with more members, or of this one if both have the same number, and then those
     /// that only the other has.
     ///
+    /// # Proved
+    ///
+    /// - The iterator returns the members of the set with more members, or of this one if they have
+    ///   as many, in order, and then those that only the other has, in its order (`walk`).
+    /// - It returns exactly the keys that either set has (`members`).
+    ///
     /// # Examples
     ///
     /// ```
@@ -57,6 +74,12 @@ impl<K: IntKey> IntSet<K> {
 
     /// Returns an iterator over the members that exactly one of the sets has: first those that only
     /// this set has, and then those that only `other` has.
+    ///
+    /// # Proved
+    ///
+    /// - The iterator returns the members that only this set has, in its order, and then those that
+    ///   only `other` has, in its order (`walk`).
+    /// - It returns exactly the keys that one of the sets has and the other lacks (`members`).
     ///
     /// # Examples
     ///
@@ -74,6 +97,10 @@ impl<K: IntKey> IntSet<K> {
     /// Returns whether each member is one of `other`. It looks the members up in turn, up to the
     /// first that is absent from `other`.
     ///
+    /// # Proved
+    ///
+    /// - The answer is `true` exactly if each member of this set is one of `other` (`value`).
+    ///
     /// # Examples
     ///
     /// ```
@@ -86,6 +113,10 @@ impl<K: IntKey> IntSet<K> {
     }
 
     /// Returns whether each member of `other` is one of this set.
+    ///
+    /// # Proved
+    ///
+    /// - The answer is `true` exactly if each member of `other` is one of this set (`value`).
     ///
     /// # Examples
     ///
@@ -100,6 +131,10 @@ impl<K: IntKey> IntSet<K> {
 
     /// Returns whether no member is one of `other`. It looks the members of the smaller set up in
     /// the other, up to the first that both have.
+    ///
+    /// # Proved
+    ///
+    /// - The answer is `true` exactly if no key is a member of both (`value`).
     ///
     /// # Examples
     ///

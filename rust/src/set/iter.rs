@@ -1,6 +1,8 @@
 //! The iterators of a set.
 use super::IntSet;
 use crate::IntKey;
+#[cfg(feature = "check")]
+use crate::check::Asked;
 use crate::iter::copied;
 use crate::proved::map::iter::{IntoKeys, Keys};
 use crate::proved::set::{IntSet as Proved, iter as proved};
@@ -26,7 +28,10 @@ macro_rules! iterators {
 
             #[inline]
             fn next(&mut self) -> Option<$item> {
-                let item = self.inner.next()?;
+                let item = self.inner.next();
+                #[cfg(feature = "check")]
+                crate::check::steps(self.left, item.is_some());
+                let item = item?;
                 self.left = self.left.saturating_sub(1);
                 Some(item)
             }
@@ -115,7 +120,15 @@ impl<K: IntKey, F: FnMut(K) -> bool> Iterator for ExtractIf<'_, K, F> {
 
     #[inline]
     fn next(&mut self) -> Option<K> {
-        self.set.extract_next(&mut self.at, &mut self.pick)
+        let ExtractIf { set, at, pick } = self;
+        #[cfg(feature = "check")]
+        let mut asked = Asked::behind(set.map(), at.passed);
+        #[cfg(feature = "check")]
+        let pick = &mut |key: K| !asked.about(key, !pick(key));
+        let member = set.extract_next(at, pick);
+        #[cfg(feature = "check")]
+        asked.stepped(member, set.map());
+        member
     }
 
     #[inline]

@@ -1,11 +1,18 @@
 //! Calls on many members.
 use super::{Cause, Drain, ExtractIf, Global, IntKey, IntSet, Iter, Mending, Proved, mem};
+#[cfg(feature = "check")]
+use crate::check::{self, Asked, Coming, List};
 use crate::proved::table::table::Progress;
 use crate::refusal::RefusedPair;
 
 impl<K: IntKey> IntSet<K> {
     /// Returns an iterator over the members, in iteration order. It doesn't allocate. All steps
     /// together cost *O*(*n* + *c*).
+    ///
+    /// # Proved
+    ///
+    /// - The iterator returns all pairs or members, each once, slot after slot, and each slot's
+    ///   from front to back (`walk`).
     ///
     /// # Examples
     ///
@@ -24,6 +31,19 @@ impl<K: IntKey> IntSet<K> {
     /// The others keep their order, and the capacity stays. If `keep` panics, the set stays whole,
     /// with the members that weren't reached. The cost is *O*(*n* + *c*).
     ///
+    /// # Proved
+    ///
+    /// - If the closure's answer at a member is always the same, it stays exactly if the answer is
+    ///   `true` (`by_key`).
+    /// - If the closure answers as a fixed test of keys, the members that pass it stay, in their
+    ///   order (`filtered`).
+    /// - The closure is called once for each member, in iteration order, each time in the state
+    ///   that its last call left. The members with `true` stay, in their order, and no other
+    ///   (`keys`).
+    /// - The capacity and the load factor stay (`state`).
+    /// - Each key stays what it was, or is no member (`updates`).
+    /// - The length doesn't grow (`len`).
+    ///
     /// # Examples
     ///
     /// ```
@@ -32,12 +52,24 @@ impl<K: IntKey> IntSet<K> {
     /// assert_eq!(set.len(), 2);
     /// ```
     pub fn retain<F: FnMut(K) -> bool>(&mut self, keep: F) {
+        #[cfg(feature = "check")]
+        let (mut asked, mut keep) = (Asked::of(self.set.map()), keep);
+        #[cfg(feature = "check")]
+        let keep = |key: K| asked.about(key, keep(key));
         let guard = Mending(&mut self.set);
         guard.0.retain(keep);
         mem::forget(guard);
+        #[cfg(feature = "check")]
+        asked.ended("retain", self.set.map());
     }
 
     /// Removes all members. The capacity and the memory stay. The cost is *O*(*n* + *c*).
+    ///
+    /// # Proved
+    ///
+    /// - There is no member left. The capacity stays (`state`).
+    /// - No key is a member (`none`).
+    /// - The length is 0 (`len`).
     ///
     /// # Examples
     ///
@@ -47,13 +79,21 @@ impl<K: IntKey> IntSet<K> {
     /// assert_eq!((set.len(), set.capacity()), (0, 2));
     /// ```
     pub fn clear(&mut self) {
+        #[cfg(feature = "check")]
+        let before = List::of(self.set.map());
         self.set.clear();
+        #[cfg(feature = "check")]
+        check::clear(before, self.set.map());
     }
 
     /// Returns an iterator that removes one member at each step and returns it, in iteration order.
     /// The members that it didn't return stay, in their order.
     ///
     /// A step costs *O*(*s*), all of them with the look for the next slots *O*(*n s* + *c*).
+    ///
+    /// # Proved
+    ///
+    /// - At the first step all is there that was: nothing is removed before (`state`).
     ///
     /// # Examples
     ///
@@ -92,6 +132,16 @@ impl<K: IntKey> IntSet<K> {
     /// Those of [`try_insert`](IntSet::try_insert), with the key that failed, `()` as its value, and
     /// the number of keys before it. Those stay members, and the rest of the iterator is dropped.
     ///
+    /// # Proved
+    ///
+    /// - After `Ok` each item of the iterator was inserted in turn. The load factor stays, and the
+    ///   capacity doesn't fall (`extends`).
+    /// - After `Ok` the members are those of before and all items (`runs`).
+    /// - After `Ok` the length grew by at most the number of items (`len`).
+    /// - After `Err` the items before the one that failed are in, and that one isn't. `applied` is
+    ///   their number, at most 2^64 - 1. The cause is one for which its insertion may fail
+    ///   (`stops`).
+    ///
     /// # Examples
     ///
     /// ```
@@ -106,9 +156,15 @@ impl<K: IntKey> IntSet<K> {
     where
         I: IntoIterator<Item = K>,
     {
+        #[cfg(feature = "check")]
+        let mut coming = Coming::into(self.set.map());
+        #[cfg(feature = "check")]
+        let keys = coming.watch(keys, |key| *key);
         let guard = Mending(&mut self.set);
         let result = guard.0.extend(keys.into_iter());
         mem::forget(guard);
+        #[cfg(feature = "check")]
+        coming.joined(&result, self.set.map());
         result
     }
 
@@ -119,6 +175,14 @@ impl<K: IntKey> IntSet<K> {
     /// Those of [`try_with_capacity`](IntSet::try_with_capacity) and
     /// [`try_insert`](IntSet::try_insert).
     ///
+    /// # Proved
+    ///
+    /// - In `Ok` is a new set with the capacity for some number of members, at most that of the
+    ///   items, into which each item was inserted in turn. `Err` has a cause for which one of these
+    ///   calls may fail (`collects`).
+    /// - In `Ok` the members are the items, and no other key (`runs`).
+    /// - The length is at most the number of items (`len`).
+    ///
     /// # Examples
     ///
     /// ```
@@ -128,7 +192,14 @@ impl<K: IntKey> IntSet<K> {
     /// # Ok::<(), Cause>(())
     /// ```
     pub fn try_from_iter<I: IntoIterator<Item = K>>(keys: I) -> Result<IntSet<K>, Cause> {
-        Ok(IntSet { set: Proved::from_iter(Global, keys.into_iter())? })
+        #[cfg(feature = "check")]
+        let (mut coming, keys) = Coming::into_new(keys.into_iter());
+        #[cfg(feature = "check")]
+        let keys = coming.watch(keys, |key| *key);
+        let set = Proved::from_iter(Global, keys.into_iter())?;
+        #[cfg(feature = "check")]
+        coming.joined(&Ok(()), set.map());
+        Ok(IntSet { set })
     }
 
     /// The same as [`clone`](Clone::clone), but it returns a failure.
@@ -136,6 +207,11 @@ impl<K: IntKey> IntSet<K> {
     /// # Errors
     ///
     /// [`Cause::Memory`] if an allocation fails.
+    ///
+    /// # Proved
+    ///
+    /// - In `Ok` are the same members, in the same order, with the same capacity (`same`).
+    /// - It fails by `Memory` alone (`memory`).
     ///
     /// # Examples
     ///
@@ -147,6 +223,9 @@ impl<K: IntKey> IntSet<K> {
     /// # Ok::<(), Cause>(())
     /// ```
     pub fn try_clone(&self) -> Result<IntSet<K>, Cause> {
-        Ok(IntSet { set: self.set.clone()? })
+        let set = self.set.clone()?;
+        #[cfg(feature = "check")]
+        check::copied(self.set.map(), set.map());
+        Ok(IntSet { set })
     }
 }

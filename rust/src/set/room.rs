@@ -1,11 +1,17 @@
 //! The capacity, room for a number of members, and memory that is given back.
 use super::{IntSet, Mending, mem};
 use crate::IntKey;
+#[cfg(feature = "check")]
+use crate::check::{self, List};
 use crate::refusal::{Cause, granted};
 use crate::room::{FIRST_FACTOR, LEAST_SLOTS, slots_for};
 
 impl<K: IntKey> IntSet<K> {
     /// Returns the number of slots, a power of two. The cost is *O*(1).
+    ///
+    /// # Proved
+    ///
+    /// - The answer is the number of slots by which the order is defined (`value`).
     ///
     /// # Examples
     ///
@@ -66,6 +72,10 @@ impl<K: IntKey> IntSet<K> {
     ///
     /// If the number of members plus `additional` is above 2^63.
     ///
+    /// # Proved
+    ///
+    /// That of [`try_reserve`](IntSet::try_reserve).
+    ///
     /// # Examples
     ///
     /// ```
@@ -84,6 +94,19 @@ impl<K: IntKey> IntSet<K> {
     /// [`Cause::TooLarge`] if the number of members plus `additional` is above 2^63, and otherwise
     /// [`Cause::Memory`] if an allocation fails. The set stays as it was.
     ///
+    /// # Proved
+    ///
+    /// - After `Ok` the capacity is the greater of the old one and of the least power of two that
+    ///   is at least the length plus `additional` (`capacity`).
+    /// - After `Ok` the members are the same, in the order of the new capacity; those of a slot
+    ///   keep their order (`state`).
+    /// - After `Err` all is as it was: what iteration visits, its order, the capacity and the load
+    ///   factor (`err`).
+    /// - The cause is `TooLarge` exactly if the length plus `additional` is above 2^63. It is
+    ///   `Memory` only if that is above the capacity (`refused`).
+    /// - Each key stays what it was, a member or not (`same`).
+    /// - The length stays (`len`).
+    ///
     /// # Examples
     ///
     /// ```
@@ -93,9 +116,13 @@ impl<K: IntKey> IntSet<K> {
     /// assert_eq!(set.try_reserve(usize::MAX), Err(Cause::TooLarge));
     /// ```
     pub fn try_reserve(&mut self, additional: usize) -> Result<(), Cause> {
+        #[cfg(feature = "check")]
+        let before = List::reserving(self.set.map(), additional);
         let guard = Mending(&mut self.set);
         let result = guard.0.reserve(additional);
         mem::forget(guard);
+        #[cfg(feature = "check")]
+        check::reserve(before, additional, result, self.set.map());
         result
     }
 

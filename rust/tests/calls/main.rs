@@ -3,6 +3,8 @@
 
 mod against_std;
 mod carried;
+// a check reads numbers too
+#[cfg(not(feature = "check"))]
 mod counts;
 mod disjoint;
 mod entries;

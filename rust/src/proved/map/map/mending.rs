@@ -9,3 +9,11 @@ impl<K: IntKey, V, A: Allocator + Copy> IntMap<K, V, A> {
         self.len = self.table.mend();
     }
 }
+
+#[cfg(feature = "check")]
+impl<K: IntKey, V, A: Allocator + Copy> super::iter::Drain<'_, K, V, A> {
+    /// The map, as the steps so far left it.
+    pub fn source(&self) -> &IntMap<K, V, A> {
+        self.map
+    }
+}

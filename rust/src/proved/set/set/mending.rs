@@ -2,10 +2,20 @@
 use super::IntSet;
 use crate::memory::alloc::Allocator;
 use crate::proved::map::IntKey;
+#[cfg(feature = "check")]
+use crate::proved::map::IntMap;
 
 impl<K: IntKey, A: Allocator + Copy> IntSet<K, A> {
     /// Makes a set whole again after a panic of a closure or of a key's `number`.
     pub fn mend(&mut self) {
         self.map.mend();
+    }
+}
+
+#[cfg(feature = "check")]
+impl<K: IntKey, A: Allocator + Copy> IntSet<K, A> {
+    /// The map from each member to `()`.
+    pub fn map(&self) -> &IntMap<K, (), A> {
+        &self.map
     }
 }
