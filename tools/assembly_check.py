@@ -33,7 +33,7 @@ MISPRINTS = [
     ("do_intmap_step", " + 1", " + 2"),
     ("do_intmap_cut", "memmove(", "(void)("),
     ("do_intmap_equal", " != ", " == "),
-    ("box_drop", "rattle_dealloc(", "(void)("),
+    ("mem_drop", "rattle_dealloc(", "(void)("),
     ("do_intmap_set_load_factor", "u128_of(1000u)", "u128_of(1001u)"),
 ]
 # in seconds, of a run, which takes a few

@@ -16,10 +16,17 @@
 #include <stdlib.h>
 #include <string.h>
 
+#ifdef INTMAP_HAS_AT
+#define PLACE_CALL(IT) IT(place)
+#else
+#define PLACE_CALL(IT)
+#endif
+
 #define EACH_CALL(IT)                                                                              \
-    IT(version) IT(new) IT(with_capacity) IT(clone) IT(free) IT(get) IT(contains_key) IT(insert)   \
+    IT(version) IT(with_capacity) IT(clone) IT(free) IT(get) IT(contains_key) IT(insert)           \
     IT(insert_checked) IT(set) IT(add) IT(add_or_insert) IT(remove) IT(clear) IT(len) IT(capacity) \
-    IT(load_factor) IT(filled_slots) IT(reserve) IT(set_load_factor) IT(step) IT(cut) IT(equal)
+    IT(load_factor) IT(filled_slots) IT(reserve) IT(set_load_factor) IT(step) IT(cut) IT(equal)    \
+    PLACE_CALL(IT)
 
 enum { MAPS = 2 };
 
@@ -114,9 +121,10 @@ static uint64_t number(void) {
 // One call, of each form.
 
 enum {
-    INSERT, INSERT_CHECKED, ADD_OR_INSERT, GET, CONTAINS_KEY, SET, ADD, REMOVE, STEP, CUT, FIGURES,
+    INSERT, INSERT_CHECKED, ADD_OR_INSERT, GET, CONTAINS_KEY, SET, ADD, PLACE, REMOVE, STEP, CUT,
+    FIGURES,
     OFTEN, START = OFTEN, CLONE, RESERVE, SET_LOAD_FACTOR, EQUAL,
-    SOMETIMES, CLEAR = SOMETIMES, NEW, WITH_CAPACITY, FREE,
+    SOMETIMES, CLEAR = SOMETIMES, WITH_CAPACITY, FREE,
     KINDS
 };
 
@@ -144,6 +152,21 @@ static void figures(form *one, const intmap *map) {
     one->answer[3] = one->filled_slots(map);
 }
 
+// The value before is compared, and another one written in its place. Addresses differ.
+static void change_in_place(form *one, const call *it) {
+#ifdef INTMAP_HAS_AT
+    uint64_t *at = NULL;
+    one->place(&one->maps[it->map], it->key, &at);
+    if (at != NULL) {
+        one->answer[0] = *at;
+        one->answer[1] = 1;
+        *at = it->value;
+    }
+#else
+    found_value(one, one->set(&one->maps[it->map], it->key, it->value));
+#endif
+}
+
 static void change_pair(form *one, const call *it) {
     intmap *map = &one->maps[it->map];
     switch (it->kind) {
@@ -151,6 +174,7 @@ static void change_pair(form *one, const call *it) {
     case ADD_OR_INSERT: found_value(one, one->add_or_insert(map, it->key, it->value)); break;
     case SET: found_value(one, one->set(map, it->key, it->value)); break;
     case ADD: found_value(one, one->add(map, it->key, it->value)); break;
+    case PLACE: change_in_place(one, it); break;
     case REMOVE: found_value(one, one->remove(map, it->key)); break;
     case CUT: found_pair(one, one->cut(map, &one->at[it->map])); break;
     case INSERT_CHECKED:
@@ -167,7 +191,6 @@ static void change_map(form *one, const call *it) {
     case RESERVE: *status = (uint64_t)one->reserve(map, it->value); break;
     case SET_LOAD_FACTOR: *status = (uint64_t)one->set_load_factor(map, it->value); break;
     case CLEAR: one->clear(map); break;
-    case NEW: *status = (uint64_t)one->new(map); break;
     case WITH_CAPACITY: *status = (uint64_t)one->with_capacity(map, it->value); break;
     case FREE: one->free(map); break;
     }
@@ -216,14 +239,25 @@ static void begin_run(void) {
     slots = mask < 1023 ? 70 : 500;
 }
 
-static uint64_t value_for(unsigned kind) {
+// A load factor that the map just meets, or just doesn't.
+static uint64_t factor_at_load(unsigned map) {
+    const form *one = &forms[0];
+    const intmap *it = &one->maps[map];
+    uint64_t load = 1000 * one->len(it) / one->capacity(it);
+    return load - (load > 0 && number() % 2);
+}
+
+static uint64_t value_for(unsigned kind, unsigned map) {
     // now and then a number at a limit
     static const uint64_t great[] = {UINT64_MAX, (uint64_t)1 << 63, ((uint64_t)1 << 63) - 3,
                                      UINT64_MAX / 48, UINT64_MAX / 48 + 1, (uint64_t)1 << 57};
     if (kind == RESERVE || kind == WITH_CAPACITY) {
         return number() % 4 == 0 ? great[number() % 6] : number() % slots;
     }
-    return kind == SET_LOAD_FACTOR ? 200 + number() % 5000 : number();
+    if (kind == SET_LOAD_FACTOR) {
+        return number() % 2 ? factor_at_load(map) : 200 + number() % 5000;
+    }
+    return number();
 }
 
 static call any_call(void) {
@@ -232,11 +266,9 @@ static call any_call(void) {
         kind = START + (unsigned)(number() % (SOMETIMES - START));
     } else if (number() % 300 == 0) {
         kind = SOMETIMES + (unsigned)(number() % (KINDS - SOMETIMES));
-        // what follows without a map is soon tried
-        kind = kind == FREE && number() % 8 != 0 ? NEW : kind;
     }
     call it = {kind, (unsigned)(number() % MAPS), (number() & mask) * factor, 0, 0, false};
-    it.value = value_for(kind);
+    it.value = value_for(kind, it.map);
     it.until_refused = number() % 7 == 0 ? 1 + number() % 4 : 0;
     it.are_all_refused = number() % 2 == 0;
     return it;
@@ -263,7 +295,7 @@ int main(int count, char **words) {
         if (at % RUN == 0) {
             begin_run();
         }
-        call it = at % RUN < MAPS ? (call){.kind = NEW, .map = (unsigned)(at % RUN)} : any_call();
+        call it = at % RUN < MAPS ? (call){.kind = FREE, .map = (unsigned)(at % RUN)} : any_call();
         make(&forms[0], &it);
         make(&forms[1], &it);
         if (differ()) {

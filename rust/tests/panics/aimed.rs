@@ -153,7 +153,7 @@ fn a_panic_of_the_closure_of_a_set_leaves_a_whole_set() {
             let panicked = panics_at(number, || {
                 let is_even = |key: u64| {
                     burn();
-                    (key >> shift).is_multiple_of(2)
+                    (key >> shift) % 2 == 0
                 };
                 match is_retained {
                     true => set.retain(is_even),
