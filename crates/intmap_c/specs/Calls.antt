@@ -22,8 +22,14 @@ map_of (Some m) = m
 
 -- P of the map before and the map after; or the word had no map and has none, and N
 abbrev pub OnMap : Option State → Option State → Type 0 → (State → State → Type 0) → Type 0
-OnMap old None N P = (old ≡ None) × N
-OnMap old (Some n) N P = P (map_of old) n
+OnMap None new N P = (new ≡ None) × N
+OnMap (Some m) None N P = ⊥
+OnMap (Some m) (Some n) N P = P m n
+
+-- the same of a call that makes a map in a word without one; if the word has none then, there was none, and N
+abbrev pub OnMapOrNew : Option State → Option State → Type 0 → (State → State → Type 0) → Type 0
+OnMapOrNew old None N P = (old ≡ None) × N
+OnMapOrNew old (Some n) N P = P (map_of old) n
 
 -- a key's number is the key
 abbrev pub itself : ℕ → ℕ

@@ -39,6 +39,7 @@ fn seek<K: IntKey, X, A: Allocator>(slots: &Slots<K, X, A>, at: &mut Cursor) -> 
     ensures pair { OnTrue result (at.new.place < length (row_of slots.now at.new.slot)) }
     ensures none { OnFalse result (drop (count_before (rows slots.now) at.old.slot at.old.place)
         (joined (rows slots.now)) ≡ []) }
+    ensures stays { OnFalse result (at.new ≡ at.old) }
     ensures same { count_before (rows slots.now) at.new.slot at.new.place
         ≡ count_before (rows slots.now) at.old.slot at.old.place }
 {
@@ -65,6 +66,7 @@ impl<K: IntKey, X, A: Allocator> Table<K, X, A> {
         ensures passed { position K.number_of self.now.walk self.now.capacity at.new
             ≡ position K.number_of self.now.walk self.now.capacity at.old
             + cond (is_some result) 1 0 }
+        ensures stays { IfNone result (at.new ≡ at.old) }
     {
         if !seek(&self.slots, at) {
             return None;
@@ -90,7 +92,7 @@ impl<K: IntKey, X, A: Allocator> Table<K, X, A> {
             ≡ take (position K.number_of self.old.walk self.old.capacity at.old) self.old.walk }
         ensures passed { position K.number_of self.new.walk self.new.capacity at.new
             ≡ position K.number_of self.old.walk self.old.capacity at.old }
-        ensures none { IfNone result (self.new ≡ self.old) }
+        ensures none { IfNone result ((self.new ≡ self.old) × (at.new ≡ at.old)) }
         ensures capacity { self.new.capacity ≡ self.old.capacity }
         ensures own { walk_of K.number_of self.new.walk self.new.capacity ≡ self.new.walk }
     {
