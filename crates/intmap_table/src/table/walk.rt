@@ -54,8 +54,8 @@ fn seek<K: IntKey, X, A: Allocator>(slots: &Slots<K, X, A>, at: &mut Cursor) -> 
 }
 
 impl<K: IntKey, X, A: Allocator> Table<K, X, A> {
-    /// The first pair from the cursor on, or `None` if no pair is left. The cursor moves on behind
-    /// that pair.
+    /// The first pair from the cursor on, behind which the cursor moves, or `None` if no pair is
+    /// left. Then the cursor stays.
     pub fn step(&self, at: &mut Cursor) -> Option<(&K, &X)>
         requires count { length self.now.walk < 2 ^ 64 }
         ensures first { MatchOption result
@@ -78,8 +78,8 @@ impl<K: IntKey, X, A: Allocator> Table<K, X, A> {
     }
 
     /// Removes the first pair from the cursor on and returns it, or returns `None` if no pair is
-    /// left. The other pairs keep their order. The cursor then is between those that were before it
-    /// and those that were behind the removed one.
+    /// left, and then leaves the cursor. The other pairs keep their order. Otherwise the cursor is
+    /// between those that were before it and those that were behind the removed one.
     pub fn cut(&mut self, at: &mut Cursor) -> Option<(K, X)>
         requires count { length self.old.walk < 2 ^ 64 }
         ensures first { MatchOption result

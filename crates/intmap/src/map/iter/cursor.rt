@@ -9,8 +9,8 @@ pub use intmap_table::table::walk::Cursor;
 use std::alloc::Allocator;
 
 impl<K: IntKey, V, A: Allocator + Copy> IntMap<K, V, A> {
-    /// The first pair of the walk from the cursor on, or `None` if no pair is left. The cursor
-    /// moves on behind that pair.
+    /// The first pair of the walk from the cursor on, behind which the cursor moves, or `None` if no
+    /// pair is left. Then the cursor stays.
     ///
     /// A walk begins with [`Cursor::start`]. Any cursor will do, whatever happened to the map since:
     /// it is before the pair at its place of its slot, or else before the slots behind that one. So
@@ -41,9 +41,9 @@ impl<K: IntKey, V, A: Allocator + Copy> IntMap<K, V, A> {
     }
 
     /// Removes the first pair of the walk from the cursor on and returns it, or returns `None` if no
-    /// pair is left. The cursor then is between the pairs that were before it and those that were
-    /// behind the removed one. Both keep their order. As with [`step`](IntMap::step), any cursor will
-    /// do.
+    /// pair is left, and then leaves the cursor. Otherwise the cursor is between the pairs that were
+    /// before it and those that were behind the removed one. Both keep their order. As with
+    /// [`step`](IntMap::step), any cursor will do.
     ///
     /// The other pairs of the slot behind the removed one move up by one place. The capacity, the
     /// load factor and both counts stay, and the slots keep their memory. It allocates nothing and
