@@ -21,8 +21,8 @@ DEFINITION = re.compile(r"^( *)((?:-- .*\n *)*)(?:(?:abbrev|unfoldable) pub|pub 
 MODULE = re.compile(r"^pub mod (\w+)$", re.M)
 # what `intmap` passes on of the crate below
 PASSED_ON = re.compile(r"^pub use Rattle\.intmap_table\.specs\.(\w+)", re.M)
-# what a file begins with whose words no public clause has, or that has proofs for an `impl`
-UNCITED = re.compile(r"-- .*(?:No public clause cites this|is an equivalence|laws of the equality|for their `?impl)")
+# what the first line of a file ends with whose words no public clause has
+UNCITED = re.compile(r"-- .*No public clause cites this")
 
 
 def comment_of(lines):
