@@ -7,6 +7,8 @@ import re
 from crates import text_of
 
 PAGE, SCRIPTS = "docs/reference/Definitions.md", "CONTRIBUTING.md"
+# what the gate runs, and the line at which its proofs begin
+GATE, PROOFS = ".ci/run", 'echo "== rt ci"'
 # by crate, in order: its heading
 HEADINGS = {
     "intmap_table": "Keys, slots and lists of pairs",
@@ -106,14 +108,18 @@ def first_sentence(path):
     return re.match(r".*?(?=\.(?:\s|$))", " ".join(told.split()))[0]
 
 
-def with_scripts(page):
-    """The page with the first sentence of each script in its row; a new one has a row at the end, with `?` for what is
-    by hand: how it is run, and how long it takes."""
-    scripts = sorted(it for it in glob.glob("tools/*") if os.path.isfile(it) and os.access(it, os.X_OK))
-    head, mark, rest = page.partition("Script | Does | Run it | Takes\n---|---|---|---\n")
-    table = re.match(r"(?:`.*\n)*", rest)[0]
-    rows = [re.split(r" \| ?", it) for it in table.splitlines()]
-    rows = [it for it in rows if it[0].strip("`") in scripts]
-    rows += [[f"`{it}`", "", "?", "?"] for it in scripts if f"`{it}`" not in [row[0] for row in rows]]
-    lines = [" | ".join([row[0], first_sentence(row[0].strip("`")), *row[2:]]) for row in rows]
-    return head + mark + "".join(f"{it}\n" for it in lines) + rest[len(table) :]
+def in_gate(script, gate):
+    """How the gate runs a script: before its proofs, behind them, and with what."""
+    found = []
+    for when, part in zip(("first", "last"), gate.split(PROOFS)):
+        for words in re.findall(rf"^[^#\n]*\b{script}\b((?: --[\w-]+)*)", part, re.M):
+            found.append(f"{when}{f': `{words.strip()}`' if words else ''}")
+    return "; ".join(found)
+
+
+def scripts():
+    """The scripts in the order of the gate, each with its first sentence and how the gate runs it."""
+    gate = text_of(GATE)
+    names = [it for it in glob.glob("tools/*") if os.path.isfile(it) and os.access(it, os.X_OK)]
+    rows = [f"`{it}` | {first_sentence(it)} | {in_gate(it, gate) or 'by hand'}\n" for it in sorted(names, key=lambda it: (gate.find(it) % len(gate), it))]
+    return f"\nScript | Does | In the gate\n---|---|---\n{''.join(rows)}\n"
