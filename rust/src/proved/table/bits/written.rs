@@ -21,7 +21,8 @@ impl<A: Allocator> Bits<A> {
 /// Takes the element at an index off a slice, with those before it.
 #[inline(always)]
 pub(in crate::proved::table) fn take_at<'a, T>(rest: &mut &'a mut [T], index: usize) -> &'a mut T {
-    let [element, behind @ ..] = &mut take(rest)[index..] else { unreachable!() };
+    let (taken, behind) = take(rest).split_at_mut(index + 1);
+    let [.., element] = taken else { unreachable!() };
     *rest = behind;
     element
 }
