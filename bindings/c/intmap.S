@@ -9,7 +9,7 @@
  *
  * Written by tools/assembly of the repository, and not to be edited.
  * Compilers: rattle-kit-13f logic dac8208d650f15bf; clang version 22.1.8
- * Sources: d458d64062c3b3dda2319f3c0d1718fde994c21e5a9a8c9f04b9f18f3391af51
+ * Sources: a9299aabec313a9fc53c663b63d3cf2c49928d0807630b1ac50449d658a3fa4e
  *
  * SPDX-License-Identifier: MIT
  *
@@ -5651,17 +5651,17 @@ intmap_reserve:
 	pushq	%rax
 	movq	%rsi, %r15
 	movq	%rdi, %rbx
+	movabsq	$-9223372036854775808, %r12
 	callq	intmap_c.handle.take_or_make
 	testb	%al, %al
 	je	.LBB36_1
 	movq	%rdx, %r14
 	movq	80(%rdx), %rdx
-	movabsq	$-9223372036854775808, %rax
-	subq	%rdx, %rax
-	setb	%cl
-	cmpq	%r15, %rax
+	subq	%rdx, %r12
 	setb	%al
-	orb	%cl, %al
+	cmpq	%r15, %r12
+	setb	%cl
+	orb	%al, %cl
 	movl	$-2, %eax
 	jne	.LBB36_8
 	addq	%r15, %rdx
@@ -5713,7 +5713,9 @@ intmap_reserve:
 	movq	%r14, (%rbx)
 	jmp	.LBB36_9
 .LBB36_1:
+	cmpq	%r15, %r12
 	movl	$-1, %eax
+	sbbl	$0, %eax
 .LBB36_9:
 	addq	$8, %rsp
 	popq	%rbx
@@ -10691,7 +10693,10 @@ intmap_reserve:
 	ldp	x29, x30, [sp], #48
 	ret
 .LBB36_6:
-	mov	w0, #-1
+	mov	x8, #-9223372036854775808
+	cmp	x20, x8
+	mov	w8, #-2
+	cinc	w0, w8, ls
 	ldp	x20, x19, [sp, #32]
 	ldr	x21, [sp, #16]
 	ldp	x29, x30, [sp], #48

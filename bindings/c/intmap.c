@@ -17,7 +17,7 @@
 // have 16 bytes each.
 //
 // Compilers: rattle-kit-13f logic dac8208d650f15bf; clang version 22.1.8
-// Sources: d458d64062c3b3dda2319f3c0d1718fde994c21e5a9a8c9f04b9f18f3391af51
+// Sources: a9299aabec313a9fc53c663b63d3cf2c49928d0807630b1ac50449d658a3fa4e
 //
 // SPDX-License-Identifier: MIT
 //
@@ -4406,7 +4406,7 @@ static ALWAYS_INLINE uint32_t do_intmap_reserve(char *map, uint64_t additional) 
     u128 r17;
     r13 = handle_take_or_make(map);
     if (r13.first == 0) {
-        r6_0 = 4294967295u;
+        r6_0 = (additional > UINT64_C(9223372036854775808)) ? 4294967294u : 4294967295u;
     } else {
         x1 = (uint64_t)(uintptr_t)r13.second;
         r18 = load64(r13.second + 80);

@@ -1,5 +1,5 @@
 -- What calls make of a map from 64-bit keys to 64-bit values, m before and n after, and what they return.
-use Rattle.std.specs.Prelude.{◌≡◌, ◌↔◌, ◌⊎◌, ℕ, ℤ, ◌+◌, ◌^◌, ◌<◌, ◌%◌, cond, Bool, true, length, Option, None, Some, is_some}
+use Rattle.std.specs.Prelude.{◌≡◌, ◌↔◌, ◌⊎◌, ℕ, ℤ, ◌+◌, ◌^◌, ◌<◌, ◌≤◌, ◌%◌, cond, Bool, true, length, Option, None, Some, is_some}
 use Rattle.intmap.specs.Bindings.{value_of, IsPresent, Updates}
 use Rattle.intmap.specs.Cloning.{IsClone}
 use Rattle.intmap.specs.Growing.{IsReservation, IsNewFactor, MayRefuseReserve, MayRefuseFactor}
@@ -7,7 +7,7 @@ use Rattle.intmap.specs.Insertions.{MapInserts}
 use Rattle.intmap.specs.Map.{MapState, empty_map, first_capacity, after_search, after_remove, written}
 use Rattle.intmap.specs.PlainLists.{RefusalIsDue, list_of}
 use Rattle.intmap_table.specs.Figures.{load_of}
-use Rattle.intmap_c.specs.Statuses.{ok_status, present_status, absent_status, no_memory_status}
+use Rattle.intmap_c.specs.Statuses.{ok_status, present_status, absent_status, no_memory_status, too_large_status}
 use Rattle.intmap_c.specs.declared.answer.FoundValue.{FoundValue}
 use Rattle.intmap_c.specs.Answers.{value_found, no_value, Fails}
 
@@ -104,6 +104,12 @@ pub record Removes (m n : State) (k : ℕ) (answer : FoundValue) : Type 0 where
   pub state : n ≡ after_remove itself m k
   pub updates : Updates itself m.walk n.walk k None
   pub len : length n.walk + cond (is_some (bound_to m k)) 1 0 ≡ length m.walk
+
+-- there was no memory for a first map, which was to have slots for this number of pairs, or these would be too many
+abbrev pub MakesNone : ℕ → ℤ → Type 0
+MakesNone additional status =
+    ((status ≡ too_large_status) × (2 ^ 63 < additional))
+    ⊎ ((status ≡ no_memory_status) × (additional ≤ 2 ^ 63))
 
 -- there are slots for this number of further pairs; or the call failed
 abbrev pub Reserves : State → State → ℕ → ℤ → Type 0

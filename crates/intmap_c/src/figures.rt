@@ -1,9 +1,9 @@
 //! The number of slots and the load factor, as C sets them.
 ghost use Rattle.std.specs.Prelude.{◌≡◌};
-ghost use Rattle.intmap_c.specs.Calls.{OnMapOrNew, Reserves, SetsFactor};
+ghost use Rattle.intmap_c.specs.Calls.{MakesNone, OnMapOrNew, Reserves, SetsFactor};
 ghost use Rattle.intmap_c.specs.Statuses.{no_memory_status};
 
-use crate::answer::{NO_MEMORY, OK, status_of};
+use crate::answer::{NO_MEMORY, OK, TOO_LARGE, status_of};
 use crate::handle::{Handle, put, take_or_make};
 use intmap::IntMap;
 use std::alloc::Global;
@@ -16,6 +16,16 @@ fn reserve(map: &mut IntMap<u64, u64>, additional: usize) -> i32
         Ok(()) => OK,
         Err(cause) => status_of(cause),
     }
+}
+
+/// The status where no first map could be made, which was to have room for `additional` pairs.
+fn none_made(additional: usize) -> i32
+    ensures { MakesNone additional result }
+{
+    if additional > 1 << 63 {
+        return TOO_LARGE;
+    }
+    NO_MEMORY
 }
 
 /// Sets the load factor, and returns what [`intmap_set_load_factor`] returns.
@@ -37,11 +47,11 @@ fn set_load_factor(map: &mut IntMap<u64, u64>, thousandths: usize) -> i32
 /// ```
 #[unsafe(no_mangle)]
 pub extern "C" fn intmap_reserve(alloc: Global, handle: &mut Handle, additional: usize) -> i32
-    ensures { OnMapOrNew handle.old.value handle.new.value (result ≡ no_memory_status)
+    ensures { OnMapOrNew handle.old.value handle.new.value (MakesNone additional result)
         (λ m n. Reserves m n additional result) }
 {
     match take_or_make(handle, alloc) {
-        None => NO_MEMORY,
+        None => none_made(additional),
         Some(mut map) => {
             let status = reserve(&mut map, additional);
             put(handle, map);
