@@ -125,7 +125,7 @@ def without_generics(head):
 def names_made(text, macro):
     """The names that a macro is given where it is used, each the first word of a line of its."""
     for use in re.findall(rf"\b{macro}!\s*[({{]((?:[^(){{}}]|\([^()]*\))*)[)}}]", text):
-        for line in re.sub(r"\[[^\]]*\]|\|[^;]*;", "", use).split(";"):
+        for line in re.sub(r"\[[^\]]*\]|\|[^;]*", "", use).split(";"):
             words = re.findall(r"(?<![\w<&'])[A-Za-z]\w*", line)
             yield from words[:1] if re.search(r"=|->", line) else words
 
