@@ -62,14 +62,17 @@
 // multiples of 4096 take key >> 12, of what malloc returned address >> 4, of row << 32 | column
 // row * columns + column. If strangers choose the keys, they can make each call linear. Then mix
 // each key by intmap_mix. intmap_filled_slots tells of shared slots. An insertion that adds slots
-// or enlarges them moves all pairs, which is constant time a pair over all insertions.
+// or enlarges them moves all pairs, which is constant time a pair over all insertions. If
+// intmap_reserve, intmap_reserve_pairs or intmap_set_load_factor adds slots, it takes time in the
+// pairs and slots, and otherwise constant time.
 //
-// MEMORY. It comes from malloc: 48 bytes a slot, so some 50 to 120 a pair in a map that has grown,
-// and up to 140 if many keys share slots. Slots that an insertion has added take 24 while no two
-// keys share one, so ids that count up take 27 to 54 a pair. A clone has as many slots.
-// intmap_with_capacity writes each slot. So on Linux, where malloc may not fail, too large a number
-// may end the process. Only intmap_free gives memory back, and a call that replaces a map, adds
-// slots or enlarges them.
+// MEMORY. It comes from malloc. Only a call that may return INTMAP_NO_MEMORY requests any: 48 bytes
+// a slot, so some 50 to 120 a pair in a map that has grown, and up to 140 if many keys share slots.
+// Slots that an insertion has added take 24 while no two keys share one, so ids that count up take
+// 27 to 54 a pair. A clone has as many slots. intmap_with_capacity writes each slot, which takes
+// time in their number. So on Linux, where malloc may not fail, too large a number may end the
+// process. Only intmap_free gives memory back, and a call that replaces a map, adds slots or
+// enlarges them.
 //
 // DEBUGGING. With intmap_debug.c in place of intmap.c, some calls that break the rules end the
 // program, by a line on standard error and abort():
@@ -85,8 +88,8 @@
 // intmap_free has left is no mistake: it is an empty map.
 //
 // All files that have maps must be compiled so, by gcc or clang. Each map takes 24 bytes more, which
-// stay in use, and the call that makes it may fail for want of them. Else calls answer as without. A map that
-// is lost isn't reported by a tool that looks for leaks.
+// stay in use, and the call that makes it may fail for want of them. Else calls answer as without. A
+// map that is lost isn't reported by a tool that looks for leaks.
 #ifndef INTMAP_H
 #define INTMAP_H
 
@@ -338,7 +341,7 @@ INTMAP_NONNULL INTMAP_MUST_USE intmap_status intmap_set_load_factor(intmap *map,
 
 // Makes room for `more` pairs more: the number of slots becomes the least of itself and its
 // doublings that meets the load factor with them. Insertions of so many new keys then add no slots,
-// while the load factor stays. One above 10^16 counts as 10^16. It returns INTMAP_OK;
+// while the load factor stays. A load factor above 10^16 counts as 10^16. It returns INTMAP_OK;
 // INTMAP_TOO_LARGE exactly if no number up to 2^63 meets it or there would be more than 2^64 - 1
 // pairs; or INTMAP_NO_MEMORY, but never if the present number meets it.
 INTMAP_NONNULL INTMAP_MUST_USE static inline intmap_status intmap_reserve_pairs(intmap *map,
@@ -393,8 +396,8 @@ INTMAP_NONNULL static inline size_t intmap_next(const intmap *map, intmap_cursor
 
 // Removes the first pair of the walk from the cursor on. It returns INTMAP_PRESENT with the pair, or
 // INTMAP_ABSENT if none is left, and leaves the cursor. The pairs before the cursor stay, and those
-// behind it come next, in the same order. The number of slots stays. It requests no memory, and takes time in the pairs that
-// follow in the slot, and in what intmap_step would pass.
+// behind it come next, in the same order. The number of slots stays. It requests no memory, and
+// takes time in the pairs that follow in the slot, and in what intmap_step would pass.
 //
 // To remove some pairs of a walk, look with a second cursor:
 //
