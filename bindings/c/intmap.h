@@ -47,8 +47,9 @@
 //
 // THE FIRST CALL. INTMAP_INIT is a map of 4 slots without pairs, with a load factor of 909
 // thousandths, that has no memory yet. The first call that inserts a key, makes room or sets the
-// load factor requests it. If that is refused the call returns INTMAP_NO_MEMORY, whatever else it
-// says of failures. intmap_with_capacity requests it in advance.
+// load factor requests it. If that is refused, the call returns INTMAP_TOO_LARGE where it says so,
+// and else INTMAP_NO_MEMORY, also where it says that it never does. intmap_with_capacity requests
+// it in advance.
 //
 // ORDER. The pairs lie in slots, whose number is a power of two. The walk is the order of the
 // pairs: slot after slot, and each slot from front to back. It depends only on the calls that were
@@ -333,7 +334,7 @@ INTMAP_NONNULL INTMAP_MUST_USE intmap_status intmap_reserve(intmap *map, size_t 
 
 // Sets the load factor, in thousandths. A number of slots meets it if 1000 * pairs / slots, rounded
 // down, is no more. The number of slots becomes the least of itself and its doublings that meets
-// it: with a factor of 0, some 1000 slots for a pair. It returns INTMAP_OK; INTMAP_TOO_LARGE
+// it: with a factor of 0, more than 1000 slots a pair. It returns INTMAP_OK; INTMAP_TOO_LARGE
 // exactly if no number up to 2^63 meets it; or INTMAP_NO_MEMORY, but never if the present number
 // meets it. If it fails, the load factor stays.
 INTMAP_NONNULL INTMAP_MUST_USE intmap_status intmap_set_load_factor(intmap *map, size_t thousandths)
