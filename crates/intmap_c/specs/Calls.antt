@@ -111,7 +111,7 @@ MakesNone additional status =
     ((status ≡ too_large_status) × (2 ^ 63 < additional))
     ⊎ ((status ≡ no_memory_status) × (additional ≤ 2 ^ 63))
 
--- there are slots for this number of further pairs; or the call failed
+-- there are at least as many slots as the pairs and this number make; or the call failed
 abbrev pub Reserves : State → State → ℕ → ℤ → Type 0
 Reserves m n additional status =
     ((status ≡ ok_status) × IsReservation itself m additional n × BindSame m n)

@@ -56,8 +56,7 @@ fn add(map: &mut IntMap<u64, u64>, key: u64, more: u64) -> FoundValue
     }
 }
 
-/// Adds to the value of a key, or inserts the key, and returns what [`intmap_add_or_insert`] returns
-///.
+/// Adds to the value of a key, or inserts the key. It returns what [`intmap_add_or_insert`] returns.
 fn add_or_insert(map: &mut IntMap<u64, u64>, key: u64, more: u64) -> FoundValue
     ensures { AddsOrInserts map.old map.new key more result }
 {
