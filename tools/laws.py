@@ -45,33 +45,52 @@ def laws(files):
     return dict(sorted(found.items(), key=lambda it: (ORDER.index(it[0][0]) if it[0][0] in ORDER else len(ORDER), it[0])))
 
 
-def places(files, crate, name):
-    """One file that calls a law, of the callers if they do, and one function of theirs whose answer applies it."""
-    calls, answers = [], []
+@functools.lru_cache(None)
+def called_in(text):
+    """The laws that a source calls, each with the crates whose laws it imports."""
+    return {(crate, name) for crate in IMPORTED.findall(text) for name in re.findall(r"\blaws::(\w+)", text)}
+
+
+@functools.lru_cache(None)
+def applied_in(text):
+    """The names of the calls whose clauses an answer applies."""
+    return {*re.findall(r"\bc\.(\w+)\.ensures", text)}
+
+
+def users(files):
+    """By crate and law: the files that call it, and the functions of their crates whose answers apply it; callers first."""
+    calls, answers, citing = {}, {}, {}
     for path, text in sorted(files.items(), key=lambda it: (not it[0].startswith(CALLERS), it[0])):
-        if path.endswith(".rt") and f"laws::{name}" in text and re.search(rf"\blaws::{name}\b", text):
-            if crate in IMPORTED.findall(text):
-                calls.append(path.removeprefix(f"{CALLERS}/src/"))
-        elif path.startswith(f"{CALLERS}/proofs/") and re.search(rf"\bc\.{name}\.ensures", text):
-            answers.append(path.removeprefix(f"{CALLERS}/proofs/").rpartition("/")[0])
-    return calls[:1], answers[:1]
+        of = path.split("/")[1] if path.startswith("crates/") else ""
+        if path.endswith(".rt") and "laws::" in text:
+            for law in called_in(text):
+                calls.setdefault(law, []).append(path)
+        elif path.endswith("/Answers.antt"):
+            for name in applied_in(text):
+                citing.setdefault((of, name), []).append(path.rpartition("/")[0])
+    for law, paths in calls.items():
+        answers[law] = [it for of in dict.fromkeys(path.split("/")[1] for path in paths) for it in citing.get((of, law[1]), [])]
+    return calls, answers
 
 
-def row_of(files, crate, law):
-    """A row: the law, what it says, and who calls it."""
+def shortened(path):
+    return path.removeprefix(f"{CALLERS}/src/").removeprefix(f"{CALLERS}/proofs/")
+
+
+def row_of(law, found):
+    """A row: the law, what it says, one file that calls it, and one function whose answer applies it."""
     name, types, told = law
-    calls, answers = places(files, crate, name)
-    shown_by = ", ".join([f"`{it}`" for it in calls] + [f"answer `{it}`" for it in answers])
+    shown_by = ", answer ".join(f"`{shortened(it[0])}`" for it in found if it)
     return f"`{name}{f'::<{types}>' if types else ''}` | {told} | {shown_by}".rstrip() + "\n"
 
 
 def block(files):
     """What stands between the marks of the page, and what is wrong with it."""
-    text, wrong = "\n", []
+    (text, wrong), (calls, answers) = ("\n", []), users(files)
     for (crate, module), found in laws(files).items():
         wrong += [f"crates/{crate}: no comment is above the law {name}" for name, _, told in found if not told]
         text += f"### Of {crate}::{module}\n\nLaw | Says | Called in\n---|---|---\n"
-        text += "".join(row_of(files, crate, it) for it in found) + "\n"
+        text += "".join(row_of(it, [those.get((crate, it[0]), []) for those in (calls, answers)]) for it in found) + "\n"
     return text, wrong
 
 
