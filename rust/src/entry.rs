@@ -114,6 +114,10 @@ impl<'a, K: IntKey, V> Entry<'a, K, V> {
 
     /// Returns a reference to the key.
     ///
+    /// # Proved
+    ///
+    /// In part: it hands over to [`OccupiedEntry::key`] or to [`VacantEntry::key`].
+    ///
     /// # Examples
     ///
     /// ```
@@ -164,6 +168,10 @@ impl<'a, K: IntKey, V> Entry<'a, K, V> {
     ///
     /// If the map needs more than 2^63 slots.
     ///
+    /// # Proved
+    ///
+    /// That of [`try_or_insert`](Entry::try_or_insert).
+    ///
     /// # Examples
     ///
     /// ```
@@ -183,6 +191,13 @@ impl<'a, K: IntKey, V> Entry<'a, K, V> {
     /// # Errors
     ///
     /// As for [`IntMap::try_insert`].
+    ///
+    /// # Proved
+    ///
+    /// In part: the value of a present key is lent by
+    /// [`OccupiedEntry::into_mut`](crate::OccupiedEntry::into_mut), and an absent key is inserted
+    /// by [`VacantEntry::try_insert`](crate::VacantEntry::try_insert). The choice between the two
+    /// is by hand.
     ///
     /// # Examples
     ///

@@ -28,7 +28,8 @@
 //! this crate that are one proved call, and of those that have code by hand.
 //!
 //! Under a call that makes a proved one, the section *Proved* says what its contract does, clause by
-//! clause; the word in brackets is the name of the clause. Where the proved call returns `Err` and
+//! clause; the word in brackets is the name of the clause. Where the section begins with *In part*,
+//! the call is by hand over proved calls, which it names. Where the proved call returns `Err` and
 //! the public one has no `Result`, that one panics or ends the process. What holds of every map is
 //! proved of each call too: no key is there twice, the pairs are in the order of their slots, the
 //! capacity is a power of two from 2 to 2^63, and the load factor is met at the last length at which

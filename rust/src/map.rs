@@ -221,6 +221,10 @@ impl<K: IntKey, V> IntMap<K, V> {
     ///
     /// If two of the keys are equal and present.
     ///
+    /// # Proved
+    ///
+    /// In part: the search for each key is proved. The references are lent by hand.
+    ///
     /// # Examples
     ///
     /// ```

@@ -239,6 +239,11 @@ impl<K: IntKey> IntSet<K> {
     /// Returns a reference to the member that is equal to the key, or `None` if there is none. The
     /// cost is *O*(*s*).
     ///
+    /// # Proved
+    ///
+    /// In part: it is [`IntMap::get_key_value`](crate::IntMap::get_key_value), on the map from each
+    /// member to `()`.
+    ///
     /// # Examples
     ///
     /// ```
@@ -262,6 +267,10 @@ impl<K: IntKey> IntSet<K> {
     ///
     /// If the set needs more than 2^63 slots.
     ///
+    /// # Proved
+    ///
+    /// That of [`try_replace`](IntSet::try_replace).
+    ///
     /// # Examples
     ///
     /// ```
@@ -278,6 +287,11 @@ impl<K: IntKey> IntSet<K> {
     /// # Errors
     ///
     /// As for [`try_insert`](IntSet::try_insert).
+    ///
+    /// # Proved
+    ///
+    /// In part: a member is found by [`get`](IntSet::get), removed by [`remove`](IntSet::remove),
+    /// and the key inserted by [`try_insert`](IntSet::try_insert). Their order is by hand.
     ///
     /// # Examples
     ///

@@ -23,9 +23,9 @@
 //! # Failed allocations
 //!
 //! If an allocation of the map or the set fails, the deserializer returns an error with the text of
-//! the [`Cause`]. What a deserializer allocates itself, such as its error, is its own concern. An
-//! input that claims a great length makes a map request some 2 MiB at most. A longer map grows as
-//! its pairs come.
+//! the [`Cause`](intmap_proved::Cause). What a deserializer allocates itself, such as its error, is
+//! its own concern. An input that claims a great length makes a map request some 2 MiB at most. A
+//! longer map grows as its pairs come.
 //!
 //! # Texts from strangers
 //!
@@ -37,11 +37,10 @@
 #![forbid(unsafe_code)]
 #![warn(missing_docs)]
 
-mod map;
-mod set;
+mod read;
+mod wrapped;
 
-use intmap_proved::Cause;
-use serde::{Deserialize, Deserializer, Serialize, Serializer, de};
+use serde::{Deserialize, Deserializer, Serialize, Serializer};
 
 /// The examples of the README, as tests.
 #[cfg(doctest)]
@@ -96,7 +95,7 @@ where
 ///
 /// # Errors
 ///
-/// Those of the deserializer, and one of its type with the text of a [`Cause`] if an allocation of
+/// Those of the deserializer, and one of its type with the text of a [`Cause`](intmap_proved::Cause) if an allocation of
 /// the map or the set fails. What was read up to there is dropped.
 ///
 /// # Examples
@@ -116,18 +115,4 @@ where
 {
     let Serde(value) = Serde::deserialize(deserializer)?;
     Ok(value)
-}
-
-/// In bytes, about what is allocated at most for the length that an input claims, before the number
-/// of slots is rounded up to a power of two.
-const CLAIMED: usize = 1 << 20;
-
-/// How many slots are allocated for a claimed length. Each has room for a pair and three words more.
-fn capacity_for<P>(claimed: Option<usize>) -> usize {
-    claimed.unwrap_or(0).min(CLAIMED / (size_of::<P>() + 3 * size_of::<usize>()))
-}
-
-/// The error of a deserializer for a failed insertion or allocation.
-fn refused<E: de::Error>(why: impl Into<Cause>) -> E {
-    E::custom(why.into())
 }

@@ -11,6 +11,10 @@ impl<'a, K: IntKey, V> Entry<'a, K, V> {
     ///
     /// If the map needs more than 2^63 slots.
     ///
+    /// # Proved
+    ///
+    /// That of [`try_or_insert_with`](Entry::try_or_insert_with).
+    ///
     /// # Examples
     ///
     /// ```
@@ -30,6 +34,10 @@ impl<'a, K: IntKey, V> Entry<'a, K, V> {
     /// # Errors
     ///
     /// As for [`IntMap::try_insert`](crate::IntMap::try_insert).
+    ///
+    /// # Proved
+    ///
+    /// That of [`try_or_insert_with_key`](Entry::try_or_insert_with_key).
     ///
     /// # Examples
     ///
@@ -51,6 +59,10 @@ impl<'a, K: IntKey, V> Entry<'a, K, V> {
     ///
     /// If the map needs more than 2^63 slots.
     ///
+    /// # Proved
+    ///
+    /// That of [`try_or_insert_with_key`](Entry::try_or_insert_with_key).
+    ///
     /// # Examples
     ///
     /// ```
@@ -70,6 +82,13 @@ impl<'a, K: IntKey, V> Entry<'a, K, V> {
     /// # Errors
     ///
     /// As for [`IntMap::try_insert`](crate::IntMap::try_insert).
+    ///
+    /// # Proved
+    ///
+    /// In part: the value of a present key is lent by
+    /// [`OccupiedEntry::into_mut`](crate::OccupiedEntry::into_mut), and one that the closure made
+    /// is inserted by [`VacantEntry::try_insert`](crate::VacantEntry::try_insert). The choice
+    /// between the two, and the call of the closure, are by hand.
     ///
     /// # Examples
     ///
@@ -101,6 +120,13 @@ impl<'a, K: IntKey, V> Entry<'a, K, V> {
     ///
     /// That of `make`, or else what `From` makes of a [`Refused`].
     ///
+    /// # Proved
+    ///
+    /// In part: the value of a present key is lent by
+    /// [`OccupiedEntry::into_mut`](crate::OccupiedEntry::into_mut), and one that the closure made
+    /// is inserted by [`VacantEntry::try_insert`](crate::VacantEntry::try_insert). The choice
+    /// between the two, and the call of the closure, are by hand.
+    ///
     /// # Examples
     ///
     /// ```
@@ -129,6 +155,10 @@ impl<'a, K: IntKey, V> Entry<'a, K, V> {
     ///
     /// If the map needs more than 2^63 slots.
     ///
+    /// # Proved
+    ///
+    /// That of [`try_or_default`](Entry::try_or_default).
+    ///
     /// # Examples
     ///
     /// ```
@@ -152,6 +182,10 @@ impl<'a, K: IntKey, V> Entry<'a, K, V> {
     /// # Errors
     ///
     /// As for [`IntMap::try_insert`](crate::IntMap::try_insert).
+    ///
+    /// # Proved
+    ///
+    /// That of [`try_or_insert_with`](Entry::try_or_insert_with).
     ///
     /// # Examples
     ///

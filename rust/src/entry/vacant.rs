@@ -60,6 +60,10 @@ impl<'a, K: IntKey, V> VacantEntry<'a, K, V> {
     ///
     /// If the map needs more than 2^63 slots.
     ///
+    /// # Proved
+    ///
+    /// That of [`try_insert`](VacantEntry::try_insert).
+    ///
     /// # Examples
     ///
     /// ```
@@ -82,6 +86,11 @@ impl<'a, K: IntKey, V> VacantEntry<'a, K, V> {
     ///
     /// As for [`IntMap::try_insert`](crate::IntMap::try_insert).
     ///
+    /// # Proved
+    ///
+    /// In part: it is [`try_insert_entry`](VacantEntry::try_insert_entry), and then
+    /// [`into_mut`](OccupiedEntry::into_mut) of the entry.
+    ///
     /// # Examples
     ///
     /// ```
@@ -96,7 +105,7 @@ impl<'a, K: IntKey, V> VacantEntry<'a, K, V> {
     /// ```
     #[inline]
     pub fn try_insert(self, value: V) -> Result<&'a mut V, Refused<V>> {
-        Ok(self.inserted(value)?.into_mut())
+        Ok(self.try_insert_entry(value)?.into_mut())
     }
 
     /// Inserts the pair as [`insert`](VacantEntry::insert) does, and returns the entry of the key,

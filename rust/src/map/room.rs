@@ -18,6 +18,10 @@ impl<K: IntKey, V> IntMap<K, V> {
     ///
     /// If more than 2^63 slots are needed.
     ///
+    /// # Proved
+    ///
+    /// That of [`try_with_room_for`](IntMap::try_with_room_for).
+    ///
     /// # Examples
     ///
     /// ```
@@ -39,6 +43,11 @@ impl<K: IntKey, V> IntMap<K, V> {
     ///
     /// [`Cause::TooLarge`] if more than 2^63 slots are needed, and otherwise [`Cause::Memory`] if an
     /// allocation fails.
+    ///
+    /// # Proved
+    ///
+    /// In part: it is [`try_with_capacity`](IntMap::try_with_capacity), of a number of slots that
+    /// is computed by hand.
     ///
     /// # Examples
     ///
@@ -69,6 +78,10 @@ impl<K: IntKey, V> IntMap<K, V> {
     ///
     /// If more than 2^63 slots are needed.
     ///
+    /// # Proved
+    ///
+    /// That of [`try_reserve_pairs`](IntMap::try_reserve_pairs).
+    ///
     /// # Examples
     ///
     /// ```
@@ -88,6 +101,11 @@ impl<K: IntKey, V> IntMap<K, V> {
     ///
     /// [`Cause::TooLarge`] if more than 2^63 slots are needed, and otherwise [`Cause::Memory`] if an
     /// allocation fails. The map stays as it was.
+    ///
+    /// # Proved
+    ///
+    /// In part: it is [`try_reserve`](IntMap::try_reserve), if there are too few slots. How many
+    /// are enough is computed by hand.
     ///
     /// # Examples
     ///
@@ -117,6 +135,10 @@ impl<K: IntKey, V> IntMap<K, V> {
     ///
     /// Order and failures are those of [`shrink_to`](IntMap::shrink_to).
     ///
+    /// # Proved
+    ///
+    /// That of [`try_shrink_to_fit`](IntMap::try_shrink_to_fit).
+    ///
     /// # Examples
     ///
     /// ```
@@ -136,6 +158,10 @@ impl<K: IntKey, V> IntMap<K, V> {
     /// # Errors
     ///
     /// As for [`try_shrink_to`](IntMap::try_shrink_to).
+    ///
+    /// # Proved
+    ///
+    /// That of [`try_shrink_to`](IntMap::try_shrink_to).
     ///
     /// # Examples
     ///
@@ -161,6 +187,10 @@ impl<K: IntKey, V> IntMap<K, V> {
     /// it. The cost is *O*(*n s* + *c*), or *O*(1) if the capacity stays. If a key's `number`
     /// panics, the map keeps the pairs that weren't moved yet, and the others are dropped.
     ///
+    /// # Proved
+    ///
+    /// That of [`try_shrink_to`](IntMap::try_shrink_to).
+    ///
     /// # Examples
     ///
     /// ```
@@ -181,6 +211,13 @@ impl<K: IntKey, V> IntMap<K, V> {
     /// # Errors
     ///
     /// [`Cause::Memory`] if an allocation fails. The map stays as it was, order and all.
+    ///
+    /// # Proved
+    ///
+    /// In part: the pairs are moved by [`drain`](IntMap::drain) and
+    /// [`try_insert`](IntMap::try_insert) to a map that
+    /// [`try_with_capacity`](IntMap::try_with_capacity) makes. The number of slots is computed by
+    /// hand, and the way back after a failure is by hand.
     ///
     /// # Examples
     ///

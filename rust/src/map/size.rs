@@ -141,6 +141,11 @@ impl<K: IntKey, V> IntMap<K, V> {
     /// An insertion checks it only if the pairs are then 4 to 7, 12 to 15, 20 to 23, and so on. In
     /// between there may be more.
     ///
+    /// # Proved
+    ///
+    /// In part: it is [`load_factor_thousandths`](IntMap::load_factor_thousandths), divided by
+    /// hand.
+    ///
     /// # Examples
     ///
     /// ```
@@ -280,6 +285,10 @@ impl<K: IntKey, V> IntMap<K, V> {
     }
 
     /// Returns how many pairs a slot has on average, in percent. The cost is *O*(1).
+    ///
+    /// # Proved
+    ///
+    /// In part: it is [`len`](IntMap::len) by [`capacity`](IntMap::capacity), divided by hand.
     ///
     /// # Examples
     ///

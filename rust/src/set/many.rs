@@ -120,6 +120,11 @@ impl<K: IntKey> IntSet<K> {
     /// dropped early or forgotten, the members that it didn't reach stay. All steps together cost
     /// *O*(*n s* + *c*) beside the calls of `pick`; [`retain`](IntSet::retain) costs *O*(*n* + *c*).
     ///
+    /// # Proved
+    ///
+    /// In part: each step is the proved one of `IntMap::extract_if`, on the map from each member to
+    /// `()`.
+    ///
     /// # Examples
     ///
     /// ```

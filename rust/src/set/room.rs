@@ -33,6 +33,10 @@ impl<K: IntKey> IntSet<K> {
     ///
     /// If more than 2^63 slots are needed.
     ///
+    /// # Proved
+    ///
+    /// That of [`try_with_room_for`](IntSet::try_with_room_for).
+    ///
     /// # Examples
     ///
     /// ```
@@ -49,6 +53,11 @@ impl<K: IntKey> IntSet<K> {
     ///
     /// [`Cause::TooLarge`] if more than 2^63 slots are needed, and otherwise [`Cause::Memory`] if an
     /// allocation fails.
+    ///
+    /// # Proved
+    ///
+    /// In part: it is [`try_with_capacity`](IntSet::try_with_capacity), of a number of slots that
+    /// is computed by hand.
     ///
     /// # Examples
     ///
@@ -140,6 +149,10 @@ impl<K: IntKey> IntSet<K> {
     ///
     /// If more than 2^63 slots are needed.
     ///
+    /// # Proved
+    ///
+    /// That of [`try_reserve_members`](IntSet::try_reserve_members).
+    ///
     /// # Examples
     ///
     /// ```
@@ -157,6 +170,11 @@ impl<K: IntKey> IntSet<K> {
     ///
     /// [`Cause::TooLarge`] if more than 2^63 slots are needed, and otherwise [`Cause::Memory`] if an
     /// allocation fails. The set stays as it was.
+    ///
+    /// # Proved
+    ///
+    /// In part: it is [`try_reserve`](IntSet::try_reserve), of a number of slots that is computed
+    /// by hand.
     ///
     /// # Examples
     ///
@@ -182,6 +200,10 @@ impl<K: IntKey> IntSet<K> {
     /// Makes the capacity the least power of two in which the members meet the load factor, or
     /// leaves it if it is that. Order and failures are those of [`shrink_to`](IntSet::shrink_to).
     ///
+    /// # Proved
+    ///
+    /// That of [`try_shrink_to_fit`](IntSet::try_shrink_to_fit).
+    ///
     /// # Examples
     ///
     /// ```
@@ -199,6 +221,10 @@ impl<K: IntKey> IntSet<K> {
     /// # Errors
     ///
     /// As for [`try_shrink_to`](IntSet::try_shrink_to).
+    ///
+    /// # Proved
+    ///
+    /// That of [`try_shrink_to`](IntSet::try_shrink_to).
     ///
     /// # Examples
     ///
@@ -220,6 +246,10 @@ impl<K: IntKey> IntSet<K> {
     /// it. The cost is *O*(*n s* + *c*), or *O*(1) if the capacity stays. If a key's `number`
     /// panics, the set stays as it was.
     ///
+    /// # Proved
+    ///
+    /// That of [`try_shrink_to`](IntSet::try_shrink_to).
+    ///
     /// # Examples
     ///
     /// ```
@@ -236,6 +266,13 @@ impl<K: IntKey> IntSet<K> {
     /// # Errors
     ///
     /// [`Cause::Memory`] if an allocation fails. The set stays as it was.
+    ///
+    /// # Proved
+    ///
+    /// In part: the members are copied by [`iter`](IntSet::iter) and
+    /// [`try_extend`](IntSet::try_extend) to a set that
+    /// [`try_with_capacity`](IntSet::try_with_capacity) makes. The number of slots is computed by
+    /// hand.
     ///
     /// # Examples
     ///
