@@ -1,70 +1,104 @@
-"""The rows of docs/DEFINITIONS.md that say what the comment above a definition says, and the table of scripts in
-CONTRIBUTING.md. In a row of definitions the second cell is that comment, unless the row is listed here as by hand: it gives a
-value or a formula, names other definitions, or fits the letters of its first cell better."""
-import functools
+"""The definitions that contracts cite, for docs/reference/Definitions.md: each with its arguments, what the comment above it says, and
+the parts of a record. And the table of scripts in CONTRIBUTING.md."""
 import glob
 import os
 import re
 
 from crates import text_of
 
-PAGE, SCRIPTS = "docs/DEFINITIONS.md", "CONTRIBUTING.md"
-COMMENTED = re.compile(r"((?:^ *-- .*\n)+) *(?:abbrev pub|pub record|pub data) (\w+)\b", re.M)
-# in which crates a section's definitions are; the rest is about maps
-CRATES = {"Sets": ["intmap_set"], "Sparse vectors": ["intmap_sparse"], "The library for C": ["intmap_c"]}
-OF_MAPS = ["intmap", "intmap_table"]
-# rows by hand, by their first names, with the section where two have the same
-BY_HAND = set(
-    """
-    number_of is_valid multiplier slot_number same_key value_of MeetsLoad wanted_capacity NeedsTooMuch IsNext
-    IsCapacityAfter MapState empty_map first_factor IsMap after_search with_pair after_insert without_key after_remove
-    PlainList Stands looked_up MapInserts IsReservation ListReserves Shows AreTooMany json_cause IsAt entry_map entry_list
-    map_with_value IsWritten occupied_key KeepsAt PicksAt with_values HandsOver TestsPairs AnswersKey shown passed
-    drained_map DrainsFirst extracted_map Extracts empty_set sets_equal Inserts IsCapacityWith HaveSameValues vectors_equal
-    sum_below products HasWideSum IsBeyondRange sparse_cause ok_status IsFailed Binds is_lent
-    RefusalIsDue IsEnough MeetsFactor ShowsEach IsVector rate_of in_slots IsAssignment ListInserts
-    """.split()
-)
+PAGE, SCRIPTS = "docs/reference/Definitions.md", "CONTRIBUTING.md"
+# what the gate runs, and the line at which its proofs begin
+GATE, PROOFS = ".ci/run", 'echo "== rt ci"'
+# by crate, in order: its heading
+HEADINGS = {
+    "intmap_table": "Keys, slots and lists of pairs",
+    "intmap": "Maps",
+    "intmap_set": "Sets",
+    "intmap_sparse": "Sparse vectors",
+    "intmap_run": "Runs",
+    "intmap_text": "Text",
+    "intmap_c": "The library for C",
+}
+DEFINITION = re.compile(r"^( *)((?:-- .*\n *)*)(?:(?:abbrev|unfoldable) pub|pub (record|data)) (\w+)(?= [:({])", re.M)
+MODULE = re.compile(r"^pub mod (\w+)$", re.M)
+# what `intmap` passes on of the crate below
+PASSED_ON = re.compile(r"^pub use Rattle\.intmap_table\.specs\.(\w+)", re.M)
+# what the first line of a file ends with whose words no public clause has
+UNCITED = re.compile(r"-- .*No public clause cites this")
 
 
-@functools.lru_cache(None)
-def comments_in(text):
-    """What the comments above the definitions of a file say, by name."""
-    found = {}
-    for comment, name in COMMENTED.findall(text):
-        found.setdefault(name, " ".join(it.strip().removeprefix("--").strip() for it in comment.splitlines()))
-    return found
+def comment_of(lines):
+    """What a comment says, without its stop."""
+    return " ".join(it.strip().removeprefix("--").strip() for it in lines.strip().splitlines()).removesuffix(".")
 
 
-def comments(crate, files):
-    """The same of a crate: the first file with a name has it."""
-    found = {}
-    for path in sorted(it for it in files if it.startswith(f"crates/{crate}/specs/")):
-        found = comments_in(files[path]) | found
-    return found
+def split(text, mark=" "):
+    """The parts of a text between these marks, outside of brackets."""
+    parts, depth = [""], 0
+    for it in re.split(rf"([(){{}}]|{re.escape(mark)})", text):
+        depth += (it in "({") - (it in ")}") if it else 0
+        parts = [*parts, ""] if it == mark and not depth else [*parts[:-1], parts[-1] + it]
+    return [it.strip() for it in parts if it.strip() and not it.strip().startswith("{")]
 
 
-def with_definitions(files):
-    """The page with the comments in its rows, what no row may say, and how many rows are by hand."""
-    known = {crate: comments(crate, files) for crate in [*OF_MAPS, *(it for those in CRATES.values() for it in those)]}
-    lines, wrong, by_hand, section, is_table = [], [], [], "", False
-    for line in files[PAGE].splitlines():
-        section = line.strip("# ") if line.startswith("#") else section
-        cells = re.split(r" \| ?", line)
-        is_table = line.startswith("Name | Says") or is_table and len(cells) > 1 or is_table and line.startswith("---")
-        names = re.findall(r"`(\w+)", re.sub(r", by `.*|\(`.*", "", cells[0]))
-        if is_table and names:
-            told = [next((known[it][name] for it in CRATES.get(section, OF_MAPS) if name in known[it]), None) for name in names]
-            if names[0] in BY_HAND:
-                by_hand.append(names[0])
-            elif None in told:
-                wrong.append(f"{PAGE}: no comment is above {names[told.index(None)]}, and its row isn't by hand")
-            else:
-                cells[1] = "; ".join(told).replace("|", "\\|")
-                line = " | ".join(cells).rstrip()
-        lines.append(line)
-    wrong += [f"tools/definitions.py: no row is {it}" for it in sorted(BY_HAND - {*by_hand})]
-    return "".join(f"{it}\n" for it in lines), wrong, len(by_hand)
+def of_record(head):
+    """The arguments of a record, but for types."""
+    groups = [it[1:-1].split(" : ") for it in split(head.partition(" where")[0].rpartition(" : ")[0])]
+    return [name for names, kind in groups if not kind.startswith("Type") for name in names.split()]
+
+
+def named(patterns, kind):
+    """The name of an argument: one that an equation has, or what is within a pattern, or its type."""
+    names = [it for it in patterns if re.fullmatch(r"(?!zero)[a-z_][\w']*|[A-Z]", it)]
+    inner = [it[1] for it in (re.fullmatch(r"\((?:\w+ ∷|Some|pos|suc) ([\w']+)\)", one) for one in patterns) if it]
+    return [*names, *inner, kind.strip("(").split(" ")[0].split(".")[0].lower()][0]
+
+
+def of_equations(name, body):
+    """The arguments of a definition by equations, and its value if that is a number."""
+    equations = re.findall(rf"^ *{name}\b(.*?) =(?: (.*))?$", re.sub(r" \{[^}]*\}", "", body), re.M)
+    kinds = split(" ".join(re.split(rf"\n *{name}\b", body)[0].split()), "→")
+    columns = [*zip(*(split(it) for it, _ in equations))]
+    value = equations[0][1] if equations and equations[0][1].isdecimal() and not columns else ""
+    return [named(it, kinds[at] if at < len(kinds) else "") for at, it in enumerate(columns)], value
+
+
+def rows_of(path, text, wrong):
+    """The rows of a file."""
+    marks = [*DEFINITION.finditer(text)]
+    for mark, end in zip(marks, [*(it.start() for it in marks[1:]), len(text)]):
+        _, comment, kind, name = mark.groups()
+        body = text[mark.end() : end]
+        names, value = (of_record(body), "") if kind else of_equations(name, body.removeprefix(" :"))
+        parts = re.findall(r"^ *pub (\w+) :", body, re.M) if kind else []
+        if not comment:
+            wrong.append(f"{path}: no comment is above {name}")
+        told = comment_of(comment) + (f"; its parts: {', '.join(f'`{it}`' for it in parts)}" if parts else "")
+        yield f"`{' '.join([name, *names])}`{f', {value}' if value else ''} | {told}"
+
+
+def files_of(crate, files):
+    """The files of a crate that have words of contracts, in the order of its modules."""
+    root = files[f"crates/{crate}/specs/Lib.antt"]
+    modules = MODULE.findall(root)
+    if crate == "intmap_table":
+        cited = {it for path, text in files.items() if path.startswith("crates/intmap/specs/") for it in PASSED_ON.findall(text)}
+        modules = [it for it in modules if it in cited]
+    found = [(f"crates/{crate}/specs/{it}.antt", files.get(f"crates/{crate}/specs/{it}.antt", "")) for it in modules]
+    return [(path, text) for path, text in found if DEFINITION.search(text) and not UNCITED.match(text)]
+
+
+def definitions(files):
+    """What stands between the marks of the page, which definitions have no comment, and how many there are."""
+    text, wrong, count = "", [], 0
+    for crate, heading in HEADINGS.items():
+        text += f"\n## {heading}\n"
+        for path, source in files_of(crate, files):
+            rows = [*rows_of(path, source, wrong)]
+            head = comment_of(re.match(r"(?:-- .*\n)+", source)[0])
+            text += f"\n### {os.path.basename(path).removesuffix('.antt')} of {crate}\n\n{head}. In `{path}`.\n\nName | Says\n---|---\n"
+            text, count = text + "".join(f"{it}\n" for it in rows), count + len(rows)
+    return f"{text}\n", wrong, count
 
 
 def first_sentence(path):
@@ -74,14 +108,18 @@ def first_sentence(path):
     return re.match(r".*?(?=\.(?:\s|$))", " ".join(told.split()))[0]
 
 
-def with_scripts(page):
-    """The page with the first sentence of each script in its row; a new one has a row at the end, with `?` for what is
-    by hand: how it is run, and how long it takes."""
-    scripts = sorted(it for it in glob.glob("tools/*") if os.path.isfile(it) and os.access(it, os.X_OK))
-    head, mark, rest = page.partition("Script | Does | Run it | Takes\n---|---|---|---\n")
-    table = re.match(r"(?:`.*\n)*", rest)[0]
-    rows = [re.split(r" \| ?", it) for it in table.splitlines()]
-    rows = [it for it in rows if it[0].strip("`") in scripts]
-    rows += [[f"`{it}`", "", "?", "?"] for it in scripts if f"`{it}`" not in [row[0] for row in rows]]
-    lines = [" | ".join([row[0], first_sentence(row[0].strip("`")), *row[2:]]) for row in rows]
-    return head + mark + "".join(f"{it}\n" for it in lines) + rest[len(table) :]
+def in_gate(script, gate):
+    """How the gate runs a script: before its proofs, behind them, and with what."""
+    found = []
+    for when, part in zip(("first", "last"), gate.split(PROOFS)):
+        for words in re.findall(rf"^[^#\n]*\b{script}\b((?: --[\w-]+)*)", part, re.M):
+            found.append(f"{when}{f': `{words.strip()}`' if words else ''}")
+    return "; ".join(found)
+
+
+def scripts():
+    """The scripts in the order of the gate, each with its first sentence and how the gate runs it."""
+    gate = text_of(GATE)
+    names = [it for it in glob.glob("tools/*") if os.path.isfile(it) and os.access(it, os.X_OK)]
+    rows = [f"`{it}` | {first_sentence(it)} | {in_gate(it, gate) or 'by hand'}\n" for it in sorted(names, key=lambda it: (gate.find(it) % len(gate), it))]
+    return f"\nScript | Does | In the gate\n---|---|---\n{''.join(rows)}\n"

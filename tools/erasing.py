@@ -75,6 +75,7 @@ PRELUDE = "use crate::memory::prelude::*;"
 
 ADDED_NOTE = "// Only Rust has what follows. It is tested, not proved."
 ADDED = {
+    "intmap_table/bits": ["pub mod written;"],
     "intmap_table/lone": ["mod written;"],
     "intmap_table/slot": ["mod mending;", "mod written;"],
     "intmap_table/table": ["mod mending;", "pub mod written;"],

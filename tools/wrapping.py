@@ -7,8 +7,8 @@ import os
 import re
 
 PAGE = "README.md"
-# what isn't the public layer: the proved text, and what it stands on
-BELOW = ("proved", "memory", "guard.rs", "check")
+# what isn't the public layer: the proved text, what it stands on, and the same calls by the names of the original
+BELOW = ("proved", "memory", "guard.rs", "check", "original")
 
 # Public calls of the proved map and set that no public call of the crate makes, and why.
 LEFT = {

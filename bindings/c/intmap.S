@@ -9,7 +9,7 @@
  *
  * Written by tools/assembly of the repository, and not to be edited.
  * Compilers: rattle-kit-13f logic dac8208d650f15bf; clang version 22.1.8
- * Sources: 0849359472a9ffc81f2100a2ef92406c2a9449a2032550dffbe5db2234695e8b
+ * Sources: d458d64062c3b3dda2319f3c0d1718fde994c21e5a9a8c9f04b9f18f3391af51
  *
  * SPDX-License-Identifier: MIT
  *
@@ -748,8 +748,8 @@ intmap.map.IntMap.add_growing.8fdfecb8137bcf0a:
 	imulq	%rbx, %r12
 	movq	24(%rsp), %rcx
 	leaq	(%rcx,%rcx,2), %r11
-	cmpq	%r14, %rcx
-	jae	.LBB5_6
+	testq	%r14, %r14
+	je	.LBB5_6
 	movq	32(%r15), %rdx
 	movzbl	(%rdx,%r11,8), %esi
 	xorl	%r8d, %r8d
@@ -3465,9 +3465,9 @@ intmap_equal:
 	leaq	-8(%rsp), %r11
 	xorl	%r10d, %r10d
 	xorl	%r8d, %r8d
-	jmp	.LBB19_14
+	jmp	.LBB19_13
 	.p2align	4
-.LBB19_13:
+.LBB19_25:
 	movq	56(%rdx), %r10
 	shlq	$4, %r9
 	movzbl	(%r10,%r9), %ebp
@@ -3480,16 +3480,16 @@ intmap_equal:
 	leaq	-1(%rbx), %r9
 	andq	%rbx, %r9
 	cmpb	$1, %bpl
-	je	.LBB19_22
-.LBB19_14:
+	je	.LBB19_21
+.LBB19_13:
 	testq	%r10, %r10
-	jne	.LBB19_21
+	jne	.LBB19_20
 	testq	%r9, %r9
-	je	.LBB19_17
+	je	.LBB19_16
 	movq	%r9, %rbx
-	jmp	.LBB19_19
+	jmp	.LBB19_18
 	.p2align	4
-.LBB19_17:
+.LBB19_16:
 	testq	%rdi, %rdi
 	je	.LBB19_36
 	decq	%rdi
@@ -3497,13 +3497,13 @@ intmap_equal:
 	addq	$8, %rsi
 	addq	$64, %r8
 	testq	%rbx, %rbx
-	je	.LBB19_17
-.LBB19_19:
+	je	.LBB19_16
+.LBB19_18:
 	rep		bsfq	%rbx, %rax
 	addq	%r8, %rax
+	cmpq	$0, 40(%rdx)
 	leaq	(%rax,%rax,2), %r9
-	cmpq	40(%rdx), %rax
-	jae	.LBB19_13
+	je	.LBB19_25
 	movq	32(%rdx), %rax
 	movzbl	(%rax,%r9,8), %ebp
 	xorl	%r10d, %r10d
@@ -3514,14 +3514,14 @@ intmap_equal:
 	leaq	-1(%rbx), %r9
 	andq	%rbx, %r9
 	cmpb	$1, %bpl
-	jne	.LBB19_14
-	jmp	.LBB19_22
+	jne	.LBB19_13
+	jmp	.LBB19_21
 	.p2align	4
-.LBB19_21:
+.LBB19_20:
 	movq	%r11, %rax
 	addq	$16, %r11
 	decq	%r10
-.LBB19_22:
+.LBB19_21:
 	movq	(%rax), %r14
 	movabsq	$-7046029254386353067, %r15
 	imulq	%r14, %r15
@@ -3553,7 +3553,7 @@ intmap_equal:
 	movq	8(%rax), %r14
 	xorl	%eax, %eax
 	cmpq	(%rbx), %r14
-	je	.LBB19_14
+	je	.LBB19_13
 	jmp	.LBB19_37
 .LBB19_31:
 	movq	32(%rbx), %r15
@@ -6394,9 +6394,9 @@ intmap.map.IntMap.add_growing.8fdfecb8137bcf0a:
 	stp	x26, x25, [sp, #112]
 	mov	x25, x3
 	add	x24, x10, x28
-	adds	x10, x11, #1
+	adds	x12, x11, #1
 	stp	x20, x19, [sp, #160]
-	umulh	x12, x10, x24
+	umulh	x11, x12, x24
 	cset	w13, hs
 	mov	x27, x1
 	mov	x23, x2
@@ -6405,28 +6405,28 @@ intmap.map.IntMap.add_growing.8fdfecb8137bcf0a:
 	mul	x9, x2, x9
 	add	x29, sp, #80
 	str	x4, [sp, #40]
-	mul	x11, x10, x24
-	madd	x12, x13, x24, x12
-	cmp	x9, x11
-	sbcs	xzr, x8, x12
+	mul	x10, x12, x24
+	madd	x11, x13, x24, x11
+	cmp	x9, x10
+	sbcs	xzr, x8, x11
 	b.lo	.LBB5_3
 .LBB5_1:
-	mov	x11, #-9223372036854775808
-	cmp	x24, x11
+	mov	x10, #-9223372036854775808
+	cmp	x24, x10
 	b.eq	.LBB5_19
 	lsl	x24, x24, #1
-	umulh	x12, x10, x24
-	mul	x11, x10, x24
-	madd	x12, x13, x24, x12
-	cmp	x9, x11
-	sbcs	xzr, x8, x12
+	umulh	x11, x12, x24
+	mul	x10, x12, x24
+	madd	x11, x13, x24, x11
+	cmp	x9, x10
+	sbcs	xzr, x8, x11
 	b.hs	.LBB5_1
 .LBB5_3:
-	subs	x0, x11, #1
+	subs	x0, x10, #1
 	mov	x8, #-1
 	mov	x20, #31829
 	movk	x20, #32586, lsl #16
-	adc	x26, x12, x8
+	adc	x26, x11, x8
 	mov	w2, #1000
 	movk	x20, #31161, lsl #32
 	mov	x1, x26
@@ -6439,10 +6439,9 @@ intmap.map.IntMap.add_growing.8fdfecb8137bcf0a:
 	mul	x8, x8, x20
 	str	x8, [sp, #32]
 	csinv	x8, x0, xzr, ls
-	cmp	x25, x28
 	str	x8, [sp, #24]
 	sub	x8, x24, #1
-	b.hs	.LBB5_5
+	cbz	x28, .LBB5_5
 	mov	w9, #24
 	ldr	x11, [x27, #32]
 	mov	x10, xzr
@@ -8637,7 +8636,7 @@ intmap_equal:
 	cbz	x8, .LBB19_7
 	ldr	x11, [x8, #80]
 	cmp	x10, x11
-	b.ne	.LBB19_34
+	b.ne	.LBB19_32
 	ldr	x11, [x9, #16]
 	cbz	x11, .LBB19_10
 	ldr	x10, [x9, #8]
@@ -8645,7 +8644,7 @@ intmap_equal:
 	ldr	x12, [x10], #8
 	b	.LBB19_11
 .LBB19_5:
-	cbz	x8, .LBB19_33
+	cbz	x8, .LBB19_31
 	ldr	x8, [x8, #80]
 	cmp	x8, #0
 	b	.LBB19_8
@@ -8664,13 +8663,53 @@ intmap_equal:
 	mov	x14, xzr
 	mov	x13, xzr
 	add	x15, sp, #8
+	b	.LBB19_13
 .LBB19_12:
-	cbz	x14, .LBB19_18
+	mov	w14, #48
+	ldr	x16, [x9, #56]
+	madd	x14, x15, x14, x16
+	ldrb	w17, [x14]
+	add	x16, x14, #8
+	ldp	x15, x14, [x14, #24]
+	cmp	w17, #1
+	csel	x16, x16, xzr, eq
+	sub	x18, x12, #1
+	cmp	w17, #1
+	and	x12, x18, x12
+	b.eq	.LBB19_20
 .LBB19_13:
+	cbnz	x14, .LBB19_19
+	cbnz	x12, .LBB19_17
+.LBB19_15:
+	cbz	x11, .LBB19_31
+	ldr	x12, [x10], #8
+	sub	x11, x11, #1
+	add	x13, x13, #64
+	cbz	x12, .LBB19_15
+.LBB19_17:
+	rbit	x14, x12
+	ldr	x16, [x9, #40]
+	clz	x14, x14
+	add	x15, x14, x13
+	cbz	x16, .LBB19_12
+	mov	w16, #24
+	ldr	x17, [x9, #32]
+	mov	x14, xzr
+	madd	x15, x15, x16, x17
+	ldrb	w17, [x15], #8
+	cmp	w17, #1
+	csel	x16, x15, xzr, eq
+	add	x15, sp, #8
+	sub	x18, x12, #1
+	cmp	w17, #1
+	and	x12, x18, x12
+	b.ne	.LBB19_13
+	b	.LBB19_20
+.LBB19_19:
 	mov	x16, x15
 	add	x15, x15, #16
 	sub	x14, x14, #1
-.LBB19_14:
+.LBB19_20:
 	mov	x18, #31829
 	ldr	x17, [x16]
 	ldr	x0, [x8]
@@ -8681,99 +8720,59 @@ intmap_equal:
 	mul	x18, x17, x18
 	and	x18, x0, x18
 	cmp	x18, x1
-	b.hs	.LBB19_26
+	b.hs	.LBB19_24
 	mov	w0, #24
 	ldr	x1, [x8, #32]
 	madd	x18, x18, x0, x1
 	ldrb	w0, [x18]
 	cmp	w0, #1
-	b.ne	.LBB19_34
+	b.ne	.LBB19_32
 	ldr	x0, [x18, #8]
 	cmp	x0, x17
-	b.ne	.LBB19_34
+	b.ne	.LBB19_32
 	add	x17, x18, #16
 	ldr	x16, [x16, #8]
 	ldr	x17, [x17]
 	mov	w0, wzr
 	cmp	x16, x17
-	b.eq	.LBB19_12
+	b.eq	.LBB19_13
 	b	.LBB19_9
-.LBB19_18:
-	cbnz	x12, .LBB19_21
-.LBB19_19:
-	cbz	x11, .LBB19_33
-	ldr	x12, [x10], #8
-	sub	x11, x11, #1
-	add	x13, x13, #64
-	cbz	x12, .LBB19_19
-.LBB19_21:
-	rbit	x14, x12
-	ldr	x16, [x9, #40]
-	clz	x14, x14
-	add	x15, x14, x13
-	cmp	x15, x16
-	b.hs	.LBB19_23
-	mov	w16, #24
-	ldr	x17, [x9, #32]
-	mov	x14, xzr
-	madd	x15, x15, x16, x17
-	ldrb	w17, [x15], #8
-	cmp	w17, #1
-	csel	x16, x15, xzr, eq
-	add	x15, sp, #8
-	b	.LBB19_24
-.LBB19_23:
-	mov	w14, #48
-	ldr	x16, [x9, #56]
-	madd	x14, x15, x14, x16
-	ldrb	w17, [x14]
-	add	x16, x14, #8
-	ldp	x15, x14, [x14, #24]
-	cmp	w17, #1
-	csel	x16, x16, xzr, eq
 .LBB19_24:
-	sub	x18, x12, #1
-	cmp	w17, #1
-	and	x12, x18, x12
-	b.eq	.LBB19_14
-	cbz	x14, .LBB19_18
-	b	.LBB19_13
-.LBB19_26:
 	mov	w0, #48
 	ldr	x1, [x8, #56]
 	madd	x1, x18, x0, x1
 	ldrb	w18, [x1]
 	cmp	w18, #1
-	b.ne	.LBB19_34
+	b.ne	.LBB19_32
 	mov	x18, x1
 	ldr	x0, [x18, #8]!
 	cmp	x0, x17
-	b.ne	.LBB19_29
-.LBB19_28:
+	b.ne	.LBB19_27
+.LBB19_26:
 	add	x17, x18, #8
 	ldr	x16, [x16, #8]
 	ldr	x17, [x17]
 	mov	w0, wzr
 	cmp	x16, x17
-	b.eq	.LBB19_12
+	b.eq	.LBB19_13
 	b	.LBB19_9
-.LBB19_29:
+.LBB19_27:
 	ldr	x0, [x1, #32]
 	cbz	x0, .LBB19_9
 	ldr	x18, [x1, #24]
-.LBB19_31:
+.LBB19_29:
 	ldr	x1, [x18]
 	cmp	x1, x17
-	b.eq	.LBB19_28
+	b.eq	.LBB19_26
 	subs	x0, x0, #1
 	add	x18, x18, #16
-	b.ne	.LBB19_31
+	b.ne	.LBB19_29
 	b	.LBB19_9
-.LBB19_33:
+.LBB19_31:
 	mov	w0, #1
 	add	sp, sp, #16
 	ret
-.LBB19_34:
+.LBB19_32:
 	mov	w0, wzr
 	add	sp, sp, #16
 	ret

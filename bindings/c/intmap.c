@@ -17,7 +17,7 @@
 // have 16 bytes each.
 //
 // Compilers: rattle-kit-13f logic dac8208d650f15bf; clang version 22.1.8
-// Sources: 0849359472a9ffc81f2100a2ef92406c2a9449a2032550dffbe5db2234695e8b
+// Sources: d458d64062c3b3dda2319f3c0d1718fde994c21e5a9a8c9f04b9f18f3391af51
 //
 // SPDX-License-Identifier: MIT
 //
@@ -797,11 +797,11 @@ static ALIGNED NOINLINE void intmap_add_growing(char *a0, char *a1, uint64_t a2,
         r33, r8, r0_8, r16, r20, r8_2, r9_6, r0_9, r0_10, r3_7, r0_11, r28, r2_6, r4, r2_7, r4_2, r2_8, r12_4, r0_15,
         r0_16, r14, r2_9, r17_5, r27, r9_11, r34_2, r34_3, r0_06, r12_5, r10_4, common_ret_op, r17_2;
     u128 r10, r13_2, r187, r15, r18, r17;
-    char *r11, *r3_4, *r11_2, *r6, *r11_4, *r9, *r9_2, *r5, *r9_3, *r5_2, *r11_6, *r9_4, *r9_5, *r11_8, *r9_7, *r9_8,
-        *r23, *r18_2, *r23_2, *x21, *r9_9, *r8_3, *r10_472_0_ph102, *r8_4, *r4_3, *r25, *r20_2, *r9_10, *r4_4,
+    bool r5, r0_2, r0_6, r0_7, r13_3;
+    char *r11, *r3_4, *r11_2, *r6, *r11_4, *r9, *r9_2, *r5_2, *r9_3, *r5_3, *r11_6, *r9_4, *r9_5, *r11_8, *r9_7,
+        *r9_8, *r23, *r18_2, *r23_2, *x21, *r9_9, *r8_3, *r10_472_0_ph102, *r8_4, *r4_3, *r25, *r20_2, *r9_10, *r4_4,
         *r10_3, *r4_5, *r15_2, *r34, *r9_12;
     uint8_t r3, r3_2, r3_6, r12, r11_5, r17_3, r11_7, r69, r11_9, r11_10, r5099, r50;
-    bool r0_2, r0_6, r0_7, r13_3;
     struct word_word r0_3, r0_4, r0_5, r0_12, r0_13, r0_14;
     struct byte_word r53, r53_2, r86;
     char *r2 = (char *)no_bytes;
@@ -841,20 +841,21 @@ static ALIGNED NOINLINE void intmap_add_growing(char *a0, char *a1, uint64_t a2,
     r2_3 = r0 - 1;
     r7 = a4 * UINT64_C(11400714819323198549);
     r10_2 = r2_3 & r7;
-    if (a3 < r2_2) {
-        r11 = load_address(a1 + 32) + (a3 * 24);
+    r5 = r2_2 == 0;
+    if (r5) {
+        r11 = load_address(a1 + 56) + (a3 * 48);
         r3 = load8(r11);
         r3_2 = r3;
         r3_3 = (r3 == 1) ? ((uint64_t)(uintptr_t)(r11 + 8)) : 0;
-        r3_4 = r2;
-        r3_5 = 0;
+        r3_4 = load_address(r11 + 24);
+        r3_5 = load64(r11 + 32);
     } else {
-        r11_2 = load_address(a1 + 56) + (a3 * 48);
+        r11_2 = load_address(a1 + 32) + (a3 * 24);
         r3_6 = load8(r11_2);
         r3_2 = r3_6;
         r3_3 = (r3_6 == 1) ? ((uint64_t)(uintptr_t)(r11_2 + 8)) : 0;
-        r3_4 = load_address(r11_2 + 24);
-        r3_5 = load64(r11_2 + 32);
+        r3_4 = r2;
+        r3_5 = 0;
     }
     if (r3_2 == 1) {
         if (((load64((char *)(uintptr_t)r3_3) * UINT64_C(11400714819323198549)) & r2_3) == r10_2) {
@@ -900,7 +901,7 @@ static ALIGNED NOINLINE void intmap_add_growing(char *a0, char *a1, uint64_t a2,
         r1 = r1 - 1;
     }
 join_3_2:;
-    if (r2_2 != 0) {
+    if (!r5) {
         r0_13 = rattle_alloc(16, 8);
         if ((r0_13.first & 1) == 0) {
             r12_2 = a5;
@@ -1022,14 +1023,14 @@ join_3_2:;
         r17_4 = 0;
         goto join_7_3;
     }
-    r5 = load_address(a1 + 56);
+    r5_2 = load_address(a1 + 56);
     r6_2 = a3 * 48;
-    r9_3 = r5 + r6_2;
+    r9_3 = r5_2 + r6_2;
     if (load8(r9_3) == 1) {
         r2_4 = load64(r9_3 + 32);
         r2_5 = load64(r9_3 + 40);
         if (r2_4 < r2_5) {
-            r5_2 = r5;
+            r5_3 = r5_2;
             r0_2 = false;
         } else {
             if (r2_5 == r2_4) {
@@ -1097,18 +1098,18 @@ join_3_2:;
                     r0_8 = 0;
                     goto arm_6_2;
                 }
-                r5_2 = load_address(a1 + 56);
+                r5_3 = load_address(a1 + 56);
                 r0_2 = true;
             } else {
-                r5_2 = r5;
+                r5_3 = r5_2;
                 r0_2 = true;
             }
         }
     } else {
-        r5_2 = r5;
+        r5_3 = r5_2;
         r0_2 = false;
     }
-    r9_5 = r5_2 + r6_2;
+    r9_5 = r5_3 + r6_2;
     r11_8 = load_address(a1 + 8) + ((a3 >> 3) & UINT64_C(2305843009213693944));
     r16 = load64(r11_8);
     r20 = (uint64_t)1 << (a3 & 63);
@@ -2665,29 +2666,29 @@ static ALWAYS_INLINE bool do_intmap_contains_key(char *map, uint64_t key) {
 
 // intmap_equal, in crates/intmap_c/src/read.rt
 static ALWAYS_INLINE bool do_intmap_equal(char *map, char *other) {
-    char *r5, *r8_2, *r6_3, *r4, *r1, *r1_5, *r1_8, *r1_12, *r1_15, *r11, *r21, *r11_2, *r1_17, *r1_21, *r7, *r1_23,
-        *r1_27, *r11_3, *r0, *r11_4, *common_ret_op, *r4_2;
+    char *r5, *r8, *r6_3, *r4, *r1, *r1_5, *r1_8, *r1_12, *r1_15, *r11, *r11_2, *r11_6, *r1_17, *r1_21, *r0, *r1_23,
+        *r1_26, *r11_8, *r0_2, *r11_9, *common_ret_op, *r4_2;
     bool r12, r9_0_shrunk;
     uint64_t r3, r6, r6_2, r6_4, r1_2, r1_3, r1_4, r1_6, r1_7, r1_9, r1_10, r1_11, r1_13, r33, r54, r60, r1_14,
-        r1_16, r17, r27, r33_2, r40, r21_2, r21_4, r1_18, r1_19, r1_20, r1_22, r1_24, r1_25, r1_26, r1_28, r37, r10,
-        r6_5, r3_0, r21_5, r36;
-    uint8_t r3_2, r21_3, r3_3;
-    char *r8 = (char *)no_bytes;
+        r1_16, r17, r27, r33_2, r40, r11_3, r11_5, r1_18, r1_19, r1_20, r1_22, r1_24, r1_25, r1_27, r11_7, r37,
+        r10_2, r6_5, r3_0, r21, r36;
+    uint8_t r3_2, r11_4, r3_3;
+    char *r10 = (char *)no_bytes;
     r5 = load_address(map);
-    r8_2 = load_address(other);
-    r12 = r8_2 == NULL;
+    r8 = load_address(other);
+    r12 = r8 == NULL;
     if (r5 == NULL) {
         if (r12) {
             r9_0_shrunk = true;
         } else {
-            r9_0_shrunk = load64(r8_2 + 80) == 0;
+            r9_0_shrunk = load64(r8 + 80) == 0;
         }
     } else {
         r3 = load64(r5 + 80);
         if (r12) {
             r9_0_shrunk = r3 == 0;
         } else {
-            if (r3 == load64(r8_2 + 80)) {
+            if (r3 == load64(r8 + 80)) {
                 r6 = load64(r5 + 16);
                 if (r6 == 0) {
                     r6_2 = 0;
@@ -2699,7 +2700,7 @@ static ALWAYS_INLINE bool do_intmap_equal(char *map, char *other) {
                     r6_3 = r4 + 8;
                     r6_4 = r6 - 1;
                 }
-                r1 = r8;
+                r1 = r10;
                 r1_2 = 0;
                 r1_3 = r6_2;
                 r1_4 = 0;
@@ -2744,38 +2745,38 @@ static ALWAYS_INLINE bool do_intmap_equal(char *map, char *other) {
                             r27 = low_zeros(r17);
                             r33_2 = r27 + r1_14;
                             r40 = (r17 - 1) & r17;
-                            if (r33_2 < load64(r5 + 40)) {
-                                r11 = load_address(r5 + 32) + (r33_2 * 24);
+                            if (load64(r5 + 40) == 0) {
+                                r11 = load_address(r5 + 56) + (r33_2 * 48);
                                 r3_2 = load8(r11);
-                                r21 = r8;
-                                r21_2 = 0;
-                                r21_3 = r3_2;
-                                r21_4 = (r3_2 == 1) ? ((uint64_t)(uintptr_t)(r11 + 8)) : 0;
+                                r11_2 = load_address(r11 + 24);
+                                r11_3 = load64(r11 + 32);
+                                r11_4 = r3_2;
+                                r11_5 = (r3_2 == 1) ? ((uint64_t)(uintptr_t)(r11 + 8)) : 0;
                             } else {
-                                r11_2 = load_address(r5 + 56) + (r33_2 * 48);
-                                r3_3 = load8(r11_2);
-                                r21 = load_address(r11_2 + 24);
-                                r21_2 = load64(r11_2 + 32);
-                                r21_3 = r3_3;
-                                r21_4 = (r3_3 == 1) ? ((uint64_t)(uintptr_t)(r11_2 + 8)) : 0;
+                                r11_6 = load_address(r5 + 32) + (r33_2 * 24);
+                                r3_3 = load8(r11_6);
+                                r11_2 = r10;
+                                r11_3 = 0;
+                                r11_4 = r3_3;
+                                r11_5 = (r3_3 == 1) ? ((uint64_t)(uintptr_t)(r11_6 + 8)) : 0;
                             }
-                            if (r21_3 == 1) {
-                                r1_17 = r21;
-                                r1_18 = r21_2;
+                            if (r11_4 == 1) {
+                                r1_17 = r11_2;
+                                r1_18 = r11_3;
                                 r1_19 = r40;
                                 r1_20 = r1_14;
                                 r1_21 = r1_15;
                                 r1_22 = r1_16;
-                                r7 = (char *)(uintptr_t)r21_4;
+                                r0 = (char *)(uintptr_t)r11_5;
                                 goto arm_6;
                             }
-                            if (r21_2 != 0) {
-                                r1_23 = r21;
-                                r1_24 = r21_2;
-                                r1_25 = r40;
-                                r1_26 = r1_14;
-                                r1_27 = r1_15;
-                                r1_28 = r1_16;
+                            if (r11_3 != 0) {
+                                r1_23 = r11_2;
+                                r1_24 = r40;
+                                r1_25 = r1_14;
+                                r1_26 = r1_15;
+                                r1_27 = r1_16;
+                                r11_7 = r11_3;
                                 break;
                             }
                             r1_7 = r1_16;
@@ -2785,53 +2786,53 @@ static ALWAYS_INLINE bool do_intmap_equal(char *map, char *other) {
                         }
                     } else {
                         r1_23 = r1;
-                        r1_24 = r1_2;
-                        r1_25 = r1_3;
-                        r1_26 = r1_4;
-                        r1_27 = r1_5;
-                        r1_28 = r1_6;
+                        r1_24 = r1_3;
+                        r1_25 = r1_4;
+                        r1_26 = r1_5;
+                        r1_27 = r1_6;
+                        r11_7 = r1_2;
                     }
                     r1_17 = r1_23 + 16;
-                    r1_18 = r1_24 - 1;
-                    r1_19 = r1_25;
-                    r1_20 = r1_26;
-                    r1_21 = r1_27;
-                    r1_22 = r1_28;
-                    r7 = r1_23;
+                    r1_18 = r11_7 - 1;
+                    r1_19 = r1_24;
+                    r1_20 = r1_25;
+                    r1_21 = r1_26;
+                    r1_22 = r1_27;
+                    r0 = r1_23;
                 arm_6:;
-                    r37 = load_key(r7);
-                    r10 = load64(r8_2) & (r37 * UINT64_C(11400714819323198549));
-                    if (r10 < load64(r8_2 + 40)) {
-                        r11_3 = load_address(r8_2 + 32) + (r10 * 24);
-                        if (load8(r11_3) != 1) {
+                    r37 = load_key(r0);
+                    r10_2 = load64(r8) & (r37 * UINT64_C(11400714819323198549));
+                    if (r10_2 < load64(r8 + 40)) {
+                        r11_8 = load_address(r8 + 32) + (r10_2 * 24);
+                        if (load8(r11_8) != 1) {
                             r9_0_shrunk = false;
                             break;
                         }
-                        if (load64(r11_3 + 8) != r37) {
+                        if (load64(r11_8 + 8) != r37) {
                             r9_0_shrunk = false;
                             break;
                         }
-                        r0 = r11_3 + 16;
+                        r0_2 = r11_8 + 16;
                     } else {
-                        r11_4 = load_address(r8_2 + 56) + (r10 * 48);
-                        if (load8(r11_4) != 1) {
+                        r11_9 = load_address(r8 + 56) + (r10_2 * 48);
+                        if (load8(r11_9) != 1) {
                             r9_0_shrunk = false;
                             break;
                         }
-                        if (load64(r11_4 + 8) == r37) {
-                            common_ret_op = r11_4 + 8;
+                        if (load64(r11_9 + 8) == r37) {
+                            common_ret_op = r11_9 + 8;
                         } else {
-                            r4_2 = load_address(r11_4 + 24);
-                            r6_5 = load64(r11_4 + 32);
+                            r4_2 = load_address(r11_9 + 24);
+                            r6_5 = load64(r11_9 + 32);
                             if (r6_5 == 0) {
                                 r9_0_shrunk = false;
                                 break;
                             }
                             r3_0 = 0;
                             for (;;) {
-                                r21_5 = r3_0 << 4;
-                                if (load64(r4_2 + r21_5) == r37) {
-                                    common_ret_op = r4_2 + r21_5;
+                                r21 = r3_0 << 4;
+                                if (load64(r4_2 + r21) == r37) {
+                                    common_ret_op = r4_2 + r21;
                                     break;
                                 }
                                 r36 = r3_0 + 1;
@@ -2842,9 +2843,9 @@ static ALWAYS_INLINE bool do_intmap_equal(char *map, char *other) {
                                 r3_0 = r36;
                             }
                         }
-                        r0 = common_ret_op + 8;
+                        r0_2 = common_ret_op + 8;
                     }
-                    if (load64(r7 + 8) != load64(r0)) {
+                    if (load64(r0 + 8) != load64(r0_2)) {
                         r9_0_shrunk = false;
                         break;
                     }

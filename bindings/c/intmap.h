@@ -366,8 +366,8 @@ INTMAP_NONNULL INTMAP_MUST_USE static inline intmap_status intmap_reserve_pairs(
 }
 
 // Returns INTMAP_PRESENT with the first pair of the walk from the cursor on, and moves the cursor
-// behind it; or INTMAP_ABSENT if none is left. A whole walk takes time in the pairs and a 64th of
-// the slots.
+// behind it; or INTMAP_ABSENT if none is left, and leaves the cursor. A whole walk takes time in the
+// pairs and a 64th of the slots.
 //
 // Any cursor will do, whatever has happened to the map since. But intmap_remove moves the last pair
 // of a slot to another place of it, and so does intmap_insert with a present key. A growing map
@@ -392,8 +392,8 @@ INTMAP_NONNULL static inline size_t intmap_next(const intmap *map, intmap_cursor
 }
 
 // Removes the first pair of the walk from the cursor on. It returns INTMAP_PRESENT with the pair, or
-// INTMAP_ABSENT if none is left. The pairs before the cursor stay, and those behind it come next, in
-// the same order. The number of slots stays. It requests no memory, and takes time in the pairs that
+// INTMAP_ABSENT if none is left, and leaves the cursor. The pairs before the cursor stay, and those
+// behind it come next, in the same order. The number of slots stays. It requests no memory, and takes time in the pairs that
 // follow in the slot, and in what intmap_step would pass.
 //
 // To remove some pairs of a walk, look with a second cursor:

@@ -6,11 +6,11 @@
 //! has to have returned what is due. A map that doesn't panics.
 //!
 //! Nothing here reads a slot or follows the code of a map. Values have no `==` in general, so of
-//! them only the references that a call returns are compared.
+//! them only the references that a call returns are compared, and what `==` of two maps says.
 //!
-//! A call on up to 64 pairs is checked, and so is one that goes through all pairs or adds slots. Of
-//! the others so many are that on average a call reads 64 pairs: a check reads all pairs, where
-//! such a call reads those of a slot. A call goes unchecked if there is no memory for its list.
+//! A call on up to 64 pairs is checked, and so is one that itself goes through all pairs or adds
+//! slots. Of the others so many are that on average a call reads 64 pairs: a check reads all pairs,
+//! where such a call reads those of a slot. A call goes unchecked if there is no memory for its list.
 use crate::IntKey;
 use crate::proved::map::{Cause, IntMap};
 use alloc::vec::Vec;
@@ -23,16 +23,18 @@ mod entries;
 mod figures;
 mod growth;
 pub(crate) mod iter;
+pub(crate) mod several;
 
 pub(crate) use calls::{
     clear, contains, copied, entry, find, find_each, find_first, find_member, find_pair, insert,
-    insert_by_entry, insert_checked, insert_member, made, remove, reserve, set_load_factor,
-    with_capacity,
+    insert_by_entry, insert_checked, insert_member, made, remove, replace_member, reserve,
+    reserve_pairs, set_load_factor, shrink_to, with_capacity, with_room_for,
 };
 pub(crate) use closures::{Asked, Coming};
 pub(crate) use entries::{handed_over, is_of, removed};
-pub(crate) use figures::{collisions, iterators, load, steps};
-use growth::adds_slots;
+pub(crate) use figures::{collisions, counts, iterators, load, members, steps, steps_within};
+use growth::{adds_slots, has_room_for};
+pub(crate) use several::Two;
 
 /// By which the number of a key is multiplied for its slot.
 const MULTIPLIER: u64 = 11400714819323198549;
@@ -65,8 +67,9 @@ fn due<T: PartialEq + Debug>(call: &str, what: &str, found: T, due: T) {
     assert!(found == due, "check of {call}: {what}: found {found:?}, but {due:?} is due");
 }
 
-/// A pair of a plain list. Its place is for [`List::grow`] alone. It is aligned so that an allocator
-/// which counts the requests of a map can tell those of its check.
+/// A pair of a plain list. Its place is for [`List::grow`], and elsewhere the address of its value.
+/// It is aligned so that an allocator which counts the requests of a map can tell those of its
+/// check.
 #[repr(align(16))]
 struct Pair {
     number: u64,
@@ -116,6 +119,14 @@ impl List {
     pub(crate) fn reserving<K: IntKey, V>(map: &IntMap<K, V>, additional: usize) -> Option<List> {
         let is_more = map.len().saturating_add(additional) > map.capacity();
         if is_more { List::of(map) } else { List::of_some(map) }
+    }
+
+    /// The same for a reservation of room at the load factor.
+    pub(crate) fn reserving_pairs<K: IntKey, V>(
+        map: &IntMap<K, V>,
+        additional: usize,
+    ) -> Option<List> {
+        if has_room_for(map, additional) { List::of_some(map) } else { List::of(map) }
     }
 
     fn empty(capacity: usize, factor: usize) -> List {

@@ -47,13 +47,13 @@
 //! text as Rust compiles it, in `memory` or in a call by hand. It is there in each profile.
 //!
 //! Values aren't compared, since they need no `==`; a returned reference has to be that of the key's
-//! value. Not checked are `==`, the order of [`IntMap::into_iter`] and its like, the calls of two
-//! sets and the steps of a set's `drain`. A call that makes other public calls, such as
-//! [`IntMap::shrink_to`] and `clone_from`, is checked in each of them and not as a whole.
+//! value. So of [`IntMap::into_values`] only the number of items is checked. Where maps are compared
+//! by `==`, their values have it, and the check calls it again. An iterator that only reads is
+//! compared as it is made, and any other at each step.
 //!
-//! A call on up to 64 pairs is checked, and so is one that goes through all pairs or adds slots. Of
-//! the others so many are that a check reads 64 pairs a call on average, or the whole time would be
-//! spent on large maps.
+//! A call on up to 64 pairs is checked, and so is one that itself goes through all pairs or adds
+//! slots. Of the others so many are that a check reads 64 pairs a call on average, or the whole time
+//! would be spent on large maps.
 //!
 //! A check allocates, with an alignment of 16 bytes, and reads the numbers of keys. If there is no
 //! memory for it, the call goes unchecked.

@@ -15,31 +15,41 @@
 //! ```
 //!
 //! Calls, arguments, order of iteration, capacities and the cut of the load factor are the same.
-//! What differs:
-//!
-//! - [`Entry`] is the name of a type, so a `use` line that names its
-//!   variants takes them from [`intmap_proved::Entry`](crate::Entry).
-//! - A [`drain`](crate::IntMap::drain) that is dropped early leaves the pairs that it didn't
-//!   return; the original may lose them.
-//! - Iterators know how many items are left, so a map that is collected from them begins with more
-//!   slots. The map that the original collects is made by `with_capacity(0)` and `extend`.
-//! - A capacity above 2^63 is a panic at once, or a failed `try_` call; the original allocates
-//!   until that fails.
-//! - For `serde` there is a crate of its own, `intmap_proved_serde`.
+//! So is what iterators say of how many items are left: nothing. A map that is collected from one
+//! begins with 2 slots and grows as its pairs come, where [`intmap_proved::IntMap`](crate::IntMap)
+//! begins with one for each pair.
 //!
 //! ```
 //! use intmap_proved::original::IntMap;
 //!
 //! let map: IntMap<u64> = (0..9).map(|key| (key, key)).collect();
-//! let mut as_original = IntMap::with_capacity(0);
-//! as_original.extend(map.clone());
-//! assert_eq!(as_original.capacity(), 8);
-//! assert_eq!(map.into_iter().collect::<IntMap<u64>>().capacity(), 16);
+//! assert_eq!(map.capacity(), 16);
+//! assert_eq!(map.iter().size_hint(), (0, None));
+//! assert_eq!(map.into_iter().collect::<IntMap<u64>>().capacity(), 8);
 //! ```
 //!
-//! The other calls of [`IntMap`](crate::IntMap) are there too.
+//! What differs:
+//!
+//! - [`Entry`] is the name of a type, so a `use` line that names its variants takes them from
+//!   [`intmap_proved::Entry`](crate::Entry).
+//! - A [`drain`](IntMap::drain) that is dropped early leaves the pairs that it didn't return; the
+//!   original may lose them.
+//! - A capacity above 2^63 is a panic at once, or a failed `try_` call; the original allocates
+//!   until that fails.
+//! - For `serde` there is a crate of its own, `intmap_proved_serde`.
+//!
+//! The other calls of [`intmap_proved::IntMap`](crate::IntMap) are there too, by `Deref`, and `From`
+//! makes each of the two maps of the other.
+mod make;
+mod traits;
+mod walk;
+
+pub use walk::Uncounted;
 
 /// A map with `u64` keys.
+///
+/// Each call is that of [`intmap_proved::IntMap`](crate::IntMap), and is described there. The
+/// iterators that the original has are [`Uncounted`].
 ///
 /// ```
 /// use intmap_proved::original::IntMap;
@@ -47,7 +57,10 @@
 /// let mut map = IntMap::new();
 /// assert_eq!(map.insert(21, 'a'), None);
 /// ```
-pub type IntMap<V> = crate::IntMap<u64, V>;
+#[repr(transparent)]
+pub struct IntMap<V> {
+    inner: crate::IntMap<u64, V>,
+}
 
 /// A map with a key that was looked up in it.
 ///

@@ -288,12 +288,16 @@ impl<K: IntKey> IntSet<K> {
     /// # Ok::<(), Cause>(())
     /// ```
     pub fn try_replace(&mut self, key: K) -> Result<Option<K>, Cause> {
+        #[cfg(feature = "check")]
+        let before = List::before(self.set.map(), key);
         let replaced = self.get(key).copied();
         if replaced.is_some() {
             self.remove(key);
         }
-        self.try_insert(key)?;
-        Ok(replaced)
+        let inserted = self.try_insert(key);
+        #[cfg(feature = "check")]
+        check::replace_member(before, key, (replaced, inserted.map(drop)), self.set.map());
+        inserted.map(|_| replaced)
     }
 
     /// Removes the key, and returns whether it was a member. The last member of its slot takes its

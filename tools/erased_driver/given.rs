@@ -86,7 +86,7 @@ const CALLS: [(Call, u64); 39] = [
     (Call::Debug, 3),
     (Call::Extend, 60),
     (Call::Collect, 1),
-    (Call::CollectAgain, 1),
+    (Call::CollectAgain, 5),
 ];
 
 /// How the keys of a round lie in the slots.

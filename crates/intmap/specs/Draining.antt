@@ -9,7 +9,7 @@ use Rattle.intmap.specs.Map.{MapState}
 use Rattle.intmap.specs.Map.{with_walk}
 
 module _ {K V A : Type 0} {g : key.Ghosts K} {e : eq.Ghosts K} where
-  -- the map as it is at this moment
+  -- the map behind the drain, as it is at this moment
   abbrev pub drained_map : Drain K V A g e → MapState K V
   drained_map d = d.map.now
 

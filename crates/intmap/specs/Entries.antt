@@ -21,12 +21,12 @@ use Rattle.intmap_table.specs.Locations.{key_at, the_key}
 use Rattle.intmap_table.specs.Walk.{slot_of}
 
 module _ {K V A : Type 0} {g : key.Ghosts K} {e : eq.Ghosts K} where
-  -- the reference to the map
+  -- the reference to the map behind the entry
   abbrev pub entry_reference : Entry K V A g e → MutBor (MapState K V)
   entry_reference (Occupied o) = o.map
   entry_reference (Vacant v) = v.map
 
-  -- the map
+  -- the map behind the entry
   abbrev pub entry_map : Entry K V A g e → MapState K V
   entry_map x = (entry_reference x).now
 

@@ -13,7 +13,7 @@ use Rattle.intmap.specs.declared.map.iter.extract.ExtractIf.{ExtractIf}
 use Rattle.intmap.specs.Map.{MapState, with_walk}
 
 module _ {K V F A : Type 0} {g : key.Ghosts K} {e : eq.Ghosts K} where
-  -- the map as it is at this moment
+  -- the map behind the extraction, as it is at this moment
   abbrev pub extracted_map : ExtractIf K V F A g e → MapState K V
   extracted_map d = d.map.now
 

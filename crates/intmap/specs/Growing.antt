@@ -30,12 +30,12 @@ pub record MayRefuseFactor (C n F : ℕ) (cause : Cause) : Type 0 where
   pub memory : cause ≡ Memory → IsWanted C n F C → ⊥
 
 module _ {K V : Type 0} (number : K → ℕ) where
-  -- a reservation of room for so many further pairs took the map m to n
+  -- a reservation of room for so many further pairs took the map m to n: the same pairs, in slots that are enough
   pub record IsReservation (m : MapState K V) (additional : ℕ) (n : MapState K V) : Type 0 where
     pub enough : IsEnough m.capacity (length m.walk + additional) n.capacity
     pub state : n ≡ in_slots number m n.capacity
 
-  -- the load factor F was set, which took the map m to n
+  -- the load factor F was set, which took the map m to n: the same pairs, in slots that meet F
   pub record IsNewFactor (m : MapState K V) (F : ℕ) (n : MapState K V) : Type 0 where
     pub meets : MeetsFactor m.capacity (length m.walk) F n.capacity
     pub state : n ≡ in_slots number (record m { factor = F }) n.capacity

@@ -10,7 +10,7 @@ is_due n = n / 4 % 2 == 1
 abbrev pub last_due : ℕ → ℕ
 last_due n = cond (is_due n) n (n - (n % 4 + 1))
 
--- n pairs in C slots meet the load F, in thousandths
+-- n pairs in C slots meet the load F, in thousandths: n * 1000 / C, rounded down, is at most F
 abbrev pub MeetsLoad : ℕ → ℕ → ℕ → Type 0
 MeetsLoad C n F = n * 1000 / C ≤ F
 
@@ -20,7 +20,7 @@ pub record IsWanted (C n F D : ℕ) : Type 0 where
   pub meets : MeetsLoad D n F
   pub least : (i : ℕ) → C * 2 ^ i < D → F < n * 1000 / (C * 2 ^ i)
 
--- more than 2^63 slots are needed
+-- more than 2^63 slots are needed: a D with `needs D` is above 2^63
 abbrev pub NeedsTooMuch : (ℕ → Type 0) → Type 0
 NeedsTooMuch needs = (D : ℕ) × needs D × (2 ^ 63 < D)
 
@@ -28,7 +28,7 @@ NeedsTooMuch needs = (D : ℕ) × needs D × (2 ^ 63 < D)
 abbrev pub IsThreshold : ℕ → ℕ → ℕ → Type 0
 IsThreshold C F threshold = (n : ℕ) → n < 2 ^ 64 → (n ≤ threshold → MeetsLoad C n F) × (threshold < n → F < n * 1000 / C)
 
--- D is the capacity after a new key made the length n
+-- D is the capacity after a new key made the length n: the wanted one if growth is tested at n, and otherwise C
 abbrev pub IsNext : ℕ → ℕ → ℕ → ℕ → Type 0
 IsNext C n F D = MatchBool (is_due n) (IsWanted C n F D) (D ≡ C)
 
@@ -36,11 +36,11 @@ IsNext C n F D = MatchBool (is_due n) (IsWanted C n F D) (D ≡ C)
 abbrev pub doublings : ℕ → List ℕ
 doublings C = map (λ j. C * 2 ^ j) (range_with_len 0 76)
 
--- the least of C, 2C, 4C, .. in which n pairs meet the load F
+-- the first of the doublings of C in which n pairs meet the load F
 abbrev pub wanted_capacity : ℕ → ℕ → ℕ → ℕ
 wanted_capacity C n F = unwrap_or (find (λ D. nat_le (n * 1000 / D) F) (doublings C)) 0
 
--- the capacity after a new key made the length n
+-- the capacity after a new key made the length n, as a number
 abbrev pub next_capacity : ℕ → ℕ → ℕ → ℕ
 next_capacity C n F = cond (is_due n) (wanted_capacity C n F) C
 

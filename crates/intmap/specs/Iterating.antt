@@ -4,10 +4,11 @@ use Rattle.std.specs.Borrow.{Bor}
 use Rattle.std.specs.Iterator.{YieldsFirst, YieldsFirstBy}
 use Rattle.std.specs.Iterator.Runs.{EveryRun, ItemsMapTo, YieldsInOrder}
 
--- what a `&` shows, and what a pair of two shows
+-- what a `&` shows
 abbrev pub shown : {X : Type 0} → Bor X → X
 shown item = item.now
 
+-- what a pair of two `&` shows
 abbrev pub shown_pair : {K V : Type 0} → Bor K × Bor V → K × V
 shown_pair item = (item.0.now, item.1.now)
 

@@ -78,7 +78,7 @@ pub record MembersLeaveRange (ms : Members) : Type 0 where
   pub collected : AreCollected (members_len ms) pairs before
   pub out_of_range : IsOutOfRange (λ key. key) before.walk before.capacity before.factor next.0
 
--- there are more members than slots can be, or a pair of one is out of range in its turn
+-- there are more than 2^63 members, or a pair of one is out of range in its turn
 abbrev pub AreTooMany : Members → Type 0
 AreTooMany ms = (2 ^ 63 < members_len ms) ⊎ MembersLeaveRange ms
 

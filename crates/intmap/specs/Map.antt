@@ -9,7 +9,8 @@ use Rattle.intmap_table.specs.declared.table.walk.Cursor.{Cursor}
 use Rattle.intmap_table.specs.Reach.{class_size, reach}
 use Rattle.intmap.specs.Growth.{MeetsLoad, IsNext, NeedsTooMuch, last_due}
 
--- the walk, the capacity and the load factor in thousandths; how many pairs insertions put into larger tables, and how many keys were compared
+-- a map as contracts see it: its walk, capacity and load factor in thousandths; `placed`, how many pairs insertions put into larger
+-- tables; and `compared`, how many keys were compared
 pub record MapState (K V : Type 0) : Type 0 where
   pub walk : List (K × V)
   pub capacity : ℕ
@@ -33,7 +34,7 @@ first_capacity = 4
 abbrev pub least_capacity : ℕ
 least_capacity = 2
 
--- a new map of C slots
+-- a new map of C slots: no pairs, the load factor `first_factor`, and nothing counted
 abbrev pub empty_map : {K V : Type 0} → ℕ → MapState K V
 empty_map C = record { walk = []; capacity = C; factor = first_factor; placed = 0; compared = 0 }
 
@@ -62,7 +63,7 @@ module _ {K V : Type 0} (number : K → ℕ) where
     pub factor : F < 2 ^ 64
     pub load : 4 ≤ length W → MeetsLoad C (last_due (length W)) F
 
-  -- what holds of every map
+  -- what holds of every map: `IsMapWalk` of its walk, capacity and load factor
   abbrev pub IsMap : (K → Type 0) → MapState K V → Type 0
   IsMap is_valid m = IsMapWalk is_valid m.walk m.capacity m.factor
 
@@ -76,7 +77,7 @@ module _ {K V : Type 0} (number : K → ℕ) where
     pub stays : IsNext C (length L + 1) F C
     pub count : length L + 1 < 2 ^ 64
 
-  -- D is the capacity after k was inserted
+  -- D is the capacity after k was inserted: C if k is present, and otherwise the next one at one pair more
   abbrev pub IsCapacityAfter : List (K × V) → ℕ → ℕ → K → ℕ → Type 0
   IsCapacityAfter L C F k D = MatchOption (value_of number L k) (IsNext C (length L + 1) F D) (λ _. D ≡ C)
 
@@ -85,11 +86,11 @@ module _ {K V : Type 0} (number : K → ℕ) where
     pub in_range : IsOutOfRange L C F k → ⊥
     pub capacity : IsCapacityAfter L C F k D
 
-  -- the map once k was looked up
+  -- the map once k was looked up: `compared` rose by the reach of k
   abbrev pub after_search : MapState K V → K → MapState K V
   after_search m k = record m { compared = m.compared + reach number m.walk m.capacity k }
 
-  -- the map with the pair of k and v at the end of its slot, in D slots; pairs are put into a larger table if D is greater than the capacity
+  -- the map with the pair of k and v at the end of its slot, in D slots; if D is another capacity, `placed` rose by the new length
   abbrev pub with_pair : MapState K V → K → V → ℕ → MapState K V
   with_pair m k v D = record m {
     walk = walk_of number (put_pair number m.walk m.capacity k v) D;
@@ -101,11 +102,11 @@ module _ {K V : Type 0} (number : K → ℕ) where
   abbrev pub after_insert : MapState K V → K → V → ℕ → MapState K V
   after_insert m k v D = with_pair (after_search m k) k v D
 
-  -- the map in D slots
+  -- the map in D slots, which its pairs filled in the order of its walk
   abbrev pub in_slots : MapState K V → ℕ → MapState K V
   in_slots m D = record m { walk = walk_of number m.walk D; capacity = D }
 
-  -- the map without k
+  -- the map without k; the last pair of its slot takes its place
   abbrev pub without_key : MapState K V → K → MapState K V
   without_key m k = record m { walk = walk_of number (take_key number m.walk m.capacity k) m.capacity }
 

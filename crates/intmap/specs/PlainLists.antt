@@ -8,8 +8,8 @@ use Rattle.intmap_table.specs.Walk.{StandsFor}
 use Rattle.intmap.specs.declared.refusal.Cause.{Cause}
 use Rattle.intmap.specs.declared.refusal.Cause.TheVariants.{Memory, TooLarge}
 
--- a plain list of pairs, which growth never touches, with a capacity and a load factor in thousandths; how many pairs insertions
--- put into larger tables, and how many keys were compared
+-- a plain list of pairs, which growth never touches, with a capacity, a load factor in thousandths, and the counts `placed` and
+-- `compared`, as a map has them
 pub record PlainList (K V : Type 0) : Type 0 where
   pub pairs : List (K × V)
   pub capacity : ℕ
@@ -26,7 +26,7 @@ abbrev pub list_of : {K V : Type 0} → MapState K V → PlainList K V
 list_of m = record { pairs = m.walk; capacity = m.capacity; factor = m.factor; placed = m.placed; compared = m.compared }
 
 module _ {K V : Type 0} (number : K → ℕ) where
-  -- the list stands for the map
+  -- the list stands for the map: for its walk, with the same capacity, load factor and counts
   pub record Stands (s : PlainList K V) (m : MapState K V) : Type 0 where
     pub walk : StandsFor number s.pairs m.walk s.capacity
     pub capacity : s.capacity ≡ m.capacity
@@ -34,7 +34,7 @@ module _ {K V : Type 0} (number : K → ℕ) where
     pub placed : s.placed ≡ m.placed
     pub compared : s.compared ≡ m.compared
 
-  -- the list once k was looked up
+  -- the list once k was looked up: `compared` rose by the reach of k
   abbrev pub looked_up : PlainList K V → K → PlainList K V
   looked_up s k = record s { compared = s.compared + reach number s.pairs s.capacity k }
 

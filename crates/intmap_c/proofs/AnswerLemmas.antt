@@ -10,11 +10,11 @@ use Rattle.intmap.specs.declared.refusal.Cause.{Cause}
 use Rattle.intmap_c.specs.Statuses.{failed_status}
 use Rattle.intmap.proofs.InsertionLemmas.{IsInsertion-searched}
 use Rattle.intmap.proofs.RefusalLemmas.{RefusalIsDue-searched}
-use Rattle.intmap_c.specs.Calls.{AreEqual, Binds, FailsToBind, OnMap, State, itself, map_of}
+use Rattle.intmap_c.specs.Calls.{AreEqual, Binds, FailsToBind, OnMapOrNew, State, itself, map_of}
 
 -- P, if there is a map
-pub OnMap-Some : (h : Option State) {k : Option State} {m n : State} (N : Type 0) (P : State → State → Type 0) → m ≡ map_of h → k ≡ Some n → P m n → OnMap h k N P
-OnMap-Some h {n = n} N P e f p = subst (λ x. OnMap h x N P) (sym f) (subst (λ s. P s n) e p)
+pub OnMapOrNew-Some : (h : Option State) {k : Option State} {m n : State} (N : Type 0) (P : State → State → Type 0) → m ≡ map_of h → k ≡ Some n → P m n → OnMapOrNew h k N P
+OnMapOrNew-Some h {n = n} N P e f p = subst (λ x. OnMapOrNew h x N P) (sym f) (subst (λ s. P s n) e p)
 
 -- only in a list without pairs no key has a value
 no_value-nil : (W : List (ℕ × ℕ)) (r : Bool) → r ≡ (length W == 0) → (r ≡ true) ↔ ((k : ℕ) → value_of itself W k ≡ None)

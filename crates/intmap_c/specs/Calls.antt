@@ -11,7 +11,7 @@ use Rattle.intmap_c.specs.Statuses.{ok_status, present_status, absent_status, no
 use Rattle.intmap_c.specs.declared.answer.FoundValue.{FoundValue}
 use Rattle.intmap_c.specs.Answers.{value_found, no_value, Fails}
 
--- such a map, as contracts see it
+-- a map from 64-bit keys to 64-bit values, as contracts see it
 abbrev pub State : Type 0
 State = MapState ℕ ℕ
 
@@ -22,8 +22,14 @@ map_of (Some m) = m
 
 -- P of the map before and the map after; or the word had no map and has none, and N
 abbrev pub OnMap : Option State → Option State → Type 0 → (State → State → Type 0) → Type 0
-OnMap old None N P = (old ≡ None) × N
-OnMap old (Some n) N P = P (map_of old) n
+OnMap None new N P = (new ≡ None) × N
+OnMap (Some m) None N P = ⊥
+OnMap (Some m) (Some n) N P = P m n
+
+-- the same of a call that makes a map in a word without one; if the word has none then, there was none, and N
+abbrev pub OnMapOrNew : Option State → Option State → Type 0 → (State → State → Type 0) → Type 0
+OnMapOrNew old None N P = (old ≡ None) × N
+OnMapOrNew old (Some n) N P = P (map_of old) n
 
 -- a key's number is the key
 abbrev pub itself : ℕ → ℕ
@@ -52,11 +58,11 @@ Clones (Some m) old new status =
     ((status ≡ ok_status) × ((n : State) × (new ≡ Some n) × IsClone (λ v w. w ≡ v) m n))
     ⊎ ((status ≡ no_memory_status) × (new ≡ old))
 
--- k was inserted with v
+-- k was inserted with v, as `MapInserts` says
 abbrev pub Binds : State → State → ℕ → ℕ → Type 0
 Binds m n k v = MapInserts itself (λ n. n < 2 ^ 64) m k v n
 
--- the insertion of k failed, and the map is as it was except for the count of comparisons
+-- the insertion of k failed, as `RefusalIsDue` allows, and the map is as it was except for the count of comparisons
 abbrev pub FailsToBind : State → State → ℕ → ℤ → Type 0
 FailsToBind m n k status = Fails (RefusalIsDue itself (list_of m) k) (after_search itself m k) n status
 

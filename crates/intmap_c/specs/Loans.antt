@@ -19,6 +19,6 @@ pub record Loan : Type 0 where
   pub share : Share
   pub value : Option Map.Denot
 
--- the loan of the map at an address runs
+-- the map at the address p is lent, for a lifetime of which the loan has a share
 abbrev pub is_lent : Loan → Ptr → Fml
 is_lent l p = fsep (flft l.life l.share) (shares_map p l.value l.life)

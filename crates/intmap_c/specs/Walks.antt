@@ -8,19 +8,19 @@ use Rattle.intmap_c.specs.declared.answer.FoundPair.{FoundPair}
 use Rattle.intmap_c.specs.Answers.{no_pair}
 use Rattle.intmap_c.specs.Calls.{State, itself}
 
--- the first pair of the walk from the cursor on is returned, and the cursor is behind it; or none is left
+-- the first pair of the walk from the cursor on is returned, and the cursor is behind it; or none is left, and the cursor stays
 pub record Steps (m : State) (at to : Cursor) (found : FoundPair) : Type 0 where
   pub told :
       ((found.status ≡ present_status) × (drop (passed itself m at) m.walk ≡ (found.pair.key, found.pair.value) ∷ drop (passed itself m to) m.walk)
       × (passed itself m to ≡ passed itself m at + 1))
-      ⊎ ((found ≡ no_pair absent_status) × (drop (passed itself m at) m.walk ≡ []) × (passed itself m to ≡ passed itself m at))
+      ⊎ ((found ≡ no_pair absent_status) × (drop (passed itself m at) m.walk ≡ []) × (to ≡ at))
 
--- the first pair of the walk from the cursor on was removed, and is returned; or none is left. The cursor is behind the same pairs
+-- the first pair of the walk from the cursor on was removed, and is returned; or none is left, and the cursor stays. It is behind the same pairs
 pub record Cuts (m n : State) (at to : Cursor) (found : FoundPair) : Type 0 where
   pub told :
       ((found.status ≡ present_status) × (drop (passed itself m at) m.walk ≡ (found.pair.key, found.pair.value) ∷ drop (passed itself n to) n.walk)
       × Updates itself m.walk n.walk found.pair.key None × (length n.walk + 1 ≡ length m.walk))
-      ⊎ ((found ≡ no_pair absent_status) × (drop (passed itself m at) m.walk ≡ []) × (n ≡ m))
+      ⊎ ((found ≡ no_pair absent_status) × (drop (passed itself m at) m.walk ≡ []) × (n ≡ m) × (to ≡ at))
   pub before : take (passed itself n to) n.walk ≡ take (passed itself m at) m.walk
   pub same : passed itself n to ≡ passed itself m at
   pub state : n ≡ with_walk m n.walk

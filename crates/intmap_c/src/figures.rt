@@ -1,6 +1,6 @@
 //! The number of slots and the load factor, as C sets them.
 ghost use Rattle.std.specs.Prelude.{◌≡◌};
-ghost use Rattle.intmap_c.specs.Calls.{OnMap, Reserves, SetsFactor};
+ghost use Rattle.intmap_c.specs.Calls.{OnMapOrNew, Reserves, SetsFactor};
 ghost use Rattle.intmap_c.specs.Statuses.{no_memory_status};
 
 use crate::answer::{NO_MEMORY, OK, status_of};
@@ -37,7 +37,7 @@ fn set_load_factor(map: &mut IntMap<u64, u64>, thousandths: usize) -> i32
 /// ```
 #[unsafe(no_mangle)]
 pub extern "C" fn intmap_reserve(alloc: Global, handle: &mut Handle, additional: usize) -> i32
-    ensures { OnMap handle.old.value handle.new.value (result ≡ no_memory_status)
+    ensures { OnMapOrNew handle.old.value handle.new.value (result ≡ no_memory_status)
         (λ m n. Reserves m n additional result) }
 {
     match take_or_make(handle, alloc) {
@@ -63,7 +63,7 @@ pub extern "C" fn intmap_set_load_factor(
     handle: &mut Handle,
     thousandths: usize,
 ) -> i32
-    ensures { OnMap handle.old.value handle.new.value (result ≡ no_memory_status)
+    ensures { OnMapOrNew handle.old.value handle.new.value (result ≡ no_memory_status)
         (λ m n. SetsFactor m n thousandths result) }
 {
     match take_or_make(handle, alloc) {

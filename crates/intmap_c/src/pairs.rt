@@ -1,7 +1,7 @@
 //! Calls that write one key.
 ghost use Rattle.std.specs.Prelude.{◌≡◌};
 ghost use Rattle.intmap_c.specs.Answers.{no_value};
-ghost use Rattle.intmap_c.specs.Calls.{Adds, AddsOrInserts, Inserts, InsertsNew, OnMap, Removes, Sets};
+ghost use Rattle.intmap_c.specs.Calls.{Adds, AddsOrInserts, Inserts, InsertsNew, OnMap, OnMapOrNew, Removes, Sets};
 ghost use Rattle.intmap_c.specs.Statuses.{absent_status, no_memory_status};
 
 use crate::answer::{ABSENT, FoundValue, NO_MEMORY, PRESENT, status_of};
@@ -101,7 +101,7 @@ pub extern "C" fn intmap_insert(
     key: u64,
     value: u64,
 ) -> FoundValue
-    ensures { OnMap handle.old.value handle.new.value (result ≡ no_value no_memory_status)
+    ensures { OnMapOrNew handle.old.value handle.new.value (result ≡ no_value no_memory_status)
         (λ m n. Inserts m n key value result) }
 {
     match take_or_make(handle, alloc) {
@@ -128,7 +128,7 @@ pub extern "C" fn intmap_insert_checked(
     key: u64,
     value: u64,
 ) -> i32
-    ensures { OnMap handle.old.value handle.new.value (result ≡ no_memory_status)
+    ensures { OnMapOrNew handle.old.value handle.new.value (result ≡ no_memory_status)
         (λ m n. InsertsNew m n key value result) }
 {
     match take_or_make(handle, alloc) {
@@ -196,7 +196,7 @@ pub extern "C" fn intmap_add_or_insert(
     key: u64,
     more: u64,
 ) -> FoundValue
-    ensures { OnMap handle.old.value handle.new.value (result ≡ no_value no_memory_status)
+    ensures { OnMapOrNew handle.old.value handle.new.value (result ≡ no_value no_memory_status)
         (λ m n. AddsOrInserts m n key more result) }
 {
     match take_or_make(handle, alloc) {

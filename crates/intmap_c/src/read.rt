@@ -197,7 +197,8 @@ fn step(lent: LentMap<'_>, at: &mut Cursor) -> FoundPair
 }
 
 /// The first pair of the walk from the cursor on, behind which the cursor moves. A walk begins with
-/// a cursor of zeros, and goes on with what the last call left.
+/// a cursor of zeros, and goes on with what the last call left. Where no pair is left, the cursor
+/// stays.
 ///
 /// ```text
 /// intmap_step(&map, &at)    {{21, 7}, INTMAP_PRESENT} after intmap_insert(&map, 21, 7)

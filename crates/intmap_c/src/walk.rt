@@ -20,7 +20,8 @@ fn cut(map: &mut IntMap<u64, u64>, at: &mut Cursor) -> FoundPair
 }
 
 /// Removes the first pair of the walk from the cursor on and returns it. The other pairs keep their
-/// order, and the cursor is then before those that were behind it. It allocates nothing.
+/// order, and the cursor is then before those that were behind it. Where no pair is left, the cursor
+/// stays. It allocates nothing.
 ///
 /// ```text
 /// intmap_cut(&map, &at)    {{21, 7}, INTMAP_PRESENT} after intmap_insert(&map, 21, 7)

@@ -6,8 +6,8 @@ use Rattle.intmap.specs.Classes.{same_key, agrees}
 use Rattle.intmap.specs.Map.{MapState, IsMap, first_factor}
 use Rattle.intmap.specs.Reach.{reach}
 
--- the members in the order of the walk, and the number of slots; how many members insertions put into larger tables, and how many keys were
--- compared
+-- a set as contracts see it: its members in the order of the walk, and its number of slots; `placed`, how many members insertions put
+-- into larger tables; and `compared`, how many keys were compared
 pub record SetState (K : Type 0) : Type 0 where
   pub walk : List K
   pub capacity : ℕ
@@ -31,7 +31,7 @@ module _ {K : Type 0} where
   abbrev pub set_of : MapState K (Unit {0}) → SetState K
   set_of m = record { walk = keys_of m.walk; capacity = m.capacity; placed = m.placed; compared = m.compared }
 
-  -- a new set of C slots
+  -- a new set of C slots: no members, and nothing counted
   abbrev pub empty_set : ℕ → SetState K
   empty_set C = record { walk = []; capacity = C; placed = 0; compared = 0 }
 
@@ -48,7 +48,7 @@ module _ {K : Type 0} (number : K → ℕ) where
   abbrev pub IsAlone : List K → ℕ → K → Type 0
   IsAlone W C k = (q : K) → IsTrue (holds W q) → agrees number C k q ≡ false
 
-  -- the set once k was looked up
+  -- the set once k was looked up: `compared` rose by the reach of k
   abbrev pub looked_up : SetState K → K → SetState K
   looked_up s k = record s { compared = s.compared + reach number (paired s.walk) s.capacity k }
 

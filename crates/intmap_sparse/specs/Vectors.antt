@@ -92,11 +92,11 @@ with_value v place z D = record {
   capacity = D;
 }
 
--- D is the number of slots after z became the value of the place
+-- D is the number of slots after z became the value of the place: `IsCapacityAfter` if z isn't 0, and otherwise the same
 abbrev pub IsCapacityWith : Vector → ℕ → ℤ → ℕ → Type 0
 IsCapacityWith v place z D = MatchBool (is_nonzero z) (IsCapacityAfter (λ key. key) v.walk v.capacity load_factor place D) (D ≡ v.capacity)
 
--- the place isn't stored, and no new one is in range
+-- the place isn't stored, and as a new key it is out of range at the load factor of vectors
 abbrev pub IsBeyondRange : Vector → ℕ → Type 0
 IsBeyondRange v place = IsOutOfRange (λ key. key) v.walk v.capacity load_factor place
 

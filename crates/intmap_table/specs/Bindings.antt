@@ -35,7 +35,7 @@ module _ {K V : Type 0} where
   keep_pairs keeps L = filter (λ p. keeps p.0 p.1) L
 
 module _ {K V : Type 0} (number : K → ℕ) where
-  -- the value of a key, if the key is present
+  -- the value of the first pair with this key, if the key is present
   abbrev pub value_of : List (K × V) → K → Option V
   value_of L k = first_value (same_key number k) L
 

@@ -14,7 +14,7 @@ abbrev pub tally_of : List ℕ → List (ℕ × ℕ)
 tally_of ns = map (λ m. (m, count_by (λ n. n == m) ns)) (each_once ns)
 
 module _ {K V : Type 0} where
-  -- the number of pairs for each of C slots, in thousandths
+  -- the number of pairs for each of C slots, in thousandths, rounded down
   abbrev pub rate_of : List (K × V) → ℕ → ℕ
   rate_of L C = length L * 1000 / C
 

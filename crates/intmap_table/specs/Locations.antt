@@ -17,7 +17,7 @@ the_key (Some k) is = k
 the_key None is = absurd (subst (λ b. cond b ⊥ (Unit {0})) is tt)
 
 module _ {K V : Type 0} (number : K → ℕ) where
-  -- the pair of the location's key is there, in the walk through C slots
+  -- the pair of the location's key has the location's place among the pairs of its slot, in a table of C slots with walk W
   pub record IsAt (W : List (K × V)) (C : ℕ) (at : Location K) : Type 0 where
     pub slot : at.slot ≡ slot_number number at.key C
     pub place : position (λ p. same_key number at.key p.0) (slot_of number W C at.slot) ≡ Some at.place

@@ -12,7 +12,7 @@ pub record CallsAt {F K V Y : Type 0} (m : Mut F (K × (MutBor V × Unit {0})) (
   pub leaves : left.now ≡ w
   pub called : Called m f (key, (value, tt)) (y, (left, tt)) g
 
--- a call that returns nothing, of a closure that writes
+-- a call of f at the key of p and a `&mut` to its value returned nothing, and left w there and g of the closure
 abbrev pub WritesAt : {F K V : Type 0} → Mut F (K × (MutBor V × Unit {0})) (Unit {0} × (MutBor V × Unit {0})) → F → K × V → V → F → Type 0
 WritesAt m f p w g = CallsAt m f p tt w g
 

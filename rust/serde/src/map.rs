@@ -2,7 +2,7 @@
 use crate::{Serde, capacity_for, refused};
 use core::fmt::{self, Formatter};
 use core::marker::PhantomData;
-use intmap_proved::{IntKey, IntMap};
+use intmap_proved::{IntKey, IntMap, original};
 use serde::de::{MapAccess, Visitor};
 use serde::{Deserialize, Deserializer, Serialize, Serializer};
 
@@ -49,5 +49,24 @@ where
 {
     fn deserialize<D: Deserializer<'de>>(deserializer: D) -> Result<Self, D::Error> {
         deserializer.deserialize_map(Pairs(PhantomData))
+    }
+}
+
+impl<V: Serialize> Serialize for Serde<&original::IntMap<V>> {
+    fn serialize<S: Serializer>(&self, serializer: S) -> Result<S::Ok, S::Error> {
+        serializer.collect_map(&**self.0)
+    }
+}
+
+impl<V: Serialize> Serialize for Serde<original::IntMap<V>> {
+    fn serialize<S: Serializer>(&self, serializer: S) -> Result<S::Ok, S::Error> {
+        Serde(&self.0).serialize(serializer)
+    }
+}
+
+impl<'de, V: Deserialize<'de>> Deserialize<'de> for Serde<original::IntMap<V>> {
+    fn deserialize<D: Deserializer<'de>>(deserializer: D) -> Result<Self, D::Error> {
+        let Serde(map) = Serde::<IntMap<u64, V>>::deserialize(deserializer)?;
+        Ok(Serde(map.into()))
     }
 }

@@ -1,7 +1,7 @@
 //! Maps and sets as JSON and back.
 #![forbid(unsafe_code)]
 
-use intmap_proved::{IntKey, IntMap, IntSet, int_key};
+use intmap_proved::{IntKey, IntMap, IntSet, int_key, original};
 use intmap_proved_serde::Serde;
 use serde::{Deserialize, Serialize};
 use serde_json::{from_str, to_string};
@@ -53,6 +53,8 @@ fn a_map_that_was_read_has_the_order_of_the_original() {
     for (read, written) in TEXTS_OF_THE_ORIGINAL {
         let map: Serde<IntMap<u64, u8>> = from_str(read).expect("it is a map");
         assert_eq!(to_string(&map).expect("it has a text"), written, "from {read}");
+        let map: Serde<original::IntMap<u8>> = from_str(read).expect("it is a map");
+        assert_eq!(to_string(&map).expect("it has a text"), written, "from {read} by that name");
     }
 }
 

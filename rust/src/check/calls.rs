@@ -1,5 +1,5 @@
 //! The calls on a map, on one key and on all pairs.
-use super::growth::{FIRST_FACTOR, least_capacity};
+use super::growth::{FIRST_FACTOR, capacity_for, least_capacity};
 use super::{List, due, is_checked};
 use crate::IntKey;
 use crate::proved::map::{Cause, IntMap, Refused};
@@ -11,7 +11,20 @@ pub(crate) fn made<K: IntKey, V>(call: &str, capacity: usize, map: &IntMap<K, V>
 
 /// A new map of at least so many slots.
 pub(crate) fn with_capacity<K: IntKey, V>(wanted: usize, made: Result<&IntMap<K, V>, &Cause>) {
-    let (call, capacity) = ("with_capacity", least_capacity(wanted as u128));
+    made_with("with_capacity", least_capacity(wanted as u128), made);
+}
+
+/// A new map with room for so many pairs.
+pub(crate) fn with_room_for<K: IntKey, V>(pairs: usize, made: Result<&IntMap<K, V>, &Cause>) {
+    made_with("with_room_for", capacity_for(pairs as u128, FIRST_FACTOR), made);
+}
+
+/// A new map of so many slots, or of none if they are too many.
+fn made_with<K: IntKey, V>(
+    call: &str,
+    capacity: Option<usize>,
+    made: Result<&IntMap<K, V>, &Cause>,
+) {
     match made {
         Ok(map) => super::made(call, capacity.unwrap_or(0), map),
         Err(cause) => {
@@ -137,6 +150,18 @@ pub(crate) fn insert_member<K: IntKey>(
     inserted("a set's insert", before, key, (false, *result), map);
 }
 
+/// An insertion into a set in place of an equal member, which it returns.
+pub(crate) fn replace_member<K: IntKey>(
+    before: Option<List>,
+    key: K,
+    (replaced, result): (Option<K>, Result<(), Cause>),
+    map: &IntMap<K, ()>,
+) {
+    find_key("replace", key, replaced.as_ref());
+    let is_new = result.map(|()| replaced.is_none());
+    inserted("replace", before, key, (true, is_new), map);
+}
+
 /// An insertion by an entry, of a key that is new or not. A present key keeps its place.
 pub(crate) fn insert_by_entry<K: IntKey, V, T>(
     before: Option<List>,
@@ -177,6 +202,32 @@ pub(crate) fn reserve<K: IntKey, V>(
     }
 }
 
+/// A reservation of room at the load factor.
+pub(crate) fn reserve_pairs<K: IntKey, V>(
+    before: Option<List>,
+    additional: usize,
+    result: Result<(), Cause>,
+    map: &IntMap<K, V>,
+) {
+    if let Some(mut list) = before {
+        list.reserve_pairs(additional, result);
+        list.is_shown_by("reserve_pairs", map);
+    }
+}
+
+/// A capacity that may become smaller.
+pub(crate) fn shrink_to<K: IntKey, V>(
+    before: Option<List>,
+    least: usize,
+    result: Result<(), Cause>,
+    map: &IntMap<K, V>,
+) {
+    if let Some(mut list) = before {
+        list.shrink_to(least, result);
+        list.is_shown_by("shrink_to", map);
+    }
+}
+
 /// A new load factor.
 pub(crate) fn set_load_factor<K: IntKey, V>(
     before: Option<List>,
@@ -199,8 +250,8 @@ pub(crate) fn clear<K: IntKey, V>(before: Option<List>, map: &IntMap<K, V>) {
 }
 
 /// A clone, which shows what its source does.
-pub(crate) fn copied<K: IntKey, V>(source: &IntMap<K, V>, clone: &IntMap<K, V>) {
+pub(crate) fn copied<K: IntKey, V>(call: &str, source: &IntMap<K, V>, clone: &IntMap<K, V>) {
     if let Some(list) = List::of(source) {
-        list.is_shown_by("clone", clone);
+        list.is_shown_by(call, clone);
     }
 }

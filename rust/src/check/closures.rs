@@ -23,7 +23,11 @@ impl Asked {
 
     /// The same for a step, after others that asked about so many pairs which are still there.
     pub(crate) fn behind<K: IntKey, V>(map: &IntMap<K, V>, passed: usize) -> Asked {
-        Asked { list: List::of_some(map), asked: passed, kept: passed }
+        let list = List::of_some(map);
+        if let Some(list) = &list {
+            due("extract_if", "pairs that its steps left", list.pairs.len().min(passed), passed);
+        }
+        Asked { list, asked: passed, kept: passed }
     }
 
     /// Notes the answer at a key, which has to be the next one of the walk, and returns it.

@@ -50,6 +50,30 @@ pub(crate) fn iterators<K: IntKey, V>(map: &IntMap<K, V>) {
     due("values", "it has the values of the walk", is_same, true);
 }
 
+/// The iterator over the members of a set: it gives what the walk has.
+pub(crate) fn members<'a, K: IntKey + 'a>(
+    set: &'a IntMap<K, ()>,
+    found: impl Iterator<Item = &'a K>,
+) {
+    if is_checked(set.len()) {
+        let keys = set.iter().take(set.len() + 1).map(|it| it.0 as *const K);
+        let is_same = keys.eq(found.map(|it| it as *const K));
+        due("a set's iter", "it has the members of the walk", is_same, true);
+    }
+}
+
+/// Whether the pairs are as many as the length says.
+pub(crate) fn counts<K: IntKey, V>(map: &IntMap<K, V>, found: bool) {
+    let count = map.iter().take(map.len() + 1).count();
+    due("assert_count", "the answer", found, count == map.len());
+}
+
+/// A step of an iterator that says how many items are left at least, and at most.
+pub(crate) fn steps_within((least, most): (usize, usize), is_some: bool) {
+    let is_due = if is_some { most > 0 } else { least > 0 };
+    due("a step of an iterator", "whether there is an item", is_some, is_due);
+}
+
 /// A step of an iterator that says how many items are left.
 pub(crate) fn steps(left: usize, is_some: bool) {
     due("a step of an iterator", "whether there is an item", is_some, left > 0);

@@ -24,6 +24,17 @@ fn wanted_capacity(capacity: usize, len: u128, factor: usize) -> Option<usize> {
     found.filter(|it| meets_load(*it, len, factor)).map(|it| it as usize).next()
 }
 
+/// The least power of two from 2 on in which so many pairs meet the load, if it isn't above 2^63.
+pub(super) fn capacity_for(len: u128, factor: usize) -> Option<usize> {
+    wanted_capacity(LEAST_CAPACITY as usize, len, factor)
+}
+
+/// Whether so many pairs more meet the load in the slots that are there.
+pub(super) fn has_room_for<K: IntKey, V>(map: &IntMap<K, V>, additional: usize) -> bool {
+    let len = map.len() as u128 + additional as u128;
+    meets_load(map.capacity() as u128, len, map.get_load_factor())
+}
+
 /// Whether the insertion of an absent key makes a map grow.
 pub(super) fn adds_slots<K: IntKey, V>(map: &IntMap<K, V>) -> bool {
     let len = map.len() as u128 + 1;
@@ -51,6 +62,26 @@ impl List {
         let wanted = self.pairs.len() as u128 + additional as u128;
         let capacity = least_capacity(wanted).map(|it| it.max(self.capacity));
         self.have("reserve", capacity, wanted > self.capacity as u128, result);
+    }
+
+    /// Makes room for more pairs at the load factor, or fails unless that may have failed. A map that
+    /// has too few slots gets one for each of its pairs at least.
+    pub(super) fn reserve_pairs(&mut self, additional: usize, result: Result<(), Cause>) {
+        let len = self.pairs.len() as u128;
+        let wanted = wanted_capacity(self.capacity, len + additional as u128, self.factor);
+        let is_enough = wanted == Some(self.capacity);
+        let for_each = if is_enough { None } else { least_capacity(len) };
+        let wanted = wanted.map(|it| it.max(for_each.unwrap_or(it)));
+        self.have("reserve_pairs", wanted, !is_enough, result);
+    }
+
+    /// Makes the capacity the least one that is at least this, and in which the pairs meet the load,
+    /// unless it is smaller. Or fails unless that may have failed.
+    pub(super) fn shrink_to(&mut self, least: usize, result: Result<(), Cause>) {
+        let for_load = capacity_for(self.pairs.len() as u128, self.factor);
+        let wanted = least_capacity(least as u128).zip(for_load).map(|(one, other)| one.max(other));
+        let capacity = wanted.unwrap_or(self.capacity).min(self.capacity);
+        self.have("shrink_to", Some(capacity), capacity < self.capacity, result);
     }
 
     /// Sets the load factor, or fails unless that may have failed.

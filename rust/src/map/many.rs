@@ -301,7 +301,7 @@ impl<K: IntKey, V: Clone> IntMap<K, V> {
     pub fn try_clone(&self) -> Result<IntMap<K, V>, Cause> {
         let map = self.map.clone()?;
         #[cfg(feature = "check")]
-        check::copied(&self.map, &map);
+        check::copied("clone", &self.map, &map);
         Ok(IntMap { map })
     }
 }

@@ -307,6 +307,8 @@ impl<K: IntKey, V> IntMap<K, V> {
     /// assert!(IntMap::from([(21u64, 'a')]).assert_count());
     /// ```
     pub fn assert_count(&self) -> bool {
+        #[cfg(feature = "check")]
+        check::counts(&self.map, self.map.assert_count());
         self.map.assert_count()
     }
 

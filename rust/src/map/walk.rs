@@ -47,7 +47,12 @@ impl<K: IntKey, V> IntMap<K, V> {
     /// ```
     #[inline]
     pub fn iter_mut(&mut self) -> IterMut<'_, K, V> {
-        IterMut { left: self.len(), inner: self.map.iter_mut() }
+        let left = self.len();
+        #[cfg(feature = "check")]
+        let inner = check::iter::IterMut::of_map(&mut self.map);
+        #[cfg(not(feature = "check"))]
+        let inner = self.map.iter_mut();
+        IterMut { left, inner }
     }
 
     /// Returns an iterator over the keys, in iteration order.
@@ -113,7 +118,12 @@ impl<K: IntKey, V> IntMap<K, V> {
     /// ```
     #[inline]
     pub fn values_mut(&mut self) -> ValuesMut<'_, K, V> {
-        ValuesMut { left: self.len(), inner: self.map.values_mut() }
+        let left = self.len();
+        #[cfg(feature = "check")]
+        let inner = check::iter::ValuesMut::of_map(&mut self.map);
+        #[cfg(not(feature = "check"))]
+        let inner = self.map.values_mut();
+        ValuesMut { left, inner }
     }
 
     /// Returns an iterator over the keys by value, in iteration order. Each value is dropped as its
@@ -136,7 +146,12 @@ impl<K: IntKey, V> IntMap<K, V> {
     /// ```
     #[inline]
     pub fn into_keys(self) -> IntoKeys<K, V> {
-        IntoKeys { left: self.len(), inner: self.map.into_keys() }
+        let left = self.len();
+        #[cfg(feature = "check")]
+        let inner = check::iter::IntoKeys::of_map(self.map);
+        #[cfg(not(feature = "check"))]
+        let inner = self.map.into_keys();
+        IntoKeys { left, inner }
     }
 
     /// Returns an iterator over the values by value, in iteration order.
@@ -212,6 +227,11 @@ impl<K: IntKey, V> IntoIterator for IntMap<K, V> {
 
     #[inline]
     fn into_iter(self) -> IntoIter<K, V> {
-        IntoIter { left: self.len(), inner: self.map.into_iter() }
+        let left = self.len();
+        #[cfg(feature = "check")]
+        let inner = check::iter::IntoIter::of_map(self.map);
+        #[cfg(not(feature = "check"))]
+        let inner = self.map.into_iter();
+        IntoIter { left, inner }
     }
 }

@@ -2,9 +2,16 @@
 use super::IntSet;
 use crate::IntKey;
 #[cfg(feature = "check")]
-use crate::check::Asked;
+use crate::check::{
+    self, Asked,
+    iter::{DrainOfSet, IntoKeys},
+};
 use crate::iter::copied;
-use crate::proved::map::iter::{IntoKeys, Keys};
+#[cfg(not(feature = "check"))]
+use crate::proved::map::iter::IntoKeys;
+use crate::proved::map::iter::Keys;
+#[cfg(not(feature = "check"))]
+use crate::proved::set::iter::Drain as DrainOfSet;
 use crate::proved::set::{IntSet as Proved, iter as proved};
 use crate::proved::table::table::Progress;
 use core::fmt::{self, Debug, Formatter};
@@ -65,7 +72,7 @@ iterators! {
     /// assert_eq!(set.drain().take(1).count(), 1);
     /// assert_eq!(set.len(), 1);
     /// ```
-    Drain ['a, K: IntKey] ['a, K] proved::Drain<'a, K> => K;
+    Drain ['a, K: IntKey] ['a, K] DrainOfSet<'a, K> => K;
 
     /// The members of a set by value, made by [`IntSet::into_iter`](IntoIterator::into_iter).
     ///
@@ -161,6 +168,8 @@ macro_rules! combined {
             #[inline]
             fn next(&mut self) -> Option<&'a K> {
                 let key = self.inner.next();
+                #[cfg(feature = "check")]
+                check::steps_within(self.bounds, key.is_some());
                 let (least, most) = self.bounds;
                 self.bounds = match key {
                     Some(_) => (least.saturating_sub(1), most.saturating_sub(1)),
@@ -263,6 +272,11 @@ impl<K: IntKey> IntoIterator for IntSet<K> {
 
     #[inline]
     fn into_iter(self) -> IntoIter<K> {
-        IntoIter { left: self.len(), inner: self.set.into_iter() }
+        let left = self.len();
+        #[cfg(feature = "check")]
+        let inner = IntoKeys::of_set(self.set);
+        #[cfg(not(feature = "check"))]
+        let inner = self.set.into_iter();
+        IntoIter { left, inner }
     }
 }

@@ -22,6 +22,8 @@ impl<K: IntKey> IntSet<K> {
     /// ```
     #[inline]
     pub fn iter(&self) -> Iter<'_, K> {
+        #[cfg(feature = "check")]
+        check::members(self.set.map(), self.set.iter());
         Iter { left: self.len(), inner: self.set.iter() }
     }
 
@@ -103,7 +105,12 @@ impl<K: IntKey> IntSet<K> {
     /// assert_eq!(set.len(), 1);
     /// ```
     pub fn drain(&mut self) -> Drain<'_, K> {
-        Drain { left: self.len(), inner: self.set.drain() }
+        let left = self.len();
+        #[cfg(feature = "check")]
+        let inner = check::iter::DrainOfSet::of(&mut self.set);
+        #[cfg(not(feature = "check"))]
+        let inner = self.set.drain();
+        Drain { left, inner }
     }
 
     /// Returns an iterator that removes the members for which `pick` returns `true`, one at each
@@ -225,7 +232,7 @@ impl<K: IntKey> IntSet<K> {
     pub fn try_clone(&self) -> Result<IntSet<K>, Cause> {
         let set = self.set.clone()?;
         #[cfg(feature = "check")]
-        check::copied(self.set.map(), set.map());
+        check::copied("clone", self.set.map(), set.map());
         Ok(IntSet { set })
     }
 }

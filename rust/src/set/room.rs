@@ -59,7 +59,10 @@ impl<K: IntKey> IntSet<K> {
     /// # Ok::<(), Cause>(())
     /// ```
     pub fn try_with_room_for(members: usize) -> Result<IntSet<K>, Cause> {
-        IntSet::try_with_capacity(slots_for(members, FIRST_FACTOR))
+        let made = IntSet::try_with_capacity(slots_for(members, FIRST_FACTOR));
+        #[cfg(feature = "check")]
+        check::with_room_for(members, made.as_ref().map(|it: &IntSet<K>| it.set.map()));
+        made
     }
 
     /// Makes the capacity at least the number of members plus `additional`, as
@@ -164,9 +167,16 @@ impl<K: IntKey> IntSet<K> {
     /// assert_eq!(set.try_reserve_members(usize::MAX), Err(Cause::TooLarge));
     /// ```
     pub fn try_reserve_members(&mut self, additional: usize) -> Result<(), Cause> {
-        let members = self.len().checked_add(additional).ok_or(Cause::TooLarge)?;
-        let slots = slots_for(members, FIRST_FACTOR);
-        self.try_reserve(slots.saturating_sub(self.len()))
+        #[cfg(feature = "check")]
+        let before = List::reserving_pairs(self.set.map(), additional);
+        let slots = self.len().checked_add(additional).map(|it| slots_for(it, FIRST_FACTOR));
+        let result = match slots {
+            Some(slots) => self.try_reserve(slots.saturating_sub(self.len())),
+            None => Err(Cause::TooLarge),
+        };
+        #[cfg(feature = "check")]
+        check::reserve_pairs(before, additional, result, self.set.map());
+        result
     }
 
     /// Makes the capacity the least power of two in which the members meet the load factor, or
@@ -234,11 +244,19 @@ impl<K: IntKey> IntSet<K> {
     /// assert_eq!((set.try_shrink_to(20), set.capacity()), (Ok(()), 32));
     /// ```
     pub fn try_shrink_to(&mut self, min_capacity: usize) -> Result<(), Cause> {
+        #[cfg(feature = "check")]
+        let before = List::of(self.set.map());
         let slots = slots_for(self.len(), FIRST_FACTOR).max(min_capacity).max(LEAST_SLOTS);
-        if slots > self.capacity() / 2 {
-            return Ok(());
-        }
-        let mut small = IntSet::try_with_capacity(slots)?;
+        let is_least = slots > self.capacity() / 2;
+        let result = if is_least { Ok(()) } else { self.copy_to(IntSet::try_with_capacity(slots)) };
+        #[cfg(feature = "check")]
+        check::shrink_to(before, min_capacity, result, self.set.map());
+        result
+    }
+
+    /// Copies the members to a new set, which takes the place of this one.
+    fn copy_to(&mut self, made: Result<IntSet<K>, Cause>) -> Result<(), Cause> {
+        let mut small = made?;
         small.try_extend(self.iter().copied())?;
         *self = small;
         Ok(())

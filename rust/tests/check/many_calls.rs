@@ -48,11 +48,28 @@ fn call_on_all(map: &mut Map, call: u64, number: u64) {
         9 => *map = Map::with_capacity(number as usize % 40),
         10 => _ = (map.load(), map.collisions(), map.first_key_value()),
         11 => _ = (map.keys().clone().count(), map.values().count(), map.iter().clone().count()),
-        12 => _ = (map.iter_mut().count(), map.values_mut().count()),
+        12 => _ = (map.iter_mut().count(), map.values_mut().count(), map.assert_count()),
         13 if number % 5 == 0 => map.clear(),
+        14 if number % 2 == 0 => map.shrink_to_fit(),
         14 => map.shrink_to(number as usize % 40),
+        15 => owned_and_equal(map, number),
         _ => _ = map.extract_if(|key, _| is_picked(key)).count(),
     }
+}
+
+fn owned_and_equal(map: &mut Map, number: u64) {
+    let mut other = map.clone();
+    other.set_load_factor((number % 4000) as f32 / 1000. + 0.2);
+    _ = *map == other;
+    if let Some(value) = other.get_mut(number % 50) {
+        *value ^= 1;
+    }
+    _ = *map == other;
+    other.clone_from(map);
+    _ = (other.clone().into_keys().count(), other.clone().into_values().count());
+    _ = (other.remove(number % 50), *map == other, other == *map);
+    *map = Map::with_room_for(number as usize % 40);
+    map.extend(other);
 }
 
 fn call_on_set(set: &mut IntSet<u64>, call: u64, key: u64) {
@@ -67,10 +84,26 @@ fn call_on_set(set: &mut IntSet<u64>, call: u64, key: u64) {
         12 if key % 2 == 0 => set.extract_if(|it| it > key).take(2).for_each(drop),
         12 => set.drain().take(2).for_each(drop),
         13 if key % 5 == 0 => set.clear(),
-        15 if key % 3 == 0 => *set = IntSet::with_capacity(key as usize % 40),
+        13 => set.reserve_members(key as usize % 50),
+        14 if key % 2 == 0 => set.shrink_to(key as usize % 40),
         14 => *set = std::mem::take(set).into_iter().collect(),
+        15 if key % 3 == 0 => *set = IntSet::with_room_for(key as usize % 40),
+        16 => two_sets(set, key),
         _ => _ = (set.contains(key), set.get(key), set.iter().clone().count()),
     }
+}
+
+fn two_sets(set: &mut IntSet<u64>, key: u64) {
+    let mut other: IntSet<u64> = set.iter().map(|it| it ^ (key & 8)).collect();
+    other.extend(key..key + key % 20);
+    for (one, other) in [(&*set, &other), (&other, &*set), (&*set, &*set)] {
+        _ = (one.union(other).clone().count(), one.intersection(other).count());
+        _ = (one.difference(other).count(), one.symmetric_difference(other).count());
+        _ = (one.is_subset(other), one.is_superset(other), one.is_disjoint(other));
+        _ = (one | other, one & other, one - other, one ^ other, one == other);
+    }
+    other.clone_from(set);
+    _ = other == *set;
 }
 
 #[test]
@@ -86,9 +119,9 @@ fn each_call_does_what_its_contract_says() {
             let is_next = counts_up && random.below(20) > 0;
             let key = if is_next { place } else { random.below(keys) << shift };
             match random.below(10) {
-                0 if !counts_up => call_on_all(&mut map, random.below(16), random.next() >> 1),
+                0 if !counts_up => call_on_all(&mut map, random.below(17), random.next() >> 1),
                 0..8 => call_on_key(&mut map, random.below(if is_next { 5 } else { 16 }), key),
-                _ => call_on_set(&mut set, random.below(if is_next { 6 } else { 16 }), key),
+                _ => call_on_set(&mut set, random.below(if is_next { 6 } else { 18 }), key),
             }
         }
     }

@@ -220,10 +220,10 @@ impl<K: IntKey, X, A: Allocator> Slots<K, X, A> {
         requires { index < length self.now }
         ensures { row_of self.now index ≡ all_pairs (option_copied result.0) result.1.now }
     {
-        if index < self.lone.len() {
-            return (self.lone[index].pair(), &[]);
+        if self.lone.is_empty() {
+            return self.shared[index].parts();
         }
-        self.shared[index].parts()
+        (self.lone[index].pair(), &[])
     }
 
     /// The first slot from an index on that holds a pair.
@@ -241,7 +241,6 @@ impl<K: IntKey, X, A: Allocator> Slots<K, X, A> {
         ensures { result ≡ joined (rows self.now) }
     {
         Pairs {
-            first: None,
             rest: &[],
             filled: self.directory.bits.iter(),
             slots: self,

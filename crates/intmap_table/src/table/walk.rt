@@ -39,6 +39,7 @@ fn seek<K: IntKey, X, A: Allocator>(slots: &Slots<K, X, A>, at: &mut Cursor) -> 
     ensures pair { OnTrue result (at.new.place < length (row_of slots.now at.new.slot)) }
     ensures none { OnFalse result (drop (count_before (rows slots.now) at.old.slot at.old.place)
         (joined (rows slots.now)) ≡ []) }
+    ensures stays { OnFalse result (at.new ≡ at.old) }
     ensures same { count_before (rows slots.now) at.new.slot at.new.place
         ≡ count_before (rows slots.now) at.old.slot at.old.place }
 {
@@ -53,8 +54,8 @@ fn seek<K: IntKey, X, A: Allocator>(slots: &Slots<K, X, A>, at: &mut Cursor) -> 
 }
 
 impl<K: IntKey, X, A: Allocator> Table<K, X, A> {
-    /// The first pair from the cursor on, or `None` if no pair is left. The cursor moves on behind
-    /// that pair.
+    /// The first pair from the cursor on, behind which the cursor moves, or `None` if no pair is
+    /// left. Then the cursor stays.
     pub fn step(&self, at: &mut Cursor) -> Option<(&K, &X)>
         requires count { length self.now.walk < 2 ^ 64 }
         ensures first { MatchOption result
@@ -65,6 +66,7 @@ impl<K: IntKey, X, A: Allocator> Table<K, X, A> {
         ensures passed { position K.number_of self.now.walk self.now.capacity at.new
             ≡ position K.number_of self.now.walk self.now.capacity at.old
             + cond (is_some result) 1 0 }
+        ensures stays { IfNone result (at.new ≡ at.old) }
     {
         if !seek(&self.slots, at) {
             return None;
@@ -76,8 +78,8 @@ impl<K: IntKey, X, A: Allocator> Table<K, X, A> {
     }
 
     /// Removes the first pair from the cursor on and returns it, or returns `None` if no pair is
-    /// left. The other pairs keep their order. The cursor then is between those that were before it
-    /// and those that were behind the removed one.
+    /// left, and then leaves the cursor. The other pairs keep their order. Otherwise the cursor is
+    /// between those that were before it and those that were behind the removed one.
     pub fn cut(&mut self, at: &mut Cursor) -> Option<(K, X)>
         requires count { length self.old.walk < 2 ^ 64 }
         ensures first { MatchOption result
@@ -90,7 +92,7 @@ impl<K: IntKey, X, A: Allocator> Table<K, X, A> {
             ≡ take (position K.number_of self.old.walk self.old.capacity at.old) self.old.walk }
         ensures passed { position K.number_of self.new.walk self.new.capacity at.new
             ≡ position K.number_of self.old.walk self.old.capacity at.old }
-        ensures none { IfNone result (self.new ≡ self.old) }
+        ensures none { IfNone result ((self.new ≡ self.old) × (at.new ≡ at.old)) }
         ensures capacity { self.new.capacity ≡ self.old.capacity }
         ensures own { walk_of K.number_of self.new.walk self.new.capacity ≡ self.new.walk }
     {

@@ -147,3 +147,6 @@ impl<'a> Iterator for Indices<'a> {
         }
     }
 }
+
+// Only Rust has what follows. It is tested, not proved.
+pub mod written;

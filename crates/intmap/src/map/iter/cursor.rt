@@ -1,5 +1,5 @@
 //! Walks that are kept as a cursor, and not as an iterator that borrows the map.
-ghost use Rattle.std.specs.Prelude.{◌≡◌, ◌+◌, [], ◌∷◌, cond, drop, is_some, length, take, MatchOption, None};
+ghost use Rattle.std.specs.Prelude.{◌≡◌, ◌+◌, [], ◌∷◌, cond, drop, is_some, length, take, IfNone, MatchOption, None};
 ghost use Rattle.intmap_table.specs.Bindings.{Updates};
 ghost use Rattle.intmap.specs.Map.{IsMap, passed, with_walk};
 
@@ -9,8 +9,8 @@ pub use intmap_table::table::walk::Cursor;
 use std::alloc::Allocator;
 
 impl<K: IntKey, V, A: Allocator + Copy> IntMap<K, V, A> {
-    /// The first pair of the walk from the cursor on, or `None` if no pair is left. The cursor
-    /// moves on behind that pair.
+    /// The first pair of the walk from the cursor on, behind which the cursor moves, or `None` if no
+    /// pair is left. Then the cursor stays.
     ///
     /// A walk begins with [`Cursor::start`]. Any cursor will do, whatever happened to the map since:
     /// it is before the pair at its place of its slot, or else before the slots behind that one. So
@@ -31,6 +31,7 @@ impl<K: IntKey, V, A: Allocator + Copy> IntMap<K, V, A> {
             ≡ (pair.0.now, pair.1.now) ∷ drop (passed K.number_of self.now at.new) self.now.walk) }
         ensures passed { passed K.number_of self.now at.new
             ≡ passed K.number_of self.now at.old + cond (is_some result) 1 0 }
+        ensures stays { IfNone result (at.new ≡ at.old) }
         ensures valid { IsMap K.number_of K.is_valid self.now }
     {
         let Some((key, kept)) = self.table.step(at) else {
@@ -40,9 +41,9 @@ impl<K: IntKey, V, A: Allocator + Copy> IntMap<K, V, A> {
     }
 
     /// Removes the first pair of the walk from the cursor on and returns it, or returns `None` if no
-    /// pair is left. The cursor then is between the pairs that were before it and those that were
-    /// behind the removed one. Both keep their order. As with [`step`](IntMap::step), any cursor will
-    /// do.
+    /// pair is left, and then leaves the cursor. Otherwise the cursor is between the pairs that were
+    /// before it and those that were behind the removed one. Both keep their order. As with
+    /// [`step`](IntMap::step), any cursor will do.
     ///
     /// The other pairs of the slot behind the removed one move up by one place. The capacity, the
     /// load factor and both counts stay, and the slots keep their memory. It allocates nothing and
@@ -63,6 +64,7 @@ impl<K: IntKey, V, A: Allocator + Copy> IntMap<K, V, A> {
         ensures before { take (passed K.number_of self.new at.new) self.new.walk
             ≡ take (passed K.number_of self.old at.old) self.old.walk }
         ensures passed { passed K.number_of self.new at.new ≡ passed K.number_of self.old at.old }
+        ensures stays { IfNone result (at.new ≡ at.old) }
         ensures state { self.new ≡ with_walk self.old self.new.walk }
         ensures updates { MatchOption result (self.new.walk ≡ self.old.walk)
             (λ pair. Updates K.number_of self.old.walk self.new.walk pair.0 None) }

@@ -13,7 +13,6 @@ use std::marker::Model;
 /// a pair, by their numbers.
 #[derive(Drop)]
 pub struct Pairs<'a, K: IntKey, X, A: Allocator> {
-    pub(super) first: Option<&'a (Stored<K>, X)>,
     pub(super) rest: &'a [(Stored<K>, X)],
     pub(super) filled: Indices<'a>,
     pub(super) slots: &'a Slots<K, X, A>,
@@ -22,13 +21,11 @@ pub struct Pairs<'a, K: IntKey, X, A: Allocator> {
 // Invariant: each number that is left is that of a slot.
 impl<'a, K: IntKey, X, A: Allocator> Model for Pairs<'a, K, X, A> {
     ghost use Rattle.std.specs.Prelude.{List, All, ◌<◌, ◌++◌, length};
-    ghost use Rattle.std.specs.Option.{option_copied};
-    ghost use Rattle.intmap_table.specs.Tables.Slots.{all_pairs, rows, pairs_at};
+    ghost use Rattle.intmap_table.specs.Tables.Slots.{rows, pairs_at};
 
     ghost Value = { List (K × X) };
 
-    ghost view = { λ it.
-        all_pairs (option_copied it.first) it.rest.now ++ pairs_at (rows it.slots.now) it.filled };
+    ghost view = { λ it. it.rest.now ++ pairs_at (rows it.slots.now) it.filled };
 
     ghost invariant = { λ it. All (λ index. index < length it.slots.now) it.filled };
 }
@@ -40,11 +37,33 @@ impl<'a, K: IntKey, X, A: Allocator> Clone for Pairs<'a, K, X, A> {
 
     fn clone(&self) -> Result<Pairs<'a, K, X, A>, AllocError> {
         Ok(Pairs {
-            first: self.first,
             rest: self.rest,
             filled: self.filled.clone()?,
             slots: self.slots,
         })
+    }
+}
+
+impl<'a, K: IntKey, X, A: Allocator> Pairs<'a, K, X, A> {
+    /// The next stored pair.
+    #[inline(always)]
+    fn next_pair(&mut self) -> Option<&'a (Stored<K>, X)>
+        ensures { YieldsFirstBy (λ pair. pair.now) (λ rest. rest) self.old result self.new }
+    {
+        loop {
+            if let Some((pair, rest)) = self.rest.split_first() {
+                self.rest = rest;
+                return Some(pair);
+            }
+            let Some(index) = self.filled.next() else {
+                return None;
+            };
+            let (first, rest) = self.slots.parts(index);
+            self.rest = rest;
+            if let Some(pair) = first {
+                return Some(pair);
+            }
+        }
     }
 }
 
@@ -57,18 +76,7 @@ impl<'a, K: IntKey, X, A: Allocator> Iterator for Pairs<'a, K, X, A> {
 
     #[inline]
     fn next(&mut self) -> Option<(&'a K, &'a X)> {
-        loop {
-            if let Some(pair) = self.first.take() {
-                return Some((pair.0.key(), &pair.1));
-            }
-            if let Some((pair, rest)) = self.rest.split_first() {
-                self.rest = rest;
-                return Some((pair.0.key(), &pair.1));
-            }
-            let Some(index) = self.filled.next() else {
-                return None;
-            };
-            (self.first, self.rest) = self.slots.parts(index);
-        }
+        let pair = self.next_pair()?;
+        Some((pair.0.key(), &pair.1))
     }
 }

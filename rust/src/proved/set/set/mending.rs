@@ -18,4 +18,9 @@ impl<K: IntKey, A: Allocator + Copy> IntSet<K, A> {
     pub fn map(&self) -> &IntMap<K, (), A> {
         &self.map
     }
+
+    /// A step of a `drain`: it has the set elsewhere, so that the set can be read between two steps.
+    pub fn drain_step(&mut self, from: &mut usize) -> Option<K> {
+        self.take_front(from)
+    }
 }

@@ -140,10 +140,10 @@ impl<K: IntKey, X, A: Allocator> Slots<K, X, A> {
     #[inline(always)]
     #[allow(clippy::type_complexity)]
     fn parts(&self, index: usize) -> (Option<&(Stored<K>, X)>, &[(Stored<K>, X)]) {
-        if index < self.lone.len() {
-            return (self.lone[index].pair(), &[]);
+        if self.lone.is_empty() {
+            return self.shared[index].parts();
         }
-        self.shared[index].parts()
+        (self.lone[index].pair(), &[])
     }
 
     /// The first slot from an index on that holds a pair.
@@ -156,7 +156,6 @@ impl<K: IntKey, X, A: Allocator> Slots<K, X, A> {
     #[inline(always)]
     pub(in crate::proved::table) fn pairs(&self) -> Pairs<'_, K, X, A> {
         Pairs {
-            first: None,
             rest: &[],
             filled: self.directory.bits.iter(),
             slots: self,

@@ -10,7 +10,6 @@ use crate::memory::alloc::{AllocError, Allocator};
 /// The pairs that are left: those of the current slot, then those of the slots behind it that hold
 /// a pair, by their numbers.
 pub struct Pairs<'a, K: IntKey, X, A: Allocator> {
-    pub(super) first: Option<&'a (Stored<K>, X)>,
     pub(super) rest: &'a [(Stored<K>, X)],
     pub(super) filled: Indices<'a>,
     pub(super) slots: &'a Slots<K, X, A>,
@@ -19,11 +18,31 @@ pub struct Pairs<'a, K: IntKey, X, A: Allocator> {
 impl<'a, K: IntKey, X, A: Allocator> Clone for Pairs<'a, K, X, A> {
     fn clone(&self) -> Result<Pairs<'a, K, X, A>, AllocError> {
         Ok(Pairs {
-            first: self.first,
             rest: self.rest,
             filled: self.filled.clone()?,
             slots: self.slots,
         })
+    }
+}
+
+impl<'a, K: IntKey, X, A: Allocator> Pairs<'a, K, X, A> {
+    /// The next stored pair.
+    #[inline(always)]
+    fn next_pair(&mut self) -> Option<&'a (Stored<K>, X)> {
+        loop {
+            if let Some((pair, rest)) = self.rest.split_first() {
+                self.rest = rest;
+                return Some(pair);
+            }
+            let Some(index) = self.filled.next() else {
+                return None;
+            };
+            let (first, rest) = self.slots.parts(index);
+            self.rest = rest;
+            if let Some(pair) = first {
+                return Some(pair);
+            }
+        }
     }
 }
 
@@ -32,18 +51,7 @@ impl<'a, K: IntKey, X, A: Allocator> Iterator for Pairs<'a, K, X, A> {
 
     #[inline]
     fn next(&mut self) -> Option<(&'a K, &'a X)> {
-        loop {
-            if let Some(pair) = self.first.take() {
-                return Some((pair.0.key(), &pair.1));
-            }
-            if let Some((pair, rest)) = self.rest.split_first() {
-                self.rest = rest;
-                return Some((pair.0.key(), &pair.1));
-            }
-            let Some(index) = self.filled.next() else {
-                return None;
-            };
-            (self.first, self.rest) = self.slots.parts(index);
-        }
+        let pair = self.next_pair()?;
+        Some((pair.0.key(), &pair.1))
     }
 }

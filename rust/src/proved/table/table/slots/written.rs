@@ -3,35 +3,46 @@
 use super::Slots;
 use crate::memory::alloc::Allocator;
 use crate::proved::table::IntKey;
-use crate::proved::table::bits::Indices;
+use crate::proved::table::bits::written::{MarkedMut, take_at};
 use crate::proved::table::lone::Lone;
 use crate::proved::table::slot::Slot;
 use crate::proved::table::table::stored::Stored;
-use core::slice::IterMut;
+use core::mem::take;
+
+/// The slots that are left and hold a pair. All are of one form.
+enum FilledMut<'a, K: IntKey, X, A: Allocator> {
+    Lone(MarkedMut<'a, Lone<K, X>>),
+    Shared(MarkedMut<'a, Slot<K, X, A>>),
+}
 
 /// The pairs that are left: those of the current slot, then those of the filled slots behind
 /// it.
 pub struct PairsMut<'a, K: IntKey, X, A: Allocator> {
-    rest: IterMut<'a, (Stored<K>, X)>,
-    filled: Indices<'a>,
-    lone: IterMut<'a, Lone<K, X>>,
-    shared: IterMut<'a, Slot<K, X, A>>,
-    /// How many slots are no longer in `lone` or `shared`.
-    passed: usize,
+    rest: &'a mut [(Stored<K>, X)],
+    filled: FilledMut<'a, K, X, A>,
 }
 
 impl<'a, K: IntKey, X, A: Allocator> PairsMut<'a, K, X, A> {
-    /// The first pair of a slot. The others of the slot are now those of the current one.
-    #[inline]
-    fn first_of(&mut self, index: usize) -> Option<&'a mut (Stored<K>, X)> {
-        let between = index - self.passed;
-        self.passed = index + 1;
-        if !self.lone.as_slice().is_empty() {
-            return self.lone.nth(between)?.pair_mut();
+    /// The next stored pair.
+    #[inline(always)]
+    fn next_pair(&mut self) -> Option<&'a mut (Stored<K>, X)> {
+        loop {
+            if let [pair, rest @ ..] = take(&mut self.rest) {
+                self.rest = rest;
+                return Some(pair);
+            }
+            let first = match &mut self.filled {
+                FilledMut::Lone(slots) => slots.next()?.pair_mut(),
+                FilledMut::Shared(slots) => {
+                    let (first, rest) = slots.next()?.parts_mut();
+                    self.rest = rest;
+                    first
+                }
+            };
+            if first.is_some() {
+                return first;
+            }
         }
-        let (first, rest) = self.shared.nth(between)?.parts_mut();
-        self.rest = rest.iter_mut();
-        first
     }
 }
 
@@ -40,55 +51,67 @@ impl<'a, K: IntKey, X, A: Allocator> Iterator for PairsMut<'a, K, X, A> {
 
     #[inline(always)]
     fn next(&mut self) -> Option<(&'a K, &'a mut X)> {
-        loop {
-            if let Some((key, value)) = self.rest.next() {
-                return Some((key.key(), value));
-            }
-            let index = self.filled.next()?;
-            if let Some((key, value)) = self.first_of(index) {
-                return Some((key.key(), value));
-            }
-        }
+        let (key, value) = self.next_pair()?;
+        Some((key.key(), value))
     }
 }
 
 /// The values at places in ascending order, by mutable reference.
 pub struct PlacesMut<'a, K: IntKey, X, A: Allocator> {
-    pairs: PairsMut<'a, K, X, A>,
-    /// How many pairs of the current slot are behind.
+    /// The pairs of the current slot that are left.
+    rest: &'a mut [(Stored<K>, X)],
+    lone: &'a mut [Lone<K, X>],
+    shared: &'a mut [Slot<K, X, A>],
+    /// How many slots are no longer in `lone` or `shared`.
+    passed: usize,
+    /// How many pairs of the current slot are no longer in `rest`.
     places: usize,
 }
 
 impl<'a, K: IntKey, X, A: Allocator> PlacesMut<'a, K, X, A> {
     /// The value at a place of a slot that is behind all places of earlier calls.
     pub fn value_at(&mut self, slot: usize, place: usize) -> Option<&'a mut X> {
-        if slot >= self.pairs.passed {
-            let first = self.pairs.first_of(slot);
+        if slot >= self.passed {
+            let between = slot - self.passed;
+            self.passed = slot + 1;
             self.places = 1;
+            let first = if self.lone.is_empty() {
+                let (first, rest) = take_at(&mut self.shared, between).parts_mut();
+                self.rest = rest;
+                first
+            } else {
+                take_at(&mut self.lone, between).pair_mut()
+            };
             if place == 0 {
                 return Some(&mut first?.1);
             }
         }
         let between = place - self.places;
         self.places = place + 1;
-        Some(&mut self.pairs.rest.nth(between)?.1)
+        Some(&mut take_at(&mut self.rest, between).1)
     }
 }
 
 impl<K: IntKey, X, A: Allocator> Slots<K, X, A> {
     /// The values at places in ascending order, by mutable reference.
     pub(in crate::proved::table) fn places_mut(&mut self) -> PlacesMut<'_, K, X, A> {
-        PlacesMut { pairs: self.pairs_mut(), places: 0 }
+        PlacesMut {
+            rest: &mut [],
+            lone: &mut self.lone,
+            shared: &mut self.shared,
+            passed: 0,
+            places: 0,
+        }
     }
 
     /// The pairs, slot after slot, each with a mutable reference to its value.
     pub(in crate::proved::table) fn pairs_mut(&mut self) -> PairsMut<'_, K, X, A> {
-        PairsMut {
-            rest: [].iter_mut(),
-            filled: self.directory.bits.iter(),
-            lone: self.lone.iter_mut(),
-            shared: self.shared.iter_mut(),
-            passed: 0,
-        }
+        let marks = &self.directory.bits;
+        let filled = if self.lone.is_empty() {
+            FilledMut::Shared(marks.pick(&mut self.shared))
+        } else {
+            FilledMut::Lone(marks.pick(&mut self.lone))
+        };
+        PairsMut { rest: &mut [], filled }
     }
 }
