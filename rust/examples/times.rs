@@ -1,4 +1,5 @@
-//! Nanoseconds a key of this map and of std's `HashMap`, with keys and values of 64 bits.
+//! Nanoseconds a key of this map, of std's `HashMap`, and of that with a hasher that multiplies, with keys
+//! and values of 64 bits.
 //!
 //! ```sh
 //! cargo run --offline --release --example times
@@ -10,6 +11,7 @@
 //! that of their insertion. Maps start empty and grow.
 use intmap_proved::IntMap;
 use std::collections::HashMap;
+use std::hash::{BuildHasherDefault, Hasher};
 use std::hint::black_box;
 use std::time::Instant;
 
@@ -31,6 +33,25 @@ const PHASES: [&str; 12] = [
     "remove",
     "drop",
 ];
+
+/// The hash of a number: a product, with its high half folded onto the low one, where std looks for a
+/// place.
+#[derive(Default)]
+struct Multiplying(u64);
+
+impl Hasher for Multiplying {
+    fn write(&mut self, _bytes: &[u8]) {
+        unreachable!("each key is one number");
+    }
+    fn write_u64(&mut self, key: u64) {
+        self.0 = key.wrapping_mul(0x9e37_79b9_7f4a_7c15);
+    }
+    fn finish(&self) -> u64 {
+        self.0 ^ self.0 >> 32
+    }
+}
+
+type Multiplied = HashMap<u64, u64, BuildHasherDefault<Multiplying>>;
 
 /// The keys of a map, in the order of insertion and in another, and keys that are absent.
 struct Keys {
@@ -123,6 +144,7 @@ macro_rules! is_a_map {
 
 is_a_map!(IntMap<u64, u64>,);
 is_a_map!(HashMap<u64, u64>, &);
+is_a_map!(Multiplied, &);
 
 /// The sum of what a call returns at each key.
 fn each(keys: &[u64], mut call: impl FnMut(u64) -> u64) -> u64 {
@@ -151,21 +173,21 @@ fn run<M: Map>(keys: &Keys, times: &mut Times) -> u64 {
 /// Prints the figures of one kind of keys.
 fn compare(size: u64, kind: &str, key_of: fn(u64) -> u64) {
     let keys = Keys::new(size, key_of);
-    let (mut this, mut std) = (Times::new(size), Times::new(size));
+    let [mut this, mut std, mut multiplied] = [(); 3].map(|()| Times::new(size));
     for _ in 0..(KEYS / size).max(4) {
-        let (one, other) =
-            (run::<IntMap<u64, u64>>(&keys, &mut this), run::<HashMap<u64, u64>>(&keys, &mut std));
-        assert_eq!(one, other, "they return the same");
+        let sum = run::<IntMap<u64, u64>>(&keys, &mut this);
+        assert_eq!(sum, run::<HashMap<u64, u64>>(&keys, &mut std), "they return the same");
+        assert_eq!(sum, run::<Multiplied>(&keys, &mut multiplied), "they return the same");
     }
     for (phase, name) in PHASES.iter().enumerate() {
-        let (this, std) = (this.least[phase], std.least[phase]);
-        println!("{size:>9}  {kind:<6}  {name:<15} {this:>8.1} {std:>8.1}");
+        let [this, std, multiplied] = [&this, &std, &multiplied].map(|it| it.least[phase]);
+        println!("{size:>9}  {kind:<6}  {name:<15} {this:>8.1} {std:>8.1} {multiplied:>11.1}");
     }
 }
 
 fn main() {
     let given: Vec<u64> = std::env::args().skip(1).map(|it| it.parse().expect("a size")).collect();
-    println!("{:>9}  {:<6}  {:<15} {:>8} {:>8}", "keys", "kind", "call", "this", "std");
+    println!("     keys  kind    call                this      std multiplying");
     for size in if given.is_empty() { SIZES.to_vec() } else { given } {
         compare(size, "random", scattered);
         compare(size, "dense", |number| number);

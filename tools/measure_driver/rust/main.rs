@@ -1,6 +1,9 @@
-//! The phases of the program beside this one, over maps of Rust. It takes the same arguments, except `own`,
-//! and prints the same lines.
+//! Times the calls of one of several maps of Rust from `u64` to `u64`, one phase after another. It takes the same
+//! arguments as the program beside this one, except `own`, and prints the same lines, and more.
+use std::collections::HashMap;
 use std::env;
+use std::hash::{BuildHasherDefault, Hasher};
+use std::mem;
 use std::time::Instant;
 
 // code that comes first, so that a build with this flag has all other code 16 bytes further on
@@ -11,34 +14,63 @@ std::arch::global_asm!(
     ".text"
 );
 
+/// A hasher that multiplies. std chooses a place by a hash's low bits, on which only a key's low bits would bear, so
+/// the high ones go there too.
+#[derive(Default)]
+struct Multiplying(u64);
+
+impl Hasher for Multiplying {
+    fn write(&mut self, _bytes: &[u8]) {
+        unreachable!("all keys are u64");
+    }
+
+    fn write_u64(&mut self, key: u64) {
+        self.0 = key.wrapping_mul(0x9e37_79b9_7f4a_7c15);
+    }
+
+    fn finish(&self) -> u64 {
+        self.0 ^ self.0 >> 32
+    }
+}
+
+type Multiplied = HashMap<u64, u64, BuildHasherDefault<Multiplying>>;
+
 /// The calls that the phases make.
-trait Map {
-    fn empty() -> Self;
+trait Map: Extend<(u64, u64)> + FromIterator<(u64, u64)> + Default + Clone + PartialEq {
     fn sized(count: usize) -> Self;
     fn put(&mut self, key: u64, value: u64) -> Option<u64>;
     fn find(&self, key: u64) -> Option<u64>;
+    fn count(&mut self, key: u64);
     fn take(&mut self, key: u64) -> Option<u64>;
     fn walk(&self) -> u64;
+    fn sum_keys(&self) -> u64;
+    fn sum_values(&self) -> u64;
+    fn flip(&mut self);
+    fn flip_values(&mut self);
     fn list(&self) -> Vec<u64>;
-    fn copied(&self) -> Self;
     fn keep_odd(&mut self);
     fn wipe(&mut self);
     fn drained(&mut self) -> u64;
     fn taken(self) -> u64;
 }
 
-/// The impl of a map, and whether its look-ups take a reference.
-macro_rules! is_map {
-    ($map:ty, [$($by:tt)?]) => {
-        impl Map for $map {
-            fn empty() -> Self {
-                <$map>::default()
-            }
+/// The sum of what is made of each item.
+macro_rules! sum {
+    ($items:expr, $item:pat => $made:expr) => {{
+        let mut sum = 0u64;
+        for $item in $items {
+            sum = sum.wrapping_add($made);
+        }
+        sum
+    }};
+}
 
-            fn sized(count: usize) -> Self {
-                let mut map = <$map>::default();
-                map.reserve(count);
-                map
+/// The impl of a map, how one with room is made, how an entry gives its value, and whether look-ups take a reference.
+macro_rules! is_map {
+    ($map:ty, $count:ident => $sized:expr, $entry:ident => $value:expr, [$($by:tt)?]) => {
+        impl Map for $map {
+            fn sized($count: usize) -> Self {
+                $sized
             }
 
             #[inline]
@@ -52,21 +84,43 @@ macro_rules! is_map {
             }
 
             #[inline]
+            fn count(&mut self, key: u64) {
+                let $entry = self.entry(key);
+                let value: &mut u64 = $value;
+                *value = value.wrapping_add(1);
+            }
+
+            #[inline]
             fn take(&mut self, key: u64) -> Option<u64> {
                 self.remove($($by)? key)
             }
 
             fn walk(&self) -> u64 {
-                let differing = self.iter().map(|(key, value)| key ^ value);
-                differing.fold(0, u64::wrapping_add)
+                sum!(self.iter(), (key, value) => key ^ value)
+            }
+
+            fn sum_keys(&self) -> u64 {
+                sum!(self.keys(), key => *key)
+            }
+
+            fn sum_values(&self) -> u64 {
+                sum!(self.values(), value => *value)
+            }
+
+            fn flip(&mut self) {
+                for (_, value) in self.iter_mut() {
+                    *value ^= 1;
+                }
+            }
+
+            fn flip_values(&mut self) {
+                for value in self.values_mut() {
+                    *value ^= 1;
+                }
             }
 
             fn list(&self) -> Vec<u64> {
                 self.iter().map(|(key, _)| *key).collect()
-            }
-
-            fn copied(&self) -> Self {
-                self.clone()
             }
 
             fn keep_odd(&mut self) {
@@ -78,24 +132,52 @@ macro_rules! is_map {
             }
 
             fn drained(&mut self) -> u64 {
-                let differing = self.drain().map(|(key, value)| key ^ value);
-                differing.fold(0, u64::wrapping_add)
+                sum!(self.drain(), (key, value) => key ^ value)
             }
 
             fn taken(self) -> u64 {
-                let differing = self.into_iter().map(|(key, value)| key ^ value);
-                differing.fold(0, u64::wrapping_add)
+                sum!(self, (key, value) => key ^ value)
             }
         }
     };
 }
 
-is_map!(std::collections::HashMap<u64, u64>, [&]);
-is_map!(intmap_proved::IntMap<u64, u64>, []);
+is_map!(
+    HashMap<u64, u64>,
+    count => HashMap::with_capacity(count),
+    entry => entry.or_insert(0),
+    [&]
+);
+is_map!(
+    Multiplied,
+    count => HashMap::with_capacity_and_hasher(count, Default::default()),
+    entry => entry.or_insert(0),
+    [&]
+);
+is_map!(
+    intmap_proved::IntMap<u64, u64>,
+    count => intmap_proved::IntMap::with_room_for(count),
+    entry => entry.or_insert(0),
+    []
+);
 #[cfg(feature = "hashbrown")]
-is_map!(hashbrown::HashMap<u64, u64>, [&]);
+is_map!(
+    hashbrown::HashMap<u64, u64>,
+    count => hashbrown::HashMap::with_capacity(count),
+    entry => entry.or_insert(0),
+    [&]
+);
+// it makes room for slots, of which it fills at most 909 of 1,000
 #[cfg(feature = "intmap")]
-is_map!(intmap::IntMap<u64>, []);
+is_map!(
+    intmap::IntMap<u64>,
+    count => intmap::IntMap::with_capacity(count + count / 10 + 1),
+    entry => match entry {
+        intmap::Entry::Occupied(it) => it.into_mut(),
+        intmap::Entry::Vacant(it) => it.insert(0),
+    },
+    []
+);
 
 /// The key of a kind at this place.
 fn key_at(kind: &str, place: u64) -> u64 {
@@ -120,67 +202,44 @@ fn mixed(number: u64) -> u64 {
 /// Binds each key to one more. Sums the values before.
 #[inline(never)]
 fn put<M: Map>(map: &mut M, keys: &[u64]) -> u64 {
-    let mut sum = 0u64;
-    for key in keys {
-        sum = sum.wrapping_add(map.put(*key, key.wrapping_add(1)).unwrap_or(0));
-    }
-    sum
+    sum!(keys, key => map.put(*key, key.wrapping_add(1)).unwrap_or(0))
 }
 
 /// Looks each key up. Sums the values.
 #[inline(never)]
 fn find<M: Map>(map: &M, keys: &[u64]) -> u64 {
-    let mut sum = 0u64;
-    for key in keys {
-        sum = sum.wrapping_add(map.find(*key).unwrap_or(0));
-    }
-    sum
+    sum!(keys, key => map.find(*key).unwrap_or(0))
 }
 
-/// Goes over all pairs.
+/// Adds one to the value of each key.
 #[inline(never)]
-fn walk<M: Map>(map: &M) -> u64 {
-    map.walk()
+fn count<M: Map>(map: &mut M, keys: &[u64]) -> u64 {
+    for key in keys {
+        map.count(*key);
+    }
+    0
 }
 
 /// Removes each key. Sums the values.
 #[inline(never)]
 fn take<M: Map>(map: &mut M, keys: &[u64]) -> u64 {
-    let mut sum = 0u64;
-    for key in keys {
-        sum = sum.wrapping_add(map.take(*key).unwrap_or(0));
-    }
-    sum
+    sum!(keys, key => map.take(*key).unwrap_or(0))
 }
 
-/// A second map with the same pairs.
+/// A map that begins empty and gets all pairs by `extend`.
 #[inline(never)]
-fn copy<M: Map>(map: &M) -> M {
-    map.copied()
+fn extended<M: Map>(pairs: &[(u64, u64)]) -> M {
+    let mut map = M::default();
+    map.extend(pairs.iter().copied());
+    map
 }
 
-/// Keeps the pairs with an odd value.
+/// A map with room that gets all keys one by one.
 #[inline(never)]
-fn keep_odd<M: Map>(map: &mut M) {
-    map.keep_odd();
-}
-
-/// Removes all pairs.
-#[inline(never)]
-fn wipe<M: Map>(map: &mut M) {
-    map.wipe();
-}
-
-/// Removes all pairs by `drain`.
-#[inline(never)]
-fn drain<M: Map>(map: &mut M) -> u64 {
-    map.drained()
-}
-
-/// Takes all pairs by value.
-#[inline(never)]
-fn take_all<M: Map>(map: M) -> u64 {
-    map.taken()
+fn filled<M: Map>(keys: &[u64]) -> M {
+    let mut map = M::sized(keys.len());
+    put(&mut map, keys);
+    map
 }
 
 /// Times a phase, and prints its line.
@@ -190,46 +249,88 @@ fn phase(name: &str, work: impl FnOnce() -> u64) {
     println!("{name} {} {sum}", start.elapsed().as_nanos());
 }
 
-/// Goes through all phases once, with a map of its own.
-fn all<M: Map>(keys: &[u64], others: &[u64], only_fills: bool) {
-    let mut map = M::empty();
-    phase("insert", || put(&mut map, keys));
-    if only_fills {
-        return;
-    }
-    phase("hit", || find(&map, keys));
-    phase("miss", || find(&map, others));
-    phase("walk", || walk(&map));
-    phase("over", || put(&mut map, keys));
-    phase("remove", || take(&mut map, keys));
-    phase("again", || put(&mut map, keys));
+/// Times a phase that makes a map, and returns that.
+fn made<M>(name: &str, work: impl FnOnce() -> M) -> M {
+    let start = Instant::now();
+    let map = work();
+    println!("{name} {} 0", start.elapsed().as_nanos());
+    map
+}
+
+/// The phases that leave the keys of a map.
+fn keeping<M: Map>(map: &mut M, keys: &[u64], others: &[u64]) {
+    phase("hit", || find(map, keys));
+    phase("miss", || find(map, others));
+    phase("walk", || map.walk());
+    phase("keys", || map.sum_keys());
+    phase("values", || map.sum_values());
+    phase("entry", || count(map, keys));
+    phase("over", || put(map, keys));
+    phase("remove", || take(map, keys));
+    phase("again", || put(map, keys));
     let order = map.list();
-    phase("remove_walk", || take(&mut map, &order));
-    put(&mut map, keys);
-    let mut twin = M::empty();
-    phase("clone", || {
-        twin = copy(&map);
+    phase("remove_walk", || take(map, &order));
+    put(map, keys);
+}
+
+/// The phases of all pairs at once, on a twin.
+fn whole<M: Map>(map: &M, keys: &[u64]) {
+    let mut twin = made("clone", || map.clone());
+    phase("eq", || (*map == twin).into());
+    phase("iter_mut", || {
+        twin.flip();
+        0
+    });
+    phase("values_mut", || {
+        twin.flip_values();
         0
     });
     phase("retain", || {
-        keep_odd(&mut twin);
+        twin.keep_odd();
         0
     });
+    twin.wipe();
     put(&mut twin, keys);
     phase("clear", || {
-        wipe(&mut twin);
+        twin.wipe();
         0
     });
     put(&mut twin, keys);
-    phase("drain", || drain(&mut twin));
+    phase("drain", || twin.drained());
     put(&mut twin, keys);
-    phase("into_iter", || take_all(twin));
-    let mut sized = M::sized(keys.len());
-    phase("sized", || put(&mut sized, keys));
+    phase("into_iter", || twin.taken());
+}
+
+/// Goes through all phases once, with maps of its own.
+fn all<M: Map>(keys: &[u64], others: &[u64], pairs: &[(u64, u64)]) {
+    let mut map = M::default();
+    phase("insert", || put(&mut map, keys));
+    keeping(&mut map, keys, others);
+    whole(&map, keys);
+    made("sized", || filled::<M>(keys));
+    made("extend", || extended::<M>(pairs));
+    made("collect", || pairs.iter().copied().collect::<M>());
     phase("drop", || {
         drop(map);
         0
     });
+}
+
+/// Fills a map, and keeps it until the program ends.
+fn fill<M: Map>(keys: &[u64]) {
+    let mut map = M::default();
+    put(&mut map, keys);
+    mem::forget(map);
+}
+
+fn go_through<M: Map>(kind: &str, count: u64, times: u64, only_fills: bool) {
+    let keys: Vec<u64> = (0..count).map(|at| key_at(kind, at)).collect();
+    if only_fills {
+        return (0..times).for_each(|_| fill::<M>(&keys));
+    }
+    let others: Vec<u64> = (count..2 * count).map(|at| key_at(kind, at)).collect();
+    let pairs: Vec<_> = keys.iter().map(|key| (*key, key.wrapping_add(1))).collect();
+    (0..times).for_each(|_| all::<M>(&keys, &others, &pairs));
 }
 
 fn main() {
@@ -237,19 +338,20 @@ fn main() {
     let [map, kind, count, times, rest @ ..] = words.as_slice() else {
         panic!("arguments: MAP random|spread|dense|shared COUNT TIMES [fill]");
     };
-    let (count, times): (u64, u64) = (count.parse().unwrap(), times.parse().unwrap());
-    let keys: Vec<u64> = (0..count).map(|at| key_at(kind, at)).collect();
-    let others: Vec<u64> = (count..2 * count).map(|at| key_at(kind, at)).collect();
-    let all = match map.as_str() {
-        "std" => all::<std::collections::HashMap<u64, u64>>,
-        "proved" => all::<intmap_proved::IntMap<u64, u64>>,
+    let go = match map.as_str() {
+        "std" => go_through::<HashMap<u64, u64>>,
+        "multiplied" => go_through::<Multiplied>,
+        "proved" => go_through::<intmap_proved::IntMap<u64, u64>>,
         #[cfg(feature = "hashbrown")]
-        "hashbrown" => all::<hashbrown::HashMap<u64, u64>>,
+        "hashbrown" => go_through::<hashbrown::HashMap<u64, u64>>,
         #[cfg(feature = "intmap")]
-        "original" => all::<intmap::IntMap<u64>>,
+        "original" => go_through::<intmap::IntMap<u64>>,
         _ => panic!("no such map: {map}"),
     };
-    for _ in 0..times {
-        all(&keys, &others, !rest.is_empty());
-    }
+    go(
+        kind,
+        count.parse().unwrap(),
+        times.parse().unwrap(),
+        !rest.is_empty(),
+    );
 }
