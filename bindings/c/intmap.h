@@ -40,16 +40,16 @@
 // the last use of its address. A map may be used in one thread and then in another. Different maps
 // are independent.
 //
-// WHEN A CALL FAILS. Its status is negative, and the map is as it was:
+// WHEN A CALL FAILS. Its status is negative, and the map is as it was. But it may keep memory that
+// it was granted before the refusal, of which a second try makes use.
 //
 // - INTMAP_NO_MEMORY: malloc or realloc returned NULL.
 // - INTMAP_TOO_LARGE: the map would have more than 2^63 slots or 2^64 - 1 pairs.
 //
 // THE FIRST CALL. INTMAP_INIT is a map of 4 slots without pairs, with a load factor of 909
 // thousandths, that has no memory yet. The first call that inserts a key, makes room or sets the
-// load factor requests it. If that is refused, the call returns INTMAP_TOO_LARGE where it says so,
-// and else INTMAP_NO_MEMORY, also where it says that it never does. intmap_with_capacity requests
-// it in advance.
+// load factor requests it. If that is refused, the call fails. intmap_with_capacity requests it in
+// advance.
 //
 // ORDER. The pairs lie in slots, whose number is a power of two. The walk is the order of the
 // pairs: slot after slot, and each slot from front to back. It depends only on the calls that were
@@ -85,12 +85,14 @@
 // word; with a null address of a word; with one map as both of intmap_clone; and two calls on one
 // map at once of which one changes it, in two threads, by a signal handler, by malloc, or since a
 // jump left the first. It doesn't notice a copy as long as its map lives, calls that might meet but
-// don't, two first calls on one word, or what a cursor or an array breaks. A call on a word that
-// intmap_free has left is no mistake: it is an empty map.
+// don't, two first calls on one word, an address of intmap_at that is used too late, or what a
+// cursor or an array breaks. A call on a word that intmap_free has left is no mistake: it is an
+// empty map.
 //
-// All files that have maps must be compiled so, by gcc or clang. Each map takes 24 bytes more, which
-// stay in use, and the call that makes it may fail for want of them. Else calls answer as without. A
-// map that is lost isn't reported by a tool that looks for leaks.
+// All files that have maps must be compiled so, by gcc or clang. No installed library has it, so
+// compile intmap_debug.c beside them. Each map takes 24 bytes more, which stay in use, and the call
+// that makes it may fail for want of them. Else calls answer as without. A map that is lost isn't
+// reported by a tool that looks for leaks.
 #ifndef INTMAP_H
 #define INTMAP_H
 
@@ -191,8 +193,8 @@ typedef struct intmap_pair {
     uint64_t value;
 } intmap_pair;
 
-// A place of a walk: before the pair at this place of this slot or, if there is none, before the
-// pairs of the slots behind it. Any two numbers are a place of every walk.
+// How far a walk has come. It goes on at this place of this slot or, if there is no pair, at the
+// next slot that has one. Any two numbers will do.
 typedef struct intmap_cursor {
     size_t slot;
     size_t place;
@@ -248,10 +250,11 @@ INTMAP_NONNULL static inline uint64_t intmap_get_or(const intmap *map, uint64_t 
 // Returns whether the key is present.
 INTMAP_NONNULL bool intmap_contains_key(const intmap *map, uint64_t key) INTMAP_CALL;
 
-// Puts the pair at the end of its slot. It returns INTMAP_PRESENT with the value before, in whose
-// place the last pair of the slot moves; or INTMAP_ABSENT if the key was absent. If a new key makes
-// the pairs exceed the load factor, the slots are doubled until they don't. That is checked if the
-// pairs, with the new one, are 4 to 7, 12 to 15, 20 to 23, and so on.
+// Inserts the pair, or gives a present key this value. It returns INTMAP_PRESENT with the value
+// before, or INTMAP_ABSENT if the key was absent. The pair is then the last of its slot. Where the
+// key was present, the pair that was the last takes the old place. If a new key makes the pairs
+// exceed the load factor, the slots are doubled until they don't. That is checked if the pairs,
+// with the new one, are 4 to 7, 12 to 15, 20 to 23, and so on.
 //
 // For a present key it never fails, and requests no memory. For an absent key it returns
 // INTMAP_TOO_LARGE exactly if there are 2^64 - 1 pairs or growth needs more than 2^63 slots, and
@@ -327,24 +330,25 @@ INTMAP_NONNULL size_t intmap_filled_slots(const intmap *map) INTMAP_CALL;
 // Makes the number of slots at least the least power of two that is no less than the number of
 // pairs plus `additional`. It ignores the load factor, so the map may still grow before it has that
 // many pairs: intmap_reserve_pairs makes room for them. It returns INTMAP_OK; INTMAP_TOO_LARGE
-// exactly if the pairs and `additional` are above 2^63; or INTMAP_NO_MEMORY, but never if there are
-// enough slots already.
+// exactly if the pairs and `additional` are above 2^63; or INTMAP_NO_MEMORY, but never if the map
+// has memory, and slots enough.
 INTMAP_NONNULL INTMAP_MUST_USE intmap_status intmap_reserve(intmap *map, size_t additional)
     INTMAP_CALL;
 
 // Sets the load factor, in thousandths. A number of slots meets it if 1000 * pairs / slots, rounded
 // down, is no more. The number of slots becomes the least of itself and its doublings that meets
 // it: with a factor of 0, more than 1000 slots a pair. It returns INTMAP_OK; INTMAP_TOO_LARGE
-// exactly if no number up to 2^63 meets it; or INTMAP_NO_MEMORY, but never if the present number
-// meets it. If it fails, the load factor stays.
+// exactly if no number up to 2^63 meets it; or INTMAP_NO_MEMORY, but never if the map has memory,
+// and its slots meet it. If it fails, the load factor stays.
 INTMAP_NONNULL INTMAP_MUST_USE intmap_status intmap_set_load_factor(intmap *map, size_t thousandths)
     INTMAP_CALL;
 
 // Makes room for `more` pairs more: the number of slots becomes the least of itself and its
 // doublings that meets the load factor with them. Insertions of so many new keys then add no slots,
-// while the load factor stays. A load factor above 10^16 counts as 10^16. It returns INTMAP_OK;
-// INTMAP_TOO_LARGE exactly if no number up to 2^63 meets it or there would be more than 2^64 - 1
-// pairs; or INTMAP_NO_MEMORY, but never if the present number meets it.
+// while the load factor stays. But one into a slot that holds a pair may request memory, and fail.
+// A load factor above 10^16 counts as 10^16. It returns INTMAP_OK; INTMAP_TOO_LARGE exactly if no
+// number up to 2^63 meets it or there would be more than 2^64 - 1 pairs; or INTMAP_NO_MEMORY, but
+// never if the map has memory, and its slots meet it.
 INTMAP_NONNULL INTMAP_MUST_USE static inline intmap_status intmap_reserve_pairs(intmap *map,
                                                                                 size_t more)
     INTMAP_CALL {

@@ -1,8 +1,8 @@
 //! The macro that declares types of keys, and what it scrambles their numbers by.
 
-/// Declares structs of one field, a key, that are keys themselves. Each derives `Clone`, `Copy`,
-/// `PartialEq` and `Eq`; what else it derives stands above it. A key has the number of its field,
-/// so equal numbers are of equal keys.
+/// Declares structs of one field, a key, that are keys themselves. Each has `Clone`, `Copy`,
+/// `PartialEq` and `Eq`, so don't derive these yourself. Derive others above it, such as `Debug`. A
+/// key has the number of its field, so equal numbers are of equal keys.
 ///
 /// # Examples
 ///

@@ -44,8 +44,9 @@
 //! With the feature `check`, off by default, each call runs beside its contract: on a plain list of
 //! the numbers of the keys, in iteration order. The call panics unless the map then has the pairs,
 //! the order, the capacity and the load factor that are due, and unless the answer or the failure
-//! is due. So it finds a type of keys whose numbers change or are shared, and a fault in the proved
-//! text as Rust compiles it, in `memory` or in a call by hand. It is there in each profile.
+//! is due. So it finds a type of keys whose numbers change, or are shared by a key that is looked up,
+//! and a fault in the proved text as Rust compiles it, in `memory` or in a call by hand. It is there
+//! in each profile.
 //!
 //! Values aren't compared, since they need no `==`; a returned reference has to be that of the key's
 //! value. So of [`IntMap::into_values`] only the number of items is checked. Where maps are compared

@@ -241,6 +241,7 @@ impl<K: IntKey, V> IntMap<K, V> {
     /// let mut map = intmap_proved::IntMap::from([(21u64, 1)]);
     /// map.get_disjoint_mut([21, 21]);
     /// ```
+    #[track_caller]
     pub fn get_disjoint_mut<const N: usize>(&mut self, keys: [K; N]) -> [Option<&mut V>; N] {
         #[cfg(feature = "check")]
         let found = self.map.get_disjoint_mut(keys).map(|it| it.map(|it| it as *const V));

@@ -21,7 +21,7 @@ pub use crate::proved::map::Cause;
 /// What a failed insertion into a map returns.
 ///
 /// By `?` it becomes a `Box<dyn Error>` only if the value is `Debug` and borrows nothing. For other
-/// values write `.map_err(Cause::from)?`.
+/// values, and for a type of errors of yours, write `.map_err(Cause::from)?`.
 ///
 /// # Examples
 ///

@@ -4,6 +4,9 @@ use super::{List, due, is_checked};
 use crate::IntKey;
 use crate::proved::map::{Cause, IntMap, Refused};
 
+/// No two keys have one number.
+const SAME: &str = "whether the key with this number is the one sought";
+
 /// A new map of so many slots.
 pub(crate) fn made<K: IntKey, V>(call: &str, capacity: usize, map: &IntMap<K, V>) {
     List::empty(capacity, FIRST_FACTOR).is_shown_by(call, map);
@@ -40,13 +43,13 @@ pub(crate) fn find<K: IntKey, V>(call: &str, map: &IntMap<K, V>, key: K, found: 
     }
     let number = key.number();
     let pair = map.iter().find(|(key, _)| key.number() == number);
+    due(call, SAME, pair.is_none_or(|(it, _)| *it == key), true);
     due(call, "the reference", found, pair.map(|(_, value)| value as *const V));
 }
 
 /// A look-up that returns a reference to a key: it equals the given one.
 fn find_key<K: IntKey>(call: &str, key: K, found: Option<&K>) {
-    let is_key = found.is_none_or(|it| it.number() == key.number());
-    due(call, "whether it has the key", is_key, true);
+    due(call, SAME, found.is_none_or(|it| *it == key), true);
 }
 
 /// A look-up that also returns a reference to the key.
@@ -84,8 +87,9 @@ pub(crate) fn contains<K: IntKey, V>(map: &IntMap<K, V>, key: K, found: bool) {
         return;
     }
     let number = key.number();
-    let is_present = map.iter().any(|(key, _)| key.number() == number);
-    due("a look-up", "whether the key is present", found, is_present);
+    let member = map.keys().find(|key| key.number() == number);
+    due("a look-up", SAME, member.is_none_or(|it| *it == key), true);
+    due("a look-up", "whether the key is present", found, member.is_some());
 }
 
 /// An entry: it is occupied exactly if the key is present, and the map stays.

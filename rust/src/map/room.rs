@@ -10,9 +10,11 @@ impl<K: IntKey, V> IntMap<K, V> {
     /// Returns an empty map with room for so many pairs: the capacity is the least power of two in
     /// which they meet the load factor of a new map, 0.909.
     ///
-    /// Insertions of so many keys then add no slots. Keys that share a slot still allocate. A failed
-    /// allocation is handled as std does; [`try_with_room_for`](IntMap::try_with_room_for) returns
-    /// it. The cost is *O*(*c*).
+    /// Insertions of so many keys then add no slots. Keys that share a slot still allocate. Its slots
+    /// take twice the memory of those that insertions of dense keys add to a new map.
+    ///
+    /// A failed allocation is handled as std does; [`try_with_room_for`](IntMap::try_with_room_for)
+    /// returns it. The cost is *O*(*c*).
     ///
     /// # Panics
     ///
@@ -69,6 +71,7 @@ impl<K: IntKey, V> IntMap<K, V> {
     ///
     /// Insertions of so many new keys then add no slots. Keys that share a slot still allocate. With
     /// a load factor above 1, a map that has too few slots gets one for each present pair at least.
+    /// The slots of an empty map take twice the memory of those that insertions of dense keys add.
     ///
     /// A failed allocation is handled as std does;
     /// [`try_reserve_pairs`](IntMap::try_reserve_pairs) returns it. The cost is *O*(*n* + *c*), or

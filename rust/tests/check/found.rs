@@ -1,4 +1,4 @@
-//! What a check finds in a program: a type of keys whose numbers change.
+//! What a check finds in a program: a type of keys whose numbers change, or are shared.
 use intmap_proved::{IntKey, IntMap, IntSet};
 use std::cell::Cell;
 use std::panic::{AssertUnwindSafe, catch_unwind};
@@ -34,6 +34,26 @@ fn numbers_that_change_are_found() {
     is_stopped(|| map.retain(|_, _| true));
     is_stopped(|| _ = set.insert(Restless(30)));
     assert!(map.insert(Restless(30), 7).is_none() && set.insert(Restless(30)), "numbers of before");
+}
+
+#[derive(Clone, Copy, PartialEq, Eq)]
+struct Halved(u64);
+
+impl IntKey for Halved {
+    fn number(&self) -> u64 {
+        self.0 / 2
+    }
+}
+
+#[test]
+fn a_number_that_two_keys_share_is_found() {
+    let map = IntMap::from([(Halved(3), 7)]);
+    let set = IntSet::from([Halved(3)]);
+    assert_eq!((map.get(Halved(3)), set.contains(Halved(3))), (Some(&7), true));
+    is_stopped(|| _ = map.get(Halved(2)));
+    is_stopped(|| _ = map.get_key_value(Halved(2)));
+    is_stopped(|| _ = map.contains_key(Halved(2)));
+    is_stopped(|| _ = set.get(Halved(2)));
 }
 
 #[test]

@@ -33,6 +33,7 @@ impl<K: IntKey, V, A: Allocator + Copy> IntMap<K, V, A> {
     }
 
     /// The values of these keys, by mutable reference. It panics if two keys have one pair.
+    #[track_caller]
     pub fn get_disjoint_mut<const N: usize>(&mut self, keys: [K; N]) -> [Option<&mut V>; N] {
         let places = keys.map(|key| self.locate(key).ok().map(|at| (at.slot, at.place)));
         let mut order: [usize; N] = from_fn(|number| number);
