@@ -192,6 +192,13 @@ def table(folder):
     return "\n".join([" | ".join(["Type", *KINDS]), RULE, *(f"{', '.join(of)} | {it}" for it, of in rows.items()), ""])
 
 
+def page(folder):
+    """The crate's README with the table of its public calls, which stands where a table with its first line was."""
+    made = table(folder)
+    first = made.split("\n")[0]
+    return re.sub(rf"^{re.escape(first)}\n(.+\n)*", lambda _: made, text_of(f"{folder}/{PAGE}"), count=1, flags=re.M)
+
+
 def proved_calls():
     """The public calls of the proved map and set, each with its source: `Type::name`."""
     for crate in CRATES:
@@ -228,4 +235,4 @@ def faults(folder):
     """What is wrong with the public calls of the crate in a folder, each as a line."""
     yield from unwrapped(folder)
     if table(folder) not in text_of(f"{folder}/{PAGE}"):
-        yield f"rust/{PAGE} doesn't have the table that `tools/erase --calls` prints"
+        yield f"rust/{PAGE} doesn't have the table of public calls that tools/erase writes"

@@ -77,6 +77,24 @@ pub fn open_account<K: IntKey, A: Allocator + Copy>(
     Ok(accounts.insert_checked(account, balance)?)
 }
 
+/// Opens an account that isn't there yet. The sum of all balances rises by its own.
+///
+/// It fails if the insertion fails. Every balance then stays.
+pub fn add_account<K: IntKey, A: Allocator + Copy>(
+    accounts: &mut IntMap<K, u64, A>,
+    account: K,
+    balance: u64,
+) -> Result<(), Cause>
+    requires { value_of K.number_of accounts.old.walk account ≡ None }
+    ensures total { OnOk result
+        (sum (values_of accounts.new.walk) ≡ sum (values_of accounts.old.walk) + balance) }
+    ensures err { OnErr result (accounts.new.walk ≡ accounts.old.walk) }
+{
+    laws::new_keys_raise_sum::<K>();
+    accounts.insert(account, balance)?;
+    Ok(())
+}
+
 /// Closes an account, and returns its balance, or `None` if there was none. Every other account
 /// keeps its balance. The sum of all balances falls by what it returns. It never fails.
 pub fn close_account<K: IntKey, A: Allocator + Copy>(

@@ -1,9 +1,10 @@
 //! The sum of all values, and the greatest.
-ghost use Rattle.std.specs.Prelude.{◌≡◌, ◌^◌, ◌≤◌, None, IfSome, [], All, Contains};
+ghost use Rattle.std.specs.Prelude.{◌≡◌, ◌^◌, ◌<◌, ◌≤◌, ℕ, None, Some, IfSome, [], All, Contains};
 ghost use Rattle.std.specs.List.{sum};
 ghost use Rattle.std.specs.Map.{values_of};
+ghost use Rattle.intmap.specs.Bindings.{value_of};
 
-use intmap::{IntKey, IntMap};
+use intmap::{IntKey, IntMap, laws};
 use std::alloc::Allocator;
 
 /// The sum of all values. It is `None` exactly if the sum is above 2^64 - 1.
@@ -23,8 +24,12 @@ pub fn total<K: IntKey, A: Allocator + Copy>(map: &IntMap<K, u64, A>) -> Option<
 pub fn greatest<A: Allocator + Copy>(map: &IntMap<u64, u64, A>) -> Option<(u64, u64)>
     ensures present { IfSome result (λ pair. Contains map.now.walk pair) }
     ensures greatest { IfSome result (λ greatest. All (λ pair. pair.1 ≤ greatest.1) map.now.walk) }
+    ensures value { IfSome result (λ pair. value_of (λ k. k) map.now.walk pair.0 ≡ Some pair.1) }
+    ensures values { IfSome result (λ greatest. (q v : ℕ) → q < 2 ^ 64
+        → value_of (λ k. k) map.now.walk q ≡ Some v → v ≤ greatest.1) }
     ensures none { result ≡ None → map.now.walk ≡ [] }
 {
+    laws::pairs_are_values::<u64, u64>();
     let (key, value) = map.iter().max_by_key(|(_, value)| **value)?;
     Some((*key, *value))
 }

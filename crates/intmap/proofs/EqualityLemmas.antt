@@ -63,7 +63,7 @@ module _ {K V : Type 0} (number : K → ℕ) where
           absurd (grind (arith, common_steps, longer, more, none, same))
 
   -- each pair is found
-  All-found : (L : List (K × V)) → HasDistinctKeys number L → All (λ p. value_of number L p.0 ≡ Some p.1) L
+  pub All-found : (L : List (K × V)) → HasDistinctKeys number L → All (λ p. value_of number L p.0 ≡ Some p.1) L
   All-found [] once = All-nil (λ p. value_of number [] p.0 ≡ Some p.1)
   All-found (p ∷ L) once =
       let rest = All-found L (HasDistinctKeys-tail number p L once) in

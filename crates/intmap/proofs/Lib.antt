@@ -17,6 +17,7 @@ pub mod EntryLemmas
 pub mod ExtendLemmas
 pub mod LoadFactorLemmas
 pub mod EqualityLemmas
+pub mod ContainsLemmas
 pub mod StrikeLemmas
 pub mod AfterLemmas
 pub mod HandingOverLemmas

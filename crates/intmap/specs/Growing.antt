@@ -30,7 +30,7 @@ pub record MayRefuseFactor (C n F : ℕ) (cause : Cause) : Type 0 where
   pub memory : cause ≡ Memory → IsWanted C n F C → ⊥
 
 module _ {K V : Type 0} (number : K → ℕ) where
-  -- a reservation of room for so many further pairs took the map m to n: the same pairs, in slots that are enough
+  -- a reservation of room for so many further pairs took the map m to n: the same pairs, in slots that are enough for all of them
   pub record IsReservation (m : MapState K V) (additional : ℕ) (n : MapState K V) : Type 0 where
     pub enough : IsEnough m.capacity (length m.walk + additional) n.capacity
     pub state : n ≡ in_slots number m n.capacity

@@ -3,7 +3,7 @@
 //!
 //! A call such as `laws::small_keys_are_found_at_once::<u64, V>();` adds its law to the proof of
 //! the function that contains the call.
-ghost use Rattle.std.specs.Prelude.{◌≡◌, ◌+◌, ◌^◌, ◌<◌, ◌≤◌, ◌↔◌, ℕ, List, ◌∷◌, ◌++◌, Option, All, IsTrue, cond, is_none, is_some, length, sum, unwrap_or, Some, None, false};
+ghost use Rattle.std.specs.Prelude.{◌≡◌, ◌+◌, ◌^◌, ◌<◌, ◌≤◌, ◌↔◌, ℕ, List, ◌∷◌, ◌++◌, Option, All, IsTrue, Contains, cond, is_none, is_some, length, sum, unwrap_or, Some, None, false};
 ghost use Rattle.std.specs.Map.{values_of};
 ghost use Rattle.intmap_table.specs.Classes.{IsCapacity};
 ghost use Rattle.intmap_table.specs.Bindings.{value_of, IsPresent, take_key, put_pair, write_value, HasDistinctKeys, Updates, BindSame};
@@ -75,6 +75,12 @@ pub fn insertion_lengthens<K: IntKey, V>()
         ≡ length L + cond (is_some (value_of K.number_of L k)) 0 1 }
 {}
 
+/// A pair is in the walk of a map exactly if its value is that of its key.
+pub fn pairs_are_values<K: IntKey, V>()
+    ensures { (m : MapState K V) (k : K) (v : V) → IsMap K.number_of K.is_valid m → K.is_valid k
+        → Contains m.walk (k, v) ↔ value_of K.number_of m.walk k ≡ Some v }
+{}
+
 /// The values in the walk of a list have the same sum as those in the list.
 pub fn walks_sum_as_lists<K: IntKey>()
     ensures { (L : List (K × ℕ)) (C : ℕ) → IsCapacity C
@@ -112,6 +118,14 @@ pub fn insertions_change_sum<K: IntKey>()
         → IsInsertion K.number_of K.is_valid m k v n
         → sum (values_of n.walk) + unwrap_or (value_of K.number_of m.walk k) 0
         ≡ sum (values_of m.walk) + v }
+{}
+
+/// The insertion of a new key raises the sum of all values by its value.
+pub fn new_keys_raise_sum<K: IntKey>()
+    ensures { (m n : MapState K ℕ) (k : K) (v : ℕ) → IsMap K.number_of K.is_valid m
+        → value_of K.number_of m.walk k ≡ None
+        → IsInsertion K.number_of K.is_valid m k v n
+        → sum (values_of n.walk) ≡ sum (values_of m.walk) + v }
 {}
 
 /// An insertion that leaves the value of a present key raises the sum of all values by the value of

@@ -236,7 +236,7 @@ impl<'a, K: IntKey, V> OccupiedEntry<'a, K, V> {
     /// }
     /// assert_eq!((from.len(), to[21].as_str()), (0, "a name"));
     /// ```
-    pub fn hand_over<R>(self, f: impl FnOnce(V) -> Result<R, V>) -> Option<R> {
+    pub fn hand_over<R, F: FnOnce(V) -> Result<R, V>>(self, f: F) -> Option<R> {
         #[cfg(feature = "check")]
         {
             check::handed_over(self.0, |entry| entry.hand_over(f))

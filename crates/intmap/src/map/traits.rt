@@ -74,7 +74,7 @@ impl<K: IntKey, V: Clone, A: Allocator + Copy> IntMap<K, V, A> {
     /// same capacity and load factor. Its own counts begin at zero. This map stays as it is. No key
     /// is compared. Time and memory grow with the number of slots and of pairs.
     ///
-    /// It first allocates the bits and the slots. Then, as it clones the values, it allocates room
+    /// It first allocates the slots and their bits. Then, as it clones the values, it allocates room
     /// for the pairs of each slot behind its first one, and for no more than these.
     ///
     /// It fails only with [`Cause::Memory`], if one of these allocations or the clone of a value

@@ -14,10 +14,11 @@ impl<K: IntKey, V, A: Allocator + Copy> IntMap<K, V, A> {
     ///
     /// A walk begins with [`Cursor::start`]. Any cursor will do, whatever happened to the map since:
     /// it is before the pair at its place of its slot, or else before the slots behind that one. So
-    /// after an insertion or a removal in a slot that was passed, the walk goes on as before. After
-    /// one that made the map grow, pairs are in other slots, and some may be shown again or not at
-    /// all. The call allocates nothing and never fails. A whole walk looks once at each pair, and
-    /// at one bit a slot.
+    /// after an insertion or a removal in a slot that was passed, the walk goes on as before. A
+    /// removal in the cursor's own slot may move a pair to a place that was passed, and it isn't
+    /// shown then. After an insertion that made the map grow, pairs are in other slots, and some may
+    /// be shown again or not at all. The call allocates nothing and never fails. A whole walk looks
+    /// once at each pair, and at one bit a slot.
     ///
     /// ```text
     /// after insert(0, 10), insert(1, 11) and insert(4, 14) into 4 slots:

@@ -27,6 +27,7 @@ impl<K: IntKey, V, A: Allocator + Copy> IntMap<K, V, A> {
 /// were kept and the pairs that the closure wasn't asked about yet, and its length counts these. If
 /// the iterator is dropped early, they stay, in their order. They also stay if it is forgotten, but
 /// no clause says that.
+#[must_use]
 pub struct ExtractIf<'a, K: IntKey, V, F, A: Allocator + Copy = Global> {
     map: &'a mut IntMap<K, V, A>,
     at: Progress,
