@@ -66,10 +66,10 @@
 //! do: if an allocation fails, it calls `handle_alloc_error`, which ends the process, and if the
 //! map would need more than 2^63 slots, it panics. The message of the former names the size of one
 //! word, whatever was requested. [`try_insert`](IntMap::try_insert) returns the failure and hands
-//! the value back, and the map is as it was. The operators of sets, such as `|`, and `clone_from`
-//! have the first form alone; [`IntSet::try_from_iter`] of the members and
-//! [`try_clone`](IntMap::try_clone) stand for the other. All other calls allocate nothing: lookups,
-//! removals, `retain`, `clear`, and all iterators.
+//! the value back, and the map is as it was, but may keep memory that it was granted before. The
+//! operators of sets, such as `|`, and `clone_from` have the first form alone;
+//! [`IntSet::try_from_iter`] of the members and [`try_clone`](IntMap::try_clone) stand for the
+//! other. All other calls allocate nothing: lookups, removals, `retain`, `clear`, and all iterators.
 //!
 //! ```
 //! use intmap_proved::{Cause, IntMap};

@@ -19,7 +19,7 @@ mod walk;
 /// through the slots in turn, and through each from front to back. So order and capacity depend on
 /// the calls alone: there is no random seed, and the same calls give the same order on every run.
 /// Only [`shrink_to`](IntMap::shrink_to) and [`shrink_to_fit`](IntMap::shrink_to_fit) make the
-/// capacity smaller.
+/// capacity smaller, and `clone_from`, which takes that of its source.
 ///
 /// # Cost
 ///

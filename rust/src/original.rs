@@ -34,8 +34,8 @@
 //!   [`intmap_proved::Entry`](crate::Entry).
 //! - A [`drain`](IntMap::drain) that is dropped early leaves the pairs that it didn't return; the
 //!   original may lose them.
-//! - A capacity above 2^63 is a panic at once, or a failed `try_` call; the original allocates
-//!   until that fails.
+//! - A capacity above 2^63 is a panic at once, or a failed `try_` call. The original's
+//!   `with_capacity` allocates until that fails, and its `reserve` overflows.
 //! - For `serde` there is a crate of its own, `intmap_proved_serde`.
 //!
 //! The other calls of [`intmap_proved::IntMap`](crate::IntMap) are there too, by `Deref`, and `From`
