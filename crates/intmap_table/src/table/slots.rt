@@ -43,8 +43,8 @@ struct Directory<A: Allocator> {
     bits: Bits<A>,
 }
 
-/// Slots, and one bit for each, which says whether it holds a pair. While none holds two, they are
-/// lone. Otherwise they are shared.
+/// Slots, and one bit for each, which says whether it holds a pair. While none holds two, they may
+/// be lone. Otherwise they are shared.
 #[derive(Drop)]
 pub(crate) struct Slots<K: IntKey, X, A: Allocator> {
     directory: Directory<A>,

@@ -35,8 +35,8 @@ struct Directory<A: Allocator> {
     bits: Bits<A>,
 }
 
-/// Slots, and one bit for each, which says whether it holds a pair. While none holds two, they are
-/// lone. Otherwise they are shared.
+/// Slots, and one bit for each, which says whether it holds a pair. While none holds two, they may
+/// be lone. Otherwise they are shared.
 pub(in crate::proved::table) struct Slots<K: IntKey, X, A: Allocator> {
     directory: Directory<A>,
     lone: Vec<Lone<K, X>, A>,
