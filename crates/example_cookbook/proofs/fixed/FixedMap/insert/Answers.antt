@@ -13,7 +13,7 @@ use Rattle.example_cookbook.proofs.fixed.FixedMap.insert.Goals as goal
 abbrev Stays : Type 0
 Stays = (C n F D : ℕ) → IsCapacity C → MeetsLoad C n F → IsNext C n F D → D ≡ C
 
--- 7 pairs for 8 slots meet the load, so the capacity stays; so it does if the key is present
+-- 7 pairs for each 8 slots meet the load, so the capacity stays; so it does if the key is present
 stays : {V : Type 0} → Stays → (o : Option V) (C n F D : ℕ) → IsCapacity C → F ≡ 909 → (is_some o ≡ false → n ≤ C / 8 * 7) → MatchOption o (IsNext C n F D) (λ _. D ≡ C) → D ≡ C
 stays same None C n F D is_capacity factor few next =
     let here = few refl in
