@@ -32,7 +32,7 @@ fn insert_checked(map: &mut IntMap<u64, u64>, key: u64, value: u64) -> i32
     }
 }
 
-/// Sets the value of a present key, and returns what [`intmap_set`] returns.
+/// Sets the value of a present key, and returns what [`intmap_replace`] returns.
 fn set(map: &mut IntMap<u64, u64>, key: u64, value: u64) -> FoundValue
     ensures { Sets map.old map.new key value result }
 {
@@ -42,7 +42,7 @@ fn set(map: &mut IntMap<u64, u64>, key: u64, value: u64) -> FoundValue
     }
 }
 
-/// Adds to the value of a present key, and returns what [`intmap_add`] returns.
+/// Adds to the value of a present key, and returns what [`intmap_add_present`] returns.
 fn add(map: &mut IntMap<u64, u64>, key: u64, more: u64) -> FoundValue
     ensures { Adds map.old map.new key more result }
 {
@@ -144,10 +144,10 @@ pub extern "C" fn intmap_insert_checked(
 /// nothing.
 ///
 /// ```text
-/// intmap_set(&map, 21, 8)    {7, INTMAP_PRESENT} after intmap_insert(&map, 21, 7)
+/// intmap_replace(&map, 21, 8)    {7, INTMAP_PRESENT} after intmap_insert(&map, 21, 7)
 /// ```
 #[unsafe(no_mangle)]
-pub extern "C" fn intmap_set(alloc: Global, handle: &mut Handle, key: u64, value: u64) -> FoundValue
+pub extern "C" fn intmap_replace(alloc: Global, handle: &mut Handle, key: u64, value: u64) -> FoundValue
     ensures { OnMap handle.old.value handle.new.value (result ≡ no_value absent_status)
         (λ m n. Sets m n key value result) }
 {
@@ -165,10 +165,10 @@ pub extern "C" fn intmap_set(alloc: Global, handle: &mut Handle, key: u64, value
 /// looks the key up once, and allocates nothing.
 ///
 /// ```text
-/// intmap_add(&map, 21, 1)    {7, INTMAP_PRESENT} after intmap_insert(&map, 21, 7)
+/// intmap_add_present(&map, 21, 1)    {7, INTMAP_PRESENT} after intmap_insert(&map, 21, 7)
 /// ```
 #[unsafe(no_mangle)]
-pub extern "C" fn intmap_add(alloc: Global, handle: &mut Handle, key: u64, more: u64) -> FoundValue
+pub extern "C" fn intmap_add_present(alloc: Global, handle: &mut Handle, key: u64, more: u64) -> FoundValue
     ensures { OnMap handle.old.value handle.new.value (result ≡ no_value absent_status)
         (λ m n. Adds m n key more result) }
 {
@@ -182,7 +182,7 @@ pub extern "C" fn intmap_add(alloc: Global, handle: &mut Handle, key: u64, more:
     }
 }
 
-/// Adds to the value of a present key as [`intmap_add`] does, or inserts an absent key with `more`.
+/// Adds to the value of a present key as [`intmap_add_present`] does, or inserts an absent key with `more`.
 /// It looks the key up once. The insertion of a new key fails as [`intmap_insert`] does.
 ///
 /// ```text
