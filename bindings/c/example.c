@@ -9,7 +9,7 @@ static void print(const intmap *counts) {
     intmap_pair pairs[64];
     intmap_cursor at = intmap_start();
     size_t copied;
-    while ((copied = intmap_next(counts, &at, pairs, 64)) > 0) {
+    while ((copied = intmap_copy_pairs(counts, &at, pairs, 64)) > 0) {
         for (size_t i = 0; i < copied; i++) {
             printf("%" PRIu64 ": %" PRIu64 "\n", pairs[i].key, pairs[i].value);
         }

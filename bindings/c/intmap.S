@@ -3909,11 +3909,11 @@ intmap_step:
 .Lfunc_end24:
 	.size	intmap_step, .Lfunc_end24-intmap_step
 
-	.section	.text.intmap_add,"ax",@progbits
-	.globl	intmap_add
+	.section	.text.intmap_add_present,"ax",@progbits
+	.globl	intmap_add_present
 	.p2align	4
-	.type	intmap_add,@function
-intmap_add:
+	.type	intmap_add_present,@function
+intmap_add_present:
 	movq	(%rdi), %rcx
 	movq	$0, (%rdi)
 	testq	%rcx, %rcx
@@ -3975,7 +3975,7 @@ intmap_add:
 	movl	%edx, %edx
 	retq
 .Lfunc_end25:
-	.size	intmap_add, .Lfunc_end25-intmap_add
+	.size	intmap_add_present, .Lfunc_end25-intmap_add_present
 
 	.section	.text.intmap_clear,"ax",@progbits
 	.globl	intmap_clear
@@ -4531,11 +4531,11 @@ intmap_remove:
 .Lfunc_end29:
 	.size	intmap_remove, .Lfunc_end29-intmap_remove
 
-	.section	.text.intmap_set,"ax",@progbits
-	.globl	intmap_set
+	.section	.text.intmap_replace,"ax",@progbits
+	.globl	intmap_replace
 	.p2align	4
-	.type	intmap_set,@function
-intmap_set:
+	.type	intmap_replace,@function
+intmap_replace:
 	movq	(%rdi), %rcx
 	movq	$0, (%rdi)
 	testq	%rcx, %rcx
@@ -4596,7 +4596,7 @@ intmap_set:
 	movl	%edx, %edx
 	retq
 .Lfunc_end30:
-	.size	intmap_set, .Lfunc_end30-intmap_set
+	.size	intmap_replace, .Lfunc_end30-intmap_replace
 
 	.section	.text.intmap_clone,"ax",@progbits
 	.globl	intmap_clone
@@ -9051,11 +9051,11 @@ intmap_step:
 .Lfunc_end24:
 	.size	intmap_step, .Lfunc_end24-intmap_step
 
-	.section	.text.intmap_add,"ax",@progbits
-	.globl	intmap_add
+	.section	.text.intmap_add_present,"ax",@progbits
+	.globl	intmap_add_present
 	.p2align	2
-	.type	intmap_add,@function
-intmap_add:
+	.type	intmap_add_present,@function
+intmap_add_present:
 	ldr	x9, [x0]
 	str	xzr, [x0]
 	cbz	x9, .LBB25_5
@@ -9129,7 +9129,7 @@ intmap_add:
 	mov	x0, x8
 	ret
 .Lfunc_end25:
-	.size	intmap_add, .Lfunc_end25-intmap_add
+	.size	intmap_add_present, .Lfunc_end25-intmap_add_present
 
 	.section	.text.intmap_clear,"ax",@progbits
 	.globl	intmap_clear
@@ -9602,11 +9602,11 @@ intmap_remove:
 .Lfunc_end29:
 	.size	intmap_remove, .Lfunc_end29-intmap_remove
 
-	.section	.text.intmap_set,"ax",@progbits
-	.globl	intmap_set
+	.section	.text.intmap_replace,"ax",@progbits
+	.globl	intmap_replace
 	.p2align	2
-	.type	intmap_set,@function
-intmap_set:
+	.type	intmap_replace,@function
+intmap_replace:
 	ldr	x9, [x0]
 	str	xzr, [x0]
 	cbz	x9, .LBB30_5
@@ -9679,7 +9679,7 @@ intmap_set:
 	mov	x0, x8
 	ret
 .Lfunc_end30:
-	.size	intmap_set, .Lfunc_end30-intmap_set
+	.size	intmap_replace, .Lfunc_end30-intmap_replace
 
 	.section	.text.intmap_clone,"ax",@progbits
 	.globl	intmap_clone

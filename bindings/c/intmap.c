@@ -399,12 +399,12 @@ static ALWAYS_INLINE uint64_t do_intmap_len(char *map);
 static ALWAYS_INLINE uint64_t do_intmap_load_factor(char *map);
 static ALWAYS_INLINE struct word_word do_intmap_get(char *map, uint64_t key);
 static ALWAYS_INLINE char *do_intmap_step(char *found, char *map, char *at);
-static ALWAYS_INLINE struct word_word do_intmap_add(char *map, uint64_t key, uint64_t more);
+static ALWAYS_INLINE struct word_word do_intmap_add_present(char *map, uint64_t key, uint64_t more);
 static ALWAYS_INLINE void do_intmap_clear(char *map);
 static ALWAYS_INLINE char *do_intmap_cut(char *found, char *map, char *at);
 static ALWAYS_INLINE void do_intmap_free(char *map);
 static ALWAYS_INLINE struct word_word do_intmap_remove(char *map, uint64_t key);
-static ALWAYS_INLINE struct word_word do_intmap_set(char *map, uint64_t key, uint64_t value);
+static ALWAYS_INLINE struct word_word do_intmap_replace(char *map, uint64_t key, uint64_t value);
 static ALWAYS_INLINE uint32_t do_intmap_clone(char *map, char *to);
 static ALWAYS_INLINE uint32_t do_intmap_with_capacity(char *map, uint64_t capacity);
 static ALWAYS_INLINE struct word_word do_intmap_add_or_insert(char *map, uint64_t key, uint64_t more);
@@ -3092,8 +3092,8 @@ after_read_intmap_step:;
     return found;
 }
 
-// intmap_add, in crates/intmap_c/src/pairs.rt
-static ALWAYS_INLINE struct word_word do_intmap_add(char *map, uint64_t key, uint64_t more) {
+// intmap_add_present, in crates/intmap_c/src/pairs.rt
+static ALWAYS_INLINE struct word_word do_intmap_add_present(char *map, uint64_t key, uint64_t more) {
     uint64_t r3, r10, r6, r3_0, r21, r36, r19, r0_2_8_ext;
     char *x0, *r11, *r4, *r11_2, *r4_2;
     struct word_half r23, r29;
@@ -3108,18 +3108,18 @@ static ALWAYS_INLINE struct word_word do_intmap_add(char *map, uint64_t key, uin
             r11 = load_address(x0 + 32) + (r10 * 24);
             if (load8(r11) != 1) {
                 r29 = empty_word_half();
-                goto after_pairs_add;
+                goto after_pairs_add_present;
             }
             if (load64(r11 + 8) != key) {
                 r29 = empty_word_half();
-                goto after_pairs_add;
+                goto after_pairs_add_present;
             }
             r4 = r11 + 16;
         } else {
             r11_2 = load_address(x0 + 56) + (r10 * 48);
             if (load8(r11_2) != 1) {
                 r29 = empty_word_half();
-                goto after_pairs_add;
+                goto after_pairs_add_present;
             }
             if (load64(r11_2 + 8) == key) {
                 r4 = r11_2 + 16;
@@ -3128,7 +3128,7 @@ static ALWAYS_INLINE struct word_word do_intmap_add(char *map, uint64_t key, uin
                 r6 = load64(r11_2 + 32);
                 if (r6 == 0) {
                     r29 = empty_word_half();
-                    goto after_pairs_add;
+                    goto after_pairs_add_present;
                 }
                 r3_0 = 0;
                 for (;;) {
@@ -3140,7 +3140,7 @@ static ALWAYS_INLINE struct word_word do_intmap_add(char *map, uint64_t key, uin
                     r36 = r3_0 + 1;
                     if (r36 == r6) {
                         r29 = empty_word_half();
-                        goto after_pairs_add;
+                        goto after_pairs_add_present;
                     }
                     r3_0 = r36;
                 }
@@ -3149,7 +3149,7 @@ static ALWAYS_INLINE struct word_word do_intmap_add(char *map, uint64_t key, uin
         r19 = load64(r4);
         store64(r4, r19 + more);
         r29 = made_word_half(r19, 1);
-    after_pairs_add:;
+    after_pairs_add_present:;
         store64(map, r3);
         r23 = r29;
     }
@@ -3656,8 +3656,8 @@ static ALWAYS_INLINE struct word_word do_intmap_remove(char *map, uint64_t key) 
     return made_word_word(r23.first, r0_2_8_ext);
 }
 
-// intmap_set, in crates/intmap_c/src/pairs.rt
-static ALWAYS_INLINE struct word_word do_intmap_set(char *map, uint64_t key, uint64_t value) {
+// intmap_replace, in crates/intmap_c/src/pairs.rt
+static ALWAYS_INLINE struct word_word do_intmap_replace(char *map, uint64_t key, uint64_t value) {
     uint64_t r3, r10, r6, r3_0, r21, r36, r6_2, r0_2_8_ext;
     char *x0, *r11, *r4, *r11_2, *r4_2;
     struct word_half r23, r26;
@@ -3672,18 +3672,18 @@ static ALWAYS_INLINE struct word_word do_intmap_set(char *map, uint64_t key, uin
             r11 = load_address(x0 + 32) + (r10 * 24);
             if (load8(r11) != 1) {
                 r26 = empty_word_half();
-                goto after_pairs_set;
+                goto after_pairs_replace;
             }
             if (load64(r11 + 8) != key) {
                 r26 = empty_word_half();
-                goto after_pairs_set;
+                goto after_pairs_replace;
             }
             r4 = r11 + 16;
         } else {
             r11_2 = load_address(x0 + 56) + (r10 * 48);
             if (load8(r11_2) != 1) {
                 r26 = empty_word_half();
-                goto after_pairs_set;
+                goto after_pairs_replace;
             }
             if (load64(r11_2 + 8) == key) {
                 r4 = r11_2 + 16;
@@ -3692,7 +3692,7 @@ static ALWAYS_INLINE struct word_word do_intmap_set(char *map, uint64_t key, uin
                 r6 = load64(r11_2 + 32);
                 if (r6 == 0) {
                     r26 = empty_word_half();
-                    goto after_pairs_set;
+                    goto after_pairs_replace;
                 }
                 r3_0 = 0;
                 for (;;) {
@@ -3704,7 +3704,7 @@ static ALWAYS_INLINE struct word_word do_intmap_set(char *map, uint64_t key, uin
                     r36 = r3_0 + 1;
                     if (r36 == r6) {
                         r26 = empty_word_half();
-                        goto after_pairs_set;
+                        goto after_pairs_replace;
                     }
                     r3_0 = r36;
                 }
@@ -3713,7 +3713,7 @@ static ALWAYS_INLINE struct word_word do_intmap_set(char *map, uint64_t key, uin
         r6_2 = load64(r4);
         store64(r4, value);
         r26 = made_word_half(r6_2, 1);
-    after_pairs_set:;
+    after_pairs_replace:;
         store64(map, r3);
         r23 = r26;
     }
@@ -4550,12 +4550,13 @@ ALIGNED intmap_status intmap_insert_checked(intmap *map, uint64_t key,
     return STATUS(do_intmap_insert_checked(BYTES(map), key, value));
 }
 
-ALIGNED intmap_found_value intmap_set(intmap *map, uint64_t key, uint64_t value) INTMAP_CALL {
-    return found_value(do_intmap_set(BYTES(map), key, value));
+ALIGNED intmap_found_value intmap_replace(intmap *map, uint64_t key, uint64_t value) INTMAP_CALL {
+    return found_value(do_intmap_replace(BYTES(map), key, value));
 }
 
-ALIGNED intmap_found_value intmap_add(intmap *map, uint64_t key, uint64_t more) INTMAP_CALL {
-    return found_value(do_intmap_add(BYTES(map), key, more));
+ALIGNED intmap_found_value intmap_add_present(intmap *map, uint64_t key,
+                                              uint64_t more) INTMAP_CALL {
+    return found_value(do_intmap_add_present(BYTES(map), key, more));
 }
 
 ALIGNED intmap_found_value intmap_add_or_insert(intmap *map, uint64_t key,

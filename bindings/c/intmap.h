@@ -29,7 +29,7 @@
 //   threads. Nothing jumps out of a call: no longjmp, no exception, no cancellation of its thread.
 // - malloc, realloc and free belong to one allocator, make no call on a map, and align blocks like
 //   the C library.
-// - The two words of intmap_clone differ, and intmap_next has an array for all `room` pairs.
+// - The two words of intmap_clone differ. intmap_copy_pairs has an array for all `room` pairs.
 // - An address from intmap_at isn't used after the next call with the map, whatever that call does.
 // - There is some stack: a call takes less than 1 KB, besides malloc's; less than 5 KB if the
 //   compiler doesn't optimise.
@@ -61,9 +61,9 @@
 // COST. A call on one key takes time in the number of pairs that share its slot. That is about one,
 // unless many keys share their low bits. Shift those away, or number the keys anew: in place of
 // multiples of 4096 take key >> 12, of what malloc returned address >> 4, of row << 32 | column
-// row * columns + column. If strangers choose the keys, they can make each call linear. Then mix
-// each key by intmap_mix. intmap_filled_slots tells of shared slots. An insertion that adds slots
-// or enlarges them moves all pairs, which is constant time a pair over all insertions. If
+// row * columns + column. If strangers choose the keys, they can make each call linear. Then
+// scramble each key by intmap_scramble. intmap_filled_slots tells of shared slots. An insertion that
+// adds slots or enlarges them moves all pairs, which is constant time a pair over all insertions. If
 // intmap_reserve, intmap_reserve_pairs or intmap_set_load_factor adds slots, it takes time in the
 // pairs and slots, and otherwise constant time.
 //
@@ -116,8 +116,9 @@ extern "C" {
 #define INTMAP_NONNULL
 #endif
 
-// A compiler warns of a status that isn't read, if the call may fail for want of memory. With gcc a
-// cast to void doesn't help. To have no warning, define INTMAP_NO_MUST_USE before this file.
+// A compiler warns of a status that isn't read, if the call may fail for want of memory, or writes
+// a value only where the key is present. With gcc a cast to void doesn't help. To have no warning,
+// define INTMAP_NO_MUST_USE before this file.
 #if (defined(__GNUC__) || defined(__clang__)) && !defined(INTMAP_NO_MUST_USE)
 #define INTMAP_MUST_USE __attribute__((warn_unused_result))
 #else
@@ -133,8 +134,8 @@ extern "C" {
 #define intmap_contains_key intmap_debug_contains_key
 #define intmap_insert intmap_debug_insert
 #define intmap_insert_checked intmap_debug_insert_checked
-#define intmap_set intmap_debug_set
-#define intmap_add intmap_debug_add
+#define intmap_replace intmap_debug_replace
+#define intmap_add_present intmap_debug_add_present
 #define intmap_add_or_insert intmap_debug_add_or_insert
 #define intmap_place intmap_debug_place
 #define intmap_remove intmap_debug_remove
@@ -261,27 +262,31 @@ INTMAP_NONNULL bool intmap_contains_key(const intmap *map, uint64_t key) INTMAP_
 // otherwise INTMAP_NO_MEMORY if an allocation fails. The key is then absent. Behind the first call
 // it requests no memory if no slots are added and the key's slot holds no pair.
 INTMAP_NONNULL INTMAP_MUST_USE intmap_found_value intmap_insert(intmap *map, uint64_t key,
-                                                           uint64_t value) INTMAP_CALL;
+                                                                uint64_t value) INTMAP_CALL;
 
 // Inserts an absent key with the value. It returns INTMAP_PRESENT if the key was present, which
 // keeps its value, and INTMAP_ABSENT if it was absent. For an absent key it fails like
-// intmap_insert.
+// intmap_insert. The status is 0 for a new key, so `if (intmap_insert_checked(..))` is true where
+// the key was present before, or the call failed.
 INTMAP_NONNULL INTMAP_MUST_USE intmap_status intmap_insert_checked(intmap *map, uint64_t key,
                                                                    uint64_t value) INTMAP_CALL;
 
 // Replaces the value of a present key, whose pair keeps its place in the walk. It returns
 // INTMAP_PRESENT with the value before; or INTMAP_ABSENT, and inserts nothing. It requests no
 // memory.
-INTMAP_NONNULL intmap_found_value intmap_set(intmap *map, uint64_t key, uint64_t value) INTMAP_CALL;
+INTMAP_NONNULL INTMAP_MUST_USE intmap_found_value intmap_replace(intmap *map, uint64_t key,
+                                                                 uint64_t value) INTMAP_CALL;
 
-// Adds to the value of a present key, modulo 2^64. It returns what intmap_set does, by one lookup.
-INTMAP_NONNULL intmap_found_value intmap_add(intmap *map, uint64_t key, uint64_t more) INTMAP_CALL;
+// Adds to the value of a present key, modulo 2^64. It returns what intmap_replace does, by one
+// lookup, and inserts nothing either.
+INTMAP_NONNULL INTMAP_MUST_USE intmap_found_value intmap_add_present(intmap *map, uint64_t key,
+                                                                     uint64_t more) INTMAP_CALL;
 
-// Adds to the value of a present key, as intmap_add does, and inserts an absent key with `more`, by
-// one lookup. It returns INTMAP_PRESENT with the value before, or INTMAP_ABSENT if the key was
-// absent. For an absent key it fails like intmap_insert.
+// Adds to the value of a present key, as intmap_add_present does, and inserts an absent key with
+// `more`, by one lookup. It returns INTMAP_PRESENT with the value before, or INTMAP_ABSENT if the
+// key was absent. For an absent key it fails like intmap_insert.
 INTMAP_NONNULL INTMAP_MUST_USE intmap_found_value intmap_add_or_insert(intmap *map, uint64_t key,
-                                                                  uint64_t more) INTMAP_CALL;
+                                                                       uint64_t more) INTMAP_CALL;
 
 // A map's numbers begin with the low byte. So machines whose own begin with the high one don't have
 // the next two calls.
@@ -386,8 +391,9 @@ INTMAP_NONNULL intmap_found_pair intmap_step(const intmap *map, intmap_cursor *a
 // Copies pairs of the walk from the cursor on, at most `room`, and moves the cursor behind them. It
 // returns how many it copied: fewer than `room` only if none is left. `pairs` is an array of at
 // least `room`, which needs no values before. The rest of it stays.
-INTMAP_NONNULL static inline size_t intmap_next(const intmap *map, intmap_cursor *at,
-                                                intmap_pair *pairs, size_t room) INTMAP_CALL {
+INTMAP_NONNULL static inline size_t intmap_copy_pairs(const intmap *map, intmap_cursor *at,
+                                                      intmap_pair *pairs,
+                                                      size_t room) INTMAP_CALL {
     size_t count = 0;
     while (count < room) {
         intmap_found_pair found = intmap_step(map, at);
@@ -432,19 +438,19 @@ static inline void *intmap_to_pointer(uint64_t number) INTMAP_CALL {
     return (void *)(uintptr_t)number;
 }
 
-// Mixes a key with a secret, so that a stranger can't choose the low bits, by which it has its slot.
-// Different keys stay different. It is no cipher: who sees walks, or times calls, may learn the
-// secret.
-static inline uint64_t intmap_mix(uint64_t key, uint64_t secret) INTMAP_CALL {
+// Scrambles a key by a secret, so that a stranger can't choose the low bits, by which it has its
+// slot. Different keys stay different. It is no cipher: who sees walks, or times calls, may learn
+// the secret.
+static inline uint64_t intmap_scramble(uint64_t key, uint64_t secret) INTMAP_CALL {
     key ^= secret;
     key = (key ^ key >> 30) * 0xBF58476D1CE4E5B9u;
     key = (key ^ key >> 27) * 0x94D049BB133111EBu;
     return key ^ key >> 31;
 }
 
-// Returns the key again, of which intmap_mix made this number with the same secret.
-static inline uint64_t intmap_unmix(uint64_t mixed, uint64_t secret) INTMAP_CALL {
-    uint64_t key = (mixed ^ mixed >> 31 ^ mixed >> 62) * 0x319642B2D24D8EC3u;
+// Returns the key again, of which intmap_scramble made this number with the same secret.
+static inline uint64_t intmap_unscramble(uint64_t scrambled, uint64_t secret) INTMAP_CALL {
+    uint64_t key = (scrambled ^ scrambled >> 31 ^ scrambled >> 62) * 0x319642B2D24D8EC3u;
     key = (key ^ key >> 27 ^ key >> 54) * 0x96DE1B173F119089u;
     return key ^ key >> 30 ^ key >> 60 ^ secret;
 }

@@ -257,9 +257,9 @@ CALL(reading, size_t, capacity, (const intmap *map), (&one->map))
 CALL(reading, size_t, load_factor, (const intmap *map), (&one->map))
 CALL(reading, size_t, filled_slots, (const intmap *map), (&one->map))
 CALL(reading, intmap_found_pair, step, (const intmap *map, intmap_cursor *at), (&one->map, at))
-CALL(changing, intmap_found_value, set, (intmap *map, uint64_t key, uint64_t value),
+CALL(changing, intmap_found_value, replace, (intmap *map, uint64_t key, uint64_t value),
      (&one->map, key, value))
-CALL(changing, intmap_found_value, add, (intmap *map, uint64_t key, uint64_t more),
+CALL(changing, intmap_found_value, add_present, (intmap *map, uint64_t key, uint64_t more),
      (&one->map, key, more))
 CALL(changing, intmap_found_value, remove, (intmap *map, uint64_t key), (&one->map, key))
 CALL(changing, intmap_found_pair, cut, (intmap *map, intmap_cursor *at), (&one->map, at))

@@ -59,11 +59,11 @@ static void get_of_copy(void) {
     intmap_get(&copy, 1);
 }
 
-static void next_of_copy(void) {
+static void copy_pairs_of_copy(void) {
     intmap_pair pair;
     intmap_cursor at = intmap_start();
     free_map();
-    intmap_next(&copy, &at, &pair, 1);
+    intmap_copy_pairs(&copy, &at, &pair, 1);
 }
 
 static void at_of_copy(void) {
@@ -179,8 +179,8 @@ static void get_now(void) {
     intmap_get(&map, 1);
 }
 
-static void set_now(void) {
-    intmap_set(&map, 1, 2);
+static void replace_now(void) {
+    need(intmap_replace(&map, 1, 2).status == INTMAP_PRESENT);
 }
 
 static void clear_now(void) {
@@ -205,8 +205,8 @@ static void get_in_thread(void) {
     in_thread(get_now);
 }
 
-static void set_in_thread(void) {
-    in_thread(set_now);
+static void replace_in_thread(void) {
+    in_thread(replace_now);
 }
 
 // A second pair of the slot needs a block.
@@ -226,24 +226,24 @@ static void get_within_insert(void) {
     insert_with(get_now);
 }
 
-static void set_within_insert(void) {
-    insert_with(set_now);
+static void replace_within_insert(void) {
+    insert_with(replace_now);
 }
 
 static void get_in_thread_within_insert(void) {
     insert_with(get_in_thread);
 }
 
-static void set_in_thread_within_insert(void) {
-    insert_with(set_in_thread);
+static void replace_in_thread_within_insert(void) {
+    insert_with(replace_in_thread);
 }
 
-static void set_within_clone(void) {
-    clone_with(set_now);
+static void replace_within_clone(void) {
+    clone_with(replace_now);
 }
 
-static void set_in_thread_within_clone(void) {
-    clone_with(set_in_thread);
+static void replace_in_thread_within_clone(void) {
+    clone_with(replace_in_thread);
 }
 
 static void clear_within_clone(void) {
@@ -271,14 +271,14 @@ static void get_behind_jump(void) {
 
 static void handle(int number) {
     (void)number;
-    set_now();
+    replace_now();
 }
 
 static void signal_now(void) {
     need(signal(SIGUSR1, handle) != SIG_ERR && raise(SIGUSR1) == 0);
 }
 
-static void set_in_handler(void) {
+static void replace_in_handler(void) {
     clone_with(signal_now);
 }
 
@@ -328,7 +328,7 @@ static const struct {
 } mistakes[] = {
 #define MISTAKE(make, call, what) {make, #make, call, what}
     MISTAKE(get_of_copy, "intmap_get", COPY),
-    MISTAKE(next_of_copy, "intmap_step", COPY),
+    MISTAKE(copy_pairs_of_copy, "intmap_step", COPY),
     MISTAKE(at_of_copy, "intmap_place", COPY),
     MISTAKE(insert_into_copy, "intmap_insert", COPY),
     MISTAKE(clear_copy, "intmap_clear", COPY),
@@ -348,15 +348,15 @@ static const struct {
     MISTAKE(clone_to_itself, "intmap_clone", SAME),
     MISTAKE(clone_to_own_copy, "intmap_clone", SAME),
     MISTAKE(get_within_insert, "intmap_get", CHANGING),
-    MISTAKE(set_within_insert, "intmap_set", CHANGING),
+    MISTAKE(replace_within_insert, "intmap_replace", CHANGING),
     MISTAKE(get_in_thread_within_insert, "intmap_get", CHANGING),
-    MISTAKE(set_in_thread_within_insert, "intmap_set", CHANGING),
-    MISTAKE(set_within_clone, "intmap_set", READING),
-    MISTAKE(set_in_thread_within_clone, "intmap_set", READING),
+    MISTAKE(replace_in_thread_within_insert, "intmap_replace", CHANGING),
+    MISTAKE(replace_within_clone, "intmap_replace", READING),
+    MISTAKE(replace_in_thread_within_clone, "intmap_replace", READING),
     MISTAKE(clear_within_clone, "intmap_clear", READING),
     MISTAKE(free_within_clone, "intmap_free", READING),
     MISTAKE(get_behind_jump, "intmap_get", CHANGING),
-    MISTAKE(set_in_handler, "intmap_set", READING),
+    MISTAKE(replace_in_handler, "intmap_replace", READING),
     MISTAKE(get_within_with_capacity, "intmap_get", CHANGING),
     MISTAKE(move_and_read, NULL, NULL),
     MISTAKE(make_many, NULL, NULL),

@@ -62,7 +62,7 @@ static void read_walk(reader *one) {
     }
     for (size_t passed = 0; passed < KEYS; passed += 64) {
         size_t wanted = KEYS - passed < 64 ? KEYS - passed : 64;
-        size_t copied = intmap_next(&map, &next, pairs, 64);
+        size_t copied = intmap_copy_pairs(&map, &next, pairs, 64);
         expect(one, copied == wanted && memcmp(pairs, &walk[passed], wanted * sizeof *pairs) == 0);
     }
 }
@@ -74,7 +74,7 @@ static void read_all(reader *one) {
     expect(one, !intmap_equal(&map, &own));
     expect(one, intmap_clone(&map, &own) == INTMAP_OK);
     expect(one, intmap_equal(&map, &own) && intmap_equal(&own, &map));
-    intmap_set(&own, key_of(5), 0);
+    expect(one, intmap_replace(&own, key_of(5), 0).status == INTMAP_PRESENT);
     expect(one, !intmap_equal(&map, &own));
     intmap_free(&own);
 }
@@ -100,7 +100,7 @@ static bool make(void) {
     intmap_cursor at = intmap_start();
     capacity = intmap_capacity(&map);
     filled = intmap_filled_slots(&map);
-    return !intmap_failed(status) && intmap_next(&map, &at, walk, KEYS) == KEYS;
+    return !intmap_failed(status) && intmap_copy_pairs(&map, &at, walk, KEYS) == KEYS;
 }
 
 int main(int count, char **words) {

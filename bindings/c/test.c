@@ -236,7 +236,7 @@ static void check_walk(const side *one, size_t room) {
     size_t passed = 0, copied;
     do {
         size_t left = plain->len - passed;
-        copied = intmap_next(&one->map, &at, pairs, room);
+        copied = intmap_copy_pairs(&one->map, &at, pairs, room);
         if (!EXPECT(copied == (left < room ? left : room))) {
             return;
         }
@@ -349,13 +349,13 @@ static void call_insertion(unsigned kind, uint64_t key, uint64_t value) {
     }
 }
 
-static void call_set_or_add(bool adds, uint64_t key, uint64_t value) {
+static void call_replace_or_add(bool adds, uint64_t key, uint64_t value) {
     size_t place = place_of(&it->plain, key);
     bool is_present = place < it->plain.len;
     uint64_t *old = &it->plain.pairs[is_present ? place : 0].value;
     begin();
     intmap_found_value answer =
-        adds ? intmap_add(&it->map, key, value) : intmap_set(&it->map, key, value);
+        adds ? intmap_add_present(&it->map, key, value) : intmap_replace(&it->map, key, value);
     EXPECT(!requested());
     if (is_present) {
         EXPECT(is(answer, INTMAP_PRESENT, *old));
@@ -379,7 +379,7 @@ static void call_at(uint64_t key, uint64_t value) {
         it->plain.pairs[place].value = value;
     }
 #else
-    call_set_or_add(false, key, value);
+    call_replace_or_add(false, key, value);
 #endif
 }
 
@@ -447,7 +447,7 @@ static void call_cut(size_t passed, size_t count) {
     intmap_pair pairs[LARGEST_ROOM];
     intmap_cursor at = intmap_start();
     model *plain = &it->plain;
-    passed = intmap_next(&it->map, &at, pairs, passed);
+    passed = intmap_copy_pairs(&it->map, &at, pairs, passed);
     begin();
     for (; count > 0; count--) {
         bool is_left = passed < plain->len;
@@ -574,8 +574,8 @@ static void test_statuses(void) {
 static void test_calls_without_memory(void) {
     check(it);
     call_get(3, 9);
-    call_set_or_add(false, 3, 4);
-    call_set_or_add(true, 3, 4);
+    call_replace_or_add(false, 3, 4);
+    call_replace_or_add(true, 3, 4);
     call_at(3, 4);
     call_remove(3);
     call_cut(1, 2);
@@ -909,7 +909,7 @@ static void test_great_numbers(void) {
     call_make(4);
     call_insertion(INSERT, UINT64_MAX, UINT64_MAX);
     call_insertion(ADD_OR_INSERT, UINT64_MAX, 2);
-    call_set_or_add(true, UINT64_MAX, UINT64_MAX);
+    call_replace_or_add(true, UINT64_MAX, UINT64_MAX);
     call_insertion(ADD_OR_INSERT, 0, UINT64_MAX);
     call_insertion(INSERT, (uint64_t)1 << 32, (uint64_t)1 << 63);
     call_get(UINT64_MAX, 5);
@@ -930,9 +930,9 @@ static void test_equal(void) {
     call_reserve(400);
     call_set_load_factor(400);
     call_equal();
-    call_set_or_add(true, 64, 1);
+    call_replace_or_add(true, 64, 1);
     call_equal();
-    call_set_or_add(true, 64, UINT64_MAX);
+    call_replace_or_add(true, 64, UINT64_MAX);
     call_equal();
     call_remove(0);
     call_equal();
@@ -1009,11 +1009,11 @@ static void test_walks(void) {
         check_walk(it, rooms[at]);
     }
     intmap_cursor at = intmap_start();
-    EXPECT(intmap_next(&it->map, &at, pairs, 0) == 0);
-    EXPECT(intmap_next(&it->map, &at, pairs + 1, 9) == 9);
+    EXPECT(intmap_copy_pairs(&it->map, &at, pairs, 0) == 0);
+    EXPECT(intmap_copy_pairs(&it->map, &at, pairs + 1, 9) == 9);
     EXPECT(memcmp(pairs, before, sizeof pairs[0]) == 0);
     EXPECT(memcmp(pairs + 10, before + 10, 10 * sizeof pairs[0]) == 0);
-    EXPECT(intmap_next(&it->map, &at, pairs, LARGEST_ROOM) == 691);
+    EXPECT(intmap_copy_pairs(&it->map, &at, pairs, LARGEST_ROOM) == 691);
     EXPECT(memcmp(pairs + 691, before + 691, 100 * sizeof pairs[0]) == 0);
     end_test();
 }
@@ -1028,7 +1028,7 @@ static void test_one_slot(void) {
     for (uint64_t key = 0; key < MOST; key += 97) {
         call_get(key * factor, key);
         call_remove(key * factor);
-        call_set_or_add(key % 2, key * factor + factor, key);
+        call_replace_or_add(key % 2, key * factor + factor, key);
         call_insertion(INSERT, key * factor + 2 * factor, key);
     }
     call_cut(100, 50);
@@ -1086,7 +1086,7 @@ static void test_writes_in_walk(void) {
     for (size_t passed = 0; passed < it->plain.len; passed++) {
         intmap_found_pair seen = intmap_step(&it->map, &at);
         EXPECT(seen.status == INTMAP_PRESENT && same_pair(seen.pair, it->plain.pairs[passed]));
-        call_set_or_add(passed % 2, seen.pair.key, number());
+        call_replace_or_add(passed % 2, seen.pair.key, number());
     }
     check(it);
     end_test();
@@ -1138,32 +1138,31 @@ static void test_addresses(void) {
     EXPECT(map.at == NULL && live_blocks == 0);
 }
 
-// Keys that share a slot, until they are mixed with a secret.
+// Keys that share a slot, until they are scrambled by a secret.
 
-static void test_mixed_keys(void) {
+static void test_scrambled_keys(void) {
     uint64_t secret = number();
     call_make(4);
     for (uint64_t key = 0; key < 1000; key++) {
-        call_insertion(INSERT, intmap_mix(key << 40, secret), key);
+        call_insertion(INSERT, intmap_scramble(key << 40, secret), key);
     }
     EXPECT(intmap_filled_slots(&it->map) > 500);
     check(it);
     end_test();
 }
 
-// Each number is the mixture of one key. The first four mixtures are what SplitMix64 returns from
-// the seed 0.
-static void test_mixtures(void) {
+// One key is scrambled to each number. The first four are what SplitMix64 returns from the seed 0.
+static void test_scrambling(void) {
     static const uint64_t known[] = {0xE220A8397B1DCDAFu, 0x6E789E6AA1B965F4u,
                                      0x06C45D188009454Fu, 0xF88BB8A8724C81ECu};
     for (uint64_t i = 0; i < 4; i++) {
-        EXPECT(intmap_mix((i + 1) * 0x9E3779B97F4A7C15u, 0) == known[i]);
+        EXPECT(intmap_scramble((i + 1) * 0x9E3779B97F4A7C15u, 0) == known[i]);
     }
     for (int i = 0; i < 10000; i++) {
         uint64_t secret = number(), key = i < 64 ? (uint64_t)1 << i : number();
-        EXPECT(intmap_unmix(intmap_mix(key, secret), secret) == key);
-        EXPECT(intmap_mix(intmap_unmix(key, secret), secret) == key);
-        EXPECT(intmap_mix(key, secret) == intmap_mix(key ^ secret, 0));
+        EXPECT(intmap_unscramble(intmap_scramble(key, secret), secret) == key);
+        EXPECT(intmap_scramble(intmap_unscramble(key, secret), secret) == key);
+        EXPECT(intmap_scramble(key, secret) == intmap_scramble(key ^ secret, 0));
     }
 }
 
@@ -1225,8 +1224,8 @@ static void test_each(void) {
     RUN(test_kept_memory());
     RUN(test_writes_in_walk());
     RUN(test_addresses());
-    RUN(test_mixed_keys());
-    RUN(test_mixtures());
+    RUN(test_scrambled_keys());
+    RUN(test_scrambling());
     RUN(test_pointers());
     RUN(test_move());
 }
@@ -1247,7 +1246,7 @@ static void call_on_key(uint64_t key, uint64_t value, unsigned which) {
     } else if (which < 60) {
         call_remove(key);
     } else if (which < 75) {
-        call_set_or_add(which % 2, key, value);
+        call_replace_or_add(which % 2, key, value);
     } else if (which < 80) {
         call_at(key, value);
     } else {

@@ -21,8 +21,8 @@ static bool makes_and_reads(intmap *map) {
 }
 
 static bool changes(intmap *map) {
-    return is(intmap_set(map, 21, 1), INTMAP_PRESENT, 7)
-           && is(intmap_add(map, 21, 2), INTMAP_PRESENT, 1)
+    return is(intmap_replace(map, 21, 1), INTMAP_PRESENT, 7)
+           && is(intmap_add_present(map, 21, 2), INTMAP_PRESENT, 1)
            && is(intmap_add_or_insert(map, 5, 3), INTMAP_ABSENT, 0)
            && is(intmap_remove(map, 6), INTMAP_ABSENT, 0)
            && intmap_reserve(map, 100) == INTMAP_OK
@@ -39,7 +39,7 @@ static bool changes_in_place(intmap *map) {
     intmap_place(map, 21, &at);
     return at != nullptr && (*at += 5) == 8;
 #else
-    return intmap_add(map, 21, 5).value == 3;
+    return intmap_add_present(map, 21, 5).value == 3;
 #endif
 }
 
@@ -48,7 +48,7 @@ static bool clones_and_walks(intmap *map) {
     intmap_cursor at = intmap_start();
     intmap_pair pairs[4];
     bool is_good = intmap_clone(map, &other) == INTMAP_OK && intmap_equal(map, &other)
-                   && intmap_next(map, &at, pairs, 4) == 2;
+                   && intmap_copy_pairs(map, &at, pairs, 4) == 2;
     at = intmap_start();
     intmap_found_pair first = intmap_step(map, &at);
     intmap_found_pair second = intmap_cut(map, &at);
@@ -61,7 +61,7 @@ static bool clones_and_walks(intmap *map) {
 static bool takes_other_numbers() {
     int place = 0;
     return intmap_to_pointer(intmap_from_pointer(&place)) == &place
-           && intmap_unmix(intmap_mix(21, 7), 7) == 21;
+           && intmap_unscramble(intmap_scramble(21, 7), 7) == 21;
 }
 
 int main() {

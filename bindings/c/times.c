@@ -153,7 +153,7 @@ static uint64_t find_intmap(const uint64_t *wanted) {
 static uint64_t add_intmap(void) {
     uint64_t sum = 0;
     for (size_t at = 0; at < count; at++) {
-        sum += intmap_add(&map, others[at], 1).value;
+        sum += intmap_add_present(&map, others[at], 1).value;
     }
     return sum;
 }
@@ -163,7 +163,7 @@ static uint64_t iterate_intmap(void) {
     intmap_cursor from = intmap_start();
     uint64_t sum = 0;
     size_t copied;
-    while ((copied = intmap_next(&map, &from, pairs, 64)) > 0) {
+    while ((copied = intmap_copy_pairs(&map, &from, pairs, 64)) > 0) {
         for (size_t at = 0; at < copied; at++) {
             sum += pairs[at].value;
         }

@@ -24,9 +24,9 @@
 
 #define EACH_CALL(IT)                                                                              \
     IT(version) IT(with_capacity) IT(clone) IT(free) IT(get) IT(contains_key) IT(insert)           \
-    IT(insert_checked) IT(set) IT(add) IT(add_or_insert) IT(remove) IT(clear) IT(len) IT(capacity) \
-    IT(load_factor) IT(filled_slots) IT(reserve) IT(set_load_factor) IT(step) IT(cut) IT(equal)    \
-    PLACE_CALL(IT)
+    IT(insert_checked) IT(replace) IT(add_present) IT(add_or_insert) IT(remove) IT(clear) IT(len)  \
+    IT(capacity) IT(load_factor) IT(filled_slots) IT(reserve) IT(set_load_factor) IT(step) IT(cut) \
+    IT(equal) PLACE_CALL(IT)
 
 enum { MAPS = 2 };
 
@@ -121,8 +121,8 @@ static uint64_t number(void) {
 // One call, of each form.
 
 enum {
-    INSERT, INSERT_CHECKED, ADD_OR_INSERT, GET, CONTAINS_KEY, SET, ADD, PLACE, REMOVE, STEP, CUT,
-    FIGURES,
+    INSERT, INSERT_CHECKED, ADD_OR_INSERT, GET, CONTAINS_KEY, REPLACE, ADD_PRESENT, PLACE, REMOVE,
+    STEP, CUT, FIGURES,
     OFTEN, START = OFTEN, CLONE, RESERVE, SET_LOAD_FACTOR, EQUAL,
     SOMETIMES, CLEAR = SOMETIMES, WITH_CAPACITY, FREE,
     KINDS
@@ -163,7 +163,7 @@ static void change_in_place(form *one, const call *it) {
         *at = it->value;
     }
 #else
-    found_value(one, one->set(&one->maps[it->map], it->key, it->value));
+    found_value(one, one->replace(&one->maps[it->map], it->key, it->value));
 #endif
 }
 
@@ -172,8 +172,8 @@ static void change_pair(form *one, const call *it) {
     switch (it->kind) {
     case INSERT: found_value(one, one->insert(map, it->key, it->value)); break;
     case ADD_OR_INSERT: found_value(one, one->add_or_insert(map, it->key, it->value)); break;
-    case SET: found_value(one, one->set(map, it->key, it->value)); break;
-    case ADD: found_value(one, one->add(map, it->key, it->value)); break;
+    case REPLACE: found_value(one, one->replace(map, it->key, it->value)); break;
+    case ADD_PRESENT: found_value(one, one->add_present(map, it->key, it->value)); break;
     case PLACE: change_in_place(one, it); break;
     case REMOVE: found_value(one, one->remove(map, it->key)); break;
     case CUT: found_pair(one, one->cut(map, &one->at[it->map])); break;

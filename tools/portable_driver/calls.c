@@ -54,12 +54,13 @@ ALIGNED intmap_status intmap_insert_checked(intmap *map, uint64_t key,
     return STATUS(do_intmap_insert_checked(BYTES(map), key, value));
 }
 
-ALIGNED intmap_found_value intmap_set(intmap *map, uint64_t key, uint64_t value) INTMAP_CALL {
-    return found_value(do_intmap_set(BYTES(map), key, value));
+ALIGNED intmap_found_value intmap_replace(intmap *map, uint64_t key, uint64_t value) INTMAP_CALL {
+    return found_value(do_intmap_replace(BYTES(map), key, value));
 }
 
-ALIGNED intmap_found_value intmap_add(intmap *map, uint64_t key, uint64_t more) INTMAP_CALL {
-    return found_value(do_intmap_add(BYTES(map), key, more));
+ALIGNED intmap_found_value intmap_add_present(intmap *map, uint64_t key,
+                                              uint64_t more) INTMAP_CALL {
+    return found_value(do_intmap_add_present(BYTES(map), key, more));
 }
 
 ALIGNED intmap_found_value intmap_add_or_insert(intmap *map, uint64_t key,

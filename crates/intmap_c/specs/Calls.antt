@@ -80,7 +80,7 @@ InsertsNew m n k v status =
     ⊎ FailsToBind m n k status
 
 -- v was written in the place of the value of k, which is returned; if k is absent, nothing was written
-pub record Sets (m n : State) (k v : ℕ) (answer : FoundValue) : Type 0 where
+pub record Replaces (m n : State) (k v : ℕ) (answer : FoundValue) : Type 0 where
   pub told : answer ≡ value_found (bound_to m k)
   pub bound : IsPresent itself m.walk k → n ≡ written itself (after_search itself m k) k v
   pub missing : bound_to m k ≡ None → n ≡ after_search itself m k
@@ -88,13 +88,13 @@ pub record Sets (m n : State) (k v : ℕ) (answer : FoundValue) : Type 0 where
   pub len : length n.walk ≡ length m.walk
 
 -- `more` was added to the value of k, modulo 2^64, and the value before is returned; if k is absent, nothing was written
-abbrev pub Adds : State → State → ℕ → ℕ → FoundValue → Type 0
-Adds m n k more answer = Sets m n k ((answer.value + more) % 2 ^ 64) answer
+abbrev pub AddsPresent : State → State → ℕ → ℕ → FoundValue → Type 0
+AddsPresent m n k more answer = Replaces m n k ((answer.value + more) % 2 ^ 64) answer
 
 -- `more` was added to the value of k; or k was absent, and was inserted with `more`; or the insertion failed
 abbrev pub AddsOrInserts : State → State → ℕ → ℕ → FoundValue → Type 0
 AddsOrInserts m n k more answer =
-    (IsPresent itself m.walk k × Adds m n k more answer)
+    (IsPresent itself m.walk k × AddsPresent m n k more answer)
     ⊎ ((answer ≡ value_found None) × (bound_to m k ≡ None) × Binds m n k more)
     ⊎ ((answer ≡ no_value answer.status) × FailsToBind m n k answer.status)
 

@@ -1,7 +1,7 @@
 //! Calls that write one key.
 ghost use Rattle.std.specs.Prelude.{◌≡◌};
 ghost use Rattle.intmap_c.specs.Answers.{no_value};
-ghost use Rattle.intmap_c.specs.Calls.{Adds, AddsOrInserts, Inserts, InsertsNew, OnMap, OnMapOrNew, Removes, Sets};
+ghost use Rattle.intmap_c.specs.Calls.{AddsOrInserts, AddsPresent, Inserts, InsertsNew, OnMap, OnMapOrNew, Removes, Replaces};
 ghost use Rattle.intmap_c.specs.Statuses.{absent_status, no_memory_status};
 
 use crate::answer::{ABSENT, FoundValue, NO_MEMORY, PRESENT, status_of};
@@ -9,7 +9,7 @@ use crate::handle::{Handle, put, take, take_or_make};
 use intmap::IntMap;
 use intmap::entry::Entry;
 use std::alloc::Global;
-use std::mem::replace;
+use std::mem;
 
 /// Inserts the pair, and returns what [`intmap_insert`] returns.
 fn insert(map: &mut IntMap<u64, u64>, key: u64, value: u64) -> FoundValue
@@ -32,19 +32,19 @@ fn insert_checked(map: &mut IntMap<u64, u64>, key: u64, value: u64) -> i32
     }
 }
 
-/// Sets the value of a present key, and returns what [`intmap_set`] returns.
-fn set(map: &mut IntMap<u64, u64>, key: u64, value: u64) -> FoundValue
-    ensures { Sets map.old map.new key value result }
+/// Replaces the value of a present key, and returns what [`intmap_replace`] returns.
+fn replace(map: &mut IntMap<u64, u64>, key: u64, value: u64) -> FoundValue
+    ensures { Replaces map.old map.new key value result }
 {
     match map.get_mut(key) {
-        Some(place) => FoundValue::of(Some(replace(place, value))),
+        Some(place) => FoundValue::of(Some(mem::replace(place, value))),
         None => FoundValue::of(None),
     }
 }
 
-/// Adds to the value of a present key, and returns what [`intmap_add`] returns.
-fn add(map: &mut IntMap<u64, u64>, key: u64, more: u64) -> FoundValue
-    ensures { Adds map.old map.new key more result }
+/// Adds to the value of a present key, and returns what [`intmap_add_present`] returns.
+fn add_present(map: &mut IntMap<u64, u64>, key: u64, more: u64) -> FoundValue
+    ensures { AddsPresent map.old map.new key more result }
 {
     match map.get_mut(key) {
         Some(place) => {
@@ -140,50 +140,60 @@ pub extern "C" fn intmap_insert_checked(
     }
 }
 
-/// Sets the value of a present key in its place, and returns the value before. It allocates
-/// nothing.
+/// Replaces the value of a present key, whose pair keeps its place, and returns the value before. It
+/// inserts nothing, and allocates nothing.
 ///
 /// ```text
-/// intmap_set(&map, 21, 8)    {7, INTMAP_PRESENT} after intmap_insert(&map, 21, 7)
+/// intmap_replace(&map, 21, 8)    {7, INTMAP_PRESENT} after intmap_insert(&map, 21, 7)
 /// ```
 #[unsafe(no_mangle)]
-pub extern "C" fn intmap_set(alloc: Global, handle: &mut Handle, key: u64, value: u64) -> FoundValue
+pub extern "C" fn intmap_replace(
+    alloc: Global,
+    handle: &mut Handle,
+    key: u64,
+    value: u64,
+) -> FoundValue
     ensures { OnMap handle.old.value handle.new.value (result ≡ no_value absent_status)
-        (λ m n. Sets m n key value result) }
+        (λ m n. Replaces m n key value result) }
 {
     match take(handle, alloc) {
         None => FoundValue::of(None),
         Some(mut map) => {
-            let answer = set(&mut map, key, value);
+            let answer = replace(&mut map, key, value);
             put(handle, map);
             answer
         }
     }
 }
 
-/// Adds to the value of a present key in its place, modulo 2^64, and returns the value before. It
+/// Adds to the value of a present key, modulo 2^64, and returns the value before. It inserts nothing,
 /// looks the key up once, and allocates nothing.
 ///
 /// ```text
-/// intmap_add(&map, 21, 1)    {7, INTMAP_PRESENT} after intmap_insert(&map, 21, 7)
+/// intmap_add_present(&map, 21, 1)    {7, INTMAP_PRESENT} after intmap_insert(&map, 21, 7)
 /// ```
 #[unsafe(no_mangle)]
-pub extern "C" fn intmap_add(alloc: Global, handle: &mut Handle, key: u64, more: u64) -> FoundValue
+pub extern "C" fn intmap_add_present(
+    alloc: Global,
+    handle: &mut Handle,
+    key: u64,
+    more: u64,
+) -> FoundValue
     ensures { OnMap handle.old.value handle.new.value (result ≡ no_value absent_status)
-        (λ m n. Adds m n key more result) }
+        (λ m n. AddsPresent m n key more result) }
 {
     match take(handle, alloc) {
         None => FoundValue::of(None),
         Some(mut map) => {
-            let answer = add(&mut map, key, more);
+            let answer = add_present(&mut map, key, more);
             put(handle, map);
             answer
         }
     }
 }
 
-/// Adds to the value of a present key as [`intmap_add`] does, or inserts an absent key with `more`.
-/// It looks the key up once. The insertion of a new key fails as [`intmap_insert`] does.
+/// Adds to the value of a present key as [`intmap_add_present`] does, or inserts an absent key with
+/// `more`. It looks the key up once. The insertion of a new key fails as [`intmap_insert`] does.
 ///
 /// ```text
 /// intmap_add_or_insert(&map, 21, 1)    {0, INTMAP_ABSENT}, and then {1, INTMAP_PRESENT}
