@@ -187,9 +187,11 @@ impl<K: IntKey> IntSet<K> {
     /// # Proved
     ///
     /// - In `Ok` is `true` exactly if the key was no member (`new`).
-    /// - After `Ok` the key is a member, and each other key stays what it was. A new member is the
-    ///   last one of its slot, and the capacity changes as by an insertion into a map. A present
-    ///   one changes nothing (`inserted`).
+    /// - After `Ok` the key is a member, and each other key stays what it was. The capacity changes
+    ///   as by an insertion into a map (`inserted`).
+    /// - After `Ok(true)` the key is the last one of its slot. The others are the same, in the
+    ///   order of the new capacity; those of a slot keep their order. After `Ok(false)` the set is
+    ///   as it was (`state`).
     /// - After `Err` the set is as it was: the members, their order and the capacity (`err`).
     /// - `Err` comes only for a new key. The cause is `TooLarge` exactly if the set would need more
     ///   than 2^63 slots or 2^64 members. It is `Memory` only if the capacity would change or

@@ -6,12 +6,14 @@ use Rattle.intmap.specs.declared.refusal.Cause.{Cause}
 use Rattle.intmap.specs.Bindings.{value_of}
 use Rattle.intmap.specs.Insertions.{IsInsertion}
 use Rattle.intmap.specs.PlainLists.{RefusalIsDue, list_of}
-use Rattle.intmap.specs.Growing.{IsReservation, IsEnough, MayRefuseReserve}
+use Rattle.intmap.specs.Growing as of_map
+use Rattle.intmap.specs.Growing.{IsEnough, MayRefuseReserve}
 use Rattle.intmap.specs.Map.{MapState, IsLone, after_search, after_insert, after_remove, in_slots}
 use Rattle.intmap.specs.Reach.{reach}
 use Rattle.intmap.specs.Walk.{ArePassed}
 use Rattle.intmap_set.specs.Sets.{SetState, as_map, load_factor, looked_up, paired, set_of}
 use Rattle.intmap_set.specs.Extending.{Inserts}
+use Rattle.intmap_set.specs.Growing.{IsReservation}
 use Rattle.intmap_set.proofs.MemberLemmas.{Updates-seen, as_map-seen, holds-seen, length-seen, not-is_none, set_of-as_map}
 
 -- what holds, holds on an error
@@ -30,12 +32,15 @@ module _ {K : Type 0} (number : K → ℕ) (m n : MapState K (Unit {0})) (s : Se
   after_remove-seen k state = ap set_of state ∙ ap (λ x. set_of (after_remove number x k)) (as_map-seen m s seen kept)
 
   -- growth of the map is growth of the set
-  pub in_slots-seen : n ≡ in_slots number m n.capacity → set_of n ≡ set_of (in_slots number (as_map s) n.capacity)
+  in_slots-seen : n ≡ in_slots number m n.capacity → set_of n ≡ set_of (in_slots number (as_map s) n.capacity)
   in_slots-seen state = ap set_of state ∙ ap (λ x. set_of (in_slots number x n.capacity)) (as_map-seen m s seen kept)
 
-  -- room for n members is room for n pairs
-  pub reserved-seen : (d : ℕ) → IsReservation number m d n → IsEnough s.capacity (length s.walk + d) n.capacity
-  reserved-seen d did = subst (λ (t : ℕ × ℕ). IsEnough t.0 (t.1 + d) n.capacity) (λ i. ((seen i).capacity, length-seen m s seen i)) did.enough
+  -- a reservation in the map is one in the set
+  pub IsReservation-seen : (d : ℕ) → of_map.IsReservation number m d n → IsReservation number s d (set_of n)
+  IsReservation-seen d did = record {
+    enough = subst (λ (t : ℕ × ℕ). IsEnough t.0 (t.1 + d) n.capacity) (λ i. ((seen i).capacity, length-seen m s seen i)) did.enough;
+    state = in_slots-seen did.state;
+  }
 
   -- and why that fails is why the set does
   pub MayRefuseReserve-seen : (d : ℕ) (r : Result (Unit {0}) Cause) → IfErr r (MayRefuseReserve m.capacity (length m.walk + d)) → IfErr r (MayRefuseReserve s.capacity (length s.walk + d))
@@ -66,6 +71,12 @@ module _ {K : Type 0} (number : K → ℕ) (m n : MapState K (Unit {0})) (s : Se
         → (n.factor ≡ m.factor) × (set_of n ≡ cond (not new) (looked_up number s k) (set_of (after_insert number (as_map s) k tt n.capacity)))
     inserted-seen true state = (ap (λ x. x.factor) state, ap set_of state ∙ ap (λ x. set_of (after_insert number x k tt n.capacity)) (as_map-seen m s seen kept))
     inserted-seen false state = (ap (λ x. x.factor) state, looked_up-seen k state)
+
+    -- the same by whether it is new
+    pub state-seen : (new : Bool) → MatchBool new (n ≡ after_insert number m k tt n.capacity) (n ≡ after_search number m k)
+        → MatchBool new (set_of n ≡ set_of (after_insert number (as_map s) k tt n.capacity)) (set_of n ≡ looked_up number s k)
+    state-seen true state = (inserted-seen true state).1
+    state-seen false state = (inserted-seen false state).1
 
     -- either way the search is counted
     compared-seen : (new : Bool) → MatchBool new (n ≡ after_insert number m k tt n.capacity) (n ≡ after_search number m k)

@@ -84,7 +84,7 @@ module _ {K : Type 0} (number : K → ℕ) (is_valid : K → Type 0) where
 
   -- no insertion
   pub IsExtended-nil : (s : SetState K) → IsExtended number is_valid s [] s
-  IsExtended-nil s = record { inserted = refl; members = λ q. or-none (holds number s.walk q); len = sym (add-zero (length s.walk)); capacity = omega arith }
+  IsExtended-nil s = record { inserted = refl; updates = λ q. or-none (holds number s.walk q); len = sym (add-zero (length s.walk)); capacity = omega arith }
     where
       or-none : (b : Bool) → b ≡ (b || false)
       or-none true = refl
@@ -95,13 +95,13 @@ module _ {K : Type 0} (number : K → ℕ) (is_valid : K → Type 0) where
     pub IsExtended-push : IsExtended number is_valid s (ks ++ k ∷ []) t
     IsExtended-push = record {
       inserted = InsertsAll-push s u t ks k before.inserted last;
-      members = λ q.
-          last.updates.0 q ∙ (λ i. cond (same_key-turned number k q i) true (before.members q i))
+      updates = λ q.
+          last.updates.0 q ∙ (λ i. cond (same_key-turned number k q i) true (before.updates q i))
           ∙ or-last (holds number s.walk q) (holds number ks q) (same_key number q k)
           ∙ ap (λ b. holds number s.walk q || b) (sym (list_any-append (same_key number q) ks (k ∷ [])));
       len =
           (let more = count_new-push number s.walk ks k in
-          let counted : cond {A = ℕ} (holds number u.walk k) 0 1 ≡ cond {A = ℕ} (holds number s.walk k || holds number ks k) 0 1 = ap (λ b. cond b 0 1) (before.members k) in
+          let counted : cond {A = ℕ} (holds number u.walk k) 0 1 ≡ cond {A = ℕ} (holds number s.walk k || holds number ks k) 0 1 = ap (λ b. cond b 0 1) (before.updates k) in
           let start = before.len in
           let one = last.len in
           omega (arith, one, more, counted, start));

@@ -114,7 +114,7 @@ module _ {K : Type 0} (number : K → ℕ) (is_valid : K → Type 0) where
 
     -- an extended set has its members and the keys
     pub members-extended : (s t : SetState K) → Extends number is_valid steps i s t → IsUnion number s.walk all t.walk
-    members-extended s t told = (extended-all s t told).members
+    members-extended s t told = (extended-all s t told).updates
 
     -- a new set has the keys, and no others
     pub members-made : (t : SetState K) → Extends number is_valid steps i (empty_set 4) t → HaveSameMembers number t.walk all

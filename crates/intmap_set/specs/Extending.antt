@@ -32,7 +32,7 @@ module _ {K : Type 0} (number : K → ℕ) (is_valid : K → Type 0) where
   -- key, and there are no fewer slots
   pub record IsExtended (s : SetState K) (ks : List K) (t : SetState K) : Type 0 where
     pub inserted : InsertsAll s ks t
-    pub members : IsUnion number s.walk ks t.walk
+    pub updates : IsUnion number s.walk ks t.walk
     pub len : length t.walk ≡ length s.walk + length (new_keys number (paired s.walk) (paired ks))
     pub capacity : s.capacity ≤ t.capacity
 

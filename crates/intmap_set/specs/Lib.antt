@@ -3,4 +3,5 @@ pub mod Combined
 pub mod EqualityLaws
 pub mod Retaining
 pub mod Extending
+pub mod Growing
 pub mod Draining

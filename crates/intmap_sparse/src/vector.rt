@@ -171,7 +171,7 @@ impl<A: Allocator + Copy> SparseVec<A> {
     pub fn len(&self) -> usize
         ensures value { result ≡ length self.now.walk }
         ensures count { result ≡ count_of_nonzero self.now.walk }
-        ensures vector { IsVector self.now.walk }
+        ensures valid { IsVector self.now.walk }
     {
         self.values.len()
     }
@@ -192,7 +192,7 @@ impl<A: Allocator + Copy> SparseVec<A> {
     /// ```
     pub fn iter(&self) -> Iter<'_, u64, i64, A>
         ensures walk { result ≡ self.now.walk }
-        ensures vector { IsVector self.now.walk }
+        ensures valid { IsVector self.now.walk }
     {
         self.values.iter()
     }

@@ -105,8 +105,8 @@ impl<K: IntKey, V> IntMap<K, V> {
     /// # Proved
     ///
     /// - After `Ok` the capacity is the greater of the old one and of the least power of two that
-    ///   is at least the length plus `additional`. The pairs are the same, in the order of that
-    ///   capacity; those of a slot keep their order. The load factor stays (`reserved`).
+    ///   is at least the length plus `additional`. The pairs or members are the same, in the order
+    ///   of that capacity; those of a slot keep their order. The load factor stays (`reserved`).
     /// - After `Err` all is as it was: what iteration visits, its order, the capacity and the load
     ///   factor (`err`).
     /// - The cause is `TooLarge` exactly if the length plus `additional` is above 2^63. It is

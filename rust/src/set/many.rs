@@ -70,7 +70,7 @@ impl<K: IntKey> IntSet<K> {
     /// # Proved
     ///
     /// - There is no member left. The capacity stays (`state`).
-    /// - No key is a member (`none`).
+    /// - No key is a member (`updates`).
     /// - The length is 0 (`len`).
     ///
     /// # Examples
@@ -222,7 +222,8 @@ impl<K: IntKey> IntSet<K> {
     ///
     /// # Proved
     ///
-    /// - In `Ok` are the same members, in the same order, with the same capacity (`same`).
+    /// - In `Ok` are the same members, in the same order, with the same capacity (`clone`).
+    /// - The length is the same (`len`).
     /// - It fails by `Memory` alone (`memory`).
     ///
     /// # Examples

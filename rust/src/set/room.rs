@@ -109,14 +109,13 @@ impl<K: IntKey> IntSet<K> {
     /// # Proved
     ///
     /// - After `Ok` the capacity is the greater of the old one and of the least power of two that
-    ///   is at least the length plus `additional` (`capacity`).
-    /// - After `Ok` the members are the same, in the order of the new capacity; those of a slot
-    ///   keep their order (`state`).
+    ///   is at least the length plus `additional`. The pairs or members are the same, in the order
+    ///   of that capacity; those of a slot keep their order. The load factor stays (`reserved`).
     /// - After `Err` all is as it was: what iteration visits, its order, the capacity and the load
     ///   factor (`err`).
     /// - The cause is `TooLarge` exactly if the length plus `additional` is above 2^63. It is
     ///   `Memory` only if that is above the capacity (`refused`).
-    /// - Each key stays what it was, a member or not (`same`).
+    /// - Each key stays what it was, a member or not (`updates`).
     /// - The length stays (`len`).
     ///
     /// # Examples

@@ -1,10 +1,11 @@
 //! New sets, and the insertion of a key.
-ghost use Rattle.std.specs.Prelude.{◌≡◌, ◌↔◌, ◌+◌, ◌^◌, ◌<◌, max, length, not, Err, IfOk, IfErr, OnOk, OnErr, IsOk};
-ghost use Rattle.intmap.specs.Growing.{IsEnough, MayRefuseReserve};
+ghost use Rattle.std.specs.Prelude.{◌≡◌, ◌↔◌, ◌+◌, ◌^◌, ◌<◌, max, length, not, Err, IfOk, IfErr, OnOk, OnErr, IsOk, MatchBool};
+ghost use Rattle.intmap.specs.Growing.{MayRefuseReserve};
 ghost use Rattle.intmap.specs.Growth.{IsLeastPower};
-ghost use Rattle.intmap.specs.Map.{IsLone, in_slots, least_capacity};
+ghost use Rattle.intmap.specs.Map.{IsLone, after_insert, least_capacity};
 ghost use Rattle.intmap.specs.PlainLists.{RefusalIsDue, list_of};
 ghost use Rattle.intmap_set.specs.Extending.{Inserts};
+ghost use Rattle.intmap_set.specs.Growing.{IsReservation};
 ghost use Rattle.intmap_set.specs.Sets.{IsSet, as_map, empty_set, holds, load_factor, looked_up, paired, set_of};
 
 use crate::set::IntSet;
@@ -60,6 +61,9 @@ impl<K: IntKey, A: Allocator + Copy> IntSet<K, A> {
         // what is returned and left
         ensures new { IfOk result (λ new. new ≡ not (holds K.number_of self.old.walk key)) }
         ensures inserted { OnOk result (Inserts K.number_of K.is_valid self.old key self.new) }
+        ensures state { IfOk result (λ new. MatchBool new
+            (self.new ≡ set_of (after_insert K.number_of (as_map self.old) key tt
+            self.new.capacity)) (self.new ≡ looked_up K.number_of self.old key)) }
         ensures err { OnErr result (self.new ≡ looked_up K.number_of self.old key) }
 
         // when it fails
@@ -81,14 +85,12 @@ impl<K: IntKey, A: Allocator + Copy> IntSet<K, A> {
     /// otherwise with [`Cause::Memory`] if an allocation fails. It never fails if the capacity is
     /// at least that sum. A failed call leaves the set as it was. Both counts stay.
     pub fn reserve(&mut self, additional: usize) -> Result<(), Cause>
-        ensures capacity { OnOk result (IsEnough self.old.capacity
-            (length self.old.walk + additional) self.new.capacity) }
-        ensures state { OnOk result
-            (self.new ≡ set_of (in_slots K.number_of (as_map self.old) self.new.capacity)) }
+        ensures reserved { OnOk result
+            (IsReservation K.number_of self.old additional self.new) }
         ensures err { OnErr result (self.new ≡ self.old) }
         ensures refused { IfErr result
             (MayRefuseReserve self.old.capacity (length self.old.walk + additional)) }
-        ensures same { (q : K)
+        ensures updates { (q : K)
             → holds K.number_of self.new.walk q ≡ holds K.number_of self.old.walk q }
         ensures len { length self.new.walk ≡ length self.old.walk }
         ensures valid { IsSet K.number_of K.is_valid self.old }

@@ -27,7 +27,7 @@ impl<K: IntKey, A: Allocator + Copy> IntSet<K, A> {
     pub fn to_union(&self, alloc: A, other: &IntSet<K, A>) -> Result<IntSet<K, A>, Cause>
         ensures members { IfOk result (λ made.
             IsUnion K.number_of self.now.walk other.now.walk made.walk) }
-        ensures inserted { IfOk result (IsExtended K.number_of K.is_valid (empty_set 4)
+        ensures extended { IfOk result (IsExtended K.number_of K.is_valid (empty_set 4)
             (union_of K.number_of self.now.walk other.now.walk)) }
         ensures len { IfOk result (λ made. length made.walk
             ≡ length (union_of K.number_of self.now.walk other.now.walk)) }
@@ -51,7 +51,7 @@ impl<K: IntKey, A: Allocator + Copy> IntSet<K, A> {
     pub fn to_intersection(&self, alloc: A, other: &IntSet<K, A>) -> Result<IntSet<K, A>, Cause>
         ensures members { IfOk result (λ made.
             IsIntersection K.number_of self.now.walk other.now.walk made.walk) }
-        ensures inserted { IfOk result (IsExtended K.number_of K.is_valid (empty_set 4)
+        ensures extended { IfOk result (IsExtended K.number_of K.is_valid (empty_set 4)
             (intersection_of K.number_of self.now.walk other.now.walk)) }
         ensures len { IfOk result (λ made. length made.walk
             ≡ length (intersection_of K.number_of self.now.walk other.now.walk)) }
@@ -74,7 +74,7 @@ impl<K: IntKey, A: Allocator + Copy> IntSet<K, A> {
     pub fn to_difference(&self, alloc: A, other: &IntSet<K, A>) -> Result<IntSet<K, A>, Cause>
         ensures members { IfOk result (λ made.
             IsDifference K.number_of self.now.walk other.now.walk made.walk) }
-        ensures inserted { IfOk result (IsExtended K.number_of K.is_valid (empty_set 4)
+        ensures extended { IfOk result (IsExtended K.number_of K.is_valid (empty_set 4)
             (difference_of K.number_of self.now.walk other.now.walk)) }
         ensures len { IfOk result (λ made. length made.walk
             ≡ length (difference_of K.number_of self.now.walk other.now.walk)) }
@@ -101,7 +101,7 @@ impl<K: IntKey, A: Allocator + Copy> IntSet<K, A> {
     ) -> Result<IntSet<K, A>, Cause>
         ensures members { IfOk result (λ made.
             IsSymmetricDifference K.number_of self.now.walk other.now.walk made.walk) }
-        ensures inserted { IfOk result (IsExtended K.number_of K.is_valid (empty_set 4)
+        ensures extended { IfOk result (IsExtended K.number_of K.is_valid (empty_set 4)
             (symmetric_difference_of K.number_of self.now.walk other.now.walk)) }
         ensures len { IfOk result (λ made. length made.walk
             ≡ length (symmetric_difference_of K.number_of self.now.walk other.now.walk)) }
@@ -127,11 +127,11 @@ impl<K: IntKey, A: Allocator + Copy> IntSet<K, A> {
     /// set.extend_from_set(&other)?    this set has the members 1, 2 and 3
     /// ```
     pub fn extend_from_set(&mut self, other: &IntSet<K, A>) -> Result<(), RefusedPair<K, ()>>
-        ensures members { OnOk result
+        ensures updates { OnOk result
             (IsUnion K.number_of self.old.walk other.now.walk self.new.walk) }
         ensures len { OnOk result (length self.new.walk
             ≡ length (union_of K.number_of self.old.walk other.now.walk)) }
-        ensures inserted { OnOk result (IsExtended K.number_of K.is_valid self.old
+        ensures extended { OnOk result (IsExtended K.number_of K.is_valid self.old
             other.now.walk self.new) }
         ensures capacity { OnOk result (self.old.capacity ≤ self.new.capacity) }
         ensures stops { IfErr result (λ refused. StopsAmong K.number_of K.is_valid self.old

@@ -51,7 +51,7 @@ impl<K: IntKey, A: Allocator + Copy> IntSet<K, A> {
     /// fails.
     pub fn clear(&mut self)
         ensures state { self.new ≡ record self.old { walk = [] } }
-        ensures none { (q : K) → holds K.number_of self.new.walk q ≡ false }
+        ensures updates { (q : K) → holds K.number_of self.new.walk q ≡ false }
         ensures len { length self.new.walk ≡ 0 }
         ensures valid { IsSet K.number_of K.is_valid self.old }
         ensures valid_after { IsSet K.number_of K.is_valid self.new }

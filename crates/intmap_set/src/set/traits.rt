@@ -1,5 +1,5 @@
 //! Equality of sets, their text, and clones.
-ghost use Rattle.std.specs.Prelude.{◌≡◌, IfOk, IfErr};
+ghost use Rattle.std.specs.Prelude.{◌≡◌, length, IfOk, IfErr};
 ghost use Rattle.std.specs.Cmp.{partial_equiv_from_equiv};
 ghost use Rattle.intmap_set.specs.Sets.{IsSet};
 ghost use Rattle.intmap_set.specs.Combined.{sets_equal};
@@ -49,9 +49,11 @@ impl<K: IntKey, A: Allocator + Copy> IntSet<K, A> {
     /// grow with the number of slots and of members. It fails only with [`Cause::Memory`], if an
     /// allocation fails.
     pub fn clone(&self) -> Result<IntSet<K, A>, Cause>
-        ensures same { IfOk result (λ made. made ≡ record self.now { placed = 0; compared = 0 }) }
+        ensures clone { IfOk result (λ made. made ≡ record self.now { placed = 0; compared = 0 }) }
+        ensures len { IfOk result (λ made. length made.walk ≡ length self.now.walk) }
         ensures memory { IfErr result (λ cause. cause ≡ Cause.Memory) }
         ensures valid { IsSet K.number_of K.is_valid self.now }
+        ensures valid_after { IfOk result (IsSet K.number_of K.is_valid) }
     {
         Ok(IntSet {
             map: self.map.clone()?,

@@ -49,4 +49,4 @@ pub returns-clause-runs : goal.returns-clause-runs
 returns-clause-runs g c =
     let gives = g.I.Iterator.next_gives in let keys = c.loop-key.yielded in
     let came = subst (λ i. Yields gives i keys c.loop-key.key-iterator) c.into_iter-key-iterator.ensures.into_iter_gives c.loop-key.yielded_by in
-    total_runs gives c.args.iter (Unit {0}) _ (keys, λ _. (c.next.new.self, (c.loop-key.key-iterator, came, c.in-None.ensures.steps)), c.loop-key.invariant.1.members) tt
+    total_runs gives c.args.iter (Unit {0}) _ (keys, λ _. (c.next.new.self, (c.loop-key.key-iterator, came, c.in-None.ensures.steps)), c.loop-key.invariant.1.updates) tt

@@ -8,8 +8,8 @@ use Rattle.intmap_set.proofs.OwnedLemmas.{copies-came, extended-all, members-ext
 use Rattle.intmap_set.proofs.SizeLemmas.{length-same_members}
 use Rattle.intmap_set.proofs.set.IntSet.extend_from_set.Goals as goal
 
-pub returns-clause-members : goal.returns-clause-members
-returns-clause-members g c =
+pub returns-clause-updates : goal.returns-clause-updates
+returns-clause-updates g c =
     on_ok_weaker c.extend.result (members-extended g.K.IntKey.number_of g.K.IntKey.is_valid (copies-came (c.copied.ensures.source ∙ c.iter.ensures.walk)) c.args.self.now c.extend.new.self) c.extend.ensures.extends
 
 pub returns-clause-len : goal.returns-clause-len
@@ -26,6 +26,6 @@ returns-clause-stops g c =
     IfErr-weaker c.extend.result _ _ (λ refused told. stops-among g.K.IntKey.number_of g.K.IntKey.is_valid (copies-came (c.copied.ensures.source ∙ c.iter.ensures.walk)) c.args.self.now refused c.extend.new.self count told)
     c.extend.ensures.stops
 
-pub returns-clause-inserted : goal.returns-clause-inserted
-returns-clause-inserted g c =
+pub returns-clause-extended : goal.returns-clause-extended
+returns-clause-extended g c =
     on_ok_weaker c.extend.result (extended-all g.K.IntKey.number_of g.K.IntKey.is_valid (copies-came (c.copied.ensures.source ∙ c.iter.ensures.walk)) c.args.self.now c.extend.new.self) c.extend.ensures.extends

@@ -52,4 +52,4 @@ returns-in-Ok-clause-runs g c =
     let all = c.in-Ok.ensures.extends in
     let none = ap (λ (s : SetState g.row.K.Denot). s.walk) c.in_ok-set.ensures.state in
     total_runs g.I.Iterator.next_gives c.args.iter (Unit {0}) (λ items. (q : g.row.K.Denot) → holds number c.extend.new.self.walk q ≡ holds number items q)
-    (all.keys, λ _. all.came, λ q. all.extended.members q ∙ ap (λ W. holds number W q || holds number all.keys q) none) tt
+    (all.keys, λ _. all.came, λ q. all.extended.updates q ∙ ap (λ W. holds number W q || holds number all.keys q) none) tt

@@ -1,7 +1,7 @@
 use Rattle.std.proofs.Common.{◌∙◌, sym, ap, refl, rules}
 use Rattle.std.specs.Prelude.{not}
 use Rattle.intmap_set.proofs.MemberLemmas.{IsSet-seen, holds-seen, not-is_some}
-use Rattle.intmap_set.proofs.CallLemmas.{Inserts-seen, IsLone-seen, RefusalIsDue-seen, looked_up-seen, on_err_given}
+use Rattle.intmap_set.proofs.CallLemmas.{Inserts-seen, IsLone-seen, RefusalIsDue-seen, looked_up-seen, on_err_given, state-seen}
 use Rattle.intmap_set.proofs.set.IntSet.insert.Goals as goal
 
 pub returns-in_err-insert_checked-clause-err : goal.returns-in_err-insert_checked-clause-err
@@ -29,6 +29,10 @@ pub returns-clause-inserted : goal.returns-clause-inserted
 returns-clause-inserted g c =
     let e = c.in_ok-insert_checked.ensures in
     Inserts-seen _ c.self.inside.map c.insert_checked.new.self _ c.self.view_is c.self.invariant _ _ _ e.new e.state e.inserted
+
+pub returns-clause-state : goal.returns-clause-state
+returns-clause-state g c =
+    state-seen g.K.IntKey.number_of c.self.inside.map c.insert_checked.new.self _ c.self.view_is c.self.invariant _ _ c.in_ok-insert_checked.ensures.state
 
 pub returns-clause-valid : goal.returns-clause-valid
 returns-clause-valid g c = IsSet-seen _ _ c.self.inside.map _ c.self.view_is c.self.invariant c.insert_checked.ensures.valid

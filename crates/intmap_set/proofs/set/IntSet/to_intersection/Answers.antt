@@ -22,7 +22,7 @@ returns-clause-memory g c =
     if_err _ c.collected.result c.collected.ensures.collects
     (memory-made number g.K.IntKey.is_valid (copies-came (c.copied.ensures.source ∙ e.walk)) c.args.self.now e.valid (omega (arith, parts)))
 
-pub returns-clause-inserted : goal.returns-clause-inserted
-returns-clause-inserted g c =
+pub returns-clause-extended : goal.returns-clause-extended
+returns-clause-extended g c =
     if_ok _ c.collected.result c.collected.ensures.collects
     (extended-all g.K.IntKey.number_of g.K.IntKey.is_valid (copies-came (c.copied.ensures.source ∙ c.intersection.ensures.walk)) _)

@@ -19,7 +19,7 @@ returns-clause-too_large g c =
     if_err _ c.collected.result c.collected.ensures.collects
     (too_large-made g.K.IntKey.number_of g.K.IntKey.is_valid (copies-came (c.copied.ensures.source ∙ c.union.ensures.walk)))
 
-pub returns-clause-inserted : goal.returns-clause-inserted
-returns-clause-inserted g c =
+pub returns-clause-extended : goal.returns-clause-extended
+returns-clause-extended g c =
     if_ok _ c.collected.result c.collected.ensures.collects
     (extended-all g.K.IntKey.number_of g.K.IntKey.is_valid (copies-came (c.copied.ensures.source ∙ c.union.ensures.walk)) _)

@@ -42,7 +42,7 @@ returns-in_default-clause-none g c =
 pub returns-clause-product : goal.returns-clause-product
 returns-clause-product g c =
     let walk = c.args.self.now.walk in let theirs = c.args.other.now.walk in
-    let vector = c.iter-place-items.ensures.vector in
+    let vector = c.iter-place-items.ensures.valid in
     ap (λ V. fold ◌+ℤ◌ (to_z w128 c.loop-place.sum-bits) (products_along V theirs)) (sym c.in-None.ensures.steps.0)
     ∙ c.loop-place.invariant.left
     ∙ fold-products_along walk theirs (2 ^ 64) vector.distinct vector.places

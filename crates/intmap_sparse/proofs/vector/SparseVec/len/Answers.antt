@@ -9,5 +9,5 @@ returns-clause-count g c =
     c.len.ensures.value ∙ sym (count_below-length c.self.inside.values.walk (2 ^ 64) map.distinct map.keys c.self.invariant.0)
     ∙ ap (λ v. count_of_nonzero v.walk) c.self.view_is
 
-pub returns-clause-vector : goal.returns-clause-vector
-returns-clause-vector g c = subst (λ v. IsVector v.walk) c.self.view_is (IsVector-map c.self.inside.values c.len.ensures.valid c.self.invariant.0)
+pub returns-clause-valid : goal.returns-clause-valid
+returns-clause-valid g c = subst (λ v. IsVector v.walk) c.self.view_is (IsVector-map c.self.inside.values c.len.ensures.valid c.self.invariant.0)
