@@ -1,5 +1,4 @@
-use Rattle.std.proofs.Common.{ℕ, Some, arith}
-use Rattle.std.specs.Prelude.{unwrap_or}
+use Rattle.std.proofs.Common.{Some, arith}
 use Rattle.intmap.proofs.UpdateSumLemmas.{sum_by-Updates}
 use Rattle.intmap.proofs.laws.new_keys_raise_sum.Goals as goal
 
