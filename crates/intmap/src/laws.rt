@@ -77,8 +77,10 @@ pub fn insertion_lengthens<K: IntKey, V>()
 
 /// A pair is in the walk of a map exactly if its value is that of its key.
 pub fn pairs_are_values<K: IntKey, V>()
-    ensures { (m : MapState K V) (k : K) (v : V) → IsMap K.number_of K.is_valid m → K.is_valid k
-        → Contains m.walk (k, v) ↔ value_of K.number_of m.walk k ≡ Some v }
+    ensures value { (m : MapState K V) (k : K) (v : V) → IsMap K.number_of K.is_valid m
+        → Contains m.walk (k, v) → value_of K.number_of m.walk k ≡ Some v }
+    ensures pair { (m : MapState K V) (k : K) (v : V) → IsMap K.number_of K.is_valid m
+        → K.is_valid k → value_of K.number_of m.walk k ≡ Some v → Contains m.walk (k, v) }
 {}
 
 /// The values in the walk of a list have the same sum as those in the list.
