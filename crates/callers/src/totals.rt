@@ -24,7 +24,6 @@ pub fn total<K: IntKey, A: Allocator + Copy>(map: &IntMap<K, u64, A>) -> Option<
 pub fn greatest<A: Allocator + Copy>(map: &IntMap<u64, u64, A>) -> Option<(u64, u64)>
     ensures present { IfSome result (λ pair. Contains map.now.walk pair) }
     ensures greatest { IfSome result (λ greatest. All (λ pair. pair.1 ≤ greatest.1) map.now.walk) }
-    ensures value { IfSome result (λ pair. value_of (λ k. k) map.now.walk pair.0 ≡ Some pair.1) }
     ensures values { IfSome result (λ greatest. (q v : ℕ) → q < 2 ^ 64
         → value_of (λ k. k) map.now.walk q ≡ Some v → v ≤ greatest.1) }
     ensures none { result ≡ None → map.now.walk ≡ [] }
