@@ -56,6 +56,9 @@
 #if UINTPTR_MAX != UINT64_MAX
 #error "intmap.c is for processors with addresses of 64 bits"
 #endif
+#ifdef INTMAP_DEBUG
+#error "compile intmap_debug.c, which includes intmap.c, in its place"
+#endif
 
 // What gcc and clang add to C. INTMAP_PLAIN_C leaves it out, as it is for other compilers.
 #if (defined(__GNUC__) || defined(__clang__)) && !defined(INTMAP_PLAIN_C)

@@ -9,7 +9,7 @@
 //
 //     cc -O2 program.c intmap.c
 //
-// A map is one word. Start it as INTMAP_INIT, which is an empty map, hand its address to the calls,
+// A map is one word. Define it as INTMAP_INIT, which is an empty map, hand its address to the calls,
 // and free it:
 //
 //     intmap map = INTMAP_INIT;
@@ -90,9 +90,10 @@
 // empty map.
 //
 // All files that have maps must be compiled so, by gcc or clang. No installed library has it, so
-// compile intmap_debug.c beside them. Each map takes 24 bytes more, which stay in use, and the call
-// that makes it may fail for want of them. Else calls answer as without. A map that is lost isn't
-// reported by a tool that looks for leaks.
+// compile intmap_debug.c, which includes intmap.c, beside them. The message names the call; run the
+// program in a debugger for its place. Each map takes 24 bytes more, in blocks from 1,536 bytes on
+// that stay in use, and the call that makes it may fail for want of them. Else calls answer as
+// without. A map that is lost isn't reported by a tool that looks for leaks.
 #ifndef INTMAP_H
 #define INTMAP_H
 
@@ -293,7 +294,8 @@ INTMAP_NONNULL INTMAP_MUST_USE intmap_found_value intmap_add_or_insert(intmap *m
 #if !defined(__BYTE_ORDER__) || __BYTE_ORDER__ != __ORDER_BIG_ENDIAN__
 #define INTMAP_HAS_AT 1
 
-// Writes what intmap_at returns to `at`, which has some address, or NULL, before.
+// Writes what intmap_at returns to `at`, which has some address, or NULL, before. A library exports
+// this call, and not intmap_at.
 INTMAP_NONNULL void intmap_place(intmap *map, uint64_t key, uint64_t **at) INTMAP_CALL;
 
 // Returns the address of the value of a present key, or NULL. The value may be read and written
@@ -325,18 +327,18 @@ INTMAP_NONNULL size_t intmap_len(const intmap *map) INTMAP_CALL;
 // Returns the number of slots, a power of two from 2 to 2^63.
 INTMAP_NONNULL size_t intmap_capacity(const intmap *map) INTMAP_CALL;
 
-// Returns the load factor in thousandths.
+// Returns the load factor in thousandths: the limit that is set, not how full the map is.
 INTMAP_NONNULL size_t intmap_load_factor(const intmap *map) INTMAP_CALL;
 
 // Returns the number of slots that hold a pair. If it is far below the number of pairs, many keys
 // share slots. It takes time in a 64th of the slots.
 INTMAP_NONNULL size_t intmap_filled_slots(const intmap *map) INTMAP_CALL;
 
-// Makes the number of slots at least the least power of two that is no less than the number of
-// pairs plus `additional`. It ignores the load factor, so the map may still grow before it has that
-// many pairs: intmap_reserve_pairs makes room for them. It returns INTMAP_OK; INTMAP_TOO_LARGE
-// exactly if the pairs and `additional` are above 2^63; or INTMAP_NO_MEMORY, but never if the map
-// has memory, and slots enough.
+// Adds slots; intmap_reserve_pairs makes room for pairs. The number of slots becomes at least the
+// least power of two that is no less than the number of pairs plus `additional`. It ignores the load
+// factor, so the map may still grow before it has that many pairs. It returns INTMAP_OK;
+// INTMAP_TOO_LARGE exactly if the pairs and `additional` are above 2^63; or INTMAP_NO_MEMORY, but
+// never if the map has memory, and slots enough.
 INTMAP_NONNULL INTMAP_MUST_USE intmap_status intmap_reserve(intmap *map, size_t additional)
     INTMAP_CALL;
 
@@ -406,11 +408,12 @@ INTMAP_NONNULL static inline size_t intmap_copy_pairs(const intmap *map, intmap_
 }
 
 // Removes the first pair of the walk from the cursor on. It returns INTMAP_PRESENT with the pair, or
-// INTMAP_ABSENT if none is left, and leaves the cursor. The pairs before the cursor stay, and those
-// behind it come next, in the same order. The number of slots stays. It requests no memory, and
-// takes time in the pairs that follow in the slot, and in what intmap_step would pass.
+// INTMAP_ABSENT if none is left, and leaves the cursor. Otherwise the cursor is where the pair was:
+// the pairs before it stay, and those behind it come next, in the same order. The number of slots
+// stays. It requests no memory, and takes time in the pairs that follow in the slot, and in what
+// intmap_step would pass.
 //
-// To remove some pairs of a walk, look with a second cursor:
+// To remove some pairs of a walk, look with a second cursor. Here `seen` is the pair that is cut:
 //
 //     intmap_cursor at = intmap_start(), next = at;
 //     intmap_found_pair seen;

@@ -10,6 +10,9 @@
 // A word has a handle in place of a map's address. It is no place in memory, and leads to a record,
 // which has the map. A record tells for ever whether its map was freed, since no handle is given
 // twice. What a record counts orders nothing between threads, so that other tools see as much.
+#ifndef INTMAP_DEBUG
+#error "compile this file and each file that has maps with INTMAP_DEBUG"
+#endif
 #undef INTMAP_DEBUG
 #include "intmap.c"
 #include <stdio.h>
@@ -95,7 +98,8 @@ static debug_record *record_of(const char *call, const intmap *word) {
     bool is_ours = number < __atomic_load_n(&debug_count, __ATOMIC_RELAXED);
     debug_record *one = is_ours ? record_at(number) : NULL;
     if (one == NULL) {
-        debug_end(call, "no call wrote the word, and it isn't INTMAP_INIT");
+        debug_end(call, "no call wrote the word, and it isn't INTMAP_INIT; or a file was compiled without "
+                        "INTMAP_DEBUG");
     }
     return one;
 }

@@ -315,7 +315,8 @@ static void make_many(void) {
 }
 
 static const char COPY[] = "the word is a copy, and its map was freed or replaced";
-static const char UNKNOWN[] = "no call wrote the word, and it isn't INTMAP_INIT";
+static const char UNKNOWN[] = "no call wrote the word, and it isn't INTMAP_INIT; or a file was compiled without "
+                              "INTMAP_DEBUG";
 static const char NOWHERE[] = "the address of the word is null";
 static const char SAME[] = "both words have one map";
 static const char CHANGING[] = "another call is changing the map";
@@ -406,6 +407,6 @@ int main(void) {
     for (size_t at = 0; at < MISTAKES; at++) {
         wrong += !is_noticed(at);
     }
-    printf("%d mistakes or none, %zu wrong\n", MISTAKES, wrong);
+    printf("%d cases, %zu wrong\n", MISTAKES, wrong);
     return wrong == 0 ? 0 : 1;
 }
