@@ -56,7 +56,7 @@ impl<K: IntKey, V> IntMap<K, V> {
     ///
     /// # Proved
     ///
-    /// That of [`try_new`](IntMap::try_new).
+    /// The contract of [`try_new`](IntMap::try_new).
     ///
     /// # Examples
     ///
@@ -79,7 +79,7 @@ impl<K: IntKey, V> IntMap<K, V> {
     ///
     /// # Proved
     ///
-    /// - In `Ok` there is no pair or member, in 4 slots, with a load factor of 0.909 (`state`).
+    /// - In `Ok` is a map without a pair, of 4 slots, with a load factor of 0.909 (`state`).
     /// - It fails by `Memory` alone (`memory`).
     ///
     /// # Examples
@@ -113,7 +113,7 @@ impl<K: IntKey, V> IntMap<K, V> {
     ///
     /// # Proved
     ///
-    /// That of [`try_with_capacity`](IntMap::try_with_capacity).
+    /// The contract of [`try_with_capacity`](IntMap::try_with_capacity).
     ///
     /// # Examples
     ///
@@ -137,7 +137,7 @@ impl<K: IntKey, V> IntMap<K, V> {
     ///
     /// # Proved
     ///
-    /// - In `Ok` there is no pair or member, and the load factor is 0.909 (`state`).
+    /// - In `Ok` is a map without a pair, with a load factor of 0.909 (`state`).
     /// - The capacity is the least power of two that is at least `capacity`, and at least 2
     ///   (`capacity`).
     /// - It fails by `TooLarge` exactly if `capacity` is above 2^63 (`too_large`).

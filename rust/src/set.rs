@@ -57,7 +57,7 @@ impl<K: IntKey> IntSet<K> {
     ///
     /// # Proved
     ///
-    /// That of [`try_new`](IntSet::try_new).
+    /// The contract of [`try_new`](IntSet::try_new).
     ///
     /// # Examples
     ///
@@ -78,7 +78,7 @@ impl<K: IntKey> IntSet<K> {
     ///
     /// # Proved
     ///
-    /// - In `Ok` there is no pair or member, in 4 slots, with a load factor of 0.909 (`state`).
+    /// - In `Ok` is a set without a member, of 4 slots, with a load factor of 0.909 (`state`).
     /// - It fails by `Memory` alone (`memory`).
     ///
     /// # Examples
@@ -111,7 +111,7 @@ impl<K: IntKey> IntSet<K> {
     ///
     /// # Proved
     ///
-    /// That of [`try_with_capacity`](IntSet::try_with_capacity).
+    /// The contract of [`try_with_capacity`](IntSet::try_with_capacity).
     ///
     /// # Examples
     ///
@@ -132,7 +132,7 @@ impl<K: IntKey> IntSet<K> {
     ///
     /// # Proved
     ///
-    /// - In `Ok` there is no pair or member, and the load factor is 0.909 (`state`).
+    /// - In `Ok` is a set without a member, with a load factor of 0.909 (`state`).
     /// - The capacity is the least power of two that is at least `capacity`, and at least 2
     ///   (`capacity`).
     /// - It fails by `TooLarge` exactly if `capacity` is above 2^63 (`too_large`).
@@ -163,7 +163,7 @@ impl<K: IntKey> IntSet<K> {
     ///
     /// # Proved
     ///
-    /// That of [`try_insert`](IntSet::try_insert).
+    /// The contract of [`try_insert`](IntSet::try_insert).
     ///
     /// # Examples
     ///
@@ -271,7 +271,7 @@ impl<K: IntKey> IntSet<K> {
     ///
     /// # Proved
     ///
-    /// That of [`try_replace`](IntSet::try_replace).
+    /// In part, as [`try_replace`](IntSet::try_replace).
     ///
     /// # Examples
     ///
@@ -348,7 +348,7 @@ impl<K: IntKey> IntSet<K> {
     ///
     /// # Proved
     ///
-    /// That of [`remove`](IntSet::remove).
+    /// The contract of [`remove`](IntSet::remove).
     ///
     /// # Examples
     ///
@@ -365,7 +365,7 @@ impl<K: IntKey> IntSet<K> {
     ///
     /// # Proved
     ///
-    /// - The answer is the number of pairs or members that iteration visits (`value`).
+    /// - The answer is the number of members that iteration visits (`value`).
     ///
     /// # Examples
     ///

@@ -23,7 +23,7 @@ impl<K: IntKey, V> IntMap<K, V> {
     ///
     /// # Proved
     ///
-    /// That of [`try_insert`](IntMap::try_insert).
+    /// The contract of [`try_insert`](IntMap::try_insert).
     ///
     /// # Examples
     ///
@@ -111,7 +111,7 @@ impl<K: IntKey, V> IntMap<K, V> {
     ///
     /// # Proved
     ///
-    /// That of [`try_insert_checked`](IntMap::try_insert_checked).
+    /// The contract of [`try_insert_checked`](IntMap::try_insert_checked).
     ///
     /// # Examples
     ///

@@ -95,6 +95,9 @@ impl<K: IntKey, V> IntMap<K, V> {
     /// # Proved
     ///
     /// - At the first step all is there that was: nothing is removed before (`state`).
+    /// - Each step removes and returns the first pair that is left, or returns `None` if there is
+    ///   none. The other pairs stay, in their order, and so do the capacity and the load factor
+    ///   (`next_gives`).
     ///
     /// # Examples
     ///
@@ -125,9 +128,15 @@ impl<K: IntKey, V> IntMap<K, V> {
     /// # Proved
     ///
     /// - At the first step the map is as it was (`state`).
-    /// - The closure is the given one (`test`).
+    /// - The closure that the steps call is the given one, in the state in which it was given
+    ///   (`test`).
     /// - Before the first step the closure was called at no pair (`kept`).
     /// - The steps go through all pairs, in iteration order (`left`).
+    /// - Each step calls the closure at the pairs that are left, in turn, each time in the state
+    ///   that its last call left, up to the first with `true`. It removes that pair and returns it,
+    ///   as the closure left it, or returns `None` if there is none. All other pairs stay, in their
+    ///   order: those with `false` with the value that the closure left, the rest as they are. The
+    ///   capacity and the load factor stay (`next_gives`).
     ///
     /// # Examples
     ///

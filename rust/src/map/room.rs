@@ -22,7 +22,7 @@ impl<K: IntKey, V> IntMap<K, V> {
     ///
     /// # Proved
     ///
-    /// That of [`try_with_room_for`](IntMap::try_with_room_for).
+    /// In part, as [`try_with_room_for`](IntMap::try_with_room_for).
     ///
     /// # Examples
     ///
@@ -83,7 +83,7 @@ impl<K: IntKey, V> IntMap<K, V> {
     ///
     /// # Proved
     ///
-    /// That of [`try_reserve_pairs`](IntMap::try_reserve_pairs).
+    /// In part, as [`try_reserve_pairs`](IntMap::try_reserve_pairs).
     ///
     /// # Examples
     ///
@@ -140,7 +140,7 @@ impl<K: IntKey, V> IntMap<K, V> {
     ///
     /// # Proved
     ///
-    /// That of [`try_shrink_to_fit`](IntMap::try_shrink_to_fit).
+    /// In part, as [`try_shrink_to_fit`](IntMap::try_shrink_to_fit).
     ///
     /// # Examples
     ///
@@ -164,7 +164,7 @@ impl<K: IntKey, V> IntMap<K, V> {
     ///
     /// # Proved
     ///
-    /// That of [`try_shrink_to`](IntMap::try_shrink_to).
+    /// In part, as [`try_shrink_to`](IntMap::try_shrink_to).
     ///
     /// # Examples
     ///
@@ -192,7 +192,7 @@ impl<K: IntKey, V> IntMap<K, V> {
     ///
     /// # Proved
     ///
-    /// That of [`try_shrink_to`](IntMap::try_shrink_to).
+    /// In part, as [`try_shrink_to`](IntMap::try_shrink_to).
     ///
     /// # Examples
     ///

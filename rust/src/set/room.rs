@@ -35,7 +35,7 @@ impl<K: IntKey> IntSet<K> {
     ///
     /// # Proved
     ///
-    /// That of [`try_with_room_for`](IntSet::try_with_room_for).
+    /// In part, as [`try_with_room_for`](IntSet::try_with_room_for).
     ///
     /// # Examples
     ///
@@ -86,7 +86,7 @@ impl<K: IntKey> IntSet<K> {
     ///
     /// # Proved
     ///
-    /// That of [`try_reserve`](IntSet::try_reserve).
+    /// The contract of [`try_reserve`](IntSet::try_reserve).
     ///
     /// # Examples
     ///
@@ -109,8 +109,8 @@ impl<K: IntKey> IntSet<K> {
     /// # Proved
     ///
     /// - After `Ok` the capacity is the greater of the old one and of the least power of two that
-    ///   is at least the length plus `additional`. The pairs or members are the same, in the order
-    ///   of that capacity; those of a slot keep their order. The load factor stays (`reserved`).
+    ///   is at least the length plus `additional`. The members are the same, in the order of that
+    ///   capacity; those of a slot keep their order. The load factor stays (`reserved`).
     /// - After `Err` all is as it was: what iteration visits, its order, the capacity and the load
     ///   factor (`err`).
     /// - The cause is `TooLarge` exactly if the length plus `additional` is above 2^63. It is
@@ -150,7 +150,7 @@ impl<K: IntKey> IntSet<K> {
     ///
     /// # Proved
     ///
-    /// That of [`try_reserve_members`](IntSet::try_reserve_members).
+    /// In part, as [`try_reserve_members`](IntSet::try_reserve_members).
     ///
     /// # Examples
     ///
@@ -201,7 +201,7 @@ impl<K: IntKey> IntSet<K> {
     ///
     /// # Proved
     ///
-    /// That of [`try_shrink_to_fit`](IntSet::try_shrink_to_fit).
+    /// In part, as [`try_shrink_to_fit`](IntSet::try_shrink_to_fit).
     ///
     /// # Examples
     ///
@@ -223,7 +223,7 @@ impl<K: IntKey> IntSet<K> {
     ///
     /// # Proved
     ///
-    /// That of [`try_shrink_to`](IntSet::try_shrink_to).
+    /// In part, as [`try_shrink_to`](IntSet::try_shrink_to).
     ///
     /// # Examples
     ///
@@ -247,7 +247,7 @@ impl<K: IntKey> IntSet<K> {
     ///
     /// # Proved
     ///
-    /// That of [`try_shrink_to`](IntSet::try_shrink_to).
+    /// In part, as [`try_shrink_to`](IntSet::try_shrink_to).
     ///
     /// # Examples
     ///
