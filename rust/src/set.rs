@@ -31,9 +31,10 @@ pub use iter::{
 /// A set of integers.
 ///
 /// Its members lie in slots as the keys of an [`IntMap`](crate::IntMap) do, and iteration goes
-/// through them in the same way: order and capacity depend on the calls alone. In what the calls
-/// say of their cost, *n* is the number of members, *c* the capacity, and *s* the number of members
-/// in the slot of the key.
+/// through them in the same way: order and capacity depend on the calls alone. Its
+/// [memory](crate::IntMap#memory) is that of a map whose pairs take the space of a key. In what the
+/// calls say of their cost, *n* is the number of members, *c* the capacity, and *s* the number of
+/// members in the slot of the key.
 ///
 /// # Examples
 ///
@@ -155,7 +156,7 @@ impl<K: IntKey> IntSet<K> {
     /// slot.
     ///
     /// A failed allocation is handled as std does; [`try_insert`](IntSet::try_insert) returns it.
-    /// The cost is *O*(*s*) amortized, and *O*(*n* + *c*) if the slots are doubled.
+    /// The cost is that of [`IntMap::insert`](crate::IntMap::insert).
     ///
     /// # Panics
     ///

@@ -15,8 +15,9 @@ impl<K: IntKey, V> IntMap<K, V> {
     /// returns `false`.
     ///
     /// The other pairs keep their order, and the capacity stays. Unlike std's, `keep` takes the key
-    /// by value and can't change the value: see [`extract_if`](IntMap::extract_if). It doesn't
-    /// allocate. The cost is *O*(*n* + *c*).
+    /// by value and can't change the value. Where it has to, take
+    /// [`extract_if`](IntMap::extract_if) with the opposite answer, and end it by `.for_each(drop)`.
+    /// It doesn't allocate. The cost is *O*(*n* + *c*).
     ///
     /// If `keep` or the drop of a value panics, the map stays whole, and the pairs that weren't
     /// reached stay in it.
@@ -221,9 +222,11 @@ impl<K: IntKey, V> IntMap<K, V> {
     /// use intmap_proved::{IntMap, RefusedPair};
     ///
     /// let mut map = IntMap::new();
-    /// map.try_extend([(21u64, 'a'), (22, 'b')])?;
+    /// let pairs = [(21u64, 'a'), (22, 'b')];
+    /// if let Err(RefusedPair { key, applied, cause, .. }) = map.try_extend(pairs) {
+    ///     eprintln!("{key} came after {applied} others: {cause}");
+    /// }
     /// assert_eq!(map.len(), 2);
-    /// # Ok::<(), RefusedPair<u64, char>>(())
     /// ```
     pub fn try_extend<I>(&mut self, pairs: I) -> Result<(), RefusedPair<K, V>>
     where

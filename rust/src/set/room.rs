@@ -239,7 +239,9 @@ impl<K: IntKey> IntSet<K> {
     /// members meet the load factor. A smaller capacity stays.
     ///
     /// The set then has the order of a new one of that capacity into which the members were inserted
-    /// in iteration order. For a while there are both sets.
+    /// in iteration order. For a while there are both sets. As in a map, the new slots are
+    /// [large](crate::IntMap#memory): half as many take twice the memory of small ones with keys of
+    /// 4 bytes. If the capacity stays, no memory is given back.
     ///
     /// A failed allocation is handled as std does; [`try_shrink_to`](IntSet::try_shrink_to) returns
     /// it. The cost is *O*(*n s* + *c*), or *O*(1) if the capacity stays. If a key's `number`
