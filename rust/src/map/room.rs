@@ -71,7 +71,7 @@ impl<K: IntKey, V> IntMap<K, V> {
     ///
     /// Insertions of so many new keys then add no slots. Keys that share a slot still allocate. With
     /// a load factor above 1, a map that has too few slots gets one for each present pair at least.
-    /// The slots of an empty map are [large](IntMap#memory).
+    /// The slots keep their [size](IntMap#memory).
     ///
     /// A failed allocation is handled as std does;
     /// [`try_reserve_pairs`](IntMap::try_reserve_pairs) returns it. The cost is *O*(*n* + *c*), or
