@@ -170,7 +170,7 @@ impl<'a, K: IntKey, V> Entry<'a, K, V> {
     ///
     /// # Proved
     ///
-    /// That of [`try_or_insert`](Entry::try_or_insert).
+    /// In part, as [`try_or_insert`](Entry::try_or_insert).
     ///
     /// # Examples
     ///
@@ -229,7 +229,7 @@ impl<'a, K: IntKey, V> Entry<'a, K, V> {
     ///
     /// # Proved
     ///
-    /// That of [`try_insert_entry`](Entry::try_insert_entry).
+    /// The contract of [`try_insert_entry`](Entry::try_insert_entry).
     ///
     /// # Examples
     ///

@@ -10,12 +10,12 @@ use core::num::{
 ///
 /// # Keys of your own
 ///
-/// [`int_key!`](crate::int_key) makes a key of a struct with one field that is a key. For other
-/// types, implement this trait. A type of keys is `Copy` and `Eq`, and gives each key a number. Two
-/// keys must be equal exactly if their numbers are, and a key's number must never change. If a type
-/// breaks this, then in its maps lookups may miss, pairs may be lost, lengths may be wrong, and
-/// calls may panic or find no memory. There is still no undefined behavior, and no value is dropped
-/// twice. If `number` panics, the map stays whole: the page of the crate says what that means.
+/// [`int_key!`](crate::int_key) makes a key of a struct with one field that is a key. Where you
+/// implement this trait by hand, two keys must be equal exactly if their numbers are, and a key's
+/// number must never change. If a type breaks this, then in its maps lookups may miss, pairs may be
+/// lost, lengths may be wrong, and calls may panic or find no memory. There is still no undefined
+/// behavior, and no value is dropped twice. If `number` panics, the map stays whole: the page of the
+/// crate says what that means.
 ///
 /// # Examples
 ///

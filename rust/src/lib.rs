@@ -16,7 +16,14 @@
 //! order and capacity depend on the calls alone, so they are the same on every run.
 //!
 //! The crate is `no_std` with `alloc`, has no `unsafe` and no dependency, and is for targets that
-//! are 64 bits wide.
+//! are 64 bits wide. The traits of serde are in the crate `intmap_proved_serde`.
+//!
+//! # When to take it
+//!
+//! Take it for the same order on every run, for programs that must survive a failed allocation, and
+//! for keys that count up. Take std's map for [little memory](IntMap#memory), and for keys that
+//! strangers choose or whose low bits are equal, unless you scramble or renumber them: see
+//! [`IntKey`]. The README in the crate's folder says more.
 //!
 //! # What is proved
 //!
@@ -44,9 +51,10 @@
 //! With the feature `check`, off by default, each call runs beside its contract: on a plain list of
 //! the numbers of the keys, in iteration order. The call panics unless the map then has the pairs,
 //! the order, the capacity and the load factor that are due, and unless the answer or the failure
-//! is due. So it finds a type of keys whose numbers change, or are shared by a key that is looked up,
-//! and a fault in the proved text as Rust compiles it, in `memory` or in a call by hand. It is there
-//! in each profile.
+//! is due. So it finds a fault in the proved text as Rust compiles it, in `memory` or in a call by
+//! hand. It finds a key whose number changed, and two keys with one number, when `get` or a call
+//! like it looks for such a key. An insertion, a removal or an entry of the second key takes the
+//! pair of the first, and no check says so. It is there in each profile.
 //!
 //! Values aren't compared, since they need no `==`; a returned reference has to be that of the key's
 //! value. So of [`IntMap::into_values`] only the number of items is checked. Where maps are compared
@@ -72,8 +80,15 @@
 //! other. All other calls allocate nothing: lookups, removals, `retain`, `clear`, and all iterators.
 //!
 //! ```
-//! use intmap_proved::{Cause, IntMap};
+//! use intmap_proved::{Cause, IntMap, Refused};
 //!
+//! let mut map = IntMap::new();
+//! match map.try_insert(21u64, "a value") {
+//!     Ok(old) => assert_eq!(old, None),
+//!     Err(Refused { value, cause }) => eprintln!("no room for {value}: {cause}"),
+//! }
+//!
+//! // with `?`, the cause alone
 //! fn count(map: &mut IntMap<u64, u32>, key: u64) -> Result<(), Cause> {
 //!     let count = map.entry(key).try_or_insert(0)?;
 //!     *count = count.saturating_add(1);
@@ -81,6 +96,9 @@
 //! }
 //! # count(&mut IntMap::new(), 21).unwrap();
 //! ```
+//!
+//! By `?` a [`Refused`] becomes a `Box<dyn Error>` only if the value is `Debug` and borrows nothing.
+//! For other values, and for a type of errors of yours, write `.map_err(Cause::from)?`.
 //!
 //! # Panics
 //!

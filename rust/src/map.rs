@@ -25,9 +25,21 @@ mod walk;
 ///
 /// In what the calls say of their cost, *n* is the number of pairs, *c* the capacity, and *s* the
 /// number of pairs in the slot of the key. With the load factor of a new map, *s* is at most 2 for
-/// keys that count up, and small for random ones. Keys whose low bits are equal share a slot, and
-/// then *s* is large: see [`IntKey`]. Of the slots that have no pair, walks read one bit each, 64
-/// at a time.
+/// keys that count up without gaps, and small for random ones. Keys whose low bits are equal share
+/// a slot, and then *s* is large: see [`IntKey`]. Of the slots that have no pair, walks read one bit
+/// each, 64 at a time.
+///
+/// # Memory
+///
+/// A slot takes the space of a pair and up to a word, also if it is empty. It takes 24 bytes more
+/// in a new map, and until insertions make the map grow to 16 slots or more with no two pairs in
+/// one slot. The slots are then small, until a second pair comes to one: that insertion makes all
+/// of them large. A clone has slots of the same size.
+///
+/// The pairs of a slot behind its first lie in a block. Each slot keeps the block for the most pairs
+/// that it ever had, as long as the capacity stays: no removal gives it back. So memory creeps where
+/// keys rise and random ones leave. A [`clone`](Clone::clone) does without that memory, and so does
+/// a map that is collected from the pairs. Keys that come again find their slot's block.
 ///
 /// # Examples
 ///
@@ -56,7 +68,7 @@ impl<K: IntKey, V> IntMap<K, V> {
     ///
     /// # Proved
     ///
-    /// That of [`try_new`](IntMap::try_new).
+    /// The contract of [`try_new`](IntMap::try_new).
     ///
     /// # Examples
     ///
@@ -79,7 +91,7 @@ impl<K: IntKey, V> IntMap<K, V> {
     ///
     /// # Proved
     ///
-    /// - In `Ok` there is no pair or member, in 4 slots, with a load factor of 0.909 (`state`).
+    /// - In `Ok` is a map without a pair, of 4 slots, with a load factor of 0.909 (`state`).
     /// - It fails by `Memory` alone (`memory`).
     ///
     /// # Examples
@@ -113,7 +125,7 @@ impl<K: IntKey, V> IntMap<K, V> {
     ///
     /// # Proved
     ///
-    /// That of [`try_with_capacity`](IntMap::try_with_capacity).
+    /// The contract of [`try_with_capacity`](IntMap::try_with_capacity).
     ///
     /// # Examples
     ///
@@ -137,7 +149,7 @@ impl<K: IntKey, V> IntMap<K, V> {
     ///
     /// # Proved
     ///
-    /// - In `Ok` there is no pair or member, and the load factor is 0.909 (`state`).
+    /// - In `Ok` is a map without a pair, with a load factor of 0.909 (`state`).
     /// - The capacity is the least power of two that is at least `capacity`, and at least 2
     ///   (`capacity`).
     /// - It fails by `TooLarge` exactly if `capacity` is above 2^63 (`too_large`).
@@ -319,7 +331,8 @@ impl<K: IntKey, V> IntMap<K, V> {
 
     /// Removes the pair of the key, and returns its value, or `None` if the key is absent.
     ///
-    /// The last pair of the slot takes its place. The capacity stays. The cost is *O*(*s*).
+    /// The last pair of the slot takes its place. The capacity and the [memory](IntMap#memory) stay.
+    /// The cost is *O*(*s*).
     ///
     /// # Proved
     ///

@@ -31,9 +31,10 @@ pub use iter::{
 /// A set of integers.
 ///
 /// Its members lie in slots as the keys of an [`IntMap`](crate::IntMap) do, and iteration goes
-/// through them in the same way: order and capacity depend on the calls alone. In what the calls
-/// say of their cost, *n* is the number of members, *c* the capacity, and *s* the number of members
-/// in the slot of the key.
+/// through them in the same way: order and capacity depend on the calls alone. Its
+/// [memory](crate::IntMap#memory) is that of a map whose pairs take the space of a key. In what the
+/// calls say of their cost, *n* is the number of members, *c* the capacity, and *s* the number of
+/// members in the slot of the key.
 ///
 /// # Examples
 ///
@@ -57,7 +58,7 @@ impl<K: IntKey> IntSet<K> {
     ///
     /// # Proved
     ///
-    /// That of [`try_new`](IntSet::try_new).
+    /// The contract of [`try_new`](IntSet::try_new).
     ///
     /// # Examples
     ///
@@ -78,7 +79,7 @@ impl<K: IntKey> IntSet<K> {
     ///
     /// # Proved
     ///
-    /// - In `Ok` there is no pair or member, in 4 slots, with a load factor of 0.909 (`state`).
+    /// - In `Ok` is a set without a member, of 4 slots, with a load factor of 0.909 (`state`).
     /// - It fails by `Memory` alone (`memory`).
     ///
     /// # Examples
@@ -111,7 +112,7 @@ impl<K: IntKey> IntSet<K> {
     ///
     /// # Proved
     ///
-    /// That of [`try_with_capacity`](IntSet::try_with_capacity).
+    /// The contract of [`try_with_capacity`](IntSet::try_with_capacity).
     ///
     /// # Examples
     ///
@@ -132,7 +133,7 @@ impl<K: IntKey> IntSet<K> {
     ///
     /// # Proved
     ///
-    /// - In `Ok` there is no pair or member, and the load factor is 0.909 (`state`).
+    /// - In `Ok` is a set without a member, with a load factor of 0.909 (`state`).
     /// - The capacity is the least power of two that is at least `capacity`, and at least 2
     ///   (`capacity`).
     /// - It fails by `TooLarge` exactly if `capacity` is above 2^63 (`too_large`).
@@ -155,7 +156,7 @@ impl<K: IntKey> IntSet<K> {
     /// slot.
     ///
     /// A failed allocation is handled as std does; [`try_insert`](IntSet::try_insert) returns it.
-    /// The cost is *O*(*s*) amortized, and *O*(*n* + *c*) if the slots are doubled.
+    /// The cost is that of [`IntMap::insert`](crate::IntMap::insert).
     ///
     /// # Panics
     ///
@@ -163,7 +164,7 @@ impl<K: IntKey> IntSet<K> {
     ///
     /// # Proved
     ///
-    /// That of [`try_insert`](IntSet::try_insert).
+    /// The contract of [`try_insert`](IntSet::try_insert).
     ///
     /// # Examples
     ///
@@ -271,7 +272,7 @@ impl<K: IntKey> IntSet<K> {
     ///
     /// # Proved
     ///
-    /// That of [`try_replace`](IntSet::try_replace).
+    /// In part, as [`try_replace`](IntSet::try_replace).
     ///
     /// # Examples
     ///
@@ -348,7 +349,7 @@ impl<K: IntKey> IntSet<K> {
     ///
     /// # Proved
     ///
-    /// That of [`remove`](IntSet::remove).
+    /// The contract of [`remove`](IntSet::remove).
     ///
     /// # Examples
     ///
@@ -365,7 +366,7 @@ impl<K: IntKey> IntSet<K> {
     ///
     /// # Proved
     ///
-    /// - The answer is the number of pairs or members that iteration visits (`value`).
+    /// - The answer is the number of members that iteration visits (`value`).
     ///
     /// # Examples
     ///

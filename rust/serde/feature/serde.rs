@@ -1,3 +1,4 @@
+// the module `serde` of `intmap_proved` as `tools/release --registry` writes it for a registry
 //! [serde](https://serde.rs) for maps and sets, with the feature `serde`.
 //!
 //! ```

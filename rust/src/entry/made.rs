@@ -13,7 +13,7 @@ impl<'a, K: IntKey, V> Entry<'a, K, V> {
     ///
     /// # Proved
     ///
-    /// That of [`try_or_insert_with`](Entry::try_or_insert_with).
+    /// In part, as [`try_or_insert_with`](Entry::try_or_insert_with).
     ///
     /// # Examples
     ///
@@ -37,7 +37,7 @@ impl<'a, K: IntKey, V> Entry<'a, K, V> {
     ///
     /// # Proved
     ///
-    /// That of [`try_or_insert_with_key`](Entry::try_or_insert_with_key).
+    /// In part, as [`try_or_insert_with_key`](Entry::try_or_insert_with_key).
     ///
     /// # Examples
     ///
@@ -61,7 +61,7 @@ impl<'a, K: IntKey, V> Entry<'a, K, V> {
     ///
     /// # Proved
     ///
-    /// That of [`try_or_insert_with_key`](Entry::try_or_insert_with_key).
+    /// In part, as [`try_or_insert_with_key`](Entry::try_or_insert_with_key).
     ///
     /// # Examples
     ///
@@ -157,7 +157,7 @@ impl<'a, K: IntKey, V> Entry<'a, K, V> {
     ///
     /// # Proved
     ///
-    /// That of [`try_or_default`](Entry::try_or_default).
+    /// In part, as [`try_or_default`](Entry::try_or_default).
     ///
     /// # Examples
     ///
@@ -185,7 +185,7 @@ impl<'a, K: IntKey, V> Entry<'a, K, V> {
     ///
     /// # Proved
     ///
-    /// That of [`try_or_insert_with`](Entry::try_or_insert_with).
+    /// In part, as [`try_or_insert_with`](Entry::try_or_insert_with).
     ///
     /// # Examples
     ///

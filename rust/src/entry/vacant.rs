@@ -62,7 +62,7 @@ impl<'a, K: IntKey, V> VacantEntry<'a, K, V> {
     ///
     /// # Proved
     ///
-    /// That of [`try_insert`](VacantEntry::try_insert).
+    /// In part, as [`try_insert`](VacantEntry::try_insert).
     ///
     /// # Examples
     ///
@@ -117,7 +117,7 @@ impl<'a, K: IntKey, V> VacantEntry<'a, K, V> {
     ///
     /// # Proved
     ///
-    /// That of [`try_insert_entry`](VacantEntry::try_insert_entry).
+    /// The contract of [`try_insert_entry`](VacantEntry::try_insert_entry).
     ///
     /// # Examples
     ///

@@ -14,8 +14,8 @@ impl<K: IntKey, V> IntMap<K, V> {
     /// the last pair of the slot takes its place.
     ///
     /// A failed allocation is handled as std does; [`try_insert`](IntMap::try_insert) returns it.
-    /// The cost is *O*(*s*), and *O*(*n* + *c*) for an insertion at which the slots are doubled.
-    /// That is *O*(*s*) amortized.
+    /// The cost is *O*(*s*), and *O*(*n* + *c*) for an insertion that doubles the slots, or that makes
+    /// small ones [large](IntMap#memory). That is *O*(*s*) amortized.
     ///
     /// # Panics
     ///
@@ -23,7 +23,7 @@ impl<K: IntKey, V> IntMap<K, V> {
     ///
     /// # Proved
     ///
-    /// That of [`try_insert`](IntMap::try_insert).
+    /// The contract of [`try_insert`](IntMap::try_insert).
     ///
     /// # Examples
     ///
@@ -111,7 +111,7 @@ impl<K: IntKey, V> IntMap<K, V> {
     ///
     /// # Proved
     ///
-    /// That of [`try_insert_checked`](IntMap::try_insert_checked).
+    /// The contract of [`try_insert_checked`](IntMap::try_insert_checked).
     ///
     /// # Examples
     ///

@@ -15,8 +15,9 @@ impl<K: IntKey, V> IntMap<K, V> {
     /// returns `false`.
     ///
     /// The other pairs keep their order, and the capacity stays. Unlike std's, `keep` takes the key
-    /// by value and can't change the value: see [`extract_if`](IntMap::extract_if). It doesn't
-    /// allocate. The cost is *O*(*n* + *c*).
+    /// by value and can't change the value. Where it has to, take
+    /// [`extract_if`](IntMap::extract_if) with the opposite answer, and end it by `.for_each(drop)`.
+    /// It doesn't allocate. The cost is *O*(*n* + *c*).
     ///
     /// If `keep` or the drop of a value panics, the map stays whole, and the pairs that weren't
     /// reached stay in it.
@@ -95,6 +96,9 @@ impl<K: IntKey, V> IntMap<K, V> {
     /// # Proved
     ///
     /// - At the first step all is there that was: nothing is removed before (`state`).
+    /// - Each step removes and returns the first pair that is left, or returns `None` if there is
+    ///   none. The other pairs stay, in their order, and so do the capacity and the load factor
+    ///   (`next_gives`).
     ///
     /// # Examples
     ///
@@ -125,9 +129,15 @@ impl<K: IntKey, V> IntMap<K, V> {
     /// # Proved
     ///
     /// - At the first step the map is as it was (`state`).
-    /// - The closure is the given one (`test`).
+    /// - The closure that the steps call is the given one, in the state in which it was given
+    ///   (`test`).
     /// - Before the first step the closure was called at no pair (`kept`).
     /// - The steps go through all pairs, in iteration order (`left`).
+    /// - Each step calls the closure at the pairs that are left, in turn, each time in the state
+    ///   that its last call left, up to the first with `true`. It removes that pair and returns it,
+    ///   as the closure left it, or returns `None` if there is none. All other pairs stay, in their
+    ///   order: those with `false` with the value that the closure left, the rest as they are. The
+    ///   capacity and the load factor stay (`next_gives`).
     ///
     /// # Examples
     ///
@@ -212,9 +222,11 @@ impl<K: IntKey, V> IntMap<K, V> {
     /// use intmap_proved::{IntMap, RefusedPair};
     ///
     /// let mut map = IntMap::new();
-    /// map.try_extend([(21u64, 'a'), (22, 'b')])?;
+    /// let pairs = [(21u64, 'a'), (22, 'b')];
+    /// if let Err(RefusedPair { key, applied, cause, .. }) = map.try_extend(pairs) {
+    ///     eprintln!("{key} came after {applied} others: {cause}");
+    /// }
     /// assert_eq!(map.len(), 2);
-    /// # Ok::<(), RefusedPair<u64, char>>(())
     /// ```
     pub fn try_extend<I>(&mut self, pairs: I) -> Result<(), RefusedPair<K, V>>
     where

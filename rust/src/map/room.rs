@@ -10,8 +10,8 @@ impl<K: IntKey, V> IntMap<K, V> {
     /// Returns an empty map with room for so many pairs: the capacity is the least power of two in
     /// which they meet the load factor of a new map, 0.909.
     ///
-    /// Insertions of so many keys then add no slots. Keys that share a slot still allocate. Its slots
-    /// take twice the memory of those that insertions of dense keys add to a new map.
+    /// Insertions of so many keys then add no slots. Keys that share a slot still allocate. The slots
+    /// are [large](IntMap#memory).
     ///
     /// A failed allocation is handled as std does; [`try_with_room_for`](IntMap::try_with_room_for)
     /// returns it. The cost is *O*(*c*).
@@ -22,7 +22,7 @@ impl<K: IntKey, V> IntMap<K, V> {
     ///
     /// # Proved
     ///
-    /// That of [`try_with_room_for`](IntMap::try_with_room_for).
+    /// In part, as [`try_with_room_for`](IntMap::try_with_room_for).
     ///
     /// # Examples
     ///
@@ -71,7 +71,7 @@ impl<K: IntKey, V> IntMap<K, V> {
     ///
     /// Insertions of so many new keys then add no slots. Keys that share a slot still allocate. With
     /// a load factor above 1, a map that has too few slots gets one for each present pair at least.
-    /// The slots of an empty map take twice the memory of those that insertions of dense keys add.
+    /// The slots keep their [size](IntMap#memory).
     ///
     /// A failed allocation is handled as std does;
     /// [`try_reserve_pairs`](IntMap::try_reserve_pairs) returns it. The cost is *O*(*n* + *c*), or
@@ -83,7 +83,7 @@ impl<K: IntKey, V> IntMap<K, V> {
     ///
     /// # Proved
     ///
-    /// That of [`try_reserve_pairs`](IntMap::try_reserve_pairs).
+    /// In part, as [`try_reserve_pairs`](IntMap::try_reserve_pairs).
     ///
     /// # Examples
     ///
@@ -140,7 +140,7 @@ impl<K: IntKey, V> IntMap<K, V> {
     ///
     /// # Proved
     ///
-    /// That of [`try_shrink_to_fit`](IntMap::try_shrink_to_fit).
+    /// In part, as [`try_shrink_to_fit`](IntMap::try_shrink_to_fit).
     ///
     /// # Examples
     ///
@@ -164,7 +164,7 @@ impl<K: IntKey, V> IntMap<K, V> {
     ///
     /// # Proved
     ///
-    /// That of [`try_shrink_to`](IntMap::try_shrink_to).
+    /// In part, as [`try_shrink_to`](IntMap::try_shrink_to).
     ///
     /// # Examples
     ///
@@ -182,9 +182,9 @@ impl<K: IntKey, V> IntMap<K, V> {
     /// pairs meet the load factor. A smaller capacity stays.
     ///
     /// The map then has the order of a new one of that capacity into which the pairs were inserted
-    /// in iteration order. The load factor stays. For a while there are both maps, and the memory of
-    /// the larger one is given back at the end. A map that grew by insertions of keys that count up
-    /// has slots of half the size, so then half the capacity takes as much memory.
+    /// in iteration order. The load factor stays. For a while there are both maps. The new slots are
+    /// [large](IntMap#memory), so half as many of them may take more memory than small ones took. If
+    /// the capacity stays, no memory is given back.
     ///
     /// A failed allocation is handled as std does; [`try_shrink_to`](IntMap::try_shrink_to) returns
     /// it. The cost is *O*(*n s* + *c*), or *O*(1) if the capacity stays. If a key's `number`
@@ -192,7 +192,7 @@ impl<K: IntKey, V> IntMap<K, V> {
     ///
     /// # Proved
     ///
-    /// That of [`try_shrink_to`](IntMap::try_shrink_to).
+    /// In part, as [`try_shrink_to`](IntMap::try_shrink_to).
     ///
     /// # Examples
     ///

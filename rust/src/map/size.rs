@@ -12,7 +12,7 @@ impl<K: IntKey, V> IntMap<K, V> {
     ///
     /// # Proved
     ///
-    /// - The answer is the number of pairs or members that iteration visits (`value`).
+    /// - The answer is the number of pairs that iteration visits (`value`).
     ///
     /// # Examples
     ///
@@ -80,7 +80,7 @@ impl<K: IntKey, V> IntMap<K, V> {
     ///
     /// # Proved
     ///
-    /// That of [`try_reserve`](IntMap::try_reserve).
+    /// The contract of [`try_reserve`](IntMap::try_reserve).
     ///
     /// # Examples
     ///
@@ -105,8 +105,8 @@ impl<K: IntKey, V> IntMap<K, V> {
     /// # Proved
     ///
     /// - After `Ok` the capacity is the greater of the old one and of the least power of two that
-    ///   is at least the length plus `additional`. The pairs or members are the same, in the order
-    ///   of that capacity; those of a slot keep their order. The load factor stays (`reserved`).
+    ///   is at least the length plus `additional`. The pairs are the same, in the order of that
+    ///   capacity; those of a slot keep their order. The load factor stays (`reserved`).
     /// - After `Err` all is as it was: what iteration visits, its order, the capacity and the load
     ///   factor (`err`).
     /// - The cause is `TooLarge` exactly if the length plus `additional` is above 2^63. It is
@@ -188,7 +188,7 @@ impl<K: IntKey, V> IntMap<K, V> {
     ///
     /// # Proved
     ///
-    /// That of [`try_set_load_factor`](IntMap::try_set_load_factor).
+    /// The contract of [`try_set_load_factor`](IntMap::try_set_load_factor).
     ///
     /// # Examples
     ///
@@ -212,7 +212,7 @@ impl<K: IntKey, V> IntMap<K, V> {
     ///
     /// # Proved
     ///
-    /// That of [`try_set_load_factor_thousandths`](IntMap::try_set_load_factor_thousandths).
+    /// The contract of [`try_set_load_factor_thousandths`](IntMap::try_set_load_factor_thousandths).
     ///
     /// # Examples
     ///
@@ -329,7 +329,7 @@ impl<K: IntKey, V> IntMap<K, V> {
     ///
     /// # Proved
     ///
-    /// That of [`try_collisions`](IntMap::try_collisions).
+    /// The contract of [`try_collisions`](IntMap::try_collisions).
     ///
     /// # Examples
     ///

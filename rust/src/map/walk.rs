@@ -12,8 +12,8 @@ impl<K: IntKey, V> IntMap<K, V> {
     ///
     /// # Proved
     ///
-    /// - The iterator returns all pairs or members, each once, slot after slot, and each slot's
-    ///   from front to back (`walk`).
+    /// - The iterator returns all pairs, each once, slot after slot, and each slot's from front to
+    ///   back (`walk`).
     ///
     /// # Examples
     ///

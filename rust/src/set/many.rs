@@ -11,8 +11,8 @@ impl<K: IntKey> IntSet<K> {
     ///
     /// # Proved
     ///
-    /// - The iterator returns all pairs or members, each once, slot after slot, and each slot's
-    ///   from front to back (`walk`).
+    /// - The iterator returns all members, each once, slot after slot, and each slot's from front
+    ///   to back (`walk`).
     ///
     /// # Examples
     ///
@@ -96,6 +96,9 @@ impl<K: IntKey> IntSet<K> {
     /// # Proved
     ///
     /// - At the first step all is there that was: nothing is removed before (`state`).
+    /// - Each step removes and returns the first member that is left, or returns `None` if there is
+    ///   none. The other members stay, in their order, and so do the capacity and the load factor
+    ///   (`next_gives`).
     ///
     /// # Examples
     ///

@@ -35,7 +35,7 @@ impl<K: IntKey> IntSet<K> {
     ///
     /// # Proved
     ///
-    /// That of [`try_with_room_for`](IntSet::try_with_room_for).
+    /// In part, as [`try_with_room_for`](IntSet::try_with_room_for).
     ///
     /// # Examples
     ///
@@ -86,7 +86,7 @@ impl<K: IntKey> IntSet<K> {
     ///
     /// # Proved
     ///
-    /// That of [`try_reserve`](IntSet::try_reserve).
+    /// The contract of [`try_reserve`](IntSet::try_reserve).
     ///
     /// # Examples
     ///
@@ -109,8 +109,8 @@ impl<K: IntKey> IntSet<K> {
     /// # Proved
     ///
     /// - After `Ok` the capacity is the greater of the old one and of the least power of two that
-    ///   is at least the length plus `additional`. The pairs or members are the same, in the order
-    ///   of that capacity; those of a slot keep their order. The load factor stays (`reserved`).
+    ///   is at least the length plus `additional`. The members are the same, in the order of that
+    ///   capacity; those of a slot keep their order. The load factor stays (`reserved`).
     /// - After `Err` all is as it was: what iteration visits, its order, the capacity and the load
     ///   factor (`err`).
     /// - The cause is `TooLarge` exactly if the length plus `additional` is above 2^63. It is
@@ -150,7 +150,7 @@ impl<K: IntKey> IntSet<K> {
     ///
     /// # Proved
     ///
-    /// That of [`try_reserve_members`](IntSet::try_reserve_members).
+    /// In part, as [`try_reserve_members`](IntSet::try_reserve_members).
     ///
     /// # Examples
     ///
@@ -201,7 +201,7 @@ impl<K: IntKey> IntSet<K> {
     ///
     /// # Proved
     ///
-    /// That of [`try_shrink_to_fit`](IntSet::try_shrink_to_fit).
+    /// In part, as [`try_shrink_to_fit`](IntSet::try_shrink_to_fit).
     ///
     /// # Examples
     ///
@@ -223,7 +223,7 @@ impl<K: IntKey> IntSet<K> {
     ///
     /// # Proved
     ///
-    /// That of [`try_shrink_to`](IntSet::try_shrink_to).
+    /// In part, as [`try_shrink_to`](IntSet::try_shrink_to).
     ///
     /// # Examples
     ///
@@ -239,7 +239,9 @@ impl<K: IntKey> IntSet<K> {
     /// members meet the load factor. A smaller capacity stays.
     ///
     /// The set then has the order of a new one of that capacity into which the members were inserted
-    /// in iteration order. For a while there are both sets.
+    /// in iteration order. For a while there are both sets. As in a map, the new slots are
+    /// [large](crate::IntMap#memory): half as many take twice the memory of small ones with keys of
+    /// 4 bytes. If the capacity stays, no memory is given back.
     ///
     /// A failed allocation is handled as std does; [`try_shrink_to`](IntSet::try_shrink_to) returns
     /// it. The cost is *O*(*n s* + *c*), or *O*(1) if the capacity stays. If a key's `number`
@@ -247,7 +249,7 @@ impl<K: IntKey> IntSet<K> {
     ///
     /// # Proved
     ///
-    /// That of [`try_shrink_to`](IntSet::try_shrink_to).
+    /// In part, as [`try_shrink_to`](IntSet::try_shrink_to).
     ///
     /// # Examples
     ///
