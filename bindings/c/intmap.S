@@ -9,7 +9,7 @@
  *
  * Written by tools/assembly of the repository, and not to be edited.
  * Compilers: rattle-kit-13f logic dac8208d650f15bf; clang version 22.1.8
- * Sources: a9299aabec313a9fc53c663b63d3cf2c49928d0807630b1ac50449d658a3fa4e
+ * Sources: fa09939632d7f792dd0c88ee3c3fef89c0af4761419ee9e722d98fabdc04845f
  *
  * SPDX-License-Identifier: MIT
  *
