@@ -338,8 +338,8 @@ impl<K: IntKey, V> IntMap<K, V> {
     ///
     /// - The value is that of the key, or there is none, if the key was absent (`value`).
     /// - The pair is gone, and the last pair of its slot has its place. All else stays: the other
-    ///   pairs in their order, the capacity and the load factor. If the key was absent, the map
-    ///   stays (`state`).
+    ///   pairs in their order, the capacity and the load factor (`state`).
+    /// - After `None` the pairs are as they were, in their order (`absent`).
     /// - The key is then absent. Each other key keeps its value, or stays absent (`updates`).
     /// - The length is one less if something was removed, and otherwise stays (`len`).
     ///
@@ -369,8 +369,8 @@ impl<K: IntKey, V> IntMap<K, V> {
     /// - The key of the pair is the given one (`key`).
     /// - The value is that of the key. There is no pair exactly if the key was absent (`value`).
     /// - The pair is gone, and the last pair of its slot has its place. All else stays: the other
-    ///   pairs in their order, the capacity and the load factor. If the key was absent, the map
-    ///   stays (`state`).
+    ///   pairs in their order, the capacity and the load factor (`state`).
+    /// - After `None` the pairs are as they were, in their order (`absent`).
     /// - The key is then absent. Each other key keeps its value, or stays absent (`updates`).
     /// - The length is one less if something was removed, and otherwise stays (`len`).
     ///

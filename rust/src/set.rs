@@ -324,7 +324,8 @@ impl<K: IntKey> IntSet<K> {
     ///
     /// - The answer is `true` exactly if the key was a member (`value`).
     /// - The member is gone, and the last one of its slot has its place. The others keep their
-    ///   order, and the capacity stays. If the key was no member, the set stays (`state`).
+    ///   order, and the capacity stays (`state`).
+    /// - After `false` the members are as they were, in their order (`absent`).
     /// - The key is then no member. Each other key stays what it was (`updates`).
     /// - The length is one less if the answer is `true`, and otherwise stays (`len`).
     ///

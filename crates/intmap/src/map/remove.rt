@@ -28,6 +28,7 @@ impl<K: IntKey, V, A: Allocator + Copy> IntMap<K, V, A> {
     pub fn remove(&mut self, key: K) -> Option<V>
         ensures value { result ≡ value_of K.number_of self.old.walk key }
         ensures state { self.new ≡ after_remove K.number_of self.old key }
+        ensures absent { result ≡ None → self.new.walk ≡ self.old.walk }
         ensures updates { Updates K.number_of self.old.walk self.new.walk key None }
         ensures len { length self.new.walk + cond (is_some result) 1 0 ≡ length self.old.walk }
         ensures valid { IsMap K.number_of K.is_valid self.old }
@@ -52,6 +53,7 @@ impl<K: IntKey, V, A: Allocator + Copy> IntMap<K, V, A> {
         ensures value { option_map (λ pair. pair.1) result
             ≡ value_of K.number_of self.old.walk key }
         ensures state { self.new ≡ after_remove K.number_of self.old key }
+        ensures absent { result ≡ None → self.new.walk ≡ self.old.walk }
         ensures updates { Updates K.number_of self.old.walk self.new.walk key None }
         ensures len { length self.new.walk + cond (is_some result) 1 0 ≡ length self.old.walk }
         ensures valid { IsMap K.number_of K.is_valid self.old }

@@ -24,6 +24,7 @@ impl<K: IntKey, A: Allocator + Copy> IntSet<K, A> {
     pub fn remove(&mut self, key: K) -> bool
         ensures value { result ≡ holds K.number_of self.old.walk key }
         ensures state { self.new ≡ set_of (after_remove K.number_of (as_map self.old) key) }
+        ensures absent { result ≡ false → self.new.walk ≡ self.old.walk }
         ensures updates { Updates K.number_of self.old.walk self.new.walk key false }
         ensures len { length self.new.walk + cond result 1 0 ≡ length self.old.walk }
         ensures valid { IsSet K.number_of K.is_valid self.old }

@@ -11,6 +11,7 @@ returns-in_default g c =
     record {
       value = sym told.missing;
       state = state;
+      absent = λ _. ap (λ m. m.walk) told.state;
       updates = Updates-taken number g.K.IntKey.is_valid c.args.self.now _ c.args.key told.valid (ap (λ m. m.walk) state);
       len = rw told.missing at (length-taken number g.K.IntKey.is_valid c.args.self.now _ c.args.key told.valid (ap (λ m. m.walk) state));
       valid = told.valid;
@@ -25,6 +26,7 @@ returns g c =
     record {
       value = sym value;
       state = state;
+      absent = λ none. absurd (let is = none in cc);
       updates = Updates-taken number g.K.IntKey.is_valid c.args.self.now _ c.args.key found.valid (ap (λ m. m.walk) state);
       len = rw value at (length-taken number g.K.IntKey.is_valid c.args.self.now _ c.args.key found.valid (ap (λ m. m.walk) state));
       valid = found.valid;
