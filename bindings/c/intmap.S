@@ -15,7 +15,7 @@
  *
  * MIT License
  *
- * Copyright (c) 2026 the intmap authors
+ * Copyright (c) 2026 the Dovaszing maintainers
  *
  * Permission is hereby granted, free of charge, to any person obtaining a copy
  * of this software and associated documentation files (the "Software"), to deal
@@ -34,12 +34,6 @@
  * LIABILITY, WHETHER IN AN ACTION OF CONTRACT, TORT OR OTHERWISE, ARISING FROM,
  * OUT OF OR IN CONNECTION WITH THE SOFTWARE OR THE USE OR OTHER DEALINGS IN THE
  * SOFTWARE.
- *
- * Origin
- *
- * This software is a port of the crate `intmap`, version 2.0.0, for Rust, which
- * is under the MIT License, copyright 2016 Jesper Axelsson. It takes over that
- * crate's behaviour; its code, contracts, proofs and documents were written anew.
  */
 #if defined(__ELF__) && defined(__x86_64__) && defined(__LP64__)
 	.section	.text.core.mem.drop.1976e2b31f444b43,"ax",@progbits

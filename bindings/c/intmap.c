@@ -23,7 +23,7 @@
 //
 // MIT License
 //
-// Copyright (c) 2026 the intmap authors
+// Copyright (c) 2026 the Dovaszing maintainers
 //
 // Permission is hereby granted, free of charge, to any person obtaining a copy
 // of this software and associated documentation files (the "Software"), to deal
@@ -42,12 +42,6 @@
 // LIABILITY, WHETHER IN AN ACTION OF CONTRACT, TORT OR OTHERWISE, ARISING FROM,
 // OUT OF OR IN CONNECTION WITH THE SOFTWARE OR THE USE OR OTHER DEALINGS IN THE
 // SOFTWARE.
-//
-// Origin
-//
-// This software is a port of the crate `intmap`, version 2.0.0, for Rust, which
-// is under the MIT License, copyright 2016 Jesper Axelsson. It takes over that
-// crate's behaviour; its code, contracts, proofs and documents were written anew.
 
 #include "intmap.h"
 #include <stdlib.h>
