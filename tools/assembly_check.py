@@ -3,7 +3,7 @@ import os
 import re
 import shutil
 
-from crates import GIVEN_IN_C, PRINTED_IN_C, kit, text_of, told
+from crates import GIVEN_IN_C, PRINTED_IN_C, kit, skip, text_of, told
 from portable import MODULE, c_of_module
 
 FOLDER = "bindings/c"
@@ -185,7 +185,6 @@ def faults(room):
             there.append(compiler)
             yield from emulated_faults(compiler, paths, runs, room)
         else:
-            print(
-                f"assembly: without {compiler} and {runs[0]}, nothing of {' and '.join(map(os.path.basename, paths))} ran there"
-            )
+            lacking = [it for it in (compiler, runs[0]) if not shutil.which(it)]
+            skip(f"{' and '.join(map(os.path.basename, paths))} on an emulated machine", *lacking)
     print(f"assembly: tried by {', '.join(there) or 'no compiler'}", flush=True)

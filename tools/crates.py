@@ -26,11 +26,16 @@ def told(*words, **how):
     return ran.returncode, ran.stdout
 
 
+def skip(what, *missing):
+    """Says by name what isn't tried, since this machine lacks what it needs. .ci/run counts these lines."""
+    print(f"skipped: {what}: there is no {', no '.join(missing)}", flush=True)
+
+
 class Checks:
-    """Counts what passed and what failed, and prints why something failed."""
+    """Counts what passed, failed and was skipped, and prints why something failed."""
 
     def __init__(self):
-        self.passed, self.failed = 0, 0
+        self.passed, self.failed, self.skipped = 0, 0, 0
 
     def add(self, name, is_good, said):
         """One check more. Returns whether it passed."""
@@ -40,9 +45,20 @@ class Checks:
             print("\n".join(said.splitlines()[-SHOWN:]), flush=True)
         return is_good
 
+    def has(self, what, *names):
+        """Whether all these programs are there. If not, what needs them is skipped."""
+        missing = [it for it in names if not shutil.which(it)]
+        if missing:
+            self.skip(what, *missing)
+        return not missing
+
+    def skip(self, what, *missing):
+        self.skipped += 1
+        skip(what, *missing)
+
     def ended(self):
         """Prints the last line, and returns the status of the script."""
-        print(f"{self.passed} passed, {self.failed} failed")
+        print(f"{self.passed} passed, {self.failed} failed, {self.skipped} skipped")
         return 1 if self.failed or not self.passed else 0
 
 

