@@ -1,4 +1,4 @@
-"""Reads a module of LLVM, as text, for tools/assembly: its functions, and of each the blocks and how they follow
+"""Reads a module of LLVM, as text, for tools/printed: its functions, and of each the blocks and how they follow
 each other."""
 import re
 from collections import defaultdict

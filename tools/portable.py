@@ -1,4 +1,4 @@
-"""Prints a module of LLVM as C, for tools/assembly: the library for C as one file for any compiler.
+"""Prints a module of LLVM as C, for tools/printed: the library for C as one file for any compiler.
 
 Each function of the module becomes one of C, between the parts of tools/portable_driver that are written by hand. A
 value that is used once is printed where it is used, unless a store or a call comes between. Blocks become `if`, `for`,

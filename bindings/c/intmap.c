@@ -6,7 +6,7 @@
 //
 // Each function that intmap.h declares is compiled from Rattle code that is proved to keep its
 // contract. This file is that code as its compiler hands it to LLVM, behind LLVM's optimiser, printed as
-// C by tools/assembly of the repository. It isn't to be edited. Above each function of the module stands
+// C by tools/printed of the repository. It isn't to be edited. Above each function of the module stands
 // where its source is. What comes before and behind these functions is written by hand, and isn't proved.
 //
 // A map is a block of 80 bytes, in words of 8: at 0 the number of slots less one; at 8, 16 and 24 the

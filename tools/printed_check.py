@@ -1,4 +1,4 @@
-"""Tries the library for C as it is written, for tools/assembly: as assembly and as portable C."""
+"""Tries the library for C as it is printed, for tools/printed, beside the archive that was built."""
 import os
 import re
 import shutil
@@ -7,22 +7,23 @@ from crates import GIVEN_IN_C, PRINTED_IN_C, kit, skip, text_of, told
 from portable import MODULE, c_of_module
 
 FOLDER = "bindings/c"
-ASSEMBLY, PORTABLE = f"{FOLDER}/intmap.S", f"{FOLDER}/intmap.c"
+PORTABLE = f"{FOLDER}/intmap.c"
 COMPILERS = ["gcc", "clang"]
-# what compiles for other machines, the files that it takes, and what runs that, as Debian has them
+# what compiles for other machines, and what runs that, as Debian has them
 EMULATED = [
-    ("aarch64-linux-gnu-gcc", [ASSEMBLY, PORTABLE], ["qemu-aarch64", "-L", "/usr/aarch64-linux-gnu"]),
-    ("s390x-linux-gnu-gcc", [PORTABLE], ["qemu-s390x", "-L", "/usr/s390x-linux-gnu"]),
+    ("aarch64-linux-gnu-gcc", ["qemu-aarch64", "-L", "/usr/aarch64-linux-gnu"]),
+    ("s390x-linux-gnu-gcc", ["qemu-s390x", "-L", "/usr/s390x-linux-gnu"]),
 ]
-# all that the files may need
-NEEDED = {"malloc", "realloc", "free", "memmove", "memset", "__udivti3"}
-NEEDED_BY_C = {*NEEDED, "memcpy", "abort", "__divti3", "__popcountdi2"}
+# all that the file may need
+NEEDED = {"malloc", "realloc", "free", "memmove", "memset", "memcpy", "abort", "__udivti3", "__divti3", "__popcountdi2"}
 # makes the same calls in two libraries
 BOTH = "tools/portable_driver/both.c"
 # becomes C by way of a module, and is tried beside itself
 SAMPLES = "tools/portable_driver/samples.c"
+# an archive from which the linker takes all, and others
+WHOLE, PARTS = "-Wl,--whole-archive", "-Wl,--no-whole-archive"
 WRAPPED = [f"-Wl,--wrap={it}" for it in ("malloc", "realloc", "free")]
-CALLS, CALLS_IN_BOTH, EMULATED_IN_BOTH = 20_000, 1_000_000, 100_000
+CALLS, CALLS_IN_BOTH = 20_000, 1_000_000
 # fills each variable that a function doesn't start, if a compiler knows it
 FILLED = "-ftrivial-auto-var-init=pattern"
 # changes of what portable.py prints: a function, what stands in it, and what stands there in the copy
@@ -46,38 +47,31 @@ def names(*words):
     return {line.split()[-1].partition("@")[0] for line in said.splitlines()} if status == 0 else {said}
 
 
-def changed_text(compiler):
-    """Tells if the preprocessor hands on something else than a part of the assembly, blanks aside."""
-    status, said = told(compiler, "-E", "-P", ASSEMBLY)
-    if status or not said or "".join(said.split()) not in "".join(text_of(ASSEMBLY).split()):
-        yield f"the preprocessor of {compiler} changes the text: status {status}"
-
-
-def wrong_names(compiler, path, needed, room):
-    """What is wrong with the names of a file, as this compiler takes it."""
+def wrong_names(compiler, room):
+    """What is wrong with the names of the file, as this compiler takes it."""
     module, library = f"{room}/intmap.o", f"{room}/libintmap.so"
-    for words in (["-O2", "-c", path, "-o", module], ["-O2", "-shared", "-fPIC", "-Wl,-z,text", path, "-o", library]):
+    for words in (["-O2", "-c", PORTABLE, "-o", module], ["-O2", "-shared", "-fPIC", "-Wl,-z,text", PORTABLE, "-o", library]):
         status, said = told(compiler, *words)
         if status:
             yield f"{compiler} {' '.join(words)}: {said}"
             return
     exported, shared = names("--extern-only", "--defined-only", module), names("--dynamic", "--defined-only", library)
-    for name in sorted(names("--undefined-only", module) - needed):
-        yield f"{path} by {compiler} needs {name}"
+    for name in sorted(names("--undefined-only", module) - NEEDED):
+        yield f"{PORTABLE} by {compiler} needs {name}"
     for name in sorted(it for it in exported if not it.startswith("intmap_")):
-        yield f"{path} by {compiler} exports {name}"
+        yield f"{PORTABLE} by {compiler} exports {name}"
     if exported != shared or not exported:
-        yield f"{path} by {compiler} exports {sorted(exported)}, and as a shared library {sorted(shared)}"
+        yield f"{PORTABLE} by {compiler} exports {sorted(exported)}, and as a shared library {sorted(shared)}"
 
 
 class Both:
-    """The assembly and, beside it, the portable C as one compiler takes it."""
+    """The archive and, beside it, the printed C as one compiler takes it."""
 
-    def __init__(self, compiler, room, calls=CALLS_IN_BOTH, runs=()):
-        self.compiler, self.room, self.calls, self.runs = compiler, room, calls, runs
+    def __init__(self, compiler, room, archive):
+        self.compiler, self.room = compiler, room
         self.program, self.first = f"{room}/both", f"{room}/first.so"
         words = ["-std=gnu11", "-O2", f"-I{FOLDER}", "-rdynamic", BOTH, "-ldl", "-o", self.program]
-        self.wrong = self.compiled(*words) or self.library(ASSEMBLY, self.first)
+        self.wrong = self.compiled(*words) or self.library([WHOLE, archive, PARTS, f"{kit()}/c/liblibc_c.a"], self.first)
         self.filled = [] if self.compiled(FILLED, "-fsyntax-only", "-x", "c", "/dev/null") else [FILLED]
 
     def compiled(self, *words):
@@ -85,31 +79,31 @@ class Both:
         status, said = told(self.compiler, *words)
         return f"{self.compiler} {' '.join(words)}: {said}" if status else ""
 
-    def library(self, path, made, *words):
-        return self.compiled("-shared", "-fPIC", f"-I{FOLDER}", *words, *WRAPPED, path, "-o", made)
+    def library(self, files, made, *words):
+        return self.compiled("-shared", "-fPIC", f"-I{FOLDER}", *words, *WRAPPED, *files, "-o", made)
 
     def difference(self, path, *words):
         """What both do differently, this file being compiled with some words; nothing if they do the same."""
         other = f"{self.room}/other.so"
-        wrong = self.wrong or self.library(path, other, *words)
+        wrong = self.wrong or self.library([path], other, *words)
         if wrong:
             return wrong
-        status, said = told(*self.runs, self.program, self.first, other, str(self.calls), timeout=LIMIT)
-        return "" if status == 0 and said.startswith(f"{self.calls} calls in both, ") else f"status {status}: {said}"
+        status, said = told(self.program, self.first, other, str(CALLS_IN_BOTH), timeout=LIMIT)
+        return "" if status == 0 and said.startswith(f"{CALLS_IN_BOTH} calls in both, ") else f"status {status}: {said}"
 
 
-def unlike_calls(compiler, room, calls=CALLS_IN_BOTH, runs=()):
+def unlike_calls(compiler, room, archive):
     """Whether both forms differ in some call, by this compiler."""
-    both = Both(compiler, room, calls, runs)
+    both = Both(compiler, room, archive)
     for words in (["-O2"], ["-O3", "-DINTMAP_PLAIN_C"], ["-O1", *both.filled]):
         said = both.difference(PORTABLE, *words)
         if said:
-            yield f"{PORTABLE} by {compiler} {' '.join(words)} isn't like {ASSEMBLY}: {said}"
+            yield f"{PORTABLE} by {compiler} {' '.join(words)} isn't like the archive: {said}"
 
 
-def unfound_misprints(compiler, room):
+def unfound_misprints(compiler, room, archive):
     """Which misprints, planted one at a time, no call shows."""
-    both, text = Both(compiler, room), text_of(PORTABLE)
+    both, text = Both(compiler, room, archive), text_of(PORTABLE)
     for function, old, new in MISPRINTS:
         body = re.search(rf"^static [^\n]*\b{function}\([^\n]*\) \{{\n(.*?)^\}}", text, re.M | re.S)
         at = text.find(old, body.start(1), body.end(1)) if body else -1
@@ -141,50 +135,31 @@ def wrong_samples(compiler, room):
             yield f"{SAMPLES} isn't the same behind the printer, by {compiler} {' '.join(words)}: status {status}\n{said}"
 
 
-def wrong_run(compiler, runs, path, room, name, words, given, wanted):
-    """What is wrong with a program of the folder over a file, on an emulated machine."""
-    program = f"{room}/{name}"
-    status, said = told(
-        compiler,
-        "-O2",
-        f"-I{FOLDER}",
-        f"{FOLDER}/{name}.c",
-        path,
-        "-pthread",
-        "-o",
-        program,
-        *(WRAPPED if name == "test" else []),
-    )
+def wrong_run(compiler, runs, room, name, words, given, wanted):
+    """What is wrong with a program of the folder over the file, on an emulated machine."""
+    program, wrapped = f"{room}/{name}", WRAPPED if name == "test" else []
+    status, said = told(compiler, "-O2", f"-I{FOLDER}", f"{FOLDER}/{name}.c", PORTABLE, "-pthread", "-o", program, *wrapped)
     if status == 0:
         status, said = told(*runs, program, *words, input=given, timeout=LIMIT)
     if status != 0 or not said.startswith(wanted):
-        yield f"{name}.c over {path} by {compiler} and {runs[0]}: status {status}\n{said}"
+        yield f"{name}.c by {compiler} and {runs[0]}: status {status}\n{said}"
 
 
-def emulated_faults(compiler, paths, runs, room):
-    for path in paths:
-        yield from wrong_run(compiler, runs, path, room, "example", [], GIVEN_IN_C, PRINTED_IN_C)
-        yield from wrong_run(compiler, runs, path, room, "test", [str(CALLS)], "", f"{CALLS} calls, ")
-    if ASSEMBLY in paths:
-        yield from unlike_calls(compiler, room, EMULATED_IN_BOTH, runs)
-
-
-def faults(room):
-    """What is wrong with the files as compilers take them, a line each. What was tried is printed."""
+def faults(room, archive):
+    """What is wrong with the file as compilers take it, a line each. What was tried is printed."""
     there = [it for it in COMPILERS if shutil.which(it)]
     for compiler in there:
-        yield from changed_text(compiler)
-        yield from wrong_names(compiler, ASSEMBLY, NEEDED, room)
-        yield from wrong_names(compiler, PORTABLE, NEEDED_BY_C, room)
-        yield from unlike_calls(compiler, room)
+        yield from wrong_names(compiler, room)
+        yield from unlike_calls(compiler, room, archive)
     for compiler in there[:1]:
-        yield from unfound_misprints(compiler, room)
+        yield from unfound_misprints(compiler, room, archive)
         yield from wrong_samples(compiler, room)
-    for compiler, paths, runs in EMULATED:
+    for compiler, runs in EMULATED:
         if shutil.which(compiler) and shutil.which(runs[0]):
             there.append(compiler)
-            yield from emulated_faults(compiler, paths, runs, room)
+            yield from wrong_run(compiler, runs, room, "example", [], GIVEN_IN_C, PRINTED_IN_C)
+            yield from wrong_run(compiler, runs, room, "test", [str(CALLS)], "", f"{CALLS} calls, ")
         else:
             lacking = [it for it in (compiler, runs[0]) if not shutil.which(it)]
-            skip(f"{' and '.join(map(os.path.basename, paths))} on an emulated machine", *lacking)
-    print(f"assembly: tried by {', '.join(there) or 'no compiler'}", flush=True)
+            skip("intmap.c on an emulated machine", *lacking)
+    print(f"printed: tried by {', '.join(there) or 'no compiler'}", flush=True)
