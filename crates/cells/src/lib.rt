@@ -1,4 +1,4 @@
-//! A type of keys with two fields: the cells of a sheet.
+//! Two types of keys: the cells of a sheet, with two fields, and how far rows are apart, with a sign.
 #![tactic(auto)]
 
 ghost use Rattle.std.specs.Prelude.{◌≡◌, ◌≢◌, ◌↔◌, ℕ, ◌<◌, IfOk, IfSome, IsSome, OnOk, OnErr, Some};
@@ -8,6 +8,8 @@ ghost use Rattle.cells.specs.Cells.{IsCell, cell_number};
 use intmap::{Cause, IntKey, IntMap};
 use std::alloc::Allocator;
 use std::marker::Model;
+
+pub mod offset;
 
 /// How many columns a sheet has.
 pub const WIDTH: u32 = 26;
