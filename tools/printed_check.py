@@ -26,17 +26,6 @@ WRAPPED = [f"-Wl,--wrap={it}" for it in ("malloc", "realloc", "free")]
 CALLS, CALLS_IN_BOTH = 20_000, 1_000_000
 # fills each variable that a function doesn't start, if a compiler knows it
 FILLED = "-ftrivial-auto-var-init=pattern"
-# changes of what portable.py prints: a function, what stands in it, and what stands there in the copy
-MISPRINTS = [
-    ("do_intmap_get", " << 4", " << 3"),
-    ("do_intmap_insert", " & 63", " & 62"),
-    ("do_intmap_remove", " == 0", " != 0"),
-    ("do_intmap_step", " + 1", " + 2"),
-    ("do_intmap_cut", "memmove(", "(void)("),
-    ("do_intmap_equal", " != ", " == "),
-    ("mem_drop", "rattle_dealloc(", "(void)("),
-    ("do_intmap_set_load_factor", "u128_of(1000u)", "u128_of(1001u)"),
-]
 # in seconds, of a run, which takes a few
 LIMIT = 120
 
@@ -92,28 +81,14 @@ class Both:
         return "" if status == 0 and said.startswith(f"{CALLS_IN_BOTH} calls in both, ") else f"status {status}: {said}"
 
 
-def unlike_calls(compiler, room, archive):
-    """Whether both forms differ in some call, by this compiler."""
-    both = Both(compiler, room, archive)
-    for words in (["-O2"], ["-O3", "-DINTMAP_PLAIN_C"], ["-O1", *both.filled]):
-        said = both.difference(PORTABLE, *words)
-        if said:
-            yield f"{PORTABLE} by {compiler} {' '.join(words)} isn't like the archive: {said}"
-
-
-def unfound_misprints(compiler, room, archive):
-    """Which misprints, planted one at a time, no call shows."""
-    both, text = Both(compiler, room, archive), text_of(PORTABLE)
-    for function, old, new in MISPRINTS:
-        body = re.search(rf"^static [^\n]*\b{function}\([^\n]*\) \{{\n(.*?)^\}}", text, re.M | re.S)
-        at = text.find(old, body.start(1), body.end(1)) if body else -1
-        if at < 0:
-            yield f"{PORTABLE} has no text to change: {old!r} in {function}"
-            continue
-        with open(f"{room}/misprint.c", "w", encoding="utf-8") as file:
-            file.write(text[:at] + new + text[at + len(old) :])
-        if not re.match(r"status (1|-\d+|124)\b", both.difference(f"{room}/misprint.c", "-O1", "-w", *both.filled)):
-            yield f"it isn't found if {function} has {new!r} in place of {old!r}"
+def unlike_calls(room, archive):
+    """By which compilers the file differs from the archive in some call."""
+    for compiler in filter(shutil.which, COMPILERS):
+        both = Both(compiler, room, archive)
+        for words in (["-O2"], ["-O3", "-DINTMAP_PLAIN_C"], ["-O1", *both.filled]):
+            said = both.difference(PORTABLE, *words)
+            if said:
+                yield f"{PORTABLE} by {compiler} {' '.join(words)} isn't like the archive: {said}"
 
 
 def wrong_samples(compiler, room):
@@ -150,9 +125,8 @@ def faults(room, archive):
     there = [it for it in COMPILERS if shutil.which(it)]
     for compiler in there:
         yield from wrong_names(compiler, room)
-        yield from unlike_calls(compiler, room, archive)
+    yield from unlike_calls(room, archive)
     for compiler in there[:1]:
-        yield from unfound_misprints(compiler, room, archive)
         yield from wrong_samples(compiler, room)
     for compiler, runs in EMULATED:
         if shutil.which(compiler) and shutil.which(runs[0]):
