@@ -404,6 +404,7 @@ def ten_more(key):
 
 
 def insert_many(it, insertion, *numbers):
+    """How many were new, and each length that changed the slots, with these."""
     new, changes = 0, ""
     for key in keys(*numbers):
         slots = it.slots
@@ -481,6 +482,7 @@ def extract_hint(it, count):
 
 
 def retain_alternate(it):
+    """Keeps the first pair, the third, and so on. How many the closure saw."""
     asked = []
     it.retain(lambda key, _: asked.append(key) or len(asked) % 2)
     return str(len(asked))
@@ -493,6 +495,7 @@ def retain_all(it):
 
 
 def for_each_add(it, more):
+    """Adds to each value. The sum of the pairs before."""
     asked = it.walk()
     for key, value in asked:
         it.write(key, (value + more) & GREATEST)
@@ -511,6 +514,7 @@ def size_hints(it, refuses):
 
 
 def find_many(find, first, count, step, more=10):
+    """How many were bound, and before that how many of these to ten more, or to so much more."""
     found = [(key, find(key)) for key in keys(first, count, step)]
     bound = [(key, value) for key, value in found if value is not None]
     return f"{sum(value == key + more & GREATEST for key, value in bound)} of {len(bound)}"
@@ -525,10 +529,12 @@ def hand_back(it, key, more):
 
 
 def entry_replace_many(it, first, count, step, more):
+    """Writes so much more than each key where the value is ten more. How many that was."""
     return str(sum(it.write(key, key + more & GREATEST) == ten_more(key) for key in keys(first, count, step)))
 
 
 def run_many(it, insertion, *numbers):
+    """How many were new, and how many pairs the walk had, by one run."""
     new = sum(insertion(it, key, ten_more(key), False) is None for key in keys(*numbers))
     return f"{new} new, {len(it.walk())} walked"
 
@@ -559,7 +565,8 @@ def collisions(it, refuses, shown):
 ITERATORS = 7
 
 
-# each call on a list, or command, by its name and how many numbers follow
+# Each call on a list, or command, by its name and how many numbers follow: the table of the calls of rows. tools/plain_list
+# answers by it.
 CALLS = {
     ("get", 1): lambda it, _, k: option(it.get(k)),
     ("get_counted", 1): lambda it, _, k: option(it.get(k)),
@@ -642,6 +649,7 @@ CALLS = {
     ("values_mut", 1): lambda it, _, n: str(len(it.add_places(n))),
     ("iter_mut_add", 1): lambda it, _, n: str(for_each_add(it, n).split(" ")[0]),
     ("values_mut_add", 1): lambda it, _, n: str(for_each_add(it, n).split(" ")[0]),
+    # keys below N are bound to texts, twice: how many came back, and how many pairs there are
     ("insert_items", 1): lambda it, _, n: f"{n} back, {n} pairs",
     ("insert_checked_items", 1): lambda it, _, n: f"{n} new, {n} pairs",
     ("for_each_add", 1): lambda it, _, n: for_each_add(it, n),
@@ -705,6 +713,7 @@ COLLECTING = {
     "from_array_many": many_pairs,
     "from_squares": squares,
     "from_squares_back": lambda count: squares(count)[::-1],
+    # of at most so many pairs, by an iterator whose size_hint says so many
     "from_claimed": lambda claimed, *numbers: pairs_of(numbers)[:claimed],
 }
 
