@@ -64,13 +64,12 @@ pub struct OccupiedEntry<'a, K: IntKey, V>(proved::OccupiedEntry<'a, K, V>);
 pub struct VacantEntry<'a, K: IntKey, V>(proved::VacantEntry<'a, K, V>);
 
 impl<K: IntKey, V> IntMap<K, V> {
-    /// Returns the entry of the key. It never fails. The cost is *O*(*s*).
+    /// Returns the entry of the key. It never fails, and the map stays as it is. The cost is
+    /// *O*(*s*).
     ///
     /// # Proved
     ///
-    /// - The map is as it was (`state`).
-    /// - The key of the entry is the given one (`key`).
-    /// - The entry is `Occupied` exactly if the key is present (`occupied`).
+    /// The proved `IntMap::entry` has the clauses `state`, `key` and `occupied`.
     ///
     /// # Examples
     ///
@@ -132,17 +131,12 @@ impl<'a, K: IntKey, V> Entry<'a, K, V> {
         }
     }
 
-    /// Calls `change` with the value if the key is present, and returns the entry.
+    /// Calls `change` with the value if the key is present, and returns the entry. The pair keeps
+    /// its place.
     ///
     /// # Proved
     ///
-    /// - The key of the entry stays (`key`).
-    /// - The closure is called once, with the value of a present key, and the key then has what it
-    ///   left. At an absent key it isn't called (`value`).
-    /// - The value changes in its place. All else stays: the other pairs, their order, the capacity
-    ///   and the load factor. If the key is absent, the map stays (`state`).
-    /// - Each other key keeps its value, or stays absent (`updates`).
-    /// - The length stays (`len`).
+    /// The proved `Entry::and_modify` has the clauses `key`, `value`, `state`, `updates` and `len`.
     ///
     /// # Examples
     ///
@@ -218,7 +212,7 @@ impl<'a, K: IntKey, V> Entry<'a, K, V> {
     }
 
     /// Sets the value of the key, and returns its entry. A present key keeps its place, and its old
-    /// value is dropped.
+    /// value is dropped. The pair of an absent key is the last one of its slot.
     ///
     /// A failed allocation is handled as std does; [`try_insert_entry`](Entry::try_insert_entry)
     /// returns it. The cost is that of [`or_insert`](Entry::or_insert).
@@ -252,18 +246,8 @@ impl<'a, K: IntKey, V> Entry<'a, K, V> {
     ///
     /// # Proved
     ///
-    /// - In `Ok` is the entry of the key, which has the given value: in the place of a present
-    ///   key's old one, or in a pair that is the last of its slot (`written`).
-    /// - After `Ok` the key has the value, and each other key has what it had before. The length is
-    ///   one more exactly if the key was absent. Only then the capacity may change, as by `insert`
-    ///   (`inserted`).
-    /// - After `Err` the map is as it was (`err`).
-    /// - In `Err` is the given value (`value_returned`).
-    /// - `Err` comes only for an absent key. The cause is `TooLarge` exactly if the map would need
-    ///   more than 2^63 slots or 2^64 pairs. It is `Memory` only if the capacity would change or
-    ///   another key shares the slot (`refused`).
-    /// - It never fails for a key that shares its slot with no other, if the capacity stays
-    ///   (`lone`).
+    /// The proved `Entry::insert_entry` has the clauses `written`, `inserted`, `err`,
+    /// `value_returned`, `refused` and `lone`.
     ///
     /// # Examples
     ///

@@ -34,13 +34,14 @@
 //! as it was. The README names what a reader trusts beside the proof, and has a table of the calls of
 //! this crate that are one proved call, and of those that have code by hand.
 //!
-//! Under a call that makes a proved one, the section *Proved* says what its contract does, clause by
-//! clause; the word in brackets is the name of the clause. Where the section begins with *In part*,
-//! the call is by hand over proved calls, which it names. Where the proved call returns `Err` and
-//! the public one has no `Result`, that one panics or ends the process. What holds of every map is
-//! proved of each call too: no key is there twice, the pairs are in the order of their slots, the
-//! capacity is a power of two from 2 to 2^63, and the load factor is met at the last length at which
-//! insertions check it.
+//! Under a call that makes a proved one, the section *Proved* names that one and the clauses of its
+//! contract, which `docs/reference` of the repository shows. The text above says in words what
+//! these clauses say of the answer, of what the call leaves, and of failures. Where the section
+//! begins with *In part*, the call is by hand over proved calls, which it names. Where the proved
+//! call returns `Err` and the public one has no `Result`, that one panics or ends the process. What
+//! holds of every map is proved of each call too: no key is there twice, the pairs are in the order
+//! of their slots, the capacity is a power of two from 2 to 2^63, and the load factor is met at the
+//! last length at which insertions check it.
 //!
 //! Not proved, but tested: mutable references to several values, which [`IntMap::iter_mut`],
 //! [`IntMap::values_mut`], `&mut map` and [`IntMap::get_disjoint_mut`] hand out; what mends a map

@@ -91,8 +91,7 @@ impl<K: IntKey, V> IntMap<K, V> {
     ///
     /// # Proved
     ///
-    /// - In `Ok` is a map without a pair, of 4 slots, with a load factor of 0.909 (`state`).
-    /// - It fails by `Memory` alone (`memory`).
+    /// The proved `IntMap::new` has the clauses `state` and `memory`.
     ///
     /// # Examples
     ///
@@ -110,8 +109,8 @@ impl<K: IntKey, V> IntMap<K, V> {
         Ok(IntMap { map })
     }
 
-    /// Returns an empty map. Its capacity is the least power of two that is at least `capacity`,
-    /// and at least 2.
+    /// Returns an empty map, with a load factor of 0.909. Its capacity is the least power of two
+    /// that is at least `capacity`, and at least 2.
     ///
     /// The load factor isn't considered, so the insertion of `capacity` pairs may still double the
     /// slots; [`with_room_for`](IntMap::with_room_for) considers it.
@@ -149,10 +148,7 @@ impl<K: IntKey, V> IntMap<K, V> {
     ///
     /// # Proved
     ///
-    /// - In `Ok` is a map without a pair, with a load factor of 0.909 (`state`).
-    /// - The capacity is the least power of two that is at least `capacity`, and at least 2
-    ///   (`capacity`).
-    /// - It fails by `TooLarge` exactly if `capacity` is above 2^63 (`too_large`).
+    /// The proved `IntMap::with_capacity` has the clauses `state`, `capacity` and `too_large`.
     ///
     /// # Examples
     ///
@@ -175,8 +171,7 @@ impl<K: IntKey, V> IntMap<K, V> {
     ///
     /// # Proved
     ///
-    /// - The reference is to the value of the key, or there is none, if the key is absent
-    ///   (`value`).
+    /// The proved `IntMap::get` has the clause `value`.
     ///
     /// # Examples
     ///
@@ -198,13 +193,7 @@ impl<K: IntKey, V> IntMap<K, V> {
     ///
     /// # Proved
     ///
-    /// - The value that was written last by the reference is then the key's, in the place of the
-    ///   old one. All else stays: the other pairs, their order, the capacity and the load factor.
-    ///   If the key is absent, the map stays (`writes_back`).
-    /// - The reference is to the value of the key, or there is none, if the key is absent
-    ///   (`value`).
-    /// - Whatever is written, each other key keeps its value, or stays absent (`updates`).
-    /// - The length stays (`len`).
+    /// The proved `IntMap::get_mut` has the clauses `writes_back`, `value`, `updates` and `len`.
     ///
     /// # Examples
     ///
@@ -267,9 +256,7 @@ impl<K: IntKey, V> IntMap<K, V> {
     ///
     /// # Proved
     ///
-    /// - The first reference is to a key that equals the given one (`key`).
-    /// - The second reference is to the value of the key. There is no pair exactly if the key is
-    ///   absent (`value`).
+    /// The proved `IntMap::get_key_value` has the clauses `key` and `value`.
     ///
     /// # Examples
     ///
@@ -291,8 +278,7 @@ impl<K: IntKey, V> IntMap<K, V> {
     ///
     /// # Proved
     ///
-    /// - The references are to the first pair in iteration order, or there are none, if there is no
-    ///   pair (`value`).
+    /// The proved `IntMap::first_key_value` has the clause `value`.
     ///
     /// # Examples
     ///
@@ -312,7 +298,7 @@ impl<K: IntKey, V> IntMap<K, V> {
     ///
     /// # Proved
     ///
-    /// - The answer is `true` exactly if the key is present (`value`).
+    /// The proved `IntMap::contains_key` has the clause `value`.
     ///
     /// # Examples
     ///
@@ -331,17 +317,12 @@ impl<K: IntKey, V> IntMap<K, V> {
 
     /// Removes the pair of the key, and returns its value, or `None` if the key is absent.
     ///
-    /// The last pair of the slot takes its place. The capacity and the [memory](IntMap#memory) stay.
-    /// The cost is *O*(*s*).
+    /// The last pair of the slot takes its place, and the other pairs keep their order. The
+    /// capacity and the [memory](IntMap#memory) stay. The cost is *O*(*s*).
     ///
     /// # Proved
     ///
-    /// - The value is that of the key, or there is none, if the key was absent (`value`).
-    /// - The pair is gone, and the last pair of its slot has its place. All else stays: the other
-    ///   pairs in their order, the capacity and the load factor (`state`).
-    /// - After `None` the pairs are as they were, in their order (`absent`).
-    /// - The key is then absent. Each other key keeps its value, or stays absent (`updates`).
-    /// - The length is one less if something was removed, and otherwise stays (`len`).
+    /// The proved `IntMap::remove` has the clauses `value`, `state`, `absent`, `updates` and `len`.
     ///
     /// # Examples
     ///
@@ -366,13 +347,8 @@ impl<K: IntKey, V> IntMap<K, V> {
     ///
     /// # Proved
     ///
-    /// - The key of the pair is the given one (`key`).
-    /// - The value is that of the key. There is no pair exactly if the key was absent (`value`).
-    /// - The pair is gone, and the last pair of its slot has its place. All else stays: the other
-    ///   pairs in their order, the capacity and the load factor (`state`).
-    /// - After `None` the pairs are as they were, in their order (`absent`).
-    /// - The key is then absent. Each other key keeps its value, or stays absent (`updates`).
-    /// - The length is one less if something was removed, and otherwise stays (`len`).
+    /// The proved `IntMap::remove_entry` has the clauses `key`, `value`, `state`, `absent`,
+    /// `updates` and `len`.
     ///
     /// # Examples
     ///

@@ -79,8 +79,7 @@ impl<K: IntKey> IntSet<K> {
     ///
     /// # Proved
     ///
-    /// - In `Ok` is a set without a member, of 4 slots, with a load factor of 0.909 (`state`).
-    /// - It fails by `Memory` alone (`memory`).
+    /// The proved `IntSet::new` has the clauses `state` and `memory`.
     ///
     /// # Examples
     ///
@@ -97,8 +96,8 @@ impl<K: IntKey> IntSet<K> {
         Ok(IntSet { set })
     }
 
-    /// Returns an empty set. Its capacity is the least power of two that is at least `capacity`,
-    /// and at least 2.
+    /// Returns an empty set, with a load factor of 0.909. Its capacity is the least power of two
+    /// that is at least `capacity`, and at least 2.
     ///
     /// The load factor isn't considered, so the insertion of `capacity` keys may still double the
     /// slots; [`with_room_for`](IntSet::with_room_for) considers it.
@@ -133,10 +132,7 @@ impl<K: IntKey> IntSet<K> {
     ///
     /// # Proved
     ///
-    /// - In `Ok` is a set without a member, with a load factor of 0.909 (`state`).
-    /// - The capacity is the least power of two that is at least `capacity`, and at least 2
-    ///   (`capacity`).
-    /// - It fails by `TooLarge` exactly if `capacity` is above 2^63 (`too_large`).
+    /// The proved `IntSet::with_capacity` has the clauses `state`, `capacity` and `too_large`.
     ///
     /// # Examples
     ///
@@ -153,7 +149,8 @@ impl<K: IntKey> IntSet<K> {
     }
 
     /// Makes the key a member, and returns whether it is new. A new member is the last one of its
-    /// slot.
+    /// slot. The capacity changes as by [`IntMap::insert`](crate::IntMap::insert), and the other
+    /// members of a slot keep their order.
     ///
     /// A failed allocation is handled as std does; [`try_insert`](IntSet::try_insert) returns it.
     /// The cost is that of [`IntMap::insert`](crate::IntMap::insert).
@@ -182,23 +179,14 @@ impl<K: IntKey> IntSet<K> {
     ///
     /// # Errors
     ///
-    /// [`Cause::TooLarge`] if the set needs more than 2^63 slots, [`Cause::Memory`] if an
-    /// allocation fails. The set stays as it was. It never fails if the key is a member.
+    /// [`Cause::TooLarge`] if the set needs more than 2^63 slots or 2^64 members,
+    /// [`Cause::Memory`] if an allocation fails. The set stays as it was. It never fails if the key
+    /// is a member, nor if no member shares its slot and the capacity stays.
     ///
     /// # Proved
     ///
-    /// - In `Ok` is `true` exactly if the key was no member (`new`).
-    /// - After `Ok` the key is a member, and each other key stays what it was. The capacity changes
-    ///   as by an insertion into a map (`inserted`).
-    /// - After `Ok(true)` the key is the last one of its slot. The others are the same, in the
-    ///   order of the new capacity; those of a slot keep their order. After `Ok(false)` the set is
-    ///   as it was (`state`).
-    /// - After `Err` the set is as it was: the members, their order and the capacity (`err`).
-    /// - `Err` comes only for a new key. The cause is `TooLarge` exactly if the set would need more
-    ///   than 2^63 slots or 2^64 members. It is `Memory` only if the capacity would change or
-    ///   another member shares the slot (`refused`).
-    /// - It never fails for a key that shares its slot with no member, if the capacity stays
-    ///   (`lone`).
+    /// The proved `IntSet::insert` has the clauses `new`, `inserted`, `state`, `err`, `refused` and
+    /// `lone`.
     ///
     /// # Examples
     ///
@@ -224,7 +212,7 @@ impl<K: IntKey> IntSet<K> {
     ///
     /// # Proved
     ///
-    /// - The answer is `true` exactly if the key is a member (`value`).
+    /// The proved `IntSet::contains` has the clause `value`.
     ///
     /// # Examples
     ///
@@ -318,16 +306,11 @@ impl<K: IntKey> IntSet<K> {
     }
 
     /// Removes the key, and returns whether it was a member. The last member of its slot takes its
-    /// place. The cost is *O*(*s*).
+    /// place. The others keep their order, and the capacity stays. The cost is *O*(*s*).
     ///
     /// # Proved
     ///
-    /// - The answer is `true` exactly if the key was a member (`value`).
-    /// - The member is gone, and the last one of its slot has its place. The others keep their
-    ///   order, and the capacity stays (`state`).
-    /// - After `false` the members are as they were, in their order (`absent`).
-    /// - The key is then no member. Each other key stays what it was (`updates`).
-    /// - The length is one less if the answer is `true`, and otherwise stays (`len`).
+    /// The proved `IntSet::remove` has the clauses `value`, `state`, `absent`, `updates` and `len`.
     ///
     /// # Examples
     ///
@@ -367,7 +350,7 @@ impl<K: IntKey> IntSet<K> {
     ///
     /// # Proved
     ///
-    /// - The answer is the number of members that iteration visits (`value`).
+    /// The proved `IntSet::len` has the clause `value`.
     ///
     /// # Examples
     ///
@@ -383,7 +366,7 @@ impl<K: IntKey> IntSet<K> {
     ///
     /// # Proved
     ///
-    /// - The answer is `true` exactly if iteration visits nothing (`value`).
+    /// The proved `IntSet::is_empty` has the clause `value`.
     ///
     /// # Examples
     ///

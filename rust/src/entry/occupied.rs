@@ -10,7 +10,7 @@ impl<'a, K: IntKey, V> OccupiedEntry<'a, K, V> {
     ///
     /// # Proved
     ///
-    /// - The key is that of the entry (`value`).
+    /// The proved `OccupiedEntry::key` has the clause `value`.
     ///
     /// # Examples
     ///
@@ -30,7 +30,7 @@ impl<'a, K: IntKey, V> OccupiedEntry<'a, K, V> {
     ///
     /// # Proved
     ///
-    /// - The reference is to the value of the key (`value`).
+    /// The proved `OccupiedEntry::get` has the clause `value`.
     ///
     /// # Examples
     ///
@@ -51,12 +51,8 @@ impl<'a, K: IntKey, V> OccupiedEntry<'a, K, V> {
     ///
     /// # Proved
     ///
-    /// - The value that was written last by the reference is then the key's, in the place of the
-    ///   old one. All else stays: the other pairs, their order, the capacity and the load factor
-    ///   (`writes_back`).
-    /// - The reference is to the value of the key (`value`).
-    /// - Whatever is written, each other key keeps its value, or stays absent (`updates`).
-    /// - The length stays (`len`).
+    /// The proved `OccupiedEntry::get_mut` has the clauses `writes_back`, `value`, `updates` and
+    /// `len`.
     ///
     /// # Examples
     ///
@@ -78,12 +74,8 @@ impl<'a, K: IntKey, V> OccupiedEntry<'a, K, V> {
     ///
     /// # Proved
     ///
-    /// - The value that was written last by the reference is then the key's, in the place of the
-    ///   old one. All else stays: the other pairs, their order, the capacity and the load factor
-    ///   (`writes_back`).
-    /// - The reference is to the value of the key (`value`).
-    /// - Whatever is written, each other key keeps its value, or stays absent (`updates`).
-    /// - The length stays (`len`).
+    /// The proved `OccupiedEntry::into_mut` has the clauses `writes_back`, `value`, `updates` and
+    /// `len`.
     ///
     /// # Examples
     ///
@@ -107,12 +99,7 @@ impl<'a, K: IntKey, V> OccupiedEntry<'a, K, V> {
     ///
     /// # Proved
     ///
-    /// - The value is that which the key had (`old`).
-    /// - The new value is in the place of the old one. All else stays: the entry's key, the other
-    ///   pairs, their order, the capacity and the load factor (`written`).
-    /// - The key then has the given value. Each other key keeps its own, or stays absent
-    ///   (`updates`).
-    /// - The length stays (`len`).
+    /// The proved `OccupiedEntry::insert` has the clauses `old`, `written`, `updates` and `len`.
     ///
     /// # Examples
     ///
@@ -135,11 +122,7 @@ impl<'a, K: IntKey, V> OccupiedEntry<'a, K, V> {
     ///
     /// # Proved
     ///
-    /// - The value is that which the key had (`value`).
-    /// - The pair is gone, and the last pair of its slot has its place. All else stays: the other
-    ///   pairs in their order, the capacity and the load factor (`state`).
-    /// - The key is then absent. Each other key keeps its value, or stays absent (`updates`).
-    /// - The length is one less (`len`).
+    /// The proved `OccupiedEntry::remove` has the clauses `value`, `state`, `updates` and `len`.
     ///
     /// # Examples
     ///
@@ -168,12 +151,8 @@ impl<'a, K: IntKey, V> OccupiedEntry<'a, K, V> {
     ///
     /// # Proved
     ///
-    /// - The key of the pair is that of the entry (`key`).
-    /// - The value is that which the key had (`value`).
-    /// - The pair is gone, and the last pair of its slot has its place. All else stays: the other
-    ///   pairs in their order, the capacity and the load factor (`state`).
-    /// - The key is then absent. Each other key keeps its value, or stays absent (`updates`).
-    /// - The length is one less (`len`).
+    /// The proved `OccupiedEntry::remove_entry` has the clauses `key`, `value`, `state`, `updates`
+    /// and `len`.
     ///
     /// # Examples
     ///
@@ -201,9 +180,9 @@ impl<'a, K: IntKey, V> OccupiedEntry<'a, K, V> {
     /// If `f` returns `Ok`, returns what is in it.
     ///
     /// If `f` returns a value as its error, the key has that value, and the call returns `None`.
-    /// The pair is then at the end of its slot, where an
-    /// [`insert`](crate::IntMap::insert) of a present key leaves it. This allocates nothing, so a
-    /// value that can't be moved to another place is not lost. The cost is *O*(1), apart from `f`.
+    /// The pair is then at the end of its slot, where an [`insert`](crate::IntMap::insert) of a
+    /// present key leaves it. This allocates nothing, so a value that can't be moved to another
+    /// place is not lost. The capacity stays. The cost is *O*(1), apart from `f`.
     ///
     /// # Panics
     ///
@@ -211,15 +190,8 @@ impl<'a, K: IntKey, V> OccupiedEntry<'a, K, V> {
     ///
     /// # Proved
     ///
-    /// - The closure is called once, with the value of the key. After its `Ok` the key is absent,
-    ///   after its `Err` it has the value in it. Each other key keeps its value, or stays absent
-    ///   (`updates`).
-    /// - After its `Ok` the map is as `remove` leaves it. After its `Err` the pair is the last one
-    ///   of its slot, as `insert` of the present key leaves it (`state`).
-    /// - Each other key keeps its value, or stays absent, whatever the closure returns (`others`).
-    /// - The length is one less if the answer is `Some`, and otherwise stays (`len`).
-    /// - The capacity stays (`capacity`).
-    /// - The load factor stays (`factor`).
+    /// The proved `OccupiedEntry::hand_over` has the clauses `updates`, `state`, `others`, `len`,
+    /// `capacity` and `factor`.
     ///
     /// # Examples
     ///

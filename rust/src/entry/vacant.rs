@@ -14,7 +14,7 @@ impl<'a, K: IntKey, V> VacantEntry<'a, K, V> {
     ///
     /// # Proved
     ///
-    /// - The key is that of the entry (`value`).
+    /// The proved `VacantEntry::key` has the clause `value`.
     ///
     /// # Examples
     ///
@@ -34,8 +34,7 @@ impl<'a, K: IntKey, V> VacantEntry<'a, K, V> {
     ///
     /// # Proved
     ///
-    /// - The key is that of the entry (`value`).
-    /// - The map is as it was (`state`).
+    /// The proved `VacantEntry::into_key` has the clauses `value` and `state`.
     ///
     /// # Examples
     ///
@@ -143,19 +142,8 @@ impl<'a, K: IntKey, V> VacantEntry<'a, K, V> {
     ///
     /// # Proved
     ///
-    /// - In `Ok` is the entry of the key, which has the given value: in the place of a present
-    ///   key's old one, or in a pair that is the last of its slot (`written`).
-    /// - The key was absent (`absent`).
-    /// - After `Ok` the key has the value, and each other key has what it had before. The length is
-    ///   one more exactly if the key was absent. Only then the capacity may change, as by `insert`
-    ///   (`inserted`).
-    /// - After `Err` the map is as it was (`err`).
-    /// - In `Err` is the given value (`value_returned`).
-    /// - `Err` comes only for an absent key. The cause is `TooLarge` exactly if the map would need
-    ///   more than 2^63 slots or 2^64 pairs. It is `Memory` only if the capacity would change or
-    ///   another key shares the slot (`refused`).
-    /// - It never fails for a key that shares its slot with no other, if the capacity stays
-    ///   (`lone`).
+    /// The proved `VacantEntry::insert_entry` has the clauses `written`, `absent`, `inserted`,
+    /// `err`, `value_returned`, `refused` and `lone`.
     ///
     /// # Examples
     ///

@@ -11,11 +11,13 @@ impl<K: IntKey, V> IntMap<K, V> {
     /// Inserts the pair, and returns the value that the key had, if it was present.
     ///
     /// The new pair is the last one of its slot. The pair of a present key is removed first, and
-    /// the last pair of the slot takes its place.
+    /// the last pair of the slot takes its place. The capacity stays, unless the key is new, the
+    /// pairs are then 4 to 7, 12 to 15, 20 to 23 and so on, and they exceed the load factor; then
+    /// it is the least of its doublings in which they don't.
     ///
     /// A failed allocation is handled as std does; [`try_insert`](IntMap::try_insert) returns it.
-    /// The cost is *O*(*s*), and *O*(*n* + *c*) for an insertion that doubles the slots, or that makes
-    /// small ones [large](IntMap#memory). That is *O*(*s*) amortized.
+    /// The cost is *O*(*s*), and *O*(*n* + *c*) for an insertion that doubles the slots, or that
+    /// makes small ones [large](IntMap#memory). That is *O*(*s*) amortized.
     ///
     /// # Panics
     ///
@@ -53,28 +55,14 @@ impl<K: IntKey, V> IntMap<K, V> {
     ///
     /// # Errors
     ///
-    /// [`TooLarge`](crate::Cause::TooLarge) if the map needs more than 2^63 slots,
+    /// [`TooLarge`](crate::Cause::TooLarge) if the map needs more than 2^63 slots or 2^64 pairs,
     /// [`Memory`](crate::Cause::Memory) if an allocation fails. The map stays as it was. It never
-    /// fails if the key is present.
+    /// fails if the key is present, nor if no other key shares its slot and the capacity stays.
     ///
     /// # Proved
     ///
-    /// - In `Ok` is the value that the key had before, or `None` if it was absent (`old`).
-    /// - After `Ok` the key has the value, and each other key has what it had before. The length is
-    ///   one more exactly if the key is new. The capacity stays, unless the key is new, the new
-    ///   length is 4 to 7, 12 to 15, 20 to 23 and so on, and the pairs exceed the load factor; then
-    ///   it is the least of its doublings in which they don't (`inserted`).
-    /// - After `Ok` the pair is the last one of its slot; a present key's old pair was removed as
-    ///   `remove` does. The order of all pairs follows from that and from the capacity. The load
-    ///   factor stays (`state`).
-    /// - After `Err` the map is as it was: the pairs, their order, the capacity and the load factor
-    ///   (`err`).
-    /// - In `Err` is the given value (`value_returned`).
-    /// - `Err` comes only for an absent key. The cause is `TooLarge` exactly if the map would need
-    ///   more than 2^63 slots or 2^64 pairs. It is `Memory` only if the capacity would change or
-    ///   another key shares the slot (`refused`).
-    /// - It never fails for a key that shares its slot with no other, if the capacity stays
-    ///   (`lone`).
+    /// The proved `IntMap::insert` has the clauses `old`, `inserted`, `state`, `err`,
+    /// `value_returned`, `refused` and `lone`.
     ///
     /// # Examples
     ///
@@ -137,20 +125,8 @@ impl<K: IntKey, V> IntMap<K, V> {
     ///
     /// # Proved
     ///
-    /// - In `Ok` is `true` exactly if the key was absent (`new`).
-    /// - After `Ok` the key has the value that it had, or the given one if it is new. Each other
-    ///   key has what it had before. The length is one more exactly if the key is new, and only
-    ///   then the capacity may change, as by `insert` (`inserted`).
-    /// - After `Ok(true)` the map is as `insert` of the pair leaves it. After `Ok(false)` it is as
-    ///   it was (`state`).
-    /// - After `Err` the map is as it was: the pairs, their order, the capacity and the load factor
-    ///   (`err`).
-    /// - In `Err` is the given value (`value_returned`).
-    /// - `Err` comes only for an absent key. The cause is `TooLarge` exactly if the map would need
-    ///   more than 2^63 slots or 2^64 pairs. It is `Memory` only if the capacity would change or
-    ///   another key shares the slot (`refused`).
-    /// - It never fails for a key that shares its slot with no other, if the capacity stays
-    ///   (`lone`).
+    /// The proved `IntMap::insert_checked` has the clauses `new`, `inserted`, `state`, `err`,
+    /// `value_returned`, `refused` and `lone`.
     ///
     /// # Examples
     ///

@@ -14,27 +14,18 @@ impl<K: IntKey, V> IntMap<K, V> {
     /// Calls `keep` once for each pair, in iteration order, and removes the pairs for which it
     /// returns `false`.
     ///
-    /// The other pairs keep their order, and the capacity stays. Unlike std's, `keep` takes the key
-    /// by value and can't change the value. Where it has to, take
-    /// [`extract_if`](IntMap::extract_if) with the opposite answer, and end it by `.for_each(drop)`.
-    /// It doesn't allocate. The cost is *O*(*n* + *c*).
+    /// The other pairs keep their order, and the capacity and the load factor stay. Unlike std's,
+    /// `keep` takes the key by value and can't change the value. Where it has to, take
+    /// [`extract_if`](IntMap::extract_if) with the opposite answer, and end it by
+    /// `.for_each(drop)`. It doesn't allocate. The cost is *O*(*n* + *c*).
     ///
     /// If `keep` or the drop of a value panics, the map stays whole, and the pairs that weren't
     /// reached stay in it.
     ///
     /// # Proved
     ///
-    /// - If the closure's answer at a pair is always the same, that pair stays exactly if the
-    ///   answer is `true` (`by_pair`).
-    /// - If the closure's answer at a key is always the same, whatever the value, a present key
-    ///   stays exactly if the answer is `true` (`by_key`).
-    /// - If the closure answers as a fixed test of pairs, the pairs that pass it stay, in their
-    ///   order (`filtered`).
-    /// - The closure is called once for each pair, in iteration order, each time in the state that
-    ///   its last call left. The pairs with `true` stay, in their order, and no other (`pairs`).
-    /// - The capacity and the load factor stay (`state`).
-    /// - Each key has the value that it had, or is absent (`updates`).
-    /// - The length doesn't grow (`len`).
+    /// The proved `IntMap::retain` has the clauses `by_pair`, `by_key`, `filtered`, `pairs`,
+    /// `state`, `updates` and `len`.
     ///
     /// # Examples
     ///
@@ -63,9 +54,7 @@ impl<K: IntKey, V> IntMap<K, V> {
     ///
     /// # Proved
     ///
-    /// - There is no pair left. The capacity and the load factor stay (`state`).
-    /// - Each key is absent (`updates`).
-    /// - The length is 0 (`len`).
+    /// The proved `IntMap::clear` has the clauses `state`, `updates` and `len`.
     ///
     /// # Examples
     ///
@@ -89,16 +78,13 @@ impl<K: IntKey, V> IntMap<K, V> {
     /// Returns an iterator that removes one pair at each step and returns it, in iteration order.
     ///
     /// Unlike std's, it leaves the pairs that it didn't return if it is dropped early: they stay in
-    /// the map, in their order. They also stay if it is forgotten. The capacity stays. A step costs
-    /// *O*(*s*), all of them with the look for the next slots *O*(*n s* + *c*). Where thousands of
-    /// keys share a slot, `mem::take(&mut map).into_iter()` is faster.
+    /// the map, in their order. They also stay if it is forgotten. The capacity and the load factor
+    /// stay. A step costs *O*(*s*), all of them with the look for the next slots *O*(*n s* + *c*).
+    /// Where thousands of keys share a slot, `mem::take(&mut map).into_iter()` is faster.
     ///
     /// # Proved
     ///
-    /// - At the first step all is there that was: nothing is removed before (`state`).
-    /// - Each step removes and returns the first pair that is left, or returns `None` if there is
-    ///   none. The other pairs stay, in their order, and so do the capacity and the load factor
-    ///   (`next_gives`).
+    /// The proved `IntMap::drain` has the clauses `state` and `next_gives`.
     ///
     /// # Examples
     ///
@@ -123,21 +109,14 @@ impl<K: IntKey, V> IntMap<K, V> {
     ///
     /// `pick` may change each value that it sees. It is called once for each pair, and only as the
     /// iterator goes on. If the iterator is dropped early or forgotten, the pairs that it didn't
-    /// reach stay as they are. All steps together cost *O*(*n s* + *c*) beside the calls of `pick`.
+    /// reach stay as they are. The pairs that stay keep their order, and so do the capacity and the
+    /// load factor. All steps together cost *O*(*n s* + *c*) beside the calls of `pick`.
     /// [`retain`](IntMap::retain) costs *O*(*n* + *c*), however many keys share a slot.
     ///
     /// # Proved
     ///
-    /// - At the first step the map is as it was (`state`).
-    /// - The closure that the steps call is the given one, in the state in which it was given
-    ///   (`test`).
-    /// - Before the first step the closure was called at no pair (`kept`).
-    /// - The steps go through all pairs, in iteration order (`left`).
-    /// - Each step calls the closure at the pairs that are left, in turn, each time in the state
-    ///   that its last call left, up to the first with `true`. It removes that pair and returns it,
-    ///   as the closure left it, or returns `None` if there is none. All other pairs stay, in their
-    ///   order: those with `false` with the value that the closure left, the rest as they are. The
-    ///   capacity and the load factor stay (`next_gives`).
+    /// The proved `IntMap::extract_if` has the clauses `state`, `test`, `kept`, `left` and
+    /// `next_gives`.
     ///
     /// # Examples
     ///
@@ -157,21 +136,16 @@ impl<K: IntKey, V> IntMap<K, V> {
         ExtractIf { inner }
     }
 
-    /// Calls `change` once for each pair, in iteration order. The cost is *O*(*n* + *c*).
+    /// Calls `change` once for each pair, in iteration order. All keys stay, in their order. The
+    /// cost is *O*(*n* + *c*).
     ///
     /// It does what a loop over [`iter_mut`](IntMap::iter_mut) does. Its code is proved, that of
     /// `iter_mut` is tested.
     ///
     /// # Proved
     ///
-    /// - If the closure changes each pair by a fixed rule, each pair is what the rule makes of it,
-    ///   in the old order (`mapped`).
-    /// - The closure is called once for each pair, in iteration order, each time in the state that
-    ///   its last call left. Each key has the value that its call left (`values`).
-    /// - The capacity and the load factor stay (`state`).
-    /// - The keys stay, in their order (`keys`).
-    /// - A key is present exactly if it was (`updates`).
-    /// - The length stays (`len`).
+    /// The proved `IntMap::for_each_mut` has the clauses `mapped`, `values`, `state`, `keys`,
+    /// `updates` and `len`.
     ///
     /// # Examples
     ///
@@ -207,14 +181,7 @@ impl<K: IntKey, V> IntMap<K, V> {
     ///
     /// # Proved
     ///
-    /// - After `Ok` each item of the iterator was inserted in turn. The load factor stays, and the
-    ///   capacity doesn't fall (`extends`).
-    /// - After `Ok` each key of the iterator has its last value there, and each other key what it
-    ///   had before (`runs`).
-    /// - After `Ok` the length grew by at most the number of items (`len`).
-    /// - After `Err` the items before the one that failed are in, and that one isn't. `applied` is
-    ///   their number, at most 2^64 - 1. The cause is one for which its insertion may fail
-    ///   (`stops`).
+    /// The proved `IntMap::extend` has the clauses `extends`, `runs`, `len` and `stops`.
     ///
     /// # Examples
     ///
@@ -253,12 +220,7 @@ impl<K: IntKey, V> IntMap<K, V> {
     ///
     /// # Proved
     ///
-    /// - In `Ok` is a new map with the capacity for some number of pairs, at most that of the
-    ///   items, into which each pair was inserted in turn. `Err` has a cause for which one of these
-    ///   calls may fail (`collects`).
-    /// - In `Ok` each key of the iterator has its last value there, and no other key is present
-    ///   (`runs`).
-    /// - The length is at most the number of items (`len`).
+    /// The proved `IntMap::from_iter` has the clauses `collects`, `runs` and `len`.
     ///
     /// # Examples
     ///
@@ -294,12 +256,7 @@ impl<K: IntKey, V: Clone> IntMap<K, V> {
     ///
     /// # Proved
     ///
-    /// - In `Ok` are clones of the values, under the same keys in the same order, with the same
-    ///   capacity and load factor (`clone`).
-    /// - The keys are the same, in the same order (`keys`).
-    /// - Each key has a clone of its value (`values`).
-    /// - The length is the same (`len`).
-    /// - It fails by `Memory` alone (`memory`).
+    /// The proved `IntMap::clone` has the clauses `clone`, `keys`, `values`, `len` and `memory`.
     ///
     /// # Examples
     ///

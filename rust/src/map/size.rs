@@ -12,7 +12,7 @@ impl<K: IntKey, V> IntMap<K, V> {
     ///
     /// # Proved
     ///
-    /// - The answer is the number of pairs that iteration visits (`value`).
+    /// The proved `IntMap::len` has the clause `value`.
     ///
     /// # Examples
     ///
@@ -30,7 +30,7 @@ impl<K: IntKey, V> IntMap<K, V> {
     ///
     /// # Proved
     ///
-    /// - The answer is `true` exactly if iteration visits nothing (`value`).
+    /// The proved `IntMap::is_empty` has the clause `value`.
     ///
     /// # Examples
     ///
@@ -51,7 +51,7 @@ impl<K: IntKey, V> IntMap<K, V> {
     ///
     /// # Proved
     ///
-    /// - The answer is the number of slots by which the order is defined (`value`).
+    /// The proved `IntMap::capacity` has the clause `value`.
     ///
     /// # Examples
     ///
@@ -67,7 +67,9 @@ impl<K: IntKey, V> IntMap<K, V> {
         self.map.capacity()
     }
 
-    /// Makes the capacity at least the number of pairs plus `additional`. A greater capacity stays.
+    /// Makes the capacity the least power of two that is at least the number of pairs plus
+    /// `additional`. A greater capacity stays. The pairs have the order of the new capacity, and
+    /// those of a slot keep theirs.
     ///
     /// The load factor isn't considered, so later insertions may still double the slots;
     /// [`reserve_pairs`](IntMap::reserve_pairs) considers it. A failed allocation is handled as std
@@ -100,19 +102,13 @@ impl<K: IntKey, V> IntMap<K, V> {
     /// # Errors
     ///
     /// [`Cause::TooLarge`] if the number of pairs plus `additional` is above 2^63, and otherwise
-    /// [`Cause::Memory`] if an allocation fails. The map stays as it was.
+    /// [`Cause::Memory`] if an allocation fails. The map stays as it was. It never fails if the
+    /// capacity stays.
     ///
     /// # Proved
     ///
-    /// - After `Ok` the capacity is the greater of the old one and of the least power of two that
-    ///   is at least the length plus `additional`. The pairs are the same, in the order of that
-    ///   capacity; those of a slot keep their order. The load factor stays (`reserved`).
-    /// - After `Err` all is as it was: what iteration visits, its order, the capacity and the load
-    ///   factor (`err`).
-    /// - The cause is `TooLarge` exactly if the length plus `additional` is above 2^63. It is
-    ///   `Memory` only if that is above the capacity (`refused`).
-    /// - Each key has the value that it had, or stays absent (`updates`).
-    /// - The length stays (`len`).
+    /// The proved `IntMap::reserve` has the clauses `reserved`, `err`, `refused`, `updates` and
+    /// `len`.
     ///
     /// # Examples
     ///
@@ -161,8 +157,7 @@ impl<K: IntKey, V> IntMap<K, V> {
     ///
     /// # Proved
     ///
-    /// - The answer is the load factor, in thousandths, by which insertions decide on growth
-    ///   (`value`).
+    /// The proved `IntMap::get_load_factor` has the clause `value`.
     ///
     /// # Examples
     ///
@@ -175,8 +170,9 @@ impl<K: IntKey, V> IntMap<K, V> {
         self.map.get_load_factor()
     }
 
-    /// Sets the load factor, cut to thousandths, and doubles the slots until the pairs meet it. A
-    /// negative number or a `NaN` is 0.
+    /// Sets the load factor, cut to thousandths, and doubles the slots until the pairs meet it.
+    /// They have the order of the new capacity, and those of a slot keep theirs. A negative number
+    /// or a `NaN` is 0.
     ///
     /// A failed allocation is handled as std does;
     /// [`try_set_load_factor`](IntMap::try_set_load_factor) returns it. The cost is *O*(*n* + *c*),
@@ -208,11 +204,13 @@ impl<K: IntKey, V> IntMap<K, V> {
     /// # Errors
     ///
     /// [`Cause::TooLarge`] if the pairs don't meet it in 2^63 slots, and otherwise
-    /// [`Cause::Memory`] if an allocation fails. The map stays as it was, with its load factor.
+    /// [`Cause::Memory`] if an allocation fails. The map stays as it was, with its load factor. It
+    /// never fails if the capacity stays.
     ///
     /// # Proved
     ///
-    /// The contract of [`try_set_load_factor_thousandths`](IntMap::try_set_load_factor_thousandths).
+    /// The contract of
+    /// [`try_set_load_factor_thousandths`](IntMap::try_set_load_factor_thousandths).
     ///
     /// # Examples
     ///
@@ -235,15 +233,8 @@ impl<K: IntKey, V> IntMap<K, V> {
     ///
     /// # Proved
     ///
-    /// - After `Ok` the load factor is the given one. The capacity is the least of the old one and
-    ///   its doublings at which the pairs meet it. The pairs are the same, in the order of that
-    ///   capacity; those of a slot keep their order (`set`).
-    /// - After `Err` all is as it was: what iteration visits, its order, the capacity and the load
-    ///   factor (`err`).
-    /// - The cause is `TooLarge` exactly if the pairs don't meet the load factor in 2^63 slots. It
-    ///   is `Memory` only if they don't meet it in the slots that are there (`refused`).
-    /// - Each key has the value that it had, or stays absent (`updates`).
-    /// - The length stays (`len`).
+    /// The proved `IntMap::set_load_factor` has the clauses `set`, `err`, `refused`, `updates` and
+    /// `len`.
     ///
     /// # Examples
     ///
@@ -269,7 +260,7 @@ impl<K: IntKey, V> IntMap<K, V> {
     ///
     /// # Proved
     ///
-    /// - The answer is how many different slots the keys have (`value`).
+    /// The proved `IntMap::load` has the clause `value`.
     ///
     /// # Examples
     ///
@@ -306,7 +297,7 @@ impl<K: IntKey, V> IntMap<K, V> {
     ///
     /// # Proved
     ///
-    /// - The answer is `true` (`value`).
+    /// The proved `IntMap::assert_count` has the clause `value`.
     ///
     /// # Examples
     ///
@@ -322,7 +313,7 @@ impl<K: IntKey, V> IntMap<K, V> {
     }
 
     /// Returns a map from each number of pairs above 1 that a slot has, to the number of slots that
-    /// have exactly that many.
+    /// have exactly that many. The numbers are inserted into a new map as they first appear.
     ///
     /// A failed allocation is handled as std does; [`try_collisions`](IntMap::try_collisions)
     /// returns it. The cost is *O*(*c*).
@@ -352,12 +343,7 @@ impl<K: IntKey, V> IntMap<K, V> {
     ///
     /// # Proved
     ///
-    /// - In `Ok` is a new map, into which each size of a slot above 1 was inserted, with how many
-    ///   slots have it, in the order in which the sizes first appear (`sizes`).
-    /// - Each size above 1 that a slot has is there, with the number of those slots, and no other
-    ///   (`bindings`).
-    /// - The length is the number of such sizes (`len`).
-    /// - It fails by `Memory` alone (`memory`).
+    /// The proved `IntMap::collisions` has the clauses `sizes`, `bindings`, `len` and `memory`.
     ///
     /// # Examples
     ///

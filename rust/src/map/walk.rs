@@ -12,8 +12,7 @@ impl<K: IntKey, V> IntMap<K, V> {
     ///
     /// # Proved
     ///
-    /// - The iterator returns all pairs, each once, slot after slot, and each slot's from front to
-    ///   back (`walk`).
+    /// The proved `IntMap::iter` has the clauses `walk` and `runs`.
     ///
     /// # Examples
     ///
@@ -61,8 +60,7 @@ impl<K: IntKey, V> IntMap<K, V> {
     ///
     /// # Proved
     ///
-    /// - The iterator returns the keys of all pairs, in iteration order (`walk`).
-    /// - It returns as many items as there are pairs (`len`).
+    /// The proved `IntMap::keys` has the clauses `walk`, `len` and `runs`.
     ///
     /// # Examples
     ///
@@ -85,8 +83,7 @@ impl<K: IntKey, V> IntMap<K, V> {
     ///
     /// # Proved
     ///
-    /// - The iterator returns the values of all pairs, in iteration order (`walk`).
-    /// - It returns as many items as there are pairs (`len`).
+    /// The proved `IntMap::values` has the clauses `walk`, `len` and `runs`.
     ///
     /// # Examples
     ///
@@ -133,8 +130,7 @@ impl<K: IntKey, V> IntMap<K, V> {
     ///
     /// # Proved
     ///
-    /// - The iterator returns the keys of all pairs, in iteration order (`walk`).
-    /// - It returns as many items as there are pairs (`len`).
+    /// The proved `IntMap::into_keys` has the clauses `walk`, `len` and `runs`.
     ///
     /// # Examples
     ///
@@ -160,8 +156,7 @@ impl<K: IntKey, V> IntMap<K, V> {
     ///
     /// # Proved
     ///
-    /// - The iterator returns the values of all pairs, in iteration order (`walk`).
-    /// - It returns as many items as there are pairs (`len`).
+    /// The proved `IntMap::into_values` has the clauses `walk`, `len` and `runs`.
     ///
     /// # Examples
     ///

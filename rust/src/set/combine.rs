@@ -12,8 +12,7 @@ impl<K: IntKey> IntSet<K> {
     ///
     /// # Proved
     ///
-    /// - The iterator returns the members that `other` lacks, in the order of this set (`walk`).
-    /// - It returns exactly the keys that this set has and `other` lacks (`members`).
+    /// The proved `IntSet::difference` has the clauses `walk`, `members` and `runs`.
     ///
     /// # Examples
     ///
@@ -38,9 +37,7 @@ impl<K: IntKey> IntSet<K> {
     ///
     /// # Proved
     ///
-    /// - The iterator returns the members that both have, in the order of the set with fewer
-    ///   members, or of this one if they have as many (`walk`).
-    /// - It returns exactly the keys that both sets have (`members`).
+    /// The proved `IntSet::intersection` has the clauses `walk`, `members` and `runs`.
     ///
     /// # Examples
     ///
@@ -61,13 +58,11 @@ impl<K: IntKey> IntSet<K> {
 
     /// Returns an iterator over the members of either set, each once. It first returns the members
     /// of the set with more members, or of this one if both have the same number, and then those
-    /// that only the other has.
+    /// that only the other has, each in the order of its set.
     ///
     /// # Proved
     ///
-    /// - The iterator returns the members of the set with more members, or of this one if they have
-    ///   as many, in order, and then those that only the other has, in its order (`walk`).
-    /// - It returns exactly the keys that either set has (`members`).
+    /// The proved `IntSet::union` has the clauses `walk`, `members` and `runs`.
     ///
     /// # Examples
     ///
@@ -87,13 +82,11 @@ impl<K: IntKey> IntSet<K> {
     }
 
     /// Returns an iterator over the members that exactly one of the sets has: first those that only
-    /// this set has, and then those that only `other` has.
+    /// this set has, and then those that only `other` has, each in the order of its set.
     ///
     /// # Proved
     ///
-    /// - The iterator returns the members that only this set has, in its order, and then those that
-    ///   only `other` has, in its order (`walk`).
-    /// - It returns exactly the keys that one of the sets has and the other lacks (`members`).
+    /// The proved `IntSet::symmetric_difference` has the clauses `walk`, `members` and `runs`.
     ///
     /// # Examples
     ///
@@ -121,7 +114,7 @@ impl<K: IntKey> IntSet<K> {
     ///
     /// # Proved
     ///
-    /// - The answer is `true` exactly if each member of this set is one of `other` (`value`).
+    /// The proved `IntSet::is_subset` has the clause `value`.
     ///
     /// # Examples
     ///
@@ -142,7 +135,7 @@ impl<K: IntKey> IntSet<K> {
     ///
     /// # Proved
     ///
-    /// - The answer is `true` exactly if each member of `other` is one of this set (`value`).
+    /// The proved `IntSet::is_superset` has the clause `value`.
     ///
     /// # Examples
     ///
@@ -164,7 +157,7 @@ impl<K: IntKey> IntSet<K> {
     ///
     /// # Proved
     ///
-    /// - The answer is `true` exactly if no key is a member of both (`value`).
+    /// The proved `IntSet::is_disjoint` has the clause `value`.
     ///
     /// # Examples
     ///

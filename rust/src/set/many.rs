@@ -11,8 +11,7 @@ impl<K: IntKey> IntSet<K> {
     ///
     /// # Proved
     ///
-    /// - The iterator returns all members, each once, slot after slot, and each slot's from front
-    ///   to back (`walk`).
+    /// The proved `IntSet::iter` has the clauses `walk` and `runs`.
     ///
     /// # Examples
     ///
@@ -30,21 +29,13 @@ impl<K: IntKey> IntSet<K> {
     /// Calls `keep` once for each member, in iteration order, and removes the members for which it
     /// returns `false`.
     ///
-    /// The others keep their order, and the capacity stays. If `keep` panics, the set stays whole,
-    /// with the members that weren't reached. The cost is *O*(*n* + *c*).
+    /// The others keep their order, and the capacity and the load factor stay. If `keep` panics, the
+    /// set stays whole, with the members that weren't reached. The cost is *O*(*n* + *c*).
     ///
     /// # Proved
     ///
-    /// - If the closure's answer at a member is always the same, it stays exactly if the answer is
-    ///   `true` (`by_key`).
-    /// - If the closure answers as a fixed test of keys, the members that pass it stay, in their
-    ///   order (`filtered`).
-    /// - The closure is called once for each member, in iteration order, each time in the state
-    ///   that its last call left. The members with `true` stay, in their order, and no other
-    ///   (`keys`).
-    /// - The capacity and the load factor stay (`state`).
-    /// - Each key stays what it was, or is no member (`updates`).
-    /// - The length doesn't grow (`len`).
+    /// The proved `IntSet::retain` has the clauses `by_key`, `filtered`, `keys`, `state`, `updates`
+    /// and `len`.
     ///
     /// # Examples
     ///
@@ -69,9 +60,7 @@ impl<K: IntKey> IntSet<K> {
     ///
     /// # Proved
     ///
-    /// - There is no member left. The capacity stays (`state`).
-    /// - No key is a member (`updates`).
-    /// - The length is 0 (`len`).
+    /// The proved `IntSet::clear` has the clauses `state`, `updates` and `len`.
     ///
     /// # Examples
     ///
@@ -89,16 +78,13 @@ impl<K: IntKey> IntSet<K> {
     }
 
     /// Returns an iterator that removes one member at each step and returns it, in iteration order.
-    /// The members that it didn't return stay, in their order.
+    /// The members that it didn't return stay, in their order. The capacity stays.
     ///
     /// A step costs *O*(*s*), all of them with the look for the next slots *O*(*n s* + *c*).
     ///
     /// # Proved
     ///
-    /// - At the first step all is there that was: nothing is removed before (`state`).
-    /// - Each step removes and returns the first member that is left, or returns `None` if there is
-    ///   none. The other members stay, in their order, and so do the capacity and the load factor
-    ///   (`next_gives`).
+    /// The proved `IntSet::drain` has the clauses `state` and `next_gives`.
     ///
     /// # Examples
     ///
@@ -149,13 +135,7 @@ impl<K: IntKey> IntSet<K> {
     ///
     /// # Proved
     ///
-    /// - After `Ok` each item of the iterator was inserted in turn. The load factor stays, and the
-    ///   capacity doesn't fall (`extends`).
-    /// - After `Ok` the members are those of before and all items (`runs`).
-    /// - After `Ok` the length grew by at most the number of items (`len`).
-    /// - After `Err` the items before the one that failed are in, and that one isn't. `applied` is
-    ///   their number, at most 2^64 - 1. The cause is one for which its insertion may fail
-    ///   (`stops`).
+    /// The proved `IntSet::extend` has the clauses `extends`, `runs`, `len` and `stops`.
     ///
     /// # Examples
     ///
@@ -192,11 +172,7 @@ impl<K: IntKey> IntSet<K> {
     ///
     /// # Proved
     ///
-    /// - In `Ok` is a new set with the capacity for some number of members, at most that of the
-    ///   items, into which each item was inserted in turn. `Err` has a cause for which one of these
-    ///   calls may fail (`collects`).
-    /// - In `Ok` the members are the items, and no other key (`runs`).
-    /// - The length is at most the number of items (`len`).
+    /// The proved `IntSet::from_iter` has the clauses `collects`, `runs` and `len`.
     ///
     /// # Examples
     ///
@@ -225,9 +201,7 @@ impl<K: IntKey> IntSet<K> {
     ///
     /// # Proved
     ///
-    /// - In `Ok` are the same members, in the same order, with the same capacity (`clone`).
-    /// - The length is the same (`len`).
-    /// - It fails by `Memory` alone (`memory`).
+    /// The proved `IntSet::clone` has the clauses `clone`, `len` and `memory`.
     ///
     /// # Examples
     ///

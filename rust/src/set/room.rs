@@ -11,7 +11,7 @@ impl<K: IntKey> IntSet<K> {
     ///
     /// # Proved
     ///
-    /// - The answer is the number of slots by which the order is defined (`value`).
+    /// The proved `IntSet::capacity` has the clause `value`.
     ///
     /// # Examples
     ///
@@ -108,15 +108,8 @@ impl<K: IntKey> IntSet<K> {
     ///
     /// # Proved
     ///
-    /// - After `Ok` the capacity is the greater of the old one and of the least power of two that
-    ///   is at least the length plus `additional`. The members are the same, in the order of that
-    ///   capacity; those of a slot keep their order. The load factor stays (`reserved`).
-    /// - After `Err` all is as it was: what iteration visits, its order, the capacity and the load
-    ///   factor (`err`).
-    /// - The cause is `TooLarge` exactly if the length plus `additional` is above 2^63. It is
-    ///   `Memory` only if that is above the capacity (`refused`).
-    /// - Each key stays what it was, a member or not (`updates`).
-    /// - The length stays (`len`).
+    /// The proved `IntSet::reserve` has the clauses `reserved`, `err`, `refused`, `updates` and
+    /// `len`.
     ///
     /// # Examples
     ///
