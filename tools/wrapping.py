@@ -1,12 +1,15 @@
 """The public calls of the crate for Rust, and the proved calls that they make.
 
 It reads what is written by hand in the folder rust/src. `table` is what the crate's README says of each public call,
-and `unwrapped` finds the public calls of the proved map and set that no public call of the crate makes."""
+`unwrapped` finds the public calls of the proved map and set that no public call of the crate makes, and `untested` the
+public calls that have no line in the table of tests."""
 import glob
 import os
 import re
 
 PAGE = "README.md"
+# the lines of tests, which begin with the name of a call
+TESTS = "tests/calls/table.rs"
 # what isn't the public layer: the proved text, what it stands on, and the same calls by the names of the original
 BELOW = ("proved", "memory", "guard.rs", "check", "original")
 
@@ -231,8 +234,18 @@ def unwrapped(folder):
             yield f"tools/wrapping.py: LEFT has `{call}`, which {'is made' if call in calls else 'is no proved call'}"
 
 
+def untested(folder):
+    """Each public call of a map, an entry and a set that has no line in the table of tests, as a line."""
+    lines = set(re.findall(r'"(\w+::\w+)', text_of(f"{folder}/{TESTS}")))
+    for file, text in layer(folder).items():
+        for of, trait, name, _ in public_calls(text):
+            if of in REACHED and not trait and f"{of}::{name}" not in lines:
+                yield f"{folder}/src/{file}: {TESTS} has no line of `{of}::{name}`"
+
+
 def faults(folder):
     """What is wrong with the public calls of the crate in a folder, each as a line."""
     yield from unwrapped(folder)
+    yield from untested(folder)
     if table(folder) not in text_of(f"{folder}/{PAGE}"):
         yield f"rust/{PAGE} doesn't have the table of public calls that tools/erase writes"

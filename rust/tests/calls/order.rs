@@ -1,5 +1,6 @@
-//! The order of iteration after each call that changes it, and the order of drops.
-use intmap_proved::{Entry, IntMap};
+//! The order of the pairs that closures keep or iterators leave, and the order of drops. The lines of
+//! `table` have the order that each other call leaves.
+use intmap_proved::IntMap;
 use std::cell::RefCell;
 use std::mem::ManuallyDrop;
 use std::rc::Rc;
@@ -15,57 +16,6 @@ fn crowded(keys: u64) -> IntMap<u64, u64> {
 
 fn keys_of<V>(map: &IntMap<u64, V>) -> Vec<u64> {
     map.keys().copied().collect()
-}
-
-#[test]
-fn a_removal_moves_the_last_pair_of_the_slot() {
-    let mut map = crowded(5);
-    map.remove(2);
-    assert_eq!(keys_of(&map), [0, 8, 4, 6], "2 was removed");
-    map.insert(0, 7);
-    assert_eq!(keys_of(&map), [6, 8, 4, 0], "0 was inserted again");
-    map.remove_entry(8);
-    assert_eq!(keys_of(&map), [6, 0, 4], "8 was removed");
-}
-
-#[test]
-fn an_entry_leaves_a_pair_in_its_place() {
-    let mut map = crowded(3);
-    if let Entry::Occupied(mut entry) = map.entry(0) {
-        assert_eq!((entry.insert(9), *entry.key()), (0, 0));
-    }
-    assert!(map.iter().eq([(&0, &9), (&2, &1), (&4, &2)]), "{map:?}");
-    if let Entry::Occupied(entry) = map.entry(0) {
-        assert_eq!(entry.remove_entry(), (0, 9));
-    }
-    assert_eq!(keys_of(&map), [4, 2], "the last pair moved to the front");
-}
-
-#[test]
-fn a_value_that_comes_back_is_the_last_of_its_slot() {
-    let orders: [(u64, u64, &[u64]); 6] = [
-        (1, 0, &[0]),
-        (2, 0, &[2, 0]),
-        (2, 2, &[0, 2]),
-        (4, 0, &[6, 2, 4, 0]),
-        (4, 4, &[0, 2, 6, 4]),
-        (4, 6, &[0, 2, 4, 6]),
-    ];
-    for (keys, key, wanted) in orders {
-        let mut map = crowded(keys);
-        let Entry::Occupied(entry) = map.entry(key) else { panic!("{key} is present") };
-        assert_eq!(entry.hand_over(|value| Err::<(), _>(value + 50)), None, "{key} of {keys}");
-        assert_eq!(keys_of(&map), wanted, "{key} of {keys} came back");
-        assert_eq!(map.get(key), Some(&(key / 2 + 50)), "{key} of {keys}");
-        let mut again = crowded(keys);
-        again.insert(key, key / 2 + 50);
-        assert!(map.iter().eq(again.iter()), "as an insertion of {key} into {keys}");
-        let Entry::Occupied(entry) = map.entry(key) else { panic!("{key} is present") };
-        assert_eq!(entry.hand_over(Ok), Some(key / 2 + 50), "{key} of {keys}");
-        again.remove(key);
-        assert!(map.iter().eq(again.iter()), "as a removal of {key} from {keys}");
-        assert!(map.assert_count(), "the count without {key} of {keys}");
-    }
 }
 
 #[test]
@@ -98,19 +48,6 @@ fn pairs_that_are_not_extracted_keep_their_order() {
 }
 
 #[test]
-fn an_extraction_that_ends_early_leaves_the_rest() {
-    let mut map = crowded(7);
-    let first = map.extract_if(|key, value| {
-        *value += 100;
-        key % 4 == 2
-    });
-    assert_eq!(first.take(2).collect::<Vec<_>>(), [(2, 101), (6, 103)]);
-    let left = [(0, 100), (4, 102), (8, 4), (10, 5), (12, 6)];
-    assert!(map.iter().map(|(key, value)| (*key, *value)).eq(left), "{map:?}");
-    assert_eq!(map.len(), 5);
-}
-
-#[test]
 fn a_drain_that_ends_early_leaves_the_rest_in_order() {
     for taken in 0..=8 {
         let mut map = crowded(7);
@@ -139,39 +76,6 @@ fn a_forgotten_iterator_leaves_a_whole_map() {
     left.sort_unstable();
     assert_eq!((left, map.len()), (vec![4, 8, 10, 12], 4));
     assert!(map.assert_count());
-}
-
-#[test]
-fn iterators_have_one_order() {
-    let mut map: IntMap<u64, u64> = (0..50).map(|key| (key * 7, key * 7)).collect();
-    map.retain(|key, _| key % 3 > 0);
-    map.extend((0..20).map(|key| (key * 11, key * 11)));
-    let keys = keys_of(&map);
-    let pairs = || keys.iter().map(|it| (*it, *it));
-    assert!(!keys.is_sorted(), "an order that could be mistaken: {keys:?}");
-    assert!(map.iter().map(|pair| (*pair.0, *pair.1)).eq(pairs()), "iter");
-    assert!((&map).into_iter().map(|pair| *pair.0).eq(keys.clone()), "a loop");
-    assert!(map.values().copied().eq(keys.clone()), "values");
-    assert!(map.iter_mut().map(|pair| (*pair.0, *pair.1)).eq(pairs()), "iter_mut");
-    assert!((&mut map).into_iter().map(|pair| *pair.1).eq(keys.clone()), "a loop that writes");
-    assert!(map.values_mut().map(|it| *it).eq(keys.clone()), "values_mut");
-    assert!(map.clone().into_keys().eq(keys.clone()), "into_keys");
-    assert!(map.clone().into_values().eq(keys.clone()), "into_values");
-    assert!(map.clone().into_iter().eq(pairs()), "into_iter");
-    assert!(map.clone().extract_if(|_, _| true).eq(pairs()), "extract_if");
-    assert!(map.drain().eq(pairs()), "drain");
-}
-
-#[test]
-fn a_clone_has_order_slots_and_load_factor_of_its_source() {
-    let mut map = crowded(300);
-    map.remove(8);
-    map.remove(100);
-    let clone = map.clone();
-    assert_eq!((clone.capacity(), clone.load_factor_thousandths()), (2, 1_000_000));
-    assert!(clone.iter().eq(map.iter()));
-    map.clear();
-    assert_eq!((map.len(), clone.len()), (0, 298), "they are two maps");
 }
 
 /// A value that writes its number down when it is dropped.
