@@ -41,10 +41,6 @@ fn set_load_factor(map: &mut IntMap<u64, u64>, thousandths: usize) -> i32
 /// Makes the number of slots at least the least power of two that is no less than the number of
 /// pairs plus `additional`. It fails with `TOO_LARGE` exactly if that sum is above 2^63, and
 /// otherwise with `NO_MEMORY` if an allocation fails. A failed call leaves the map.
-///
-/// ```text
-/// intmap_reserve(&map, 100)    INTMAP_OK, and 128 slots in an empty map
-/// ```
 #[unsafe(no_mangle)]
 pub extern "C" fn intmap_reserve(alloc: Global, handle: &mut Handle, additional: usize) -> i32
     ensures { OnMapOrNew handle.old.value handle.new.value (MakesNone additional result)
@@ -63,10 +59,6 @@ pub extern "C" fn intmap_reserve(alloc: Global, handle: &mut Handle, additional:
 /// Sets the load factor in thousandths, and makes the number of slots the least doubling that meets
 /// it. It fails with `TOO_LARGE` exactly if no number up to 2^63 meets it, and otherwise with
 /// `NO_MEMORY` if an allocation fails. A failed call leaves the map and its load factor.
-///
-/// ```text
-/// intmap_set_load_factor(&map, 100)    INTMAP_OK, and 32 slots where 3 pairs were in 4
-/// ```
 #[unsafe(no_mangle)]
 pub extern "C" fn intmap_set_load_factor(
     alloc: Global,

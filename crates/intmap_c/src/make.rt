@@ -37,11 +37,6 @@ pub(crate) fn keep(alloc: Global, handle: &mut Handle, made: Result<IntMap<u64, 
 /// power of two that is at least `capacity`, and at least 2. If the handle had a map, that map is
 /// freed. It fails with `TOO_LARGE` exactly if `capacity` is above 2^63, and otherwise with
 /// `NO_MEMORY` if an allocation fails. A failed call leaves the handle.
-///
-/// ```text
-/// intmap_with_capacity(&map, 20)                     INTMAP_OK, and 32 slots
-/// intmap_with_capacity(&map, 9223372036854775809)    INTMAP_TOO_LARGE
-/// ```
 #[unsafe(no_mangle)]
 pub extern "C" fn intmap_with_capacity(alloc: Global, handle: &mut Handle, capacity: usize) -> i32
     ensures outcome { ((result ≡ ok_status)
@@ -55,10 +50,6 @@ pub extern "C" fn intmap_with_capacity(alloc: Global, handle: &mut Handle, capac
 
 /// Frees the map of the handle, which then has none.
 /// That the map's memory is freed is tested, not proved.
-///
-/// ```text
-/// intmap_free(&map)    and again: nothing
-/// ```
 #[unsafe(no_mangle)]
 pub extern "C" fn intmap_free(alloc: Global, handle: &mut Handle)
     ensures { handle.new.value ≡ None }

@@ -88,11 +88,6 @@ fn remove(map: &mut IntMap<u64, u64>, key: u64) -> FoundValue
 /// The insertion of a present key never fails. The insertion of a new key fails with `TOO_LARGE`
 /// exactly if the map has 2^64 - 1 pairs or would need more than 2^63 slots, and otherwise with
 /// `NO_MEMORY` if an allocation fails. A failed call leaves the map.
-///
-/// ```text
-/// intmap_insert(&map, 21, 7)    {0, INTMAP_ABSENT}
-/// intmap_insert(&map, 21, 8)    {7, INTMAP_PRESENT}
-/// ```
 #[unsafe(no_mangle)]
 pub extern "C" fn intmap_insert(
     alloc: Global,
@@ -115,11 +110,6 @@ pub extern "C" fn intmap_insert(
 
 /// Inserts the pair if the key is absent, and returns whether it was present. A present key keeps
 /// its value. The insertion of a new key fails as `intmap_insert` does.
-///
-/// ```text
-/// intmap_insert_checked(&map, 21, 7)    INTMAP_ABSENT: now it is
-/// intmap_insert_checked(&map, 21, 8)    INTMAP_PRESENT: to 7
-/// ```
 #[unsafe(no_mangle)]
 pub extern "C" fn intmap_insert_checked(
     alloc: Global,
@@ -142,10 +132,6 @@ pub extern "C" fn intmap_insert_checked(
 
 /// Replaces the value of a present key, whose pair keeps its place, and returns the value before. It
 /// inserts nothing, and allocates nothing.
-///
-/// ```text
-/// intmap_replace(&map, 21, 8)    {7, INTMAP_PRESENT} after intmap_insert(&map, 21, 7)
-/// ```
 #[unsafe(no_mangle)]
 pub extern "C" fn intmap_replace(
     alloc: Global,
@@ -168,10 +154,6 @@ pub extern "C" fn intmap_replace(
 
 /// Adds to the value of a present key, modulo 2^64, and returns the value before. It inserts nothing,
 /// looks the key up once, and allocates nothing.
-///
-/// ```text
-/// intmap_add_present(&map, 21, 1)    {7, INTMAP_PRESENT} after intmap_insert(&map, 21, 7)
-/// ```
 #[unsafe(no_mangle)]
 pub extern "C" fn intmap_add_present(
     alloc: Global,
@@ -194,10 +176,6 @@ pub extern "C" fn intmap_add_present(
 
 /// Adds to the value of a present key as [`intmap_add_present`] does, or inserts an absent key with
 /// `more`. It looks the key up once. The insertion of a new key fails as [`intmap_insert`] does.
-///
-/// ```text
-/// intmap_add_or_insert(&map, 21, 1)    {0, INTMAP_ABSENT}, and then {1, INTMAP_PRESENT}
-/// ```
 #[unsafe(no_mangle)]
 pub extern "C" fn intmap_add_or_insert(
     alloc: Global,
@@ -219,11 +197,6 @@ pub extern "C" fn intmap_add_or_insert(
 }
 
 /// Removes the pair of the key, and returns its value. The last pair of the slot takes its place.
-///
-/// ```text
-/// intmap_remove(&map, 21)    {7, INTMAP_PRESENT} after intmap_insert(&map, 21, 7)
-/// intmap_remove(&map, 21)    {0, INTMAP_ABSENT}
-/// ```
 #[unsafe(no_mangle)]
 pub extern "C" fn intmap_remove(alloc: Global, handle: &mut Handle, key: u64) -> FoundValue
     ensures { OnMap handle.old.value handle.new.value (result ≡ no_value absent_status)

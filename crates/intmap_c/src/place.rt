@@ -24,12 +24,6 @@ fn find(map: &mut IntMap<u64, u64>, key: u64) -> Option<&mut u64>
 
 /// Writes the address of the value of the key, or null if the key is absent. The value may be read
 /// and written there until the next call with the map. It allocates nothing.
-///
-/// ```text
-/// intmap_place(&map, 21, &at)    and *at is 7 after intmap_insert(&map, 21, 7)
-/// *at = 8                        and intmap_get(&map, 21) is {8, INTMAP_PRESENT}
-/// intmap_place(&map, 22, &at)    and at is null
-/// ```
 #[unsafe(no_mangle)]
 pub unsafe extern "C" fn intmap_place(word: &mut Word, key: u64, at: &mut *mut u64)
     ghost value: { MaybeMap.Denot }

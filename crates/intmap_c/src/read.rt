@@ -135,11 +135,6 @@ fn get(lent: LentMap<'_>, key: u64) -> FoundValue
 }
 
 /// The value of the key.
-///
-/// ```text
-/// intmap_get(&map, 21)    {7, INTMAP_PRESENT} after intmap_insert(&map, 21, 7)
-/// intmap_get(&map, 22)    {0, INTMAP_ABSENT}
-/// ```
 #[unsafe(no_mangle)]
 pub unsafe extern "C" fn intmap_get(word: &Word, key: u64) -> FoundValue
     ghost loan: { Loan }
@@ -165,10 +160,6 @@ fn contains_key(lent: LentMap<'_>, key: u64) -> bool
 }
 
 /// Whether the key is present.
-///
-/// ```text
-/// intmap_contains_key(&map, 21)    true after intmap_insert(&map, 21, 7)
-/// ```
 #[unsafe(no_mangle)]
 pub unsafe extern "C" fn intmap_contains_key(word: &Word, key: u64) -> bool
     ghost loan: { Loan }
@@ -199,11 +190,6 @@ fn step(lent: LentMap<'_>, at: &mut Cursor) -> FoundPair
 /// The first pair of the walk from the cursor on, behind which the cursor moves. A walk begins with
 /// a cursor of zeros, and goes on with what the last call left. Where no pair is left, the cursor
 /// stays.
-///
-/// ```text
-/// intmap_step(&map, &at)    {{21, 7}, INTMAP_PRESENT} after intmap_insert(&map, 21, 7)
-/// intmap_step(&map, &at)    {{0, 0}, INTMAP_ABSENT}
-/// ```
 #[unsafe(no_mangle)]
 pub unsafe extern "C" fn intmap_step(word: &Word, at: &mut Cursor) -> FoundPair
     ghost loan: { Loan }
@@ -232,10 +218,6 @@ fn equal(lent: LentMap<'_>, other: LentMap<'_>) -> bool
 }
 
 /// Whether the same keys have the same values in both maps.
-///
-/// ```text
-/// intmap_equal(&map, &other)    true after intmap_clone(&map, &other)
-/// ```
 #[unsafe(no_mangle)]
 pub unsafe extern "C" fn intmap_equal(word: &Word, other: &Word) -> bool
     ghost loans: { Loan × Loan }
@@ -272,10 +254,6 @@ fn clone(alloc: Global, lent: LentMap<'_>, to: &mut Handle) -> i32
 /// Makes a map in `to` with the same pairs in the same order, as many slots and the same load
 /// factor. If there is no map, `to` has none then. If `to` had a map, that map is freed. If an
 /// allocation fails, `to` stays.
-///
-/// ```text
-/// intmap_clone(&map, &other)    INTMAP_OK, and each key has the same value in both
-/// ```
 #[unsafe(no_mangle)]
 pub unsafe extern "C" fn intmap_clone(alloc: Global, word: &Word, to: &mut Handle) -> i32
     ghost loan: { Loan }

@@ -22,11 +22,6 @@ fn cut(map: &mut IntMap<u64, u64>, at: &mut Cursor) -> FoundPair
 /// Removes the first pair of the walk from the cursor on and returns it. The other pairs keep their
 /// order, and the cursor is then before those that were behind it. Where no pair is left, the cursor
 /// stays. It allocates nothing.
-///
-/// ```text
-/// intmap_cut(&map, &at)    {{21, 7}, INTMAP_PRESENT} after intmap_insert(&map, 21, 7)
-/// intmap_cut(&map, &at)    {{0, 0}, INTMAP_ABSENT}
-/// ```
 #[unsafe(no_mangle)]
 pub extern "C" fn intmap_cut(alloc: Global, handle: &mut Handle, at: &mut Cursor) -> FoundPair
     ensures { OnMap handle.old.value handle.new.value
@@ -44,10 +39,6 @@ pub extern "C" fn intmap_cut(alloc: Global, handle: &mut Handle, at: &mut Cursor
 }
 
 /// Removes all pairs. The slots, the load factor and the slots' memory stay.
-///
-/// ```text
-/// intmap_clear(&map)    and intmap_len(&map) is 0
-/// ```
 #[unsafe(no_mangle)]
 pub extern "C" fn intmap_clear(alloc: Global, handle: &mut Handle)
     ensures { OnMap handle.old.value handle.new.value ⊤ (λ m n. n ≡ emptied m) }
