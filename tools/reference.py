@@ -4,10 +4,9 @@ import functools
 import re
 import textwrap
 
-from examples import KINDS, Differs, Unknown, run_block
 from sources import Sources
 
-API, LINES = "docs/API.md", "tools/example_lines.txt"
+API = "docs/API.md"
 # the first mark says who writes it
 BEGIN, END = "<!-- tools/calls --write writes this -->", "<!-- to here -->"
 WRITTEN = re.compile(rf"(?<={re.escape(BEGIN)}\n)(.*?)(?={re.escape(END)})", re.S)
@@ -37,12 +36,6 @@ WITH_PRIVATE_TYPES = {"intmap_text"}
 UNSAID = {"Model", "Drop", "Eq", "Send", "Sync", "Owns", "Move"}
 # how API.md writes the methods of traits
 WRITTEN_AS = {"index": "map\\[", "eq": "==`", "into_iter": "into_iter\\("}
-# examples of comments that no plain list can answer: shapes of code, and words without a number
-UNREAD = {
-    "IntMap::entry", "Entry::or_insert", "Entry::and_modify", "Entry::into_map", "Entry::or_insert_with_key", "Entry::or_insert_with",
-    "Entry::or_default", "Entry::or_try_insert_with", "IntMap::get_mut", "IntMap::values_mut", "IntMap::iter_mut", "IntSet::extend",
-    "IntSet::from_iter", "SparseVec::iter", "IntMap::eq", "SparseVec::eq", "Iter::clone", "::Refused", "::RefusedPair", "::Judge", "::IntKey", "::Steps",
-}  # fmt: skip
 
 
 @functools.lru_cache(None)
@@ -93,11 +86,6 @@ class Costs:
         return (found[0][3], found[0][0]) if found else (None, len(self.rows))
 
 
-def lines_of(text):
-    """The lines of code that a file has for calls, by type and call."""
-    return {head: body for head, body in re.findall(r"^= (\S+)\n((?:.+\n)+)", text, re.M)}
-
-
 def wrapped(text):
     return textwrap.fill(text, 140, break_long_words=False, break_on_hyphens=False) + "\n\n" if text else ""
 
@@ -115,7 +103,6 @@ class Reference:
 
     def __init__(self, crate, files):
         self.crate, self.sources, self.costs = crate, sources_of(crate, files), costs_in(files[API])
-        self.lines = lines_of(files[LINES])
 
     def labels(self, item):
         needs = [f"`{it}`" for it in item.labels(("requires",)) if it != "requires"]
@@ -124,18 +111,13 @@ class Reference:
         parts += ["It has a `requires`."] if len(needs) < len(item.labels(("requires",))) else []
         return parts + ([f"Clauses: {', '.join(says)}."] if says else [])
 
-    def lines_for(self, key, item):
-        """The lines of code of a call: those of the comment, but not one that can't be run where another can."""
-        own = [self.lines[key]] if key in self.lines else []
-        return [it for it in item.example if not (key in UNREAD and own and it.count("\n") == 1)] + own
-
     def call(self, item, name=""):
         """A call: signature, comment, cost, clauses, lines of code."""
         # a `for` over a reference is no call of its own
         cost = None if " of `&" in name else self.costs.of(item.owner, item.name)[0]
         text = f"### {name or f'`{item.name}`'}\n\n{block('rust', item.signature)}\n{paragraph(item.comment)}"
         text += wrapped(" ".join(([f"Cost: {cost}."] if cost else []) + self.labels(item)))
-        return text + "".join(f"{block('text', it)}\n" for it in self.lines_for(f"{item.owner}::{item.name}", item))
+        return text + "".join(f"{block('text', it)}\n" for it in item.example)
 
     def traits(self, kind):
         """The traits of a type, each with the clauses that it gives."""
@@ -165,17 +147,6 @@ class Reference:
         return "\n" + text + "".join(self.call(names[it]).replace("### ", "## ", 1) for it in functions)
 
 
-def examples_in(files):
-    """Each example, by type and call: its text, and whether it is in a comment."""
-    for crate in dict.fromkeys(it[0] for it in PAGES.values()):
-        found = sources_of(crate, files)
-        of_traits = [it for kind in found.traits for it in found.methods(kind)]
-        for it in [*found.calls, *found.types.values(), *of_traits]:
-            for text in it.example:
-                yield f"{it.owner if it.name else ''}::{it.name or it.owner}", text, True
-    yield from ((key, text, False) for key, text in lines_of(files[LINES]).items())
-
-
 def not_shown(files):
     """The public types and functions of the crates that no page has."""
     for crate in dict.fromkeys(it[0] for it in PAGES.values()):
@@ -187,35 +158,6 @@ def not_shown(files):
         public |= {it.name for it in found.calls if not it.owner and it.name in named}
         shown = {it for of, types, functions in PAGES.values() if of == crate for it in [*types, *functions]}
         yield from (f"tools/reference.py: no page has {it} of {crate}" for it in sorted(public - shown))
-
-
-def without_lines(files, have):
-    """The calls of maps, entries, sets and vectors on the pages for which no line of code runs."""
-    for crate, types, _ in PAGES.values():
-        calls = [f"{it.owner}::{it.name}" for it in sources_of(crate, files).calls if it.owner in {*types} & {*KINDS}]
-        yield from (f"no line of code runs for {it}: {LINES} may have it" for it in calls if it not in have)
-
-
-def wrong_examples(files, counts):
-    """Which lines of code aren't so, or can't be read and aren't known for that; and which calls have none."""
-    unread, have = set(), set()
-    for key, text, is_comment in examples_in(files):
-        kind, name = key.split("::")
-        is_unread = is_comment and key in UNREAD
-        try:
-            count = run_block(kind if kind in KINDS else "", name, text)
-            counts["lines of code"] += count
-            have.add(key)
-            if is_unread:
-                yield f"tools/reference.py says that the example of {key} can't be read"
-        except (Differs, Unknown) as why:
-            if is_unread:
-                unread.add(key)
-            else:
-                yield f"an example of {key}{'' if isinstance(why, Differs) else ' is not understood'}: {why}"
-    yield from (f"tools/reference.py lists an example of {it}, and there is none" for it in sorted(UNREAD - unread))
-    counts["examples not run"] += len(unread)
-    yield from [*without_lines(files, have), *not_shown(files)]
 
 
 def rendered(files):

@@ -164,7 +164,3 @@ class Sources:
             self.types |= {it.owner: it for it in types if it.owner not in self.types}
             for it in traits:
                 self.traits.setdefault(it[0], []).append((*it[1:], path))
-
-    def methods(self, kind):
-        """The methods of a type's traits that have a comment."""
-        return [it for _, _, _, methods, _ in self.traits.get(kind, []) for it in methods]

@@ -7,8 +7,11 @@ ghost use Rattle.intmap.specs.Json.{IsKeyText};
 /// this way. It allocates nothing and never fails.
 ///
 /// ```text
-/// "18446744073709551615"    Some(18446744073709551615)
-/// "05", "+5", "" and " 5"   None
+/// key_of("18446744073709551615")    // Some(18446744073709551615)
+/// key_of("05")                      // None
+/// key_of("+5")                      // None
+/// key_of("")                        // None
+/// key_of(" 5")                      // None
 /// ```
 pub fn key_of(text: &str) -> Option<u64>
     ensures some { IfSome result (IsKeyText text.now) }

@@ -28,6 +28,18 @@ pub enum Entry<'a, K: IntKey, V, A: Allocator + Copy = Global> {
 }
 
 /// A map with a key that is present in it.
+///
+/// ```text
+/// let mut map = IntMap::from_array(alloc, [(0, 5), (4, 7)])?;
+/// if let Entry::Occupied(mut entry) = map.entry(0) {
+///     *entry.get_mut() += 1;
+///     entry.insert(9)    // 6
+///     entry.key()        // 0
+///     entry.get()        // 9
+///     entry.leave();
+/// }
+/// map    // {0: 9, 4: 7}
+/// ```
 #[derive(Drop)]
 pub struct OccupiedEntry<'a, K: IntKey, V, A: Allocator + Copy = Global> {
     map: &'a mut IntMap<K, V, A>,
@@ -37,6 +49,15 @@ pub struct OccupiedEntry<'a, K: IntKey, V, A: Allocator + Copy = Global> {
 }
 
 /// A map with a key that is absent from it.
+///
+/// ```text
+/// let mut map = IntMap::from_array(alloc, [(21, 'b')])?;
+/// if let Entry::Vacant(entry) = map.entry(22) {
+///     entry.key()           // 22
+///     entry.insert('c')?    // 'c'
+/// }
+/// map    // {22: 'c', 21: 'b'}
+/// ```
 pub struct VacantEntry<'a, K: IntKey, V, A: Allocator + Copy = Global> {
     map: &'a mut IntMap<K, V, A>,
     key: K,
@@ -73,10 +94,13 @@ impl<K: IntKey, V, A: Allocator + Copy> IntMap<K, V, A> {
     /// apart, and of any entry that is ended by [`OccupiedEntry::leave`] or [`Entry::into_map`].
     ///
     /// ```text
+    /// let mut map = IntMap::from_array(alloc, [(21, 5)])?;
     /// match map.entry(21) {
     ///     Entry::Occupied(entry) => *entry.into_mut() += 1,
     ///     Entry::Vacant(entry) => *entry.insert(0)? += 1,
     /// }
+    /// map                    // {21: 6}
+    /// map.entry(22).key()    // 22
     /// ```
     #[inline]
     pub fn entry(&mut self, key: K) -> Entry<'_, K, V, A>
@@ -121,7 +145,10 @@ impl<'a, K: IntKey, V, A: Allocator + Copy> Entry<'a, K, V, A> {
     /// returns `value`. If the key is present, `value` is dropped, and the call never fails.
     ///
     /// ```text
-    /// *map.entry(word).or_insert(0)? += 1
+    /// let mut map = IntMap::from_array(alloc, [(21, 5)])?;
+    /// *map.entry(21).or_insert(0)? += 1;
+    /// *map.entry(22).or_insert(0)? += 1;
+    /// map    // {22: 1, 21: 6}
     /// ```
     #[inline]
     pub fn or_insert(self, value: V) -> Result<&'a mut V, Refused<V>>
@@ -154,7 +181,9 @@ impl<'a, K: IntKey, V, A: Allocator + Copy> Entry<'a, K, V, A> {
     /// the entry. If the key is present, the closure must be callable at its value.
     ///
     /// ```text
-    /// map.entry(word).and_modify(|count| *count += 1).or_insert(1)?
+    /// let mut map = IntMap::from_array(alloc, [(21, 5)])?;
+    /// map.entry(21).and_modify(|count| *count += 1).or_insert(1)?    // 6
+    /// map.entry(22).and_modify(|count| *count += 1).or_insert(1)?    // 1
     /// ```
     pub fn and_modify<F: FnOnce(&mut V)>(self, f: F) -> Entry<'a, K, V, A>
         requires { (p : MutBor V) → entry_value self ≡ Some p.now → F.pre f p }
@@ -186,7 +215,8 @@ impl<'a, K: IntKey, V, A: Allocator + Copy> Entry<'a, K, V, A> {
     /// no pair, removes none and compares no key.
     ///
     /// ```text
-    /// map.entry(word).and_modify(|count| *count += 1).into_map();
+    /// let mut map = IntMap::from_array(alloc, [(21, 5)])?;
+    /// map.entry(21).and_modify(|count| *count += 1).into_map()    // {21: 6}
     /// ```
     pub fn into_map(self) -> &'a mut IntMap<K, V, A>
         ensures same_reference { result.ghost_name ≡ (entry_reference self.entry).ghost_name }

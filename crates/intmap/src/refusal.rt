@@ -28,10 +28,12 @@ impl Error for Cause {}
 /// A value that could not be put into a map, with the cause.
 ///
 /// ```text
-/// match map.insert(21, value) {
-///     Ok(old) => ..,
-///     Err(Refused { value, cause }) => ..,
-/// }
+/// let mut map = IntMap::new(alloc)?;
+/// let back = match map.insert(21, 'a') {
+///     Ok(_) => None,
+///     Err(Refused { value, cause }) => Some((value, cause)),
+/// };
+/// back    // None
 /// ```
 #[derive(Debug, Drop)]
 pub struct Refused<V> {
@@ -73,10 +75,12 @@ impl From<AllocError> for Cause {
 /// that were inserted before it.
 ///
 /// ```text
-/// match map.extend(pairs) {
-///     Ok(()) => ..,
-///     Err(RefusedPair { key, value, applied, cause }) => ..,
-/// }
+/// let mut map = IntMap::new(alloc)?;
+/// let inserted = match map.extend([(21, 'a'), (22, 'b')].into_iter()) {
+///     Ok(()) => 2,
+///     Err(RefusedPair { applied, .. }) => applied,
+/// };
+/// inserted    // 2
 /// ```
 #[derive(Debug, Drop)]
 pub struct RefusedPair<K, V> {

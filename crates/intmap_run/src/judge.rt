@@ -4,26 +4,8 @@ ghost use Rattle.std.specs.Prelude.{◌≡◌, Bool};
 /// Looks at values, and says which pairs stay.
 ///
 /// A run returns a value only when the value leaves the map. Of the values that stay it shows what
-/// a judge sees: a copy, a number, a text, or nothing at all.
-///
-/// ```text
-/// // sees each number as itself, and keeps all
-/// impl Judge<u64, u64> for Plain {
-///     type Seen = u64;
-///
-///     ghost sees = { λ _ value seen. seen ≡ value };
-///
-///     ghost keeps = { λ _ key value. true };
-///
-///     fn look(&self, value: &u64) -> u64 {
-///         *value
-///     }
-///
-///     fn keep(&self, _key: u64, _value: &u64) -> bool {
-///         true
-///     }
-/// }
-/// ```
+/// a judge sees: a copy, a number, a text, or nothing at all. The example of [`run`](crate::run) has
+/// a judge that sees each number as itself, and keeps all.
 pub trait Judge<K, V> {
     /// What is seen of a value.
     type Seen: Drop;

@@ -38,11 +38,33 @@ use std::mem;
 /// it was.
 ///
 /// ```text
-/// on an empty map, with ample memory:
-/// Insert(21, a)    Old(None)
-/// Insert(21, b)    Old(Some(a))
-/// Remove(21)       Old(Some(b))
-/// Len              Number(0)
+/// #[derive(Clone, Copy)]
+/// struct Plain;
+///
+/// impl Judge<u64, u64> for Plain {
+///     type Seen = u64;
+///
+///     ghost sees = { λ _ value seen. seen ≡ value };
+///
+///     ghost keeps = { λ _ key value. true };
+///
+///     fn look(&self, value: &u64) -> u64 {
+///         *value
+///     }
+///
+///     fn keep(&self, _key: u64, _value: &u64) -> bool {
+///         true
+///     }
+/// }
+///
+/// let mut map = IntMap::new(alloc)?;
+/// let commands = vec![in alloc; Command::Insert(21, 7), Command::Get(21), Command::Len]?;
+/// if let Ok(told) = run(alloc, &mut map, commands, &Plain) {
+///     matches!(told[0], Answer::Old(None))        // true
+///     matches!(told[1], Answer::Seen(Some(7)))    // true
+///     matches!(told[2], Answer::Number(1))        // true
+/// }
+/// map    // {21: 7}
 /// ```
 pub fn run<K: IntKey, V: Drop, J: Judge<K, V>, A: Allocator + Copy>(
     alloc: A,

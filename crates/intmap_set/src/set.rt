@@ -49,7 +49,9 @@ impl<K: IntKey, A: Allocator + Copy> IntSet<K, A> {
     /// Whether the key is a member. It never fails, and its comparisons of keys aren't counted.
     ///
     /// ```text
-    /// set.contains(21)    true after set.insert(21)?
+    /// let set = IntSet::from_iter(alloc, [21, 7].into_iter())?;
+    /// set.contains(21)    // true
+    /// set.contains(22)    // false
     /// ```
     pub fn contains(&self, key: K) -> bool
         ensures value { result ≡ holds K.number_of self.now.walk key }

@@ -54,6 +54,13 @@ impl<A: Allocator + Copy> SparseVec<A> {
     }
 
     /// The value at the place, or 0 if none is stored. It never fails.
+    ///
+    /// ```text
+    /// let mut vector = SparseVec::new(alloc)?;
+    /// vector.set(5, 3)?;
+    /// vector.get(5)    // 3
+    /// vector.get(6)    // 0
+    /// ```
     pub fn get(&self, place: u64) -> i64
         ensures value { result ≡ value_at self.now.walk place }
     {
@@ -67,8 +74,11 @@ impl<A: Allocator + Copy> SparseVec<A> {
     /// and otherwise with [`Cause::Memory`] if an allocation fails. A failed call changes nothing.
     ///
     /// ```text
-    /// set(3, 5)    Ok(0), on a new vector
-    /// set(3, 0)    Ok(5), and no place is stored
+    /// let mut vector = SparseVec::new(alloc)?;
+    /// vector.set(3, 5)     // Ok(0)
+    /// vector.set(3, 0)     // Ok(5)
+    /// vector.len()         // 0
+    /// vector.is_empty()    // true
     /// ```
     pub fn set(&mut self, place: u64, value: i64) -> Result<i64, Cause>
         // what is returned and left
@@ -101,8 +111,10 @@ impl<A: Allocator + Copy> SparseVec<A> {
     /// nothing.
     ///
     /// ```text
-    /// add(7, 5)     Ok(5), on a new vector
-    /// add(7, -5)    Ok(0), and no place is stored
+    /// let mut vector = SparseVec::new(alloc)?;
+    /// vector.add(7, 5)     // Ok(5)
+    /// vector.add(7, -5)    // Ok(0)
+    /// vector               // {}
     /// ```
     pub fn add(&mut self, place: u64, delta: i64) -> Result<i64, SparseCause>
         // what is returned and left
@@ -138,7 +150,13 @@ impl<A: Allocator + Copy> SparseVec<A> {
     /// places.
     ///
     /// ```text
-    /// {1: 2, 5: 3} and {5: 4, 7: 9}    Some(12)
+    /// let mut first = SparseVec::new(alloc)?;
+    /// first.set(1, 2)?;
+    /// first.set(5, 3)?;
+    /// let mut second = SparseVec::new(alloc)?;
+    /// second.set(5, 4)?;
+    /// second.set(7, 9)?;
+    /// first.dot(&second)    // Some(12)
     /// ```
     pub fn dot(&self, other: &SparseVec<A>) -> Option<i128>
         ensures product { IfSome result (λ sum. sum ≡ product self.now.walk other.now.walk) }
@@ -188,7 +206,10 @@ impl<A: Allocator + Copy> SparseVec<A> {
     /// Neither this call nor a step of the iterator fails.
     ///
     /// ```text
-    /// for (place, value) in vector.iter()    1 and 2, then 5 and 3
+    /// let mut vector = SparseVec::new(alloc)?;
+    /// vector.set(1, 2)?;
+    /// vector.set(5, 3)?;
+    /// vector.iter()    // [(1, 2), (5, 3)]
     /// ```
     pub fn iter(&self) -> Iter<'_, u64, i64, A>
         ensures walk { result ≡ self.now.walk }

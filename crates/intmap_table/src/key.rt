@@ -17,7 +17,11 @@ mod wide;
 /// keys by implementing this trait.
 ///
 /// ```text
-/// // Article has one field, number: u32, and derives Clone, Copy, PartialEq and Eq
+/// #[derive(Clone, Copy, PartialEq, Eq)]
+/// struct Article {
+///     number: u32,
+/// }
+///
 /// impl IntKey for Article {
 ///     ghost is_valid = { λ article. article.number < 2 ^ 32 };
 ///
@@ -32,6 +36,9 @@ mod wide;
 ///         self.number as u64
 ///     }
 /// }
+///
+/// let map = IntMap::from_array(alloc, [(Article { number: 21 }, 'a')])?;
+/// map.get(Article { number: 21 })    // Some('a')
 /// ```
 pub trait IntKey: Copy + Eq {
     /// What holds of each value of the type, such as its range.

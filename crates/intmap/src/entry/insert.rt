@@ -19,8 +19,11 @@ impl<'a, K: IntKey, V: Drop, A: Allocator + Copy> VacantEntry<'a, K, V, A> {
     /// returns the entry of the key, which is then present. It fails as that does.
     ///
     /// ```text
-    /// let entry = vacant.insert_entry('d')?;
-    /// entry.get()    &'d'
+    /// let mut map: IntMap<u64, char> = IntMap::new(alloc)?;
+    /// if let Entry::Vacant(entry) = map.entry(21) {
+    ///     let entry = entry.insert_entry('d')?;
+    ///     entry.get()    // 'd'
+    /// }
     /// ```
     pub fn insert_entry(self, value: V) -> Result<OccupiedEntry<'a, K, V, A>, Refused<V>>
         // what is returned and left
@@ -98,7 +101,8 @@ impl<'a, K: IntKey, V: Drop, A: Allocator + Copy> Entry<'a, K, V, A> {
     /// value that was made. The closure must be callable at an absent key.
     ///
     /// ```text
-    /// map.entry(21).or_insert_with_key(|key| key / 2)?
+    /// let mut map: IntMap<u64, u64> = IntMap::new(alloc)?;
+    /// map.entry(21).or_insert_with_key(|key| key / 2)?    // 10
     /// ```
     pub fn or_insert_with_key<F: FnOnce(K) -> V>(self, f: F) -> Result<&'a mut V, Refused<V>>
         requires { entry_value self ≡ None → F.pre f (entry_key self) }
@@ -136,7 +140,9 @@ impl<'a, K: IntKey, V: Drop, A: Allocator + Copy> Entry<'a, K, V, A> {
     /// key.
     ///
     /// ```text
-    /// map.entry(21).or_insert_with(|| read_once())?
+    /// let mut map = IntMap::from_array(alloc, [(21, 5)])?;
+    /// map.entry(21).or_insert_with(|| 7)?    // 5
+    /// map.entry(22).or_insert_with(|| 7)?    // 7
     /// ```
     pub fn or_insert_with<F: FnOnce() -> V>(self, f: F) -> Result<&'a mut V, Refused<V>>
         requires { entry_value self ≡ None → F.pre f }
@@ -168,7 +174,9 @@ impl<'a, K: IntKey, V: Drop, A: Allocator + Copy> Entry<'a, K, V, A> {
     /// allocator of the map.
     ///
     /// ```text
-    /// *map.entry(word).or_default()? += 1
+    /// let mut map: IntMap<u64, u64> = IntMap::new(alloc)?;
+    /// *map.entry(21).or_default()? += 1;
+    /// map    // {21: 1}
     /// ```
     pub fn or_default(self) -> Result<&'a mut V, Refused<V>>
     where
@@ -214,7 +222,10 @@ impl<'a, K: IntKey, V: Drop, A: Allocator + Copy> Entry<'a, K, V, A> {
     /// as it was. The closure must be callable if the key is absent.
     ///
     /// ```text
-    /// map.entry(21).or_try_insert_with(|| read_value(file))?
+    /// let mut map: IntMap<u64, u64> = IntMap::new(alloc)?;
+    /// map.entry(21).or_try_insert_with(|| key_of("7").ok_or(Cause::Memory))      // Ok(7)
+    /// map.entry(22).or_try_insert_with(|| key_of("seven").ok_or(Cause::Memory))  // Err(Memory)
+    /// map                                                                        // {21: 7}
     /// ```
     pub fn or_try_insert_with<E: From<Refused<V>>, F: FnOnce() -> Result<V, E>>(
         self,
@@ -252,7 +263,8 @@ impl<'a, K: IntKey, V: Drop, A: Allocator + Copy> Entry<'a, K, V, A> {
     /// the pair is inserted, and this fails as [`VacantEntry::insert`] does.
     ///
     /// ```text
-    /// map.entry(21).insert_entry('c')?.remove_entry()    (21, 'c')
+    /// let mut map = IntMap::from_array(alloc, [(21, 'a')])?;
+    /// map.entry(21).insert_entry('c')?.remove_entry()    // (21, 'c')
     /// ```
     pub fn insert_entry(self, value: V) -> Result<OccupiedEntry<'a, K, V, A>, Refused<V>>
         // what is returned and left

@@ -104,7 +104,11 @@ impl<'a, K: IntKey, V, A: Allocator + Copy> OccupiedEntry<'a, K, V, A> {
     /// does, and returns the key beside the value.
     ///
     /// ```text
-    /// at 0 in {0: 'a', 4: 'b', 8: 'c'}: remove_entry()    (0, 'a'), and then {8: 'c', 4: 'b'}
+    /// let mut map = IntMap::from_array(alloc, [(0, 'a'), (4, 'b'), (8, 'c')])?;
+    /// if let Entry::Occupied(entry) = map.entry(0) {
+    ///     entry.remove_entry()    // (0, 'a')
+    /// }
+    /// map    // {8: 'c', 4: 'b'}
     /// ```
     pub fn remove_entry(self) -> (K, V)
         ensures key { result.0 ≡ entry_key (Occupied self.entry) }
@@ -133,9 +137,16 @@ impl<'a, K: IntKey, V, A: Allocator + Copy> OccupiedEntry<'a, K, V, A> {
     /// the call never fails. The closure must be callable at the value of the key.
     ///
     /// ```text
-    /// at 0 in {0: 'a', 4: 'b', 8: 'c'}:
-    /// hand_over(|value| Ok(value))     Some('a'), and then {8: 'c', 4: 'b'}
-    /// hand_over(|value| Err(value))    None, and then {8: 'c', 4: 'b', 0: 'a'}
+    /// let mut map = IntMap::from_array(alloc, [(0, 'a'), (4, 'b'), (8, 'c')])?;
+    /// if let Entry::Occupied(entry) = map.entry(0) {
+    ///     let taken: Option<char> = entry.hand_over(|value| Err(value));
+    ///     taken    // None
+    /// }
+    /// map    // {8: 'c', 4: 'b', 0: 'a'}
+    /// if let Entry::Occupied(entry) = map.entry(8) {
+    ///     entry.hand_over(|value| Ok(value))    // Some('c')
+    /// }
+    /// map    // {0: 'a', 4: 'b'}
     /// ```
     pub fn hand_over<R, F: FnOnce(V) -> Result<R, V>>(self, f: F) -> Option<R>
         requires callable { (value : V) → entry_value (Occupied self) ≡ Some value → F.pre f value }

@@ -23,7 +23,10 @@ impl<'a, K: IntKey, V, A: Allocator + Copy> VacantEntry<'a, K, V, A> {
     /// The key that was looked up. This ends the entry and leaves the map with the key still absent.
     ///
     /// ```text
-    /// at 22 in {21: 'b'}: into_key()    22
+    /// let mut map = IntMap::from_array(alloc, [(21, 'b')])?;
+    /// if let Entry::Vacant(entry) = map.entry(22) {
+    ///     entry.into_key()    // 22
+    /// }
     /// ```
     pub fn into_key(self) -> K
         ensures value { result ≡ entry_key (Vacant self.entry) }

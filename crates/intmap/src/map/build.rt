@@ -29,6 +29,16 @@ const FIRST_FACTOR: usize = 909;
 impl<K: IntKey, V: Drop, A: Allocator + Copy> IntMap<K, V, A> {
     /// An empty map of 4 slots, with a load factor of 909 thousandths. It allocates the slots and
     /// their bits. It fails only if an allocation fails, with [`Cause::Memory`].
+    ///
+    /// ```text
+    /// let map: IntMap<u64, char> = IntMap::new(alloc)?;
+    /// map                      // {}
+    /// map.len()                // 0
+    /// map.is_empty()           // true
+    /// map.capacity()           // 4
+    /// map.get_load_factor()    // 909
+    /// map.assert_count()       // true
+    /// ```
     pub fn new(alloc: A) -> Result<IntMap<K, V, A>, Cause>
         ensures state { IfOk result (λ made. made ≡ empty_map first_capacity) }
         ensures memory { IfErr result (λ cause. cause ≡ Cause.Memory) }
@@ -43,9 +53,9 @@ impl<K: IntKey, V: Drop, A: Allocator + Copy> IntMap<K, V, A> {
     /// fails.
     ///
     /// ```text
-    /// IntMap::with_capacity(alloc, 20)                     has 32 slots
-    /// IntMap::with_capacity(alloc, 0)                      has 2 slots
-    /// IntMap::with_capacity(alloc, 9223372036854775809)    Err(Cause::TooLarge)
+    /// IntMap::<u64, u64>::with_capacity(alloc, 20)?.capacity()          // 32
+    /// IntMap::<u64, u64>::with_capacity(alloc, 0)?.capacity()           // 2
+    /// IntMap::<u64, u64>::with_capacity(alloc, 9223372036854775809)     // Err(TooLarge)
     /// ```
     pub fn with_capacity(alloc: A, capacity: usize) -> Result<IntMap<K, V, A>, Cause>
         ensures state { IfOk result (λ made. made ≡ empty_map made.capacity) }
@@ -96,8 +106,9 @@ impl<K: IntKey, V: Drop, A: Allocator + Copy> IntMap<K, V, A> {
     /// is dropped, with the pairs that it hasn't given.
     ///
     /// ```text
-    /// after insert(0, 10) into 4 slots:
-    /// extend of 4: 14 and 0: 20    Ok(()), and the walk is 4: 14, 0: 20
+    /// let mut map = IntMap::new(alloc)?;
+    /// map.extend([(0, 10), (4, 14), (0, 20)].into_iter())    // Ok(())
+    /// map                                                    // {4: 14, 0: 20}
     /// ```
     pub fn extend<I: Iterator<Item = (K, V)> + Drop>(
         &mut self,
@@ -143,7 +154,8 @@ impl<K: IntKey, V: Drop, A: Allocator + Copy> IntMap<K, V, A> {
     /// It fails if either call fails, with the same cause, and then drops everything.
     ///
     /// ```text
-    /// of the 20 pairs of a vector it has 32 slots, and of no pairs 2
+    /// IntMap::from_iter(alloc, (0..20).map(|key| (key, 'a')))?.capacity()    // 32
+    /// IntMap::from_iter(alloc, (0..0).map(|key| (key, 'a')))?.capacity()     // 2
     /// ```
     pub fn from_iter<I: Iterator<Item = (K, V)> + Drop>(
         alloc: A,
@@ -175,8 +187,8 @@ impl<K: IntKey, V: Drop, A: Allocator + Copy> IntMap<K, V, A> {
     /// call drops everything.
     ///
     /// ```text
-    /// IntMap::from_array(alloc, [(4, 'a'), (0, 'b'), (4, 'c')])    4 slots, and the walk is 0, 4
-    /// IntMap::from_array(alloc, [])                                2 slots and no pair
+    /// IntMap::from_array(alloc, [(4, 'a'), (0, 'b'), (4, 'c')])    // Ok({0: 'b', 4: 'c'})
+    /// IntMap::<u64, char>::from_array(alloc, [])?.capacity()       // 2
     /// ```
     pub fn from_array<const N: usize>(
         alloc: A,

@@ -16,7 +16,9 @@ impl<K: IntKey, V, A: Allocator + Copy> IntMap<K, V, A> {
     /// modulo the capacity. It counts one bit a slot, a word of 64 at a time, and never fails.
     ///
     /// ```text
-    /// with the keys 0, 4 and 1 in 4 slots it is 2, since 0 and 4 share a slot
+    /// let map = IntMap::from_array(alloc, [(0, 10), (4, 14), (1, 11)])?;
+    /// // 0 and 4 share one of the 4 slots
+    /// map.load()    // 2
     /// ```
     pub fn load(&self) -> u64
         ensures value { result ≡ load_of K.number_of self.now.walk self.now.capacity }
@@ -28,8 +30,9 @@ impl<K: IntKey, V, A: Allocator + Copy> IntMap<K, V, A> {
     /// The number of pairs for each slot, in thousandths, rounded down. It never fails.
     ///
     /// ```text
-    /// 12 pairs in 128 slots    93
-    /// 16 pairs in 8 slots      2000
+    /// let mut map = IntMap::with_capacity(alloc, 128)?;
+    /// map.extend((0..12).map(|key| (key, ())))?;
+    /// map.load_rate()    // 93
     /// ```
     pub fn load_rate(&self) -> u128
         ensures value { result ≡ rate_of self.now.walk self.now.capacity }
@@ -58,7 +61,12 @@ impl<K: IntKey, V: Drop, A: Allocator + Copy> IntMap<K, V, A> {
     /// key of this map, and its time grows with the number of slots.
     ///
     /// ```text
-    /// with the keys 0, 4, 8, 1, 2 and 6 in 4 slots it is {2: 1, 3: 1}
+    /// let mut map = IntMap::new(alloc)?;
+    /// map.set_load_factor(2000)?;
+    /// map.extend([0, 4, 8, 1, 2, 6].into_iter().map(|key| (key, ())))?;
+    /// map.capacity()      // 4
+    /// map.load_rate()     // 1500
+    /// map.collisions()    // Ok({2: 1, 3: 1})
     /// ```
     pub fn collisions(&self) -> Result<IntMap<u64, u64, A>, Cause>
         ensures sizes { IfOk result (IsMadeOf (λ size. size) (λ size. size < 2 ^ 64)

@@ -18,6 +18,12 @@ impl<K: IntKey, V, A: Allocator + Copy> IntMap<K, V, A> {
     ghost use Rattle.intmap.specs.Lending.{map_lends_present};
 
     /// The value of the key, or `None` if the key is absent. It never fails.
+    ///
+    /// ```text
+    /// let map = IntMap::from_array(alloc, [(0, 10), (4, 14)])?;
+    /// map.get(4)    // Some(14)
+    /// map.get(8)    // None
+    /// ```
     #[inline]
     pub fn get(&self, key: K) -> Option<&V>
         ensures value { option_copied result ≡ value_of K.number_of self.now.walk key }
@@ -28,6 +34,11 @@ impl<K: IntKey, V, A: Allocator + Copy> IntMap<K, V, A> {
     }
 
     /// The first pair of the walk, or `None` if the map is empty. It never fails.
+    ///
+    /// ```text
+    /// let map = IntMap::from_array(alloc, [(4, 14), (0, 10), (1, 11)])?;
+    /// map.first_key_value()    // Some((4, 14))
+    /// ```
     pub fn first_key_value(&self) -> Option<(&K, &V)>
         ensures value { option_map (λ pair. (pair.0.now, pair.1.now)) result
             ≡ slice_get self.now.walk 0 }
@@ -41,10 +52,14 @@ impl<K: IntKey, V, A: Allocator + Copy> IntMap<K, V, A> {
     /// in iteration order, up to the key itself. It never fails.
     ///
     /// ```text
-    /// with the keys 0, 4 and 8, in this order, in 4 slots:
-    /// get_counted(4, &mut steps)     the value of 4, and 2 steps: 0 and 4 are compared
-    /// get_counted(12, &mut steps)    None, and 3 steps: it would share their slot
-    /// get_counted(1, &mut steps)     None, and no step
+    /// let map = IntMap::from_array(alloc, [(0, 10), (4, 14), (8, 18)])?;
+    /// let mut steps = Steps::new();
+    /// // 2 steps: 0 and 4 are compared
+    /// map.get_counted(4, &mut steps)     // Some(14)
+    /// // 3 steps: 12 would share their slot
+    /// map.get_counted(12, &mut steps)    // None
+    /// // no step
+    /// map.get_counted(1, &mut steps)     // None
     /// ```
     pub fn get_counted(&self, key: K, steps: &mut Steps) -> Option<&V>
         ensures value { option_copied result ≡ value_of K.number_of self.now.walk key }
@@ -62,7 +77,11 @@ impl<K: IntKey, V, A: Allocator + Copy> IntMap<K, V, A> {
     /// of compared keys changes besides that value. It never fails.
     ///
     /// ```text
-    /// if let Some(value) = map.get_mut(21) { *value += 1; }
+    /// let mut map = IntMap::from_array(alloc, [(21, 5)])?;
+    /// if let Some(value) = map.get_mut(21) {
+    ///     *value += 1;
+    /// }
+    /// map    // {21: 6}
     /// ```
     #[inline]
     pub fn get_mut(&mut self, key: K) -> Option<&mut V>
@@ -87,7 +106,8 @@ impl<K: IntKey, V, A: Allocator + Copy> IntMap<K, V, A> {
     /// The key as the map holds it, with its value, or `None` if the key is absent. It never fails.
     ///
     /// ```text
-    /// map.get_key_value(21)    Some((&21, &'a')) after map.insert(21, 'a')?
+    /// let map = IntMap::from_array(alloc, [(21, 'a')])?;
+    /// map.get_key_value(21)    // Some((21, 'a'))
     /// ```
     pub fn get_key_value(&self, key: K) -> Option<(&K, &V)>
         ensures key { IfSome result (λ pair. pair.0.now ≡ key) }
@@ -106,7 +126,9 @@ impl<K: IntKey, V, A: Allocator + Copy> IntMap<K, V, A> {
     /// Whether the key is present. It never fails.
     ///
     /// ```text
-    /// map.contains_key(21)    true after map.insert(21, 'a')?
+    /// let map = IntMap::from_array(alloc, [(21, 'a')])?;
+    /// map.contains_key(21)    // true
+    /// map.contains_key(22)    // false
     /// ```
     #[inline]
     pub fn contains_key(&self, key: K) -> bool
@@ -129,7 +151,8 @@ impl<K: IntKey, V, A: Allocator + Copy> Index<K> for IntMap<K, V, A> {
     /// which it may be absent.
     ///
     /// ```text
-    /// map[21]    'a' after map.insert(21, 'a')?
+    /// let map = IntMap::from_array(alloc, [(21, 'a')])?;
+    /// map[21]    // 'a'
     /// ```
     fn index(&self, key: K) -> &V {
         self.get(key).unwrap()

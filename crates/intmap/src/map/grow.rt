@@ -20,10 +20,13 @@ impl<K: IntKey, V: Drop, A: Allocator + Copy> IntMap<K, V, A> {
     /// at least that sum. A failed call leaves the map as it was.
     ///
     /// ```text
-    /// with 1 pair in 4 slots:
-    /// reserve(3)                      Ok(()), and still 4 slots
-    /// reserve(4)                      Ok(()), and 8 slots
-    /// reserve(9223372036854775808)    Err(Cause::TooLarge)
+    /// let mut map = IntMap::new(alloc)?;
+    /// map.insert(21, 'a')?;
+    /// map.reserve(3)?;
+    /// map.capacity()                      // 4
+    /// map.reserve(4)?;
+    /// map.capacity()                      // 8
+    /// map.reserve(9223372036854775808)    // Err(TooLarge)
     /// ```
     pub fn reserve(&mut self, additional: usize) -> Result<(), Cause>
         ensures reserved { OnOk result
@@ -58,9 +61,12 @@ impl<K: IntKey, V: Drop, A: Allocator + Copy> IntMap<K, V, A> {
     /// capacity meets it. A failed call leaves the map as it was, with its load factor.
     ///
     /// ```text
-    /// with 3 pairs in 4 slots:
-    /// set_load_factor(100)    Ok(()), and 32 slots: 3 pairs in 16 are 187 thousandths
-    /// set_load_factor(909)    Ok(()), and still 32 slots
+    /// let mut map = IntMap::from_array(alloc, [(0, 10), (1, 11), (2, 12)])?;
+    /// map.set_load_factor(100)?;
+    /// // 3 pairs in 16 slots are 187 thousandths
+    /// map.capacity()    // 32
+    /// map.set_load_factor(909)?;
+    /// map.capacity()    // 32
     /// ```
     pub fn set_load_factor(&mut self, thousandths: usize) -> Result<(), Cause>
         ensures set { OnOk result (IsNewFactor K.number_of self.old thousandths self.new) }

@@ -33,9 +33,12 @@ impl<K: IntKey, V: Drop, A: Allocator + Copy> IntMap<K, V, A> {
     /// the map as it was. Only the count of compared keys, which takes no memory, changes.
     ///
     /// ```text
-    /// with 0: 10, 4: 14 and 8: 18, in this order, in 4 slots, where they share one:
-    /// insert(4, 99)     Ok(Some(14)), and the walk is 0: 10, 8: 18, 4: 99
-    /// insert(12, 22)    Ok(None), and 8 slots: four pairs in four slots exceed 909 thousandths
+    /// let mut map = IntMap::from_array(alloc, [(0, 10), (4, 14), (8, 18)])?;
+    /// map.insert(4, 99)     // Ok(Some(14))
+    /// map                   // {0: 10, 8: 18, 4: 99}
+    /// map.insert(12, 22)    // Ok(None)
+    /// // four pairs in four slots exceed 909 thousandths
+    /// map.capacity()        // 8
     /// ```
     #[inline(always)]
     pub fn insert(&mut self, key: K, value: V) -> Result<Option<V>, Refused<V>>
@@ -75,8 +78,10 @@ impl<K: IntKey, V: Drop, A: Allocator + Copy> IntMap<K, V, A> {
     /// For a new key it does what [`insert`](IntMap::insert) does, and fails as that does.
     ///
     /// ```text
-    /// map.insert_checked(21, 'a')?    true
-    /// map.insert_checked(21, 'b')?    false, and 21 has 'a'
+    /// let mut map = IntMap::new(alloc)?;
+    /// map.insert_checked(21, 'a')?    // true
+    /// map.insert_checked(21, 'b')?    // false
+    /// map                             // {21: 'a'}
     /// ```
     pub fn insert_checked(&mut self, key: K, value: V) -> Result<bool, Refused<V>>
         // what is returned and left

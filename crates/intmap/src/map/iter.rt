@@ -129,8 +129,10 @@ impl<K: IntKey, V, A: Allocator + Copy> IntMap<K, V, A> {
     /// the iterator fails.
     ///
     /// ```text
-    /// after insert(0, 10), insert(1, 11) and insert(4, 14) into 4 slots:
-    /// for (key, value) in map.iter()    0 and 10, then 4 and 14, then 1 and 11
+    /// let map = IntMap::from_array(alloc, [(0, 10), (1, 11), (4, 14)])?;
+    /// map.iter()      // [(0, 10), (4, 14), (1, 11)]
+    /// map.keys()      // [0, 4, 1]
+    /// map.values()    // [10, 14, 11]
     /// ```
     pub fn iter(&self) -> Iter<'_, K, V, A>
         ensures walk { result ≡ self.now.walk }

@@ -92,9 +92,12 @@ impl IntMap<u64, Value> {
     /// so does dropping it: only the stack bounds how deep a value may be.
     ///
     /// ```text
-    /// with 10: null and 5: true    Ok of {"10":null,"5":true}
-    /// of an empty map              Ok of {}
-    /// with 1: {"a":[1.5]}          Err(JsonCause::HoldsFloat)
+    /// let mut map = IntMap::new(alloc)?;
+    /// map.insert(10, Value::Null)?;
+    /// map.insert(5, Value::Bool(true))?;
+    /// map.to_json()?.to_string(alloc)?    // "{\"10\":null,\"5\":true}"
+    /// map.insert(1, Value::from_str(alloc, r#"{"a":[1.5]}"#)?)?;
+    /// map.to_json()                       // Err(HoldsFloat)
     /// ```
     pub fn to_json(&self) -> Result<Value, JsonCause>
         ensures shows { IfOk result (λ tree. Shows (view tree) self.now.walk) }

@@ -20,9 +20,10 @@ impl<K: IntKey, V, A: Allocator + Copy> IntMap<K, V, A> {
     /// pair of the slot takes the place of the removed one. It never fails.
     ///
     /// ```text
-    /// with 0: 10, 4: 14 and 8: 18, in this order, in 4 slots, where they share one:
-    /// remove(0)    Some(10), and the walk is 8: 18, 4: 14
-    /// remove(0)    None, and the same walk
+    /// let mut map = IntMap::from_array(alloc, [(0, 10), (4, 14), (8, 18)])?;
+    /// map.remove(0)    // Some(10)
+    /// map              // {8: 18, 4: 14}
+    /// map.remove(0)    // None
     /// ```
     #[inline(always)]
     pub fn remove(&mut self, key: K) -> Option<V>
@@ -44,9 +45,10 @@ impl<K: IntKey, V, A: Allocator + Copy> IntMap<K, V, A> {
     /// fails.
     ///
     /// ```text
-    /// with 0: 10, 4: 14 and 8: 18, in this order, in 4 slots, where they share one:
-    /// remove_entry(0)    Some((0, 10)), and the walk is 8: 18, 4: 14
-    /// remove_entry(0)    None, and the same walk
+    /// let mut map = IntMap::from_array(alloc, [(0, 10), (4, 14), (8, 18)])?;
+    /// map.remove_entry(0)    // Some((0, 10))
+    /// map                    // {8: 18, 4: 14}
+    /// map.remove_entry(0)    // None
     /// ```
     pub fn remove_entry(&mut self, key: K) -> Option<(K, V)>
         ensures key { IfSome result (λ pair. pair.0 ≡ key) }
@@ -74,9 +76,13 @@ impl<K: IntKey, V, A: Allocator + Copy> IntMap<K, V, A> {
     /// The other pairs of the slot move up by one place. It allocates nothing and never fails.
     ///
     /// ```text
-    /// with 0: 10, 4: 14 and 1: 11 in 4 slots, and from = 0:
-    /// map.take_front(&mut from)    Some((0, 10)), and then Some((4, 14)); from stays 0
-    /// map.take_front(&mut from)    Some((1, 11)), and from is 1
+    /// let mut map = IntMap::from_array(alloc, [(0, 10), (4, 14), (2, 12)])?;
+    /// let mut from = 0;
+    /// map.take_front(&mut from)    // Some((0, 10))
+    /// map.take_front(&mut from)    // Some((4, 14))
+    /// from                         // 0
+    /// map.take_front(&mut from)    // Some((2, 12))
+    /// from                         // 2
     /// ```
     pub fn take_front(&mut self, from: &mut usize) -> Option<(K, V)>
         requires { ArePassed K.number_of self.old.walk self.old.capacity from.old }
@@ -104,7 +110,11 @@ impl<K: IntKey, V: Drop, A: Allocator + Copy> IntMap<K, V, A> {
     /// their memory for later pairs. It goes through the slots that hold a pair, and never fails.
     ///
     /// ```text
-    /// after clear() a map of 128 slots has 128 slots and no pair
+    /// let mut map = IntMap::with_capacity(alloc, 128)?;
+    /// map.insert(21, 'a')?;
+    /// map.clear();
+    /// map               // {}
+    /// map.capacity()    // 128
     /// ```
     pub fn clear(&mut self)
         ensures state { self.new ≡ emptied self.old }
@@ -132,9 +142,11 @@ impl<K: IntKey, V: Drop, A: Allocator + Copy> IntMap<K, V, A> {
     /// many pairs share a slot.
     ///
     /// ```text
-    /// after insert(0, 10), insert(1, 11) and insert(4, 14) into 4 slots the walk is 0, 4, 1:
-    /// retain(|key, _| key != 0)         leaves 4 and 1, and 4 is now the first of its slot
-    /// retain(|_, value| *value > 10)    leaves the same
+    /// let mut map = IntMap::from_array(alloc, [(0, 10), (1, 11), (4, 14)])?;
+    /// map.retain(|key, _| key != 0);
+    /// map    // {4: 14, 1: 11}
+    /// map.retain(|_, value| *value > 11);
+    /// map    // {4: 14}
     /// ```
     pub fn retain<F: FnMut(K, &V) -> bool>(&mut self, f: F)
         requires { TakesEach (KeepsAt F.FnMut) (TakesPair F.FnMut) f self.old.walk }

@@ -27,8 +27,10 @@ impl<K: IntKey, V: PartialEq, A: Allocator + Copy> PartialEq for IntMap<K, V, A>
     /// never fails, and its comparisons of keys aren't counted.
     ///
     /// ```text
-    /// insert(0, 10) and then insert(4, 14), or the other way round: the maps are equal
-    /// with insert(4, 15) in place of insert(4, 14), or with one pair more, they aren't
+    /// let map = IntMap::from_array(alloc, [(0, 10), (4, 14)])?;
+    /// map == IntMap::from_array(alloc, [(4, 14), (0, 10)])?             // true
+    /// map == IntMap::from_array(alloc, [(4, 15), (0, 10)])?             // false
+    /// map == IntMap::from_array(alloc, [(4, 14), (0, 10), (1, 11)])?    // false
     /// ```
     fn eq(&self, other: &IntMap<K, V, A>) -> bool {
         if self.len() != other.len() {
@@ -81,8 +83,8 @@ impl<K: IntKey, V: Clone, A: Allocator + Copy> IntMap<K, V, A> {
     /// fails. What was made until then is dropped.
     ///
     /// ```text
-    /// after insert(0, 10), insert(1, 11) and insert(4, 14) into 4 slots:
-    /// map.clone()    Ok(made), and the walk of made is 0 and 10, then 4 and 14, then 1 and 11
+    /// let map = IntMap::from_array(alloc, [(0, 10), (1, 11), (4, 14)])?;
+    /// map.clone()    // Ok({0: 10, 4: 14, 1: 11})
     /// ```
     pub fn clone(&self) -> Result<IntMap<K, V, A>, Cause>
         ensures clone { IfOk result (IsClone V.is_clone self.now) }

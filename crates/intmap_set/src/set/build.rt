@@ -21,7 +21,10 @@ impl<K: IntKey, A: Allocator + Copy> IntSet<K, A> {
     /// `?`, a caller that returns a [`Cause`] drops the key.
     ///
     /// ```text
-    /// set.extend(other.iter().copied())?    this set has the members of both
+    /// let mut set = IntSet::from_iter(alloc, [1, 2].into_iter())?;
+    /// let other = IntSet::from_iter(alloc, [2, 3].into_iter())?;
+    /// set.extend(other.iter().copied())?;
+    /// set    // {2, 1, 3}
     /// ```
     pub fn extend<I: Iterator<Item = K> + Drop>(
         &mut self,
@@ -64,7 +67,9 @@ impl<K: IntKey, A: Allocator + Copy> IntSet<K, A> {
     /// It fails if either call fails and for the same cause. Then it drops everything.
     ///
     /// ```text
-    /// IntSet::from_iter(alloc, first.union(&second).copied())?    a set of the members of both
+    /// let first = IntSet::from_iter(alloc, [1, 2].into_iter())?;
+    /// let second = IntSet::from_iter(alloc, [2, 3].into_iter())?;
+    /// IntSet::from_iter(alloc, first.union(&second).copied())    // Ok({2, 1, 3})
     /// ```
     pub fn from_iter<I: Iterator<Item = K> + Drop>(alloc: A, iter: I) -> Result<IntSet<K, A>, Cause>
         requires can { I.can_next iter }

@@ -18,9 +18,10 @@ impl<K: IntKey, A: Allocator + Copy> IntSet<K, A> {
     /// The same holds for the iterators of the other three calls.
     ///
     /// ```text
-    /// with the members 1, 2, 3 and 2, 3, 4:
-    /// for key in first.difference(&second)                                1
-    /// IntSet::from_iter(alloc, first.difference(&second).copied())?       a set with the member 1
+    /// let first = IntSet::from_iter(alloc, [1, 2, 3].into_iter())?;
+    /// let second = IntSet::from_iter(alloc, [2, 3, 4].into_iter())?;
+    /// first.difference(&second)                                       // [1]
+    /// IntSet::from_iter(alloc, first.difference(&second).copied())    // Ok({1})
     /// ```
     pub fn difference<'a>(&'a self, other: &'a IntSet<K, A>) -> Difference<'a, K, A>
         ensures walk { result ≡ difference_of K.number_of self.now.walk other.now.walk }
@@ -41,8 +42,9 @@ impl<K: IntKey, A: Allocator + Copy> IntSet<K, A> {
     /// that set in the other. Neither this call nor a step fails.
     ///
     /// ```text
-    /// with the members 1, 2, 3 and 2, 3, 4:
-    /// for key in first.intersection(&second)    2 and 3
+    /// let first = IntSet::from_iter(alloc, [1, 2, 3].into_iter())?;
+    /// let second = IntSet::from_iter(alloc, [2, 3, 4].into_iter())?;
+    /// first.intersection(&second)    // [2, 3]
     /// ```
     pub fn intersection<'a>(&'a self, other: &'a IntSet<K, A>) -> Intersection<'a, K, A>
         ensures walk { result ≡ intersection_of K.number_of self.now.walk other.now.walk }
@@ -68,8 +70,9 @@ impl<K: IntKey, A: Allocator + Copy> IntSet<K, A> {
     /// other has. Only the latter are looked up. Neither this call nor a step fails.
     ///
     /// ```text
-    /// with the members 1, 2, 3 and 2, 3, 4:
-    /// for key in first.union(&second)    1, 2 and 3, and then 4
+    /// let first = IntSet::from_iter(alloc, [1, 2, 3].into_iter())?;
+    /// let second = IntSet::from_iter(alloc, [2, 3, 4].into_iter())?;
+    /// first.union(&second)    // [1, 2, 3, 4]
     /// ```
     pub fn union<'a>(&'a self, other: &'a IntSet<K, A>) -> Union<'a, K, A>
         ensures walk { result ≡ union_of K.number_of self.now.walk other.now.walk }
@@ -94,8 +97,9 @@ impl<K: IntKey, A: Allocator + Copy> IntSet<K, A> {
     /// set has, and then those that only `other` has. Neither this call nor a step fails.
     ///
     /// ```text
-    /// with the members 1, 2, 3 and 2, 3, 4:
-    /// for key in first.symmetric_difference(&second)    1, and then 4
+    /// let first = IntSet::from_iter(alloc, [1, 2, 3].into_iter())?;
+    /// let second = IntSet::from_iter(alloc, [2, 3, 4].into_iter())?;
+    /// first.symmetric_difference(&second)    // [1, 4]
     /// ```
     pub fn symmetric_difference<'a>(
         &'a self,
@@ -115,6 +119,14 @@ impl<K: IntKey, A: Allocator + Copy> IntSet<K, A> {
 
     /// Whether each member of this set is one of `other`. It looks up the members in turn, up to
     /// the first that is absent from `other`. It never fails.
+    ///
+    /// ```text
+    /// let first = IntSet::from_iter(alloc, [1, 2].into_iter())?;
+    /// let second = IntSet::from_iter(alloc, [1, 2, 3].into_iter())?;
+    /// first.is_subset(&second)      // true
+    /// first.is_superset(&second)    // false
+    /// first.is_disjoint(&second)    // false
+    /// ```
     pub fn is_subset(&self, other: &IntSet<K, A>) -> bool
         ensures value { IsTrue result ↔ IsSubset K.number_of self.now.walk other.now.walk }
         ensures valid { IsSet K.number_of K.is_valid self.now }

@@ -15,6 +15,14 @@ use std::alloc::Allocator;
 impl<K: IntKey, A: Allocator + Copy> IntSet<K, A> {
     /// An empty set of 4 slots, with a load factor of 909 thousandths. It allocates the slots and
     /// their bits. It fails only if an allocation fails, with [`Cause::Memory`].
+    ///
+    /// ```text
+    /// let set: IntSet<u64> = IntSet::new(alloc)?;
+    /// set               // {}
+    /// set.len()         // 0
+    /// set.is_empty()    // true
+    /// set.capacity()    // 4
+    /// ```
     pub fn new(alloc: A) -> Result<IntSet<K, A>, Cause>
         ensures state { IfOk result (λ made. made ≡ empty_set 4) }
         ensures memory { IfErr result (λ cause. cause ≡ Cause.Memory) }
@@ -52,10 +60,12 @@ impl<K: IntKey, A: Allocator + Copy> IntSet<K, A> {
     /// the count of compared keys, which takes no memory, changes.
     ///
     /// ```text
-    /// with 0, 4 and 8, in this order, in 4 slots, where they share one:
-    /// insert(4)     Ok(false), and the same walk; 2 keys were compared
-    /// insert(12)    Ok(true), and 8 slots: four members in four slots exceed 909 thousandths; 3
-    ///               keys were compared
+    /// let mut set = IntSet::from_iter(alloc, [0, 4, 8].into_iter())?;
+    /// // 2 keys are compared
+    /// set.insert(4)     // Ok(false)
+    /// // 3 keys are compared; four members in four slots exceed 909 thousandths
+    /// set.insert(12)    // Ok(true)
+    /// set.capacity()    // 8
     /// ```
     pub fn insert(&mut self, key: K) -> Result<bool, Cause>
         // what is returned and left
@@ -84,6 +94,13 @@ impl<K: IntKey, A: Allocator + Copy> IntSet<K, A> {
     /// It fails with [`Cause::TooLarge`] exactly if the length plus `additional` is above 2^63, and
     /// otherwise with [`Cause::Memory`] if an allocation fails. It never fails if the capacity is
     /// at least that sum. A failed call leaves the set as it was. Both counts stay.
+    ///
+    /// ```text
+    /// let mut set: IntSet<u64> = IntSet::with_capacity(alloc, 20)?;
+    /// set.capacity()    // 32
+    /// set.reserve(33)?;
+    /// set.capacity()    // 64
+    /// ```
     pub fn reserve(&mut self, additional: usize) -> Result<(), Cause>
         ensures reserved { OnOk result
             (IsReservation K.number_of self.old additional self.new) }

@@ -20,8 +20,8 @@ impl<K: IntKey, A: Allocator + Copy> IntSet<K, A> {
     /// of the iterator fails.
     ///
     /// ```text
-    /// after insert(0), insert(1) and insert(4) into 4 slots:
-    /// for key in set.iter()    0, then 4, then 1
+    /// let set = IntSet::from_iter(alloc, [0, 1, 4].into_iter())?;
+    /// set.iter()    // [0, 4, 1]
     /// ```
     pub fn iter(&self) -> Keys<'_, K, (), A>
         ensures walk { result ≡ self.now.walk }

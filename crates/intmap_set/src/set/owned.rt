@@ -21,8 +21,9 @@ impl<K: IntKey, A: Allocator + Copy> IntSet<K, A> {
     /// more members than one of the sets, these two never fail with [`Cause::TooLarge`].
     ///
     /// ```text
-    /// with the members 1, 2, 3 and 2, 3, 4:
-    /// first.to_union(alloc, &second)?    a set with the members 1, 2, 3 and 4
+    /// let first = IntSet::from_iter(alloc, [1, 2, 3].into_iter())?;
+    /// let second = IntSet::from_iter(alloc, [2, 3, 4].into_iter())?;
+    /// first.to_union(alloc, &second)    // Ok({2, 4, 1, 3})
     /// ```
     pub fn to_union(&self, alloc: A, other: &IntSet<K, A>) -> Result<IntSet<K, A>, Cause>
         ensures members { IfOk result (λ made.
@@ -45,8 +46,9 @@ impl<K: IntKey, A: Allocator + Copy> IntSet<K, A> {
     /// `union`. It fails only with [`Cause::Memory`], if an allocation fails.
     ///
     /// ```text
-    /// with the members 1, 2, 3 and 2, 3, 4:
-    /// first.to_intersection(alloc, &second)?    a set with the members 2 and 3
+    /// let first = IntSet::from_iter(alloc, [1, 2, 3].into_iter())?;
+    /// let second = IntSet::from_iter(alloc, [2, 3, 4].into_iter())?;
+    /// first.to_intersection(alloc, &second)    // Ok({2, 3})
     /// ```
     pub fn to_intersection(&self, alloc: A, other: &IntSet<K, A>) -> Result<IntSet<K, A>, Cause>
         ensures members { IfOk result (λ made.
@@ -68,8 +70,9 @@ impl<K: IntKey, A: Allocator + Copy> IntSet<K, A> {
     /// It fails only with [`Cause::Memory`], if an allocation fails.
     ///
     /// ```text
-    /// with the members 1, 2, 3 and 2, 3, 4:
-    /// first.to_difference(alloc, &second)?    a set with the member 1
+    /// let first = IntSet::from_iter(alloc, [1, 2, 3].into_iter())?;
+    /// let second = IntSet::from_iter(alloc, [2, 3, 4].into_iter())?;
+    /// first.to_difference(alloc, &second)    // Ok({1})
     /// ```
     pub fn to_difference(&self, alloc: A, other: &IntSet<K, A>) -> Result<IntSet<K, A>, Cause>
         ensures members { IfOk result (λ made.
@@ -91,8 +94,9 @@ impl<K: IntKey, A: Allocator + Copy> IntSet<K, A> {
     /// makes one of `union`. It fails as `to_union` does, by the number of these members.
     ///
     /// ```text
-    /// with the members 1, 2, 3 and 2, 3, 4:
-    /// first.to_symmetric_difference(alloc, &second)?    a set with the members 1 and 4
+    /// let first = IntSet::from_iter(alloc, [1, 2, 3].into_iter())?;
+    /// let second = IntSet::from_iter(alloc, [2, 3, 4].into_iter())?;
+    /// first.to_symmetric_difference(alloc, &second)    // Ok({4, 1})
     /// ```
     pub fn to_symmetric_difference(
         &self,
@@ -123,8 +127,10 @@ impl<K: IntKey, A: Allocator + Copy> IntSet<K, A> {
     /// set. Each member that was tried was searched for and counted, that one too.
     ///
     /// ```text
-    /// with the members 1, 2 and 2, 3:
-    /// set.extend_from_set(&other)?    this set has the members 1, 2 and 3
+    /// let mut set = IntSet::from_iter(alloc, [1, 2].into_iter())?;
+    /// let other = IntSet::from_iter(alloc, [2, 3].into_iter())?;
+    /// set.extend_from_set(&other)?;
+    /// set    // {2, 1, 3}
     /// ```
     pub fn extend_from_set(&mut self, other: &IntSet<K, A>) -> Result<(), RefusedPair<K, ()>>
         ensures updates { OnOk result

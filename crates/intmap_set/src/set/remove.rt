@@ -17,9 +17,10 @@ impl<K: IntKey, A: Allocator + Copy> IntSet<K, A> {
     /// place. Its search is counted, whether the key was a member or not. It never fails.
     ///
     /// ```text
-    /// with 0, 4 and 8, in this order, in 4 slots, where they share one:
-    /// remove(0)    true, and the walk is 8, 4
-    /// remove(0)    false, and the same walk
+    /// let mut set = IntSet::from_iter(alloc, [0, 4, 8].into_iter())?;
+    /// set.remove(0)    // true
+    /// set              // {8, 4}
+    /// set.remove(0)    // false
     /// ```
     pub fn remove(&mut self, key: K) -> bool
         ensures value { result ≡ holds K.number_of self.old.walk key }
@@ -71,8 +72,9 @@ impl<K: IntKey, A: Allocator + Copy> IntSet<K, A> {
     /// and the slots keep their memory for later members. It never fails and allocates nothing.
     ///
     /// ```text
-    /// after insert(0), insert(1) and insert(4) into 4 slots the walk is 0, 4, 1:
-    /// retain(|key| key != 0)    leaves 4 and 1
+    /// let mut set = IntSet::from_iter(alloc, [0, 1, 4].into_iter())?;
+    /// set.retain(|key| key != 0);
+    /// set    // {4, 1}
     /// ```
     pub fn retain<F: FnMut(K) -> bool>(&mut self, f: F)
         requires { TakesEach (KeepsKey F.FnMut) (TakesKey F.FnMut) f self.old.walk }

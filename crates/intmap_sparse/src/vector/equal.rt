@@ -14,8 +14,16 @@ impl<A: Allocator + Copy> PartialEq for SparseVec<A> {
     /// number of slots don't matter. It never fails.
     ///
     /// ```text
-    /// set(0, 1) and then set(4, 2), or the other way round: the vectors are equal
-    /// with set(8, 3) and set(8, 0) behind them they still are
+    /// let mut first = SparseVec::new(alloc)?;
+    /// first.set(0, 1)?;
+    /// first.set(4, 2)?;
+    /// let mut second = SparseVec::new(alloc)?;
+    /// second.set(4, 2)?;
+    /// second.set(0, 1)?;
+    /// second.set(8, 3)?;
+    /// first == second    // false
+    /// second.set(8, 0)?;
+    /// first == second    // true
     /// ```
     fn eq(&self, other: &SparseVec<A>) -> bool {
         self.values == other.values

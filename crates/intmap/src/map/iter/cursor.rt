@@ -21,9 +21,12 @@ impl<K: IntKey, V, A: Allocator + Copy> IntMap<K, V, A> {
     /// once at each pair, and at one bit a slot.
     ///
     /// ```text
-    /// after insert(0, 10), insert(1, 11) and insert(4, 14) into 4 slots:
+    /// let map = IntMap::from_array(alloc, [(0, 10), (1, 11), (4, 14)])?;
     /// let mut at = Cursor::start();
-    /// map.step(&mut at)    0 and 10, then 4 and 14, then 1 and 11, then None
+    /// map.step(&mut at)    // Some((0, 10))
+    /// map.step(&mut at)    // Some((4, 14))
+    /// map.step(&mut at)    // Some((1, 11))
+    /// map.step(&mut at)    // None
     /// ```
     pub fn step(&self, at: &mut Cursor) -> Option<(&K, &V)>
         ensures first { MatchOption result
@@ -51,11 +54,12 @@ impl<K: IntKey, V, A: Allocator + Copy> IntMap<K, V, A> {
     /// never fails.
     ///
     /// ```text
-    /// after insert(0, 10), insert(4, 14) and insert(8, 18) into 4 slots, where they share one:
+    /// let mut map = IntMap::from_array(alloc, [(0, 10), (4, 14), (8, 18)])?;
     /// let mut at = Cursor::start();
-    /// map.step(&mut at)    the pair 0 and 10
-    /// map.cut(&mut at)     the pair 4 and 14, and then the map has 0: 10 and 8: 18
-    /// map.step(&mut at)    the pair 8 and 18
+    /// map.step(&mut at)    // Some((0, 10))
+    /// map.cut(&mut at)     // Some((4, 14))
+    /// map                  // {0: 10, 8: 18}
+    /// map.step(&mut at)    // Some((8, 18))
     /// ```
     pub fn cut(&mut self, at: &mut Cursor) -> Option<(K, V)>
         ensures first { MatchOption result

@@ -59,8 +59,9 @@ impl<K: IntKey, V, A: Allocator + Copy> IntMap<K, V, A> {
     /// for a new one by `mem::replace`, and take its pairs by `into_iter`.
     ///
     /// ```text
-    /// after insert(0, 10), insert(4, 14) and insert(8, 18) into 4 slots, where they share one:
-    /// map.drain().next()    the pair 0 and 10, and then the map has 4: 14 and 8: 18
+    /// let mut map = IntMap::from_array(alloc, [(0, 10), (4, 14), (8, 18)])?;
+    /// map.drain().next()    // Some((0, 10))
+    /// map                   // {4: 14, 8: 18}
     /// ```
     pub fn drain(&mut self) -> Drain<'_, K, V, A>
         ensures lender { drain_lender result ≡ self.entry.ghost_name }

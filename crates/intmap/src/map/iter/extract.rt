@@ -110,9 +110,9 @@ impl<K: IntKey, V, A: Allocator + Copy> IntMap<K, V, A> {
     /// thousands of keys share a slot that is slow; `retain` moves each pair at most once.
     ///
     /// ```text
-    /// after insert(0, 10), insert(4, 14) and insert(8, 18) into 4 slots, where they share one:
-    /// let mut large = map.extract_if(|_, value| { *value += 1; *value > 14 });
-    /// large.next()    the pair 4 and 15, and then the map has 0: 11 and 8: 18
+    /// let mut map = IntMap::from_array(alloc, [(0, 10), (4, 14), (8, 18)])?;
+    /// map.extract_if(|_, value| { *value += 1; *value > 14 }).next()    // Some((4, 15))
+    /// map                                                               // {0: 11, 8: 18}
     /// ```
     pub fn extract_if<F: FnMut(K, &mut V) -> bool>(&mut self, test: F) -> ExtractIf<'_, K, V, F, A>
         requires { TakesEach (AsksAt F.FnMut) (TakesPairMut F.FnMut) test self.old.walk }

@@ -124,8 +124,8 @@ impl<K: IntKey, V: Drop, A: Allocator + Copy> IntMap<K, V, A> {
     /// left. Neither this call nor a step of the iterator fails.
     ///
     /// ```text
-    /// after insert(0, 'a'), insert(1, 'b') and insert(4, 'c') into 4 slots:
-    /// for key in map.into_keys()    0, then 4, then 1
+    /// let map = IntMap::from_array(alloc, [(0, 'a'), (1, 'b'), (4, 'c')])?;
+    /// map.into_keys().collect::<Vec<u64>>(alloc)?    // [0, 4, 1]
     /// ```
     pub fn into_keys(self) -> IntoKeys<K, V, A>
         ensures walk { result ≡ keys_of self.walk }
@@ -144,8 +144,8 @@ impl<K: IntKey, V: Drop, A: Allocator + Copy> IntMap<K, V, A> {
     /// fails.
     ///
     /// ```text
-    /// after insert(0, 'a'), insert(1, 'b') and insert(4, 'c') into 4 slots:
-    /// for value in map.into_values()    'a', then 'c', then 'b'
+    /// let map = IntMap::from_array(alloc, [(0, 'a'), (1, 'b'), (4, 'c')])?;
+    /// map.into_values().collect::<Vec<char>>(alloc)?    // ['a', 'c', 'b']
     /// ```
     pub fn into_values(self) -> IntoValues<K, V, A>
         ensures walk { result ≡ values_of self.walk }

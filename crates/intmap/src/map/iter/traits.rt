@@ -18,8 +18,10 @@ impl<'a, K: IntKey, V, A: Allocator + Copy> Clone for Iter<'a, K, V, A> {
     /// A second iterator over the pairs that are left. It allocates nothing and never fails.
     ///
     /// ```text
+    /// let map = IntMap::from_array(alloc, [(0, 10), (1, 11), (4, 14)])?;
     /// let mut pairs = map.iter();
-    /// let ahead = pairs.clone().unwrap();    a step of one leaves the other where it is
+    /// pairs.clone()?.next()    // Some((0, 10))
+    /// pairs                    // [(0, 10), (4, 14), (1, 11)]
     /// ```
     fn clone(&self) -> Result<Iter<'a, K, V, A>, AllocError> {
         Ok(Iter {

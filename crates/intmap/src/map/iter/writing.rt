@@ -61,7 +61,11 @@ impl<K: IntKey, V, A: Allocator + Copy> IntMap<K, V, A> {
     /// [`iter_mut`](IntMap::iter_mut) does.
     ///
     /// ```text
-    /// for value in map.values_mut() { *value += 1; }    each value is one more
+    /// let mut map = IntMap::from_array(alloc, [(0, 10), (4, 14)])?;
+    /// for value in map.values_mut() {
+    ///     *value += 1;
+    /// }
+    /// map    // {0: 11, 4: 15}
     /// ```
     pub fn values_mut(&mut self) -> ValuesMut<'_, K, V, A>
         ensures* writes_back { sem 𝓛 (map_lends_values K.row V.row A.row K.IntKey.own K.PartialEq
@@ -116,8 +120,9 @@ impl<K: IntKey, V, A: Allocator + Copy> IntMap<K, V, A> {
     /// of slots.
     ///
     /// ```text
-    /// after insert(0, 10), insert(1, 11) and insert(4, 14) into 4 slots the walk is 0, 4, 1:
-    /// for_each_mut(|key, value| *value += key)    leaves 10, 18 and 12
+    /// let mut map: IntMap<u64, u64> = IntMap::from_array(alloc, [(0, 10), (1, 11), (4, 14)])?;
+    /// map.for_each_mut(|key, value| *value += key);
+    /// map    // {0: 10, 4: 18, 1: 12}
     /// ```
     pub fn for_each_mut<F: FnMut(K, &mut V)>(&mut self, f: F)
         requires { TakesEach (WritesAt F.FnMut) (TakesPairMut F.FnMut) f self.old.walk }

@@ -77,7 +77,11 @@ impl<K: IntKey, V, A: Allocator + Copy> IntMap<K, V, A> {
     /// which values the map has then.
     ///
     /// ```text
-    /// for (key, value) in map.iter_mut() { *value = *key; }    each value is now its key
+    /// let mut map = IntMap::from_array(alloc, [(0, 10), (4, 14)])?;
+    /// for (key, value) in map.iter_mut() {
+    ///     *value = *key;
+    /// }
+    /// map    // {0: 0, 4: 4}
     /// ```
     pub fn iter_mut(&mut self) -> IterMut<'_, K, V, A>
         ensures* writes_back { sem 𝓛 (map_lends_values K.row V.row A.row K.IntKey.own K.PartialEq

@@ -34,11 +34,14 @@ impl IntMap<u64, Value> {
     /// does dropping it: only the stack bounds how deep a value may be.
     ///
     /// ```text
-    /// of {"10":null,"5":true}             2 slots, and the walk is 10: null, 5: true
-    /// of {"0":0,"1":1,"2":2,"3":3}        8 slots, and the walk is 0: 0, 2: 2, 1: 1, 3: 3
-    /// of {"05":null}, {"+5":1.5}, {"":0}  Err(JsonCause::BadKey)
-    /// of {"5":1.5}                        Err(JsonCause::HoldsFloat)
-    /// of [5]                              Err(JsonCause::NotAnObject)
+    /// let value = Value::from_str(alloc, r#"{"0":0,"1":1,"2":2,"3":3}"#)?;
+    /// let map = IntMap::from_json(alloc, &value)?;
+    /// map.keys()        // [0, 2, 1, 3]
+    /// map.capacity()    // 8
+    /// IntMap::from_json(alloc, &Value::from_str(alloc, r#"{"05":null}"#)?)    // Err(BadKey)
+    /// IntMap::from_json(alloc, &Value::from_str(alloc, r#"{"+5":1.5}"#)?)     // Err(BadKey)
+    /// IntMap::from_json(alloc, &Value::from_str(alloc, r#"{"5":1.5}"#)?)      // Err(HoldsFloat)
+    /// IntMap::from_json(alloc, &Value::from_str(alloc, "[5]")?)               // Err(NotAnObject)
     /// ```
     pub fn from_json(alloc: Global, value: &Value) -> Result<IntMap<u64, Value>, JsonCause>
         // what is made

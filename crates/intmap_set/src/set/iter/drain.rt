@@ -61,8 +61,9 @@ impl<K: IntKey, A: Allocator + Copy> IntSet<K, A> {
     /// exchange the set for a new one, and take its members by `into_iter`.
     ///
     /// ```text
-    /// after insert(0), insert(4) and insert(8) into 4 slots, where they share one:
-    /// set.drain().next()    0, and then the set has 4 and 8
+    /// let mut set = IntSet::from_iter(alloc, [0, 4, 8].into_iter())?;
+    /// set.drain().next()    // Some(0)
+    /// set                   // {4, 8}
     /// ```
     pub fn drain(&mut self) -> Drain<'_, K, A>
         ensures lender { drain_lender result ≡ self.entry.ghost_name }
