@@ -100,7 +100,7 @@ type Call = fn(IntMap<u64, Logged>);
 
 #[test]
 fn values_are_dropped_in_the_order_of_iteration() {
-    let calls: [(&str, Call); 7] = [
+    let calls: &[(&str, Call)] = &[
         ("drop", drop),
         ("clear", |mut map| map.clear()),
         ("into_iter", |map| map.into_iter().for_each(drop)),

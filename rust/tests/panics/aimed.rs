@@ -11,7 +11,7 @@ fn map_of(shift: u32) -> IntMap<u64, Value> {
 
 pub type Call = fn(&mut IntMap<u64, Value>);
 
-pub const CALLS: [(&str, Call); 10] = [
+pub const CALLS: &[(&str, Call)] = &[
     ("retain, closure and drops", |map| {
         map.retain(|_, value| {
             burn();
@@ -73,7 +73,7 @@ pub fn is_usable(mut map: IntMap<u64, Value>, after: &str) {
 #[test]
 fn a_panic_at_any_place_of_a_call_leaves_a_whole_map() {
     let mut panics = 0;
-    for (name, call) in CALLS {
+    for (name, call) in CALLS.iter().copied() {
         for shift in [0, 1, 2, 3, 5] {
             for number in 1.. {
                 let mut map = map_of(shift);

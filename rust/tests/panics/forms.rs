@@ -19,7 +19,7 @@ fn filled(mut map: Made) -> Made {
 
 /// How a map of keys in order is made: with shared slots, with lone ones, as it has that grows by
 /// insertions, and with lone slots that a second pair has made shared.
-const FORMS: [Form; 3] = [
+const FORMS: &[Form] = &[
     ("shared", || filled(IntMap::with_capacity(SLOTS as usize))),
     ("lone", || filled(IntMap::new())),
     ("shared again", || {
@@ -34,7 +34,7 @@ const FORMS: [Form; 3] = [
 fn a_panic_at_any_place_of_a_call_leaves_a_whole_map_of_keys_in_order() {
     let mut panics = 0;
     for ((name, call), (form, make)) in
-        aimed::CALLS.iter().flat_map(|it| FORMS.map(|form| (it, form)))
+        aimed::CALLS.iter().flat_map(|it| FORMS.iter().map(move |form| (it, form)))
     {
         for has_second in [false, true] {
             for number in 1.. {
@@ -60,14 +60,15 @@ fn a_panic_at_any_place_of_a_call_leaves_a_whole_map_of_keys_in_order() {
 #[test]
 fn a_panic_of_the_closure_of_a_call_on_all_loses_no_pair_of_keys_in_order() {
     type Call = fn(&mut Made);
-    const CALLS: [Call; 5] = [
+    const CALLS: &[Call] = &[
         |map| map.retain(|_, _| burnt()),
         |map| assert_eq!(map.extract_if(|_, _| !burnt()).count(), 0),
         |map| map.for_each_mut(|_, _| burn()),
         |map| map.values_mut().for_each(|_| burn()),
         |map| map.iter_mut().for_each(|_| burn()),
     ];
-    for ((form, make), call) in FORMS.iter().flat_map(|it| CALLS.map(|call| (it, call))) {
+    for ((form, make), call) in FORMS.iter().flat_map(|it| CALLS.iter().map(move |call| (it, call)))
+    {
         for number in 1..=KEYS {
             let mut map = make();
             assert!(panics_at(number, || call(&mut map)), "slots {form}, at place {number}");
@@ -86,7 +87,7 @@ fn burnt() -> bool {
 #[test]
 fn a_panic_of_a_drop_in_a_call_on_one_key_leaves_a_whole_map_of_keys_in_order() {
     type Call = fn(&mut Made);
-    const CALLS: [(&str, Call); 6] = [
+    const CALLS: &[(&str, Call)] = &[
         ("insert again", |map| drop(map.insert(3, Value::new(1)))),
         ("insert_checked again", |map| _ = map.insert_checked(3, Value::new(1))),
         ("insert a second pair", |map| drop(map.insert(3 + SLOTS, Value::new(1)))),
@@ -97,7 +98,9 @@ fn a_panic_of_a_drop_in_a_call_on_one_key_leaves_a_whole_map_of_keys_in_order() 
             entry.hand_over(Ok::<Value, Value>);
         }),
     ];
-    for ((name, call), (form, make)) in CALLS.iter().flat_map(|it| FORMS.map(|form| (it, form))) {
+    for ((name, call), (form, make)) in
+        CALLS.iter().flat_map(|it| FORMS.iter().map(move |form| (it, form)))
+    {
         for number in 1..4 {
             let mut map = make();
             panics_at(number, || call(&mut map));
@@ -122,7 +125,7 @@ fn apart(value: &Rc<()>, are_lone: bool) -> keys::Map {
 
 type Call = fn(&mut keys::Map, &Rc<()>);
 
-const CALLS: [(&str, Call); 10] = [
+const CALLS: &[(&str, Call)] = &[
     ("reserve", |map, _| map.reserve(20)),
     ("reserve more", |map, _| map.reserve(1000)),
     ("set_load_factor", |map, _| map.set_load_factor(0.1)),

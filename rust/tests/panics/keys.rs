@@ -26,7 +26,7 @@ fn vacant(map: &mut Map, key: u64) -> VacantEntry<'_, Key, Rc<()>> {
 
 /// How many keys there are before, and the call. At 14 keys the next insertion makes the map grow.
 /// The slot of 99 has a pair then, the slot of 12 has none.
-const CALLS: [(&str, u64, Call); 30] = [
+const CALLS: &[(&str, u64, Call)] = &[
     ("insert", 12, |map, value| drop(map.insert(Key(1 << 20), value.clone()))),
     ("insert, empty slot", 12, |map, value| drop(map.insert(Key(12), value.clone()))),
     ("insert and grow", 14, |map, value| drop(map.insert(Key(1 << 20), value.clone()))),
@@ -125,7 +125,7 @@ pub fn is_usable(mut map: Map, value: &Rc<()>, after: &str) {
 #[test]
 fn a_panic_of_a_key_leaves_a_whole_map() {
     let (value, mut panics) = (Rc::new(()), 0);
-    for (name, keys, call) in CALLS {
+    for (name, keys, call) in CALLS.iter().copied() {
         for place in 1.. {
             let mut map = map_of(keys, &value);
             let before: Vec<Key> = map.keys().copied().collect();
@@ -146,7 +146,7 @@ fn a_panic_of_a_key_leaves_a_whole_map() {
 
 type SetCall = fn(&mut IntSet<Key>);
 
-const SET_CALLS: [(&str, SetCall); 6] = [
+const SET_CALLS: &[(&str, SetCall)] = &[
     ("insert and grow", |set| assert!(set.insert(Key(99)))),
     ("try_insert and grow", |set| assert!(set.try_insert(Key(99)).is_ok())),
     ("remove", |set| assert!(set.remove(Key(64)))),
@@ -158,7 +158,7 @@ const SET_CALLS: [(&str, SetCall); 6] = [
 #[test]
 fn a_panic_of_a_key_leaves_a_whole_set() {
     let mut panics = 0;
-    for (name, call) in SET_CALLS {
+    for (name, call) in SET_CALLS.iter().copied() {
         for place in 1.. {
             let mut set: IntSet<Key> = map_of(14, &Rc::new(())).into_keys().collect();
             let panicked = panics_at(place, || call(&mut set));

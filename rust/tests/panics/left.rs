@@ -32,7 +32,7 @@ fn is_even(value: u64) -> bool {
 /// before it and of the others.
 type Row = (&'static str, fn(&mut Map), fn(Pairs, Pairs) -> Pairs);
 
-const CALLS: [Row; 5] = [
+const CALLS: &[Row] = &[
     (
         "extract_if",
         |map| {
@@ -89,7 +89,9 @@ const CALLS: [Row; 5] = [
 
 #[test]
 fn a_panic_of_a_closure_leaves_the_pairs_that_it_did_not_reach() {
-    for (map, (name, call, left)) in maps().flat_map(|map| CALLS.map(|it| (map.clone(), it))) {
+    for (map, (name, call, left)) in
+        maps().flat_map(|map| CALLS.iter().map(move |it| (map.clone(), it)))
+    {
         for place in 0..map.len() {
             let mut after = map.clone();
             assert!(panics_at(place as u64 + 1, || call(&mut after)), "{name}, place {place}");
@@ -226,7 +228,7 @@ fn keys() -> [Vec<u64>; 5] {
 /// What makes a map grow, and the keys that are new.
 type Growth = (&'static str, fn(&mut Grown), &'static [u64]);
 
-const GROWTHS: [Growth; 6] = [
+const GROWTHS: &[Growth] = &[
     ("reserve", |map| map.reserve(map.capacity()), &[]),
     ("reserve more", |map| map.reserve(10 * map.capacity()), &[]),
     ("set_load_factor", |map| map.set_load_factor(0.1), &[]),

@@ -18,7 +18,7 @@ type MapCall = fn(&mut IntMap<u64, u64>) -> Result<(), Cause>;
 
 /// A name, how many keys there are before and how many bits of each are zero, how many requests the
 /// call makes, and the call.
-const MAP_CALLS: [(&str, u64, u32, u64, MapCall); 35] = [
+const MAP_CALLS: &[(&str, u64, u32, u64, MapCall)] = &[
     ("insert into an empty slot", 4, 0, 0, |map| Ok(map.try_insert(5, 1).map(drop)?)),
     ("insert into a slot of one", 4, 0, 1, |map| Ok(map.try_insert(9, 1).map(drop)?)),
     ("insert and grow", 14, 0, 2, |map| Ok(map.try_insert(15, 1).map(drop)?)),
@@ -96,7 +96,7 @@ fn state_of(map: &IntMap<u64, u64>) -> (String, usize, usize, usize) {
 
 #[test]
 fn a_failed_call_leaves_the_map() {
-    for (name, keys, zeros, wanted, call) in MAP_CALLS {
+    for (name, keys, zeros, wanted, call) in MAP_CALLS.iter().copied() {
         let make = || map_of(keys, zeros);
         let before = bytes();
         assert_eq!(failures(name, make, state_of, call), wanted, "requests of {name}");
@@ -179,7 +179,7 @@ fn slots_have_the_bytes_of_their_form() {
 /// A name, how many keys there are before, how many requests the call makes in each form, and the
 /// call. The slot of 25 has a pair, and so has that of 28, which part among 32 slots, and that of 44,
 /// which don't.
-const CALLS_OF_FORMS: [(&str, u64, [u64; 3], MapCall); 14] = [
+const CALLS_OF_FORMS: &[(&str, u64, [u64; 3], MapCall)] = &[
     ("insert into an empty slot", 13, [0, 0, 0], |map| Ok(map.try_insert(15, 1).map(drop)?)),
     ("insert a second pair", 13, [1, 2, 1], |map| Ok(map.try_insert(25, 1).map(drop)?)),
     ("insert_checked of a second pair", 13, [1, 2, 1], |map| {
@@ -210,7 +210,7 @@ const CALLS_OF_FORMS: [(&str, u64, [u64; 3], MapCall); 14] = [
 
 #[test]
 fn a_failed_call_leaves_a_map_of_each_form() {
-    for (name, keys, wanted, call) in CALLS_OF_FORMS {
+    for (name, keys, wanted, call) in CALLS_OF_FORMS.iter().copied() {
         for ((form, make, _), wanted) in FORMS.into_iter().zip(wanted) {
             let (name, before) = (format!("{name}, slots {form}"), bytes());
             let requests = failures(&name, || make(keys), state_of, call);
@@ -222,7 +222,7 @@ fn a_failed_call_leaves_a_map_of_each_form() {
 
 type SetCall = fn(&mut IntSet<u64>) -> Result<(), Cause>;
 
-const SET_CALLS: [(&str, u64, SetCall); 13] = [
+const SET_CALLS: &[(&str, u64, SetCall)] = &[
     ("insert", 1, |set| set.try_insert(9).map(drop)),
     ("insert again", 0, |set| set.try_insert(3).map(drop)),
     ("replace", 1, |set| set.try_replace(9).map(drop)),
@@ -240,7 +240,7 @@ const SET_CALLS: [(&str, u64, SetCall); 13] = [
 
 #[test]
 fn a_failed_call_leaves_the_set() {
-    for (name, wanted, call) in SET_CALLS {
+    for (name, wanted, call) in SET_CALLS.iter().copied() {
         let make = || (0..4).collect();
         let state = |set: &IntSet<u64>| (format!("{set:?}"), set.capacity(), set.len());
         assert_eq!(failures(name, make, state, call), wanted, "requests of {name}");
@@ -249,7 +249,7 @@ fn a_failed_call_leaves_the_set() {
 
 type Quiet = fn(&mut IntMap<u64, u64>);
 
-const QUIET: [(&str, Quiet); 15] = [
+const QUIET: &[(&str, Quiet)] = &[
     ("get", |map| assert!(map.get(3).is_some())),
     ("get_mut", |map| assert!(map.get_mut(3).is_some())),
     ("insert again", |map| assert!(map.insert(3, 1).is_some())),
@@ -275,7 +275,7 @@ const QUIET: [(&str, Quiet); 15] = [
 
 #[test]
 fn calls_that_need_no_memory_request_none() {
-    for (name, call) in QUIET {
+    for (name, call) in QUIET.iter().copied() {
         // two keys a slot
         let mut map: IntMap<u64, u64> = (0..500).chain(4096..4596).map(|key| (key, key)).collect();
         assert_eq!(requests(|| call(&mut map)), 0, "{name}");

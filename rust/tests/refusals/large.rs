@@ -36,7 +36,7 @@ fn together(keys: u64) -> Map {
 /// requests, the bytes that it requests beside slots and bits, and the call.
 type Row = (&'static str, fn(u64) -> Map, u64, usize, usize, usize, MapCall);
 
-const MAP_CALLS: [Row; 20] = [
+const MAP_CALLS: &[Row] = &[
     ("new", shared, 0, 4, MAP_SLOT, 0, |_| Map::try_new().map(drop)),
     ("with_capacity", shared, 0, 4096, MAP_SLOT, 0, |_| Map::try_with_capacity(4096).map(drop)),
     ("from_iter", shared, 0, 4096, MAP_SLOT, 0, |_| {
@@ -92,7 +92,7 @@ fn bits(slots: usize) -> usize {
 
 #[test]
 fn a_call_that_is_refused_its_slots_was_granted_nothing() {
-    for (name, make, keys, slots, slot, others, call) in MAP_CALLS {
+    for (name, make, keys, slots, slot, others, call) in MAP_CALLS.iter().copied() {
         let mut map = make(keys);
         let state = |map: &Map| (format!("{map:?}"), map.capacity(), map.load_factor_thousandths());
         let (before, held) = (state(&map), bytes());
@@ -134,7 +134,7 @@ type SetCall = fn(&mut IntSet<u64>) -> Result<(), Cause>;
 /// The same of sets of keys in order, which grow by insertions if they are lone.
 type SetRow = (&'static str, bool, u64, usize, usize, usize, SetCall);
 
-const SET_CALLS: [SetRow; 7] = [
+const SET_CALLS: &[SetRow] = &[
     ("with_capacity", false, 0, 4096, SET_SLOT, 0, |_| {
         IntSet::<u64>::try_with_capacity(4096).map(drop)
     }),
@@ -148,7 +148,7 @@ const SET_CALLS: [SetRow; 7] = [
 
 #[test]
 fn a_call_of_a_set_that_is_refused_its_slots_was_granted_nothing() {
-    for (name, is_lone, keys, slots, slot, others, call) in SET_CALLS {
+    for (name, is_lone, keys, slots, slot, others, call) in SET_CALLS.iter().copied() {
         let mut set: IntSet<u64> = if is_lone { IntSet::new() } else { (0..keys).collect() };
         set.extend(0..keys);
         let before = (format!("{set:?}"), set.capacity());
@@ -164,7 +164,7 @@ fn a_call_of_a_set_that_is_refused_its_slots_was_granted_nothing() {
 }
 
 /// Each call that may fail, with keys that no map has here.
-const AMPLE: [(&str, MapCall); 20] = [
+const AMPLE: &[(&str, MapCall)] = &[
     ("insert the next key", |map| Ok(map.try_insert(map.len() as u64, 1).map(drop)?)),
     ("insert", |map| Ok(map.try_insert(FAR, 1).map(drop)?)),
     ("insert_checked", |map| Ok(map.try_insert_checked(FAR, 1).map(drop)?)),
@@ -204,7 +204,7 @@ fn calls_with_ample_memory_succeed_at_a_large_size() {
             let mut longer = whole.clone();
             longer.insert(FAR, 1);
             assert_eq!(longer.capacity() > whole.capacity(), grows, "{keys} keys, slots {form}");
-            for (name, call) in AMPLE {
+            for (name, call) in AMPLE.iter().copied() {
                 let mut map = whole.clone();
                 assert_eq!(call(&mut map), Ok(()), "{name}, {keys} keys, slots {form}");
             }

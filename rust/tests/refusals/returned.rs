@@ -9,7 +9,7 @@ fn texts(keys: u64) -> IntMap<u64, String> {
 type Insertion = fn(&mut IntMap<u64, String>, String) -> Result<(), Refused<String>>;
 
 /// Each inserts the key 25.
-const INSERTIONS: [(&str, Insertion); 8] = [
+const INSERTIONS: &[(&str, Insertion)] = &[
     ("insert", |map, value| map.try_insert(25, value).map(drop)),
     ("insert_checked", |map, value| map.try_insert_checked(25, value).map(drop)),
     ("entry", |map, value| map.entry(25).try_or_insert(value).map(drop)),
@@ -35,7 +35,7 @@ fn filled(mut map: Made, keys: &[u64]) -> Made {
 
 /// How a map of keys in order is made. It has shared slots of one pair each, or lone slots, as a map
 /// that grows by insertions, or such slots that a second pair of the first one has made shared.
-const FORMS: [Form; 3] = [
+const FORMS: &[Form] = &[
     ("shared", |keys| filled(IntMap::with_capacity(16), keys)),
     ("lone", |keys| filled(IntMap::new(), keys)),
     ("shared again", |keys| filled(filled(IntMap::new(), &keys[..keys.len() - 1]), &[16])),
@@ -66,9 +66,9 @@ fn a_failed_insertion_returns_its_value() {
     // the first puts a second pair into a slot, the second makes the map grow
     let beside: Vec<u64> = (0..13).collect();
     let grows: Vec<u64> = (0..15).filter(|key| *key != 9).collect();
-    for (name, insert) in INSERTIONS {
+    for (name, insert) in INSERTIONS.iter().copied() {
         assert_eq!(returned_each_time(insert, || texts(4), name), 1, "{name}, 4 keys");
-        for ((form, make), second) in FORMS.into_iter().zip([1, 2, 1]) {
+        for ((form, make), second) in FORMS.iter().zip([1, 2, 1]) {
             let name = format!("{name}, slots {form}");
             let requests = returned_each_time(insert, || make(&beside), &name);
             assert_eq!(requests, second, "requests of {name}, for a second pair");
