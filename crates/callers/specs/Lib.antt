@@ -1,9 +1,3 @@
-pub mod Numbered
-pub mod Counts
+pub mod Bindings
+pub mod Tables
 pub mod Sessions
-pub mod Waiting
-pub mod Dense
-pub mod Table
-pub mod Floors
-pub mod Values
-pub mod Interned

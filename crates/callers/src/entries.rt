@@ -1,10 +1,12 @@
 //! What a map is once an entry of it has ended, whatever the type of its keys.
-ghost use Rattle.std.specs.Prelude.{◌≡◌, None, Some};
-ghost use Rattle.intmap.specs.Bindings.{value_of};
+ghost use Rattle.std.specs.Prelude.{◌*◌, ◌+◌, ◌-◌, ◌<◌, ◌^◌, ◌≡◌, IfErr, IfOk, IfSome, None, OnErr, OnOk, Some, false, unwrap_or};
+ghost use Rattle.intmap.specs.Bindings.{Updates, value_of};
+ghost use Rattle.intmap.specs.Classes.{same_key};
 ghost use Rattle.intmap.specs.Map.{after_search, written};
+ghost use Rattle.callers.specs.Bindings.{count_of};
 
 use intmap::entry::Entry;
-use intmap::{IntKey, IntMap};
+use intmap::{Cause, IntKey, IntMap, Refused};
 use std::alloc::Allocator;
 
 /// The value of the key, by an entry. Only the count of compared keys is changed.
@@ -134,5 +136,112 @@ pub fn insert_and_let_go<K: IntKey, V: Drop, A: Allocator + Copy>(
 {
     if let Entry::Occupied(mut entry) = map.entry(key) {
         let _old = entry.insert(value);
+    }
+}
+
+// Values that are made if a key is absent, and entries that are kept, removed or ended.
+
+/// Counts one occurrence of the key. A new key's count begins at the default of a number.
+///
+/// It fails if the insertion of a new key fails. Every key then keeps its value.
+pub fn count_by_default<K: IntKey, A: Allocator + Copy>(
+    counts: &mut IntMap<K, u64, A>,
+    key: K,
+) -> Result<(), Cause>
+    requires { count_of K.number_of counts.old.walk key < 2 ^ 64 - 1 }
+    ensures ok { OnOk result (Updates K.number_of counts.old.walk counts.new.walk key
+        (Some (count_of K.number_of counts.old.walk key + 1))) }
+    ensures err { OnErr result (counts.new ≡ after_search K.number_of counts.old key) }
+{
+    *counts.entry(key).or_default()? += 1;
+    Ok(())
+}
+
+/// The value of a number below 2^32 in a map of squares. If the number is absent, its square is
+/// computed and inserted first.
+///
+/// It fails if that insertion fails, and returns the square with the cause.
+pub fn square<A: Allocator + Copy>(
+    squares: &mut IntMap<u64, u64, A>,
+    number: u64,
+) -> Result<u64, Refused<u64>>
+    requires { number < 2 ^ 32 }
+    ensures ok { IfOk result (λ square. square
+        ≡ unwrap_or (value_of (λ key. key) squares.old.walk number) (number * number)) }
+    ensures updates { IfOk result (λ square.
+        Updates (λ key. key) squares.old.walk squares.new.walk number (Some square)) }
+    ensures err { IfErr result (λ refused. refused.value ≡ number * number) }
+{
+    let square = squares
+        .entry(number)
+        .or_insert_with_key(|number| number * number)?;
+    Ok(*square)
+}
+
+/// The value of the key. If the key was absent, that is the given value.
+///
+/// It fails if the insertion fails, and returns the value.
+pub fn value_or<K: IntKey, V: Copy, A: Allocator + Copy>(
+    map: &mut IntMap<K, V, A>,
+    key: K,
+    value: V,
+) -> Result<V, Refused<V>>
+    ensures ok { IfOk result
+        (λ now. now ≡ unwrap_or (value_of K.number_of map.old.walk key) value) }
+    ensures value_returned { IfErr result (λ refused. refused.value ≡ value) }
+{
+    Ok(*map.entry(key).or_insert_with(|| value)?)
+}
+
+/// Sets the value of the key, whether it is present or not.
+///
+/// It fails if the insertion of a new key fails, and returns the value. Every key then keeps its
+/// value.
+pub fn set_by_entry<K: IntKey, V: Drop, A: Allocator + Copy>(
+    map: &mut IntMap<K, V, A>,
+    key: K,
+    value: V,
+) -> Result<(), Refused<V>>
+    ensures ok { OnOk result (Updates K.number_of map.old.walk map.new.walk key (Some value)) }
+    ensures err { OnErr result (map.new ≡ after_search K.number_of map.old key) }
+    ensures value_returned { IfErr result (λ refused. refused.value ≡ value) }
+{
+    map.entry(key).insert_entry(value)?.leave();
+    Ok(())
+}
+
+/// Removes the pair of the key, and returns it with its key.
+pub fn take_pair<K: IntKey, V, A: Allocator + Copy>(
+    map: &mut IntMap<K, V, A>,
+    key: K,
+) -> Option<(K, V)>
+    ensures pair { IfSome result (λ pair. (pair.0 ≡ key)
+        × (value_of K.number_of map.old.walk key ≡ Some pair.1)) }
+    ensures none { result ≡ None → value_of K.number_of map.old.walk key ≡ None }
+    ensures gone { value_of K.number_of map.new.walk key ≡ None }
+    ensures others { (q : K) → same_key K.number_of key q ≡ false
+        → value_of K.number_of map.new.walk q ≡ value_of K.number_of map.old.walk q }
+{
+    match map.entry(key) {
+        Entry::Occupied(entry) => Some(entry.remove_entry()),
+        Entry::Vacant(_entry) => None,
+    }
+}
+
+/// The key, if it is absent.
+pub fn missing_key<K: IntKey, V, A: Allocator + Copy>(
+    map: &mut IntMap<K, V, A>,
+    key: K,
+) -> Option<K>
+    ensures missing { IfSome result (λ missing. (missing ≡ key)
+        × (value_of K.number_of map.old.walk key ≡ None)) }
+    ensures state { map.new ≡ after_search K.number_of map.old key }
+{
+    match map.entry(key) {
+        Entry::Occupied(entry) => {
+            entry.leave();
+            None
+        }
+        Entry::Vacant(entry) => Some(entry.into_key()),
     }
 }

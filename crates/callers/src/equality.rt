@@ -1,10 +1,13 @@
 //! Maps that are compared: their pairs matter, and the slots and the order of the walk don't.
-ghost use Rattle.std.specs.Prelude.{◌≡◌, ℕ, true, IfOk, IsTrue, length};
+//! And documents that are the same after JSON.
+ghost use Rattle.std.specs.Prelude.{◌≡◌, IfOk, IsTrue, ℕ, length, true};
 ghost use Rattle.intmap.specs.Bindings.{value_of};
 ghost use Rattle.intmap.specs.Equality.{maps_equal};
+ghost use Rattle.intmap.specs.Json.{BindSameTrees};
 
-use intmap::{Cause, IntKey, IntMap, laws};
-use std::alloc::Allocator;
+use intmap::{Cause, IntKey, IntMap, JsonCause, laws};
+use serde_json::Value;
+use std::alloc::{Allocator, Global};
 
 /// Clones the map, and returns whether the clone is equal to it, which it is.
 ///
@@ -116,4 +119,21 @@ fn are_three_one<T: PartialEq>(first: &T, second: &T, third: &T) -> bool
     ensures first_third { IsTrue result → IsTrue (T.eq first.now third.now) }
 {
     *first == *second && *second == *third
+}
+
+// Documents by number, kept as JSON.
+
+/// The documents, once they were written as JSON and read again: the same numbers have documents,
+/// each the same one.
+///
+/// It fails if a document holds a float, or if there is no memory. The documents stay as they are.
+pub fn written_and_read(
+    alloc: Global,
+    documents: &IntMap<u64, Value>,
+) -> Result<IntMap<u64, Value>, JsonCause>
+    ensures { IfOk result (λ read. BindSameTrees documents.now.walk read.walk) }
+{
+    laws::shown_bindings_are_the_same();
+    let written = documents.to_json()?;
+    IntMap::from_json(alloc, &written)
 }

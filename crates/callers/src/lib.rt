@@ -1,40 +1,18 @@
 //! Callers of a map from integer keys. The contract of each says in its own words what it does.
 #![tactic(auto)]
 
-pub mod accounts;
 pub mod bindings;
-pub mod counter;
-pub mod dense;
-pub mod distinct;
-pub mod documents;
+pub mod caches;
+pub mod counts;
 pub mod entries;
 pub mod equality;
-pub mod floors;
 pub mod graph;
-pub mod id_table;
-pub mod interner;
+pub mod insertions;
 pub mod kit_map;
-pub mod limited;
-pub mod made;
-pub mod member_ids;
 pub mod moves;
-pub mod pages;
-pub mod prices;
-pub mod pruned;
-pub mod refusals;
-pub mod results;
 pub mod retained;
-pub mod room;
-pub mod scopes;
 pub mod session;
 pub mod sets;
-pub mod settings;
 pub mod sums;
-pub mod tally;
-pub mod threads;
-pub mod totals;
-pub mod values;
+pub mod tables;
 pub mod walks;
-pub mod whole;
-pub mod work;
-pub mod written;

@@ -1,8 +1,13 @@
-//! Pairs that stay: by a test of the pair, and by a closure that counts its calls.
-ghost use Rattle.std.specs.Prelude.{◌≡◌, ◌+◌, ◌%◌, ◌==◌, All, false, filter, length, not, slice_index_or, take};
+//! Pairs that stay and pairs that go: by a test, by the scope of a name, and from a queue's front.
+ghost use Rattle.std.specs.Prelude.{[], ◌%◌, ◌++◌, ◌+◌, ◌==◌, ◌≡◌, ◌≤◌, All, IfSome, IsSome, None, OnOk, Some, ℕ, cond, count_by, false, filter, is_some, length, nat_le, nat_lt, not, slice_index_or, take};
+ghost use Rattle.std.specs.List.{slice_get};
+ghost use Rattle.std.specs.Option.{option_map};
+ghost use Rattle.intmap.specs.Bindings.{Updates, value_of};
+ghost use Rattle.callers.specs.Bindings.{value_at};
+ghost use Rattle.callers.specs.declared.retained.Symbol.{Symbol};
 
 use intmap::{IntKey, IntMap};
-use std::alloc::Allocator;
+use std::alloc::{AllocError, Allocator};
 
 /// Drops the pairs whose key is odd. The others keep their order and their slots.
 pub fn drop_odd<V: Drop, A: Allocator + Copy>(map: &mut IntMap<u64, V, A>)
@@ -56,4 +61,126 @@ pub fn retain_counted<K: IntKey, V: Drop, A: Allocator + Copy, F: FnMut(K, &V) -
     let before = map.len();
     map.retain(keeps);
     before - map.len()
+}
+
+// Pairs that stay, and what becomes of the value of each key.
+
+/// Removes the keys below a bound. Each other key keeps its value.
+pub fn prune<V: Drop, A: Allocator + Copy>(map: &mut IntMap<u64, V, A>, bound: u64)
+    ensures left { (q : ℕ) → value_of (λ k. k) map.new.walk q
+        ≡ cond (nat_le bound q) (value_of (λ k. k) map.old.walk q) None }
+    ensures fewer { length map.new.walk ≤ length map.old.walk }
+{
+    map.retain(|key, _| key >= bound);
+}
+
+/// Keeps the pairs whose value is above their key.
+pub fn keep_rising<A: Allocator + Copy>(map: &mut IntMap<u64, u64, A>)
+    ensures walk { map.new.walk ≡ filter (λ pair. nat_lt pair.0 pair.1) map.old.walk }
+    ensures here { (q v : ℕ) → value_of (λ k. k) map.old.walk q ≡ Some v
+        → value_of (λ k. k) map.new.walk q ≡ cond (nat_lt q v) (Some v) None }
+{
+    map.retain(|key, value| key < *value);
+}
+
+/// Keeps the pairs that a closure picks. No key comes.
+pub fn keep_some<K: IntKey, A: Allocator + Copy>(map: &mut IntMap<K, u64, A>, least: u64)
+    ensures none_comes { (q : K) → value_of K.number_of map.old.walk q ≡ None
+        → value_of K.number_of map.new.walk q ≡ None }
+{
+    map.retain(|_, value| *value >= least);
+}
+
+// A table of symbols with scopes: names are numbers, each declared at the depth of its scope.
+
+/// What a name stands for, and the depth of the scope that declared it.
+#[derive(Clone, Copy)]
+pub struct Symbol {
+    pub depth: u64,
+    pub value: u64,
+}
+
+/// Removes the first name of this depth, if there is one, and returns it. It was declared, and no
+/// other name is removed.
+pub fn forget_one(names: &mut IntMap<u64, Symbol>, depth: u64) -> Option<(u64, Symbol)>
+    ensures declared { IfSome result (λ name. IsSome (value_at names.old.walk name.0)) }
+    ensures count { length names.new.walk + cond (is_some result) 1 0 ≡ length names.old.walk }
+    ensures capacity { names.new.capacity ≡ names.old.capacity }
+{
+    let mut left = names.extract_if(move |_, symbol| symbol.depth == depth);
+    left.next()
+}
+
+/// Leaves the scopes of this depth: removes the names that they declared, and returns their number.
+/// Each other name stands for what it stood for, and the others keep their order.
+pub fn leave_scope(names: &mut IntMap<u64, Symbol>, depth: u64) -> usize
+    ensures names { (name : ℕ) (symbol : Symbol) → value_at names.old.walk name ≡ Some symbol
+        → value_at names.new.walk name ≡ cond (not (symbol.depth == depth)) (Some symbol) None }
+    ensures none_comes { (name : ℕ) → value_at names.old.walk name ≡ None
+        → value_at names.new.walk name ≡ None }
+    ensures walk { names.new.walk ≡ filter (λ name. not (name.1.depth == depth)) names.old.walk }
+    ensures count { result ≡ count_by (λ name. name.1.depth == depth) names.old.walk }
+    ensures capacity { names.new.capacity ≡ names.old.capacity }
+{
+    let count = names
+        .iter()
+        .filter(|(_, symbol)| symbol.depth == depth)
+        .count();
+    names.retain(|_, symbol| symbol.depth != depth);
+    count
+}
+
+/// Removes the names of this depth one by one, by `extract_if`. The others keep their order.
+pub fn forget_all(names: &mut IntMap<u64, Symbol>, depth: u64)
+    ensures walk { names.new.walk ≡ filter (λ name. not (name.1.depth == depth)) names.old.walk }
+    ensures capacity { names.new.capacity ≡ names.old.capacity }
+{
+    let mut left = names.extract_if(move |_, symbol| symbol.depth == depth);
+    while let Some(_name) = left.next() {}
+}
+
+// Work by number: a queue whose jobs are removed from the front of the walk.
+
+/// The number of the job at the front of the queue, if there is one.
+pub fn next_job<V, A: Allocator + Copy>(queue: &IntMap<u64, V, A>) -> Option<u64>
+    ensures { result ≡ option_map (λ job. job.0) (slice_get queue.now.walk 0) }
+{
+    let (number, _) = queue.first_key_value()?;
+    Some(*number)
+}
+
+/// Removes the job at the front of the queue and returns it. No other job is lost.
+pub fn pop<V: Drop, A: Allocator + Copy>(queue: &mut IntMap<u64, V, A>) -> Option<(u64, V)>
+    ensures updates { IfSome result (λ job. Updates (λ key. key) queue.old.walk queue.new.walk
+        job.0 None) }
+    ensures len { length queue.new.walk + cond (is_some result) 1 0 ≡ length queue.old.walk }
+{
+    queue.take_front(&mut 0)
+}
+
+/// Removes one job after another from the queue, and puts it behind those that are done. No job is
+/// lost: the jobs that are done, followed by those in the queue, are the same as before, in the
+/// same order.
+///
+/// It fails if there is no memory for one more job. This job and those behind it then stay in the
+/// queue.
+pub fn work_off<V: Drop, A: Allocator + Copy>(
+    queue: &mut IntMap<u64, V, A>,
+    done: &mut Vec<(u64, V), A>,
+) -> Result<(), AllocError>
+    ensures jobs { done.new.items ++ queue.new.walk ≡ done.old.items ++ queue.old.walk }
+    ensures none { OnOk result (queue.new.walk ≡ []) }
+    ensures capacity { queue.new.capacity ≡ queue.old.capacity }
+{
+    let mut left = queue.len();
+    let mut jobs = queue.drain();
+    while left > 0 {
+        done.reserve(1)?;
+        let Some(job) = jobs.next() else {
+            unreachable!();
+        };
+        done.push_reserved(job);
+        left -= 1;
+    }
+    Ok(())
 }

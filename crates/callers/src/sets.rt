@@ -1,14 +1,14 @@
 //! Facts of sets that a caller draws from their clauses and laws: when the next member grows the
 //! table, when there is room for it, and how many members two sets have together, in common and
 //! apart.
-ghost use Rattle.std.specs.Prelude.{◌≡◌, ◌↔◌, ◌+◌, ◌<◌, ◌≤◌, ◌||◌, not, IfOk, IfErr, IfSome, OnOk, IsErrOf, IsTrue, length};
+ghost use Rattle.std.specs.Prelude.{◌+◌, ◌<◌, ◌||◌, ◌↔◌, ◌≡◌, ◌≤◌, IfErr, IfOk, IfSome, IsErrOf, IsTrue, OnOk, length, not};
 ghost use Rattle.intmap.specs.Growth.{IsNext, MeetsLoad};
 ghost use Rattle.intmap.specs.Map.{IsCapacityAfter, IsOutOfRange};
 ghost use Rattle.intmap.specs.Reach.{class_size};
-ghost use Rattle.intmap_set.specs.Combined.{IsUnion, difference_of, symmetric_difference_of};
+ghost use Rattle.intmap_set.specs.Combined.{IsDifference, IsIntersection, IsUnion, difference_of, symmetric_difference_of};
 ghost use Rattle.intmap_set.specs.Sets.{AreBelow, holds, load_factor, paired};
 
-use intmap::{Cause, IntKey};
+use intmap::{Cause, IntKey, IntMap};
 use intmap_set::{IntSet, laws};
 use std::alloc::Allocator;
 
@@ -157,4 +157,66 @@ pub fn take_in<K: IntKey, A: Allocator + Copy>(
     laws::union_and_intersection_count_both::<K>();
     set.extend_from_set(other)?;
     Ok(())
+}
+
+// Groups of ids as sets: which members of one group are in another, and groups made of two.
+
+/// The members of one group that are in the other as well.
+///
+/// It fails only if an allocation fails.
+pub fn members_of_both<K: IntKey, A: Allocator + Copy>(
+    alloc: A,
+    group: &IntSet<K, A>,
+    other: &IntSet<K, A>,
+) -> Result<IntSet<K, A>, Cause>
+    ensures members { IfOk result (λ both. IsIntersection K.number_of group.now.walk other.now.walk
+        both.walk) }
+    ensures memory { IfErr result (λ cause. cause ≡ Cause.Memory) }
+{
+    group.to_intersection(alloc, other)
+}
+
+/// Whether every member of one group is in the other.
+pub fn are_all_in<K: IntKey, A: Allocator + Copy>(
+    group: &IntSet<K, A>,
+    other: &IntSet<K, A>,
+) -> bool
+    ensures { IsTrue result ↔ ((q : K) → IsTrue (holds K.number_of group.now.walk q)
+        → IsTrue (holds K.number_of other.now.walk q)) }
+{
+    group.is_subset(other)
+}
+
+/// Removes from a group the members that are in the other.
+pub fn leave_together<K: IntKey, A: Allocator + Copy>(
+    group: &mut IntSet<K, A>,
+    other: &IntSet<K, A>,
+)
+    ensures { IsDifference K.number_of group.old.walk other.now.walk group.new.walk }
+{
+    group.retain(|key| !other.contains(key));
+    laws::difference_holds::<K>();
+}
+
+// How many numbers are distinct: at most as many as there are, by a map and by a set.
+
+/// How many distinct numbers there are, by a map.
+///
+/// It fails if the map can't be made or an insertion fails.
+pub fn distinct<A: Allocator + Copy>(alloc: A, numbers: &[u64]) -> Result<usize, Cause>
+    ensures { IfOk result (λ count. count ≤ length numbers.now) }
+{
+    let map: IntMap<u64, (), A> = IntMap::from_iter(
+        alloc,
+        numbers.iter().map(|number| (*number, ())),
+    )?;
+    Ok(map.len())
+}
+
+/// The same by a set.
+pub fn distinct_by_set<A: Allocator + Copy>(alloc: A, numbers: &[u64]) -> Result<usize, Cause>
+    ensures { IfOk result (λ count. count ≤ length numbers.now) }
+{
+    let set: IntSet<u64, A> = IntSet::from_iter(alloc, numbers.iter().copied())?;
+    Ok(set.len())
 }

@@ -1,0 +1,90 @@
+//! Tables of results, in which each number has its square or no value yet; and a cache.
+ghost use Rattle.std.specs.Prelude.{◌%◌, ◌*◌, ◌<◌, ◌^◌, ◌≡◌, ◌≤◌, IfOk, OnErr, OnOk, Some, ℕ, length, unwrap_or};
+ghost use Rattle.intmap.specs.Bindings.{Updates, value_of};
+
+use intmap::{Cause, IntMap};
+use std::alloc::Allocator;
+
+/// The square of a number, modulo 2^64.
+fn squared(x: u64) -> u64
+    ensures { result ≡ (x * x) % 2 ^ 64 }
+{
+    x.wrapping_mul(x)
+}
+
+/// The square of a number, from the table or computed and then kept there.
+///
+/// It fails if the insertion of a new number fails.
+pub fn square_by_get<A: Allocator + Copy>(
+    table: &mut IntMap<u64, u64, A>,
+    x: u64,
+) -> Result<u64, Cause>
+    requires { (q v : ℕ) → value_of (λ key. key) table.old.walk q ≡ Some v → v ≡ (q * q) % 2 ^ 64 }
+    ensures answer { IfOk result (λ r. r ≡ (x * x) % 2 ^ 64) }
+    ensures right { (q v : ℕ) → value_of (λ key. key) table.new.walk q ≡ Some v
+        → v ≡ (q * q) % 2 ^ 64 }
+{
+    if let Some(known) = table.get(x) {
+        return Ok(*known);
+    }
+    let made = squared(x);
+    table.insert(x, made)?;
+    Ok(made)
+}
+
+/// The value that the table has for a number. If it has none, the number's square becomes its
+/// value first.
+///
+/// It fails if the insertion of a new number fails. All values then stay.
+fn known_or_squared<A: Allocator + Copy>(
+    table: &mut IntMap<u64, u64, A>,
+    x: u64,
+) -> Result<u64, Cause>
+    ensures value { IfOk result (λ r. r
+        ≡ unwrap_or (value_of (λ key. key) table.old.walk x) ((x * x) % 2 ^ 64)) }
+    ensures updates { IfOk result (λ r.
+        Updates (λ key. key) table.old.walk table.new.walk x (Some r)) }
+    ensures err { OnErr result (table.new.walk ≡ table.old.walk) }
+{
+    let found = table.entry(x).or_insert_with_key(|key| squared(key))?;
+    Ok(*found)
+}
+
+/// The square of a number, by one search. The function before says what it changes of the table,
+/// and this one what that means.
+///
+/// It fails if the insertion of a new number fails.
+pub fn square_by_entry<A: Allocator + Copy>(
+    table: &mut IntMap<u64, u64, A>,
+    x: u64,
+) -> Result<u64, Cause>
+    requires { (q v : ℕ) → value_of (λ key. key) table.old.walk q ≡ Some v → v ≡ (q * q) % 2 ^ 64 }
+    ensures answer { IfOk result (λ r. r ≡ (x * x) % 2 ^ 64) }
+    ensures right { (q v : ℕ) → value_of (λ key. key) table.new.walk q ≡ Some v
+        → v ≡ (q * q) % 2 ^ 64 }
+{
+    known_or_squared(table, x)
+}
+
+// A cache of limited size: the first pair makes room for a new one.
+
+/// Gives a key its value. If there are as many pairs as the limit, the first one goes before.
+///
+/// It fails if the insertion fails.
+pub fn keep<A: Allocator + Copy>(
+    cache: &mut IntMap<u64, u64, A>,
+    limit: usize,
+    key: u64,
+    value: u64,
+) -> Result<(), Cause>
+    requires some { 0 < limit }
+    requires full { length cache.old.walk ≤ limit }
+    ensures here { OnOk result (value_of (λ k. k) cache.new.walk key ≡ Some value) }
+    ensures few { length cache.new.walk ≤ limit }
+{
+    if cache.len() >= limit {
+        cache.take_front(&mut 0);
+    }
+    cache.insert(key, value)?;
+    Ok(())
+}
