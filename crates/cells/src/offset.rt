@@ -37,7 +37,7 @@ impl IntKey for Offset {
     ghost use Rattle.std.proofs.Common.{arith};
     ghost use Rattle.std.proofs.lemmas.Int.{ints};
     ghost use Rattle.std.proofs.lemmas.Bool.Decides.{nat_tests};
-    ghost use Rattle.cells.specs.Offsets.{offset_number};
+    ghost use Rattle.cells.specs.Cells.{offset_number};
 
     ghost is_valid = { FitsSigned w64 };
 
