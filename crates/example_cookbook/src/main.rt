@@ -16,7 +16,6 @@ mod group;
 mod join;
 mod json;
 mod keep;
-mod sets;
 
 fn main(rt: HostRuntime) -> Result<()> {
     group_into_lists(&rt)?;
@@ -77,7 +76,7 @@ fn keep_what_fails(rt: &HostRuntime, memory: &FailingAlloc<Global>) -> Result<()
 fn unite_two_sets(rt: &HostRuntime) -> Result<()> {
     let left: IntSet<u64> = IntSet::from_iter(rt.alloc(), [1, 2].iter().copied())?;
     let right: IntSet<u64> = IntSet::from_iter(rt.alloc(), [2, 3].iter().copied())?;
-    println!(rt; "{:?}", sets::union(rt.alloc(), &left, &right)?)?;
+    println!(rt; "{:?}", left.to_union(rt.alloc(), &right)?)?;
     Ok(())
 }
 
