@@ -2,19 +2,17 @@
 //!
 //! A call is its name and the numbers behind it. `single` has those with two numbers at most, `many`
 //! those with many keys or pairs, or on both maps. `kinds` has the calls on maps with other keys, and
-//! `run_block` the commands that one `run` makes.
+//! `runs` the commands that one `run` makes.
 
-mod cell;
 mod kinds;
 mod many;
-mod run_block;
 mod runs;
 mod single;
 mod told;
 mod two;
 
 use crate::maps::kinds::Kinds;
-use crate::maps::run_block::{is_run, run_rows};
+use crate::maps::runs::{is_run, run_rows};
 use crate::maps::two::{Maps, write_state};
 use failing_alloc::FailingAlloc;
 use intmap::Cause;

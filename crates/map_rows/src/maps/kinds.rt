@@ -1,13 +1,14 @@
 //! Maps with keys of other kinds than `u64`: one of each kind.
 
-use crate::maps::cell::Cell;
 use crate::maps::single::{with_key, with_pair, without_key};
 use crate::maps::two::{MapOf, new_map, value_of};
 use failing_alloc::FailingAlloc;
 use intmap::{Cause, IntKey};
 use row_files::text::{no_call, write_refusal};
 use std::alloc::{AllocError, Global};
+use std::fmt;
 use std::fmt::{Debug, Display};
+use std::num::ParseIntError;
 use std::str::FromStr;
 
 /// A map of each kind of key. Each is made at the first call on it, so that there are no others to
@@ -182,4 +183,53 @@ where
         }
     }
     write!(out, "{new} new")
+}
+
+// A kind of key with two fields: the cells of a sheet.
+
+/// A cell, written as its row, a colon and its column.
+#[derive(Clone, Copy, PartialEq, Eq, Debug)]
+pub struct Cell {
+    row: u32,
+    column: u32,
+}
+
+/// The number of a cell has the row in its upper half and the column in its lower one.
+impl IntKey for Cell {
+    ghost use Rattle.std.specs.Prelude.{◌+◌, ◌*◌, ◌^◌, ◌<◌};
+    ghost use Rattle.std.proofs.Common.{arith};
+    ghost use Rattle.std.proofs.lemmas.Grind.{common_steps};
+    ghost use Rattle.std.proofs.lemmas.Bool.Decides.{nat_tests};
+
+    ghost is_valid = { λ cell. (cell.row < 2 ^ 32) × (cell.column < 2 ^ 32) };
+
+    ghost number_of = { λ cell. cell.row * 2 ^ 32 + cell.column };
+
+    ghost number_injective = { λ x y x_is y_is equal. Prim.grind (arith, common_steps) };
+
+    ghost eq_agrees = { λ x y x_is y_is. Prim.grind (arith, common_steps, nat_tests) };
+
+    fn number(&self) -> u64 {
+        self.row as u64 * (1 << 32) + self.column as u64
+    }
+}
+
+impl fmt::Display for Cell {
+    fn fmt<W: fmt::Write>(&self, f: &mut fmt::Formatter<W>) -> fmt::Result {
+        let row = self.row;
+        let column = self.column;
+        write!(f, "{row}:{column}")
+    }
+}
+
+impl FromStr for Cell {
+    type Err = ParseIntError;
+
+    fn from_str(s: &str) -> Result<Cell, ParseIntError> {
+        let (row, column) = s.split_once(':').unwrap_or((s, ""));
+        Ok(Cell {
+            row: row.parse()?,
+            column: column.parse()?,
+        })
+    }
 }

@@ -1,15 +1,14 @@
 //! The calls with many keys or pairs, and those on both maps.
 
-mod arrays;
 pub mod keys;
 mod pairs;
 
-use crate::maps::many::arrays::{MANY, from_array, from_array_many};
 use crate::maps::many::keys::{
     Insertion, Keys, Search, contains_many, find_many, insert_many, replace_many,
 };
 use crate::maps::many::pairs::{
-    Claimed, clone_lists, extended, made_of, pairs_of, squared, with_other,
+    Claimed, MANY, clone_lists, extended, from_array, from_array_many, made_of, pairs_of, squared,
+    with_other,
 };
 use crate::maps::runs::run_many;
 use crate::maps::two::{Maps, value_of};

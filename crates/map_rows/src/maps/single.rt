@@ -2,10 +2,7 @@
 
 mod cursors;
 mod entries;
-mod extract;
-mod iterator_rest;
 mod iterators;
-mod kept_entries;
 mod key_values;
 mod powers;
 mod sums;
@@ -13,18 +10,14 @@ mod texts;
 
 use crate::maps::single::cursors::{cut, cut_alternate, cut_sum, step_sum, stepped};
 use crate::maps::single::entries::{
-    add, insert, more_or, number_and_more, value_or_made, value_or_zero, write, write_by_entry,
-    write_entry, write_old, write_tried,
-};
-use crate::maps::single::extract::{extract_hint, extract_sum, extracted};
-use crate::maps::single::iterator_rest::{
-    write_rest_of_keys, write_rest_of_pairs, write_rest_of_values,
+    add, insert, insert_entry, insert_vacant_entry, more_or, number_and_more, value_or_made,
+    value_or_zero, write, write_by_entry, write_entry, write_into_key, write_old, write_tried,
 };
 use crate::maps::single::iterators::{
-    End, add_by_pairs, add_by_values, add_to_each, add_to_values, by_value, drained, size_hints,
-    sum_of, taken, written,
+    End, add_by_pairs, add_by_values, add_to_each, add_to_values, by_value, drained, extract_hint,
+    extract_sum, extracted, size_hints, sum_of, taken, write_rest_of_keys, write_rest_of_pairs,
+    write_rest_of_values, written,
 };
-use crate::maps::single::kept_entries::{insert_entry, insert_vacant_entry, write_into_key};
 use crate::maps::single::key_values::{
     first_pair, index, look_up, remove_by_its_entry, write_pair,
 };

@@ -1,13 +1,14 @@
-//! Calls that put many pairs into a map at once, make a map of pairs or of another map, or compare two.
+//! Calls that put many pairs into a map at once, make a map of pairs, of an array or of another map, or compare two.
 ghost use Rattle.std.specs.Iterator.{IsFinite, at_most};
 
+use crate::maps::many::keys::Keys;
 use crate::maps::told::{Told, print_answer};
-use crate::maps::two::{Map, Maps};
+use crate::maps::two::{Map, Maps, value_of};
 use failing_alloc::FailingAlloc;
 use intmap::{Cause, IntMap};
 use row_files::text::{write_done, write_pairs, write_refusal};
 use std::alloc::{AllocError, Allocator, Global};
-use std::vec;
+use std::{array, vec};
 
 /// The number with its square, wrapped to 64 bits.
 pub fn squared(number: u64) -> (u64, u64) {
@@ -149,4 +150,45 @@ fn put_lists<'a>(maps: &Maps<'a>, listed: &mut ListedMap<'a>) -> Result<(), Caus
         let _old = listed.insert(*key, values)?;
     }
     Ok(())
+}
+
+// Maps that are made of arrays: of a few pairs, and of many.
+
+/// How many pairs the array of many has.
+pub const MANY: usize = 20_000;
+
+/// Puts a map of an array of four pairs or fewer in the place of the one that calls are made on. `false`,
+/// and nothing written, for other numbers.
+pub fn from_array(
+    out: &mut String,
+    maps: &mut Maps<'_>,
+    numbers: &[u64],
+) -> Result<bool, AllocError> {
+    let memory = maps.memory;
+    let made = match numbers {
+        [] => IntMap::from_array(memory, []),
+        [k, v] => IntMap::from_array(memory, [(*k, *v)]),
+        [k, v, l, w] => IntMap::from_array(memory, [(*k, *v), (*l, *w)]),
+        [k, v, l, w, m, x] => IntMap::from_array(memory, [(*k, *v), (*l, *w), (*m, *x)]),
+        [k, v, l, w, m, x, n, y] => {
+            IntMap::from_array(memory, [(*k, *v), (*l, *w), (*m, *x), (*n, *y)])
+        }
+        _ => return Ok(false),
+    };
+    write_done(out, maps.put(made))?;
+    Ok(true)
+}
+
+/// Puts a map of an array of `MANY` pairs in that place: each of the keys with ten more.
+pub fn from_array_many(
+    out: &mut String,
+    maps: &mut Maps<'_>,
+    keys: Keys,
+) -> Result<(), AllocError> {
+    let pairs: [(u64, u64); MANY] = array::from_fn(|place| {
+        let key = keys.at(place as u64);
+        (key, value_of(key))
+    });
+    let made = IntMap::from_array(maps.memory, pairs);
+    write_done(out, maps.put(made))
 }
