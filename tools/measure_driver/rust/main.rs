@@ -35,11 +35,10 @@ impl Hasher for Multiplying {
 
 type Multiplied = HashMap<u64, u64, BuildHasherDefault<Multiplying>>;
 
-/// What maps are filled with: keys, as many others, and the pairs of the keys, each with one more as its value.
+/// The keys that maps are filled with, and as many others.
 struct Work {
     keys: Vec<u64>,
     others: Vec<u64>,
-    pairs: Vec<(u64, u64)>,
 }
 
 /// The sum of what is made of each item.
@@ -106,19 +105,12 @@ macro_rules! goes_through {
             phase("hit", || find(&map, keys));
             phase("miss", || find(&map, &work.others));
             phase("walk", || sum!(map.iter(), (key, value) => key ^ value));
-            phase("keys", || sum!(map.keys(), key => *key));
-            phase("values", || sum!(map.values(), value => *value));
             made("entry", || count(&mut map, keys));
             phase("over", || put(&mut map, keys));
             phase("remove", || take(&mut map, keys));
-            phase("again", || put(&mut map, keys));
-            let order: Vec<u64> = map.iter().map(|(key, _)| *key).collect();
-            phase("remove_walk", || take(&mut map, &order));
             put(&mut map, keys);
 
             let mut twin = made("clone", || map.clone());
-            phase("eq", || (map == twin).into());
-            made("iter_mut", || twin.iter_mut().for_each(|(_, value)| *value ^= 1));
             made("values_mut", || twin.values_mut().for_each(|value| *value ^= 1));
             made("retain", || twin.retain(|_, value| *value % 2 == 1));
             twin.clear();
@@ -134,13 +126,6 @@ macro_rules! goes_through {
                 put(&mut sized, keys);
                 sized
             });
-            made("extend", || {
-                let mut extended = <$map>::default();
-                extended.extend(work.pairs.iter().copied());
-                extended
-            });
-            made("collect", || work.pairs.iter().copied().collect::<$map>());
-            made("drop", || drop(map));
         }
     };
 }
@@ -217,11 +202,6 @@ fn main() {
     let (count, times): (u64, u64) = (count.parse().unwrap(), times.parse().unwrap());
     let keys: Vec<u64> = (0..count).map(|at| key_at(kind, at)).collect();
     let others = (count..2 * count).map(|at| key_at(kind, at)).collect();
-    let pairs = keys.iter().map(|key| (*key, key.wrapping_add(1))).collect();
-    let work = Work {
-        keys,
-        others,
-        pairs,
-    };
+    let work = Work { keys, others };
     (0..times).for_each(|_| go(&work, !rest.is_empty()));
 }
