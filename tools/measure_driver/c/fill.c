@@ -7,69 +7,44 @@
 
 #if __has_include(<khash.h>)
 #include <khash.h>
-#define HAS_KHASH 1
 #elif __has_include(<htslib/khash.h>)
 #include <htslib/khash.h>
-#define HAS_KHASH 1
+#endif
+#ifdef KHASH_MAP_INIT_INT64
+KHASH_MAP_INIT_INT64(numbers, uint64_t)
 #endif
 
-// A number whose bits all depend on all bits of this one.
-static uint64_t mixed(uint64_t number) {
+// A dense key is its place. A random one is a number whose bits all depend on all bits of the place.
+static uint64_t key_at(const char *kind, uint64_t place) {
+    uint64_t number = place * 11400714819323198485u;
     number = (number ^ number >> 30) * 13787848793156543929u;
     number = (number ^ number >> 27) * 10723151780598845931u;
-    return number ^ number >> 31;
+    return strcmp(kind, "dense") == 0 ? place : number ^ number >> 31;
 }
-
-static uint64_t key_at(const char *kind, uint64_t place) {
-    return strcmp(kind, "dense") == 0 ? place : mixed(place * 11400714819323198485u);
-}
-
-static void end(const char *why) {
-    fprintf(stderr, "%s\n", why);
-    exit(1);
-}
-
-static void fill_intmap(const char *kind, uint64_t count) {
-    intmap map = INTMAP_INIT;
-    for (uint64_t at = 0; at < count; at++) {
-        if (intmap_failed(intmap_insert(&map, key_at(kind, at), at).status)) {
-            end("out of memory");
-        }
-    }
-}
-
-#ifdef HAS_KHASH
-KHASH_MAP_INIT_INT64(numbers, uint64_t)
-
-static void fill_khash(const char *kind, uint64_t count) {
-    khash_t(numbers) *map = kh_init(numbers);
-    for (uint64_t at = 0; at < count; at++) {
-        int is_new;
-        khiter_t place = kh_put(numbers, map, key_at(kind, at), &is_new);
-        if (is_new < 0) {
-            end("out of memory");
-        }
-        kh_val(map, place) = at;
-    }
-}
-#endif
-
-static const struct {
-    const char *name;
-    void (*fill)(const char *kind, uint64_t count);
-} maps[] = {
-    {"intmap", fill_intmap},
-#ifdef HAS_KHASH
-    {"khash", fill_khash},
-#endif
-};
 
 int main(int words, char **word) {
-    for (size_t at = 0; at < sizeof maps / sizeof *maps; at++) {
-        if (words < 5) {
-            printf("%s\n", maps[at].name);
-        } else if (strcmp(word[1], maps[at].name) == 0 && strtoull(word[4], NULL, 10) > 0) {
-            maps[at].fill(word[2], strtoull(word[3], NULL, 10));
+    uint64_t count = words < 5 ? 0 : strtoull(word[3], NULL, 10) * strtoull(word[4], NULL, 10);
+    if (words < 5) {
+        puts("intmap");
+#ifdef KHASH_MAP_INIT_INT64
+        puts("khash");
+    } else if (count > 0 && strcmp(word[1], "khash") == 0) {
+        khash_t(numbers) *map = kh_init(numbers);
+        for (uint64_t at = 0; at < count; at++) {
+            int is_new;
+            khiter_t place = kh_put(numbers, map, key_at(word[2], at), &is_new);
+            if (is_new < 0) {
+                return 1;
+            }
+            kh_val(map, place) = at;
+        }
+#endif
+    } else {
+        intmap map = INTMAP_INIT;
+        for (uint64_t at = 0; at < count; at++) {
+            if (intmap_failed(intmap_insert(&map, key_at(word[2], at), at).status)) {
+                return 1;
+            }
         }
     }
     return 0;
