@@ -84,6 +84,8 @@ NOT_CALLED = {
         impl<K: IntKey + fmt::Debug, V: fmt::Debug, A: Allocator + Copy> fmt::Debug for IntMap<K, V, A> {""",
     "intmap_set/src/set.rt": """
         mod owned;""",
+    "intmap_set/src/set/build.rt": """
+        pub fn from_array<const N: usize>(alloc: A,""",
     "intmap_set/src/set/traits.rt": """
         impl<K: IntKey + fmt::Debug, A: Allocator + Copy> fmt::Debug for IntSet<K, A> {""",
     "intmap_table/src/table/slots.rt": """

@@ -51,6 +51,7 @@ UNCALLED = {
     "intmap/map/iter/writing": ["impl<'a, K: IntKey, V, A: Allocator + Copy> IntoIterator for &'a mut IntMap"],
     "intmap/refusal": ["impl From<AllocError> for Cause {", "use std::alloc::AllocError;"],
     "intmap/map/traits": ["impl<K: IntKey + fmt::Debug, V: fmt::Debug, A: Allocator + Copy> fmt::Debug for IntMap"],
+    "intmap_set/set/build": ["pub fn from_array<"],
     "intmap_set/set/traits": ["impl<K: IntKey + fmt::Debug, A: Allocator + Copy> fmt::Debug for IntSet"],
     "intmap_table/table/slots": ["pub(crate) fn has_pair("],
     "intmap_table/table/slots/pairs": ["pub(crate) fn remove_at("],

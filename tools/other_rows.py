@@ -275,6 +275,12 @@ class Sets:
         self.set = one
         return "done"
 
+    def make_of_array(self, members, refuses):
+        """The same of an array, whose keys lie in a vector first."""
+        self.make(len(members), members, refuses)
+        self.set.asked.insert(0, MEMBER * len(members)) if members else None
+        return "done"
+
     def clone(self, refuses):
         if refuses:
             raise NoMemory
@@ -361,6 +367,8 @@ SET_CALLS = {
     ("with_capacity", 1): lambda it, refuses, slots: it.make(slots, [], refuses),
     ("from_iter", None): lambda it, refuses, *numbers: it.make(len(numbers), numbers, refuses),
     ("from_iter_many", 3): lambda it, refuses, *numbers: it.make(numbers[1], keys(*numbers), refuses),
+    ("from_array", None): lambda it, refuses, *numbers: it.make_of_array(numbers, refuses),
+    ("from_array_many", 3): lambda it, refuses, *numbers: it.make_of_array(keys(*numbers), refuses),
     ("from_union", 0): lambda it, refuses: it.make(0, union(it.set, it.other), refuses),
     ("clone", 0): lambda it, refuses: it.clone(refuses),
     ("other", 0): lambda it, _: it.swap(),

@@ -32,6 +32,7 @@ LEFT = {
     "IntMap::step": "an iterator borrows the map, and needs no cursor",
     "IntMap::cut": "`extract_if` removes on the way",
     "IntMap::take_front": "`drain` makes it, and keeps what it requires",
+    "IntSet::from_array": "it allocates a vector beside the set; Rust's arrays are iterators",
     "IntSet::to_union": "Rust has operators, and `try_from_iter` of an iterator over two sets",
     "IntSet::to_intersection": "the same",
     "IntSet::to_difference": "the same",

@@ -1,16 +1,17 @@
 -- What inserting keys in turn returns and leaves.
-use Rattle.std.specs.Prelude.{◌≡◌, true, ◌⊎◌, ℕ, ◌+◌, ◌-◌, ◌^◌, ◌≤◌, cond, min, List, [], ◌∷◌, length, take, Option, Some}
+use Rattle.std.specs.Prelude.{◌≡◌, true, ◌⊎◌, ℕ, ◌+◌, ◌-◌, ◌^◌, ◌≤◌, cond, max, min, List, [], ◌∷◌, ◌++◌, length, take, Option, Some}
 use Rattle.std.specs.Iterator.{Drains, YieldsThen}
 use Rattle.std.specs.List.{slice_get}
 use Rattle.intmap.specs.declared.refusal.Cause.{Cause}
 use Rattle.intmap.specs.declared.refusal.Cause.TheVariants.{Memory}
 use Rattle.intmap.specs.declared.refusal.RefusedPair.{RefusedPair}
 use Rattle.intmap.specs.Extending.{new_keys}
+use Rattle.intmap.specs.Growth.{IsLeastPower}
 use Rattle.intmap.specs.Insertions.{IsInsertion}
-use Rattle.intmap.specs.Map.{after_insert}
+use Rattle.intmap.specs.Map.{IsOutOfRange, after_insert, least_capacity}
 use Rattle.intmap.specs.PlainLists.{RefusalIsDue, list_of}
 use Rattle.intmap.specs.Reach.{reach}
-use Rattle.intmap_set.specs.Sets.{SetState, IsSet, Updates, as_map, holds, looked_up, paired, set_of}
+use Rattle.intmap_set.specs.Sets.{SetState, IsSet, Updates, as_map, empty_set, holds, load_factor, looked_up, paired, set_of}
 use Rattle.intmap_set.specs.Combined.{IsUnion}
 
 module _ {K : Type 0} (number : K → ℕ) (is_valid : K → Type 0) where
@@ -44,6 +45,22 @@ module _ {K : Type 0} (number : K → ℕ) (is_valid : K → Type 0) where
     pub extended : IsExtended s (take refused.applied ks) before
     pub may_refuse : RefusalIsDue number (list_of (as_map before)) refused.key refused.cause
     pub after : t ≡ looked_up number before refused.key
+
+  -- the keys were inserted in turn, and none failed, into an empty set with the given room
+  pub record IsCollected (room : ℕ) (ks : List K) (s : SetState K) : Type 0 where
+    pub slots : ℕ
+    pub power : IsLeastPower (max room least_capacity) slots
+    pub extended : IsExtended (empty_set slots) ks s
+
+  -- the keys were inserted in turn into an empty set with the given room, up to one that is out of range
+  pub record LeavesRange (room : ℕ) (ks : List K) : Type 0 where
+    pub before : List K
+    pub next : K
+    pub rest : List K
+    pub are : ks ≡ before ++ next ∷ rest
+    pub filled : SetState K
+    pub collected : IsCollected room before filled
+    pub out_of_range : IsOutOfRange number (paired filled.walk) filled.capacity load_factor next
 
 module _ {K I : Type 0} (number : K → ℕ) (is_valid : K → Type 0) (steps : I → Option K → I → Type 0) where
   -- all keys that the iterator i gave were inserted in turn

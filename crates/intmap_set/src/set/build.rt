@@ -5,7 +5,7 @@ ghost use Rattle.std.specs.Iterator.Runs.{WholeRun};
 ghost use Rattle.intmap.specs.Growth.{IsLeastPower};
 ghost use Rattle.intmap.specs.Map.{least_capacity};
 ghost use Rattle.intmap_set.specs.Sets.{IsSet, empty_set, holds};
-ghost use Rattle.intmap_set.specs.Extending.{Extends, ExtendsUpTo, MayStop};
+ghost use Rattle.intmap_set.specs.Extending.{Extends, ExtendsUpTo, MayStop, IsCollected, LeavesRange};
 
 use crate::set::IntSet;
 use intmap::{Cause, IntKey, RefusedPair};
@@ -87,6 +87,36 @@ impl<K: IntKey, A: Allocator + Copy> IntSet<K, A> {
         let (lower, _) = iter.size_hint();
         let mut set = IntSet::with_capacity(alloc, lower)?;
         match set.extend(iter) {
+            Ok(()) => Ok(set),
+            Err(refused) => Err(refused.cause),
+        }
+    }
+
+    /// A set of the array's keys: [`with_capacity`](IntSet::with_capacity) of their number, and then
+    /// [`extend`](IntSet::extend), which counts what it compares.
+    ///
+    /// It first allocates a vector, and moves the keys into it. If this allocation fails, it fails
+    /// with [`Cause::Memory`]. It also fails if either call fails, with the same cause. A failed
+    /// call drops everything.
+    ///
+    /// ```text
+    /// IntSet::from_array(alloc, [4, 0, 4])                  // Ok({4, 0})
+    /// IntSet::<u64>::from_array(alloc, [])?.capacity()      // 2
+    /// ```
+    pub fn from_array<const N: usize>(alloc: A, keys: [K; N]) -> Result<IntSet<K, A>, Cause>
+        ensures collects { IfOk result (IsCollected K.number_of K.is_valid N keys) }
+        ensures updates { IfOk result (λ made. (q : K)
+            → holds K.number_of made.walk q ≡ holds K.number_of keys q) }
+        ensures len { IfOk result (λ made. length made.walk ≤ N) }
+        ensures too_large { IfErr result (λ cause. cause ≡ Cause.TooLarge
+            → (2 ^ 63 < N) ⊎ LeavesRange K.number_of K.is_valid N keys) }
+        ensures valid { IfOk result (IsSet K.number_of K.is_valid) }
+    {
+        let Ok(keys) = Vec::from_array(alloc, keys) else {
+            return Err(Cause::Memory);
+        };
+        let mut set = IntSet::with_capacity(alloc, N)?;
+        match set.extend(keys.into_iter()) {
             Ok(()) => Ok(set),
             Err(refused) => Err(refused.cause),
         }

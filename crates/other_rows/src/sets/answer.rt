@@ -16,7 +16,7 @@ pub fn named(
     numbers: &[u64],
 ) -> Result<(), AllocError> {
     match (name, numbers) {
-        ("extend" | "from_iter", keys) => with_keys(out, sets, name, keys),
+        ("extend" | "from_iter" | "from_array", keys) => with_keys(out, sets, name, keys),
         (_, []) => without_number(out, sets, name),
         (_, [number]) => with_number(out, sets, name, *number),
         (_, [first, count, step]) => {

@@ -6,6 +6,10 @@ use intmap::{Cause, RefusedPair};
 use intmap_set::IntSet;
 use row_files::text::{no_call, write_done, write_list, write_number, write_refusal};
 use std::alloc::{AllocError, Global};
+use std::array;
+
+// how many keys the array of many has
+const MANY: usize = 20_000;
 
 /// So many keys from a first one on, each so far behind the one before it, wrapped to 64 bits.
 pub fn keys_of(alloc: Global, first: u64, count: u64, step: u64) -> Result<Vec<u64>, AllocError> {
@@ -29,11 +33,34 @@ pub fn with_keys(
             let made = IntSet::from_iter(sets.memory, keys.iter().copied());
             write_done(out, sets.put(made))
         }
+        "from_array" => from_array(out, sets, keys),
+        "from_array_many" if keys.len() == MANY => from_array_many(out, sets, keys),
         "insert_many" => insert_many(out, &mut sets.set, keys),
         "remove_many" => write_number(out, remove_many(&mut sets.set, keys) as u128),
         "contains_many" => write_number(out, contains_many(&sets.set, keys) as u128),
         _ => no_call(out),
     }
+}
+
+// puts a set of an array of four keys or fewer in the place of the one that calls are made on
+fn from_array(out: &mut String, sets: &mut Sets<'_>, keys: &[u64]) -> Result<(), AllocError> {
+    let memory = sets.memory;
+    let made = match keys {
+        [] => IntSet::from_array(memory, []),
+        [j] => IntSet::from_array(memory, [*j]),
+        [j, k] => IntSet::from_array(memory, [*j, *k]),
+        [j, k, l] => IntSet::from_array(memory, [*j, *k, *l]),
+        [j, k, l, m] => IntSet::from_array(memory, [*j, *k, *l, *m]),
+        _ => return no_call(out),
+    };
+    write_done(out, sets.put(made))
+}
+
+// puts a set of an array of these keys in that place, of which there are `MANY`
+fn from_array_many(out: &mut String, sets: &mut Sets<'_>, keys: &[u64]) -> Result<(), AllocError> {
+    let keys: [u64; MANY] = array::from_fn(|place| keys.get(place).copied().unwrap_or(0));
+    let made = IntSet::from_array(sets.memory, keys);
+    write_done(out, sets.put(made))
 }
 
 /// That each key was inserted, or the one at which an insertion failed, how many came before it, and
