@@ -30,6 +30,7 @@ LEFT = [
     "intmap/src/map/json/read.rt",
     "intmap_table/src/lent.rt",
     "intmap_set/src/laws.rt",
+    "intmap_set/src/set/iter/extract.rt",
     "intmap_set/src/set/owned.rt",
 ]
 # lines of sources that are left out alone
@@ -84,6 +85,9 @@ NOT_CALLED = {
         impl<K: IntKey + fmt::Debug, V: fmt::Debug, A: Allocator + Copy> fmt::Debug for IntMap<K, V, A> {""",
     "intmap_set/src/set.rt": """
         mod owned;""",
+    "intmap_set/src/set/iter.rt": """
+        mod extract;
+        pub use extract::ExtractIf;""",
     "intmap_set/src/set/build.rt": """
         pub fn from_array<const N: usize>(alloc: A,""",
     "intmap_set/src/set/traits.rt": """

@@ -27,7 +27,7 @@ HOMES = {"intmap_table": "table", "intmap": "map", "intmap_set": "set"}
 LEFT_OUT = {
     "intmap_table": ["lent"],
     "intmap": ["decimal", "laws", "map/iter/cursor", "map/iter/written", "map/json"],
-    "intmap_set": ["laws", "set/owned"],
+    "intmap_set": ["laws", "set/iter/extract", "set/owned"],
 }
 
 # What no call of the crate for Rust reaches, by its source: how the first line of each item begins. `tools/erased`

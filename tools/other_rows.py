@@ -329,6 +329,12 @@ def retain_alternate(one):
     return str(asked)
 
 
+def extract_odd(one, count):
+    picked = [key for key in members_of(one) if key % 2][:count]
+    one.retain(lambda key, _: key not in picked)
+    return brackets(picked)
+
+
 def set_answer(it, call, refuses):
     name, *words = call.split(" ")
     numbers = [int(word) for word in words]
@@ -374,6 +380,7 @@ SET_CALLS = {
     ("other", 0): lambda it, _: it.swap(),
     ("drain", 1): lambda it, _, n: brackets(k for k, _ in it.set.drain(n)),
     ("drain_forget", 1): lambda it, _, n: brackets(k for k, _ in it.set.drain(n)),
+    ("extract_odd", 1): lambda it, _, n: extract_odd(it.set, n),
     ("into_iter", 1): lambda it, refuses, n: brackets(k for k, _ in it.set.into_walk(refuses)[:n]),
     ("into_sum", 0): lambda it, refuses: members_sum([k for k, _ in it.set.into_walk(refuses)]),
     ("insert", 1): lambda it, refuses, k: truth(it.set.insert_checked(k, 0, refuses)),

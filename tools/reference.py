@@ -21,7 +21,7 @@ PAGES = {
     "Iterators": ("intmap", "Iter Keys Values IterMut ValuesMut IntoIter IntoKeys IntoValues Drain ExtractIf Cursor".split(), []),
     "Errors": ("intmap", ["Cause", "Refused", "RefusedPair", "JsonCause"], []),
     "IntKey": ("intmap", ["IntKey", "Steps"], ["key_of"]),
-    "IntSet": ("intmap_set", ["IntSet", "Difference", "Intersection", "Union", "SymmetricDifference", "Drain"], []),
+    "IntSet": ("intmap_set", ["IntSet", "Difference", "Intersection", "Union", "SymmetricDifference", "Drain", "ExtractIf"], []),
     "SparseVec": ("intmap_sparse", ["SparseVec", "SparseCause"], []),
     "Runs": ("intmap_run", ["Command", "Answer", "Judge"], ["run"]),
     "Text": ("intmap_text", ["Line", "OddJudge"], ["read_line", "print_answer", "serve"]),

@@ -33,6 +33,7 @@ LEFT = {
     "IntMap::cut": "`extract_if` removes on the way",
     "IntMap::take_front": "`drain` makes it, and keeps what it requires",
     "IntSet::from_array": "it allocates a vector beside the set; Rust's arrays are iterators",
+    "IntSet::extract_if": "the crate's goes by the step of the map's, which looks at each slot once",
     "IntSet::to_union": "Rust has operators, and `try_from_iter` of an iterator over two sets",
     "IntSet::to_intersection": "the same",
     "IntSet::to_difference": "the same",

@@ -3,6 +3,7 @@ pub mod CallLemmas
 pub mod CombinedLemmas
 pub mod EqualLemmas
 pub mod RetainLemmas
+pub mod ExtractLemmas
 pub mod ExtendLemmas
 pub mod DistinctLemmas
 pub mod SizeLemmas

@@ -5,3 +5,4 @@ pub mod Retaining
 pub mod Extending
 pub mod Growing
 pub mod Draining
+pub mod Extracting

@@ -7,6 +7,10 @@ module _ {F K : Type 0} (m : Mut F (K × Unit {0}) Bool) where
   abbrev pub KeepsKey : F → K → Bool → F → Type 0
   KeepsKey f k b g = Called m f (k, tt) b g
 
+  -- the same, with what is left of the key, as it was
+  abbrev pub PicksKey : F → K → Bool → F → K → Type 0
+  PicksKey f k b g j = (j ≡ k) × KeepsKey f k b g
+
   -- f may be called at k
   abbrev pub TakesKey : F → K → Type 0
   TakesKey f k = Takes m f (k, tt)

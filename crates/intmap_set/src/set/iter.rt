@@ -6,11 +6,13 @@ ghost use Rattle.intmap_set.specs.Sets.{IsSet};
 
 mod combined;
 mod drain;
+mod extract;
 mod traits;
 
 use crate::set::IntSet;
 pub use combined::{Difference, Intersection, SymmetricDifference, Union};
 pub use drain::Drain;
+pub use extract::ExtractIf;
 use intmap::IntKey;
 pub use intmap::iter::{IntoKeys, Keys};
 use std::alloc::Allocator;

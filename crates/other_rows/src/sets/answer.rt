@@ -175,6 +175,10 @@ fn with_number(
             write_done(out, Ok(()))
         }
         "drain" => write_list(out, sets.set.drain().take(number as usize)),
+        "extract_odd" => {
+            let picked = sets.set.extract_if(|key| key % 2 == 1);
+            write_list(out, picked.take(number as usize))
+        }
         "drain_forget" => drained_and_forgotten(out, &mut sets.set, number),
         "into_iter" => match sets.taken() {
             Ok(set) => write_list(out, set.into_iter().take(number as usize)),
