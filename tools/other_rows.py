@@ -381,6 +381,7 @@ SET_CALLS = {
     ("drain", 1): lambda it, _, n: brackets(k for k, _ in it.set.drain(n)),
     ("drain_forget", 1): lambda it, _, n: brackets(k for k, _ in it.set.drain(n)),
     ("extract_odd", 1): lambda it, _, n: extract_odd(it.set, n),
+    ("extract_forget", 1): lambda it, _, n: extract_odd(it.set, n),
     ("into_iter", 1): lambda it, refuses, n: brackets(k for k, _ in it.set.into_walk(refuses)[:n]),
     ("into_sum", 0): lambda it, refuses: members_sum([k for k, _ in it.set.into_walk(refuses)]),
     ("insert", 1): lambda it, refuses, k: truth(it.set.insert_checked(k, 0, refuses)),

@@ -180,6 +180,7 @@ fn with_number(
             write_list(out, picked.take(number as usize))
         }
         "drain_forget" => drained_and_forgotten(out, &mut sets.set, number),
+        "extract_forget" => extracted_and_forgotten(out, &mut sets.set, number),
         "into_iter" => match sets.taken() {
             Ok(set) => write_list(out, set.into_iter().take(number as usize)),
             Err(cause) => write_refusal(out, cause, None),
@@ -195,6 +196,18 @@ fn drained_and_forgotten(
     count: u64,
 ) -> Result<(), AllocError> {
     let mut left = set.drain();
+    let told = write_list(out, left.by_ref().take(count as usize));
+    mem::forget(left);
+    told
+}
+
+// takes so many odd members out, writes them, and forgets the iterator
+fn extracted_and_forgotten(
+    out: &mut String,
+    set: &mut Set<'_>,
+    count: u64,
+) -> Result<(), AllocError> {
+    let mut left = set.extract_if(|key| key % 2 == 1);
     let told = write_list(out, left.by_ref().take(count as usize));
     mem::forget(left);
     told
