@@ -4,7 +4,7 @@ use Rattle.std.specs.Bool.{MatchBool}
 use Rattle.std.specs.Iterator.{MakesProgress, at_most}
 use Rattle.std.specs.List.Retain.{ExtractsNext}
 use Rattle.std.specs.Prelude.{◌||◌, MatchOption}
-use Rattle.std.proofs.lemmas.List.{drop-map, length-drop, take-append-drop, take-map}
+use Rattle.std.proofs.lemmas.List.{drop-map, take-append-drop, take-map}
 use Rattle.std.proofs.lemmas.List.Folds.{list_any-append}
 use Rattle.std.proofs.Math.Seq.{take-add}
 use Rattle.std.specs.Map.{keys_of}
@@ -16,11 +16,7 @@ use Rattle.intmap_set.specs.Sets.{SetState, as_map, holds, load_factor, paired, 
 use Rattle.intmap_set.proofs.MemberLemmas.{as_map-seen, keys_of-paired, same_key-itself}
 
 module _ {X : Type 0} (L M : List X) (i : ℕ) (x : X) (next : drop i L ≡ x ∷ M) where
-  -- an element that is behind the first i is one of the list
-  pub drop-within : i < length L
-  drop-within = let all = length-drop i L in let here = ap length next in omega (arith, all, here)
-
-  -- it comes behind these
+  -- the element behind the first i comes behind these
   pub take-next : take (i + 1) L ≡ take i L ++ x ∷ []
   take-next = take-add i 1 L ∙ ap (λ Z. take i L ++ take 1 Z) next
 
