@@ -11,8 +11,8 @@
 // shuffled. Keys that aren't in order are looked up in another order than they were inserted. GLib
 // has keys and values in its pointers, uthash a block for each pair.
 //
-// A walk, a cut of each second pair and a drain of 1,000,000 pairs must take less than a second
-// each, or it ends with status 1.
+// A walk, a cut of each second pair and a drain must take linear time: on 1,000,000 pairs at most
+// twelve times as long a pair as on a thirty-second of them, or it ends with status 1.
 #ifndef _GNU_SOURCE
 #define _GNU_SOURCE
 #endif
@@ -566,17 +566,23 @@ static void measure(size_t size, size_t handled) {
     print_figures();
 }
 
-// Linear time: a twentieth of a second each, and minutes if a step began at the first pair.
+// Linear time: of a walk, of cutting each second pair as a program does that keeps some, and of a
+// drain. Each is timed at two sizes, of which the second is SCALE times the first. So a call that
+// begins at the first pair would make it take SCALE times SCALE as long.
 
-static bool is_quick(const char *what, double from) {
-    double took = seconds() - from;
-    printf("%zu pairs %s in %.3f s\n", count, what, took);
-    return took < 20;
+enum { SCALE = 32, ALLOWED = 12 };
+
+enum { WALK, CUT, DRAIN, PASSES };
+
+static const char *const passes[PASSES] = {"walked by 64", "passed or cut", "drained"};
+
+static void walk_all(void) {
+    if (iterate_intmap() != count) {
+        end("a walk returned a wrong answer");
+    }
 }
 
-// Cuts each second pair, as a program does that keeps some.
-static bool cut_half(void) {
-    double from = seconds();
+static void cut_half(void) {
     intmap_cursor at = intmap_start();
     size_t left = count;
     for (size_t seen = 0; seen < count; seen++) {
@@ -586,28 +592,50 @@ static bool cut_half(void) {
             intmap_step(&map, &at);
         }
     }
-    return left == count - count / 2 && intmap_len(&map) == left && is_quick("passed or cut", from);
+    if (left != count - count / 2 || intmap_len(&map) != left) {
+        end("a cut returned a wrong answer");
+    }
 }
 
-static bool drain(void) {
-    double from = seconds();
+static void drain(void) {
     intmap_cursor at = intmap_start();
     while (intmap_cut(&map, &at).status == INTMAP_PRESENT) {
     }
-    return intmap_len(&map) == 0 && is_quick("drained", from);
+    if (intmap_len(&map) != 0) {
+        end("a drain left a pair");
+    }
 }
 
-static bool is_linear(void) {
-    make_intmap();
-    insert_intmap();
-    double from = seconds();
-    bool is_so = iterate_intmap() == count && is_quick("walked by 64", from);
-    is_so &= cut_half();
-    intmap_free(&map);
-    make_intmap();
-    insert_intmap();
-    is_so &= drain();
-    intmap_free(&map);
+// The seconds of the processor that each takes on a map of so many pairs, the least of some runs.
+// Other work on the machine hardly changes them.
+static void time_passes(size_t size, size_t kind, size_t runs, double least[PASSES]) {
+    void (*const made[PASSES])(void) = {walk_all, cut_half, drain};
+    count = size;
+    choose_keys(kind);
+    for (size_t pass = 0; pass < PASSES; pass++) {
+        least[pass] = 0;
+        for (size_t run = 0; run < runs; run++) {
+            make_intmap();
+            insert_intmap();
+            clock_t from = clock();
+            made[pass]();
+            double took = (double)(clock() - from) / CLOCKS_PER_SEC;
+            least[pass] = run == 0 || took < least[pass] ? took : least[pass];
+            intmap_free(&map);
+        }
+    }
+}
+
+static bool is_linear(size_t most, size_t kind) {
+    double few[PASSES], many[PASSES];
+    time_passes(most / SCALE, kind, 9, few);
+    time_passes(most, kind, 1, many);
+    bool is_so = true;
+    for (size_t pass = 0; pass < PASSES; pass++) {
+        printf("%zu pairs %s in %.3f s, %zu in %.6f s\n", most, passes[pass], many[pass],
+               most / SCALE, few[pass]);
+        is_so &= many[pass] < ALLOWED * SCALE * few[pass];
+    }
     return is_so;
 }
 
@@ -623,11 +651,9 @@ int main(int words, char **word) {
     for (size_t size = 1000; size <= handled && size <= most; size *= size == 1000 ? 20 : 50) {
         measure(size, handled);
     }
-    count = most;
     bool is_so = true;
     for (size_t kind = 0; kind < KINDS; kind++) {
-        choose_keys(kind);
-        is_so &= is_linear();
+        is_so &= is_linear(most, kind);
     }
     free(keys);
     free(others);
