@@ -8,7 +8,7 @@ BLOCK = re.compile(r"^```.*?^```$", re.M | re.S)
 LINK = re.compile(r"(!?)\[([^]\n]*)\]\(([^):#\s]*)(#[^)\s]*)?\)")
 CODE = re.compile(r"`([^`\n]+)`")
 # a path in backticks, or at the front of a command there
-PATH = re.compile(r"(?:(?:\./|\.ci/|bindings/|crates/|docs/|edits/|rust/|tools/)[\w.*/-]*|[\w-]+\.(?:md|txt)|HANDLES)(?= |$)")
+PATH = re.compile(r"(?:(?:\./|\.ci/|bindings/|crates/|docs/|edits/|rows/|rust/|tools/)[\w.*/-]*|[\w-]+\.(?:md|txt)|HANDLES)(?= |$)")
 # words in capitals are places for names
 PLACE = re.compile(r"\b(?:NAME|VERSION|FILE|FOLDER)\b")
 ELSEWHERE = re.compile(r"\b(?:in|of|the) (?:a clone|(?:the )?repository)\b", re.I)

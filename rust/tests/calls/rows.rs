@@ -8,7 +8,7 @@ use std::io::{Write, stderr};
 use std::num::Wrapping;
 use std::path::Path;
 
-const FOLDER: &str = concat!(env!("CARGO_MANIFEST_DIR"), "/../crates/map_rows");
+const FOLDER: &str = concat!(env!("CARGO_MANIFEST_DIR"), "/../rows/calls");
 
 fn text_of<T: Display>(answer: Option<T>) -> String {
     answer.map_or("none".into(), |it| format!("some {it}"))
@@ -168,7 +168,7 @@ fn each_row_returns_what_the_original_returned() {
         writeln!(stderr(), "the original's rows are not here: not compared").expect("a stream");
         return;
     }
-    let path = format!("{FOLDER}/data/original.rows");
+    let path = format!("{FOLDER}/original.rows");
     let count = compare(&read_to_string(&path).expect(&path));
-    assert!(count > 15_000, "only {count} rows");
+    assert!(count > 3_000, "only {count} rows");
 }
