@@ -1,12 +1,9 @@
 //! Entries: a map with a key that was looked up once, to read, change, remove or insert its pair.
-#[cfg(feature = "check")]
-use crate::check::{self, List};
-use crate::guard::Mending;
+use crate::guard::guarded;
 use crate::proved::map::entry as proved;
 use crate::refusal::{Refused, granted};
 use crate::{IntKey, IntMap};
 use core::fmt::{self, Debug, Formatter};
-use core::mem;
 
 mod made;
 mod occupied;
@@ -85,12 +82,7 @@ impl<K: IntKey, V> IntMap<K, V> {
     /// ```
     #[inline]
     pub fn entry(&mut self, key: K) -> Entry<'_, K, V> {
-        #[cfg(feature = "check")]
-        let before = List::of_some(&self.map);
-        let entry = Entry::of(self.map.entry(key));
-        #[cfg(feature = "check")]
-        check::entry(before, key, matches!(entry, Entry::Occupied(_)));
-        entry
+        Entry::of(self.map.entry(key))
     }
 }
 
@@ -260,20 +252,11 @@ impl<'a, K: IntKey, V> Entry<'a, K, V> {
     /// ```
     #[inline]
     pub fn try_insert_entry(self, value: V) -> Result<OccupiedEntry<'a, K, V>, Refused<V>> {
-        #[cfg(feature = "check")]
-        let (key, is_new) = (*self.key(), matches!(self, Entry::Vacant(_)));
         let (map, found) = self.proved().parted();
-        #[cfg(feature = "check")]
-        let before = List::before(map, key);
-        let guard = Mending(&mut *map);
-        let result = guard.0.entry_of(found).insert_entry(value).map(|entry| entry.place());
-        mem::forget(guard);
-        #[cfg(feature = "check")]
-        check::insert_by_entry(before, (key, is_new), &result, map);
-        let entry = map.entry_at(result?);
-        #[cfg(feature = "check")]
-        check::is_of(&entry, key);
-        Ok(OccupiedEntry(entry))
+        let place = guarded(&mut *map, |map| {
+            map.entry_of(found).insert_entry(value).map(|entry| entry.place())
+        })?;
+        Ok(OccupiedEntry(map.entry_at(place)))
     }
 }
 

@@ -19,10 +19,7 @@
 //! assert_eq!(map.into_iter().len(), 2);
 //! ```
 use crate::IntKey;
-#[cfg(feature = "check")]
-use crate::check::iter as proved;
 use crate::memory::clone;
-#[cfg(not(feature = "check"))]
 use crate::proved::map::iter as proved;
 use core::fmt::{self, Debug, Formatter};
 use core::iter::FusedIterator;
@@ -45,10 +42,7 @@ macro_rules! iterators {
 
             #[inline]
             fn next(&mut self) -> Option<$item> {
-                let item = self.inner.next();
-                #[cfg(feature = "check")]
-                crate::check::steps(self.left, item.is_some());
-                let item = item?;
+                let item = self.inner.next()?;
                 self.left = self.left.saturating_sub(1);
                 Some(item)
             }
@@ -154,14 +148,9 @@ impl<K: IntKey, V> Iterator for IntoKeys<K, V> {
 
     #[inline]
     fn next(&mut self) -> Option<K> {
-        #[cfg(feature = "check")]
-        let left = self.left;
         // counted before the value is dropped, which may panic
         self.left = self.len().saturating_sub(1);
-        let key = self.inner.next();
-        #[cfg(feature = "check")]
-        crate::check::steps(left, key.is_some());
-        key
+        self.inner.next()
     }
 
     #[inline]

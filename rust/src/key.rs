@@ -1,4 +1,4 @@
-//! The types of keys, and those of them that the proved text doesn't have.
+//! The types of keys: those that the proved text doesn't have, and a check of the rules of all.
 use core::net::Ipv4Addr;
 use core::num::{
     NonZeroI8, NonZeroI16, NonZeroI32, NonZeroI64, NonZeroIsize, NonZeroU8, NonZeroU16, NonZeroU32,
@@ -12,7 +12,8 @@ use core::num::{
 ///
 /// [`int_key!`](crate::int_key) makes a key of a struct with one field that is a key. Where you
 /// implement this trait by hand, two keys must be equal exactly if their numbers are, and a key's
-/// number must never change. If a type breaks this, then in its maps lookups may miss, pairs may be
+/// number must never change. [`check_keys`](crate::check_keys) tells in a test whether some keys
+/// keep to this. If a type breaks it, then in its maps lookups may miss, pairs may be
 /// lost, lengths may be wrong, and calls may panic or find no memory. There is still no undefined
 /// behavior, and no value is dropped twice. If `number` panics, the map stays whole: the page of the
 /// crate says what that means.
@@ -48,6 +49,41 @@ use core::num::{
 /// # Slots
 ///
 pub use crate::proved::map::IntKey;
+
+/// Checks by some keys that their type keeps to the rules of [`IntKey`]: that two of them are equal
+/// exactly if their numbers are, and that the number of none changes from one call to the next. It is
+/// for tests of a type that implements the trait by hand. The cost is *O*(*m*^2) for *m* keys.
+///
+/// # Errors
+///
+/// The first key that breaks a rule, behind an earlier key with which it does. Both are one key if
+/// its number changes, or if it isn't equal to itself.
+///
+/// ```
+/// use intmap_proved::{IntKey, check_keys};
+///
+/// #[derive(Clone, Copy, PartialEq, Eq, Debug)]
+/// struct Place(u16, u16);
+///
+/// impl IntKey for Place {
+///     fn number(&self) -> u64 {
+///         // too few columns
+///         u64::from(self.0) * 100 + u64::from(self.1)
+///     }
+/// }
+///
+/// assert_eq!(check_keys(&[Place(0, 99), Place(1, 1)]), Ok(()));
+/// assert_eq!(check_keys(&[Place(0, 101), Place(1, 1)]), Err((Place(0, 101), Place(1, 1))));
+/// ```
+pub fn check_keys<K: IntKey>(keys: &[K]) -> Result<(), (K, K)> {
+    for (place, key) in keys.iter().enumerate() {
+        let breaks = |other: &&K| (*other == key) != (other.number() == key.number());
+        if let Some(other) = keys[..=place].iter().find(breaks) {
+            return Err((*other, *key));
+        }
+    }
+    Ok(())
+}
 
 /// Makes a signed integer a key like the proved `i32` and `i64`: a negative one has the number that
 /// is `2 ^ 64` more.

@@ -47,28 +47,6 @@
 //! [`IntMap::values_mut`], `&mut map` and [`IntMap::get_disjoint_mut`] hand out; what mends a map
 //! after a panic; and that code by hand, a few lines a call.
 //!
-//! # Checked runs
-//!
-//! With the feature `check`, off by default, each call runs beside its contract: on a plain list of
-//! the numbers of the keys, in iteration order. The call panics unless the map then has the pairs,
-//! the order, the capacity and the load factor that are due, and unless the answer or the failure
-//! is due. So it finds a fault in the proved text as Rust compiles it, in `memory` or in a call by
-//! hand. It finds a key whose number changed, and two keys with one number, when `get` or a call
-//! like it looks for such a key. An insertion, a removal or an entry of the second key takes the
-//! pair of the first, and no check says so. It is there in each profile.
-//!
-//! Values aren't compared, since they need no `==`; a returned reference has to be that of the key's
-//! value. So of [`IntMap::into_values`] only the number of items is checked. Where maps are compared
-//! by `==`, their values have it, and the check calls it again. An iterator that only reads is
-//! compared as it is made, and any other at each step.
-//!
-//! A call on up to 64 pairs is checked, and so is one that itself goes through all pairs or adds
-//! slots. Of the others so many are that a check reads 64 pairs a call on average, or the whole time
-//! would be spent on large maps.
-//!
-//! A check allocates, with an alignment of 16 bytes, and reads the numbers of keys. If there is no
-//! memory for it, the call goes unchecked.
-//!
 //! # Failed allocations
 //!
 //! A call that may allocate has two forms. [`insert`](IntMap::insert) does what std's collections
@@ -142,8 +120,6 @@ compile_error!("intmap_proved is for targets that are 64 bits wide");
 
 extern crate alloc;
 
-#[cfg(feature = "check")]
-mod check;
 mod declared;
 mod entry;
 mod guard;
@@ -161,7 +137,7 @@ mod traits;
 
 pub use declared::scramble;
 pub use entry::{Entry, OccupiedEntry, VacantEntry};
-pub use key::IntKey;
+pub use key::{IntKey, check_keys};
 pub use map::IntMap;
 pub use refusal::{Cause, Refused, RefusedPair};
 #[doc(inline)]

@@ -1,7 +1,5 @@
 //! The map, and its calls on one key.
 use crate::IntKey;
-#[cfg(feature = "check")]
-use crate::check::{self, List};
 use crate::memory::alloc::Global;
 use crate::proved::map::IntMap as Proved;
 use crate::refusal::{Cause, granted};
@@ -103,10 +101,7 @@ impl<K: IntKey, V> IntMap<K, V> {
     /// # Ok::<(), Cause>(())
     /// ```
     pub fn try_new() -> Result<IntMap<K, V>, Cause> {
-        let map = Proved::new(Global)?;
-        #[cfg(feature = "check")]
-        check::made("new", 4, &map);
-        Ok(IntMap { map })
+        Ok(IntMap { map: Proved::new(Global)? })
     }
 
     /// Returns an empty map, with a load factor of 0.909. Its capacity is the least power of two
@@ -160,10 +155,7 @@ impl<K: IntKey, V> IntMap<K, V> {
     /// assert_eq!(cause((1 << 63) + 1), Some(Cause::TooLarge));
     /// ```
     pub fn try_with_capacity(capacity: usize) -> Result<IntMap<K, V>, Cause> {
-        let made = Proved::with_capacity(Global, capacity);
-        #[cfg(feature = "check")]
-        check::with_capacity(capacity, made.as_ref());
-        Ok(IntMap { map: made? })
+        Ok(IntMap { map: Proved::with_capacity(Global, capacity)? })
     }
 
     /// Returns a reference to the value of the key, or `None` if the key is absent. The cost is
@@ -183,8 +175,6 @@ impl<K: IntKey, V> IntMap<K, V> {
     /// ```
     #[inline]
     pub fn get(&self, key: K) -> Option<&V> {
-        #[cfg(feature = "check")]
-        check::find("get", &self.map, key, self.map.get(key).map(|it| it as *const V));
         self.map.get(key)
     }
 
@@ -208,10 +198,6 @@ impl<K: IntKey, V> IntMap<K, V> {
     /// ```
     #[inline]
     pub fn get_mut(&mut self, key: K) -> Option<&mut V> {
-        #[cfg(feature = "check")]
-        let found = self.map.get_mut(key).map(|it| it as *const V);
-        #[cfg(feature = "check")]
-        check::find("get_mut", &self.map, key, found);
         self.map.get_mut(key)
     }
 
@@ -244,10 +230,6 @@ impl<K: IntKey, V> IntMap<K, V> {
     /// ```
     #[track_caller]
     pub fn get_disjoint_mut<const N: usize>(&mut self, keys: [K; N]) -> [Option<&mut V>; N] {
-        #[cfg(feature = "check")]
-        let found = self.map.get_disjoint_mut(keys).map(|it| it.map(|it| it as *const V));
-        #[cfg(feature = "check")]
-        check::find_each(&self.map, keys, found);
         self.map.get_disjoint_mut(keys)
     }
 
@@ -268,8 +250,6 @@ impl<K: IntKey, V> IntMap<K, V> {
     /// ```
     #[inline]
     pub fn get_key_value(&self, key: K) -> Option<(&K, &V)> {
-        #[cfg(feature = "check")]
-        check::find_pair(&self.map, key, self.map.get_key_value(key));
         self.map.get_key_value(key)
     }
 
@@ -289,8 +269,6 @@ impl<K: IntKey, V> IntMap<K, V> {
     /// assert_eq!(map.first_key_value(), map.iter().next());
     /// ```
     pub fn first_key_value(&self) -> Option<(&K, &V)> {
-        #[cfg(feature = "check")]
-        check::find_first(&self.map, self.map.first_key_value());
         self.map.first_key_value()
     }
 
@@ -310,8 +288,6 @@ impl<K: IntKey, V> IntMap<K, V> {
     /// ```
     #[inline]
     pub fn contains_key(&self, key: K) -> bool {
-        #[cfg(feature = "check")]
-        check::contains(&self.map, key, self.map.contains_key(key));
         self.map.contains_key(key)
     }
 
@@ -335,11 +311,7 @@ impl<K: IntKey, V> IntMap<K, V> {
     /// ```
     #[inline]
     pub fn remove(&mut self, key: K) -> Option<V> {
-        #[cfg(feature = "check")]
-        let before = List::of_some(&self.map);
         let value = self.map.remove(key);
-        #[cfg(feature = "check")]
-        check::remove("remove", before, key, value.is_some(), &self.map);
         value
     }
 
@@ -360,11 +332,7 @@ impl<K: IntKey, V> IntMap<K, V> {
     /// ```
     #[inline]
     pub fn remove_entry(&mut self, key: K) -> Option<(K, V)> {
-        #[cfg(feature = "check")]
-        let before = List::of_some(&self.map);
         let pair = self.map.remove_entry(key);
-        #[cfg(feature = "check")]
-        check::remove("remove_entry", before, key, pair.is_some(), &self.map);
         pair
     }
 }

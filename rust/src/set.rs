@@ -10,13 +10,10 @@
 //! assert_eq!(count(IntSet::from([1, 2]).union(&IntSet::from([2, 3]))), 3);
 //! ```
 use crate::IntKey;
-#[cfg(feature = "check")]
-use crate::check::{self, List};
-use crate::guard::Mending;
+use crate::guard::guarded;
 use crate::memory::alloc::Global;
 use crate::proved::set::IntSet as Proved;
 use crate::refusal::{Cause, granted};
-use core::mem;
 
 mod combine;
 mod iter;
@@ -90,10 +87,7 @@ impl<K: IntKey> IntSet<K> {
     /// # Ok::<(), Cause>(())
     /// ```
     pub fn try_new() -> Result<IntSet<K>, Cause> {
-        let set = Proved::new(Global)?;
-        #[cfg(feature = "check")]
-        check::made("new", 4, set.map());
-        Ok(IntSet { set })
+        Ok(IntSet { set: Proved::new(Global)? })
     }
 
     /// Returns an empty set, with a load factor of 0.909. Its capacity is the least power of two
@@ -142,10 +136,7 @@ impl<K: IntKey> IntSet<K> {
     /// assert_eq!(IntSet::<u64>::try_with_capacity(usize::MAX).err(), Some(Cause::TooLarge));
     /// ```
     pub fn try_with_capacity(capacity: usize) -> Result<IntSet<K>, Cause> {
-        let made = Proved::with_capacity(Global, capacity);
-        #[cfg(feature = "check")]
-        check::with_capacity(capacity, made.as_ref().map(Proved::map));
-        Ok(IntSet { set: made? })
+        Ok(IntSet { set: Proved::with_capacity(Global, capacity)? })
     }
 
     /// Makes the key a member, and returns whether it is new. A new member is the last one of its
@@ -198,14 +189,7 @@ impl<K: IntKey> IntSet<K> {
     /// ```
     #[inline]
     pub fn try_insert(&mut self, key: K) -> Result<bool, Cause> {
-        #[cfg(feature = "check")]
-        let before = List::before(self.set.map(), key);
-        let guard = Mending(&mut self.set);
-        let result = guard.0.insert(key);
-        mem::forget(guard);
-        #[cfg(feature = "check")]
-        check::insert_member(before, key, &result, self.set.map());
-        result
+        guarded(&mut self.set, |set| set.insert(key))
     }
 
     /// Returns whether the key is a member. The cost is *O*(*s*).
@@ -222,8 +206,6 @@ impl<K: IntKey> IntSet<K> {
     /// ```
     #[inline]
     pub fn contains(&self, key: K) -> bool {
-        #[cfg(feature = "check")]
-        check::contains(self.set.map(), key, self.set.contains(key));
         self.set.contains(key)
     }
 
@@ -243,8 +225,6 @@ impl<K: IntKey> IntSet<K> {
     /// ```
     #[inline]
     pub fn get(&self, key: K) -> Option<&K> {
-        #[cfg(feature = "check")]
-        check::find_member(self.set.map(), key, self.set.get(key));
         self.set.get(key)
     }
 
@@ -293,15 +273,11 @@ impl<K: IntKey> IntSet<K> {
     /// # Ok::<(), Cause>(())
     /// ```
     pub fn try_replace(&mut self, key: K) -> Result<Option<K>, Cause> {
-        #[cfg(feature = "check")]
-        let before = List::before(self.set.map(), key);
         let replaced = self.get(key).copied();
         if replaced.is_some() {
             self.remove(key);
         }
         let inserted = self.try_insert(key);
-        #[cfg(feature = "check")]
-        check::replace_member(before, key, (replaced, inserted.map(drop)), self.set.map());
         inserted.map(|_| replaced)
     }
 
@@ -321,12 +297,7 @@ impl<K: IntKey> IntSet<K> {
     /// ```
     #[inline]
     pub fn remove(&mut self, key: K) -> bool {
-        #[cfg(feature = "check")]
-        let before = List::of_some(self.set.map());
-        let was_member = self.set.remove(key);
-        #[cfg(feature = "check")]
-        check::remove("remove", before, key, was_member, self.set.map());
-        was_member
+        self.set.remove(key)
     }
 
     /// The same as [`remove`](IntSet::remove), but it returns the key if it was a member.

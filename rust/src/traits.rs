@@ -1,6 +1,4 @@
 //! What a map is to other code: defaults, clones, equality, text, `map[key]`, and collecting.
-#[cfg(feature = "check")]
-use crate::check;
 use crate::refusal::granted;
 use crate::{IntKey, IntMap};
 use core::fmt::{self, Debug, Formatter};
@@ -43,8 +41,6 @@ impl<K: IntKey, V: Clone> Clone for IntMap<K, V> {
         self.clear();
         granted(self.try_set_load_factor_thousandths(source.load_factor_thousandths()));
         self.extend(source.iter().map(|(key, value)| (*key, value.clone())));
-        #[cfg(feature = "check")]
-        check::copied("clone_from", &source.map, &self.map);
     }
 }
 
@@ -58,8 +54,6 @@ impl<K: IntKey, V: Clone> Clone for IntMap<K, V> {
 /// ```
 impl<K: IntKey, V: PartialEq> PartialEq for IntMap<K, V> {
     fn eq(&self, other: &IntMap<K, V>) -> bool {
-        #[cfg(feature = "check")]
-        check::several::equal(&self.map, &other.map, self.map == other.map);
         self.map == other.map
     }
 }

@@ -1,8 +1,6 @@
 //! Entries of present keys.
 use super::OccupiedEntry;
 use crate::IntKey;
-#[cfg(feature = "check")]
-use crate::check;
 use core::fmt::{self, Debug, Formatter};
 
 impl<'a, K: IntKey, V> OccupiedEntry<'a, K, V> {
@@ -137,14 +135,7 @@ impl<'a, K: IntKey, V> OccupiedEntry<'a, K, V> {
     /// ```
     #[inline]
     pub fn remove(self) -> V {
-        #[cfg(feature = "check")]
-        {
-            check::removed(self.0, |entry| entry.remove())
-        }
-        #[cfg(not(feature = "check"))]
-        {
-            self.0.remove()
-        }
+        self.0.remove()
     }
 
     /// The same as [`remove`](OccupiedEntry::remove), but it returns the key beside the value.
@@ -166,14 +157,7 @@ impl<'a, K: IntKey, V> OccupiedEntry<'a, K, V> {
     /// ```
     #[inline]
     pub fn remove_entry(self) -> (K, V) {
-        #[cfg(feature = "check")]
-        {
-            check::removed(self.0, |entry| entry.remove_entry())
-        }
-        #[cfg(not(feature = "check"))]
-        {
-            self.0.remove_entry()
-        }
+        self.0.remove_entry()
     }
 
     /// Removes the pair as [`remove`](OccupiedEntry::remove) does, and calls `f` with the value.
@@ -209,14 +193,7 @@ impl<'a, K: IntKey, V> OccupiedEntry<'a, K, V> {
     /// assert_eq!((from.len(), to[21].as_str()), (0, "a name"));
     /// ```
     pub fn hand_over<R, F: FnOnce(V) -> Result<R, V>>(self, f: F) -> Option<R> {
-        #[cfg(feature = "check")]
-        {
-            check::handed_over(self.0, |entry| entry.hand_over(f))
-        }
-        #[cfg(not(feature = "check"))]
-        {
-            self.0.hand_over(f)
-        }
+        self.0.hand_over(f)
     }
 }
 

@@ -1,13 +1,9 @@
 //! Entries of absent keys.
 use super::{OccupiedEntry, VacantEntry};
 use crate::IntKey;
-#[cfg(feature = "check")]
-use crate::check::{self, List};
-use crate::guard::Mending;
-use crate::proved::map::entry as proved;
+use crate::guard::guarded;
 use crate::refusal::{Refused, granted};
 use core::fmt::{self, Debug, Formatter};
-use core::mem;
 
 impl<'a, K: IntKey, V> VacantEntry<'a, K, V> {
     /// Returns a reference to the key.
@@ -158,25 +154,11 @@ impl<'a, K: IntKey, V> VacantEntry<'a, K, V> {
     /// ```
     #[inline]
     pub fn try_insert_entry(self, value: V) -> Result<OccupiedEntry<'a, K, V>, Refused<V>> {
-        Ok(OccupiedEntry(self.inserted(value)?))
-    }
-
-    /// The proved insertion, under a guard: a key's `number` may panic while the pair is put into
-    /// its slot, or while pairs move to more slots.
-    #[inline]
-    fn inserted(self, value: V) -> Result<proved::OccupiedEntry<'a, K, V>, Refused<V>> {
         let (map, key, slot) = self.0.parted();
-        #[cfg(feature = "check")]
-        let before = List::before(map, key);
-        let guard = Mending(&mut *map);
-        let result = guard.0.vacant_entry(key, slot).insert_entry(value).map(|entry| entry.place());
-        mem::forget(guard);
-        #[cfg(feature = "check")]
-        check::insert_by_entry(before, (key, true), &result, map);
-        let entry = map.entry_at(result?);
-        #[cfg(feature = "check")]
-        check::is_of(&entry, key);
-        Ok(entry)
+        let place = guarded(&mut *map, |map| {
+            map.vacant_entry(key, slot).insert_entry(value).map(|entry| entry.place())
+        })?;
+        Ok(OccupiedEntry(map.entry_at(place)))
     }
 }
 

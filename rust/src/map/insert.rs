@@ -1,11 +1,8 @@
 //! Insertions.
 use super::IntMap;
 use crate::IntKey;
-#[cfg(feature = "check")]
-use crate::check::{self, List};
-use crate::guard::Mending;
+use crate::guard::guarded;
 use crate::refusal::{Refused, granted};
-use core::mem;
 
 impl<K: IntKey, V> IntMap<K, V> {
     /// Inserts the pair, and returns the value that the key had, if it was present.
@@ -38,14 +35,7 @@ impl<K: IntKey, V> IntMap<K, V> {
     /// ```
     #[inline(always)]
     pub fn insert(&mut self, key: K, value: V) -> Option<V> {
-        #[cfg(feature = "check")]
-        let before = List::before(&self.map, key);
-        let guard = Mending(&mut self.map);
-        let result = guard.0.insert(key, value);
-        mem::forget(guard);
-        #[cfg(feature = "check")]
-        check::insert(before, key, &result, &self.map);
-        granted(result)
+        granted(guarded(&mut self.map, |map| map.insert(key, value)))
     }
 
     /// The same as [`insert`](IntMap::insert), but it returns a failure, with the value.
@@ -76,14 +66,7 @@ impl<K: IntKey, V> IntMap<K, V> {
     /// ```
     #[inline(always)]
     pub fn try_insert(&mut self, key: K, value: V) -> Result<Option<V>, Refused<V>> {
-        #[cfg(feature = "check")]
-        let before = List::before(&self.map, key);
-        let guard = Mending(&mut self.map);
-        let result = guard.0.insert(key, value);
-        mem::forget(guard);
-        #[cfg(feature = "check")]
-        check::insert(before, key, &result, &self.map);
-        result
+        guarded(&mut self.map, |map| map.insert(key, value))
     }
 
     /// Inserts the pair if the key is absent, and returns whether it was. A present key keeps its
@@ -139,13 +122,6 @@ impl<K: IntKey, V> IntMap<K, V> {
     /// ```
     #[inline]
     pub fn try_insert_checked(&mut self, key: K, value: V) -> Result<bool, Refused<V>> {
-        #[cfg(feature = "check")]
-        let before = List::before(&self.map, key);
-        let guard = Mending(&mut self.map);
-        let result = guard.0.insert_checked(key, value);
-        mem::forget(guard);
-        #[cfg(feature = "check")]
-        check::insert_checked(before, key, &result, &self.map);
-        result
+        guarded(&mut self.map, |map| map.insert_checked(key, value))
     }
 }

@@ -1,14 +1,11 @@
 //! Calls on many pairs.
 use super::IntMap;
 use crate::IntKey;
-#[cfg(feature = "check")]
-use crate::check::{self, Asked, Coming, List};
-use crate::guard::Mending;
+use crate::guard::guarded;
 use crate::iter::{Drain, ExtractIf};
 use crate::memory::alloc::Global;
 use crate::proved::map::IntMap as Proved;
 use crate::refusal::{Cause, RefusedPair};
-use core::mem;
 
 impl<K: IntKey, V> IntMap<K, V> {
     /// Calls `keep` once for each pair, in iteration order, and removes the pairs for which it
@@ -37,15 +34,7 @@ impl<K: IntKey, V> IntMap<K, V> {
     /// assert_eq!(format!("{map:?}"), "{4: 'b', 8: 'c'}");
     /// ```
     pub fn retain<F: FnMut(K, &V) -> bool>(&mut self, keep: F) {
-        #[cfg(feature = "check")]
-        let (mut asked, mut keep) = (Asked::of(&self.map), keep);
-        #[cfg(feature = "check")]
-        let keep = |key: K, value: &V| asked.about(key, keep(key, value));
-        let guard = Mending(&mut self.map);
-        guard.0.retain(keep);
-        mem::forget(guard);
-        #[cfg(feature = "check")]
-        asked.ended("retain", &self.map);
+        guarded(&mut self.map, |map| map.retain(keep))
     }
 
     /// Removes all pairs. The capacity, the load factor and the memory stay.
@@ -66,13 +55,7 @@ impl<K: IntKey, V> IntMap<K, V> {
     /// assert_eq!((map.len(), map.capacity()), (0, 2));
     /// ```
     pub fn clear(&mut self) {
-        #[cfg(feature = "check")]
-        let before = List::of(&self.map);
-        let guard = Mending(&mut self.map);
-        guard.0.clear();
-        mem::forget(guard);
-        #[cfg(feature = "check")]
-        check::clear(before, &self.map);
+        guarded(&mut self.map, |map| map.clear())
     }
 
     /// Returns an iterator that removes one pair at each step and returns it, in iteration order.
@@ -96,12 +79,7 @@ impl<K: IntKey, V> IntMap<K, V> {
     /// assert_eq!(format!("{map:?}"), "{4: 'b', 8: 'c'}");
     /// ```
     pub fn drain(&mut self) -> Drain<'_, K, V> {
-        let left = self.len();
-        #[cfg(feature = "check")]
-        let inner = check::iter::Drain::of(self.map.drain());
-        #[cfg(not(feature = "check"))]
-        let inner = self.map.drain();
-        Drain { left, inner }
+        Drain { left: self.len(), inner: self.map.drain() }
     }
 
     /// Returns an iterator that removes the pairs for which `pick` returns `true`, one at each
@@ -129,11 +107,7 @@ impl<K: IntKey, V> IntMap<K, V> {
     /// assert_eq!(map.len(), 1);
     /// ```
     pub fn extract_if<F: FnMut(K, &mut V) -> bool>(&mut self, pick: F) -> ExtractIf<'_, K, V, F> {
-        #[cfg(feature = "check")]
-        let inner = check::iter::ExtractIf::of(&mut self.map, pick);
-        #[cfg(not(feature = "check"))]
-        let inner = self.map.extract_if(pick);
-        ExtractIf { inner }
+        ExtractIf { inner: self.map.extract_if(pick) }
     }
 
     /// Calls `change` once for each pair, in iteration order. All keys stay, in their order. The
@@ -157,18 +131,7 @@ impl<K: IntKey, V> IntMap<K, V> {
     /// assert_eq!((map[0], map[1]), (10, 21));
     /// ```
     pub fn for_each_mut<F: FnMut(K, &mut V)>(&mut self, change: F) {
-        #[cfg(feature = "check")]
-        let (mut asked, mut change) = (Asked::of(&self.map), change);
-        #[cfg(feature = "check")]
-        let change = |key: K, value: &mut V| {
-            _ = asked.about(key, {
-                change(key, value);
-                true
-            })
-        };
         self.map.for_each_mut(change);
-        #[cfg(feature = "check")]
-        asked.ended("for_each_mut", &self.map);
     }
 
     /// Inserts each pair in turn, as [`insert`](IntMap::insert) does, up to the first one that
@@ -199,16 +162,7 @@ impl<K: IntKey, V> IntMap<K, V> {
     where
         I: IntoIterator<Item = (K, V)>,
     {
-        #[cfg(feature = "check")]
-        let mut coming = Coming::into(&self.map);
-        #[cfg(feature = "check")]
-        let pairs = coming.watch(pairs, |pair| pair.0);
-        let guard = Mending(&mut self.map);
-        let result = guard.0.extend(pairs.into_iter());
-        mem::forget(guard);
-        #[cfg(feature = "check")]
-        coming.extended(&result, &self.map);
-        result
+        guarded(&mut self.map, |map| map.extend(pairs.into_iter()))
     }
 
     /// The same as [`from_iter`](FromIterator::from_iter), but it returns a failure.
@@ -235,14 +189,7 @@ impl<K: IntKey, V> IntMap<K, V> {
     where
         I: IntoIterator<Item = (K, V)>,
     {
-        #[cfg(feature = "check")]
-        let (mut coming, pairs) = Coming::into_new(pairs.into_iter());
-        #[cfg(feature = "check")]
-        let pairs = coming.watch(pairs, |pair| pair.0);
-        let map = Proved::from_iter(Global, pairs.into_iter())?;
-        #[cfg(feature = "check")]
-        coming.extended(&Ok(()), &map);
-        Ok(IntMap { map })
+        Ok(IntMap { map: Proved::from_iter(Global, pairs.into_iter())? })
     }
 }
 
@@ -268,9 +215,6 @@ impl<K: IntKey, V: Clone> IntMap<K, V> {
     /// # Ok::<(), Cause>(())
     /// ```
     pub fn try_clone(&self) -> Result<IntMap<K, V>, Cause> {
-        let map = self.map.clone()?;
-        #[cfg(feature = "check")]
-        check::copied("clone", &self.map, &map);
-        Ok(IntMap { map })
+        Ok(IntMap { map: self.map.clone()? })
     }
 }

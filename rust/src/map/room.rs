@@ -1,8 +1,6 @@
 //! Room for a number of pairs, and memory that is given back.
 use super::IntMap;
 use crate::IntKey;
-#[cfg(feature = "check")]
-use crate::check::{self, List};
 use crate::refusal::{Cause, Refused, granted};
 use crate::room::{FIRST_FACTOR, LEAST_SLOTS, slots_for};
 
@@ -60,10 +58,7 @@ impl<K: IntKey, V> IntMap<K, V> {
     /// # Ok::<(), Cause>(())
     /// ```
     pub fn try_with_room_for(pairs: usize) -> Result<IntMap<K, V>, Cause> {
-        let made = IntMap::try_with_capacity(slots_for(pairs, FIRST_FACTOR));
-        #[cfg(feature = "check")]
-        check::with_room_for(pairs, made.as_ref().map(|it: &IntMap<K, V>| &it.map));
-        made
+        IntMap::try_with_capacity(slots_for(pairs, FIRST_FACTOR))
     }
 
     /// Makes room for `additional` pairs more: the capacity becomes the least power of two in which
@@ -119,18 +114,13 @@ impl<K: IntKey, V> IntMap<K, V> {
     /// assert_eq!(map.try_reserve_pairs(usize::MAX), Err(Cause::TooLarge));
     /// ```
     pub fn try_reserve_pairs(&mut self, additional: usize) -> Result<(), Cause> {
-        #[cfg(feature = "check")]
-        let before = List::reserving_pairs(&self.map, additional);
         let factor = self.load_factor_thousandths();
         let slots = self.len().checked_add(additional).map(|pairs| slots_for(pairs, factor));
-        let result = match slots {
+        match slots {
             Some(slots) if slots <= self.capacity() => Ok(()),
             Some(slots) => self.try_reserve(slots.saturating_sub(self.len())),
             None => Err(Cause::TooLarge),
-        };
-        #[cfg(feature = "check")]
-        check::reserve_pairs(before, additional, result, &self.map);
-        result
+        }
     }
 
     /// Makes the capacity the least power of two in which the pairs meet the load factor, or leaves
@@ -231,15 +221,10 @@ impl<K: IntKey, V> IntMap<K, V> {
     /// assert_eq!((map.try_shrink_to(20), map.capacity()), (Ok(()), 32));
     /// ```
     pub fn try_shrink_to(&mut self, min_capacity: usize) -> Result<(), Cause> {
-        #[cfg(feature = "check")]
-        let before = List::of(&self.map);
         let factor = self.load_factor_thousandths();
         let slots = slots_for(self.len(), factor).max(min_capacity).max(LEAST_SLOTS);
         let is_least = slots > self.capacity() / 2;
-        let result = if is_least { Ok(()) } else { self.move_to(slots, factor) };
-        #[cfg(feature = "check")]
-        check::shrink_to(before, min_capacity, result, &self.map);
-        result
+        if is_least { Ok(()) } else { self.move_to(slots, factor) }
     }
 
     /// Moves the pairs to a new map of so many slots, which takes the place of this one.

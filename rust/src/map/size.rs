@@ -1,11 +1,8 @@
 //! The sizes of a map, and the calls that make it larger.
 use super::IntMap;
 use crate::IntKey;
-#[cfg(feature = "check")]
-use crate::check::{self, List};
-use crate::guard::Mending;
+use crate::guard::guarded;
 use crate::refusal::{Cause, granted};
-use core::mem;
 
 impl<K: IntKey, V> IntMap<K, V> {
     /// Returns the number of pairs. The cost is *O*(1).
@@ -121,14 +118,7 @@ impl<K: IntKey, V> IntMap<K, V> {
     /// assert_eq!(map.capacity(), 2);
     /// ```
     pub fn try_reserve(&mut self, additional: usize) -> Result<(), Cause> {
-        #[cfg(feature = "check")]
-        let before = List::reserving(&self.map, additional);
-        let guard = Mending(&mut self.map);
-        let result = guard.0.reserve(additional);
-        mem::forget(guard);
-        #[cfg(feature = "check")]
-        check::reserve(before, additional, result, &self.map);
-        result
+        guarded(&mut self.map, |map| map.reserve(additional))
     }
 
     /// Returns the load factor: how many pairs there may be for each slot. It is 0.909 at first. The
@@ -246,14 +236,7 @@ impl<K: IntKey, V> IntMap<K, V> {
     /// assert_eq!(map.capacity(), 32);
     /// ```
     pub fn try_set_load_factor_thousandths(&mut self, thousandths: usize) -> Result<(), Cause> {
-        #[cfg(feature = "check")]
-        let before = List::of(&self.map);
-        let guard = Mending(&mut self.map);
-        let result = guard.0.set_load_factor(thousandths);
-        mem::forget(guard);
-        #[cfg(feature = "check")]
-        check::set_load_factor(before, thousandths, result, &self.map);
-        result
+        guarded(&mut self.map, |map| map.set_load_factor(thousandths))
     }
 
     /// Returns the number of slots that have a pair. The cost is *O*(*c*), by 64 slots at a time.
@@ -270,8 +253,6 @@ impl<K: IntKey, V> IntMap<K, V> {
     /// assert_eq!(IntMap::from([(0u64, 'a'), (4, 'b')]).load(), 1);
     /// ```
     pub fn load(&self) -> u64 {
-        #[cfg(feature = "check")]
-        check::load(&self.map, self.map.load());
         self.map.load()
     }
 
@@ -307,8 +288,6 @@ impl<K: IntKey, V> IntMap<K, V> {
     /// assert!(IntMap::from([(21u64, 'a')]).assert_count());
     /// ```
     pub fn assert_count(&self) -> bool {
-        #[cfg(feature = "check")]
-        check::counts(&self.map, self.map.assert_count());
         self.map.assert_count()
     }
 
@@ -354,9 +333,6 @@ impl<K: IntKey, V> IntMap<K, V> {
     /// # Ok::<(), Cause>(())
     /// ```
     pub fn try_collisions(&self) -> Result<IntMap<u64, u64>, Cause> {
-        let map = self.map.collisions()?;
-        #[cfg(feature = "check")]
-        check::collisions(&self.map, &map);
-        Ok(IntMap { map })
+        Ok(IntMap { map: self.map.collisions()? })
     }
 }

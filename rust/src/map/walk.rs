@@ -1,8 +1,6 @@
 //! The calls that make iterators.
 use super::IntMap;
 use crate::IntKey;
-#[cfg(feature = "check")]
-use crate::check;
 use crate::iter::{IntoIter, IntoKeys, IntoValues, Iter, IterMut, Keys, Values, ValuesMut};
 
 impl<K: IntKey, V> IntMap<K, V> {
@@ -24,8 +22,6 @@ impl<K: IntKey, V> IntMap<K, V> {
     /// ```
     #[inline]
     pub fn iter(&self) -> Iter<'_, K, V> {
-        #[cfg(feature = "check")]
-        check::iterators(&self.map);
         Iter { left: self.len(), inner: self.map.iter() }
     }
 
@@ -46,12 +42,7 @@ impl<K: IntKey, V> IntMap<K, V> {
     /// ```
     #[inline]
     pub fn iter_mut(&mut self) -> IterMut<'_, K, V> {
-        let left = self.len();
-        #[cfg(feature = "check")]
-        let inner = check::iter::IterMut::of_map(&mut self.map);
-        #[cfg(not(feature = "check"))]
-        let inner = self.map.iter_mut();
-        IterMut { left, inner }
+        IterMut { left: self.len(), inner: self.map.iter_mut() }
     }
 
     /// Returns an iterator over the keys, in iteration order.
@@ -72,8 +63,6 @@ impl<K: IntKey, V> IntMap<K, V> {
     /// ```
     #[inline]
     pub fn keys(&self) -> Keys<'_, K, V> {
-        #[cfg(feature = "check")]
-        check::iterators(&self.map);
         Keys { left: self.len(), inner: self.map.keys() }
     }
 
@@ -95,8 +84,6 @@ impl<K: IntKey, V> IntMap<K, V> {
     /// ```
     #[inline]
     pub fn values(&self) -> Values<'_, K, V> {
-        #[cfg(feature = "check")]
-        check::iterators(&self.map);
         Values { left: self.len(), inner: self.map.values() }
     }
 
@@ -115,12 +102,7 @@ impl<K: IntKey, V> IntMap<K, V> {
     /// ```
     #[inline]
     pub fn values_mut(&mut self) -> ValuesMut<'_, K, V> {
-        let left = self.len();
-        #[cfg(feature = "check")]
-        let inner = check::iter::ValuesMut::of_map(&mut self.map);
-        #[cfg(not(feature = "check"))]
-        let inner = self.map.values_mut();
-        ValuesMut { left, inner }
+        ValuesMut { left: self.len(), inner: self.map.values_mut() }
     }
 
     /// Returns an iterator over the keys by value, in iteration order. Each value is dropped as its
@@ -142,12 +124,7 @@ impl<K: IntKey, V> IntMap<K, V> {
     /// ```
     #[inline]
     pub fn into_keys(self) -> IntoKeys<K, V> {
-        let left = self.len();
-        #[cfg(feature = "check")]
-        let inner = check::iter::IntoKeys::of_map(self.map);
-        #[cfg(not(feature = "check"))]
-        let inner = self.map.into_keys();
-        IntoKeys { left, inner }
+        IntoKeys { left: self.len(), inner: self.map.into_keys() }
     }
 
     /// Returns an iterator over the values by value, in iteration order.
@@ -222,11 +199,6 @@ impl<K: IntKey, V> IntoIterator for IntMap<K, V> {
 
     #[inline]
     fn into_iter(self) -> IntoIter<K, V> {
-        let left = self.len();
-        #[cfg(feature = "check")]
-        let inner = check::iter::IntoIter::of_map(self.map);
-        #[cfg(not(feature = "check"))]
-        let inner = self.map.into_iter();
-        IntoIter { left, inner }
+        IntoIter { left: self.len(), inner: self.map.into_iter() }
     }
 }

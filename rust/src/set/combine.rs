@@ -1,8 +1,6 @@
 //! Two sets: what they have in common, and what not.
 use super::{Difference, IntSet, Intersection, SymmetricDifference, Union};
 use crate::IntKey;
-#[cfg(feature = "check")]
-use crate::check::{Two, several};
 use crate::room::{FIRST_FACTOR, slots_for};
 use core::ops::{BitAnd, BitOr, BitXor, Sub};
 
@@ -24,10 +22,6 @@ impl<K: IntKey> IntSet<K> {
     /// ```
     pub fn difference<'a>(&'a self, other: &'a IntSet<K>) -> Difference<'a, K> {
         let bounds = (self.len().saturating_sub(other.len()), self.len());
-        #[cfg(feature = "check")]
-        if let Some(two) = Two::of(self.set.map(), other.set.map()) {
-            several::gives("difference", self.set.difference(&other.set), two.difference());
-        }
         Difference { inner: self.set.difference(&other.set), bounds }
     }
 
@@ -49,10 +43,6 @@ impl<K: IntKey> IntSet<K> {
     /// ```
     pub fn intersection<'a>(&'a self, other: &'a IntSet<K>) -> Intersection<'a, K> {
         let bounds = (0, self.len().min(other.len()));
-        #[cfg(feature = "check")]
-        if let Some(two) = Two::of(self.set.map(), other.set.map()) {
-            several::gives("intersection", self.set.intersection(&other.set), two.intersection());
-        }
         Intersection { inner: self.set.intersection(&other.set), bounds }
     }
 
@@ -74,10 +64,6 @@ impl<K: IntKey> IntSet<K> {
     /// ```
     pub fn union<'a>(&'a self, other: &'a IntSet<K>) -> Union<'a, K> {
         let bounds = (self.len().max(other.len()), self.len() + other.len());
-        #[cfg(feature = "check")]
-        if let Some(two) = Two::of(self.set.map(), other.set.map()) {
-            several::gives("union", self.set.union(&other.set), two.union());
-        }
         Union { inner: self.set.union(&other.set), bounds }
     }
 
@@ -98,14 +84,6 @@ impl<K: IntKey> IntSet<K> {
     /// ```
     pub fn symmetric_difference<'a>(&'a self, other: &'a IntSet<K>) -> SymmetricDifference<'a, K> {
         let bounds = (self.len().abs_diff(other.len()), self.len() + other.len());
-        #[cfg(feature = "check")]
-        if let Some(two) = Two::of(self.set.map(), other.set.map()) {
-            several::gives(
-                "symmetric_difference",
-                self.set.symmetric_difference(&other.set),
-                two.symmetric_difference(),
-            );
-        }
         SymmetricDifference { inner: self.set.symmetric_difference(&other.set), bounds }
     }
 
@@ -124,10 +102,6 @@ impl<K: IntKey> IntSet<K> {
     /// assert!(IntSet::from([1u64, 2]).is_subset(&IntSet::from([1, 2, 3])));
     /// ```
     pub fn is_subset(&self, other: &IntSet<K>) -> bool {
-        #[cfg(feature = "check")]
-        if let Some(two) = Two::of(self.set.map(), other.set.map()) {
-            two.is_subset(self.set.is_subset(&other.set));
-        }
         self.set.is_subset(&other.set)
     }
 
@@ -145,10 +119,6 @@ impl<K: IntKey> IntSet<K> {
     /// assert!(IntSet::from([1u64, 2, 3]).is_superset(&IntSet::from([1, 2])));
     /// ```
     pub fn is_superset(&self, other: &IntSet<K>) -> bool {
-        #[cfg(feature = "check")]
-        if let Some(two) = Two::of(other.set.map(), self.set.map()) {
-            two.is_subset(self.set.is_superset(&other.set));
-        }
         self.set.is_superset(&other.set)
     }
 
@@ -167,10 +137,6 @@ impl<K: IntKey> IntSet<K> {
     /// assert!(IntSet::from([1u64, 2]).is_disjoint(&IntSet::from([3])));
     /// ```
     pub fn is_disjoint(&self, other: &IntSet<K>) -> bool {
-        #[cfg(feature = "check")]
-        if let Some(two) = Two::of(self.set.map(), other.set.map()) {
-            two.is_disjoint(self.set.is_disjoint(&other.set));
-        }
         self.set.is_disjoint(&other.set)
     }
 }
@@ -192,12 +158,7 @@ macro_rules! operators {
             fn $call(self, other: &IntSet<K>) -> IntSet<K> {
                 let members = self.$members(other);
                 let room = $room(members.bounds);
-                let made = made_of(members, room);
-                #[cfg(feature = "check")]
-                if let Some(two) = Two::of_all(self.set.map(), other.set.map()) {
-                    several::makes(stringify!($call), two.$members(), made.set.map());
-                }
-                made
+                made_of(members, room)
             }
         }
     )* };

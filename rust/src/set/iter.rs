@@ -1,16 +1,9 @@
 //! The iterators of a set.
 use super::IntSet;
 use crate::IntKey;
-#[cfg(feature = "check")]
-use crate::check::{
-    self, Asked,
-    iter::{DrainOfSet, IntoKeys},
-};
 use crate::iter::copied;
-#[cfg(not(feature = "check"))]
 use crate::proved::map::iter::IntoKeys;
 use crate::proved::map::iter::Keys;
-#[cfg(not(feature = "check"))]
 use crate::proved::set::iter::Drain as DrainOfSet;
 use crate::proved::set::{IntSet as Proved, iter as proved};
 use crate::proved::table::table::Progress;
@@ -35,10 +28,7 @@ macro_rules! iterators {
 
             #[inline]
             fn next(&mut self) -> Option<$item> {
-                let item = self.inner.next();
-                #[cfg(feature = "check")]
-                crate::check::steps(self.left, item.is_some());
-                let item = item?;
+                let item = self.inner.next()?;
                 self.left = self.left.saturating_sub(1);
                 Some(item)
             }
@@ -128,14 +118,7 @@ impl<K: IntKey, F: FnMut(K) -> bool> Iterator for ExtractIf<'_, K, F> {
     #[inline]
     fn next(&mut self) -> Option<K> {
         let ExtractIf { set, at, pick } = self;
-        #[cfg(feature = "check")]
-        let mut asked = Asked::behind(set.map(), at.passed);
-        #[cfg(feature = "check")]
-        let pick = &mut |key: K| !asked.about(key, !pick(key));
-        let member = set.extract_next(at, pick);
-        #[cfg(feature = "check")]
-        asked.stepped(member, set.map());
-        member
+        set.extract_next(at, pick)
     }
 
     #[inline]
@@ -168,8 +151,6 @@ macro_rules! combined {
             #[inline]
             fn next(&mut self) -> Option<&'a K> {
                 let key = self.inner.next();
-                #[cfg(feature = "check")]
-                check::steps_within(self.bounds, key.is_some());
                 let (least, most) = self.bounds;
                 self.bounds = match key {
                     Some(_) => (least.saturating_sub(1), most.saturating_sub(1)),
@@ -272,11 +253,6 @@ impl<K: IntKey> IntoIterator for IntSet<K> {
 
     #[inline]
     fn into_iter(self) -> IntoIter<K> {
-        let left = self.len();
-        #[cfg(feature = "check")]
-        let inner = IntoKeys::of_set(self.set);
-        #[cfg(not(feature = "check"))]
-        let inner = self.set.into_iter();
-        IntoIter { left, inner }
+        IntoIter { left: self.len(), inner: self.set.into_iter() }
     }
 }

@@ -1,7 +1,5 @@
 //! Calls on many members.
-use super::{Cause, Drain, ExtractIf, Global, IntKey, IntSet, Iter, Mending, Proved, mem};
-#[cfg(feature = "check")]
-use crate::check::{self, Asked, Coming, List};
+use super::{Cause, Drain, ExtractIf, Global, IntKey, IntSet, Iter, Proved, guarded};
 use crate::proved::table::table::Progress;
 use crate::refusal::RefusedPair;
 
@@ -21,8 +19,6 @@ impl<K: IntKey> IntSet<K> {
     /// ```
     #[inline]
     pub fn iter(&self) -> Iter<'_, K> {
-        #[cfg(feature = "check")]
-        check::members(self.set.map(), self.set.iter());
         Iter { left: self.len(), inner: self.set.iter() }
     }
 
@@ -45,15 +41,7 @@ impl<K: IntKey> IntSet<K> {
     /// assert_eq!(set.len(), 2);
     /// ```
     pub fn retain<F: FnMut(K) -> bool>(&mut self, keep: F) {
-        #[cfg(feature = "check")]
-        let (mut asked, mut keep) = (Asked::of(self.set.map()), keep);
-        #[cfg(feature = "check")]
-        let keep = |key: K| asked.about(key, keep(key));
-        let guard = Mending(&mut self.set);
-        guard.0.retain(keep);
-        mem::forget(guard);
-        #[cfg(feature = "check")]
-        asked.ended("retain", self.set.map());
+        guarded(&mut self.set, |set| set.retain(keep))
     }
 
     /// Removes all members. The capacity and the memory stay. The cost is *O*(*n* + *c*).
@@ -70,11 +58,7 @@ impl<K: IntKey> IntSet<K> {
     /// assert_eq!((set.len(), set.capacity()), (0, 2));
     /// ```
     pub fn clear(&mut self) {
-        #[cfg(feature = "check")]
-        let before = List::of(self.set.map());
         self.set.clear();
-        #[cfg(feature = "check")]
-        check::clear(before, self.set.map());
     }
 
     /// Returns an iterator that removes one member at each step and returns it, in iteration order.
@@ -94,12 +78,7 @@ impl<K: IntKey> IntSet<K> {
     /// assert_eq!(set.len(), 1);
     /// ```
     pub fn drain(&mut self) -> Drain<'_, K> {
-        let left = self.len();
-        #[cfg(feature = "check")]
-        let inner = check::iter::DrainOfSet::of(&mut self.set);
-        #[cfg(not(feature = "check"))]
-        let inner = self.set.drain();
-        Drain { left, inner }
+        Drain { left: self.len(), inner: self.set.drain() }
     }
 
     /// Returns an iterator that removes the members for which `pick` returns `true`, one at each
@@ -151,16 +130,7 @@ impl<K: IntKey> IntSet<K> {
     where
         I: IntoIterator<Item = K>,
     {
-        #[cfg(feature = "check")]
-        let mut coming = Coming::into(self.set.map());
-        #[cfg(feature = "check")]
-        let keys = coming.watch(keys, |key| *key);
-        let guard = Mending(&mut self.set);
-        let result = guard.0.extend(keys.into_iter());
-        mem::forget(guard);
-        #[cfg(feature = "check")]
-        coming.joined(&result, self.set.map());
-        result
+        guarded(&mut self.set, |set| set.extend(keys.into_iter()))
     }
 
     /// The same as [`from_iter`](FromIterator::from_iter), but it returns a failure.
@@ -183,14 +153,7 @@ impl<K: IntKey> IntSet<K> {
     /// # Ok::<(), Cause>(())
     /// ```
     pub fn try_from_iter<I: IntoIterator<Item = K>>(keys: I) -> Result<IntSet<K>, Cause> {
-        #[cfg(feature = "check")]
-        let (mut coming, keys) = Coming::into_new(keys.into_iter());
-        #[cfg(feature = "check")]
-        let keys = coming.watch(keys, |key| *key);
-        let set = Proved::from_iter(Global, keys.into_iter())?;
-        #[cfg(feature = "check")]
-        coming.joined(&Ok(()), set.map());
-        Ok(IntSet { set })
+        Ok(IntSet { set: Proved::from_iter(Global, keys.into_iter())? })
     }
 
     /// The same as [`clone`](Clone::clone), but it returns a failure.
@@ -213,9 +176,6 @@ impl<K: IntKey> IntSet<K> {
     /// # Ok::<(), Cause>(())
     /// ```
     pub fn try_clone(&self) -> Result<IntSet<K>, Cause> {
-        let set = self.set.clone()?;
-        #[cfg(feature = "check")]
-        check::copied("clone", self.set.map(), set.map());
-        Ok(IntSet { set })
+        Ok(IntSet { set: self.set.clone()? })
     }
 }

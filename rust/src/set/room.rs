@@ -1,8 +1,6 @@
 //! The capacity, room for a number of members, and memory that is given back.
-use super::{IntSet, Mending, mem};
+use super::{IntSet, guarded};
 use crate::IntKey;
-#[cfg(feature = "check")]
-use crate::check::{self, List};
 use crate::refusal::{Cause, granted};
 use crate::room::{FIRST_FACTOR, LEAST_SLOTS, slots_for};
 
@@ -68,10 +66,7 @@ impl<K: IntKey> IntSet<K> {
     /// # Ok::<(), Cause>(())
     /// ```
     pub fn try_with_room_for(members: usize) -> Result<IntSet<K>, Cause> {
-        let made = IntSet::try_with_capacity(slots_for(members, FIRST_FACTOR));
-        #[cfg(feature = "check")]
-        check::with_room_for(members, made.as_ref().map(|it: &IntSet<K>| it.set.map()));
-        made
+        IntSet::try_with_capacity(slots_for(members, FIRST_FACTOR))
     }
 
     /// Makes the capacity at least the number of members plus `additional`, as
@@ -120,14 +115,7 @@ impl<K: IntKey> IntSet<K> {
     /// assert_eq!(set.try_reserve(usize::MAX), Err(Cause::TooLarge));
     /// ```
     pub fn try_reserve(&mut self, additional: usize) -> Result<(), Cause> {
-        #[cfg(feature = "check")]
-        let before = List::reserving(self.set.map(), additional);
-        let guard = Mending(&mut self.set);
-        let result = guard.0.reserve(additional);
-        mem::forget(guard);
-        #[cfg(feature = "check")]
-        check::reserve(before, additional, result, self.set.map());
-        result
+        guarded(&mut self.set, |set| set.reserve(additional))
     }
 
     /// Makes room for `additional` members more, as
@@ -177,16 +165,11 @@ impl<K: IntKey> IntSet<K> {
     /// assert_eq!(set.try_reserve_members(usize::MAX), Err(Cause::TooLarge));
     /// ```
     pub fn try_reserve_members(&mut self, additional: usize) -> Result<(), Cause> {
-        #[cfg(feature = "check")]
-        let before = List::reserving_pairs(self.set.map(), additional);
         let slots = self.len().checked_add(additional).map(|it| slots_for(it, FIRST_FACTOR));
-        let result = match slots {
+        match slots {
             Some(slots) => self.try_reserve(slots.saturating_sub(self.len())),
             None => Err(Cause::TooLarge),
-        };
-        #[cfg(feature = "check")]
-        check::reserve_pairs(before, additional, result, self.set.map());
-        result
+        }
     }
 
     /// Makes the capacity the least power of two in which the members meet the load factor, or
@@ -275,14 +258,9 @@ impl<K: IntKey> IntSet<K> {
     /// assert_eq!((set.try_shrink_to(20), set.capacity()), (Ok(()), 32));
     /// ```
     pub fn try_shrink_to(&mut self, min_capacity: usize) -> Result<(), Cause> {
-        #[cfg(feature = "check")]
-        let before = List::of(self.set.map());
         let slots = slots_for(self.len(), FIRST_FACTOR).max(min_capacity).max(LEAST_SLOTS);
         let is_least = slots > self.capacity() / 2;
-        let result = if is_least { Ok(()) } else { self.copy_to(IntSet::try_with_capacity(slots)) };
-        #[cfg(feature = "check")]
-        check::shrink_to(before, min_capacity, result, self.set.map());
-        result
+        if is_least { Ok(()) } else { self.copy_to(IntSet::try_with_capacity(slots)) }
     }
 
     /// Copies the members to a new set, which takes the place of this one.

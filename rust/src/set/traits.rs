@@ -1,8 +1,6 @@
 //! What a set is to other code: defaults, clones, equality, text, and collecting.
 use super::IntSet;
 use crate::IntKey;
-#[cfg(feature = "check")]
-use crate::check;
 use crate::refusal::granted;
 use core::fmt::{self, Debug, Formatter};
 
@@ -37,8 +35,6 @@ impl<K: IntKey> Clone for IntSet<K> {
         }
         self.clear();
         self.extend(source);
-        #[cfg(feature = "check")]
-        check::copied("clone_from", source.set.map(), self.set.map());
     }
 }
 
@@ -51,8 +47,6 @@ impl<K: IntKey> Clone for IntSet<K> {
 /// ```
 impl<K: IntKey> PartialEq for IntSet<K> {
     fn eq(&self, other: &IntSet<K>) -> bool {
-        #[cfg(feature = "check")]
-        check::several::equal(self.set.map(), other.set.map(), self.set == other.set);
         self.set == other.set
     }
 }
