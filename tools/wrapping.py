@@ -10,8 +10,8 @@ import re
 PAGE = "README.md"
 # the lines of tests, which begin with the name of a call
 TESTS = "tests/calls/table.rs"
-# what isn't the public layer: the proved text, what it stands on, and the same calls by the names of the original
-BELOW = ("proved", "memory", "guard.rs", "original")
+# what isn't the public layer: the proved text, and what it stands on
+BELOW = ("proved", "memory", "guard.rs")
 
 # Public calls of the proved map and set that no public call of the crate makes, and why.
 LEFT = {

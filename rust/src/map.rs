@@ -311,8 +311,7 @@ impl<K: IntKey, V> IntMap<K, V> {
     /// ```
     #[inline]
     pub fn remove(&mut self, key: K) -> Option<V> {
-        let value = self.map.remove(key);
-        value
+        self.map.remove(key)
     }
 
     /// The same as [`remove`](IntMap::remove), but it returns the key beside its value.
@@ -332,7 +331,6 @@ impl<K: IntKey, V> IntMap<K, V> {
     /// ```
     #[inline]
     pub fn remove_entry(&mut self, key: K) -> Option<(K, V)> {
-        let pair = self.map.remove_entry(key);
-        pair
+        self.map.remove_entry(key)
     }
 }

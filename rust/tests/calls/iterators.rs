@@ -1,5 +1,5 @@
 //! What iterators say of themselves, and how they end.
-use intmap_proved::{IntMap, IntSet, original};
+use intmap_proved::{IntMap, IntSet};
 use std::iter::FusedIterator;
 
 fn three() -> IntMap<u64, char> {
@@ -46,29 +46,6 @@ fn a_map_that_is_collected_again_has_slots_for_the_length_that_was_said() {
     assert_eq!(again(large.clone().into_iter().collect()), 16, "9 were said");
     assert_eq!(again(large.clone().drain().collect()), 16, "9 were said");
     assert_eq!(again(large.clone().into_iter().filter(|_| true).collect()), 8, "none was said");
-}
-
-#[test]
-fn a_map_of_the_original_that_is_collected_again_grows_as_its_pairs_come() {
-    let mut large = original::IntMap::with_capacity(1000);
-    large.extend((0..9).map(|key| (key, key)));
-    let again = |map: original::IntMap<u64>| (map.len(), map.capacity());
-    assert_eq!(again(large.clone().into_iter().collect()), (9, 8), "by value");
-    assert_eq!(again(large.iter().map(|(key, value)| (*key, *value)).collect()), (9, 8), "iter");
-    assert_eq!(again(large.iter_mut().map(|(key, value)| (*key, *value)).collect()), (9, 8));
-    let mut rest = large.clone().into_iter();
-    assert!(rest.next().is_some());
-    assert_eq!(again(rest.collect()), (8, 8), "behind the first pair");
-    assert_eq!(again(large.drain().collect()), (9, 8), "drain");
-}
-
-#[test]
-fn a_map_of_the_original_becomes_another_one_and_back() {
-    let map = original::IntMap::from([(4, 'a'), (8, 'b')]);
-    let inner: &IntMap<u64, char> = &map;
-    assert_eq!(inner.iter().len(), 2);
-    let map = original::IntMap::from(IntMap::from(map));
-    assert_eq!((map[4], map.get(8), map.get(9)), ('a', Some(&'b'), None));
 }
 
 #[test]
