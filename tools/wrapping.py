@@ -73,7 +73,7 @@ PASSES_ON = r"(?:granted\()?(?:self\.|Int(?:Map|Set)::)(\w+)\([\w, ]*\)\)?;?"
 # the types and the calls whose loans of values are written by hand below `proved`
 LENT = {"IterMut", "ValuesMut", "iter_mut", "values_mut", "get_disjoint_mut"}
 # The public calls of sets whose part below `proved` is written by hand, over one proved call of the map.
-OVER_MAP = {"`IntSet`": ["get"], "`set::ExtractIf`": ["next"]}
+OVER_MAP = {"`IntSet`": ["get", "load", "load_factor_thousandths", "try_set_load_factor_thousandths"], "`set::ExtractIf`": ["next"]}
 # Calls in a body that are proved, or public calls of the crate. Lengths are beside the point, and what mends.
 CALLS = r"(self\.(?:map|set|0|inner)|self|Proved|Int(?:Map|Set))(?:\.|::)(\w+)\("
 BESIDE = {"len", "capacity", "proved", "parted"}
@@ -96,6 +96,10 @@ def layer(folder):
         if not name.startswith(BELOW):
             lines = GUARDED.sub(r"\1.\3", text_of(path)).split("\n")
             found[name] = "\n".join(it for it in lines if not it.lstrip().startswith("//"))
+    macros = {it[1]: it[0] for text in found.values() for it in re.finditer(r"^macro_rules! (\w+) \{\n(?:.*\n)*?\}\n", text, re.M)}
+    for name, text in found.items():
+        elsewhere = [it for it in macros if re.search(rf"^{it}!", text, re.M) and macros[it] not in text]
+        found[name] = "".join(macros[it] for it in elsewhere) + text
     return found
 
 
@@ -141,6 +145,7 @@ def public_calls(text):
                     returned = re.sub(rf"{{ {named[1]} }}", f"{{ {named[1]}: {named[1]} }}", named[3])
                     returned = re.sub(rf"\b{named[1]}\b(?!:)", lambda _: named[2], returned)
                     code = code[: named.start()] + returned
+                code = code.replace("Self::", f"{of}::")
                 yield re.sub(r"\$\w+", name, of), re.sub(r"\$\w+", name, trait), call[2], code
 
 

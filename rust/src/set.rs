@@ -48,16 +48,8 @@ pub struct IntSet<K: IntKey> {
 }
 
 impl<K: IntKey> IntSet<K> {
-    /// Returns an empty set of 4 slots, with a load factor of 0.909.
-    ///
-    /// Unlike std's, it allocates. A failed allocation is handled as std does;
-    /// [`try_new`](IntSet::try_new) returns it. The cost is *O*(1).
-    ///
-    /// # Proved
-    ///
-    /// The contract of [`try_new`](IntSet::try_new).
-    ///
-    /// # Examples
+    /// Returns an empty set of 4 slots, with a load factor of 0.909. Unlike std's, it allocates. The
+    /// cost is *O*(1). Where [`try_new`](Self::try_new) fails, it ends the process.
     ///
     /// ```
     /// let set = intmap_proved::IntSet::<u64>::new();
@@ -65,96 +57,44 @@ impl<K: IntKey> IntSet<K> {
     /// ```
     #[must_use]
     pub fn new() -> IntSet<K> {
-        granted(IntSet::try_new())
+        granted(Self::try_new())
     }
 
-    /// The same as [`new`](IntSet::new), but it returns a failure.
+    /// The same as [`new`](Self::new), or [`Cause::Memory`] if an allocation fails.
     ///
-    /// # Errors
-    ///
-    /// [`Cause::Memory`] if an allocation fails.
-    ///
-    /// # Proved
-    ///
-    /// The proved `IntSet::new` has the clauses `state` and `memory`.
-    ///
-    /// # Examples
-    ///
-    /// ```
-    /// use intmap_proved::{Cause, IntSet};
-    ///
-    /// assert!(IntSet::<u64>::try_new()?.is_empty());
-    /// # Ok::<(), Cause>(())
-    /// ```
+    /// Proved of `IntSet::new`: `state`, `memory`.
     pub fn try_new() -> Result<IntSet<K>, Cause> {
         Ok(IntSet { set: Proved::new(Global)? })
     }
 
     /// Returns an empty set, with a load factor of 0.909. Its capacity is the least power of two
-    /// that is at least `capacity`, and at least 2.
+    /// that is at least `capacity`, and at least 2. The cost is *O*(*c*): all slots are written at
+    /// once, each with 40 bytes for `u64` keys.
     ///
-    /// The load factor isn't considered, so the insertion of `capacity` keys may still double the
-    /// slots; [`with_room_for`](IntSet::with_room_for) considers it.
-    ///
-    /// A failed allocation is handled as std does; [`try_with_capacity`](IntSet::try_with_capacity)
-    /// returns it. The cost is *O*(*c*).
-    ///
-    /// # Panics
-    ///
-    /// If `capacity` is above 2^63.
-    ///
-    /// # Proved
-    ///
-    /// The contract of [`try_with_capacity`](IntSet::try_with_capacity).
-    ///
-    /// # Examples
+    /// `capacity` counts slots, not members, so the insertion of `capacity` keys may double them;
+    /// [`with_room_for`](Self::with_room_for) counts members. Where
+    /// [`try_with_capacity`](Self::try_with_capacity) fails, it panics or ends the process.
     ///
     /// ```
     /// assert_eq!(intmap_proved::IntSet::<u64>::with_capacity(20).capacity(), 32);
     /// ```
     #[must_use]
     pub fn with_capacity(capacity: usize) -> IntSet<K> {
-        granted(IntSet::try_with_capacity(capacity))
+        granted(Self::try_with_capacity(capacity))
     }
 
-    /// The same as [`with_capacity`](IntSet::with_capacity), but it returns a failure.
+    /// The same as [`with_capacity`](Self::with_capacity), or [`Cause::TooLarge`] if `capacity` is
+    /// above 2^63, and otherwise [`Cause::Memory`] if an allocation fails.
     ///
-    /// # Errors
-    ///
-    /// [`Cause::TooLarge`] if `capacity` is above 2^63, and otherwise [`Cause::Memory`] if an
-    /// allocation fails.
-    ///
-    /// # Proved
-    ///
-    /// The proved `IntSet::with_capacity` has the clauses `state`, `capacity` and `too_large`.
-    ///
-    /// # Examples
-    ///
-    /// ```
-    /// use intmap_proved::{Cause, IntSet};
-    ///
-    /// assert_eq!(IntSet::<u64>::try_with_capacity(usize::MAX).err(), Some(Cause::TooLarge));
-    /// ```
+    /// Proved of `IntSet::with_capacity`: `state`, `capacity`, `too_large`.
     pub fn try_with_capacity(capacity: usize) -> Result<IntSet<K>, Cause> {
         Ok(IntSet { set: Proved::with_capacity(Global, capacity)? })
     }
 
     /// Makes the key a member, and returns whether it is new. A new member is the last one of its
-    /// slot. The capacity changes as by [`IntMap::insert`](crate::IntMap::insert), and the other
-    /// members of a slot keep their order.
-    ///
-    /// A failed allocation is handled as std does; [`try_insert`](IntSet::try_insert) returns it.
-    /// The cost is that of [`IntMap::insert`](crate::IntMap::insert).
-    ///
-    /// # Panics
-    ///
-    /// If the set needs more than 2^63 slots.
-    ///
-    /// # Proved
-    ///
-    /// The contract of [`try_insert`](IntSet::try_insert).
-    ///
-    /// # Examples
+    /// slot. Cost and capacity are those of [`IntMap::insert`](crate::IntMap::insert), and the other
+    /// members of a slot keep their order. Where [`try_insert`](Self::try_insert) fails, it panics
+    /// or ends the process.
     ///
     /// ```
     /// let mut set = intmap_proved::IntSet::new();
@@ -166,27 +106,12 @@ impl<K: IntKey> IntSet<K> {
         granted(self.try_insert(key))
     }
 
-    /// The same as [`insert`](IntSet::insert), but it returns a failure.
+    /// The same as [`insert`](Self::insert), or [`Cause::TooLarge`] if the set needs more than 2^63
+    /// slots or 2^64 members, [`Cause::Memory`] if an allocation fails. The set then stays as it
+    /// was. It never fails if the key is a member, nor if no member shares its slot and the capacity
+    /// stays.
     ///
-    /// # Errors
-    ///
-    /// [`Cause::TooLarge`] if the set needs more than 2^63 slots or 2^64 members,
-    /// [`Cause::Memory`] if an allocation fails. The set stays as it was. It never fails if the key
-    /// is a member, nor if no member shares its slot and the capacity stays.
-    ///
-    /// # Proved
-    ///
-    /// The proved `IntSet::insert` has the clauses `new`, `inserted`, `state`, `err`, `refused` and
-    /// `lone`.
-    ///
-    /// # Examples
-    ///
-    /// ```
-    /// use intmap_proved::{Cause, IntSet};
-    ///
-    /// assert!(IntSet::new().try_insert(21u64)?);
-    /// # Ok::<(), Cause>(())
-    /// ```
+    /// Proved of `IntSet::insert`: `new`, `inserted`, `state`, `err`, `refused`, `lone`.
     #[inline]
     pub fn try_insert(&mut self, key: K) -> Result<bool, Cause> {
         guarded(&mut self.set, |set| set.insert(key))
@@ -194,11 +119,7 @@ impl<K: IntKey> IntSet<K> {
 
     /// Returns whether the key is a member. The cost is *O*(*s*).
     ///
-    /// # Proved
-    ///
-    /// The proved `IntSet::contains` has the clause `value`.
-    ///
-    /// # Examples
+    /// Proved of `IntSet::contains`: `value`.
     ///
     /// ```
     /// let set = intmap_proved::IntSet::from([21u64]);
@@ -212,12 +133,8 @@ impl<K: IntKey> IntSet<K> {
     /// Returns a reference to the member that is equal to the key, or `None` if there is none. The
     /// cost is *O*(*s*).
     ///
-    /// # Proved
-    ///
-    /// In part: it is [`IntMap::get_key_value`](crate::IntMap::get_key_value), on the map from each
-    /// member to `()`.
-    ///
-    /// # Examples
+    /// Proved in part: it is [`IntMap::get_key_value`](crate::IntMap::get_key_value), on the map
+    /// from each member to `()`.
     ///
     /// ```
     /// let set = intmap_proved::IntSet::from([21u64]);
@@ -229,20 +146,8 @@ impl<K: IntKey> IntSet<K> {
     }
 
     /// Makes the key a member in place of the member that is equal to it, which it returns. It is
-    /// then the last one of its slot.
-    ///
-    /// A failed allocation is handled as std does; [`try_replace`](IntSet::try_replace) returns it.
-    /// The cost is that of [`insert`](IntSet::insert).
-    ///
-    /// # Panics
-    ///
-    /// If the set needs more than 2^63 slots.
-    ///
-    /// # Proved
-    ///
-    /// In part, as [`try_replace`](IntSet::try_replace).
-    ///
-    /// # Examples
+    /// then the last one of its slot. The cost is that of [`insert`](Self::insert). Where
+    /// [`try_replace`](Self::try_replace) fails, it panics or ends the process.
     ///
     /// ```
     /// let mut set = intmap_proved::IntSet::from([21u64]);
@@ -253,42 +158,24 @@ impl<K: IntKey> IntSet<K> {
         granted(self.try_replace(key))
     }
 
-    /// The same as [`replace`](IntSet::replace), but it returns a failure.
+    /// The same as [`replace`](Self::replace), with the failures of [`try_insert`](Self::try_insert).
     ///
-    /// # Errors
-    ///
-    /// As for [`try_insert`](IntSet::try_insert).
-    ///
-    /// # Proved
-    ///
-    /// In part: a member is found by [`get`](IntSet::get), removed by [`remove`](IntSet::remove),
-    /// and the key inserted by [`try_insert`](IntSet::try_insert). Their order is by hand.
-    ///
-    /// # Examples
-    ///
-    /// ```
-    /// use intmap_proved::{Cause, IntSet};
-    ///
-    /// assert_eq!(IntSet::new().try_replace(21u64)?, None);
-    /// # Ok::<(), Cause>(())
-    /// ```
+    /// Proved in part: a member is found by [`get`](IntSet::get), removed by
+    /// [`remove`](IntSet::remove), and the key inserted by [`try_insert`](IntSet::try_insert).
+    /// Their order is by hand.
     pub fn try_replace(&mut self, key: K) -> Result<Option<K>, Cause> {
         let replaced = self.get(key).copied();
         if replaced.is_some() {
             self.remove(key);
         }
-        let inserted = self.try_insert(key);
-        inserted.map(|_| replaced)
+        self.try_insert(key)?;
+        Ok(replaced)
     }
 
     /// Removes the key, and returns whether it was a member. The last member of its slot takes its
     /// place. The others keep their order, and the capacity stays. The cost is *O*(*s*).
     ///
-    /// # Proved
-    ///
-    /// The proved `IntSet::remove` has the clauses `value`, `state`, `absent`, `updates` and `len`.
-    ///
-    /// # Examples
+    /// Proved of `IntSet::remove`: `value`, `state`, `absent`, `updates`, `len`.
     ///
     /// ```
     /// let mut set = intmap_proved::IntSet::from([21u64]);
@@ -300,13 +187,7 @@ impl<K: IntKey> IntSet<K> {
         self.set.remove(key)
     }
 
-    /// The same as [`remove`](IntSet::remove), but it returns the key if it was a member.
-    ///
-    /// # Proved
-    ///
-    /// The contract of [`remove`](IntSet::remove).
-    ///
-    /// # Examples
+    /// The same as [`remove`](Self::remove), but it returns the key if it was a member.
     ///
     /// ```
     /// let mut set = intmap_proved::IntSet::from([21u64]);
@@ -319,11 +200,7 @@ impl<K: IntKey> IntSet<K> {
 
     /// Returns the number of members. The cost is *O*(1).
     ///
-    /// # Proved
-    ///
-    /// The proved `IntSet::len` has the clause `value`.
-    ///
-    /// # Examples
+    /// Proved of `IntSet::len`: `value`.
     ///
     /// ```
     /// assert_eq!(intmap_proved::IntSet::from([21u64, 21]).len(), 1);
@@ -335,11 +212,7 @@ impl<K: IntKey> IntSet<K> {
 
     /// Returns whether there is no member. The cost is *O*(1).
     ///
-    /// # Proved
-    ///
-    /// The proved `IntSet::is_empty` has the clause `value`.
-    ///
-    /// # Examples
+    /// Proved of `IntSet::is_empty`: `value`.
     ///
     /// ```
     /// assert!(intmap_proved::IntSet::<u64>::new().is_empty());

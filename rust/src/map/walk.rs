@@ -4,20 +4,13 @@ use crate::IntKey;
 use crate::iter::{IntoIter, IntoKeys, IntoValues, Iter, IterMut, Keys, Values, ValuesMut};
 
 impl<K: IntKey, V> IntMap<K, V> {
-    /// Returns an iterator over the pairs, in iteration order.
+    /// Returns an iterator over the pairs, in iteration order. It doesn't allocate. All steps
+    /// together cost *O*(*n* + *c*).
     ///
-    /// It doesn't allocate. All steps together cost *O*(*n* + *c*).
-    ///
-    /// # Proved
-    ///
-    /// The proved `IntMap::iter` has the clauses `walk` and `runs`.
-    ///
-    /// # Examples
+    /// Proved of `IntMap::iter`: `walk`, `runs`.
     ///
     /// ```
-    /// use intmap_proved::IntMap;
-    ///
-    /// let map = IntMap::from([(0u64, 'a'), (1, 'b')]);
+    /// let map = intmap_proved::IntMap::from([(0u64, 'a'), (1, 'b')]);
     /// assert_eq!(map.iter().collect::<Vec<_>>(), [(&0, &'a'), (&1, &'b')]);
     /// ```
     #[inline]
@@ -26,15 +19,10 @@ impl<K: IntKey, V> IntMap<K, V> {
     }
 
     /// Returns an iterator over the pairs, in iteration order, by which the values can be changed.
-    ///
-    /// The cost is that of [`iter`](IntMap::iter).
-    ///
-    /// # Examples
+    /// The cost is that of [`iter`](Self::iter).
     ///
     /// ```
-    /// use intmap_proved::IntMap;
-    ///
-    /// let mut map = IntMap::from([(0u64, 1), (1, 2)]);
+    /// let mut map = intmap_proved::IntMap::from([(0u64, 1), (1, 2)]);
     /// for (key, value) in map.iter_mut() {
     ///     *value += *key;
     /// }
@@ -45,20 +33,13 @@ impl<K: IntKey, V> IntMap<K, V> {
         IterMut { left: self.len(), inner: self.map.iter_mut() }
     }
 
-    /// Returns an iterator over the keys, in iteration order.
+    /// Returns an iterator over the keys, in iteration order. The cost is that of
+    /// [`iter`](Self::iter).
     ///
-    /// The cost is that of [`iter`](IntMap::iter).
-    ///
-    /// # Proved
-    ///
-    /// The proved `IntMap::keys` has the clauses `walk`, `len` and `runs`.
-    ///
-    /// # Examples
+    /// Proved of `IntMap::keys`: `walk`, `len`, `runs`.
     ///
     /// ```
-    /// use intmap_proved::IntMap;
-    ///
-    /// let map = IntMap::from([(0u64, 'a'), (1, 'b')]);
+    /// let map = intmap_proved::IntMap::from([(0u64, 'a'), (1, 'b')]);
     /// assert_eq!(map.keys().sum::<u64>(), 1);
     /// ```
     #[inline]
@@ -66,20 +47,13 @@ impl<K: IntKey, V> IntMap<K, V> {
         Keys { left: self.len(), inner: self.map.keys() }
     }
 
-    /// Returns an iterator over the values, in iteration order.
+    /// Returns an iterator over the values, in iteration order. The cost is that of
+    /// [`iter`](Self::iter).
     ///
-    /// The cost is that of [`iter`](IntMap::iter).
-    ///
-    /// # Proved
-    ///
-    /// The proved `IntMap::values` has the clauses `walk`, `len` and `runs`.
-    ///
-    /// # Examples
+    /// Proved of `IntMap::values`: `walk`, `len`, `runs`.
     ///
     /// ```
-    /// use intmap_proved::IntMap;
-    ///
-    /// let map = IntMap::from([(0u64, 'a'), (1, 'b')]);
+    /// let map = intmap_proved::IntMap::from([(0u64, 'a'), (1, 'b')]);
     /// assert_eq!(map.values().collect::<String>(), "ab");
     /// ```
     #[inline]
@@ -87,16 +61,11 @@ impl<K: IntKey, V> IntMap<K, V> {
         Values { left: self.len(), inner: self.map.values() }
     }
 
-    /// Returns an iterator over the values, in iteration order, by which they can be changed.
-    ///
-    /// The cost is that of [`iter`](IntMap::iter).
-    ///
-    /// # Examples
+    /// Returns an iterator over the values, in iteration order, by which they can be changed. The
+    /// cost is that of [`iter`](Self::iter).
     ///
     /// ```
-    /// use intmap_proved::IntMap;
-    ///
-    /// let mut map = IntMap::from([(0u64, 1), (1, 2)]);
+    /// let mut map = intmap_proved::IntMap::from([(0u64, 1), (1, 2)]);
     /// map.values_mut().for_each(|value| *value += 1);
     /// assert_eq!((map[0], map[1]), (2, 3));
     /// ```
@@ -106,20 +75,13 @@ impl<K: IntKey, V> IntMap<K, V> {
     }
 
     /// Returns an iterator over the keys by value, in iteration order. Each value is dropped as its
-    /// key is returned, and the rest as the iterator is dropped.
+    /// key is returned, and the rest as the iterator is dropped. The cost is that of
+    /// [`iter`](Self::iter).
     ///
-    /// The cost is that of [`iter`](IntMap::iter).
-    ///
-    /// # Proved
-    ///
-    /// The proved `IntMap::into_keys` has the clauses `walk`, `len` and `runs`.
-    ///
-    /// # Examples
+    /// Proved of `IntMap::into_keys`: `walk`, `len`, `runs`.
     ///
     /// ```
-    /// use intmap_proved::IntMap;
-    ///
-    /// let map = IntMap::from([(0u64, 'a'), (1, 'b')]);
+    /// let map = intmap_proved::IntMap::from([(0u64, 'a'), (1, 'b')]);
     /// assert_eq!(map.into_keys().collect::<Vec<_>>(), [0, 1]);
     /// ```
     #[inline]
@@ -127,20 +89,13 @@ impl<K: IntKey, V> IntMap<K, V> {
         IntoKeys { left: self.len(), inner: self.map.into_keys() }
     }
 
-    /// Returns an iterator over the values by value, in iteration order.
+    /// Returns an iterator over the values by value, in iteration order. The cost is that of
+    /// [`iter`](Self::iter).
     ///
-    /// The cost is that of [`iter`](IntMap::iter).
-    ///
-    /// # Proved
-    ///
-    /// The proved `IntMap::into_values` has the clauses `walk`, `len` and `runs`.
-    ///
-    /// # Examples
+    /// Proved of `IntMap::into_values`: `walk`, `len`, `runs`.
     ///
     /// ```
-    /// use intmap_proved::IntMap;
-    ///
-    /// let map = IntMap::from([(0u64, 'a'), (1, 'b')]);
+    /// let map = intmap_proved::IntMap::from([(0u64, 'a'), (1, 'b')]);
     /// assert_eq!(map.into_values().collect::<String>(), "ab");
     /// ```
     #[inline]

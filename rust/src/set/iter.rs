@@ -1,51 +1,15 @@
 //! The iterators of a set.
 use super::IntSet;
 use crate::IntKey;
-use crate::iter::copied;
-use crate::proved::map::iter::IntoKeys;
-use crate::proved::map::iter::Keys;
-use crate::proved::set::iter::Drain as DrainOfSet;
+use crate::iter::{copied, counted, empty, owned};
+use crate::proved::map::iter::{IntoKeys, Keys};
+use crate::proved::set::iter::Drain as Drained;
 use crate::proved::set::{IntSet as Proved, iter as proved};
 use crate::proved::table::table::Progress;
 use core::fmt::{self, Debug, Formatter};
 use core::iter::FusedIterator;
 
-/// Writes an iterator that counts the members that are left.
-macro_rules! iterators {
-    ($(
-        $(#[$doc:meta])*
-        $name:ident [$($generics:tt)*] [$($args:tt)*] $inner:ty => $item:ty;
-    )*) => { $(
-        $(#[$doc])*
-        #[must_use = "iterators are lazy and do nothing unless consumed"]
-        pub struct $name<$($generics)*> {
-            pub(super) inner: $inner,
-            pub(super) left: usize,
-        }
-
-        impl<$($generics)*> Iterator for $name<$($args)*> {
-            type Item = $item;
-
-            #[inline]
-            fn next(&mut self) -> Option<$item> {
-                let item = self.inner.next()?;
-                self.left = self.left.saturating_sub(1);
-                Some(item)
-            }
-
-            #[inline]
-            fn size_hint(&self) -> (usize, Option<usize>) {
-                (self.left, Some(self.left))
-            }
-        }
-
-        impl<$($generics)*> ExactSizeIterator for $name<$($args)*> {}
-
-        impl<$($generics)*> FusedIterator for $name<$($args)*> {}
-    )* };
-}
-
-iterators! {
+counted! {
     /// The members of a set, made by [`IntSet::iter`].
     ///
     /// ```
@@ -62,7 +26,7 @@ iterators! {
     /// assert_eq!(set.drain().take(1).count(), 1);
     /// assert_eq!(set.len(), 1);
     /// ```
-    Drain ['a, K: IntKey] ['a, K] DrainOfSet<'a, K> => K;
+    Drain ['a, K: IntKey] ['a, K] Drained<'a, K> => K;
 
     /// The members of a set by value, made by [`IntSet::into_iter`](IntoIterator::into_iter).
     ///
@@ -73,6 +37,9 @@ iterators! {
     IntoIter [K: IntKey] [K] IntoKeys<K, ()> => K;
 }
 
+owned!(Drain ['a, K: IntKey] ['a, K] IntoIter [K: IntKey] [K]);
+empty!(Iter ['a, K: IntKey] ['a, K] IntoIter [K: IntKey] [K]);
+
 impl<K: IntKey> Clone for Iter<'_, K> {
     #[inline]
     fn clone(&self) -> Self {
@@ -82,19 +49,7 @@ impl<K: IntKey> Clone for Iter<'_, K> {
 
 impl<K: IntKey + Debug> Debug for Iter<'_, K> {
     fn fmt(&self, f: &mut Formatter<'_>) -> fmt::Result {
-        f.debug_list().entries(self.clone()).finish()
-    }
-}
-
-impl<K: IntKey> Debug for Drain<'_, K> {
-    fn fmt(&self, f: &mut Formatter<'_>) -> fmt::Result {
-        f.debug_struct("Drain").field("left", &self.left).finish()
-    }
-}
-
-impl<K: IntKey> Debug for IntoIter<K> {
-    fn fmt(&self, f: &mut Formatter<'_>) -> fmt::Result {
-        f.debug_struct("IntoIter").field("left", &self.left).finish()
+        Debug::fmt(&self.inner, f)
     }
 }
 
@@ -185,8 +140,7 @@ combined! {
     /// The members of one set that are absent from another, made by [`IntSet::difference`].
     ///
     /// ```
-    /// use intmap_proved::IntSet;
-    ///
+    /// # use intmap_proved::IntSet;
     /// let (first, second) = (IntSet::from([1u64, 2, 3]), IntSet::from([2, 3, 4]));
     /// assert_eq!(format!("{:?}", first.difference(&second)), "[1]");
     /// ```
@@ -195,8 +149,7 @@ combined! {
     /// The members that two sets have, made by [`IntSet::intersection`].
     ///
     /// ```
-    /// use intmap_proved::IntSet;
-    ///
+    /// # use intmap_proved::IntSet;
     /// let (first, second) = (IntSet::from([1u64, 2, 3]), IntSet::from([2, 3, 4]));
     /// assert_eq!(format!("{:?}", first.intersection(&second)), "[2, 3]");
     /// ```
@@ -205,8 +158,7 @@ combined! {
     /// The members of either set, made by [`IntSet::union`].
     ///
     /// ```
-    /// use intmap_proved::IntSet;
-    ///
+    /// # use intmap_proved::IntSet;
     /// let (first, second) = (IntSet::from([1u64, 2, 3]), IntSet::from([2, 3, 4]));
     /// assert_eq!(format!("{:?}", first.union(&second)), "[1, 2, 3, 4]");
     /// ```
@@ -215,8 +167,7 @@ combined! {
     /// The members that exactly one of two sets has, made by [`IntSet::symmetric_difference`].
     ///
     /// ```
-    /// use intmap_proved::IntSet;
-    ///
+    /// # use intmap_proved::IntSet;
     /// let (first, second) = (IntSet::from([1u64, 2, 3]), IntSet::from([2, 3, 4]));
     /// assert_eq!(format!("{:?}", first.symmetric_difference(&second)), "[1, 4]");
     /// ```

@@ -7,11 +7,7 @@ impl<K: IntKey> IntSet<K> {
     /// Returns an iterator over the members, in iteration order. It doesn't allocate. All steps
     /// together cost *O*(*n* + *c*).
     ///
-    /// # Proved
-    ///
-    /// The proved `IntSet::iter` has the clauses `walk` and `runs`.
-    ///
-    /// # Examples
+    /// Proved of `IntSet::iter`: `walk`, `runs`.
     ///
     /// ```
     /// let set = intmap_proved::IntSet::from([0u64, 1]);
@@ -23,17 +19,12 @@ impl<K: IntKey> IntSet<K> {
     }
 
     /// Calls `keep` once for each member, in iteration order, and removes the members for which it
-    /// returns `false`.
+    /// returns `false`. The cost is *O*(*n* + *c*).
     ///
     /// The others keep their order, and the capacity and the load factor stay. If `keep` panics, the
-    /// set stays whole, with the members that weren't reached. The cost is *O*(*n* + *c*).
+    /// set stays whole, with the members that weren't reached.
     ///
-    /// # Proved
-    ///
-    /// The proved `IntSet::retain` has the clauses `by_key`, `filtered`, `keys`, `state`, `updates`
-    /// and `len`.
-    ///
-    /// # Examples
+    /// Proved of `IntSet::retain`: `by_key`, `filtered`, `keys`, `state`, `updates`, `len`.
     ///
     /// ```
     /// let mut set = intmap_proved::IntSet::from([0u64, 1, 2]);
@@ -46,11 +37,7 @@ impl<K: IntKey> IntSet<K> {
 
     /// Removes all members. The capacity and the memory stay. The cost is *O*(*n* + *c*).
     ///
-    /// # Proved
-    ///
-    /// The proved `IntSet::clear` has the clauses `state`, `updates` and `len`.
-    ///
-    /// # Examples
+    /// Proved of `IntSet::clear`: `state`, `updates`, `len`.
     ///
     /// ```
     /// let mut set = intmap_proved::IntSet::from([21u64]);
@@ -66,17 +53,13 @@ impl<K: IntKey> IntSet<K> {
     ///
     /// A step costs *O*(*s*), all of them with the look for the next slots *O*(*n s* + *c*).
     ///
-    /// # Proved
-    ///
-    /// The proved `IntSet::drain` has the clauses `state` and `next_gives`.
-    ///
-    /// # Examples
+    /// Proved of `IntSet::drain`: `state`, `next_gives`.
     ///
     /// ```
     /// let mut set = intmap_proved::IntSet::from([0u64, 1]);
-    /// assert_eq!(set.drain().next(), Some(0));
-    /// assert_eq!(set.len(), 1);
+    /// assert_eq!((set.drain().next(), set.len()), (Some(0), 1));
     /// ```
+    #[must_use = "a drain removes one member at each step, so `drain();` removes none: take `clear`"]
     pub fn drain(&mut self) -> Drain<'_, K> {
         Drain { left: self.len(), inner: self.set.drain() }
     }
@@ -86,14 +69,10 @@ impl<K: IntKey> IntSet<K> {
     ///
     /// `pick` is called once for each member, and only as the iterator goes on. If the iterator is
     /// dropped early or forgotten, the members that it didn't reach stay. All steps together cost
-    /// *O*(*n s* + *c*) beside the calls of `pick`; [`retain`](IntSet::retain) costs *O*(*n* + *c*).
+    /// *O*(*n s* + *c*) beside the calls of `pick`; [`retain`](Self::retain) costs *O*(*n* + *c*).
     ///
-    /// # Proved
-    ///
-    /// In part: each step is the proved one of `IntMap::extract_if`, on the map from each member to
-    /// `()`.
-    ///
-    /// # Examples
+    /// Proved in part: each step is the proved one of `IntMap::extract_if`, on the map from each
+    /// member to `()`.
     ///
     /// ```
     /// let mut set = intmap_proved::IntSet::from([0u64, 1, 2]);
@@ -104,19 +83,11 @@ impl<K: IntKey> IntSet<K> {
         ExtractIf { set: &mut self.set, at: Progress::start(), pick }
     }
 
-    /// Inserts each key in turn, as [`insert`](IntSet::insert) does, up to the first one that
-    /// fails.
+    /// Inserts each key in turn, as [`insert`](Self::insert) does, up to the first one that fails as
+    /// by [`try_insert`](Self::try_insert). The failure has that key, `()` as its value, and the
+    /// number of keys before it. Those stay members, and the rest of the iterator is dropped.
     ///
-    /// # Errors
-    ///
-    /// Those of [`try_insert`](IntSet::try_insert), with the key that failed, `()` as its value, and
-    /// the number of keys before it. Those stay members, and the rest of the iterator is dropped.
-    ///
-    /// # Proved
-    ///
-    /// The proved `IntSet::extend` has the clauses `extends`, `runs`, `len` and `stops`.
-    ///
-    /// # Examples
+    /// Proved of `IntSet::extend`: `extends`, `runs`, `len`, `stops`.
     ///
     /// ```
     /// use intmap_proved::{IntSet, RefusedPair};
@@ -133,48 +104,17 @@ impl<K: IntKey> IntSet<K> {
         guarded(&mut self.set, |set| set.extend(keys.into_iter()))
     }
 
-    /// The same as [`from_iter`](FromIterator::from_iter), but it returns a failure.
+    /// The same as [`from_iter`](FromIterator::from_iter), but it returns a failure: that of
+    /// [`try_with_capacity`](Self::try_with_capacity) or [`try_insert`](Self::try_insert).
     ///
-    /// # Errors
-    ///
-    /// Those of [`try_with_capacity`](IntSet::try_with_capacity) and
-    /// [`try_insert`](IntSet::try_insert).
-    ///
-    /// # Proved
-    ///
-    /// The proved `IntSet::from_iter` has the clauses `collects`, `runs` and `len`.
-    ///
-    /// # Examples
-    ///
-    /// ```
-    /// use intmap_proved::{Cause, IntSet};
-    ///
-    /// assert_eq!(IntSet::try_from_iter([21u64, 22])?.len(), 2);
-    /// # Ok::<(), Cause>(())
-    /// ```
+    /// Proved of `IntSet::from_iter`: `collects`, `runs`, `len`.
     pub fn try_from_iter<I: IntoIterator<Item = K>>(keys: I) -> Result<IntSet<K>, Cause> {
         Ok(IntSet { set: Proved::from_iter(Global, keys.into_iter())? })
     }
 
-    /// The same as [`clone`](Clone::clone), but it returns a failure.
+    /// The same as [`clone`](Clone::clone), or [`Cause::Memory`] if an allocation fails.
     ///
-    /// # Errors
-    ///
-    /// [`Cause::Memory`] if an allocation fails.
-    ///
-    /// # Proved
-    ///
-    /// The proved `IntSet::clone` has the clauses `clone`, `len` and `memory`.
-    ///
-    /// # Examples
-    ///
-    /// ```
-    /// use intmap_proved::{Cause, IntSet};
-    ///
-    /// let set = IntSet::from([21u64]);
-    /// assert_eq!(set.try_clone()?, set);
-    /// # Ok::<(), Cause>(())
-    /// ```
+    /// Proved of `IntSet::clone`: `clone`, `len`, `memory`.
     pub fn try_clone(&self) -> Result<IntSet<K>, Cause> {
         Ok(IntSet { set: self.set.clone()? })
     }

@@ -15,8 +15,8 @@ impl<K: IntKey> Default for IntSet<K> {
     }
 }
 
-/// The same members in the same order, with the same capacity. [`IntSet::try_clone`] returns a
-/// failure. The cost is *O*(*n* + *c*). `clone_from` of a set with as many slots keeps the slots and
+/// The same members in the same order, with the same capacity and load factor.
+/// [`IntSet::try_clone`] returns a failure. The cost is *O*(*n* + *c*). `clone_from` of a set with as many slots keeps the slots and
 /// their memory.
 ///
 /// ```
@@ -34,6 +34,7 @@ impl<K: IntKey> Clone for IntSet<K> {
             return;
         }
         self.clear();
+        granted(self.try_set_load_factor_thousandths(source.load_factor_thousandths()));
         self.extend(source);
     }
 }
@@ -41,8 +42,7 @@ impl<K: IntKey> Clone for IntSet<K> {
 /// Whether both sets have the same members. Order and capacity don't matter.
 ///
 /// ```
-/// use intmap_proved::IntSet;
-///
+/// # use intmap_proved::IntSet;
 /// assert_eq!(IntSet::from([0u64, 4]), IntSet::from([4, 0]));
 /// ```
 impl<K: IntKey> PartialEq for IntSet<K> {
@@ -80,8 +80,7 @@ impl<K: IntKey> Extend<K> for IntSet<K> {
 /// Inserts a copy of each key, such as those of another set, as `extend` by keys does.
 ///
 /// ```
-/// use intmap_proved::IntSet;
-///
+/// # use intmap_proved::IntSet;
 /// let mut set = IntSet::from([21u64]);
 /// set.extend(&IntSet::from([22]));
 /// assert_eq!(set.len(), 2);

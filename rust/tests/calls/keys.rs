@@ -8,7 +8,7 @@ use std::hash::Hash;
 use std::net::Ipv4Addr;
 use std::num::{
     NonZeroI8, NonZeroI16, NonZeroI32, NonZeroI64, NonZeroIsize, NonZeroU8, NonZeroU16, NonZeroU32,
-    NonZeroU64, NonZeroUsize, Wrapping,
+    NonZeroU64, NonZeroUsize, Saturating, Wrapping,
 };
 
 const CALLS: u64 = 20_000;
@@ -76,6 +76,7 @@ macro_rules! beside_std {
     ($($key:ty)*) => { $(
         beside_std::<$key>(stringify!($key), |bits| bits as $key);
         beside_std::<Wrapping<$key>>(stringify!(Wrapping<$key>), |bits| Wrapping(bits as $key));
+        beside_std::<Saturating<$key>>(stringify!(Saturating<$key>), |bits| Saturating(bits as $key));
     )* };
 }
 

@@ -1,6 +1,7 @@
 //! The marked elements of a slice, to be written.
 use super::{BITS, Bits};
-use crate::memory::alloc::Allocator;
+use crate::memory::Vec;
+use crate::memory::alloc::{Allocator, Global};
 use core::mem::take;
 
 /// The marked elements that are left: those of the current word, then those of the words behind it.
@@ -9,6 +10,11 @@ pub(in crate::proved::table) struct MarkedMut<'a, T> {
     elements: &'a mut [T],
     words: &'a [u64],
     behind: &'a mut [T],
+}
+
+impl Bits<Global> {
+    /// No bits.
+    pub(in crate::proved::table) const NONE: Self = Bits { words: Vec::new(Global) };
 }
 
 impl<A: Allocator> Bits<A> {

@@ -1,8 +1,10 @@
 //! The pairs of all slots, slot after slot, each with a mutable reference to its value; and those at
 //! places that are known.
-use super::Slots;
-use crate::memory::alloc::Allocator;
+use super::{Directory, Slots};
+use crate::memory::Vec;
+use crate::memory::alloc::{Allocator, Global};
 use crate::proved::table::IntKey;
+use crate::proved::table::bits::Bits;
 use crate::proved::table::bits::written::{MarkedMut, take_at};
 use crate::proved::table::lone::Lone;
 use crate::proved::table::slot::Slot;
@@ -89,6 +91,21 @@ impl<'a, K: IntKey, X, A: Allocator> PlacesMut<'a, K, X, A> {
         let between = place - self.places;
         self.places = place + 1;
         Some(&mut take_at(&mut self.rest, between).1)
+    }
+}
+
+impl<K: IntKey, X> Slots<K, X, Global> {
+    /// No slots, for iterators without items.
+    pub(in crate::proved::table) const NONE: Self = Slots {
+        directory: Directory { mask: 0, bits: Bits::NONE },
+        lone: Vec::new(Global),
+        shared: Vec::new(Global),
+    };
+}
+
+impl<K: IntKey, X, A: Allocator> Default for PairsMut<'_, K, X, A> {
+    fn default() -> Self {
+        PairsMut { rest: &mut [], filled: FilledMut::Shared(const { &Bits::NONE }.pick(&mut [])) }
     }
 }
 
