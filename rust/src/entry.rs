@@ -19,7 +19,7 @@ mod vacant;
 /// }
 /// assert_eq!((counts[10], counts[30]), (2, 1));
 /// ```
-pub enum Entry<'a, K: IntKey, V> {
+pub enum Entry<'a, K, V> {
     /// The key is present.
     Occupied(OccupiedEntry<'a, K, V>),
     /// The key is absent.
@@ -37,7 +37,7 @@ pub enum Entry<'a, K: IntKey, V> {
 /// }
 /// assert!(map.is_empty());
 /// ```
-pub struct OccupiedEntry<'a, K: IntKey, V>(proved::OccupiedEntry<'a, K, V>);
+pub struct OccupiedEntry<'a, K, V>(proved::OccupiedEntry<'a, K, V>);
 
 /// A map with a key that is absent from it.
 ///
@@ -50,7 +50,7 @@ pub struct OccupiedEntry<'a, K: IntKey, V>(proved::OccupiedEntry<'a, K, V>);
 /// }
 /// assert_eq!(map[21], 'a');
 /// ```
-pub struct VacantEntry<'a, K: IntKey, V>(proved::VacantEntry<'a, K, V>);
+pub struct VacantEntry<'a, K, V>(proved::VacantEntry<'a, K, V>);
 
 impl<K: IntKey, V> IntMap<K, V> {
     /// Returns the entry of the key. It never fails, and the map stays as it is. The cost is

@@ -32,7 +32,7 @@ macro_rules! counted {
     )*) => { $(
         $(#[$doc])*
         #[must_use = "iterators are lazy and do nothing unless consumed"]
-        pub struct $name<$($generics)*> {
+        pub struct $name<$($args)*> {
             pub(crate) inner: $inner,
             pub(crate) left: usize,
         }
@@ -211,7 +211,7 @@ shared!(Iter [: Debug] Keys [] Values [: Debug]);
 /// assert_eq!(map.extract_if(|key, _| key > 0).next(), Some((1, 'b')));
 /// ```
 #[must_use = "iterators are lazy and do nothing unless consumed"]
-pub struct ExtractIf<'a, K: IntKey, V, F> {
+pub struct ExtractIf<'a, K, V, F> {
     pub(crate) inner: proved::ExtractIf<'a, K, V, F>,
 }
 

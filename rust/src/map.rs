@@ -54,7 +54,7 @@ mod walk;
 /// map.remove(0);
 /// assert_eq!(format!("{map:?}"), "{8: 'c', 4: 'b'}");
 /// ```
-pub struct IntMap<K: IntKey, V> {
+pub struct IntMap<K, V> {
     pub(crate) map: Proved<K, V>,
 }
 

@@ -33,8 +33,6 @@ pub use iter::{
 /// calls say of their cost, *n* is the number of members, *c* the capacity, and *s* the number of
 /// members in the slot of the key.
 ///
-/// # Examples
-///
 /// ```
 /// use intmap_proved::IntSet;
 ///
@@ -43,7 +41,7 @@ pub use iter::{
 /// assert_eq!(&first & &second, IntSet::from([2, 3]));
 /// assert!(first.contains(1) && !second.contains(1));
 /// ```
-pub struct IntSet<K: IntKey> {
+pub struct IntSet<K> {
     set: Proved<K>,
 }
 

@@ -61,7 +61,7 @@ impl<K: IntKey + Debug> Debug for Iter<'_, K> {
 /// assert_eq!(set.extract_if(|key| key > 0).next(), Some(1));
 /// ```
 #[must_use = "iterators are lazy and do nothing unless consumed"]
-pub struct ExtractIf<'a, K: IntKey, F> {
+pub struct ExtractIf<'a, K, F> {
     pub(super) set: &'a mut Proved<K>,
     pub(super) at: Progress,
     pub(super) pick: F,
@@ -95,7 +95,7 @@ macro_rules! combined {
     ($($(#[$doc:meta])* $name:ident;)*) => { $(
         $(#[$doc])*
         #[must_use = "iterators are lazy and do nothing unless consumed"]
-        pub struct $name<'a, K: IntKey> {
+        pub struct $name<'a, K> {
             pub(super) inner: proved::$name<'a, K>,
             pub(super) bounds: (usize, usize),
         }

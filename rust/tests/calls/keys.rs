@@ -224,6 +224,19 @@ fn the_ends_of_each_type_are_keys() {
     ends!(u8 u16 u32 u64 usize i8 i16 i32 i64 isize);
 }
 
+/// A struct of a program, which names no bound of its keys.
+struct Stock<K, V> {
+    amounts: IntMap<K, V>,
+    sold_out: IntSet<K>,
+}
+
+#[test]
+fn a_struct_has_a_map_without_a_bound() {
+    let stock = Stock { amounts: IntMap::from([(21_u64, 7)]), sold_out: IntSet::from([22]) };
+    let kept: Option<Stock<u64, u32>> = Some(stock).filter(|it| !it.amounts.is_empty());
+    assert!(kept.is_some_and(|it| it.sold_out.contains(22)));
+}
+
 /// Keys whose numbers and whose `==` a function makes of two numbers.
 #[derive(Clone, Copy, Debug)]
 struct Made {

@@ -13,7 +13,7 @@ use crate::proved::table::table::{Progress, Table};
 use core::array::from_fn;
 
 /// The pairs of a map, each with a mutable reference to its value, made by [`IntMap::iter_mut`].
-pub struct IterMut<'a, K: IntKey, V, A: Allocator + Copy = Global> {
+pub struct IterMut<'a, K, V, A: Allocator + Copy = Global> {
     pairs: PairsMut<'a, K, Kept<V>, A>,
 }
 

@@ -12,14 +12,14 @@ use crate::proved::table::table::stored::Stored;
 use core::mem::take;
 
 /// The slots that are left and hold a pair. All are of one form.
-enum FilledMut<'a, K: IntKey, X, A: Allocator> {
+enum FilledMut<'a, K, X, A: Allocator> {
     Lone(MarkedMut<'a, Lone<K, X>>),
     Shared(MarkedMut<'a, Slot<K, X, A>>),
 }
 
 /// The pairs that are left: those of the current slot, then those of the filled slots behind
 /// it.
-pub struct PairsMut<'a, K: IntKey, X, A: Allocator> {
+pub struct PairsMut<'a, K, X, A: Allocator> {
     rest: &'a mut [(Stored<K>, X)],
     filled: FilledMut<'a, K, X, A>,
 }
@@ -59,7 +59,7 @@ impl<'a, K: IntKey, X, A: Allocator> Iterator for PairsMut<'a, K, X, A> {
 }
 
 /// The values at places in ascending order, by mutable reference.
-pub struct PlacesMut<'a, K: IntKey, X, A: Allocator> {
+pub struct PlacesMut<'a, K, X, A: Allocator> {
     /// The pairs of the current slot that are left.
     rest: &'a mut [(Stored<K>, X)],
     lone: &'a mut [Lone<K, X>],
