@@ -122,8 +122,8 @@ impl<'a, K: IntKey, V> Entry<'a, K, V> {
 
     /// Sets the value of the key, and returns its entry. A present key keeps its place, and its old
     /// value is dropped. The pair of an absent key is the last one of its slot. The cost is that of
-    /// [`or_insert`](Self::or_insert). Where [`try_insert_entry`](Self::try_insert_entry) fails, it
-    /// panics or ends the process.
+    /// [`or_insert`](Self::or_insert). Where [`try_insert_entry`](Self::try_insert_entry) fails,
+    /// this call panics or ends the process.
     ///
     /// ```
     /// let mut map = intmap_proved::IntMap::new();

@@ -1,4 +1,4 @@
-//! A map and a set for integer keys, whose core is checked by a machine against its contract.
+//! A map and a set for integer keys, whose core is machine-checked against its contract.
 //!
 //! It gives your value back when memory fails, and visits its pairs in the same order on every run.
 //! No `unsafe`, no dependency, `no_std` with `alloc`. Fast on ids that count up.
@@ -52,9 +52,9 @@
 //! A call that makes a proved one has a line such as "Proved of `IntMap::get`: `value`". It names
 //! that one and the clauses of its contract, which `docs/reference` of the repository shows. The text
 //! above says in words what these clauses say of the answer, of what the call leaves, and of
-//! failures. "Proved in part" is a call by hand over proved calls, which the line names. A call
-//! without such a line is the other call that its text links, and no more. What holds of every map is
-//! proved of each call too: no key is there twice, the pairs are in the order of their slots, the
+//! failures. "Proved in part" is a call by hand over proved calls, which the line names. But for the
+//! calls of the next paragraph, one without such a line is the other call that its text links, and no
+//! more. What holds of every map is proved of each call too: no key is there twice, the pairs are in the order of their slots, the
 //! capacity is a power of two from 2 to 2^63, and the load factor is met at the last length at which
 //! insertions check it.
 //!

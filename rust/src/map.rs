@@ -63,7 +63,7 @@ impl<K: IntKey, V> IntMap<K, V> {
     ///
     /// Unlike std's, it allocates, so [`Default`] and `mem::take` do too, and no map is a constant:
     /// each slot is there from the start, and stable Rust makes no vector of them in a `const`.
-    /// Where [`try_new`](Self::try_new) fails, it ends the process.
+    /// Where [`try_new`](Self::try_new) fails, this call ends the process.
     ///
     /// ```
     /// let map = intmap_proved::IntMap::<u64, &str>::new();
@@ -88,7 +88,8 @@ impl<K: IntKey, V> IntMap<K, V> {
     /// `capacity` counts slots, not pairs: the insertion of 128 pairs into a map that was made with
     /// 128 doubles them. [`with_room_for`](Self::with_room_for) counts pairs.
     ///
-    /// Where [`try_with_capacity`](Self::try_with_capacity) fails, it panics or ends the process.
+    /// Where [`try_with_capacity`](Self::try_with_capacity) fails, this call panics or ends the
+    /// process.
     ///
     /// ```
     /// let map = intmap_proved::IntMap::<u64, &str>::with_capacity(20);

@@ -26,6 +26,8 @@
 //!   original may lose them.
 //! - A capacity above 2^63 is a panic at once, or a failed `try_` call. The original's
 //!   `with_capacity` allocates until that fails, and its `reserve` overflows.
+//! - A debug build panics at a load factor of 10 or more, which was meant as a percentage, and at a
+//!   `NaN`. [`try_set_load_factor_thousandths`](IntMap::try_set_load_factor_thousandths) takes any.
 //! - For `serde` there is a crate of its own, `intmap_proved_serde`.
 //!
 //! ```

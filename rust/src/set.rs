@@ -46,8 +46,8 @@ pub struct IntSet<K> {
 }
 
 impl<K: IntKey> IntSet<K> {
-    /// Returns an empty set of 4 slots, with a load factor of 0.909. Unlike std's, it allocates. The
-    /// cost is *O*(1). Where [`try_new`](Self::try_new) fails, it ends the process.
+    /// Returns an empty set of 4 slots, with a load factor of 0.909. Unlike std's, it allocates.
+    /// The cost is *O*(1). Where [`try_new`](Self::try_new) fails, this call ends the process.
     ///
     /// ```
     /// let set = intmap_proved::IntSet::<u64>::new();
@@ -71,7 +71,7 @@ impl<K: IntKey> IntSet<K> {
     ///
     /// `capacity` counts slots, not members, so the insertion of `capacity` keys may double them;
     /// [`with_room_for`](Self::with_room_for) counts members. Where
-    /// [`try_with_capacity`](Self::try_with_capacity) fails, it panics or ends the process.
+    /// [`try_with_capacity`](Self::try_with_capacity) fails, this call panics or ends the process.
     ///
     /// ```
     /// assert_eq!(intmap_proved::IntSet::<u64>::with_capacity(20).capacity(), 32);
@@ -90,9 +90,9 @@ impl<K: IntKey> IntSet<K> {
     }
 
     /// Makes the key a member, and returns whether it is new. A new member is the last one of its
-    /// slot. Cost and capacity are those of [`IntMap::insert`](crate::IntMap::insert), and the other
-    /// members of a slot keep their order. Where [`try_insert`](Self::try_insert) fails, it panics
-    /// or ends the process.
+    /// slot. Cost and capacity are those of [`IntMap::insert`](crate::IntMap::insert), and the
+    /// other members of a slot keep their order. Where [`try_insert`](Self::try_insert) fails, this
+    /// call panics or ends the process.
     ///
     /// ```
     /// let mut set = intmap_proved::IntSet::new();
@@ -145,7 +145,7 @@ impl<K: IntKey> IntSet<K> {
 
     /// Makes the key a member in place of the member that is equal to it, which it returns. It is
     /// then the last one of its slot. The cost is that of [`insert`](Self::insert). Where
-    /// [`try_replace`](Self::try_replace) fails, it panics or ends the process.
+    /// [`try_replace`](Self::try_replace) fails, this call panics or ends the process.
     ///
     /// ```
     /// let mut set = intmap_proved::IntSet::from([21u64]);

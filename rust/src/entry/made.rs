@@ -7,7 +7,7 @@ impl<'a, K: IntKey, V> Entry<'a, K, V> {
     /// Inserts `value` if the key is absent, and drops it if the key is present. Returns a mutable
     /// reference to the value of the key. The cost is *O*(1) if the key is present, and otherwise
     /// that of [`IntMap::insert`](crate::IntMap::insert). Where
-    /// [`try_or_insert`](Self::try_or_insert) fails, it panics or ends the process.
+    /// [`try_or_insert`](Self::try_or_insert) fails, this call panics or ends the process.
     ///
     /// ```
     /// let mut map = intmap_proved::IntMap::new();

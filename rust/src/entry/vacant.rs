@@ -32,7 +32,7 @@ impl<'a, K: IntKey, V> VacantEntry<'a, K, V> {
 
     /// Inserts the pair at the end of its slot, and returns a mutable reference to the value. The
     /// cost is that of [`IntMap::insert`](crate::IntMap::insert). Where
-    /// [`try_insert`](Self::try_insert) fails, it panics or ends the process.
+    /// [`try_insert`](Self::try_insert) fails, this call panics or ends the process.
     ///
     /// ```
     /// use intmap_proved::{Entry, IntMap};
@@ -58,9 +58,9 @@ impl<'a, K: IntKey, V> VacantEntry<'a, K, V> {
         Ok(self.try_insert_entry(value)?.into_mut())
     }
 
-    /// Inserts the pair as [`insert`](Self::insert) does, and returns the entry of the key, which is
-    /// then present. Where [`try_insert_entry`](Self::try_insert_entry) fails, it panics or ends the
-    /// process.
+    /// Inserts the pair as [`insert`](Self::insert) does, and returns the entry of the key, which
+    /// is then present. Where [`try_insert_entry`](Self::try_insert_entry) fails, this call panics
+    /// or ends the process.
     ///
     /// ```
     /// use intmap_proved::{Entry, IntMap};

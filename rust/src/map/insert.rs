@@ -14,7 +14,7 @@ impl<K: IntKey, V> IntMap<K, V> {
     ///
     /// The cost is *O*(*s*), and *O*(*n* + *c*) for an insertion that doubles the slots, or that
     /// makes small ones [large](IntMap#memory). That is *O*(*s*) amortized. Where
-    /// [`try_insert`](Self::try_insert) fails, it panics or ends the process.
+    /// [`try_insert`](Self::try_insert) fails, this call panics or ends the process.
     ///
     /// ```
     /// let mut map = intmap_proved::IntMap::from([(0u64, 'a'), (4, 'b')]);
@@ -52,7 +52,8 @@ impl<K: IntKey, V> IntMap<K, V> {
 
     /// Inserts the pair if the key is absent, and returns whether it was. A present key keeps its
     /// value, and `value` is dropped. The cost is that of [`insert`](Self::insert). Where
-    /// [`try_insert_checked`](Self::try_insert_checked) fails, it panics or ends the process.
+    /// [`try_insert_checked`](Self::try_insert_checked) fails, this call panics or ends the
+    /// process.
     ///
     /// ```
     /// let mut map = intmap_proved::IntMap::new();

@@ -8,9 +8,9 @@ impl<K: IntKey, V> IntMap<K, V> {
     /// Returns an empty map with room for so many pairs: the capacity is the least power of two in
     /// which they meet the load factor of a new map, 0.909. The cost is *O*(*c*).
     ///
-    /// Insertions of so many keys then add no slots. Keys that share a slot still allocate. The slots
-    /// are [large](IntMap#memory), and all are written at once. Where
-    /// [`try_with_room_for`](Self::try_with_room_for) fails, it panics or ends the process.
+    /// Insertions of so many keys then add no slots. Keys that share a slot still allocate. The
+    /// slots are [large](IntMap#memory), and all are written at once. Where
+    /// [`try_with_room_for`](Self::try_with_room_for) fails, this call panics or ends the process.
     ///
     /// ```
     /// let mut map = intmap_proved::IntMap::with_room_for(1000);
@@ -36,10 +36,10 @@ impl<K: IntKey, V> IntMap<K, V> {
     /// they and the present pairs meet the load factor. A greater capacity stays. The cost is
     /// *O*(*n* + *c*), or *O*(1) if the capacity stays.
     ///
-    /// Insertions of so many new keys then add no slots. Keys that share a slot still allocate. With
-    /// a load factor above 1, a map that has too few slots gets one for each present pair at least.
-    /// The slots keep their [size](IntMap#memory). Where
-    /// [`try_reserve_pairs`](Self::try_reserve_pairs) fails, it panics or ends the process.
+    /// Insertions of so many new keys then add no slots. Keys that share a slot still allocate.
+    /// With a load factor above 1, a map that has too few slots gets one for each present pair at
+    /// least. The slots keep their [size](IntMap#memory). Where
+    /// [`try_reserve_pairs`](Self::try_reserve_pairs) fails, this call panics or ends the process.
     ///
     /// ```
     /// let mut map = intmap_proved::IntMap::from([(21u64, 'a')]);
@@ -94,8 +94,8 @@ impl<K: IntKey, V> IntMap<K, V> {
     /// [large](IntMap#memory), so half as many of them may take more memory than small ones took. If
     /// the capacity stays, no memory is given back.
     ///
-    /// Where [`try_shrink_to`](Self::try_shrink_to) fails, it ends the process. If a key's `number`
-    /// panics, the map keeps the pairs that weren't moved yet, and the others are dropped.
+    /// Where [`try_shrink_to`](Self::try_shrink_to) fails, this call ends the process. If a key's
+    /// `number` panics, the map keeps the pairs that weren't moved yet, and the others are dropped.
     ///
     /// ```
     /// let mut map = intmap_proved::IntMap::<u64, char>::with_capacity(1000);

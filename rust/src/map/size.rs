@@ -53,7 +53,7 @@ impl<K: IntKey, V> IntMap<K, V> {
     ///
     /// The load factor isn't considered, so later insertions may still double the slots;
     /// [`reserve_pairs`](Self::reserve_pairs) considers it. Where
-    /// [`try_reserve`](Self::try_reserve) fails, it panics or ends the process.
+    /// [`try_reserve`](Self::try_reserve) fails, this call panics or ends the process.
     ///
     /// ```
     /// let mut map = intmap_proved::IntMap::from([(21u64, 'a')]);
@@ -115,7 +115,8 @@ impl<K: IntKey, V> IntMap<K, V> {
     ///
     /// It is a share, not a percentage: 0.75 and not 75. A debug build panics at 10 or more, and at
     /// a `NaN`; otherwise a `NaN` is 0, and so is a negative number. Where
-    /// [`try_set_load_factor`](Self::try_set_load_factor) fails, it panics or ends the process.
+    /// [`try_set_load_factor`](Self::try_set_load_factor) fails, this call panics or ends the
+    /// process.
     ///
     /// ```
     /// let mut map = intmap_proved::IntMap::from([(21u64, 'a'), (22, 'b')]);
@@ -188,7 +189,8 @@ impl<K: IntKey, V> IntMap<K, V> {
 
     /// Returns a map from each number of pairs above 1 that a slot has, to the number of slots that
     /// have exactly that many. The numbers are inserted into a new map as they first appear. The
-    /// cost is *O*(*c*). Where [`try_collisions`](Self::try_collisions) fails, it ends the process.
+    /// cost is *O*(*c*). Where [`try_collisions`](Self::try_collisions) fails, this call ends the
+    /// process.
     ///
     /// ```
     /// let map = intmap_proved::IntMap::from([(0u64, 'a'), (4, 'b'), (1, 'c')]);

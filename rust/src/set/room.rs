@@ -18,8 +18,9 @@ impl<K: IntKey> IntSet<K> {
     }
 
     /// Returns an empty set with room for so many members, as
-    /// [`IntMap::with_room_for`](crate::IntMap::with_room_for) does for pairs. The cost is *O*(*c*).
-    /// Where [`try_with_room_for`](Self::try_with_room_for) fails, it panics or ends the process.
+    /// [`IntMap::with_room_for`](crate::IntMap::with_room_for) does for pairs. The cost is
+    /// *O*(*c*). Where [`try_with_room_for`](Self::try_with_room_for) fails, this call panics or
+    /// ends the process.
     ///
     /// ```
     /// assert_eq!(intmap_proved::IntSet::<u64>::with_room_for(1000).capacity(), 2048);
@@ -39,8 +40,9 @@ impl<K: IntKey> IntSet<K> {
     }
 
     /// Makes the capacity at least the number of members plus `additional`, as
-    /// [`IntMap::reserve`](crate::IntMap::reserve) does. The cost is *O*(*n* + *c*), or *O*(1) if the
-    /// capacity stays. Where [`try_reserve`](Self::try_reserve) fails, it panics or ends the process.
+    /// [`IntMap::reserve`](crate::IntMap::reserve) does. The cost is *O*(*n* + *c*), or *O*(1) if
+    /// the capacity stays. Where [`try_reserve`](Self::try_reserve) fails, this call panics or ends
+    /// the process.
     ///
     /// ```
     /// let mut set = intmap_proved::IntSet::from([21u64]);
@@ -61,9 +63,10 @@ impl<K: IntKey> IntSet<K> {
     }
 
     /// Makes room for `additional` members more, as
-    /// [`IntMap::reserve_pairs`](crate::IntMap::reserve_pairs) does for pairs. The cost is
-    /// *O*(*n* + *c*), or *O*(1) if the capacity stays. Where
-    /// [`try_reserve_members`](Self::try_reserve_members) fails, it panics or ends the process.
+    /// [`IntMap::reserve_pairs`](crate::IntMap::reserve_pairs) does for pairs. The cost is *O*(*n*
+    /// + *c*), or *O*(1) if the capacity stays. Where
+    /// [`try_reserve_members`](Self::try_reserve_members) fails, this call panics or ends the
+    /// process.
     ///
     /// ```
     /// let mut set = intmap_proved::IntSet::from([21u64]);
@@ -113,10 +116,11 @@ impl<K: IntKey> IntSet<K> {
         self.set.load_factor_thousandths()
     }
 
-    /// Sets the load factor, as [`IntMap::set_load_factor`](crate::IntMap::set_load_factor) does. What
-    /// is proved of a set's capacity is proved for 0.909; the code that considers another load factor
-    /// is the map's, where it is proved for all. Where
-    /// [`try_set_load_factor`](Self::try_set_load_factor) fails, it panics or ends the process.
+    /// Sets the load factor, as [`IntMap::set_load_factor`](crate::IntMap::set_load_factor) does.
+    /// What is proved of a set's capacity is proved for 0.909; the code that considers another load
+    /// factor is the map's, where it is proved for all. Where
+    /// [`try_set_load_factor`](Self::try_set_load_factor) fails, this call panics or ends the
+    /// process.
     ///
     /// ```
     /// let mut set = intmap_proved::IntSet::from([21u64, 22]);
@@ -184,8 +188,8 @@ impl<K: IntKey> IntSet<K> {
     /// new slots are [large](crate::IntMap#memory): half as many take twice the memory of small ones
     /// with keys of 4 bytes. If the capacity stays, no memory is given back.
     ///
-    /// Where [`try_shrink_to`](Self::try_shrink_to) fails, it ends the process. If a key's `number`
-    /// panics, the set stays as it was.
+    /// Where [`try_shrink_to`](Self::try_shrink_to) fails, this call ends the process. If a key's
+    /// `number` panics, the set stays as it was.
     ///
     /// ```
     /// let mut set = intmap_proved::IntSet::<u64>::with_capacity(1000);
