@@ -54,9 +54,9 @@
 //! above says in words what these clauses say of the answer, of what the call leaves, and of
 //! failures. "Proved in part" is a call by hand over proved calls, which the line names. But for the
 //! calls of the next paragraph, one without such a line is the other call that its text links, and no
-//! more. What holds of every map is proved of each call too: no key is there twice, the pairs are in the order of their slots, the
-//! capacity is a power of two from 2 to 2^63, and the load factor is met at the last length at which
-//! insertions check it.
+//! more. What holds of every map is proved of each call too: no key is there twice, the pairs are in
+//! the order of their slots, the capacity is a power of two from 2 to 2^63, and the load factor is
+//! met at the last length at which insertions check it.
 //!
 //! Not proved, but tested: mutable references to several values, which [`IntMap::iter_mut`],
 //! [`IntMap::values_mut`], `&mut map` and [`IntMap::get_disjoint_mut`] hand out; what mends a map
