@@ -63,8 +63,8 @@ impl<K: IntKey> IntSet<K> {
     }
 
     /// Makes room for `additional` members more, as
-    /// [`IntMap::reserve_pairs`](crate::IntMap::reserve_pairs) does for pairs. The cost is *O*(*n*
-    /// + *c*), or *O*(1) if the capacity stays. Where
+    /// [`IntMap::reserve_pairs`](crate::IntMap::reserve_pairs) does for pairs. The cost is
+    /// *O*(*n* + *c*), or *O*(1) if the capacity stays. Where
     /// [`try_reserve_members`](Self::try_reserve_members) fails, this call panics or ends the
     /// process.
     ///
